@@ -1,0 +1,32 @@
+//! The trees of the product: programs, services, scripts, remainders, forests and tokens.
+//!
+//! Contracts see a [`Seq`] as its list and a [`Boxed`] as its value, so that a tree is plain data
+//! and `result ≡ tree` says that two trees are the same. Definitions of the product are written
+//! over the mirror of these trees, which stands in `specs/mirror`.
+#![tactic(auto)]
+
+mod boxes;
+mod code;
+mod copies;
+mod declarations;
+mod forests;
+mod outcomes;
+mod remainders;
+mod scripts;
+mod sequence;
+mod services;
+mod tokens;
+mod values;
+
+pub use boxes::Boxed;
+pub use code::{BinOp, Expr, ExprForm, Stmt, StmtForm, TypeForm, TypeTree, UnOp};
+pub use copies::copy_word;
+pub use declarations::{Body, Class, Interface, Method, Param, Program, Signature};
+pub use forests::{Entry, Node, NodeFault};
+pub use outcomes::{Ending, Memory, Raised};
+pub use remainders::{Part, Split};
+pub use scripts::{SExpr, Script, Step, StepForm};
+pub use sequence::{Seq, Word};
+pub use services::{Literal, Object, ObjectText, Service, ServiceText};
+pub use tokens::{Token, TokenKind};
+pub use values::{Fault, Value};

@@ -1,0 +1,20 @@
+use crate::values::{Fault, Value};
+
+/// Want of memory, the lone error of calls that fail only so.
+#[derive(Clone, Copy, Debug, PartialEq, Eq)]
+pub struct Memory;
+
+/// A fault of running code, with the position of the node that gave it, and whether it is remote.
+#[derive(Debug, Drop)]
+pub struct Raised {
+    pub fault: Fault,
+    pub at: u32,
+    pub remote: bool,
+}
+
+/// How a program ends: by the value of `main`, if it has one, or by a fault at a position.
+#[derive(Debug, Drop)]
+pub enum Ending {
+    Done(Option<Value>),
+    Faulted(Fault, u32),
+}

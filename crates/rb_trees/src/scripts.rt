@@ -1,0 +1,64 @@
+use crate::boxes::Boxed;
+use crate::code::{BinOp, UnOp};
+use crate::sequence::{Seq, Word};
+use crate::values::Value;
+
+/// A script: the number of its inputs, and its steps.
+#[derive(Debug, Drop)]
+pub struct Script {
+    pub inputs: u8,
+    pub body: Seq<Step>,
+}
+
+/// A step, with its number in the script and its position in the source.
+#[cycle(steps)]
+#[derive(Debug, Drop)]
+pub struct Step {
+    pub id: u32,
+    pub at: u32,
+    pub form: StepForm,
+}
+
+/// The forms of a step.
+#[cycle(steps)]
+#[derive(Debug, Drop)]
+pub enum StepForm {
+    /// Performs the expression, and gives no entry.
+    Do(SExpr),
+    /// Performs the expression, and gives its value.
+    Keep(SExpr),
+    /// Binds a variable, and gives its value where it is kept.
+    Let { var: u32, keep: bool, value: SExpr },
+    /// The condition, the block where it is true, the block where it is false.
+    If(SExpr, Seq<Step>, Seq<Step>),
+    /// A block for each row, bound to a variable; its turns give the row where it is kept.
+    Each {
+        var: u32,
+        keep: bool,
+        rows: SExpr,
+        body: Seq<Step>,
+    },
+}
+
+/// An expression of a script. Operators and calls have their position in the source.
+#[derive(Debug, Drop)]
+pub enum SExpr {
+    /// A literal: an Int, a Bool or a Text.
+    Lit(Value),
+    /// An input, by its number from 0.
+    Input(u8),
+    /// A variable of the script, by its number.
+    Var(u32),
+    /// The root object of the service.
+    Root,
+    Unary(UnOp, u32, Boxed<SExpr>),
+    Binary(BinOp, u32, Boxed<SExpr>, Boxed<SExpr>),
+    /// A remote call. Its kind, from 0 to 8, says what its result must be.
+    Call {
+        at: u32,
+        kind: u8,
+        method: Word,
+        target: Boxed<SExpr>,
+        args: Seq<SExpr>,
+    },
+}

@@ -1,0 +1,45 @@
+use crate::declarations::Class;
+use crate::sequence::{Seq, Word};
+use crate::values::Value;
+
+/// A service: its classes, and the number of the root object.
+#[derive(Debug, Drop)]
+pub struct Service {
+    pub classes: Seq<Class>,
+    pub root: u32,
+}
+
+/// An object: its class, and its fields in order of declaration.
+#[derive(Debug, Drop)]
+pub struct Object {
+    pub class: Word,
+    pub fields: Seq<(Word, Value)>,
+}
+
+/// The text of a service as it was read.
+#[derive(Debug, Drop)]
+pub struct ServiceText {
+    pub classes: Seq<Class>,
+    pub objects: Seq<ObjectText>,
+    pub root: u64,
+}
+
+/// An object as a service's text writes it, at the position of its class's name.
+#[derive(Debug, Drop)]
+pub struct ObjectText {
+    pub number: u64,
+    pub class: Word,
+    pub at: u32,
+    pub fields: Seq<(Word, Literal)>,
+}
+
+/// A field's value as a service's text writes it.
+#[derive(Debug, Drop)]
+pub enum Literal {
+    Int(i64),
+    Bool(bool),
+    Text(Word),
+    /// An object, by its number.
+    Object(u64),
+    Items(Seq<Literal>),
+}

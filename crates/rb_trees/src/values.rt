@@ -1,0 +1,27 @@
+use crate::sequence::{Seq, Word};
+
+/// A value of running code.
+#[derive(Debug, Drop)]
+pub enum Value {
+    Unit,
+    /// A 64-bit two's complement number.
+    Int(i64),
+    Bool(bool),
+    /// UTF-8 of at most 4,096 bytes.
+    Text(Word),
+    /// An immutable list of at most 10,000 values.
+    List(Seq<Value>),
+    /// An object of the own side's heap, by its number.
+    Ref(u32),
+    /// An object of the service's table as the client sees it, by its number.
+    Remote(u32),
+    /// A list of the service as the client sees it.
+    Rows(Seq<Value>),
+}
+
+/// Why code ended early: a code from 1 to 12, and a text that is empty but for code 8, Thrown.
+#[derive(Debug, Drop)]
+pub struct Fault {
+    pub code: u8,
+    pub text: Word,
+}
