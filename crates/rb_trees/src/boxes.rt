@@ -1,6 +1,7 @@
 ghost use Rattle.std.specs.Prelude.{◌≡◌, IfOk};
 
-use std::alloc::{AllocError, Global};
+use crate::want::Memory;
+use std::alloc::Global;
 use std::marker::Model;
 
 /// A `Box` that contracts see as the value in it, so that a tree of them is plain data.
@@ -36,7 +37,7 @@ impl<T> Boxed<T> {
 
 impl<T: Drop> Boxed<T> {
     /// Puts a value into a box.
-    pub fn new(alloc: Global, value: T) -> Result<Boxed<T>, AllocError>
+    pub fn new(alloc: Global, value: T) -> Result<Boxed<T>, Memory>
         ensures { IfOk result (λ b. b ≡ value) }
     {
         Ok(Boxed {

@@ -11,22 +11,32 @@ mod copies;
 mod declarations;
 mod forests;
 mod outcomes;
+mod reading;
 mod remainders;
 mod scripts;
 mod sequence;
 mod services;
 mod tokens;
+mod typing;
 mod values;
+mod want;
 
 pub use boxes::Boxed;
 pub use code::{BinOp, Expr, ExprForm, Stmt, StmtForm, TypeForm, TypeTree, UnOp};
-pub use copies::copy_word;
+pub use copies::{
+    copy_body, copy_class, copy_classes, copy_expr, copy_exprs, copy_fault, copy_interface,
+    copy_method, copy_param, copy_signature, copy_stmt, copy_stmts, copy_type, copy_value,
+    copy_values, copy_word,
+};
 pub use declarations::{Body, Class, Interface, Method, Param, Program, Signature};
 pub use forests::{Entry, Node, NodeFault};
-pub use outcomes::{Ending, Memory, Raised};
+pub use outcomes::{Ending, Raised};
+pub use reading::{LexError, ReadError};
 pub use remainders::{Part, Split};
 pub use scripts::{SExpr, Script, Step, StepForm};
 pub use sequence::{Seq, Word};
 pub use services::{Literal, Object, ObjectText, Service, ServiceText};
 pub use tokens::{Token, TokenKind};
+pub use typing::TypeError;
 pub use values::{Fault, Value};
+pub use want::Memory;

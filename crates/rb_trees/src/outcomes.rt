@@ -1,9 +1,5 @@
 use crate::values::{Fault, Value};
 
-/// Want of memory, the lone error of calls that fail only so.
-#[derive(Clone, Copy, Debug, PartialEq, Eq)]
-pub struct Memory;
-
 /// A fault of running code, with the position of the node that gave it, and whether it is remote.
 #[derive(Debug, Drop)]
 pub struct Raised {

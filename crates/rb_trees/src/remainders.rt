@@ -11,7 +11,11 @@ pub enum Part {
     /// The place of a step that gives no entry.
     Pass(u32),
     /// Binds a name to a kept value of the given kind.
-    Bind { step: u32, name: Word, kind: u8 },
+    Bind {
+        step: u32,
+        name: Word,
+        kind: u8,
+    },
     /// A value that both sides evaluate.
     Both {
         step: u32,

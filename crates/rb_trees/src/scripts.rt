@@ -28,7 +28,11 @@ pub enum StepForm {
     /// Performs the expression, and gives its value.
     Keep(SExpr),
     /// Binds a variable, and gives its value where it is kept.
-    Let { var: u32, keep: bool, value: SExpr },
+    Let {
+        var: u32,
+        keep: bool,
+        value: SExpr,
+    },
     /// The condition, the block where it is true, the block where it is false.
     If(SExpr, Seq<Step>, Seq<Step>),
     /// A block for each row, bound to a variable; its turns give the row where it is kept.

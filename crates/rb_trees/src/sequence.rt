@@ -2,7 +2,8 @@ ghost use Rattle.std.specs.Prelude.{◌≡◌, [], ◌∷◌, ◌++◌, ◌<◌,
 ghost use Rattle.std.specs.Option.{option_copied};
 ghost use Rattle.std.specs.Cmp.Lexicographic.{pointwise, lists_per, lists_equiv};
 
-use std::alloc::{AllocError, Global};
+use crate::want::Memory;
+use std::alloc::Global;
 use std::marker::Model;
 
 /// A list over a vector. Contracts see it as the list of its items.
@@ -82,7 +83,7 @@ impl<T> Seq<T> {
 
 impl<T: Drop> Seq<T> {
     /// Adds the item at the end. After an error nothing changed.
-    pub fn push(&mut self, item: T) -> Result<(), AllocError>
+    pub fn push(&mut self, item: T) -> Result<(), Memory>
         ensures ok { OnOk result (self.new ≡ self.old ++ item ∷ []) }
         ensures err { OnErr result (self.new ≡ self.old) }
     {
@@ -100,7 +101,7 @@ impl<T: Drop> Seq<T> {
 
 impl<T: Copy> Seq<T> {
     /// A copy of the slice.
-    pub fn from_slice(alloc: Global, items: &[T]) -> Result<Seq<T>, AllocError>
+    pub fn from_slice(alloc: Global, items: &[T]) -> Result<Seq<T>, Memory>
         ensures { IfOk result (λ it. it ≡ items.now) }
     {
         let items = Vec::from_slice(alloc, items)?;
