@@ -1,0 +1,3 @@
+pub mod grammar
+pub mod tokens
+pub mod wire
