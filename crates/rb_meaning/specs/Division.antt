@@ -1,0 +1,28 @@
+-- The script of a batch: its remote operations in source order. Only prints of a call on the root have a step yet.
+use Rattle.std.specs.Prelude.{ℕ, suc, List, []}
+use Rattle.rb_trees.specs.mirror.Code as code
+use Rattle.rb_trees.specs.mirror.Code.{Stmts}
+use Rattle.rb_trees.specs.mirror.Scripts as script
+use Rattle.rb_trees.specs.mirror.Scripts.{Step, Steps, Script}
+use Rattle.rb_trees.specs.mirror.Declarations.{Program}
+use Rattle.rb_meaning.specs.Remote.{int_kind}
+
+-- the step that keeps an Int which a method of the root gives, at the call's position
+abbrev pub keep_call : ℕ → ℕ → List ℕ → Step
+keep_call id at method = script.Keep id at (script.Call at int_kind method script.Root script.NoSExprs)
+
+-- the steps of a block, numbered from a number on
+abbrev pub steps_of : ℕ → Stmts → Steps
+steps_of id code.NoStmts = script.NoSteps
+steps_of id (code.MoreStmts (code.Print place (code.Call at receiver method args)) ss) =
+    script.MoreSteps (keep_call id at method) (steps_of (suc id) ss)
+steps_of id (code.MoreStmts stmt ss) = steps_of id ss
+
+-- the block of the batch that `main` begins with
+abbrev pub first_block : Stmts → Stmts
+first_block (code.MoreStmts (code.Batch at interface root block) ss) = block
+first_block _ = code.NoStmts
+
+-- the script of the batch that `main` begins with, which has no inputs yet
+abbrev pub first_script : Program → Script
+first_script program = record { inputs = 0; body = steps_of 0 (first_block program.body.statements) }
