@@ -1,22 +1,30 @@
 -- The script of a batch: its remote operations in source order. Only prints of a call on the root have a step yet.
-use Rattle.std.specs.Prelude.{ℕ, suc, List, []}
+use Rattle.std.specs.Prelude.{ℕ, suc, List, Option, None, Some}
 use Rattle.rb_trees.specs.mirror.Code as code
-use Rattle.rb_trees.specs.mirror.Code.{Stmts}
+use Rattle.rb_trees.specs.mirror.Code.{Stmt, Stmts}
 use Rattle.rb_trees.specs.mirror.Scripts as script
 use Rattle.rb_trees.specs.mirror.Scripts.{Step, Steps, Script}
 use Rattle.rb_trees.specs.mirror.Declarations.{Program}
 use Rattle.rb_meaning.specs.Remote.{int_kind}
 
+-- the position and the method of a call that a statement prints
+abbrev pub printed_call : Stmt → Option (ℕ × List ℕ)
+printed_call (code.Print place (code.Call at receiver method args)) = Some (at, method)
+printed_call _ = None
+
 -- the step that keeps an Int which a method of the root gives, at the call's position
 abbrev pub keep_call : ℕ → ℕ → List ℕ → Step
 keep_call id at method = script.Keep id at (script.Call at int_kind method script.Root script.NoSExprs)
 
+-- a step where there is a call, and what follows under the next number
+abbrev pub with_step : ℕ → Option (ℕ × List ℕ) → (ℕ → Steps) → Steps
+with_step id None go = go id
+with_step id (Some (at, method)) go = script.MoreSteps (keep_call id at method) (go (suc id))
+
 -- the steps of a block, numbered from a number on
 abbrev pub steps_of : ℕ → Stmts → Steps
 steps_of id code.NoStmts = script.NoSteps
-steps_of id (code.MoreStmts (code.Print place (code.Call at receiver method args)) ss) =
-    script.MoreSteps (keep_call id at method) (steps_of (suc id) ss)
-steps_of id (code.MoreStmts stmt ss) = steps_of id ss
+steps_of id (code.MoreStmts s ss) = with_step id (printed_call s) (λ following. steps_of following ss)
 
 -- the block of the batch that `main` begins with
 abbrev pub first_block : Stmts → Stmts

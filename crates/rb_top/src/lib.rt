@@ -1,0 +1,5 @@
+//! The commands of the product, from words to what they print.
+#![tactic(auto)]
+
+mod request;
+
