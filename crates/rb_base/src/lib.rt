@@ -5,7 +5,9 @@
 #![tactic(auto)]
 
 mod files;
+mod places;
 mod sinks;
 
 pub use files::{Files, FilesStop};
+pub use places::place;
 pub use sinks::{Failed, Sink, write_whole};
