@@ -1,5 +1,5 @@
 use Rattle.std.proofs.lemmas.Result.{err_from_is_err_and}
-use Rattle.std.proofs.Common.{rules, ◌≡◌, ℕ, List, length, take, drop}
+use Rattle.std.proofs.Common.{◌∙◌}
 use Rattle.rb_base.proofs.Fronts.{HasFront-more, HasFront-stop}
 use Rattle.rb_base.proofs.sinks.write_whole.Goals as goal
 
@@ -9,4 +9,4 @@ returns-in_err-count-clause-front g c =
     rw p.1 (HasFront-stop _ _ _ _ _ c.loop-rest.invariant.0 c.in_err-count.ensures.unchanged)
 
 pub loop-rest-preserved : goal.loop-rest-preserved
-loop-rest-preserved g c = (HasFront-more _ _ _ _ _ _ c.loop-rest.invariant.0 c.in_ok-count.ensures.taken, ?)
+loop-rest-preserved g c = (HasFront-more _ _ _ _ _ _ c.loop-rest.invariant.0 c.in_ok-count.ensures.taken, c.in_ok-count.ensures.faults ∙ c.loop-rest.invariant.1)
