@@ -1,8 +1,7 @@
 -- The column grows by one with each byte, and begins again after a line feed.
-use Rattle.std.proofs.Common.{◌≡◌, ℕ, ◌+◌, ◌-◌, ◌≤◌, ◌<◌, Bool, true, false, not, cond, List, [], ◌∷◌, ◌++◌, reverse, length, get_or, take, drop, ap, sym, ◌∙◌, arith, length-drop}
+use Rattle.std.proofs.Common.{◌≡◌, ℕ, ◌+◌, ◌-◌, ◌≤◌, ◌<◌, Bool, true, false, not, cond, List, [], ◌∷◌, ◌++◌, reverse, length, get_or, take, ap, sym, ◌∙◌, arith, length-drop}
 use Rattle.std.specs.List.{suffix_len, prefix_len, after_last}
 use Rattle.std.proofs.lemmas.List.{take_more, length-reverse, reverse-append}
-use Rattle.std.proofs.lemmas.Bool.{cond-true, cond-false}
 use Rattle.rb_meaning.specs.Place.{is_line_feed, column_of}
 
 abbrev pub is_other : ℕ → Bool
@@ -22,7 +21,7 @@ length-after_last-push xs y =
 
 -- after a byte that is no line feed
 pub column_of-other : (text : List ℕ) (i : ℕ) → i < length text → is_line_feed (get_or text i 0) ≡ false → column_of text (i + 1) ≡ column_of text i + 1
-column_of-other text i h e = 
+column_of-other text i h e =
     ap (λ xs. 1 + length (after_last is_line_feed xs)) (take_more text i 0 h) ∙ ap (λ n. 1 + n) (length-after_last-push (take i text) (get_or text i 0)) ∙ ap (λ b. 1 + cond (not b) (1 + length (after_last is_line_feed (take i text))) 0) e ∙ omega arith
 
 -- after a line feed

@@ -1,5 +1,5 @@
 -- What a sink tells.
-use Rattle.std.specs.Prelude.{◌≡◌, ◌==◌, ℕ, ◌+◌, ◌≤◌, Bool, List, [], ◌++◌, Option, None, Some, Result, Ok, Err, length, take}
+use Rattle.std.specs.Prelude.{◌≡◌, ◌==◌, ℕ, ◌≤◌, Bool, List, [], ◌++◌, Option, None, Some, Result, Ok, Err, length, take}
 use Rattle.std.specs.List.{list_any}
 use Rattle.rb_base.specs.Counts.{risen}
 

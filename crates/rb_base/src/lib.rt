@@ -20,3 +20,6 @@ pub use null_sink::NullSink;
 pub use places::place;
 pub use same_files::SameFiles;
 pub use sinks::{Failed, Sink, write_whole};
+
+#[cfg(test)]
+mod tests;

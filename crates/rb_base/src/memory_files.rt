@@ -2,8 +2,8 @@ ghost use Rattle.std.specs.Prelude.{◌≡◌, OnOk, OnErr};
 ghost use Rattle.std.specs.Option.{option_copied};
 ghost use Rattle.rb_base.specs.Directories.{new_files, with_file, content_of};
 
-use crate::files::{Files, FilesStop};
 use crate::contents::append_front;
+use crate::files::{Files, FilesStop};
 use bytes::BytesMut;
 use rb_trees::{Memory, Seq, Word};
 use std::alloc::Global;
@@ -29,8 +29,9 @@ impl Model for MemoryFiles {
     ghost Value = { FilesInMemory };
 
     ghost view = { λ it. record {
-        directory = record { files = it.files.items; reads = it.reads; failing = it.failing };
-        faults = it.faults } };
+      directory = record { files = it.files.items; reads = it.reads; failing = it.failing };
+      faults = it.faults;
+    } };
 }
 
 impl MemoryFiles {

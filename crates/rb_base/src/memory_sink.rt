@@ -1,5 +1,5 @@
-ghost use Rattle.std.specs.Prelude.{◌≡◌, ◌<◌};
-ghost use Rattle.rb_base.specs.Sinks.{new_sink};
+ghost use Rattle.std.specs.Prelude.{◌≡◌, ◌<◌, false, length, min, IfOk, OnOk};
+ghost use Rattle.rb_base.specs.Sinks.{new_sink, fails_next, after_write};
 
 use crate::sinks::{Failed, Sink};
 use rb_trees::Seq;
@@ -27,7 +27,12 @@ impl Model for MemorySink {
     ghost Value = { SinkInMemory };
 
     ghost view = { λ it. record {
-        bytes = it.bytes.items; writes = it.writes; failing = it.failing; most = it.most; faults = it.faults } };
+      bytes = it.bytes.items;
+      writes = it.writes;
+      failing = it.failing;
+      most = it.most;
+      faults = it.faults;
+    } };
 
     ghost invariant = { λ it. 0 < it.most };
 }
@@ -63,10 +68,20 @@ impl Sink for MemorySink {
 
     ghost faults = { λ it. it.faults };
 
-    fn write(&mut self, piece: &[u8]) -> Result<usize, Failed> {
+    /// Fails where the write's number is listed, or where no memory is left for the bytes. Each
+    /// call is numbered, whatever it answers.
+    fn write(&mut self, piece: &[u8]) -> Result<usize, Failed>
+        requires { 0 < length piece.now }
+        ensures some { IfOk result (λ count. 0 < count) }
+        ensures count { IfOk result (λ count. count ≡ min self.old.most (length piece.now)) }
+        ensures listed { OnOk result (fails_next self.old ≡ false) }
+        ensures after { self.new ≡ after_write self.old piece.now result }
+    {
         self.writes = self.writes.saturating_add(1);
         let count = piece.len().min(self.most);
-        if self.failing.as_slice().contains(&self.writes) || self.bytes.extend_from_slice(&piece[..count]).is_err() {
+        if self.failing.as_slice().contains(&self.writes)
+            || self.bytes.extend_from_slice(&piece[..count]).is_err()
+        {
             self.faults = self.faults.saturating_add(1);
             return Err(Failed);
         }

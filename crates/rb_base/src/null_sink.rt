@@ -1,3 +1,5 @@
+ghost use Rattle.std.specs.Prelude.{◌≡◌, ◌<◌, length};
+
 use crate::sinks::{Failed, Sink};
 
 /// A sink that takes all that it is handed, keeps nothing, and never fails.
@@ -13,7 +15,10 @@ impl Sink for NullSink {
 
     ghost faults = { λ it. 0 };
 
-    fn write(&mut self, piece: &[u8]) -> Result<usize, Failed> {
+    fn write(&mut self, piece: &[u8]) -> Result<usize, Failed>
+        requires { 0 < length piece.now }
+        ensures { result ≡ Ok (length piece.now) }
+    {
         Ok(piece.len())
     }
 }

@@ -1,9 +1,7 @@
-ghost use Rattle.std.specs.Prelude.{◌≡◌, ◌+◌, ◌++◌, take, None, Err, OnOk, OnErr};
-ghost use Rattle.rb_base.specs.Counts.{faults_after_read};
-ghost use Rattle.rb_base.specs.Directories.{told_after, FailsNext, ReadsFile};
+ghost use Rattle.std.specs.Prelude.{◌≡◌, ◌+◌, ◌++◌, take, IfErr, OnOk, OnErr};
 
-use crate::files::{Files, FilesStop};
 use crate::contents::append_front;
+use crate::files::{Files, FilesStop};
 use bytes::BytesMut;
 use rb_trees::{Seq, Word};
 use std::marker::Model;
@@ -35,12 +33,19 @@ impl SameFiles {
 }
 
 impl Files for SameFiles {
+    ghost use Rattle.std.specs.Prelude.{None};
+
     ghost told = { λ it. None };
 
     ghost faults = { λ it. 0 };
 
     /// Never fails: only memory can be wanting.
-    fn read(&mut self, _name: &str, limit: usize, into: &mut BytesMut) -> Result<(), FilesStop> {
+    fn read(&mut self, _name: &str, limit: usize, into: &mut BytesMut) -> Result<(), FilesStop>
+        ensures read { OnOk result (into.new.items ≡ into.old.items ++ take (limit + 1) self.old) }
+        ensures only_memory { IfErr result (λ stop. stop ≡ FilesStop.Memory) }
+        ensures unchanged { OnErr result (into.new.items ≡ into.old.items) }
+        ensures same { self.new ≡ self.old }
+    {
         append_front(self.content.as_slice(), limit, into)?;
         Ok(())
     }

@@ -7,5 +7,5 @@ invariant-loop-byte l = record {
   line : l.line ≡ line_of l.before l.byte-index;
   column : l.column ≡ column_of l.before l.byte-index;
   line_bound : l.line ≤ l.byte-index + 1;
-  column_bound : l.column ≤ l.byte-index + 1
+  column_bound : l.column ≤ l.byte-index + 1;
 }

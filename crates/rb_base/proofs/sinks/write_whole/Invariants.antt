@@ -1,5 +1,4 @@
-use Rattle.std.proofs.Common.{◌≡◌, ℕ, List, ◌++◌, length}
-use Rattle.rb_base.specs.Sinks.{told_more}
+use Rattle.std.proofs.Common.{◌≡◌, length}
 use Rattle.rb_base.proofs.Fronts.{HasFront}
 use Rattle.rb_base.proofs.sinks.write_whole.Given as goal
 
