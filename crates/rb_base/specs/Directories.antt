@@ -40,3 +40,16 @@ FailsNext (Some d) name = next_read d name ≡ None
 -- The buffer has gained the first limit + 1 bytes of the file, or all where it has no more.
 abbrev pub ReadsFile : Option Directory → List ℕ → ℕ → List ℕ → List ℕ → Type 0
 ReadsFile told name limit old new = (bytes : List ℕ) × Finds told name bytes × (new ≡ old ++ take (limit + 1) bytes)
+
+-- files in memory: what they tell, and how many reads failed
+pub record FilesInMemory : Type 0 where
+  pub directory : Directory
+  pub faults : ℕ
+
+-- no files yet, no read so far, and the numbers of the reads that will fail
+abbrev pub new_files : List ℕ → FilesInMemory
+new_files failing = record { directory = record { files = []; reads = 0; failing = failing }; faults = 0 }
+
+-- the files with one more at their end
+abbrev pub with_file : FilesInMemory → List ℕ → List ℕ → FilesInMemory
+with_file s name bytes = record s { directory = record s.directory { files = s.directory.files ++ (name, bytes) ∷ [] } }

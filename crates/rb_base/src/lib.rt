@@ -4,8 +4,22 @@
 //! device tells nothing. A call answers a fault only where its object's count of faults rose in it.
 #![tactic(auto)]
 
+mod contents;
 mod files;
+mod memory_files;
+mod memory_sink;
+mod null_sink;
+mod places;
+mod same_files;
 mod sinks;
 
 pub use files::{Files, FilesStop};
+pub use memory_files::MemoryFiles;
+pub use memory_sink::MemorySink;
+pub use null_sink::NullSink;
+pub use places::place;
+pub use same_files::SameFiles;
 pub use sinks::{Failed, Sink, write_whole};
+
+#[cfg(test)]
+mod tests;
