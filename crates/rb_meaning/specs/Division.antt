@@ -3,7 +3,7 @@ use Rattle.std.specs.Prelude.{ℕ, suc, List, Option, None, Some}
 use Rattle.rb_trees.specs.mirror.Code as code
 use Rattle.rb_trees.specs.mirror.Code.{Stmt, Stmts}
 use Rattle.rb_trees.specs.mirror.Scripts as script
-use Rattle.rb_trees.specs.mirror.Scripts.{Step, Steps, Script}
+use Rattle.rb_trees.specs.mirror.Scripts.{SExpr, Step, Steps, Script}
 use Rattle.rb_trees.specs.mirror.Declarations.{Program}
 use Rattle.rb_meaning.specs.Remote.{int_kind}
 
@@ -12,9 +12,13 @@ abbrev pub printed_call : Stmt → Option (ℕ × List ℕ)
 printed_call (code.Print place (code.Call at receiver method args)) = Some (at, method)
 printed_call _ = None
 
--- the step that keeps an Int which a method of the root gives, at the call's position
+-- a call of a method of the root that gives an Int
+abbrev pub call_on_root : ℕ → List ℕ → SExpr
+call_on_root at method = script.Call at int_kind method script.Root script.NoSExprs
+
+-- the step that keeps what such a call gives, at the call's position
 abbrev pub keep_call : ℕ → ℕ → List ℕ → Step
-keep_call id at method = script.Keep id at (script.Call at int_kind method script.Root script.NoSExprs)
+keep_call id at method = script.Keep id at (call_on_root at method)
 
 -- a step where there is a call, and what follows under the next number
 abbrev pub with_step : ℕ → Option (ℕ × List ℕ) → (ℕ → Steps) → Steps

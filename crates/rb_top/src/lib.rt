@@ -2,4 +2,4 @@
 #![tactic(auto)]
 
 mod request;
-
+mod wire;

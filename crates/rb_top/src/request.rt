@@ -4,13 +4,14 @@ ghost use Rattle.std.specs.Prelude.{◌≡◌, ◌+◌, ◌<◌, ◌^◌, ◌++�
 ghost use Rattle.std.specs.Option.{option_map};
 ghost use Rattle.rb_trees.specs.mirror.Code.{mirror_stmt, mirror_stmts};
 ghost use Rattle.rb_trees.specs.mirror.Declarations.{mirror_program};
-ghost use Rattle.rb_meaning.specs.Division.{printed_call, keep_call, steps_of, first_block, first_script};
+ghost use Rattle.rb_meaning.specs.Division.{printed_call, call_on_root, keep_call, steps_of, first_block, first_script};
 ghost use Rattle.rb_meaning_bytes.specs.wire.Fields.{number, text};
-ghost use Rattle.rb_meaning_bytes.specs.wire.Scripts.{step, steps, count_steps, script as script_bytes};
+ghost use Rattle.rb_meaning_bytes.specs.wire.Scripts.{expr, step, steps, count_steps, script as script_bytes};
 ghost use Rattle.rb_top.specs.Buffers.{Keeps};
 ghost use Rattle.rb_top.specs.FirstForm.{FitNames};
 
-use bytes::{BufMut, BytesMut};
+use crate::wire::{put_byte, put_number, put_text};
+use bytes::BytesMut;
 use rb_trees::{ExprForm, Memory, Program, Stmt, StmtForm, Word};
 
 /// A print of a call: the call's position, and the name of the method.
@@ -39,4 +40,67 @@ fn block_of(program: &Program) -> &[Stmt]
         },
         [] => &[],
     }
+}
+
+/// The number of the steps of a block.
+#[tactic(auto, using(crate::proofs::Steps::counts))]
+fn count_of(block: &[Stmt]) -> u32
+    requires { length block.now < 2 ^ 32 }
+    ensures { result ≡ count_steps (steps_of 0 (mirror_stmts block.now)) }
+{
+    let mut count = 0;
+    for stmt in block {
+        if printed_call_of(stmt).is_some() {
+            count += 1;
+        }
+    }
+    count
+}
+
+/// Appends a call on the root without arguments, of a method that gives an Int.
+#[tactic(auto, using(crate::proofs::Kept::kept))]
+fn put_call(into: &mut BytesMut, at: u32, method: &[u8]) -> Result<(), Memory>
+    requires { length method.now < 2 ^ 32 }
+    ensures ok { OnOk result (into.new.items ≡ into.old.items ++ expr (call_on_root at method.now)) }
+    ensures err { OnErr result (Keeps into.old.items into.new.items) }
+{
+    put_byte(into, 0x26)?;
+    put_number(into, at)?;
+    put_byte(into, 0x01)?;
+    put_text(into, method)?;
+    put_byte(into, 0x23)?;
+    put_number(into, 0)?;
+    Ok(())
+}
+
+/// Appends the step that keeps what a method of the root gives.
+#[tactic(auto, using(crate::proofs::Kept::kept))]
+fn put_step(into: &mut BytesMut, id: u32, at: u32, method: &[u8]) -> Result<(), Memory>
+    requires { length method.now < 2 ^ 32 }
+    ensures ok { OnOk result (into.new.items ≡ into.old.items ++ step (keep_call id at method.now)) }
+    ensures err { OnErr result (Keeps into.old.items into.new.items) }
+{
+    put_byte(into, 0x11)?;
+    put_number(into, id)?;
+    put_number(into, at)?;
+    put_call(into, at, method)?;
+    Ok(())
+}
+
+/// Appends the steps of a block.
+#[tactic(auto, using(crate::proofs::Kept::kept))]
+fn put_steps(into: &mut BytesMut, block: &[Stmt]) -> Result<(), Memory>
+    requires few { length block.now < 2 ^ 32 }
+    requires names { FitNames (mirror_stmts block.now) }
+    ensures ok { OnOk result (into.new.items ≡ into.old.items ++ steps (steps_of 0 (mirror_stmts block.now))) }
+    ensures err { OnErr result (Keeps into.old.items into.new.items) }
+{
+    let mut id = 0;
+    for stmt in block {
+        if let Some((at, method)) = printed_call_of(stmt) {
+            put_step(into, id, at, method.as_slice())?;
+            id += 1;
+        }
+    }
+    Ok(())
 }
