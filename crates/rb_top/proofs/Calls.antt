@@ -82,8 +82,8 @@ finds (m ∷ ms) name n plain h = by_name (bytes_eq m.signature.name name) refl 
 abbrev body_reply : List Class → ℕ → ℕ → ℕ → Names → Server → Stmts → Option Expr → Reply Value
 body_reply classes at kind object names s ss r =
     returned at kind (handle unasked
-      (next (performs_all (bodies_of classes s.fuel) s.fuel ss (record { names = (this_name, value.Ref object) ∷ names; heap = s.table; fuel = s.fuel; depth = 1 })) (λ u l1. returns (bodies_of classes s.fuel) r l1))
-      tt).0
+    (next (performs_all (bodies_of classes s.fuel) s.fuel ss (record { names = (this_name, value.Ref object) ∷ names; heap = s.table; fuel = s.fuel; depth = 1 })) (λ u l1. returns (bodies_of classes s.fuel) r l1))
+    tt).0
 
 enters_number : (classes : List Class) (at object : ℕ) (ms : List Method) (name : List ℕ) (n : ℤ) (f : Finds ms name n) (names : Names) (s : Server) → enters classes at int_kind object f.method names s ≡ Got (value.Int n) s
 enters_number classes at object ms name n f names s =
@@ -109,5 +109,5 @@ calls_root s first at fuel name n h =
     ap (λ r. invoke s at int_kind r name [] (record { table = first_table s; fuel = suc fuel })) (remote_out s.root)
     ∙ ap (λ root. with_method s.classes at int_kind root (method_of_object s.classes (slice_get (first_table s) root) name) [] (record { table = first_table s; fuel = suc fuel })) first.root_is
     ∙ ap (λ m. with_method s.classes at int_kind 0 m [] (record { table = first_table s; fuel = suc fuel }))
-      (ap (λ cs. method_of_object cs (slice_get (objects_of cs) 0) name) first.classes_are ∙ method_of_first first.class name f.method f.found)
+    (ap (λ cs. method_of_object cs (slice_get (objects_of cs) 0) name) first.classes_are ∙ method_of_first first.class name f.method f.found)
     ∙ called_method s.classes at 0 fuel (first_table s) first.class.methods name n f

@@ -84,8 +84,8 @@ inner_parts a b c d more = simp (append-nil, append_assoc)
 step_bytes : (id at : ℕ) (method more : List ℕ) → step (keep_call id at method) ++ more ≡ 0x11 ∷ (number id ++ (number at ++ (0x26 ∷ call_bytes at method more)))
 step_bytes id at method more =
     ap (λ l. 0x11 ∷ l)
-      (outer_parts (number id) (number at) (expr (call_on_root at method)) more
-      ∙ ap (λ l. number id ++ (number at ++ (0x26 ∷ l))) (inner_parts (number at) (1 ∷ text method) (0x23 ∷ []) (number 0) more))
+    (outer_parts (number id) (number at) (expr (call_on_root at method)) more
+    ∙ ap (λ l. number id ++ (number at ++ (0x26 ∷ l))) (inner_parts (number at) (1 ∷ text method) (0x23 ∷ []) (number 0) more))
 
 -- a step that keeps a call on the root
 pub reads_step : (id at : ℕ) (method more : List ℕ) → id < 2 ^ 32 → at < 2 ^ 32 → length method < 2 ^ 32 → step_at (step (keep_call id at method) ++ more) ≡ Some (method, more)

@@ -1,6 +1,9 @@
 -- What stands at the front of bytes, with the bytes behind it.
-use Rattle.std.specs.Prelude.{ℕ, ℤ, List, [], ◌∷◌, Option, None, Some, cond, nat_lt, length, take, drop}
+use Rattle.std.specs.Prelude.{ℕ, zero, suc, ℤ, List, [], ◌∷◌, ◌++◌, Option, None, Some, cond, nat_lt, length, take, drop}
 use Rattle.std.specs.Int.{w32, w64, from_be_bytes, cast_signed}
+use Rattle.rb_trees.specs.mirror.Declarations.{Class}
+use Rattle.rb_meaning_bytes.specs.wire.Fields.{number, signed_number}
+use Rattle.rb_top.specs.FirstForm.{number_in}
 
 abbrev pub then_read : {A B : Type 0} → Option (A × List ℕ) → (A → List ℕ → Option B) → Option B
 then_read None f = None
@@ -35,3 +38,31 @@ step_at bs =
 -- the number that an entry keeps
 unfoldable pub entry_at : List ℕ → Option (ℤ × List ℕ)
 entry_at bs = then_read (byte_at bs) (λ tag r1. then_read (byte_at r1) (λ kind r2. signed_at r2))
+
+-- what the server answers to so many steps: the entry of each, in order, up to one that it can't read
+abbrev pub entry_of : ℤ → List ℕ
+entry_of n = 0x31 ∷ 0x01 ∷ signed_number n
+
+abbrev pub by_number : Option ℤ → List ℕ → (List ℕ → List ℕ) → List ℕ
+by_number None rest go = []
+by_number (Some n) rest go = entry_of n ++ go rest
+
+abbrev pub by_step : List Class → Option (List ℕ × List ℕ) → (List ℕ → List ℕ) → List ℕ
+by_step classes None go = []
+by_step classes (Some (method, rest)) go = by_number (number_in classes method) rest go
+
+abbrev pub entries_to : List Class → ℕ → List ℕ → List ℕ
+entries_to classes zero bs = []
+entries_to classes (suc count) bs = by_step classes (step_at bs) (entries_to classes count)
+
+-- the number of steps, and the steps
+unfoldable pub head_at : List ℕ → Option (ℕ × List ℕ)
+head_at bs = then_read (byte_at bs) (λ version r1. then_read (byte_at r1) (λ inputs r2. number_at r2))
+
+abbrev pub by_head : List Class → Option (ℕ × List ℕ) → List ℕ
+by_head classes None = []
+by_head classes (Some (count, rest)) = number count ++ entries_to classes count rest ++ 0x00 ∷ []
+
+-- the reply to a request
+abbrev pub reply_to : List Class → List ℕ → List ℕ
+reply_to classes request = 0x01 ∷ by_head classes (head_at request)

@@ -1,6 +1,7 @@
 //! The commands of the product, from words to what they print.
 #![tactic(auto)]
 
+mod answer;
 mod reading;
 mod request;
 mod wire;

@@ -2,7 +2,7 @@
 
 ghost use Rattle.std.specs.Prelude.{◌≡◌};
 ghost use Rattle.std.specs.Option.{option_map};
-ghost use Rattle.rb_top.specs.Reading.{byte_at, number_at, signed_at, text_at, step_at, entry_at};
+ghost use Rattle.rb_top.specs.Reading.{byte_at, number_at, signed_at, text_at, step_at, entry_at, head_at};
 
 /// A byte, and what stands behind it.
 pub fn read_byte(bytes: &[u8]) -> Option<(u8, &[u8])>
@@ -77,4 +77,14 @@ pub fn read_entry(entries: &[u8]) -> Option<(i64, &[u8])>
     let (_, rest) = read_byte(entries)?;
     let (_, rest) = read_byte(rest)?;
     read_signed(rest)
+}
+
+/// The number of steps of a request, and its steps.
+#[tactic(auto, unfolding(crate::specs::Reading::head_at))]
+pub fn read_head(request: &[u8]) -> Option<(u32, &[u8])>
+    ensures { option_map (λ r. (r.0, r.1.now)) result ≡ head_at request.now }
+{
+    let (_, rest) = read_byte(request)?;
+    let (_, rest) = read_byte(rest)?;
+    read_number(rest)
 }
