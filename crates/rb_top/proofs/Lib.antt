@@ -1,6 +1,8 @@
+pub mod Answered
 pub mod Calls
 pub mod Entries
 pub mod Fields
+pub mod Forms
 pub mod Kept
 pub mod Literals
 pub mod Others

@@ -9,8 +9,9 @@ use Rattle.std.specs.Prelude.{FitsSigned}
 use Rattle.std.proofs.lemmas.Int.{ints, to_z-of_z}
 use Rattle.rb_meaning_bytes.specs.wire.Fields.{number, wide_number, signed_number, text}
 use Rattle.rb_meaning_bytes.specs.wire.Scripts.{expr, step}
-use Rattle.rb_meaning.specs.Division.{call_on_root, keep_call}
-use Rattle.rb_top.specs.Reading.{then_read, byte_at, number_at, signed_at, front_at, text_at, step_at, entry_at}
+use Rattle.rb_trees.specs.mirror.Scripts as script
+use Rattle.rb_trees.specs.mirror.Scripts.{Step}
+use Rattle.rb_top.specs.Reading.{then_read, byte_at, number_at, signed_at, front_at, text_at, step_at, entry_at, head_at}
 
 -- the front of two lists
 front_of : {A : Type 0} (xs ys : List A) (n : ℕ) → length xs ≡ n → take n (xs ++ ys) ≡ xs
@@ -71,9 +72,13 @@ reads_entry z more h = reads_signed z more h
 then_is : {A B : Type 0} (r : Option (A × List ℕ)) (a : A) (rest : List ℕ) (f : A → List ℕ → Option B) → r ≡ Some (a, rest) → then_read r f ≡ f a rest
 then_is r a rest f h = ap (λ x. then_read x f) h
 
+-- a step that keeps a call on the root
+abbrev pub keep_of : (id at place kind : ℕ) → List ℕ → Step
+keep_of id at place kind method = script.Keep id at (script.Call place kind method script.Root script.NoSExprs)
+
 -- the bytes of a step from its call's position on
-abbrev call_bytes : ℕ → List ℕ → List ℕ → List ℕ
-call_bytes place method more = number place ++ (1 ∷ (text method ++ (0x23 ∷ (number 0 ++ more))))
+abbrev call_bytes : ℕ → ℕ → List ℕ → List ℕ → List ℕ
+call_bytes place kind method more = number place ++ (kind ∷ (text method ++ (0x23 ∷ (number 0 ++ more))))
 
 outer_parts : (a b c more : List ℕ) → ((a ++ b) ++ c) ++ more ≡ a ++ (b ++ (c ++ more))
 outer_parts a b c more = simp append_assoc
@@ -81,19 +86,23 @@ outer_parts a b c more = simp append_assoc
 inner_parts : (a b c d more : List ℕ) → ((((a ++ b) ++ c) ++ d) ++ []) ++ more ≡ a ++ (b ++ (c ++ (d ++ more)))
 inner_parts a b c d more = simp (append-nil, append_assoc)
 
-step_bytes : (id at : ℕ) (method more : List ℕ) → step (keep_call id at method) ++ more ≡ 0x11 ∷ (number id ++ (number at ++ (0x26 ∷ call_bytes at method more)))
-step_bytes id at method more =
+step_bytes : (id at place kind : ℕ) (method more : List ℕ) → step (keep_of id at place kind method) ++ more ≡ 0x11 ∷ (number id ++ (number at ++ (0x26 ∷ call_bytes place kind method more)))
+step_bytes id at place kind method more =
     ap (λ l. 0x11 ∷ l)
-    (outer_parts (number id) (number at) (expr (call_on_root at method)) more
-    ∙ ap (λ l. number id ++ (number at ++ (0x26 ∷ l))) (inner_parts (number at) (1 ∷ text method) (0x23 ∷ []) (number 0) more))
+      (outer_parts (number id) (number at) (expr (script.Call place kind method script.Root script.NoSExprs)) more
+      ∙ ap (λ l. number id ++ (number at ++ (0x26 ∷ l))) (inner_parts (number place) (kind ∷ text method) (0x23 ∷ []) (number 0) more))
 
--- a step that keeps a call on the root
-pub reads_step : (id at : ℕ) (method more : List ℕ) → id < 2 ^ 32 → at < 2 ^ 32 → length method < 2 ^ 32 → step_at (step (keep_call id at method) ++ more) ≡ Some (method, more)
+pub reads_step : (id at place kind : ℕ) (method more : List ℕ) → id < 2 ^ 32 → at < 2 ^ 32 → place < 2 ^ 32 → length method < 2 ^ 32 → step_at (step (keep_of id at place kind method) ++ more) ≡ Some (method, more)
 unfolding step_at
-reads_step id at method more f g h =
-    ap step_at (step_bytes id at method more)
-    ∙ then_is _ id _ _ (reads_number id (number at ++ (0x26 ∷ call_bytes at method more)) f)
-    ∙ then_is _ at _ _ (reads_number at (0x26 ∷ call_bytes at method more) g)
-    ∙ then_is _ at _ _ (reads_number at (1 ∷ (text method ++ (0x23 ∷ (number 0 ++ more)))) g)
+reads_step id at place kind method more f g p h =
+    ap step_at (step_bytes id at place kind method more)
+    ∙ then_is _ id _ _ (reads_number id (number at ++ (0x26 ∷ call_bytes place kind method more)) f)
+    ∙ then_is _ at _ _ (reads_number at (0x26 ∷ call_bytes place kind method more) g)
+    ∙ then_is _ place _ _ (reads_number place (kind ∷ (text method ++ (0x23 ∷ (number 0 ++ more)))) p)
     ∙ then_is _ method _ _ (reads_text method (0x23 ∷ (number 0 ++ more)) h)
     ∙ then_is _ 0 _ _ (reads_number 0 more (lit< tt))
+
+-- the number of steps and the steps, in a message without inputs
+pub reads_head : (count : ℕ) (more : List ℕ) → count < 2 ^ 32 → head_at (0x01 ∷ 0x00 ∷ (number count ++ more)) ≡ Some (count, more)
+unfolding head_at
+reads_head count more h = reads_number count more h

@@ -102,3 +102,30 @@ fn put_entries(
     }
     Ok(())
 }
+
+#[tactic(auto, using(crate::proofs::Kept::kept))]
+fn put_reply(reply: &mut BytesMut, service: &Service, request: &[u8]) -> Result<(), Memory>
+    ensures ok { OnOk result (reply.new.items ≡ reply.old.items ++ reply_to (map mirror_class service.now.classes) request.now) }
+    ensures err { OnErr result (Keeps reply.old.items reply.new.items) }
+{
+    put_byte(reply, 0x01)?;
+    if let Some((count, steps)) = read_head(request) {
+        put_number(reply, count)?;
+        put_entries(reply, service, count, steps)?;
+        put_byte(reply, 0x00)?;
+    }
+    Ok(())
+}
+
+/// Appends the forest of a script's run on the service, whose table is one object of its class.
+///
+/// The request spells a script of the form that is built (`FirstRequest`). What is appended is the
+/// spelling of the node that the script means. After an error the buffer has kept its bytes.
+pub fn first_answer(service: &Service, request: &[u8], reply: &mut BytesMut) -> Result<(), Memory>
+    requires service { FirstService (mirror_service service.now) }
+    requires request { FirstRequest (mirror_service service.now) request.now }
+    ensures ok { OnOk result ((s : ScriptTree) → FirstScript (mirror_service service.now) s → request.now ≡ spelled_script s [] → reply.new.items ≡ reply.old.items ++ forest (run_script s [] (mirror_service service.now) (first_table (mirror_service service.now))).node) }
+    ensures err { OnErr result (Keeps reply.old.items reply.new.items) }
+{
+    put_reply(reply, service, request)
+}

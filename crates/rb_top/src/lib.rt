@@ -5,3 +5,6 @@ mod answer;
 mod reading;
 mod request;
 mod wire;
+
+pub use answer::first_answer;
+pub use request::first_request;

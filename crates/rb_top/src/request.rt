@@ -6,9 +6,9 @@ ghost use Rattle.rb_trees.specs.mirror.Code.{mirror_stmt, mirror_stmts};
 ghost use Rattle.rb_trees.specs.mirror.Declarations.{mirror_program};
 ghost use Rattle.rb_meaning.specs.Division.{printed_call, call_on_root, keep_call, steps_of, first_block, first_script};
 ghost use Rattle.rb_meaning_bytes.specs.wire.Fields.{number, text};
-ghost use Rattle.rb_meaning_bytes.specs.wire.Scripts.{expr, step, steps, count_steps, script as script_bytes};
+ghost use Rattle.rb_meaning_bytes.specs.wire.Scripts.{expr, step, steps, count_steps, script as spelled_script};
 ghost use Rattle.rb_top.specs.Buffers.{Keeps};
-ghost use Rattle.rb_top.specs.FirstForm.{FitNames};
+ghost use Rattle.rb_top.specs.FirstForm.{FitNames, FirstProgram, count_stmts};
 
 use crate::wire::{put_byte, put_number, put_text};
 use bytes::BytesMut;
@@ -103,4 +103,39 @@ fn put_steps(into: &mut BytesMut, block: &[Stmt]) -> Result<(), Memory>
         }
     }
     Ok(())
+}
+
+#[tactic(auto, using(crate::proofs::Kept::kept))]
+fn put_request(program: &Program, into: &mut BytesMut) -> Result<(), Memory>
+    requires few { count_stmts (first_block (mirror_stmts program.now.body.statements)) < 2 ^ 32 }
+    requires names { FitNames (first_block (mirror_stmts program.now.body.statements)) }
+    ensures ok { OnOk result (into.new.items ≡ into.old.items ++ spelled_script (first_script (mirror_program program.now)) []) }
+    ensures err { OnErr result (Keeps into.old.items into.new.items) }
+{
+    let block = block_of(program);
+    put_byte(into, 0x01)?;
+    put_byte(into, 0x00)?;
+    put_number(into, count_of(block))?;
+    put_steps(into, block)?;
+    Ok(())
+}
+
+/// Appends the script of the program's batch, as bytes.
+///
+/// The program is of the form that is built (`FirstProgram`). What is appended is the spelling of its
+/// `first_script`. After an error the buffer is unchanged.
+#[tactic(auto, using(crate::proofs::Forms::forms))]
+pub fn first_request(program: &Program, into: &mut BytesMut) -> Result<(), Memory>
+    requires { FirstProgram (mirror_program program.now) }
+    ensures ok { OnOk result (into.new.items ≡ into.old.items ++ spelled_script (first_script (mirror_program program.now)) []) }
+    ensures err { OnErr result (into.new.items ≡ into.old.items) }
+{
+    let start = into.len();
+    match put_request(program, into) {
+        Ok(()) => Ok(()),
+        Err(error) => {
+            into.truncate(start);
+            Err(error)
+        }
+    }
 }
