@@ -8,3 +8,4 @@ pub mod Literals
 pub mod Others
 pub mod ReadsBack
 pub mod Steps
+pub mod Whole

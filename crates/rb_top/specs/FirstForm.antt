@@ -132,3 +132,25 @@ pub record FirstRequest (service : Service) (request : List ℕ) : Type 0 where
   pub script : Script
   pub form : FirstScript service script
   pub spelled : request ≡ spelled_script script []
+
+-- whether each name is among those that are offered
+abbrev pub all_among : List (List ℕ) → List (List ℕ) → Bool
+all_among [] offered = true
+all_among (name ∷ names) offered = cond (is_among offered name) (all_among names offered) false
+
+-- whether no name stands twice
+abbrev pub distinct : List (List ℕ) → Bool
+distinct [] = true
+distinct (name ∷ names) = cond (is_among names name) false (distinct names)
+
+abbrev pub interface_names : List Interface → List (List ℕ)
+interface_names [] = []
+interface_names (i ∷ is) = signature_names i.methods
+
+abbrev pub class_names : List Class → List (List ℕ)
+class_names [] = []
+class_names (c ∷ cs) = method_names c.methods
+
+-- The service has each method that the interface declares.
+abbrev pub Offers : Program → Service → Type 0
+Offers p s = IsTrue (all_among (interface_names p.interfaces) (class_names s.classes))
