@@ -11,9 +11,10 @@ use std::marker::Model;
 
 /// Files in memory, of which chosen reads fail.
 ///
-/// Whoever makes them adds the files, and then hands them to the code that reads. They tell all
+/// Whoever makes them adds the files, and then lends them to the code that reads. They tell all
 /// that they hold: the files in the order in which they were added, the number of reads so far,
-/// and the numbers of the reads that fail. Of files with one name the first is read.
+/// and the numbers of the reads that fail. Of files with one name the first is read. After an
+/// error the next read is the next number, and files can still be added.
 #[derive(Drop)]
 pub struct MemoryFiles {
     /// Names with contents.
@@ -67,8 +68,8 @@ impl Files for MemoryFiles {
 
     ghost faults = { λ it. it.faults };
 
-    /// Fails where the read's number is listed or no file has the name. Each call is numbered,
-    /// whatever it answers.
+    /// Fails exactly where the read's number is listed or no file has the name, unless memory is
+    /// wanting. Each call is numbered, whatever it answers.
     fn read(&mut self, name: &str, limit: usize, into: &mut BytesMut) -> Result<(), FilesStop> {
         self.reads = self.reads.saturating_add(1);
         let listed = self.failing.as_slice().contains(&self.reads);

@@ -8,8 +8,10 @@ use std::marker::Model;
 
 /// A sink that keeps what was written, of which chosen writes fail.
 ///
-/// It tells the bytes. A write takes as much of its piece as may be taken at once; where it is
-/// listed, or no memory is left for the bytes, it counts a fault and takes nothing.
+/// Whoever makes it lends it to the code that writes, and then looks at what was written. It tells
+/// the bytes. A write takes as much of its piece as may be taken at once. Where the write is listed,
+/// or no memory is left for the bytes, it counts a fault and takes nothing, and the sink can be
+/// written to again.
 #[derive(Drop)]
 pub struct MemorySink {
     bytes: Vec<u8>,

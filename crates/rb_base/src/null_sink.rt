@@ -4,7 +4,8 @@ use crate::sinks::{Failed, Sink};
 
 /// A sink that takes all that it is handed, keeps nothing, and never fails.
 ///
-/// It tells nothing.
+/// It is lent to code whose output nobody wants. It tells nothing, and its count of faults is
+/// always 0.
 #[derive(Drop)]
 pub struct NullSink;
 

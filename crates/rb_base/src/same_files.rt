@@ -8,8 +8,9 @@ use std::marker::Model;
 
 /// Files of which no read fails: each name has a file, and all have the same content.
 ///
-/// They tell nothing. Contracts see them as the content, so that a caller who knows that these are
-/// the files knows what a read gives.
+/// Whoever makes them lends them to the code that reads. They tell nothing, and their count of
+/// faults is always 0, so no read answers `Failed`. Contracts see them as the content: a caller
+/// that reads these very files knows what it gets.
 #[derive(Drop)]
 pub struct SameFiles {
     content: Word,
@@ -39,7 +40,7 @@ impl Files for SameFiles {
 
     ghost faults = { λ it. 0 };
 
-    /// Never fails: only memory can be wanting.
+    /// Answers an error only where memory is wanting.
     fn read(&mut self, _name: &str, limit: usize, into: &mut BytesMut) -> Result<(), FilesStop>
         ensures read { OnOk result (into.new.items ≡ into.old.items ++ take (limit + 1) self.old) }
         ensures only_memory { IfErr result (λ stop. stop ≡ FilesStop.Memory) }
