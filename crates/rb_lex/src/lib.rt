@@ -1,0 +1,15 @@
+//! The lexer: from a text to its tokens, or to its first fault.
+//!
+//! What a token is stands in `rb_meaning_bytes`, in `specs/tokens`; [`lex`] is proved to answer exactly that.
+#![tactic(auto)]
+
+mod bytes;
+mod heads;
+mod lexing;
+mod literals;
+mod numbers;
+mod rows;
+
+pub use lexing::lex;
+pub use literals::text_value;
+pub use numbers::number_value;
