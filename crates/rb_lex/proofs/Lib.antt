@@ -6,3 +6,4 @@ pub mod Ended
 pub mod Found
 pub mod Turns
 pub mod Unique
+pub mod Places

@@ -82,7 +82,7 @@ literal_closes bs kind size d =
 pub record Quoted (text : List ℕ) : Type 0 where
   pub tail : List ℕ
   pub is : text ≡ 34 ∷ tail
-  pub open : (k size : ℕ) → ¬ (text_end false tail ≡ Closes k size)
+  pub never : (k size : ℕ) → ¬ (text_end false tail ≡ Closes k size)
 
 pub record Begun (text : List ℕ) (kind : TokenKind) (P : List ℕ → Type 0) : Type 0 where
   pub size : ℕ
@@ -100,12 +100,12 @@ What minus at text Memory = Unit {0}
 what : {minus : Bool} {at : ℕ} {text : List ℕ} {e : LexError} → Faults minus at text e → What minus at text e
 what (number_too_large size b l) = record { size = size; begins = b; fact = l }
 what (text_too_long size b l) = record { size = size; begins = b; fact = l }
-what (open_text {text = text} rest g l) = record { tail = text; is = refl; open = λ k size h. (let n = open_never g l in cc) }
-what (bad_escape body more rest d p g) = inl (record { tail = body ++ 92 ∷ more; is = refl; open = λ k size h. (let n = body_breaks body more rest d p g in cc) })
+what (open_text {text = text} rest g l) = record { tail = text; is = refl; never = λ k size h. (let n = open_never g l in cc) }
+what (bad_escape body more rest d p g) = inl (record { tail = body ++ 92 ∷ more; is = refl; never = λ k size h. (let n = body_breaks body more rest d p g in cc) })
 what (bad_byte b text q s d) = inr (refl, d)
 
 quoted_begin : (text : List ℕ) (kind : TokenKind) (size : ℕ) → Quoted text → ¬ Begins text kind size
-quoted_begin text kind size q d = let c = literal_closes q.tail kind size (subst (λ t. Begins t kind size) q.is d) in q.open c.0 c.1 c.2
+quoted_begin text kind size q d = let c = literal_closes q.tail kind size (subst (λ t. Begins t kind size) q.is d) in q.never c.0 c.1 c.2
 
 -- what a token at the beginning tells of the head that the code finds
 abbrev AtHead : Bool → List ℕ → TokenKind → ℕ → Head → Type 0
@@ -228,14 +228,14 @@ next_fault minus at text e (Bad n) f = cc
 
 next : {minus : Bool} {at : ℕ} {text : List ℕ} {o : Outcome} → Lexes minus at text o → 0 < length text → Next minus at text (head_of minus text) o
 next done l = absurd (omega arith)
-next (skip {minus} {at} {text} {o} size s d) l =
+next (skip {minus} {at} {text} {outcome = o} size s d) l =
     let k = skip_head s minus in
     subst (λ h. Next minus at text h o) (sym k.fact) (subst (λ n. Lexes minus (at + n) (drop n text) o) (sym k.is) d)
-next (token {minus} {at} {text} {o} kind size b w d) l =
+next (token {minus} {at} {text} {outcome = o} kind size b w d) l =
     let k = take_by minus text kind size (head_of minus text) (begins_head minus at text kind size b) w in
     subst (λ h. Next minus at text h (with_front (record { kind = kind; start = at; end = at + size } ∷ []) o)) (sym k.fact)
     (o, subst (λ n. Lexes (is_minus kind) (at + n) (drop n text) o) (sym k.is) d, ap (λ n. with_front (record { kind = kind; start = at; end = at + n } ∷ []) o) (sym k.is))
-next (fault {minus} {at} {text} {e} f) l = next_fault minus at text e (head_of minus text) (fault_head f)
+next (fault {minus} {at} {text} {error = e} f) l = next_fault minus at text e (head_of minus text) (fault_head f)
 
 skips_some : {text : List ℕ} {n : ℕ} → Skips text n → 0 < length text
 skips_some (separator b text h) = omega arith
