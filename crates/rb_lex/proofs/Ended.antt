@@ -90,8 +90,16 @@ bad_step : (bs : List ℕ) (e : End) → makes_escape bs ≡ false → Ended bs 
 bad_step bs (Closes n size) p c =
     record { body = []; more = bs; rest = c.rest; is = refl; count = refl; good = empty; bad = p; goes = subst (λ l. GoesOn l (34 ∷ c.rest)) (sym c.is) (body_goes (34 ∷ c.rest) c.good) }
 bad_step bs (Breaks n) p c =
-    record { body = []; more = bs; rest = c.rest; is = refl; count = refl; good = empty; bad = p;
-      goes = subst (λ l. GoesOn l (34 ∷ c.rest)) (sym c.is) (goes_and (34 ∷ c.rest) (body_goes (92 ∷ c.more) c.good) (go.bad c.bad c.goes)) }
+    record {
+      body = [];
+      more = bs;
+      rest = c.rest;
+      is = refl;
+      count = refl;
+      good = empty;
+      bad = p;
+      goes = subst (λ l. GoesOn l (34 ∷ c.rest)) (sym c.is) (goes_and (34 ∷ c.rest) (body_goes (92 ∷ c.more) c.good) (go.bad c.bad c.goes));
+    }
 bad_step bs Never p c = record { rest = c.rest; goes = go.bad p c.goes; ends = c.ends }
 
 -- what is known behind the next byte, where that is escaped

@@ -150,7 +150,8 @@ module _ (bs : List ℕ) (n size : ℕ) (e : text_end false bs ≡ Closes n size
     within = (let l = ap length c.is in omega (arith, length-append c.body (34 ∷ c.rest), c.count));
     formed = subst IsLiteral (sym (take_next (n + 1) 34 bs)) (c.body, ap (λ v. 34 ∷ v) literal_slice, c.good);
     longest = literal_longest;
-    no_comment = not_comment classes.Quote 34 bs quote_class (λ e. cc) }
+    no_comment = not_comment classes.Quote 34 bs quote_class (λ e. cc);
+  }
 
   literal_value : length (text_value (take (n + 1 + 1) (34 ∷ bs))) ≡ size
   literal_value =
@@ -164,8 +165,11 @@ module _ (bs : List ℕ) (n size : ℕ) (e : text_end false bs ≡ Closes n size
 text_finds : (minus : Bool) (at : ℕ) (bs : List ℕ) (e : End) → text_end false bs ≡ e → Ended bs e → Finds minus at (34 ∷ bs) (text_head e)
 text_finds minus at bs (Closes n size) h c = literal_finds bs n size h c minus at (nat_le size longest_value) refl
 text_finds minus at bs (Breaks n) h c =
-    record { offset = at + (1 + length c.body); is = (let k = c.count in omega arith);
-      fault = subst (λ l. Faults minus at (34 ∷ l) (BadByte (at + (1 + length c.body)))) (sym c.is) (bad_escape c.body c.more c.rest c.good c.bad c.goes) }
+    record {
+      offset = at + (1 + length c.body);
+      is = (let k = c.count in omega arith);
+      fault = subst (λ l. Faults minus at (34 ∷ l) (BadByte (at + (1 + length c.body)))) (sym c.is) (bad_escape c.body c.more c.rest c.good c.bad c.goes);
+    }
 text_finds minus at bs Never h c = open_text c.rest c.goes c.ends
 
 -- comments, signs and bad bytes

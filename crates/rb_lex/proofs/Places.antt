@@ -1,5 +1,5 @@
 -- The outcome of a text that is a list, and the list by its places, are one.
-use Rattle.std.proofs.Common.{◌≡◌, ℕ, ◌+◌, ◌-◌, ◌<◌, ◌≤◌, Bool, true, false, List, [], ◌∷◌, ◌++◌, length, take, drop, refl, sym, ap, subst, ◌∙◌, arith, Ok, Err, IfOk, length-drop}
+use Rattle.std.proofs.Common.{◌≡◌, ℕ, zero, suc, ◌+◌, ◌-◌, ◌<◌, ◌≤◌, Bool, true, false, List, [], ◌∷◌, ◌++◌, length, get_or, take, drop, refl, sym, ap, subst, ◌∙◌, arith, Ok, Err, IfOk, All, ◌↔◌, length-drop}
 use Rattle.std.proofs.lemmas.List.{drop-drop, drop_all}
 use Rattle.std.proofs.lemmas.List.Sums.{prefix_len-le-length}
 use Rattle.rb_meaning_bytes.specs.tokens.Bytes.{is_in_line}
@@ -7,11 +7,12 @@ use Rattle.std.specs.Str.{IsUtf8, IsValidUpTo}
 use Rattle.std.proofs.lemmas.Str.{utf8_valid_len-IsValidUpTo, utf8_valid_len-IsUtf8}
 use Rattle.rb_trees.specs.declared.tokens.Token.{Token}
 use Rattle.rb_trees.specs.declared.tokens.TokenKind.{TokenKind}
+use Rattle.rb_trees.specs.declared.tokens.TokenKind.TheVariants as kinds
 use Rattle.rb_trees.specs.declared.reading.LexError.TheVariants.{BadByte, OpenText, NumberTooLarge, TooLong, NotUtf8, Memory}
 use Rattle.rb_meaning_bytes.specs.tokens.Begins.{Begins, Skips, separator, comment}
 use Rattle.rb_meaning_bytes.specs.tokens.Faults.{WithinLimits}
 use Rattle.rb_meaning_bytes.specs.tokens.Lexes.{Lexes, Outcome, with_front, is_minus, done, skip, token, fault}
-use Rattle.rb_meaning_bytes.specs.tokens.Lists.{Gap, none, Stands, TokensFrom, AllWithinLimits}
+use Rattle.rb_meaning_bytes.specs.tokens.Lists.{Gap, none, Stands, IsToken, TokensFrom, AllWithinLimits}
 use Rattle.rb_meaning_bytes.specs.tokens.Lists as lists
 use Rattle.rb_meaning_bytes.specs.tokens.Texts.{Lexed, IsTokens, longest_text, too_long, not_utf8, lexed}
 use Rattle.rb_lex.specs.Answers.{Gives, Told, Reads}
@@ -75,7 +76,7 @@ token_lexes minus whole t list s w d =
     let e : t.end ≡ t.start + (t.end - t.start) = omega arith in
     let i : drop t.end whole ≡ drop (t.end - t.start) (drop t.start whole) = ap (λ n. drop n whole) e ∙ sym (drop-drop (t.end - t.start) t.start whole) in
     let f : Lexes (is_minus t.kind) (t.start + (t.end - t.start)) (drop (t.end - t.start) (drop t.start whole)) (Ok list) =
-        subst (λ u. Lexes (is_minus t.kind) (t.start + (t.end - t.start)) u (Ok list)) i (subst (λ n. Lexes (is_minus t.kind) n (drop t.end whole) (Ok list)) e d) in
+    subst (λ u. Lexes (is_minus t.kind) (t.start + (t.end - t.start)) u (Ok list)) i (subst (λ n. Lexes (is_minus t.kind) n (drop t.end whole) (Ok list)) e d) in
     subst (λ n. Lexes minus t.start (drop t.start whole) (Ok (record { kind = t.kind; start = t.start; end = n } ∷ list))) (sym e) (token t.kind (t.end - t.start) s.begins w f)
 
 list_lexes : (minus : Bool) (whole : List ℕ) (from : ℕ) (list : List Token) → TokensFrom whole from list → AllWithinLimits minus whole list → Lexes minus from (drop from whole) (Ok list)
@@ -91,6 +92,11 @@ tokens_are text list l u d = let g = listed d text (omega arith) refl in record 
 
 pub are_tokens : (text : List ℕ) (list : List Token) → IsTokens text list → Lexed text (Ok list)
 are_tokens text list t = lexed t.short t.utf8 (list_lexes false text 0 list t.stand t.limits)
+
+from_outcome : {text : List ℕ} {outcome : Outcome} → Lexed text outcome → (list : List Token) → outcome ≡ Ok list → IsTokens text list
+from_outcome (too_long l) list e = cc
+from_outcome (not_utf8 at m v) list e = cc
+from_outcome {text} (lexed m u d) list e = tokens_are text list m u (subst (Lexes false 0 text) e d)
 
 not_both : (text : List ℕ) (at : ℕ) → IsValidUpTo text at → ¬ IsUtf8 text
 not_both text at v u = let l = v.short in let m = utf8_valid_len-IsValidUpTo text at v in let n = utf8_valid_len-IsUtf8 text u in omega arith
@@ -132,3 +138,37 @@ given text (Err Memory) outcome d e = tt
 pub list_told : (text : List ℕ) (answer : Outcome) → length text ≤ longest_text → IsUtf8 text → Reads answer text → IfOk answer (λ list. IsTokens text list)
 list_told text (Ok list) l u d = tokens_are text list l u d
 list_told text (Err e) l u d = tt
+
+-- the tokens one by one
+
+wider : (minus : Bool) (kind : TokenKind) (w : List ℕ) → WithinLimits minus kind w → WithinLimits true kind w
+wider true kind w l = l
+wider false kinds.Number w l = omega arith
+wider false kinds.TextLit w l = l
+wider false kinds.Name w l = l
+wider false (kinds.Keyword n) w l = l
+wider false (kinds.Sign n) w l = l
+
+all_first : (P : Token → Type 0) (t : Token) (ts : List Token) → P t → All P ts → All P (t ∷ ts)
+all_first P t ts p a = λ k d l. by k d l
+  where
+    by : (k : ℕ) (d : Token) → k < length (t ∷ ts) → P (get_or (t ∷ ts) k d)
+    by zero d l = p
+    by (suc k) d l = a k d (omega arith)
+
+each_is : (minus : Bool) (whole : List ℕ) (from : ℕ) (list : List Token) → TokensFrom whole from list → AllWithinLimits minus whole list → All (λ t. IsToken whole t) list
+each_is minus whole from [] g w = λ k d l. absurd (omega arith)
+each_is minus whole from (t ∷ ts) g w =
+    all_first (λ u. IsToken whole u) t ts (record { stands = g.1; limits = wider minus t.kind (take (t.end - t.start) (drop t.start whole)) w.0 })
+    (each_is (is_minus t.kind) whole t.end ts g.2 w.1)
+
+pub all_told : (text : List ℕ) (answer : Outcome) → IfOk answer (λ list. IsTokens text list) → IfOk answer (λ list. All (λ t. IsToken text t) list)
+all_told text (Ok list) t = each_is false text 0 list t.stand t.limits
+all_told text (Err e) t = tt
+
+pub alike : (text : List ℕ) (list : List Token) → IsTokens text list ↔ Lexed text (Ok list)
+alike text list = (are_tokens text list, λ d. from_outcome d list refl)
+
+-- a token's slice ends within the text
+pub stands_within : (text : List ℕ) (t : Token) → Stands text t → t.end ≤ length text
+stands_within text t s = let r = s.rises in let w = s.begins.within in omega (arith, length-drop t.start text)

@@ -78,6 +78,7 @@ module _ (test : List ℕ → Bool) (word : List ℕ) where
       → (ltb (position_or_len (λ s. bytes_eq s word) row) (length row) ≡ true → test word ≡ true) → test word ≡ true
   first_by s row true h a l f = ap test (sym ((bytes_eq-Decides s word).0 h)) ∙ and_first (test s) _ a
   first_by s row false h a l f = f (grind (arith, nat_tests))
+
   stands : (row : List (List ℕ)) → list_all test row ≡ true → ltb (position_or_len (λ s. bytes_eq s word) row) (length row) ≡ true → test word ≡ true
   stands [] a l = cc
   stands (s ∷ row) a l = first_by s row (bytes_eq s word) refl a l (stands row (and_second (test s) _ a))

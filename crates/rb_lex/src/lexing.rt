@@ -1,6 +1,7 @@
-ghost use Rattle.std.specs.Prelude.{◌≡◌, ◌≤◌, ◌<◌, Ok, IfOk, length, false, List, Result};
+ghost use Rattle.std.specs.Prelude.{◌≡◌, ◌≤◌, ◌<◌, ◌↔◌, Ok, IfOk, All, length, List};
 ghost use Rattle.rb_trees.specs.declared.tokens.Token.{Token};
 ghost use Rattle.rb_meaning_bytes.specs.tokens.Lexes.{Lexes, Outcome, is_minus};
+ghost use Rattle.rb_meaning_bytes.specs.tokens.Lists.{IsToken, Stands, slice};
 ghost use Rattle.rb_meaning_bytes.specs.tokens.Texts.{Lexed, IsTokens, longest_text};
 ghost use Rattle.rb_lex.specs.Answers.{Gives, Told, Reads};
 
@@ -19,11 +20,14 @@ const LONGEST_TEXT: usize = 1_048_576;
 pub fn lex(alloc: Global, source: &[u8]) -> Result<Seq<Token>, LexError>
     // What is answered, the source has: these tokens, or this first fault.
     ensures told { Told result source.now }
-    // A source has at most one list of tokens or first fault.
+    // A source has one list of tokens, or one first fault.
     ensures once { (one : Outcome) → (other : Outcome) → Lexed source.now one → Lexed source.now other → one ≡ other }
-    // The list is the source's tokens by their places, and no other list is answered.
+    // Its tokens are those that stand in it by their places.
+    ensures alike { (tokens : List Token) → (IsTokens source.now tokens ↔ Lexed source.now (Ok tokens)) }
+
     ensures list { IfOk result (λ tokens. IsTokens source.now tokens) }
     ensures each { (tokens : List Token) → IsTokens source.now tokens → Gives result (Ok tokens) }
+    ensures all { IfOk result (λ tokens. All (λ token. IsToken source.now token) tokens) }
 {
     if source.len() > LONGEST_TEXT {
         return Err(LexError::TooLong(LONGEST_TEXT as u32));
@@ -64,6 +68,15 @@ fn tokens(alloc: Global, text: &[u8]) -> Result<Seq<Token>, LexError>
         }
     }
     Ok(list)
+}
+
+/// The bytes of a token that stands in the source, by `slice`.
+#[tactic(auto, using(crate::proofs::Places::stands_within))]
+pub fn token_slice(source: &[u8], token: Token) -> &[u8]
+    requires { Stands source.now token }
+    ensures { result.now ≡ slice source.now token.start token.end }
+{
+    &source[token.start as usize..token.end as usize]
 }
 
 /// Whether the token is the sign `-`.

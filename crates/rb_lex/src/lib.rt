@@ -9,7 +9,9 @@ mod lexing;
 mod literals;
 mod numbers;
 mod rows;
+#[cfg(test)]
+mod tests;
 
-pub use lexing::lex;
+pub use lexing::{lex, token_slice};
 pub use literals::text_value;
 pub use numbers::number_value;

@@ -1,6 +1,5 @@
 ghost use Rattle.std.specs.Prelude.{◌≡◌, ◌≤◌, ◌<◌, ◌+◌, ◌^◌, length, min};
 ghost use Rattle.rb_meaning_bytes.specs.tokens.Values.{number_value, int_of};
-ghost use Rattle.rb_meaning_bytes.specs.tokens.Forms.{IsNumber};
 
 /// One more than the value of any number: greater values count as this.
 const TOO_LARGE: u64 = 9_223_372_036_854_775_809;
@@ -22,8 +21,7 @@ pub fn capped_value(digits: &[u8]) -> u64
 
 /// The Int that a number stands for, by `number_value` and `int_of`: 9223372036854775808 is the least Int.
 pub fn number_value(digits: &[u8]) -> i64
-    requires form { IsNumber digits.now }
-    requires small { number_value digits.now ≤ 9223372036854775808 }
+    requires { number_value digits.now ≤ 9223372036854775808 }
     ensures { result ≡ int_of (number_value digits.now) }
 {
     let value = capped_value(digits);

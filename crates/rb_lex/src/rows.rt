@@ -2,12 +2,43 @@ ghost use Rattle.std.specs.Prelude.{◌≡◌, ◌<◌, map, length, IfSome};
 ghost use Rattle.rb_meaning_bytes.specs.tokens.Rows.{keywords, signs, place_in};
 
 static KEYWORDS: [&str; 32] = [
-    "interface", "class", "fun", "remote", "main", "val", "var", "if", "else", "for", "in", "while", "try", "catch", "throw", "return",
-    "batch", "print", "len", "str", "new", "this", "true", "false", "List", "Rows", "Int", "Bool", "Text", "Unit", "object", "root",
+    "interface",
+    "class",
+    "fun",
+    "remote",
+    "main",
+    "val",
+    "var",
+    "if",
+    "else",
+    "for",
+    "in",
+    "while",
+    "try",
+    "catch",
+    "throw",
+    "return",
+    "batch",
+    "print",
+    "len",
+    "str",
+    "new",
+    "this",
+    "true",
+    "false",
+    "List",
+    "Rows",
+    "Int",
+    "Bool",
+    "Text",
+    "Unit",
+    "object",
+    "root",
 ];
 
 static SIGNS: [&str; 26] = [
-    "==", "!=", "<=", ">=", "&&", "||", "<", ">", "=", "+", "-", "*", "/", "%", "!", ".", ",", ";", ":", "(", ")", "{", "}", "[", "]", "#",
+    "==", "!=", "<=", ">=", "&&", "||", "<", ">", "=", "+", "-", "*", "/", "%", "!", ".", ",", ";",
+    ":", "(", ")", "{", "}", "[", "]", "#",
 ];
 
 /// The place of the word in the row, if it stands there.

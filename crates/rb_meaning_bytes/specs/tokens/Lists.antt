@@ -1,5 +1,5 @@
 -- The tokens of a text, by their places in the whole of it.
-use Rattle.std.specs.Prelude.{◌≡◌, ℕ, ◌+◌, ◌-◌, ◌<◌, ◌≤◌, Bool, false, List, [], ◌∷◌, length, take, drop}
+use Rattle.std.specs.Prelude.{◌≡◌, ℕ, ◌+◌, ◌-◌, ◌<◌, ◌≤◌, Bool, true, List, [], ◌∷◌, length, take, drop}
 use Rattle.rb_trees.specs.declared.tokens.Token.{Token}
 use Rattle.rb_meaning_bytes.specs.tokens.Begins.{Begins, Skips}
 use Rattle.rb_meaning_bytes.specs.tokens.Faults.{WithinLimits}
@@ -19,6 +19,11 @@ pub data Gap (text : List ℕ) : ℕ → ℕ → Type 0 where
 pub record Stands (text : List ℕ) (token : Token) : Type 0 where
   pub rises : token.start < token.end
   pub begins : Begins (drop token.start text) token.kind (token.end - token.start)
+
+-- The token stands in the text, and its value is within the limits, be it behind a minus or not.
+pub record IsToken (text : List ℕ) (token : Token) : Type 0 where
+  pub stands : Stands text token
+  pub limits : WithinLimits true token.kind (slice text token.start token.end)
 
 -- From the offset on stand these tokens, one behind the other, and between them separators and comments.
 abbrev pub TokensFrom : List ℕ → ℕ → List Token → Type 0

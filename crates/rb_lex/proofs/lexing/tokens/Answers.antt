@@ -6,16 +6,18 @@ use Rattle.rb_lex.proofs.lexing.tokens.Goals as goal
 pub loop-rest-preserved-in-Skip : goal.loop-rest-preserved-in-Skip
 loop-rest-preserved-in-Skip c =
     let rest = c.loop-rest.rest.now in
-    let l = ap length c.after-rest.ensures in
-    (skip_turn c.args.text.now rest c.loop-rest.minus c.loop-rest.list c.loop-rest.invariant.0 c.loop-rest.invariant.1 (grind (arith, nat_tests)) c.in-Skip.n c.in-Skip.ensures.within c.in-Skip.ensures.value _ c.after-rest.ensures,
-     omega (arith, length-drop (c.in-Skip.n + 1) rest))
+    let l = ap length c.after-rest.ensures in (
+      skip_turn c.args.text.now rest c.loop-rest.minus c.loop-rest.list c.loop-rest.invariant.0 c.loop-rest.invariant.1 (grind (arith, nat_tests)) c.in-Skip.n c.in-Skip.ensures.within c.in-Skip.ensures.value _ c.after-rest.ensures,
+      omega (arith, length-drop (c.in-Skip.n + 1) rest),
+    )
 
 pub loop-rest-preserved : goal.loop-rest-preserved
 loop-rest-preserved c =
     let rest = c.loop-rest.rest.now in
-    let l = ap length c.after-rest-in-Take.ensures in
-    (take_turn c.args.text.now rest c.loop-rest.minus c.loop-rest.list c.loop-rest.invariant.0 c.loop-rest.invariant.1 (grind (arith, nat_tests)) c.in-Take.kind c.in-Take.n c.in-Take.ensures.within c.in-Take.ensures.value _ c.after-rest-in-Take.ensures _ c.is_minus-minus.ensures _ c.in_ok-push-in-Take.ensures.ok,
-     omega (arith, length-drop (c.in-Take.n + 1) rest))
+    let l = ap length c.after-rest-in-Take.ensures in (
+      take_turn c.args.text.now rest c.loop-rest.minus c.loop-rest.list c.loop-rest.invariant.0 c.loop-rest.invariant.1 (grind (arith, nat_tests)) c.in-Take.kind c.in-Take.n c.in-Take.ensures.within c.in-Take.ensures.value _ c.after-rest-in-Take.ensures _ c.is_minus-minus.ensures _ c.in_ok-push-in-Take.ensures.ok,
+      omega (arith, length-drop (c.in-Take.n + 1) rest),
+    )
 
 pub returns-in-Large : goal.returns-in-Large
 returns-in-Large c =
