@@ -25,8 +25,8 @@ HasFront-more old new newer piece rest count h told = record {
 -- one more call that took nothing
 pub HasFront-stop : (old new newer : Option (List ℕ)) (piece rest : List ℕ) →
     HasFront old new piece rest → newer ≡ new → WrotePrefix old newer piece
-HasFront-stop old new newer piece rest h same = (
-  length h.front,
-  omega (arith, ap length h.whole, length-append h.front rest),
-  same ∙ h.told ∙ ap (told_more old) (sym (ap (take (length h.front)) h.whole ∙ take_at h.front rest (length h.front) refl)),
-)
+HasFront-stop old new newer piece rest h same = record {
+  count = length h.front;
+  within = omega (arith, ap length h.whole, length-append h.front rest);
+  told = same ∙ h.told ∙ ap (told_more old) (sym (ap (take (length h.front)) h.whole ∙ take_at h.front rest (length h.front) refl));
+}

@@ -9,8 +9,10 @@ told_more None bytes = None
 told_more (Some written) bytes = Some (written ++ bytes)
 
 -- So many bytes of the piece were written, and no more.
-abbrev pub WrotePrefix : Option (List ℕ) → Option (List ℕ) → List ℕ → Type 0
-WrotePrefix old new piece = (count : ℕ) × (count ≤ length piece) × (new ≡ told_more old (take count piece))
+pub record WrotePrefix (old new : Option (List ℕ)) (piece : List ℕ) : Type 0 where
+  pub count : ℕ
+  pub within : count ≤ length piece
+  pub told : new ≡ told_more old (take count piece)
 
 -- a sink in memory: the bytes written, the number of writes so far, the numbers of the writes that fail, from 1,
 -- how many bytes a write takes at most, and how many writes failed

@@ -89,8 +89,8 @@ inner_parts a b c d more = simp (append-nil, append_assoc)
 step_bytes : (id at place kind : ℕ) (method more : List ℕ) → step (keep_of id at place kind method) ++ more ≡ 0x11 ∷ (number id ++ (number at ++ (0x26 ∷ call_bytes place kind method more)))
 step_bytes id at place kind method more =
     ap (λ l. 0x11 ∷ l)
-      (outer_parts (number id) (number at) (expr (script.Call place kind method script.Root script.NoSExprs)) more
-      ∙ ap (λ l. number id ++ (number at ++ (0x26 ∷ l))) (inner_parts (number place) (kind ∷ text method) (0x23 ∷ []) (number 0) more))
+    (outer_parts (number id) (number at) (expr (script.Call place kind method script.Root script.NoSExprs)) more
+    ∙ ap (λ l. number id ++ (number at ++ (0x26 ∷ l))) (inner_parts (number place) (kind ∷ text method) (0x23 ∷ []) (number 0) more))
 
 pub reads_step : (id at place kind : ℕ) (method more : List ℕ) → id < 2 ^ 32 → at < 2 ^ 32 → place < 2 ^ 32 → length method < 2 ^ 32 → step_at (step (keep_of id at place kind method) ++ more) ≡ Some (method, more)
 unfolding step_at

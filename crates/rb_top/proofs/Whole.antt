@@ -155,7 +155,7 @@ int_calls p f at method h =
 has_number : (p : Program) (f : FirstProgram p) (s : Service) (g : FirstService s) → Offers p s → (method : List ℕ) → is_among (signature_names f.interface.methods) method ≡ true → (n : ℤ) × (number_in s.classes method ≡ Some n)
 has_number p f s g offers method h =
     let all : all_among (signature_names f.interface.methods) (method_names g.class.methods) ≡ true =
-      sym (ap (λ is. all_among (interface_names is) (class_names s.classes)) f.interfaces_are ∙ ap (λ cs. all_among (signature_names f.interface.methods) (class_names cs)) g.classes_are) ∙ offers in
+    sym (ap (λ is. all_among (interface_names is) (class_names s.classes)) f.interfaces_are ∙ ap (λ cs. all_among (signature_names f.interface.methods) (class_names cs)) g.classes_are) ∙ offers in
     let r = returns_number g.class.methods method g.methods (offered (signature_names f.interface.methods) (method_names g.class.methods) method all h) in
     (r.0, ap (λ cs. number_in cs method) g.classes_are ∙ r.1)
 
@@ -179,5 +179,5 @@ means p f s g offers fuel =
     ∙ ap (λ b. goes (performs_found p s b f.place l o)) (found_at f.place f.interface.name f.root f.block)
     ∙ ap (λ n. goes (settles 0 whole (handle (in_batch s kinds) (performs_all bodies fuel f.block start) (within s (state.Batch ∷ []) n)))) (enough (count_stmts f.block) f.few)
     ∙ ap (λ r. goes (settles 0 whole r))
-      (body_prints s g kinds f.root (signature_names f.interface.methods) bodies fuel f.block start (state.Batch ∷ []) (1000000 - count_stmts f.block)
-        (int_calls p f) (has_number p f s g offers) (found_root f.root (value.Remote s.root)) f.prints)
+    (body_prints s g kinds f.root (signature_names f.interface.methods) bodies fuel f.block start (state.Batch ∷ []) (1000000 - count_stmts f.block)
+    (int_calls p f) (has_number p f s g offers) (found_root f.root (value.Remote s.root)) f.prints)

@@ -1,3 +1,4 @@
 pub mod Buffers
 pub mod FirstForm
+pub mod Printing
 pub mod Reading

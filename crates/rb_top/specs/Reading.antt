@@ -3,6 +3,8 @@ use Rattle.std.specs.Prelude.{ℕ, zero, suc, ℤ, List, [], ◌∷◌, ◌++◌
 use Rattle.std.specs.Int.{w32, w64, from_be_bytes, cast_signed}
 use Rattle.rb_trees.specs.mirror.Declarations.{Class}
 use Rattle.rb_meaning_bytes.specs.wire.Fields.{number, signed_number}
+use Rattle.std.specs.Fmt.{signed_decimal}
+use Rattle.rb_meaning.specs.Shown.{line}
 use Rattle.rb_top.specs.FirstForm.{number_in}
 
 abbrev pub then_read : {A B : Type 0} → Option (A × List ℕ) → (A → List ℕ → Option B) → Option B
@@ -66,3 +68,24 @@ by_head classes (Some (count, rest)) = number count ++ entries_to classes count 
 -- the reply to a request
 abbrev pub reply_to : List Class → List ℕ → List ℕ
 reply_to classes request = 0x01 ∷ by_head classes (head_at request)
+
+-- the lines of so many entries, in order, up to one that can't be read
+abbrev pub by_entry : Option (ℤ × List ℕ) → (List ℕ → List ℕ) → List ℕ
+by_entry None go = []
+by_entry (Some (n, rest)) go = line (signed_decimal n) ++ go rest
+
+abbrev pub lines_of : ℕ → List ℕ → List ℕ
+lines_of zero bs = []
+lines_of (suc count) bs = by_entry (entry_at bs) (lines_of count)
+
+-- the number of entries, and the entries
+unfoldable pub entries_at : List ℕ → Option (ℕ × List ℕ)
+entries_at bs = then_read (byte_at bs) (λ version rest. number_at rest)
+
+abbrev pub by_entries : Option (ℕ × List ℕ) → List ℕ
+by_entries None = []
+by_entries (Some (count, rest)) = lines_of count rest
+
+-- the lines that a reply gives the prints
+abbrev pub lines_in : List ℕ → List ℕ
+lines_in reply = by_entries (entries_at reply)

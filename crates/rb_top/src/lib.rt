@@ -2,6 +2,7 @@
 #![tactic(auto)]
 
 mod answer;
+mod printing;
 mod reading;
 mod request;
 mod wire;

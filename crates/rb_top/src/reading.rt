@@ -2,7 +2,7 @@
 
 ghost use Rattle.std.specs.Prelude.{◌≡◌};
 ghost use Rattle.std.specs.Option.{option_map};
-ghost use Rattle.rb_top.specs.Reading.{byte_at, number_at, signed_at, text_at, step_at, entry_at, head_at};
+ghost use Rattle.rb_top.specs.Reading.{byte_at, number_at, signed_at, text_at, step_at, entry_at, head_at, entries_at};
 
 /// A byte, and what stands behind it.
 pub fn read_byte(bytes: &[u8]) -> Option<(u8, &[u8])>
@@ -86,5 +86,14 @@ pub fn read_head(request: &[u8]) -> Option<(u32, &[u8])>
 {
     let (_, rest) = read_byte(request)?;
     let (_, rest) = read_byte(rest)?;
+    read_number(rest)
+}
+
+/// The number of entries of a reply, and its entries.
+#[tactic(auto, unfolding(crate::specs::Reading::entries_at))]
+pub fn read_entries(reply: &[u8]) -> Option<(u32, &[u8])>
+    ensures { option_map (λ r. (r.0, r.1.now)) result ≡ entries_at reply.now }
+{
+    let (_, rest) = read_byte(reply)?;
     read_number(rest)
 }
