@@ -5,7 +5,9 @@ pub mod Fields
 pub mod Forms
 pub mod Kept
 pub mod Literals
+pub mod Lines
 pub mod Others
+pub mod Printed
 pub mod ReadsBack
 pub mod Steps
 pub mod Whole

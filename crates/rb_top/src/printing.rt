@@ -61,3 +61,50 @@ fn number_line(alloc: Global, n: i64) -> Result<String, AllocError>
 {
     format!(in alloc; "{n}\n")
 }
+
+/// Prints a number.
+fn print_number<W: Sink>(alloc: Global, n: i64, out: &mut W) -> Result<(), PrintStop>
+    ensures ok { OnOk result (W.told out.new ≡ told_more (W.told out.old) (line (signed_decimal n))) }
+    ensures err { OnErr result (WrotePrefix (W.told out.old) (W.told out.new) (line (signed_decimal n))) }
+    ensures faults { W.faults out.new ≡ faults_after_print result (W.faults out.old) }
+{
+    match number_line(alloc, n) {
+        Ok(text) => print_text(text.as_bytes(), out),
+        Err(_) => Err(PrintStop::Memory),
+    }
+}
+
+/// Prints a line for each of so many entries.
+#[tactic(auto, using(crate::proofs::Lines::lines))]
+fn print_entries<W: Sink>(
+    alloc: Global,
+    count: u32,
+    entries: &[u8],
+    out: &mut W,
+) -> Result<(), PrintStop>
+    ensures ok { OnOk result (W.told out.new ≡ told_more (W.told out.old) (lines_of count entries.now)) }
+    ensures err { OnErr result (WrotePrefix (W.told out.old) (W.told out.new) (lines_of count entries.now)) }
+    ensures faults { W.faults out.new ≡ faults_after_print result (W.faults out.old) }
+{
+    let mut rest = entries;
+    for _entry in 0..count {
+        let Some((n, more)) = read_entry(rest) else {
+            return Ok(());
+        };
+        print_number(alloc, n, out)?;
+        rest = more;
+    }
+    Ok(())
+}
+
+/// Prints the lines that a reply gives.
+pub fn print_reply<W: Sink>(alloc: Global, reply: &[u8], out: &mut W) -> Result<(), PrintStop>
+    ensures ok { OnOk result (W.told out.new ≡ told_more (W.told out.old) (lines_in reply.now)) }
+    ensures err { OnErr result (WrotePrefix (W.told out.old) (W.told out.new) (lines_in reply.now)) }
+    ensures faults { W.faults out.new ≡ faults_after_print result (W.faults out.old) }
+{
+    match read_entries(reply) {
+        None => Ok(()),
+        Some((count, entries)) => print_entries(alloc, count, entries, out),
+    }
+}

@@ -1,0 +1,61 @@
+-- What a sink tells while a text is printed piece by piece.
+use Rattle.std.proofs.Common.{◌≡◌, ℕ, ◌+◌, ◌≤◌, List, [], ◌∷◌, ◌++◌, Option, None, Some, length, take, ap, sym, ◌∙◌, refl, subst, arith, append_assoc, append-nil, length-append}
+use Rattle.std.proofs.Math.Seq.{take-append-add}
+use Rattle.std.proofs.lemmas.List.{take-append-le}
+use Rattle.std.proofs.lemmas.Grind.{common_steps}
+use Rattle.rb_base.specs.Sinks.{told_more, WrotePrefix}
+
+pub told_twice : (old : Option (List ℕ)) (a b : List ℕ) → told_more (told_more old a) b ≡ told_more old (a ++ b)
+told_twice None a b = refl
+told_twice (Some written) a b = ap Some (append_assoc written a b)
+
+pub told_none : (old : Option (List ℕ)) → told_more old [] ≡ old
+told_none None = refl
+told_none (Some written) = ap Some (append-nil written)
+
+-- a front of a piece is a front of a longer one
+pub prefix_front : (old new : Option (List ℕ)) (a b : List ℕ) → WrotePrefix old new a → WrotePrefix old new (a ++ b)
+prefix_front old new a b w = record {
+  count = w.count;
+  within = let h = w.within in omega (arith, length-append a b);
+  told = w.told ∙ ap (told_more old) (sym (take-append-le w.count a b w.within));
+}
+
+-- a front of what follows a whole piece
+pub prefix_after : (old mid new : Option (List ℕ)) (a b : List ℕ) → mid ≡ told_more old a → WrotePrefix mid new b → WrotePrefix old new (a ++ b)
+prefix_after old mid new a b e w = record {
+  count = length a + w.count;
+  within = let h = w.within in omega (arith, length-append a b);
+  told = w.told ∙ ap (λ m. told_more m (take w.count b)) e ∙ told_twice old a (take w.count b) ∙ ap (told_more old) (sym (take-append-add a b w.count));
+}
+
+-- nothing of a piece was written
+pub prefix_none : (old : Option (List ℕ)) (a : List ℕ) → WrotePrefix old old a
+prefix_none old a = record { count = 0; within = omega arith; told = sym (told_none old) }
+
+-- all of a piece was written
+pub prefix_whole : (old new : Option (List ℕ)) (a : List ℕ) → new ≡ told_more old a → WrotePrefix old new a
+prefix_whole old new a h = record { count = length a; within = omega arith; told = h ∙ ap (told_more old) (grind (arith, common_steps)) }
+
+-- So much of the whole was written that the rest is left.
+pub record Printed (old new : Option (List ℕ)) (whole rest : List ℕ) : Type 0 where
+  pub front : List ℕ
+  pub is : whole ≡ front ++ rest
+  pub told : new ≡ told_more old front
+
+pub printed_none : (old : Option (List ℕ)) (whole : List ℕ) → Printed old old whole whole
+printed_none old whole = record { front = []; is = refl; told = sym (told_none old) }
+
+pub printed_more : (old new newer : Option (List ℕ)) (whole rest a more : List ℕ) → Printed old new whole rest → rest ≡ a ++ more → newer ≡ told_more new a → Printed old newer whole more
+printed_more old new newer whole rest a more p e told = record {
+  front = p.front ++ a;
+  is = p.is ∙ ap (λ l. p.front ++ l) e ∙ sym (append_assoc p.front a more);
+  told = told ∙ ap (λ t. told_more t a) p.told ∙ told_twice old p.front a;
+}
+
+pub printed_all : (old new : Option (List ℕ)) (whole rest : List ℕ) → Printed old new whole rest → rest ≡ [] → new ≡ told_more old whole
+printed_all old new whole rest p e = p.told ∙ ap (told_more old) (sym (p.is ∙ ap (λ l. p.front ++ l) e ∙ append-nil p.front))
+
+pub printed_stop : (old new newer : Option (List ℕ)) (whole rest a more : List ℕ) → Printed old new whole rest → rest ≡ a ++ more → WrotePrefix new newer a → WrotePrefix old newer whole
+printed_stop old new newer whole rest a more p e w =
+    subst (WrotePrefix old newer) (sym (p.is ∙ ap (λ l. p.front ++ l) e)) (prefix_after old new newer p.front (a ++ more) p.told (prefix_front new newer a more w))
