@@ -3,7 +3,11 @@ use Rattle.std.proofs.Common.{◌≡◌, ℕ, ◌+◌, ◌≤◌, List, [], ◌�
 use Rattle.std.proofs.Math.Seq.{take-append-add}
 use Rattle.std.proofs.lemmas.List.{take-append-le}
 use Rattle.std.proofs.lemmas.Grind.{common_steps}
+use Rattle.std.specs.Prelude.{codes, Result, Ok, Err, OnOk, OnErr}
+use Rattle.std.specs.Fmt.{decimal}
+use Rattle.rb_top.specs.Printing.{alone}
 use Rattle.rb_base.specs.Sinks.{told_more, WrotePrefix}
+use Rattle.rb_meaning.specs.Shown.{shown_table}
 
 pub told_twice : (old : Option (List ℕ)) (a b : List ℕ) → told_more (told_more old a) b ≡ told_more old (a ++ b)
 told_twice None a b = refl
@@ -59,3 +63,36 @@ printed_all old new whole rest p e = p.told ∙ ap (told_more old) (sym (p.is �
 pub printed_stop : (old new newer : Option (List ℕ)) (whole rest a more : List ℕ) → Printed old new whole rest → rest ≡ a ++ more → WrotePrefix new newer a → WrotePrefix old newer whole
 printed_stop old new newer whole rest a more p e w =
     subst (WrotePrefix old newer) (sym (p.is ∙ ap (λ l. p.front ++ l) e)) (prefix_after old new newer p.front (a ++ more) p.told (prefix_front new newer a more w))
+
+inner_object : (class a b c : List ℕ) → ((((class ++ a) ++ []) ++ b) ++ c) ++ [] ≡ class ++ (a ++ (b ++ c))
+inner_object class a b c = simp (append-nil, append_assoc)
+
+-- the line of the first object, piece by piece
+pub object_text : (class : List ℕ) → shown_table 0 (alone class) ≡ ((codes "object " ++ decimal 0 ++ codes ": ") ++ class) ++ codes " { }\n"
+object_text class = inner_object ((codes "object " ++ decimal 0 ++ codes ": ") ++ class) (codes " { ") (codes "}") (10 ∷ [])
+
+pub ruleset objects = (object_text, common_steps)
+
+-- three pieces, one after the other
+pub first_of_three : (old new : Option (List ℕ)) (a b c : List ℕ) → WrotePrefix old new a → WrotePrefix old new ((a ++ b) ++ c)
+first_of_three old new a b c w = prefix_front old new (a ++ b) c (prefix_front old new a b w)
+
+pub second_of_three : (old one new : Option (List ℕ)) (a b c : List ℕ) → one ≡ told_more old a → WrotePrefix one new b → WrotePrefix old new ((a ++ b) ++ c)
+second_of_three old one new a b c e w = prefix_front old new (a ++ b) c (prefix_after old one new a b e w)
+
+told_two : (old one two : Option (List ℕ)) (a b : List ℕ) → one ≡ told_more old a → two ≡ told_more one b → two ≡ told_more old (a ++ b)
+told_two old one two a b e f = f ∙ ap (λ t. told_more t b) e ∙ told_twice old a b
+
+pub third_of_three : (old one two new : Option (List ℕ)) (a b c : List ℕ) → one ≡ told_more old a → two ≡ told_more one b → WrotePrefix two new c → WrotePrefix old new ((a ++ b) ++ c)
+third_of_three old one two new a b c e f w = prefix_after old two new (a ++ b) c (told_two old one two a b e f) w
+
+all_three : (old one two new : Option (List ℕ)) (a b c : List ℕ) → one ≡ told_more old a → two ≡ told_more one b → new ≡ told_more two c → new ≡ told_more old ((a ++ b) ++ c)
+all_three old one two new a b c e f g = told_two old two new (a ++ b) c (told_two old one two a b e f) g
+
+pub ok_of_three : {A E : Type 0} (r : Result A E) (old one two new : Option (List ℕ)) (a b c : List ℕ) → one ≡ told_more old a → two ≡ told_more one b → OnOk r (new ≡ told_more two c) → OnOk r (new ≡ told_more old ((a ++ b) ++ c))
+ok_of_three (Ok x) old one two new a b c e f g = all_three old one two new a b c e f g
+ok_of_three (Err x) old one two new a b c e f g = g
+
+pub err_of_three : {A E : Type 0} (r : Result A E) (old one two new : Option (List ℕ)) (a b c : List ℕ) → one ≡ told_more old a → two ≡ told_more one b → OnErr r (WrotePrefix two new c) → OnErr r (WrotePrefix old new ((a ++ b) ++ c))
+err_of_three (Ok x) old one two new a b c e f g = g
+err_of_three (Err x) old one two new a b c e f g = third_of_three old one two new a b c e f g

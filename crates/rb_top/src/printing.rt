@@ -4,9 +4,9 @@ ghost use Rattle.std.specs.Prelude.{◌≡◌, ◌∷◌, ◌++◌, [], IfOk, On
 ghost use Rattle.std.specs.String.{string_bytes};
 ghost use Rattle.std.specs.Fmt.{decimal, signed_decimal};
 ghost use Rattle.rb_trees.specs.declared.services.Object.{Object};
-ghost use Rattle.rb_meaning.specs.Shown.{line, shown_object};
+ghost use Rattle.rb_meaning.specs.Shown.{line, shown_table};
 ghost use Rattle.rb_base.specs.Sinks.{told_more, WrotePrefix};
-ghost use Rattle.rb_top.specs.Printing.{faults_after_print};
+ghost use Rattle.rb_top.specs.Printing.{faults_after_print, end_of, alone};
 ghost use Rattle.rb_top.specs.Reading.{lines_of, lines_in};
 
 use crate::reading::{read_entries, read_entry};
@@ -107,4 +107,66 @@ pub fn print_reply<W: Sink>(alloc: Global, reply: &[u8], out: &mut W) -> Result<
         None => Ok(()),
         Some((count, entries)) => print_entries(alloc, count, entries, out),
     }
+}
+
+/// The line of the number of exchanges, which is one.
+fn exchanges_line(alloc: Global) -> Result<String, AllocError>
+    ensures { IfOk result (λ text. string_bytes text ≡ line (codes "exchanges " ++ decimal 1)) }
+{
+    let count = 1u64;
+    format!(in alloc; "exchanges {count}\n")
+}
+
+fn print_exchanges<W: Sink>(alloc: Global, out: &mut W) -> Result<(), PrintStop>
+    ensures ok { OnOk result (W.told out.new ≡ told_more (W.told out.old) (line (codes "exchanges " ++ decimal 1))) }
+    ensures err { OnErr result (WrotePrefix (W.told out.old) (W.told out.new) (line (codes "exchanges " ++ decimal 1))) }
+    ensures faults { W.faults out.new ≡ faults_after_print result (W.faults out.old) }
+{
+    match exchanges_line(alloc) {
+        Ok(text) => print_text(text.as_bytes(), out),
+        Err(_) => Err(PrintStop::Memory),
+    }
+}
+
+/// What stands before the class of the first object in its line.
+fn object_head(alloc: Global) -> Result<String, AllocError>
+    ensures { IfOk result (λ text. string_bytes text ≡ codes "object " ++ decimal 0 ++ codes ": ") }
+{
+    let number = 0u64;
+    format!(in alloc; "object {number}: ")
+}
+
+/// The line of the object that stands alone in the table, without fields.
+#[tactic(auto, using(crate::proofs::Printed::objects))]
+fn object_line(alloc: Global, class: &[u8]) -> Result<Vec<u8>, AllocError>
+    ensures { IfOk result (λ text. text.items ≡ shown_table 0 (alone class.now)) }
+{
+    let head = object_head(alloc)?;
+    let mut text = Vec::from_slice(alloc, head.as_bytes())?;
+    text.extend_from_slice(class)?;
+    text.extend_from_slice(b" { }\n")?;
+    Ok(text)
+}
+
+fn print_object<W: Sink>(alloc: Global, class: &[u8], out: &mut W) -> Result<(), PrintStop>
+    ensures ok { OnOk result (W.told out.new ≡ told_more (W.told out.old) (shown_table 0 (alone class.now))) }
+    ensures err { OnErr result (WrotePrefix (W.told out.old) (W.told out.new) (shown_table 0 (alone class.now))) }
+    ensures faults { W.faults out.new ≡ faults_after_print result (W.faults out.old) }
+{
+    match object_line(alloc, class) {
+        Ok(text) => print_text(text.as_slice(), out),
+        Err(_) => Err(PrintStop::Memory),
+    }
+}
+
+/// Prints what follows the lines of a run that ends well after one exchange, over a table of one
+/// object of a class, without fields.
+pub fn print_end<W: Sink>(alloc: Global, class: &[u8], out: &mut W) -> Result<(), PrintStop>
+    ensures ok { OnOk result (W.told out.new ≡ told_more (W.told out.old) (end_of (alone class.now))) }
+    ensures err { OnErr result (WrotePrefix (W.told out.old) (W.told out.new) (end_of (alone class.now))) }
+    ensures faults { W.faults out.new ≡ faults_after_print result (W.faults out.old) }
+{
+    print_text(b"done\n", out)?;
+    print_exchanges(alloc, out)?;
+    print_object(alloc, class, out)
 }
