@@ -1,6 +1,7 @@
 -- A call on the root of a service of the form that is built gives the number that the method returns.
 use Rattle.std.proofs.Common.{◌≡◌, ℕ, ℤ, zero, suc, List, [], ◌∷◌, Bool, true, false, Option, None, Some, cond, ap, sym, ◌∙◌, refl, subst, arith}
-use Rattle.std.specs.Prelude.{slice_get}
+use Rattle.std.specs.Prelude.{slice_get, FitsSigned}
+use Rattle.std.specs.Int.{w64}
 use Rattle.std.specs.Str.{bytes_eq}
 use Rattle.std.proofs.lemmas.Grind.{common_steps}
 use Rattle.rb_trees.specs.declared.values.Value.{Value, out-Value}
@@ -39,12 +40,14 @@ pub record Finds (ms : List Method) (name : List ℕ) (n : ℤ) : Type 0 where
   pub statements : method.body.statements ≡ code.NoStmts
   pub result : method.body.result ≡ Some (code.Lit at literal)
   pub is : out-Value literal ≡ Value-F.Int n
+  pub fits : FitsSigned w64 n
 
-returned_literal : (r : Option Expr) (n : ℤ) → ReturnsNumber r → literal_of r ≡ Some n → (at : ℕ) × (v : Value) × (r ≡ Some (code.Lit at v)) × (out-Value v ≡ Value-F.Int n)
+returned_literal : (r : Option Expr) (n : ℤ) → ReturnsNumber r → literal_of r ≡ Some n → (at : ℕ) × (v : Value) × (r ≡ Some (code.Lit at v)) × (out-Value v ≡ Value-F.Int n) × FitsSigned w64 n
 returned_literal None n h e = absurd h
 returned_literal (Some (code.Lit at v)) n h e =
     let i : Some h.0 ≡ Some n = sym (ap int_of h.1) ∙ e in
-    (at, v, refl, h.1 ∙ ap Value-F.Int (cc))
+    let e : h.0 ≡ n = cc in
+    (at, v, refl, h.1 ∙ ap Value-F.Int e, subst (FitsSigned w64) e h.2)
 returned_literal (Some _) n h e = absurd h
 
 after_another : (m : Method) (ms : List Method) (name : List ℕ) (n : ℤ) → bytes_eq m.signature.name name ≡ false → Finds ms name n → Finds (m ∷ ms) name n
@@ -57,6 +60,7 @@ after_another m ms name n e f = record {
   statements = f.statements;
   result = f.result;
   is = f.is;
+  fits = f.fits;
 }
 
 pub finds : (ms : List Method) (name : List ℕ) (n : ℤ) → PlainMethods ms → number_named ms name ≡ Some n → Finds ms name n
@@ -75,6 +79,7 @@ finds (m ∷ ms) name n plain h = by_name (bytes_eq m.signature.name name) refl 
           statements = plain.1;
           result = r.2;
           is = r.3;
+          fits = r.4;
         }
     by_name false e rest = after_another m ms name n e (rest (sym (ap (λ c. cond c (literal_of m.body.result) (number_named ms name)) e) ∙ h))
 
@@ -111,3 +116,7 @@ calls_root s first at fuel name n h =
     ∙ ap (λ m. with_method s.classes at int_kind 0 m [] (record { table = first_table s; fuel = suc fuel }))
     (ap (λ cs. method_of_object cs (slice_get (objects_of cs) 0) name) first.classes_are ∙ method_of_first first.class name f.method f.found)
     ∙ called_method s.classes at 0 fuel (first_table s) first.class.methods name n f
+
+-- the numbers that a service returns are of 64 bits
+pub number_fits : (s : Service) (first : FirstService s) (name : List ℕ) (n : ℤ) → number_in s.classes name ≡ Some n → FitsSigned w64 n
+number_fits s first name n h = (finds first.class.methods name n first.methods (sym (ap (λ cs. number_in cs name) first.classes_are) ∙ h)).fits

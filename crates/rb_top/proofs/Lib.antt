@@ -9,5 +9,6 @@ pub mod Lines
 pub mod Others
 pub mod Printed
 pub mod ReadsBack
+pub mod Replayed
 pub mod Steps
 pub mod Whole

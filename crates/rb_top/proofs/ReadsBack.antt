@@ -11,7 +11,7 @@ use Rattle.rb_meaning_bytes.specs.wire.Fields.{number, wide_number, signed_numbe
 use Rattle.rb_meaning_bytes.specs.wire.Scripts.{expr, step}
 use Rattle.rb_trees.specs.mirror.Scripts as script
 use Rattle.rb_trees.specs.mirror.Scripts.{Step}
-use Rattle.rb_top.specs.Reading.{then_read, byte_at, number_at, signed_at, front_at, text_at, step_at, entry_at, head_at}
+use Rattle.rb_top.specs.Reading.{then_read, byte_at, number_at, signed_at, front_at, text_at, step_at, entry_at, head_at, entries_at}
 
 -- the front of two lists
 front_of : {A : Type 0} (xs ys : List A) (n : ℕ) → length xs ≡ n → take n (xs ++ ys) ≡ xs
@@ -106,3 +106,8 @@ reads_step id at place kind method more f g p h =
 pub reads_head : (count : ℕ) (more : List ℕ) → count < 2 ^ 32 → head_at (0x01 ∷ 0x00 ∷ (number count ++ more)) ≡ Some (count, more)
 unfolding head_at
 reads_head count more h = reads_number count more h
+
+-- the number of entries and the entries
+pub reads_entries : (count : ℕ) (more : List ℕ) → count < 2 ^ 32 → entries_at (0x01 ∷ (number count ++ more)) ≡ Some (count, more)
+unfolding entries_at
+reads_entries count more h = reads_number count more h

@@ -1,7 +1,8 @@
 -- The one form of program and service that is built. The program has one interface of methods without parameters that
 -- give Int, and its `main` is one batch of prints of such methods, called on the root. The service has one class of
 -- methods that return a number, and one object of it, which is the root.
-use Rattle.std.specs.Prelude.{◌≡◌, ℕ, ◌<◌, ◌≤◌, ◌^◌, ℤ, suc, List, [], ◌∷◌, Bool, true, false, cond, Option, None, Some, IsTrue, length, map}
+use Rattle.std.specs.Prelude.{◌≡◌, ℕ, ◌<◌, ◌≤◌, ◌^◌, ℤ, suc, List, [], ◌∷◌, Bool, true, false, cond, Option, None, Some, IsTrue, length, map, FitsSigned}
+use Rattle.std.specs.Int.{w64}
 use Rattle.std.specs.Option.{IfSome}
 use Rattle.std.specs.List.{list_any}
 use Rattle.std.specs.Str.{bytes_eq}
@@ -49,11 +50,11 @@ abbrev pub PlainSignatures : List Signature → Type 0
 PlainSignatures [] = Unit {0}
 PlainSignatures (s ∷ ss) = (s.params ≡ []) × GivesInt s.result × PlainSignatures ss
 
--- Each statement prints a declared method, called on the root without arguments.
+-- Each statement prints a declared method, called on the root without arguments; its name and position fit the wire.
 abbrev pub PrintsCalls : List ℕ → List (List ℕ) → Stmts → Type 0
 PrintsCalls root names code.NoStmts = Unit {0}
 PrintsCalls root names (code.MoreStmts (code.Print place (code.Call at (code.Name here name) method code.NoExprs)) ss) =
-    (name ≡ root) × IsTrue (is_among names method) × (length method < 2 ^ 32) × PrintsCalls root names ss
+    (name ≡ root) × IsTrue (is_among names method) × (length method < 2 ^ 32) × (at < 2 ^ 32) × PrintsCalls root names ss
 PrintsCalls root names _ = ⊥
 
 pub record FirstProgram (p : Program) : Type 0 where
@@ -88,9 +89,9 @@ abbrev pub number_in : List Class → List ℕ → Option ℤ
 number_in [] name = None
 number_in (c ∷ cs) name = number_named c.methods name
 
--- The body returns a number, and does nothing else.
+-- The body returns a number of 64 bits.
 abbrev pub ReturnsNumber : Option Expr → Type 0
-ReturnsNumber (Some (code.Lit at v)) = (n : ℤ) × (out-Value v ≡ Value-F.Int n)
+ReturnsNumber (Some (code.Lit at v)) = (n : ℤ) × (out-Value v ≡ Value-F.Int n) × FitsSigned w64 n
 ReturnsNumber _ = ⊥
 
 -- Each method has no parameters and returns a number.
