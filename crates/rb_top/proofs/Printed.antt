@@ -96,3 +96,17 @@ ok_of_three (Err x) old one two new a b c e f g = g
 pub err_of_three : {A E : Type 0} (r : Result A E) (old one two new : Option (List ℕ)) (a b c : List ℕ) → one ≡ told_more old a → two ≡ told_more one b → OnErr r (WrotePrefix two new c) → OnErr r (WrotePrefix old new ((a ++ b) ++ c))
 err_of_three (Ok x) old one two new a b c e f g = g
 err_of_three (Err x) old one two new a b c e f g = third_of_three old one two new a b c e f g
+
+-- two pieces, one after the other
+pub err_of_two : {A E : Type 0} (r : Result A E) (old one new : Option (List ℕ)) (a b : List ℕ) → one ≡ told_more old a → OnErr r (WrotePrefix one new b) → OnErr r (WrotePrefix old new (a ++ b))
+err_of_two (Ok x) old one new a b e g = g
+err_of_two (Err x) old one new a b e g = prefix_after old one new a b e g
+
+-- the same text, said otherwise
+pub ok_said : {A E : Type 0} (r : Result A E) (old new : Option (List ℕ)) (text : List ℕ) (said : List ℕ → ℕ → List ℕ) → ((source : List ℕ) (fuel : ℕ) → text ≡ said source fuel) → OnOk r (new ≡ told_more old text) → OnOk r ((source : List ℕ) (fuel : ℕ) → new ≡ told_more old (said source fuel))
+ok_said (Ok x) old new text said e h = λ source fuel. h ∙ ap (told_more old) (e source fuel)
+ok_said (Err x) old new text said e h = h
+
+pub err_said : {A E : Type 0} (r : Result A E) (old new : Option (List ℕ)) (text : List ℕ) (said : List ℕ → ℕ → List ℕ) → ((source : List ℕ) (fuel : ℕ) → text ≡ said source fuel) → OnErr r (WrotePrefix old new text) → OnErr r ((source : List ℕ) (fuel : ℕ) → WrotePrefix old new (said source fuel))
+err_said (Ok x) old new text said e h = h
+err_said (Err x) old new text said e h = λ source fuel. subst (WrotePrefix old new) (e source fuel) h

@@ -20,9 +20,10 @@ use Rattle.rb_meaning.specs.Shown.{line, shown, shown_events, shown_table, excha
 use Rattle.rb_meaning_bytes.specs.wire.Fields.{number, value_form, signed_number}
 use Rattle.rb_meaning_bytes.specs.wire.Scripts.{count_steps}
 use Rattle.rb_meaning_bytes.specs.wire.Forests.{entries, count_entries, forest as spelled_forest}
-use Rattle.rb_top.specs.FirstForm.{FirstProgram, FirstService, FirstScript, PrintsCalls, KeepsCalls, Offers, is_among, signature_names, number_in, first_table, count_stmts}
+use Rattle.rb_top.specs.FirstForm.{FirstProgram, FirstService, FirstScript, PrintsCalls, KeepsCalls, Offers, is_among, signature_names, number_in, first_table, objects_of, class_name_of, count_stmts}
 use Rattle.rb_top.specs.Reading.{entry_at, by_entry, lines_of, entries_at, by_entries, lines_in}
-use Rattle.rb_top.specs.Printing.{end_of}
+use Rattle.rb_top.specs.Printing.{alone, end_of}
+use Rattle.rb_top.specs.Runs.{reply_of, run_text}
 use Rattle.rb_top.proofs.Calls.{int_out, number_fits}
 use Rattle.rb_top.proofs.Answered.{or_zero, method_of, kept, count_kept, node_kept}
 use Rattle.rb_top.proofs.ReadsBack.{reads_entry, reads_entries}
@@ -115,3 +116,15 @@ printed_is p f s g offers source fuel =
     ∙ ap (λ l. l ++ c) (sym (append_assoc ls a b))
     ∙ ap (λ n. ls ++ a ++ line (codes "exchanges " ++ decimal n) ++ c) (sym one)
     ∙ ap (shown source) (sym (means p f s g offers fuel))
+
+-- the table, by the class's name
+table_alone : (s : Service) (g : FirstService s) → first_table s ≡ alone (class_name_of s.classes)
+table_alone s g = ap objects_of g.classes_are ∙ ap (λ cs. alone (class_name_of cs)) (sym g.classes_are)
+
+pub text_is : (p : Program) (f : FirstProgram p) (s : Service) (g : FirstService s) → Offers p s → (reply class : List ℕ) → reply ≡ reply_of p s → class ≡ class_name_of s.classes
+    → (source : List ℕ) (fuel : ℕ) → lines_in reply ++ end_of (alone class) ≡ run_text source fuel p s
+text_is p f s g offers reply class r c source fuel =
+    ap (λ l. lines_in l ++ end_of (alone class)) r
+    ∙ ap (λ l. lines_in (reply_of p s) ++ end_of (alone l)) c
+    ∙ ap (λ t. lines_in (reply_of p s) ++ end_of t) (sym (table_alone s g))
+    ∙ printed_is p f s g offers source fuel

@@ -155,3 +155,8 @@ class_names (c ∷ cs) = method_names c.methods
 -- The service has each method that the interface declares.
 abbrev pub Offers : Program → Service → Type 0
 Offers p s = IsTrue (all_among (interface_names p.interfaces) (class_names s.classes))
+
+-- the name of the service's class
+abbrev pub class_name_of : List Class → List ℕ
+class_name_of [] = []
+class_name_of (c ∷ cs) = c.name

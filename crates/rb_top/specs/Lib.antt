@@ -2,3 +2,4 @@ pub mod Buffers
 pub mod FirstForm
 pub mod Printing
 pub mod Reading
+pub mod Runs

@@ -5,6 +5,7 @@ mod answer;
 mod printing;
 mod reading;
 mod request;
+mod run;
 mod wire;
 
 pub use answer::first_answer;

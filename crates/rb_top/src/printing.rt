@@ -43,6 +43,17 @@ impl From<AllocError> for PrintStop {
     }
 }
 
+impl From<Memory> for PrintStop {
+    ghost use Rattle.std.specs.Prelude.{◌≡◌};
+    ghost use Rattle.rb_top.specs.declared.printing.PrintStop.TheVariants as stops;
+
+    ghost from_gives = { λ _ e. e ≡ stops.Memory };
+
+    fn from(_want: Memory) -> PrintStop {
+        PrintStop::Memory
+    }
+}
+
 /// Prints a text.
 pub fn print_text<W: Sink>(text: &[u8], out: &mut W) -> Result<(), PrintStop>
     ensures ok { OnOk result (W.told out.new ≡ told_more (W.told out.old) text.now) }
