@@ -7,7 +7,9 @@ use Rattle.rb_trees.specs.declared.tokens.TokenKind.{TokenKind}
 use Rattle.rb_trees.specs.declared.reading.LexError.{LexError}
 use Rattle.rb_trees.specs.declared.reading.LexError.TheVariants.{BadByte, OpenText, NumberTooLarge, TooLong}
 use Rattle.rb_meaning_bytes.specs.tokens.Faults.{Faults}
-use Rattle.rb_meaning_bytes.specs.tokens.Lexes.{Lexes, Outcome, with_front, is_minus, done, skip, token, fault}
+use Rattle.rb_meaning_bytes.specs.tokens.Lexes.{Lexes, with_front, done, skip, token, fault}
+use Rattle.rb_meaning_bytes.specs.tokens.Lists.{is_minus}
+use Rattle.rb_meaning_bytes.specs.tokens.Texts.{Outcome}
 use Rattle.rb_lex.specs.declared.heads.Head.{Head}
 use Rattle.rb_lex.specs.declared.heads.Head.TheVariants.{Skip, Take, Large, Long, Open, Bad}
 use Rattle.rb_lex.specs.Heads.{head_of}

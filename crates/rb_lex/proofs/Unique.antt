@@ -14,7 +14,9 @@ use Rattle.rb_meaning_bytes.specs.tokens.Values.{number_value, text_value}
 use Rattle.rb_meaning_bytes.specs.tokens.Forms.{Form}
 use Rattle.rb_meaning_bytes.specs.tokens.Begins.{Begins, Skips, separator, comment}
 use Rattle.rb_meaning_bytes.specs.tokens.Faults.{Faults, WithinLimits, greatest_number, longest_value, number_too_large, text_too_long, open_text, bad_escape, bad_byte}
-use Rattle.rb_meaning_bytes.specs.tokens.Lexes.{Lexes, Outcome, with_front, is_minus, done, skip, token, fault}
+use Rattle.rb_meaning_bytes.specs.tokens.Lexes.{Lexes, with_front, done, skip, token, fault}
+use Rattle.rb_meaning_bytes.specs.tokens.Lists.{is_minus}
+use Rattle.rb_meaning_bytes.specs.tokens.Texts.{Outcome}
 use Rattle.rb_lex.specs.declared.bytes.Class.{Class}
 use Rattle.rb_lex.specs.declared.bytes.Class.TheVariants as classes
 use Rattle.rb_lex.specs.declared.literals.End.TheVariants.{Closes, Breaks, Never}
