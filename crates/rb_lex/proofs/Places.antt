@@ -1,5 +1,5 @@
 -- The outcome by rests, and the tokens or the fault by their places, are one.
-use Rattle.std.proofs.Common.{◌≡◌, ℕ, zero, suc, ◌+◌, ◌-◌, ◌<◌, ◌≤◌, Bool, true, false, List, [], ◌∷◌, ◌++◌, length, get_or, take, drop, refl, sym, ap, subst, ◌∙◌, arith, Ok, Err, IfOk, All, ◌↔◌, length-drop}
+use Rattle.std.proofs.Common.{◌≡◌, ℕ, zero, suc, ◌+◌, ◌-◌, ◌<◌, ◌≤◌, Bool, true, false, List, [], ◌∷◌, length, get_or, take, drop, refl, sym, ap, subst, ◌∙◌, arith, Ok, Err, IfOk, All, ◌↔◌, length-drop}
 use Rattle.std.proofs.lemmas.List.{drop-drop, drop_all, append-nil}
 use Rattle.std.proofs.lemmas.List.Sums.{prefix_len-le-length}
 use Rattle.std.specs.Str.{IsUtf8, IsValidUpTo}
@@ -14,7 +14,7 @@ use Rattle.rb_meaning_bytes.specs.tokens.Begins.{Begins, Skips, separator, comme
 use Rattle.rb_meaning_bytes.specs.tokens.Faults.{Faults, WithinLimits}
 use Rattle.rb_meaning_bytes.specs.tokens.Lists.{Gap, none, Stands, IsToken, TokensBetween, AllWithinLimits, FaultStands, is_minus, ends_in_minus}
 use Rattle.rb_meaning_bytes.specs.tokens.Lists as lists
-use Rattle.rb_meaning_bytes.specs.tokens.Texts.{Outcome, Lexed, IsTokens, IsRefusal, longest_text, too_long, not_utf8, stands}
+use Rattle.rb_meaning_bytes.specs.tokens.Texts.{Outcome, Lexed, IsRefusal, longest_text, too_long, not_utf8, stands}
 use Rattle.rb_meaning_bytes.specs.tokens.Lexes.{Lexes, with_front, done, skip, token, fault}
 use Rattle.rb_lex.specs.Answers.{Gives, Told, Reads}
 use Rattle.rb_lex.proofs.Unique.{one_outcome, begins_size}

@@ -1,4 +1,4 @@
-use Rattle.std.proofs.Common.{subst, sym, arith, Err}
+use Rattle.std.proofs.Common.{subst, sym, Err}
 use Rattle.rb_trees.specs.declared.reading.LexError.TheVariants.{NotUtf8, TooLong}
 use Rattle.rb_meaning_bytes.specs.tokens.Texts.{IsRefusal, too_long, not_utf8}
 use Rattle.rb_lex.proofs.Places.{one_lexed, told, given, all_told, both_ways}

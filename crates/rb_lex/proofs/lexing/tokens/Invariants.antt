@@ -1,4 +1,4 @@
-use Rattle.std.proofs.Common.{◌≡◌, ◌-◌, ◌≤◌, length, false}
+use Rattle.std.proofs.Common.{◌-◌, ◌≤◌, length, false}
 use Rattle.rb_meaning_bytes.specs.tokens.Lexes.{Lexes, with_front}
 use Rattle.rb_meaning_bytes.specs.tokens.Texts.{Outcome}
 use Rattle.rb_lex.proofs.lexing.tokens.Given as goal
