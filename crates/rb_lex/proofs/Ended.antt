@@ -1,8 +1,8 @@
 -- How a text literal ends, by the function of the code and by the definition.
-use Rattle.std.proofs.Common.{◌≡◌, ℕ, zero, suc, ◌+◌, ◌<◌, ◌≤◌, Bool, true, false, cond, eqb, ltb, List, [], ◌∷◌, ◌++◌, length, take, drop, refl, sym, ap, subst, ◌∙◌, arith}
+use Rattle.std.proofs.Common.{◌≡◌, ℕ, ◌+◌, Bool, true, false, eqb, List, [], ◌∷◌, ◌++◌, length, refl, sym, ap, subst, ◌∙◌, arith}
 use Rattle.std.proofs.lemmas.Bool.Decides.{nat_tests}
 use Rattle.rb_meaning_bytes.specs.tokens.Bytes.{makes_escape, is_escaped, is_plain}
-use Rattle.rb_meaning_bytes.specs.tokens.Values.{unescaped, escape_value}
+use Rattle.rb_meaning_bytes.specs.tokens.Values.{unescaped}
 use Rattle.rb_meaning_bytes.specs.tokens.Forms.{Body, empty, plain, escape}
 use Rattle.rb_meaning_bytes.specs.tokens.Faults.{GoesOn, LineEnds}
 use Rattle.rb_meaning_bytes.specs.tokens.Faults as go

@@ -1,5 +1,5 @@
 -- What the code finds at the head of a text, stands there.
-use Rattle.std.proofs.Common.{◌≡◌, ℕ, zero, suc, ◌+◌, ◌-◌, ◌<◌, ◌≤◌, Bool, true, false, ◌&&◌, cond, eqb, ltb, leb, List, [], ◌∷◌, ◌++◌, length, take, drop, refl, sym, ap, subst, ◌∙◌, arith, Option, None, Some, add-one, ◌⊎◌, inl, inr, append_assoc, length-append}
+use Rattle.std.proofs.Common.{◌≡◌, ℕ, zero, suc, ◌+◌, ◌<◌, ◌≤◌, Bool, true, false, ◌&&◌, cond, eqb, List, [], ◌∷◌, ◌++◌, length, take, drop, refl, sym, ap, subst, ◌∙◌, arith, Option, None, Some, add-one, ◌⊎◌, inl, inr, append_assoc, length-append}
 use Rattle.std.proofs.lemmas.Bool.Decides.{nat_tests}
 use Rattle.std.proofs.lemmas.List.Sums.{prefix_len-le-length}
 use Rattle.std.specs.List.{list_all, prefix_len}
@@ -8,9 +8,8 @@ use Rattle.std.proofs.lemmas.List.{take-append-drop, length-take-le, take_at}
 use mathlib.Core.Logic.{⊎_elim}
 use Rattle.rb_trees.specs.declared.tokens.TokenKind.{TokenKind}
 use Rattle.rb_trees.specs.declared.tokens.TokenKind.TheVariants as kinds
-use Rattle.rb_trees.specs.declared.reading.LexError.{LexError}
 use Rattle.rb_trees.specs.declared.reading.LexError.TheVariants.{BadByte, OpenText, NumberTooLarge, TooLong}
-use Rattle.rb_meaning_bytes.specs.tokens.Bytes.{is_separator, is_letter, is_digit, is_word_byte, is_in_line}
+use Rattle.rb_meaning_bytes.specs.tokens.Bytes.{is_digit, is_word_byte, is_in_line}
 use Rattle.rb_meaning_bytes.specs.tokens.Rows.{keywords, signs, place_in}
 use Rattle.rb_meaning_bytes.specs.tokens.Values.{number_value, text_value, unescaped, escape_value}
 use Rattle.rb_meaning_bytes.specs.tokens.Forms.{Form, IsWord, IsLiteral, Body, empty, plain, escape}
@@ -24,9 +23,9 @@ use Rattle.rb_lex.specs.declared.heads.Head.{Head}
 use Rattle.rb_lex.specs.declared.heads.Head.TheVariants.{Skip, Take, Large, Long, Open, Bad}
 use Rattle.rb_lex.specs.Classes.{class_of}
 use Rattle.rb_lex.specs.Ends.{text_end}
-use Rattle.rb_lex.specs.Heads.{head_of, head_by, word_kind, keyword_or_name, number_head, text_head, other_head, one_sign, sign_or}
-use Rattle.rb_lex.proofs.Slices.{Shows, shows, shows_at, told_by, slash_class, quote_class, separator_class, not_empty, word_formed, and_both}
-use Rattle.rb_lex.proofs.Ended.{Ended, Closed, Broken, Opened, ended, body_closes, plain_apart}
+use Rattle.rb_lex.specs.Heads.{head_of, head_by, word_kind, keyword_or_name, text_head, other_head, one_sign, sign_or}
+use Rattle.rb_lex.proofs.Slices.{shows_at, told_by, slash_class, quote_class, separator_class, not_empty, word_formed, and_both}
+use Rattle.rb_lex.proofs.Ended.{Ended, Closed, ended, body_closes, plain_apart}
 
 -- a fault at a place that is written in another way
 pub record FaultAt (minus : Bool) (at : ℕ) (text : List ℕ) (place : ℕ) : Type 0 where

@@ -1,15 +1,14 @@
 -- What the form of a slice tells by the class of its first byte.
-use Rattle.std.proofs.Common.{◌≡◌, ℕ, zero, suc, ◌+◌, ◌-◌, ◌<◌, ◌≤◌, Bool, true, false, not, ◌&&◌, ◌||◌, cond, eqb, ltb, List, [], ◌∷◌, ◌++◌, length, take, drop, refl, sym, ap, subst, ◌∙◌, arith, Option, None, Some}
+use Rattle.std.proofs.Common.{◌≡◌, ℕ, suc, ◌+◌, ◌<◌, Bool, true, false, not, ◌&&◌, cond, eqb, ltb, List, [], ◌∷◌, ◌++◌, length, refl, sym, ap, subst, ◌∙◌, arith, Option, None, Some}
 use Rattle.std.proofs.lemmas.Bool.Decides.{nat_tests}
 use Rattle.std.proofs.lemmas.Slice.Eq.{bytes_eq-Decides}
-use Rattle.std.specs.List.{list_all, prefix_len, position_or_len}
+use Rattle.std.specs.List.{list_all, position_or_len}
 use Rattle.std.specs.Str.{bytes_eq}
-use Rattle.std.specs.Prelude.{codes}
 use Rattle.rb_trees.specs.declared.tokens.TokenKind.{TokenKind}
 use Rattle.rb_trees.specs.declared.tokens.TokenKind.TheVariants as kinds
 use Rattle.rb_meaning_bytes.specs.tokens.Bytes.{is_separator, is_letter, is_digit, is_word_byte}
 use Rattle.rb_meaning_bytes.specs.tokens.Rows.{keywords, signs, place_in}
-use Rattle.rb_meaning_bytes.specs.tokens.Forms.{Form, IsWord, IsNumber, IsLiteral, Body}
+use Rattle.rb_meaning_bytes.specs.tokens.Forms.{Form, IsWord, IsLiteral}
 use Rattle.rb_lex.specs.declared.bytes.Class.{Class}
 use Rattle.rb_lex.specs.declared.bytes.Class.TheVariants as classes
 use Rattle.rb_lex.specs.Classes.{class_of}

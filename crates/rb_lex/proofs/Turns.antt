@@ -1,5 +1,5 @@
 -- The turns of the outer loop: what the rest is read as, the whole is, with the list in front.
-use Rattle.std.proofs.Common.{◌≡◌, ℕ, zero, suc, ◌+◌, ◌-◌, ◌<◌, ◌≤◌, Bool, true, false, eqb, List, [], ◌∷◌, ◌++◌, length, drop, refl, sym, ap, subst, ◌∙◌, arith, Ok, Err, append_assoc, length-drop}
+use Rattle.std.proofs.Common.{◌≡◌, ℕ, ◌+◌, ◌-◌, ◌<◌, ◌≤◌, Bool, false, eqb, List, [], ◌∷◌, ◌++◌, length, drop, refl, sym, ap, subst, arith, Ok, Err, append_assoc, length-drop}
 use Rattle.std.proofs.lemmas.Bool.Decides.{nat_tests}
 use Rattle.std.proofs.lemmas.List.{append-nil, nil_from_length}
 use Rattle.rb_trees.specs.declared.tokens.Token.{Token}
@@ -7,7 +7,9 @@ use Rattle.rb_trees.specs.declared.tokens.TokenKind.{TokenKind}
 use Rattle.rb_trees.specs.declared.reading.LexError.{LexError}
 use Rattle.rb_trees.specs.declared.reading.LexError.TheVariants.{BadByte, OpenText, NumberTooLarge, TooLong}
 use Rattle.rb_meaning_bytes.specs.tokens.Faults.{Faults}
-use Rattle.rb_meaning_bytes.specs.tokens.Lexes.{Lexes, Outcome, with_front, is_minus, done, skip, token, fault}
+use Rattle.rb_meaning_bytes.specs.tokens.Lexes.{Lexes, with_front, done, skip, token, fault}
+use Rattle.rb_meaning_bytes.specs.tokens.Lists.{is_minus}
+use Rattle.rb_meaning_bytes.specs.tokens.Texts.{Outcome}
 use Rattle.rb_lex.specs.declared.heads.Head.{Head}
 use Rattle.rb_lex.specs.declared.heads.Head.TheVariants.{Skip, Take, Large, Long, Open, Bad}
 use Rattle.rb_lex.specs.Heads.{head_of}

@@ -1,10 +1,7 @@
 -- A text has one outcome.
-use Rattle.std.proofs.Common.{◌≡◌, ℕ, zero, suc, ◌+◌, ◌-◌, ◌<◌, ◌≤◌, Bool, true, false, eqb, List, [], ◌∷◌, ◌++◌, length, take, drop, refl, sym, ap, subst, ◌∙◌, arith, Ok, Err, Option, Some, None, ◌⊎◌, inl, inr, length-drop}
-use Rattle.std.proofs.lemmas.Bool.Decides.{nat_tests}
+use Rattle.std.proofs.Common.{◌≡◌, ℕ, zero, suc, ◌+◌, ◌<◌, ◌≤◌, Bool, false, List, [], ◌∷◌, ◌++◌, length, take, drop, refl, sym, ap, subst, ◌∙◌, arith, Ok, Err, Option, Some, None, ◌⊎◌, inl, inr, length-drop}
 use Rattle.std.specs.List.{prefix_len}
-use Rattle.std.specs.Prelude.{cond, nat_le}
 use mathlib.Core.Logic.{⊎_elim}
-use Rattle.rb_trees.specs.declared.tokens.Token.{Token}
 use Rattle.rb_trees.specs.declared.tokens.TokenKind.{TokenKind}
 use Rattle.rb_trees.specs.declared.tokens.TokenKind.TheVariants as kinds
 use Rattle.rb_trees.specs.declared.reading.LexError.{LexError}
@@ -14,15 +11,16 @@ use Rattle.rb_meaning_bytes.specs.tokens.Values.{number_value, text_value}
 use Rattle.rb_meaning_bytes.specs.tokens.Forms.{Form}
 use Rattle.rb_meaning_bytes.specs.tokens.Begins.{Begins, Skips, separator, comment}
 use Rattle.rb_meaning_bytes.specs.tokens.Faults.{Faults, WithinLimits, greatest_number, longest_value, number_too_large, text_too_long, open_text, bad_escape, bad_byte}
-use Rattle.rb_meaning_bytes.specs.tokens.Lexes.{Lexes, Outcome, with_front, is_minus, done, skip, token, fault}
-use Rattle.rb_lex.specs.declared.bytes.Class.{Class}
+use Rattle.rb_meaning_bytes.specs.tokens.Lexes.{Lexes, with_front, done, skip, token, fault}
+use Rattle.rb_meaning_bytes.specs.tokens.Lists.{is_minus}
+use Rattle.rb_meaning_bytes.specs.tokens.Texts.{Outcome}
 use Rattle.rb_lex.specs.declared.bytes.Class.TheVariants as classes
-use Rattle.rb_lex.specs.declared.literals.End.TheVariants.{Closes, Breaks, Never}
+use Rattle.rb_lex.specs.declared.literals.End.TheVariants.{Closes}
 use Rattle.rb_lex.specs.declared.heads.Head.{Head}
 use Rattle.rb_lex.specs.declared.heads.Head.TheVariants.{Skip, Take, Large, Long, Open, Bad}
 use Rattle.rb_lex.specs.Classes.{class_of}
 use Rattle.rb_lex.specs.Ends.{text_end}
-use Rattle.rb_lex.specs.Heads.{head_of, head_by, text_head, other_head}
+use Rattle.rb_lex.specs.Heads.{head_of, head_by, text_head}
 use Rattle.rb_lex.proofs.Slices.{shows_at, slash_class, quote_class, separator_class, not_empty, one_form}
 use Rattle.rb_lex.proofs.Ended.{open_never, body_breaks}
 use Rattle.rb_lex.proofs.Found.{Finds, finds, literal_end}

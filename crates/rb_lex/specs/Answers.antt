@@ -1,8 +1,8 @@
 -- How an answer stands to an outcome: want of memory says nothing.
 use Rattle.std.specs.Prelude.{◌≡◌, ℕ, false, List, Err}
 use Rattle.rb_trees.specs.declared.reading.LexError.TheVariants.{Memory}
-use Rattle.rb_meaning_bytes.specs.tokens.Lexes.{Outcome, Lexes}
-use Rattle.rb_meaning_bytes.specs.tokens.Texts.{Lexed}
+use Rattle.rb_meaning_bytes.specs.tokens.Lexes.{Lexes}
+use Rattle.rb_meaning_bytes.specs.tokens.Texts.{Outcome, Lexed}
 
 -- The answer is this outcome, unless memory ran out.
 abbrev pub Gives : Outcome → Outcome → Type 0

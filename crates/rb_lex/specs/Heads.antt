@@ -1,5 +1,5 @@
 -- What a text begins with, as the code finds it: counts are of the bytes behind the first.
-use Rattle.std.specs.Prelude.{ℕ, ◌+◌, ◌<◌, Bool, cond, ◌==◌, ◌&&◌, nat_le, List, [], ◌∷◌, length, take, Option, None, Some, false}
+use Rattle.std.specs.Prelude.{ℕ, ◌+◌, ◌<◌, Bool, cond, ◌==◌, ◌&&◌, nat_le, List, [], ◌∷◌, take, Option, None, Some, false}
 use Rattle.std.specs.List.{prefix_len}
 use Rattle.rb_trees.specs.declared.tokens.TokenKind.{TokenKind}
 use Rattle.rb_trees.specs.declared.tokens.TokenKind.TheVariants as kinds

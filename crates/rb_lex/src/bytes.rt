@@ -13,6 +13,7 @@ pub enum Class {
     Other,
 }
 
+/// The class of a byte.
 #[tactic(auto, using(std::proofs::lemmas::Bool::Decides::nat_tests), unfolding(crate::specs::Classes::class_of, rb_meaning_bytes::specs::tokens::Bytes::is_separator, rb_meaning_bytes::specs::tokens::Bytes::is_letter, rb_meaning_bytes::specs::tokens::Bytes::is_digit))]
 pub fn byte_class(b: u8) -> Class
     ensures { result ≡ class_of b }
@@ -26,6 +27,7 @@ pub fn byte_class(b: u8) -> Class
     }
 }
 
+/// Whether the byte goes on with a word.
 #[tactic(auto, using(std::proofs::lemmas::Bool::Decides::nat_tests), unfolding(rb_meaning_bytes::specs::tokens::Bytes::is_letter, rb_meaning_bytes::specs::tokens::Bytes::is_digit, rb_meaning_bytes::specs::tokens::Bytes::is_word_byte))]
 pub fn is_word_byte(b: u8) -> bool
     ensures { result ≡ is_word_byte b }
@@ -33,6 +35,7 @@ pub fn is_word_byte(b: u8) -> bool
     b.is_ascii_alphanumeric() || b == b'_'
 }
 
+/// Whether the byte is a digit.
 #[tactic(auto, using(std::proofs::lemmas::Bool::Decides::nat_tests), unfolding(rb_meaning_bytes::specs::tokens::Bytes::is_digit))]
 pub fn is_digit(b: u8) -> bool
     ensures { result ≡ is_digit b }
@@ -40,6 +43,7 @@ pub fn is_digit(b: u8) -> bool
     b.is_ascii_digit()
 }
 
+/// Whether the byte makes an escape behind a backslash.
 #[tactic(auto, using(std::proofs::lemmas::Bool::Decides::nat_tests), unfolding(rb_meaning_bytes::specs::tokens::Bytes::is_escaped))]
 pub fn is_escaped(b: u8) -> bool
     ensures { result ≡ is_escaped b }

@@ -39,7 +39,7 @@ pub fn head_at(minus: bool, text: &[u8]) -> Head
     ensures within { HeadWithin result (length text.now) }
 {
     match text {
-        [] => Head::Bad(0),
+        [] => unreachable!(),
         [b, more @ ..] => match byte_class(*b) {
             Class::Separator => Head::Skip(0),
             Class::Letter => {
@@ -119,7 +119,7 @@ fn one_sign(text: &[u8]) -> Head
     ensures within { HeadWithin result (length text.now) }
 {
     match text {
-        [] => Head::Bad(0),
+        [] => unreachable!(),
         [_, ..] => match sign_place(&text[..1]) {
             Some(place) => Head::Take(TokenKind::Sign(place as u8), 0),
             None => Head::Bad(0),

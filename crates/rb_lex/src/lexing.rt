@@ -1,8 +1,7 @@
-ghost use Rattle.std.specs.Prelude.{◌≡◌, ◌≤◌, ◌<◌, ◌↔◌, Ok, IfOk, All, length, List};
-ghost use Rattle.rb_trees.specs.declared.tokens.Token.{Token};
-ghost use Rattle.rb_meaning_bytes.specs.tokens.Lexes.{Lexes, Outcome, is_minus};
-ghost use Rattle.rb_meaning_bytes.specs.tokens.Lists.{IsToken, Stands, slice};
-ghost use Rattle.rb_meaning_bytes.specs.tokens.Texts.{Lexed, IsTokens, longest_text};
+ghost use Rattle.std.specs.Prelude.{◌≡◌, ◌≤◌, ◌↔◌, IfOk, All, IsUtf8, false, length};
+ghost use Rattle.rb_meaning_bytes.specs.tokens.Lexes.{Lexes};
+ghost use Rattle.rb_meaning_bytes.specs.tokens.Lists.{IsToken, Stands, slice, is_minus};
+ghost use Rattle.rb_meaning_bytes.specs.tokens.Texts.{Outcome, Lexed, longest_text};
 ghost use Rattle.rb_lex.specs.Answers.{Gives, Told, Reads};
 
 use crate::bytes::after;
@@ -15,19 +14,19 @@ const LONGEST_TEXT: usize = 1_048_576;
 
 /// The tokens of the source, or its first fault.
 ///
-/// The order of the refusals and the faults is that of `Lexed`; what tokens are is said by `IsTokens`.
+/// What a list of tokens is, `IsTokens` says, and when each error comes, `IsRefusal`; `Lexed` joins them.
 /// `Memory` may come at any time, and says nothing of the source.
 pub fn lex(alloc: Global, source: &[u8]) -> Result<Seq<Token>, LexError>
     // What is answered, the source has: these tokens, or this first fault.
     ensures told { Told result source.now }
-    // A source has one list of tokens, or one first fault.
+    // What the source has is answered, and it has one list of tokens, or one first fault.
+    ensures only { (outcome : Outcome) → Lexed source.now outcome → Gives result outcome }
     ensures once { (one : Outcome) → (other : Outcome) → Lexed source.now one → Lexed source.now other → one ≡ other }
-    // Its tokens are those that stand in it by their places.
-    ensures alike { (tokens : List Token) → (IsTokens source.now tokens ↔ Lexed source.now (Ok tokens)) }
 
-    ensures list { IfOk result (λ tokens. IsTokens source.now tokens) }
-    ensures each { (tokens : List Token) → IsTokens source.now tokens → Gives result (Ok tokens) }
-    ensures all { IfOk result (λ tokens. All (λ token. IsToken source.now token) tokens) }
+    // Each token stands in the source, which has its slice.
+    ensures each_token { IfOk result (λ tokens. All (λ token. IsToken source.now token) tokens) }
+    // The outcome, from rest to rest.
+    ensures rests { length source.now ≤ longest_text → IsUtf8 source.now → (outcome : Outcome) → (Lexed source.now outcome ↔ Lexes false 0 source.now outcome) }
 {
     if source.len() > LONGEST_TEXT {
         return Err(LexError::TooLong(LONGEST_TEXT as u32));

@@ -153,7 +153,7 @@ fn a_text_has_at_most_1048576_bytes(rt: HostRuntime) -> Result<(), Fail> {
     Ok(())
 }
 
-/// A name, and a literal whose value has an escape and so many other bytes.
+/// A quote, so many letters, and the end of a literal.
 fn literal_of(alloc: Global, count: usize, end: &[u8]) -> Result<Vec<u8>, Fail> {
     let mut source = vec![in alloc; b'a'; count]?;
     source.insert(0, b'"')?;

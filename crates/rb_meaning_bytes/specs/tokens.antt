@@ -1,10 +1,10 @@
--- Tokens: what a text is read as, byte by byte of it, before any grammar.
+-- Tokens: what a text is read as before any grammar. `Texts` says it whole.
 pub mod Bytes
 pub mod Rows
 pub mod Values
 pub mod Forms
 pub mod Begins
 pub mod Faults
-pub mod Lexes
 pub mod Lists
 pub mod Texts
+pub mod Lexes

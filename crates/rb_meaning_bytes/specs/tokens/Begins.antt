@@ -2,12 +2,12 @@
 use Rattle.std.specs.Prelude.{◌≡◌, ℕ, ◌+◌, ◌<◌, ◌≤◌, true, List, ◌∷◌, length, take}
 use Rattle.std.specs.List.{prefix_len}
 use Rattle.rb_trees.specs.declared.tokens.TokenKind.{TokenKind}
-use Rattle.rb_meaning_bytes.specs.tokens.Bytes.{is_separator, is_in_line}
+use Rattle.rb_meaning_bytes.specs.tokens.Bytes.{is_separator, is_in_line, slash}
 use Rattle.rb_meaning_bytes.specs.tokens.Forms.{Form}
 
 -- A comment begins here: two slashes.
 abbrev pub IsComment : List ℕ → Type 0
-IsComment text = (rest : List ℕ) × (text ≡ 47 ∷ 47 ∷ rest)
+IsComment text = (rest : List ℕ) × (text ≡ slash ∷ slash ∷ rest)
 
 -- The text begins with a token of the kind that has so many bytes: they have the kind's form,
 -- no longer slice from there has the form of any kind, and no comment begins there.
@@ -21,4 +21,4 @@ pub record Begins (text : List ℕ) (kind : TokenKind) (size : ℕ) : Type 0 whe
 -- line feed or at the end.
 pub data Skips : List ℕ → ℕ → Type 0 where
   separator : (b : ℕ) (text : List ℕ) → is_separator b ≡ true → Skips (b ∷ text) 1
-  comment : (text : List ℕ) → Skips (47 ∷ 47 ∷ text) (2 + prefix_len is_in_line text)
+  comment : (text : List ℕ) → Skips (slash ∷ slash ∷ text) (2 + prefix_len is_in_line text)

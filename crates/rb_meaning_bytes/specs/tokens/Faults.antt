@@ -4,7 +4,7 @@ use Rattle.rb_trees.specs.declared.tokens.TokenKind.{TokenKind}
 use Rattle.rb_trees.specs.declared.tokens.TokenKind.TheVariants as kinds
 use Rattle.rb_trees.specs.declared.reading.LexError.{LexError}
 use Rattle.rb_trees.specs.declared.reading.LexError.TheVariants.{BadByte, OpenText, NumberTooLarge, TooLong}
-use Rattle.rb_meaning_bytes.specs.tokens.Bytes.{is_plain, is_escaped, makes_escape}
+use Rattle.rb_meaning_bytes.specs.tokens.Bytes.{is_plain, is_escaped, makes_escape, line_feed, quote, backslash}
 use Rattle.rb_meaning_bytes.specs.tokens.Values.{number_value, text_value}
 use Rattle.rb_meaning_bytes.specs.tokens.Forms.{Body}
 use Rattle.rb_meaning_bytes.specs.tokens.Begins.{Begins, Skips}
@@ -30,13 +30,13 @@ WithinLimits minus (kinds.Sign place) slice = Unit {0}
 pub data GoesOn : List ℕ → List ℕ → Type 0 where
   here : {text : List ℕ} → GoesOn text text
   plain : {text rest : List ℕ} (b : ℕ) → is_plain b ≡ true → GoesOn text rest → GoesOn (b ∷ text) rest
-  escape : {text rest : List ℕ} (b : ℕ) → is_escaped b ≡ true → GoesOn text rest → GoesOn (92 ∷ b ∷ text) rest
-  bad : {text rest : List ℕ} → makes_escape text ≡ false → GoesOn text rest → GoesOn (92 ∷ text) rest
+  escape : {text rest : List ℕ} (b : ℕ) → is_escaped b ≡ true → GoesOn text rest → GoesOn (backslash ∷ b ∷ text) rest
+  bad : {text rest : List ℕ} → makes_escape text ≡ false → GoesOn text rest → GoesOn (backslash ∷ text) rest
 
 -- The line ends here: by a line feed, or with the text.
 abbrev pub LineEnds : List ℕ → Type 0
 LineEnds [] = Unit {0}
-LineEnds (b ∷ bs) = b ≡ 10
+LineEnds (b ∷ bs) = b ≡ line_feed
 
 -- The text, which begins at the offset `at` of the whole, begins with this fault.
 -- The flag says that the token before it is a minus.
@@ -49,10 +49,10 @@ pub data Faults : Bool → ℕ → List ℕ → LexError → Type 0 where
       → longest_value < length (text_value (take size text)) → Faults minus at text (TooLong at)
   -- a text literal whose line ends before a quote closes it, at its first byte
   open_text : {minus : Bool} {at : ℕ} {text : List ℕ} (rest : List ℕ) → GoesOn text rest → LineEnds rest
-      → Faults minus at (34 ∷ text) (OpenText at)
+      → Faults minus at (quote ∷ text) (OpenText at)
   -- the first backslash that makes no escape, in a text literal that a quote closes
-  bad_escape : {minus : Bool} {at : ℕ} (body more rest : List ℕ) → Body body → makes_escape more ≡ false → GoesOn more (34 ∷ rest)
-      → Faults minus at (34 ∷ (body ++ 92 ∷ more)) (BadByte (at + (1 + length body)))
+  bad_escape : {minus : Bool} {at : ℕ} (body more rest : List ℕ) → Body body → makes_escape more ≡ false → GoesOn more (quote ∷ rest)
+      → Faults minus at (quote ∷ (body ++ backslash ∷ more)) (BadByte (at + (1 + length body)))
   -- a byte that is no quote and begins no token, separator or comment
-  bad_byte : {minus : Bool} {at : ℕ} (b : ℕ) (text : List ℕ) → ¬ (b ≡ 34) → ((size : ℕ) → ¬ Skips (b ∷ text) size)
+  bad_byte : {minus : Bool} {at : ℕ} (b : ℕ) (text : List ℕ) → ¬ (b ≡ quote) → ((size : ℕ) → ¬ Skips (b ∷ text) size)
       → ((kind : TokenKind) (size : ℕ) → ¬ Begins (b ∷ text) kind size) → Faults minus at (b ∷ text) (BadByte at)

@@ -3,7 +3,7 @@ use Rattle.std.specs.Prelude.{◌≡◌, ℕ, true, List, [], ◌∷◌, ◌++�
 use Rattle.std.specs.List.{list_all}
 use Rattle.rb_trees.specs.declared.tokens.TokenKind.{TokenKind}
 use Rattle.rb_trees.specs.declared.tokens.TokenKind.TheVariants as kinds
-use Rattle.rb_meaning_bytes.specs.tokens.Bytes.{is_letter, is_word_byte, is_digit, is_plain, is_escaped}
+use Rattle.rb_meaning_bytes.specs.tokens.Bytes.{is_letter, is_word_byte, is_digit, is_plain, is_escaped, quote, backslash}
 use Rattle.rb_meaning_bytes.specs.tokens.Rows.{keywords, signs, place_in}
 
 -- A word: a letter, then letters and digits.
@@ -20,11 +20,11 @@ IsNumber (b ∷ bs) = (is_digit b ≡ true) × (list_all is_digit bs ≡ true)
 pub data Body : List ℕ → Type 0 where
   empty : Body []
   plain : {body : List ℕ} (b : ℕ) → is_plain b ≡ true → Body body → Body (b ∷ body)
-  escape : {body : List ℕ} (b : ℕ) → is_escaped b ≡ true → Body body → Body (92 ∷ b ∷ body)
+  escape : {body : List ℕ} (b : ℕ) → is_escaped b ≡ true → Body body → Body (backslash ∷ b ∷ body)
 
 -- A text literal: a quote, its body and a quote.
 abbrev pub IsLiteral : List ℕ → Type 0
-IsLiteral slice = (body : List ℕ) × (slice ≡ 34 ∷ (body ++ 34 ∷ [])) × Body body
+IsLiteral slice = (body : List ℕ) × (slice ≡ quote ∷ (body ++ quote ∷ [])) × Body body
 
 -- The slice has the form of the kind.
 abbrev pub Form : TokenKind → List ℕ → Type 0

@@ -1,23 +1,12 @@
--- The tokens of a text, or its first fault, from the beginning on.
-use Rattle.std.specs.Prelude.{◌≡◌, ℕ, ◌+◌, ◌==◌, Bool, false, List, [], ◌∷◌, ◌++◌, length, take, drop, Result, Ok, Err}
+-- The tokens of a text, or its first fault, once more: by what the text begins with, from rest to rest.
+use Rattle.std.specs.Prelude.{ℕ, ◌+◌, Bool, List, [], ◌∷◌, ◌++◌, take, drop, Ok, Err}
 use Rattle.rb_trees.specs.declared.tokens.Token.{Token}
 use Rattle.rb_trees.specs.declared.tokens.TokenKind.{TokenKind}
-use Rattle.rb_trees.specs.declared.tokens.TokenKind.TheVariants as kinds
 use Rattle.rb_trees.specs.declared.reading.LexError.{LexError}
 use Rattle.rb_meaning_bytes.specs.tokens.Begins.{Begins, Skips}
 use Rattle.rb_meaning_bytes.specs.tokens.Faults.{Faults, WithinLimits}
-
--- What a text is read as: its tokens, or its first fault.
-abbrev pub Outcome : Type 0
-Outcome = Result (List Token) LexError
-
--- The minus is the sign at place 10 of its row.
-abbrev pub is_minus : TokenKind → Bool
-is_minus (kinds.Sign place) = place == 10
-is_minus kinds.Name = false
-is_minus kinds.Number = false
-is_minus kinds.TextLit = false
-is_minus (kinds.Keyword place) = false
+use Rattle.rb_meaning_bytes.specs.tokens.Lists.{is_minus}
+use Rattle.rb_meaning_bytes.specs.tokens.Texts.{Outcome}
 
 -- The tokens stand before those of the outcome; a fault stays.
 abbrev pub with_front : List Token → Outcome → Outcome

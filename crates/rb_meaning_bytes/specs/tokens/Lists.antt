@@ -1,9 +1,11 @@
 -- The tokens of a text, by their places in the whole of it.
-use Rattle.std.specs.Prelude.{◌≡◌, ℕ, ◌+◌, ◌-◌, ◌<◌, ◌≤◌, Bool, true, List, [], ◌∷◌, length, take, drop}
+use Rattle.std.specs.Prelude.{ℕ, ◌+◌, ◌-◌, ◌<◌, ◌==◌, Bool, true, false, List, [], ◌∷◌, take, drop}
 use Rattle.rb_trees.specs.declared.tokens.Token.{Token}
+use Rattle.rb_trees.specs.declared.tokens.TokenKind.{TokenKind}
+use Rattle.rb_trees.specs.declared.tokens.TokenKind.TheVariants as kinds
+use Rattle.rb_trees.specs.declared.reading.LexError.{LexError}
 use Rattle.rb_meaning_bytes.specs.tokens.Begins.{Begins, Skips}
-use Rattle.rb_meaning_bytes.specs.tokens.Faults.{WithinLimits}
-use Rattle.rb_meaning_bytes.specs.tokens.Lexes.{is_minus}
+use Rattle.rb_meaning_bytes.specs.tokens.Faults.{Faults, WithinLimits}
 
 -- The slice of a text from one offset to another.
 abbrev pub slice : List ℕ → ℕ → ℕ → List ℕ
@@ -25,13 +27,34 @@ pub record IsToken (text : List ℕ) (token : Token) : Type 0 where
   pub stands : Stands text token
   pub limits : WithinLimits true token.kind (slice text token.start token.end)
 
--- From the offset on stand these tokens, one behind the other, and between them separators and comments.
-abbrev pub TokensFrom : List ℕ → ℕ → List Token → Type 0
-TokensFrom text from [] = Gap text from (length text)
-TokensFrom text from (token ∷ tokens) = Gap text from token.start × Stands text token × TokensFrom text token.end tokens
+-- From one offset to the other stand these tokens, one behind the other, and between them separators and comments.
+abbrev pub TokensBetween : List ℕ → ℕ → List Token → ℕ → Type 0
+TokensBetween text from [] to = Gap text from to
+TokensBetween text from (token ∷ tokens) to = Gap text from token.start × Stands text token × TokensBetween text token.end tokens to
+
+-- The minus is the sign at place 10 of its row.
+abbrev pub is_minus : TokenKind → Bool
+is_minus (kinds.Sign place) = place == 10
+is_minus kinds.Name = false
+is_minus kinds.Number = false
+is_minus kinds.TextLit = false
+is_minus (kinds.Keyword place) = false
+
+-- Whether the last token is a minus; the flag says it where there is none.
+abbrev pub ends_in_minus : Bool → List Token → Bool
+ends_in_minus minus [] = minus
+ends_in_minus minus (token ∷ tokens) = ends_in_minus (is_minus token.kind) tokens
 
 -- Each token's value is within the limits.
 abbrev pub AllWithinLimits : Bool → List ℕ → List Token → Type 0
 AllWithinLimits minus text [] = Unit {0}
 AllWithinLimits minus text (token ∷ tokens) =
     WithinLimits minus token.kind (slice text token.start token.end) × AllWithinLimits (is_minus token.kind) text tokens
+
+-- From the offset on this fault stands first: before it stand tokens within the limits, separators and comments.
+pub record FaultStands (minus : Bool) (text : List ℕ) (from : ℕ) (error : LexError) : Type 0 where
+  pub tokens : List Token
+  pub at : ℕ
+  pub stand : TokensBetween text from tokens at
+  pub limits : AllWithinLimits minus text tokens
+  pub fault : Faults (ends_in_minus minus tokens) at (drop at text) error

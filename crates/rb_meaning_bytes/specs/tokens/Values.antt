@@ -1,5 +1,6 @@
 -- The values that numbers and text literals stand for.
 use Rattle.std.specs.Prelude.{ℕ, ◌+◌, ◌-◌, ◌*◌, ◌==◌, Bool, true, false, cond, List, [], ◌∷◌, fold, ℤ, pos, negsuc}
+use Rattle.rb_meaning_bytes.specs.tokens.Bytes.{line_feed, quote, backslash, letter_n}
 
 -- The value of digits, in decimal.
 abbrev pub number_value : List ℕ → ℕ
@@ -11,16 +12,16 @@ int_of value = cond (value == 9223372036854775808) (negsuc 9223372036854775807) 
 
 -- What an escape stands for, by the byte behind its backslash: n is the line feed, and the others are themselves.
 unfoldable pub escape_value : ℕ → ℕ
-escape_value b = cond (b == 110) 10 b
+escape_value b = cond (b == letter_n) line_feed b
 
 -- The value of the bytes behind the first quote of a text literal, up to the quote that closes it.
 -- The flag says that a backslash stands before the byte.
 abbrev pub unescaped : Bool → List ℕ → List ℕ
 unescaped behind [] = []
 unescaped true (b ∷ bs) = escape_value b ∷ unescaped false bs
-unescaped false (b ∷ bs) = cond (b == 34) [] (cond (b == 92) (unescaped true bs) (b ∷ unescaped false bs))
+unescaped false (b ∷ bs) = cond (b == quote) [] (cond (b == backslash) (unescaped true bs) (b ∷ unescaped false bs))
 
 -- The value of a text literal, given with its quotes.
 abbrev pub text_value : List ℕ → List ℕ
 text_value [] = []
-text_value (quote ∷ bs) = unescaped false bs
+text_value (b ∷ bs) = unescaped false bs

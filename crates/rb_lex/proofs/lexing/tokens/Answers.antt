@@ -1,4 +1,4 @@
-use Rattle.std.proofs.Common.{◌≡◌, ◌+◌, ◌<◌, ◌≤◌, length, drop, sym, ap, arith, length-drop}
+use Rattle.std.proofs.Common.{◌+◌, length, ap, arith, length-drop}
 use Rattle.std.proofs.lemmas.Bool.Decides.{nat_tests}
 use Rattle.rb_lex.proofs.Turns.{skip_turn, take_turn, large_turn, long_turn, open_turn, bad_turn, last_turn}
 use Rattle.rb_lex.proofs.lexing.tokens.Goals as goal

@@ -1,5 +1,6 @@
-use Rattle.std.proofs.Common.{◌≡◌, ◌-◌, ◌≤◌, length, false}
-use Rattle.rb_meaning_bytes.specs.tokens.Lexes.{Lexes, Outcome, with_front}
+use Rattle.std.proofs.Common.{◌-◌, ◌≤◌, length, false}
+use Rattle.rb_meaning_bytes.specs.tokens.Lexes.{Lexes, with_front}
+use Rattle.rb_meaning_bytes.specs.tokens.Texts.{Outcome}
 use Rattle.rb_lex.proofs.lexing.tokens.Given as goal
 
 -- What the rest is read as, the text is, with the list in front.

@@ -1,4 +1,4 @@
-use Rattle.std.proofs.Common.{◌≡◌, ◌+◌, ◌-◌, ◌≤◌, ◌<◌, length, drop, false, MatchOption}
+use Rattle.std.proofs.Common.{◌≡◌, ◌-◌, ◌≤◌, ◌<◌, length, drop, false, MatchOption}
 use Rattle.rb_lex.specs.Ends.{text_end, found_later}
 use Rattle.rb_lex.proofs.literals.end_of_text.Given as goal
 
