@@ -1,5 +1,6 @@
 pub mod Answered
 pub mod Calls
+pub mod Collected
 pub mod Entries
 pub mod Fields
 pub mod Forms
@@ -10,5 +11,6 @@ pub mod Others
 pub mod Printed
 pub mod ReadsBack
 pub mod Replayed
+pub mod Slices
 pub mod Steps
 pub mod Whole

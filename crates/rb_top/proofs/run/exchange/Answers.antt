@@ -17,6 +17,6 @@ first_answer-requires-clause-request c = record {
 pub returns : goal.returns
 returns c =
     c.in_ok-first_answer.ensures.ok (first_script (mirror_program c.args.program.now))
-      (script_of (mirror_program c.args.program.now) c.requires.program (mirror_service c.args.service.now) c.requires.service c.requires.offers)
-      (c.as_slice.ensures ∙ c.in_ok-first_request.ensures.ok ∙ ap (λ l. l ++ spelled_script (first_script (mirror_program c.args.program.now)) []) c.new-request.ensures.items)
+    (script_of (mirror_program c.args.program.now) c.requires.program (mirror_service c.args.service.now) c.requires.service c.requires.offers)
+    (c.as_slice.ensures ∙ c.in_ok-first_request.ensures.ok ∙ ap (λ l. l ++ spelled_script (first_script (mirror_program c.args.program.now)) []) c.new-request.ensures.items)
     ∙ ap (λ l. l ++ reply_of (mirror_program c.args.program.now) (mirror_service c.args.service.now)) c.new-reply.ensures.items
