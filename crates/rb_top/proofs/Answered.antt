@@ -41,28 +41,28 @@ after_steps classes ss s left = record { node = Holds (kept classes ss) None; fa
 pub run_kept : (s : Service) (first : FirstService s) (ss : Steps) (vars : Vars) (left : ℕ) → KeepsCalls s.classes ss → run_steps (record { service = s; inputs = [] }) ss vars (record { table = first_table s; fuel = count_steps ss + left }) ended ≡ after_steps s.classes ss s left
 run_kept s first script.NoSteps vars left h = ap (λ n. ended vars (record { table = first_table s; fuel = n })) (zero-add left)
 run_kept s first (script.MoreSteps (script.Keep id at (script.Call place kind method script.Root script.NoSExprs)) ss) vars left h =
-    let n = h.5.0 in
+    let n = h.2.0 in
     let g : Ground = record { service = s; inputs = [] } in
     let more : Vars → Server → Ran = λ vars1 s1. run_steps g ss vars1 s1 ended in
     let fueled : suc (count_steps ss) + left ≡ suc (count_steps ss + left) = omega arith in
     ap (λ k. on_reply id (invoke s place kind (out-Value (value.Remote s.root)) method [] (record { table = first_table s; fuel = k })) (λ v s1. keeps id at v (out-Value v) s1 (λ s2. more vars s2))) fueled
-    ∙ ap (λ k. on_reply id (invoke s place k (out-Value (value.Remote s.root)) method [] (record { table = first_table s; fuel = suc (count_steps ss + left) })) (λ v s1. keeps id at v (out-Value v) s1 (λ s2. more vars s2))) h.3
-    ∙ ap (λ r. on_reply id r (λ v s1. keeps id at v (out-Value v) s1 (λ s2. more vars s2))) (calls_root s first place (count_steps ss + left) method n h.5.1)
+    ∙ ap (λ k. on_reply id (invoke s place k (out-Value (value.Remote s.root)) method [] (record { table = first_table s; fuel = suc (count_steps ss + left) })) (λ v s1. keeps id at v (out-Value v) s1 (λ s2. more vars s2))) h.0
+    ∙ ap (λ r. on_reply id r (λ v s1. keeps id at v (out-Value v) s1 (λ s2. more vars s2))) (calls_root s first place (count_steps ss + left) method n h.2.1)
     ∙ ap (λ o. keeps id at (value.Int n) o (record { table = first_table s; fuel = count_steps ss + left }) (λ s2. more vars s2)) (int_out n)
-    ∙ ap (with_entry (forest.Value (value.Int n))) (run_kept s first ss vars left h.6)
-    ∙ ap (λ o. with_entry (forest.Value (value.Int (or_zero o))) (after_steps s.classes ss s left)) (sym h.5.1)
+    ∙ ap (with_entry (forest.Value (value.Int n))) (run_kept s first ss vars left h.3)
+    ∙ ap (λ o. with_entry (forest.Value (value.Int (or_zero o))) (after_steps s.classes ss s left)) (sym h.2.1)
 run_kept s first (script.MoreSteps _ ss) vars left h = absurd h
 
 -- the spelling of such entries, read from the spelling of the steps
 pub entries_kept : (classes : List Class) (ss : Steps) → KeepsCalls classes ss → entries_to classes (count_steps ss) (steps ss) ≡ entries (kept classes ss)
 entries_kept classes script.NoSteps h = refl
 entries_kept classes (script.MoreSteps (script.Keep id at (script.Call place kind method script.Root script.NoSExprs)) ss) h =
-    let n = h.5.0 in
-    ap (λ r. by_step classes r (entries_to classes (count_steps ss))) (reads_step id at place kind method (steps ss) h.0 h.1 h.2 h.4)
-    ∙ ap (λ o. by_number o (steps ss) (entries_to classes (count_steps ss))) h.5.1
-    ∙ ap (λ l. entry_of n ++ l) (entries_kept classes ss h.6)
+    let n = h.2.0 in
+    ap (λ r. by_step classes r (entries_to classes (count_steps ss))) (reads_step id at place kind method (steps ss) h.1)
+    ∙ ap (λ o. by_number o (steps ss) (entries_to classes (count_steps ss))) h.2.1
+    ∙ ap (λ l. entry_of n ++ l) (entries_kept classes ss h.3)
     ∙ ap (λ o. 0x31 ∷ (value_form o ++ entries (kept classes ss))) (sym (int_out n))
-    ∙ ap (λ o. 0x31 ∷ (value_form (out-Value (value.Int (or_zero o))) ++ entries (kept classes ss))) (sym h.5.1)
+    ∙ ap (λ o. 0x31 ∷ (value_form (out-Value (value.Int (or_zero o))) ++ entries (kept classes ss))) (sym h.2.1)
 entries_kept classes (script.MoreSteps _ ss) h = absurd h
 
 pub count_kept : (classes : List Class) (ss : Steps) → count_entries (kept classes ss) ≡ count_steps ss

@@ -13,7 +13,7 @@ counted (s ∷ ss) = ap suc (counted ss)
 
 pub fits : (root : List ℕ) (names : List (List ℕ)) (ss : Stmts) → PrintsCalls root names ss → FitNames ss
 fits root names NoStmts h = tt
-fits root names (MoreStmts (Print place (Call at (Name here name) method NoExprs)) ss) h = (h.2, fits root names ss h.4)
+fits root names (MoreStmts (Print place (Call at (Name here name) method NoExprs)) ss) h = (h.2, fits root names ss h.3)
 fits root names (MoreStmts s ss) h = absurd h
 
 pub block_is : (p : Program) (f : FirstProgram p) → first_block p.body.statements ≡ f.block

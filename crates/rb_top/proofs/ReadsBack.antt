@@ -76,31 +76,42 @@ then_is r a rest f h = ap (λ x. then_read x f) h
 abbrev pub keep_of : (id at place kind : ℕ) → List ℕ → Step
 keep_of id at place kind method = script.Keep id at (script.Call place kind method script.Root script.NoSExprs)
 
--- the bytes of a step from its call's position on
-abbrev call_bytes : ℕ → ℕ → List ℕ → List ℕ → List ℕ
-call_bytes place kind method more = number place ++ (kind ∷ (text method ++ (0x23 ∷ (number 0 ++ more))))
-
-outer_parts : (a b c more : List ℕ) → ((a ++ b) ++ c) ++ more ≡ a ++ (b ++ (c ++ more))
+outer_parts : (a b c more : List ℕ) → ((a ++ b) ++ c) ++ more ≡ (a ++ b) ++ (c ++ more)
 outer_parts a b c more = simp append_assoc
 
-inner_parts : (a b c d more : List ℕ) → ((((a ++ b) ++ c) ++ d) ++ []) ++ more ≡ a ++ (b ++ (c ++ (d ++ more)))
-inner_parts a b c d more = simp (append-nil, append_assoc)
+inner_parts : (a k t c d more : List ℕ) → ((((a ++ (k ++ t)) ++ c) ++ d) ++ []) ++ more ≡ (a ++ k) ++ (t ++ ((c ++ d) ++ more))
+inner_parts a k t c d more = simp (append-nil, append_assoc)
 
-step_bytes : (id at place kind : ℕ) (method more : List ℕ) → step (keep_of id at place kind method) ++ more ≡ 0x11 ∷ (number id ++ (number at ++ (0x26 ∷ call_bytes place kind method more)))
+joined_parts : (x y z more : List ℕ) → x ++ ((y ++ z) ++ more) ≡ (x ++ (y ++ z)) ++ more
+joined_parts x y z more = simp append_assoc
+
+-- what stands before a step's method
+abbrev before_method : (id at place kind : ℕ) → List ℕ
+before_method id at place kind = (0x11 ∷ (number id ++ number at)) ++ (0x26 ∷ (number place ++ kind ∷ []))
+
+fifteen : (id at place kind : ℕ) → length (before_method id at place kind) ≡ 15
+unfolding number
+fifteen id at place kind = refl
+
+five : length ((0x23 ∷ []) ++ number 0) ≡ 5
+unfolding number
+five = refl
+
+step_bytes : (id at place kind : ℕ) (method more : List ℕ) → step (keep_of id at place kind method) ++ more ≡ before_method id at place kind ++ (text method ++ (((0x23 ∷ []) ++ number 0) ++ more))
 step_bytes id at place kind method more =
     ap (λ l. 0x11 ∷ l)
     (outer_parts (number id) (number at) (expr (script.Call place kind method script.Root script.NoSExprs)) more
-    ∙ ap (λ l. number id ++ (number at ++ (0x26 ∷ l))) (inner_parts (number place) (kind ∷ text method) (0x23 ∷ []) (number 0) more))
+    ∙ ap (λ l. (number id ++ number at) ++ (0x26 ∷ l)) (inner_parts (number place) (kind ∷ []) (text method) (0x23 ∷ []) (number 0) more)
+    ∙ sym (append_assoc (number id ++ number at) (0x26 ∷ (number place ++ kind ∷ [])) (text method ++ (((0x23 ∷ []) ++ number 0) ++ more))))
 
-pub reads_step : (id at place kind : ℕ) (method more : List ℕ) → id < 2 ^ 32 → at < 2 ^ 32 → place < 2 ^ 32 → length method < 2 ^ 32 → step_at (step (keep_of id at place kind method) ++ more) ≡ Some (method, more)
+pub reads_step : (id at place kind : ℕ) (method more : List ℕ) → length method < 2 ^ 32 → step_at (step (keep_of id at place kind method) ++ more) ≡ Some (method, more)
 unfolding step_at
-reads_step id at place kind method more f g p h =
+reads_step id at place kind method more h =
+    let tail = ((0x23 ∷ []) ++ number 0) ++ more in
     ap step_at (step_bytes id at place kind method more)
-    ∙ then_is _ id _ _ (reads_number id (number at ++ (0x26 ∷ call_bytes place kind method more)) f)
-    ∙ then_is _ at _ _ (reads_number at (0x26 ∷ call_bytes place kind method more) g)
-    ∙ then_is _ place _ _ (reads_number place (kind ∷ (text method ++ (0x23 ∷ (number 0 ++ more)))) p)
-    ∙ then_is _ method _ _ (reads_text method (0x23 ∷ (number 0 ++ more)) h)
-    ∙ then_is _ 0 _ _ (reads_number 0 more (lit< tt))
+    ∙ then_is _ (before_method id at place kind) _ _ (reads_front (before_method id at place kind) (text method ++ tail) 15 (fifteen id at place kind))
+    ∙ then_is _ method _ _ (reads_text method tail h)
+    ∙ then_is _ ((0x23 ∷ []) ++ number 0) _ _ (reads_front ((0x23 ∷ []) ++ number 0) more 5 five)
 
 -- the number of steps and the steps, in a message without inputs
 pub reads_head : (count : ℕ) (more : List ℕ) → count < 2 ^ 32 → head_at (0x01 ∷ 0x00 ∷ (number count ++ more)) ≡ Some (count, more)

@@ -47,15 +47,15 @@ same_numbers classes (code.MoreStmts s ss) n = by_option (printed_call s) (same_
 pub lines_kept : (s : Service) (first : FirstService s) (ss : Steps) (more : List ℕ) → KeepsCalls s.classes ss → lines_of (count_steps ss) (entries (kept s.classes ss) ++ more) ≡ shown_events (lines (step_numbers s.classes ss))
 lines_kept s first script.NoSteps more h = refl
 lines_kept s first (script.MoreSteps (script.Keep id at (script.Call place kind method script.Root script.NoSExprs)) ss) more h =
-    let n = h.5.0 in
+    let n = h.2.0 in
     let rest = entries (kept s.classes ss) in
     let count = count_steps ss in
-    ap (λ o. by_entry (entry_at (0x31 ∷ (value_form (out-Value (value.Int (or_zero o))) ++ rest ++ more))) (lines_of count)) h.5.1
+    ap (λ o. by_entry (entry_at (0x31 ∷ (value_form (out-Value (value.Int (or_zero o))) ++ rest ++ more))) (lines_of count)) h.2.1
     ∙ ap (λ v. by_entry (entry_at (0x31 ∷ (value_form v ++ rest ++ more))) (lines_of count)) (int_out n)
     ∙ ap (λ l. by_entry (entry_at (0x31 ∷ 0x01 ∷ l)) (lines_of count)) (append_assoc (signed_number n) rest more)
-    ∙ ap (λ o. by_entry o (lines_of count)) (reads_entry n (rest ++ more) (number_fits s first method n h.5.1))
-    ∙ ap (λ l. line (signed_decimal n) ++ l) (lines_kept s first ss more h.6)
-    ∙ ap (λ o. shown_events (lines (or_zero o ∷ step_numbers s.classes ss))) (sym h.5.1)
+    ∙ ap (λ o. by_entry o (lines_of count)) (reads_entry n (rest ++ more) (number_fits s first method n h.2.1))
+    ∙ ap (λ l. line (signed_decimal n) ++ l) (lines_kept s first ss more h.3)
+    ∙ ap (λ o. shown_events (lines (or_zero o ∷ step_numbers s.classes ss))) (sym h.2.1)
 lines_kept s first (script.MoreSteps _ ss) more h = absurd h
 
 -- the script of such a program keeps such calls
@@ -64,12 +64,12 @@ pub keeps_calls : (classes : List Class) (root : List ℕ) (names : List (List �
     → n + count_stmts ss ≤ 1000000 → PrintsCalls root names ss → KeepsCalls classes (steps_of n ss)
 keeps_calls classes root names code.NoStmts n has few h = tt
 keeps_calls classes root names (code.MoreStmts (code.Print place (code.Call at (code.Name here name) method code.NoExprs)) ss) n has few h =
-    (omega arith, h.3, h.3, refl, h.2, has method h.1, keeps_calls classes root names ss (suc n) has (omega arith) h.4)
+    (refl, h.2, has method h.1, keeps_calls classes root names ss (suc n) has (omega arith) h.3)
 keeps_calls classes root names (code.MoreStmts stmt ss) n has few h = absurd h
 
 pub count_calls : (root : List ℕ) (names : List (List ℕ)) (ss : Stmts) (n : ℕ) → PrintsCalls root names ss → count_steps (steps_of n ss) ≡ count_stmts ss
 count_calls root names code.NoStmts n h = refl
-count_calls root names (code.MoreStmts (code.Print place (code.Call at (code.Name here name) method code.NoExprs)) ss) n h = ap suc (count_calls root names ss (suc n) h.4)
+count_calls root names (code.MoreStmts (code.Print place (code.Call at (code.Name here name) method code.NoExprs)) ss) n h = ap suc (count_calls root names ss (suc n) h.3)
 count_calls root names (code.MoreStmts stmt ss) n h = absurd h
 
 pub script_of : (p : Program) (f : FirstProgram p) (s : Service) (g : FirstService s) → Offers p s → FirstScript s (first_script p)

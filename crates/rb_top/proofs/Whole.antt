@@ -125,7 +125,7 @@ body_prints s first kinds root names bodies gas (code.MoreStmts (code.Print plac
     ∙ ap (λ k. let r = performed outside (invoke s at k (out-Value root_value) method [] (server_of outside)) in handle w (next (next (end l r.0) shown) rest) r.1) (ints at method h.1)
     ∙ ap (λ x. let r = performed outside x in handle w (next (next (end l r.0) shown) rest) r.1) (calls_root s first at fuel method n.0 n.1)
     ∙ ap (λ v. handle w (next (prints place l (printed place v)) rest) (within s events fuel)) (int_out n.0)
-    ∙ body_prints s first kinds root names bodies gas ss l printing left ints has found h.4
+    ∙ body_prints s first kinds root names bodies gas ss l printing left ints has found h.3
     ∙ ap (λ es. (Gave tt l, within s es left)) (append_assoc events (state.Line (signed_decimal n.0) ∷ []) (lines (numbers s.classes ss)))
     ∙ ap (λ o. (Gave tt l, within s (events ++ lines (or_zero o ∷ numbers s.classes ss)) left)) (sym n.1)
 body_prints s first kinds root names bodies gas (code.MoreStmts stmt ss) l events left ints has found h = absurd h

@@ -50,11 +50,11 @@ abbrev pub PlainSignatures : List Signature → Type 0
 PlainSignatures [] = Unit {0}
 PlainSignatures (s ∷ ss) = (s.params ≡ []) × GivesInt s.result × PlainSignatures ss
 
--- Each statement prints a declared method, called on the root without arguments; its name and position fit the wire.
+-- Each statement prints a declared method, called on the root without arguments; its name fits the wire.
 abbrev pub PrintsCalls : List ℕ → List (List ℕ) → Stmts → Type 0
 PrintsCalls root names code.NoStmts = Unit {0}
 PrintsCalls root names (code.MoreStmts (code.Print place (code.Call at (code.Name here name) method code.NoExprs)) ss) =
-    (name ≡ root) × IsTrue (is_among names method) × (length method < 2 ^ 32) × (at < 2 ^ 32) × PrintsCalls root names ss
+    (name ≡ root) × IsTrue (is_among names method) × (length method < 2 ^ 32) × PrintsCalls root names ss
 PrintsCalls root names _ = ⊥
 
 pub record FirstProgram (p : Program) : Type 0 where
@@ -114,12 +114,11 @@ objects_of (c ∷ cs) = record { class = c.name; fields = [] } ∷ []
 abbrev pub first_table : Service → List Object
 first_table s = objects_of s.classes
 
--- Each step keeps a call on the root, without arguments, of a method that gives a number; its numbers fit the wire.
+-- Each step keeps a call on the root, without arguments, of a method that gives a number; its name fits the wire.
 abbrev pub KeepsCalls : List Class → Steps → Type 0
 KeepsCalls classes script.NoSteps = Unit {0}
 KeepsCalls classes (script.MoreSteps (script.Keep id at (script.Call place kind method script.Root script.NoSExprs)) ss) =
-    (id < 2 ^ 32) × (at < 2 ^ 32) × (place < 2 ^ 32) × (kind ≡ int_kind) × (length method < 2 ^ 32)
-    × ((n : ℤ) × (number_in classes method ≡ Some n)) × KeepsCalls classes ss
+    (kind ≡ int_kind) × (length method < 2 ^ 32) × ((n : ℤ) × (number_in classes method ≡ Some n)) × KeepsCalls classes ss
 KeepsCalls classes _ = ⊥
 
 -- The script is of the form that is built, and the service has its methods.

@@ -30,12 +30,9 @@ front_at count bs = cond (nat_lt (length bs) count) None (Some (take count bs, d
 abbrev pub text_at : List ℕ → Option (List ℕ × List ℕ)
 text_at bs = then_read (number_at bs) (λ count rest. front_at count rest)
 
--- the method that a step calls
+-- the method that a step calls: its name stands behind 15 bytes, and 5 bytes stand behind it
 unfoldable pub step_at : List ℕ → Option (List ℕ × List ℕ)
-step_at bs =
-    then_read (byte_at bs) (λ tag r1. then_read (number_at r1) (λ id r2. then_read (number_at r2) (λ at r3.
-    then_read (byte_at r3) (λ call r4. then_read (number_at r4) (λ place r5. then_read (byte_at r5) (λ kind r6.
-    then_read (text_at r6) (λ method r7. then_read (byte_at r7) (λ root r8. then_read (number_at r8) (λ args r9. Some (method, r9))))))))))
+step_at bs = then_read (front_at 15 bs) (λ head r1. then_read (text_at r1) (λ method r2. then_read (front_at 5 r2) (λ tail r3. Some (method, r3))))
 
 -- the number that an entry keeps
 unfoldable pub entry_at : List ℕ → Option (ℤ × List ℕ)

@@ -2,7 +2,7 @@
 
 ghost use Rattle.std.specs.Prelude.{◌≡◌};
 ghost use Rattle.std.specs.Option.{option_map};
-ghost use Rattle.rb_top.specs.Reading.{byte_at, number_at, signed_at, text_at, step_at, entry_at, head_at, entries_at};
+ghost use Rattle.rb_top.specs.Reading.{byte_at, number_at, signed_at, front_at, text_at, step_at, entry_at, head_at, entries_at};
 
 /// A byte, and what stands behind it.
 pub fn read_byte(bytes: &[u8]) -> Option<(u8, &[u8])>
@@ -40,16 +40,22 @@ pub fn read_signed(bytes: &[u8]) -> Option<(i64, &[u8])>
     Some((n, rest))
 }
 
+/// So many bytes, and what stands behind them.
+fn read_front(bytes: &[u8], count: usize) -> Option<(&[u8], &[u8])>
+    ensures { option_map (λ r. (r.0.now, r.1.now)) result ≡ front_at count bytes.now }
+{
+    if bytes.len() < count {
+        return None;
+    }
+    Some(bytes.split_at(count))
+}
+
 /// A text after its length, and what stands behind it.
 pub fn read_text(bytes: &[u8]) -> Option<(&[u8], &[u8])>
     ensures { option_map (λ r. (r.0.now, r.1.now)) result ≡ text_at bytes.now }
 {
     let (count, rest) = read_number(bytes)?;
-    let count = count as usize;
-    if rest.len() < count {
-        return None;
-    }
-    Some(rest.split_at(count))
+    read_front(rest, count as usize)
 }
 
 /// The method that a step calls on the root, and the steps behind it.
@@ -57,15 +63,9 @@ pub fn read_text(bytes: &[u8]) -> Option<(&[u8], &[u8])>
 pub fn read_step(steps: &[u8]) -> Option<(&[u8], &[u8])>
     ensures { option_map (λ r. (r.0.now, r.1.now)) result ≡ step_at steps.now }
 {
-    let (_, rest) = read_byte(steps)?;
-    let (_, rest) = read_number(rest)?;
-    let (_, rest) = read_number(rest)?;
-    let (_, rest) = read_byte(rest)?;
-    let (_, rest) = read_number(rest)?;
-    let (_, rest) = read_byte(rest)?;
+    let (_, rest) = read_front(steps, 15)?;
     let (method, rest) = read_text(rest)?;
-    let (_, rest) = read_byte(rest)?;
-    let (_, rest) = read_number(rest)?;
+    let (_, rest) = read_front(rest, 5)?;
     Some((method, rest))
 }
 
