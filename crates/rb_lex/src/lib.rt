@@ -14,4 +14,4 @@ mod tests;
 
 pub use lexing::{lex, token_slice};
 pub use literals::text_value;
-pub use numbers::number_value;
+pub use numbers::{capped_value, number_value};
