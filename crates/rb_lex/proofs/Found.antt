@@ -10,7 +10,7 @@ use Rattle.rb_trees.specs.declared.tokens.TokenKind.{TokenKind}
 use Rattle.rb_trees.specs.declared.tokens.TokenKind.TheVariants as kinds
 use Rattle.rb_trees.specs.declared.reading.LexError.TheVariants.{BadByte, OpenText, NumberTooLarge, TooLong}
 use Rattle.rb_meaning_bytes.specs.tokens.Bytes.{is_digit, is_word_byte, is_in_line}
-use Rattle.rb_meaning_bytes.specs.tokens.Rows.{keywords, signs, place_in}
+use Rattle.rb_meaning_bytes.specs.tokens.Tables.{keywords, signs, place_in}
 use Rattle.rb_meaning_bytes.specs.tokens.Values.{number_value, text_value, unescaped, escape_value}
 use Rattle.rb_meaning_bytes.specs.tokens.Forms.{Form, IsWord, IsLiteral, Body, empty, plain, escape}
 use Rattle.rb_meaning_bytes.specs.tokens.Begins.{Begins, IsComment, Skips, separator, comment}

@@ -1,6 +1,6 @@
 pub mod Runs
 pub mod Endings
-pub mod Tables
+pub mod Lookup
 pub mod Slices
 pub mod Ended
 pub mod Found

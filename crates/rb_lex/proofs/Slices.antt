@@ -7,7 +7,7 @@ use Rattle.std.specs.Str.{bytes_eq}
 use Rattle.rb_trees.specs.declared.tokens.TokenKind.{TokenKind}
 use Rattle.rb_trees.specs.declared.tokens.TokenKind.TheVariants as kinds
 use Rattle.rb_meaning_bytes.specs.tokens.Bytes.{is_separator, is_letter, is_digit, is_word_byte}
-use Rattle.rb_meaning_bytes.specs.tokens.Rows.{keywords, signs, place_in}
+use Rattle.rb_meaning_bytes.specs.tokens.Tables.{keywords, signs, place_in}
 use Rattle.rb_meaning_bytes.specs.tokens.Forms.{Form, IsWord, IsLiteral}
 use Rattle.rb_lex.specs.declared.bytes.Class.{Class}
 use Rattle.rb_lex.specs.declared.bytes.Class.TheVariants as classes
@@ -58,7 +58,7 @@ class_tells b = class_by b (is_separator b) (is_letter b) (is_digit b) (eqb b 34
 pub told_by : (b : ℕ) (k : Class) → class_of b ≡ k → Tells k b
 told_by b k h = subst (λ c. Tells c b) h (class_tells b)
 
--- a word that stands in a row passes the test that all of the row pass
+-- a word that stands in a table passes the test that all of the table pass
 
 and_first : (a b : Bool) → (a && b) ≡ true → a ≡ true
 and_first true b h = refl
@@ -72,24 +72,24 @@ pub and_both : (a b : Bool) → (a && b) ≡ true → (a ≡ true) × (b ≡ tru
 and_both a b h = (and_first a b h, and_second a b h)
 
 module _ (test : List ℕ → Bool) (word : List ℕ) where
-  first_by : (s : List ℕ) (row : List (List ℕ)) (e : Bool) → bytes_eq s word ≡ e → (test s && list_all test row) ≡ true
-      → ltb (cond (not e) (1 + position_or_len (λ s. bytes_eq s word) row) 0) (suc (length row)) ≡ true
-      → (ltb (position_or_len (λ s. bytes_eq s word) row) (length row) ≡ true → test word ≡ true) → test word ≡ true
-  first_by s row true h a l f = ap test (sym ((bytes_eq-Decides s word).0 h)) ∙ and_first (test s) _ a
-  first_by s row false h a l f = f (grind (arith, nat_tests))
+  first_by : (s : List ℕ) (table : List (List ℕ)) (e : Bool) → bytes_eq s word ≡ e → (test s && list_all test table) ≡ true
+      → ltb (cond (not e) (1 + position_or_len (λ s. bytes_eq s word) table) 0) (suc (length table)) ≡ true
+      → (ltb (position_or_len (λ s. bytes_eq s word) table) (length table) ≡ true → test word ≡ true) → test word ≡ true
+  first_by s table true h a l f = ap test (sym ((bytes_eq-Decides s word).0 h)) ∙ and_first (test s) _ a
+  first_by s table false h a l f = f (grind (arith, nat_tests))
 
-  stands : (row : List (List ℕ)) → list_all test row ≡ true → ltb (position_or_len (λ s. bytes_eq s word) row) (length row) ≡ true → test word ≡ true
+  stands : (table : List (List ℕ)) → list_all test table ≡ true → ltb (position_or_len (λ s. bytes_eq s word) table) (length table) ≡ true → test word ≡ true
   stands [] a l = cc
-  stands (s ∷ row) a l = first_by s row (bytes_eq s word) refl a l (stands row (and_second (test s) _ a))
+  stands (s ∷ table) a l = first_by s table (bytes_eq s word) refl a l (stands table (and_second (test s) _ a))
 
-  placed_by : (row : List (List ℕ)) (place n : ℕ) (b : Bool) → ltb (position_or_len (λ s. bytes_eq s word) row) (length row) ≡ b → list_all test row ≡ true
+  placed_by : (table : List (List ℕ)) (place n : ℕ) (b : Bool) → ltb (position_or_len (λ s. bytes_eq s word) table) (length table) ≡ b → list_all test table ≡ true
       → cond b (Some place) None ≡ Some n → test word ≡ true
-  placed_by row place n true h a e = stands row a h
-  placed_by row place n false h a e = cc
+  placed_by table place n true h a e = stands table a h
+  placed_by table place n false h a e = cc
 
-  pub placed : (row : List (List ℕ)) (n : ℕ) → list_all test row ≡ true → place_in row word ≡ Some n → test word ≡ true
+  pub placed : (table : List (List ℕ)) (n : ℕ) → list_all test table ≡ true → place_in table word ≡ Some n → test word ≡ true
   unfolding place_in
-  placed row n a e = placed_by row (position_or_len (λ s. bytes_eq s word) row) n (ltb (position_or_len (λ s. bytes_eq s word) row) (length row)) refl a e
+  placed table n a e = placed_by table (position_or_len (λ s. bytes_eq s word) table) n (ltb (position_or_len (λ s. bytes_eq s word) table) (length table)) refl a e
 
 -- each keyword is a word
 

@@ -4,7 +4,7 @@ use Rattle.std.specs.List.{prefix_len}
 use Rattle.rb_trees.specs.declared.tokens.TokenKind.{TokenKind}
 use Rattle.rb_trees.specs.declared.tokens.TokenKind.TheVariants as kinds
 use Rattle.rb_meaning_bytes.specs.tokens.Bytes.{is_word_byte, is_digit, is_in_line}
-use Rattle.rb_meaning_bytes.specs.tokens.Rows.{keywords, signs, place_in}
+use Rattle.rb_meaning_bytes.specs.tokens.Tables.{keywords, signs, place_in}
 use Rattle.rb_meaning_bytes.specs.tokens.Values.{number_value}
 use Rattle.rb_meaning_bytes.specs.tokens.Faults.{greatest_number, longest_value}
 use Rattle.rb_lex.specs.declared.bytes.Class.{Class}

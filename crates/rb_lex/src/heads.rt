@@ -5,7 +5,7 @@ ghost use Rattle.rb_lex.specs.Ends.{text_end};
 use crate::bytes::{Class, after, byte_class, digits_len, line_len, word_len};
 use crate::literals::{End, end_of_text};
 use crate::numbers::capped_value;
-use crate::rows::{keyword_place, sign_place};
+use crate::tables::{keyword_place, sign_place};
 use rb_trees::TokenKind;
 
 /// The greatest value of a number, which is one more behind a minus.

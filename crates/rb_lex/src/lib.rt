@@ -8,7 +8,7 @@ mod heads;
 mod lexing;
 mod literals;
 mod numbers;
-mod rows;
+mod tables;
 #[cfg(test)]
 mod tests;
 

@@ -1,6 +1,6 @@
 -- Tokens: what a text is read as before any grammar. `Texts` says it whole.
 pub mod Bytes
-pub mod Rows
+pub mod Tables
 pub mod Values
 pub mod Forms
 pub mod Begins

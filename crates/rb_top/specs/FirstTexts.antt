@@ -1,5 +1,5 @@
 -- The texts of the form that is built, by their tokens. Each reader takes what it reads from the front of the tokens.
-use Rattle.std.specs.Prelude.{ℕ, zero, suc, ◌+◌, ◌==◌, ℤ, pos, List, [], ◌∷◌, Bool, true, false, cond, Option, None, Some, length, nat_lt}
+use Rattle.std.specs.Prelude.{ℕ, zero, suc, ◌+◌, ◌==◌, ℤ, pos, List, [], ◌∷◌, Bool, true, false, cond, Option, None, Some, length, min, nat_lt}
 use Rattle.std.specs.Str.{bytes_eq}
 use Rattle.rb_trees.specs.declared.tokens.Token.{Token}
 use Rattle.rb_trees.specs.declared.tokens.TokenKind.{TokenKind}
@@ -141,7 +141,7 @@ most_prints = 1000000
 
 abbrev pub with_signatures : List ℕ → Token → List Signature × List Token → Option Program
 with_signatures source name r =
-    then_token (batch_at r.1) (λ m rest. with_prints source name r.0 m (prints_at source (text_of source m.3) (signature_names r.0) most_prints rest))
+    then_token (batch_at r.1) (λ m rest. with_prints source name r.0 m (prints_at source (text_of source m.3) (signature_names r.0) (min (length rest) most_prints) rest))
 
 -- the program that the tokens are, if they are one of the form that is built
 abbrev pub program_at : List ℕ → List Token → Option Program

@@ -1,6 +1,6 @@
 // Reading texts of the form that is built, from their tokens. It goes when the parser takes its place.
 
-ghost use Rattle.std.specs.Prelude.{◌≡◌, ◌<◌, ◌^◌, length, map, IfOk};
+ghost use Rattle.std.specs.Prelude.{◌≡◌, ◌<◌, ◌^◌, length, min, map, IfOk};
 ghost use Rattle.std.specs.Option.{option_map};
 ghost use Rattle.rb_trees.specs.mirror.Types as TypeMirror;
 ghost use Rattle.rb_trees.specs.mirror.Types.{mirror_type};
@@ -17,7 +17,7 @@ use rb_trees::{
 use std::alloc::Global;
 
 /// The most prints that are read, which the fuel of a batch allows.
-const MOST_PRINTS: u32 = 1_000_000;
+const MOST_PRINTS: usize = 1_000_000;
 
 const INTERFACE: TokenKind = TokenKind::Keyword(0);
 
@@ -270,11 +270,12 @@ fn prints<'t>(
     signatures: &[Signature],
     tokens: &'t [Token],
 ) -> Result<(Seq<Stmt>, &'t [Token]), Memory>
-    ensures { IfOk result (λ r. (map mirror_stmt r.0, r.1.now) ≡ prints_at source.now root.now (signature_names (map mirror_signature signatures.now)) most_prints tokens.now) }
+    ensures { IfOk result (λ r. (map mirror_stmt r.0, r.1.now) ≡ prints_at source.now root.now (signature_names (map mirror_signature signatures.now)) (min (length tokens.now) most_prints) tokens.now) }
 {
     let mut all = Seq::new(alloc);
     let mut rest = tokens;
-    for _count in 0..MOST_PRINTS {
+    let most = tokens.len().min(MOST_PRINTS);
+    for _count in 0..most {
         let Some((print, more)) = print_of_root(source, root, signatures, rest) else {
             return Ok((all, rest));
         };

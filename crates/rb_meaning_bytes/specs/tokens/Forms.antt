@@ -4,7 +4,7 @@ use Rattle.std.specs.List.{list_all}
 use Rattle.rb_trees.specs.declared.tokens.TokenKind.{TokenKind}
 use Rattle.rb_trees.specs.declared.tokens.TokenKind.TheVariants as kinds
 use Rattle.rb_meaning_bytes.specs.tokens.Bytes.{is_letter, is_word_byte, is_digit, is_plain, is_escaped, quote, backslash}
-use Rattle.rb_meaning_bytes.specs.tokens.Rows.{keywords, signs, place_in}
+use Rattle.rb_meaning_bytes.specs.tokens.Tables.{keywords, signs, place_in}
 
 -- A word: a letter, then letters and digits.
 abbrev pub IsWord : List ℕ → Type 0

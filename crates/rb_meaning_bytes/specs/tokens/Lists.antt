@@ -32,7 +32,7 @@ abbrev pub TokensBetween : List ℕ → ℕ → List Token → ℕ → Type 0
 TokensBetween text from [] to = Gap text from to
 TokensBetween text from (token ∷ tokens) to = Gap text from token.start × Stands text token × TokensBetween text token.end tokens to
 
--- The minus is the sign at place 10 of its row.
+-- The minus is the sign at place 10 of its table.
 abbrev pub is_minus : TokenKind → Bool
 is_minus (kinds.Sign place) = place == 10
 is_minus kinds.Name = false

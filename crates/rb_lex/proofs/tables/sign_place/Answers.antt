@@ -1,5 +1,5 @@
-use Rattle.rb_meaning_bytes.specs.tokens.Rows.{signs}
-use Rattle.rb_lex.proofs.rows.sign_place.Goals as goal
+use Rattle.rb_meaning_bytes.specs.tokens.Tables.{signs}
+use Rattle.rb_lex.proofs.tables.sign_place.Goals as goal
 
 pub returns-clause-value : goal.returns-clause-value
 unfolding signs

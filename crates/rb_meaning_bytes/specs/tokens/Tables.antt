@@ -1,4 +1,4 @@
--- The keywords and the signs, each numbered by its place in its row, from 0.
+-- The keywords and the signs, each numbered by its place in its table, from 0.
 use Rattle.std.specs.Prelude.{ℕ, List, [], ◌∷◌, codes, Option, position}
 use Rattle.std.specs.Str.{bytes_eq}
 
@@ -18,6 +18,6 @@ signs =
     ∷ codes "%" ∷ codes "!" ∷ codes "." ∷ codes "," ∷ codes ";" ∷ codes ":" ∷ codes "("
     ∷ codes ")" ∷ codes "{" ∷ codes "}" ∷ codes "[" ∷ codes "]" ∷ codes "#" ∷ []
 
--- The place of the word in the row, if it stands there.
+-- The place of the word in the table, if it stands there.
 unfoldable pub place_in : List (List ℕ) → List ℕ → Option ℕ
-place_in row word = position (λ other. bytes_eq other word) row
+place_in table word = position (λ other. bytes_eq other word) table

@@ -1,5 +1,5 @@
 ghost use Rattle.std.specs.Prelude.{◌≡◌, ◌<◌, map, length, IfSome};
-ghost use Rattle.rb_meaning_bytes.specs.tokens.Rows.{keywords, signs, place_in};
+ghost use Rattle.rb_meaning_bytes.specs.tokens.Tables.{keywords, signs, place_in};
 
 static KEYWORDS: [&str; 32] = [
     "interface",
@@ -41,12 +41,12 @@ static SIGNS: [&str; 26] = [
     ":", "(", ")", "{", "}", "[", "]", "#",
 ];
 
-/// The place of the word in the row, if it stands there.
-fn place_in(row: &[&str], word: &[u8]) -> Option<usize>
-    ensures value { result ≡ place_in (map (λ s. s.now) row.now) word.now }
-    ensures within { IfSome result (λ place. place < length row.now) }
+/// The place of the word in the table, if it stands there.
+fn place_in(table: &[&str], word: &[u8]) -> Option<usize>
+    ensures value { result ≡ place_in (map (λ s. s.now) table.now) word.now }
+    ensures within { IfSome result (λ place. place < length table.now) }
 {
-    row.iter().position(|other| other.as_bytes() == word)
+    table.iter().position(|other| other.as_bytes() == word)
 }
 
 /// The place of the word among the keywords.

@@ -1,5 +1,5 @@
-use Rattle.rb_meaning_bytes.specs.tokens.Rows.{keywords}
-use Rattle.rb_lex.proofs.rows.keyword_place.Goals as goal
+use Rattle.rb_meaning_bytes.specs.tokens.Tables.{keywords}
+use Rattle.rb_lex.proofs.tables.keyword_place.Goals as goal
 
 pub returns-clause-value : goal.returns-clause-value
 unfolding keywords
