@@ -17,41 +17,41 @@ use rb_trees::{
 use std::alloc::Global;
 
 /// The most prints that are read, which the fuel of a batch allows.
-const MOST_PRINTS: usize = 1_000_000;
+pub const MOST_PRINTS: usize = 1_000_000;
 
-const INTERFACE: TokenKind = TokenKind::Keyword(0);
+pub const INTERFACE: TokenKind = TokenKind::Keyword(0);
 
-const CLASS: TokenKind = TokenKind::Keyword(1);
+pub const CLASS: TokenKind = TokenKind::Keyword(1);
 
-const FUN: TokenKind = TokenKind::Keyword(2);
+pub const FUN: TokenKind = TokenKind::Keyword(2);
 
-const MAIN: TokenKind = TokenKind::Keyword(4);
+pub const MAIN: TokenKind = TokenKind::Keyword(4);
 
-const RETURN: TokenKind = TokenKind::Keyword(15);
+pub const RETURN: TokenKind = TokenKind::Keyword(15);
 
-const BATCH: TokenKind = TokenKind::Keyword(16);
+pub const BATCH: TokenKind = TokenKind::Keyword(16);
 
-const PRINT: TokenKind = TokenKind::Keyword(17);
+pub const PRINT: TokenKind = TokenKind::Keyword(17);
 
-const INT: TokenKind = TokenKind::Keyword(26);
+pub const INT: TokenKind = TokenKind::Keyword(26);
 
-const OBJECT: TokenKind = TokenKind::Keyword(30);
+pub const OBJECT: TokenKind = TokenKind::Keyword(30);
 
-const ROOT: TokenKind = TokenKind::Keyword(31);
+pub const ROOT: TokenKind = TokenKind::Keyword(31);
 
-const DOT: TokenKind = TokenKind::Sign(15);
+pub const DOT: TokenKind = TokenKind::Sign(15);
 
-const SEMICOLON: TokenKind = TokenKind::Sign(17);
+pub const SEMICOLON: TokenKind = TokenKind::Sign(17);
 
-const COLON: TokenKind = TokenKind::Sign(18);
+pub const COLON: TokenKind = TokenKind::Sign(18);
 
-const OPEN: TokenKind = TokenKind::Sign(19);
+pub const OPEN: TokenKind = TokenKind::Sign(19);
 
-const CLOSE: TokenKind = TokenKind::Sign(20);
+pub const CLOSE: TokenKind = TokenKind::Sign(20);
 
-const BEGIN: TokenKind = TokenKind::Sign(21);
+pub const BEGIN: TokenKind = TokenKind::Sign(21);
 
-const END: TokenKind = TokenKind::Sign(22);
+pub const END: TokenKind = TokenKind::Sign(22);
 
 /// A number for each kind.
 fn number_of_kind(kind: TokenKind) -> u32
@@ -67,7 +67,7 @@ fn number_of_kind(kind: TokenKind) -> u32
 }
 
 /// A token of the kind, and those behind it.
-fn expect(kind: TokenKind, tokens: &[Token]) -> Option<(Token, &[Token])>
+pub fn expect(kind: TokenKind, tokens: &[Token]) -> Option<(Token, &[Token])>
     ensures { option_map (λ r. (r.0, r.1.now)) result ≡ expect kind tokens.now }
 {
     match tokens {
@@ -84,7 +84,7 @@ fn expect(kind: TokenKind, tokens: &[Token]) -> Option<(Token, &[Token])>
 
 /// `fun NAME ( ) : Int`: the name and the type.
 #[tactic(auto, unfolding(crate::specs::FirstTexts::plain_method_at))]
-fn plain_method(tokens: &[Token]) -> Option<((Token, Token), &[Token])>
+pub fn plain_method(tokens: &[Token]) -> Option<((Token, Token), &[Token])>
     ensures { option_map (λ r. (r.0, r.1.now)) result ≡ plain_method_at tokens.now }
 {
     let (_, rest) = expect(FUN, tokens)?;
@@ -107,7 +107,7 @@ fn signature(tokens: &[Token]) -> Option<((Token, Token), &[Token])>
 }
 
 /// The bytes of a token.
-fn bytes_of(source: &[u8], token: Token) -> &[u8]
+pub fn bytes_of(source: &[u8], token: Token) -> &[u8]
     ensures { result.now ≡ text_of source.now token }
 {
     let end = source.len().min(token.end as usize);
@@ -115,7 +115,7 @@ fn bytes_of(source: &[u8], token: Token) -> &[u8]
     &source[start..end]
 }
 
-fn word_of(alloc: Global, source: &[u8], token: Token) -> Result<Word, Memory>
+pub fn word_of(alloc: Global, source: &[u8], token: Token) -> Result<Word, Memory>
     ensures { IfOk result (λ word. word ≡ text_of source.now token) }
 {
     Seq::from_slice(alloc, bytes_of(source, token))
@@ -132,7 +132,11 @@ fn int_type(at: u32) -> TypeTree
     }
 }
 
-fn make_signature(alloc: Global, source: &[u8], method: (Token, Token)) -> Result<Signature, Memory>
+pub fn make_signature(
+    alloc: Global,
+    source: &[u8],
+    method: (Token, Token),
+) -> Result<Signature, Memory>
     ensures { IfOk result (λ s. mirror_signature s ≡ signature_of source.now method) }
 {
     let (name, kind) = method;
@@ -145,7 +149,7 @@ fn make_signature(alloc: Global, source: &[u8], method: (Token, Token)) -> Resul
 }
 
 /// As many signatures as stand there, and the tokens behind them.
-fn signatures<'t>(
+pub fn signatures<'t>(
     alloc: Global,
     source: &[u8],
     tokens: &'t [Token],
@@ -263,7 +267,7 @@ fn make_print(alloc: Global, source: &[u8], tokens: (Token, Token, Token)) -> Re
 }
 
 /// As many prints as stand there, and the tokens behind them.
-fn prints<'t>(
+pub fn prints<'t>(
     alloc: Global,
     source: &[u8],
     root: &[u8],

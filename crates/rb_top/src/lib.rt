@@ -2,6 +2,7 @@
 #![tactic(auto)]
 
 mod answer;
+mod first_program;
 mod first_texts;
 mod printing;
 mod reading;
