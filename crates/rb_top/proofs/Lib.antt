@@ -11,6 +11,7 @@ pub mod Others
 pub mod Printed
 pub mod ReadsBack
 pub mod Replayed
+pub mod ServiceForm
 pub mod Slices
 pub mod Steps
 pub mod Whole

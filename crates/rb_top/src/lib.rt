@@ -3,6 +3,7 @@
 
 mod answer;
 mod first_program;
+mod first_service;
 mod first_texts;
 mod printing;
 mod reading;
