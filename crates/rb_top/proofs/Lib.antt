@@ -1,4 +1,5 @@
 pub mod Answered
+pub mod Blocks
 pub mod Calls
 pub mod Collected
 pub mod Entries

@@ -116,12 +116,18 @@ nothing_left (t ∷ ts) = false
 unfoldable pub closing_at : List Token → Option (Token × List Token)
 closing_at ts = then_token (expect (sign 22) ts) (λ closes r1. then_token (expect (sign 22) r1) (λ closes' r2. cond (nothing_left r2) (Some (closes', r2)) None))
 
+abbrev pub body_of : List ℕ → Token × Token × Token × Token → List Stmt → Body
+body_of source m prints = record {
+  statements = code.MoreStmts (code.Batch m.1.start (text_of source m.2) (text_of source m.3) (stmts_from prints)) code.NoStmts;
+  result = None;
+}
+
 abbrev pub program_of : List ℕ → Token → List Signature → Token × Token × Token × Token → List Stmt → Program
 program_of source name signatures m prints = record {
   interfaces = record { name = text_of source name; at = name.start; methods = signatures } ∷ [];
   classes = [];
   result = types.Unit m.0.start;
-  body = record { statements = code.MoreStmts (code.Batch m.1.start (text_of source m.2) (text_of source m.3) (stmts_from prints)) code.NoStmts; result = None };
+  body = body_of source m prints;
   at = m.0.start;
 }
 

@@ -1,14 +1,14 @@
 // Reading a program of the form that is built.
 
-ghost use Rattle.std.specs.Prelude.{◌≡◌, map, IfOk, length};
+ghost use Rattle.std.specs.Prelude.{◌≡◌, ◌∷◌, [], map, IfOk};
 ghost use Rattle.std.specs.Option.{option_map};
 ghost use Rattle.rb_trees.specs.mirror.Code as CodeMirror;
-ghost use Rattle.rb_trees.specs.mirror.Code.{mirror_stmt, mirror_stmts, stmts_from};
+ghost use Rattle.rb_trees.specs.mirror.Code.{mirror_stmt, mirror_stmts};
 ghost use Rattle.rb_trees.specs.mirror.Types as TypeMirror;
 ghost use Rattle.rb_trees.specs.mirror.Types.{mirror_type};
-ghost use Rattle.rb_trees.specs.mirror.Declarations.{mirror_signature, mirror_program};
+ghost use Rattle.rb_trees.specs.mirror.Declarations.{mirror_signature, mirror_interface, mirror_body, mirror_program};
 ghost use Rattle.rb_top.specs.FirstForm.{is_among, distinct, signature_names};
-ghost use Rattle.rb_top.specs.FirstTexts.{opening_at, batch_at, closing_at, names_agree, program_of, with_prints, with_signatures, program_at};
+ghost use Rattle.rb_top.specs.FirstTexts.{text_of, opening_at, batch_at, closing_at, names_agree, body_of, program_of, with_prints, program_at};
 
 use crate::first_texts::{
     BATCH, BEGIN, CLOSE, END, INTERFACE, MAIN, OPEN, bytes_of, expect, prints, signatures, word_of,
@@ -123,4 +123,117 @@ fn batch_stmt(at: u32, interface: Word, root: Word, block: Seq<Stmt>) -> Stmt
         at,
         form: StmtForm::Batch(interface, root, block),
     }
+}
+
+/// A list of one item.
+pub fn one<T: Drop>(alloc: Global, item: T) -> Result<Seq<T>, Memory>
+    ensures { IfOk result (λ all. all ≡ item ∷ []) }
+{
+    let mut all = Seq::new(alloc);
+    all.push(item)?;
+    Ok(all)
+}
+
+/// The interface of a program.
+fn make_interface(
+    alloc: Global,
+    source: &[u8],
+    name: Token,
+    signatures: Seq<Signature>,
+) -> Result<Seq<Interface>, Memory>
+    ensures { IfOk result (λ all. map mirror_interface all ≡ record { name = text_of source.now name; at = name.start; methods = map mirror_signature signatures } ∷ []) }
+{
+    let word = word_of(alloc, source, name)?;
+    one(
+        alloc,
+        Interface {
+            name: word,
+            at: name.start,
+            methods: signatures,
+        },
+    )
+}
+
+/// The body of `main`: a batch of the prints.
+#[tactic(auto, using(crate::proofs::Blocks::block_from, std::proofs::lemmas::Grind::common_steps))]
+fn make_body(
+    alloc: Global,
+    source: &[u8],
+    marks: (Token, Token, Token, Token),
+    prints: Seq<Stmt>,
+) -> Result<Body, Memory>
+    ensures { IfOk result (λ body. mirror_body body ≡ body_of source.now marks (map mirror_stmt prints)) }
+{
+    let (_, batch, interface, root) = marks;
+    let interface = word_of(alloc, source, interface)?;
+    let root = word_of(alloc, source, root)?;
+    Ok(Body {
+        statements: one(alloc, batch_stmt(batch.start, interface, root, prints))?,
+        result: None,
+    })
+}
+
+/// The program of the name, the signatures and the prints.
+fn make_program(
+    alloc: Global,
+    source: &[u8],
+    name: Token,
+    signatures: Seq<Signature>,
+    marks: (Token, Token, Token, Token),
+    prints: Seq<Stmt>,
+) -> Result<Program, Memory>
+    ensures { IfOk result (λ p. mirror_program p ≡ program_of source.now name (map mirror_signature signatures) marks (map mirror_stmt prints)) }
+{
+    let interfaces = make_interface(alloc, source, name, signatures)?;
+    let body = make_body(alloc, source, marks, prints)?;
+    Ok(Program {
+        interfaces,
+        classes: Seq::new(alloc),
+        result: unit_type(marks.0.start),
+        body,
+        at: marks.0.start,
+    })
+}
+
+/// The program, if its end stands there and its names agree.
+fn finish(
+    alloc: Global,
+    source: &[u8],
+    name: Token,
+    signatures: Seq<Signature>,
+    marks: (Token, Token, Token, Token),
+    prints: Seq<Stmt>,
+    tokens: &[Token],
+) -> Result<Option<Program>, Memory>
+    ensures { IfOk result (λ r. option_map mirror_program r ≡ with_prints source.now name (map mirror_signature signatures) marks (map mirror_stmt prints, tokens.now)) }
+{
+    if closing(tokens).is_none() {
+        return Ok(None);
+    }
+    if !agrees(source, name, signatures.as_slice(), marks) {
+        return Ok(None);
+    }
+    Ok(Some(make_program(
+        alloc, source, name, signatures, marks, prints,
+    )?))
+}
+
+/// The program that the tokens are, if they are one of the form that is built. Only memory fails.
+pub fn read_first_program(
+    alloc: Global,
+    source: &[u8],
+    tokens: &[Token],
+) -> Result<Option<Program>, Memory>
+    ensures { IfOk result (λ r. option_map mirror_program r ≡ program_at source.now tokens.now) }
+{
+    let Some((name, rest)) = opening(INTERFACE, tokens) else {
+        return Ok(None);
+    };
+    let (signatures, rest) = signatures(alloc, source, rest)?;
+    let Some((marks, rest)) = batch(rest) else {
+        return Ok(None);
+    };
+    let root = bytes_of(source, marks.3);
+    let (prints, rest) = prints(alloc, source, root, signatures.as_slice(), rest)?;
+    finish(alloc, source, name, signatures, marks, prints, rest)
 }
