@@ -2,12 +2,14 @@ pub mod Answered
 pub mod Blocks
 pub mod Calls
 pub mod Collected
+pub mod Ended
 pub mod Entries
 pub mod Fields
 pub mod Forms
 pub mod Kept
 pub mod Literals
 pub mod Lines
+pub mod Loaded
 pub mod Others
 pub mod Printed
 pub mod ReadsBack
@@ -15,4 +17,5 @@ pub mod Replayed
 pub mod ServiceForm
 pub mod Slices
 pub mod Steps
+pub mod Texts
 pub mod Whole

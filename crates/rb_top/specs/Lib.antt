@@ -1,6 +1,10 @@
+pub mod Answers
 pub mod Buffers
+pub mod Codes
 pub mod FirstForm
 pub mod FirstTexts
+pub mod Loads
 pub mod Printing
 pub mod Reading
 pub mod Runs
+pub mod Texts

@@ -5,11 +5,16 @@ mod answer;
 mod first_program;
 mod first_service;
 mod first_texts;
+mod loading;
+mod offers;
 mod printing;
 mod reading;
 mod request;
 mod run;
+mod status;
+mod top;
 mod wire;
 
 pub use answer::first_answer;
 pub use request::first_request;
+pub use status::{SourceError, Status, StoreError};

@@ -1,0 +1,53 @@
+ghost use Rattle.std.specs.Prelude.{◌≡◌};
+ghost use Rattle.rb_top.specs.Codes.{code_of};
+
+use rb_trees::Word;
+use thiserror::Error;
+
+/// Why a program's text is refused.
+#[derive(Debug, Drop, Error)]
+pub enum SourceError {
+    /// The text is not of the form that is built.
+    #[error("not built")]
+    NotBuilt,
+}
+
+/// Why a service's text is refused.
+#[derive(Debug, Drop, Error)]
+pub enum StoreError {
+    /// The text is not of the form that is built, or lacks a method that the interface declares.
+    #[error("service not built")]
+    NotBuilt,
+}
+
+/// How a command ended.
+#[derive(Debug, Drop)]
+pub enum Status {
+    Done,
+    /// The words are of no form that is built.
+    Words,
+    /// The file of this name can't be read.
+    FileFault(Word),
+    SourceRefused(SourceError),
+    ServiceRefused(StoreError),
+    /// The output failed.
+    WriteFault,
+    Memory,
+}
+
+impl Status {
+    /// The exit status of the program.
+    pub fn code(&self) -> u8
+        ensures { result ≡ code_of self.now }
+    {
+        match self {
+            Status::Done => 0,
+            Status::Words => 2,
+            Status::FileFault(_) => 3,
+            Status::SourceRefused(_) => 4,
+            Status::ServiceRefused(_) => 6,
+            Status::WriteFault => 9,
+            Status::Memory => 10,
+        }
+    }
+}
