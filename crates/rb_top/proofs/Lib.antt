@@ -10,6 +10,7 @@ pub mod Literals
 pub mod Lines
 pub mod Others
 pub mod Printed
+pub mod ProgramForm
 pub mod ReadsBack
 pub mod Replayed
 pub mod ServiceForm
