@@ -8,6 +8,7 @@ pub mod Forms
 pub mod Kept
 pub mod Literals
 pub mod Lines
+pub mod OneSpelling
 pub mod Others
 pub mod Printed
 pub mod ProgramForm

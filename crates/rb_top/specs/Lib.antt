@@ -1,6 +1,7 @@
 pub mod Buffers
 pub mod FirstForm
 pub mod FirstTexts
+pub mod Laws
 pub mod Printing
 pub mod Reading
 pub mod Runs

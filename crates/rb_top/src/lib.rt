@@ -5,6 +5,7 @@ mod answer;
 mod first_program;
 mod first_service;
 mod first_texts;
+mod laws;
 mod printing;
 mod reading;
 mod request;
@@ -12,4 +13,5 @@ mod run;
 mod wire;
 
 pub use answer::first_answer;
+pub use laws::script_is_determined;
 pub use request::first_request;
