@@ -10,8 +10,10 @@ pub mod Kept
 pub mod Literals
 pub mod Lines
 pub mod Loaded
+pub mod OneSpelling
 pub mod Others
 pub mod Printed
+pub mod ProgramForm
 pub mod ReadsBack
 pub mod Replayed
 pub mod ServiceForm

@@ -3,6 +3,7 @@ pub mod Buffers
 pub mod Codes
 pub mod FirstForm
 pub mod FirstTexts
+pub mod Laws
 pub mod Loads
 pub mod Printing
 pub mod Reading

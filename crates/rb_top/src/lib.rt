@@ -5,6 +5,7 @@ mod answer;
 mod first_program;
 mod first_service;
 mod first_texts;
+mod laws;
 mod loading;
 mod offers;
 mod printing;
@@ -16,5 +17,7 @@ mod top;
 mod wire;
 
 pub use answer::first_answer;
+pub use laws::script_is_determined;
 pub use request::first_request;
 pub use status::{SourceError, Status, StoreError};
+pub use top::top;
