@@ -16,6 +16,7 @@ pub mod Printed
 pub mod ProgramForm
 pub mod ReadsBack
 pub mod Replayed
+pub mod Said
 pub mod ServiceForm
 pub mod Slices
 pub mod Steps

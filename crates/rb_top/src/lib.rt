@@ -2,6 +2,7 @@
 #![tactic(auto)]
 
 mod answer;
+mod command;
 mod first_program;
 mod first_service;
 mod first_texts;
@@ -13,11 +14,10 @@ mod reading;
 mod request;
 mod run;
 mod status;
-mod top;
 mod wire;
 
 pub use answer::first_answer;
 pub use laws::script_is_determined;
 pub use request::first_request;
 pub use status::{SourceError, Status, StoreError};
-pub use top::top;
+pub use command::top;

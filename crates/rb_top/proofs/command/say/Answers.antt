@@ -1,6 +1,6 @@
 use Rattle.std.proofs.Common.{◌∙◌}
 use Rattle.rb_top.proofs.Ended.{ends_by, faults_by}
-use Rattle.rb_top.proofs.top.say.Goals as goal
+use Rattle.rb_top.proofs.command.say.Goals as goal
 
 pub returns-clause-ends : goal.returns-clause-ends
 returns-clause-ends g c = ends_by c.args.status c.args.text.now _ _ c.print_text-printed.result c.ended.result c.ended.ensures c.print_text-printed.ensures.ok c.print_text-printed.ensures.err
