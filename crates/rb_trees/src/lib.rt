@@ -40,3 +40,6 @@ pub use tokens::{Token, TokenKind};
 pub use typing::TypeError;
 pub use values::{Fault, Value};
 pub use want::Memory;
+
+#[cfg(test)]
+mod tests;

@@ -1,5 +1,5 @@
 -- What the mirror of each form of an expression is.
-use Rattle.std.proofs.Common.{◌≡◌, ℕ, ℤ, List, [], ◌∷◌, Bool, Option, map, ap, sym, ◌∙◌, refl}
+use Rattle.std.proofs.Common.{◌≡◌, ℕ, List, [], ◌∷◌, map, ap, sym, ◌∙◌, refl}
 use Rattle.rb_trees.specs.declared.values.Value.{Value}
 use Rattle.rb_trees.specs.declared.code.UnOp.{UnOp}
 use Rattle.rb_trees.specs.declared.code.BinOp.{BinOp}
@@ -7,9 +7,9 @@ use Rattle.rb_trees.specs.declared.code.TypeTree as type_tree
 use Rattle.rb_trees.specs.mirror.Types.{mirror_type}
 use Rattle.rb_trees.specs.declared.code.Expr as tree
 use Rattle.rb_trees.specs.declared.code.ExprForm.TheVariants as form
-use Rattle.rb_trees.specs.declared.code.ExprForm.TheOpen.{ExprForm-F, Expr-F}
-use Rattle.rb_trees.specs.declared.code.ExprForm.TheFolds.{fold-Expr, fold-ExprForm, fold_out-Expr, fold-roll-ExprForm}
-use Rattle.rb_trees.specs.mirror.Code.{Expr, Lit, Name, This, Unary, Binary, Field, Call, Index, New, Items, Taken, MoreExprs, exprs_from, expr_form_step, expr_step, mirror_expr, mirror_expr_form, mirror_exprs, expr_at}
+use Rattle.rb_trees.specs.declared.code.ExprForm.TheOpen.{ExprForm-F}
+use Rattle.rb_trees.specs.declared.code.ExprForm.TheFolds.{fold-Expr, fold_out-Expr, fold-roll-ExprForm}
+use Rattle.rb_trees.specs.mirror.Code.{Expr, Lit, Name, This, Unary, Binary, Field, Call, Index, New, Items, Taken, MoreExprs, exprs_from, expr_form_step, expr_step, mirror_expr, mirror_expr_form, mirror_exprs}
 
 pub at_Expr : (t : tree.Expr) → mirror_expr t ≡ mirror_expr_form t.form t.at
 unfolding mirror_expr mirror_expr_form

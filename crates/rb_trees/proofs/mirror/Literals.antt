@@ -1,5 +1,5 @@
 -- What the mirror of each form of a literal is.
-use Rattle.std.proofs.Common.{◌≡◌, ℕ, ℤ, List, [], ◌∷◌, Option, map, ap, sym, ◌∙◌, refl}
+use Rattle.std.proofs.Common.{◌≡◌, ℕ, ℤ, List, [], ◌∷◌, map, ap, sym, ◌∙◌, refl}
 use Rattle.std.specs.Prelude as prelude
 use Rattle.rb_trees.specs.declared.services.Literal as tree
 use Rattle.rb_trees.specs.declared.services.Literal.TheVariants as form

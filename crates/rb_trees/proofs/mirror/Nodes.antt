@@ -1,10 +1,10 @@
 -- What the mirror of a node and of each form of an entry is.
-use Rattle.std.proofs.Common.{◌≡◌, List, [], ◌∷◌, Bool, Option, map, ap, sym, ◌∙◌, refl}
+use Rattle.std.proofs.Common.{◌≡◌, List, [], ◌∷◌, Bool, map, ap, sym, ◌∙◌, refl}
 use Rattle.rb_trees.specs.declared.values.Value as value
 use Rattle.rb_trees.specs.declared.forests.Node as node
 use Rattle.rb_trees.specs.declared.forests.Entry as entry
 use Rattle.rb_trees.specs.declared.forests.Entry.TheVariants as form
-use Rattle.rb_trees.specs.declared.forests.Entry.TheOpen.{Node-F, Entry-F}
+use Rattle.rb_trees.specs.declared.forests.Entry.TheOpen.{Entry-F}
 use Rattle.rb_trees.specs.declared.forests.Entry.TheFolds.{fold-Node, fold-Entry, fold_out-Node, fold-roll-Entry}
 use Rattle.rb_trees.specs.mirror.Forests.{Node, Holds, Entry, Value, Branch, Rows, MoreEntries, MoreNodes, entries_from, nodes_from, entry_step, node_step, mirror_node, mirror_entry, mirror_entries, mirror_nodes}
 

@@ -1,10 +1,10 @@
 -- What the mirror of each form of a step is.
-use Rattle.std.proofs.Common.{◌≡◌, ℕ, ℤ, List, [], ◌∷◌, Bool, Option, map, ap, sym, ◌∙◌, refl}
+use Rattle.std.proofs.Common.{◌≡◌, ℕ, List, [], ◌∷◌, Bool, map, ap, sym, ◌∙◌, refl}
 use Rattle.rb_trees.specs.declared.scripts.SExpr as expr
 use Rattle.rb_trees.specs.declared.scripts.Step as tree
 use Rattle.rb_trees.specs.declared.scripts.StepForm.TheVariants as form
-use Rattle.rb_trees.specs.declared.scripts.StepForm.TheOpen.{StepForm-F, Step-F}
-use Rattle.rb_trees.specs.declared.scripts.StepForm.TheFolds.{fold-Step, fold-StepForm, fold_out-Step, fold-roll-StepForm}
+use Rattle.rb_trees.specs.declared.scripts.StepForm.TheOpen.{StepForm-F}
+use Rattle.rb_trees.specs.declared.scripts.StepForm.TheFolds.{fold-Step, fold_out-Step, fold-roll-StepForm}
 use Rattle.rb_trees.specs.mirror.Scripts.{Step, Do, Keep, Let, If, Each, MoreSteps, steps_from, step_form_step, step_step, mirror_step, mirror_step_form, mirror_steps, mirror_sexpr}
 
 pub at_Step : (t : tree.Step) → mirror_step t ≡ mirror_step_form t.form t.id t.at

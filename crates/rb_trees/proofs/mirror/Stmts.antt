@@ -1,11 +1,11 @@
 -- What the mirror of each form of a statement is.
-use Rattle.std.proofs.Common.{◌≡◌, ℕ, ℤ, List, [], ◌∷◌, Bool, Option, map, ap, sym, ◌∙◌, refl}
+use Rattle.std.proofs.Common.{◌≡◌, ℕ, List, [], ◌∷◌, map, ap, sym, ◌∙◌, refl}
 use Rattle.rb_trees.specs.declared.code.Expr as expr
 use Rattle.rb_trees.specs.declared.code.Stmt as tree
 use Rattle.rb_trees.specs.declared.code.StmtForm.TheVariants as form
-use Rattle.rb_trees.specs.declared.code.StmtForm.TheOpen.{StmtForm-F, Stmt-F}
-use Rattle.rb_trees.specs.declared.code.StmtForm.TheFolds.{fold-Stmt, fold-StmtForm, fold_out-Stmt, fold-roll-StmtForm}
-use Rattle.rb_trees.specs.mirror.Code.{Stmt, Val, Var, Assign, Run, Print, Throw, If, While, For, Try, Batch, MoreStmts, stmts_from, stmt_form_step, stmt_step, mirror_stmt, mirror_stmt_form, mirror_stmts, mirror_expr, stmt_at}
+use Rattle.rb_trees.specs.declared.code.StmtForm.TheOpen.{StmtForm-F}
+use Rattle.rb_trees.specs.declared.code.StmtForm.TheFolds.{fold-Stmt, fold_out-Stmt, fold-roll-StmtForm}
+use Rattle.rb_trees.specs.mirror.Code.{Stmt, Val, Var, Assign, Run, Print, Throw, If, While, For, Try, Batch, MoreStmts, stmts_from, stmt_form_step, stmt_step, mirror_stmt, mirror_stmt_form, mirror_stmts, mirror_expr}
 
 pub at_Stmt : (t : tree.Stmt) → mirror_stmt t ≡ mirror_stmt_form t.form t.at
 unfolding mirror_stmt mirror_stmt_form

@@ -1,10 +1,10 @@
 -- What the mirror of each form of a type is.
-use Rattle.std.proofs.Common.{◌≡◌, ℕ, ℤ, List, [], ◌∷◌, Option, map, ap, sym, ◌∙◌, refl}
+use Rattle.std.proofs.Common.{◌≡◌, ℕ, List, ap, sym, ◌∙◌}
 use Rattle.rb_trees.specs.declared.code.TypeTree as tree
 use Rattle.rb_trees.specs.declared.code.TypeForm.TheVariants as form
-use Rattle.rb_trees.specs.declared.code.TypeForm.TheOpen.{TypeForm-F, TypeTree-F}
-use Rattle.rb_trees.specs.declared.code.TypeForm.TheFolds.{fold-TypeTree, fold-TypeForm, fold_out-TypeTree, fold-roll-TypeForm}
-use Rattle.rb_trees.specs.mirror.Types.{TypeTree, Int, Bool, Text, Unit, Named, ListOf, RowsOf, form_step, tree_step, mirror_type, mirror_type_form, type_at}
+use Rattle.rb_trees.specs.declared.code.TypeForm.TheOpen.{TypeForm-F}
+use Rattle.rb_trees.specs.declared.code.TypeForm.TheFolds.{fold_out-TypeTree, fold-roll-TypeForm}
+use Rattle.rb_trees.specs.mirror.Types.{TypeTree, Int, Bool, Text, Unit, Named, ListOf, RowsOf, form_step, tree_step, mirror_type, mirror_type_form}
 
 pub at_TypeTree : (t : tree.TypeTree) → mirror_type t ≡ mirror_type_form t.form t.at
 unfolding mirror_type mirror_type_form

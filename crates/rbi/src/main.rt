@@ -1,0 +1,51 @@
+//! The program: the commands of the product over the system's files and standard output.
+#![tactic(auto)]
+
+mod real_files;
+mod standard_output;
+mod stub;
+
+use rb_trees::Memory;
+use real_files::RealFiles;
+use standard_output::StandardOutput;
+use std::process::ExitCode;
+use std::rt::{Env, Files};
+use std::{env, io};
+use stub::{Status, top};
+
+fn main(rt: HostRuntime) -> ExitCode {
+    let status = run(&rt);
+    if matches!(status, Status::Words) {
+        let _ = eprintln!(rt; "usage: rbi both PROGRAM SERVICE");
+    }
+    ExitCode::from(status.code())
+}
+
+/// Carries out what the words say.
+fn run<R: Files + Env + Print + AllocGlobal>(rt: &R) -> Status {
+    match words(rt) {
+        Ok(words) => top(
+            rt.alloc(),
+            words.as_slice(),
+            &mut RealFiles::make(rt),
+            &mut StandardOutput::make(rt),
+        ),
+        Err(Memory) => Status::Memory,
+    }
+}
+
+/// The words behind the program's own name. Where one isn't UTF-8 there are none, since no command
+/// has such a word.
+fn words<R: Env + AllocGlobal>(rt: &R) -> Result<Vec<String>, Memory> {
+    let mut words = Vec::new(rt.alloc());
+    match env::args(rt) {
+        Ok(all) => {
+            for word in all.skip(1) {
+                words.push(word)?;
+            }
+            Ok(words)
+        }
+        Err(error) if error.kind() == io::ErrorKind::OutOfMemory => Err(Memory),
+        Err(_) => Ok(words),
+    }
+}

@@ -1,0 +1,9 @@
+interface D {
+    fun n(): Int;
+}
+
+main {
+    batch (D r) {
+        print(r.n());
+    }
+}
