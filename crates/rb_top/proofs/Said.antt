@@ -1,6 +1,7 @@
 -- What `both P S` says, from what loading and running answer.
 use Rattle.std.proofs.Common.{◌≡◌, ℕ, List, [], ◌∷◌, ◌++◌, Bool, true, false, Option, None, Some, Result, Ok, Err, OnOk, OnErr, cond, codes, ap, sym, ◌∙◌, refl, subst}
 use Rattle.std.specs.Str.{bytes_eq}
+use Rattle.std.proofs.lemmas.Slice.Eq.{bytes_eq-Decides}
 use Rattle.rb_trees.specs.declared.declarations.Program as program
 use Rattle.rb_trees.specs.declared.services.Service as service
 use Rattle.rb_trees.specs.mirror.Declarations.{Program, mirror_program}
@@ -59,25 +60,43 @@ run_ended fuel told between p s old reads program service printed result new aft
     says fuel told (both_words p s) old reads Done result text new after (run p s m.0 k.0 (mirror_program program) (mirror_service service) m.1 m.2 k.1 k.2 k.3)
     (ends_by Done text old new printed result e (at_ok printed _ _ (λ all. all m.0 fuel) ok) (at_err printed _ _ (λ all. all m.0 fuel) err)) h
 
+abbrev the_names : List ℕ → List ℕ → Option (List ℕ × List ℕ)
+the_names p s = Some (p, s)
+
 -- the names in words that may be `both P S`
 abbrev named : List ℕ → List ℕ → List ℕ → Bool → Option (List ℕ × List ℕ)
 named command p s true = Some (p, s)
 named command p s false = None
 
+abbrev names_of : Option (List ℕ × List ℕ) → List ℕ × List ℕ
+names_of None = ([], [])
+names_of (Some names) = names
+
 both_is : (command p s p' s' : List ℕ) (b : Bool) → (b ≡ true → command ≡ codes "both") → named command p s b ≡ Some (p', s') → both_words p' s' ≡ command ∷ p ∷ s ∷ []
 both_is command p s p' s' false f h = absurd (cc)
 both_is command p s p' s' true f h =
-    let e = f refl in
-    cc
+    let first : p ≡ p' = ap (λ o. (names_of o).0) h in
+    let second : s ≡ s' = ap (λ o. (names_of o).1) h in
+    ap (λ l. codes "both" ∷ l ∷ s' ∷ []) (sym first) ∙ ap (λ l. codes "both" ∷ p ∷ l ∷ []) (sym second) ∙ ap (λ l. l ∷ p ∷ s ∷ []) (sym (f refl))
+
+named_same : (a b c : List ℕ) (t : Bool) → cond t (the_names b c) None ≡ named a b c t
+named_same a b c true = refl
+named_same a b c false = refl
 
 pub both_named : (ws : List (List ℕ)) (p s : List ℕ) → both_of ws ≡ Some (p, s) → both_words p s ≡ ws
 both_named [] p s h = absurd (cc)
 both_named (a ∷ []) p s h = absurd (cc)
 both_named (a ∷ b ∷ []) p s h = absurd (cc)
-both_named (a ∷ b ∷ c ∷ []) p s h = both_is a b c p s (bytes_eq a (codes "both")) ? ?
+both_named (a ∷ b ∷ c ∷ []) p s h = both_is a b c p s (bytes_eq a (codes "both")) (bytes_eq-Decides a (codes "both")).0 (sym (named_same a b c (bytes_eq a (codes "both"))) ∙ h)
 both_named (a ∷ b ∷ c ∷ d ∷ ws) p s h = absurd (cc)
 
 pub not_both : (ws : List (List ℕ)) → both_of ws ≡ None → NotUnderstood ws
 not_both ws h p s e =
     let k = sym (ap both_of e) ∙ h in
     absurd (cc)
+
+pub not_understood : (fuel : ℕ) (told : Option Directory) (ws : List (List ℕ)) (old : Option (List ℕ)) (reads : ℕ) (result : Status) (new : Option (List ℕ)) → None ≡ both_of ws → Ends Words (line (codes "words not understood")) old result new → Says fuel told ws old reads result new reads
+not_understood fuel told ws old reads result new h e = says fuel told ws old reads Words result (line (codes "words not understood")) new reads (words ws (not_both ws (sym h))) e refl
+
+pub named_says : (fuel : ℕ) (told : Option Directory) (ws : List (List ℕ)) (p s : List ℕ) (old : Option (List ℕ)) (reads : ℕ) (result : Status) (new : Option (List ℕ)) (after : ℕ) → the_names p s ≡ both_of ws → Says fuel told (both_words p s) old reads result new after → Says fuel told ws old reads result new after
+named_says fuel told ws p s old reads result new after h e = subst (λ l. Says fuel told l old reads result new after) (both_named ws p s (sym h)) e

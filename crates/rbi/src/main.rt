@@ -3,15 +3,14 @@
 
 mod real_files;
 mod standard_output;
-mod stub;
 
+use rb_top::{Status, top};
 use rb_trees::Memory;
 use real_files::RealFiles;
 use standard_output::StandardOutput;
 use std::process::ExitCode;
 use std::rt::{Env, Files};
 use std::{env, io};
-use stub::{Status, top};
 
 fn main(rt: HostRuntime) -> ExitCode {
     let status = run(&rt);
