@@ -10,6 +10,7 @@ pub mod Kept
 pub mod Literals
 pub mod Lines
 pub mod Loaded
+pub mod OneAnswer
 pub mod OneSpelling
 pub mod Others
 pub mod Printed

@@ -5,7 +5,7 @@ use Rattle.rb_trees.specs.mirror.Declarations.{Program}
 use Rattle.rb_trees.specs.mirror.Services.{Service}
 use Rattle.rb_meaning.specs.Shown.{line}
 use Rattle.rb_base.specs.Counts.{risen}
-use Rattle.rb_base.specs.Directories.{Directory, told_after, Finds, FailsNext}
+use Rattle.rb_base.specs.Directories.{Directory, next_read, after_read, told_after, Finds, FailsNext}
 use Rattle.rb_base.specs.Sinks.{told_more, WrotePrefix}
 use Rattle.rb_top.specs.FirstForm.{Offers}
 use Rattle.rb_top.specs.Runs.{run_text}
@@ -65,6 +65,14 @@ pub data Says (fuel : ℕ) (told : Option Directory) (words : List (List ℕ)) (
   answered : (status result : Status) (text : List ℕ) (new : Option (List ℕ)) → Answers fuel told words status text
       → Ends status text old result new → Says fuel told words old reads result new (read_faults status reads)
   starved_first : Says fuel told words old reads Memory old reads
+
+-- The files hold a program and a service that has its methods, under these names, read one after the other.
+pub record Holds (directory : Directory) (p s text other : List ℕ) (program : Program) (service : Service) : Type 0 where
+  pub reads : next_read directory p ≡ Some text
+  pub is_program : IsProgram text program
+  pub reads_next : next_read (after_read directory) s ≡ Some other
+  pub is_service : IsService other service
+  pub offers : Offers program service
 
 -- the names of the two files, where the words are `both P S`
 abbrev pub both_of : List (List ℕ) → Option (List ℕ × List ℕ)

@@ -1,11 +1,15 @@
 // The commands, from their words to what they print.
 
-ghost use Rattle.std.specs.Prelude.{◌≡◌, ◌++◌, ℕ, List, map, IfOk, codes};
+ghost use Rattle.std.specs.Prelude.{◌≡◌, ◌++◌, ℕ, List, Some, map, IfOk, codes};
 ghost use Rattle.std.specs.Option.{option_map};
 ghost use Rattle.std.specs.String.{string_bytes};
+ghost use Rattle.rb_trees.specs.mirror.Declarations as program_mirror;
+ghost use Rattle.rb_trees.specs.mirror.Services as service_mirror;
 ghost use Rattle.rb_meaning.specs.Shown.{line};
+ghost use Rattle.rb_base.specs.Directories.{Directory};
+ghost use Rattle.rb_top.specs.Runs.{run_text};
 ghost use Rattle.rb_top.specs.declared.status.Status.TheVariants as statuses;
-ghost use Rattle.rb_top.specs.Answers.{Ends, Says, RefusesProgram, RefusesService, IsWhole, both_of, both_words, status_after, write_faults};
+ghost use Rattle.rb_top.specs.Answers.{Ends, Says, Holds, RefusesProgram, RefusesService, IsWhole, both_of, both_words, status_after, write_faults};
 
 use crate::loading::{LoadStop, load_program, load_service};
 use crate::printing::{PrintStop, print_text};
@@ -133,8 +137,9 @@ fn both_names(words: &[String]) -> Option<(&str, &str)>
 
 /// Runs the command that the words are.
 ///
-/// Each answer has its cause in the words and the files, as far as they tell (`Says`); a local
-/// fault count that rose shows a failed device.
+/// Each answer has its cause in the words and the files, as far as they tell: `Says` and `Answers`
+/// state them, and the order in which they count. The files' count of faults rises exactly where a
+/// file can't be read, and the output's exactly where a write failed.
 pub fn top<F: Files, W: Sink>(
     alloc: Global,
     words: &[String],
@@ -143,6 +148,8 @@ pub fn top<F: Files, W: Sink>(
 ) -> Status
     // What is answered and printed is what the words and the files mean, for every fuel.
     ensures answer { (fuel : ℕ) → Says fuel (F.told files.old) (map string_bytes words.now) (W.told out.old) (F.faults files.old) result (W.told out.new) (F.faults files.new) }
+    // Where the files tell a program and a service for it, the run is printed, unless the output fails or memory is wanting.
+    ensures runs { (fuel : ℕ) → (p : List ℕ) → (s : List ℕ) → (directory : Directory) → (text : List ℕ) → (other : List ℕ) → (program : program_mirror.Program) → (service : service_mirror.Service) → map string_bytes words.now ≡ both_words p s → F.told files.old ≡ Some directory → Holds directory p s text other program service → Ends statuses.Done (run_text text fuel program service) (W.told out.old) result (W.told out.new) }
     // The answer is WriteFault exactly where a write failed.
     ensures writes { W.faults out.new ≡ write_faults result (W.faults out.old) }
 {
