@@ -1,0 +1,13 @@
+pub mod Kinds
+pub mod Faults
+pub mod Names
+pub mod Scopes
+pub mod Literals
+pub mod Operators
+pub mod Members
+pub mod Places
+pub mod Expressions
+pub mod Statements
+pub mod Bodies
+pub mod Declarations
+pub mod Programs
