@@ -25,7 +25,7 @@ kind_of (tree.ListOf at item) = ListOf (kind_of item)
 kind_of (tree.RowsOf at row) = RowsOf (kind_of row)
 
 -- the type of a form, at whatever position it stands
-abbrev pub kind_of_form : TypeForm → Kind
+unfoldable pub kind_of_form : TypeForm → Kind
 kind_of_form form = kind_of (tree.mirror_type_form form 0)
 
 abbrev pub is_int : Kind → Truth

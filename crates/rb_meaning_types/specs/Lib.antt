@@ -11,3 +11,5 @@ pub mod Statements
 pub mod Bodies
 pub mod Declarations
 pub mod Programs
+pub mod Gives
+pub mod Notes

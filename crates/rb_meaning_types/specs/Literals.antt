@@ -13,5 +13,5 @@ literal_form (Value-F.Text text) = kind.Text
 literal_form _ = kind.Unit
 
 -- a literal has the type of its value
-abbrev pub literal_kind : Value → Kind
+unfoldable pub literal_kind : Value → Kind
 literal_kind value = literal_form (out-Value value)

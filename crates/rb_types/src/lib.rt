@@ -1,0 +1,11 @@
+//! The type checker of programs and services.
+#![tactic(auto, using(crate::proofs::Rules::rules))]
+
+mod context;
+mod expressions;
+mod kinds;
+mod members;
+mod names;
+mod operators;
+mod places;
+mod scope;
