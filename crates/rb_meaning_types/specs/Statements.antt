@@ -14,6 +14,10 @@ use Rattle.rb_meaning_types.specs.Expressions.{Context, type_of}
 abbrev pub placed : Context → Scope → Expr → Checked Placed
 placed x scope e = with_place (expr_at e) (type_of x scope e)
 
+-- a condition is a Bool
+abbrev pub condition : Context → Scope → Expr → Checked (Unit {0})
+condition x scope e = placed x scope e >>= λ p. wanted Bool p
+
 -- `val` and `var`: the name is free, and the initialiser isn't Unit
 abbrev pub declare : Scope → ℕ → List ℕ → Truth → Placed → Checked Scope
 declare scope at name fixed p = must (is_free scope name) (NameTaken at) >> must (not (is_unit p.kind)) (wrong_type p)
@@ -80,10 +84,10 @@ abbrev mutual
   check_stmt x scope (Run at e) = placed x scope e >>= λ p. Ok scope
   check_stmt x scope (Print at e) = placed x scope e >>= λ p. print x.interfaces x.service scope at p
   check_stmt x scope (Throw at e) = placed x scope e >>= λ p. wanted Text p >> Ok scope
-  check_stmt x scope (If at c a b) = placed x scope c >>= λ p. wanted Bool p >> check_stmts x scope a >>= λ s. closed scope (check_stmts x scope b)
-  check_stmt x scope (While at c a) = placed x scope c >>= λ p. wanted Bool p >> closed scope (check_stmts x scope a)
+  check_stmt x scope (If at c a b) = condition x scope c >> closed scope (check_stmts x scope a) >>= λ s. closed scope (check_stmts x scope b)
+  check_stmt x scope (While at c a) = condition x scope c >> closed scope (check_stmts x scope a)
   check_stmt x scope (For at name e a) = placed x scope e >>= λ p. loop_scope scope at name p >>= λ inner. closed scope (check_stmts x inner a)
-  check_stmt x scope (Try at a name b) = check_stmts x scope a >>= λ s. catch_scope scope at name >>= λ inner. closed scope (check_stmts x inner b)
+  check_stmt x scope (Try at a name b) = closed scope (check_stmts x scope a) >>= λ s. catch_scope scope at name >>= λ inner. closed scope (check_stmts x inner b)
   check_stmt x scope (Batch at interface root a) = batch_scope x.interfaces x.remote scope at interface root >>= λ inner. closed scope (check_stmts x inner a)
 
   -- statements in order: each sees the scope that those before it leave

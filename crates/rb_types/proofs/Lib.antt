@@ -1,3 +1,5 @@
+pub mod Fronts
 pub mod Rows
 pub mod Rules
 pub mod ExprRules
+pub mod StmtRules

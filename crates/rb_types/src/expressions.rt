@@ -16,13 +16,13 @@ use crate::kinds::{Placed, copy_kind, literal_kind, wanted};
 use crate::members::{call_kind, field_kind, new_kind};
 use crate::operators::{binary_kind, index_kind, unary_kind};
 use crate::places::item_type;
-use crate::scope::{Variable, find_variable};
+use crate::scope::{Scope, find_variable};
 use rb_trees::{
     Boxed, Expr, ExprForm, Seq, TypeError, TypeForm, TypeTree, Word, copy_type, copy_word,
 };
 use std::alloc::Global;
 
-fn name_kind(alloc: Global, scope: &[Variable], at: u32, name: &Word) -> Result<TypeForm, TypeError>
+fn name_kind(alloc: Global, scope: &Scope, at: u32, name: &Word) -> Result<TypeForm, TypeError>
     ensures { Gives kind_of_form result (expressions.name_kind (scope_of scope.now) at name.now) }
 {
     match find_variable(scope, name) {
@@ -76,7 +76,7 @@ fn items_kind(
 pub fn check_expr(
     alloc: Global,
     x: &Context,
-    scope: &[Variable],
+    scope: &Scope,
     notes: &mut Seq<Placed>,
     e: &Expr,
 ) -> Result<Placed, TypeError>
@@ -97,7 +97,7 @@ pub fn check_expr(
 fn expr_kind(
     alloc: Global,
     x: &Context,
-    scope: &[Variable],
+    scope: &Scope,
     notes: &mut Seq<Placed>,
     e: &Expr,
 ) -> Result<TypeForm, TypeError>
@@ -149,7 +149,7 @@ fn expr_kind(
 fn check_exprs(
     alloc: Global,
     x: &Context,
-    scope: &[Variable],
+    scope: &Scope,
     notes: &mut Seq<Placed>,
     es: &[Expr],
 ) -> Result<Seq<Placed>, TypeError>

@@ -9,3 +9,4 @@ mod names;
 mod operators;
 mod places;
 mod scope;
+mod statements;
