@@ -1,11 +1,12 @@
 -- What the checker's structs stand for in the definitions.
-use Rattle.std.specs.Prelude.{List, map, Option, Ok}
+use Rattle.std.specs.Prelude.{ℕ, List, map, Option, Ok}
 use Rattle.std.specs.Option.{option_copied}
 use Rattle.rb_trees.specs.mirror.Declarations.{mirror_interface, mirror_class}
 use Rattle.rb_types.specs.declared.kinds.Placed as placed
 use Rattle.rb_types.specs.declared.scope.Variable as variable
 use Rattle.rb_types.specs.declared.scope.Scope as scope
 use Rattle.rb_types.specs.declared.context.Context as context
+use Rattle.rb_types.specs.declared.declarations.Names as names
 use Rattle.rb_meaning_types.specs.Kinds.{kind_of_form}
 use Rattle.rb_meaning_types.specs.Faults.{Placed}
 use Rattle.rb_meaning_types.specs.Scopes.{Variable, Scope}
@@ -36,3 +37,6 @@ note_of p = record { at = p.at; gives = Ok (kind_of_form p.kind) }
 
 abbrev pub notes_of : List placed.Placed → List Note
 notes_of notes = map note_of notes
+
+abbrev pub names_of : names.Names → List (List ℕ)
+names_of n = n.words

@@ -1,7 +1,9 @@
 //! The type checker of programs and services.
 #![tactic(auto, using(crate::proofs::Rules::rules))]
 
+mod bodies;
 mod context;
+mod declarations;
 mod expressions;
 mod kinds;
 mod members;
