@@ -13,3 +13,5 @@ pub mod Declarations
 pub mod Programs
 pub mod Gives
 pub mod Notes
+pub mod Batches
+pub mod Lawful

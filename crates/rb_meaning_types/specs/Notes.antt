@@ -102,10 +102,12 @@ classes_noted interfaces classes service notes [] = notes
 classes_noted interfaces classes service notes (c ∷ cs) =
     classes_noted interfaces classes service (methods_noted interfaces classes service c.name notes c.methods) cs
 
+abbrev pub main_noted : List Note → Program → List Note
+main_noted notes p = body_noted (main_context p.interfaces p.classes) [] notes p.body
+
 -- the notes of a program: the bodies of its methods in source order, then `main`
 abbrev pub program_notes : Program → List Note
-program_notes p = body_noted (main_context p.interfaces p.classes) []
-    (classes_noted p.interfaces p.classes false [] p.classes) p.body
+program_notes p = main_noted (classes_noted p.interfaces p.classes false [] p.classes) p
 
 -- the first note at a position, or else what was found elsewhere
 abbrev pub note_at : List Note → ℕ → Option (Checked Kind) → Option (Checked Kind)

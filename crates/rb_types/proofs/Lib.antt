@@ -3,3 +3,4 @@ pub mod Rows
 pub mod Rules
 pub mod ExprRules
 pub mod StmtRules
+pub mod LastNotes
