@@ -15,3 +15,4 @@ pub mod Gives
 pub mod Notes
 pub mod Batches
 pub mod Lawful
+pub mod Fits
