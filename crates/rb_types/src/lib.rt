@@ -15,6 +15,8 @@ mod places;
 mod programs;
 mod scope;
 mod statements;
+#[cfg(test)]
+mod tests;
 mod typed;
 
 pub use programs::check_service;

@@ -36,7 +36,6 @@ impl Model for Typed {
     ghost use Rattle.rb_meaning_types.specs.Batches.{batch_count};
     ghost use Rattle.rb_meaning_types.specs.Lawful.{IsLawful};
     ghost use Rattle.rb_types.specs.Given.{kind_given};
-
     ghost use Rattle.rb_trees.specs.contracts.declarations.Program as program_code;
 
     ghost Value = { Program };
