@@ -1,12 +1,10 @@
 -- What the checker's structs stand for in the definitions.
-use Rattle.std.specs.Prelude.{ℕ, List, map, Option, Ok}
+use Rattle.std.specs.Prelude.{List, map, Option, Ok}
 use Rattle.std.specs.Option.{option_copied}
 use Rattle.rb_trees.specs.mirror.Declarations.{mirror_interface, mirror_class}
 use Rattle.rb_types.specs.declared.kinds.Placed as placed
 use Rattle.rb_types.specs.declared.scope.Variable as variable
-use Rattle.rb_types.specs.declared.scope.Scope as scope
 use Rattle.rb_types.specs.declared.context.Context as context
-use Rattle.rb_types.specs.declared.declarations.Names as names
 use Rattle.rb_meaning_types.specs.Kinds.{kind_of_form}
 use Rattle.rb_meaning_types.specs.Faults.{Placed}
 use Rattle.rb_meaning_types.specs.Scopes.{Variable, Scope}
@@ -19,8 +17,8 @@ placed_of p = record { at = p.at; kind = kind_of_form p.kind }
 abbrev pub variable_of : variable.Variable → Variable
 variable_of v = record { name = v.name; kind = kind_of_form v.kind; fixed = v.fixed }
 
-abbrev pub scope_of : scope.Scope → Scope
-scope_of s = map variable_of s.variables
+abbrev pub scope_of : List variable.Variable → Scope
+scope_of variables = map variable_of variables
 
 abbrev pub context_of : context.Context → Context
 context_of x = record {
@@ -37,6 +35,3 @@ note_of p = record { at = p.at; gives = Ok (kind_of_form p.kind) }
 
 abbrev pub notes_of : List placed.Placed → List Note
 notes_of notes = map note_of notes
-
-abbrev pub names_of : names.Names → List (List ℕ)
-names_of n = n.words

@@ -13,7 +13,7 @@ ghost use Rattle.rb_types.specs.Views.{context_of, scope_of, placed_of, notes_of
 use crate::context::Context;
 use crate::expressions::check_expr;
 use crate::kinds::{Placed, is_unit, kind_of, same_kind, wrong_type};
-use crate::scope::{Scope, bind, empty_scope};
+use crate::scope::Scope;
 use crate::statements::check_stmts;
 use rb_trees::{
     Body, Class, Expr, Interface, Method, Param, Seq, TypeError, TypeForm, TypeTree, Word,
@@ -79,11 +79,11 @@ pub fn check_body(
 fn parameters(alloc: Global, params: &[Param]) -> Result<Scope, TypeError>
     ensures { Gives scope_of result (Ok (scopes.parameters (map mirror_param params.now))) }
 {
-    let mut scope = empty_scope(alloc);
+    let mut scope = Scope::new(alloc);
     for param in params {
         let name = copy_word(alloc, &param.name)?;
         let kind = kind_of(alloc, &param.kind)?;
-        bind(&mut scope, name, kind, true)?;
+        scope.bind(alloc, name, kind, true)?;
     }
     Ok(scope)
 }

@@ -4,47 +4,29 @@ ghost use Rattle.rb_meaning_types.specs.Names as naming;
 ghost use Rattle.rb_meaning_types.specs.Declarations as declarations;
 ghost use Rattle.rb_meaning_types.specs.Programs as programs;
 ghost use Rattle.rb_meaning_types.specs.Gives.{Gives};
-ghost use Rattle.rb_types.specs.Views.{names_of};
 
-use crate::names::same_word;
 use crate::places::{parameter_type, result_type};
-use rb_trees::{Class, Interface, Method, Param, Seq, Signature, TypeError, Word, copy_word};
+use crate::words::Words;
+use rb_trees::{Class, Interface, Method, Param, Signature, TypeError, Word, copy_word};
 use std::alloc::Global;
 
-/// Names that were declared, in order.
-#[derive(Debug, Drop)]
-pub struct Names {
-    words: Seq<Word>,
-}
-
-fn no_names(alloc: Global) -> Names
-    ensures { names_of result ≡ [] }
+#[tactic(auto, using(crate::proofs::Guided::new_place))]
+fn is_new(names: &Words, name: &Word) -> bool
+    ensures { result ≡ naming.is_new name.now names.now }
 {
-    Names {
-        words: Seq::new(alloc),
-    }
-}
-
-fn is_new(names: &Names, name: &Word) -> bool
-    ensures { result ≡ naming.is_new name.now (names_of names.now) }
-{
-    for word in names.words.as_slice() {
-        if same_word(word, name) {
-            return false;
-        }
-    }
-    true
+    names.find(name).is_none()
 }
 
 /// Adds a name that differs from those before.
-fn add_name(alloc: Global, names: &mut Names, at: u32, name: &Word) -> Result<(), TypeError>
-    ensures gives { Gives (λ u. u) result (declarations.new_name (names_of names.old) at name.now) }
-    ensures added { OnOk result (names_of names.new ≡ names_of names.old ++ name.now ∷ []) }
+fn add_name(alloc: Global, names: &mut Words, at: u32, name: &Word) -> Result<(), TypeError>
+    ensures gives { Gives (λ u. u) result (declarations.new_name (names.old) at name.now) }
+    ensures added { OnOk result (names.new ≡ names.old ++ name.now ∷ []) }
 {
     if !is_new(names, name) {
         return Err(TypeError::NameTaken(at));
     }
-    names.words.push(copy_word(alloc, name)?)?;
+    let word = copy_word(alloc, name)?;
+    names.push(alloc, word)?;
     Ok(())
 }
 
@@ -57,7 +39,7 @@ fn check_params(
 ) -> Result<(), TypeError>
     ensures { Gives (λ u. u) result (declarations.check_params remote (map mirror_interface interfaces.now) (map mirror_class classes.now) [] (map mirror_param params.now)) }
 {
-    let mut names = no_names(alloc);
+    let mut names = Words::new(alloc);
     for param in params {
         add_name(alloc, &mut names, param.at, &param.name)?;
         parameter_type(remote, interfaces, classes, &param.kind)?;
@@ -86,7 +68,7 @@ fn check_signatures(
 ) -> Result<(), TypeError>
     ensures { Gives (λ u. u) result (declarations.check_signatures (map mirror_interface interfaces.now) (map mirror_class classes.now) [] (map mirror_signature signatures.now)) }
 {
-    let mut names = no_names(alloc);
+    let mut names = Words::new(alloc);
     for s in signatures {
         add_name(alloc, &mut names, s.at, &s.name)?;
         check_signature(alloc, true, interfaces, classes, s)?;
@@ -119,7 +101,7 @@ fn check_methods(
 ) -> Result<(), TypeError>
     ensures { Gives (λ u. u) result (declarations.check_methods (map mirror_interface interfaces.now) (map mirror_class classes.now) service [] (map mirror_method methods.now)) }
 {
-    let mut names = no_names(alloc);
+    let mut names = Words::new(alloc);
     for m in methods {
         add_name(alloc, &mut names, m.signature.at, &m.signature.name)?;
         check_method(alloc, interfaces, classes, service, m)?;
@@ -148,12 +130,12 @@ fn check_class(
 
 fn check_interfaces(
     alloc: Global,
-    names: &mut Names,
+    names: &mut Words,
     interfaces: &[Interface],
     classes: &[Class],
 ) -> Result<(), TypeError>
-    ensures gives { Gives (λ u. u) result (declarations.check_interfaces (map mirror_interface interfaces.now) (map mirror_class classes.now) (names_of names.old) (map mirror_interface interfaces.now)) }
-    ensures added { OnOk result (names_of names.new ≡ names_of names.old ++ map (λ i. i.name) (map mirror_interface interfaces.now)) }
+    ensures gives { Gives (λ u. u) result (declarations.check_interfaces (map mirror_interface interfaces.now) (map mirror_class classes.now) (names.old) (map mirror_interface interfaces.now)) }
+    ensures added { OnOk result (names.new ≡ names.old ++ map (λ i. i.name) (map mirror_interface interfaces.now)) }
 {
     for i in interfaces {
         add_name(alloc, names, i.at, &i.name)?;
@@ -164,12 +146,12 @@ fn check_interfaces(
 
 fn check_classes(
     alloc: Global,
-    names: &mut Names,
+    names: &mut Words,
     interfaces: &[Interface],
     classes: &[Class],
     service: bool,
 ) -> Result<(), TypeError>
-    ensures { Gives (λ u. u) result (declarations.check_classes (map mirror_interface interfaces.now) (map mirror_class classes.now) service (names_of names.old) (map mirror_class classes.now)) }
+    ensures { Gives (λ u. u) result (declarations.check_classes (map mirror_interface interfaces.now) (map mirror_class classes.now) service (names.old) (map mirror_class classes.now)) }
 {
     for class in classes {
         add_name(alloc, names, class.at, &class.name)?;
@@ -187,7 +169,7 @@ pub fn check_declarations(
 ) -> Result<(), TypeError>
     ensures { Gives (λ u. u) result (programs.check_declarations (map mirror_interface interfaces.now) (map mirror_class classes.now) service) }
 {
-    let mut names = no_names(alloc);
+    let mut names = Words::new(alloc);
     check_interfaces(alloc, &mut names, interfaces, classes)?;
     check_classes(alloc, &mut names, interfaces, classes, service)
 }

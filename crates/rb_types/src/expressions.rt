@@ -16,7 +16,7 @@ use crate::kinds::{Placed, copy_kind, literal_kind, wanted};
 use crate::members::{call_kind, field_kind, new_kind};
 use crate::operators::{binary_kind, index_kind, unary_kind};
 use crate::places::item_type;
-use crate::scope::{Scope, find_variable};
+use crate::scope::Scope;
 use rb_trees::{
     Boxed, Expr, ExprForm, Seq, TypeError, TypeForm, TypeTree, Word, copy_type, copy_word,
 };
@@ -25,7 +25,7 @@ use std::alloc::Global;
 fn name_kind(alloc: Global, scope: &Scope, at: u32, name: &Word) -> Result<TypeForm, TypeError>
     ensures { Gives kind_of_form result (expressions.name_kind (scope_of scope.now) at name.now) }
 {
-    match find_variable(scope, name) {
+    match scope.find(name) {
         Some(variable) => copy_kind(alloc, &variable.kind),
         None => Err(TypeError::UnknownName(at)),
     }

@@ -18,6 +18,7 @@ mod statements;
 #[cfg(test)]
 mod tests;
 mod typed;
+mod words;
 
 pub use programs::check_service;
 pub use typed::{Typed, check};

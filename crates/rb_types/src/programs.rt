@@ -11,7 +11,7 @@ use crate::context::Context;
 use crate::declarations::check_declarations;
 use crate::kinds::Placed;
 use crate::places::main_type;
-use crate::scope::empty_scope;
+use crate::scope::Scope;
 use rb_trees::{Class, Program, Seq, TypeError};
 use std::alloc::Global;
 
@@ -29,7 +29,7 @@ fn check_main(alloc: Global, program: &Program, noted: &mut Seq<Placed>) -> Resu
         remote: true,
         service: false,
     };
-    let scope = empty_scope(alloc);
+    let scope = Scope::new(alloc);
     check_body(
         alloc,
         &x,

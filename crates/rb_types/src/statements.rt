@@ -13,7 +13,7 @@ use crate::context::Context;
 use crate::expressions::check_expr;
 use crate::kinds::{Placed, copy_kind, is_unit, wanted, wrong_type};
 use crate::places::is_interface;
-use crate::scope::{Scope, bind, close, count, find_variable, is_free};
+use crate::scope::Scope;
 use rb_trees::{
     Expr, ExprForm, Interface, Seq, Stmt, StmtForm, TypeError, TypeForm, Word, copy_word,
 };
@@ -31,7 +31,7 @@ fn add(
 {
     let name = copy_word(alloc, name)?;
     let kind = copy_kind(alloc, kind)?;
-    bind(scope, name, kind, fixed)?;
+    scope.bind(alloc, name, kind, fixed)?;
     Ok(())
 }
 
@@ -46,7 +46,7 @@ fn declare(
     ensures gives { Gives (λ u. scope_of scope.new) result (statements.declare (scope_of scope.old) at name.now fixed (placed_of p.now)) }
     ensures kept { OnOk result (take (length (scope_of scope.old)) (scope_of scope.new) ≡ scope_of scope.old) }
 {
-    if !is_free(scope, name) {
+    if !scope.is_free(name) {
         return Err(TypeError::NameTaken(at));
     }
     if is_unit(&p.kind) {
@@ -60,7 +60,7 @@ fn is_assignable(scope: &Scope, left: &Expr) -> bool
     ensures { result ≡ statements.is_assignable (scope_of scope.now) (mirror_expr left.now) }
 {
     match &left.form {
-        ExprForm::Name(name) => match find_variable(scope, name) {
+        ExprForm::Name(name) => match scope.find(name) {
             Some(variable) => !variable.fixed,
             None => false,
         },
@@ -130,7 +130,7 @@ fn open_loop(
     ensures gives { Gives (λ u. scope_of scope.new) result (statements.loop_scope (scope_of scope.old) at name.now (placed_of p.now)) }
     ensures kept { OnOk result (take (length (scope_of scope.old)) (scope_of scope.new) ≡ scope_of scope.old) }
 {
-    if !is_free(scope, name) {
+    if !scope.is_free(name) {
         return Err(TypeError::NameTaken(at));
     }
     let kind = turn_kind(alloc, p)?;
@@ -141,7 +141,7 @@ fn open_catch(alloc: Global, scope: &mut Scope, at: u32, name: &Word) -> Result<
     ensures gives { Gives (λ u. scope_of scope.new) result (statements.catch_scope (scope_of scope.old) at name.now) }
     ensures kept { OnOk result (take (length (scope_of scope.old)) (scope_of scope.new) ≡ scope_of scope.old) }
 {
-    if !is_free(scope, name) {
+    if !scope.is_free(name) {
         return Err(TypeError::NameTaken(at));
     }
     add(alloc, scope, name, &TypeForm::Text, true)
@@ -158,7 +158,7 @@ fn open_batch(
     ensures gives { Gives (λ u. scope_of scope.new) result (statements.batch_scope (map mirror_interface x.now.interfaces.now) x.now.remote (scope_of scope.old) at interface.now root.now) }
     ensures kept { OnOk result (take (length (scope_of scope.old)) (scope_of scope.new) ≡ scope_of scope.old) }
 {
-    if !is_free(scope, root) {
+    if !scope.is_free(root) {
         return Err(TypeError::NameTaken(at));
     }
     if !is_interface(x.interfaces, interface) {
@@ -238,25 +238,25 @@ fn check_stmt(
         }
         StmtForm::For(name, e, a) => {
             let p = check_expr(alloc, x, scope, notes, e)?;
-            let outer = count(scope);
+            let outer = scope.len();
             open_loop(alloc, scope, at, name, &p)?;
             check_stmts(alloc, x, scope, notes, a.as_slice())?;
-            close(scope, outer);
+            scope.truncate(outer);
             Ok(())
         }
         StmtForm::Try(a, name, b) => {
             check_block(alloc, x, scope, notes, a.as_slice())?;
-            let outer = count(scope);
+            let outer = scope.len();
             open_catch(alloc, scope, at, name)?;
             check_stmts(alloc, x, scope, notes, b.as_slice())?;
-            close(scope, outer);
+            scope.truncate(outer);
             Ok(())
         }
         StmtForm::Batch(interface, root, a) => {
-            let outer = count(scope);
+            let outer = scope.len();
             open_batch(alloc, x, scope, at, interface, root)?;
             check_stmts(alloc, x, scope, notes, a.as_slice())?;
-            close(scope, outer);
+            scope.truncate(outer);
             Ok(())
         }
     }
@@ -275,9 +275,9 @@ fn check_block(
     ensures same { OnOk result (scope_of scope.new ≡ scope_of scope.old) }
     ensures notes { OnOk result (notes_of notes.new ≡ stmts_noted (context_of x.now) (scope_of scope.old) (notes_of notes.old) (mirror_stmts ss.now)) }
 {
-    let outer = count(scope);
+    let outer = scope.len();
     check_stmts(alloc, x, scope, notes, ss)?;
-    close(scope, outer);
+    scope.truncate(outer);
     Ok(())
 }
 
