@@ -3,8 +3,8 @@ use Rattle.std.proofs.Common.{◌≡◌, ℕ, ℤ, List, Bool as Truth, ap, sym,
 use Rattle.rb_trees.specs.declared.values.Value.{Value}
 use Rattle.rb_trees.specs.declared.values.Value.TheVariants as value
 use Rattle.rb_trees.specs.declared.values.Value.TheOpen.{Value-F}
-use Rattle.rb_trees.specs.declared.values.Value.TheViews.{out-Value, out-roll-Value}
-use Rattle.rb_meaning_types.specs.Kinds.{Kind, Int, Bool, Text, Unit}
+use Rattle.rb_trees.specs.declared.values.Value.TheViews.{out-roll-Value}
+use Rattle.rb_meaning_types.specs.Kinds.{Int, Bool, Text, Unit}
 use Rattle.rb_meaning_types.specs.Literals.{literal_form, literal_kind}
 
 pub literal_Unit : literal_kind value.Unit ≡ Unit

@@ -1,5 +1,5 @@
 -- The position of a tree is that of its mirror.
-use Rattle.std.proofs.Common.{◌≡◌, ℕ, ap, sym, ◌∙◌, refl}
+use Rattle.std.proofs.Common.{◌≡◌, ℕ, ap, ◌∙◌, refl}
 use Rattle.rb_trees.specs.declared.code.TypeTree as type_tree
 use Rattle.rb_trees.specs.declared.code.TypeForm.{TypeForm}
 use Rattle.rb_trees.specs.declared.code.TypeForm.TheOpen.{TypeForm-F}

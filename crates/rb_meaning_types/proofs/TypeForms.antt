@@ -3,11 +3,11 @@ use Rattle.std.proofs.Common.{◌≡◌, ℕ, List, ap, sym, ◌∙◌, refl}
 use Rattle.rb_trees.specs.declared.code.TypeTree as tree
 use Rattle.rb_trees.specs.declared.code.TypeForm.{TypeForm}
 use Rattle.rb_trees.specs.declared.code.TypeForm.TheVariants as form
-use Rattle.rb_trees.specs.declared.code.TypeForm.TheOpen.{TypeForm-F, TypeTree-F}
-use Rattle.rb_trees.specs.declared.code.TypeForm.TheFolds.{fold-TypeTree, fold-TypeForm, fold_out-TypeForm}
+use Rattle.rb_trees.specs.declared.code.TypeForm.TheOpen.{TypeForm-F}
+use Rattle.rb_trees.specs.declared.code.TypeForm.TheFolds.{fold_out-TypeForm}
 use Rattle.rb_trees.specs.mirror.Types.{TypeTree, form_step, tree_step, mirror_type, mirror_type_form}
 use Rattle.rb_trees.proofs.mirror.Types.{at_TypeTree, form_Int, form_Bool, form_Text, form_Unit, form_Named, form_ListOf, form_RowsOf}
-use Rattle.rb_meaning_types.specs.Kinds.{Kind, Int, Bool, Text, Unit, Named, ListOf, RowsOf, kind_of, kind_of_form}
+use Rattle.rb_meaning_types.specs.Kinds.{Int, Bool, Text, Unit, Named, ListOf, RowsOf, kind_of, kind_of_form}
 
 -- one layer of a form has the same type at any position
 layer_kind : (layer : TypeForm-F (ℕ → TypeTree) TypeTree) (a b : ℕ) → kind_of (form_step layer a) ≡ kind_of (form_step layer b)

@@ -1,10 +1,10 @@
 -- Bodies: the statements in order, then the `return`.
-use Rattle.std.specs.Prelude.{ℕ, List, [], ◌∷◌, Bool, true, false, not, ◌&&◌, Option, Some, None, Result, Ok, Err}
+use Rattle.std.specs.Prelude.{ℕ, List, [], ◌∷◌, Bool, not, ◌&&◌, Option, Some, None, Ok}
 use Rattle.rb_trees.specs.mirror.Types.{TypeTree}
 use Rattle.rb_trees.specs.mirror.Code.{Expr}
 use Rattle.rb_trees.specs.mirror.Declarations.{Interface, Method, Class, Body}
 use Rattle.rb_meaning_types.specs.Kinds.{Kind, kind_of, is_unit, same_kind}
-use Rattle.rb_meaning_types.specs.Faults.{Fault, Checked, Placed, MissingReturn, ◌>>=◌, ◌>>◌, must, wrong_type}
+use Rattle.rb_meaning_types.specs.Faults.{Checked, Placed, MissingReturn, ◌>>=◌, ◌>>◌, must, wrong_type}
 use Rattle.rb_meaning_types.specs.Scopes.{Scope, parameters}
 use Rattle.rb_meaning_types.specs.Expressions.{Context}
 use Rattle.rb_meaning_types.specs.Statements.{placed, check_stmts}

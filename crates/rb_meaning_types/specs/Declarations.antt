@@ -1,8 +1,8 @@
 -- Declarations in source order: each by its name, then its members, each with its name and then its types.
-use Rattle.std.specs.Prelude.{ℕ, List, [], ◌∷◌, ◌++◌, Bool, true, false, not, ◌&&◌, Result, Ok, Err}
+use Rattle.std.specs.Prelude.{ℕ, List, [], ◌∷◌, ◌++◌, Bool, true, false, not, ◌&&◌, Ok}
 use Rattle.rb_trees.specs.mirror.Declarations.{Param, Signature, Interface, Method, Class}
 use Rattle.rb_meaning_types.specs.Names.{is_new}
-use Rattle.rb_meaning_types.specs.Faults.{Fault, Checked, NameTaken, NotAllowedHere, ◌>>◌, must}
+use Rattle.rb_meaning_types.specs.Faults.{Checked, NameTaken, NotAllowedHere, ◌>>◌, must}
 use Rattle.rb_meaning_types.specs.Places.{parameter_type, result_type}
 
 -- a name that differs from those before

@@ -1,12 +1,12 @@
 -- The type of an expression in a scope, or the first violation: the parts go first, in order of
 -- evaluation, and then the expression itself.
-use Rattle.std.specs.Prelude.{ℕ, List, [], ◌∷◌, Bool, Option, Some, None, Result, Ok, Err}
+use Rattle.std.specs.Prelude.{ℕ, List, [], ◌∷◌, Bool, Option, Some, None, Ok, Err}
 use Rattle.rb_trees.specs.mirror.Types.{TypeTree}
 use Rattle.rb_trees.specs.mirror.Code.{Expr, Exprs, Lit, Name, This, Unary, Binary, Field, Call, Index, New, Items, Taken, NoExprs, MoreExprs, expr_at}
 use Rattle.rb_trees.specs.mirror.Declarations.{Interface, Class}
 use Rattle.rb_meaning_types.specs.Kinds.{Kind, Named, ListOf, kind_of}
-use Rattle.rb_meaning_types.specs.Faults.{Fault, Checked, Placed, UnknownName, NotAllowedHere, ◌>>=◌, ◌>>◌, known, wanted, with_place}
-use Rattle.rb_meaning_types.specs.Scopes.{Scope, Variable, variable_named}
+use Rattle.rb_meaning_types.specs.Faults.{Checked, Placed, UnknownName, NotAllowedHere, ◌>>=◌, ◌>>◌, known, wanted, with_place}
+use Rattle.rb_meaning_types.specs.Scopes.{Scope, variable_named}
 use Rattle.rb_meaning_types.specs.Literals.{literal_kind}
 use Rattle.rb_meaning_types.specs.Operators.{unary_kind, binary_kind, index_kind}
 use Rattle.rb_meaning_types.specs.Members.{field_kind, call_kind, new_kind}

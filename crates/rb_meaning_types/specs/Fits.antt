@@ -1,7 +1,7 @@
 -- When values, objects, scopes, local states and tables fit the typing. Values fit a list of class
 -- names, that of the objects of their heap in order: it stays as it is where a field is written, and
 -- grows where an object is added.
-use Rattle.std.specs.Prelude.{◌≡◌, ℕ, ◌<◌, List, [], ◌∷◌, map, length, slice_get, Option, Some, None, IsTrue}
+use Rattle.std.specs.Prelude.{◌≡◌, ℕ, ◌<◌, List, [], ◌∷◌, map, length, slice_get, Option, Some, None}
 use Rattle.std.specs.List.{All}
 use Rattle.rb_trees.specs.declared.values.Value.{Value}
 use Rattle.rb_trees.specs.declared.values.Value.TheOpen.{Value-F}
@@ -11,7 +11,7 @@ use Rattle.rb_trees.specs.mirror.Declarations.{Param, Interface, Class}
 use Rattle.rb_meaning_types.specs.Kinds as kind
 use Rattle.rb_meaning_types.specs.Kinds.{Kind, kind_of}
 use Rattle.rb_meaning_types.specs.Names.{class_named, interface_named}
-use Rattle.rb_meaning_types.specs.Scopes.{Scope, Variable}
+use Rattle.rb_meaning_types.specs.Scopes.{Scope}
 use Rattle.rb_meaning_types.specs.Expressions.{Context}
 
 -- the classes of the objects of a heap, in order

@@ -3,7 +3,7 @@ use Rattle.std.specs.Prelude.{◌≡◌, Result, Ok, Err}
 use Rattle.rb_trees.specs.declared.typing.TypeError.{TypeError}
 use Rattle.rb_trees.specs.declared.typing.TypeError.TheVariants as error
 use Rattle.rb_meaning_types.specs.Kinds.{kind_of_form}
-use Rattle.rb_meaning_types.specs.Faults.{Fault, Checked, UnknownName, NameTaken, WrongType, WrongCount, NotAssignable, MissingReturn, TypeNotHere, NotAllowedHere}
+use Rattle.rb_meaning_types.specs.Faults.{Checked, UnknownName, NameTaken, WrongType, WrongCount, NotAssignable, MissingReturn, TypeNotHere, NotAllowedHere}
 
 -- an error is the violation that the definition gives, and a wrong type's positions count for nothing
 abbrev pub Fails : {Y : Type 0} → TypeError → Checked Y → Type 0

@@ -1,5 +1,5 @@
 -- Types without positions, and when two of them are the same.
-use Rattle.std.specs.Prelude.{ℕ, List, Bool as Truth, true, false, ◌||◌}
+use Rattle.std.specs.Prelude.{ℕ, List, Bool as Truth, true, false}
 use Rattle.std.specs.Str.{bytes_eq}
 use Rattle.rb_trees.specs.mirror.Types as tree
 use Rattle.rb_trees.specs.declared.code.TypeForm.{TypeForm}

@@ -1,6 +1,6 @@
 -- Lawful programs and services, as a parser gives them: what checking may rely on, whether the
 -- program is typed or not.
-use Rattle.std.specs.Prelude.{ℕ, ◌+◌, ◌<◌, ◌≤◌, ◌^◌, max, suc, List, [], ◌∷◌, ◌++◌, map, length, Bool, true, false, ◌||◌, ◌&&◌, nat_le, nat_eq, IsTrue, Option, Some, None}
+use Rattle.std.specs.Prelude.{ℕ, ◌<◌, ◌≤◌, ◌^◌, max, suc, List, [], ◌∷◌, ◌++◌, length, Bool, true, false, ◌||◌, ◌&&◌, nat_le, nat_eq, IsTrue, Option, Some, None}
 use Rattle.std.specs.List.{All, IsDistinct}
 use Rattle.std.specs.Str.{IsUtf8}
 use Rattle.rb_trees.specs.declared.values.Value.{Value}

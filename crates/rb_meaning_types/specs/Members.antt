@@ -1,9 +1,9 @@
 -- The types of what names a member or a class: a field, a call, a `new`.
-use Rattle.std.specs.Prelude.{ℕ, List, [], ◌∷◌, Bool, not, ◌||◌, length, nat_eq, Option, Some, None, Result, Ok, Err}
-use Rattle.rb_trees.specs.mirror.Declarations.{Param, Signature, Interface, Method, Class}
+use Rattle.std.specs.Prelude.{ℕ, List, [], ◌∷◌, Bool, not, ◌||◌, length, nat_eq, Option, Some, None, Ok, Err}
+use Rattle.rb_trees.specs.mirror.Declarations.{Param, Signature, Interface, Class}
 use Rattle.rb_meaning_types.specs.Kinds.{Kind, Named, kind_of}
 use Rattle.rb_meaning_types.specs.Names.{interface_named, class_named, field_named, signature_named, method_named}
-use Rattle.rb_meaning_types.specs.Faults.{Fault, Checked, Placed, UnknownName, WrongCount, NotAllowedHere, ◌>>=◌, ◌>>◌, known, must, wanted, wrong_type}
+use Rattle.rb_meaning_types.specs.Faults.{Checked, Placed, UnknownName, WrongCount, NotAllowedHere, ◌>>=◌, ◌>>◌, known, must, wanted, wrong_type}
 
 -- each argument has the type of its parameter
 abbrev pub arguments_wanted : List Param → List Placed → Checked (Unit {0})

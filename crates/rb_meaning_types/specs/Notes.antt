@@ -1,11 +1,10 @@
 -- What the judgement gives to each expression of code, in order of evaluation, and the type of the
 -- expression at a position.
-use Rattle.std.specs.Prelude.{ℕ, List, [], ◌∷◌, ◌++◌, Bool, false, cond, nat_eq, Option, Some, None, Result, Ok, Err}
-use Rattle.rb_trees.specs.mirror.Types.{TypeTree}
+use Rattle.std.specs.Prelude.{ℕ, List, [], ◌∷◌, ◌++◌, Bool, false, cond, nat_eq, Option, Some, None, Ok, Err}
 use Rattle.rb_trees.specs.mirror.Code.{Expr, Exprs, Lit, Name, This, Unary, Binary, Field, Call, Index, New, Items, Taken, NoExprs, MoreExprs, expr_at, Stmt, Stmts, Val, Var, Assign, Run, Print, Throw, If, While, For, Try, Batch, NoStmts, MoreStmts}
 use Rattle.rb_trees.specs.mirror.Declarations.{Body, Method, Class, Program, Interface}
 use Rattle.rb_meaning_types.specs.Kinds.{Kind}
-use Rattle.rb_meaning_types.specs.Faults.{Checked, Fault, ◌>>=◌}
+use Rattle.rb_meaning_types.specs.Faults.{Checked, ◌>>=◌}
 use Rattle.rb_meaning_types.specs.Scopes.{Scope, parameters}
 use Rattle.rb_meaning_types.specs.Expressions.{Context, type_of}
 use Rattle.rb_meaning_types.specs.Statements.{placed, loop_scope, catch_scope, batch_scope, check_stmt, check_stmts}

@@ -1,11 +1,11 @@
 -- The types of operators. The left operand is judged first.
-use Rattle.std.specs.Prelude.{Bool as Truth, ◌||◌, Result, Ok, Err}
+use Rattle.std.specs.Prelude.{Bool as Truth, ◌||◌, Ok, Err}
 use Rattle.rb_trees.specs.declared.code.UnOp.{UnOp}
 use Rattle.rb_trees.specs.declared.code.BinOp.{BinOp}
 use Rattle.rb_trees.specs.declared.code.UnOp.TheVariants as un
 use Rattle.rb_trees.specs.declared.code.BinOp.TheVariants as bin
 use Rattle.rb_meaning_types.specs.Kinds.{Kind, Int, Bool, Text, ListOf, is_int, is_bool, is_text, is_list, is_primitive}
-use Rattle.rb_meaning_types.specs.Faults.{Fault, Checked, Placed, ◌>>=◌, ◌>>◌, must, wanted, wrong_type}
+use Rattle.rb_meaning_types.specs.Faults.{Checked, Placed, ◌>>=◌, ◌>>◌, must, wanted, wrong_type}
 
 -- `!` takes a Bool, `-` an Int, `len` a Text or a List, `str` an Int or a Bool
 abbrev pub takes_operand : UnOp → Kind → Truth

@@ -1,9 +1,9 @@
 -- Typed programs and services, and the first violation of others: declarations, then the bodies of
 -- methods, then `main`.
-use Rattle.std.specs.Prelude.{◌≡◌, ℕ, List, [], map, Bool, true, false, Option, Some, None, Result, Ok, Err}
+use Rattle.std.specs.Prelude.{List, [], map, Bool, true, false, None}
 use Rattle.std.specs.Result.{is_ok}
 use Rattle.rb_trees.specs.mirror.Declarations.{Interface, Class, Program}
-use Rattle.rb_meaning_types.specs.Faults.{Fault, Checked, ◌>>◌}
+use Rattle.rb_meaning_types.specs.Faults.{Checked, ◌>>◌}
 use Rattle.rb_meaning_types.specs.Places.{main_type}
 use Rattle.rb_meaning_types.specs.Expressions.{Context}
 use Rattle.rb_meaning_types.specs.Bodies.{check_body, check_class_bodies}

@@ -1,12 +1,11 @@
 -- What a statement does to the scope, or the first violation. A statement's own expressions go first,
 -- then its own rules, then its blocks. A scope ends with its block.
-use Rattle.std.specs.Prelude.{ℕ, List, Bool as Truth, true, false, not, ◌||◌, ◌&&◌, Option, Some, None, Result, Ok, Err}
-use Rattle.std.specs.Option.{is_some}
-use Rattle.rb_trees.specs.mirror.Code.{Expr, Stmt, Stmts, Name, Lit, This, Unary, Binary, Field, Call, Index, New, Items, Taken, Val, Var, Assign, Run, Print, Throw, If, While, For, Try, Batch, NoStmts, MoreStmts, expr_at}
+use Rattle.std.specs.Prelude.{ℕ, List, Bool as Truth, true, false, not, Option, Some, None, Ok, Err}
+use Rattle.rb_trees.specs.mirror.Code.{Expr, Stmt, Stmts, Name, Field, Val, Var, Assign, Run, Print, Throw, If, While, For, Try, Batch, NoStmts, MoreStmts, expr_at}
 use Rattle.rb_trees.specs.mirror.Declarations.{Interface}
-use Rattle.rb_meaning_types.specs.Kinds.{Kind, Int, Bool, Text, Unit as UnitKind, Named, ListOf, RowsOf, is_bool, is_text, is_unit}
+use Rattle.rb_meaning_types.specs.Kinds.{Kind, Int, Bool, Text, Unit as UnitKind, Named, ListOf, RowsOf, is_unit}
 use Rattle.rb_meaning_types.specs.Names.{is_interface}
-use Rattle.rb_meaning_types.specs.Faults.{Fault, Checked, Placed, UnknownName, NameTaken, NotAssignable, NotAllowedHere, ◌>>=◌, ◌>>◌, must, wanted, wrong_type, with_place}
+use Rattle.rb_meaning_types.specs.Faults.{Checked, Placed, UnknownName, NameTaken, NotAssignable, NotAllowedHere, ◌>>=◌, ◌>>◌, must, wanted, wrong_type, with_place}
 use Rattle.rb_meaning_types.specs.Scopes.{Scope, Variable, variable_named, is_free, with_variable}
 use Rattle.rb_meaning_types.specs.Expressions.{Context, type_of}
 

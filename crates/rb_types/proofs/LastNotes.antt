@@ -1,9 +1,9 @@
 -- The notes with one more at the end.
-use Rattle.std.proofs.Common.{◌≡◌, ℕ, List, [], ◌∷◌, ◌++◌, Bool, true, false, cond, nat_eq, Option, Some, Ok, Result, refl, ap}
+use Rattle.std.proofs.Common.{◌≡◌, ℕ, List, [], ◌∷◌, ◌++◌, cond, nat_eq, Option, Some, Ok, refl, ap}
 use Rattle.rb_types.specs.declared.kinds.Placed as placed
 use Rattle.rb_meaning_types.specs.Kinds.{Kind, kind_of_form}
 use Rattle.rb_meaning_types.specs.Faults.{Checked}
-use Rattle.rb_meaning_types.specs.Notes.{Note, note_at}
+use Rattle.rb_meaning_types.specs.Notes.{note_at}
 use Rattle.rb_types.specs.Views.{notes_of}
 
 pub note_last : (ns : List placed.Placed) (p : placed.Placed) (at : ℕ) (other : Option (Checked Kind))

@@ -1,5 +1,5 @@
 -- Types of a list of expressions, with those of the expressions before it.
-use Rattle.std.proofs.Common.{◌≡◌, List, [], ◌∷◌, ◌++◌, map, Result, Ok, Err, refl, ap, ◌∙◌}
+use Rattle.std.proofs.Common.{◌≡◌, List, [], ◌∷◌, ◌++◌, Ok, Err, refl, ap}
 use Rattle.rb_meaning_types.specs.Faults.{Fault, Checked, Placed}
 use Rattle.rb_meaning_types.specs.Expressions.{with_first}
 

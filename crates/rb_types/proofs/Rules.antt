@@ -1,7 +1,5 @@
 -- The equations that the checker's functions stand on, in one ruleset.
 use Rattle.rb_trees.proofs.mirror.Types.{types}
-use Rattle.rb_trees.proofs.mirror.Exprs.{exprs}
-use Rattle.rb_trees.proofs.mirror.Stmts.{stmts}
 use Rattle.rb_meaning_types.proofs.TypeForms.{kinds}
 use Rattle.rb_meaning_types.proofs.LiteralForms.{literals}
 use Rattle.rb_meaning_types.proofs.Positions.{positions}

@@ -1,5 +1,5 @@
 -- What the checker's structs stand for in the definitions.
-use Rattle.std.specs.Prelude.{List, map, Option, Ok}
+use Rattle.std.specs.Prelude.{List, map, Ok}
 use Rattle.std.specs.Option.{option_copied}
 use Rattle.rb_trees.specs.mirror.Declarations.{mirror_interface, mirror_class}
 use Rattle.rb_types.specs.declared.kinds.Placed as placed

@@ -1,4 +1,4 @@
-use Rattle.std.proofs.Common.{◌≡◌, ◌++◌, map, drop, take}
+use Rattle.std.proofs.Common.{◌≡◌, ◌++◌, map, drop}
 use Rattle.rb_trees.specs.mirror.Declarations.{mirror_interface, mirror_class}
 use Rattle.rb_meaning_types.specs.Declarations.{check_interfaces}
 use Rattle.rb_types.proofs.declarations.check_interfaces.Given as goal

@@ -1,11 +1,11 @@
-use Rattle.std.proofs.Common.{◌≡◌, ℕ, pos, [], Some, Option, sym, ap, ◌∙◌, subst, lit≤, lit<, refl, rules}
+use Rattle.std.proofs.Common.{◌≡◌, pos, [], Some, sym, ap, ◌∙◌, subst, lit≤, lit<, refl, rules}
 use Rattle.std.specs.List.{IsDistinct}
 use Rattle.rb_trees.specs.declared.values.Value.TheVariants as value
 use Rattle.rb_trees.specs.declared.values.Value.TheOpen.{Value-F}
 use Rattle.rb_trees.specs.declared.values.Value.TheViews.{out-Value, out-roll-Value}
 use Rattle.rb_trees.specs.mirror.Types as type
 use Rattle.rb_trees.specs.mirror.Code.{Lit, NoStmts}
-use Rattle.rb_trees.specs.mirror.Declarations.{Program, mirror_program}
+use Rattle.rb_trees.specs.mirror.Declarations.{Program}
 use Rattle.rb_trees.proofs.mirror.Types.{types}
 use Rattle.rb_trees.proofs.mirror.Exprs.{exprs}
 use Rattle.rb_meaning_types.specs.Lawful.{IsLawful, IsLiteral, IsLiteralForm}

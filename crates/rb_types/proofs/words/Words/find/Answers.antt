@@ -1,4 +1,4 @@
-use Rattle.std.proofs.Common.{◌≡◌, nat_eq, None, Some, sym, subst, rules}
+use Rattle.std.proofs.Common.{◌≡◌, nat_eq, None, Some, sym, subst}
 use Rattle.std.specs.HashMap.{get}
 use Rattle.std.specs.Cmp.Lexicographic.{pointwise}
 use Rattle.rb_types.specs.Guesses.{first_place}

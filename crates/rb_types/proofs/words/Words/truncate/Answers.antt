@@ -1,4 +1,4 @@
-use Rattle.std.proofs.Common.{◌≡◌, nat_eq, sym, subst}
+use Rattle.std.proofs.Common.{nat_eq, sym, subst}
 use Rattle.std.specs.HashMap.{get}
 use Rattle.std.specs.Cmp.Lexicographic.{pointwise}
 use Rattle.rb_types.specs.Guesses.{Guides}
