@@ -1,0 +1,4 @@
+pub mod Steps
+pub mod Groups
+pub mod Exprs
+pub mod Stmts
