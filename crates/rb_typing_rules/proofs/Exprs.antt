@@ -1,15 +1,15 @@
 -- The rules on expressions and the type that is computed agree.
-use Rattle.std.proofs.Common.{◌≡◌, ℕ, List, [], ◌∷◌, map, Bool as Truth, true, false, cond, not, ◌||◌, Option, Some, None, Result, Ok, Err, refl, ap, sym, ◌∙◌, subst}
+use Rattle.std.proofs.Common.{◌≡◌, ℕ, List, [], ◌∷◌, not, ◌||◌, Option, Some, None, Ok, Err, refl, ap, sym, subst}
 use Rattle.rb_trees.specs.mirror.Code.{Expr, Exprs, Lit, Name, This, Unary, Binary, Field, Call, Index, New, Items, Taken, NoExprs, MoreExprs, expr_at}
-use Rattle.rb_trees.specs.mirror.Declarations.{Param, Signature, Interface, Method, Class}
+use Rattle.rb_trees.specs.mirror.Declarations.{Signature, Interface}
 use Rattle.rb_meaning_types.specs.Kinds.{Kind, Int, Bool, Text, Unit as UnitKind, Named, ListOf, RowsOf, kind_of}
-use Rattle.rb_meaning_types.specs.Names.{interface_named, class_named, field_named, signature_named, method_named}
-use Rattle.rb_meaning_types.specs.Faults.{Fault, Checked, Placed, UnknownName, NotAllowedHere, ◌>>=◌, ◌>>◌, known, must, wrong_type, with_place}
-use Rattle.rb_meaning_types.specs.Scopes.{Scope, Variable, variable_named}
+use Rattle.rb_meaning_types.specs.Names.{class_named, field_named, signature_named, method_named}
+use Rattle.rb_meaning_types.specs.Faults.{Checked, Placed, UnknownName, NotAllowedHere, ◌>>◌, known, must, wrong_type}
+use Rattle.rb_meaning_types.specs.Scopes.{Scope, variable_named}
 use Rattle.rb_meaning_types.specs.Literals.{literal_kind}
 use Rattle.rb_meaning_types.specs.Places.{item_type}
-use Rattle.rb_meaning_types.specs.Members.{arguments_fit, receiver_class, field_kind, signature_kind, interface_call, class_call, receiver_interface, call_on, call_kind, new_kind}
-use Rattle.rb_meaning_types.specs.Expressions.{Context, type_of, types_of, name_kind, with_first, all_wanted, items_kind}
+use Rattle.rb_meaning_types.specs.Members.{arguments_fit, receiver_class, signature_kind, class_call, receiver_interface, call_on}
+use Rattle.rb_meaning_types.specs.Expressions.{Context, type_of, types_of, with_first, all_wanted}
 use Rattle.rb_typing_rules.specs.Rules.{HasType, HaveTypes, kinds_of, AreAll, literal, variable, this, unary, binary, field, interface_call as on_interface, class_call as on_class, index, new, items, none, more}
 use Rattle.rb_typing_rules.proofs.Steps.{bind_ok, then_ok, known_ok, must_ok, placed_ok, same_refl}
 use Rattle.rb_typing_rules.proofs.Groups.{kinds_placed, this_ok, unary_ok, binary_ok, index_ok, fit_ok, fit_so, all_ok, all_so, receiver_ok}

@@ -1,18 +1,17 @@
 -- The groups of rules on expressions: what they give, and when.
-use Rattle.std.proofs.Common.{◌≡◌, ℕ, List, [], ◌∷◌, map, length, nat_eq, Bool as Truth, true, false, cond, not, ◌||◌, Option, Some, None, Result, Ok, Err, refl, ap, sym, ◌∙◌, arith}
+use Rattle.std.proofs.Common.{◌≡◌, ℕ, List, [], ◌∷◌, map, length, nat_eq, true, Option, Some, None, Ok, refl, ap, sym, ◌∙◌, arith}
 use Rattle.std.proofs.lemmas.Bool.Decides.{nat_tests}
 use Rattle.rb_trees.specs.declared.code.UnOp.{UnOp}
 use Rattle.rb_trees.specs.declared.code.BinOp.{BinOp}
-use Rattle.rb_trees.specs.mirror.Types.{TypeTree}
-use Rattle.rb_trees.specs.mirror.Declarations.{Param, Signature, Interface, Method, Class}
-use Rattle.rb_meaning_types.specs.Kinds.{Kind, Int, Bool, Text, Unit as UnitKind, Named, ListOf, RowsOf, same_kind, kind_of}
-use Rattle.rb_meaning_types.specs.Names.{interface_named, class_named, field_named, signature_named, method_named}
-use Rattle.rb_meaning_types.specs.Faults.{Fault, Checked, Placed, WrongCount, UnknownName, NotAllowedHere, ◌>>=◌, ◌>>◌, known, must, wanted, wrong_type}
+use Rattle.rb_trees.specs.mirror.Declarations.{Param, Class}
+use Rattle.rb_meaning_types.specs.Kinds.{Kind, Int, Bool, Text, Unit as UnitKind, Named, ListOf, RowsOf, kind_of}
+use Rattle.rb_meaning_types.specs.Names.{class_named}
+use Rattle.rb_meaning_types.specs.Faults.{Placed, WrongCount, ◌>>◌, must, wanted, wrong_type}
 use Rattle.rb_meaning_types.specs.Operators.{takes_operand, unary_result, takes_left, binary_result, unary_kind, binary_kind, item_of, index_kind}
-use Rattle.rb_meaning_types.specs.Members.{arguments_wanted, arguments_fit, receiver_class, field_kind, signature_kind, interface_call, class_call, receiver_interface, call_on, call_kind}
+use Rattle.rb_meaning_types.specs.Members.{arguments_wanted, arguments_fit, receiver_class}
 use Rattle.rb_meaning_types.specs.Expressions.{this_kind, all_wanted}
 use Rattle.rb_typing_rules.specs.Rules.{kinds_of, AreAll}
-use Rattle.rb_typing_rules.proofs.Steps.{bind_ok, then_ok, known_ok, must_ok, wanted_ok, wanted_so, same_refl}
+use Rattle.rb_typing_rules.proofs.Steps.{bind_ok, then_ok, known_ok, must_ok, wanted_ok, wanted_so}
 
 abbrev pub kinds_placed : List Placed → List Kind
 kinds_placed ps = map (λ p. p.kind) ps

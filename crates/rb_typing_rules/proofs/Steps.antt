@@ -1,5 +1,5 @@
 -- What it tells that a check gives a value, step by step; and that the test of types decides.
-use Rattle.std.proofs.Common.{◌≡◌, ℕ, List, Bool as Truth, true, false, cond, Option, Some, None, Result, Ok, Err, refl, ap, ◌∙◌}
+use Rattle.std.proofs.Common.{◌≡◌, ℕ, Bool as Truth, true, false, Option, Some, None, Ok, Err, refl, ap}
 use Rattle.std.proofs.lemmas.Slice.Eq.{bytes_eq-Decides}
 use Rattle.rb_meaning_types.specs.Kinds.{Kind, Int, Bool, Text, Unit as UnitKind, Named, ListOf, RowsOf, same_kind}
 use Rattle.rb_meaning_types.specs.Faults.{Fault, Checked, Placed, ◌>>=◌, ◌>>◌, known, must, with_place, wanted, wrong_type}

@@ -1,18 +1,18 @@
 -- The rules on statements and the scope that is computed agree.
-use Rattle.std.proofs.Common.{◌≡◌, ℕ, List, [], ◌∷◌, map, Bool as Truth, true, false, cond, not, Option, Some, None, Result, Ok, Err, refl, ap, sym, ◌∙◌, subst}
+use Rattle.std.proofs.Common.{◌≡◌, ℕ, List, Bool as Truth, true, false, not, Ok, Err, refl, sym, subst}
 use Rattle.rb_trees.specs.mirror.Code.{Expr, Stmt, Stmts, Val, Var, Assign, Run, Print, Throw, If, While, For, Try, Batch, NoStmts, MoreStmts, expr_at}
 use Rattle.rb_trees.specs.mirror.Declarations.{Interface}
 use Rattle.rb_meaning_types.specs.Kinds.{Kind, Int, Bool, Text, Unit as UnitKind, Named, ListOf, RowsOf, is_unit}
 use Rattle.rb_meaning_types.specs.Names.{is_interface}
-use Rattle.rb_meaning_types.specs.Faults.{Fault, Checked, Placed, UnknownName, NameTaken, NotAssignable, NotAllowedHere, ◌>>=◌, ◌>>◌, must, wanted, wrong_type, with_place}
+use Rattle.rb_meaning_types.specs.Faults.{Fault, Checked, Placed, UnknownName, NameTaken, NotAssignable, NotAllowedHere, ◌>>=◌, ◌>>◌, must, wanted, wrong_type}
 use Rattle.rb_meaning_types.specs.Scopes.{Scope, is_free, with_variable}
 use Rattle.rb_meaning_types.specs.Expressions.{Context, type_of}
-use Rattle.rb_meaning_types.specs.Statements.{placed, condition, declare, is_assignable, assign, is_printable, print, turn_kind, loop_scope, catch_scope, batch_scope, closed, check_stmt, check_stmts}
+use Rattle.rb_meaning_types.specs.Statements.{condition, declare, is_assignable, assign, is_printable, print, loop_scope, catch_scope, batch_scope, closed, check_stmt, check_stmts}
 use Rattle.rb_typing_rules.specs.Rules.{HasType, Leads, AllLead, val, var, assign as assigned, run, print as printed, throw, branch, loop, items_loop, rows_loop, guarded, batch, end, then}
-use Rattle.rb_typing_rules.proofs.Steps.{bind_ok, then_ok, must_ok, placed_ok, same_refl, wanted_ok, wanted_so}
+use Rattle.rb_typing_rules.proofs.Steps.{bind_ok, then_ok, must_ok, placed_ok, same_refl, wanted_ok}
 use Rattle.rb_typing_rules.proofs.Exprs.{placed_at, typed_has, has_typed}
 
-not_so : (b : Truth) → not b ≡ true → b ≡ false
+pub not_so : (b : Truth) → not b ≡ true → b ≡ false
 not_so true h = sym h
 not_so false h = refl
 

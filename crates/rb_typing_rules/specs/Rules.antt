@@ -1,5 +1,5 @@
 -- The rules of typing by cases. Positions count for nothing: a rule holds at each.
-use Rattle.std.specs.Prelude.{◌≡◌, ℕ, List, [], ◌∷◌, map, Bool as Truth, true, false, not, ◌||◌, Option, Some, None, Result, Ok}
+use Rattle.std.specs.Prelude.{◌≡◌, ℕ, List, [], ◌∷◌, map, true, false, not, ◌||◌, Some, None, Ok}
 use Rattle.rb_trees.specs.declared.values.Value.{Value}
 use Rattle.rb_trees.specs.declared.code.UnOp.{UnOp}
 use Rattle.rb_trees.specs.declared.code.BinOp.{BinOp}
