@@ -66,8 +66,9 @@ pub fn copy_type(alloc: Global, kind: &TypeTree) -> Result<TypeTree, Memory>
     Ok(TypeTree { at: kind.at, form })
 }
 
+/// A copy of a form of a type: the same form.
 #[cycle(type_copies)]
-fn copy_type_form(alloc: Global, form: &TypeForm) -> Result<TypeForm, Memory>
+pub fn copy_type_form(alloc: Global, form: &TypeForm) -> Result<TypeForm, Memory>
     ensures { IfOk result (λ copy. copy ≡ form.now) }
 {
     match form {

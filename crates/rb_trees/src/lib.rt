@@ -25,8 +25,8 @@ pub use boxes::Boxed;
 pub use code::{BinOp, Expr, ExprForm, Stmt, StmtForm, TypeForm, TypeTree, UnOp};
 pub use copies::{
     copy_body, copy_class, copy_classes, copy_expr, copy_exprs, copy_fault, copy_interface,
-    copy_method, copy_param, copy_signature, copy_stmt, copy_stmts, copy_type, copy_value,
-    copy_values, copy_word,
+    copy_method, copy_param, copy_signature, copy_stmt, copy_stmts, copy_type, copy_type_form,
+    copy_value, copy_values, copy_word,
 };
 pub use declarations::{Body, Class, Interface, Method, Param, Program, Signature};
 pub use forests::{Entry, Node, NodeFault};

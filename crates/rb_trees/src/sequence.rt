@@ -4,6 +4,7 @@ ghost use Rattle.std.specs.Cmp.Lexicographic.{pointwise, lists_per, lists_equiv}
 
 use crate::want::Memory;
 use std::alloc::Global;
+use std::hash::{Hash, Hasher};
 use std::marker::Model;
 
 /// A list over a vector. Contracts see it as the list of its items.
@@ -121,4 +122,17 @@ impl<T: PartialEq> PartialEq for Seq<T> {
 
 impl<T: Eq> Eq for Seq<T> {
     ghost laws = { lists_equiv T.Eq.laws };
+}
+
+impl<T: Hash> Hash for Seq<T> {
+    ghost use Rattle.std.specs.Hash as fed;
+    ghost use Rattle.std.specs.Hash.{items_Alike};
+
+    ghost hash_input = { λ s. fed.slice T.hash_input s };
+
+    ghost respects_eq = { (items_Alike (record { fed = T.respects_eq })).fed };
+
+    fn hash<H: Hasher>(&self, state: &mut H) {
+        self.as_slice().hash(state);
+    }
 }

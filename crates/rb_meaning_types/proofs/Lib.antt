@@ -1,0 +1,4 @@
+pub mod TypeForms
+pub mod LiteralForms
+pub mod Positions
+pub mod Noted

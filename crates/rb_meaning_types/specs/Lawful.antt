@@ -1,0 +1,234 @@
+-- Lawful programs and services, as a parser gives them: what checking may rely on, whether the
+-- program is typed or not.
+use Rattle.std.specs.Prelude.{ℕ, ◌<◌, ◌≤◌, ◌^◌, max, suc, List, [], ◌∷◌, ◌++◌, length, Bool, true, false, ◌||◌, ◌&&◌, nat_le, nat_eq, IsTrue, Option, Some, None}
+use Rattle.std.specs.List.{All, IsDistinct}
+use Rattle.std.specs.Str.{IsUtf8}
+use Rattle.rb_trees.specs.declared.values.Value.{Value}
+use Rattle.rb_trees.specs.declared.values.Value.TheOpen.{Value-F}
+use Rattle.rb_trees.specs.declared.values.Value.TheViews.{out-Value}
+use Rattle.rb_trees.specs.mirror.Types as type
+use Rattle.rb_trees.specs.mirror.Types.{TypeTree}
+use Rattle.rb_trees.specs.mirror.Code.{Expr, Exprs, Lit, Name, This, Unary, Binary, Field, Call, Index, New, Items, Taken, NoExprs, MoreExprs, Stmt, Stmts, Val, Var, Assign, Run, Print, Throw, If, While, For, Try, Batch, NoStmts, MoreStmts}
+use Rattle.rb_trees.specs.mirror.Declarations.{Param, Signature, Interface, Body, Method, Class, Program}
+
+-- A name: a letter or `_`, then letters, digits and `_`.
+abbrev pub is_letter : ℕ → Bool
+is_letter c = (nat_le 65 c && nat_le c 90) || (nat_le 97 c && nat_le c 122) || nat_eq c 95
+
+abbrev pub is_name_rest : List ℕ → Bool
+is_name_rest [] = true
+is_name_rest (c ∷ cs) = (is_letter c || (nat_le 48 c && nat_le c 57)) && is_name_rest cs
+
+abbrev pub is_name : List ℕ → Bool
+is_name [] = false
+is_name (c ∷ cs) = is_letter c && is_name_rest cs
+
+abbrev pub IsName : List ℕ → Type 0
+IsName name = IsTrue (is_name name)
+
+-- A list that a position can count.
+abbrev pub IsShort : {A : Type 0} → List A → Type 0
+IsShort xs = length xs < 2 ^ 32
+
+-- A literal is an Int, a Bool, or a Text of UTF-8 with at most 4,096 bytes.
+abbrev pub IsLiteralForm : Value-F Value → Type 0
+IsLiteralForm (Value-F.Int number) = Unit {0}
+IsLiteralForm (Value-F.Bool truth) = Unit {0}
+IsLiteralForm (Value-F.Text text) = IsUtf8 text × (length text ≤ 4096)
+IsLiteralForm _ = ⊥
+
+abbrev pub IsLiteral : Value → Type 0
+IsLiteral value = IsLiteralForm (out-Value value)
+
+abbrev pub IsLawfulType : TypeTree → Type 0
+IsLawfulType (type.Int at) = Unit {0}
+IsLawfulType (type.Bool at) = Unit {0}
+IsLawfulType (type.Text at) = Unit {0}
+IsLawfulType (type.Unit at) = Unit {0}
+IsLawfulType (type.Named at name) = IsName name
+IsLawfulType (type.ListOf at item) = IsLawfulType item
+IsLawfulType (type.RowsOf at row) = IsLawfulType row
+
+abbrev pub expr_count : Exprs → ℕ
+expr_count NoExprs = 0
+expr_count (MoreExprs e es) = suc (expr_count es)
+
+-- An expression: its names have a name's form, its literals are such, its lists are short, and no value
+-- of a script is taken.
+abbrev mutual
+  pub IsLawfulExpr : Expr → Type 0
+  IsLawfulExpr (Lit at value) = IsLiteral value
+  IsLawfulExpr (Name at name) = IsName name
+  IsLawfulExpr (This at) = Unit {0}
+  IsLawfulExpr (Unary at op a) = IsLawfulExpr a
+  IsLawfulExpr (Binary at op a b) = IsLawfulExpr a × IsLawfulExpr b
+  IsLawfulExpr (Field at a name) = IsLawfulExpr a × IsName name
+  IsLawfulExpr (Call at a method args) = IsLawfulExpr a × IsName method × AreLawfulExprs args × (expr_count args < 2 ^ 32)
+  IsLawfulExpr (Index at a b) = IsLawfulExpr a × IsLawfulExpr b
+  IsLawfulExpr (New at class args) = IsName class × AreLawfulExprs args × (expr_count args < 2 ^ 32)
+  IsLawfulExpr (Items at item items) = IsLawfulType item × AreLawfulExprs items × (expr_count items < 2 ^ 32)
+  IsLawfulExpr (Taken at step) = ⊥
+
+  pub AreLawfulExprs : Exprs → Type 0
+  AreLawfulExprs NoExprs = Unit {0}
+  AreLawfulExprs (MoreExprs e es) = IsLawfulExpr e × AreLawfulExprs es
+
+-- How many expressions stand within each other.
+abbrev mutual
+  pub expr_depth : Expr → ℕ
+  expr_depth (Lit at value) = 1
+  expr_depth (Name at name) = 1
+  expr_depth (This at) = 1
+  expr_depth (Unary at op a) = suc (expr_depth a)
+  expr_depth (Binary at op a b) = suc (max (expr_depth a) (expr_depth b))
+  expr_depth (Field at a name) = suc (expr_depth a)
+  expr_depth (Call at a method args) = suc (max (expr_depth a) (exprs_depth args))
+  expr_depth (Index at a b) = suc (max (expr_depth a) (expr_depth b))
+  expr_depth (New at class args) = suc (exprs_depth args)
+  expr_depth (Items at item items) = suc (exprs_depth items)
+  expr_depth (Taken at step) = 1
+
+  pub exprs_depth : Exprs → ℕ
+  exprs_depth NoExprs = 0
+  exprs_depth (MoreExprs e es) = max (expr_depth e) (exprs_depth es)
+
+-- An outermost expression: at most 201 expressions stand within each other.
+abbrev pub IsOutermost : Expr → Type 0
+IsOutermost e = IsLawfulExpr e × (expr_depth e ≤ 201)
+
+abbrev pub stmt_count : Stmts → ℕ
+stmt_count NoStmts = 0
+stmt_count (MoreStmts s ss) = suc (stmt_count ss)
+
+-- A statement, its expressions and its blocks.
+abbrev mutual
+  pub IsLawfulStmt : Stmt → Type 0
+  IsLawfulStmt (Val at name e) = IsName name × IsOutermost e
+  IsLawfulStmt (Var at name e) = IsName name × IsOutermost e
+  IsLawfulStmt (Assign at a b) = IsOutermost a × IsOutermost b
+  IsLawfulStmt (Run at e) = IsOutermost e
+  IsLawfulStmt (Print at e) = IsOutermost e
+  IsLawfulStmt (Throw at e) = IsOutermost e
+  IsLawfulStmt (If at c a b) = IsOutermost c × IsLawfulBlock a × IsLawfulBlock b
+  IsLawfulStmt (While at c a) = IsOutermost c × IsLawfulBlock a
+  IsLawfulStmt (For at name e a) = IsName name × IsOutermost e × IsLawfulBlock a
+  IsLawfulStmt (Try at a name b) = IsLawfulBlock a × IsName name × IsLawfulBlock b
+  IsLawfulStmt (Batch at interface root a) = IsName interface × IsName root × IsLawfulBlock a
+
+  pub AreLawfulStmts : Stmts → Type 0
+  AreLawfulStmts NoStmts = Unit {0}
+  AreLawfulStmts (MoreStmts s ss) = IsLawfulStmt s × AreLawfulStmts ss
+
+  pub IsLawfulBlock : Stmts → Type 0
+  IsLawfulBlock NoStmts = Unit {0}
+  IsLawfulBlock (MoreStmts s ss) = IsLawfulStmt s × AreLawfulStmts ss × (suc (stmt_count ss) < 2 ^ 32)
+
+-- How many blocks stand within each other.
+abbrev mutual
+  pub stmt_depth : Stmt → ℕ
+  stmt_depth (Val at name e) = 0
+  stmt_depth (Var at name e) = 0
+  stmt_depth (Assign at a b) = 0
+  stmt_depth (Run at e) = 0
+  stmt_depth (Print at e) = 0
+  stmt_depth (Throw at e) = 0
+  stmt_depth (If at c a b) = suc (max (stmts_depth a) (stmts_depth b))
+  stmt_depth (While at c a) = suc (stmts_depth a)
+  stmt_depth (For at name e a) = suc (stmts_depth a)
+  stmt_depth (Try at a name b) = suc (max (stmts_depth a) (stmts_depth b))
+  stmt_depth (Batch at interface root a) = suc (stmts_depth a)
+
+  pub stmts_depth : Stmts → ℕ
+  stmts_depth NoStmts = 0
+  stmts_depth (MoreStmts s ss) = max (stmt_depth s) (stmts_depth ss)
+
+abbrev pub IsLawfulReturn : Option Expr → Type 0
+IsLawfulReturn (Some e) = IsOutermost e
+IsLawfulReturn None = Unit {0}
+
+-- A body is a block: at most 64 blocks stand within each other.
+abbrev pub IsLawfulBody : Body → Type 0
+IsLawfulBody body = IsLawfulBlock body.statements × IsLawfulReturn body.result × (suc (stmts_depth body.statements) ≤ 64)
+
+abbrev pub IsLawfulParam : Param → Type 0
+IsLawfulParam p = IsName p.name × IsLawfulType p.kind
+
+abbrev pub IsLawfulSignature : Signature → Type 0
+IsLawfulSignature s = IsName s.name × All IsLawfulParam s.params × IsShort s.params × IsLawfulType s.result
+
+abbrev pub IsLawfulMethod : Method → Type 0
+IsLawfulMethod m = IsLawfulSignature m.signature × IsLawfulBody m.body
+
+abbrev pub IsLawfulInterface : Interface → Type 0
+IsLawfulInterface i = IsName i.name × All IsLawfulSignature i.methods × IsShort i.methods
+
+abbrev pub IsLawfulClass : Class → Type 0
+IsLawfulClass c = IsName c.name × All IsLawfulParam c.fields × IsShort c.fields × All IsLawfulMethod c.methods × IsShort c.methods
+
+-- The positions of expressions and statements.
+abbrev mutual
+  pub expr_positions : Expr → List ℕ
+  expr_positions (Lit at value) = at ∷ []
+  expr_positions (Name at name) = at ∷ []
+  expr_positions (This at) = at ∷ []
+  expr_positions (Unary at op a) = at ∷ expr_positions a
+  expr_positions (Binary at op a b) = at ∷ (expr_positions a ++ expr_positions b)
+  expr_positions (Field at a name) = at ∷ expr_positions a
+  expr_positions (Call at a method args) = at ∷ (expr_positions a ++ exprs_positions args)
+  expr_positions (Index at a b) = at ∷ (expr_positions a ++ expr_positions b)
+  expr_positions (New at class args) = at ∷ exprs_positions args
+  expr_positions (Items at item items) = at ∷ exprs_positions items
+  expr_positions (Taken at step) = at ∷ []
+
+  pub exprs_positions : Exprs → List ℕ
+  exprs_positions NoExprs = []
+  exprs_positions (MoreExprs e es) = expr_positions e ++ exprs_positions es
+
+abbrev mutual
+  pub stmt_positions : Stmt → List ℕ
+  stmt_positions (Val at name e) = at ∷ expr_positions e
+  stmt_positions (Var at name e) = at ∷ expr_positions e
+  stmt_positions (Assign at a b) = at ∷ (expr_positions a ++ expr_positions b)
+  stmt_positions (Run at e) = at ∷ expr_positions e
+  stmt_positions (Print at e) = at ∷ expr_positions e
+  stmt_positions (Throw at e) = at ∷ expr_positions e
+  stmt_positions (If at c a b) = at ∷ (expr_positions c ++ stmts_positions a ++ stmts_positions b)
+  stmt_positions (While at c a) = at ∷ (expr_positions c ++ stmts_positions a)
+  stmt_positions (For at name e a) = at ∷ (expr_positions e ++ stmts_positions a)
+  stmt_positions (Try at a name b) = at ∷ (stmts_positions a ++ stmts_positions b)
+  stmt_positions (Batch at interface root a) = at ∷ stmts_positions a
+
+  pub stmts_positions : Stmts → List ℕ
+  stmts_positions NoStmts = []
+  stmts_positions (MoreStmts s ss) = stmt_positions s ++ stmts_positions ss
+
+abbrev pub return_positions : Option Expr → List ℕ
+return_positions (Some e) = expr_positions e
+return_positions None = []
+
+abbrev pub body_positions : Body → List ℕ
+body_positions body = stmts_positions body.statements ++ return_positions body.result
+
+abbrev pub methods_positions : List Method → List ℕ
+methods_positions [] = []
+methods_positions (m ∷ ms) = body_positions m.body ++ methods_positions ms
+
+abbrev pub classes_positions : List Class → List ℕ
+classes_positions [] = []
+classes_positions (c ∷ cs) = methods_positions c.methods ++ classes_positions cs
+
+-- A lawful program.
+pub record IsLawful (p : Program) : Type 0 where
+  pub interfaces : All IsLawfulInterface p.interfaces
+  pub interface_count : IsShort p.interfaces
+  pub classes : All IsLawfulClass p.classes
+  pub class_count : IsShort p.classes
+  pub result : IsLawfulType p.result
+  pub body : IsLawfulBody p.body
+  pub positions : IsDistinct nat_eq (classes_positions p.classes ++ body_positions p.body)
+
+-- The lawful classes of a service.
+pub record IsLawfulService (classes : List Class) : Type 0 where
+  pub each : All IsLawfulClass classes
+  pub class_count : IsShort classes
+  pub positions : IsDistinct nat_eq (classes_positions classes)

@@ -1,0 +1,7 @@
+pub mod Fronts
+pub mod LastNotes
+pub mod Guided
+pub mod Rows
+pub mod Rules
+pub mod ExprRules
+pub mod StmtRules

@@ -1,0 +1,37 @@
+-- What the checker's structs stand for in the definitions.
+use Rattle.std.specs.Prelude.{List, map, Ok}
+use Rattle.std.specs.Option.{option_copied}
+use Rattle.rb_trees.specs.mirror.Declarations.{mirror_interface, mirror_class}
+use Rattle.rb_types.specs.declared.kinds.Placed as placed
+use Rattle.rb_types.specs.declared.scope.Variable as variable
+use Rattle.rb_types.specs.declared.context.Context as context
+use Rattle.rb_meaning_types.specs.Kinds.{kind_of_form}
+use Rattle.rb_meaning_types.specs.Faults.{Placed}
+use Rattle.rb_meaning_types.specs.Scopes.{Variable, Scope}
+use Rattle.rb_meaning_types.specs.Expressions.{Context}
+use Rattle.rb_meaning_types.specs.Notes.{Note}
+
+abbrev pub placed_of : placed.Placed → Placed
+placed_of p = record { at = p.at; kind = kind_of_form p.kind }
+
+abbrev pub variable_of : variable.Variable → Variable
+variable_of v = record { name = v.name; kind = kind_of_form v.kind; fixed = v.fixed }
+
+abbrev pub scope_of : List variable.Variable → Scope
+scope_of variables = map variable_of variables
+
+abbrev pub context_of : context.Context → Context
+context_of x = record {
+  interfaces = map mirror_interface x.interfaces.now;
+  classes = map mirror_class x.classes.now;
+  this = option_copied x.this;
+  remote = x.remote;
+  service = x.service;
+}
+
+-- a placed type as what the judgement gives to its expression
+abbrev pub note_of : placed.Placed → Note
+note_of p = record { at = p.at; gives = Ok (kind_of_form p.kind) }
+
+abbrev pub notes_of : List placed.Placed → List Note
+notes_of notes = map note_of notes

@@ -1,0 +1,6 @@
+pub mod Steps
+pub mod Groups
+pub mod Exprs
+pub mod Stmts
+pub mod Decls
+pub mod Wholes

@@ -1,0 +1,99 @@
+-- The rules on bodies, programs and services agree with what is computed.
+use Rattle.std.proofs.Common.{◌≡◌, ℕ, List, [], ◌∷◌, Bool as Truth, true, false, not, ◌&&◌, Option, Some, None, Ok, refl, ap, sym, ◌∙◌, subst}
+use Rattle.rb_trees.specs.mirror.Types.{TypeTree, type_at}
+use Rattle.rb_trees.specs.mirror.Code.{Expr, expr_at}
+use Rattle.rb_trees.specs.mirror.Declarations.{Interface, Body, Method, Class, Program}
+use Rattle.rb_meaning_types.specs.Kinds.{Kind, kind_of, is_unit, same_kind}
+use Rattle.rb_meaning_types.specs.Faults.{Placed, TypeNotHere, MissingReturn, ◌>>◌, must, wrong_type}
+use Rattle.rb_meaning_types.specs.Scopes.{Scope, parameters}
+use Rattle.rb_meaning_types.specs.Places.{declared_type, is_main_result}
+use Rattle.rb_meaning_types.specs.Expressions.{Context, type_of}
+use Rattle.rb_meaning_types.specs.Statements.{check_stmts}
+use Rattle.rb_meaning_types.specs.Bodies.{return_fits, check_return, check_body, method_context, check_method_body, check_method_bodies, check_class_bodies}
+use Rattle.rb_meaning_types.specs.Programs.{main_context, check_declarations, check_main, check_program, check_service}
+use Rattle.rb_typing_rules.specs.Rules.{HasType}
+use Rattle.rb_typing_rules.specs.Programs.{Returns, IsBody, AreMethodBodies, AreClassBodies, IsTyped, IsTypedService}
+use Rattle.rb_typing_rules.proofs.Steps.{bind_ok, then_ok, must_ok, placed_ok, same_sound, same_refl}
+use Rattle.rb_typing_rules.proofs.Exprs.{placed_at, typed_has, has_typed}
+use Rattle.rb_typing_rules.proofs.Stmts.{all_lead, lead_all, not_so}
+use Rattle.rb_typing_rules.proofs.Decls.{known_so, so_known, three_so, so_three, declared_so, so_declared}
+
+both_so : (a b : Truth) → (a && b) ≡ true → (a ≡ true) × (b ≡ true)
+both_so true true h = (refl, refl)
+both_so true false h = cc
+both_so false true h = cc
+both_so false false h = cc
+
+fits_so : (kind : Kind) (p : Placed) → is_unit kind ≡ false → kind ≡ p.kind → return_fits kind p ≡ Ok tt
+fits_so kind p some same = rw some (rw (← same) (rw (same_refl kind) refl))
+
+return_so : (x : Context) (scope : Scope) (at : ℕ) (kind : Kind) (r : Option Expr) → check_return x scope at kind r ≡ Ok tt → Returns x scope kind r
+return_so x scope at kind (Some e) h =
+    let s = placed_ok (expr_at e) (type_of x scope e) (λ p. return_fits kind p) tt h in
+    let t = both_so (not (is_unit kind)) (same_kind kind s.0) (must_ok (not (is_unit kind) && same_kind kind s.0) (wrong_type (placed_at (expr_at e) s.0)) s.2) in
+    (not_so (is_unit kind) t.0, subst (HasType x scope e) (sym (same_sound kind s.0 t.1)) (typed_has x scope e s.0 s.1))
+return_so x scope at kind None h = must_ok (is_unit kind) (MissingReturn at) h
+
+so_return : (x : Context) (scope : Scope) (at : ℕ) (kind : Kind) (r : Option Expr) → Returns x scope kind r → check_return x scope at kind r ≡ Ok tt
+so_return x scope at kind (Some e) h = rw (has_typed x scope e kind h.1) (fits_so kind (placed_at (expr_at e) kind) h.0 refl)
+so_return x scope at kind None h = rw h refl
+
+body_so : (x : Context) (scope : Scope) (at : ℕ) (result : TypeTree) (body : Body) → check_body x scope at result body ≡ Ok tt → IsBody x scope (kind_of result) body
+body_so x scope at result body h =
+    let s = bind_ok (check_stmts x scope body.statements) (λ after. check_return x after at (kind_of result) body.result) tt h in
+    record { after = s.0; statements = all_lead x scope body.statements s.0 s.1; result = return_so x s.0 at (kind_of result) body.result s.2 }
+
+so_body : (x : Context) (scope : Scope) (at : ℕ) (result : TypeTree) (body : Body) → IsBody x scope (kind_of result) body → check_body x scope at result body ≡ Ok tt
+so_body x scope at result body b = rw (lead_all x scope body.statements b.after b.statements) (so_return x b.after at (kind_of result) body.result b.result)
+
+methods_so : (is : List Interface) (cs : List Class) (service : Truth) (class : List ℕ) (ms : List Method) → check_method_bodies is cs service class ms ≡ Ok tt → AreMethodBodies is cs service class ms
+methods_so is cs service class [] h = tt
+methods_so is cs service class (m ∷ ms) h =
+    let s = then_ok (check_method_body is cs service class m) (check_method_bodies is cs service class ms) tt h in
+    (body_so (method_context is cs service class m.remote) (parameters m.signature.params) m.signature.at m.signature.result m.body s.0, methods_so is cs service class ms s.1)
+
+so_methods : (is : List Interface) (cs : List Class) (service : Truth) (class : List ℕ) (ms : List Method) → AreMethodBodies is cs service class ms → check_method_bodies is cs service class ms ≡ Ok tt
+so_methods is cs service class [] h = refl
+so_methods is cs service class (m ∷ ms) h =
+    ap (λ r. r >> check_method_bodies is cs service class ms)
+    (so_body (method_context is cs service class m.remote) (parameters m.signature.params) m.signature.at m.signature.result m.body h.0)
+    ∙ so_methods is cs service class ms h.1
+
+bodies_so : (is : List Interface) (cs : List Class) (service : Truth) (ds : List Class) → check_class_bodies is cs service ds ≡ Ok tt → AreClassBodies is cs service ds
+bodies_so is cs service [] h = tt
+bodies_so is cs service (c ∷ ds) h =
+    let s = then_ok (check_method_bodies is cs service c.name c.methods) (check_class_bodies is cs service ds) tt h in
+    (methods_so is cs service c.name c.methods s.0, bodies_so is cs service ds s.1)
+
+so_bodies : (is : List Interface) (cs : List Class) (service : Truth) (ds : List Class) → AreClassBodies is cs service ds → check_class_bodies is cs service ds ≡ Ok tt
+so_bodies is cs service [] h = refl
+so_bodies is cs service (c ∷ ds) h =
+    ap (λ r. r >> check_class_bodies is cs service ds) (so_methods is cs service c.name c.methods h.0) ∙ so_bodies is cs service ds h.1
+
+pub program_so : (p : Program) → check_program p ≡ Ok tt → IsTyped p
+program_so p h =
+    let s = three_so (check_declarations p.interfaces p.classes false) (check_class_bodies p.interfaces p.classes false p.classes) (check_main p) h in
+    let t = three_so (declared_type p.interfaces p.classes p.result) (must (is_main_result p.at p.result) (TypeNotHere (type_at p.result)))
+    (check_body (main_context p.interfaces p.classes) [] p.at p.result p.body) s.2 in
+    record {
+      declared = declared_so p.interfaces p.classes false s.0;
+      bodies = bodies_so p.interfaces p.classes false p.classes s.1;
+      result_known = known_so p.interfaces p.classes p.result t.0;
+      result = must_ok (is_main_result p.at p.result) (TypeNotHere (type_at p.result)) t.1;
+      body = body_so (main_context p.interfaces p.classes) [] p.at p.result p.body t.2;
+    }
+
+pub so_program : (p : Program) → IsTyped p → check_program p ≡ Ok tt
+so_program p h =
+    so_three (check_declarations p.interfaces p.classes false) (check_class_bodies p.interfaces p.classes false p.classes) (check_main p)
+    (so_declared p.interfaces p.classes false h.declared) (so_bodies p.interfaces p.classes false p.classes h.bodies)
+    (so_three (declared_type p.interfaces p.classes p.result) (must (is_main_result p.at p.result) (TypeNotHere (type_at p.result)))
+    (check_body (main_context p.interfaces p.classes) [] p.at p.result p.body)
+    (so_known p.interfaces p.classes p.result h.result_known) (rw h.result refl) (so_body (main_context p.interfaces p.classes) [] p.at p.result p.body h.body))
+
+pub service_so : (cs : List Class) → check_service cs ≡ Ok tt → IsTypedService cs
+service_so cs h = let s = then_ok (check_declarations [] cs true) (check_class_bodies [] cs true cs) tt h in
+    record { declared = declared_so [] cs true s.0; bodies = bodies_so [] cs true cs s.1 }
+
+pub so_service : (cs : List Class) → IsTypedService cs → check_service cs ≡ Ok tt
+so_service cs h = ap (λ r. r >> check_class_bodies [] cs true cs) (so_declared [] cs true h.declared) ∙ so_bodies [] cs true cs h.bodies

@@ -1,0 +1,27 @@
+-- The rules by cases agree with the judgement that computes, both ways.
+use Rattle.std.specs.Prelude.{◌≡◌, ◌↔◌, List, Ok}
+use Rattle.rb_trees.specs.mirror.Code.{Expr, Stmts}
+use Rattle.rb_trees.specs.mirror.Declarations.{Class, Program}
+use Rattle.rb_meaning_types.specs.Kinds.{Kind}
+use Rattle.rb_meaning_types.specs.Scopes.{Scope}
+use Rattle.rb_meaning_types.specs.Expressions.{Context, type_of}
+use Rattle.rb_meaning_types.specs.Statements.{check_stmts}
+use Rattle.rb_meaning_types.specs.Programs.{check_program, check_service}
+use Rattle.rb_typing_rules.specs.Rules.{HasType, AllLead}
+use Rattle.rb_typing_rules.specs.Programs.{IsTyped, IsTypedService}
+
+-- the type of an expression is computed exactly where the rules give it
+abbrev pub ExprsAgree : Type 0
+ExprsAgree = (x : Context) (scope : Scope) (e : Expr) (kind : Kind) → (type_of x scope e ≡ Ok kind) ↔ HasType x scope e kind
+
+-- the scope after statements is computed exactly where the rules lead to it
+abbrev pub StmtsAgree : Type 0
+StmtsAgree = (x : Context) (scope : Scope) (ss : Stmts) (after : Scope) → (check_stmts x scope ss ≡ Ok after) ↔ AllLead x scope ss after
+
+-- a program is typed exactly where the rules say so
+abbrev pub ProgramsAgree : Type 0
+ProgramsAgree = (p : Program) → (check_program p ≡ Ok tt) ↔ IsTyped p
+
+-- a service is typed exactly where the rules say so
+abbrev pub ServicesAgree : Type 0
+ServicesAgree = (classes : List Class) → (check_service classes ≡ Ok tt) ↔ IsTypedService classes
