@@ -1,1 +1,6 @@
--- The definitions of this part.
+-- The grammar of programs.
+pub mod Kinds
+pub mod Values
+pub mod Symbols
+pub mod Rules
+pub mod Derives
