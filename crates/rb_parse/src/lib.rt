@@ -1,0 +1,2 @@
+//! Reads programs: the one tree of the grammar, or the first refusal.
+#![tactic(auto)]
