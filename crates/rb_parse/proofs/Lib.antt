@@ -1,0 +1,3 @@
+pub mod KindLists
+pub mod Checks
+pub mod Listed
