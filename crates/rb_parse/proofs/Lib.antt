@@ -1,3 +1,6 @@
 pub mod KindLists
 pub mod Checks
 pub mod Listed
+pub mod Predicts
+pub mod Takes
+pub mod Complete
