@@ -10,9 +10,9 @@ pub data Spells (source : List ℕ) : (l : List Symbol) → List Token → Trees
   nothing : Spells source [] [] tt
   token : {l : List Symbol} {ts : List Token} {xs : Trees l} (t : Token) → Spells source l ts xs
       → Spells source (Terminal t.kind ∷ l) (t ∷ ts) (t, xs)
-  rule : {s : Part} {m l : List Symbol} {f : Makes m (TreeOf s)} {ts us : List Token} {ys : Trees m} {xs : Trees l}
-      → Rule source s m f → Spells source m ts ys → Spells source l us xs
-      → Spells source (The s ∷ l) (ts ++ us) (made m (TreeOf s) f ys, xs)
+  rule : {p : Part} {m l : List Symbol} {f : Makes m (TreeOf p)} {ts us : List Token} {ys : Trees m} {xs : Trees l}
+      → Rule source p m f → Spells source m ts ys → Spells source l us xs
+      → Spells source (The p ∷ l) (ts ++ us) (made m (TreeOf p) f ys, xs)
 
 -- A list of tokens is a prefix of symbols: it is empty, or the spelling of none or some of the first symbols followed
 -- by a prefix of the next one.
@@ -20,10 +20,10 @@ pub data Front (source : List ℕ) : List Symbol → List Token → Type 0 where
   none : {l : List Symbol} → Front source l []
   after_token : {l : List Symbol} {ts : List Token} (t : Token) → Front source l ts
       → Front source (Terminal t.kind ∷ l) (t ∷ ts)
-  within : {s : Part} {m l : List Symbol} {f : Makes m (TreeOf s)} {ts : List Token}
-      → Rule source s m f → Front source m ts → Front source (The s ∷ l) ts
-  past : {s : Part} {m l : List Symbol} {f : Makes m (TreeOf s)} {ts us : List Token} {ys : Trees m}
-      → Rule source s m f → Spells source m ts ys → Front source l us → Front source (The s ∷ l) (ts ++ us)
+  within : {p : Part} {m l : List Symbol} {f : Makes m (TreeOf p)} {ts : List Token}
+      → Rule source p m f → Front source m ts → Front source (The p ∷ l) ts
+  past : {p : Part} {m l : List Symbol} {f : Makes m (TreeOf p)} {ts us : List Token} {ys : Trees m}
+      → Rule source p m f → Spells source m ts ys → Front source l us → Front source (The p ∷ l) (ts ++ us)
 
 -- The tokens of the source derive the program.
 abbrev pub Derives : List ℕ → List Token → Program → Type 0
