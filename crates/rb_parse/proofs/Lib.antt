@@ -4,3 +4,5 @@ pub mod Listed
 pub mod Predicts
 pub mod Takes
 pub mod Complete
+pub mod Function
+pub mod Fronts
