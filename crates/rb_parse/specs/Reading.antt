@@ -2,6 +2,7 @@
 use Rattle.std.specs.Prelude.{ℕ, zero, suc, ◌+◌, ◌*◌, List, [], ◌∷◌, length, Bool, true, false, cond, Option, Some, None, Result, Ok, Err}
 use Rattle.rb_trees.specs.declared.tokens.Token.{Token}
 use Rattle.rb_trees.specs.declared.tokens.TokenKind.{TokenKind}
+use Rattle.rb_trees.specs.mirror.Declarations.{Program}
 use Rattle.rb_meaning_bytes.specs.grammar.Kinds.{is_kind}
 use Rattle.rb_meaning_bytes.specs.grammar.Symbols as s
 use Rattle.rb_meaning_bytes.specs.grammar.Symbols.{Symbol, Terminal, The, Part, Chain, MoreChain, TreeOf, Tree, Makes}
@@ -68,3 +69,12 @@ read source (suc n) p ts = by_choice (read source n) (predict source p ts) ts
 -- reading a part
 unfoldable pub read_of : (source : List ℕ) → Reader
 read_of source p ts = read source (suc (16 * length ts + rank p)) p ts
+
+-- a tree behind which no token is left
+abbrev pub alone : {A : Type 0} → A → List Token → Result A ℕ
+alone x [] = Ok x
+alone x (t ∷ ts) = Err (length (t ∷ ts))
+
+-- the program that all tokens are
+unfoldable pub program_of : List ℕ → List Token → Result Program ℕ
+program_of source ts = read_of source s.TheProgram ts >>= λ x. alone x.0 x.1

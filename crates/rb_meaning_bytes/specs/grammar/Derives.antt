@@ -1,5 +1,5 @@
 -- What the tokens of a text derive, and which lists of tokens texts begin with. Both go by the productions alone.
-use Rattle.std.specs.Prelude.{ℕ, List, [], ◌∷◌, ◌++◌}
+use Rattle.std.specs.Prelude.{◌≡◌, ℕ, List, [], ◌∷◌, ◌++◌, length}
 use Rattle.rb_trees.specs.declared.tokens.Token.{Token}
 use Rattle.rb_trees.specs.mirror.Declarations.{Program}
 use Rattle.rb_meaning_bytes.specs.grammar.Symbols.{Symbol, Terminal, The, Part, TheProgram, TreeOf, Trees, Makes, made}
@@ -32,3 +32,18 @@ Derives source tokens program = Spells source (The TheProgram ∷ []) tokens (pr
 -- Some program begins with the tokens.
 abbrev pub Begins : List ℕ → List Token → Type 0
 Begins source tokens = Front source (The TheProgram ∷ []) tokens
+
+-- No text goes on from the tokens so far and the next one; at the end, the tokens are no text.
+abbrev pub Stuck : List ℕ → List Token → List Token → Type 0
+Stuck source front [] = (program : Program) → ¬ Derives source front program
+Stuck source front (t ∷ ts) = ¬ Begins source (front ++ t ∷ [])
+
+-- So many tokens from the end stands the first token with which the tokens so far are a prefix of no text,
+-- or the end, where it is not expected.
+pub record Breaks (source : List ℕ) (tokens : List Token) (left : ℕ) : Type 0 where
+  pub front : List Token
+  pub rest : List Token
+  pub is : tokens ≡ front ++ rest
+  pub left_is : length rest ≡ left
+  pub goes : Begins source front
+  pub stuck : Stuck source front rest
