@@ -6,3 +6,4 @@ pub mod Takes
 pub mod Complete
 pub mod Function
 pub mod Fronts
+pub mod Equations

@@ -1,11 +1,13 @@
 -- What reading a part from the left gives: its tree and the tokens behind it, or where it stops.
-use Rattle.std.specs.Prelude.{ℕ, zero, suc, ◌+◌, ◌*◌, List, [], ◌∷◌, length, Bool, true, false, cond, Option, Some, None, Result, Ok, Err}
+use Rattle.std.specs.Prelude.{◌≡◌, ℕ, zero, suc, ◌+◌, ◌*◌, List, [], ◌∷◌, length, Bool, true, false, cond, Option, Some, None, Result, Ok, Err}
 use Rattle.rb_trees.specs.declared.tokens.Token.{Token}
 use Rattle.rb_trees.specs.declared.tokens.TokenKind.{TokenKind}
 use Rattle.rb_trees.specs.mirror.Declarations.{Program}
-use Rattle.rb_meaning_bytes.specs.grammar.Kinds.{is_kind}
+use Rattle.rb_meaning_bytes.specs.grammar.Kinds.{is_kind, is_one_of}
 use Rattle.rb_meaning_bytes.specs.grammar.Symbols as s
 use Rattle.rb_meaning_bytes.specs.grammar.Symbols.{Symbol, Terminal, The, Part, Chain, MoreChain, TreeOf, Tree, Makes}
+use Rattle.rb_parse.specs.declared.stop.Stop.{Stop}
+use Rattle.rb_parse.specs.declared.stop.Stop.TheVariants as stops
 use Rattle.rb_parse.specs.Table.{Choice, predict}
 
 -- a value and the tokens behind it, or how many tokens are left where reading stops
@@ -78,3 +80,26 @@ alone x (t ∷ ts) = Err (length (t ∷ ts))
 -- the program that all tokens are
 unfoldable pub program_of : List ℕ → List Token → Result Program ℕ
 program_of source ts = read_of source s.TheProgram ts >>= λ x. alone x.0 x.1
+
+-- the next token, if it is of the kind, and the tokens behind it
+abbrev pub taken : TokenKind → List Token → Option (Token × List Token)
+taken kind [] = None
+taken kind (t ∷ ts) = cond (is_kind t.kind kind) (Some (t, ts)) None
+
+-- whether the next token is of one of the kinds
+abbrev pub next_in : List TokenKind → List Token → Bool
+next_in kinds [] = false
+next_in kinds (t ∷ ts) = is_one_of t.kind kinds
+
+abbrev pub on_taken : {A : Type 0} → Option (Token × List Token) → (Token × List Token → A) → A → A
+on_taken None f other = other
+on_taken (Some x) f other = f x
+
+-- What a function returned is what reading gives, unless memory ran out.
+abbrev pub Fails : {Y : Type 0} → Stop → Result Y ℕ → Type 0
+Fails stops.Memory read = Unit {0}
+Fails (stops.Unexpected left) read = read ≡ Err left
+
+abbrev pub Gives : {X Y : Type 0} → (X → Y) → Result X Stop → Result Y ℕ → Type 0
+Gives view (Ok x) read = read ≡ Ok (view x)
+Gives view (Err e) read = Fails e read
