@@ -1,7 +1,9 @@
 //! Reads programs: the one tree of the grammar, or the first refusal.
 #![tactic(auto)]
 
+mod atoms;
 mod kinds;
+mod levels;
 mod next;
 mod stop;
 mod types;

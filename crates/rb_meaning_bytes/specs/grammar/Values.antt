@@ -1,5 +1,5 @@
 -- The values that the slices of names, numbers and text literals stand for.
-use Rattle.std.specs.Prelude.{ℕ, ◌+◌, ◌-◌, ◌*◌, ◌==◌, Bool, true, false, cond, List, [], ◌∷◌, take, drop, fold, ℤ, pos, negsuc}
+use Rattle.std.specs.Prelude.{ℕ, nat_lt, ◌+◌, ◌-◌, ◌*◌, ◌==◌, Bool, true, false, cond, List, [], ◌∷◌, take, drop, fold, ℤ, pos, negsuc}
 use Rattle.rb_trees.specs.declared.tokens.Token.{Token}
 
 -- the bytes of a token
@@ -10,9 +10,10 @@ slice source t = take (t.end - t.start) (drop t.start source)
 abbrev pub number_value : List ℕ → ℕ
 number_value digits = fold (λ value digit. 10 * value + (digit - 48)) 0 digits
 
--- the Int of a number: 9223372036854775808, which stands behind a minus, is the least Int, since arithmetic wraps
+-- The Int of a number: 9223372036854775808, which stands behind a minus, is the least Int, since arithmetic wraps.
+-- No number is greater.
 abbrev pub int_of : ℕ → ℤ
-int_of value = cond (value == 9223372036854775808) (negsuc 9223372036854775807) (pos value)
+int_of value = cond (nat_lt 9223372036854775807 value) (negsuc 9223372036854775807) (pos value)
 
 -- what an escape stands for, by the byte behind its backslash: n is the line feed, and the others are themselves
 unfoldable pub escape_value : ℕ → ℕ
