@@ -11,7 +11,18 @@ use Rattle.rb_meaning_bytes.specs.grammar.Symbols.{Symbol, Terminal, The, Part, 
 use Rattle.rb_meaning_bytes.specs.grammar.Values.{name_of, number_of, text_of}
 use Rattle.rb_parse.specs.Table.{Choice, begins, may_be_empty, all_begin, cases, otherwise, chosen, predict}
 use Rattle.rb_parse.specs.Reading.{Read, Reader, ◌>>=◌, take_kind, read_symbol, read_into, by_choice, read_of, taken, next_in, on_taken}
-use Rattle.rb_parse.specs.Parts.{item_of}
+use Rattle.rb_trees.specs.declared.values.Value as value
+use Rattle.rb_trees.specs.declared.code.UnOp.TheVariants as unary
+use Rattle.rb_trees.specs.declared.code.BinOp.{BinOp}
+use Rattle.rb_trees.specs.declared.code.BinOp.TheVariants as binary
+use Rattle.rb_trees.specs.declared.code.Expr as expr
+use Rattle.rb_trees.specs.mirror.Code as code
+use Rattle.rb_trees.specs.mirror.Code.{Expr, Exprs, mirror_expr, mirror_exprs}
+use Rattle.rb_meaning_bytes.specs.grammar.Rules.{member}
+use Rattle.rb_parse.specs.declared.levels.Level.{Level}
+use Rattle.rb_parse.specs.declared.levels.Level.TheVariants as l
+use Rattle.rb_parse.specs.Table.{expression_kinds}
+use Rattle.rb_parse.specs.Parts.{item_of, level_of, operand_of, repeats, operator_at, more_of, on_operator, joined_of, prefixed_of, members_of, arguments_to_close, expression_to_close, called_of, member_at, index_at, atom_of, on_atom, measured_of, object_of, list_of, put_exprs, more_on, arguments_on}
 use Rattle.rb_parse.proofs.Function.{reads}
 
 -- a production that begins with a token goes on behind it; another one is told by what it begins with
@@ -74,3 +85,83 @@ pub type_is : (source : List ℕ) (ts : List Token) → read_of source s.AType t
     (Err (length ts))))))))
 unfolding cases otherwise item_of
 type_is source ts = simp bind_bind (reads_by source s.AType ts)
+
+pub taken_bind : {A B : Type 0} (o : Option (Token × List Token)) (f : Token × List Token → Result A ℕ) (other : Result A ℕ) (g : A → Result B ℕ) → (on_taken o f other >>= g) ≡ on_taken o (λ w. f w >>= g) (other >>= g)
+taken_bind None f other g = refl
+taken_bind (Some x) f other g = refl
+
+pub bind_ok : {A : Type 0} (r : Read A) → (r >>= λ a. Ok (a.0, a.1)) ≡ r
+bind_ok (Ok x) = refl
+bind_ok (Err e) = refl
+
+pub operator_taken : (o : Option (Token × List Token)) (f : Token × List Token → BinOp × Token × List Token) (more : Option (BinOp × Token × List Token)) (h : BinOp × Token × List Token → Read Expr) (other : Read Expr) → on_operator (on_taken o (λ x. Some (f x)) more) h other ≡ on_taken o (λ x. h (f x)) (on_operator more h other)
+operator_taken None f more h other = refl
+operator_taken (Some x) f more h other = refl
+
+pub atom_taken : (o : Option (Token × List Token)) (f : Token × List Token → Expr × List Token) (more : Option (Expr × List Token)) (other : Read Expr) → on_atom (on_taken o (λ x. Some (f x)) more) other ≡ on_taken o (λ x. Ok (f x)) (on_atom more other)
+atom_taken None f more other = refl
+atom_taken (Some x) f more other = refl
+
+pub chain_is : (source : List ℕ) (level : Level) (ts : List Token) → read_of source (s.Chain (level_of level)) ts ≡ (operand_of source level ts >>= λ a. more_of source level a.0 a.1)
+unfolding cases otherwise operand_of more_of
+chain_is source l.Or ts = reads_by source (s.Chain s.OrLevel) ts
+chain_is source l.And ts = reads_by source (s.Chain s.AndLevel) ts
+chain_is source l.Same ts = reads_by source (s.Chain s.SameLevel) ts
+chain_is source l.Order ts = reads_by source (s.Chain s.OrderLevel) ts
+chain_is source l.Sum ts = reads_by source (s.Chain s.SumLevel) ts
+chain_is source l.Product ts = reads_by source (s.Chain s.ProductLevel) ts
+
+abbrev apply_to : Expr → (Expr → Expr) × List Token → Read Expr
+apply_to left m = Ok (m.0 left, m.1)
+
+applied : (left : Expr) {r q : Read (Expr → Expr)} → r ≡ q → (r >>= apply_to left) ≡ (q >>= apply_to left)
+applied left h = ap (λ z. z >>= apply_to left) h
+
+pub more_is : (source : List ℕ) (level : Level) (left : Expr) (ts : List Token) → more_of source level left ts ≡ on_operator (operator_at level ts) (λ x. joined_of source level left x.0 x.1 x.2) (Ok (left, ts))
+unfolding cases otherwise operand_of more_of operator_at joined_of repeats
+more_is source l.Or left ts = simp (operator_taken, bind_bind, taken_bind) (simp (taken_bind, bind_bind) at (applied left (reads_by source (s.MoreChain s.OrLevel) ts)))
+more_is source l.And left ts = simp (operator_taken, bind_bind, taken_bind) (simp (taken_bind, bind_bind) at (applied left (reads_by source (s.MoreChain s.AndLevel) ts)))
+more_is source l.Same left ts = simp (operator_taken, bind_bind, taken_bind) (simp (taken_bind, bind_bind) at (applied left (reads_by source (s.MoreChain s.SameLevel) ts)))
+more_is source l.Order left ts = simp (operator_taken, bind_bind, taken_bind) (simp (taken_bind, bind_bind) at (applied left (reads_by source (s.MoreChain s.OrderLevel) ts)))
+more_is source l.Sum left ts = simp (operator_taken, bind_bind, taken_bind) (simp (taken_bind, bind_bind) at (applied left (reads_by source (s.MoreChain s.SumLevel) ts)))
+more_is source l.Product left ts = simp (operator_taken, bind_bind, taken_bind) (simp (taken_bind, bind_bind) at (applied left (reads_by source (s.MoreChain s.ProductLevel) ts)))
+
+pub postfix_is : (source : List ℕ) (ts : List Token) → read_of source s.Postfix ts ≡ (read_of source s.First ts >>= λ a. members_of source a.0 a.1)
+unfolding cases otherwise members_of
+postfix_is source ts = reads_by source s.Postfix ts
+
+pub prefix_is : (source : List ℕ) (ts : List Token) → read_of source s.Prefix ts ≡
+    on_taken (taken k.sign_not ts) (λ w. prefixed_of source unary.Not w.0 w.1)
+    (on_taken (taken k.sign_minus ts) (λ w. prefixed_of source unary.Neg w.0 w.1)
+    (read_of source s.First ts >>= λ a. members_of source a.0 a.1))
+unfolding cases otherwise prefixed_of
+prefix_is source ts = simp (← postfix_is) (simp bind_ok at (reads_by source s.Prefix ts))
+
+abbrev then_members : List ℕ → Expr → Token → Option Exprs × List Token → Read Expr
+then_members source object name c = read_of source s.Members c.1 >>= λ m. Ok (m.0 (member name.start (name_of source name) c.0 object), m.1)
+
+called_is : (source : List ℕ) (object : Expr) (name : Token) (ts : List Token) → (read_of source s.CallPart ts >>= then_members source object name) ≡ called_of source object name ts
+unfolding cases otherwise called_of arguments_to_close members_of
+called_is source object name ts = simp bind_bind (simp (taken_bind, bind_bind) at (ap (λ z. z >>= then_members source object name) (reads_by source s.CallPart ts)))
+
+pub members_is : (source : List ℕ) (object : Expr) (ts : List Token) → members_of source object ts ≡
+    on_taken (taken k.sign_dot ts) (λ w. member_at source object w.1)
+    (on_taken (taken k.sign_open_bracket ts) (λ w. index_at source object w.0 w.1)
+    (Ok (object, ts)))
+unfolding cases otherwise members_of member_at index_at
+members_is source object ts = simp (← called_is, bind_bind) (simp (taken_bind, bind_bind) at (applied object (reads_by source s.Members ts)))
+
+pub first_is : (source : List ℕ) (ts : List Token) → read_of source s.First ts ≡
+    on_atom (atom_of source ts)
+    (on_taken (taken k.keyword_len ts) (λ w. measured_of source unary.Len w.0 w.1)
+    (on_taken (taken k.keyword_str ts) (λ w. measured_of source unary.Str w.0 w.1)
+    (on_taken (taken k.keyword_new ts) (λ w. object_of source w.0 w.1)
+    (on_taken (taken k.keyword_List ts) (λ w. list_of source w.0 w.1)
+    (on_taken (taken k.sign_open ts) (λ w. expression_to_close source w.1)
+    (Err (length ts)))))))
+unfolding cases otherwise atom_of measured_of object_of list_of item_of arguments_to_close expression_to_close
+first_is source ts = simp (atom_taken, bind_bind) (reads_by source s.First ts)
+
+pub arguments_is : (source : List ℕ) (ts : List Token) → read_of source s.Arguments ts ≡ cond (next_in expression_kinds ts) (read_of source s.Expression ts >>= λ a. more_on source a.0 a.1) (Ok (code.NoExprs, ts))
+unfolding cases otherwise more_on begins may_be_empty
+arguments_is source ts = reads_by source s.Arguments ts

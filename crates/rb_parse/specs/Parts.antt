@@ -49,7 +49,7 @@ repeats l.Order = false
 repeats _ = true
 
 -- how many parts an operand of the level may begin with
-unfoldable pub depth : Level → ℕ
+abbrev pub depth : Level → ℕ
 depth l.Or = 14
 depth l.And = 12
 depth l.Same = 10
@@ -140,6 +140,10 @@ list_of source word ts = item_of source ts >>= λ i. take_kind k.sign_open i.1 >
 abbrev pub put_exprs : List expr.Expr → Exprs → Exprs
 put_exprs [] l = l
 put_exprs (e ∷ es) l = code.MoreExprs (mirror_expr e) (put_exprs es l)
+
+-- the arguments that follow the first one
+unfoldable pub more_on : List ℕ → Expr → List Token → Read Exprs
+more_on source first ts = read_of source s.MoreArguments ts >>= λ m. Ok (code.MoreExprs first m.0, m.1)
 
 -- the arguments so far with those that follow
 unfoldable pub arguments_on : List ℕ → List expr.Expr → List Token → Read Exprs
