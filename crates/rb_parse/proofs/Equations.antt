@@ -119,12 +119,12 @@ applied left h = ap (λ z. z >>= apply_to left) h
 
 pub more_is : (source : List ℕ) (level : Level) (left : Expr) (ts : List Token) → more_of source level left ts ≡ on_operator (operator_at level ts) (λ x. joined_of source level left x.0 x.1 x.2) (Ok (left, ts))
 unfolding cases otherwise operand_of more_of operator_at joined_of repeats
-more_is source l.Or left ts = simp (operator_taken, bind_bind, taken_bind) (simp (taken_bind, bind_bind) at (applied left (reads_by source (s.MoreChain s.OrLevel) ts)))
-more_is source l.And left ts = simp (operator_taken, bind_bind, taken_bind) (simp (taken_bind, bind_bind) at (applied left (reads_by source (s.MoreChain s.AndLevel) ts)))
-more_is source l.Same left ts = simp (operator_taken, bind_bind, taken_bind) (simp (taken_bind, bind_bind) at (applied left (reads_by source (s.MoreChain s.SameLevel) ts)))
-more_is source l.Order left ts = simp (operator_taken, bind_bind, taken_bind) (simp (taken_bind, bind_bind) at (applied left (reads_by source (s.MoreChain s.OrderLevel) ts)))
-more_is source l.Sum left ts = simp (operator_taken, bind_bind, taken_bind) (simp (taken_bind, bind_bind) at (applied left (reads_by source (s.MoreChain s.SumLevel) ts)))
-more_is source l.Product left ts = simp (operator_taken, bind_bind, taken_bind) (simp (taken_bind, bind_bind) at (applied left (reads_by source (s.MoreChain s.ProductLevel) ts)))
+more_is source l.Or left ts = simp operator_taken (simp (taken_bind, bind_bind) at (applied left (reads_by source (s.MoreChain s.OrLevel) ts)))
+more_is source l.And left ts = simp operator_taken (simp (taken_bind, bind_bind) at (applied left (reads_by source (s.MoreChain s.AndLevel) ts)))
+more_is source l.Same left ts = simp operator_taken (simp (taken_bind, bind_bind) at (applied left (reads_by source (s.MoreChain s.SameLevel) ts)))
+more_is source l.Order left ts = simp operator_taken (simp (taken_bind, bind_bind) at (applied left (reads_by source (s.MoreChain s.OrderLevel) ts)))
+more_is source l.Sum left ts = simp operator_taken (simp (taken_bind, bind_bind) at (applied left (reads_by source (s.MoreChain s.SumLevel) ts)))
+more_is source l.Product left ts = simp operator_taken (simp (taken_bind, bind_bind) at (applied left (reads_by source (s.MoreChain s.ProductLevel) ts)))
 
 pub postfix_is : (source : List ℕ) (ts : List Token) → read_of source s.Postfix ts ≡ (read_of source s.First ts >>= λ a. members_of source a.0 a.1)
 unfolding cases otherwise members_of
@@ -149,7 +149,7 @@ pub members_is : (source : List ℕ) (object : Expr) (ts : List Token) → membe
     (on_taken (taken k.sign_open_bracket ts) (λ w. index_at source object w.0 w.1)
     (Ok (object, ts)))
 unfolding cases otherwise members_of member_at index_at
-members_is source object ts = simp (← called_is, bind_bind) (simp (taken_bind, bind_bind) at (applied object (reads_by source s.Members ts)))
+members_is source object ts = simp (← called_is) (simp (taken_bind, bind_bind) at (applied object (reads_by source s.Members ts)))
 
 pub first_is : (source : List ℕ) (ts : List Token) → read_of source s.First ts ≡
     on_atom (atom_of source ts)

@@ -7,3 +7,4 @@ pub mod Complete
 pub mod Function
 pub mod Fronts
 pub mod Equations
+pub mod Lists

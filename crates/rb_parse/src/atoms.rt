@@ -2,10 +2,13 @@
 
 ghost use Rattle.std.specs.Prelude.{◌≡◌, ◌<◌, length, IfOk, IfSome, option_map};
 ghost use Rattle.rb_trees.specs.mirror.Code.{mirror_expr, mirror_expr_form};
+ghost use Rattle.rb_meaning_bytes.specs.grammar.Kinds.{is_one_of};
+ghost use Rattle.rb_parse.specs.Table.{expression_kinds};
+ghost use Rattle.rb_parse.specs.Reading.{next_in};
 ghost use Rattle.rb_parse.specs.Parts.{atom_of};
 
-use crate::kinds::{FALSE, THIS, TRUE};
-use crate::next::take_if;
+use crate::kinds::{FALSE, LEN, LIST, MINUS, NEW, NOT, OPEN, STR, THIS, TRUE};
+use crate::next::{same_kind, take_if};
 use crate::values::{name, number, text};
 use rb_trees::{Expr, ExprForm, Memory, Token, TokenKind, Value};
 use std::alloc::Global;
@@ -55,4 +58,35 @@ pub(crate) fn atom<'t>(
         return Ok(Some((of_form(token, form), rest)));
     }
     Ok(None)
+}
+
+/// Whether an expression begins with the next token.
+pub(crate) fn begins_expression(tokens: &[Token]) -> bool
+    ensures { result ≡ next_in expression_kinds tokens.now }
+{
+    match tokens {
+        [token, ..] => begins_with(token.kind),
+        [] => false,
+    }
+}
+
+/// Whether an expression begins with a token of the kind.
+fn begins_with(kind: TokenKind) -> bool
+    ensures { result ≡ is_one_of kind expression_kinds }
+{
+    match kind {
+        TokenKind::Name | TokenKind::Number | TokenKind::TextLit => true,
+        TokenKind::Keyword(_) => {
+            same_kind(kind, TRUE)
+                || same_kind(kind, FALSE)
+                || same_kind(kind, THIS)
+                || same_kind(kind, LEN)
+                || same_kind(kind, STR)
+                || same_kind(kind, NEW)
+                || same_kind(kind, LIST)
+        }
+        TokenKind::Sign(_) => {
+            same_kind(kind, NOT) || same_kind(kind, MINUS) || same_kind(kind, OPEN)
+        }
+    }
 }

@@ -2,6 +2,8 @@
 #![tactic(auto)]
 
 mod atoms;
+mod builders;
+mod expressions;
 mod kinds;
 mod levels;
 mod next;

@@ -8,7 +8,7 @@ use crate::stop::Stop;
 use rb_trees::{Token, TokenKind};
 
 /// Whether two kinds are the same.
-fn same_kind(a: TokenKind, b: TokenKind) -> bool
+pub(crate) fn same_kind(a: TokenKind, b: TokenKind) -> bool
     ensures { result ≡ is_kind a b }
 {
     match a {

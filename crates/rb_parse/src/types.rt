@@ -56,7 +56,7 @@ pub(crate) fn type_tree<'t>(
 /// The type of an item or row, between its signs.
 #[cycle(types)]
 #[tactic(auto, unfolding(crate::specs::Parts::item_of))]
-fn item_type<'t>(
+pub(crate) fn item_type<'t>(
     alloc: Global,
     source: &[u8],
     tokens: &'t [Token],
