@@ -8,3 +8,4 @@ pub mod Function
 pub mod Fronts
 pub mod Equations
 pub mod Lists
+pub mod StatementEquations

@@ -71,7 +71,7 @@ pub(crate) fn begins_expression(tokens: &[Token]) -> bool
 }
 
 /// Whether an expression begins with a token of the kind.
-fn begins_with(kind: TokenKind) -> bool
+pub(crate) fn begins_with(kind: TokenKind) -> bool
     ensures { result ≡ is_one_of kind expression_kinds }
 {
     match kind {

@@ -333,7 +333,7 @@ fn new_list<'t>(
 /// An expression and the bracket that closes it.
 #[cycle(expressions)]
 #[tactic(auto, unfolding(crate::specs::Parts::expression_to_close))]
-fn inside<'t>(
+pub(crate) fn inside<'t>(
     alloc: Global,
     source: &[u8],
     tokens: &'t [Token],

@@ -7,6 +7,8 @@ mod expressions;
 mod kinds;
 mod levels;
 mod next;
+mod simple;
+mod statements;
 mod stop;
 mod types;
 mod values;
