@@ -9,3 +9,4 @@ pub mod Fronts
 pub mod Equations
 pub mod Lists
 pub mod StatementEquations
+pub mod DeclarationEquations

@@ -2,3 +2,4 @@ pub mod Table
 pub mod Reading
 pub mod Parts
 pub mod Blocks
+pub mod Heads

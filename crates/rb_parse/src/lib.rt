@@ -3,6 +3,7 @@
 
 mod atoms;
 mod builders;
+mod declarations;
 mod expressions;
 mod kinds;
 mod levels;
