@@ -4,3 +4,5 @@ pub mod Values
 pub mod Symbols
 pub mod Rules
 pub mod Derives
+pub mod Limits
+pub mod Refusals

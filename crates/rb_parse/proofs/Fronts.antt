@@ -115,7 +115,7 @@ module _ (source : List ℕ) where
       record { rest = x.rest; trees = (made m (TreeOf p) f ys, x.trees); spells = subst (λ z. Spells source (The p ∷ l) z (made m (TreeOf p) f ys, x.trees)) (sym (append_assoc ts us x.rest)) (g.rule rule e x.spells) }
 
   -- a whole spelling is a prefix
-  whole_front : {l : List Symbol} {ts : List Token} {xs : Trees l} → Spells source l ts xs → Front source l ts
+  pub whole_front : {l : List Symbol} {ts : List Token} {xs : Trees l} → Spells source l ts xs → Front source l ts
   whole_front g.nothing = g.none
   whole_front (g.token t e) = g.after_token t (whole_front e)
   whole_front (g.rule rule e w) = g.past rule e (whole_front w)

@@ -10,3 +10,4 @@ pub mod Equations
 pub mod Lists
 pub mod StatementEquations
 pub mod DeclarationEquations
+pub mod Laws

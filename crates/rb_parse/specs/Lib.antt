@@ -3,3 +3,5 @@ pub mod Reading
 pub mod Parts
 pub mod Blocks
 pub mod Heads
+pub mod Nested
+pub mod Told

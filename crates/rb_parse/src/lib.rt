@@ -7,9 +7,13 @@ mod declarations;
 mod expressions;
 mod kinds;
 mod levels;
+mod limits;
 mod next;
+mod reading;
 mod simple;
 mod statements;
 mod stop;
 mod types;
 mod values;
+
+pub use reading::{parse_tokens, tokens_derive_one_program};

@@ -18,3 +18,13 @@ impl From<Memory> for Stop {
         Stop::Memory
     }
 }
+
+/// Why the tokens of a text aren't read.
+#[derive(Debug, Drop)]
+pub(crate) enum Refusal {
+    /// With so many tokens left: the next one isn't expected.
+    Unexpected(usize),
+    /// With so many tokens left: the next one breaks a limit of nesting.
+    TooNested(usize),
+    Memory,
+}

@@ -1,0 +1,23 @@
+-- What an answer of reading says of the tokens.
+use Rattle.std.specs.Prelude.{◌≡◌, ℕ, List, Result, Ok, Err}
+use Rattle.rb_trees.specs.declared.tokens.Token.{Token}
+use Rattle.rb_trees.specs.declared.reading.ReadError.{ReadError}
+use Rattle.rb_trees.specs.declared.reading.ReadError.TheVariants as errors
+use Rattle.rb_trees.specs.declared.declarations.Program as code
+use Rattle.rb_trees.specs.mirror.Declarations.{Program, mirror_program}
+use Rattle.rb_meaning_bytes.specs.grammar.Refusals.{Read}
+
+-- the answer in the mirror
+abbrev pub mirror_answer : Result code.Program ReadError → Result Program ReadError
+mirror_answer (Ok program) = Ok (mirror_program program)
+mirror_answer (Err error) = Err error
+
+-- The tokens have what is answered: the program, or the refusal.
+abbrev pub Told : List ℕ → List Token → Result code.Program ReadError → Type 0
+Told source tokens answer = Read source tokens (mirror_answer answer)
+
+-- The answer is the program, or memory ran out.
+abbrev pub IsRead : Program → Result code.Program ReadError → Type 0
+IsRead program (Ok answer) = mirror_program answer ≡ program
+IsRead program (Err errors.Memory) = Unit {0}
+IsRead program (Err _) = ⊥
