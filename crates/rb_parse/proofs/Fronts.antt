@@ -167,8 +167,10 @@ module _ (source : List ℕ) where
           let same : y ≡ x = cc in
           subst₂ (λ z v. Derives source z v) (sym (w.is ∙ append-nil w.front)) same w.spells
       behind y (t ∷ us) k = let e : ◌≡◌ {A = Result Program ℕ} (Err (length (t ∷ us))) (Ok x) = sym (read_whole k) ∙ h in cc
+
       stops : (m : ℕ) → Stops source (The TheProgram ∷ []) ts m → Derives source ts x
       stops m k = let e : ◌≡◌ {A = Result Program ℕ} (Err m) (Ok x) = sym (read_stopped k) ∙ h in cc
+
       go : Came source TheProgram ts → Derives source ts x
       go (taken c ys us e k) = behind (made c.parts Program c.makes ys) us (part c e k done)
       go (untold e) = stops (length ts) (none ts e)
@@ -183,24 +185,33 @@ module _ (source : List ℕ) where
       behind y (t ∷ us) k =
           let w = took source k in
           let e : ◌≡◌ {A = Result Program ℕ} (Err (length (t ∷ us))) (Err left) = sym (read_whole k) ∙ h in
-          record { front = w.front; rest = t ∷ us; is = w.is; left_is = cc; goes = whole_front w.spells;
+          record {
+            front = w.front;
+            rest = t ∷ us;
+            is = w.is;
+            left_is = cc;
+            goes = whole_front w.spells;
             stuck = λ f.
-              let x = goes_on f in
-              let all : Takes source (The TheProgram ∷ []) (w.front ++ t ∷ x.rest) x.trees [] = subst (λ z. Takes source (The TheProgram ∷ []) z x.trees []) (append_assoc w.front (t ∷ []) x.rest) (text_taken ((w.front ++ t ∷ []) ++ x.rest) x.trees.0 x.spells) in
-              let some = takes_local source t us x.rest k w.front [] w.is refl in
-              let rests : [] ≡ t ∷ x.rest = (one_rest all some).1 in
-              cc }
+                let x = goes_on f in
+                let all : Takes source (The TheProgram ∷ []) (w.front ++ t ∷ x.rest) x.trees [] = subst (λ z. Takes source (The TheProgram ∷ []) z x.trees []) (append_assoc w.front (t ∷ []) x.rest) (text_taken ((w.front ++ t ∷ []) ++ x.rest) x.trees.0 x.spells) in
+                let some = takes_local source t us x.rest k w.front [] w.is refl in
+                let rests : [] ≡ t ∷ x.rest = (one_rest all some).1 in
+                cc;
+          }
+
       stuck_at : (m : ℕ) (front rest : List Token) → Stops source (The TheProgram ∷ []) ts m → ts ≡ front ++ rest → length rest ≡ m → Stuck source front rest
       stuck_at m front [] k e n = λ x f. not_both (text_taken front x f) (subst (λ z. Stops source (The TheProgram ∷ []) z m) (e ∙ append-nil front) k)
       stuck_at m front (t ∷ us) k e n = λ f.
           let x = goes_on f in
           let all : Takes source (The TheProgram ∷ []) (front ++ t ∷ x.rest) x.trees [] = subst (λ z. Takes source (The TheProgram ∷ []) z x.trees []) (append_assoc front (t ∷ []) x.rest) (text_taken ((front ++ t ∷ []) ++ x.rest) x.trees.0 x.spells) in
           not_both all (stops_local source t us x.rest k front e (sym n))
+
       stops : (m : ℕ) → Stops source (The TheProgram ∷ []) ts m → Breaks source ts left
       stops m k =
           let v = halts source k in
           let e : ◌≡◌ {A = Result Program ℕ} (Err m) (Err left) = sym (read_stopped k) ∙ h in
           record { front = v.front; rest = v.rest; is = v.is; left_is = v.left ∙ (cc); goes = v.begins; stuck = stuck_at m v.front v.rest k v.is v.left }
+
       go : Came source TheProgram ts → Breaks source ts left
       go (taken c ys us e k) = behind (made c.parts Program c.makes ys) us (part c e k done)
       go (untold e) = stops (length ts) (none ts e)

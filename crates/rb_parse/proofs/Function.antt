@@ -83,6 +83,7 @@ module _ (source : List ℕ) where
       after : (c : Choice source p) (ys : Trees c.parts) (us : List Token) → predict source p ts ≡ Some c → Takes source c.parts ts ys us → Outcome l us → Outcome (The p ∷ l) ts
       after c ys us h k (takes xs vs i) = takes (made c.parts (TreeOf p) c.makes ys, xs) vs (d.part c h k i)
       after c ys us h k (stops m i) = stops m (d.behind_part c h k i)
+
       go : Came p ts → ((rank : ℕ) (us : List Token) → 16 * length us + rank ≤ bound → ranked rank l ≡ true → Outcome l us) → Outcome (The p ∷ l) ts
       go (taken c ys us h k) g = let w = room_behind bound r p l c ts us ys h k fits ranks in after c ys us h k (g w.r us w.fits w.ranks)
       go (untold h) g = stops (length ts) (d.none ts h)
@@ -95,6 +96,7 @@ module _ (source : List ℕ) where
       out : (c : Choice source p) → predict source p ts ≡ Some c → Outcome c.parts ts → Came p ts
       out c e (takes ys us k) = taken c ys us e k
       out c e (stops m k) = stopped c m e k
+
       go : (o : Option (Choice source p)) → predict source p ts ≡ o → ((c : Choice source p) → ranked (rank p) c.parts ≡ true → Outcome c.parts ts) → Came p ts
       go None e f = untold e
       go (Some c) e f = out c e (f c (sound c (predict_in c ts e)).ranks)

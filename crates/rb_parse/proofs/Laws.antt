@@ -39,9 +39,15 @@ broken_at n (t ∷ ts) left h = go (too_deep (after n t.kind)) refl h (broken_at
     go true e h f = record { front = []; token = t; rest = ts; is = refl; left_is = cc; within = refl; breaks = λ k. cc (ap (λ b. cond b (Some (length (t ∷ []))) (broken (after n t.kind) [])) e) }
     go false e h f =
         let x = f h in
-        record { front = t ∷ x.front; token = x.token; rest = x.rest; is = ap (λ l. t ∷ l) x.is; left_is = x.left_is;
+        record {
+          front = t ∷ x.front;
+          token = x.token;
+          rest = x.rest;
+          is = ap (λ l. t ∷ l) x.is;
+          left_is = x.left_is;
           within = ap (λ b. cond b (Some (length (t ∷ x.front))) (broken (after n t.kind) x.front)) e ∙ x.within;
-          breaks = λ k. x.breaks (sym (ap (λ b. cond b (Some (length (t ∷ (x.front ++ x.token ∷ [])))) (broken (after n t.kind) (x.front ++ x.token ∷ []))) e) ∙ k) }
+          breaks = λ k. x.breaks (sym (ap (λ b. cond b (Some (length (t ∷ (x.front ++ x.token ∷ [])))) (broken (after n t.kind) (x.front ++ x.token ∷ []))) e) ∙ k);
+        }
 
 -- a list before a shorter end of another is a front of it
 before_end : (a : List Token) (t : Token) (b : List Token) (r : Token) (rs : List Token) → a ++ t ∷ [] ≡ b ++ r ∷ rs → (c : List Token) × (a ≡ b ++ c)
@@ -103,6 +109,7 @@ module _ (source : List ℕ) (ts : List Token) where
       at_end : (front rest : List Token) → x.front ++ x.token ∷ [] ≡ front ++ rest → length rest ≡ 0 → Begins source front → TooNestedLeft left
       at_end front [] e n g = nested left x (subst (Begins source) (sym (e ∙ append-nil front)) g)
       at_end front (t ∷ rest) e n g = absurd (omega (arith, n))
+
       ended : Breaks source (x.front ++ x.token ∷ []) 0 → TooNestedLeft left
       ended b = at_end b.front b.rest b.is b.left_is b.goes
   reads_cut left x (Err (suc m)) h = stops (whole_breaks source (x.front ++ x.token ∷ []) (suc m) h)
@@ -111,10 +118,16 @@ module _ (source : List ℕ) (ts : List Token) where
       at_token front [] e n g k = absurd (omega (arith, n))
       at_token front (t ∷ rest) e n g k =
           let i = before_end x.front x.token front t rest e in
-          record { front = front; rest = t ∷ (rest ++ x.rest);
+          record {
+            front = front;
+            rest = t ∷ (rest ++ x.rest);
             is = x.is ∙ sym (append_assoc x.front (x.token ∷ []) x.rest) ∙ ap (λ l. l ++ x.rest) e ∙ append_assoc front (t ∷ rest) x.rest;
             within = within_front nothing_open front i.0 (subst (λ l. broken nothing_open l ≡ None) i.1 x.within);
-            goes = g; stuck = k; left_is = omega (arith, n, x.left_is, length-append rest x.rest) }
+            goes = g;
+            stuck = k;
+            left_is = omega (arith, n, x.left_is, length-append rest x.rest);
+          }
+
       stops : Breaks source (x.front ++ x.token ∷ []) (suc m) → UnexpectedLeft (left + m)
       stops b = at_token b.front b.rest b.is b.left_is b.goes b.stuck
 

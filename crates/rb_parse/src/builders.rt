@@ -38,12 +38,7 @@ pub(crate) fn unary(alloc: Global, sign: Token, op: UnOp, operand: Expr) -> Resu
 
 /// The field of a name.
 #[tactic(auto, using(rb_trees::proofs::mirror::Exprs::exprs))]
-pub(crate) fn field(
-    alloc: Global,
-    source: &[u8],
-    object: Expr,
-    name: Token,
-) -> Result<Expr, Memory>
+pub(crate) fn field(alloc: Global, source: &[u8], object: Expr, name: Token) -> Result<Expr, Memory>
     ensures { IfOk result (λ e. mirror_expr e ≡ code.Field name.start (mirror_expr object) (name_of source.now name)) }
 {
     let object = Boxed::new(alloc, object)?;

@@ -292,11 +292,7 @@ fn returned<'t>(
 
 /// A body.
 #[tactic(auto, using(crate::proofs::DeclarationEquations::body_is))]
-fn body<'t>(
-    alloc: Global,
-    source: &[u8],
-    tokens: &'t [Token],
-) -> Result<(Body, &'t [Token]), Stop>
+fn body<'t>(alloc: Global, source: &[u8], tokens: &'t [Token]) -> Result<(Body, &'t [Token]), Stop>
     ensures value { Gives (λ x. (mirror_body x.0, x.1.now)) result (read_of source.now s.ABody tokens.now) }
     ensures shorter { IfOk result (λ x. length x.1.now < length tokens.now) }
 {

@@ -247,11 +247,7 @@ fn more_arguments<'t>(
 /// The part of an expression that members follow.
 #[cycle(expressions)]
 #[tactic(auto, using(crate::proofs::Equations::first_is))]
-fn first<'t>(
-    alloc: Global,
-    source: &[u8],
-    tokens: &'t [Token],
-) -> Result<(Expr, &'t [Token]), Stop>
+fn first<'t>(alloc: Global, source: &[u8], tokens: &'t [Token]) -> Result<(Expr, &'t [Token]), Stop>
     ensures value { Gives (λ x. (mirror_expr x.0, x.1.now)) result (read_of source.now s.First tokens.now) }
     ensures shorter { IfOk result (λ x. length x.1.now < length tokens.now) }
 {

@@ -49,8 +49,7 @@ impl Nesting {
 fn opens_block(n: Nesting, kind: TokenKind) -> bool
     ensures { result ≡ limits.opens_block (nesting_of n) kind }
 {
-    same_kind(kind, OPEN_BRACE)
-        && !(same_kind(n.before, INTERFACE) || same_kind(n.before, CLASS))
+    same_kind(kind, OPEN_BRACE) && !(same_kind(n.before, INTERFACE) || same_kind(n.before, CLASS))
 }
 
 /// Whether an angle bracket opens a type.

@@ -54,10 +54,7 @@ pub(crate) fn take_if<'t>(kind: TokenKind, tokens: &'t [Token]) -> Option<(Token
 }
 
 /// The next token, which has to be of the kind, and the tokens behind it.
-pub(crate) fn expect<'t>(
-    kind: TokenKind,
-    tokens: &'t [Token],
-) -> Result<(Token, &'t [Token]), Stop>
+pub(crate) fn expect<'t>(kind: TokenKind, tokens: &'t [Token]) -> Result<(Token, &'t [Token]), Stop>
     ensures value { Gives (λ x. (x.0, x.1.now)) result (take_kind kind tokens.now) }
     ensures shorter { IfOk result (λ x. length x.1.now < length tokens.now) }
 {

@@ -33,12 +33,7 @@ fn limited(alloc: Global, source: &[u8], tokens: &[Token]) -> Result<Program, Re
 
 /// Why the tokens aren't read where one of them breaks a limit, with so many tokens left.
 #[tactic(auto, using(crate::proofs::Laws::stops_within))]
-fn cut(
-    alloc: Global,
-    source: &[u8],
-    tokens: &[Token],
-    left: usize,
-) -> Result<Program, Refusal>
+fn cut(alloc: Global, source: &[u8], tokens: &[Token], left: usize) -> Result<Program, Refusal>
     requires some { 0 < left }
     requires within { left ≤ length tokens.now }
     ensures { Answers mirror_program result (cut_at left (program_of source.now (take (length tokens.now - left + 1) tokens.now))) }
@@ -79,11 +74,7 @@ fn place(source: &[u8], tokens: &[Token], left: usize) -> u32
 /// The program that the tokens of a source derive, or the first refusal.
 ///
 /// The grammar, the limits of nesting and the refusals stand in `rb_meaning_bytes`, in `specs/grammar`.
-pub fn parse_tokens(
-    alloc: Global,
-    source: &[u8],
-    tokens: &[Token],
-) -> Result<Program, ReadError>
+pub fn parse_tokens(alloc: Global, source: &[u8], tokens: &[Token]) -> Result<Program, ReadError>
     requires small { length source.now < 2 ^ 32 }
     // What is answered, the tokens have: this program, or this first refusal.
     ensures read { Told source.now tokens.now result }
@@ -101,5 +92,4 @@ pub fn parse_tokens(
 /// A list of tokens derives at most one program.
 pub fn tokens_derive_one_program()
     ensures { (source : List ℕ) → (tokens : List Lexeme) → (one : Tree) → (other : Tree) → Derives source tokens one → Derives source tokens other → one ≡ other }
-{
-}
+{}

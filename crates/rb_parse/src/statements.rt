@@ -143,10 +143,7 @@ fn batch_statement<'t>(
 {
     let (interface, root, rest) = rooted(alloc, source, tokens)?;
     let (block, rest) = block(alloc, source, rest)?;
-    Ok((
-        of_form(word, StmtForm::Batch(interface, root, block)),
-        rest,
-    ))
+    Ok((of_form(word, StmtForm::Batch(interface, root, block)), rest))
 }
 
 /// Statements between braces.

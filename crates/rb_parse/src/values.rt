@@ -71,7 +71,11 @@ fn more_value(value: u64, digit: u8) -> u64
         return GREATEST + 1;
     }
     let value = 10 * value + u64::from(digit.saturating_sub(48));
-    if value > GREATEST { GREATEST + 1 } else { value }
+    if value > GREATEST {
+        GREATEST + 1
+    } else {
+        value
+    }
 }
 
 /// The value of a text literal, given with its quotes.

@@ -45,7 +45,6 @@ pub data Rule (source : List ℕ) : (s : Part) → (l : List Symbol) → Makes l
   more_methods : Rule source s.Methods (The s.AMethod ∷ The s.Methods ∷ []) (λ first rest. first ∷ rest)
   local_method : Rule source s.AMethod (The s.ASignature ∷ The s.ABody ∷ []) (λ signature body. record { remote = false; signature = signature; body = body })
   remote_method : Rule source s.AMethod (Terminal k.keyword_remote ∷ The s.ASignature ∷ The s.ABody ∷ []) (λ word signature body. record { remote = true; signature = signature; body = body })
-
   -- types
   int_type : Rule source s.AType (Terminal k.keyword_Int ∷ []) (λ word. type.Int word.start)
   bool_type : Rule source s.AType (Terminal k.keyword_Bool ∷ []) (λ word. type.Bool word.start)
@@ -54,7 +53,6 @@ pub data Rule (source : List ℕ) : (s : Part) → (l : List Symbol) → Makes l
   named_type : Rule source s.AType (Terminal kind.Name ∷ []) (λ name. type.Named name.start (name_of source name))
   list_type : Rule source s.AType (Terminal k.keyword_List ∷ Terminal k.sign_less ∷ The s.AType ∷ Terminal k.sign_greater ∷ []) (λ word opens item closes. type.ListOf word.start item)
   rows_type : Rule source s.AType (Terminal k.keyword_Rows ∷ Terminal k.sign_less ∷ The s.AType ∷ Terminal k.sign_greater ∷ []) (λ word opens row closes. type.RowsOf word.start row)
-
   -- bodies, blocks and statements
   body : Rule source s.ABody (Terminal k.sign_open_brace ∷ The s.Statements ∷ The s.Returns ∷ Terminal k.sign_close_brace ∷ []) (λ opens statements result closes. record { statements = statements; result = result })
   no_return : Rule source s.Returns [] None
@@ -76,7 +74,6 @@ pub data Rule (source : List ℕ) : (s : Part) → (l : List Symbol) → Makes l
   assigned : Rule source s.StatementEnd (Terminal k.sign_assign ∷ The Expression ∷ Terminal k.sign_semicolon ∷ []) (λ sign right end left. code.Assign sign.start left right)
   no_else : Rule source s.Otherwise [] code.NoStmts
   «else» : Rule source s.Otherwise (Terminal k.keyword_else ∷ The s.Block ∷ []) (λ word block. block)
-
   -- expressions: operators of a level group to the left
   alternatives : Rule source (Chain s.OrLevel) (The (Chain s.AndLevel) ∷ The (MoreChain s.OrLevel) ∷ []) (λ first more. more first)
   conditions : Rule source (Chain s.AndLevel) (The (Chain s.SameLevel) ∷ The (MoreChain s.AndLevel) ∷ []) (λ first more. more first)
