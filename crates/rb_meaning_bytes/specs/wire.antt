@@ -1,1 +1,4 @@
--- The definitions of this part.
+-- How scripts and forests are spelled on the wire, version 1: from each tree to its one list of bytes.
+pub mod Fields
+pub mod Scripts
+pub mod Forests

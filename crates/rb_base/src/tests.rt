@@ -1,0 +1,85 @@
+// What no clause says: that calls succeed where there is memory, and places by a reader's count.
+use crate::{
+    Files, FilesStop, MemoryFiles, MemorySink, NullSink, SameFiles, Sink, place, write_whole,
+};
+use bytes::BytesMut;
+use rb_trees::Seq;
+use std::test::Fail;
+
+#[test]
+fn a_read_takes_one_byte_more_than_its_limit(rt: HostRuntime) -> Result<(), Fail> {
+    let alloc = rt.alloc();
+    let mut files = MemoryFiles::make(alloc, Seq::new(alloc));
+    files.add("p", b"first")?;
+    files.add("s", b"second")?;
+    files.add("p", b"third")?;
+    for (name, limit, want) in [
+        ("p", 3, "> firs"),
+        ("p", 4, "> first"),
+        ("s", usize::MAX, "> second"),
+    ] {
+        let mut into = BytesMut::copy_from_slice(alloc, b"> ")?;
+        files.read(name, limit, &mut into)?;
+        assert_eq!(rt; into.as_slice(), want.as_bytes(), "{name} up to {limit}");
+    }
+    Ok(())
+}
+
+#[test]
+fn a_read_fails_where_it_is_listed_or_has_no_file(rt: HostRuntime) -> Result<(), Fail> {
+    let alloc = rt.alloc();
+    let mut files = MemoryFiles::make(alloc, Seq::from_slice(alloc, &[2])?);
+    files.add("p", b"first")?;
+    let mut into = BytesMut::new(alloc);
+    for (name, want) in [("p", false), ("p", true), ("P", true), ("p", false)] {
+        let fails = match files.read(name, 9, &mut into) {
+            Err(FilesStop::Failed) => true,
+            answer => {
+                answer?;
+                false
+            }
+        };
+        assert_eq!(rt; fails, want, "{name}");
+    }
+    assert_eq!(rt; into.as_slice(), b"firstfirst".as_slice());
+    Ok(())
+}
+
+#[test]
+fn same_files_have_each_name(rt: HostRuntime) -> Result<(), Fail> {
+    let alloc = rt.alloc();
+    let mut files = SameFiles::make(Seq::from_slice(alloc, b"text")?);
+    let mut into = BytesMut::new(alloc);
+    files.read("p", 1, &mut into)?;
+    files.read("s", 4, &mut into)?;
+    assert_eq!(rt; into.as_slice(), b"tetext".as_slice());
+    Ok(())
+}
+
+#[test]
+fn a_piece_is_written_byte_by_byte_up_to_a_fault(rt: HostRuntime) -> Result<(), Fail> {
+    let alloc = rt.alloc();
+    let mut sink = MemorySink::make(alloc, Seq::from_slice(alloc, &[3])?, 1);
+    assert!(rt; write_whole(&mut sink, b"abc").is_err());
+    assert_eq!(rt; sink.written(), b"ab".as_slice());
+    write_whole(&mut sink, b"cd")?;
+    assert_eq!(rt; sink.written(), b"abcd".as_slice());
+    assert_eq!(rt; sink.write(b"ef")?, 1);
+    Ok(())
+}
+
+#[test]
+fn a_null_sink_takes_all(rt: HostRuntime) -> Result<(), Fail> {
+    let mut sink = NullSink;
+    write_whole(&mut sink, b"abc")?;
+    assert_eq!(rt; sink.write(b"abc")?, 3);
+    Ok(())
+}
+
+#[test]
+fn places_count_from_one(rt: HostRuntime) {
+    for (at, line, column) in [(0, 1, 1), (2, 1, 3), (3, 2, 1), (4, 3, 1), (6, 3, 3)] {
+        assert_eq!(rt; place(b"ab\n\ncd", at), (line, column), "at {at}");
+    }
+    assert_eq!(rt; place(b"", 0), (1, 1));
+}

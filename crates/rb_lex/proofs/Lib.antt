@@ -1,0 +1,9 @@
+pub mod Runs
+pub mod Endings
+pub mod Lookup
+pub mod Slices
+pub mod Ended
+pub mod Found
+pub mod Turns
+pub mod Unique
+pub mod Places

@@ -1,0 +1,4 @@
+pub mod Answers
+pub mod Classes
+pub mod Ends
+pub mod Heads

@@ -1,0 +1,17 @@
+//! The lexer: from a text to its tokens, or to its first fault.
+//!
+//! What a token is stands in `rb_meaning_bytes`, in `specs/tokens`; [`lex`] is proved to answer exactly that.
+#![tactic(auto)]
+
+mod bytes;
+mod heads;
+mod lexing;
+mod literals;
+mod numbers;
+mod tables;
+#[cfg(test)]
+mod tests;
+
+pub use lexing::{lex, token_slice};
+pub use literals::text_value;
+pub use numbers::{capped_value, number_value};

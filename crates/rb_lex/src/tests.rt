@@ -1,0 +1,198 @@
+use crate::{lex, number_value, text_value};
+use std::alloc::Global;
+use std::fmt::Write;
+use std::test::Fail;
+
+/// Texts, and the kinds and spans of their tokens.
+static READ: [(&str, &str); 16] = [
+    ("", ""),
+    (" \t\r\n", ""),
+    (
+        "interface class fun remote main val var if else for in while",
+        "Keyword(0) 0-9 Keyword(1) 10-15 Keyword(2) 16-19 Keyword(3) 20-26 Keyword(4) 27-31 Keyword(5) 32-35 Keyword(6) 36-39 Keyword(7) 40-42 Keyword(8) 43-47 Keyword(9) 48-51 Keyword(10) 52-54 Keyword(11) 55-60",
+    ),
+    (
+        "try catch throw return batch print len str new this true false",
+        "Keyword(12) 0-3 Keyword(13) 4-9 Keyword(14) 10-15 Keyword(15) 16-22 Keyword(16) 23-28 Keyword(17) 29-34 Keyword(18) 35-38 Keyword(19) 39-42 Keyword(20) 43-46 Keyword(21) 47-51 Keyword(22) 52-56 Keyword(23) 57-62",
+    ),
+    (
+        "List Rows Int Bool Text Unit object root",
+        "Keyword(24) 0-4 Keyword(25) 5-9 Keyword(26) 10-13 Keyword(27) 14-18 Keyword(28) 19-23 Keyword(29) 24-28 Keyword(30) 29-35 Keyword(31) 36-40",
+    ),
+    (
+        "==!=<=>=&&||<>=+-*/%!.,;:(){}[]#",
+        "Sign(0) 0-2 Sign(1) 2-4 Sign(2) 4-6 Sign(3) 6-8 Sign(4) 8-10 Sign(5) 10-12 Sign(6) 12-13 Sign(3) 13-15 Sign(9) 15-16 Sign(10) 16-17 Sign(11) 17-18 Sign(12) 18-19 Sign(13) 19-20 Sign(14) 20-21 Sign(15) 21-22 Sign(16) 22-23 Sign(17) 23-24 Sign(18) 24-25 Sign(19) 25-26 Sign(20) 26-27 Sign(21) 27-28 Sign(22) 28-29 Sign(23) 29-30 Sign(24) 30-31 Sign(25) 31-32",
+    ),
+    (
+        "< = > = ! = = = <== !==",
+        "Sign(6) 0-1 Sign(8) 2-3 Sign(7) 4-5 Sign(8) 6-7 Sign(14) 8-9 Sign(8) 10-11 Sign(8) 12-13 Sign(8) 14-15 Sign(2) 16-18 Sign(8) 18-19 Sign(1) 20-22 Sign(8) 22-23",
+    ),
+    (
+        "vals val_ Val iff _ a1 __x9 1a",
+        "Name 0-4 Name 5-9 Name 10-13 Name 14-17 Name 18-19 Name 20-22 Name 23-27 Number 28-29 Name 29-30",
+    ),
+    (
+        "\"a\" \"\" \"\\n\\\"\\\\\" \"é // no\"",
+        "TextLit 0-3 TextLit 4-6 TextLit 7-15 TextLit 16-26",
+    ),
+    ("a // é \"open", "Name 0-1"),
+    ("a // x\nb", "Name 0-1 Name 7-8"),
+    (
+        "a/b /// c\n/",
+        "Name 0-1 Sign(12) 1-2 Name 2-3 Sign(12) 10-11",
+    ),
+    (
+        "-9223372036854775808 9223372036854775807 007",
+        "Sign(10) 0-1 Number 1-20 Number 21-40 Number 41-44",
+    ),
+    ("- 9223372036854775808", "Sign(10) 0-1 Number 2-21"),
+    (
+        "--9223372036854775808 - // c\n9223372036854775808",
+        "Sign(10) 0-1 Sign(10) 1-2 Number 2-21 Sign(10) 22-23 Number 29-48",
+    ),
+    ("\"\r\t\"", "TextLit 0-4"),
+];
+
+/// Texts, and their first faults.
+static REFUSED: [(&str, &str); 26] = [
+    ("main { print(1 $ 2); }", "BadByte(15)"),
+    ("main { print(\"a); }", "OpenText(13)"),
+    ("main { print(9223372036854775808); }", "NumberTooLarge(13)"),
+    ("-(9223372036854775808", "NumberTooLarge(2)"),
+    ("-9223372036854775809", "NumberTooLarge(1)"),
+    ("99999999999999999999999999", "NumberTooLarge(0)"),
+    ("&", "BadByte(0)"),
+    ("a | b", "BadByte(2)"),
+    ("x é", "BadByte(2)"),
+    ("\u{0}", "BadByte(0)"),
+    ("\"a\\", "OpenText(0)"),
+    ("\"a\\\n\"", "OpenText(0)"),
+    ("\"a\\x\" \"", "BadByte(2)"),
+    ("\"\\x \\q\"", "BadByte(1)"),
+    ("\"\\x", "OpenText(0)"),
+    ("\"a\nb\"", "OpenText(0)"),
+    ("a \"\\n", "OpenText(2)"),
+    ("$ \"a", "BadByte(0)"),
+    ("\"a $", "OpenText(0)"),
+    ("9223372036854775808 $", "NumberTooLarge(0)"),
+    ("$ 9223372036854775808", "BadByte(0)"),
+    ("\"\\q\" 9223372036854775808", "BadByte(1)"),
+    ("\"\\\\\" \"\\\"", "OpenText(5)"),
+    ("\\", "BadByte(0)"),
+    ("'", "BadByte(0)"),
+    ("a\u{7f}", "BadByte(1)"),
+];
+
+/// The outcome of a source in short.
+fn shown(alloc: Global, source: &[u8]) -> Result<String, Fail> {
+    match lex(alloc, source) {
+        Ok(tokens) => {
+            let mut text = String::new(alloc);
+            for token in tokens.as_slice() {
+                if !text.is_empty() {
+                    text.push(' ')?;
+                }
+                let kind = token.kind;
+                let start = token.start;
+                let end = token.end;
+                write!(text, "{kind:?} {start}-{end}")?;
+            }
+            Ok(text)
+        }
+        Err(error) => {
+            let text = format!(in alloc; "{error:?}")?;
+            Ok(text)
+        }
+    }
+}
+
+#[test]
+fn texts_have_their_tokens(rt: HostRuntime) -> Result<(), Fail> {
+    for (source, wanted) in READ.iter() {
+        assert_eq!(rt;
+            shown(rt.alloc(), source.as_bytes())?.as_str(),
+            *wanted,
+            "{source}"
+        );
+    }
+    Ok(())
+}
+
+#[test]
+fn refusals_stand_at_the_first_fault(rt: HostRuntime) -> Result<(), Fail> {
+    for (source, wanted) in REFUSED.iter() {
+        assert_eq!(rt;
+            shown(rt.alloc(), source.as_bytes())?.as_str(),
+            *wanted,
+            "{source}"
+        );
+    }
+    Ok(())
+}
+
+#[test]
+fn bytes_that_are_not_utf8_come_before_other_faults(rt: HostRuntime) -> Result<(), Fail> {
+    assert_eq!(rt; shown(rt.alloc(), b"main \xff")?.as_str(), "NotUtf8(5)");
+    assert_eq!(rt; shown(rt.alloc(), b"$ \"\xc3")?.as_str(), "NotUtf8(3)");
+    assert_eq!(rt;
+        shown(rt.alloc(), b"// \xed\xa0\x80")?.as_str(),
+        "NotUtf8(3)"
+    );
+    Ok(())
+}
+
+#[test]
+fn a_text_has_at_most_1048576_bytes(rt: HostRuntime) -> Result<(), Fail> {
+    let longest = vec![in rt.alloc(); b' '; 1_048_576]?;
+    assert_eq!(rt; shown(rt.alloc(), longest.as_slice())?.as_str(), "");
+    let longer = vec![in rt.alloc(); 0xff; 1_048_577]?;
+    assert_eq!(rt;
+        shown(rt.alloc(), longer.as_slice())?.as_str(),
+        "TooLong(1048576)"
+    );
+    Ok(())
+}
+
+/// A quote, so many letters, and the end of a literal.
+fn literal_of(alloc: Global, count: usize, end: &[u8]) -> Result<Vec<u8>, Fail> {
+    let mut source = vec![in alloc; b'a'; count]?;
+    source.insert(0, b'"')?;
+    source.extend_from_slice(end)?;
+    Ok(source)
+}
+
+#[test]
+fn a_literal_has_a_value_of_at_most_4096_bytes(rt: HostRuntime) -> Result<(), Fail> {
+    let longest = literal_of(rt.alloc(), 4_094, b"\\n\\\"\"")?;
+    assert_eq!(rt;
+        shown(rt.alloc(), longest.as_slice())?.as_str(),
+        "TextLit 0-4100"
+    );
+    let longer = literal_of(rt.alloc(), 4_095, b"\\n\\\"\" $")?;
+    assert_eq!(rt;
+        shown(rt.alloc(), longer.as_slice())?.as_str(),
+        "TooLong(0)"
+    );
+    let bad = literal_of(rt.alloc(), 5_000, b"\\x\"")?;
+    assert_eq!(rt;
+        shown(rt.alloc(), bad.as_slice())?.as_str(),
+        "BadByte(5001)"
+    );
+    Ok(())
+}
+
+#[test]
+fn tokens_have_their_values(rt: HostRuntime) -> Result<(), Fail> {
+    assert_eq!(rt; number_value(b"007"), 7);
+    assert_eq!(rt;
+        number_value(b"9223372036854775807"),
+        9_223_372_036_854_775_807
+    );
+    assert_eq!(rt;
+        number_value(b"9223372036854775808"),
+        -9_223_372_036_854_775_807 - 1
+    );
+    let text = text_value(rt.alloc(), b"\"a\\n\\\"\\\\\xc3\xa9\"")?;
+    assert_eq!(rt; text.as_slice(), b"a\n\"\\\xc3\xa9".as_slice());
+    Ok(())
+}

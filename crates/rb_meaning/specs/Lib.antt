@@ -1,0 +1,11 @@
+pub mod Place
+pub mod Faults
+pub mod State
+pub mod Dialogue
+pub mod Code
+pub mod Remote
+pub mod Unsplit
+pub mod Meaning
+pub mod Shown
+pub mod ScriptRun
+pub mod Division

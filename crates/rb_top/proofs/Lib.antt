@@ -1,0 +1,16 @@
+pub mod Answered
+pub mod Calls
+pub mod Collected
+pub mod Entries
+pub mod Fields
+pub mod Forms
+pub mod Kept
+pub mod Literals
+pub mod Lines
+pub mod Others
+pub mod Printed
+pub mod ReadsBack
+pub mod Replayed
+pub mod Slices
+pub mod Steps
+pub mod Whole
