@@ -6,3 +6,4 @@ pub mod Rules
 pub mod Derives
 pub mod Limits
 pub mod Refusals
+pub mod Sources

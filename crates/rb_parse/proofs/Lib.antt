@@ -11,3 +11,4 @@ pub mod Lists
 pub mod StatementEquations
 pub mod DeclarationEquations
 pub mod Laws
+pub mod Joins

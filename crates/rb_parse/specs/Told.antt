@@ -6,6 +6,7 @@ use Rattle.rb_trees.specs.declared.reading.ReadError.TheVariants as errors
 use Rattle.rb_trees.specs.declared.declarations.Program as code
 use Rattle.rb_trees.specs.mirror.Declarations.{Program, mirror_program}
 use Rattle.rb_meaning_bytes.specs.grammar.Refusals.{Read}
+use Rattle.rb_meaning_bytes.specs.grammar.Sources.{ReadSource}
 
 -- the answer in the mirror
 abbrev pub mirror_answer : Result code.Program ReadError → Result Program ReadError
@@ -21,3 +22,7 @@ abbrev pub IsRead : Program → Result code.Program ReadError → Type 0
 IsRead program (Ok answer) = mirror_program answer ≡ program
 IsRead program (Err errors.Memory) = Unit {0}
 IsRead program (Err _) = ⊥
+
+-- The source has what is answered: the program, or the refusal.
+abbrev pub ToldSource : List ℕ → Result code.Program ReadError → Type 0
+ToldSource source answer = ReadSource source (mirror_answer answer)

@@ -11,9 +11,11 @@ mod limits;
 mod next;
 mod reading;
 mod simple;
+mod source;
 mod statements;
 mod stop;
 mod types;
 mod values;
 
 pub use reading::{parse_tokens, tokens_derive_one_program};
+pub use source::parse_program;
