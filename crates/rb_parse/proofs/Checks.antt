@@ -1,12 +1,11 @@
 -- What the table has to keep, as tests of it that compute.
-use Rattle.std.proofs.Common.{◌≡◌, ℕ, ◌<◌, ◌≤◌, Bool, true, false, cond, List, [], ◌∷◌, ◌++◌, refl, ap, sym, ◌∙◌, subst, Option, Some, None, ltb, ltb-true, ◌⊎◌, inl, inr}
+use Rattle.std.proofs.Common.{◌≡◌, ℕ, Bool, true, false, cond, List, [], ◌∷◌, ◌++◌, refl, Option, Some, None, ltb}
 use Rattle.rb_trees.specs.declared.tokens.TokenKind.{TokenKind}
-use Rattle.rb_meaning_bytes.specs.grammar.Kinds.{is_kind, is_one_of}
 use Rattle.rb_meaning_bytes.specs.grammar.Symbols as s
 use Rattle.rb_meaning_bytes.specs.grammar.Symbols.{Symbol, Terminal, The, Part, Chain, MoreChain}
-use Rattle.rb_parse.specs.Table.{Choice, begins, may_be_empty, symbol_begins, symbol_may_be_empty, all_begin, cases, otherwise, chosen}
+use Rattle.rb_parse.specs.Table.{Choice, begins, may_be_empty, symbol_may_be_empty, all_begin, cases, otherwise}
 use Rattle.rb_parse.specs.Reading.{rank}
-use Rattle.rb_parse.proofs.KindLists.{both, both_one, both_two, within, apart, one_within, one_apart, cond_false}
+use Rattle.rb_parse.proofs.KindLists.{both, within, apart}
 
 -- the kinds that can't follow an operand of a level, since it would go on with them
 

@@ -1,15 +1,14 @@
 -- What is spelled is taken, whatever follows that can follow it.
-use Rattle.std.proofs.Common.{◌≡◌, ℕ, Bool, true, false, cond, not, List, [], ◌∷◌, ◌++◌, refl, ap, sym, ◌∙◌, subst, Option, Some, None, append_assoc, append-nil}
+use Rattle.std.proofs.Common.{◌≡◌, ℕ, Bool, true, false, cond, not, List, [], ◌∷◌, ◌++◌, refl, ap, sym, subst, Some, append_assoc}
 use Rattle.rb_trees.specs.declared.tokens.Token.{Token}
 use Rattle.rb_trees.specs.declared.tokens.TokenKind.{TokenKind}
 use Rattle.rb_meaning_bytes.specs.grammar.Kinds.{is_kind, is_one_of}
-use Rattle.rb_meaning_bytes.specs.grammar.Symbols.{Symbol, Terminal, The, Part, TreeOf, Trees, Makes, made}
-use Rattle.rb_meaning_bytes.specs.grammar.Rules.{Rule}
+use Rattle.rb_meaning_bytes.specs.grammar.Symbols.{Symbol, Terminal, The, Part, TreeOf, Trees, made}
 use Rattle.rb_meaning_bytes.specs.grammar.Derives as g
 use Rattle.rb_meaning_bytes.specs.grammar.Derives.{Spells, Front}
-use Rattle.rb_parse.specs.Table.{Choice, choice, begins, may_be_empty, symbol_begins, symbol_may_be_empty, all_begin, cases, otherwise, predict}
-use Rattle.rb_parse.proofs.KindLists.{kind_is, both, both_one, both_two, within, apart, one_within, one_apart, one_here, one_there, either_two}
-use Rattle.rb_parse.proofs.Checks.{bars, symbol_bars, implies, implied, all_empty, fitting, ending, Sound}
+use Rattle.rb_parse.specs.Table.{Choice, choice, begins, may_be_empty, all_begin, cases, otherwise, predict}
+use Rattle.rb_parse.proofs.KindLists.{kind_is, both, both_one, both_two, within, apart, one_within, one_apart, one_here, one_there}
+use Rattle.rb_parse.proofs.Checks.{bars, symbol_bars, implies, implied, all_empty, fitting, ending}
 use Rattle.rb_parse.proofs.Listed.{In, listed}
 use Rattle.rb_parse.proofs.Predicts.{sound, not_true, Clear, told, untold}
 use Rattle.rb_parse.proofs.Takes.{Takes, done, token, part}

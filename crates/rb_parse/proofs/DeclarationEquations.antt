@@ -1,5 +1,5 @@
 -- What reading declarations is.
-use Rattle.std.proofs.Common.{◌≡◌, ℕ, Bool, true, false, cond, List, [], ◌∷◌, ◌++◌, map, length, refl, ap, sym, ◌∙◌, Option, Some, None, Result, Ok, Err, append_assoc, append-nil}
+use Rattle.std.proofs.Common.{◌≡◌, ℕ, Bool, true, false, cond, List, [], ◌∷◌, ◌++◌, map, length, refl, ap, sym, ◌∙◌, Some, None, Result, Ok, Err, append-nil}
 use Rattle.rb_trees.specs.declared.tokens.Token.{Token}
 use Rattle.rb_trees.specs.declared.tokens.TokenKind.{TokenKind}
 use Rattle.rb_trees.specs.declared.tokens.TokenKind.TheVariants as kind
@@ -10,14 +10,12 @@ use Rattle.rb_trees.specs.declared.declarations.Method as method
 use Rattle.rb_trees.specs.declared.declarations.Class as class
 use Rattle.rb_trees.specs.mirror.Types as type
 use Rattle.rb_trees.specs.mirror.Types.{TypeTree}
-use Rattle.rb_trees.specs.mirror.Code.{Expr}
-use Rattle.rb_trees.specs.mirror.Declarations as tree
 use Rattle.rb_trees.specs.mirror.Declarations.{mirror_param, mirror_signature, mirror_interface, mirror_method, mirror_class}
 use Rattle.rb_meaning_bytes.specs.grammar.Kinds as k
 use Rattle.rb_meaning_bytes.specs.grammar.Kinds.{is_kind}
 use Rattle.rb_meaning_bytes.specs.grammar.Values.{name_of}
 use Rattle.rb_meaning_bytes.specs.grammar.Symbols as s
-use Rattle.rb_parse.specs.Table.{Choice, begins, may_be_empty, cases, otherwise}
+use Rattle.rb_parse.specs.Table.{begins, may_be_empty, cases, otherwise}
 use Rattle.rb_parse.specs.Reading.{Read, ◌>>=◌, take_kind, read_of, taken, next_in, on_taken}
 use Rattle.rb_parse.specs.Blocks.{expression_to_end}
 use Rattle.rb_parse.specs.Heads.{result_of, signature_to_end, field_to_end, next_param, params_to_close, headed_of, listed_on, params_on}

@@ -1,28 +1,24 @@
 -- What reading a part is, by the next token.
-use Rattle.std.proofs.Common.{◌≡◌, ℕ, Bool, true, false, cond, List, [], ◌∷◌, ◌++◌, length, refl, ap, sym, ◌∙◌, subst, Option, Some, None, Result, Ok, Err}
+use Rattle.std.proofs.Common.{◌≡◌, ℕ, Bool, true, false, cond, List, [], ◌∷◌, length, refl, ap, sym, ◌∙◌, Option, Some, None, Result, Ok, Err}
 use Rattle.rb_trees.specs.declared.tokens.Token.{Token}
-use Rattle.rb_trees.specs.declared.tokens.TokenKind.{TokenKind}
 use Rattle.rb_trees.specs.declared.tokens.TokenKind.TheVariants as kind
 use Rattle.rb_trees.specs.mirror.Types as type
 use Rattle.rb_meaning_bytes.specs.grammar.Kinds as k
 use Rattle.rb_meaning_bytes.specs.grammar.Kinds.{is_kind, is_one_of}
 use Rattle.rb_meaning_bytes.specs.grammar.Symbols as s
 use Rattle.rb_meaning_bytes.specs.grammar.Symbols.{Symbol, Terminal, The, Part, TreeOf, Makes}
-use Rattle.rb_meaning_bytes.specs.grammar.Values.{name_of, number_of, text_of}
-use Rattle.rb_parse.specs.Table.{Choice, begins, may_be_empty, all_begin, cases, otherwise, chosen, predict}
-use Rattle.rb_parse.specs.Reading.{Read, Reader, ◌>>=◌, take_kind, read_symbol, read_into, by_choice, read_of, taken, next_in, on_taken}
-use Rattle.rb_trees.specs.declared.values.Value as value
+use Rattle.rb_meaning_bytes.specs.grammar.Values.{name_of}
+use Rattle.rb_parse.specs.Table.{Choice, begins, may_be_empty, all_begin, cases, otherwise, chosen}
+use Rattle.rb_parse.specs.Reading.{Read, Reader, ◌>>=◌, read_into, by_choice, read_of, taken, next_in, on_taken}
 use Rattle.rb_trees.specs.declared.code.UnOp.TheVariants as unary
 use Rattle.rb_trees.specs.declared.code.BinOp.{BinOp}
-use Rattle.rb_trees.specs.declared.code.BinOp.TheVariants as binary
-use Rattle.rb_trees.specs.declared.code.Expr as expr
 use Rattle.rb_trees.specs.mirror.Code as code
 use Rattle.rb_trees.specs.mirror.Code.{Expr, Exprs, mirror_expr, mirror_exprs}
 use Rattle.rb_meaning_bytes.specs.grammar.Rules.{member}
 use Rattle.rb_parse.specs.declared.levels.Level.{Level}
 use Rattle.rb_parse.specs.declared.levels.Level.TheVariants as l
 use Rattle.rb_parse.specs.Table.{expression_kinds}
-use Rattle.rb_parse.specs.Parts.{item_of, level_of, operand_of, repeats, operator_at, more_of, on_operator, joined_of, prefixed_of, members_of, arguments_to_close, expression_to_close, called_of, member_at, index_at, atom_of, on_atom, measured_of, object_of, list_of, put_exprs, more_on, arguments_on}
+use Rattle.rb_parse.specs.Parts.{item_of, level_of, operand_of, repeats, operator_at, more_of, on_operator, joined_of, prefixed_of, members_of, arguments_to_close, expression_to_close, called_of, member_at, index_at, atom_of, on_atom, measured_of, object_of, list_of, more_on}
 use Rattle.rb_parse.proofs.Function.{reads}
 
 -- a production that begins with a token goes on behind it; another one is told by what it begins with

@@ -1,5 +1,5 @@
 -- Every prefix goes on to a text, and a text is read: so reading stops at the first token that no text has there.
-use Rattle.std.proofs.Common.{◌≡◌, ℕ, suc, ◌+◌, ◌*◌, ◌<◌, List, [], ◌∷◌, ◌++◌, length, refl, ap, sym, ◌∙◌, subst, Result, Ok, Err, arith, append_assoc, append-nil, subst₂}
+use Rattle.std.proofs.Common.{◌≡◌, ℕ, suc, ◌+◌, ◌*◌, List, [], ◌∷◌, ◌++◌, length, refl, ap, sym, ◌∙◌, subst, Result, Ok, Err, arith, append_assoc, append-nil, subst₂}
 use Rattle.rb_trees.specs.declared.tokens.Token.{Token}
 use Rattle.rb_trees.specs.declared.tokens.TokenKind.{TokenKind}
 use Rattle.rb_trees.specs.declared.tokens.TokenKind.TheVariants as kind
@@ -11,7 +11,7 @@ use Rattle.rb_meaning_bytes.specs.grammar.Rules as r
 use Rattle.rb_meaning_bytes.specs.grammar.Rules.{Rule}
 use Rattle.rb_meaning_bytes.specs.grammar.Derives as g
 use Rattle.rb_meaning_bytes.specs.grammar.Derives.{Spells, Front, Derives, Begins, Stuck, Breaks}
-use Rattle.rb_parse.specs.Reading.{Read, ◌>>=◌, alone, read_of, read_into, rank, program_of}
+use Rattle.rb_parse.specs.Reading.{Read, ◌>>=◌, alone, read_of, rank, program_of}
 use Rattle.rb_parse.proofs.Takes.{Takes, Stops, done, part, none, within, took, halts, takes_local, stops_local}
 use Rattle.rb_parse.proofs.Complete.{complete}
 use Rattle.rb_parse.proofs.Function.{Came, taken, untold, stopped, came, read_takes, read_stops}

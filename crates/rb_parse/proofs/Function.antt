@@ -1,13 +1,13 @@
 -- The reading function is what its derivations say, and it reads by the table.
-use Rattle.std.proofs.Common.{◌≡◌, ℕ, zero, suc, ◌+◌, ◌*◌, ◌<◌, ◌≤◌, Bool, true, false, cond, List, [], ◌∷◌, ◌++◌, length, refl, ap, sym, ◌∙◌, subst, Option, Some, None, Result, Ok, Err, arith, ltb, ltb-true, lt-ltb}
+use Rattle.std.proofs.Common.{◌≡◌, ℕ, zero, suc, ◌+◌, ◌*◌, ◌<◌, ◌≤◌, Bool, true, false, cond, List, [], ◌∷◌, length, refl, ap, sym, ◌∙◌, Option, Some, None, Ok, Err, arith, ltb, ltb-true, lt-ltb}
 use Rattle.rb_trees.specs.declared.tokens.Token.{Token}
 use Rattle.rb_trees.specs.declared.tokens.TokenKind.{TokenKind}
 use Rattle.rb_meaning_bytes.specs.grammar.Kinds.{is_kind}
 use Rattle.rb_meaning_bytes.specs.grammar.Symbols.{Symbol, Terminal, The, Part, TreeOf, Trees, Makes, made}
-use Rattle.rb_parse.specs.Table.{Choice, may_be_empty, cases, otherwise, predict}
-use Rattle.rb_parse.specs.Reading.{Read, Reader, ◌>>=◌, take_kind, read_symbol, read_into, by_choice, rank, read, read_of}
+use Rattle.rb_parse.specs.Table.{Choice, may_be_empty, predict}
+use Rattle.rb_parse.specs.Reading.{Read, Reader, ◌>>=◌, take_kind, read_into, by_choice, rank, read, read_of}
 use Rattle.rb_parse.proofs.KindLists.{both, both_one, both_two}
-use Rattle.rb_parse.proofs.Checks.{implies, implied, all_empty, ranked, Sound}
+use Rattle.rb_parse.proofs.Checks.{implies, implied, ranked}
 use Rattle.rb_parse.proofs.Predicts.{sound, predict_in, check_of}
 use Rattle.rb_parse.proofs.Takes as d
 use Rattle.rb_parse.proofs.Takes.{Takes, Stops, shorter}

@@ -6,7 +6,7 @@ use Rattle.rb_trees.specs.mirror.Declarations.{Program}
 use Rattle.rb_meaning_bytes.specs.grammar.Derives.{Derives, Begins, Stuck, Breaks}
 use Rattle.rb_meaning_bytes.specs.grammar.Limits.{Nesting, after, too_deep, broken, nothing_open, Within}
 use Rattle.rb_trees.specs.declared.reading.ReadError.TheVariants as errors
-use Rattle.rb_meaning_bytes.specs.grammar.Refusals.{Read, UnexpectedAt, TooNestedAt, place_of}
+use Rattle.rb_meaning_bytes.specs.grammar.Refusals.{Read, place_of}
 use Rattle.rb_parse.specs.declared.stop.Refusal.{Refusal}
 use Rattle.rb_parse.specs.declared.stop.Refusal.TheVariants as refusals
 use Rattle.rb_parse.specs.Reading.{program_of}

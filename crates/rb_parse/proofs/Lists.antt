@@ -1,12 +1,12 @@
 -- Lists that are read one item after the other.
-use Rattle.std.proofs.Common.{◌≡◌, ℕ, Bool, true, false, cond, List, [], ◌∷◌, ◌++◌, length, refl, ap, sym, ◌∙◌, Option, Some, None, Result, Ok, Err}
+use Rattle.std.proofs.Common.{◌≡◌, ℕ, List, [], ◌∷◌, ◌++◌, refl, ap, ◌∙◌, Some, None, Ok, Err}
 use Rattle.rb_trees.specs.declared.tokens.Token.{Token}
 use Rattle.rb_trees.specs.declared.code.Expr as expr
 use Rattle.rb_trees.specs.mirror.Code as code
 use Rattle.rb_trees.specs.mirror.Code.{Expr, Exprs, mirror_expr, mirror_exprs}
 use Rattle.rb_meaning_bytes.specs.grammar.Kinds as k
 use Rattle.rb_meaning_bytes.specs.grammar.Symbols as s
-use Rattle.rb_parse.specs.Table.{Choice, cases, otherwise}
+use Rattle.rb_parse.specs.Table.{cases, otherwise}
 use Rattle.rb_parse.specs.Reading.{Read, ◌>>=◌, read_of, taken, on_taken}
 use Rattle.rb_parse.specs.Parts.{put_exprs, more_on, arguments_on}
 use Rattle.rb_parse.proofs.Equations.{reads_by, taken_bind, bind_bind}

@@ -1,15 +1,14 @@
 -- What the table predicts is the production whose spelling comes.
-use Rattle.std.proofs.Common.{◌≡◌, ℕ, ◌<◌, Bool, true, false, cond, List, [], ◌∷◌, ◌++◌, refl, ap, sym, ◌∙◌, subst, Option, Some, None, ltb, ltb-true, ◌⊎◌, inl, inr}
+use Rattle.std.proofs.Common.{◌≡◌, ℕ, ◌<◌, Bool, true, false, cond, List, [], ◌∷◌, refl, ap, sym, ◌∙◌, subst, Option, Some, ltb, ltb-true}
 use Rattle.rb_trees.specs.declared.tokens.Token.{Token}
 use Rattle.rb_trees.specs.declared.tokens.TokenKind.{TokenKind}
-use Rattle.rb_meaning_bytes.specs.grammar.Kinds.{is_kind, is_one_of}
-use Rattle.rb_meaning_bytes.specs.grammar.Symbols.{Symbol, Terminal, The, Part, TreeOf, Makes}
-use Rattle.rb_meaning_bytes.specs.grammar.Rules.{Rule}
-use Rattle.rb_parse.specs.Table.{Choice, choice, begins, may_be_empty, symbol_begins, symbol_may_be_empty, all_begin, cases, otherwise, chosen, predict}
+use Rattle.rb_meaning_bytes.specs.grammar.Kinds.{is_one_of}
+use Rattle.rb_meaning_bytes.specs.grammar.Symbols.{Symbol, Part}
+use Rattle.rb_parse.specs.Table.{Choice, begins, may_be_empty, all_begin, cases, otherwise, chosen, predict}
 use Rattle.rb_parse.specs.Reading.{rank}
 use Rattle.rb_parse.proofs.KindLists.{both, both_one, both_two, within, apart, one_within, one_apart, one_here, one_there, cond_false}
-use Rattle.rb_parse.proofs.Checks.{bars, implies, implied, all_empty, ranked, fitting, ending, Sound, sound_at, all_sound, any_begin, told_apart, checks, checked}
-use Rattle.rb_parse.proofs.Listed.{In, here, there, last, listed}
+use Rattle.rb_parse.proofs.Checks.{bars, implies, implied, all_empty, ranked, fitting, ending, Sound, sound_at, all_sound, any_begin, told_apart, checked}
+use Rattle.rb_parse.proofs.Listed.{In, here, there, last}
 
 pub not_true : (b : Bool) → (b ≡ true → ⊥) → b ≡ false
 not_true true f = absurd (f refl)

@@ -1,12 +1,12 @@
 -- What reading statements is.
-use Rattle.std.proofs.Common.{◌≡◌, ℕ, Bool, true, false, cond, List, [], ◌∷◌, ◌++◌, length, refl, ap, sym, ◌∙◌, Option, Some, None, Result, Ok, Err}
+use Rattle.std.proofs.Common.{◌≡◌, ℕ, Bool, true, false, cond, List, [], ◌∷◌, ◌++◌, refl, ap, sym, ◌∙◌, Result, Ok, Err}
 use Rattle.rb_trees.specs.declared.tokens.Token.{Token}
 use Rattle.rb_trees.specs.declared.code.Stmt as stmt
 use Rattle.rb_trees.specs.mirror.Code as code
 use Rattle.rb_trees.specs.mirror.Code.{Expr, Stmt, Stmts, mirror_stmt, mirror_stmts}
 use Rattle.rb_meaning_bytes.specs.grammar.Kinds as k
 use Rattle.rb_meaning_bytes.specs.grammar.Symbols as s
-use Rattle.rb_parse.specs.Table.{Choice, begins, may_be_empty, statement_kinds, cases, otherwise}
+use Rattle.rb_parse.specs.Table.{begins, may_be_empty, statement_kinds, cases, otherwise}
 use Rattle.rb_parse.specs.Reading.{Read, ◌>>=◌, take_kind, read_of, taken, next_in, on_taken}
 use Rattle.rb_parse.specs.Parts.{expression_to_close}
 use Rattle.rb_parse.specs.Blocks.{expression_to_end, named_value_of, condition_of, printed_of, ended_of, simple_of, if_of, while_of, each_of, for_of, caught_of, try_of, rooted_of, batch_of, put_stmts, statements_on}

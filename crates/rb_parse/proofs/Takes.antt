@@ -1,16 +1,15 @@
 -- How reading goes, as derivations: symbols take tokens up to a rest, or stop with so many tokens left.
-use Rattle.std.proofs.Common.{◌≡◌, ℕ, ◌+◌, ◌<◌, ◌≤◌, Bool, true, false, cond, List, [], ◌∷◌, ◌++◌, length, refl, ap, sym, ◌∙◌, subst, Option, Some, None, arith, append_assoc, length-append}
+use Rattle.std.proofs.Common.{◌≡◌, ℕ, ◌<◌, ◌≤◌, Bool, true, false, List, [], ◌∷◌, ◌++◌, length, refl, ap, sym, ◌∙◌, subst, Option, Some, None, arith, append_assoc, length-append}
 use Rattle.rb_trees.specs.declared.tokens.Token.{Token}
 use Rattle.rb_trees.specs.declared.tokens.TokenKind.{TokenKind}
 use Rattle.rb_meaning_bytes.specs.grammar.Kinds.{is_kind}
-use Rattle.rb_meaning_bytes.specs.grammar.Symbols.{Symbol, Terminal, The, Part, TreeOf, Trees, Makes, made}
-use Rattle.rb_meaning_bytes.specs.grammar.Rules.{Rule}
+use Rattle.rb_meaning_bytes.specs.grammar.Symbols.{Symbol, Terminal, The, Part, TreeOf, Trees, made}
 use Rattle.rb_meaning_bytes.specs.grammar.Derives as g
 use Rattle.rb_meaning_bytes.specs.grammar.Derives.{Spells, Front}
-use Rattle.rb_parse.specs.Table.{Choice, may_be_empty, symbol_may_be_empty, cases, otherwise, chosen, predict}
-use Rattle.rb_parse.proofs.KindLists.{kind_same, both, both_one, both_two}
-use Rattle.rb_parse.proofs.Checks.{all_empty, implies, implied, Sound}
-use Rattle.rb_parse.proofs.Predicts.{sound, predict_in, not_true}
+use Rattle.rb_parse.specs.Table.{Choice, may_be_empty, predict}
+use Rattle.rb_parse.proofs.KindLists.{kind_same, both}
+use Rattle.rb_parse.proofs.Checks.{all_empty, implies}
+use Rattle.rb_parse.proofs.Predicts.{sound, predict_in}
 
 -- The symbols take tokens of a list, with these trees, and this rest is left.
 pub data Takes (source : List ℕ) : (l : List Symbol) → List Token → Trees l → List Token → Type 0 where

@@ -4,7 +4,6 @@ use Rattle.rb_trees.specs.declared.tokens.Token.{Token}
 use Rattle.rb_trees.specs.declared.tokens.TokenKind.TheVariants as kind
 use Rattle.rb_trees.specs.declared.values.Value as value
 use Rattle.rb_trees.specs.declared.code.UnOp.{UnOp}
-use Rattle.rb_trees.specs.declared.code.UnOp.TheVariants as unary
 use Rattle.rb_trees.specs.declared.code.BinOp.{BinOp}
 use Rattle.rb_trees.specs.declared.code.BinOp.TheVariants as binary
 use Rattle.rb_trees.specs.declared.code.Expr as expr
@@ -14,11 +13,9 @@ use Rattle.rb_trees.specs.mirror.Code.{Expr, Exprs, mirror_expr}
 use Rattle.rb_meaning_bytes.specs.grammar.Kinds as k
 use Rattle.rb_meaning_bytes.specs.grammar.Values.{name_of, number_of, text_of}
 use Rattle.rb_meaning_bytes.specs.grammar.Symbols as s
-use Rattle.rb_meaning_bytes.specs.grammar.Rules.{member}
 use Rattle.rb_parse.specs.declared.levels.Level.{Level}
 use Rattle.rb_parse.specs.declared.levels.Level.TheVariants as l
-use Rattle.rb_parse.specs.Table.{expression_kinds}
-use Rattle.rb_parse.specs.Reading.{Read, ◌>>=◌, take_kind, taken, next_in, on_taken, read_of}
+use Rattle.rb_parse.specs.Reading.{Read, ◌>>=◌, take_kind, taken, on_taken, read_of}
 
 -- the type of an item or row, between its signs
 unfoldable pub item_of : List ℕ → List Token → Read TypeTree

@@ -1,4 +1,4 @@
-use Rattle.std.proofs.Common.{◌≡◌, ℕ, ◌+◌, ◌*◌, ◌≤◌, length}
+use Rattle.std.proofs.Common.{◌≡◌, ◌+◌, ◌*◌, ◌≤◌, length}
 use Rattle.rb_trees.specs.mirror.Code.{mirror_expr}
 use Rattle.rb_parse.specs.Parts.{depth, more_on, arguments_on}
 use Rattle.rb_parse.proofs.expressions.+expressions.Given as goal

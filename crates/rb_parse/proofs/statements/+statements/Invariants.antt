@@ -1,4 +1,4 @@
-use Rattle.std.proofs.Common.{◌≡◌, ℕ, ◌+◌, ◌*◌, ◌≤◌, length}
+use Rattle.std.proofs.Common.{◌≡◌, ◌+◌, ◌*◌, ◌≤◌, length}
 use Rattle.rb_meaning_bytes.specs.grammar.Symbols as s
 use Rattle.rb_parse.specs.Reading.{read_of}
 use Rattle.rb_parse.specs.Blocks.{statements_on}

@@ -1,4 +1,4 @@
-use Rattle.std.proofs.Common.{ℕ, ◌+◌, ◌*◌, length}
+use Rattle.std.proofs.Common.{length}
 use Rattle.rb_parse.proofs.types.+types.Given as goal
 
 abbrev pub decreases-type_tree : goal.decreases-type_tree
