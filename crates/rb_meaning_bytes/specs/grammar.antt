@@ -1,1 +1,9 @@
--- The definitions of this part.
+-- The grammar of programs.
+pub mod Kinds
+pub mod Values
+pub mod Symbols
+pub mod Rules
+pub mod Derives
+pub mod Limits
+pub mod Refusals
+pub mod Sources

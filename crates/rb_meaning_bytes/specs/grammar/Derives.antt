@@ -1,0 +1,49 @@
+-- What the tokens of a text derive, and which lists of tokens texts begin with. Both go by the productions alone.
+use Rattle.std.specs.Prelude.{◌≡◌, ℕ, List, [], ◌∷◌, ◌++◌, length}
+use Rattle.rb_trees.specs.declared.tokens.Token.{Token}
+use Rattle.rb_trees.specs.mirror.Declarations.{Program}
+use Rattle.rb_meaning_bytes.specs.grammar.Symbols.{Symbol, Terminal, The, Part, TheProgram, TreeOf, Trees, Makes, made}
+use Rattle.rb_meaning_bytes.specs.grammar.Rules.{Rule}
+
+-- The tokens spell the symbols, one after the other, with these trees.
+pub data Spells (source : List ℕ) : (l : List Symbol) → List Token → Trees l → Type 0 where
+  nothing : Spells source [] [] tt
+  token : {l : List Symbol} {ts : List Token} {xs : Trees l} (t : Token) → Spells source l ts xs
+      → Spells source (Terminal t.kind ∷ l) (t ∷ ts) (t, xs)
+  rule : {p : Part} {m l : List Symbol} {f : Makes m (TreeOf p)} {ts us : List Token} {ys : Trees m} {xs : Trees l}
+      → Rule source p m f → Spells source m ts ys → Spells source l us xs
+      → Spells source (The p ∷ l) (ts ++ us) (made m (TreeOf p) f ys, xs)
+
+-- A list of tokens is a prefix of symbols: it is empty, or the spelling of none or some of the first symbols followed
+-- by a prefix of the next one.
+pub data Front (source : List ℕ) : List Symbol → List Token → Type 0 where
+  none : {l : List Symbol} → Front source l []
+  after_token : {l : List Symbol} {ts : List Token} (t : Token) → Front source l ts
+      → Front source (Terminal t.kind ∷ l) (t ∷ ts)
+  within : {p : Part} {m l : List Symbol} {f : Makes m (TreeOf p)} {ts : List Token}
+      → Rule source p m f → Front source m ts → Front source (The p ∷ l) ts
+  past : {p : Part} {m l : List Symbol} {f : Makes m (TreeOf p)} {ts us : List Token} {ys : Trees m}
+      → Rule source p m f → Spells source m ts ys → Front source l us → Front source (The p ∷ l) (ts ++ us)
+
+-- The tokens of the source derive the program.
+abbrev pub Derives : List ℕ → List Token → Program → Type 0
+Derives source tokens program = Spells source (The TheProgram ∷ []) tokens (program, tt)
+
+-- Some program begins with the tokens.
+abbrev pub Begins : List ℕ → List Token → Type 0
+Begins source tokens = Front source (The TheProgram ∷ []) tokens
+
+-- No text goes on from the tokens so far and the next one; at the end, the tokens are no text.
+abbrev pub Stuck : List ℕ → List Token → List Token → Type 0
+Stuck source front [] = (program : Program) → ¬ Derives source front program
+Stuck source front (t ∷ ts) = ¬ Begins source (front ++ t ∷ [])
+
+-- So many tokens from the end stands the first token with which the tokens so far are a prefix of no text,
+-- or the end, where it is not expected.
+pub record Breaks (source : List ℕ) (tokens : List Token) (left : ℕ) : Type 0 where
+  pub front : List Token
+  pub rest : List Token
+  pub is : tokens ≡ front ++ rest
+  pub left_is : length rest ≡ left
+  pub goes : Begins source front
+  pub stuck : Stuck source front rest

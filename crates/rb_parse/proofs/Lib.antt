@@ -1,0 +1,14 @@
+pub mod KindLists
+pub mod Checks
+pub mod Listed
+pub mod Predicts
+pub mod Takes
+pub mod Complete
+pub mod Function
+pub mod Fronts
+pub mod Equations
+pub mod Lists
+pub mod StatementEquations
+pub mod DeclarationEquations
+pub mod Laws
+pub mod Joins

@@ -1,0 +1,5 @@
+use Rattle.rb_parse.proofs.Fronts.{one_tree}
+use Rattle.rb_parse.proofs.reading.tokens_derive_one_program.Goals as goal
+
+pub returns : goal.returns
+returns c = λ source tokens one other h k. one_tree source tokens one other h k

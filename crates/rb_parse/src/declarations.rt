@@ -1,0 +1,430 @@
+// Declarations and the program.
+
+ghost use Rattle.std.specs.Prelude.{◌≡◌, ◌<◌, ◌≤◌, length, map, option_map, IfOk};
+ghost use Rattle.rb_trees.specs.mirror.Types.{mirror_type};
+ghost use Rattle.rb_trees.specs.mirror.Code.{mirror_expr};
+ghost use Rattle.rb_trees.specs.mirror.Declarations.{mirror_param, mirror_signature, mirror_interface, mirror_body, mirror_method, mirror_class, mirror_program};
+ghost use Rattle.rb_meaning_bytes.specs.grammar.Symbols as s;
+ghost use Rattle.rb_parse.specs.Reading.{Gives, read_of, program_of};
+ghost use Rattle.rb_parse.specs.Heads as d;
+
+use crate::kinds::{
+    CLASS, CLOSE, CLOSE_BRACE, COLON, COMMA, FUN, INTERFACE, MAIN, OPEN, OPEN_BRACE, REMOTE,
+    RETURN, SEMICOLON,
+};
+use crate::next::{expect, next_is, take_if};
+use crate::simple::expression_to_end;
+use crate::statements::statements;
+use crate::stop::Stop;
+use crate::types::type_tree;
+use crate::values::name;
+use rb_trees::{
+    Body, Class, Expr, Interface, Method, Param, Program, Seq, Signature, Token, TokenKind,
+    TypeForm, TypeTree,
+};
+use std::alloc::Global;
+
+/// The result type of a declaration at a position; Unit where none is written.
+#[tactic(auto, using(crate::proofs::DeclarationEquations::result_is, rb_trees::proofs::mirror::Types::types))]
+fn result_type<'t>(
+    alloc: Global,
+    source: &[u8],
+    at: u32,
+    tokens: &'t [Token],
+) -> Result<(TypeTree, &'t [Token]), Stop>
+    ensures value { Gives (λ x. (mirror_type x.0, x.1.now)) result (d.result_of source.now at tokens.now) }
+    ensures shorter { IfOk result (λ x. length x.1.now ≤ length tokens.now) }
+{
+    match take_if(COLON, tokens) {
+        Some((_, rest)) => type_tree(alloc, source, rest),
+        None => Ok((
+            TypeTree {
+                at,
+                form: TypeForm::Unit,
+            },
+            tokens,
+        )),
+    }
+}
+
+/// A parameter.
+#[tactic(auto, using(crate::proofs::DeclarationEquations::param_is))]
+fn param<'t>(
+    alloc: Global,
+    source: &[u8],
+    tokens: &'t [Token],
+) -> Result<(Param, &'t [Token]), Stop>
+    ensures value { Gives (λ x. (mirror_param x.0, x.1.now)) result (read_of source.now s.AParam tokens.now) }
+    ensures shorter { IfOk result (λ x. length x.1.now < length tokens.now) }
+{
+    let (token, rest) = expect(TokenKind::Name, tokens)?;
+    let (_, rest) = expect(COLON, rest)?;
+    let (kind, rest) = type_tree(alloc, source, rest)?;
+    let param = Param {
+        name: name(alloc, source, token)?,
+        at: token.start,
+        kind,
+    };
+    Ok((param, rest))
+}
+
+/// A comma and a parameter.
+#[tactic(auto, unfolding(crate::specs::Heads::next_param))]
+fn next_param<'t>(
+    alloc: Global,
+    source: &[u8],
+    tokens: &'t [Token],
+) -> Result<(Param, &'t [Token]), Stop>
+    ensures value { Gives (λ x. (mirror_param x.0, x.1.now)) result (d.next_param source.now tokens.now) }
+    ensures shorter { IfOk result (λ x. length x.1.now < length tokens.now) }
+{
+    let (_, rest) = expect(COMMA, tokens)?;
+    param(alloc, source, rest)
+}
+
+/// The parameters from the first one on.
+#[tactic(auto, using(crate::proofs::DeclarationEquations::params))]
+fn more_params<'t>(
+    alloc: Global,
+    source: &[u8],
+    first: Param,
+    tokens: &'t [Token],
+) -> Result<(Seq<Param>, &'t [Token]), Stop>
+    ensures value { Gives (λ x. (map mirror_param x.0, x.1.now)) result (d.params_on source.now (mirror_param first) tokens.now) }
+    ensures shorter { IfOk result (λ x. length x.1.now ≤ length tokens.now) }
+{
+    let mut list = Seq::new(alloc);
+    list.push(first)?;
+    let mut rest = tokens;
+    while next_is(COMMA, rest) {
+        let (next, behind) = next_param(alloc, source, rest)?;
+        list.push(next)?;
+        rest = behind;
+    }
+    Ok((list, rest))
+}
+
+/// Parameters and the bracket that closes them.
+#[tactic(auto, using(crate::proofs::DeclarationEquations::params_is), unfolding(crate::specs::Heads::params_to_close))]
+fn params_to_close<'t>(
+    alloc: Global,
+    source: &[u8],
+    tokens: &'t [Token],
+) -> Result<(Seq<Param>, &'t [Token]), Stop>
+    ensures value { Gives (λ x. (map mirror_param x.0, x.1.now)) result (d.params_to_close source.now tokens.now) }
+    ensures shorter { IfOk result (λ x. length x.1.now < length tokens.now) }
+{
+    if !next_is(TokenKind::Name, tokens) {
+        let (_, rest) = expect(CLOSE, tokens)?;
+        return Ok((Seq::new(alloc), rest));
+    }
+    let (first, rest) = param(alloc, source, tokens)?;
+    let (list, rest) = more_params(alloc, source, first, rest)?;
+    let (_, rest) = expect(CLOSE, rest)?;
+    Ok((list, rest))
+}
+
+/// A signature.
+#[tactic(auto, using(crate::proofs::DeclarationEquations::signature_is))]
+fn signature<'t>(
+    alloc: Global,
+    source: &[u8],
+    tokens: &'t [Token],
+) -> Result<(Signature, &'t [Token]), Stop>
+    ensures value { Gives (λ x. (mirror_signature x.0, x.1.now)) result (read_of source.now s.ASignature tokens.now) }
+    ensures shorter { IfOk result (λ x. length x.1.now < length tokens.now) }
+{
+    let (_, rest) = expect(FUN, tokens)?;
+    let (token, rest) = expect(TokenKind::Name, rest)?;
+    let (_, rest) = expect(OPEN, rest)?;
+    let (params, rest) = params_to_close(alloc, source, rest)?;
+    let (result, rest) = result_type(alloc, source, token.start, rest)?;
+    let signature = Signature {
+        name: name(alloc, source, token)?,
+        at: token.start,
+        params,
+        result,
+    };
+    Ok((signature, rest))
+}
+
+/// A signature and the semicolon behind it.
+#[tactic(auto, unfolding(crate::specs::Heads::signature_to_end))]
+fn signature_to_end<'t>(
+    alloc: Global,
+    source: &[u8],
+    tokens: &'t [Token],
+) -> Result<(Signature, &'t [Token]), Stop>
+    ensures value { Gives (λ x. (mirror_signature x.0, x.1.now)) result (d.signature_to_end source.now tokens.now) }
+    ensures shorter { IfOk result (λ x. length x.1.now < length tokens.now) }
+{
+    let (found, rest) = signature(alloc, source, tokens)?;
+    let (_, rest) = expect(SEMICOLON, rest)?;
+    Ok((found, rest))
+}
+
+/// A field and the semicolon behind it.
+#[tactic(auto, unfolding(crate::specs::Heads::field_to_end))]
+fn field_to_end<'t>(
+    alloc: Global,
+    source: &[u8],
+    tokens: &'t [Token],
+) -> Result<(Param, &'t [Token]), Stop>
+    ensures value { Gives (λ x. (mirror_param x.0, x.1.now)) result (d.field_to_end source.now tokens.now) }
+    ensures shorter { IfOk result (λ x. length x.1.now < length tokens.now) }
+{
+    let (found, rest) = param(alloc, source, tokens)?;
+    let (_, rest) = expect(SEMICOLON, rest)?;
+    Ok((found, rest))
+}
+
+/// The signatures that come next.
+#[tactic(auto, using(crate::proofs::DeclarationEquations::signatures))]
+fn signatures<'t>(
+    alloc: Global,
+    source: &[u8],
+    tokens: &'t [Token],
+) -> Result<(Seq<Signature>, &'t [Token]), Stop>
+    ensures value { Gives (λ x. (map mirror_signature x.0, x.1.now)) result (read_of source.now s.Signatures tokens.now) }
+    ensures shorter { IfOk result (λ x. length x.1.now ≤ length tokens.now) }
+{
+    let mut list = Seq::new(alloc);
+    let mut rest = tokens;
+    while next_is(FUN, rest) {
+        let (next, behind) = signature_to_end(alloc, source, rest)?;
+        list.push(next)?;
+        rest = behind;
+    }
+    Ok((list, rest))
+}
+
+/// The fields that come next.
+#[tactic(auto, using(crate::proofs::DeclarationEquations::fields))]
+fn fields<'t>(
+    alloc: Global,
+    source: &[u8],
+    tokens: &'t [Token],
+) -> Result<(Seq<Param>, &'t [Token]), Stop>
+    ensures value { Gives (λ x. (map mirror_param x.0, x.1.now)) result (read_of source.now s.Fields tokens.now) }
+    ensures shorter { IfOk result (λ x. length x.1.now ≤ length tokens.now) }
+{
+    let mut list = Seq::new(alloc);
+    let mut rest = tokens;
+    while next_is(TokenKind::Name, rest) {
+        let (next, behind) = field_to_end(alloc, source, rest)?;
+        list.push(next)?;
+        rest = behind;
+    }
+    Ok((list, rest))
+}
+
+/// The name of a declaration and the brace behind it.
+#[tactic(auto, unfolding(crate::specs::Heads::headed_of))]
+fn headed(tokens: &[Token]) -> Result<(Token, &[Token]), Stop>
+    ensures value { Gives (λ x. (x.0, x.1.now)) result (d.headed_of tokens.now) }
+    ensures shorter { IfOk result (λ x. length x.1.now < length tokens.now) }
+{
+    let (name, rest) = expect(TokenKind::Name, tokens)?;
+    let (_, rest) = expect(OPEN_BRACE, rest)?;
+    Ok((name, rest))
+}
+
+/// An interface.
+#[tactic(auto, using(crate::proofs::DeclarationEquations::interface_is))]
+fn interface<'t>(
+    alloc: Global,
+    source: &[u8],
+    tokens: &'t [Token],
+) -> Result<(Interface, &'t [Token]), Stop>
+    ensures value { Gives (λ x. (mirror_interface x.0, x.1.now)) result (read_of source.now s.AnInterface tokens.now) }
+    ensures shorter { IfOk result (λ x. length x.1.now < length tokens.now) }
+{
+    let (_, rest) = expect(INTERFACE, tokens)?;
+    let (token, rest) = headed(rest)?;
+    let (methods, rest) = signatures(alloc, source, rest)?;
+    let (_, rest) = expect(CLOSE_BRACE, rest)?;
+    let interface = Interface {
+        name: name(alloc, source, token)?,
+        at: token.start,
+        methods,
+    };
+    Ok((interface, rest))
+}
+
+/// The interfaces that come next.
+#[tactic(auto, using(crate::proofs::DeclarationEquations::interfaces))]
+fn interfaces<'t>(
+    alloc: Global,
+    source: &[u8],
+    tokens: &'t [Token],
+) -> Result<(Seq<Interface>, &'t [Token]), Stop>
+    ensures value { Gives (λ x. (map mirror_interface x.0, x.1.now)) result (read_of source.now s.Interfaces tokens.now) }
+    ensures shorter { IfOk result (λ x. length x.1.now ≤ length tokens.now) }
+{
+    let mut list = Seq::new(alloc);
+    let mut rest = tokens;
+    while next_is(INTERFACE, rest) {
+        let (next, behind) = interface(alloc, source, rest)?;
+        list.push(next)?;
+        rest = behind;
+    }
+    Ok((list, rest))
+}
+
+/// The expression of a body's return, if it has one.
+#[tactic(auto, using(crate::proofs::DeclarationEquations::returns_is))]
+fn returned<'t>(
+    alloc: Global,
+    source: &[u8],
+    tokens: &'t [Token],
+) -> Result<(Option<Expr>, &'t [Token]), Stop>
+    ensures value { Gives (λ x. (option_map mirror_expr x.0, x.1.now)) result (read_of source.now s.Returns tokens.now) }
+    ensures shorter { IfOk result (λ x. length x.1.now ≤ length tokens.now) }
+{
+    match take_if(RETURN, tokens) {
+        Some((_, rest)) => {
+            let (expr, rest) = expression_to_end(alloc, source, rest)?;
+            Ok((Some(expr), rest))
+        }
+        None => Ok((None, tokens)),
+    }
+}
+
+/// A body.
+#[tactic(auto, using(crate::proofs::DeclarationEquations::body_is))]
+fn body<'t>(alloc: Global, source: &[u8], tokens: &'t [Token]) -> Result<(Body, &'t [Token]), Stop>
+    ensures value { Gives (λ x. (mirror_body x.0, x.1.now)) result (read_of source.now s.ABody tokens.now) }
+    ensures shorter { IfOk result (λ x. length x.1.now < length tokens.now) }
+{
+    let (_, rest) = expect(OPEN_BRACE, tokens)?;
+    let (statements, rest) = statements(alloc, source, rest)?;
+    let (result, rest) = returned(alloc, source, rest)?;
+    let (_, rest) = expect(CLOSE_BRACE, rest)?;
+    Ok((Body { statements, result }, rest))
+}
+
+/// A method.
+#[tactic(auto, using(crate::proofs::DeclarationEquations::method_is))]
+fn method<'t>(
+    alloc: Global,
+    source: &[u8],
+    tokens: &'t [Token],
+) -> Result<(Method, &'t [Token]), Stop>
+    ensures value { Gives (λ x. (mirror_method x.0, x.1.now)) result (read_of source.now s.AMethod tokens.now) }
+    ensures shorter { IfOk result (λ x. length x.1.now < length tokens.now) }
+{
+    let (remote, rest) = match take_if(REMOTE, tokens) {
+        Some((_, rest)) => (true, rest),
+        None => (false, tokens),
+    };
+    let (signature, rest) = signature(alloc, source, rest)?;
+    let (body, rest) = body(alloc, source, rest)?;
+    let method = Method {
+        remote,
+        signature,
+        body,
+    };
+    Ok((method, rest))
+}
+
+/// The methods that come next.
+#[tactic(auto, using(crate::proofs::DeclarationEquations::methods))]
+fn methods<'t>(
+    alloc: Global,
+    source: &[u8],
+    tokens: &'t [Token],
+) -> Result<(Seq<Method>, &'t [Token]), Stop>
+    ensures value { Gives (λ x. (map mirror_method x.0, x.1.now)) result (read_of source.now s.Methods tokens.now) }
+    ensures shorter { IfOk result (λ x. length x.1.now ≤ length tokens.now) }
+{
+    let mut list = Seq::new(alloc);
+    let mut rest = tokens;
+    while next_is(REMOTE, rest) || next_is(FUN, rest) {
+        let (next, behind) = method(alloc, source, rest)?;
+        list.push(next)?;
+        rest = behind;
+    }
+    Ok((list, rest))
+}
+
+/// A class.
+#[tactic(auto, using(crate::proofs::DeclarationEquations::class_is))]
+fn class<'t>(
+    alloc: Global,
+    source: &[u8],
+    tokens: &'t [Token],
+) -> Result<(Class, &'t [Token]), Stop>
+    ensures value { Gives (λ x. (mirror_class x.0, x.1.now)) result (read_of source.now s.AClass tokens.now) }
+    ensures shorter { IfOk result (λ x. length x.1.now < length tokens.now) }
+{
+    let (_, rest) = expect(CLASS, tokens)?;
+    let (token, rest) = headed(rest)?;
+    let (fields, rest) = fields(alloc, source, rest)?;
+    let (methods, rest) = methods(alloc, source, rest)?;
+    let (_, rest) = expect(CLOSE_BRACE, rest)?;
+    let class = Class {
+        name: name(alloc, source, token)?,
+        at: token.start,
+        fields,
+        methods,
+    };
+    Ok((class, rest))
+}
+
+/// The classes that come next.
+#[tactic(auto, using(crate::proofs::DeclarationEquations::classes))]
+fn classes<'t>(
+    alloc: Global,
+    source: &[u8],
+    tokens: &'t [Token],
+) -> Result<(Seq<Class>, &'t [Token]), Stop>
+    ensures value { Gives (λ x. (map mirror_class x.0, x.1.now)) result (read_of source.now s.Classes tokens.now) }
+    ensures shorter { IfOk result (λ x. length x.1.now ≤ length tokens.now) }
+{
+    let mut list = Seq::new(alloc);
+    let mut rest = tokens;
+    while next_is(CLASS, rest) {
+        let (next, behind) = class(alloc, source, rest)?;
+        list.push(next)?;
+        rest = behind;
+    }
+    Ok((list, rest))
+}
+
+/// A program, and the tokens behind it.
+#[tactic(auto, using(crate::proofs::DeclarationEquations::program_is))]
+fn program_part<'t>(
+    alloc: Global,
+    source: &[u8],
+    tokens: &'t [Token],
+) -> Result<(Program, &'t [Token]), Stop>
+    ensures value { Gives (λ x. (mirror_program x.0, x.1.now)) result (read_of source.now s.TheProgram tokens.now) }
+    ensures shorter { IfOk result (λ x. length x.1.now < length tokens.now) }
+{
+    let (interfaces, rest) = interfaces(alloc, source, tokens)?;
+    let (classes, rest) = classes(alloc, source, rest)?;
+    let (word, rest) = expect(MAIN, rest)?;
+    let (result, rest) = result_type(alloc, source, word.start, rest)?;
+    let (body, rest) = body(alloc, source, rest)?;
+    let program = Program {
+        interfaces,
+        classes,
+        result,
+        body,
+        at: word.start,
+    };
+    Ok((program, rest))
+}
+
+/// The program that all tokens are.
+#[tactic(auto, unfolding(crate::specs::Reading::program_of))]
+pub(crate) fn program(alloc: Global, source: &[u8], tokens: &[Token]) -> Result<Program, Stop>
+    ensures { Gives mirror_program result (program_of source.now tokens.now) }
+{
+    let (program, rest) = program_part(alloc, source, tokens)?;
+    if rest.is_empty() {
+        Ok(program)
+    } else {
+        Err(Stop::Unexpected(rest.len()))
+    }
+}

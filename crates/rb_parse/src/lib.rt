@@ -1,0 +1,23 @@
+//! Reads programs: the one tree of the grammar, or the first refusal.
+#![tactic(auto)]
+
+mod atoms;
+mod builders;
+mod declarations;
+mod expressions;
+mod kinds;
+mod levels;
+mod limits;
+mod next;
+mod reading;
+mod simple;
+mod source;
+mod statements;
+mod stop;
+#[cfg(test)]
+mod tests;
+mod types;
+mod values;
+
+pub use reading::{parse_tokens, tokens_derive_one_program};
+pub use source::parse_program;

@@ -1,0 +1,95 @@
+// Reading the tokens of a text.
+
+ghost use Rattle.std.specs.Prelude.{◌≡◌, ◌<◌, ◌≤◌, ◌-◌, ◌+◌, ◌^◌, ℕ, List, length, take, drop};
+ghost use Rattle.rb_trees.specs.declared.tokens.Token.{Token as Lexeme};
+ghost use Rattle.rb_trees.specs.mirror.Declarations.{Program as Tree, mirror_program};
+ghost use Rattle.rb_meaning_bytes.specs.grammar.Derives.{Derives};
+ghost use Rattle.rb_meaning_bytes.specs.grammar.Limits.{Within};
+ghost use Rattle.rb_meaning_bytes.specs.grammar.Refusals.{place_of};
+ghost use Rattle.rb_parse.specs.Reading.{program_of};
+ghost use Rattle.rb_parse.specs.Told.{Told, IsRead};
+ghost use Rattle.rb_parse.specs.Nested.{Answers, behind, cut_at, limited_of};
+
+use crate::declarations::program;
+use crate::limits::broken;
+use crate::stop::{Refusal, Stop};
+use rb_trees::{Program, ReadError, Token};
+use std::alloc::Global;
+
+/// The program that the tokens are, within the limits.
+#[tactic(auto, unfolding(crate::specs::Nested::limited_of))]
+fn limited(alloc: Global, source: &[u8], tokens: &[Token]) -> Result<Program, Refusal>
+    ensures { Answers mirror_program result (limited_of source.now tokens.now) }
+{
+    match broken(tokens) {
+        None => match program(alloc, source, tokens) {
+            Ok(program) => Ok(program),
+            Err(Stop::Unexpected(left)) => Err(Refusal::Unexpected(left)),
+            Err(Stop::Memory) => Err(Refusal::Memory),
+        },
+        Some(left) => cut(alloc, source, tokens, left),
+    }
+}
+
+/// Why the tokens aren't read where one of them breaks a limit, with so many tokens left.
+#[tactic(auto, using(crate::proofs::Laws::stops_within))]
+fn cut(alloc: Global, source: &[u8], tokens: &[Token], left: usize) -> Result<Program, Refusal>
+    requires some { 0 < left }
+    requires within { left ≤ length tokens.now }
+    ensures { Answers mirror_program result (cut_at left (program_of source.now (take (length tokens.now - left + 1) tokens.now))) }
+{
+    let front = &tokens[..tokens.len() - left + 1];
+    match program(alloc, source, front) {
+        Ok(_) => Err(Refusal::TooNested(left)),
+        Err(Stop::Unexpected(more)) => Err(behind(left, more)),
+        Err(Stop::Memory) => Err(Refusal::Memory),
+    }
+}
+
+/// Why reading stops, where it stops with so many tokens left up to the one that breaks a limit.
+#[tactic(auto, using(crate::proofs::Laws::behind_some))]
+fn behind(left: usize, more: usize) -> Refusal
+    requires { left + more ≤ 2 ^ 64 }
+    ensures { result ≡ behind left more }
+{
+    if more == 0 {
+        Refusal::TooNested(left)
+    } else {
+        Refusal::Unexpected(left + (more - 1))
+    }
+}
+
+/// Where the next token begins with so many tokens left, or the source ends.
+fn place(source: &[u8], tokens: &[Token], left: usize) -> u32
+    requires small { length source.now < 2 ^ 32 }
+    requires within { left ≤ length tokens.now }
+    ensures { result ≡ place_of source.now (drop (length tokens.now - left) tokens.now) }
+{
+    match &tokens[tokens.len() - left..] {
+        [token, ..] => token.start,
+        [] => source.len() as u32,
+    }
+}
+
+/// The program that the tokens of a source derive, or the first refusal.
+///
+/// The grammar, the limits of nesting and the refusals stand in `rb_meaning_bytes`, in `specs/grammar`.
+pub fn parse_tokens(alloc: Global, source: &[u8], tokens: &[Token]) -> Result<Program, ReadError>
+    requires small { length source.now < 2 ^ 32 }
+    // What is answered, the tokens have: this program, or this first refusal.
+    ensures read { Told source.now tokens.now result }
+    // A program that the tokens derive within the limits is read, unless memory runs out.
+    ensures only { (program : Tree) → Derives source.now tokens.now program → Within tokens.now → IsRead program result }
+{
+    match limited(alloc, source, tokens) {
+        Ok(program) => Ok(program),
+        Err(Refusal::Unexpected(left)) => Err(ReadError::Unexpected(place(source, tokens, left))),
+        Err(Refusal::TooNested(left)) => Err(ReadError::TooNested(place(source, tokens, left))),
+        Err(Refusal::Memory) => Err(ReadError::Memory),
+    }
+}
+
+/// A list of tokens derives at most one program.
+pub fn tokens_derive_one_program()
+    ensures { (source : List ℕ) → (tokens : List Lexeme) → (one : Tree) → (other : Tree) → Derives source tokens one → Derives source tokens other → one ≡ other }
+{}

@@ -1,0 +1,44 @@
+// Reading a source.
+
+ghost use Rattle.std.specs.Prelude.{◌≡◌, List};
+ghost use Rattle.rb_trees.specs.declared.tokens.Token.{Token};
+ghost use Rattle.rb_trees.specs.mirror.Declarations.{Program as Tree};
+ghost use Rattle.rb_meaning_bytes.specs.tokens.Texts.{IsTokens};
+ghost use Rattle.rb_meaning_bytes.specs.grammar.Derives.{Derives};
+ghost use Rattle.rb_meaning_bytes.specs.grammar.Limits.{Within};
+ghost use Rattle.rb_parse.specs.Told.{ToldSource, IsRead, refusal_of};
+
+use crate::reading::parse_tokens;
+use rb_lex::lex;
+use rb_trees::{LexError, Program, ReadError};
+use std::alloc::Global;
+
+/// The program of a source, or the first refusal.
+///
+/// What a source is read as, `ReadSource` of `rb_meaning_bytes` says; `Memory` may come at any time, and says
+/// nothing of the source.
+pub fn parse_program(alloc: Global, source: &[u8]) -> Result<Program, ReadError>
+    // What is answered, the source has: this program, or this first refusal.
+    ensures read { ToldSource source.now result }
+    // A program that the source's tokens derive within the limits is read, unless memory runs out.
+    ensures only { (tokens : List Token) → (program : Tree) → IsTokens source.now tokens → Derives source.now tokens program → Within tokens → IsRead program result }
+{
+    match lex(alloc, source) {
+        Ok(tokens) => parse_tokens(alloc, source, tokens.as_slice()),
+        Err(fault) => Err(refused(fault)),
+    }
+}
+
+/// The refusal of a source without tokens.
+fn refused(fault: LexError) -> ReadError
+    ensures { result ≡ refusal_of fault }
+{
+    match fault {
+        LexError::BadByte(at) => ReadError::Lex(LexError::BadByte(at)),
+        LexError::OpenText(at) => ReadError::Lex(LexError::OpenText(at)),
+        LexError::NumberTooLarge(at) => ReadError::Lex(LexError::NumberTooLarge(at)),
+        LexError::NotUtf8(at) => ReadError::Lex(LexError::NotUtf8(at)),
+        LexError::TooLong(at) => ReadError::Lex(LexError::TooLong(at)),
+        LexError::Memory => ReadError::Memory,
+    }
+}
