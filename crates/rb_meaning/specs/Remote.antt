@@ -86,8 +86,8 @@ returned at kind (Faulted r l) = Stopped at r.fault (record { table = l.heap; fu
 abbrev pub enters : List Class → ℕ → ℕ → ℕ → Method → Names → Server → Reply Value
 enters classes at kind object method names s =
     returned at kind (handle unasked
-      (bodies_of classes (suc s.fuel) method.body (record { names = (this_name, value.Ref object) ∷ names; heap = s.table; fuel = s.fuel; depth = 1 }))
-      tt).0
+    (bodies_of classes (suc s.fuel) method.body (record { names = (this_name, value.Ref object) ∷ names; heap = s.table; fuel = s.fuel; depth = 1 }))
+    tt).0
 
 -- goes on where a unit of fuel is left, and takes it
 abbrev pub charged : {A : Type 0} → ℕ → ℕ → List Object → (Server → Reply A) → Reply A

@@ -95,8 +95,8 @@ abbrev pub remote_only : Service → Kinds → Stmts → Names → Server → Re
 remote_only service kinds code.NoStmts names s = Got names s
 remote_only service kinds (code.MoreStmts (code.Print at e) ss) names s =
     cond (holds_call e)
-      (and_then (remotely service kinds names e s) (λ v s1. remote_only service kinds ss names s1))
-      (remote_only service kinds ss names s)
+    (and_then (remotely service kinds names e s) (λ v s1. remote_only service kinds ss names s1))
+    (remote_only service kinds ss names s)
 remote_only service kinds (code.MoreStmts stmt ss) names s = remote_only service kinds ss names s
 
 abbrev pub table_left : {A : Type 0} → Reply A → List Object
@@ -135,5 +135,5 @@ performs_batch program service b l s =
     let kinds = call_kinds program b.interface in
     let start = bound b.root (value.Remote service.root) l in
     settles (length l.names)
-      (table_left (remote_only service kinds b.block start.names (server_of (begun s))))
-      (handle (in_batch service kinds) (performs_all (bodies_of program.classes l.fuel) l.fuel b.block start) (begun s))
+    (table_left (remote_only service kinds b.block start.names (server_of (begun s))))
+    (handle (in_batch service kinds) (performs_all (bodies_of program.classes l.fuel) l.fuel b.block start) (begun s))

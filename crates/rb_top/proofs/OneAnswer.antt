@@ -40,7 +40,7 @@ abbrev One : ℕ → List ℕ → Program → Service → Status → List ℕ �
 One fuel text program service status shown = (status ≡ Done) × (shown ≡ run_text text fuel program service)
 
 one_answer : (fuel : ℕ) (told : Option Directory) (ws : List (List ℕ)) (p s : List ℕ) (status : Status) (shown : List ℕ) (directory : Directory) (text other : List ℕ) (program : Program) (service : Service)
-      → ws ≡ both_words p s → told ≡ Some directory → Holds directory p s text other program service → Answers fuel told ws status shown → One fuel text program service status shown
+    → ws ≡ both_words p s → told ≡ Some directory → Holds directory p s text other program service → Answers fuel told ws status shown → One fuel text program service status shown
 one_answer fuel told ws p s status shown directory text other program service w t h (words ws' n) = absurd (n p s w)
 one_answer fuel told ws p s status shown directory text other program service w t h (program_fault p' s' f) =
     absurd (never_fails told directory p p' text t (ap first_name w) h.reads f)
@@ -61,7 +61,7 @@ one_answer fuel told ws p s status shown directory text other program service w 
     (refl, ap (λ x. run_text x fuel program' service') same ∙ ap (λ x. run_text text fuel x service') one ∙ ap (λ x. run_text text fuel program x) it)
 
 pub runs_so : (fuel : ℕ) (told : Option Directory) (ws : List (List ℕ)) (p s : List ℕ) (old new : Option (List ℕ)) (reads after : ℕ) (result : Status) (directory : Directory) (text other : List ℕ) (program : Program) (service : Service)
-      → Says fuel told ws old reads result new after → ws ≡ both_words p s → told ≡ Some directory → Holds directory p s text other program service → Ends Done (run_text text fuel program service) old result new
+    → Says fuel told ws old reads result new after → ws ≡ both_words p s → told ≡ Some directory → Holds directory p s text other program service → Ends Done (run_text text fuel program service) old result new
 runs_so fuel told ws p s old new reads after result directory text other program service (answered status result' shown new' a e) w t h =
     let one = one_answer fuel told ws p s status shown directory text other program service w t h a in
     subst (λ x. Ends Done x old result new) one.1 (subst (λ x. Ends x shown old result new) one.0 e)

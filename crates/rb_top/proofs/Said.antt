@@ -51,9 +51,9 @@ at_err (Ok done) P Q f p = tt
 at_err (Err stop) P Q f p = f p
 
 pub run_ended : (fuel : ℕ) (told between : Option Directory) (p s : List ℕ) (old : Option (List ℕ)) (reads : ℕ) (program : program.Program) (service : service.Service) (printed : Result (Unit {0}) PrintStop) (result : Status) (new : Option (List ℕ)) (after : ℕ) → LoadsProgram told p (Ok program) → between ≡ told_after told → LoadsService (mirror_program program) between s (Ok service)
-      → OnOk printed ((source : List ℕ) (fuel : ℕ) → new ≡ told_more old (run_text source fuel (mirror_program program) (mirror_service service)))
-      → OnErr printed ((source : List ℕ) (fuel : ℕ) → WrotePrefix old new (run_text source fuel (mirror_program program) (mirror_service service)))
-      → result ≡ status_after Done printed → after ≡ reads → Says fuel told (both_words p s) old reads result new after
+    → OnOk printed ((source : List ℕ) (fuel : ℕ) → new ≡ told_more old (run_text source fuel (mirror_program program) (mirror_service service)))
+    → OnErr printed ((source : List ℕ) (fuel : ℕ) → WrotePrefix old new (run_text source fuel (mirror_program program) (mirror_service service)))
+    → result ≡ status_after Done printed → after ≡ reads → Says fuel told (both_words p s) old reads result new after
 run_ended fuel told between p s old reads program service printed result new after m b l ok err e h =
     let k = subst (λ t. LoadsService (mirror_program program) t s (Ok service)) b l in
     let text = run_text m.0 fuel (mirror_program program) (mirror_service service) in

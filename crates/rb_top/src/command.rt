@@ -140,12 +140,7 @@ fn both_names(words: &[String]) -> Option<(&str, &str)>
 /// Each answer has its cause in the words and the files, as far as they tell: `Says` and `Answers`
 /// state them, and the order in which they count. The files' count of faults rises exactly where a
 /// file can't be read, and the output's exactly where a write failed.
-pub fn top<F: Files, W: Sink>(
-    alloc: Global,
-    words: &[String],
-    files: &mut F,
-    out: &mut W,
-) -> Status
+pub fn top<F: Files, W: Sink>(alloc: Global, words: &[String], files: &mut F, out: &mut W) -> Status
     // What is answered and printed is what the words and the files mean, for every fuel.
     ensures answer { (fuel : ℕ) → Says fuel (F.told files.old) (map string_bytes words.now) (W.told out.old) (F.faults files.old) result (W.told out.new) (F.faults files.new) }
     // Where the files tell a program and a service for it, the run is printed, unless the output fails or memory is wanting.

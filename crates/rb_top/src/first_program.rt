@@ -213,9 +213,7 @@ fn finish(
     if !agrees(source, name, signatures.as_slice(), marks) {
         return Ok(None);
     }
-    Ok(Some(make_program(
-        alloc, source, name, signatures, marks, prints,
-    )?))
+    Ok(Some(make_program(alloc, source, name, signatures, marks, prints)?))
 }
 
 /// The program that the tokens are, if they are one of the form that is built. Only memory fails.

@@ -102,11 +102,7 @@ fn service_in(alloc: Global, text: &[u8]) -> Result<Option<Service>, Memory>
 }
 
 /// The program in a file.
-pub fn load_program<F: Files>(
-    alloc: Global,
-    name: &str,
-    files: &mut F,
-) -> Result<Program, LoadStop>
+pub fn load_program<F: Files>(alloc: Global, name: &str, files: &mut F) -> Result<Program, LoadStop>
     ensures loaded { LoadsProgram (F.told files.old) name.now result }
     ensures form { IfOk result (λ program. FirstProgram (mirror_program program)) }
     ensures told { F.told files.new ≡ told_after (F.told files.old) }
