@@ -17,7 +17,10 @@ mod status;
 mod wire;
 
 pub use answer::first_answer;
+pub use command::top;
 pub use laws::script_is_determined;
 pub use request::first_request;
 pub use status::{SourceError, Status, StoreError};
-pub use command::top;
+
+#[cfg(test)]
+mod tests;
