@@ -14,6 +14,8 @@ mod reading;
 mod request;
 mod run;
 mod status;
+#[cfg(test)]
+mod tests;
 mod wire;
 
 pub use answer::first_answer;
@@ -21,9 +23,3 @@ pub use command::top;
 pub use laws::script_is_determined;
 pub use request::first_request;
 pub use status::{SourceError, Status, StoreError};
-<<<<<<< HEAD
-=======
-
-#[cfg(test)]
-mod tests;
->>>>>>> 2ed0bbcbd9788b43d041133219d60afaa96872bd
