@@ -27,8 +27,9 @@ fn class_name(service: &Service) -> &[u8]
     }
 }
 
-/// Sends the batch's script as bytes, and gets the server's forest as bytes.
-fn exchange(alloc: Global, program: &Program, service: &Service) -> Result<BytesMut, Memory>
+/// Sends the batch's script as bytes (`first_request`), and gets the server's forest as bytes
+/// (`first_answer`).
+pub fn exchange(alloc: Global, program: &Program, service: &Service) -> Result<BytesMut, Memory>
     requires program { FirstProgram (mirror_program program.now) }
     requires service { FirstService (mirror_service service.now) }
     requires offers { Offers (mirror_program program.now) (mirror_service service.now) }

@@ -1,5 +1,6 @@
-// What no clause says: that runs end well where there is memory, the bytes of a worked request, and the printed text.
-use crate::loading::load_program;
+// What no clause says: that runs end well where there is memory, the bytes of the worked payloads, and the printed text.
+use crate::loading::{load_program, load_service};
+use crate::run::exchange;
 use crate::{first_request, top};
 use bytes::BytesMut;
 use rb_base::{Files, FilesStop, MemoryFiles, MemorySink};
@@ -15,6 +16,11 @@ const SERVICE: &str = "class D { fun n(): Int { return 7; } } object 0: D { } ro
 static REQUEST: [u8; 31] = [
     0x01, 0x00, 0x00, 0x00, 0x00, 0x01, 0x11, 0x00, 0x00, 0x00, 0x00, 0x00, 0x00, 0x00, 0x3b, 0x26,
     0x00, 0x00, 0x00, 0x3b, 0x01, 0x00, 0x00, 0x00, 0x01, 0x6e, 0x23, 0x00, 0x00, 0x00, 0x00,
+];
+
+/// The forest of that script's run on `SERVICE`: one entry, which keeps 7.
+static REPLY: [u8; 16] = [
+    0x01, 0x00, 0x00, 0x00, 0x01, 0x31, 0x01, 0x00, 0x00, 0x00, 0x00, 0x00, 0x00, 0x00, 0x07, 0x00,
 ];
 
 const TAIL: &str = "done\nexchanges 1\nobject 0: D { }\n";
@@ -56,15 +62,20 @@ fn shown(alloc: Global, program: Option<&str>, service: Option<&str>) -> Result<
 }
 
 #[test]
-fn the_request_is_the_worked_bytes(rt: HostRuntime) -> Result<(), Fail> {
+fn payloads_are_the_worked_bytes(rt: HostRuntime) -> Result<(), Fail> {
     let alloc = rt.alloc();
     let mut files = files_of(alloc, Some(PROGRAM), Some(SERVICE))?;
     let Ok(program) = load_program(alloc, "p", &mut files) else {
         return Err(Fail::from("the program is not loaded"));
     };
+    let Ok(service) = load_service(alloc, &program, "s", &mut files) else {
+        return Err(Fail::from("the service is not loaded"));
+    };
     let mut request = BytesMut::new(alloc);
     first_request(&program, &mut request)?;
     assert_eq!(rt; request.as_slice(), REQUEST.as_slice());
+    let reply = exchange(alloc, &program, &service)?;
+    assert_eq!(rt; reply.as_slice(), REPLY.as_slice());
     Ok(())
 }
 
