@@ -14,8 +14,6 @@ mod simple;
 mod source;
 mod statements;
 mod stop;
-#[cfg(test)]
-mod tests;
 mod types;
 mod values;
 
