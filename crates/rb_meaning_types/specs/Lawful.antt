@@ -92,9 +92,9 @@ abbrev mutual
   exprs_depth NoExprs = 0
   exprs_depth (MoreExprs e es) = max (expr_depth e) (exprs_depth es)
 
--- An outermost expression: at most 201 expressions stand within each other.
-abbrev pub IsOutermost : Expr → Type 0
-IsOutermost e = IsLawfulExpr e × (expr_depth e ≤ 201)
+-- At most 201 expressions stand within each other.
+abbrev pub IsShallowExpr : Expr → Type 0
+IsShallowExpr e = expr_depth e ≤ 201
 
 abbrev pub stmt_count : Stmts → ℕ
 stmt_count NoStmts = 0
@@ -103,15 +103,15 @@ stmt_count (MoreStmts s ss) = suc (stmt_count ss)
 -- A statement, its expressions and its blocks.
 abbrev mutual
   pub IsLawfulStmt : Stmt → Type 0
-  IsLawfulStmt (Val at name e) = IsName name × IsOutermost e
-  IsLawfulStmt (Var at name e) = IsName name × IsOutermost e
-  IsLawfulStmt (Assign at a b) = IsOutermost a × IsOutermost b
-  IsLawfulStmt (Run at e) = IsOutermost e
-  IsLawfulStmt (Print at e) = IsOutermost e
-  IsLawfulStmt (Throw at e) = IsOutermost e
-  IsLawfulStmt (If at c a b) = IsOutermost c × IsLawfulBlock a × IsLawfulBlock b
-  IsLawfulStmt (While at c a) = IsOutermost c × IsLawfulBlock a
-  IsLawfulStmt (For at name e a) = IsName name × IsOutermost e × IsLawfulBlock a
+  IsLawfulStmt (Val at name e) = IsName name × IsLawfulExpr e
+  IsLawfulStmt (Var at name e) = IsName name × IsLawfulExpr e
+  IsLawfulStmt (Assign at a b) = IsLawfulExpr a × IsLawfulExpr b
+  IsLawfulStmt (Run at e) = IsLawfulExpr e
+  IsLawfulStmt (Print at e) = IsLawfulExpr e
+  IsLawfulStmt (Throw at e) = IsLawfulExpr e
+  IsLawfulStmt (If at c a b) = IsLawfulExpr c × IsLawfulBlock a × IsLawfulBlock b
+  IsLawfulStmt (While at c a) = IsLawfulExpr c × IsLawfulBlock a
+  IsLawfulStmt (For at name e a) = IsName name × IsLawfulExpr e × IsLawfulBlock a
   IsLawfulStmt (Try at a name b) = IsLawfulBlock a × IsName name × IsLawfulBlock b
   IsLawfulStmt (Batch at interface root a) = IsName interface × IsName root × IsLawfulBlock a
 
@@ -142,13 +142,39 @@ abbrev mutual
   stmts_depth NoStmts = 0
   stmts_depth (MoreStmts s ss) = max (stmt_depth s) (stmts_depth ss)
 
+-- The outermost expressions of a statement and of its blocks are shallow.
+abbrev mutual
+  pub IsShallowStmt : Stmt → Type 0
+  IsShallowStmt (Val at name e) = IsShallowExpr e
+  IsShallowStmt (Var at name e) = IsShallowExpr e
+  IsShallowStmt (Assign at a b) = IsShallowExpr a × IsShallowExpr b
+  IsShallowStmt (Run at e) = IsShallowExpr e
+  IsShallowStmt (Print at e) = IsShallowExpr e
+  IsShallowStmt (Throw at e) = IsShallowExpr e
+  IsShallowStmt (If at c a b) = IsShallowExpr c × AreShallowStmts a × AreShallowStmts b
+  IsShallowStmt (While at c a) = IsShallowExpr c × AreShallowStmts a
+  IsShallowStmt (For at name e a) = IsShallowExpr e × AreShallowStmts a
+  IsShallowStmt (Try at a name b) = AreShallowStmts a × AreShallowStmts b
+  IsShallowStmt (Batch at interface root a) = AreShallowStmts a
+
+  pub AreShallowStmts : Stmts → Type 0
+  AreShallowStmts NoStmts = Unit {0}
+  AreShallowStmts (MoreStmts s ss) = IsShallowStmt s × AreShallowStmts ss
+
 abbrev pub IsLawfulReturn : Option Expr → Type 0
-IsLawfulReturn (Some e) = IsOutermost e
+IsLawfulReturn (Some e) = IsLawfulExpr e
 IsLawfulReturn None = Unit {0}
 
--- A body is a block: at most 64 blocks stand within each other.
+abbrev pub IsShallowReturn : Option Expr → Type 0
+IsShallowReturn (Some e) = IsShallowExpr e
+IsShallowReturn None = Unit {0}
+
 abbrev pub IsLawfulBody : Body → Type 0
-IsLawfulBody body = IsLawfulBlock body.statements × IsLawfulReturn body.result × (suc (stmts_depth body.statements) ≤ 64)
+IsLawfulBody body = IsLawfulBlock body.statements × IsLawfulReturn body.result
+
+-- A body is a block: at most 64 blocks stand within each other, and its outermost expressions are shallow.
+abbrev pub IsShallowBody : Body → Type 0
+IsShallowBody body = AreShallowStmts body.statements × IsShallowReturn body.result × (suc (stmts_depth body.statements) ≤ 64)
 
 abbrev pub IsLawfulParam : Param → Type 0
 IsLawfulParam p = IsName p.name × IsLawfulType p.kind
@@ -164,6 +190,10 @@ IsLawfulInterface i = IsName i.name × All IsLawfulSignature i.methods × IsShor
 
 abbrev pub IsLawfulClass : Class → Type 0
 IsLawfulClass c = IsName c.name × All IsLawfulParam c.fields × IsShort c.fields × All IsLawfulMethod c.methods × IsShort c.methods
+
+-- The bodies of a class's methods are shallow.
+abbrev pub IsShallowClass : Class → Type 0
+IsShallowClass c = All (λ m. IsShallowBody m.body) c.methods
 
 -- The positions of expressions and statements.
 abbrev mutual
@@ -225,10 +255,13 @@ pub record IsLawful (p : Program) : Type 0 where
   pub class_count : IsShort p.classes
   pub result : IsLawfulType p.result
   pub body : IsLawfulBody p.body
+  pub class_depths : All IsShallowClass p.classes
+  pub body_depth : IsShallowBody p.body
   pub positions : IsDistinct nat_eq (classes_positions p.classes ++ body_positions p.body)
 
 -- The lawful classes of a service.
 pub record IsLawfulService (classes : List Class) : Type 0 where
   pub each : All IsLawfulClass classes
   pub class_count : IsShort classes
+  pub depths : All IsShallowClass classes
   pub positions : IsDistinct nat_eq (classes_positions classes)

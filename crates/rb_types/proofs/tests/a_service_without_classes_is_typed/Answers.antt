@@ -6,7 +6,7 @@ use Rattle.rb_types.proofs.tests.a_service_without_classes_is_typed.Goals as goa
 
 no_classes : IsLawfulService []
 unfolding IsDistinct
-no_classes = record { each = search rules; class_count = lit< tt; positions = search rules }
+no_classes = record { each = search rules; class_count = lit< tt; depths = search rules; positions = search rules }
 
 pub check_service-requires : goal.check_service-requires
 check_service-requires c = subst IsLawfulService (sym (ap (map mirror_class) c.new.ensures)) no_classes

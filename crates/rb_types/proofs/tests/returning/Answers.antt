@@ -25,7 +25,9 @@ is_lawful = record {
   classes = search rules;
   class_count = lit< tt;
   result = tt;
-  body = (tt, (literal, lit≤ tt), lit≤ tt);
+  body = (tt, literal);
+  class_depths = search rules;
+  body_depth = (tt, lit≤ tt, lit≤ tt);
   positions = search rules;
 }
 
