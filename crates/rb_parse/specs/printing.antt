@@ -1,0 +1,3 @@
+-- What reading what is printed rests on.
+pub mod Readable
+pub mod Spots
