@@ -5,3 +5,4 @@ pub mod Blocks
 pub mod Heads
 pub mod Nested
 pub mod Told
+pub mod Formed
