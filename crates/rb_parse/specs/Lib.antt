@@ -6,3 +6,4 @@ pub mod Heads
 pub mod Nested
 pub mod Told
 pub mod printing
+pub mod Formed
