@@ -12,3 +12,4 @@ pub mod StatementEquations
 pub mod DeclarationEquations
 pub mod Laws
 pub mod Joins
+pub mod depths

@@ -17,5 +17,5 @@ mod stop;
 mod types;
 mod values;
 
-pub use reading::{parse_tokens, tokens_derive_one_program};
+pub use reading::{derived_programs_are_shallow, parse_tokens, tokens_derive_one_program};
 pub use source::parse_program;

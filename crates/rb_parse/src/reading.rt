@@ -1,11 +1,13 @@
 // Reading the tokens of a text.
 
+ghost use Rattle.std.specs.List.{All};
 ghost use Rattle.std.specs.Prelude.{◌≡◌, ◌<◌, ◌≤◌, ◌-◌, ◌+◌, ◌^◌, ℕ, List, length, take, drop};
 ghost use Rattle.rb_trees.specs.declared.tokens.Token.{Token as Lexeme};
 ghost use Rattle.rb_trees.specs.mirror.Declarations.{Program as Tree, mirror_program};
 ghost use Rattle.rb_meaning_bytes.specs.grammar.Derives.{Derives};
 ghost use Rattle.rb_meaning_bytes.specs.grammar.Limits.{Within};
 ghost use Rattle.rb_meaning_bytes.specs.grammar.Refusals.{place_of};
+ghost use Rattle.rb_meaning_types.specs.Lawful.{IsShallowBody, IsShallowClass};
 ghost use Rattle.rb_parse.specs.Reading.{program_of};
 ghost use Rattle.rb_parse.specs.Told.{Told, IsRead};
 ghost use Rattle.rb_parse.specs.Nested.{Answers, behind, cut_at, limited_of};
@@ -92,4 +94,9 @@ pub fn parse_tokens(alloc: Global, source: &[u8], tokens: &[Token]) -> Result<Pr
 /// A list of tokens derives at most one program.
 pub fn tokens_derive_one_program()
     ensures { (source : List ℕ) → (tokens : List Lexeme) → (one : Tree) → (other : Tree) → Derives source tokens one → Derives source tokens other → one ≡ other }
+{}
+
+/// A program that tokens derive within the limits nests within the limits.
+pub fn derived_programs_are_shallow()
+    ensures { (source : List ℕ) → (tokens : List Lexeme) → (program : Tree) → Derives source tokens program → Within tokens → All IsShallowClass program.classes × IsShallowBody program.body }
 {}

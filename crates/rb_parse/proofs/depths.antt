@@ -1,0 +1,7 @@
+-- What the tokens derive within the limits of nesting is shallow.
+pub mod States
+pub mod Heads
+pub mod Invariants
+pub mod Types
+pub mod Deepens
+pub mod Expressions
