@@ -5,3 +5,6 @@ pub mod Invariants
 pub mod Types
 pub mod Deepens
 pub mod Expressions
+pub mod Statements
+pub mod Programs
+pub mod Shallow

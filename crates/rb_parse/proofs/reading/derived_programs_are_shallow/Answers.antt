@@ -1,6 +1,5 @@
-use Rattle.rb_parse.proofs.depths.Types.{at_type}
-use Rattle.rb_parse.proofs.depths.Expressions.{at_first}
+use Rattle.rb_parse.proofs.depths.Shallow.{shallow}
 use Rattle.rb_parse.proofs.reading.derived_programs_are_shallow.Goals as goal
 
 pub returns : goal.returns
-returns c = ?
+returns c = λ source tokens program d within. shallow source tokens program d within
