@@ -1,6 +1,5 @@
 -- The productions of expressions keep what holds of parts.
-use Rattle.std.proofs.Common.{◌≡◌, ℕ, suc, ◌+◌, ◌≤◌, max, List, [], ◌∷◌, refl, ◌∙◌, arith}
-use Rattle.rb_trees.specs.declared.tokens.Token.{Token}
+use Rattle.std.proofs.Common.{◌≡◌, ℕ, suc, ◌≤◌, max, List, [], ◌∷◌, refl, ◌∙◌, arith}
 use Rattle.rb_trees.specs.declared.tokens.TokenKind.TheVariants as kind
 use Rattle.rb_trees.specs.declared.code.BinOp.{BinOp}
 use Rattle.rb_trees.specs.mirror.Code as code
@@ -13,9 +12,9 @@ use Rattle.rb_meaning_bytes.specs.grammar.Rules.{Rule, member}
 use Rattle.rb_meaning_bytes.specs.grammar.Values.{name_of}
 use Rattle.rb_meaning_bytes.specs.grammar.Limits.{Nesting, after}
 use Rattle.rb_meaning_types.specs.Lawful.{expr_depth, exprs_depth}
-use Rattle.rb_parse.proofs.depths.States.{afters, Ready, Goes, Moves, Marks, Spans, Carries, goes_on, inner, moves_on, mark, open_mark}
+use Rattle.rb_parse.proofs.depths.States.{afters, Moves, Marks, Spans, Carries, inner, moves_on, mark, open_mark}
 use Rattle.rb_parse.proofs.depths.Heads.{list_opens, type_closes, less_mark, greater_mark}
-use Rattle.rb_parse.proofs.depths.Invariants.{call_depth, Deep, Follows, Run, end_of, Keeping}
+use Rattle.rb_parse.proofs.depths.Invariants.{Deep, Follows, Keeping}
 use Rattle.rb_parse.proofs.depths.Deepens.{carries_none, spans_none, behind, before, marked, listed, followed, joined, member_depth}
 
 -- an operand, and the operators and operands that follow it

@@ -1,11 +1,10 @@
 -- How the tokens of types, comparisons, blocks and heads move what is open.
-use Rattle.std.proofs.Common.{◌≡◌, ℕ, ◌+◌, ◌-◌, ◌≤◌, Bool, true, false, cond, not, nat_eq, List, [], ◌∷◌, refl, ap, sym, subst, ◌∙◌, arith}
-use Rattle.rb_trees.specs.declared.tokens.TokenKind.{TokenKind}
+use Rattle.std.proofs.Common.{◌≡◌, ℕ, ◌+◌, ◌-◌, ◌≤◌, Bool, true, false, cond, not, nat_eq, [], ◌∷◌, refl, ap, sym, subst, ◌∙◌, arith}
 use Rattle.rb_trees.specs.declared.tokens.TokenKind.TheVariants as kind
 use Rattle.rb_meaning_bytes.specs.grammar.Kinds as k
 use Rattle.rb_meaning_bytes.specs.grammar.Kinds.{is_kind, is_one_of}
 use Rattle.rb_meaning_bytes.specs.grammar.Limits.{Nesting, opens_block, opens_type, is_mark, ends_expression, blocks_after, types_after, marks_after, after}
-use Rattle.rb_parse.proofs.depths.States.{afters, Ready, Limits, Goes, Moves, Marks, inner, moves_on}
+use Rattle.rb_parse.proofs.depths.States.{afters, Ready, Limits, Goes, Moves, Marks}
 
 -- a type's angle bracket is open
 pub record TypeOpens (n m : Nesting) : Type 0 where

@@ -1,6 +1,5 @@
 -- The productions of programs and their declarations keep what holds of parts.
-use Rattle.std.proofs.Common.{◌≡◌, ℕ, ◌+◌, ◌≤◌, List, [], ◌∷◌, refl, ◌∙◌}
-use Rattle.std.specs.List.{All}
+use Rattle.std.proofs.Common.{◌≡◌, ℕ, List, [], ◌∷◌, refl, ◌∙◌}
 use Rattle.std.proofs.lemmas.List.Elements.{All-nil, All-cons}
 use Rattle.rb_trees.specs.declared.tokens.TokenKind.TheVariants as kind
 use Rattle.rb_meaning_bytes.specs.grammar.Kinds as k
@@ -12,7 +11,7 @@ use Rattle.rb_meaning_bytes.specs.grammar.Limits.{Nesting, after}
 use Rattle.rb_meaning_types.specs.Lawful.{IsShallowBody, IsShallowClass}
 use Rattle.rb_parse.proofs.depths.States.{afters, Ready, Goes, goes_on, stills}
 use Rattle.rb_parse.proofs.depths.Heads.{head_closes, interface_opens, class_opens, signature_opens}
-use Rattle.rb_parse.proofs.depths.Invariants.{Keeps, Quiet, Run, end_of, Keeping}
+use Rattle.rb_parse.proofs.depths.Invariants.{Quiet, Keeping}
 
 -- nothing stands there
 still : (n : Nesting) → Ready n → Goes n n

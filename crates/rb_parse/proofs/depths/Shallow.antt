@@ -1,5 +1,5 @@
 -- What tokens derive within the limits of nesting is shallow.
-use Rattle.std.proofs.Common.{◌≡◌, ℕ, suc, ◌+◌, ◌≤◌, Bool, true, false, cond, List, [], ◌∷◌, ◌++◌, length, refl, ap, sym, subst, ◌∙◌, Option, Some, None, arith, ltb, ltb-false}
+use Rattle.std.proofs.Common.{◌≡◌, ℕ, Bool, true, false, cond, List, [], ◌∷◌, ◌++◌, length, refl, ap, sym, subst, ◌∙◌, Some, None, arith, ltb, ltb-false}
 use Rattle.std.specs.List.{All}
 use Rattle.rb_trees.specs.declared.tokens.Token.{Token}
 use Rattle.rb_trees.specs.mirror.Declarations.{Program}
@@ -10,7 +10,7 @@ use Rattle.rb_meaning_bytes.specs.grammar.Derives as g
 use Rattle.rb_meaning_bytes.specs.grammar.Derives.{Spells, Derives}
 use Rattle.rb_meaning_bytes.specs.grammar.Limits.{Nesting, after, too_deep, broken, nothing_open, Within}
 use Rattle.rb_meaning_types.specs.Lawful.{IsShallowBody, IsShallowClass}
-use Rattle.rb_parse.proofs.depths.States.{Ready, Limits}
+use Rattle.rb_parse.proofs.depths.States.{Limits}
 use Rattle.rb_parse.proofs.depths.Invariants.{Good, Run, end_of, Keeping}
 use Rattle.rb_parse.proofs.depths.Types.{at_type}
 use Rattle.rb_parse.proofs.depths.Expressions.{at_chain, at_more_chain, at_prefix, at_postfix, at_members, at_call, at_first, at_arguments, at_more_arguments}

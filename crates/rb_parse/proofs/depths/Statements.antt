@@ -1,18 +1,18 @@
 -- The productions of statements and blocks keep what holds of parts.
-use Rattle.std.proofs.Common.{◌≡◌, ℕ, suc, ◌+◌, ◌≤◌, max, Bool, true, List, [], ◌∷◌, Option, Some, None, refl, ◌∙◌, arith}
+use Rattle.std.proofs.Common.{◌≡◌, ℕ, suc, ◌+◌, ◌≤◌, max, true, List, [], ◌∷◌, refl, ◌∙◌, arith}
 use Rattle.rb_trees.specs.declared.tokens.TokenKind.{TokenKind}
 use Rattle.rb_trees.specs.declared.tokens.TokenKind.TheVariants as kind
-use Rattle.rb_trees.specs.mirror.Code.{Expr, Stmt, Stmts}
+use Rattle.rb_trees.specs.mirror.Code.{Expr, Stmts}
 use Rattle.rb_meaning_bytes.specs.grammar.Kinds as k
 use Rattle.rb_meaning_bytes.specs.grammar.Symbols as s
 use Rattle.rb_meaning_bytes.specs.grammar.Symbols.{Symbol, Part, TreeOf, Makes}
 use Rattle.rb_meaning_bytes.specs.grammar.Rules as r
 use Rattle.rb_meaning_bytes.specs.grammar.Rules.{Rule}
 use Rattle.rb_meaning_bytes.specs.grammar.Limits.{Nesting, after}
-use Rattle.rb_meaning_types.specs.Lawful.{expr_depth, stmt_depth, stmts_depth, IsShallowExpr, IsShallowStmt, AreShallowStmts, IsShallowReturn, IsShallowBody}
-use Rattle.rb_parse.proofs.depths.States.{afters, Ready, Limits, Goes, Spans, goes_on, all_still, stills}
-use Rattle.rb_parse.proofs.depths.Heads.{Opens, block_opens, block_closes}
-use Rattle.rb_parse.proofs.depths.Invariants.{Keeps, Holds, Others, Ends, Deep, Shallow, Roomy, Run, end_of, Keeping}
+use Rattle.rb_meaning_types.specs.Lawful.{expr_depth, stmt_depth, stmts_depth, IsShallowExpr, AreShallowStmts}
+use Rattle.rb_parse.proofs.depths.States.{afters, Ready, Limits, goes_on, all_still, stills}
+use Rattle.rb_parse.proofs.depths.Heads.{block_opens, block_closes}
+use Rattle.rb_parse.proofs.depths.Invariants.{Keeps, Holds, Deep, Roomy, Keeping}
 
 within_marks : (n d m : ℕ) → n + d ≤ m + 1 → m ≤ 200 → d ≤ 201
 within_marks n d m e f = omega arith

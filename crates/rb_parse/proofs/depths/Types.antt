@@ -1,12 +1,11 @@
 -- The productions of types keep what holds of parts.
-use Rattle.std.proofs.Common.{◌≡◌, ℕ, List, [], ◌∷◌, refl}
+use Rattle.std.proofs.Common.{ℕ, List, [], ◌∷◌, refl}
 use Rattle.rb_trees.specs.declared.tokens.TokenKind.TheVariants as kind
 use Rattle.rb_meaning_bytes.specs.grammar.Kinds as k
 use Rattle.rb_meaning_bytes.specs.grammar.Symbols as s
 use Rattle.rb_meaning_bytes.specs.grammar.Symbols.{Symbol, TreeOf, Makes}
 use Rattle.rb_meaning_bytes.specs.grammar.Rules as r
 use Rattle.rb_meaning_bytes.specs.grammar.Rules.{Rule}
-use Rattle.rb_meaning_bytes.specs.grammar.Limits.{Nesting, after}
 use Rattle.rb_parse.proofs.depths.States.{afters, inner}
 use Rattle.rb_parse.proofs.depths.Heads.{list_opens, rows_opens, type_closes}
 use Rattle.rb_parse.proofs.depths.Invariants.{Keeping}
