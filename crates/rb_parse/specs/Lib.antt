@@ -6,4 +6,3 @@ pub mod Heads
 pub mod Nested
 pub mod Told
 pub mod printing
-pub mod Formed

@@ -5,6 +5,7 @@ mod atoms;
 mod builders;
 mod declarations;
 mod expressions;
+mod grammar_laws;
 mod kinds;
 mod levels;
 mod limits;
@@ -17,5 +18,6 @@ mod stop;
 mod types;
 mod values;
 
+pub use grammar_laws::derived_programs_are_lawful;
 pub use reading::{parse_tokens, tokens_derive_one_program};
 pub use source::parse_program;

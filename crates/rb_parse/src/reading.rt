@@ -6,8 +6,6 @@ ghost use Rattle.rb_trees.specs.mirror.Declarations.{Program as Tree, mirror_pro
 ghost use Rattle.rb_meaning_bytes.specs.grammar.Derives.{Derives};
 ghost use Rattle.rb_meaning_bytes.specs.grammar.Limits.{Within};
 ghost use Rattle.rb_meaning_bytes.specs.grammar.Refusals.{place_of};
-ghost use Rattle.rb_meaning_bytes.specs.tokens.Texts.{IsTokens};
-ghost use Rattle.rb_parse.specs.Formed.{AreFormed};
 ghost use Rattle.rb_parse.specs.Reading.{program_of};
 ghost use Rattle.rb_parse.specs.Told.{Told, IsRead};
 ghost use Rattle.rb_parse.specs.Nested.{Answers, behind, cut_at, limited_of};
@@ -94,9 +92,4 @@ pub fn parse_tokens(alloc: Global, source: &[u8], tokens: &[Token]) -> Result<Pr
 /// A list of tokens derives at most one program.
 pub fn tokens_derive_one_program()
     ensures { (source : List ℕ) → (tokens : List Lexeme) → (one : Tree) → (other : Tree) → Derives source tokens one → Derives source tokens other → one ≡ other }
-{}
-
-/// What the tokens of a source derive has lawful names, literals, lists and positions.
-pub fn derived_programs_are_formed()
-    ensures { (source : List ℕ) → (tokens : List Lexeme) → (program : Tree) → IsTokens source tokens → Derives source tokens program → AreFormed program }
 {}

@@ -1,11 +1,12 @@
 // Reading a source.
 
-ghost use Rattle.std.specs.Prelude.{◌≡◌, List};
+ghost use Rattle.std.specs.Prelude.{◌≡◌, List, IfOk};
 ghost use Rattle.rb_trees.specs.declared.tokens.Token.{Token};
-ghost use Rattle.rb_trees.specs.mirror.Declarations.{Program as Tree};
+ghost use Rattle.rb_trees.specs.mirror.Declarations.{Program as Tree, mirror_program};
 ghost use Rattle.rb_meaning_bytes.specs.tokens.Texts.{IsTokens};
 ghost use Rattle.rb_meaning_bytes.specs.grammar.Derives.{Derives};
 ghost use Rattle.rb_meaning_bytes.specs.grammar.Limits.{Within};
+ghost use Rattle.rb_meaning_types.specs.Lawful.{IsLawful};
 ghost use Rattle.rb_parse.specs.Told.{ToldSource, IsRead, refusal_of};
 
 use crate::reading::parse_tokens;
@@ -22,6 +23,8 @@ pub fn parse_program(alloc: Global, source: &[u8]) -> Result<Program, ReadError>
     ensures read { ToldSource source.now result }
     // A program that the source's tokens derive within the limits is read, unless memory runs out.
     ensures only { (tokens : List Token) → (program : Tree) → IsTokens source.now tokens → Derives source.now tokens program → Within tokens → IsRead program result }
+    // What is read is lawful.
+    ensures lawful { IfOk result (λ program. IsLawful (mirror_program program)) }
 {
     match lex(alloc, source) {
         Ok(tokens) => parse_tokens(alloc, source, tokens.as_slice()),

@@ -6,7 +6,7 @@ use Rattle.rb_meaning_bytes.specs.tokens.Lists.{TokensBetween}
 use Rattle.rb_meaning_bytes.specs.tokens.Texts.{IsTokens}
 use Rattle.rb_meaning_bytes.specs.grammar.Derives.{Derives}
 use Rattle.rb_meaning_types.specs.Lawful.{classes_positions, body_positions}
-use Rattle.rb_parse.specs.Formed.{AreFormed}
+use Rattle.rb_parse.proofs.lawful.Formed.{AreFormed}
 use Rattle.rb_parse.proofs.lawful.Kept.{all_tell}
 use Rattle.rb_parse.proofs.lawful.Forms.{forms}
 use Rattle.rb_parse.proofs.lawful.Positions.{times, hits}
