@@ -8,16 +8,18 @@ use Rattle.rb_trees.specs.declared.code.BinOp.{BinOp}
 use Rattle.rb_trees.specs.declared.code.BinOp.TheVariants as binary
 use Rattle.rb_trees.specs.declared.values.Value.{Value}
 use Rattle.rb_trees.specs.declared.values.Value.TheOpen.{Value-F}
+use Rattle.rb_trees.specs.declared.values.Value.TheViews.{out-Value}
 use Rattle.rb_trees.specs.mirror.Types.{TypeTree}
+use Rattle.rb_trees.specs.mirror.Code.{Expr, Exprs, Lit, Name, This, Unary, Binary, Field, Call, Index, New, Items, Taken, NoExprs, MoreExprs}
 use Rattle.rb_trees.specs.printing.Pieces.{Piece, Token, Space}
 use Rattle.rb_trees.specs.printing.Types.{type_pieces}
 use Rattle.rb_trees.specs.printing.Words as w
 use Rattle.rb_trees.specs.printing.Words.{form_pieces, int_pieces, bool_piece}
-use Rattle.rb_trees.specs.printing.Exprs.{binary_sign, unary_pieces, in_parentheses}
+use Rattle.rb_trees.specs.printing.Exprs.{binary_sign, unary_pieces, in_parentheses, expr_pieces, args_pieces, more_args_pieces}
 use Rattle.rb_meaning_bytes.specs.grammar.Kinds as k
 use Rattle.rb_meaning_bytes.specs.grammar.Kinds.{is_one_of}
 use Rattle.rb_meaning_bytes.specs.grammar.Limits.{Nesting, after}
-use Rattle.rb_parse.specs.printing.Readable.{IsReadInt, IsReadForm, type_depth}
+use Rattle.rb_parse.specs.printing.Readable.{IsReadInt, IsReadForm, IsReadExpr, AreReadExprs, type_depth, marks_of, marks_of_all}
 use Rattle.rb_parse.proofs.printing.within.States.{Open, Plain, brackets, counting, more_marks, after_calm, after_mark, after_opened, after_closed, after_less, after_greater}
 use Rattle.rb_parse.proofs.printing.within.Fits.{Fits, nothing, spaced, joined, weaker, next}
 use Rattle.rb_parse.proofs.printing.within.Types.{Behind, type_fits}
@@ -113,3 +115,29 @@ list_fits {ps} {i} item d x = record {
       let c = after_opened refl (omega (arith, d)) a in
       next a (next c (joined (type_fits item b 1 m _ (omega (arith, d)) c refl) (λ o g. next (after_closed g.open_is) (x.fits b m _ f (record { open_is = after_closed g.open_is; last = refl })))));
 }
+
+named : {ps : List Piece} {i : ℕ} (name : List ℕ) → Fitting ps i → Fitting (Token kind.Name name ∷ ps) i
+named name x = calm kind.Name name refl refl x
+
+mutual
+  -- An expression has the marks that are counted on its tree.
+  pub expr_fits : (minus : Bool) (e : Expr) → IsReadExpr minus e → Fitting (expr_pieces e) (marks_of e)
+  expr_fits minus (Lit at value) h = form_fits minus (out-Value value) h
+  expr_fits minus (Name at name) h = named name none
+  expr_fits minus (This at) h = calm k.keyword_this _ refl refl none
+  expr_fits minus (Unary at op a) h = unary_fits op (placed _ (expr_fits _ a h))
+  expr_fits minus (Binary at op a b) h = at_most _ (omega arith) (both (placed _ (expr_fits _ a h.0)) (apart _ (sign_fits op (apart _ (placed _ (expr_fits _ b h.1))))))
+  expr_fits minus (Field at a name) h = at_most _ (omega arith) (both (placed _ (expr_fits _ a h.0)) (mark k.sign_dot _ refl refl (named name none)))
+  expr_fits minus (Call at a method args) h = at_most _ (omega arith) (both (placed _ (expr_fits _ a h.0)) (mark k.sign_dot _ refl refl (named method (parenthesised (args_fit args h.2)))))
+  expr_fits minus (Index at a b) h = at_most _ (omega arith) (both (both (placed _ (expr_fits _ a h.0)) (mark k.sign_open_bracket _ refl refl (expr_fits false b h.1))) (calm k.sign_close_bracket _ refl refl none))
+  expr_fits minus (New at class args) h = calm k.keyword_new _ refl refl (apart _ (named class (parenthesised (args_fit args h.1))))
+  expr_fits minus (Items at item items) h = list_fits item h.0.1 (parenthesised (args_fit items h.1))
+  expr_fits minus (Taken at step) h = elim h [ ]
+
+  args_fit : (es : Exprs) → AreReadExprs es → Fitting (args_pieces es) (marks_of_all es)
+  args_fit NoExprs h = none
+  args_fit (MoreExprs e es) h = both (expr_fits false e h.0) (more_args_fit es h.1)
+
+  more_args_fit : (es : Exprs) → AreReadExprs es → Fitting (more_args_pieces es) (marks_of_all es)
+  more_args_fit NoExprs h = none
+  more_args_fit (MoreExprs e es) h = calm k.sign_comma _ refl refl (apart _ (both (expr_fits false e h.0) (more_args_fit es h.1)))
