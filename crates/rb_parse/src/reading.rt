@@ -3,6 +3,7 @@
 ghost use Rattle.std.specs.Prelude.{◌≡◌, ◌<◌, ◌≤◌, ◌-◌, ◌+◌, ◌^◌, ℕ, List, length, take, drop};
 ghost use Rattle.rb_trees.specs.declared.tokens.Token.{Token as Lexeme};
 ghost use Rattle.rb_trees.specs.mirror.Declarations.{Program as Tree, mirror_program};
+ghost use Rattle.rb_trees.specs.printing.Programs.{program_pieces};
 ghost use Rattle.rb_meaning_bytes.specs.grammar.Derives.{Derives};
 ghost use Rattle.rb_meaning_bytes.specs.grammar.Limits.{Within};
 ghost use Rattle.rb_meaning_bytes.specs.grammar.Refusals.{place_of};
@@ -11,6 +12,8 @@ ghost use Rattle.rb_parse.specs.Formed.{AreFormed};
 ghost use Rattle.rb_parse.specs.Reading.{program_of};
 ghost use Rattle.rb_parse.specs.Told.{Told, IsRead};
 ghost use Rattle.rb_parse.specs.Nested.{Answers, behind, cut_at, limited_of};
+ghost use Rattle.rb_parse.specs.printing.Readable.{IsReadable};
+ghost use Rattle.rb_parse.specs.printing.Spots.{tokens_at};
 
 use crate::declarations::program;
 use crate::limits::broken;
@@ -99,4 +102,9 @@ pub fn tokens_derive_one_program()
 /// What the tokens of a source derive has lawful names, literals, lists and positions.
 pub fn derived_programs_are_formed()
     ensures { (source : List ℕ) → (tokens : List Lexeme) → (program : Tree) → IsTokens source tokens → Derives source tokens program → AreFormed program }
+{}
+
+/// The tokens of a printed program break no limit.
+pub fn printed_programs_are_within()
+    ensures { (program : Tree) → IsReadable program → Within (tokens_at 0 (program_pieces program)) }
 {}

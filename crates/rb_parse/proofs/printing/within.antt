@@ -3,3 +3,6 @@ pub mod States
 pub mod Fits
 pub mod Types
 pub mod Exprs
+pub mod Lines
+pub mod Stmts
+pub mod Programs

@@ -28,7 +28,7 @@ use Rattle.rb_parse.proofs.printing.within.Types.{Behind, type_fits}
 pub record Fitting (ps : List Piece) (marks : ℕ) : Type 0 where
   pub fits : (b m : ℕ) (n : Nesting) → m + marks ≤ 200 → Behind b 0 m n → Fits (Behind b 0 (m + marks)) n ps
 
-counted : {b m : ℕ} {n : Nesting} (l : ℕ) → m ≤ l → l ≤ 200 → Behind b 0 m n → Behind b 0 l n
+pub counted : {b m : ℕ} {n : Nesting} (l : ℕ) → m ≤ l → l ≤ 200 → Behind b 0 m n → Behind b 0 l n
 counted l e f h = record { open_is = more_marks l e f h.open_is; last = h.last }
 
 at_most : {ps : List Piece} {i : ℕ} (j : ℕ) → i ≤ j → Fitting ps i → Fitting ps j
