@@ -89,3 +89,7 @@ closed_goes indent c e = line_goes indent (close_step c e stay)
 
 pub closed_by_goes : {b m : ℕ} {ps : List Piece} → suc b ≤ 64 → Goes (Behind b 0 0) (Past b 0 m) ps → Goes (Behind (suc b) 0 0) (Behind (suc b) 0 0) (closed_by ps)
 closed_by_goes {b} l x = close_step b (omega arith) (gap _ (opened_goes l x))
+
+-- a block: the line that opens it, its own lines, and the line that closes it
+pub block_goes : {b : ℕ} {P : Nesting → Type 0} {head lines : List Piece} (indent : List ℕ) → Goes P (Behind (suc b) 0 0) head → Goes (Behind (suc b) 0 0) (Behind (suc b) 0 0) lines → Goes P (Behind b 0 0) (line indent head ++ lines ++ closed indent)
+block_goes {b} indent x y = then (then (line_goes indent x) y) (closed_goes indent b (omega arith))

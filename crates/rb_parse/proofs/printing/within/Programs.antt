@@ -21,7 +21,7 @@ use Rattle.rb_parse.specs.printing.Spots.{tokens_at}
 use Rattle.rb_parse.proofs.printing.within.States.{counting, after_calm, after_mark, after_head}
 use Rattle.rb_parse.proofs.printing.within.Fits.{nothing, spaced, joined, next, unbroken}
 use Rattle.rb_parse.proofs.printing.within.Types.{Behind, Past, type_fits, result_fits}
-use Rattle.rb_parse.proofs.printing.within.Lines.{Goes, stay, then, gap, step, last_step, name_step, from_past, semicolon_step, line_goes, opened_goes, closed_goes}
+use Rattle.rb_parse.proofs.printing.within.Lines.{Goes, stay, then, gap, step, last_step, name_step, from_past, semicolon_step, line_goes, opened_goes, closed_goes, block_goes}
 use Rattle.rb_parse.proofs.printing.within.Stmts.{body_goes}
 
 type_goes : {b m : ℕ} (tree : TypeTree) → IsReadType tree → Goes (Behind b 0 m) (Past b 0 m) (type_pieces tree)
@@ -65,8 +65,7 @@ remote_goes true = step k.keyword_remote _ refl refl (gap _ stay)
 remote_goes false = stay
 
 method_goes : (indent : List ℕ) (m : Method) → IsReadMethod m → Goes (Behind 0 0 0) (Behind 0 0 0) (method_pieces indent m)
-method_goes indent m h =
-    then (then (line_goes indent (opened_goes (omega arith) (then (remote_goes m.remote) (signature_goes m.signature h.0)))) (body_goes (deeper indent) m.body h.1)) (closed_goes indent 0 refl)
+method_goes indent m h = block_goes indent (opened_goes (omega arith) (then (remote_goes m.remote) (signature_goes m.signature h.0))) (body_goes (deeper indent) m.body h.1)
 
 methods_go : (indent : List ℕ) (ms : List Method) → All IsReadMethod ms → Goes (Behind 0 0 0) (Behind 0 0 0) (methods_pieces indent ms)
 methods_go indent [] h = stay

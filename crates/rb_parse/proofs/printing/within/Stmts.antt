@@ -13,7 +13,7 @@ use Rattle.rb_parse.specs.printing.Readable.{IsReadOutermost, IsReadStmt, AreRea
 use Rattle.rb_parse.proofs.printing.within.States.{Plain, words, counting}
 use Rattle.rb_parse.proofs.printing.within.Types.{Behind}
 use Rattle.rb_parse.proofs.printing.within.Exprs.{expr_fits}
-use Rattle.rb_parse.proofs.printing.within.Lines.{Goes, stay, then, gap, step, last_step, name_step, from_past, whole, semicolon_step, assign_step, in_step, word_step, head_goes, line_goes, opened_goes, closed_goes, closed_by_goes}
+use Rattle.rb_parse.proofs.printing.within.Lines.{Goes, stay, then, gap, step, last_step, name_step, from_past, whole, semicolon_step, assign_step, in_step, word_step, head_goes, line_goes, opened_goes, closed_goes, closed_by_goes, block_goes}
 
 outermost : {b : ℕ} (e : Expr) → IsReadOutermost e → Goes (Behind b 0 0) (Behind b 0 (marks_of e)) (expr_pieces e)
 outermost e h = whole (expr_fits false e h.0) h.1
@@ -30,7 +30,7 @@ headed_goes kind bytes c v l x = opened_goes l (word_step kind bytes c v (gap _ 
 
 otherwise_goes : {b : ℕ} (indent : List ℕ) (ss : Stmts) {lines : List Piece} → suc b ≤ 64 → Goes (Behind (suc b) 0 0) (Behind (suc b) 0 0) lines → Goes (Behind (suc b) 0 0) (Behind b 0 0) (otherwise indent ss lines)
 otherwise_goes {b} indent NoStmts l x = closed_goes indent b (omega arith)
-otherwise_goes {b} indent (MoreStmts s ss) l x = then (then (line_goes indent (closed_by_goes l (last_step k.keyword_else _ refl refl))) x) (closed_goes indent b (omega arith))
+otherwise_goes {b} indent (MoreStmts s ss) l x = block_goes indent (closed_by_goes l (last_step k.keyword_else _ refl refl)) x
 
 mutual
   pub stmt_goes : (b : ℕ) (indent : List ℕ) (s : Stmt) → IsReadStmt b s → Goes (Behind b 0 0) (Behind b 0 0) (stmt_pieces indent s)
@@ -42,14 +42,15 @@ mutual
   stmt_goes b indent (Throw at e) h = line_goes indent (step k.keyword_throw _ refl refl (gap _ (statement e h)))
   stmt_goes b indent (If at e one other) h =
       then (then (line_goes indent (headed_goes k.keyword_if _ refl refl h.1 (outermost e h.0))) (stmts_go (suc b) (deeper indent) one h.2)) (otherwise_goes indent other h.1 (stmts_go (suc b) (deeper indent) other h.3))
-  stmt_goes b indent (While at e ss) h = then (then (line_goes indent (headed_goes k.keyword_while _ refl refl h.1 (outermost e h.0))) (stmts_go (suc b) (deeper indent) ss h.2)) (closed_goes indent b (omega arith))
+  stmt_goes b indent (While at e ss) h = block_goes indent (headed_goes k.keyword_while _ refl refl h.1 (outermost e h.0)) (stmts_go (suc b) (deeper indent) ss h.2)
   stmt_goes b indent (For at name e ss) h =
-      then (then (line_goes indent (headed_goes k.keyword_for _ refl refl h.2 (name_step name (gap _ (in_step (gap _ (outermost e h.1))))))) (stmts_go (suc b) (deeper indent) ss h.3)) (closed_goes indent b (omega arith))
+      let head = name_step name (gap _ (in_step (gap _ (outermost e h.1)))) in
+      block_goes indent (headed_goes k.keyword_for _ refl refl h.2 head) (stmts_go (suc b) (deeper indent) ss h.3)
   stmt_goes b indent (Try at one name other) h =
-      then (then (then (then (line_goes indent (opened_goes h.1 (last_step k.keyword_try _ refl refl))) (stmts_go (suc b) (deeper indent) one h.2))
-          (line_goes indent (closed_by_goes h.1 (word_step k.keyword_catch _ refl refl (gap _ (head_goes (name_step name stay))))))) (stmts_go (suc b) (deeper indent) other h.3)) (closed_goes indent b (omega arith))
-  stmt_goes b indent (Batch at interface root ss) h =
-      then (then (line_goes indent (headed_goes k.keyword_batch _ refl refl h.2 (name_step interface (gap _ (name_step root stay))))) (stmts_go (suc b) (deeper indent) ss h.3)) (closed_goes indent b (omega arith))
+      let tried = then (line_goes indent (opened_goes h.1 (last_step k.keyword_try _ refl refl))) (stmts_go (suc b) (deeper indent) one h.2) in
+      let catch = word_step k.keyword_catch _ refl refl (gap _ (head_goes (name_step name stay))) in
+      then (then (then tried (line_goes indent (closed_by_goes h.1 catch))) (stmts_go (suc b) (deeper indent) other h.3)) (closed_goes indent b (omega arith))
+  stmt_goes b indent (Batch at interface root ss) h = block_goes indent (headed_goes k.keyword_batch _ refl refl h.2 (name_step interface (gap _ (name_step root stay)))) (stmts_go (suc b) (deeper indent) ss h.3)
 
   pub stmts_go : (b : ℕ) (indent : List ℕ) (ss : Stmts) → AreReadStmts b ss → Goes (Behind b 0 0) (Behind b 0 0) (stmts_pieces indent ss)
   stmts_go b indent NoStmts h = stay
