@@ -15,3 +15,4 @@ pub mod Joins
 pub mod lawful
 pub mod depths
 pub mod ReadsLawful
+pub mod printing
