@@ -1,0 +1,2 @@
+-- What is printed is read again.
+pub mod derived

@@ -1,0 +1,4 @@
+-- The tokens of a printed program derive it, but for its positions.
+pub mod Stands
+pub mod Made
+pub mod Types
