@@ -1,2 +1,3 @@
 -- What is printed is read again.
+pub mod Values
 pub mod derived

@@ -2,3 +2,6 @@
 pub mod Stands
 pub mod Made
 pub mod Types
+pub mod Literals
+pub mod Places
+pub mod Exprs

@@ -70,6 +70,10 @@ module _ {source : List ℕ} where
       → MadePart source p ps P → ((x : TreeOf p) → P x → Q (x, tt)) → Made source (The p ∷ []) ps Q
   last {p} {ps} {P} {Q} m f = subst (λ qs. Made source (The p ∷ []) qs Q) (append-nil ps) (the m (λ x h. end (f x h)))
 
+  -- the same pieces, put together in another way
+  pub turned : {l : List Symbol} {ps qs : List Piece} {Q : Trees l → Type 0} → ps ≡ qs → Made source l qs Q → Made source l ps Q
+  turned {l} {Q = Q} e m = subst (λ k. Made source l k Q) (sym e) m
+
   -- by a production
   pub by : {p : Part} {m : List Symbol} {f : Makes m (TreeOf p)} {ps : List Piece} {P : TreeOf p → Type 0}
       → Rule source p m f → Made source m ps (λ xs. P (made m (TreeOf p) f xs)) → MadePart source p ps P
