@@ -1,3 +1,3 @@
--- What is printed is read again.
+-- What reading what is printed rests on.
 pub mod Values
 pub mod derived

@@ -7,3 +7,5 @@ pub mod Literals
 pub mod Places
 pub mod Exprs
 pub mod Stmts
+pub mod Declarations
+pub mod Whole

@@ -1,13 +1,11 @@
 -- The expressions that are printed, and their derivations.
-use Rattle.std.proofs.Common.{◌≡◌, ℕ, zero, ◌≤◌, Bool, true, false, Option, None, Some, List, [], ◌∷◌, ◌++◌, refl, ap, sym, ◌∙◌, subst, arith, append_assoc}
+use Rattle.std.proofs.Common.{◌≡◌, ℕ, ◌≤◌, Bool, false, Option, List, [], ◌∷◌, ◌++◌, refl, ap, sym, ◌∙◌, subst, arith, append_assoc}
 use Rattle.rb_trees.specs.declared.code.UnOp.{UnOp}
 use Rattle.rb_trees.specs.declared.code.UnOp.TheVariants as unary
 use Rattle.rb_trees.specs.declared.code.BinOp.{BinOp}
 use Rattle.rb_trees.specs.declared.code.BinOp.TheVariants as binary
-use Rattle.rb_trees.specs.mirror.Types.{TypeTree}
 use Rattle.rb_trees.specs.mirror.Code.{Expr, Exprs, Lit, Name, This, Unary, Binary, Field, Call, Index, New, Items, Taken, NoExprs, MoreExprs}
 use Rattle.rb_trees.specs.printing.Pieces.{Piece}
-use Rattle.rb_trees.specs.printing.Types.{type_pieces}
 use Rattle.rb_trees.specs.printing.Exprs.{binary_level, left_level, right_level, binary_sign, unary_level, operand_level, level_of, in_parentheses, placed_at, unary_pieces, expr_pieces, args_pieces, more_args_pieces}
 use Rattle.rb_trees.specs.printing.Words as w
 use Rattle.rb_trees.specs.printing.Words.{space, dot, name_piece}
@@ -21,7 +19,7 @@ use Rattle.rb_parse.specs.printing.Readable.{behind, before_operand, before_righ
 use Rattle.rb_parse.proofs.printing.derived.Made.{MadePart, end, skip, token, the, last, by, turned}
 use Rattle.rb_parse.proofs.printing.derived.Types.{type_made}
 use Rattle.rb_parse.proofs.printing.derived.Literals.{literal_made}
-use Rattle.rb_parse.proofs.printing.derived.Places.{Is, Goes, OpenPostfix, At, closed, placed, outermost, opened, opened_postfix, no_more}
+use Rattle.rb_parse.proofs.printing.derived.Places.{Is, OpenPostfix, At, closed, placed, outermost, opened, opened_postfix}
 
 left_fits : (op : BinOp) → left_level op ≤ 8
 left_fits binary.Or = omega arith
@@ -125,15 +123,15 @@ module _ (source : List ℕ) where
       → OpenPostfix source (Call at a name args) (ps ++ dot ∷ name_piece name ∷ in_parentheses qs)
   call_made at a name args ps qs h c =
       member_made a (Call at a name args) name ps (in_parentheses qs) (λ left n. Call 0 left n (unplaced_exprs args)) h refl
-        (by r.call (token λ t i. the c λ x k. token λ u j. end λ n x left. ap (Call 0 (unplaced_expr left) x) k))
+      (by r.call (token λ t i. the c λ x k. token λ u j. end λ n x left. ap (Call 0 (unplaced_expr left) x) k))
 
   index_made : (at : ℕ) (a b : Expr) (ps qs : List Piece) → OpenPostfix source a ps → MadePart source (Chain s.OrLevel) qs (λ x. Is b x)
       → OpenPostfix source (Index at a b) (ps ++ w.open_bracket ∷ qs ++ w.close_bracket ∷ [])
   index_made at a b ps qs h c =
       let rest : List Piece = w.open_bracket ∷ (qs ++ w.close_bracket ∷ []) in
       subst (λ l. OpenPostfix source (Index at a b) l) (sym (append_assoc ps (w.open_bracket ∷ qs) (w.close_bracket ∷ [])))
-        (opened_postfix source a (Index at a b) ps rest (λ left. Index 0 left (unplaced_expr b)) h refl λ more g m.
-        by r.index (token λ t i. turned (append_assoc qs (w.close_bracket ∷ []) more) (the c λ x k. token λ u j. last m λ f l left. l (Index t.start left x) ∙ ap (λ z. g (Index 0 (unplaced_expr left) z)) k)))
+      (opened_postfix source a (Index at a b) ps rest (λ left. Index 0 left (unplaced_expr b)) h refl λ more g m.
+      by r.index (token λ t i. turned (append_assoc qs (w.close_bracket ∷ []) more) (the c λ x k. token λ u j. last m λ f l left. l (Index t.start left x) ∙ ap (λ z. g (Index 0 (unplaced_expr left) z)) k)))
 
   mutual
     -- what is printed of an expression is derived at the place of its level
@@ -144,8 +142,8 @@ module _ (source : List ℕ) where
     own (Unary at op a) minus h = unary_made op at a (placed_at (operand_level op) a (expr_pieces a)) (placed source (operand_level op) a (expr_pieces a) (operand_fits op) (own a (behind (before_operand op) (operand_level op) a) h))
     own (Binary at op a b) minus h =
         binary_made op at a b (placed_at (left_level op) a (expr_pieces a)) (placed_at (right_level op) b (expr_pieces b))
-          (placed source (left_level op) a (expr_pieces a) (left_fits op) (own a (behind minus (left_level op) a) h.0))
-          (placed source (right_level op) b (expr_pieces b) (right_fits op) (own b (behind (before_right op) (right_level op) b) h.1))
+        (placed source (left_level op) a (expr_pieces a) (left_fits op) (own a (behind minus (left_level op) a) h.0))
+        (placed source (right_level op) b (expr_pieces b) (right_fits op) (own b (behind (before_right op) (right_level op) b) h.1))
     own (Field at a name) minus h = field_made at a name (placed_at 7 a (expr_pieces a)) (placed source 7 a (expr_pieces a) (omega arith) (own a (behind minus 7 a) h.0))
     own (Call at a name args) minus h = call_made at a name args (placed_at 7 a (expr_pieces a)) (args_pieces args) (placed source 7 a (expr_pieces a) (omega arith) (own a (behind minus 7 a) h.0)) (args_made args h.2)
     own (Index at a b) minus h = index_made at a b (placed_at 7 a (expr_pieces a)) (expr_pieces b) (placed source 7 a (expr_pieces a) (omega arith) (own a (behind minus 7 a) h.0)) (outermost source b (expr_pieces b) (own b false h.1))

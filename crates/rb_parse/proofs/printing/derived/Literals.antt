@@ -1,5 +1,5 @@
 -- The literals that are printed, and their derivations.
-use Rattle.std.proofs.Common.{◌≡◌, ℕ, ℤ, pos, negsuc, suc, ◌==◌, ◌≤◌, min, Bool, true, false, cond, List, [], ◌∷◌, refl, ap, sym, ◌∙◌, subst, arith, nat_eq, ne_eqb}
+use Rattle.std.proofs.Common.{◌≡◌, ℕ, ℤ, pos, negsuc, ◌==◌, ◌≤◌, min, Bool, true, false, List, [], ◌∷◌, refl, ap, sym, ◌∙◌, subst, arith}
 use Rattle.std.specs.Fmt.{decimal}
 use Rattle.std.proofs.lemmas.Bool.Decides.{nat_tests}
 use Rattle.rb_trees.specs.declared.tokens.Token.{Token as Lexeme}
@@ -8,7 +8,7 @@ use Rattle.rb_trees.specs.declared.values.Value.TheVariants as value
 use Rattle.rb_trees.specs.declared.values.Value.TheOpen.{Value-F}
 use Rattle.rb_trees.specs.declared.values.Value.TheViews.{out-Value, roll-Value, roll-out-Value}
 use Rattle.rb_trees.specs.mirror.Code.{Lit}
-use Rattle.rb_trees.specs.printing.Words.{int_pieces, bool_piece, text_piece, number_piece, form_pieces, literal_pieces}
+use Rattle.rb_trees.specs.printing.Words.{int_pieces, bool_piece, number_piece, form_pieces, literal_pieces}
 use Rattle.rb_trees.specs.printing.Unplaced.{unplaced_expr}
 use Rattle.rb_meaning_bytes.specs.tokens.Values.{number_value, int_of, text_value}
 use Rattle.rb_meaning_bytes.specs.grammar.Values.{slice, number_of}
@@ -16,7 +16,7 @@ use Rattle.rb_meaning_bytes.specs.grammar.Symbols as s
 use Rattle.rb_meaning_bytes.specs.grammar.Rules as r
 use Rattle.rb_parse.specs.printing.Readable.{IsReadInt, IsReadForm, IsReadLiteral}
 use Rattle.rb_parse.proofs.printing.Values.{number_of_decimal, text_of_literal}
-use Rattle.rb_parse.proofs.printing.derived.Made.{MadePart, end, skip, token, the, last, by}
+use Rattle.rb_parse.proofs.printing.derived.Made.{MadePart, end, token, by}
 
 -- the Int of a number that is small enough
 small : (n : ℕ) → n ≤ 9223372036854775807 → int_of (min n 9223372036854775808) ≡ pos n

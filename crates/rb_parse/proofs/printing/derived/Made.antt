@@ -1,5 +1,5 @@
 -- What the tokens of pieces derive, built piece by piece and part by part.
-use Rattle.std.proofs.Common.{◌≡◌, ℕ, List, [], ◌∷◌, ◌++◌, refl, sym, subst, append-nil}
+use Rattle.std.proofs.Common.{◌≡◌, ℕ, List, [], ◌∷◌, ◌++◌, sym, subst, append-nil}
 use Rattle.rb_trees.specs.declared.tokens.Token.{Token as Lexeme}
 use Rattle.rb_trees.specs.declared.tokens.TokenKind.{TokenKind}
 use Rattle.rb_trees.specs.printing.Pieces.{Piece, Token, Space}
@@ -58,12 +58,14 @@ module _ {source : List ℕ} where
   -- a part
   pub the : {p : Part} {l : List Symbol} {ps qs : List Piece} {P : TreeOf p → Type 0} {Q : TreeOf p × Trees l → Type 0}
       → MadePart source p ps P → ((x : TreeOf p) → P x → Made source l qs (λ xs. Q (x, xs))) → Made source (The p ∷ l) (ps ++ qs) Q
-  the {p} {l} {ps} {qs} {P} {Q} m f = record { spell = λ ts h.
-      let s = part source ps qs ts h in
-      let d = m.derive s.front s.front_stands in
-      let r = (f (made d.symbols (TreeOf p) d.makes d.trees) d.holds).spell s.back s.back_stands in
-      subst (λ l'. Spelled source (The p ∷ l) l' Q) (sym s.is)
-        (record { trees = (made d.symbols (TreeOf p) d.makes d.trees, r.trees); spells = g.rule d.rule d.spells r.spells; holds = r.holds }) }
+  the {p} {l} {ps} {qs} {P} {Q} m f = record {
+    spell = λ ts h.
+        let s = part source ps qs ts h in
+        let d = m.derive s.front s.front_stands in
+        let r = (f (made d.symbols (TreeOf p) d.makes d.trees) d.holds).spell s.back s.back_stands in
+        subst (λ l'. Spelled source (The p ∷ l) l' Q) (sym s.is)
+        (record { trees = (made d.symbols (TreeOf p) d.makes d.trees, r.trees); spells = g.rule d.rule d.spells r.spells; holds = r.holds });
+  }
 
   -- a part with nothing behind it
   pub last : {p : Part} {ps : List Piece} {P : TreeOf p → Type 0} {Q : TreeOf p × Unit {0} → Type 0}

@@ -1,5 +1,5 @@
 -- The places of expressions, and what derives an expression there.
-use Rattle.std.proofs.Common.{◌≡◌, ℕ, suc, zero, ◌≤◌, ◌<◌, nat_lt, Bool, true, false, cond, List, [], ◌∷◌, ◌++◌, refl, ap, sym, ◌∙◌, subst, arith, append_assoc, append-nil}
+use Rattle.std.proofs.Common.{◌≡◌, ℕ, suc, zero, ◌≤◌, ◌<◌, nat_lt, Bool, true, false, cond, List, [], ◌++◌, refl, ap, sym, ◌∙◌, subst, arith, append_assoc, append-nil}
 use Rattle.std.proofs.lemmas.Bool.{ltb-false}
 use Rattle.std.proofs.lemmas.Bool.Decides.{nat_tests}
 use Rattle.rb_trees.specs.mirror.Code.{Expr}
@@ -9,7 +9,7 @@ use Rattle.rb_trees.specs.printing.Unplaced.{unplaced_expr}
 use Rattle.rb_meaning_bytes.specs.grammar.Symbols as s
 use Rattle.rb_meaning_bytes.specs.grammar.Symbols.{Symbol, Trees, Part, TreeOf, Level, Chain, MoreChain}
 use Rattle.rb_meaning_bytes.specs.grammar.Rules as r
-use Rattle.rb_parse.proofs.printing.derived.Made.{Made, MadePart, end, skip, token, the, last, by}
+use Rattle.rb_parse.proofs.printing.derived.Made.{MadePart, end, token, the, last, by}
 
 -- the expression, but for positions
 abbrev pub Is : Expr → Expr → Type 0
@@ -95,11 +95,11 @@ module _ (source : List ℕ) where
       → OpenChain level e (ps ++ qs)
   opened level a e ps qs w h q k = λ more g m.
       subst (λ l. MadePart source (Chain level) l (λ x. unplaced_expr x ≡ g (unplaced_expr e))) (sym (append_assoc ps qs more))
-        (subst (λ z. MadePart source (Chain level) (ps ++ (qs ++ more)) (λ x. unplaced_expr x ≡ g z)) (sym q) (h (qs ++ more) (λ left. g (w left)) (k more g m)))
+      (subst (λ z. MadePart source (Chain level) (ps ++ (qs ++ more)) (λ x. unplaced_expr x ≡ g z)) (sym q) (h (qs ++ more) (λ left. g (w left)) (k more g m)))
 
   pub opened_postfix : (a e : Expr) (ps qs : List Piece) (w : Expr → Expr) → OpenPostfix a ps → unplaced_expr e ≡ w (unplaced_expr a)
       → ((more : List Piece) (g : Expr → Expr) → MadePart source s.Members more (λ f. Goes g f) → MadePart source s.Members (qs ++ more) (λ f. Goes (λ left. g (w left)) f))
       → OpenPostfix e (ps ++ qs)
   opened_postfix a e ps qs w h q k = λ more g m.
       subst (λ l. MadePart source s.Postfix l (λ x. unplaced_expr x ≡ g (unplaced_expr e))) (sym (append_assoc ps qs more))
-        (subst (λ z. MadePart source s.Postfix (ps ++ (qs ++ more)) (λ x. unplaced_expr x ≡ g z)) (sym q) (h (qs ++ more) (λ left. g (w left)) (k more g m)))
+      (subst (λ z. MadePart source s.Postfix (ps ++ (qs ++ more)) (λ x. unplaced_expr x ≡ g z)) (sym q) (h (qs ++ more) (λ left. g (w left)) (k more g m)))

@@ -1,5 +1,5 @@
 -- The tokens of a printed text have the kinds of its pieces, and their slices are the bytes of the pieces.
-use Rattle.std.proofs.Common.{◌≡◌, ℕ, ◌+◌, ◌-◌, List, [], ◌∷◌, ◌++◌, length, take, drop, refl, ap, sym, ◌∙◌, subst, arith, append_assoc, length-append}
+use Rattle.std.proofs.Common.{◌≡◌, ℕ, ◌+◌, ◌-◌, List, [], ◌∷◌, ◌++◌, length, take, drop, refl, ap, sym, ◌∙◌, arith, append_assoc, length-append}
 use Rattle.std.proofs.Math.Seq.{take-append_seam, drop-append_seam}
 use Rattle.rb_trees.specs.declared.tokens.Token.{Token as Lexeme}
 use Rattle.rb_trees.specs.printing.Pieces.{Piece, Token, Space, spelled}
@@ -22,9 +22,11 @@ pub stand : (source front : List ℕ) (at : ℕ) (ps : List Piece) → at ≡ le
 stand source front at [] h e = refl
 stand source front at (Space bytes ∷ ps) h e =
     stand source (front ++ bytes) (at + length bytes) ps (omega (arith, h, length-append front bytes)) (e ∙ sym (append_assoc front bytes (spelled ps)))
-stand source front at (Token kind bytes ∷ ps) h e =
-    (refl, ap (λ s. take (at + length bytes - at) (drop at s)) e ∙ slice_is front bytes (spelled ps) at h,
-        stand source (front ++ bytes) (at + length bytes) ps (omega (arith, h, length-append front bytes)) (e ∙ sym (append_assoc front bytes (spelled ps))))
+stand source front at (Token kind bytes ∷ ps) h e = (
+  refl,
+  ap (λ s. take (at + length bytes - at) (drop at s)) e ∙ slice_is front bytes (spelled ps) at h,
+  stand source (front ++ bytes) (at + length bytes) ps (omega (arith, h, length-append front bytes)) (e ∙ sym (append_assoc front bytes (spelled ps))),
+)
 
 -- The tokens of two texts of pieces part.
 pub record Parted (source : List ℕ) (ps qs : List Piece) (ts : List Lexeme) : Type 0 where

@@ -1,22 +1,20 @@
 -- The statements and bodies that are printed, and their derivations.
-use Rattle.std.proofs.Common.{◌≡◌, ℕ, suc, false, Option, None, Some, List, [], ◌∷◌, ◌++◌, refl, ap, sym, ◌∙◌, subst, append_assoc}
+use Rattle.std.proofs.Common.{◌≡◌, ℕ, suc, Option, None, Some, List, [], ◌∷◌, ◌++◌, refl, ap, sym, ◌∙◌, append_assoc}
 use Rattle.std.specs.Option.{option_map}
 use Rattle.rb_trees.specs.mirror.Code.{Expr, Stmt, Stmts, Val, Var, Assign, Run, Print, Throw, If, While, For, Try, Batch, NoStmts, MoreStmts}
 use Rattle.rb_trees.specs.mirror.Declarations.{Body}
 use Rattle.rb_trees.specs.printing.Pieces.{Piece, Space}
 use Rattle.rb_trees.specs.printing.Exprs.{expr_pieces, in_parentheses}
-use Rattle.rb_trees.specs.printing.Stmts.{deeper, closed, closed_by, line, otherwise, stmt_pieces, stmts_pieces, return_pieces, body_pieces}
+use Rattle.rb_trees.specs.printing.Stmts.{deeper, closed, closed_by, line, stmt_pieces, stmts_pieces, return_pieces, body_pieces}
 use Rattle.rb_trees.specs.printing.Words as w
 use Rattle.rb_trees.specs.printing.Words.{space, name_piece}
 use Rattle.rb_trees.specs.printing.Unplaced.{unplaced_expr, unplaced_stmt, unplaced_stmts, unplaced_body}
-use Rattle.rb_meaning_bytes.specs.grammar.Values.{slice}
 use Rattle.rb_meaning_bytes.specs.grammar.Symbols as s
 use Rattle.rb_meaning_bytes.specs.grammar.Symbols.{Symbol, The, Trees, Chain}
 use Rattle.rb_meaning_bytes.specs.grammar.Rules as r
 use Rattle.rb_parse.specs.printing.Readable.{IsReadStmt, AreReadStmts, IsReadReturn, IsReadBody}
 use Rattle.rb_parse.proofs.printing.derived.Made.{Made, MadePart, end, skip, token, the, last, by, turned}
 use Rattle.rb_parse.proofs.printing.derived.Shapes.{four, six}
-use Rattle.rb_parse.proofs.printing.derived.Places.{Is}
 use Rattle.rb_parse.proofs.printing.derived.Exprs.{expr_made}
 
 -- a line's end
@@ -49,8 +47,7 @@ module _ (source : List ℕ) where
       → Made source (The s.Block ∷ l) (w.open_brace ∷ Space before ∷ (ps ++ Space after ∷ w.close_brace ∷ rest)) Q
   block {ps = ps} {rest} {before} after ss m f =
       turned (ap (λ qs. w.open_brace ∷ Space before ∷ qs) (sym (append_assoc ps (Space after ∷ w.close_brace ∷ []) rest)))
-        (the (by r.block (token λ t i. skip (the m λ x k. skip (token λ u j. end k)))) f)
-
+      (the (by r.block (token λ t i. skip (the m λ x k. skip (token λ u j. end k)))) f)
 
   no_else : MadePart source s.Otherwise [] (λ x. unplaced_stmts x ≡ NoStmts)
   no_else = by r.no_else (end refl)
@@ -70,8 +67,8 @@ module _ (source : List ℕ) where
     stmt_made (Assign at a b) indent blocks h =
         by r.expression_first (skip (turned (four (expr_pieces a) (space ∷ w.assign ∷ space ∷ expr_pieces b) semicolon feed)
         (the (expr_made source a h.0.0) λ x k. last {P = λ f. Ends (λ left. Assign 0 left (unplaced_expr b)) f}
-          (by r.assigned (skip (token λ t i. skip (the (expr_made source b h.1.0) λ y l. token λ u j. skip (end λ left. ap (Assign 0 (unplaced_expr left)) l)))))
-          λ f l. l x ∙ ap (λ z. Assign 0 z (unplaced_expr b)) k)))
+        (by r.assigned (skip (token λ t i. skip (the (expr_made source b h.1.0) λ y l. token λ u j. skip (end λ left. ap (Assign 0 (unplaced_expr left)) l)))))
+        λ f l. l x ∙ ap (λ z. Assign 0 z (unplaced_expr b)) k)))
     stmt_made (Run at e) indent blocks h =
         by r.expression_first (skip (turned (append_assoc (expr_pieces e) semicolon feed)
         (the (expr_made source e h.0) λ x k. last {P = λ f. Ends (λ left. Run 0 left) f} (by r.alone (token λ t i. skip (end λ left. refl))) λ f l. l x ∙ ap (Run 0) k)))
