@@ -1,2 +1,5 @@
 -- Reading what is printed.
 pub mod within
+-- What reading what is printed rests on.
+pub mod Values
+pub mod derived
