@@ -1,0 +1,2 @@
+-- What reading what is printed rests on.
+pub mod Values
