@@ -1,2 +1,3 @@
 -- What reading what is printed rests on.
 pub mod Values
+pub mod lexed
