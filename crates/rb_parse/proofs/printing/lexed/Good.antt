@@ -22,6 +22,7 @@ pub record IsGood (minus : Bool) (kind : TokenKind) (bytes : List ℕ) (text : L
   pub utf8 : IsUtf8 bytes
   pub parts : Parts kind text
 
+-- Each token of the pieces is good, and each space is of separators. The flag says that the token before them is a minus.
 abbrev pub Good : Bool → List Piece → Type 0
 Good minus [] = Unit {0}
 Good minus (Token kind bytes ∷ ps) = IsGood minus kind bytes (spelled ps) × Good (is_minus kind) ps
