@@ -3,3 +3,4 @@ pub mod within
 -- What reading what is printed rests on.
 pub mod Values
 pub mod derived
+pub mod lexed

@@ -1,0 +1,338 @@
+-- Each printed token, and what may follow it.
+use Rattle.std.proofs.Common.{◌≡◌, ℕ, ◌==◌, ◌<◌, ◌≤◌, ◌^◌, Bool, true, false, List, [], ◌∷◌, ◌++◌, length, refl, sym, subst, arith, Some, IsUtf8}
+use Rattle.std.proofs.lemmas.Bool.Decides.{nat_tests}
+use Rattle.std.specs.Fmt.{decimal}
+use Rattle.std.specs.Prelude.{codes}
+use Rattle.std.specs.List.{list_all}
+use Rattle.rb_trees.specs.declared.tokens.TokenKind.TheVariants as kinds
+use Rattle.rb_trees.specs.printing.Pieces.{Piece, Space, spelled}
+use Rattle.rb_trees.specs.printing.Words as w
+use Rattle.rb_trees.specs.printing.Words.{name_piece, number_piece, text_piece}
+use Rattle.rb_meaning_bytes.specs.tokens.Bytes.{is_letter, is_digit, is_separator}
+use Rattle.rb_meaning_bytes.specs.tokens.Forms.{Form, IsWord, IsNumber}
+use Rattle.rb_meaning_bytes.specs.tokens.Faults.{greatest_number}
+use Rattle.rb_meaning_bytes.specs.tokens.Tables.{keywords, signs, place_in}
+use Rattle.rb_meaning_bytes.specs.tokens.Values.{number_value}
+use Rattle.rb_parse.proofs.printing.Values.{number_of_decimal, text_of_literal}
+use Rattle.rb_parse.proofs.printing.lexed.Slices.{Starts, Ends, starts, ends_starts, keyword_word}
+use Rattle.rb_parse.proofs.printing.lexed.Words.{word_utf8, number_utf8, sign_utf8, separators_utf8, decimal_number, literal_form, literal_utf8}
+use Rattle.rb_parse.proofs.printing.lexed.Good.{Good}
+
+-- The pieces may follow any token but a minus.
+pub record Followed (ps : List Piece) : Type 0 where
+  pub good : Good false ps
+  pub ends : Ends (spelled ps)
+
+-- The pieces may follow a sign; the flag says that it is a minus.
+pub record Opened (minus : Bool) (ps : List Piece) : Type 0 where
+  pub good : Good minus ps
+  pub starts : Starts (spelled ps)
+
+pub opens_too : {ps : List Piece} → Followed ps → Opened false ps
+opens_too {ps} f = record { good = f.good; starts = ends_starts (spelled ps) f.ends }
+
+-- The piece may stand before whatever follows any token.
+abbrev pub Leads : Piece → Type 0
+Leads p = (minus : Bool) (rest : List Piece) → Followed rest → Opened minus (p ∷ rest)
+
+-- The piece may stand before whatever follows a sign.
+abbrev pub Stands : Piece → Type 0
+Stands p = (minus : Bool) (rest : List Piece) → Opened false rest → Good minus (p ∷ rest)
+
+-- words and names
+
+letter_starts : (b : ℕ) → is_letter b ≡ true → starts b ≡ true
+unfolding is_letter
+letter_starts b h = grind (arith, nat_tests)
+
+word_starts : (bytes text : List ℕ) → IsWord bytes → Starts (bytes ++ text)
+word_starts [] text h = absurd h
+word_starts (b ∷ bytes) text h = letter_starts b h.0
+
+pub name_leads : (name : List ℕ) → Form kinds.Name name → Leads (name_piece name)
+name_leads name h minus rest f = record {
+  good = (record { formed = h; limits = tt; utf8 = word_utf8 name h.0; parts = f.ends }, f.good);
+  starts = word_starts name (spelled rest) h.0;
+}
+
+keyword_leads : (place : ℕ) (bytes : List ℕ) → place_in keywords bytes ≡ Some place → Leads (w.word place bytes)
+keyword_leads place bytes h minus rest f =
+    let k = keyword_word bytes place h in
+    record { good = (record { formed = h; limits = tt; utf8 = word_utf8 bytes k; parts = f.ends }, f.good); starts = word_starts bytes (spelled rest) k }
+
+sign_good : (place : ℕ) (bytes : List ℕ) → place_in signs bytes ≡ Some place → (minus : Bool) (rest : List Piece) → Opened (place == 10) rest → Good minus (w.sign place bytes ∷ rest)
+sign_good place bytes h minus rest f = (record { formed = h; limits = tt; utf8 = sign_utf8 bytes place h; parts = f.starts }, f.good)
+
+-- numbers
+
+digit_starts : (b : ℕ) → is_digit b ≡ true → starts b ≡ true
+unfolding is_digit
+digit_starts b h = grind (arith, nat_tests)
+
+number_starts : (bytes text : List ℕ) → IsNumber bytes → Starts (bytes ++ text)
+number_starts [] text h = absurd h
+number_starts (b ∷ bytes) text h = digit_starts b h.0
+
+greatest_fits : (minus : Bool) → greatest_number minus < 2 ^ 64
+greatest_fits true = omega arith
+greatest_fits false = omega arith
+
+pub number_leads : (n : ℕ) (minus : Bool) → n ≤ greatest_number minus → (rest : List Piece) → Followed rest → Opened minus (number_piece n ∷ rest)
+number_leads n minus l rest f =
+    let small : n < 2 ^ 64 = let g = greatest_fits minus in omega arith in
+    let d = decimal_number n small in
+    let limits : number_value (decimal n) ≤ greatest_number minus = subst (λ v. v ≤ greatest_number minus) (sym (number_of_decimal n small)) l in
+    record { good = (record { formed = d; limits = limits; utf8 = number_utf8 (decimal n) d; parts = f.ends }, f.good); starts = number_starts (decimal n) (spelled rest) d }
+
+-- text literals
+
+pub text_leads : (text : List ℕ) → IsUtf8 text → length text ≤ 4096 → Leads (text_piece text)
+text_leads text u l minus rest f =
+    let limits = subst (λ v. length v ≤ 4096) (sym (text_of_literal text)) l in
+    record { good = (record { formed = literal_form text; limits = limits; utf8 = literal_utf8 text u; parts = tt }, f.good); starts = refl }
+
+-- space
+
+pub space_good : (bytes : List ℕ) → list_all is_separator bytes ≡ true → (minus : Bool) (rest : List Piece) → Good minus rest → Good minus (Space bytes ∷ rest)
+space_good bytes h minus rest g = (h, separators_utf8 bytes h, g)
+
+one_space : list_all is_separator (codes " ") ≡ true
+unfolding is_separator
+one_space = refl
+
+pub one_space_good : (minus : Bool) (rest : List Piece) → Good minus rest → Good minus (w.space ∷ rest)
+one_space_good = space_good (codes " ") one_space
+
+pub spaced : (rest : List Piece) → Good false rest → Followed (w.space ∷ rest)
+spaced rest g = record { good = one_space_good false rest g; ends = refl }
+
+line_feed_separates : list_all is_separator (10 ∷ []) ≡ true
+unfolding is_separator
+line_feed_separates = refl
+
+pub ended : (rest : List Piece) → Good false rest → Followed (Space (10 ∷ []) ∷ rest)
+ended rest g = record { good = space_good (10 ∷ []) line_feed_separates false rest g; ends = refl }
+
+-- keywords
+
+pub interface_leads : Leads w.interface_word
+unfolding keywords place_in
+interface_leads = keyword_leads 0 (codes "interface") refl
+
+pub class_leads : Leads w.class_word
+unfolding keywords place_in
+class_leads = keyword_leads 1 (codes "class") refl
+
+pub fun_leads : Leads w.fun_word
+unfolding keywords place_in
+fun_leads = keyword_leads 2 (codes "fun") refl
+
+pub remote_leads : Leads w.remote_word
+unfolding keywords place_in
+remote_leads = keyword_leads 3 (codes "remote") refl
+
+pub main_leads : Leads w.main_word
+unfolding keywords place_in
+main_leads = keyword_leads 4 (codes "main") refl
+
+pub val_leads : Leads w.val_word
+unfolding keywords place_in
+val_leads = keyword_leads 5 (codes "val") refl
+
+pub var_leads : Leads w.var_word
+unfolding keywords place_in
+var_leads = keyword_leads 6 (codes "var") refl
+
+pub if_leads : Leads w.if_word
+unfolding keywords place_in
+if_leads = keyword_leads 7 (codes "if") refl
+
+pub else_leads : Leads w.else_word
+unfolding keywords place_in
+else_leads = keyword_leads 8 (codes "else") refl
+
+pub for_leads : Leads w.for_word
+unfolding keywords place_in
+for_leads = keyword_leads 9 (codes "for") refl
+
+pub in_leads : Leads w.in_word
+unfolding keywords place_in
+in_leads = keyword_leads 10 (codes "in") refl
+
+pub while_leads : Leads w.while_word
+unfolding keywords place_in
+while_leads = keyword_leads 11 (codes "while") refl
+
+pub try_leads : Leads w.try_word
+unfolding keywords place_in
+try_leads = keyword_leads 12 (codes "try") refl
+
+pub catch_leads : Leads w.catch_word
+unfolding keywords place_in
+catch_leads = keyword_leads 13 (codes "catch") refl
+
+pub throw_leads : Leads w.throw_word
+unfolding keywords place_in
+throw_leads = keyword_leads 14 (codes "throw") refl
+
+pub return_leads : Leads w.return_word
+unfolding keywords place_in
+return_leads = keyword_leads 15 (codes "return") refl
+
+pub batch_leads : Leads w.batch_word
+unfolding keywords place_in
+batch_leads = keyword_leads 16 (codes "batch") refl
+
+pub print_leads : Leads w.print_word
+unfolding keywords place_in
+print_leads = keyword_leads 17 (codes "print") refl
+
+pub len_leads : Leads w.len_word
+unfolding keywords place_in
+len_leads = keyword_leads 18 (codes "len") refl
+
+pub str_leads : Leads w.str_word
+unfolding keywords place_in
+str_leads = keyword_leads 19 (codes "str") refl
+
+pub new_leads : Leads w.new_word
+unfolding keywords place_in
+new_leads = keyword_leads 20 (codes "new") refl
+
+pub this_leads : Leads w.this_word
+unfolding keywords place_in
+this_leads = keyword_leads 21 (codes "this") refl
+
+pub true_leads : Leads w.true_word
+unfolding keywords place_in
+true_leads = keyword_leads 22 (codes "true") refl
+
+pub false_leads : Leads w.false_word
+unfolding keywords place_in
+false_leads = keyword_leads 23 (codes "false") refl
+
+pub List_leads : Leads w.List_word
+unfolding keywords place_in
+List_leads = keyword_leads 24 (codes "List") refl
+
+pub Rows_leads : Leads w.Rows_word
+unfolding keywords place_in
+Rows_leads = keyword_leads 25 (codes "Rows") refl
+
+pub Int_leads : Leads w.Int_word
+unfolding keywords place_in
+Int_leads = keyword_leads 26 (codes "Int") refl
+
+pub Bool_leads : Leads w.Bool_word
+unfolding keywords place_in
+Bool_leads = keyword_leads 27 (codes "Bool") refl
+
+pub Text_leads : Leads w.Text_word
+unfolding keywords place_in
+Text_leads = keyword_leads 28 (codes "Text") refl
+
+pub Unit_leads : Leads w.Unit_word
+unfolding keywords place_in
+Unit_leads = keyword_leads 29 (codes "Unit") refl
+
+-- signs
+
+pub equal_stands : Stands w.equal
+unfolding signs place_in
+equal_stands = sign_good 0 (codes "==") refl
+
+pub unequal_stands : Stands w.unequal
+unfolding signs place_in
+unequal_stands = sign_good 1 (codes "!=") refl
+
+pub at_most_stands : Stands w.at_most
+unfolding signs place_in
+at_most_stands = sign_good 2 (codes "<=") refl
+
+pub at_least_stands : Stands w.at_least
+unfolding signs place_in
+at_least_stands = sign_good 3 (codes ">=") refl
+
+pub and_stands : Stands w.and
+unfolding signs place_in
+and_stands = sign_good 4 (codes "&&") refl
+
+pub or_stands : Stands w.or
+unfolding signs place_in
+or_stands = sign_good 5 (codes "||") refl
+
+pub less_stands : Stands w.less
+unfolding signs place_in
+less_stands = sign_good 6 (codes "<") refl
+
+pub greater_stands : Stands w.greater
+unfolding signs place_in
+greater_stands = sign_good 7 (codes ">") refl
+
+pub assign_stands : Stands w.assign
+unfolding signs place_in
+assign_stands = sign_good 8 (codes "=") refl
+
+pub plus_stands : Stands w.plus
+unfolding signs place_in
+plus_stands = sign_good 9 (codes "+") refl
+
+pub minus_stands : (before : Bool) (rest : List Piece) → Opened true rest → Good before (w.minus ∷ rest)
+unfolding signs place_in
+minus_stands = sign_good 10 (codes "-") refl
+
+pub star_stands : Stands w.star
+unfolding signs place_in
+star_stands = sign_good 11 (codes "*") refl
+
+pub slash_stands : Stands w.slash
+unfolding signs place_in
+slash_stands = sign_good 12 (codes "/") refl
+
+pub percent_stands : Stands w.percent
+unfolding signs place_in
+percent_stands = sign_good 13 (codes "%") refl
+
+pub not_sign_stands : Stands w.not_sign
+unfolding signs place_in
+not_sign_stands = sign_good 14 (codes "!") refl
+
+pub dot_stands : Stands w.dot
+unfolding signs place_in
+dot_stands = sign_good 15 (codes ".") refl
+
+pub comma_stands : Stands w.comma
+unfolding signs place_in
+comma_stands = sign_good 16 (codes ",") refl
+
+pub semicolon_stands : Stands w.semicolon
+unfolding signs place_in
+semicolon_stands = sign_good 17 (codes ";") refl
+
+pub colon_stands : Stands w.colon
+unfolding signs place_in
+colon_stands = sign_good 18 (codes ":") refl
+
+pub opens_stands : Stands w.opens
+unfolding signs place_in
+opens_stands = sign_good 19 (codes "(") refl
+
+pub closes_stands : Stands w.closes
+unfolding signs place_in
+closes_stands = sign_good 20 (codes ")") refl
+
+pub open_brace_stands : Stands w.open_brace
+unfolding signs place_in
+open_brace_stands = sign_good 21 (codes "{") refl
+
+pub close_brace_stands : Stands w.close_brace
+unfolding signs place_in
+close_brace_stands = sign_good 22 (codes "}") refl
+
+pub open_bracket_stands : Stands w.open_bracket
+unfolding signs place_in
+open_bracket_stands = sign_good 23 (codes "[") refl
+
+pub close_bracket_stands : Stands w.close_bracket
+unfolding signs place_in
+close_bracket_stands = sign_good 24 (codes "]") refl
