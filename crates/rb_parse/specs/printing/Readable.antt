@@ -53,6 +53,10 @@ type_depth _ = 0
 abbrev pub IsReadType : TypeTree → Type 0
 IsReadType t = AreReadTypeNames t × (type_depth t ≤ 64)
 
+-- The type of the items of a list expression: the `List<` before it opens one type more.
+abbrev pub IsReadItem : TypeTree → Type 0
+IsReadItem t = AreReadTypeNames t × (suc (type_depth t) ≤ 64)
+
 -- whether an expression at a place of the level stands directly behind the minus before its place: parentheses part them
 abbrev pub behind : Bool → ℕ → Expr → Bool
 behind minus level e = cond (nat_lt (level_of e) level) false minus
@@ -79,7 +83,7 @@ abbrev mutual
   IsReadExpr minus (Call at a method args) = IsReadExpr (behind minus 7 a) a × IsReadName method × AreReadExprs args
   IsReadExpr minus (Index at a b) = IsReadExpr (behind minus 7 a) a × IsReadExpr false b
   IsReadExpr minus (New at class args) = IsReadName class × AreReadExprs args
-  IsReadExpr minus (Items at item items) = IsReadType item × AreReadExprs items
+  IsReadExpr minus (Items at item items) = IsReadItem item × AreReadExprs items
   IsReadExpr minus (Taken at step) = ⊥
 
   pub AreReadExprs : Exprs → Type 0
