@@ -13,3 +13,5 @@ pub mod DeclarationEquations
 pub mod Laws
 pub mod Joins
 pub mod lawful
+pub mod depths
+pub mod printing

@@ -1,0 +1,2 @@
+-- Reading what is printed.
+pub mod readable
