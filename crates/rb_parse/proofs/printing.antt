@@ -4,3 +4,4 @@ pub mod within
 pub mod Values
 pub mod derived
 pub mod lexed
+pub mod readable

@@ -1,0 +1,11 @@
+-- What reading gives is readable.
+pub mod Places
+pub mod Tokens
+pub mod Steps
+pub mod Invariants
+pub mod Deepens
+pub mod Types
+pub mod Expressions
+pub mod Statements
+pub mod Programs
+pub mod Whole
