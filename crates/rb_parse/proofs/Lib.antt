@@ -16,3 +16,4 @@ pub mod lawful
 pub mod depths
 pub mod ReadsLawful
 pub mod printing
+pub mod PrintedReads

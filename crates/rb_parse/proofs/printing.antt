@@ -1,7 +1,8 @@
 -- Reading what is printed.
-pub mod within
--- What reading what is printed rests on.
+pub mod ReadTrees
+pub mod Spots
 pub mod Values
 pub mod derived
 pub mod lexed
 pub mod readable
+pub mod within

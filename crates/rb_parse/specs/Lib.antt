@@ -5,4 +5,4 @@ pub mod Blocks
 pub mod Heads
 pub mod Nested
 pub mod Told
-pub mod printing
+pub mod ReadsBack

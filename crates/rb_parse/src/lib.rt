@@ -18,6 +18,6 @@ mod stop;
 mod types;
 mod values;
 
-pub use grammar_laws::derived_programs_are_lawful;
+pub use grammar_laws::{derived_programs_are_lawful, printed_programs_read_back};
 pub use reading::{parse_tokens, tokens_derive_one_program};
 pub use source::parse_program;

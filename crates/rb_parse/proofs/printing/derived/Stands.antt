@@ -4,7 +4,7 @@ use Rattle.std.proofs.Math.Seq.{take-append_seam, drop-append_seam}
 use Rattle.rb_trees.specs.declared.tokens.Token.{Token as Lexeme}
 use Rattle.rb_trees.specs.printing.Pieces.{Piece, Token, Space, spelled}
 use Rattle.rb_meaning_bytes.specs.grammar.Values.{slice}
-use Rattle.rb_parse.specs.printing.Spots.{tokens_at}
+use Rattle.rb_parse.proofs.printing.Spots.{tokens_at}
 
 -- The tokens are those of the pieces, one by one.
 abbrev pub Stands : List ℕ → List Piece → List Lexeme → Type 0

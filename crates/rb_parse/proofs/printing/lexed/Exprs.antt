@@ -15,7 +15,7 @@ use Rattle.rb_trees.specs.printing.Types.{type_pieces, result_pieces}
 use Rattle.rb_trees.specs.printing.Exprs.{expr_pieces, args_pieces, more_args_pieces, unary_pieces, in_parentheses, placed_at, level_of, left_level, right_level, operand_level, binary_sign}
 use Rattle.rb_trees.specs.printing.Words as w
 use Rattle.rb_trees.specs.printing.Words.{space, name_piece, number_piece, int_pieces, bool_piece, form_pieces, literal_pieces}
-use Rattle.rb_parse.specs.printing.Readable.{IsReadName, IsReadInt, IsReadForm, AreReadTypeNames, IsReadExpr, AreReadExprs, before_operand, before_right}
+use Rattle.rb_parse.proofs.printing.ReadTrees.{IsReadName, IsReadInt, IsReadForm, AreReadTypeNames, IsReadExpr, AreReadExprs, before_operand, before_right}
 use Rattle.rb_parse.proofs.printing.lexed.Good.{Good}
 use Rattle.rb_parse.proofs.printing.lexed.Leads as leads
 use Rattle.rb_parse.proofs.printing.lexed.Leads.{Followed, Opened, Leads, opens_too, spaced, name_leads, number_leads, text_leads}

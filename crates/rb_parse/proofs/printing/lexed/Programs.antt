@@ -10,7 +10,7 @@ use Rattle.rb_trees.specs.printing.Stmts.{line, deeper, opened, closed, body_pie
 use Rattle.rb_trees.specs.printing.Programs.{param_pieces, more_params_pieces, params_pieces, signature_pieces, signatures_pieces, fields_pieces, remote_pieces, method_pieces, methods_pieces, inside, interface_pieces, interfaces_pieces, class_pieces, classes_pieces, program_pieces}
 use Rattle.rb_trees.specs.printing.Words as w
 use Rattle.rb_trees.specs.printing.Words.{space, name_piece}
-use Rattle.rb_parse.specs.printing.Readable.{IsReadName, IsReadParam, IsReadSignature, IsReadInterface, IsReadMethod, IsReadClass, IsReadable}
+use Rattle.rb_parse.proofs.printing.ReadTrees.{IsReadName, IsReadParam, IsReadSignature, IsReadInterface, IsReadMethod, IsReadClass, IsReadable}
 use Rattle.rb_parse.proofs.printing.lexed.Leads as leads
 use Rattle.rb_parse.proofs.printing.lexed.Leads.{Leads, name_leads}
 use Rattle.rb_parse.proofs.printing.lexed.Exprs.{Flows, Trails, flows_then, nothing_trails, trails_flow, word_flows, spaced_trails, semicolon_trails, in_parentheses_trails, comma_trails, typed_trails, result_trails}

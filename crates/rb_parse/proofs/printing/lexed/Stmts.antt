@@ -11,7 +11,7 @@ use Rattle.rb_trees.specs.printing.Stmts.{line, deeper, opened, closed, headed, 
 use Rattle.rb_trees.specs.printing.Words as w
 use Rattle.rb_trees.specs.printing.Words.{space, name_piece}
 use Rattle.rb_meaning_bytes.specs.tokens.Bytes.{is_separator}
-use Rattle.rb_parse.specs.printing.Readable.{IsReadName, IsReadExpr, IsReadStmt, AreReadStmts, IsReadReturn, IsReadBody}
+use Rattle.rb_parse.proofs.printing.ReadTrees.{IsReadName, IsReadExpr, IsReadStmt, AreReadStmts, IsReadReturn, IsReadBody}
 use Rattle.rb_parse.proofs.printing.lexed.Good.{Good}
 use Rattle.rb_parse.proofs.printing.lexed.Leads as leads
 use Rattle.rb_parse.proofs.printing.lexed.Leads.{Followed, Opened, Leads, opens_too, spaced, ended, name_leads, space_good}

@@ -14,7 +14,7 @@ use Rattle.rb_meaning_bytes.specs.grammar.Rules as r
 use Rattle.rb_meaning_bytes.specs.grammar.Rules.{Rule, member}
 use Rattle.rb_meaning_bytes.specs.grammar.Values.{name_of, text_of}
 use Rattle.rb_meaning_bytes.specs.grammar.Limits.{Nesting, after}
-use Rattle.rb_parse.specs.printing.Readable.{IsReadExpr, marks_of, marks_of_all}
+use Rattle.rb_parse.proofs.printing.ReadTrees.{IsReadExpr, marks_of, marks_of_all}
 use Rattle.rb_parse.proofs.depths.States.{afters}
 use Rattle.rb_parse.proofs.depths.Heads.{list_opens, type_closes}
 use Rattle.rb_parse.proofs.printing.readable.Places.{lower, bare, enclosed}

@@ -7,7 +7,7 @@ use Rattle.rb_meaning_bytes.specs.tokens.Lists.{is_minus}
 use Rattle.rb_meaning_bytes.specs.grammar.Symbols as s
 use Rattle.rb_meaning_bytes.specs.grammar.Symbols.{Symbol, Terminal, The, Part, Chain, MoreChain, TreeOf, Trees, Makes, made}
 use Rattle.rb_meaning_bytes.specs.grammar.Limits.{Nesting, after}
-use Rattle.rb_parse.specs.printing.Readable.{IsReadType, AreReadTypeNames, type_depth, AreReadExprs, marks_of_all, IsReadOutermost, IsReadStmt, AreReadStmts, IsReadReturn, IsReadBody, IsReadParam, IsReadSignature, IsReadInterface, IsReadMethod, IsReadClass, IsReadable}
+use Rattle.rb_parse.proofs.printing.ReadTrees.{IsReadType, AreReadTypeNames, type_depth, AreReadExprs, marks_of_all, IsReadOutermost, IsReadStmt, AreReadStmts, IsReadReturn, IsReadBody, IsReadParam, IsReadSignature, IsReadInterface, IsReadMethod, IsReadClass, IsReadable}
 use Rattle.rb_parse.proofs.depths.States.{Ready, Moves}
 use Rattle.rb_parse.proofs.printing.readable.Tokens.{Room, Tells}
 use Rattle.rb_parse.proofs.printing.readable.Steps.{Fit, Rest, Placed, Carries, Spans, Keeps, Stated}

@@ -8,7 +8,7 @@ use Rattle.rb_meaning_bytes.specs.grammar.Symbols.{Symbol, Part, TreeOf, Makes}
 use Rattle.rb_meaning_bytes.specs.grammar.Rules as r
 use Rattle.rb_meaning_bytes.specs.grammar.Rules.{Rule}
 use Rattle.rb_meaning_bytes.specs.grammar.Limits.{Nesting, after}
-use Rattle.rb_parse.specs.printing.Readable.{IsReadParam, IsReadSignature, IsReadInterface, IsReadMethod, IsReadClass}
+use Rattle.rb_parse.proofs.printing.ReadTrees.{IsReadParam, IsReadSignature, IsReadInterface, IsReadMethod, IsReadClass}
 use Rattle.rb_parse.proofs.depths.States.{afters, Ready, Goes, goes_on, stills}
 use Rattle.rb_parse.proofs.depths.Heads.{head_closes, interface_opens, class_opens, signature_opens}
 use Rattle.rb_parse.proofs.printing.readable.Steps.{Keeps}

@@ -11,7 +11,7 @@ use Rattle.rb_meaning_bytes.specs.grammar.Symbols.{Symbol, Part, TreeOf, Makes}
 use Rattle.rb_meaning_bytes.specs.grammar.Rules as r
 use Rattle.rb_meaning_bytes.specs.grammar.Rules.{Rule}
 use Rattle.rb_meaning_bytes.specs.grammar.Limits.{Nesting, after}
-use Rattle.rb_parse.specs.printing.Readable.{IsReadOutermost, IsReadStmt, AreReadStmts}
+use Rattle.rb_parse.proofs.printing.ReadTrees.{IsReadOutermost, IsReadStmt, AreReadStmts}
 use Rattle.rb_parse.proofs.depths.States.{afters, Ready, Goes, goes_on, all_still, stills}
 use Rattle.rb_parse.proofs.depths.Heads.{Opens, block_opens, block_closes}
 use Rattle.rb_parse.proofs.printing.readable.Tokens.{Room}

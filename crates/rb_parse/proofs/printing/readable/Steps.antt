@@ -6,7 +6,7 @@ use Rattle.rb_meaning_bytes.specs.tokens.Lists.{is_minus}
 use Rattle.rb_meaning_bytes.specs.grammar.Kinds as k
 use Rattle.rb_meaning_bytes.specs.grammar.Kinds.{is_kind, is_one_of}
 use Rattle.rb_meaning_bytes.specs.grammar.Limits.{Nesting, after}
-use Rattle.rb_parse.specs.printing.Readable.{marks_of, IsReadOutermost}
+use Rattle.rb_parse.proofs.printing.ReadTrees.{marks_of, IsReadOutermost}
 use Rattle.rb_parse.proofs.depths.States.{Ready, Goes, Marks, is_still, is_inner, is_sure, inner, mark, open_mark}
 use Rattle.rb_parse.proofs.depths.Heads.{less_mark, greater_mark}
 use Rattle.rb_parse.proofs.printing.readable.Tokens.{Room}

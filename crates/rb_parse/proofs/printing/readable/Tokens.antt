@@ -15,7 +15,7 @@ use Rattle.rb_meaning_bytes.specs.tokens.Values.{number_value, int_of}
 use Rattle.rb_meaning_bytes.specs.tokens.Lists.{TokensBetween, AllWithinLimits, is_minus}
 use Rattle.rb_meaning_bytes.specs.grammar.Values.{slice, name_of, number_of, text_of}
 use Rattle.rb_meaning_bytes.specs.grammar.Limits.{Nesting, after, too_deep, broken}
-use Rattle.rb_parse.specs.printing.Readable.{IsReadInt, IsReadForm, IsReadLiteral}
+use Rattle.rb_parse.proofs.printing.ReadTrees.{IsReadInt, IsReadForm, IsReadLiteral}
 use Rattle.rb_parse.proofs.lawful.Utf8.{literal_utf8}
 use Rattle.rb_parse.proofs.depths.States.{Limits}
 

@@ -8,7 +8,7 @@ use Rattle.rb_meaning_bytes.specs.grammar.Symbols.{Symbol, TreeOf, Makes}
 use Rattle.rb_meaning_bytes.specs.grammar.Rules as r
 use Rattle.rb_meaning_bytes.specs.grammar.Rules.{Rule}
 use Rattle.rb_meaning_bytes.specs.grammar.Limits.{Nesting}
-use Rattle.rb_parse.specs.printing.Readable.{IsReadType, IsReadItem, AreReadTypeNames, type_depth}
+use Rattle.rb_parse.proofs.printing.ReadTrees.{IsReadType, IsReadItem, AreReadTypeNames, type_depth}
 use Rattle.rb_parse.proofs.depths.States.{afters, Moves, inner}
 use Rattle.rb_parse.proofs.depths.Heads.{TypeOpens, list_opens, rows_opens, type_closes}
 use Rattle.rb_parse.proofs.printing.readable.Invariants.{Typed, Keeping}

@@ -9,7 +9,7 @@ use Rattle.rb_meaning_bytes.specs.grammar.Rules.{Rule}
 use Rattle.rb_meaning_bytes.specs.grammar.Derives as g
 use Rattle.rb_meaning_bytes.specs.grammar.Derives.{Spells, Derives}
 use Rattle.rb_meaning_bytes.specs.grammar.Limits.{Nesting, after, nothing_open, Within}
-use Rattle.rb_parse.specs.printing.Readable.{IsReadable}
+use Rattle.rb_parse.proofs.printing.ReadTrees.{IsReadable}
 use Rattle.rb_parse.proofs.printing.readable.Tokens.{Room, AllFit, all_fit, state_after, state_behind, fit_front, fit_back, room_after}
 use Rattle.rb_parse.proofs.printing.readable.Invariants.{Good, Run, end_of, Keeping}
 use Rattle.rb_parse.proofs.printing.readable.Types.{at_type}

@@ -3,7 +3,7 @@ use Rattle.std.proofs.Common.{◌≡◌, ℕ, suc, ◌+◌, false, cond, List, [
 use Rattle.rb_trees.specs.declared.tokens.TokenKind.{TokenKind}
 use Rattle.rb_trees.specs.printing.Pieces.{Piece, Token, Space}
 use Rattle.rb_meaning_bytes.specs.grammar.Limits.{Nesting, after, too_deep, broken}
-use Rattle.rb_parse.specs.printing.Spots.{tokens_at}
+use Rattle.rb_parse.proofs.printing.Spots.{tokens_at}
 use Rattle.rb_parse.proofs.printing.within.States.{Open, not_deep}
 
 -- From this state no token of the pieces breaks a limit, and this holds of the state behind them.

@@ -1,6 +1,6 @@
 -- The trees that reading gives, by the trees alone: more than lawful ones, since no keyword is a name, no literal is
 -- negative but the least Int directly behind a minus, and as many marks, blocks and types are open as the limits allow.
-use Rattle.std.specs.Prelude.{ℕ, ◌≡◌, ◌≤◌, ◌+◌, suc, nat_lt, length, ℤ, pos, negsuc, List, [], ◌∷◌, Bool, true, false, cond, Option, None, Some}
+use Rattle.std.specs.Prelude.{ℕ, ◌≡◌, ◌≤◌, ◌+◌, suc, nat_lt, length, ℤ, pos, negsuc, List, Bool, true, false, cond, Option, None, Some}
 use Rattle.std.specs.List.{All}
 use Rattle.std.specs.Str.{IsUtf8}
 use Rattle.rb_trees.specs.declared.code.UnOp.{UnOp}

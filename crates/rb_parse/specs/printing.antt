@@ -1,3 +1,0 @@
--- What reading what is printed rests on.
-pub mod Readable
-pub mod Spots
