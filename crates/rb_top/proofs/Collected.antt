@@ -1,6 +1,5 @@
 -- Lists that are read item by item.
-use Rattle.std.proofs.Common.{◌≡◌, ℕ, ℤ, ◌+◌, ◌-◌, ◌<◌, suc, List, [], ◌∷◌, ◌++◌, Option, None, Some, map, ap, sym, ◌∙◌, refl, arith, append_assoc}
-use Rattle.std.proofs.lemmas.Grind.{common_steps}
+use Rattle.std.proofs.Common.{◌≡◌, ℕ, ℤ, ◌+◌, ◌-◌, ◌<◌, suc, List, [], ◌∷◌, ◌++◌, None, Some, map, ap, ◌∙◌, refl, arith, append_assoc}
 use Rattle.rb_trees.specs.declared.tokens.Token.{Token}
 use Rattle.rb_top.specs.FirstTexts.{with_first, method_at, method_of, methods_at, more_methods}
 

@@ -1,6 +1,5 @@
 -- How a call that prints a text ends.
-use Rattle.std.proofs.Common.{◌≡◌, ℕ, ◌≤◌, List, [], ◌++◌, Option, None, Some, Result, Ok, Err, OnOk, OnErr, length, take, ap, sym, ◌∙◌, refl, subst, rules}
-use Rattle.rb_base.specs.Counts.{risen}
+use Rattle.std.proofs.Common.{◌≡◌, ℕ, List, Option, None, Some, Result, Ok, Err, OnOk, OnErr, ap, sym, refl, subst, rules}
 use Rattle.rb_base.specs.Sinks.{told_more, WrotePrefix}
 use Rattle.rb_top.specs.declared.printing.PrintStop.{PrintStop}
 use Rattle.rb_top.specs.declared.printing.PrintStop.TheVariants as print

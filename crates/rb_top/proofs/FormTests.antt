@@ -1,5 +1,5 @@
 -- The tests of the form that is built decide it.
-use Rattle.std.proofs.Common.{◌≡◌, ℕ, ◌<◌, ◌≤◌, ◌^◌, Bool, true, false, not, cond, List, [], ◌∷◌, length, Option, Some, None, ap, sym, ◌∙◌, refl, subst, arith, IsTrue}
+use Rattle.std.proofs.Common.{◌≡◌, ℕ, ◌<◌, ◌≤◌, ◌^◌, Bool, true, false, not, List, [], ◌∷◌, length, Option, Some, None, ap, sym, ◌∙◌, refl, arith, IsTrue}
 use Rattle.std.specs.Prelude.{◌&&◌, nat_lt, nat_le, Decides}
 use Rattle.std.specs.Str.{bytes_eq}
 use Rattle.std.proofs.lemmas.Slice.Eq.{bytes_eq-Decides}
@@ -8,7 +8,7 @@ use Rattle.rb_trees.specs.mirror.Types as types
 use Rattle.rb_trees.specs.mirror.Types.{TypeTree}
 use Rattle.rb_trees.specs.mirror.Code as code
 use Rattle.rb_trees.specs.mirror.Code.{Expr, Exprs, Stmt, Stmts}
-use Rattle.rb_trees.specs.mirror.Declarations.{Param, Signature, Interface, Class, Body, Program}
+use Rattle.rb_trees.specs.mirror.Declarations.{Signature, Interface, Program}
 use Rattle.rb_top.specs.FirstForm.{FirstProgram, GivesInt, PlainSignatures, PrintsCalls, is_among, distinct, signature_names, count_stmts}
 use Rattle.rb_top.specs.FormTests.{is_nil, no_exprs, printed_of, batch_of, gives_int, is_plain, plain_signatures, is_declared_on, on_root, prints_call_of, prints_calls, alone, without_result, only_batch, names_agree, has_prints, suits, by_batch, by_interface, first_form}
 

@@ -1,5 +1,5 @@
 -- Where the files tell, and hold a program and a service for it, the words have one answer.
-use Rattle.std.proofs.Common.{◌≡◌, ℕ, List, [], ◌∷◌, ◌++◌, Option, None, Some, Result, Ok, Err, codes, ap, sym, ◌∙◌, refl, subst, arith}
+use Rattle.std.proofs.Common.{◌≡◌, ℕ, List, [], ◌∷◌, Option, None, Some, Ok, Err, ap, sym, ◌∙◌, refl, subst, arith}
 use Rattle.rb_trees.specs.mirror.Declarations.{Program}
 use Rattle.rb_trees.specs.mirror.Services.{Service}
 use Rattle.rb_base.specs.Directories.{Directory, next_read, after_read, told_after, Finds, FailsNext}
@@ -8,7 +8,7 @@ use Rattle.rb_top.specs.FirstForm.{FirstProgram, Offers}
 use Rattle.rb_top.specs.Runs.{run_text}
 use Rattle.rb_top.specs.Texts.{Fits, TooLong, IsService}
 use Rattle.rb_top.specs.declared.status.Status.{Status}
-use Rattle.rb_top.specs.declared.status.Status.TheVariants.{Done, Memory}
+use Rattle.rb_top.specs.declared.status.Status.TheVariants.{Done}
 use Rattle.rb_top.specs.Answers.{Answers, words, program_fault, program_too_long, program_refused, program_read, program_form, service_fault, service_too_long, service_form, run, NamesProgram, by_check, by_both, Ends, starved, Says, answered, starved_first, check_words, both_words, Holds}
 use Rattle.rb_top.proofs.Ended.{wrote_none}
 use Rattle.rb_top.proofs.OneReading.{not_refused, read_once}

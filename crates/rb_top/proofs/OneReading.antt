@@ -1,21 +1,20 @@
 -- A text is read as one thing: a program, or a refusal.
-use Rattle.std.proofs.Common.{◌≡◌, ℕ, Bool, true, false, cond, List, [], ◌∷◌, ◌++◌, length, Option, Some, None, Result, Ok, Err, ap, sym, ◌∙◌, refl, subst, inl, inr, ◌⊎◌, append_assoc, append-nil}
+use Rattle.std.proofs.Common.{◌≡◌, ℕ, Bool, true, false, cond, List, [], ◌∷◌, ◌++◌, length, Some, None, Ok, Err, sym, ◌∙◌, refl, subst, inl, inr, ◌⊎◌, append_assoc, append-nil}
 use Rattle.rb_trees.specs.declared.tokens.Token.{Token}
 use Rattle.rb_trees.specs.declared.reading.LexError.{LexError}
-use Rattle.rb_trees.specs.declared.reading.LexError.TheVariants as faults
 use Rattle.rb_trees.specs.declared.reading.ReadError.{ReadError}
 use Rattle.rb_trees.specs.declared.reading.ReadError.TheVariants as errors
 use Rattle.rb_trees.specs.mirror.Declarations.{Program}
 use Rattle.rb_meaning_bytes.specs.tokens.Texts.{IsTokens, IsRefusal}
-use Rattle.rb_meaning_bytes.specs.grammar.Symbols.{Symbol, The, TheProgram, Trees}
+use Rattle.rb_meaning_bytes.specs.grammar.Symbols.{Symbol, Trees}
 use Rattle.rb_meaning_bytes.specs.grammar.Derives as g
 use Rattle.rb_meaning_bytes.specs.grammar.Derives.{Spells, Front, Derives, Begins, Stuck}
 use Rattle.rb_meaning_bytes.specs.grammar.Limits.{Nesting, after, too_deep, broken, nothing_open, Within}
 use Rattle.rb_meaning_bytes.specs.grammar.Refusals.{UnexpectedAt, TooNestedAt}
-use Rattle.rb_meaning_bytes.specs.grammar.Sources.{OfTokens, ReadSource}
+use Rattle.rb_meaning_bytes.specs.grammar.Sources.{ReadSource}
 use Rattle.rb_lex.proofs.Places.{one_lexed}
 use Rattle.rb_parse.proofs.Fronts.{one_tree}
-use Rattle.rb_top.specs.Texts.{wants_memory, IsRefused, IsProgram}
+use Rattle.rb_top.specs.Texts.{wants_memory}
 
 pub one_list : (text : List ℕ) (ts us : List Token) → IsTokens text ts → IsTokens text us → ts ≡ us
 one_list text ts us i j =

@@ -1,5 +1,5 @@
 -- Statements, expressions and types of forms other than the one that is looked for.
-use Rattle.std.proofs.Common.{◌≡◌, ℕ, ◌≤◌, List, [], ◌∷◌, Bool, true, false, Option, None, Some, length, ap, sym, ◌∙◌, refl, subst, arith}
+use Rattle.std.proofs.Common.{◌≡◌, ℕ, ◌≤◌, List, [], ◌∷◌, false, Option, None, Some, length, ap, sym, ◌∙◌, refl, subst, arith}
 use Rattle.rb_trees.proofs.mirror.Stmts.{at_Stmt}
 use Rattle.rb_trees.proofs.mirror.Exprs.{at_Expr}
 use Rattle.rb_trees.proofs.mirror.Types.{at_TypeTree}
@@ -24,7 +24,7 @@ use Rattle.rb_trees.specs.declared.code.TypeForm.TheFolds.{fold-roll-TypeForm}
 use Rattle.rb_trees.specs.declared.code.TypeForm.TheViews as type_views
 use Rattle.rb_trees.specs.mirror.Types.{TypeTree, mirror_type, mirror_type_form, form_step, tree_step}
 use Rattle.rb_trees.specs.mirror.Declarations.{mirror_body}
-use Rattle.rb_trees.specs.mirror.Code.{Expr, Stmt, Stmts, mirror_expr, mirror_expr_form, mirror_exprs, mirror_stmt, mirror_stmts, expr_form_step, expr_step, mirror_stmt_form, stmt_form_step, stmt_step}
+use Rattle.rb_trees.specs.mirror.Code.{Expr, Stmt, mirror_expr, mirror_expr_form, mirror_exprs, mirror_stmt, mirror_stmts, expr_form_step, expr_step, mirror_stmt_form, stmt_form_step, stmt_step}
 use Rattle.rb_top.specs.FormTests.{no_exprs, printed_of, called_of, name_of, batch_of, gives_int, alone, without_result, only_batch}
 
 print_layer : (y : StmtForm-F stmt_form.StmtForm stmt.Stmt) (at : ℕ) → ((e : expr.Expr) → stmt_views.roll-StmtForm y ≡ stmts.Print e → ⊥) → printed_of (mirror_stmt_form (stmt_views.roll-StmtForm y) at) ≡ None

@@ -1,5 +1,5 @@
 -- What the commands say, from what reading and running answer.
-use Rattle.std.proofs.Common.{◌≡◌, ℕ, List, [], ◌∷◌, ◌++◌, Bool, true, false, Option, None, Some, Result, Ok, Err, OnOk, OnErr, cond, codes, ap, sym, ◌∙◌, refl, subst}
+use Rattle.std.proofs.Common.{◌≡◌, ℕ, List, [], ◌∷◌, Bool, true, false, Option, None, Some, Result, Ok, Err, OnOk, OnErr, cond, codes, ap, sym, ◌∙◌, refl, subst}
 use Rattle.std.specs.Prelude.{MatchBool}
 use Rattle.std.specs.Str.{bytes_eq}
 use Rattle.std.proofs.lemmas.Slice.Eq.{bytes_eq-Decides}
@@ -17,12 +17,12 @@ use Rattle.rb_top.specs.declared.printing.PrintStop.{PrintStop}
 use Rattle.rb_top.specs.declared.status.SourceError.TheVariants as sources
 use Rattle.rb_top.specs.declared.status.StoreError.TheVariants as stores
 use Rattle.rb_top.specs.declared.status.Status.{Status}
-use Rattle.rb_top.specs.declared.status.Status.TheVariants.{Done, Words, FileFault, SourceRefused, ServiceRefused, WriteFault, Memory, FileTooLong}
+use Rattle.rb_top.specs.declared.status.Status.TheVariants.{Done, Words, FileFault, SourceRefused, ServiceRefused, Memory, FileTooLong}
 use Rattle.rb_top.specs.Loads.{StopsText, HoldsProgram, faults_by}
 use Rattle.rb_top.specs.Refusals.{shown_refusal}
 use Rattle.rb_top.specs.Runs.{run_text}
 use Rattle.rb_top.specs.Texts.{Fits, wants_memory, IsProgram, IsService, NoServiceFor}
-use Rattle.rb_top.specs.Answers.{Answers, words, program_fault, program_too_long, program_refused, program_read, program_form, service_fault, service_too_long, service_form, run, NamesProgram, Ends, starved, Says, answered, starved_first, NotUnderstood, check_words, check_of, both_words, both_of, fault_line, too_long_line, Unread, Refuses, read_faults, status_after}
+use Rattle.rb_top.specs.Answers.{Answers, words, program_fault, program_too_long, program_refused, program_read, program_form, service_fault, service_too_long, service_form, run, NamesProgram, Ends, starved, Says, answered, starved_first, check_words, check_of, both_words, both_of, fault_line, too_long_line, Unread, Refuses, read_faults, status_after}
 use Rattle.rb_top.proofs.Ended.{ends_by, wrote_none}
 
 says : (fuel : ℕ) (told : Option Directory) (ws : List (List ℕ)) (old : Option (List ℕ)) (reads : ℕ) (status result : Status) (text : List ℕ) (new : Option (List ℕ)) (after : ℕ) → Answers fuel told ws status text → Ends status text old result new → after ≡ read_faults status reads → Says fuel told ws old reads result new after

@@ -7,7 +7,7 @@ use Rattle.rb_trees.specs.declared.tokens.TokenKind.TheVariants as kinds
 use Rattle.rb_trees.specs.declared.values.Value.TheVariants as value
 use Rattle.rb_trees.specs.mirror.Types as types
 use Rattle.rb_trees.specs.mirror.Code as code
-use Rattle.rb_trees.specs.mirror.Declarations.{Signature, Body, Method, Class}
+use Rattle.rb_trees.specs.mirror.Declarations.{Signature, Method}
 use Rattle.rb_trees.specs.mirror.Services.{Service}
 use Rattle.rb_meaning_bytes.specs.tokens.Lists.{slice}
 use Rattle.rb_meaning_bytes.specs.tokens.Values.{number_value}

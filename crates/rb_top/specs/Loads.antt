@@ -7,7 +7,6 @@ use Rattle.rb_base.specs.Directories.{Directory, Finds, FailsNext}
 use Rattle.rb_top.specs.Texts.{TooLong}
 use Rattle.rb_top.specs.declared.loading.TextStop.{TextStop}
 use Rattle.rb_top.specs.declared.loading.TextStop.TheVariants as stops
-use Rattle.rb_top.specs.declared.status.Status.{Status}
 
 -- No text is read from the file of the name for this cause, as far as the files tell.
 abbrev pub StopsText : Option Directory → List ℕ → TextStop → Type 0

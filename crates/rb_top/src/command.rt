@@ -58,13 +58,7 @@ fn line_of(alloc: Global, what: &[u8], name: &str) -> Result<Vec<u8>, AllocError
 }
 
 /// Says what is told of a file.
-fn say_of<W: Sink>(
-    alloc: Global,
-    status: Status,
-    what: &[u8],
-    name: &str,
-    out: &mut W,
-) -> Status
+fn say_of<W: Sink>(alloc: Global, status: Status, what: &[u8], name: &str, out: &mut W) -> Status
     requires { IsWhole status }
     ensures ends { Ends status (line (what.now ++ name.now)) (W.told out.old) result (W.told out.new) }
     ensures writes { W.faults out.new ≡ write_faults result (W.faults out.old) }
@@ -193,7 +187,7 @@ fn both<F: Files, W: Sink>(
     ensures writes { W.faults out.new ≡ write_faults result (W.faults out.old) }
 {
     match read_program(alloc, program_name, files, out) {
-        Err(status) => status,
+        Err(refusal) => refusal,
         Ok(program) => {
             if is_first_program(&program) {
                 run_on(alloc, &program, service_name, files, out)

@@ -84,11 +84,7 @@ fn service_in(alloc: Global, text: &[u8]) -> Result<Option<Service>, Memory>
 }
 
 /// The service that a text is, if it has the methods that the program's interface declares.
-pub fn service_for(
-    alloc: Global,
-    program: &Program,
-    text: &[u8],
-) -> Result<Option<Service>, Memory>
+pub fn service_for(alloc: Global, program: &Program, text: &[u8]) -> Result<Option<Service>, Memory>
     ensures told { IfOk result (λ r. TellsServiceFor (mirror_program program.now) text.now (option_map mirror_service r)) }
     ensures form { IfOk result (λ r. IfSome r (λ service. FirstService (mirror_service service))) }
 {

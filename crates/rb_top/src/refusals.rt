@@ -117,11 +117,7 @@ fn line_at(alloc: Global, heading: &str, place: &[u8]) -> Result<Vec<u8>, AllocE
 }
 
 /// The line that shows a refusal of a text.
-pub fn refusal_line(
-    alloc: Global,
-    text: &[u8],
-    error: &ReadError,
-) -> Result<Vec<u8>, AllocError>
+pub fn refusal_line(alloc: Global, text: &[u8], error: &ReadError) -> Result<Vec<u8>, AllocError>
     requires { Fits text.now }
     ensures { IfOk result (λ shown. shown.items ≡ line (shown_refusal text.now error.now)) }
 {

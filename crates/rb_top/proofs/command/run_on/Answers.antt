@@ -1,4 +1,4 @@
-use Rattle.std.proofs.Common.{◌∙◌, refl, sym, subst, Option, Some, None}
+use Rattle.std.proofs.Common.{◌∙◌, refl, sym, subst}
 use Rattle.rb_trees.specs.mirror.Declarations.{mirror_program}
 use Rattle.rb_trees.specs.mirror.Services.{mirror_service}
 use Rattle.rb_base.specs.Directories.{Finds}

@@ -1,4 +1,4 @@
-use Rattle.std.proofs.Common.{◌≡◌, ◌∙◌, ◌+◌, ◌++◌, ap, refl, take, arith}
+use Rattle.std.proofs.Common.{◌∙◌, ◌+◌, ◌++◌, ap, refl, take, arith}
 use Rattle.rb_meaning_bytes.specs.tokens.Texts.{longest_text}
 use Rattle.rb_top.proofs.Loaded.{read_whole, read_front}
 use Rattle.rb_top.proofs.loading.load_text.Goals as goal

@@ -1,6 +1,4 @@
-use Rattle.std.proofs.Common.{ap, sym, ◌∙◌, subst, false, Err}
-use Rattle.rb_lex.specs.Answers.{Told}
-use Rattle.rb_top.specs.FirstTexts.{service_at}
+use Rattle.std.proofs.Common.{sym, ◌∙◌, subst}
 use Rattle.rb_top.proofs.Texts.{refused_service, if_service, read_by}
 use Rattle.rb_top.proofs.loading.service_in.Goals as goal
 
