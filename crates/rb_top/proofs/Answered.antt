@@ -1,7 +1,7 @@
 -- The reply that is built is the forest that the script means.
-use Rattle.std.proofs.Common.{◌≡◌, ℕ, ℤ, zero, suc, ◌+◌, ◌-◌, ◌<◌, ◌≤◌, ◌^◌, List, [], ◌∷◌, ◌++◌, length, Option, None, Some, ap, sym, ◌∙◌, refl, subst, arith, append_assoc, append-nil, zero-add}
+use Rattle.std.proofs.Common.{◌≡◌, ℕ, ℤ, suc, ◌+◌, ◌-◌, ◌<◌, ◌≤◌, ◌^◌, List, [], ◌∷◌, ◌++◌, Option, None, Some, ap, sym, ◌∙◌, refl, arith, zero-add}
 use Rattle.std.specs.Prelude.{pos, OnOk, Result, Ok, Err}
-use Rattle.rb_trees.specs.declared.values.Value.{Value, out-Value}
+use Rattle.rb_trees.specs.declared.values.Value.{out-Value}
 use Rattle.rb_trees.specs.declared.values.Value.TheVariants as value
 use Rattle.rb_trees.specs.mirror.Declarations.{Class}
 use Rattle.rb_trees.specs.mirror.Services.{Service}
@@ -9,14 +9,13 @@ use Rattle.rb_trees.specs.mirror.Scripts as script
 use Rattle.rb_trees.specs.mirror.Scripts.{Step, Steps, Script}
 use Rattle.rb_trees.specs.mirror.Forests as forest
 use Rattle.rb_trees.specs.mirror.Forests.{Entries, Holds}
-use Rattle.rb_meaning.specs.Remote.{Server, Reply, Got, int_kind, invoke, batch_fuel}
-use Rattle.rb_meaning.specs.Division.{keep_call}
+use Rattle.rb_meaning.specs.Remote.{Server, invoke, batch_fuel}
 use Rattle.rb_meaning.specs.ScriptRun.{Ground, Vars, Ran, ended, with_entry, on_reply, keeps, run_steps, run_script}
-use Rattle.rb_meaning_bytes.specs.wire.Fields.{number, signed_number, value_form}
+use Rattle.rb_meaning_bytes.specs.wire.Fields.{number, value_form}
 use Rattle.rb_meaning_bytes.specs.wire.Scripts.{steps, count_steps, script as spelled_script}
 use Rattle.rb_meaning_bytes.specs.wire.Forests.{entries, count_entries, forest as spelled_forest}
 use Rattle.rb_top.specs.FirstForm.{FirstService, FirstScript, KeepsCalls, number_in, first_table}
-use Rattle.rb_top.specs.Reading.{then_read, step_at, head_at, entry_of, by_number, by_step, entries_to, by_head, reply_to}
+use Rattle.rb_top.specs.Reading.{head_at, entry_of, by_number, by_step, entries_to, by_head, reply_to}
 use Rattle.rb_top.proofs.Calls.{int_out, calls_root}
 use Rattle.rb_top.proofs.ReadsBack.{reads_step, reads_head}
 

@@ -1,5 +1,5 @@
 -- A call on the root of a service of the form that is built gives the number that the method returns.
-use Rattle.std.proofs.Common.{◌≡◌, ℕ, ℤ, zero, suc, List, [], ◌∷◌, Bool, true, false, Option, None, Some, cond, ap, sym, ◌∙◌, refl, subst, arith}
+use Rattle.std.proofs.Common.{◌≡◌, ℕ, ℤ, suc, List, [], ◌∷◌, Bool, true, false, Option, None, Some, cond, ap, sym, ◌∙◌, refl, subst, arith}
 use Rattle.std.specs.Prelude.{slice_get, FitsSigned}
 use Rattle.std.specs.Int.{w64}
 use Rattle.std.specs.Str.{bytes_eq}
@@ -13,7 +13,7 @@ use Rattle.rb_trees.specs.mirror.Code as code
 use Rattle.rb_trees.specs.mirror.Code.{Expr, Stmts}
 use Rattle.rb_trees.specs.mirror.Declarations.{Method, Class}
 use Rattle.rb_trees.specs.mirror.Services.{Service}
-use Rattle.rb_meaning.specs.State.{Names, Local}
+use Rattle.rb_meaning.specs.State.{Names}
 use Rattle.rb_meaning.specs.Dialogue.{next, handle}
 use Rattle.rb_meaning.specs.Code.{performs_all, returns, bodies_of}
 use Rattle.rb_meaning.specs.Remote as Remote

@@ -1,8 +1,7 @@
 -- Lists that are read item by item.
-use Rattle.std.proofs.Common.{◌≡◌, ℕ, ℤ, ◌+◌, ◌-◌, ◌<◌, suc, List, [], ◌∷◌, ◌++◌, Option, None, Some, map, ap, sym, ◌∙◌, refl, arith, append_assoc}
-use Rattle.std.proofs.lemmas.Grind.{common_steps}
+use Rattle.std.proofs.Common.{◌≡◌, ℕ, ℤ, ◌+◌, ◌-◌, ◌<◌, suc, List, [], ◌∷◌, ◌++◌, None, Some, map, ap, ◌∙◌, refl, arith, append_assoc}
 use Rattle.rb_trees.specs.declared.tokens.Token.{Token}
-use Rattle.rb_top.specs.FirstTexts.{signature_at, signature_of, signatures_at, more_signatures, with_first, print_at, print_of, prints_at, more_prints, method_at, method_of, methods_at, more_methods}
+use Rattle.rb_top.specs.FirstTexts.{with_first, method_at, method_of, methods_at, more_methods}
 
 mapped_more : {X Y : Type 0} (f : X → Y) (xs : List X) (x : X) → map f (xs ++ x ∷ []) ≡ map f xs ++ f x ∷ []
 mapped_more f [] x = refl
@@ -19,21 +18,6 @@ collect f all new x y rest e g =
     ∙ ap (λ l. behind (l ++ rest.0) rest.1) (mapped_more f all x)
     ∙ ap (λ l. behind l rest.1) (append_assoc (map f all) (f x ∷ []) rest.0)
     ∙ ap (λ z. behind (map f all ++ z ∷ rest.0) rest.1) g
-
-pub signatures_more : (source : List ℕ) (count k : ℕ) (rest more : List Token) (m : Token × Token) → k < count → signature_at rest ≡ Some (m, more) → signatures_at source (count - k) rest ≡ with_first (signature_of source m) (signatures_at source (count - (k + 1)) more)
-signatures_more source count k rest more m h e =
-    let s : count - k ≡ suc (count - (k + 1)) = omega arith in
-    ap (λ n. signatures_at source n rest) s ∙ ap (λ o. more_signatures source rest o (signatures_at source (count - (k + 1)))) e
-
-pub prints_more : (source root : List ℕ) (names : List (List ℕ)) (count k : ℕ) (rest more : List Token) (t : Token × Token × Token) → k < count → print_at source root names rest ≡ Some (t, more) → prints_at source root names (count - k) rest ≡ with_first (print_of source t) (prints_at source root names (count - (k + 1)) more)
-prints_more source root names count k rest more t h e =
-    let s : count - k ≡ suc (count - (k + 1)) = omega arith in
-    ap (λ n. prints_at source root names n rest) s ∙ ap (λ o. more_prints source rest o (prints_at source root names (count - (k + 1)))) e
-
-pub prints_none : (source root : List ℕ) (names : List (List ℕ)) (count k : ℕ) (rest : List Token) → k < count → print_at source root names rest ≡ None → prints_at source root names (count - k) rest ≡ behind [] rest
-prints_none source root names count k rest h e =
-    let s : count - k ≡ suc (count - (k + 1)) = omega arith in
-    ap (λ n. prints_at source root names n rest) s ∙ ap (λ o. more_prints source rest o (prints_at source root names (count - (k + 1)))) e
 
 pub methods_more : (source : List ℕ) (count k : ℕ) (rest more : List Token) (m : (Token × Token) × ℕ × ℤ) → k < count → method_at source rest ≡ Some (m, more) → methods_at source (count - k) rest ≡ with_first (method_of source m) (methods_at source (count - (k + 1)) more)
 methods_more source count k rest more m h e =

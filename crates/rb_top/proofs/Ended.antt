@@ -1,11 +1,10 @@
 -- How a call that prints a text ends.
-use Rattle.std.proofs.Common.{◌≡◌, ℕ, ◌≤◌, List, [], ◌++◌, Option, None, Some, Result, Ok, Err, OnOk, OnErr, length, take, ap, sym, ◌∙◌, refl, subst, rules}
-use Rattle.rb_base.specs.Counts.{risen}
+use Rattle.std.proofs.Common.{◌≡◌, ℕ, List, Option, None, Some, Result, Ok, Err, OnOk, OnErr, ap, sym, refl, subst, rules}
 use Rattle.rb_base.specs.Sinks.{told_more, WrotePrefix}
 use Rattle.rb_top.specs.declared.printing.PrintStop.{PrintStop}
 use Rattle.rb_top.specs.declared.printing.PrintStop.TheVariants as print
 use Rattle.rb_top.specs.declared.status.Status.{Status}
-use Rattle.rb_top.specs.declared.status.Status.TheVariants.{Done, Words, FileFault, SourceRefused, ServiceRefused, WriteFault, Memory}
+use Rattle.rb_top.specs.declared.status.Status.TheVariants.{Done, Words, FileFault, SourceRefused, ServiceRefused, WriteFault, Memory, FileTooLong}
 use Rattle.rb_top.specs.Printing.{faults_after_print}
 use Rattle.rb_top.specs.Answers.{Ends, whole, cut, starved, IsWhole, status_after, write_faults}
 
@@ -27,6 +26,7 @@ whole_faults (SourceRefused error) n w = refl
 whole_faults (ServiceRefused error) n w = refl
 whole_faults WriteFault n w = elim w [ ]
 whole_faults Memory n w = refl
+whole_faults (FileTooLong name) n w = refl
 
 pub faults_by : (status : Status) (n : ℕ) (r : Result (Unit {0}) PrintStop) (result : Status) → IsWhole status → result ≡ status_after status r → faults_after_print r n ≡ write_faults result n
 faults_by status n (Ok done) result w e = subst (λ s. n ≡ write_faults s n) (sym e) (whole_faults status n w)

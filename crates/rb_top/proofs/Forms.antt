@@ -1,7 +1,7 @@
 -- What the form that is built says of a program's block.
-use Rattle.std.proofs.Common.{◌≡◌, ℕ, ◌+◌, ◌<◌, ◌^◌, suc, List, [], ◌∷◌, length, ap, sym, ◌∙◌, refl, subst, arith}
+use Rattle.std.proofs.Common.{◌≡◌, ℕ, ◌<◌, ◌^◌, suc, List, [], ◌∷◌, length, ap, sym, refl, subst, arith}
 use Rattle.rb_trees.specs.declared.code.Stmt as stmt
-use Rattle.rb_trees.specs.mirror.Code.{Expr, Exprs, Stmt, Stmts, NoStmts, MoreStmts, NoExprs, Print, Call, Name, mirror_stmt, mirror_stmts}
+use Rattle.rb_trees.specs.mirror.Code.{Stmts, NoStmts, MoreStmts, NoExprs, Print, Call, Name, mirror_stmts}
 use Rattle.rb_trees.specs.mirror.Declarations.{Program}
 use Rattle.rb_meaning.specs.Division.{first_block}
 use Rattle.rb_top.specs.FirstForm.{FirstProgram, FitNames, PrintsCalls, count_stmts}

@@ -19,3 +19,5 @@ pub lines_more : (count k : ℕ) (rest more : List ℕ) (n : ℤ) → k < count 
 lines_more count k rest more n h e = lines_from count k rest h ∙ ap (λ s. by_entry s (lines_of (count - (k + 1)))) e
 
 pub ruleset lines = (lines_unread, lines_more, printed_none, printed_more, printed_all, printed_stop, append_assoc, append-nil, common_steps)
+
+pub ruleset pieces = (append_assoc, common_steps)

@@ -1,5 +1,5 @@
 -- Values and expressions that aren't a number.
-use Rattle.std.proofs.Common.{◌≡◌, ℕ, ℤ, List, Option, None, Some, ap, sym, ◌∙◌, refl, subst}
+use Rattle.std.proofs.Common.{◌≡◌, ℕ, ℤ, None, Some, ap, sym, ◌∙◌, refl, subst}
 use Rattle.std.proofs.lemmas.Grind.{common_steps}
 use Rattle.rb_trees.specs.declared.values.Value.{Value, out-Value}
 use Rattle.rb_trees.specs.declared.values.Value.TheOpen.{Value-F}
@@ -8,8 +8,8 @@ use Rattle.rb_trees.specs.declared.values.Value.TheViews as views
 use Rattle.rb_trees.specs.declared.code.Expr as expr
 use Rattle.rb_trees.specs.declared.code.ExprForm as expr_form
 use Rattle.rb_trees.specs.declared.code.ExprForm.TheVariants as exprs
-use Rattle.rb_trees.specs.declared.code.ExprForm.TheOpen.{Expr-F, ExprForm-F}
-use Rattle.rb_trees.specs.declared.code.ExprForm.TheFolds.{fold-Expr, fold-ExprForm, fold-roll-ExprForm}
+use Rattle.rb_trees.specs.declared.code.ExprForm.TheOpen.{ExprForm-F}
+use Rattle.rb_trees.specs.declared.code.ExprForm.TheFolds.{fold-roll-ExprForm}
 use Rattle.rb_trees.specs.declared.code.ExprForm.TheViews as expr_views
 use Rattle.rb_trees.specs.mirror.Code.{Expr, mirror_expr, mirror_expr_form, expr_form_step, expr_step}
 use Rattle.rb_trees.proofs.mirror.Exprs.{at_Expr}

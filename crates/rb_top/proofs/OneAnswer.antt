@@ -1,16 +1,18 @@
 -- Where the files tell, and hold a program and a service for it, the words have one answer.
-use Rattle.std.proofs.Common.{◌≡◌, ℕ, List, [], ◌∷◌, ◌++◌, Option, None, Some, codes, ap, sym, ◌∙◌, refl, subst}
+use Rattle.std.proofs.Common.{◌≡◌, ℕ, List, [], ◌∷◌, Option, None, Some, Ok, Err, ap, sym, ◌∙◌, refl, subst, arith}
 use Rattle.rb_trees.specs.mirror.Declarations.{Program}
 use Rattle.rb_trees.specs.mirror.Services.{Service}
 use Rattle.rb_base.specs.Directories.{Directory, next_read, after_read, told_after, Finds, FailsNext}
-use Rattle.rb_top.specs.FirstForm.{Offers}
+use Rattle.rb_meaning_bytes.specs.grammar.Sources.{ReadSource}
+use Rattle.rb_top.specs.FirstForm.{FirstProgram, Offers}
 use Rattle.rb_top.specs.Runs.{run_text}
-use Rattle.rb_top.specs.Texts.{IsProgram, IsService}
+use Rattle.rb_top.specs.Texts.{Fits, TooLong, IsService}
 use Rattle.rb_top.specs.declared.status.Status.{Status}
-use Rattle.rb_top.specs.declared.status.Status.TheVariants.{Done, Memory}
-use Rattle.rb_top.specs.Answers.{Answers, words, program_fault, program_form, service_fault, service_form, run, Ends, starved, Says, answered, starved_first, both_words, Holds}
+use Rattle.rb_top.specs.declared.status.Status.TheVariants.{Done}
+use Rattle.rb_top.specs.Answers.{Answers, words, program_fault, program_too_long, program_refused, program_read, program_form, service_fault, service_too_long, service_form, run, NamesProgram, by_check, by_both, Ends, starved, Says, answered, starved_first, check_words, both_words, Holds}
 use Rattle.rb_top.proofs.Ended.{wrote_none}
-use Rattle.rb_top.proofs.Texts.{program_once, service_once}
+use Rattle.rb_top.proofs.OneReading.{not_refused, read_once}
+use Rattle.rb_top.proofs.Texts.{service_once}
 
 abbrev first_name : List (List ℕ) → List ℕ
 first_name (a ∷ b ∷ ws) = b
@@ -39,23 +41,49 @@ found_once told directory name name' text text' t n r f =
 abbrev One : ℕ → List ℕ → Program → Service → Status → List ℕ → Type 0
 One fuel text program service status shown = (status ≡ Done) × (shown ≡ run_text text fuel program service)
 
+-- the words that name a program name this one
+named_program : (ws : List (List ℕ)) (p p' s : List ℕ) → NamesProgram ws p' → ws ≡ both_words p s → p' ≡ p
+named_program ws p p' s (by_check q) w = absurd (cc)
+named_program ws p p' s (by_both q s') w = ap first_name w
+
+other_words : (p p' s : List ℕ) → check_words p' ≡ both_words p s → ⊥
+other_words p p' s w = absurd (cc)
+
+too_long_none : (text : List ℕ) → TooLong text → Fits text → ⊥
+too_long_none text l f = omega arith
+
+program_short : (text : List ℕ) (program : Program) → ReadSource text (Ok program) → Fits text
+program_short text program i = i.1.short
+
 one_answer : (fuel : ℕ) (told : Option Directory) (ws : List (List ℕ)) (p s : List ℕ) (status : Status) (shown : List ℕ) (directory : Directory) (text other : List ℕ) (program : Program) (service : Service)
     → ws ≡ both_words p s → told ≡ Some directory → Holds directory p s text other program service → Answers fuel told ws status shown → One fuel text program service status shown
-one_answer fuel told ws p s status shown directory text other program service w t h (words ws' n) = absurd (n p s w)
-one_answer fuel told ws p s status shown directory text other program service w t h (program_fault p' s' f) =
-    absurd (never_fails told directory p p' text t (ap first_name w) h.reads f)
-one_answer fuel told ws p s status shown directory text other program service w t h (program_form p' s' text' f n) =
-    absurd (n program (subst (λ x. IsProgram x program) (sym (found_once told directory p p' text text' t (ap first_name w) h.reads f)) h.is_program))
+one_answer fuel told ws p s status shown directory text other program service w t h (words ws' n) = absurd (n.0 p s w)
+one_answer fuel told ws p s status shown directory text other program service w t h (program_fault ws' p' n f) =
+    absurd (never_fails told directory p p' text t (named_program ws p p' s n w) h.reads f)
+one_answer fuel told ws p s status shown directory text other program service w t h (program_too_long ws' p' text' n f l) =
+    let same = found_once told directory p p' text text' t (named_program ws p p' s n w) h.reads f in
+    absurd (too_long_none text (subst TooLong same l) (program_short text program h.is_program.read))
+one_answer fuel told ws p s status shown directory text other program service w t h (program_refused ws' p' text' error n f l r) =
+    let same = found_once told directory p p' text text' t (named_program ws p p' s n w) h.reads f in
+    absurd (not_refused text program error h.is_program.read (subst (λ x. ReadSource x (Err error)) same r.read) r.is_refusal)
+one_answer fuel told ws p s status shown directory text other program service w t h (program_read p' text' program' f i) = absurd (other_words p p' s w)
+one_answer fuel told ws p s status shown directory text other program service w t h (program_form p' s' text' program' f i n) =
+    let same = found_once told directory p p' text text' t (ap first_name w) h.reads f in
+    let one = read_once text program program' h.is_program.read (subst (λ x. ReadSource x (Ok program')) same i) in
+    absurd (n (subst FirstProgram one h.is_program.form))
 one_answer fuel told ws p s status shown directory text other program service w t h (service_fault p' s' text' program' f i g) =
     absurd (never_fails (told_after told) (after_read directory) s s' other (ap told_after t) (ap second_name w) h.reads_next g)
-one_answer fuel told ws p s status shown directory text other program service w t h (service_form p' s' text' other' program' f i g n) =
+one_answer fuel told ws p s status shown directory text other program service w t h (service_too_long p' s' text' other' program' f i g l) =
+    let next = found_once (told_after told) (after_read directory) s s' other other' (ap told_after t) (ap second_name w) h.reads_next g in
+    absurd (too_long_none other (subst TooLong next l) h.is_service.lexed.short)
+one_answer fuel told ws p s status shown directory text other program service w t h (service_form p' s' text' other' program' f i g l n) =
     let same = found_once told directory p p' text text' t (ap first_name w) h.reads f in
-    let one = program_once text program program' h.is_program (subst (λ x. IsProgram x program') same i) in
+    let one = read_once text program program' h.is_program.read (subst (λ x. ReadSource x (Ok program')) same i.read) in
     let next = found_once (told_after told) (after_read directory) s s' other other' (ap told_after t) (ap second_name w) h.reads_next g in
     absurd (n service (subst (λ x. IsService x service) (sym next) h.is_service) (subst (λ x. Offers x service) one h.offers))
 one_answer fuel told ws p s status shown directory text other program service w t h (run p' s' text' other' program' service' f i g j o) =
     let same = found_once told directory p p' text text' t (ap first_name w) h.reads f in
-    let one = program_once text program' program (subst (λ x. IsProgram x program') same i) h.is_program in
+    let one = read_once text program' program (subst (λ x. ReadSource x (Ok program')) same i.read) h.is_program.read in
     let next = found_once (told_after told) (after_read directory) s s' other other' (ap told_after t) (ap second_name w) h.reads_next g in
     let it = service_once other service' service (subst (λ x. IsService x service') next j) h.is_service in
     (refl, ap (λ x. run_text x fuel program' service') same ∙ ap (λ x. run_text text fuel x service') one ∙ ap (λ x. run_text text fuel program x) it)

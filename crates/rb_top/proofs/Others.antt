@@ -1,20 +1,20 @@
 -- Statements and expressions of the forms that have no step.
-use Rattle.std.proofs.Common.{◌≡◌, ℕ, ◌≤◌, List, [], ◌∷◌, length, drop, get_or, None, ap, sym, ◌∙◌, refl, subst, arith}
+use Rattle.std.proofs.Common.{◌≡◌, ℕ, ◌≤◌, List, [], ◌∷◌, length, drop, get_or, None, ap, sym, ◌∙◌, subst, arith}
 use Rattle.rb_trees.proofs.mirror.Stmts as stmts_mirror
 use Rattle.rb_trees.proofs.mirror.Exprs as exprs_mirror
 use Rattle.rb_trees.specs.declared.code.Expr as expr
 use Rattle.rb_trees.specs.declared.code.ExprForm as expr_form
 use Rattle.rb_trees.specs.declared.code.ExprForm.TheVariants as exprs
-use Rattle.rb_trees.specs.declared.code.ExprForm.TheOpen.{Expr-F, ExprForm-F}
-use Rattle.rb_trees.specs.declared.code.ExprForm.TheFolds.{fold-Expr, fold-ExprForm, fold-roll-ExprForm}
+use Rattle.rb_trees.specs.declared.code.ExprForm.TheOpen.{ExprForm-F}
+use Rattle.rb_trees.specs.declared.code.ExprForm.TheFolds.{fold-roll-ExprForm}
 use Rattle.rb_trees.specs.declared.code.ExprForm.TheViews as expr_views
 use Rattle.rb_trees.specs.declared.code.Stmt as stmt
 use Rattle.rb_trees.specs.declared.code.StmtForm as stmt_form
 use Rattle.rb_trees.specs.declared.code.StmtForm.TheVariants as stmts
-use Rattle.rb_trees.specs.declared.code.StmtForm.TheOpen.{Stmt-F, StmtForm-F}
-use Rattle.rb_trees.specs.declared.code.StmtForm.TheFolds.{fold-Stmt, fold-StmtForm, fold-roll-StmtForm}
+use Rattle.rb_trees.specs.declared.code.StmtForm.TheOpen.{StmtForm-F}
+use Rattle.rb_trees.specs.declared.code.StmtForm.TheFolds.{fold-roll-StmtForm}
 use Rattle.rb_trees.specs.declared.code.StmtForm.TheViews as stmt_views
-use Rattle.rb_trees.specs.mirror.Code.{Expr, Stmt, Stmts, MoreStmts, NoStmts, Print, mirror_expr, mirror_expr_form, mirror_stmt, mirror_stmts, expr_form_step, expr_step, mirror_stmt_form, stmt_form_step, stmt_step}
+use Rattle.rb_trees.specs.mirror.Code.{Expr, Stmt, Stmts, MoreStmts, NoStmts, Print, mirror_expr_form, mirror_stmt, mirror_stmts, expr_form_step, expr_step, mirror_stmt_form, stmt_form_step, stmt_step}
 use Rattle.rb_meaning.specs.Division.{printed_call, first_block}
 
 print_layer : (y : StmtForm-F stmt_form.StmtForm stmt.Stmt) (at : ℕ) → ((e : expr.Expr) → stmt_views.roll-StmtForm y ≡ stmts.Print e → ⊥) → printed_call (mirror_stmt_form (stmt_views.roll-StmtForm y) at) ≡ None

@@ -1,5 +1,5 @@
 -- What is spelled is read back.
-use Rattle.std.proofs.Common.{lit<, ◌≡◌, ℕ, ℤ, ◌+◌, ◌<◌, ◌≤◌, ◌^◌, List, [], ◌∷◌, ◌++◌, Bool, false, true, Option, None, Some, cond, nat_lt, length, take, drop, ap, sym, ◌∙◌, refl, arith, append_assoc, append-nil, length-append}
+use Rattle.std.proofs.Common.{◌≡◌, ℕ, ℤ, ◌<◌, ◌^◌, List, [], ◌∷◌, ◌++◌, false, Option, None, Some, cond, nat_lt, length, take, drop, ap, sym, ◌∙◌, refl, arith, append_assoc, append-nil, length-append}
 use Rattle.std.proofs.Math.Seq.{take-append_seam}
 use Rattle.std.proofs.lemmas.Bool.Decides.{nat_tests}
 use Rattle.std.proofs.lemmas.Grind.{common_steps}
@@ -11,7 +11,7 @@ use Rattle.rb_meaning_bytes.specs.wire.Fields.{number, wide_number, signed_numbe
 use Rattle.rb_meaning_bytes.specs.wire.Scripts.{expr, step}
 use Rattle.rb_trees.specs.mirror.Scripts as script
 use Rattle.rb_trees.specs.mirror.Scripts.{Step}
-use Rattle.rb_top.specs.Reading.{then_read, byte_at, number_at, signed_at, front_at, text_at, step_at, entry_at, head_at, entries_at}
+use Rattle.rb_top.specs.Reading.{then_read, number_at, signed_at, front_at, text_at, step_at, entry_at, head_at, entries_at}
 
 -- the front of two lists
 front_of : {A : Type 0} (xs ys : List A) (n : ℕ) → length xs ≡ n → take n (xs ++ ys) ≡ xs

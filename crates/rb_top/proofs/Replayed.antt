@@ -1,27 +1,24 @@
 -- The lines that the client prints from the server's reply are those of the program's meaning.
-use Rattle.std.proofs.Common.{◌≡◌, ℕ, ℤ, zero, suc, ◌+◌, ◌<◌, ◌≤◌, ◌^◌, List, [], ◌∷◌, ◌++◌, length, Option, None, Some, ap, sym, ◌∙◌, refl, subst, arith, append_assoc, append-nil}
-use Rattle.std.specs.Prelude.{pos, codes, true}
+use Rattle.std.proofs.Common.{◌≡◌, ℕ, ℤ, suc, ◌+◌, ◌<◌, ◌≤◌, ◌^◌, List, [], ◌∷◌, ◌++◌, Option, None, Some, ap, sym, ◌∙◌, refl, subst, arith, append_assoc}
+use Rattle.std.specs.Prelude.{codes, true}
 use Rattle.std.specs.Fmt.{decimal, signed_decimal}
 use Rattle.rb_trees.specs.declared.values.Value.{out-Value}
 use Rattle.rb_trees.specs.declared.values.Value.TheVariants as value
-use Rattle.rb_trees.specs.declared.outcomes.Ending.TheVariants as endings
 use Rattle.rb_trees.specs.mirror.Code as code
 use Rattle.rb_trees.specs.mirror.Code.{Stmt, Stmts}
 use Rattle.rb_trees.specs.mirror.Declarations.{Class, Program}
 use Rattle.rb_trees.specs.mirror.Services.{Service}
 use Rattle.rb_trees.specs.mirror.Scripts as script
 use Rattle.rb_trees.specs.mirror.Scripts.{Step, Steps}
-use Rattle.rb_trees.specs.mirror.Forests.{Holds}
-use Rattle.rb_meaning.specs.State as state
 use Rattle.rb_meaning.specs.Division.{printed_call, with_step, steps_of, first_block, first_script}
 use Rattle.rb_meaning.specs.ScriptRun.{run_script}
-use Rattle.rb_meaning.specs.Meaning.{Meaning, meaning}
-use Rattle.rb_meaning.specs.Shown.{line, shown, shown_events, shown_table, exchanges, shown_exchanges, shown_ending}
+use Rattle.rb_meaning.specs.Meaning.{meaning}
+use Rattle.rb_meaning.specs.Shown.{line, shown, shown_events, shown_table, exchanges}
 use Rattle.rb_meaning_bytes.specs.wire.Fields.{number, value_form, signed_number}
 use Rattle.rb_meaning_bytes.specs.wire.Scripts.{count_steps}
-use Rattle.rb_meaning_bytes.specs.wire.Forests.{entries, count_entries, forest as spelled_forest}
+use Rattle.rb_meaning_bytes.specs.wire.Forests.{entries, forest as spelled_forest}
 use Rattle.rb_top.specs.FirstForm.{FirstProgram, FirstService, FirstScript, PrintsCalls, KeepsCalls, Offers, is_among, signature_names, number_in, first_table, objects_of, class_name_of, count_stmts}
-use Rattle.rb_top.specs.Reading.{entry_at, by_entry, lines_of, entries_at, by_entries, lines_in}
+use Rattle.rb_top.specs.Reading.{entry_at, by_entry, lines_of, by_entries, lines_in}
 use Rattle.rb_top.specs.Printing.{alone, end_of}
 use Rattle.rb_top.specs.Runs.{reply_of, run_text}
 use Rattle.rb_top.proofs.Calls.{int_out, number_fits}

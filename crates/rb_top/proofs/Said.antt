@@ -1,46 +1,95 @@
--- What `both P S` says, from what loading and running answer.
-use Rattle.std.proofs.Common.{◌≡◌, ℕ, List, [], ◌∷◌, ◌++◌, Bool, true, false, Option, None, Some, Result, Ok, Err, OnOk, OnErr, cond, codes, ap, sym, ◌∙◌, refl, subst}
+-- What the commands say, from what reading and running answer.
+use Rattle.std.proofs.Common.{◌≡◌, ℕ, List, [], ◌∷◌, Bool, true, false, Option, None, Some, Result, Ok, Err, OnOk, OnErr, cond, codes, ap, sym, ◌∙◌, refl, subst}
+use Rattle.std.specs.Prelude.{MatchBool}
 use Rattle.std.specs.Str.{bytes_eq}
 use Rattle.std.proofs.lemmas.Slice.Eq.{bytes_eq-Decides}
-use Rattle.rb_trees.specs.declared.declarations.Program as program
-use Rattle.rb_trees.specs.declared.services.Service as service
-use Rattle.rb_trees.specs.mirror.Declarations.{Program, mirror_program}
-use Rattle.rb_trees.specs.mirror.Services.{mirror_service}
+use Rattle.rb_trees.specs.declared.reading.ReadError.{ReadError}
+use Rattle.rb_trees.specs.mirror.Declarations.{Program}
+use Rattle.rb_trees.specs.mirror.Services.{Service}
 use Rattle.rb_meaning.specs.Shown.{line}
-use Rattle.rb_base.specs.Directories.{Directory, told_after}
+use Rattle.rb_meaning_bytes.specs.grammar.Sources.{ReadSource}
+use Rattle.rb_base.specs.Directories.{Directory, told_after, Finds}
 use Rattle.rb_base.specs.Sinks.{told_more, WrotePrefix}
-use Rattle.rb_top.specs.declared.loading.LoadStop.{LoadStop}
-use Rattle.rb_top.specs.declared.loading.LoadStop.TheVariants as load
+use Rattle.rb_top.specs.FirstForm.{FirstProgram, Offers}
+use Rattle.rb_top.specs.declared.loading.TextStop.{TextStop}
+use Rattle.rb_top.specs.declared.loading.TextStop.TheVariants as stops
 use Rattle.rb_top.specs.declared.printing.PrintStop.{PrintStop}
 use Rattle.rb_top.specs.declared.status.SourceError.TheVariants as sources
 use Rattle.rb_top.specs.declared.status.StoreError.TheVariants as stores
 use Rattle.rb_top.specs.declared.status.Status.{Status}
-use Rattle.rb_top.specs.declared.status.Status.TheVariants.{Done, Words, FileFault, SourceRefused, ServiceRefused, WriteFault, Memory}
-use Rattle.rb_top.specs.Loads.{LoadsProgram, LoadsService, faults_by}
+use Rattle.rb_top.specs.declared.status.Status.TheVariants.{Done, Words, FileFault, SourceRefused, ServiceRefused, Memory, FileTooLong}
+use Rattle.rb_top.specs.Loads.{StopsText, HoldsProgram, faults_by}
+use Rattle.rb_top.specs.Refusals.{shown_refusal}
 use Rattle.rb_top.specs.Runs.{run_text}
-use Rattle.rb_top.specs.Answers.{Answers, words, program_fault, program_form, service_fault, service_form, run, Ends, Says, answered, starved_first, NotUnderstood, both_words, both_of, RefusesProgram, RefusesService, read_faults, status_after}
-use Rattle.rb_top.proofs.Ended.{ends_by}
+use Rattle.rb_top.specs.Texts.{Fits, wants_memory, IsProgram, IsService, NoServiceFor}
+use Rattle.rb_top.specs.Answers.{Answers, words, program_fault, program_too_long, program_refused, program_read, program_form, service_fault, service_too_long, service_form, run, NamesProgram, Ends, starved, Says, answered, starved_first, check_words, check_of, both_words, both_of, fault_line, too_long_line, Unread, Refuses, read_faults, status_after}
+use Rattle.rb_top.proofs.Ended.{ends_by, wrote_none}
 
 says : (fuel : ℕ) (told : Option Directory) (ws : List (List ℕ)) (old : Option (List ℕ)) (reads : ℕ) (status result : Status) (text : List ℕ) (new : Option (List ℕ)) (after : ℕ) → Answers fuel told ws status text → Ends status text old result new → after ≡ read_faults status reads → Says fuel told ws old reads result new after
 says fuel told ws old reads status result text new after a e h = subst (Says fuel told ws old reads result new) (sym h) (answered status result text new a e)
 
-starves : (fuel : ℕ) (told : Option Directory) (ws : List (List ℕ)) (old : Option (List ℕ)) (reads : ℕ) (result : Status) (new : Option (List ℕ)) (after : ℕ) → result ≡ Memory → new ≡ old → after ≡ reads → Says fuel told ws old reads result new after
+pub starves : (fuel : ℕ) (told : Option Directory) (ws : List (List ℕ)) (old : Option (List ℕ)) (reads : ℕ) (result : Status) (new : Option (List ℕ)) (after : ℕ) → result ≡ Memory → new ≡ old → after ≡ reads → Says fuel told ws old reads result new after
 starves fuel told ws old reads result new after r n a =
     subst (λ s. Says fuel told ws old reads s new after) (sym r)
     (subst (λ o. Says fuel told ws old reads Memory o after) (sym n) (subst (λ k. Says fuel told ws old reads Memory old k) (sym a) starved_first))
 
-pub program_refused : (fuel : ℕ) (told : Option Directory) (p s : List ℕ) (old : Option (List ℕ)) (reads : ℕ) (stop : LoadStop) (result : Status) (new : Option (List ℕ)) (after : ℕ) → LoadsProgram told p (Err stop) → RefusesProgram stop p old result new → after ≡ faults_by stop reads → Says fuel told (both_words p s) old reads result new after
-program_refused fuel told p s old reads load.FileFault result new after l r h = says fuel told (both_words p s) old reads (FileFault p) result (line (codes "file fault " ++ p)) new after (program_fault p s l) r h
-program_refused fuel told p s old reads load.NotBuilt result new after l r h = says fuel told (both_words p s) old reads (SourceRefused sources.NotBuilt) result (line (codes "not built")) new after (program_form p s l.0 l.1 l.2) r h
-program_refused fuel told p s old reads load.Memory result new after l r h = starves fuel told (both_words p s) old reads result new after r.0 r.1 h
+-- what is said is the same over what was told and counted before
+pub says_from : (fuel : ℕ) (told : Option Directory) (ws : List (List ℕ)) (mid old : Option (List ℕ)) (between reads : ℕ) (result : Status) (new : Option (List ℕ)) (after : ℕ) → mid ≡ old → between ≡ reads → Says fuel told ws mid between result new after → Says fuel told ws old reads result new after
+says_from fuel told ws mid old between reads result new after m b h = subst (λ o. Says fuel told ws o reads result new after) m (subst (λ k. Says fuel told ws mid k result new after) b h)
 
-pub service_refused : (fuel : ℕ) (told between : Option Directory) (p s : List ℕ) (old : Option (List ℕ)) (reads : ℕ) (program : program.Program) (stop : LoadStop) (result : Status) (new : Option (List ℕ)) (after : ℕ) → LoadsProgram told p (Ok program) → between ≡ told_after told → LoadsService (mirror_program program) between s (Err stop) → RefusesService stop s old result new → after ≡ faults_by stop reads → Says fuel told (both_words p s) old reads result new after
-service_refused fuel told between p s old reads program load.FileFault result new after m b l r h =
-    says fuel told (both_words p s) old reads (FileFault s) result (line (codes "file fault " ++ s)) new after (service_fault p s m.0 (mirror_program program) m.1 m.2 (subst (λ t. LoadsService (mirror_program program) t s (Err load.FileFault)) b l)) r h
-service_refused fuel told between p s old reads program load.NotBuilt result new after m b l r h =
-    let k = subst (λ t. LoadsService (mirror_program program) t s (Err load.NotBuilt)) b l in
-    says fuel told (both_words p s) old reads (ServiceRefused stores.NotBuilt) result (line (codes "service not built")) new after (service_form p s m.0 k.0 (mirror_program program) m.1 m.2 k.1 k.2) r h
-service_refused fuel told between p s old reads program load.Memory result new after m b l r h = starves fuel told (both_words p s) old reads result new after r.0 r.1 h
+-- without memory for the file's name nothing is said
+pub starved_unread : (stop : TextStop) (name : List ℕ) (old : Option (List ℕ)) → Unread stop name old Memory old
+starved_unread stops.FileFault name old = starved old (wrote_none old (fault_line name))
+starved_unread stops.TooLong name old = starved old (wrote_none old (too_long_line name))
+starved_unread stops.Memory name old = (refl, refl)
+
+-- without memory for the line a refusal isn't said
+pub starved_refusal : (text : List ℕ) (error : ReadError) (old : Option (List ℕ)) → Refuses text error old Memory old
+starved_refusal text error old = go (wants_memory error)
+  where
+    go : (b : Bool) → MatchBool b (◌≡◌ {A = Status} Memory Memory × (old ≡ old)) (Ends (SourceRefused (sources.Read error)) (line (shown_refusal text error)) old Memory old)
+    go true = (refl, refl)
+    go false = starved old (wrote_none old (line (shown_refusal text error)))
+
+pub refuses : (text : List ℕ) (error : ReadError) (old : Option (List ℕ)) (result : Status) (new : Option (List ℕ)) → wants_memory error ≡ false → Ends (SourceRefused (sources.Read error)) (line (shown_refusal text error)) old result new → Refuses text error old result new
+refuses text error old result new m e = go (wants_memory error) m
+  where
+    go : (b : Bool) → b ≡ false → MatchBool b ((result ≡ Memory) × (new ≡ old)) (Ends (SourceRefused (sources.Read error)) (line (shown_refusal text error)) old result new)
+    go true m = absurd (cc)
+    go false m = e
+
+pub program_unread : (fuel : ℕ) (told : Option Directory) (ws : List (List ℕ)) (p : List ℕ) (old : Option (List ℕ)) (reads : ℕ) (stop : TextStop) (result : Status) (new : Option (List ℕ)) (after : ℕ) → NamesProgram ws p → StopsText told p stop → Unread stop p old result new → after ≡ faults_by stop reads → Says fuel told ws old reads result new after
+program_unread fuel told ws p old reads stops.FileFault result new after n l r h = says fuel told ws old reads (FileFault p) result (fault_line p) new after (program_fault ws p n l) r h
+program_unread fuel told ws p old reads stops.TooLong result new after n l r h = says fuel told ws old reads (FileTooLong p) result (too_long_line p) new after (program_too_long ws p l.0 n l.1 l.2) r h
+program_unread fuel told ws p old reads stops.Memory result new after n l r h = starves fuel told ws old reads result new after r.0 r.1 h
+
+pub program_not_read : (fuel : ℕ) (told : Option Directory) (ws : List (List ℕ)) (p : List ℕ) (old : Option (List ℕ)) (reads : ℕ) (text : List ℕ) (error : ReadError) (result : Status) (new : Option (List ℕ)) (after : ℕ) → NamesProgram ws p → Finds told p text → Fits text → ReadSource text (Err error) → Refuses text error old result new → after ≡ reads → Says fuel told ws old reads result new after
+program_not_read fuel told ws p old reads text error result new after n f s i r h = go (wants_memory error) refl r
+  where
+    go : (b : Bool) → wants_memory error ≡ b → MatchBool b ((result ≡ Memory) × (new ≡ old)) (Ends (SourceRefused (sources.Read error)) (line (shown_refusal text error)) old result new) → Says fuel told ws old reads result new after
+    go true m q = starves fuel told ws old reads result new after q.0 q.1 h
+    go false m q = says fuel told ws old reads (SourceRefused (sources.Read error)) result (line (shown_refusal text error)) new after (program_refused ws p text error n f s (record { read = i; is_refusal = m })) q h
+
+pub said_read : (fuel : ℕ) (told : Option Directory) (p : List ℕ) (old : Option (List ℕ)) (reads : ℕ) (program : Program) (result : Status) (new : Option (List ℕ)) (after : ℕ) → HoldsProgram told p program → Ends Done (line (codes "read")) old result new → after ≡ reads → Says fuel told (check_words p) old reads result new after
+said_read fuel told p old reads program result new after m e h = says fuel told (check_words p) old reads Done result (line (codes "read")) new after (program_read p m.0 program m.1 m.2) e h
+
+pub said_form : (fuel : ℕ) (told : Option Directory) (p s : List ℕ) (old : Option (List ℕ)) (reads : ℕ) (program : Program) (result : Status) (new : Option (List ℕ)) (after : ℕ) → HoldsProgram told p program → ¬ FirstProgram program → Ends (SourceRefused sources.NotBuilt) (line (codes "not built")) old result new → after ≡ reads → Says fuel told (both_words p s) old reads result new after
+said_form fuel told p s old reads program result new after m n e h = says fuel told (both_words p s) old reads (SourceRefused sources.NotBuilt) result (line (codes "not built")) new after (program_form p s m.0 program m.1 m.2 n) e h
+
+is_program : (text : List ℕ) (program : Program) → ReadSource text (Ok program) → FirstProgram program → IsProgram text program
+is_program text program i f = record { read = i; form = f }
+
+pub service_unread : (fuel : ℕ) (told between : Option Directory) (p s : List ℕ) (old : Option (List ℕ)) (reads : ℕ) (program : Program) (stop : TextStop) (result : Status) (new : Option (List ℕ)) (after : ℕ) → HoldsProgram told p program → FirstProgram program → between ≡ told_after told → StopsText between s stop → Unread stop s old result new → after ≡ faults_by stop reads → Says fuel told (both_words p s) old reads result new after
+service_unread fuel told between p s old reads program stops.FileFault result new after m f b l r h =
+    says fuel told (both_words p s) old reads (FileFault s) result (fault_line s) new after (service_fault p s m.0 program m.1 (is_program m.0 program m.2 f) (subst (λ t. StopsText t s stops.FileFault) b l)) r h
+service_unread fuel told between p s old reads program stops.TooLong result new after m f b l r h =
+    let k = subst (λ t. StopsText t s stops.TooLong) b l in
+    says fuel told (both_words p s) old reads (FileTooLong s) result (too_long_line s) new after (service_too_long p s m.0 k.0 program m.1 (is_program m.0 program m.2 f) k.1 k.2) r h
+service_unread fuel told between p s old reads program stops.Memory result new after m f b l r h = starves fuel told (both_words p s) old reads result new after r.0 r.1 h
+
+pub no_service : (fuel : ℕ) (told between : Option Directory) (p s : List ℕ) (old : Option (List ℕ)) (reads : ℕ) (program : Program) (other : List ℕ) (result : Status) (new : Option (List ℕ)) (after : ℕ) → HoldsProgram told p program → FirstProgram program → between ≡ told_after told → Finds between s other → Fits other → NoServiceFor program other → Ends (ServiceRefused stores.NotBuilt) (line (codes "service not built")) old result new → after ≡ reads → Says fuel told (both_words p s) old reads result new after
+no_service fuel told between p s old reads program other result new after m f b l t n e h =
+    says fuel told (both_words p s) old reads (ServiceRefused stores.NotBuilt) result (line (codes "service not built")) new after (service_form p s m.0 other program m.1 (is_program m.0 program m.2 f) (subst (λ t. Finds t s other) b l) t n) e h
 
 at_ok : (printed : Result (Unit {0}) PrintStop) (P Q : Type 0) → (P → Q) → OnOk printed P → OnOk printed Q
 at_ok (Ok done) P Q f p = f p
@@ -50,14 +99,13 @@ at_err : (printed : Result (Unit {0}) PrintStop) (P Q : Type 0) → (P → Q) �
 at_err (Ok done) P Q f p = tt
 at_err (Err stop) P Q f p = f p
 
-pub run_ended : (fuel : ℕ) (told between : Option Directory) (p s : List ℕ) (old : Option (List ℕ)) (reads : ℕ) (program : program.Program) (service : service.Service) (printed : Result (Unit {0}) PrintStop) (result : Status) (new : Option (List ℕ)) (after : ℕ) → LoadsProgram told p (Ok program) → between ≡ told_after told → LoadsService (mirror_program program) between s (Ok service)
-    → OnOk printed ((source : List ℕ) (fuel : ℕ) → new ≡ told_more old (run_text source fuel (mirror_program program) (mirror_service service)))
-    → OnErr printed ((source : List ℕ) (fuel : ℕ) → WrotePrefix old new (run_text source fuel (mirror_program program) (mirror_service service)))
+pub run_ended : (fuel : ℕ) (told between : Option Directory) (p s : List ℕ) (old : Option (List ℕ)) (reads : ℕ) (program : Program) (service : Service) (other : List ℕ) (printed : Result (Unit {0}) PrintStop) (result : Status) (new : Option (List ℕ)) (after : ℕ) → HoldsProgram told p program → FirstProgram program → between ≡ told_after told → Finds between s other → IsService other service → Offers program service
+    → OnOk printed ((source : List ℕ) (fuel : ℕ) → new ≡ told_more old (run_text source fuel program service))
+    → OnErr printed ((source : List ℕ) (fuel : ℕ) → WrotePrefix old new (run_text source fuel program service))
     → result ≡ status_after Done printed → after ≡ reads → Says fuel told (both_words p s) old reads result new after
-run_ended fuel told between p s old reads program service printed result new after m b l ok err e h =
-    let k = subst (λ t. LoadsService (mirror_program program) t s (Ok service)) b l in
-    let text = run_text m.0 fuel (mirror_program program) (mirror_service service) in
-    says fuel told (both_words p s) old reads Done result text new after (run p s m.0 k.0 (mirror_program program) (mirror_service service) m.1 m.2 k.1 k.2 k.3)
+run_ended fuel told between p s old reads program service other printed result new after m f b l i o ok err e h =
+    let text = run_text m.0 fuel program service in
+    says fuel told (both_words p s) old reads Done result text new after (run p s m.0 other program service m.1 (is_program m.0 program m.2 f) (subst (λ t. Finds t s other) b l) i o)
     (ends_by Done text old new printed result e (at_ok printed _ _ (λ all. all m.0 fuel) ok) (at_err printed _ _ (λ all. all m.0 fuel) err)) h
 
 abbrev the_names : List ℕ → List ℕ → Option (List ℕ × List ℕ)
@@ -90,13 +138,44 @@ both_named (a ∷ b ∷ []) p s h = absurd (cc)
 both_named (a ∷ b ∷ c ∷ []) p s h = both_is a b c p s (bytes_eq a (codes "both")) (bytes_eq-Decides a (codes "both")).0 (sym (named_same a b c (bytes_eq a (codes "both"))) ∙ h)
 both_named (a ∷ b ∷ c ∷ d ∷ ws) p s h = absurd (cc)
 
-pub not_both : (ws : List (List ℕ)) → both_of ws ≡ None → NotUnderstood ws
+-- the name in words that may be `check P`
+abbrev one_named : List ℕ → Bool → Option (List ℕ)
+one_named p true = Some p
+one_named p false = None
+
+abbrev name_of : Option (List ℕ) → List ℕ
+name_of None = []
+name_of (Some name) = name
+
+check_is : (command p p' : List ℕ) (b : Bool) → (b ≡ true → command ≡ codes "check") → one_named p b ≡ Some p' → check_words p' ≡ command ∷ p ∷ []
+check_is command p p' false f h = absurd (cc)
+check_is command p p' true f h = ap (λ l. codes "check" ∷ l ∷ []) (sym (ap name_of h)) ∙ ap (λ l. l ∷ p ∷ []) (sym (f refl))
+
+one_named_same : (p : List ℕ) (t : Bool) → cond t (Some p) None ≡ one_named p t
+one_named_same p true = refl
+one_named_same p false = refl
+
+pub check_named : (ws : List (List ℕ)) (p : List ℕ) → check_of ws ≡ Some p → check_words p ≡ ws
+check_named [] p h = absurd (cc)
+check_named (a ∷ []) p h = absurd (cc)
+check_named (a ∷ b ∷ []) p h = check_is a b p (bytes_eq a (codes "check")) (bytes_eq-Decides a (codes "check")).0 (sym (one_named_same b (bytes_eq a (codes "check"))) ∙ h)
+check_named (a ∷ b ∷ c ∷ ws) p h = absurd (cc)
+
+not_both : (ws : List (List ℕ)) → both_of ws ≡ None → (p s : List ℕ) → ws ≡ both_words p s → ⊥
 not_both ws h p s e =
     let k = sym (ap both_of e) ∙ h in
     absurd (cc)
 
-pub not_understood : (fuel : ℕ) (told : Option Directory) (ws : List (List ℕ)) (old : Option (List ℕ)) (reads : ℕ) (result : Status) (new : Option (List ℕ)) → None ≡ both_of ws → Ends Words (line (codes "words not understood")) old result new → Says fuel told ws old reads result new reads
-not_understood fuel told ws old reads result new h e = says fuel told ws old reads Words result (line (codes "words not understood")) new reads (words ws (not_both ws (sym h))) e refl
+not_check : (ws : List (List ℕ)) → check_of ws ≡ None → (p : List ℕ) → ws ≡ check_words p → ⊥
+not_check ws h p e =
+    let k = sym (ap check_of e) ∙ h in
+    absurd (cc)
+
+pub not_understood : (fuel : ℕ) (told : Option Directory) (ws : List (List ℕ)) (old : Option (List ℕ)) (reads : ℕ) (result : Status) (new : Option (List ℕ)) → None ≡ check_of ws → None ≡ both_of ws → Ends Words (line (codes "words not understood")) old result new → Says fuel told ws old reads result new reads
+not_understood fuel told ws old reads result new c h e = says fuel told ws old reads Words result (line (codes "words not understood")) new reads (words ws (not_both ws (sym h), not_check ws (sym c))) e refl
 
 pub named_says : (fuel : ℕ) (told : Option Directory) (ws : List (List ℕ)) (p s : List ℕ) (old : Option (List ℕ)) (reads : ℕ) (result : Status) (new : Option (List ℕ)) (after : ℕ) → the_names p s ≡ both_of ws → Says fuel told (both_words p s) old reads result new after → Says fuel told ws old reads result new after
 named_says fuel told ws p s old reads result new after h e = subst (λ l. Says fuel told l old reads result new after) (both_named ws p s (sym h)) e
+
+pub check_says : (fuel : ℕ) (told : Option Directory) (ws : List (List ℕ)) (p : List ℕ) (old : Option (List ℕ)) (reads : ℕ) (result : Status) (new : Option (List ℕ)) (after : ℕ) → Some p ≡ check_of ws → Says fuel told (check_words p) old reads result new after → Says fuel told ws old reads result new after
+check_says fuel told ws p old reads result new after h e = subst (λ l. Says fuel told l old reads result new after) (check_named ws p (sym h)) e

@@ -1,12 +1,12 @@
 -- The steps of a block, statement by statement.
-use Rattle.std.proofs.Common.{◌≡◌, ℕ, ◌+◌, ◌++◌, suc, List, [], ◌∷◌, Bool, true, false, Option, None, Some, ap, sym, ◌∙◌, refl, arith, drop, length, ◌<◌, ◌^◌, cond, subst, append_assoc}
+use Rattle.std.proofs.Common.{◌≡◌, ℕ, ◌+◌, suc, List, true, false, Option, None, Some, ap, refl, arith, length, ◌<◌, ◌^◌, subst}
 use Rattle.std.specs.Prelude.{is_some}
 use Rattle.std.specs.Option.{option_map, IfSome}
 use Rattle.std.proofs.lemmas.Grind.{common_steps}
 use Rattle.rb_trees.specs.mirror.Code.{Stmt, Stmts, NoStmts, MoreStmts}
-use Rattle.rb_trees.specs.mirror.Scripts.{Steps, MoreSteps}
+use Rattle.rb_trees.specs.mirror.Scripts.{MoreSteps}
 use Rattle.rb_meaning.specs.Division.{printed_call, steps_of, with_step, keep_call}
-use Rattle.rb_meaning_bytes.specs.wire.Scripts.{count_steps, step, steps}
+use Rattle.rb_meaning_bytes.specs.wire.Scripts.{count_steps}
 use Rattle.rb_top.specs.FirstForm.{FitNames}
 
 -- the number of steps doesn't depend on where their numbers begin

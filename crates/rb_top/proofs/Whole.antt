@@ -1,20 +1,16 @@
 -- What a program of the form that is built means on such a service.
-use Rattle.std.proofs.Common.{◌≡◌, ℕ, ℤ, zero, suc, ◌+◌, ◌-◌, ◌≤◌, List, [], ◌∷◌, ◌++◌, Bool, true, false, Option, None, Some, Result, Ok, Err, cond, map, length, ap, sym, ◌∙◌, refl, subst, arith, append_assoc, append-nil, zero-add}
-use Rattle.std.specs.Prelude.{pos, ◌||◌, ◌&&◌, nat_eq}
+use Rattle.std.proofs.Common.{◌≡◌, ℕ, ℤ, suc, ◌+◌, ◌-◌, ◌≤◌, List, [], ◌∷◌, ◌++◌, Bool, true, false, Option, None, Some, cond, ap, sym, ◌∙◌, refl, arith, append_assoc, append-nil, zero-add}
+use Rattle.std.specs.Prelude.{◌||◌, ◌&&◌, nat_eq}
 use Rattle.std.proofs.lemmas.Bool.Decides.{nat_tests}
 use Rattle.std.specs.Str.{bytes_eq}
 use Rattle.std.specs.Fmt.{signed_decimal}
-use Rattle.std.specs.List.{list_any}
-use Rattle.std.proofs.lemmas.Grind.{common_steps}
 use Rattle.rb_trees.specs.declared.values.Value.{Value, out-Value}
-use Rattle.rb_trees.specs.declared.values.Value.TheOpen.{Value-F}
 use Rattle.rb_trees.specs.declared.values.Value.TheVariants as value
-use Rattle.rb_trees.specs.declared.outcomes.Raised.{Raised}
 use Rattle.rb_trees.specs.mirror.Types as types
 use Rattle.rb_trees.specs.mirror.Types.{TypeTree}
 use Rattle.rb_trees.specs.mirror.Code as code
 use Rattle.rb_trees.specs.mirror.Code.{Stmt, Stmts}
-use Rattle.rb_trees.specs.mirror.Declarations.{Signature, Interface, Method, Class, Program}
+use Rattle.rb_trees.specs.mirror.Declarations.{Signature, Method, Class, Program}
 use Rattle.rb_trees.specs.mirror.Services.{Service}
 use Rattle.rb_meaning.specs.State as state
 use Rattle.rb_meaning.specs.State.{Event, Local, Outside, lookup, bound, shows}
@@ -24,7 +20,7 @@ use Rattle.rb_meaning.specs.Remote.{int_kind, invoke, batch_fuel}
 use Rattle.rb_meaning.specs.Meaning.{Meaning, meaning, meant, in_main, at_start, outside_of, main_result, performs_found}
 use Rattle.rb_trees.specs.declared.outcomes.Ending.TheVariants as endings
 use Rattle.rb_meaning.specs.Division.{printed_call}
-use Rattle.rb_meaning.specs.Unsplit.{Kinds, in_batch, performed, server_of, kind_of_type, result_kind, methods_of, call_kinds, BatchText, batch_at, begun, settles, table_left, remote_only}
+use Rattle.rb_meaning.specs.Unsplit.{Kinds, in_batch, performed, server_of, kind_of_type, result_kind, methods_of, call_kinds, batch_at, begun, settles, table_left, remote_only}
 use Rattle.rb_top.specs.FirstForm.{FirstProgram, FirstService, PrintsCalls, PlainSignatures, PlainMethods, GivesInt, ReturnsNumber, Offers, is_among, all_among, signature_names, method_names, interface_names, class_names, number_named, number_in, literal_of, first_table, count_stmts, int_of}
 use Rattle.rb_top.proofs.Calls.{int_out, remote_out, same_bytes, calls_root}
 use Rattle.rb_top.proofs.Answered.{or_zero}

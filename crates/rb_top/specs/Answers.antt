@@ -1,42 +1,70 @@
--- What the command `both P S` answers: its status and the text on the output.
-use Rattle.std.specs.Prelude.{◌≡◌, ℕ, List, [], ◌∷◌, ◌++◌, Option, None, Some, Result, Ok, Err, cond, codes}
+-- What the commands `check P` and `both P S` answer: the status and the text on the output.
+use Rattle.std.specs.Prelude.{◌≡◌, ℕ, List, [], ◌∷◌, ◌++◌, Option, None, Some, Result, Ok, Err, cond, codes, MatchBool}
 use Rattle.std.specs.Str.{bytes_eq}
+use Rattle.rb_trees.specs.declared.reading.ReadError.{ReadError}
 use Rattle.rb_trees.specs.mirror.Declarations.{Program}
 use Rattle.rb_trees.specs.mirror.Services.{Service}
 use Rattle.rb_meaning.specs.Shown.{line}
+use Rattle.rb_meaning_bytes.specs.grammar.Sources.{ReadSource}
 use Rattle.rb_base.specs.Counts.{risen}
 use Rattle.rb_base.specs.Directories.{Directory, next_read, after_read, told_after, Finds, FailsNext}
 use Rattle.rb_base.specs.Sinks.{told_more, WrotePrefix}
-use Rattle.rb_top.specs.FirstForm.{Offers}
+use Rattle.rb_top.specs.FirstForm.{FirstProgram, Offers}
+use Rattle.rb_top.specs.Refusals.{shown_refusal}
 use Rattle.rb_top.specs.Runs.{run_text}
-use Rattle.rb_top.specs.Texts.{IsProgram, IsService, NoProgram, NoServiceFor}
-use Rattle.rb_top.specs.declared.loading.LoadStop.{LoadStop}
-use Rattle.rb_top.specs.declared.loading.LoadStop.TheVariants as load
+use Rattle.rb_top.specs.Texts.{Fits, TooLong, wants_memory, IsRefused, IsProgram, IsService, NoServiceFor}
+use Rattle.rb_top.specs.declared.loading.TextStop.{TextStop}
+use Rattle.rb_top.specs.declared.loading.TextStop.TheVariants as stops
 use Rattle.rb_top.specs.declared.printing.PrintStop.{PrintStop}
 use Rattle.rb_top.specs.declared.printing.PrintStop.TheVariants as print
 use Rattle.rb_top.specs.declared.status.SourceError.TheVariants as sources
 use Rattle.rb_top.specs.declared.status.StoreError.TheVariants as stores
 use Rattle.rb_top.specs.declared.status.Status.{Status}
-use Rattle.rb_top.specs.declared.status.Status.TheVariants.{Done, Words, FileFault, SourceRefused, ServiceRefused, WriteFault, Memory}
+use Rattle.rb_top.specs.declared.status.Status.TheVariants.{Done, Words, FileFault, SourceRefused, ServiceRefused, WriteFault, Memory, FileTooLong}
+
+-- the words `check P`
+abbrev pub check_words : List ℕ → List (List ℕ)
+check_words p = codes "check" ∷ p ∷ []
 
 -- the words `both P S`
 abbrev pub both_words : List ℕ → List ℕ → List (List ℕ)
 both_words p s = codes "both" ∷ p ∷ s ∷ []
 
--- The words are of no form that is built.
+-- The words are neither `both P S` nor `check P`.
 abbrev pub NotUnderstood : List (List ℕ) → Type 0
-NotUnderstood words = (p s : List ℕ) → words ≡ both_words p s → ⊥
+NotUnderstood words = ((p s : List ℕ) → words ≡ both_words p s → ⊥) × ((p : List ℕ) → words ≡ check_words p → ⊥)
+
+-- The words are `check P` or `both P S`, with this P.
+pub data NamesProgram : List (List ℕ) → List ℕ → Type 0 where
+  by_check : (p : List ℕ) → NamesProgram (check_words p) p
+  by_both : (p s : List ℕ) → NamesProgram (both_words p s) p
+
+-- the line of a file that can't be read, and of one that has too many bytes
+abbrev pub fault_line : List ℕ → List ℕ
+fault_line name = line (codes "file fault " ++ name)
+
+abbrev pub too_long_line : List ℕ → List ℕ
+too_long_line name = line (codes "file too long " ++ name)
 
 -- With these files, the words are answered with this status and text. Where several causes hold, the first counts,
 -- in the order of these cases.
 pub data Answers (fuel : ℕ) (told : Option Directory) : List (List ℕ) → Status → List ℕ → Type 0 where
   words : (words : List (List ℕ)) → NotUnderstood words → Answers fuel told words Words (line (codes "words not understood"))
-  program_fault : (p s : List ℕ) → FailsNext told p → Answers fuel told (both_words p s) (FileFault p) (line (codes "file fault " ++ p))
-  program_form : (p s text : List ℕ) → Finds told p text → NoProgram text → Answers fuel told (both_words p s) (SourceRefused sources.NotBuilt) (line (codes "not built"))
+  program_fault : (words : List (List ℕ)) (p : List ℕ) → NamesProgram words p → FailsNext told p → Answers fuel told words (FileFault p) (fault_line p)
+  program_too_long : (words : List (List ℕ)) (p text : List ℕ) → NamesProgram words p → Finds told p text → TooLong text
+      → Answers fuel told words (FileTooLong p) (too_long_line p)
+  program_refused : (words : List (List ℕ)) (p text : List ℕ) (error : ReadError) → NamesProgram words p → Finds told p text → Fits text
+      → IsRefused text error → Answers fuel told words (SourceRefused (sources.Read error)) (line (shown_refusal text error))
+  program_read : (p text : List ℕ) (program : Program) → Finds told p text → ReadSource text (Ok program)
+      → Answers fuel told (check_words p) Done (line (codes "read"))
+  program_form : (p s text : List ℕ) (program : Program) → Finds told p text → ReadSource text (Ok program) → ¬ FirstProgram program
+      → Answers fuel told (both_words p s) (SourceRefused sources.NotBuilt) (line (codes "not built"))
   service_fault : (p s text : List ℕ) (program : Program) → Finds told p text → IsProgram text program
-      → FailsNext (told_after told) s → Answers fuel told (both_words p s) (FileFault s) (line (codes "file fault " ++ s))
+      → FailsNext (told_after told) s → Answers fuel told (both_words p s) (FileFault s) (fault_line s)
+  service_too_long : (p s text other : List ℕ) (program : Program) → Finds told p text → IsProgram text program
+      → Finds (told_after told) s other → TooLong other → Answers fuel told (both_words p s) (FileTooLong s) (too_long_line s)
   service_form : (p s text other : List ℕ) (program : Program) → Finds told p text → IsProgram text program
-      → Finds (told_after told) s other → NoServiceFor program other
+      → Finds (told_after told) s other → Fits other → NoServiceFor program other
       → Answers fuel told (both_words p s) (ServiceRefused stores.NotBuilt) (line (codes "service not built"))
   run : (p s text other : List ℕ) (program : Program) (service : Service) → Finds told p text → IsProgram text program
       → Finds (told_after told) s other → IsService other service → Offers program service
@@ -74,6 +102,11 @@ pub record Holds (directory : Directory) (p s text other : List ℕ) (program : 
   pub is_service : IsService other service
   pub offers : Offers program service
 
+-- the name of the file, where the words are `check P`
+abbrev pub check_of : List (List ℕ) → Option (List ℕ)
+check_of (command ∷ p ∷ []) = cond (bytes_eq command (codes "check")) (Some p) None
+check_of _ = None
+
 -- the names of the two files, where the words are `both P S`
 abbrev pub both_of : List (List ℕ) → Option (List ℕ × List ℕ)
 both_of (command ∷ p ∷ s ∷ []) = cond (bytes_eq command (codes "both")) (Some (p, s)) None
@@ -85,19 +118,23 @@ status_after status (Ok done) = status
 status_after status (Err print.WriteFault) = WriteFault
 status_after status (Err print.Memory) = Memory
 
+-- the output's count of faults after a program was read, or a status was answered in its place
+abbrev pub faults_after_reading : {A : Type 0} → Result A Status → ℕ → ℕ
+faults_after_reading (Ok a) n = n
+faults_after_reading (Err status) n = write_faults status n
+
 -- A status that comes after a whole text.
 abbrev pub IsWhole : Status → Type 0
 IsWhole WriteFault = ⊥
 IsWhole _ = Unit {0}
 
--- The program's file is refused for this.
-abbrev pub RefusesProgram : LoadStop → List ℕ → Option (List ℕ) → Status → Option (List ℕ) → Type 0
-RefusesProgram load.FileFault name old result new = Ends (FileFault name) (line (codes "file fault " ++ name)) old result new
-RefusesProgram load.NotBuilt name old result new = Ends (SourceRefused sources.NotBuilt) (line (codes "not built")) old result new
-RefusesProgram load.Memory name old result new = (result ≡ Memory) × (new ≡ old)
+-- No text is read from the file of the name, for this cause.
+abbrev pub Unread : TextStop → List ℕ → Option (List ℕ) → Status → Option (List ℕ) → Type 0
+Unread stops.FileFault name old result new = Ends (FileFault name) (fault_line name) old result new
+Unread stops.TooLong name old result new = Ends (FileTooLong name) (too_long_line name) old result new
+Unread stops.Memory name old result new = (result ≡ Memory) × (new ≡ old)
 
--- The service's file is refused for this.
-abbrev pub RefusesService : LoadStop → List ℕ → Option (List ℕ) → Status → Option (List ℕ) → Type 0
-RefusesService load.FileFault name old result new = Ends (FileFault name) (line (codes "file fault " ++ name)) old result new
-RefusesService load.NotBuilt name old result new = Ends (ServiceRefused stores.NotBuilt) (line (codes "service not built")) old result new
-RefusesService load.Memory name old result new = (result ≡ Memory) × (new ≡ old)
+-- The text is refused, unless memory was wanting.
+abbrev pub Refuses : List ℕ → ReadError → Option (List ℕ) → Status → Option (List ℕ) → Type 0
+Refuses text error old result new =
+    MatchBool (wants_memory error) ((result ≡ Memory) × (new ≡ old)) (Ends (SourceRefused (sources.Read error)) (line (shown_refusal text error)) old result new)

@@ -34,6 +34,11 @@ FitNames (code.MoreStmts s ss) = IfSome (printed_call s) (λ call. length call.1
 abbrev pub is_among : List (List ℕ) → List ℕ → Bool
 is_among names name = list_any (λ n. bytes_eq n name) names
 
+-- whether no name stands twice
+abbrev pub distinct : List (List ℕ) → Bool
+distinct [] = true
+distinct (name ∷ names) = cond (is_among names name) false (distinct names)
+
 abbrev pub signature_names : List Signature → List (List ℕ)
 signature_names signatures = map (λ s. s.name) signatures
 
@@ -57,6 +62,8 @@ PrintsCalls root names (code.MoreStmts (code.Print place (code.Call at (code.Nam
     (name ≡ root) × IsTrue (is_among names method) × (length method < 2 ^ 32) × PrintsCalls root names ss
 PrintsCalls root names _ = ⊥
 
+-- The program is of the form that is built: the batch names the interface, its root has another name, and no two methods
+-- of the interface have one name. A batch's fuel allows 1,000,000 prints.
 pub record FirstProgram (p : Program) : Type 0 where
   pub interface : Interface
   pub place : ℕ
@@ -69,6 +76,8 @@ pub record FirstProgram (p : Program) : Type 0 where
   pub signatures : PlainSignatures interface.methods
   pub prints : PrintsCalls root (signature_names interface.methods) block
   pub few : count_stmts block ≤ 1000000
+  pub root_differs : ¬ (root ≡ interface.name)
+  pub names_differ : IsTrue (distinct (signature_names interface.methods))
 
 -- the number that a literal is
 abbrev pub int_of : Value-F Value → Option ℤ
@@ -137,11 +146,6 @@ pub record FirstRequest (service : Service) (request : List ℕ) : Type 0 where
 abbrev pub all_among : List (List ℕ) → List (List ℕ) → Bool
 all_among [] offered = true
 all_among (name ∷ names) offered = cond (is_among offered name) (all_among names offered) false
-
--- whether no name stands twice
-abbrev pub distinct : List (List ℕ) → Bool
-distinct [] = true
-distinct (name ∷ names) = cond (is_among names name) false (distinct names)
 
 abbrev pub interface_names : List Interface → List (List ℕ)
 interface_names [] = []

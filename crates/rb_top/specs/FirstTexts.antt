@@ -1,5 +1,5 @@
--- The texts of the form that is built, by their tokens. Each reader takes what it reads from the front of the tokens.
-use Rattle.std.specs.Prelude.{ℕ, zero, suc, ◌+◌, ◌==◌, ℤ, pos, List, [], ◌∷◌, Bool, true, false, cond, Option, None, Some, length, min, nat_lt}
+-- The texts of services of the form that is built, by their tokens. Each reader takes what it reads from the front of the tokens.
+use Rattle.std.specs.Prelude.{ℕ, zero, suc, ◌+◌, ◌==◌, ℤ, pos, List, [], ◌∷◌, Bool, true, false, cond, Option, None, Some, length, nat_lt}
 use Rattle.std.specs.Str.{bytes_eq}
 use Rattle.rb_trees.specs.declared.tokens.Token.{Token}
 use Rattle.rb_trees.specs.declared.tokens.TokenKind.{TokenKind}
@@ -7,12 +7,11 @@ use Rattle.rb_trees.specs.declared.tokens.TokenKind.TheVariants as kinds
 use Rattle.rb_trees.specs.declared.values.Value.TheVariants as value
 use Rattle.rb_trees.specs.mirror.Types as types
 use Rattle.rb_trees.specs.mirror.Code as code
-use Rattle.rb_trees.specs.mirror.Code.{Stmt, stmts_from}
-use Rattle.rb_trees.specs.mirror.Declarations.{Signature, Interface, Body, Method, Class, Program}
+use Rattle.rb_trees.specs.mirror.Declarations.{Signature, Method}
 use Rattle.rb_trees.specs.mirror.Services.{Service}
 use Rattle.rb_meaning_bytes.specs.tokens.Lists.{slice}
 use Rattle.rb_meaning_bytes.specs.tokens.Values.{number_value}
-use Rattle.rb_top.specs.FirstForm.{is_among, distinct, signature_names, method_names}
+use Rattle.rb_top.specs.FirstForm.{distinct, method_names}
 
 -- Keywords and signs by their places in the language's lists.
 abbrev pub word : ℕ → TokenKind
@@ -47,111 +46,19 @@ plain_method_at ts =
     then_token (expect (word 2) ts) (λ fun r1. then_token (expect kinds.Name r1) (λ name r2. then_token (expect (sign 19) r2) (λ opens r3.
     then_token (expect (sign 20) r3) (λ closes r4. then_token (expect (sign 18) r4) (λ colon r5. then_token (expect (word 26) r5) (λ int r6. Some ((name, int), r6)))))))
 
--- `fun NAME ( ) : Int ;`
-unfoldable pub signature_at : List Token → Option ((Token × Token) × List Token)
-signature_at ts = then_token (plain_method_at ts) (λ m r1. then_token (expect (sign 17) r1) (λ end r2. Some (m, r2)))
-
 abbrev pub signature_of : List ℕ → Token × Token → Signature
 signature_of source m = record { name = text_of source m.0; at = m.0.start; params = []; result = types.Int m.1.start }
 
 abbrev pub with_first : {A : Type 0} → A → List A × List Token → List A × List Token
 with_first a r = (a ∷ r.0, r.1)
 
-abbrev pub more_signatures : List ℕ → List Token → Option ((Token × Token) × List Token) → (List Token → List Signature × List Token) → List Signature × List Token
-more_signatures source ts None go = ([], ts)
-more_signatures source ts (Some (m, rest)) go = with_first (signature_of source m) (go rest)
-
--- as many signatures as stand there, at most so many
-abbrev pub signatures_at : List ℕ → ℕ → List Token → List Signature × List Token
-signatures_at source zero ts = ([], ts)
-signatures_at source (suc count) ts = more_signatures source ts (signature_at ts) (signatures_at source count)
-
--- `print ( NAME . NAME ( ) ) ;`: the word, the receiver and the method
-unfoldable pub print_tokens_at : List Token → Option ((Token × Token × Token) × List Token)
-print_tokens_at ts =
-    then_token (expect (word 17) ts) (λ print r1. then_token (expect (sign 19) r1) (λ opens r2. then_token (expect kinds.Name r2) (λ receiver r3.
-    then_token (expect (sign 15) r3) (λ dot r4. then_token (expect kinds.Name r4) (λ method r5. then_token (expect (sign 19) r5) (λ opens' r6.
-    then_token (expect (sign 20) r6) (λ closes r7. then_token (expect (sign 20) r7) (λ closes' r8. then_token (expect (sign 17) r8) (λ end r9. Some ((print, receiver, method), r9))))))))))
-
--- the receiver is the root, and the method is declared
-abbrev pub calls_declared : List ℕ → List ℕ → List (List ℕ) → Token × Token × Token → Bool
-calls_declared source root names t = cond (bytes_eq (text_of source t.1) root) (is_among names (text_of source t.2)) false
-
-abbrev pub declared_print : List ℕ → List ℕ → List (List ℕ) → Option ((Token × Token × Token) × List Token) → Option ((Token × Token × Token) × List Token)
-declared_print source root names None = None
-declared_print source root names (Some (t, rest)) = cond (calls_declared source root names t) (Some (t, rest)) None
-
-abbrev pub print_at : List ℕ → List ℕ → List (List ℕ) → List Token → Option ((Token × Token × Token) × List Token)
-print_at source root names ts = declared_print source root names (print_tokens_at ts)
-
-abbrev pub print_of : List ℕ → Token × Token × Token → Stmt
-print_of source t = code.Print t.0.start (code.Call t.2.start (code.Name t.1.start (text_of source t.1)) (text_of source t.2) code.NoExprs)
-
-abbrev pub more_prints : List ℕ → List Token → Option ((Token × Token × Token) × List Token) → (List Token → List Stmt × List Token) → List Stmt × List Token
-more_prints source ts None go = ([], ts)
-more_prints source ts (Some (t, rest)) go = with_first (print_of source t) (go rest)
-
--- as many prints as stand there, at most so many
-abbrev pub prints_at : List ℕ → List ℕ → List (List ℕ) → ℕ → List Token → List Stmt × List Token
-prints_at source root names zero ts = ([], ts)
-prints_at source root names (suc count) ts = more_prints source ts (print_at source root names ts) (prints_at source root names count)
-
 -- `WORD NAME {`: the name
 unfoldable pub opening_at : TokenKind → List Token → Option (Token × List Token)
 opening_at first ts = then_token (expect first ts) (λ word r1. then_token (expect kinds.Name r1) (λ name r2. then_token (expect (sign 21) r2) (λ opens r3. Some (name, r3))))
 
--- `} main { batch ( NAME NAME ) {`: `main`, `batch`, the interface and the root
-unfoldable pub batch_at : List Token → Option ((Token × Token × Token × Token) × List Token)
-batch_at ts =
-    then_token (expect (sign 22) ts) (λ closes r1. then_token (expect (word 4) r1) (λ main r2. then_token (expect (sign 21) r2) (λ opens r3.
-    then_token (expect (word 16) r3) (λ batch r4. then_token (expect (sign 19) r4) (λ opens' r5. then_token (expect kinds.Name r5) (λ interface r6.
-    then_token (expect kinds.Name r6) (λ root r7. then_token (expect (sign 20) r7) (λ closes' r8. then_token (expect (sign 21) r8) (λ opens'' r9.
-    Some ((main, batch, interface, root), r9))))))))))
-
 abbrev pub nothing_left : List Token → Bool
 nothing_left [] = true
 nothing_left (t ∷ ts) = false
-
--- `} }` and the end
-unfoldable pub closing_at : List Token → Option (Token × List Token)
-closing_at ts = then_token (expect (sign 22) ts) (λ closes r1. then_token (expect (sign 22) r1) (λ closes' r2. cond (nothing_left r2) (Some (closes', r2)) None))
-
-abbrev pub body_of : List ℕ → Token × Token × Token × Token → List Stmt → Body
-body_of source m prints = record {
-  statements = code.MoreStmts (code.Batch m.1.start (text_of source m.2) (text_of source m.3) (stmts_from prints)) code.NoStmts;
-  result = None;
-}
-
-abbrev pub program_of : List ℕ → Token → List Signature → Token × Token × Token × Token → List Stmt → Program
-program_of source name signatures m prints = record {
-  interfaces = record { name = text_of source name; at = name.start; methods = signatures } ∷ [];
-  classes = [];
-  result = types.Unit m.0.start;
-  body = body_of source m prints;
-  at = m.0.start;
-}
-
--- The batch names the interface, its root has another name, and no two methods have one name.
-abbrev pub names_agree : List ℕ → Token → List Signature → Token × Token × Token × Token → Bool
-names_agree source name signatures m =
-    cond (bytes_eq (text_of source m.2) (text_of source name))
-    (cond (bytes_eq (text_of source m.3) (text_of source name)) false (distinct (signature_names signatures))) false
-
-abbrev pub with_prints : List ℕ → Token → List Signature → Token × Token × Token × Token → List Stmt × List Token → Option Program
-with_prints source name signatures m r =
-    then_token (closing_at r.1) (λ end rest. cond (names_agree source name signatures m) (Some (program_of source name signatures m r.0)) None)
-
--- the most prints that are read, which the fuel of a batch allows
-abbrev pub most_prints : ℕ
-most_prints = 1000000
-
-abbrev pub with_signatures : List ℕ → Token → List Signature × List Token → Option Program
-with_signatures source name r =
-    then_token (batch_at r.1) (λ m rest. with_prints source name r.0 m (prints_at source (text_of source m.3) (signature_names r.0) (min (length rest) most_prints) rest))
-
--- the program that the tokens are, if they are one of the form that is built
-abbrev pub program_at : List ℕ → List Token → Option Program
-program_at source ts = then_token (opening_at (word 0) ts) (λ name rest. with_signatures source name (signatures_at source (length rest) rest))
 
 -- `fun NAME ( ) : Int { return NUMBER ; }`: the name, the type and the number
 unfoldable pub method_tokens_at : List Token → Option (((Token × Token) × Token) × List Token)

@@ -4,8 +4,10 @@ pub mod Codes
 pub mod FirstForm
 pub mod FirstTexts
 pub mod Laws
+pub mod FormTests
 pub mod Loads
 pub mod Printing
 pub mod Reading
+pub mod Refusals
 pub mod Runs
 pub mod Texts

@@ -1,23 +1,51 @@
--- The texts of the form that is built.
-use Rattle.std.specs.Prelude.{◌≡◌, ◌==◌, ℕ, List, Bool, false, Option, None, Some, map}
+-- The texts of programs and services.
+use Rattle.std.specs.Prelude.{◌≡◌, ◌==◌, ℕ, ◌<◌, ◌≤◌, List, Bool, true, false, Option, None, Some, Ok, Err, length}
 use Rattle.std.specs.List.{list_any}
 use Rattle.rb_trees.specs.declared.tokens.Token.{Token}
+use Rattle.rb_trees.specs.declared.reading.ReadError.{ReadError}
+use Rattle.rb_trees.specs.declared.reading.ReadError.TheVariants as errors
+use Rattle.rb_trees.specs.declared.reading.LexError.{LexError}
+use Rattle.rb_trees.specs.declared.reading.LexError.TheVariants as faults
 use Rattle.rb_trees.specs.mirror.Declarations.{Program}
 use Rattle.rb_trees.specs.mirror.Services.{Service}
-use Rattle.rb_meaning_bytes.specs.tokens.Texts.{IsTokens}
-use Rattle.rb_top.specs.FirstForm.{Offers}
-use Rattle.rb_top.specs.FirstTexts.{program_at, service_at}
+use Rattle.rb_meaning_bytes.specs.tokens.Texts.{IsTokens, longest_text}
+use Rattle.rb_meaning_bytes.specs.grammar.Sources.{ReadSource}
+use Rattle.rb_top.specs.FirstForm.{FirstProgram, Offers}
+use Rattle.rb_top.specs.FirstTexts.{service_at}
 
--- whether a text has a `/`, with which comments begin, and in the form that is built nothing else
-abbrev pub has_slash : List ℕ → Bool
-has_slash text = list_any (λ byte. byte == 47) text
+-- The text has at most as many bytes as a text may have.
+abbrev pub Fits : List ℕ → Type 0
+Fits text = length text ≤ longest_text
+
+-- The text has more.
+abbrev pub TooLong : List ℕ → Type 0
+TooLong text = longest_text < length text
+
+-- whether there are no tokens for want of memory
+abbrev pub lacks_memory : LexError → Bool
+lacks_memory faults.Memory = true
+lacks_memory _ = false
+
+-- whether this is want of memory, which is no refusal of a text
+abbrev pub wants_memory : ReadError → Bool
+wants_memory errors.Memory = true
+wants_memory (errors.Lex fault) = lacks_memory fault
+wants_memory (errors.Unexpected at) = false
+wants_memory (errors.TooNested at) = false
+
+-- The text is refused for this.
+pub record IsRefused (text : List ℕ) (error : ReadError) : Type 0 where
+  pub read : ReadSource text (Err error)
+  pub is_refusal : wants_memory error ≡ false
 
 -- The text is this program, of the form that is built.
 pub record IsProgram (text : List ℕ) (p : Program) : Type 0 where
-  pub tokens : List Token
-  pub no_comment : has_slash text ≡ false
-  pub lexed : IsTokens text tokens
-  pub is : program_at text tokens ≡ Some p
+  pub read : ReadSource text (Ok p)
+  pub form : FirstProgram p
+
+-- whether a text has a `/`, with which comments begin, and in a service of the form that is built nothing else
+abbrev pub has_slash : List ℕ → Bool
+has_slash text = list_any (λ byte. byte == 47) text
 
 -- The text is this service, of the form that is built.
 pub record IsService (text : List ℕ) (s : Service) : Type 0 where
@@ -26,9 +54,6 @@ pub record IsService (text : List ℕ) (s : Service) : Type 0 where
   pub lexed : IsTokens text tokens
   pub is : service_at text tokens ≡ Some s
 
-abbrev pub NoProgram : List ℕ → Type 0
-NoProgram text = (p : Program) → IsProgram text p → ⊥
-
 abbrev pub NoService : List ℕ → Type 0
 NoService text = (s : Service) → IsService text s → ⊥
 
@@ -36,12 +61,12 @@ NoService text = (s : Service) → IsService text s → ⊥
 abbrev pub NoServiceFor : Program → List ℕ → Type 0
 NoServiceFor p text = (s : Service) → IsService text s → Offers p s → ⊥
 
--- The text is this program, or none.
-abbrev pub TellsProgram : List ℕ → Option Program → Type 0
-TellsProgram text None = NoProgram text
-TellsProgram text (Some p) = IsProgram text p
-
 -- The text is this service, or none.
 abbrev pub TellsService : List ℕ → Option Service → Type 0
 TellsService text None = NoService text
 TellsService text (Some s) = IsService text s
+
+-- The text is this service, and it has the program's methods; or it is none that has.
+abbrev pub TellsServiceFor : Program → List ℕ → Option Service → Type 0
+TellsServiceFor p text None = NoServiceFor p text
+TellsServiceFor p text (Some s) = IsService text s × Offers p s

@@ -1,22 +1,29 @@
-// The commands, from their words to what they print.
+// The commands, from their words to what they print. Where a program is read, its types are to be checked next.
 
-ghost use Rattle.std.specs.Prelude.{◌≡◌, ◌++◌, ℕ, List, Some, map, IfOk, codes};
+ghost use Rattle.std.specs.Prelude.{◌≡◌, ◌++◌, ℕ, List, Option, Some, map, IfOk, IfErr, OnOk, codes};
 ghost use Rattle.std.specs.Option.{option_map};
 ghost use Rattle.std.specs.String.{string_bytes};
 ghost use Rattle.rb_trees.specs.mirror.Declarations as program_mirror;
+ghost use Rattle.rb_trees.specs.mirror.Declarations.{mirror_program};
 ghost use Rattle.rb_trees.specs.mirror.Services as service_mirror;
 ghost use Rattle.rb_meaning.specs.Shown.{line};
-ghost use Rattle.rb_base.specs.Directories.{Directory};
+ghost use Rattle.rb_base.specs.Directories.{Directory, told_after};
+ghost use Rattle.rb_top.specs.FirstForm.{FirstProgram};
+ghost use Rattle.rb_top.specs.Loads.{HoldsProgram};
 ghost use Rattle.rb_top.specs.Runs.{run_text};
+ghost use Rattle.rb_top.specs.Texts.{Fits};
 ghost use Rattle.rb_top.specs.declared.status.Status.TheVariants as statuses;
-ghost use Rattle.rb_top.specs.Answers.{Ends, Says, Holds, RefusesProgram, RefusesService, IsWhole, both_of, both_words, status_after, write_faults};
+ghost use Rattle.rb_top.specs.Answers.{NamesProgram, Ends, Says, Holds, Refuses, Unread, IsWhole, check_of, check_words, both_of, both_words, faults_after_reading, status_after, write_faults};
 
-use crate::loading::{LoadStop, load_program, load_service};
+use crate::first_form::is_first_program;
+use crate::loading::{TextStop, load_text, service_for};
 use crate::printing::{PrintStop, print_text};
+use crate::refusals::{is_memory, refusal_line};
 use crate::run::run_both;
 use crate::status::{SourceError, Status, StoreError};
 use rb_base::{Files, Sink};
-use rb_trees::{Memory, Program, Seq};
+use rb_parse::parse_program;
+use rb_trees::{Memory, Program, ReadError, Seq};
 use std::alloc::{AllocError, Global};
 
 /// The status after a text was printed, or wasn't.
@@ -40,59 +47,131 @@ fn say<W: Sink>(status: Status, text: &[u8], out: &mut W) -> Status
     ended(status, printed)
 }
 
-/// The line of a file that can't be read.
-fn file_fault_line(alloc: Global, name: &str) -> Result<Vec<u8>, AllocError>
-    ensures { IfOk result (λ text. text.items ≡ line (codes "file fault " ++ name.now)) }
+/// The line of what is told of a file.
+fn line_of(alloc: Global, what: &[u8], name: &str) -> Result<Vec<u8>, AllocError>
+    ensures { IfOk result (λ text. text.items ≡ line (what.now ++ name.now)) }
 {
-    let mut text = Vec::from_slice(alloc, b"file fault ")?;
+    let mut text = Vec::from_slice(alloc, what)?;
     text.extend_from_slice(name.as_bytes())?;
     text.extend_from_slice(b"\n")?;
     Ok(text)
 }
 
-/// Says that a file can't be read.
-fn say_file_fault<W: Sink>(alloc: Global, name: &str, out: &mut W) -> Status
-    ensures ends { Ends (statuses.FileFault name.now) (line (codes "file fault " ++ name.now)) (W.told out.old) result (W.told out.new) }
+/// Says what is told of a file.
+fn say_of<W: Sink>(alloc: Global, status: Status, what: &[u8], name: &str, out: &mut W) -> Status
+    requires { IsWhole status }
+    ensures ends { Ends status (line (what.now ++ name.now)) (W.told out.old) result (W.told out.new) }
     ensures writes { W.faults out.new ≡ write_faults result (W.faults out.old) }
 {
-    let Ok(text) = file_fault_line(alloc, name) else {
-        return Status::Memory;
-    };
-    let Ok(word) = Seq::from_slice(alloc, name.as_bytes()) else {
-        return Status::Memory;
-    };
-    say(Status::FileFault(word), text.as_slice(), out)
-}
-
-/// Says why the program's file is refused.
-fn refuse_program<W: Sink>(alloc: Global, stop: LoadStop, name: &str, out: &mut W) -> Status
-    ensures refuses { RefusesProgram stop name.now (W.told out.old) result (W.told out.new) }
-    ensures writes { W.faults out.new ≡ write_faults result (W.faults out.old) }
-{
-    match stop {
-        LoadStop::FileFault => say_file_fault(alloc, name, out),
-        LoadStop::NotBuilt => say(
-            Status::SourceRefused(SourceError::NotBuilt),
-            b"not built\n",
-            out,
-        ),
-        LoadStop::Memory => Status::Memory,
+    match line_of(alloc, what, name) {
+        Ok(text) => say(status, text.as_slice(), out),
+        Err(_) => Status::Memory,
     }
 }
 
-/// Says why the service's file is refused.
-fn refuse_service<W: Sink>(alloc: Global, stop: LoadStop, name: &str, out: &mut W) -> Status
-    ensures refuses { RefusesService stop name.now (W.told out.old) result (W.told out.new) }
+/// Says why no text is read from a file.
+fn say_unread<W: Sink>(alloc: Global, stop: TextStop, name: &str, out: &mut W) -> Status
+    ensures unread { Unread stop name.now (W.told out.old) result (W.told out.new) }
     ensures writes { W.faults out.new ≡ write_faults result (W.faults out.old) }
 {
+    let Ok(word) = Seq::from_slice(alloc, name.as_bytes()) else {
+        return Status::Memory;
+    };
     match stop {
-        LoadStop::FileFault => say_file_fault(alloc, name, out),
-        LoadStop::NotBuilt => say(
-            Status::ServiceRefused(StoreError::NotBuilt),
-            b"service not built\n",
+        TextStop::FileFault => say_of(alloc, Status::FileFault(word), b"file fault ", name, out),
+        TextStop::TooLong => say_of(
+            alloc,
+            Status::FileTooLong(word),
+            b"file too long ",
+            name,
             out,
         ),
-        LoadStop::Memory => Status::Memory,
+        TextStop::Memory => Status::Memory,
+    }
+}
+
+/// Says why a text is refused.
+fn refuse<W: Sink>(alloc: Global, text: &[u8], error: ReadError, out: &mut W) -> Status
+    requires { Fits text.now }
+    ensures refuses { Refuses text.now error (W.told out.old) result (W.told out.new) }
+    ensures writes { W.faults out.new ≡ write_faults result (W.faults out.old) }
+{
+    if is_memory(&error) {
+        return Status::Memory;
+    }
+    match refusal_line(alloc, text, &error) {
+        Ok(line) => say(
+            Status::SourceRefused(SourceError::Read(error)),
+            line.as_slice(),
+            out,
+        ),
+        Err(_) => Status::Memory,
+    }
+}
+
+/// The program in a file, or the status after it was said why there is none.
+fn read_program<F: Files, W: Sink>(
+    alloc: Global,
+    name: &str,
+    files: &mut F,
+    out: &mut W,
+) -> Result<Program, Status>
+    ensures program { IfOk result (λ program. HoldsProgram (F.told files.old) name.now (mirror_program program)) }
+    ensures refused { IfErr result (λ status. (fuel : ℕ) → (words : List (List ℕ)) → NamesProgram words name.now → Says fuel (F.told files.old) words (W.told out.old) (F.faults files.old) status (W.told out.new) (F.faults files.new)) }
+    ensures silent { OnOk result (W.told out.new ≡ W.told out.old) }
+    ensures told { F.told files.new ≡ told_after (F.told files.old) }
+    ensures reads { OnOk result (F.faults files.new ≡ F.faults files.old) }
+    ensures writes { W.faults out.new ≡ faults_after_reading result (W.faults out.old) }
+{
+    match load_text(alloc, name, files) {
+        Err(stop) => Err(say_unread(alloc, stop, name, out)),
+        Ok(text) => {
+            let source = text.as_slice();
+            match parse_program(alloc, source) {
+                Err(error) => Err(refuse(alloc, source, error, out)),
+                Ok(program) => Ok(program),
+            }
+        }
+    }
+}
+
+/// `check P`: says whether the program in the file P is read.
+fn check<F: Files, W: Sink>(alloc: Global, name: &str, files: &mut F, out: &mut W) -> Status
+    ensures answer { (fuel : ℕ) → Says fuel (F.told files.old) (check_words name.now) (W.told out.old) (F.faults files.old) result (W.told out.new) (F.faults files.new) }
+    ensures writes { W.faults out.new ≡ write_faults result (W.faults out.old) }
+{
+    match read_program(alloc, name, files, out) {
+        Err(status) => status,
+        Ok(_) => say(Status::Done, b"read\n", out),
+    }
+}
+
+/// Runs a program on the service in a file.
+fn run_on<F: Files, W: Sink>(
+    alloc: Global,
+    program: &Program,
+    name: &str,
+    files: &mut F,
+    out: &mut W,
+) -> Status
+    requires { FirstProgram (mirror_program program.now) }
+    ensures answer { (fuel : ℕ) → (told : Option Directory) → (p : List ℕ) → F.told files.old ≡ told_after told → HoldsProgram told p (mirror_program program.now) → Says fuel told (both_words p name.now) (W.told out.old) (F.faults files.old) result (W.told out.new) (F.faults files.new) }
+    ensures writes { W.faults out.new ≡ write_faults result (W.faults out.old) }
+{
+    match load_text(alloc, name, files) {
+        Err(stop) => say_unread(alloc, stop, name, out),
+        Ok(text) => match service_for(alloc, program, text.as_slice()) {
+            Err(Memory) => Status::Memory,
+            Ok(None) => say(
+                Status::ServiceRefused(StoreError::NotBuilt),
+                b"service not built\n",
+                out,
+            ),
+            Ok(Some(service)) => {
+                let printed = run_both(alloc, program, &service, out);
+                ended(Status::Done, printed)
+            }
+        },
     }
 }
 
@@ -107,15 +186,35 @@ fn both<F: Files, W: Sink>(
     ensures answer { (fuel : ℕ) → Says fuel (F.told files.old) (both_words program_name.now service_name.now) (W.told out.old) (F.faults files.old) result (W.told out.new) (F.faults files.new) }
     ensures writes { W.faults out.new ≡ write_faults result (W.faults out.old) }
 {
-    match load_program(alloc, program_name, files) {
-        Err(stop) => refuse_program(alloc, stop, program_name, out),
-        Ok(program) => match load_service(alloc, &program, service_name, files) {
-            Err(stop) => refuse_service(alloc, stop, service_name, out),
-            Ok(service) => {
-                let printed = run_both(alloc, &program, &service, out);
-                ended(Status::Done, printed)
+    match read_program(alloc, program_name, files, out) {
+        Err(refusal) => refusal,
+        Ok(program) => {
+            if is_first_program(&program) {
+                run_on(alloc, &program, service_name, files, out)
+            } else {
+                say(
+                    Status::SourceRefused(SourceError::NotBuilt),
+                    b"not built\n",
+                    out,
+                )
             }
-        },
+        }
+    }
+}
+
+/// The name of the file, where the words are `check P`.
+fn check_name(words: &[String]) -> Option<&str>
+    ensures { option_map (λ r. r.now) result ≡ check_of (map string_bytes words.now) }
+{
+    match words {
+        [command, program] => {
+            if command.as_str() == "check" {
+                Some(program.as_str())
+            } else {
+                None
+            }
+        }
+        _ => None,
     }
 }
 
@@ -148,8 +247,11 @@ pub fn top<F: Files, W: Sink>(alloc: Global, words: &[String], files: &mut F, ou
     // The answer is WriteFault exactly where a write failed.
     ensures writes { W.faults out.new ≡ write_faults result (W.faults out.old) }
 {
-    match both_names(words) {
-        Some((program, service)) => both(alloc, program, service, files, out),
-        None => say(Status::Words, b"words not understood\n", out),
+    match check_name(words) {
+        Some(program) => check(alloc, program, files, out),
+        None => match both_names(words) {
+            Some((program, service)) => both(alloc, program, service, files, out),
+            None => say(Status::Words, b"words not understood\n", out),
+        },
     }
 }

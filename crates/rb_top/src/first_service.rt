@@ -11,10 +11,9 @@ ghost use Rattle.rb_trees.specs.mirror.Services.{mirror_service};
 ghost use Rattle.rb_top.specs.FirstForm.{is_among, distinct, method_names};
 ghost use Rattle.rb_top.specs.FirstTexts.{method_tokens_at, small_number, method_at, method_of, methods_at, nothing_left, objects_at, objects_agree, service_of, with_methods, service_at};
 
-use crate::first_program::opening;
 use crate::first_texts::{
     BEGIN, CLASS, COLON, END, OBJECT, RETURN, ROOT, SEMICOLON, bytes_of, expect, make_signature,
-    plain_method, word_of,
+    opening, plain_method, word_of,
 };
 use rb_lex::capped_value;
 use rb_trees::{

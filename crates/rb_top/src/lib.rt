@@ -3,7 +3,7 @@
 
 mod answer;
 mod command;
-mod first_program;
+mod first_form;
 mod first_service;
 mod first_texts;
 mod laws;
@@ -11,6 +11,7 @@ mod loading;
 mod offers;
 mod printing;
 mod reading;
+mod refusals;
 mod request;
 mod run;
 mod status;

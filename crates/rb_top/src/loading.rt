@@ -1,43 +1,54 @@
-// Programs and services of the form that is built, from their files.
+// Texts from their files, and the service that a text is.
 
-ghost use Rattle.std.specs.Prelude.{◌≡◌, ℕ, IfOk};
-ghost use Rattle.std.specs.Option.{option_map};
+ghost use Rattle.std.specs.Prelude.{◌≡◌, ℕ, IfOk, IfErr};
+ghost use Rattle.std.specs.Option.{option_map, IfSome};
 ghost use Rattle.rb_trees.specs.mirror.Declarations.{mirror_program};
 ghost use Rattle.rb_trees.specs.mirror.Services.{mirror_service};
-ghost use Rattle.rb_base.specs.Directories.{told_after};
-ghost use Rattle.rb_top.specs.FirstForm.{FirstProgram, FirstService};
-ghost use Rattle.rb_top.specs.Texts.{has_slash, TellsProgram, TellsService};
-ghost use Rattle.rb_top.specs.Loads.{wants_memory, LoadsProgram, LoadsService, faults_after_load};
+ghost use Rattle.rb_base.specs.Directories.{told_after, Finds};
+ghost use Rattle.rb_top.specs.FirstForm.{FirstService};
+ghost use Rattle.rb_top.specs.Texts.{has_slash, Fits, TellsService, TellsServiceFor};
+ghost use Rattle.rb_top.specs.Loads.{StopsText, faults_after_load};
 
-use crate::first_program::read_first_program;
 use crate::first_service::read_first_service;
 use crate::offers::offers;
+use crate::refusals::lacks_memory;
 use bytes::BytesMut;
 use rb_base::{Files, FilesStop};
 use rb_lex::lex;
-use rb_trees::{LexError, Memory, Program, Service};
+use rb_trees::{Memory, Program, Service};
 use std::alloc::Global;
 
 /// The greatest number of bytes of a text.
 const LONGEST_TEXT: usize = 1_048_576;
 
-/// Why a text wasn't loaded: its file can't be read, it is not of the form that is built, or no
+/// Why no text was read from a file: it can't be read, it has more bytes than a text may have, or no
 /// memory was left.
 #[derive(Debug, Drop)]
-pub enum LoadStop {
+pub enum TextStop {
     FileFault,
-    NotBuilt,
+    TooLong,
     Memory,
 }
 
-impl From<Memory> for LoadStop {
-    ghost use Rattle.std.specs.Prelude.{◌≡◌};
-    ghost use Rattle.rb_top.specs.declared.loading.LoadStop.TheVariants as stops;
-
-    ghost from_gives = { λ _ e. e ≡ stops.Memory };
-
-    fn from(_want: Memory) -> LoadStop {
-        LoadStop::Memory
+/// The text in a file.
+pub fn load_text<F: Files>(alloc: Global, name: &str, files: &mut F) -> Result<BytesMut, TextStop>
+    ensures finds { IfOk result (λ text. Finds (F.told files.old) name.now text.items) }
+    ensures fits { IfOk result (λ text. Fits text.items) }
+    ensures stops { IfErr result (λ stop. StopsText (F.told files.old) name.now stop) }
+    ensures told { F.told files.new ≡ told_after (F.told files.old) }
+    ensures faults { F.faults files.new ≡ faults_after_load result (F.faults files.old) }
+{
+    let mut text = BytesMut::new(alloc);
+    match files.read(name, LONGEST_TEXT, &mut text) {
+        Err(FilesStop::Failed) => Err(TextStop::FileFault),
+        Err(FilesStop::Memory) => Err(TextStop::Memory),
+        Ok(()) => {
+            if text.len() > LONGEST_TEXT {
+                Err(TextStop::TooLong)
+            } else {
+                Ok(text)
+            }
+        }
     }
 }
 
@@ -53,35 +64,6 @@ fn has_comment(text: &[u8]) -> bool
     false
 }
 
-/// Whether memory ran out.
-fn is_memory(error: &LexError) -> bool
-    ensures { result ≡ wants_memory error.now }
-{
-    match error {
-        LexError::Memory => true,
-        _ => false,
-    }
-}
-
-/// The program that a text is, or None where it is none.
-fn program_in(alloc: Global, text: &[u8]) -> Result<Option<Program>, Memory>
-    ensures { IfOk result (λ r. TellsProgram text.now (option_map mirror_program r)) }
-{
-    if has_comment(text) {
-        return Ok(None);
-    }
-    match lex(alloc, text) {
-        Ok(tokens) => read_first_program(alloc, text, tokens.as_slice()),
-        Err(error) => {
-            if is_memory(&error) {
-                Err(Memory)
-            } else {
-                Ok(None)
-            }
-        }
-    }
-}
-
 /// The service that a text is, or None where it is none.
 fn service_in(alloc: Global, text: &[u8]) -> Result<Option<Service>, Memory>
     ensures { IfOk result (λ r. TellsService text.now (option_map mirror_service r)) }
@@ -92,7 +74,7 @@ fn service_in(alloc: Global, text: &[u8]) -> Result<Option<Service>, Memory>
     match lex(alloc, text) {
         Ok(tokens) => read_first_service(alloc, text, tokens.as_slice()),
         Err(error) => {
-            if is_memory(&error) {
+            if lacks_memory(&error) {
                 Err(Memory)
             } else {
                 Ok(None)
@@ -101,51 +83,20 @@ fn service_in(alloc: Global, text: &[u8]) -> Result<Option<Service>, Memory>
     }
 }
 
-/// The program in a file.
-pub fn load_program<F: Files>(alloc: Global, name: &str, files: &mut F) -> Result<Program, LoadStop>
-    ensures loaded { LoadsProgram (F.told files.old) name.now result }
-    ensures form { IfOk result (λ program. FirstProgram (mirror_program program)) }
-    ensures told { F.told files.new ≡ told_after (F.told files.old) }
-    ensures faults { F.faults files.new ≡ faults_after_load result (F.faults files.old) }
+/// The service that a text is, if it has the methods that the program's interface declares.
+pub fn service_for(alloc: Global, program: &Program, text: &[u8]) -> Result<Option<Service>, Memory>
+    ensures told { IfOk result (λ r. TellsServiceFor (mirror_program program.now) text.now (option_map mirror_service r)) }
+    ensures form { IfOk result (λ r. IfSome r (λ service. FirstService (mirror_service service))) }
 {
-    let mut text = BytesMut::new(alloc);
-    match files.read(name, LONGEST_TEXT, &mut text) {
-        Err(FilesStop::Failed) => Err(LoadStop::FileFault),
-        Err(FilesStop::Memory) => Err(LoadStop::Memory),
-        Ok(()) => match program_in(alloc, text.as_slice()) {
-            Err(Memory) => Err(LoadStop::Memory),
-            Ok(None) => Err(LoadStop::NotBuilt),
-            Ok(Some(program)) => Ok(program),
-        },
-    }
-}
-
-/// The service in a file, if it has the methods that the program's interface declares.
-pub fn load_service<F: Files>(
-    alloc: Global,
-    program: &Program,
-    name: &str,
-    files: &mut F,
-) -> Result<Service, LoadStop>
-    ensures loaded { LoadsService (mirror_program program.now) (F.told files.old) name.now result }
-    ensures form { IfOk result (λ service. FirstService (mirror_service service)) }
-    ensures told { F.told files.new ≡ told_after (F.told files.old) }
-    ensures faults { F.faults files.new ≡ faults_after_load result (F.faults files.old) }
-{
-    let mut text = BytesMut::new(alloc);
-    match files.read(name, LONGEST_TEXT, &mut text) {
-        Err(FilesStop::Failed) => Err(LoadStop::FileFault),
-        Err(FilesStop::Memory) => Err(LoadStop::Memory),
-        Ok(()) => match service_in(alloc, text.as_slice()) {
-            Err(Memory) => Err(LoadStop::Memory),
-            Ok(None) => Err(LoadStop::NotBuilt),
-            Ok(Some(service)) => {
-                if offers(program, &service) {
-                    Ok(service)
-                } else {
-                    Err(LoadStop::NotBuilt)
-                }
+    match service_in(alloc, text) {
+        Err(Memory) => Err(Memory),
+        Ok(None) => Ok(None),
+        Ok(Some(service)) => {
+            if offers(program, &service) {
+                Ok(Some(service))
+            } else {
+                Ok(None)
             }
-        },
+        }
     }
 }

@@ -1,15 +1,18 @@
 ghost use Rattle.std.specs.Prelude.{◌≡◌};
 ghost use Rattle.rb_top.specs.Codes.{code_of};
 
-use rb_trees::Word;
+use rb_trees::{ReadError, Word};
 use thiserror::Error;
 
 /// Why a program's text is refused.
 #[derive(Debug, Drop, Error)]
 pub enum SourceError {
-    /// The text is not of the form that is built.
+    /// The program is not of the form that is built.
     #[error("not built")]
     NotBuilt,
+    /// The text isn't read. This holds no Memory, nor does its `Lex`.
+    #[error("{0}")]
+    Read(ReadError),
 }
 
 /// Why a service's text is refused.
@@ -33,6 +36,8 @@ pub enum Status {
     /// The output failed.
     WriteFault,
     Memory,
+    /// The file of this name has more than 1,048,576 bytes.
+    FileTooLong(Word),
 }
 
 impl Status {
@@ -48,6 +53,7 @@ impl Status {
             Status::ServiceRefused(_) => 6,
             Status::WriteFault => 9,
             Status::Memory => 10,
+            Status::FileTooLong(_) => 13,
         }
     }
 }

@@ -1,9 +1,11 @@
 // What no clause says: that runs end well where there is memory, the bytes of the worked payloads, and the printed text.
-use crate::loading::{load_program, load_service};
+use crate::first_form::is_first_program;
+use crate::loading::service_for;
 use crate::run::exchange;
 use crate::{first_request, top};
 use bytes::BytesMut;
 use rb_base::{Files, FilesStop, MemoryFiles, MemorySink};
+use rb_parse::parse_program;
 use rb_trees::{Memory, Seq};
 use std::alloc::Global;
 use std::test::Fail;
@@ -50,10 +52,9 @@ fn files_of(
     Ok(files)
 }
 
-/// The exit status of `both p s` on two texts, before what it prints.
-fn shown(alloc: Global, program: Option<&str>, service: Option<&str>) -> Result<String, Fail> {
-    let words = words_of(alloc, "both p s")?;
-    let mut files = files_of(alloc, program, service)?;
+/// The exit status of the command that the words are, before what it prints.
+fn answer(alloc: Global, words: &str, mut files: MemoryFiles) -> Result<String, Fail> {
+    let words = words_of(alloc, words)?;
     let mut out = MemorySink::make(alloc, Seq::new(alloc), usize::MAX);
     let code = top(alloc, words.as_slice(), &mut files, &mut out).code();
     let text = str::from_utf8(out.written())?;
@@ -61,16 +62,46 @@ fn shown(alloc: Global, program: Option<&str>, service: Option<&str>) -> Result<
     Ok(shown)
 }
 
+/// What `both p s` answers on two texts.
+fn shown(alloc: Global, program: Option<&str>, service: Option<&str>) -> Result<String, Fail> {
+    answer(alloc, "both p s", files_of(alloc, program, service)?)
+}
+
+/// What `check p` answers on a text.
+fn checked(alloc: Global, text: &[u8]) -> Result<String, Fail> {
+    let mut files = MemoryFiles::make(alloc, Seq::new(alloc));
+    files.add("p", text)?;
+    answer(alloc, "check p", files)
+}
+
+/// A text with a piece as often as is said, between a front and an end.
+fn repeated(
+    alloc: Global,
+    front: &[u8],
+    piece: &[u8],
+    count: usize,
+    end: &[u8],
+) -> Result<Vec<u8>, Fail> {
+    let mut text = Vec::from_slice(alloc, front)?;
+    for _turn in 0..count {
+        text.extend_from_slice(piece)?;
+    }
+    text.extend_from_slice(end)?;
+    Ok(text)
+}
+
 #[test]
 fn payloads_are_the_worked_bytes(rt: HostRuntime) -> Result<(), Fail> {
     let alloc = rt.alloc();
-    let mut files = files_of(alloc, Some(PROGRAM), Some(SERVICE))?;
-    let Ok(program) = load_program(alloc, "p", &mut files) else {
-        return Err(Fail::from("the program is not loaded"));
+    let Ok(program) = parse_program(alloc, PROGRAM.as_bytes()) else {
+        return Err(Fail::from("the program is not read"));
     };
-    let Ok(service) = load_service(alloc, &program, "s", &mut files) else {
-        return Err(Fail::from("the service is not loaded"));
+    let Some(service) = service_for(alloc, &program, SERVICE.as_bytes())? else {
+        return Err(Fail::from("the service is not read"));
     };
+    if !is_first_program(&program) {
+        return Err(Fail::from("the program is not of the form that is built"));
+    }
     let mut request = BytesMut::new(alloc);
     first_request(&program, &mut request)?;
     assert_eq!(rt; request.as_slice(), REQUEST.as_slice());
@@ -80,12 +111,131 @@ fn payloads_are_the_worked_bytes(rt: HostRuntime) -> Result<(), Fail> {
 }
 
 #[test]
+fn texts_are_read_or_refused_at_their_first_fault(rt: HostRuntime) -> Result<(), Fail> {
+    for (text, wanted) in [
+        (b"main { }".as_slice(), "0 read\n"),
+        (b"main { print(x); } // not typed yet", "0 read\n"),
+        (b"main { val a = - -1; val b = !-a; }", "0 read\n"),
+        (b"main { print(1 $ 2); }", "4 lex 1 BadByte at 1:16\n"),
+        (b"main { print(\"a\\qb\"); }", "4 lex 1 BadByte at 1:16\n"),
+        (b"main { print(\"a); }", "4 lex 2 OpenText at 1:14\n"),
+        (
+            b"main { print(9223372036854775808); }",
+            "4 lex 3 NumberTooLarge at 1:14\n",
+        ),
+        (b"main \xff", "4 lex 4 NotUtf8 at 1:6\n"),
+        (b"main { val a = 1 }", "4 parse 6 Unexpected at 1:18\n"),
+        (b"main {\n  val a = 1\n}", "4 parse 6 Unexpected at 3:1\n"),
+        (b"main { print(1 }", "4 parse 6 Unexpected at 1:16\n"),
+        (b"main {", "4 parse 6 Unexpected at 1:7\n"),
+        (b"", "4 parse 6 Unexpected at 1:1\n"),
+        (
+            b"main { return 1; print(2); }",
+            "4 parse 6 Unexpected at 1:18\n",
+        ),
+        (
+            b"main { if (true) { } else if (true) { } }",
+            "4 parse 6 Unexpected at 1:27\n",
+        ),
+    ] {
+        assert_eq!(rt; checked(rt.alloc(), text)?.as_str(), wanted, "{wanted}");
+    }
+    Ok(())
+}
+
+#[test]
+fn each_form_is_read(rt: HostRuntime) -> Result<(), Fail> {
+    for text in [
+        "interface D { fun n(): Int; fun f(a: Int, b: List<Text>): Rows<D>; fun g(); } main { }",
+        "class C { v: Int; remote fun m(): Bool { return true; } fun k(o: C): Unit { } } main { }",
+        "main: Text { val a = 1; var b = \"t\\n\"; b = \"u\"; f.h(a)[0].g(); return b; }",
+        "main { print(len(b)); throw \"x\"; if (true) { } else { } if (false) { } while (a) { } }",
+        "main { for (x in y) { } try { throw x; } catch (e) { } batch (D r) { r.n(); } }",
+        "main { val a = this.v.m(1, b); val c = new C(1, d); val e = List<Int>(1, 2)[0]; }",
+        "main { val a = new C(); val b = List<List<Bool>>(); val c = str(1) + (d); }",
+        "main { val a = b || c && d == e; val f = g != h; val i = j < k; val l = m >= n; }",
+        "main { val a = b <= c == (d > e); val f = g + h - i * j / k % l; val m = !n; }",
+    ] {
+        assert_eq!(rt;
+            checked(rt.alloc(), text.as_bytes())?.as_str(),
+            "0 read\n",
+            "{text}"
+        );
+    }
+    Ok(())
+}
+
+#[test]
+fn the_deepest_texts_are_read(rt: HostRuntime) -> Result<(), Fail> {
+    let alloc = rt.alloc();
+    for (front, piece, count, end, wanted) in [
+        (
+            b"main { val a = ".as_slice(),
+            b"-".as_slice(),
+            200,
+            b"1; }".as_slice(),
+            "0 read\n",
+        ),
+        (
+            b"main { val a = ",
+            b"-",
+            201,
+            b"1; }",
+            "4 parse 7 TooNested at 1:216\n",
+        ),
+        (
+            b"main {",
+            b" while (true) {",
+            64,
+            b"",
+            "4 parse 7 TooNested at 1:966\n",
+        ),
+        (
+            b"class C { v: ",
+            b"List<",
+            65,
+            b"Int",
+            "4 parse 7 TooNested at 1:338\n",
+        ),
+        (
+            b"main { print(\"",
+            b"a",
+            4097,
+            b"\"); }",
+            "4 lex 5 TooLong at 1:14\n",
+        ),
+        (
+            b"",
+            b" ",
+            1_048_576,
+            b"",
+            "4 parse 6 Unexpected at 1:1048577\n",
+        ),
+        (b"", b" ", 1_048_577, b"", "13 file too long p\n"),
+    ] {
+        let text = repeated(alloc, front, piece, count, end)?;
+        assert_eq!(rt;
+            checked(alloc, text.as_slice())?.as_str(),
+            wanted,
+            "{wanted}"
+        );
+    }
+    let blocks = repeated(alloc, b"main {", b" while (true) {", 63, b"")?;
+    let text = repeated(alloc, blocks.as_slice(), b" }", 64, b"")?;
+    assert_eq!(rt; checked(alloc, text.as_slice())?.as_str(), "0 read\n");
+    let types = repeated(alloc, b"class C { v: ", b"List<", 64, b"Int")?;
+    let text = repeated(alloc, types.as_slice(), b">", 64, b"; } main { }")?;
+    assert_eq!(rt; checked(alloc, text.as_slice())?.as_str(), "0 read\n");
+    Ok(())
+}
+
+#[test]
 fn a_batch_prints_its_lines_and_the_end(rt: HostRuntime) -> Result<(), Fail> {
     for (prints, lines) in [
         ("print(r.n());", "7\n"),
         ("", ""),
         (
-            "print(r.m()); print(r.n()); print(r.m()); print(r.z());",
+            "// in order\nprint(r.m()); print(r.n()); print(r.m()); print(r.z());",
             "12\n7\n12\n0\n",
         ),
     ] {
@@ -106,24 +256,60 @@ fn a_batch_prints_its_lines_and_the_end(rt: HostRuntime) -> Result<(), Fail> {
 }
 
 #[test]
-fn programs_of_other_forms_are_refused(rt: HostRuntime) -> Result<(), Fail> {
+fn programs_of_other_forms_are_not_built(rt: HostRuntime) -> Result<(), Fail> {
     for program in [
         "interface D { fun n(): Int; } main { batch (D r) { print(1); } }",
+        "interface D { fun n(): Int; } main { batch (D r) { r.n(); } }",
+        "interface D { fun n(): Int; } main { batch (D r) { print(r.n(1)); } }",
         "interface D { fun n(): Int; fun n(): Int; } main { batch (D r) { print(r.n()); } }",
         "interface D { fun n(): Int; } main { batch (D D) { print(D.n()); } }",
         "interface D { fun n(): Int; } main { batch (E r) { print(r.n()); } }",
         "interface D { fun n(): Int; } main { batch (D r) { print(q.n()); } }",
-        "interface D { fun n(): Int; } main { batch (D r) { print(r.n()); } } // end",
         "interface D { fun n(): Int; } main { batch (D r) { print(r.m()); } }",
-        "interface D { fun n(): Int; } main { batch (D r) { print(r.n()); } } }",
-        "$",
-        "",
+        "interface D { fun n(): Text; } main { batch (D r) { print(r.n()); } }",
+        "interface D { fun n(a: Int): Int; } main { batch (D r) { print(r.n()); } }",
+        "interface D { fun n(): Int; } class C { } main { batch (D r) { print(r.n()); } }",
+        "interface D { fun n(): Int; } interface E { } main { batch (D r) { print(r.n()); } }",
+        "interface D { fun n(): Int; } main { batch (D r) { print(r.n()); } return 1; }",
+        "interface D { fun n(): Int; } main { batch (D r) { } batch (D r) { } }",
+        "main { }",
     ] {
         assert_eq!(rt;
             shown(rt.alloc(), Some(program), Some(SERVICE))?.as_str(),
             "4 not built\n",
             "{program}"
         );
+    }
+    Ok(())
+}
+
+#[test]
+fn programs_that_are_not_read_are_refused_first(rt: HostRuntime) -> Result<(), Fail> {
+    for (program, wanted) in [
+        (
+            "interface D { fun n(): Int; } main { batch (D r) { print(r.n()); } } }",
+            "4 parse 6 Unexpected at 1:70\n",
+        ),
+        ("$", "4 lex 1 BadByte at 1:1\n"),
+        ("", "4 parse 6 Unexpected at 1:1\n"),
+        ("main", "4 parse 6 Unexpected at 1:5\n"),
+    ] {
+        assert_eq!(rt; shown(rt.alloc(), Some(program), None)?.as_str(), wanted);
+    }
+    Ok(())
+}
+
+#[test]
+fn long_files_are_named(rt: HostRuntime) -> Result<(), Fail> {
+    let alloc = rt.alloc();
+    let long = vec![in alloc; b'/'; 1_048_577]?;
+    let text = str::from_utf8(long.as_slice())?;
+    for (program, service, wanted) in [
+        (Some(text), None, "13 file too long p\n"),
+        (Some(PROGRAM), Some(text), "13 file too long s\n"),
+        (Some("main { }"), Some(text), "4 not built\n"),
+    ] {
+        assert_eq!(rt; shown(alloc, program, service)?.as_str(), wanted);
     }
     Ok(())
 }
@@ -167,10 +353,15 @@ fn missing_files_are_named_in_order(rt: HostRuntime) -> Result<(), Fail> {
         (None, Some(SERVICE), "3 file fault p\n"),
         (None, None, "3 file fault p\n"),
         (Some(PROGRAM), None, "3 file fault s\n"),
-        (Some("main"), None, "4 not built\n"),
+        (Some("main { }"), None, "4 not built\n"),
     ] {
         assert_eq!(rt; shown(rt.alloc(), program, service)?.as_str(), wanted);
     }
+    let files = files_of(rt.alloc(), None, None)?;
+    assert_eq!(rt;
+        answer(rt.alloc(), "check q", files)?.as_str(),
+        "3 file fault q\n"
+    );
     Ok(())
 }
 
@@ -197,7 +388,16 @@ fn no_service_is_read_without_a_program(rt: HostRuntime) -> Result<(), Fail> {
 #[test]
 fn other_words_are_not_understood(rt: HostRuntime) -> Result<(), Fail> {
     let alloc = rt.alloc();
-    for text in ["both p", "both", "Both p s", "both p s s", "p both s"] {
+    for text in [
+        "both p",
+        "both",
+        "Both p s",
+        "both p s s",
+        "p both s",
+        "check",
+        "check p s",
+        "Check p",
+    ] {
         let words = words_of(alloc, text)?;
         let mut files = files_of(alloc, Some(PROGRAM), Some(SERVICE))?;
         let mut out = MemorySink::make(alloc, Seq::new(alloc), usize::MAX);

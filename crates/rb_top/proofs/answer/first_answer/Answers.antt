@@ -1,6 +1,4 @@
-use Rattle.std.proofs.Common.{◌≡◌, ◌∙◌, ◌++◌, [], ap, Result, Ok, Err}
 use Rattle.rb_trees.specs.mirror.Services.{mirror_service}
-use Rattle.rb_top.specs.Reading.{reply_to}
 use Rattle.rb_top.proofs.Answered.{appended}
 use Rattle.rb_top.proofs.answer.first_answer.Goals as goal
 

@@ -1,4 +1,4 @@
-use Rattle.std.proofs.Common.{◌≡◌, ap, arith}
+use Rattle.std.proofs.Common.{ap, arith}
 use Rattle.rb_top.specs.FirstForm.{count_stmts}
 use Rattle.rb_top.proofs.Forms.{counted}
 use Rattle.rb_top.proofs.request.put_request.Goals as goal

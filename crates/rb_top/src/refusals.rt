@@ -1,0 +1,128 @@
+// The lines of refusals.
+
+ghost use Rattle.std.specs.Prelude.{◌≡◌, ◌++◌, IfOk, codes};
+ghost use Rattle.std.specs.String.{string_bytes};
+ghost use Rattle.std.specs.Fmt.{decimal};
+ghost use Rattle.rb_meaning.specs.Shown.{line};
+ghost use Rattle.rb_top.specs.Refusals.{lex_heading, heading, lex_offset, offset, shown_refusal};
+ghost use Rattle.rb_top.specs.Texts.{Fits, lacks_memory, wants_memory};
+
+use rb_base::place;
+use rb_trees::{LexError, ReadError};
+use std::alloc::{AllocError, Global};
+
+/// Whether there are no tokens for want of memory.
+pub fn lacks_memory(fault: &LexError) -> bool
+    ensures { result ≡ lacks_memory fault.now }
+{
+    match fault {
+        LexError::Memory => true,
+        _ => false,
+    }
+}
+
+/// Whether this is want of memory, which is no refusal of a text.
+pub fn is_memory(error: &ReadError) -> bool
+    ensures { result ≡ wants_memory error.now }
+{
+    match error {
+        ReadError::Lex(fault) => lacks_memory(fault),
+        ReadError::Unexpected(_) => false,
+        ReadError::TooNested(_) => false,
+        ReadError::Memory => true,
+    }
+}
+
+/// The stage, the number and the name of a fault of the tokens.
+fn lex_heading(fault: &LexError) -> &'static str
+    ensures { result.now ≡ lex_heading fault.now }
+{
+    match fault {
+        LexError::BadByte(_) => "lex 1 BadByte",
+        LexError::OpenText(_) => "lex 2 OpenText",
+        LexError::NumberTooLarge(_) => "lex 3 NumberTooLarge",
+        LexError::NotUtf8(_) => "lex 4 NotUtf8",
+        LexError::TooLong(_) => "lex 5 TooLong",
+        LexError::Memory => "",
+    }
+}
+
+/// The stage, the number and the name of a refusal.
+fn heading(error: &ReadError) -> &'static str
+    ensures { result.now ≡ heading error.now }
+{
+    match error {
+        ReadError::Lex(fault) => lex_heading(fault),
+        ReadError::Unexpected(_) => "parse 6 Unexpected",
+        ReadError::TooNested(_) => "parse 7 TooNested",
+        ReadError::Memory => "",
+    }
+}
+
+fn lex_offset(fault: &LexError) -> u32
+    ensures { result ≡ lex_offset fault.now }
+{
+    match fault {
+        LexError::BadByte(at) => *at,
+        LexError::OpenText(at) => *at,
+        LexError::NumberTooLarge(at) => *at,
+        LexError::NotUtf8(at) => *at,
+        LexError::TooLong(at) => *at,
+        LexError::Memory => 0,
+    }
+}
+
+/// Where a text is refused.
+fn offset(error: &ReadError) -> u32
+    ensures { result ≡ offset error.now }
+{
+    match error {
+        ReadError::Lex(fault) => lex_offset(fault),
+        ReadError::Unexpected(at) => *at,
+        ReadError::TooNested(at) => *at,
+        ReadError::Memory => 0,
+    }
+}
+
+/// A number's digits.
+fn digits_of(alloc: Global, n: u32) -> Result<String, AllocError>
+    ensures { IfOk result (λ text. string_bytes text ≡ decimal n) }
+{
+    format!(in alloc; "{n}")
+}
+
+/// A line and a column.
+#[tactic(auto, using(crate::proofs::Lines::pieces))]
+fn place_text(alloc: Global, row: u32, column: u32) -> Result<Vec<u8>, AllocError>
+    ensures { IfOk result (λ text. text.items ≡ decimal row ++ codes ":" ++ decimal column) }
+{
+    let row = digits_of(alloc, row)?;
+    let column = digits_of(alloc, column)?;
+    let mut text = Vec::from_slice(alloc, row.as_bytes())?;
+    text.extend_from_slice(b":")?;
+    text.extend_from_slice(column.as_bytes())?;
+    Ok(text)
+}
+
+/// The line of a refusal, with its place.
+#[tactic(auto, using(crate::proofs::Lines::pieces))]
+fn line_at(alloc: Global, heading: &str, place: &[u8]) -> Result<Vec<u8>, AllocError>
+    ensures { IfOk result (λ text. text.items ≡ line (heading.now ++ codes " at " ++ place.now)) }
+{
+    let mut text = Vec::from_slice(alloc, heading.as_bytes())?;
+    text.extend_from_slice(b" at ")?;
+    text.extend_from_slice(place)?;
+    text.extend_from_slice(b"\n")?;
+    Ok(text)
+}
+
+/// The line that shows a refusal of a text.
+pub fn refusal_line(alloc: Global, text: &[u8], error: &ReadError) -> Result<Vec<u8>, AllocError>
+    requires { Fits text.now }
+    ensures { IfOk result (λ shown. shown.items ≡ line (shown_refusal text.now error.now)) }
+{
+    let at = offset(error).min(text.len() as u32);
+    let (row, column) = place(text, at);
+    let place = place_text(alloc, row, column)?;
+    line_at(alloc, heading(error), place.as_slice())
+}
