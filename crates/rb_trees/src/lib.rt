@@ -11,6 +11,7 @@ mod copies;
 mod declarations;
 mod forests;
 mod outcomes;
+mod printing;
 mod reading;
 mod remainders;
 mod scripts;

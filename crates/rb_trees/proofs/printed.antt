@@ -1,0 +1,3 @@
+-- How the texts of trees are made of the texts of their parts.
+pub mod Pieces
+pub mod Words
