@@ -1,3 +1,4 @@
 -- How the texts of trees are made of the texts of their parts.
 pub mod Pieces
 pub mod Words
+pub mod Types
