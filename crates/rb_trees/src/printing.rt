@@ -1,4 +1,6 @@
 // Programs as text. Each function adds the text of a tree to the end of the text so far.
 
+mod expressions;
+mod operators;
 mod types;
 mod words;
