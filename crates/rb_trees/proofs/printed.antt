@@ -3,3 +3,4 @@ pub mod Pieces
 pub mod Words
 pub mod Types
 pub mod Exprs
+pub mod Stmts

@@ -2,5 +2,6 @@
 
 mod expressions;
 mod operators;
+mod statements;
 mod types;
 mod words;
