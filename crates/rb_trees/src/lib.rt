@@ -32,6 +32,7 @@ pub use copies::{
 pub use declarations::{Body, Class, Interface, Method, Param, Program, Signature};
 pub use forests::{Entry, Node, NodeFault};
 pub use outcomes::{Ending, Raised};
+pub use printing::print_program;
 pub use reading::{LexError, ReadError};
 pub use remainders::{Part, Split};
 pub use scripts::{SExpr, Script, Step, StepForm};

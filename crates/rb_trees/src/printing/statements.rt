@@ -182,8 +182,8 @@ fn print_stmts(alloc: Global, indent: &[u8], stmts: &[Stmt], into: &mut Word) ->
     Ok(())
 }
 
-/// The spaces of a block's lines.
-pub fn two_more(alloc: Global, indent: &[u8]) -> Result<Word, Memory>
+// The spaces of a block's lines.
+fn two_more(alloc: Global, indent: &[u8]) -> Result<Word, Memory>
     ensures { IfOk result (λ spaces. spaces ≡ deeper indent.now) }
 {
     let mut spaces = Seq::from_slice(alloc, indent)?;
@@ -224,9 +224,9 @@ fn print_otherwise(alloc: Global, indent: &[u8], block: &[Stmt], into: &mut Word
     print_closed(alloc, indent, block, into)
 }
 
-/// Adds the lines of a body.
+// Adds the lines of a body.
 #[tactic(auto, using(crate::proofs::printed::Stmts::printed_stmts))]
-pub fn print_body(alloc: Global, indent: &[u8], body: &Body, into: &mut Word) -> Result<(), Memory>
+fn print_body(alloc: Global, indent: &[u8], body: &Body, into: &mut Word) -> Result<(), Memory>
     ensures { OnOk result (into.new ≡ into.old ++ spelled (body_pieces indent.now (mirror_body body.now))) }
 {
     print_stmts(alloc, indent, body.statements.as_slice(), into)?;
@@ -234,4 +234,19 @@ pub fn print_body(alloc: Global, indent: &[u8], body: &Body, into: &mut Word) ->
         None => Ok(()),
         Some(expr) => print_between(alloc, indent, b"return ", expr, b";", into),
     }
+}
+
+/// Adds the lines of a body, behind two more spaces, and the line that closes it.
+#[tactic(auto, using(crate::proofs::printed::Stmts::printed_stmts))]
+pub fn print_within(
+    alloc: Global,
+    indent: &[u8],
+    body: &Body,
+    into: &mut Word,
+) -> Result<(), Memory>
+    ensures { OnOk result (into.new ≡ into.old ++ spelled (body_pieces (deeper indent.now) (mirror_body body.now) ++ closed indent.now)) }
+{
+    let spaces = two_more(alloc, indent)?;
+    print_body(alloc, spaces.as_slice(), body, into)?;
+    print_line(indent, b"}", into)
 }
