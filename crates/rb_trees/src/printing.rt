@@ -62,12 +62,7 @@ fn print_classes(alloc: Global, classes: &[Class], into: &mut Word) -> Result<()
 }
 
 #[tactic(auto, using(crate::proofs::printed::Pieces::texts))]
-fn print_main(
-    alloc: Global,
-    kind: &TypeTree,
-    body: &Body,
-    into: &mut Word,
-) -> Result<(), Memory>
+fn print_main(alloc: Global, kind: &TypeTree, body: &Body, into: &mut Word) -> Result<(), Memory>
     ensures { OnOk result (into.new ≡ into.old ++ spelled (line [] (opened (main_word ∷ result_pieces (mirror_type kind.now))) ++ body_pieces inside (mirror_body body.now) ++ closed [])) }
 {
     into.extend_from_slice(b"main")?;

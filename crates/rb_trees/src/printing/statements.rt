@@ -115,12 +115,7 @@ fn print_catch(indent: &[u8], name: &Word, into: &mut Word) -> Result<(), Memory
 
 // Adds the line that opens a batch.
 #[tactic(auto, using(crate::proofs::printed::Stmts::printed_stmts))]
-fn print_batch(
-    indent: &[u8],
-    interface: &Word,
-    root: &Word,
-    into: &mut Word,
-) -> Result<(), Memory>
+fn print_batch(indent: &[u8], interface: &Word, root: &Word, into: &mut Word) -> Result<(), Memory>
     ensures { OnOk result (into.new ≡ into.old ++ spelled (line indent.now (headed w.batch_word (name_piece interface.now ∷ space ∷ name_piece root.now ∷ [])))) }
 {
     into.extend_from_slice(indent)?;
@@ -214,7 +209,12 @@ fn print_closed(alloc: Global, indent: &[u8], block: &[Stmt], into: &mut Word) -
 // Adds the end of an `if`, whose second block isn't printed where it is empty.
 #[cycle(printed_stmts)]
 #[tactic(auto, using(crate::proofs::printed::Stmts::printed_stmts))]
-fn print_otherwise(alloc: Global, indent: &[u8], block: &[Stmt], into: &mut Word) -> Result<(), Memory>
+fn print_otherwise(
+    alloc: Global,
+    indent: &[u8],
+    block: &[Stmt],
+    into: &mut Word,
+) -> Result<(), Memory>
     ensures { OnOk result (into.new ≡ into.old ++ spelled (otherwise indent.now (mirror_stmts block.now) (stmts_pieces (deeper indent.now) (mirror_stmts block.now)))) }
 {
     if block.is_empty() {
