@@ -1,1 +1,2 @@
 pub mod mirror
+pub mod printed

@@ -177,50 +177,38 @@ fn copy_stmt_form(alloc: Global, form: &StmtForm) -> Result<StmtForm, Memory>
 {
     match form {
         StmtForm::Val(name, value) => {
-            let (name, value) = both(copy_word(alloc, name), copy_expr(alloc, value))?;
-            Ok(StmtForm::Val(name, value))
+            Ok(StmtForm::Val(copy_word(alloc, name)?, copy_expr(alloc, value)?))
         }
         StmtForm::Var(name, value) => {
-            let (name, value) = both(copy_word(alloc, name), copy_expr(alloc, value))?;
-            Ok(StmtForm::Var(name, value))
+            Ok(StmtForm::Var(copy_word(alloc, name)?, copy_expr(alloc, value)?))
         }
         StmtForm::Assign(left, right) => {
-            let (left, right) = both(copy_expr(alloc, left), copy_expr(alloc, right))?;
-            Ok(StmtForm::Assign(left, right))
+            Ok(StmtForm::Assign(copy_expr(alloc, left)?, copy_expr(alloc, right)?))
         }
         StmtForm::Run(expr) => Ok(StmtForm::Run(copy_expr(alloc, expr)?)),
         StmtForm::Print(expr) => Ok(StmtForm::Print(copy_expr(alloc, expr)?)),
         StmtForm::Throw(text) => Ok(StmtForm::Throw(copy_expr(alloc, text)?)),
         StmtForm::If(condition, yes, no) => {
-            let blocks = both(
-                copy_stmts(alloc, yes.as_slice()),
-                copy_stmts(alloc, no.as_slice()),
-            );
-            let (condition, (yes, no)) = both(copy_expr(alloc, condition), blocks)?;
-            Ok(StmtForm::If(condition, yes, no))
+            let yes = copy_stmts(alloc, yes.as_slice())?;
+            let no = copy_stmts(alloc, no.as_slice())?;
+            Ok(StmtForm::If(copy_expr(alloc, condition)?, yes, no))
         }
         StmtForm::While(condition, block) => {
-            let block = copy_stmts(alloc, block.as_slice());
-            let (condition, block) = both(copy_expr(alloc, condition), block)?;
-            Ok(StmtForm::While(condition, block))
+            let block = copy_stmts(alloc, block.as_slice())?;
+            Ok(StmtForm::While(copy_expr(alloc, condition)?, block))
         }
         StmtForm::For(name, list, block) => {
-            let head = both(copy_word(alloc, name), copy_expr(alloc, list));
-            let ((name, list), block) = both(head, copy_stmts(alloc, block.as_slice()))?;
-            Ok(StmtForm::For(name, list, block))
+            let block = copy_stmts(alloc, block.as_slice())?;
+            Ok(StmtForm::For(copy_word(alloc, name)?, copy_expr(alloc, list)?, block))
         }
         StmtForm::Try(tried, name, handler) => {
-            let blocks = both(
-                copy_stmts(alloc, tried.as_slice()),
-                copy_stmts(alloc, handler.as_slice()),
-            );
-            let (name, (tried, handler)) = both(copy_word(alloc, name), blocks)?;
-            Ok(StmtForm::Try(tried, name, handler))
+            let tried = copy_stmts(alloc, tried.as_slice())?;
+            let handler = copy_stmts(alloc, handler.as_slice())?;
+            Ok(StmtForm::Try(tried, copy_word(alloc, name)?, handler))
         }
         StmtForm::Batch(interface, root, block) => {
-            let head = both(copy_word(alloc, interface), copy_word(alloc, root));
-            let ((interface, root), block) = both(head, copy_stmts(alloc, block.as_slice()))?;
-            Ok(StmtForm::Batch(interface, root, block))
+            let block = copy_stmts(alloc, block.as_slice())?;
+            Ok(StmtForm::Batch(copy_word(alloc, interface)?, copy_word(alloc, root)?, block))
         }
     }
 }

@@ -11,6 +11,7 @@ mod copies;
 mod declarations;
 mod forests;
 mod outcomes;
+mod printing;
 mod reading;
 mod remainders;
 mod scripts;
@@ -31,6 +32,7 @@ pub use copies::{
 pub use declarations::{Body, Class, Interface, Method, Param, Program, Signature};
 pub use forests::{Entry, Node, NodeFault};
 pub use outcomes::{Ending, Raised};
+pub use printing::print_program;
 pub use reading::{LexError, ReadError};
 pub use remainders::{Part, Split};
 pub use scripts::{SExpr, Script, Step, StepForm};

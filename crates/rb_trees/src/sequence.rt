@@ -108,6 +108,15 @@ impl<T: Copy> Seq<T> {
         let items = Vec::from_slice(alloc, items)?;
         Ok(Seq { items })
     }
+
+    /// Adds the items at the end. After an error nothing changed.
+    pub fn extend_from_slice(&mut self, items: &[T]) -> Result<(), Memory>
+        ensures ok { OnOk result (self.new ≡ self.old ++ items.now) }
+        ensures err { OnErr result (self.new ≡ self.old) }
+    {
+        self.items.extend_from_slice(items)?;
+        Ok(())
+    }
 }
 
 impl<T: PartialEq> PartialEq for Seq<T> {
