@@ -13,3 +13,4 @@ pub mod DeclarationEquations
 pub mod Laws
 pub mod Joins
 pub mod lawful
+pub mod printing
