@@ -1,5 +1,5 @@
 -- The expressions that are printed, and their derivations.
-use Rattle.std.proofs.Common.{◌≡◌, ℕ, ◌≤◌, Bool, false, Option, List, [], ◌∷◌, ◌++◌, refl, ap, sym, ◌∙◌, subst, arith, append_assoc}
+use Rattle.std.proofs.Common.{◌≡◌, ℕ, Bool, false, Option, List, [], ◌∷◌, ◌++◌, refl, ap, sym, ◌∙◌, subst, append_assoc}
 use Rattle.rb_trees.specs.declared.code.UnOp.{UnOp}
 use Rattle.rb_trees.specs.declared.code.UnOp.TheVariants as unary
 use Rattle.rb_trees.specs.declared.code.BinOp.{BinOp}
@@ -21,46 +21,11 @@ use Rattle.rb_parse.proofs.printing.derived.Types.{type_made}
 use Rattle.rb_parse.proofs.printing.derived.Literals.{literal_made}
 use Rattle.rb_parse.proofs.printing.derived.Places.{Is, OpenPostfix, At, closed, placed, outermost, opened, opened_postfix}
 
-left_fits : (op : BinOp) → left_level op ≤ 8
-left_fits binary.Or = omega arith
-left_fits binary.And = omega arith
-left_fits binary.Eq = omega arith
-left_fits binary.Ne = omega arith
-left_fits binary.Lt = omega arith
-left_fits binary.Le = omega arith
-left_fits binary.Gt = omega arith
-left_fits binary.Ge = omega arith
-left_fits binary.Add = omega arith
-left_fits binary.Sub = omega arith
-left_fits binary.Mul = omega arith
-left_fits binary.Div = omega arith
-left_fits binary.Rem = omega arith
-
-right_fits : (op : BinOp) → right_level op ≤ 8
-right_fits binary.Or = omega arith
-right_fits binary.And = omega arith
-right_fits binary.Eq = omega arith
-right_fits binary.Ne = omega arith
-right_fits binary.Lt = omega arith
-right_fits binary.Le = omega arith
-right_fits binary.Gt = omega arith
-right_fits binary.Ge = omega arith
-right_fits binary.Add = omega arith
-right_fits binary.Sub = omega arith
-right_fits binary.Mul = omega arith
-right_fits binary.Div = omega arith
-right_fits binary.Rem = omega arith
-
-operand_fits : (op : UnOp) → operand_level op ≤ 8
-operand_fits unary.Not = omega arith
-operand_fits unary.Neg = omega arith
-operand_fits unary.Len = omega arith
-operand_fits unary.Str = omega arith
-
 -- what is made of two operands, by what the right one is
 operands : (f g : Expr → Expr) (at : ℕ) (op : BinOp) (left x b : Expr) → ((e : Expr) → unplaced_expr (f e) ≡ g (unplaced_expr e)) → unplaced_expr x ≡ unplaced_expr b → unplaced_expr (f (Binary at op left x)) ≡ g (Binary 0 op (unplaced_expr left) (unplaced_expr b))
 operands f g at op left x b l k = l (Binary at op left x) ∙ ap (λ z. g (Binary 0 op (unplaced_expr left) z)) k
 
+-- what is made of the two sides of a comparison, by what they are
 compared : (op : BinOp) (y a b : Expr) (f : Expr → Expr) → unplaced_expr y ≡ unplaced_expr a → ((left : Expr) → unplaced_expr (f left) ≡ Binary 0 op (unplaced_expr left) (unplaced_expr b)) → unplaced_expr (f y) ≡ Binary 0 op (unplaced_expr a) (unplaced_expr b)
 compared op y a b f i l = l y ∙ ap (λ z. Binary 0 op z (unplaced_expr b)) i
 
@@ -139,14 +104,14 @@ module _ (source : List ℕ) where
     own (Lit at v) minus h = literal_made source v minus h
     own (Name at name) minus h = by r.name (token λ t i. end (ap (Name 0) i))
     own (This at) minus h = by r.this (token λ t i. end refl)
-    own (Unary at op a) minus h = unary_made op at a (placed_at (operand_level op) a (expr_pieces a)) (placed source (operand_level op) a (expr_pieces a) (operand_fits op) (own a (behind (before_operand op) (operand_level op) a) h))
+    own (Unary at op a) minus h = unary_made op at a (placed_at (operand_level op) a (expr_pieces a)) (placed source (operand_level op) a (expr_pieces a) (own a (behind (before_operand op) (operand_level op) a) h))
     own (Binary at op a b) minus h =
         binary_made op at a b (placed_at (left_level op) a (expr_pieces a)) (placed_at (right_level op) b (expr_pieces b))
-        (placed source (left_level op) a (expr_pieces a) (left_fits op) (own a (behind minus (left_level op) a) h.0))
-        (placed source (right_level op) b (expr_pieces b) (right_fits op) (own b (behind (before_right op) (right_level op) b) h.1))
-    own (Field at a name) minus h = field_made at a name (placed_at 7 a (expr_pieces a)) (placed source 7 a (expr_pieces a) (omega arith) (own a (behind minus 7 a) h.0))
-    own (Call at a name args) minus h = call_made at a name args (placed_at 7 a (expr_pieces a)) (args_pieces args) (placed source 7 a (expr_pieces a) (omega arith) (own a (behind minus 7 a) h.0)) (args_made args h.2)
-    own (Index at a b) minus h = index_made at a b (placed_at 7 a (expr_pieces a)) (expr_pieces b) (placed source 7 a (expr_pieces a) (omega arith) (own a (behind minus 7 a) h.0)) (outermost source b (expr_pieces b) (own b false h.1))
+        (placed source (left_level op) a (expr_pieces a) (own a (behind minus (left_level op) a) h.0))
+        (placed source (right_level op) b (expr_pieces b) (own b (behind (before_right op) (right_level op) b) h.1))
+    own (Field at a name) minus h = field_made at a name (placed_at 7 a (expr_pieces a)) (placed source 7 a (expr_pieces a) (own a (behind minus 7 a) h.0))
+    own (Call at a name args) minus h = call_made at a name args (placed_at 7 a (expr_pieces a)) (args_pieces args) (placed source 7 a (expr_pieces a) (own a (behind minus 7 a) h.0)) (args_made args h.2)
+    own (Index at a b) minus h = index_made at a b (placed_at 7 a (expr_pieces a)) (expr_pieces b) (placed source 7 a (expr_pieces a) (own a (behind minus 7 a) h.0)) (outermost source b (expr_pieces b) (own b false h.1))
     own (New at class args) minus h = by r.new (token λ t i. skip (token λ u j. token λ v k. the (args_made args h.1) λ x l. token λ y n. end (ap (λ c. New 0 c (unplaced_exprs x)) j ∙ ap (New 0 class) l)))
     own (Items at item items) minus h =
         by r.list (token λ t i. token λ u j. the (type_made source item) λ x k. token λ v l. token λ y n. the (args_made items h.1) λ xs o. token λ z q.

@@ -44,6 +44,7 @@ module _ (source : List ℕ) where
   pub no_more : (level : Level) → MadePart source (MoreChain level) [] (λ f. Goes (λ x. x) f)
   no_more level = by (r.last_operand level) (end λ left. refl)
 
+  -- an expression with nothing behind it
   pub closed : (level : Level) (e : Expr) (ps : List Piece) → OpenChain level e ps → MadePart source (Chain level) ps (λ x. Is e x)
   closed level e ps h = subst (λ qs. MadePart source (Chain level) qs (λ x. Is e x)) (append-nil ps) (h [] (λ x. x) (no_more level))
 
@@ -78,11 +79,11 @@ module _ (source : List ℕ) where
   in_brackets e ps h = by r.inside (token λ t i. the (closed s.OrLevel e ps h) λ x k. token λ u j. end k)
 
   -- an expression at a place, in parentheses where they are needed
-  pub placed : (L : ℕ) (e : Expr) (ps : List Piece) → L ≤ 8 → At (level_of e) e ps → At L e (placed_at L e ps)
-  placed L e ps h a = go (nat_lt (level_of e) L) refl
+  pub placed : (L : ℕ) (e : Expr) (ps : List Piece) → At (level_of e) e ps → At L e (placed_at L e ps)
+  placed L e ps a = go (nat_lt (level_of e) L) refl
     where
       go : (b : Bool) → nat_lt (level_of e) L ≡ b → At L e (cond b (in_parentheses ps) ps)
-      go true q = all_up 8 L e (in_parentheses ps) h (in_brackets e ps (all_up (level_of e) zero e ps (omega arith) a))
+      go true q = all_up (suc (suc (suc (suc (suc (suc (suc (suc L)))))))) L e (in_parentheses ps) (omega arith) (in_brackets e ps (all_up (level_of e) zero e ps (omega arith) a))
       go false q = all_up (level_of e) L e ps (ltb-false (level_of e) L q) a
 
   -- an expression where any may stand
