@@ -15,6 +15,8 @@ mod simple;
 mod source;
 mod statements;
 mod stop;
+#[cfg(test)]
+mod tests;
 mod types;
 mod values;
 
