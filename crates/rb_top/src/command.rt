@@ -1,4 +1,4 @@
-// The commands, from their words to what they print. Where a program is read, its types are to be checked next.
+// The commands, from their words to what they print.
 
 ghost use Rattle.std.specs.Prelude.{◌≡◌, ◌++◌, ℕ, List, Option, Some, map, IfOk, IfErr, OnOk, codes};
 ghost use Rattle.std.specs.Option.{option_map};
@@ -129,6 +129,7 @@ fn read_program<F: Files, W: Sink>(
             let source = text.as_slice();
             match parse_program(alloc, source) {
                 Err(error) => Err(refuse(alloc, source, error, out)),
+                // Here its types are to be checked.
                 Ok(program) => Ok(program),
             }
         }
