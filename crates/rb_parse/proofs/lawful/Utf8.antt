@@ -9,7 +9,7 @@ use Rattle.rb_meaning_bytes.specs.tokens.Forms.{Body, empty, plain, escape, IsLi
 use Rattle.rb_meaning_bytes.specs.tokens.Values.{unescaped, escape_value, text_value}
 
 -- each byte is above ASCII
-abbrev AllHigh : List ℕ → Type 0
+abbrev pub AllHigh : List ℕ → Type 0
 AllHigh [] = Unit {0}
 AllHigh (b ∷ bs) = (128 ≤ b) × AllHigh bs
 
@@ -19,7 +19,7 @@ high_cases c false true three l m n h x y z = x
 high_cases c false false true l m n h x y z = y
 high_cases c false false false l m n h x y z = z
 
-encode_high : (c : ℕ) → 128 ≤ c → AllHigh (encode c)
+pub encode_high : (c : ℕ) → 128 ≤ c → AllHigh (encode c)
 unfolding encode
 encode_high c h =
     high_cases c (ltb c 128) (ltb c 2048) (ltb c 65536) _ _ _ (le-ltb c 128 h)
@@ -42,7 +42,7 @@ unescaped_highs e [] bs h n = absurd (omega arith)
 unescaped_highs e (x ∷ []) bs h n = unescaped_high e x bs h.0
 unescaped_highs e (x ∷ y ∷ l) bs h n = unescaped_high e x (y ∷ l ++ bs) h.0 ∙ ap (λ v. x ∷ v) (unescaped_highs false (y ∷ l) bs h.1 (omega arith))
 
-ascii_first : (c : ℕ) (bs : List ℕ) → c < 128 → IsUtf8 bs → IsUtf8 (c ∷ bs)
+pub ascii_first : (c : ℕ) (bs : List ℕ) → c < 128 → IsUtf8 bs → IsUtf8 (c ∷ bs)
 ascii_first c bs h u = IsUtf8-append (c ∷ []) bs (IsUtf8-from_ascii (c ∷ []) (IsAscii-cons c [] h (λ i. omega arith))) u
 
 escape_low : (c : ℕ) → c < 128 → escape_value c < 128

@@ -1,25 +1,22 @@
 -- The tokens of printed programs have their forms.
-use Rattle.std.proofs.Common.{◌≡◌, ℕ, ◌+◌, ◌<◌, ◌≤◌, ◌^◌, ◌%◌, ◌&&◌, eqb, ltb, cond, Bool, true, false, List, [], ◌∷◌, ◌++◌, refl, sym, ap, subst, ◌∙◌, arith, Some, IsUtf8, le-ltb, ltb-false, ltb-true, ne_eqb}
+use Rattle.std.proofs.Common.{◌≡◌, ℕ, ◌+◌, ◌<◌, ◌≤◌, ◌^◌, ◌%◌, ◌&&◌, eqb, ltb, cond, Bool, true, false, List, [], ◌∷◌, ◌++◌, refl, sym, ap, subst, ◌∙◌, arith, Some, IsUtf8, ltb-false, ltb-true, ne_eqb}
 use Rattle.std.proofs.lemmas.Bool.Decides.{nat_tests}
 use Rattle.std.proofs.lemmas.Fmt.{decimal_by_steps}
 use Rattle.std.specs.Fmt.{decimal}
 use Rattle.std.specs.Prelude.{codes}
 use Rattle.std.specs.List.{list_all}
 use Rattle.std.proofs.lemmas.List.Folds.{list_all-append}
-use Rattle.std.proofs.lemmas.Str.{IsUtf8-append, IsUtf8-nil, IsUtf8-encode, IsUtf8-from_ascii, encode_ascii}
-use Rattle.std.proofs.lemmas.Str.Ascii.{IsAscii-cons}
+use Rattle.std.proofs.lemmas.Str.{IsUtf8-append, IsUtf8-nil, IsUtf8-encode, encode_ascii}
 use Rattle.std.proofs.Math.Utf8.{encode, encodes, scalar, scalars}
 use Rattle.rb_trees.specs.declared.tokens.TokenKind.TheVariants as kinds
 use Rattle.rb_trees.specs.printing.Words.{escaped, all_escaped}
 use Rattle.rb_meaning_bytes.specs.tokens.Bytes.{is_letter, is_digit, is_word_byte, is_separator, is_plain, is_escaped}
 use Rattle.rb_meaning_bytes.specs.tokens.Forms.{Form, IsWord, IsNumber, Body, empty, plain, escape}
 use Rattle.rb_meaning_bytes.specs.tokens.Tables.{signs, place_in}
+use Rattle.rb_parse.proofs.lawful.Utf8.{AllHigh, encode_high, ascii_first}
 use Rattle.rb_parse.proofs.printing.lexed.Slices.{sign_ascii, and_first, and_second}
 
 -- ASCII text is UTF-8
-
-ascii_first : (c : ℕ) (bs : List ℕ) → c < 128 → IsUtf8 bs → IsUtf8 (c ∷ bs)
-ascii_first c bs h u = IsUtf8-append (c ∷ []) bs (IsUtf8-from_ascii (c ∷ []) (IsAscii-cons c [] h (λ i. omega arith))) u
 
 all_utf8 : (p : ℕ → Bool) → ((b : ℕ) → p b ≡ true → b < 128) → (bs : List ℕ) → list_all p bs ≡ true → IsUtf8 bs
 all_utf8 p low [] h = IsUtf8-nil
@@ -97,22 +94,6 @@ pub literal_form : (t : List ℕ) → Form kinds.TextLit (codes "\"" ++ all_esca
 literal_form t = (all_escaped t, refl, all_escaped_body t)
 
 -- escaping keeps UTF-8
-
-abbrev AllHigh : List ℕ → Type 0
-AllHigh [] = Unit {0}
-AllHigh (b ∷ bs) = (128 ≤ b) × AllHigh bs
-
-high_cases : (c : ℕ) (one two three : Bool) (l m n : List ℕ) → one ≡ false → AllHigh l → AllHigh m → AllHigh n → AllHigh (cond one (c ∷ []) (cond two l (cond three m n)))
-high_cases c true two three l m n h x y z = cc
-high_cases c false true three l m n h x y z = x
-high_cases c false false true l m n h x y z = y
-high_cases c false false false l m n h x y z = z
-
-encode_high : (c : ℕ) → 128 ≤ c → AllHigh (encode c)
-unfolding encode
-encode_high c h =
-    high_cases c (ltb c 128) (ltb c 2048) (ltb c 65536) _ _ _ (le-ltb c 128 h)
-    (omega arith, (omega arith, tt)) (omega arith, (omega arith, (omega arith, tt))) (omega arith, (omega arith, (omega arith, (omega arith, tt))))
 
 escaped_high : (x : ℕ) → 128 ≤ x → escaped x ≡ x ∷ []
 escaped_high x h =
