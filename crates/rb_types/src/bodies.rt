@@ -89,12 +89,12 @@ fn parameters(alloc: Global, params: &[Param]) -> Result<Scope, TypeError>
     Ok(scope)
 }
 
-fn check_method_body(
+fn check_method_body<'a>(
     alloc: Global,
-    interfaces: &Interfaces,
-    classes: &Classes,
+    interfaces: &'a Interfaces,
+    classes: &'a Classes,
     service: bool,
-    class: &Word,
+    class: &'a Word,
     notes: &mut Seq<Placed>,
     m: &Method,
 ) -> Result<(), TypeError>
@@ -120,12 +120,12 @@ fn check_method_body(
     )
 }
 
-fn check_method_bodies(
+fn check_method_bodies<'a>(
     alloc: Global,
-    interfaces: &Interfaces,
-    classes: &Classes,
+    interfaces: &'a Interfaces,
+    classes: &'a Classes,
     service: bool,
-    class: &Word,
+    class: &'a Word,
     notes: &mut Seq<Placed>,
     methods: &[Method],
 ) -> Result<(), TypeError>
@@ -139,13 +139,13 @@ fn check_method_bodies(
 }
 
 /// The bodies of all methods of `items`, in source order.
-pub fn check_class_bodies(
+pub fn check_class_bodies<'a>(
     alloc: Global,
-    interfaces: &Interfaces,
-    classes: &Classes,
+    interfaces: &'a Interfaces,
+    classes: &'a Classes,
     service: bool,
     notes: &mut Seq<Placed>,
-    items: &[IndexedClass],
+    items: &'a [IndexedClass],
 ) -> Result<(), TypeError>
     ensures gives { Gives (λ u. u) result (bodies.check_class_bodies (map mirror_interface interfaces.now) (map mirror_class classes.now) service (map mirror_class items.now)) }
     ensures notes { OnOk result (notes_of notes.new ≡ classes_noted (map mirror_interface interfaces.now) (map mirror_class classes.now) service (notes_of notes.old) (map mirror_class items.now)) }

@@ -19,8 +19,8 @@ use std::alloc::Global;
 
 fn check_main<'a>(
     alloc: Global,
-    interfaces: &'a Interfaces<'a>,
-    classes: &'a Classes<'a>,
+    interfaces: &'a Interfaces,
+    classes: &'a Classes,
     program: &Program,
     noted: &mut Seq<Placed>,
 ) -> Result<(), TypeError>
