@@ -1,4 +1,4 @@
-use Rattle.std.proofs.Common.{◌≡◌, ap, ◌∙◌, sym, subst}
+use Rattle.std.proofs.Common.{ap, ◌∙◌, sym, subst}
 use Rattle.rb_trees.specs.mirror.Code.{mirror_expr, mirror_stmt, mirror_stmt_form, mirror_stmts}
 use Rattle.rb_trees.proofs.mirror.Stmts.{at_Stmt, form_For}
 use Rattle.rb_meaning_types.specs.Gives.{Gives}
