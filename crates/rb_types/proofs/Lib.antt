@@ -5,3 +5,4 @@ pub mod Rows
 pub mod Rules
 pub mod ExprRules
 pub mod StmtRules
+pub mod Turned

@@ -1,3 +1,4 @@
 pub mod Given
 pub mod Guesses
+pub mod Inner
 pub mod Views

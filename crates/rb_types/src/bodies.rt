@@ -1,3 +1,5 @@
+#![tactic(auto, using(crate::proofs::Rules::rules))]
+
 ghost use Rattle.std.specs.Prelude.{◌≡◌, [], map, OnOk};
 ghost use Rattle.std.specs.Option.{option_map};
 ghost use Rattle.rb_trees.specs.mirror.Types.{mirror_type};
@@ -10,15 +12,14 @@ ghost use Rattle.rb_meaning_types.specs.Notes.{return_noted, body_noted, method_
 ghost use Rattle.rb_meaning_types.specs.Gives.{Gives};
 ghost use Rattle.rb_types.specs.Views.{context_of, scope_of, placed_of, notes_of};
 
+use crate::classes::{Classes, IndexedClass};
 use crate::context::Context;
 use crate::expressions::check_expr;
+use crate::interfaces::Interfaces;
 use crate::kinds::{Placed, is_unit, kind_of, same_kind, wrong_type};
 use crate::scope::Scope;
 use crate::statements::check_stmts;
-use rb_trees::{
-    Body, Class, Expr, Interface, Method, Param, Seq, TypeError, TypeForm, TypeTree, Word,
-    copy_word,
-};
+use rb_trees::{Body, Expr, Method, Param, Seq, TypeError, TypeForm, TypeTree, Word, copy_word};
 use std::alloc::Global;
 
 fn return_fits(alloc: Global, kind: &TypeForm, p: &Placed) -> Result<(), TypeError>
@@ -88,12 +89,12 @@ fn parameters(alloc: Global, params: &[Param]) -> Result<Scope, TypeError>
     Ok(scope)
 }
 
-fn check_method_body(
+fn check_method_body<'a>(
     alloc: Global,
-    interfaces: &[Interface],
-    classes: &[Class],
+    interfaces: &'a Interfaces,
+    classes: &'a Classes,
     service: bool,
-    class: &Word,
+    class: &'a Word,
     notes: &mut Seq<Placed>,
     m: &Method,
 ) -> Result<(), TypeError>
@@ -119,12 +120,12 @@ fn check_method_body(
     )
 }
 
-fn check_method_bodies(
+fn check_method_bodies<'a>(
     alloc: Global,
-    interfaces: &[Interface],
-    classes: &[Class],
+    interfaces: &'a Interfaces,
+    classes: &'a Classes,
     service: bool,
-    class: &Word,
+    class: &'a Word,
     notes: &mut Seq<Placed>,
     methods: &[Method],
 ) -> Result<(), TypeError>
@@ -137,18 +138,20 @@ fn check_method_bodies(
     Ok(())
 }
 
-/// The bodies of all methods of the classes, in source order.
-pub fn check_class_bodies(
+/// The bodies of all methods of `items`, in source order.
+pub fn check_class_bodies<'a>(
     alloc: Global,
-    interfaces: &[Interface],
-    classes: &[Class],
+    interfaces: &'a Interfaces,
+    classes: &'a Classes,
     service: bool,
     notes: &mut Seq<Placed>,
+    items: &'a [IndexedClass],
 ) -> Result<(), TypeError>
-    ensures gives { Gives (λ u. u) result (bodies.check_class_bodies (map mirror_interface interfaces.now) (map mirror_class classes.now) service (map mirror_class classes.now)) }
-    ensures notes { OnOk result (notes_of notes.new ≡ classes_noted (map mirror_interface interfaces.now) (map mirror_class classes.now) service (notes_of notes.old) (map mirror_class classes.now)) }
+    ensures gives { Gives (λ u. u) result (bodies.check_class_bodies (map mirror_interface interfaces.now) (map mirror_class classes.now) service (map mirror_class items.now)) }
+    ensures notes { OnOk result (notes_of notes.new ≡ classes_noted (map mirror_interface interfaces.now) (map mirror_class classes.now) service (notes_of notes.old) (map mirror_class items.now)) }
 {
-    for class in classes {
+    for item in items {
+        let class = item.get();
         check_method_bodies(
             alloc,
             interfaces,

@@ -5,9 +5,11 @@ ghost use Rattle.rb_meaning_types.specs.Declarations as declarations;
 ghost use Rattle.rb_meaning_types.specs.Programs as programs;
 ghost use Rattle.rb_meaning_types.specs.Gives.{Gives};
 
+use crate::classes::{Classes, IndexedClass};
+use crate::interfaces::{IndexedInterface, Interfaces};
 use crate::places::{parameter_type, result_type};
 use crate::words::Words;
-use rb_trees::{Class, Interface, Method, Param, Signature, TypeError, Word, copy_word};
+use rb_trees::{Class, Method, Param, Signature, TypeError, Word, copy_word};
 use std::alloc::Global;
 
 #[tactic(auto, using(crate::proofs::Guided::new_place))]
@@ -33,8 +35,8 @@ fn add_name(alloc: Global, names: &mut Words, at: u32, name: &Word) -> Result<()
 fn check_params(
     alloc: Global,
     remote: bool,
-    interfaces: &[Interface],
-    classes: &[Class],
+    interfaces: &Interfaces,
+    classes: &Classes,
     params: &[Param],
 ) -> Result<(), TypeError>
     ensures { Gives (λ u. u) result (declarations.check_params remote (map mirror_interface interfaces.now) (map mirror_class classes.now) [] (map mirror_param params.now)) }
@@ -50,8 +52,8 @@ fn check_params(
 fn check_signature(
     alloc: Global,
     remote: bool,
-    interfaces: &[Interface],
-    classes: &[Class],
+    interfaces: &Interfaces,
+    classes: &Classes,
     s: &Signature,
 ) -> Result<(), TypeError>
     ensures { Gives (λ u. u) result (declarations.check_signature remote (map mirror_interface interfaces.now) (map mirror_class classes.now) (mirror_signature s.now)) }
@@ -62,8 +64,8 @@ fn check_signature(
 
 fn check_signatures(
     alloc: Global,
-    interfaces: &[Interface],
-    classes: &[Class],
+    interfaces: &Interfaces,
+    classes: &Classes,
     signatures: &[Signature],
 ) -> Result<(), TypeError>
     ensures { Gives (λ u. u) result (declarations.check_signatures (map mirror_interface interfaces.now) (map mirror_class classes.now) [] (map mirror_signature signatures.now)) }
@@ -78,8 +80,8 @@ fn check_signatures(
 
 fn check_method(
     alloc: Global,
-    interfaces: &[Interface],
-    classes: &[Class],
+    interfaces: &Interfaces,
+    classes: &Classes,
     service: bool,
     m: &Method,
 ) -> Result<(), TypeError>
@@ -94,8 +96,8 @@ fn check_method(
 
 fn check_methods(
     alloc: Global,
-    interfaces: &[Interface],
-    classes: &[Class],
+    interfaces: &Interfaces,
+    classes: &Classes,
     service: bool,
     methods: &[Method],
 ) -> Result<(), TypeError>
@@ -111,8 +113,8 @@ fn check_methods(
 
 fn check_class(
     alloc: Global,
-    interfaces: &[Interface],
-    classes: &[Class],
+    interfaces: &Interfaces,
+    classes: &Classes,
     service: bool,
     class: &Class,
 ) -> Result<(), TypeError>
@@ -131,15 +133,17 @@ fn check_class(
 fn check_interfaces(
     alloc: Global,
     names: &mut Words,
-    interfaces: &[Interface],
-    classes: &[Class],
+    interfaces: &Interfaces,
+    classes: &Classes,
+    items: &[IndexedInterface],
 ) -> Result<(), TypeError>
-    ensures gives { Gives (λ u. u) result (declarations.check_interfaces (map mirror_interface interfaces.now) (map mirror_class classes.now) (names.old) (map mirror_interface interfaces.now)) }
-    ensures added { OnOk result (names.new ≡ names.old ++ map (λ i. i.name) (map mirror_interface interfaces.now)) }
+    ensures gives { Gives (λ u. u) result (declarations.check_interfaces (map mirror_interface interfaces.now) (map mirror_class classes.now) (names.old) (map mirror_interface items.now)) }
+    ensures added { OnOk result (names.new ≡ names.old ++ map (λ i. i.name) (map mirror_interface items.now)) }
 {
-    for i in interfaces {
-        add_name(alloc, names, i.at, &i.name)?;
-        check_signatures(alloc, interfaces, classes, i.methods.as_slice())?;
+    for item in items {
+        let interface = item.get();
+        add_name(alloc, names, interface.at, &interface.name)?;
+        check_signatures(alloc, interfaces, classes, interface.methods.as_slice())?;
     }
     Ok(())
 }
@@ -147,13 +151,15 @@ fn check_interfaces(
 fn check_classes(
     alloc: Global,
     names: &mut Words,
-    interfaces: &[Interface],
-    classes: &[Class],
+    interfaces: &Interfaces,
+    classes: &Classes,
     service: bool,
+    items: &[IndexedClass],
 ) -> Result<(), TypeError>
-    ensures { Gives (λ u. u) result (declarations.check_classes (map mirror_interface interfaces.now) (map mirror_class classes.now) service (names.old) (map mirror_class classes.now)) }
+    ensures { Gives (λ u. u) result (declarations.check_classes (map mirror_interface interfaces.now) (map mirror_class classes.now) service (names.old) (map mirror_class items.now)) }
 {
-    for class in classes {
+    for item in items {
+        let class = item.get();
         add_name(alloc, names, class.at, &class.name)?;
         check_class(alloc, interfaces, classes, service, class)?;
     }
@@ -163,13 +169,20 @@ fn check_classes(
 /// Declarations in source order: interfaces, then classes, each by its name and then its members.
 pub fn check_declarations(
     alloc: Global,
-    interfaces: &[Interface],
-    classes: &[Class],
+    interfaces: &Interfaces,
+    classes: &Classes,
     service: bool,
 ) -> Result<(), TypeError>
     ensures { Gives (λ u. u) result (programs.check_declarations (map mirror_interface interfaces.now) (map mirror_class classes.now) service) }
 {
     let mut names = Words::new(alloc);
-    check_interfaces(alloc, &mut names, interfaces, classes)?;
-    check_classes(alloc, &mut names, interfaces, classes, service)
+    check_interfaces(
+        alloc,
+        &mut names,
+        interfaces,
+        classes,
+        interfaces.as_slice(),
+    )?;
+    let items = classes.as_slice();
+    check_classes(alloc, &mut names, interfaces, classes, service, items)
 }

@@ -1,3 +1,5 @@
+#![tactic(auto, using(crate::proofs::Rules::rules))]
+
 ghost use Rattle.std.specs.Prelude.{◌≡◌, map, OnOk};
 ghost use Rattle.std.specs.Option.{option_copied};
 ghost use Rattle.rb_trees.specs.mirror.Types.{mirror_type};

@@ -1,12 +1,14 @@
 //! The type checker of programs and services.
-#![tactic(auto, using(crate::proofs::Rules::rules))]
+#![tactic(auto)]
 
 mod batches;
 mod bodies;
+mod classes;
 mod context;
 mod declarations;
 mod expressions;
 mod index;
+mod interfaces;
 mod kinds;
 mod members;
 mod names;

@@ -1,3 +1,5 @@
+#![tactic(auto, using(crate::proofs::Rules::rules))]
+
 ghost use Rattle.std.specs.Prelude.{◌≡◌, map};
 ghost use Rattle.std.specs.Option.{option_map, option_copied};
 ghost use Rattle.rb_trees.specs.mirror.Declarations.{mirror_param, mirror_signature, mirror_interface, mirror_class};
@@ -6,10 +8,11 @@ ghost use Rattle.rb_meaning_types.specs.Members as members;
 ghost use Rattle.rb_meaning_types.specs.Gives.{Gives};
 ghost use Rattle.rb_types.specs.Views.{placed_of};
 
+use crate::classes::{Classes, IndexedClass};
 use crate::context::Context;
+use crate::interfaces::{IndexedInterface, Interfaces};
 use crate::kinds::{Placed, kind_of, wanted_tree, wrong_type};
-use crate::names::{find_class, find_field, find_interface, find_method, find_signature};
-use rb_trees::{Class, Interface, Param, Signature, TypeError, TypeForm, Word, copy_word};
+use rb_trees::{Param, Signature, TypeError, TypeForm, Word, copy_word};
 use std::alloc::Global;
 
 fn arguments_wanted(alloc: Global, params: &[Param], args: &[Placed]) -> Result<(), TypeError>
@@ -34,15 +37,15 @@ fn arguments_fit(alloc: Global, at: u32, params: &[Param], args: &[Placed]) -> R
     }
 }
 
-fn receiver_class<'a>(
+fn receiver_class<'a, 'b>(
     alloc: Global,
-    classes: &'a [Class],
+    classes: &'b Classes<'a>,
     p: &Placed,
-) -> Result<&'a Class, TypeError>
+) -> Result<&'b IndexedClass<'a>, TypeError>
     ensures { Gives (λ c. mirror_class c.now) result (members.receiver_class (map mirror_class classes.now) (placed_of p.now) (kind_of_form p.now.kind)) }
 {
     match &p.kind {
-        TypeForm::Named(name) => match find_class(classes, name) {
+        TypeForm::Named(name) => match classes.find(name) {
             Some(class) => Ok(class),
             None => Err(wrong_type(alloc, p)),
         },
@@ -54,7 +57,7 @@ fn receiver_class<'a>(
 /// The type of a field of an object.
 pub fn field_kind(
     alloc: Global,
-    classes: &[Class],
+    classes: &Classes,
     at: u32,
     name: &Word,
     p: &Placed,
@@ -62,7 +65,7 @@ pub fn field_kind(
     ensures { Gives kind_of_form result (members.field_kind (map mirror_class classes.now) at name.now (placed_of p.now)) }
 {
     let class = receiver_class(alloc, classes, p)?;
-    match find_field(class.fields.as_slice(), name) {
+    match class.find_field(name) {
         Some(field) => kind_of(alloc, &field.kind),
         None => Err(TypeError::UnknownName(at)),
     }
@@ -84,12 +87,12 @@ fn interface_call(
     alloc: Global,
     at: u32,
     method: &Word,
-    interface: &Interface,
+    interface: &IndexedInterface,
     args: &[Placed],
 ) -> Result<TypeForm, TypeError>
     ensures { Gives kind_of_form result (members.interface_call at method.now (mirror_interface interface.now) (map placed_of args.now)) }
 {
-    match find_signature(interface.methods.as_slice(), method) {
+    match interface.find_method(method) {
         Some(signature) => signature_kind(alloc, at, signature, args),
         None => Err(TypeError::UnknownName(at)),
     }
@@ -100,12 +103,12 @@ fn class_call(
     remote: bool,
     at: u32,
     method: &Word,
-    class: &Class,
+    class: &IndexedClass,
     args: &[Placed],
 ) -> Result<TypeForm, TypeError>
     ensures { Gives kind_of_form result (members.class_call remote at method.now (mirror_class class.now) (map placed_of args.now)) }
 {
-    match find_method(class.methods.as_slice(), method) {
+    match class.find_method(method) {
         Some(found) => {
             let kind = signature_kind(alloc, at, &found.signature, args)?;
             if remote || !found.remote {
@@ -118,11 +121,14 @@ fn class_call(
     }
 }
 
-fn receiver_interface<'a>(interfaces: &'a [Interface], kind: &TypeForm) -> Option<&'a Interface>
+fn receiver_interface<'a, 'b>(
+    interfaces: &'b Interfaces<'a>,
+    kind: &TypeForm,
+) -> Option<&'b IndexedInterface<'a>>
     ensures { option_map mirror_interface (option_copied result) ≡ members.receiver_interface (map mirror_interface interfaces.now) (kind_of_form kind.now) }
 {
     match kind {
-        TypeForm::Named(name) => find_interface(interfaces, name),
+        TypeForm::Named(name) => interfaces.find(name),
         TypeForm::Int | TypeForm::Bool | TypeForm::Text => None,
         TypeForm::Unit | TypeForm::ListOf(_) | TypeForm::RowsOf(_) => None,
     }
@@ -152,16 +158,16 @@ pub fn call_kind(
 /// A new object: the class is there, and the arguments fit its fields.
 pub fn new_kind(
     alloc: Global,
-    classes: &[Class],
+    classes: &Classes,
     at: u32,
     name: &Word,
     args: &[Placed],
 ) -> Result<TypeForm, TypeError>
     ensures { Gives kind_of_form result (members.new_kind (map mirror_class classes.now) at name.now (map placed_of args.now)) }
 {
-    match find_class(classes, name) {
+    match classes.find(name) {
         Some(class) => {
-            arguments_fit(alloc, at, class.fields.as_slice(), args)?;
+            arguments_fit(alloc, at, class.get().fields.as_slice(), args)?;
             Ok(TypeForm::Named(copy_word(alloc, name)?))
         }
         None => Err(TypeError::UnknownName(at)),

@@ -1,3 +1,5 @@
+#![tactic(auto, using(crate::proofs::Rules::rules))]
+
 ghost use Rattle.std.specs.Prelude.{◌≡◌, map};
 ghost use Rattle.rb_trees.specs.mirror.Types.{mirror_type};
 ghost use Rattle.rb_trees.specs.mirror.Declarations.{mirror_interface, mirror_class};
@@ -6,39 +8,40 @@ ghost use Rattle.rb_meaning_types.specs.Places as places;
 ghost use Rattle.rb_meaning_types.specs.Faults.{must, TypeNotHere};
 ghost use Rattle.rb_meaning_types.specs.Gives.{Gives};
 
-use crate::names::{find_class, find_interface};
-use rb_trees::{Class, Interface, TypeError, TypeForm, TypeTree, Word};
+use crate::classes::Classes;
+use crate::interfaces::Interfaces;
+use rb_trees::{TypeError, TypeForm, TypeTree, Word};
 
 /// Whether a name is that of an interface.
-pub fn is_interface(interfaces: &[Interface], name: &Word) -> bool
+pub fn is_interface(interfaces: &Interfaces, name: &Word) -> bool
     ensures { result ≡ names.is_interface (map mirror_interface interfaces.now) name.now }
 {
-    find_interface(interfaces, name).is_some()
+    interfaces.find(name).is_some()
 }
 
-fn is_class(interfaces: &[Interface], classes: &[Class], name: &Word) -> bool
+fn is_class(interfaces: &Interfaces, classes: &Classes, name: &Word) -> bool
     ensures { result ≡ names.is_class (map mirror_interface interfaces.now) (map mirror_class classes.now) name.now }
 {
     if is_interface(interfaces, name) {
         false
     } else {
-        find_class(classes, name).is_some()
+        classes.find(name).is_some()
     }
 }
 
-fn is_declared(interfaces: &[Interface], classes: &[Class], name: &Word) -> bool
+fn is_declared(interfaces: &Interfaces, classes: &Classes, name: &Word) -> bool
     ensures { result ≡ names.is_declared (map mirror_interface interfaces.now) (map mirror_class classes.now) name.now }
 {
     if is_interface(interfaces, name) {
         true
     } else {
-        find_class(classes, name).is_some()
+        classes.find(name).is_some()
     }
 }
 
 fn declared_type(
-    interfaces: &[Interface],
-    classes: &[Class],
+    interfaces: &Interfaces,
+    classes: &Classes,
     kind: &TypeTree,
 ) -> Result<(), TypeError>
     ensures { Gives (λ u. u) result (places.declared_type (map mirror_interface interfaces.now) (map mirror_class classes.now) (mirror_type kind.now)) }
@@ -57,7 +60,7 @@ fn declared_type(
     }
 }
 
-fn value_type(interfaces: &[Interface], classes: &[Class], kind: &TypeTree) -> Result<(), TypeError>
+fn value_type(interfaces: &Interfaces, classes: &Classes, kind: &TypeTree) -> Result<(), TypeError>
     ensures { Gives (λ u. u) result (places.value_type (map mirror_interface interfaces.now) (map mirror_class classes.now) (mirror_type kind.now)) }
 {
     match &kind.form {
@@ -75,8 +78,8 @@ fn value_type(interfaces: &[Interface], classes: &[Class], kind: &TypeTree) -> R
 }
 
 fn value_result(
-    interfaces: &[Interface],
-    classes: &[Class],
+    interfaces: &Interfaces,
+    classes: &Classes,
     kind: &TypeTree,
 ) -> Result<(), TypeError>
     ensures { Gives (λ u. u) result (places.value_result (map mirror_interface interfaces.now) (map mirror_class classes.now) (mirror_type kind.now)) }
@@ -90,7 +93,7 @@ fn value_result(
     }
 }
 
-fn is_remote_value(interfaces: &[Interface], kind: &TypeTree) -> bool
+fn is_remote_value(interfaces: &Interfaces, kind: &TypeTree) -> bool
     ensures { result ≡ places.is_remote_value (map mirror_interface interfaces.now) (mirror_type kind.now) }
 {
     match &kind.form {
@@ -100,7 +103,7 @@ fn is_remote_value(interfaces: &[Interface], kind: &TypeTree) -> bool
     }
 }
 
-fn is_remote_result(interfaces: &[Interface], kind: &TypeTree) -> bool
+fn is_remote_result(interfaces: &Interfaces, kind: &TypeTree) -> bool
     ensures { result ≡ places.is_remote_result (map mirror_interface interfaces.now) (mirror_type kind.now) }
 {
     match &kind.form {
@@ -123,8 +126,8 @@ fn is_main_result(main: u32, kind: &TypeTree) -> bool
 
 /// The type of an item of a list: its names are declared, and it may stand there.
 pub fn item_type(
-    interfaces: &[Interface],
-    classes: &[Class],
+    interfaces: &Interfaces,
+    classes: &Classes,
     kind: &TypeTree,
 ) -> Result<(), TypeError>
     ensures { Gives (λ u. u) result (places.item_type (map mirror_interface interfaces.now) (map mirror_class classes.now) (mirror_type kind.now)) }
@@ -146,8 +149,8 @@ fn must_stand(holds: bool, at: u32) -> Result<(), TypeError>
 /// The type of a parameter of a method, of an interface (`remote`) or of a class, or of a field.
 pub fn parameter_type(
     remote: bool,
-    interfaces: &[Interface],
-    classes: &[Class],
+    interfaces: &Interfaces,
+    classes: &Classes,
     kind: &TypeTree,
 ) -> Result<(), TypeError>
     ensures { Gives (λ u. u) result (places.parameter_type remote (map mirror_interface interfaces.now) (map mirror_class classes.now) (mirror_type kind.now)) }
@@ -163,8 +166,8 @@ pub fn parameter_type(
 /// The result type of a method, of an interface (`remote`) or of a class.
 pub fn result_type(
     remote: bool,
-    interfaces: &[Interface],
-    classes: &[Class],
+    interfaces: &Interfaces,
+    classes: &Classes,
     kind: &TypeTree,
 ) -> Result<(), TypeError>
     ensures { Gives (λ u. u) result (places.result_type remote (map mirror_interface interfaces.now) (map mirror_class classes.now) (mirror_type kind.now)) }
@@ -179,8 +182,8 @@ pub fn result_type(
 
 /// The result type of `main`, which stands at a position.
 pub fn main_type(
-    interfaces: &[Interface],
-    classes: &[Class],
+    interfaces: &Interfaces,
+    classes: &Classes,
     main: u32,
     kind: &TypeTree,
 ) -> Result<(), TypeError>

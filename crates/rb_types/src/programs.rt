@@ -7,20 +7,28 @@ ghost use Rattle.rb_meaning_types.specs.Gives.{Gives};
 ghost use Rattle.rb_types.specs.Views.{notes_of};
 
 use crate::bodies::{check_body, check_class_bodies};
+use crate::classes::Classes;
 use crate::context::Context;
 use crate::declarations::check_declarations;
+use crate::interfaces::Interfaces;
 use crate::kinds::Placed;
 use crate::places::main_type;
 use crate::scope::Scope;
 use rb_trees::{Class, Program, Seq, TypeError};
 use std::alloc::Global;
 
-fn check_main(alloc: Global, program: &Program, noted: &mut Seq<Placed>) -> Result<(), TypeError>
+fn check_main<'a>(
+    alloc: Global,
+    interfaces: &'a Interfaces,
+    classes: &'a Classes,
+    program: &Program,
+    noted: &mut Seq<Placed>,
+) -> Result<(), TypeError>
+    requires interfaces { interfaces.now ≡ program.now.interfaces }
+    requires classes { classes.now ≡ program.now.classes }
     ensures gives { Gives (λ u. u) result (judged.check_main (mirror_program program.now)) }
     ensures notes { OnOk result (notes_of noted.new ≡ notes.main_noted (notes_of noted.old) (mirror_program program.now)) }
 {
-    let interfaces = program.interfaces.as_slice();
-    let classes = program.classes.as_slice();
     main_type(interfaces, classes, program.at, &program.result)?;
     let x = Context {
         interfaces,
@@ -46,12 +54,19 @@ pub fn check_all(alloc: Global, program: &Program) -> Result<Seq<Placed>, TypeEr
     ensures gives { Gives (λ u. tt) result (judged.check_program (mirror_program program.now)) }
     ensures notes { IfOk result (λ all. notes_of all ≡ notes.program_notes (mirror_program program.now)) }
 {
-    let interfaces = program.interfaces.as_slice();
-    let classes = program.classes.as_slice();
-    check_declarations(alloc, interfaces, classes, false)?;
+    let interfaces = Interfaces::new(alloc, program.interfaces.as_slice())?;
+    let classes = Classes::new(alloc, program.classes.as_slice())?;
+    check_declarations(alloc, &interfaces, &classes, false)?;
     let mut all = Seq::new(alloc);
-    check_class_bodies(alloc, interfaces, classes, false, &mut all)?;
-    check_main(alloc, program, &mut all)?;
+    check_class_bodies(
+        alloc,
+        &interfaces,
+        &classes,
+        false,
+        &mut all,
+        classes.as_slice(),
+    )?;
+    check_main(alloc, &interfaces, &classes, program, &mut all)?;
     Ok(all)
 }
 
@@ -61,9 +76,17 @@ pub fn check_service(alloc: Global, classes: &Seq<Class>) -> Result<(), TypeErro
     requires { IsLawfulService (map mirror_class classes.now) }
     ensures { Gives (λ u. u) result (judged.check_service (map mirror_class classes.now)) }
 {
-    let classes = classes.as_slice();
-    let interfaces = Seq::new(alloc);
-    check_declarations(alloc, interfaces.as_slice(), classes, true)?;
+    let none = Seq::new(alloc);
+    let interfaces = Interfaces::new(alloc, none.as_slice())?;
+    let classes = Classes::new(alloc, classes.as_slice())?;
+    check_declarations(alloc, &interfaces, &classes, true)?;
     let mut all = Seq::new(alloc);
-    check_class_bodies(alloc, interfaces.as_slice(), classes, true, &mut all)
+    check_class_bodies(
+        alloc,
+        &interfaces,
+        &classes,
+        true,
+        &mut all,
+        classes.as_slice(),
+    )
 }

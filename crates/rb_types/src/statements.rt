@@ -1,22 +1,24 @@
+#![tactic(auto, using(crate::proofs::Rules::rules))]
+
 ghost use Rattle.std.specs.Prelude.{◌≡◌, map, take, length, OnOk};
-ghost use Rattle.rb_trees.specs.mirror.Code.{mirror_expr, mirror_stmt, mirror_stmts};
+ghost use Rattle.rb_trees.specs.mirror.Code.{Assign, mirror_expr, mirror_stmt, mirror_stmts};
 ghost use Rattle.rb_trees.specs.mirror.Declarations.{mirror_interface};
 ghost use Rattle.rb_meaning_types.specs.Kinds.{kind_of_form, Bool, Text};
 ghost use Rattle.rb_meaning_types.specs.Faults as faults;
 ghost use Rattle.rb_meaning_types.specs.Statements as statements;
 ghost use Rattle.rb_meaning_types.specs.Scopes as scopes;
-ghost use Rattle.rb_meaning_types.specs.Notes.{noted, stmt_noted, stmts_noted};
+ghost use Rattle.rb_meaning_types.specs.Notes.{scope_or, noted, stmt_noted, stmts_noted};
 ghost use Rattle.rb_meaning_types.specs.Gives.{Gives};
+ghost use Rattle.rb_types.specs.Inner.{check_opened};
 ghost use Rattle.rb_types.specs.Views.{context_of, scope_of, placed_of, notes_of};
 
 use crate::context::Context;
 use crate::expressions::check_expr;
+use crate::interfaces::Interfaces;
 use crate::kinds::{Placed, copy_kind, is_unit, wanted, wrong_type};
 use crate::places::is_interface;
 use crate::scope::Scope;
-use rb_trees::{
-    Expr, ExprForm, Interface, Seq, Stmt, StmtForm, TypeError, TypeForm, Word, copy_word,
-};
+use rb_trees::{Expr, ExprForm, Seq, Stmt, StmtForm, TypeError, TypeForm, Word, copy_word};
 use std::alloc::Global;
 
 /// Binds a new variable, with copies of its name and type.
@@ -87,7 +89,7 @@ fn assign(
     wanted(alloc, &p.kind, q)
 }
 
-fn is_printable(interfaces: &[Interface], kind: &TypeForm) -> bool
+fn is_printable(interfaces: &Interfaces, kind: &TypeForm) -> bool
     ensures { result ≡ statements.is_printable (map mirror_interface interfaces.now) (kind_of_form kind.now) }
 {
     match kind {
@@ -125,15 +127,15 @@ fn open_loop(
     scope: &mut Scope,
     at: u32,
     name: &Word,
-    p: &Placed,
+    p: Placed,
 ) -> Result<(), TypeError>
-    ensures gives { Gives (λ u. scope_of scope.new) result (statements.loop_scope (scope_of scope.old) at name.now (placed_of p.now)) }
+    ensures gives { Gives (λ u. scope_of scope.new) result (statements.loop_scope (scope_of scope.old) at name.now (placed_of p)) }
     ensures kept { OnOk result (take (length (scope_of scope.old)) (scope_of scope.new) ≡ scope_of scope.old) }
 {
     if !scope.is_free(name) {
         return Err(TypeError::NameTaken(at));
     }
-    let kind = turn_kind(alloc, p)?;
+    let kind = turn_kind(alloc, &p)?;
     add(alloc, scope, name, &kind, true)
 }
 
@@ -185,6 +187,23 @@ fn check_condition(
     wanted(alloc, &TypeForm::Bool, &p)
 }
 
+fn check_assign(
+    alloc: Global,
+    x: &Context,
+    scope: &Scope,
+    notes: &mut Seq<Placed>,
+    at: u32,
+    a: &Expr,
+    b: &Expr,
+) -> Result<(), TypeError>
+    ensures gives { Gives (λ u. scope_of scope.now) result (statements.check_stmt (context_of x.now) (scope_of scope.now) (Assign at (mirror_expr a.now) (mirror_expr b.now))) }
+    ensures notes { OnOk result (notes_of notes.new ≡ stmt_noted (context_of x.now) (scope_of scope.now) (notes_of notes.old) (Assign at (mirror_expr a.now) (mirror_expr b.now))) }
+{
+    let p = check_expr(alloc, x, scope, notes, a)?;
+    let q = check_expr(alloc, x, scope, notes, b)?;
+    assign(alloc, scope, at, a, &p, &q)
+}
+
 /// What a statement does to the scope, or the first violation in it. What the judgement gives to its
 /// expressions goes to the notes.
 #[cycle(stmts)]
@@ -210,11 +229,7 @@ fn check_stmt(
             let p = check_expr(alloc, x, scope, notes, e)?;
             declare(alloc, scope, at, name, false, &p)
         }
-        StmtForm::Assign(a, b) => {
-            let p = check_expr(alloc, x, scope, notes, a)?;
-            let q = check_expr(alloc, x, scope, notes, b)?;
-            assign(alloc, scope, at, a, &p, &q)
-        }
+        StmtForm::Assign(a, b) => check_assign(alloc, x, scope, notes, at, a, b),
         StmtForm::Run(e) => {
             check_expr(alloc, x, scope, notes, e)?;
             Ok(())
@@ -238,28 +253,87 @@ fn check_stmt(
         }
         StmtForm::For(name, e, a) => {
             let p = check_expr(alloc, x, scope, notes, e)?;
-            let outer = scope.len();
-            open_loop(alloc, scope, at, name, &p)?;
-            check_stmts(alloc, x, scope, notes, a.as_slice())?;
-            scope.truncate(outer);
-            Ok(())
+            check_turns(alloc, x, scope, notes, at, name, p, a.as_slice())
         }
         StmtForm::Try(a, name, b) => {
             check_block(alloc, x, scope, notes, a.as_slice())?;
-            let outer = scope.len();
-            open_catch(alloc, scope, at, name)?;
-            check_stmts(alloc, x, scope, notes, b.as_slice())?;
-            scope.truncate(outer);
-            Ok(())
+            check_handler(alloc, x, scope, notes, at, name, b.as_slice())
         }
         StmtForm::Batch(interface, root, a) => {
-            let outer = scope.len();
-            open_batch(alloc, x, scope, at, interface, root)?;
-            check_stmts(alloc, x, scope, notes, a.as_slice())?;
-            scope.truncate(outer);
-            Ok(())
+            check_batch(alloc, x, scope, notes, at, interface, root, a.as_slice())
         }
     }
+}
+
+/// The block of a loop over what `p` is.
+#[cycle(stmts)]
+#[tactic(auto, using(crate::proofs::StmtRules::stmt_rules))]
+fn check_turns(
+    alloc: Global,
+    x: &Context,
+    scope: &mut Scope,
+    notes: &mut Seq<Placed>,
+    at: u32,
+    name: &Word,
+    p: Placed,
+    ss: &[Stmt],
+) -> Result<(), TypeError>
+    ensures gives { Gives (λ u. scope_of scope.new) result (check_opened (context_of x.now) (scope_of scope.old) (statements.loop_scope (scope_of scope.old) at name.now (placed_of p)) (mirror_stmts ss.now)) }
+    ensures same { OnOk result (scope_of scope.new ≡ scope_of scope.old) }
+    ensures notes { OnOk result (notes_of notes.new ≡ stmts_noted (context_of x.now) (scope_or (scope_of scope.old) (statements.loop_scope (scope_of scope.old) at name.now (placed_of p))) (notes_of notes.old) (mirror_stmts ss.now)) }
+{
+    let outer = scope.len();
+    open_loop(alloc, scope, at, name, p)?;
+    check_stmts(alloc, x, scope, notes, ss)?;
+    scope.truncate(outer);
+    Ok(())
+}
+
+/// The block that handles a fault.
+#[cycle(stmts)]
+#[tactic(auto, using(crate::proofs::StmtRules::stmt_rules))]
+fn check_handler(
+    alloc: Global,
+    x: &Context,
+    scope: &mut Scope,
+    notes: &mut Seq<Placed>,
+    at: u32,
+    name: &Word,
+    ss: &[Stmt],
+) -> Result<(), TypeError>
+    ensures gives { Gives (λ u. scope_of scope.new) result (check_opened (context_of x.now) (scope_of scope.old) (statements.catch_scope (scope_of scope.old) at name.now) (mirror_stmts ss.now)) }
+    ensures same { OnOk result (scope_of scope.new ≡ scope_of scope.old) }
+    ensures notes { OnOk result (notes_of notes.new ≡ stmts_noted (context_of x.now) (scope_or (scope_of scope.old) (statements.catch_scope (scope_of scope.old) at name.now)) (notes_of notes.old) (mirror_stmts ss.now)) }
+{
+    let outer = scope.len();
+    open_catch(alloc, scope, at, name)?;
+    check_stmts(alloc, x, scope, notes, ss)?;
+    scope.truncate(outer);
+    Ok(())
+}
+
+/// The block of a batch.
+#[cycle(stmts)]
+#[tactic(auto, using(crate::proofs::StmtRules::stmt_rules))]
+fn check_batch(
+    alloc: Global,
+    x: &Context,
+    scope: &mut Scope,
+    notes: &mut Seq<Placed>,
+    at: u32,
+    interface: &Word,
+    root: &Word,
+    ss: &[Stmt],
+) -> Result<(), TypeError>
+    ensures gives { Gives (λ u. scope_of scope.new) result (check_opened (context_of x.now) (scope_of scope.old) (statements.batch_scope (map mirror_interface x.now.interfaces.now) x.now.remote (scope_of scope.old) at interface.now root.now) (mirror_stmts ss.now)) }
+    ensures same { OnOk result (scope_of scope.new ≡ scope_of scope.old) }
+    ensures notes { OnOk result (notes_of notes.new ≡ stmts_noted (context_of x.now) (scope_or (scope_of scope.old) (statements.batch_scope (map mirror_interface x.now.interfaces.now) x.now.remote (scope_of scope.old) at interface.now root.now)) (notes_of notes.old) (mirror_stmts ss.now)) }
+{
+    let outer = scope.len();
+    open_batch(alloc, x, scope, at, interface, root)?;
+    check_stmts(alloc, x, scope, notes, ss)?;
+    scope.truncate(outer);
+    Ok(())
 }
 
 #[cycle(stmts)]
