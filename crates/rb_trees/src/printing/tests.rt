@@ -26,7 +26,7 @@ main: Int {
   val a = (b + 1) * 2 - (b - -1) * 2;
   if (!(a == 0 || len(b - a)[0])) {
     while (a) {
-      a.c = (b + 1).c(a, b);
+      a.c = (b + 1).c();
     }
   } else {
     print(-a.c);
@@ -41,15 +41,20 @@ main: Int {
 fn example(alloc: Global) -> Result<Program, Memory> {
     let interfaces = one(alloc, shelf(alloc))?;
     let classes = one(alloc, note(alloc))?;
-    let statements = and(one(alloc, sums(alloc)), choice(alloc))?;
-    let result = unary(alloc, UnOp::Neg, number(i64::MIN))?;
+    let body = main_body(alloc)?;
     Ok(Program {
         interfaces,
         classes,
         result: kind(TypeForm::Int),
-        body: body(statements, Some(result)),
+        body,
         at: 0,
     })
+}
+
+fn main_body(alloc: Global) -> Result<Body, Memory> {
+    let statements = and(one(alloc, sums(alloc)), choice(alloc))?;
+    let least = unary(alloc, UnOp::Neg, number(i64::MIN))?;
+    Ok(body(statements, Some(least)))
 }
 
 fn shelf(alloc: Global) -> Result<Interface, Memory> {
@@ -119,7 +124,7 @@ fn condition(alloc: Global) -> Result<Expr, Memory> {
     unary(alloc, UnOp::Not, binary(alloc, BinOp::Or, equal, item))
 }
 
-// while (a) { a.c = (b + 1).c(a, b); }
+// while (a) { a.c = (b + 1).c(); }
 fn repetition(alloc: Global) -> Result<Stmt, Memory> {
     let block = one(alloc, assignment(alloc))?;
     Ok(stmt(StmtForm::While(name(alloc, b"a")?, block)))
@@ -127,8 +132,7 @@ fn repetition(alloc: Global) -> Result<Stmt, Memory> {
 
 fn assignment(alloc: Global) -> Result<Stmt, Memory> {
     let receiver = binary(alloc, BinOp::Add, name(alloc, b"b"), number(1));
-    let args = and(one(alloc, name(alloc, b"a")), name(alloc, b"b"));
-    let right = call(alloc, receiver, args)?;
+    let right = call(alloc, receiver)?;
     Ok(stmt(StmtForm::Assign(field(alloc)?, right)))
 }
 
@@ -143,15 +147,11 @@ fn field(alloc: Global) -> Result<Expr, Memory> {
     Ok(expr(ExprForm::Field(object, word(alloc, b"c")?)))
 }
 
-// RECEIVER.c(ARGUMENTS)
-fn call(
-    alloc: Global,
-    receiver: Result<Expr, Memory>,
-    args: Result<Seq<Expr>, Memory>,
-) -> Result<Expr, Memory> {
-    let args = args?;
+// RECEIVER.c()
+fn call(alloc: Global, receiver: Result<Expr, Memory>) -> Result<Expr, Memory> {
     let receiver = Boxed::new(alloc, receiver?)?;
-    Ok(expr(ExprForm::Call(receiver, word(alloc, b"c")?, args)))
+    let method = word(alloc, b"c")?;
+    Ok(expr(ExprForm::Call(receiver, method, Seq::new(alloc))))
 }
 
 // LIST[0]
