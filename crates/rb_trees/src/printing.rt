@@ -13,6 +13,8 @@ mod declarations;
 mod expressions;
 mod operators;
 mod statements;
+#[cfg(test)]
+mod tests;
 mod types;
 mod words;
 

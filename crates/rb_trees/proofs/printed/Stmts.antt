@@ -2,8 +2,8 @@
 use Rattle.std.proofs.Common.{◌≡◌, ℕ, List, [], ◌∷◌, ◌++◌, ◌≢◌, refl}
 use Rattle.std.proofs.lemmas.Grind.{common_steps}
 use Rattle.rb_trees.specs.declared.code.Stmt as tree
-use Rattle.rb_trees.specs.mirror.Code.{mirror_stmt, mirror_stmts}
-use Rattle.rb_trees.specs.printing.Pieces.{Piece, Space, spelled}
+use Rattle.rb_trees.specs.mirror.Code.{mirror_stmts}
+use Rattle.rb_trees.specs.printing.Pieces.{Piece}
 use Rattle.rb_trees.specs.printing.Words as w
 use Rattle.rb_trees.specs.printing.Stmts.{line, closed, closed_by, otherwise}
 use Rattle.rb_trees.proofs.mirror.Stmts.{stmts}

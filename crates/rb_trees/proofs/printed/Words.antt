@@ -1,5 +1,5 @@
 -- The text of numbers and literals.
-use Rattle.std.proofs.Common.{◌≡◌, ℕ, ◌+◌, ◌<◌, ℤ, pos, negsuc, suc, zero, List, [], ◌∷◌, ◌++◌, Bool, refl, ap, sym, ◌∙◌}
+use Rattle.std.proofs.Common.{◌≡◌, ℕ, ℤ, List, [], ◌∷◌, Bool, ap, sym, ◌∙◌}
 use Rattle.std.proofs.lemmas.Grind.{common_steps}
 use Rattle.rb_trees.specs.declared.values.Value.{Value, out-Value}
 use Rattle.rb_trees.specs.declared.values.Value.TheOpen.{Value-F}

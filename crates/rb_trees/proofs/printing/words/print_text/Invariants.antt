@@ -1,4 +1,4 @@
-use Rattle.std.proofs.Common.{◌≡◌, ◌++◌, ◌∷◌, drop}
+use Rattle.std.proofs.Common.{◌≡◌, ◌++◌, drop}
 use Rattle.rb_trees.specs.printing.Words.{all_escaped}
 use Rattle.rb_trees.proofs.printing.words.print_text.Given as goal
 
