@@ -74,19 +74,20 @@ fn checked(alloc: Global, text: &[u8]) -> Result<String, Fail> {
     answer(alloc, "check p", files)
 }
 
-/// A text with a piece as often as is said, between a front and an end.
-fn repeated(
-    alloc: Global,
-    front: &[u8],
-    piece: &[u8],
-    count: usize,
-    end: &[u8],
-) -> Result<Vec<u8>, Fail> {
-    let mut text = Vec::from_slice(alloc, front)?;
-    for _turn in 0..count {
-        text.extend_from_slice(piece)?;
+/// The text of a row: behind a `~` stand a piece and, behind two more, how often it stands there and what follows.
+fn text_of(alloc: Global, row: &str) -> Result<Vec<u8>, Fail> {
+    let mut parts = row.split('~');
+    let mut text = Vec::new(alloc);
+    if let Some(front) = parts.next() {
+        text.extend_from_slice(front.as_bytes())?;
     }
-    text.extend_from_slice(end)?;
+    while let Some(piece) = parts.next() {
+        let count = parts.next().unwrap_or("").parse::<u32>().unwrap_or(0);
+        for _turn in 0..count {
+            text.extend_from_slice(piece.as_bytes())?;
+        }
+        text.extend_from_slice(parts.next().unwrap_or("").as_bytes())?;
+    }
     Ok(text)
 }
 
@@ -110,122 +111,60 @@ fn payloads_are_the_worked_bytes(rt: HostRuntime) -> Result<(), Fail> {
     Ok(())
 }
 
+/// Texts, each behind what `check` answers: the refusals, each limit, and each form.
+const CHECKED: &str = r#"0 read|main { }
+0 read|main { print(x); } // not typed yet
+0 read|main { val a = - -1; val b = !-a; }
+4 lex 1 BadByte at 1:16|main { print(1 $ 2); }
+4 lex 1 BadByte at 1:16|main { print("a\qb"); }
+4 lex 2 OpenText at 1:14|main { print("a); }
+4 lex 3 NumberTooLarge at 1:14|main { print(9223372036854775808); }
+4 lex 5 TooLong at 1:14|main { print("~a~4097~"); }
+4 parse 6 Unexpected at 1:18|main { val a = 1 }
+4 parse 6 Unexpected at 1:16|main { print(1 }
+4 parse 6 Unexpected at 1:7|main {
+4 parse 6 Unexpected at 1:1|
+4 parse 6 Unexpected at 1:18|main { return 1; print(2); }
+4 parse 6 Unexpected at 1:27|main { if (true) { } else if (true) { } }
+4 parse 6 Unexpected at 1:1048577|~ ~1048576~
+13 file too long p|~ ~1048577~
+4 parse 7 TooNested at 1:216|main { val a = ~-~201~1; }
+4 parse 7 TooNested at 1:966|main {~ while (true) {~64~
+4 parse 7 TooNested at 1:338|class C { v: ~List<~65~Int
+0 read|main { val a = ~-~200~1; }
+0 read|main {~ while (true) {~63~~ }~64~
+0 read|class C { v: ~List<~64~Int~>~64~; } main { }
+0 read|interface D { fun n(): Int; fun f(a: Int, b: List<Text>): Rows<D>; fun g(); } main { }
+0 read|class C { v: Int; remote fun m(): Bool { return true; } fun k(o: C): Unit { } } main { }
+0 read|main: Text { val a = 1; var b = "t\n"; b = "u"; f.h(a)[0].g(); return b; }
+0 read|main { print(len(b)); throw "x"; if (true) { } else { } if (false) { } while (a) { } }
+0 read|main { for (x in y) { } try { throw x; } catch (e) { } batch (D r) { r.n(); } }
+0 read|main { val a = this.v.m(1, b); val c = new C(1, d); val e = List<Int>(1, 2)[0]; }
+0 read|main { val a = new C(); val b = List<List<Bool>>(); val c = str(1) + (d); }
+0 read|main { val a = b || c && d == e; val f = g != h; val i = j < k; val l = m >= n; }
+0 read|main { val a = b <= c == (d > e); val f = g + h - i * j / k % l; val m = !n; }"#;
+
 #[test]
 fn texts_are_read_or_refused_at_their_first_fault(rt: HostRuntime) -> Result<(), Fail> {
+    for row in CHECKED.split('\n') {
+        let Some((wanted, row)) = row.split_once('|') else {
+            return Err(Fail::from("a row lacks its bar"));
+        };
+        let text = text_of(rt.alloc(), row)?;
+        let answer = checked(rt.alloc(), text.as_slice())?;
+        assert_eq!(rt; answer.as_str().trim_end(), wanted, "{row}");
+    }
+    Ok(())
+}
+
+#[test]
+fn lines_and_bytes_count(rt: HostRuntime) -> Result<(), Fail> {
     for (text, wanted) in [
-        (b"main { }".as_slice(), "0 read\n"),
-        (b"main { print(x); } // not typed yet", "0 read\n"),
-        (b"main { val a = - -1; val b = !-a; }", "0 read\n"),
-        (b"main { print(1 $ 2); }", "4 lex 1 BadByte at 1:16\n"),
-        (b"main { print(\"a\\qb\"); }", "4 lex 1 BadByte at 1:16\n"),
-        (b"main { print(\"a); }", "4 lex 2 OpenText at 1:14\n"),
-        (
-            b"main { print(9223372036854775808); }",
-            "4 lex 3 NumberTooLarge at 1:14\n",
-        ),
-        (b"main \xff", "4 lex 4 NotUtf8 at 1:6\n"),
-        (b"main { val a = 1 }", "4 parse 6 Unexpected at 1:18\n"),
+        (b"main \xff".as_slice(), "4 lex 4 NotUtf8 at 1:6\n"),
         (b"main {\n  val a = 1\n}", "4 parse 6 Unexpected at 3:1\n"),
-        (b"main { print(1 }", "4 parse 6 Unexpected at 1:16\n"),
-        (b"main {", "4 parse 6 Unexpected at 1:7\n"),
-        (b"", "4 parse 6 Unexpected at 1:1\n"),
-        (
-            b"main { return 1; print(2); }",
-            "4 parse 6 Unexpected at 1:18\n",
-        ),
-        (
-            b"main { if (true) { } else if (true) { } }",
-            "4 parse 6 Unexpected at 1:27\n",
-        ),
     ] {
         assert_eq!(rt; checked(rt.alloc(), text)?.as_str(), wanted, "{wanted}");
     }
-    Ok(())
-}
-
-#[test]
-fn each_form_is_read(rt: HostRuntime) -> Result<(), Fail> {
-    for text in [
-        "interface D { fun n(): Int; fun f(a: Int, b: List<Text>): Rows<D>; fun g(); } main { }",
-        "class C { v: Int; remote fun m(): Bool { return true; } fun k(o: C): Unit { } } main { }",
-        "main: Text { val a = 1; var b = \"t\\n\"; b = \"u\"; f.h(a)[0].g(); return b; }",
-        "main { print(len(b)); throw \"x\"; if (true) { } else { } if (false) { } while (a) { } }",
-        "main { for (x in y) { } try { throw x; } catch (e) { } batch (D r) { r.n(); } }",
-        "main { val a = this.v.m(1, b); val c = new C(1, d); val e = List<Int>(1, 2)[0]; }",
-        "main { val a = new C(); val b = List<List<Bool>>(); val c = str(1) + (d); }",
-        "main { val a = b || c && d == e; val f = g != h; val i = j < k; val l = m >= n; }",
-        "main { val a = b <= c == (d > e); val f = g + h - i * j / k % l; val m = !n; }",
-    ] {
-        assert_eq!(rt;
-            checked(rt.alloc(), text.as_bytes())?.as_str(),
-            "0 read\n",
-            "{text}"
-        );
-    }
-    Ok(())
-}
-
-#[test]
-fn the_deepest_texts_are_read(rt: HostRuntime) -> Result<(), Fail> {
-    let alloc = rt.alloc();
-    for (front, piece, count, end, wanted) in [
-        (
-            b"main { val a = ".as_slice(),
-            b"-".as_slice(),
-            200,
-            b"1; }".as_slice(),
-            "0 read\n",
-        ),
-        (
-            b"main { val a = ",
-            b"-",
-            201,
-            b"1; }",
-            "4 parse 7 TooNested at 1:216\n",
-        ),
-        (
-            b"main {",
-            b" while (true) {",
-            64,
-            b"",
-            "4 parse 7 TooNested at 1:966\n",
-        ),
-        (
-            b"class C { v: ",
-            b"List<",
-            65,
-            b"Int",
-            "4 parse 7 TooNested at 1:338\n",
-        ),
-        (
-            b"main { print(\"",
-            b"a",
-            4097,
-            b"\"); }",
-            "4 lex 5 TooLong at 1:14\n",
-        ),
-        (
-            b"",
-            b" ",
-            1_048_576,
-            b"",
-            "4 parse 6 Unexpected at 1:1048577\n",
-        ),
-        (b"", b" ", 1_048_577, b"", "13 file too long p\n"),
-    ] {
-        let text = repeated(alloc, front, piece, count, end)?;
-        assert_eq!(rt;
-            checked(alloc, text.as_slice())?.as_str(),
-            wanted,
-            "{wanted}"
-        );
-    }
-    let blocks = repeated(alloc, b"main {", b" while (true) {", 63, b"")?;
-    let text = repeated(alloc, blocks.as_slice(), b" }", 64, b"")?;
-    assert_eq!(rt; checked(alloc, text.as_slice())?.as_str(), "0 read\n");
-    let types = repeated(alloc, b"class C { v: ", b"List<", 64, b"Int")?;
-    let text = repeated(alloc, types.as_slice(), b">", 64, b"; } main { }")?;
-    assert_eq!(rt; checked(alloc, text.as_slice())?.as_str(), "0 read\n");
     Ok(())
 }
 
@@ -255,25 +194,27 @@ fn a_batch_prints_its_lines_and_the_end(rt: HostRuntime) -> Result<(), Fail> {
     Ok(())
 }
 
+/// Programs that are read, and aren't of the form that is built.
+const NOT_BUILT: &str = "\
+interface D { fun n(): Int; } main { batch (D r) { print(1); } }\n\
+interface D { fun n(): Int; } main { batch (D r) { r.n(); } }\n\
+interface D { fun n(): Int; } main { batch (D r) { print(r.n(1)); } }\n\
+interface D { fun n(): Int; fun n(): Int; } main { batch (D r) { print(r.n()); } }\n\
+interface D { fun n(): Int; } main { batch (D D) { print(D.n()); } }\n\
+interface D { fun n(): Int; } main { batch (E r) { print(r.n()); } }\n\
+interface D { fun n(): Int; } main { batch (D r) { print(q.n()); } }\n\
+interface D { fun n(): Int; } main { batch (D r) { print(r.m()); } }\n\
+interface D { fun n(): Text; } main { batch (D r) { print(r.n()); } }\n\
+interface D { fun n(a: Int): Int; } main { batch (D r) { print(r.n()); } }\n\
+interface D { fun n(): Int; } class C { } main { batch (D r) { print(r.n()); } }\n\
+interface D { fun n(): Int; } interface E { } main { batch (D r) { print(r.n()); } }\n\
+interface D { fun n(): Int; } main { batch (D r) { print(r.n()); } return 1; }\n\
+interface D { fun n(): Int; } main { batch (D r) { } batch (D r) { } }\n\
+main { }";
+
 #[test]
 fn programs_of_other_forms_are_not_built(rt: HostRuntime) -> Result<(), Fail> {
-    for program in [
-        "interface D { fun n(): Int; } main { batch (D r) { print(1); } }",
-        "interface D { fun n(): Int; } main { batch (D r) { r.n(); } }",
-        "interface D { fun n(): Int; } main { batch (D r) { print(r.n(1)); } }",
-        "interface D { fun n(): Int; fun n(): Int; } main { batch (D r) { print(r.n()); } }",
-        "interface D { fun n(): Int; } main { batch (D D) { print(D.n()); } }",
-        "interface D { fun n(): Int; } main { batch (E r) { print(r.n()); } }",
-        "interface D { fun n(): Int; } main { batch (D r) { print(q.n()); } }",
-        "interface D { fun n(): Int; } main { batch (D r) { print(r.m()); } }",
-        "interface D { fun n(): Text; } main { batch (D r) { print(r.n()); } }",
-        "interface D { fun n(a: Int): Int; } main { batch (D r) { print(r.n()); } }",
-        "interface D { fun n(): Int; } class C { } main { batch (D r) { print(r.n()); } }",
-        "interface D { fun n(): Int; } interface E { } main { batch (D r) { print(r.n()); } }",
-        "interface D { fun n(): Int; } main { batch (D r) { print(r.n()); } return 1; }",
-        "interface D { fun n(): Int; } main { batch (D r) { } batch (D r) { } }",
-        "main { }",
-    ] {
+    for program in NOT_BUILT.split('\n') {
         assert_eq!(rt;
             shown(rt.alloc(), Some(program), Some(SERVICE))?.as_str(),
             "4 not built\n",
@@ -291,8 +232,6 @@ fn programs_that_are_not_read_are_refused_first(rt: HostRuntime) -> Result<(), F
             "4 parse 6 Unexpected at 1:70\n",
         ),
         ("$", "4 lex 1 BadByte at 1:1\n"),
-        ("", "4 parse 6 Unexpected at 1:1\n"),
-        ("main", "4 parse 6 Unexpected at 1:5\n"),
     ] {
         assert_eq!(rt; shown(rt.alloc(), Some(program), None)?.as_str(), wanted);
     }

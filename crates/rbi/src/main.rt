@@ -15,7 +15,7 @@ use std::{env, io};
 fn main(rt: HostRuntime) -> ExitCode {
     let status = run(&rt);
     if matches!(status, Status::Words) {
-        let _ = eprintln!(rt; "usage: rbi both PROGRAM SERVICE");
+        let _ = eprintln!(rt; "usage: rbi check PROGRAM | rbi both PROGRAM SERVICE");
     }
     ExitCode::from(status.code())
 }
