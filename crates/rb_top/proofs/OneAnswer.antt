@@ -1,15 +1,23 @@
 -- Where the files tell, and hold a program and a service for it, the words have one answer.
-use Rattle.std.proofs.Common.{◌≡◌, ℕ, List, [], ◌∷◌, Option, None, Some, Ok, Err, ap, sym, ◌∙◌, refl, subst, arith}
+use Rattle.std.proofs.Common.{◌≡◌, ℕ, true, false, List, [], ◌∷◌, Option, None, Some, Ok, Err, ap, sym, ◌∙◌, refl, subst, arith}
+use Rattle.std.specs.Prelude.{IsTrue}
+use Rattle.std.specs.Result.{is_ok}
+use Rattle.rb_trees.specs.declared.typing.TypeError.{TypeError}
+use Rattle.rb_trees.specs.declared.typing.TypeError.TheVariants as violations
 use Rattle.rb_trees.specs.mirror.Declarations.{Program}
 use Rattle.rb_trees.specs.mirror.Services.{Service}
 use Rattle.rb_base.specs.Directories.{Directory, next_read, after_read, told_after, Finds, FailsNext}
 use Rattle.rb_meaning_bytes.specs.grammar.Sources.{ReadSource}
+use Rattle.rb_meaning_types.specs.Kinds.{kind_of_form}
+use Rattle.rb_meaning_types.specs.Faults.{Checked, Fault, UnknownName, NameTaken, WrongType, WrongCount, NotAssignable, MissingReturn, TypeNotHere, NotAllowedHere}
+use Rattle.rb_meaning_types.specs.Gives.{Fails}
+use Rattle.rb_meaning_types.specs.Programs.{check_program, is_typed}
 use Rattle.rb_top.specs.FirstForm.{FirstProgram, Offers}
 use Rattle.rb_top.specs.Runs.{run_text}
-use Rattle.rb_top.specs.Texts.{Fits, TooLong, IsService}
+use Rattle.rb_top.specs.Texts.{Fits, TooLong, no_violation, IsService}
 use Rattle.rb_top.specs.declared.status.Status.{Status}
 use Rattle.rb_top.specs.declared.status.Status.TheVariants.{Done}
-use Rattle.rb_top.specs.Answers.{Answers, words, program_fault, program_too_long, program_refused, program_read, program_form, service_fault, service_too_long, service_form, run, NamesProgram, by_check, by_both, Ends, starved, Says, answered, starved_first, check_words, both_words, Holds}
+use Rattle.rb_top.specs.Answers.{Answers, words, program_fault, program_too_long, program_refused, program_untyped, program_typed, program_form, service_fault, service_too_long, service_form, run, NamesProgram, by_check, by_both, Ends, starved, Says, answered, starved_first, check_words, both_words, Holds}
 use Rattle.rb_top.proofs.Ended.{wrote_none}
 use Rattle.rb_top.proofs.OneReading.{not_refused, read_once}
 use Rattle.rb_top.proofs.Texts.{service_once}
@@ -55,6 +63,26 @@ too_long_none text l f = omega arith
 program_short : (text : List ℕ) (program : Program) → ReadSource text (Ok program) → Fits text
 program_short text program i = i.1.short
 
+-- a typed program has no violation
+never_untyped : (program : Program) (error : TypeError) → IsTrue (is_typed program) → Fails error (check_program program) → no_violation error ≡ false → ⊥
+never_untyped program error t f n = no_failure (check_program program) error t f n
+  where
+    fails_none : (fault : Fault) (checked : Checked (Unit {0})) → is_ok checked ≡ true → checked ≡ Err fault → ⊥
+    fails_none fault checked t f =
+        let e = sym (ap is_ok f) ∙ t in
+        absurd (cc)
+
+    no_failure : (checked : Checked (Unit {0})) (error : TypeError) → is_ok checked ≡ true → Fails error checked → no_violation error ≡ false → ⊥
+    no_failure checked (violations.UnknownName at) t f n = fails_none (UnknownName at) checked t f
+    no_failure checked (violations.NameTaken at) t f n = fails_none (NameTaken at) checked t f
+    no_failure checked (violations.WrongType at found) t f n = fails_none (WrongType at (kind_of_form found)) checked t f
+    no_failure checked (violations.WrongCount at) t f n = fails_none (WrongCount at) checked t f
+    no_failure checked (violations.NotAssignable at) t f n = fails_none (NotAssignable at) checked t f
+    no_failure checked (violations.MissingReturn at) t f n = fails_none (MissingReturn at) checked t f
+    no_failure checked (violations.TypeNotHere at) t f n = fails_none (TypeNotHere at) checked t f
+    no_failure checked (violations.NotAllowedHere at) t f n = fails_none (NotAllowedHere at) checked t f
+    no_failure checked violations.Memory t f n = absurd (cc)
+
 one_answer : (fuel : ℕ) (told : Option Directory) (ws : List (List ℕ)) (p s : List ℕ) (status : Status) (shown : List ℕ) (directory : Directory) (text other : List ℕ) (program : Program) (service : Service)
     → ws ≡ both_words p s → told ≡ Some directory → Holds directory p s text other program service → Answers fuel told ws status shown → One fuel text program service status shown
 one_answer fuel told ws p s status shown directory text other program service w t h (words ws' n) = absurd (n.0 p s w)
@@ -66,8 +94,12 @@ one_answer fuel told ws p s status shown directory text other program service w 
 one_answer fuel told ws p s status shown directory text other program service w t h (program_refused ws' p' text' error n f l r) =
     let same = found_once told directory p p' text text' t (named_program ws p p' s n w) h.reads f in
     absurd (not_refused text program error h.is_program.read (subst (λ x. ReadSource x (Err error)) same r.read) r.is_refusal)
-one_answer fuel told ws p s status shown directory text other program service w t h (program_read p' text' program' f i) = absurd (other_words p p' s w)
-one_answer fuel told ws p s status shown directory text other program service w t h (program_form p' s' text' program' f i n) =
+one_answer fuel told ws p s status shown directory text other program service w t h (program_untyped ws' p' text' program' error n f v) =
+    let same = found_once told directory p p' text text' t (named_program ws p p' s n w) h.reads f in
+    let one = read_once text program' program (subst (λ x. ReadSource x (Ok program')) same v.read) h.is_program.read in
+    absurd (never_untyped program error h.is_program.typed (subst (λ x. Fails error (check_program x)) one v.fails) v.is_violation)
+one_answer fuel told ws p s status shown directory text other program service w t h (program_typed p' text' program' f i v) = absurd (other_words p p' s w)
+one_answer fuel told ws p s status shown directory text other program service w t h (program_form p' s' text' program' f i v n) =
     let same = found_once told directory p p' text text' t (ap first_name w) h.reads f in
     let one = read_once text program program' h.is_program.read (subst (λ x. ReadSource x (Ok program')) same i) in
     absurd (n (subst FirstProgram one h.is_program.form))

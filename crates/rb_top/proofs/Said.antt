@@ -1,13 +1,16 @@
 -- What the commands say, from what reading and running answer.
 use Rattle.std.proofs.Common.{◌≡◌, ℕ, List, [], ◌∷◌, Bool, true, false, Option, None, Some, Result, Ok, Err, OnOk, OnErr, cond, codes, ap, sym, ◌∙◌, refl, subst}
-use Rattle.std.specs.Prelude.{MatchBool}
+use Rattle.std.specs.Prelude.{IsTrue}
 use Rattle.std.specs.Str.{bytes_eq}
 use Rattle.std.proofs.lemmas.Slice.Eq.{bytes_eq-Decides}
 use Rattle.rb_trees.specs.declared.reading.ReadError.{ReadError}
+use Rattle.rb_trees.specs.declared.typing.TypeError.{TypeError}
 use Rattle.rb_trees.specs.mirror.Declarations.{Program}
 use Rattle.rb_trees.specs.mirror.Services.{Service}
 use Rattle.rb_meaning.specs.Shown.{line}
 use Rattle.rb_meaning_bytes.specs.grammar.Sources.{ReadSource}
+use Rattle.rb_meaning_types.specs.Gives.{Fails}
+use Rattle.rb_meaning_types.specs.Programs.{check_program, is_typed}
 use Rattle.rb_base.specs.Directories.{Directory, told_after, Finds}
 use Rattle.rb_base.specs.Sinks.{told_more, WrotePrefix}
 use Rattle.rb_top.specs.FirstForm.{FirstProgram, Offers}
@@ -19,10 +22,10 @@ use Rattle.rb_top.specs.declared.status.StoreError.TheVariants as stores
 use Rattle.rb_top.specs.declared.status.Status.{Status}
 use Rattle.rb_top.specs.declared.status.Status.TheVariants.{Done, Words, FileFault, SourceRefused, ServiceRefused, Memory, FileTooLong}
 use Rattle.rb_top.specs.Loads.{StopsText, HoldsProgram, faults_by}
-use Rattle.rb_top.specs.Refusals.{shown_refusal}
+use Rattle.rb_top.specs.Refusals.{shown_refusal, shown_violation}
 use Rattle.rb_top.specs.Runs.{run_text}
-use Rattle.rb_top.specs.Texts.{Fits, wants_memory, IsProgram, IsService, NoServiceFor}
-use Rattle.rb_top.specs.Answers.{Answers, words, program_fault, program_too_long, program_refused, program_read, program_form, service_fault, service_too_long, service_form, run, NamesProgram, Ends, starved, Says, answered, starved_first, check_words, check_of, both_words, both_of, fault_line, too_long_line, Unread, Refuses, read_faults, status_after}
+use Rattle.rb_top.specs.Texts.{Fits, wants_memory, no_violation, IsProgram, IsService, NoServiceFor}
+use Rattle.rb_top.specs.Answers.{Answers, words, program_fault, program_too_long, program_refused, program_untyped, program_typed, program_form, service_fault, service_too_long, service_form, run, NamesProgram, Ends, starved, Says, answered, starved_first, check_words, check_of, both_words, both_of, fault_line, too_long_line, Unread, EndsUnless, Refuses, Violates, read_faults, status_after}
 use Rattle.rb_top.proofs.Ended.{ends_by, wrote_none}
 
 says : (fuel : ℕ) (told : Option Directory) (ws : List (List ℕ)) (old : Option (List ℕ)) (reads : ℕ) (status result : Status) (text : List ℕ) (new : Option (List ℕ)) (after : ℕ) → Answers fuel told ws status text → Ends status text old result new → after ≡ read_faults status reads → Says fuel told ws old reads result new after
@@ -44,52 +47,50 @@ starved_unread stops.TooLong name old = starved old (wrote_none old (too_long_li
 starved_unread stops.Memory name old = (refl, refl)
 
 -- without memory for the line a refusal isn't said
-pub starved_refusal : (text : List ℕ) (error : ReadError) (old : Option (List ℕ)) → Refuses text error old Memory old
-starved_refusal text error old = go (wants_memory error)
-  where
-    go : (b : Bool) → MatchBool b (◌≡◌ {A = Status} Memory Memory × (old ≡ old)) (Ends (SourceRefused (sources.Read error)) (line (shown_refusal text error)) old Memory old)
-    go true = (refl, refl)
-    go false = starved old (wrote_none old (line (shown_refusal text error)))
-
-pub refuses : (text : List ℕ) (error : ReadError) (old : Option (List ℕ)) (result : Status) (new : Option (List ℕ)) → wants_memory error ≡ false → Ends (SourceRefused (sources.Read error)) (line (shown_refusal text error)) old result new → Refuses text error old result new
-refuses text error old result new m e = go (wants_memory error) m
-  where
-    go : (b : Bool) → b ≡ false → MatchBool b ((result ≡ Memory) × (new ≡ old)) (Ends (SourceRefused (sources.Read error)) (line (shown_refusal text error)) old result new)
-    go true m = absurd (cc)
-    go false m = e
+pub starved_line : (wanting : Bool) (status : Status) (text : List ℕ) (old : Option (List ℕ)) → EndsUnless wanting status text old Memory old
+starved_line true status text old = (refl, refl)
+starved_line false status text old = starved old (wrote_none old text)
 
 pub program_unread : (fuel : ℕ) (told : Option Directory) (ws : List (List ℕ)) (p : List ℕ) (old : Option (List ℕ)) (reads : ℕ) (stop : TextStop) (result : Status) (new : Option (List ℕ)) (after : ℕ) → NamesProgram ws p → StopsText told p stop → Unread stop p old result new → after ≡ faults_by stop reads → Says fuel told ws old reads result new after
 program_unread fuel told ws p old reads stops.FileFault result new after n l r h = says fuel told ws old reads (FileFault p) result (fault_line p) new after (program_fault ws p n l) r h
 program_unread fuel told ws p old reads stops.TooLong result new after n l r h = says fuel told ws old reads (FileTooLong p) result (too_long_line p) new after (program_too_long ws p l.0 n l.1 l.2) r h
 program_unread fuel told ws p old reads stops.Memory result new after n l r h = starves fuel told ws old reads result new after r.0 r.1 h
 
-pub program_not_read : (fuel : ℕ) (told : Option Directory) (ws : List (List ℕ)) (p : List ℕ) (old : Option (List ℕ)) (reads : ℕ) (text : List ℕ) (error : ReadError) (result : Status) (new : Option (List ℕ)) (after : ℕ) → NamesProgram ws p → Finds told p text → Fits text → ReadSource text (Err error) → Refuses text error old result new → after ≡ reads → Says fuel told ws old reads result new after
-program_not_read fuel told ws p old reads text error result new after n f s i r h = go (wants_memory error) refl r
-  where
-    go : (b : Bool) → wants_memory error ≡ b → MatchBool b ((result ≡ Memory) × (new ≡ old)) (Ends (SourceRefused (sources.Read error)) (line (shown_refusal text error)) old result new) → Says fuel told ws old reads result new after
-    go true m q = starves fuel told ws old reads result new after q.0 q.1 h
-    go false m q = says fuel told ws old reads (SourceRefused (sources.Read error)) result (line (shown_refusal text error)) new after (program_refused ws p text error n f s (record { read = i; is_refusal = m })) q h
+-- what is said, unless memory was wanting already
+says_unless : (fuel : ℕ) (told : Option Directory) (ws : List (List ℕ)) (old : Option (List ℕ)) (reads : ℕ) (wanting : Bool) (status result : Status) (text : List ℕ) (new : Option (List ℕ)) (after : ℕ) → (wanting ≡ false → Answers fuel told ws status text) → EndsUnless wanting status text old result new → reads ≡ read_faults status reads → after ≡ reads → Says fuel told ws old reads result new after
+says_unless fuel told ws old reads true status result text new after a e r h = starves fuel told ws old reads result new after e.0 e.1 h
+says_unless fuel told ws old reads false status result text new after a e r h = says fuel told ws old reads status result text new after (a refl) e (h ∙ r)
 
-pub said_read : (fuel : ℕ) (told : Option Directory) (p : List ℕ) (old : Option (List ℕ)) (reads : ℕ) (program : Program) (result : Status) (new : Option (List ℕ)) (after : ℕ) → HoldsProgram told p program → Ends Done (line (codes "read")) old result new → after ≡ reads → Says fuel told (check_words p) old reads result new after
-said_read fuel told p old reads program result new after m e h = says fuel told (check_words p) old reads Done result (line (codes "read")) new after (program_read p m.0 program m.1 m.2) e h
+pub program_not_read : (fuel : ℕ) (told : Option Directory) (ws : List (List ℕ)) (p : List ℕ) (old : Option (List ℕ)) (reads : ℕ) (text : List ℕ) (error : ReadError) (result : Status) (new : Option (List ℕ)) (after : ℕ) → NamesProgram ws p → Finds told p text → Fits text → ReadSource text (Err error) → Refuses text error old result new → after ≡ reads → Says fuel told ws old reads result new after
+program_not_read fuel told ws p old reads text error result new after n f s i r h =
+    says_unless fuel told ws old reads (wants_memory error) (SourceRefused (sources.Read error)) result (line (shown_refusal text error)) new after
+    (λ m. program_refused ws p text error n f s (record { read = i; is_refusal = m })) r refl h
+
+pub program_not_typed : (fuel : ℕ) (told : Option Directory) (ws : List (List ℕ)) (p : List ℕ) (old : Option (List ℕ)) (reads : ℕ) (text : List ℕ) (program : Program) (error : TypeError) (result : Status) (new : Option (List ℕ)) (after : ℕ) → NamesProgram ws p → Finds told p text → ReadSource text (Ok program) → Fails error (check_program program) → Violates text error old result new → after ≡ reads → Says fuel told ws old reads result new after
+program_not_typed fuel told ws p old reads text program error result new after n f i v r h =
+    says_unless fuel told ws old reads (no_violation error) (SourceRefused (sources.Types error)) result (line (shown_violation text error)) new after
+    (λ m. program_untyped ws p text program error n f (record { read = i; fails = v; is_violation = m })) r refl h
+
+pub said_typed : (fuel : ℕ) (told : Option Directory) (p : List ℕ) (old : Option (List ℕ)) (reads : ℕ) (program : Program) (result : Status) (new : Option (List ℕ)) (after : ℕ) → HoldsProgram told p program → Ends Done (line (codes "typed")) old result new → after ≡ reads → Says fuel told (check_words p) old reads result new after
+said_typed fuel told p old reads program result new after m e h = says fuel told (check_words p) old reads Done result (line (codes "typed")) new after (program_typed p m.0 program m.1 m.2 m.3) e h
 
 pub said_form : (fuel : ℕ) (told : Option Directory) (p s : List ℕ) (old : Option (List ℕ)) (reads : ℕ) (program : Program) (result : Status) (new : Option (List ℕ)) (after : ℕ) → HoldsProgram told p program → ¬ FirstProgram program → Ends (SourceRefused sources.NotBuilt) (line (codes "not built")) old result new → after ≡ reads → Says fuel told (both_words p s) old reads result new after
-said_form fuel told p s old reads program result new after m n e h = says fuel told (both_words p s) old reads (SourceRefused sources.NotBuilt) result (line (codes "not built")) new after (program_form p s m.0 program m.1 m.2 n) e h
+said_form fuel told p s old reads program result new after m n e h = says fuel told (both_words p s) old reads (SourceRefused sources.NotBuilt) result (line (codes "not built")) new after (program_form p s m.0 program m.1 m.2 m.3 n) e h
 
-is_program : (text : List ℕ) (program : Program) → ReadSource text (Ok program) → FirstProgram program → IsProgram text program
-is_program text program i f = record { read = i; form = f }
+is_program : (text : List ℕ) (program : Program) → ReadSource text (Ok program) → IsTrue (is_typed program) → FirstProgram program → IsProgram text program
+is_program text program i t f = record { read = i; typed = t; form = f }
 
 pub service_unread : (fuel : ℕ) (told between : Option Directory) (p s : List ℕ) (old : Option (List ℕ)) (reads : ℕ) (program : Program) (stop : TextStop) (result : Status) (new : Option (List ℕ)) (after : ℕ) → HoldsProgram told p program → FirstProgram program → between ≡ told_after told → StopsText between s stop → Unread stop s old result new → after ≡ faults_by stop reads → Says fuel told (both_words p s) old reads result new after
 service_unread fuel told between p s old reads program stops.FileFault result new after m f b l r h =
-    says fuel told (both_words p s) old reads (FileFault s) result (fault_line s) new after (service_fault p s m.0 program m.1 (is_program m.0 program m.2 f) (subst (λ t. StopsText t s stops.FileFault) b l)) r h
+    says fuel told (both_words p s) old reads (FileFault s) result (fault_line s) new after (service_fault p s m.0 program m.1 (is_program m.0 program m.2 m.3 f) (subst (λ t. StopsText t s stops.FileFault) b l)) r h
 service_unread fuel told between p s old reads program stops.TooLong result new after m f b l r h =
     let k = subst (λ t. StopsText t s stops.TooLong) b l in
-    says fuel told (both_words p s) old reads (FileTooLong s) result (too_long_line s) new after (service_too_long p s m.0 k.0 program m.1 (is_program m.0 program m.2 f) k.1 k.2) r h
+    says fuel told (both_words p s) old reads (FileTooLong s) result (too_long_line s) new after (service_too_long p s m.0 k.0 program m.1 (is_program m.0 program m.2 m.3 f) k.1 k.2) r h
 service_unread fuel told between p s old reads program stops.Memory result new after m f b l r h = starves fuel told (both_words p s) old reads result new after r.0 r.1 h
 
 pub no_service : (fuel : ℕ) (told between : Option Directory) (p s : List ℕ) (old : Option (List ℕ)) (reads : ℕ) (program : Program) (other : List ℕ) (result : Status) (new : Option (List ℕ)) (after : ℕ) → HoldsProgram told p program → FirstProgram program → between ≡ told_after told → Finds between s other → Fits other → NoServiceFor program other → Ends (ServiceRefused stores.NotBuilt) (line (codes "service not built")) old result new → after ≡ reads → Says fuel told (both_words p s) old reads result new after
 no_service fuel told between p s old reads program other result new after m f b l t n e h =
-    says fuel told (both_words p s) old reads (ServiceRefused stores.NotBuilt) result (line (codes "service not built")) new after (service_form p s m.0 other program m.1 (is_program m.0 program m.2 f) (subst (λ t. Finds t s other) b l) t n) e h
+    says fuel told (both_words p s) old reads (ServiceRefused stores.NotBuilt) result (line (codes "service not built")) new after (service_form p s m.0 other program m.1 (is_program m.0 program m.2 m.3 f) (subst (λ t. Finds t s other) b l) t n) e h
 
 at_ok : (printed : Result (Unit {0}) PrintStop) (P Q : Type 0) → (P → Q) → OnOk printed P → OnOk printed Q
 at_ok (Ok done) P Q f p = f p
@@ -105,7 +106,7 @@ pub run_ended : (fuel : ℕ) (told between : Option Directory) (p s : List ℕ) 
     → result ≡ status_after Done printed → after ≡ reads → Says fuel told (both_words p s) old reads result new after
 run_ended fuel told between p s old reads program service other printed result new after m f b l i o ok err e h =
     let text = run_text m.0 fuel program service in
-    says fuel told (both_words p s) old reads Done result text new after (run p s m.0 other program service m.1 (is_program m.0 program m.2 f) (subst (λ t. Finds t s other) b l) i o)
+    says fuel told (both_words p s) old reads Done result text new after (run p s m.0 other program service m.1 (is_program m.0 program m.2 m.3 f) (subst (λ t. Finds t s other) b l) i o)
     (ends_by Done text old new printed result e (at_ok printed _ _ (λ all. all m.0 fuel) ok) (at_err printed _ _ (λ all. all m.0 fuel) err)) h
 
 abbrev the_names : List ℕ → List ℕ → Option (List ℕ × List ℕ)

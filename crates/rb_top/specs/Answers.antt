@@ -1,18 +1,20 @@
 -- What the commands `check P` and `both P S` answer: the status and the text on the output.
-use Rattle.std.specs.Prelude.{◌≡◌, ℕ, List, [], ◌∷◌, ◌++◌, Option, None, Some, Result, Ok, Err, cond, codes, MatchBool}
+use Rattle.std.specs.Prelude.{◌≡◌, ℕ, List, [], ◌∷◌, ◌++◌, Bool, Option, None, Some, Result, Ok, Err, cond, codes, IsTrue, MatchBool}
 use Rattle.std.specs.Str.{bytes_eq}
 use Rattle.rb_trees.specs.declared.reading.ReadError.{ReadError}
+use Rattle.rb_trees.specs.declared.typing.TypeError.{TypeError}
 use Rattle.rb_trees.specs.mirror.Declarations.{Program}
 use Rattle.rb_trees.specs.mirror.Services.{Service}
 use Rattle.rb_meaning.specs.Shown.{line}
 use Rattle.rb_meaning_bytes.specs.grammar.Sources.{ReadSource}
+use Rattle.rb_meaning_types.specs.Programs.{is_typed}
 use Rattle.rb_base.specs.Counts.{risen}
 use Rattle.rb_base.specs.Directories.{Directory, next_read, after_read, told_after, Finds, FailsNext}
 use Rattle.rb_base.specs.Sinks.{told_more, WrotePrefix}
 use Rattle.rb_top.specs.FirstForm.{FirstProgram, Offers}
-use Rattle.rb_top.specs.Refusals.{shown_refusal}
+use Rattle.rb_top.specs.Refusals.{shown_refusal, shown_violation}
 use Rattle.rb_top.specs.Runs.{run_text}
-use Rattle.rb_top.specs.Texts.{Fits, TooLong, wants_memory, IsRefused, IsProgram, IsService, NoServiceFor}
+use Rattle.rb_top.specs.Texts.{Fits, TooLong, wants_memory, no_violation, IsRefused, IsUntyped, IsProgram, IsService, NoServiceFor}
 use Rattle.rb_top.specs.declared.loading.TextStop.{TextStop}
 use Rattle.rb_top.specs.declared.loading.TextStop.TheVariants as stops
 use Rattle.rb_top.specs.declared.printing.PrintStop.{PrintStop}
@@ -55,10 +57,12 @@ pub data Answers (fuel : ℕ) (told : Option Directory) : List (List ℕ) → St
       → Answers fuel told words (FileTooLong p) (too_long_line p)
   program_refused : (words : List (List ℕ)) (p text : List ℕ) (error : ReadError) → NamesProgram words p → Finds told p text → Fits text
       → IsRefused text error → Answers fuel told words (SourceRefused (sources.Read error)) (line (shown_refusal text error))
-  program_read : (p text : List ℕ) (program : Program) → Finds told p text → ReadSource text (Ok program)
-      → Answers fuel told (check_words p) Done (line (codes "read"))
-  program_form : (p s text : List ℕ) (program : Program) → Finds told p text → ReadSource text (Ok program) → ¬ FirstProgram program
-      → Answers fuel told (both_words p s) (SourceRefused sources.NotBuilt) (line (codes "not built"))
+  program_untyped : (words : List (List ℕ)) (p text : List ℕ) (program : Program) (error : TypeError) → NamesProgram words p → Finds told p text
+      → IsUntyped text program error → Answers fuel told words (SourceRefused (sources.Types error)) (line (shown_violation text error))
+  program_typed : (p text : List ℕ) (program : Program) → Finds told p text → ReadSource text (Ok program) → IsTrue (is_typed program)
+      → Answers fuel told (check_words p) Done (line (codes "typed"))
+  program_form : (p s text : List ℕ) (program : Program) → Finds told p text → ReadSource text (Ok program) → IsTrue (is_typed program)
+      → ¬ FirstProgram program → Answers fuel told (both_words p s) (SourceRefused sources.NotBuilt) (line (codes "not built"))
   service_fault : (p s text : List ℕ) (program : Program) → Finds told p text → IsProgram text program
       → FailsNext (told_after told) s → Answers fuel told (both_words p s) (FileFault s) (fault_line s)
   service_too_long : (p s text other : List ℕ) (program : Program) → Finds told p text → IsProgram text program
@@ -134,7 +138,14 @@ Unread stops.FileFault name old result new = Ends (FileFault name) (fault_line n
 Unread stops.TooLong name old result new = Ends (FileTooLong name) (too_long_line name) old result new
 Unread stops.Memory name old result new = (result ≡ Memory) × (new ≡ old)
 
+-- This was to be printed and answered, unless memory was wanting already.
+abbrev pub EndsUnless : Bool → Status → List ℕ → Option (List ℕ) → Status → Option (List ℕ) → Type 0
+EndsUnless wanting status text old result new = MatchBool wanting ((result ≡ Memory) × (new ≡ old)) (Ends status text old result new)
+
 -- The text is refused, unless memory was wanting.
 abbrev pub Refuses : List ℕ → ReadError → Option (List ℕ) → Status → Option (List ℕ) → Type 0
-Refuses text error old result new =
-    MatchBool (wants_memory error) ((result ≡ Memory) × (new ≡ old)) (Ends (SourceRefused (sources.Read error)) (line (shown_refusal text error)) old result new)
+Refuses text error old result new = EndsUnless (wants_memory error) (SourceRefused (sources.Read error)) (line (shown_refusal text error)) old result new
+
+-- The program in the text has this violation, unless memory was wanting.
+abbrev pub Violates : List ℕ → TypeError → Option (List ℕ) → Status → Option (List ℕ) → Type 0
+Violates text error old result new = EndsUnless (no_violation error) (SourceRefused (sources.Types error)) (line (shown_violation text error)) old result new

@@ -1,9 +1,10 @@
 -- What reading a text from the files answers.
-use Rattle.std.specs.Prelude.{ℕ, List, Option, Result, Ok, Err}
+use Rattle.std.specs.Prelude.{ℕ, List, Option, Result, Ok, Err, IsTrue}
 use Rattle.rb_trees.specs.mirror.Declarations.{Program}
 use Rattle.rb_meaning_bytes.specs.grammar.Sources.{ReadSource}
 use Rattle.rb_base.specs.Counts.{risen}
 use Rattle.rb_base.specs.Directories.{Directory, Finds, FailsNext}
+use Rattle.rb_meaning_types.specs.Programs.{is_typed}
 use Rattle.rb_top.specs.Texts.{TooLong}
 use Rattle.rb_top.specs.declared.loading.TextStop.{TextStop}
 use Rattle.rb_top.specs.declared.loading.TextStop.TheVariants as stops
@@ -24,6 +25,6 @@ abbrev pub faults_after_load : {A : Type 0} → Result A TextStop → ℕ → �
 faults_after_load (Ok a) n = n
 faults_after_load (Err stop) n = faults_by stop n
 
--- The file of the name holds a text that is read as this program, as far as the files tell.
+-- The file of the name holds a text that is read as this program, as far as the files tell, and it is typed.
 abbrev pub HoldsProgram : Option Directory → List ℕ → Program → Type 0
-HoldsProgram told name program = (text : List ℕ) × Finds told name text × ReadSource text (Ok program)
+HoldsProgram told name program = (text : List ℕ) × Finds told name text × ReadSource text (Ok program) × IsTrue (is_typed program)

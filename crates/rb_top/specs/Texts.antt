@@ -1,15 +1,19 @@
 -- The texts of programs and services.
-use Rattle.std.specs.Prelude.{◌≡◌, ◌==◌, ℕ, ◌<◌, ◌≤◌, List, Bool, true, false, Option, None, Some, Ok, Err, length}
+use Rattle.std.specs.Prelude.{◌≡◌, ◌==◌, ℕ, ◌<◌, ◌≤◌, List, Bool, true, false, Option, None, Some, Ok, Err, length, IsTrue}
 use Rattle.std.specs.List.{list_any}
 use Rattle.rb_trees.specs.declared.tokens.Token.{Token}
 use Rattle.rb_trees.specs.declared.reading.ReadError.{ReadError}
 use Rattle.rb_trees.specs.declared.reading.ReadError.TheVariants as errors
 use Rattle.rb_trees.specs.declared.reading.LexError.{LexError}
 use Rattle.rb_trees.specs.declared.reading.LexError.TheVariants as faults
+use Rattle.rb_trees.specs.declared.typing.TypeError.{TypeError}
+use Rattle.rb_trees.specs.declared.typing.TypeError.TheVariants as violations
 use Rattle.rb_trees.specs.mirror.Declarations.{Program}
 use Rattle.rb_trees.specs.mirror.Services.{Service}
 use Rattle.rb_meaning_bytes.specs.tokens.Texts.{IsTokens, longest_text}
 use Rattle.rb_meaning_bytes.specs.grammar.Sources.{ReadSource}
+use Rattle.rb_meaning_types.specs.Gives.{Fails}
+use Rattle.rb_meaning_types.specs.Programs.{check_program, is_typed}
 use Rattle.rb_top.specs.FirstForm.{FirstProgram, Offers}
 use Rattle.rb_top.specs.FirstTexts.{service_at}
 
@@ -38,9 +42,21 @@ pub record IsRefused (text : List ℕ) (error : ReadError) : Type 0 where
   pub read : ReadSource text (Err error)
   pub is_refusal : wants_memory error ≡ false
 
--- The text is this program, of the form that is built.
+-- whether this is want of memory, which is no violation of a program's
+abbrev pub no_violation : TypeError → Bool
+no_violation violations.Memory = true
+no_violation _ = false
+
+-- The text is read as this program, whose first violation this is.
+pub record IsUntyped (text : List ℕ) (p : Program) (error : TypeError) : Type 0 where
+  pub read : ReadSource text (Ok p)
+  pub fails : Fails error (check_program p)
+  pub is_violation : no_violation error ≡ false
+
+-- The text is this program, typed and of the form that is built.
 pub record IsProgram (text : List ℕ) (p : Program) : Type 0 where
   pub read : ReadSource text (Ok p)
+  pub typed : IsTrue (is_typed p)
   pub form : FirstProgram p
 
 -- whether a text has a `/`, with which comments begin, and in a service of the form that is built nothing else

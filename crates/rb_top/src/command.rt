@@ -13,17 +13,18 @@ ghost use Rattle.rb_top.specs.Loads.{HoldsProgram};
 ghost use Rattle.rb_top.specs.Runs.{run_text};
 ghost use Rattle.rb_top.specs.Texts.{Fits};
 ghost use Rattle.rb_top.specs.declared.status.Status.TheVariants as statuses;
-ghost use Rattle.rb_top.specs.Answers.{NamesProgram, Ends, Says, Holds, Refuses, Unread, IsWhole, check_of, check_words, both_of, both_words, faults_after_reading, status_after, write_faults};
+ghost use Rattle.rb_top.specs.Answers.{NamesProgram, Ends, Says, Holds, Refuses, Violates, Unread, IsWhole, check_of, check_words, both_of, both_words, faults_after_reading, status_after, write_faults};
 
 use crate::first_form::is_first_program;
 use crate::loading::{TextStop, load_text, service_for};
 use crate::printing::{PrintStop, print_text};
-use crate::refusals::{is_memory, refusal_line};
+use crate::refusals::{is_memory, is_no_violation, refusal_line, violation_line};
 use crate::run::run_both;
 use crate::status::{SourceError, Status, StoreError};
 use rb_base::{Files, Sink};
 use rb_parse::parse_program;
-use rb_trees::{Memory, Program, ReadError, Seq};
+use rb_trees::{Memory, Program, ReadError, Seq, TypeError};
+use rb_types::{Typed, check as check_types};
 use std::alloc::{AllocError, Global};
 
 /// The status after a text was printed, or wasn't.
@@ -109,14 +110,33 @@ fn refuse<W: Sink>(alloc: Global, text: &[u8], error: ReadError, out: &mut W) ->
     }
 }
 
-/// The program in a file, or the status after it was said why there is none.
-fn read_program<F: Files, W: Sink>(
+/// Says why a program isn't typed.
+fn refuse_types<W: Sink>(alloc: Global, text: &[u8], error: TypeError, out: &mut W) -> Status
+    requires { Fits text.now }
+    ensures violates { Violates text.now error (W.told out.old) result (W.told out.new) }
+    ensures writes { W.faults out.new ≡ write_faults result (W.faults out.old) }
+{
+    if is_no_violation(&error) {
+        return Status::Memory;
+    }
+    match violation_line(alloc, text, &error) {
+        Ok(line) => say(
+            Status::SourceRefused(SourceError::Types(error)),
+            line.as_slice(),
+            out,
+        ),
+        Err(_) => Status::Memory,
+    }
+}
+
+/// The typed program in a file, or the status after it was said why there is none.
+fn typed_program<F: Files, W: Sink>(
     alloc: Global,
     name: &str,
     files: &mut F,
     out: &mut W,
-) -> Result<Program, Status>
-    ensures program { IfOk result (λ program. HoldsProgram (F.told files.old) name.now (mirror_program program)) }
+) -> Result<Typed, Status>
+    ensures program { IfOk result (λ typed. HoldsProgram (F.told files.old) name.now (mirror_program typed)) }
     ensures refused { IfErr result (λ status. (fuel : ℕ) → (words : List (List ℕ)) → NamesProgram words name.now → Says fuel (F.told files.old) words (W.told out.old) (F.faults files.old) status (W.told out.new) (F.faults files.new)) }
     ensures silent { OnOk result (W.told out.new ≡ W.told out.old) }
     ensures told { F.told files.new ≡ told_after (F.told files.old) }
@@ -129,21 +149,23 @@ fn read_program<F: Files, W: Sink>(
             let source = text.as_slice();
             match parse_program(alloc, source) {
                 Err(error) => Err(refuse(alloc, source, error, out)),
-                // Here its types are to be checked.
-                Ok(program) => Ok(program),
+                Ok(program) => match check_types(alloc, program) {
+                    Err(error) => Err(refuse_types(alloc, source, error, out)),
+                    Ok(typed) => Ok(typed),
+                },
             }
         }
     }
 }
 
-/// `check P`: says whether the program in the file P is read.
+/// `check P`: says whether the program in the file P is typed.
 fn check<F: Files, W: Sink>(alloc: Global, name: &str, files: &mut F, out: &mut W) -> Status
     ensures answer { (fuel : ℕ) → Says fuel (F.told files.old) (check_words name.now) (W.told out.old) (F.faults files.old) result (W.told out.new) (F.faults files.new) }
     ensures writes { W.faults out.new ≡ write_faults result (W.faults out.old) }
 {
-    match read_program(alloc, name, files, out) {
+    match typed_program(alloc, name, files, out) {
         Err(status) => status,
-        Ok(_) => say(Status::Done, b"read\n", out),
+        Ok(_) => say(Status::Done, b"typed\n", out),
     }
 }
 
@@ -187,11 +209,12 @@ fn both<F: Files, W: Sink>(
     ensures answer { (fuel : ℕ) → Says fuel (F.told files.old) (both_words program_name.now service_name.now) (W.told out.old) (F.faults files.old) result (W.told out.new) (F.faults files.new) }
     ensures writes { W.faults out.new ≡ write_faults result (W.faults out.old) }
 {
-    match read_program(alloc, program_name, files, out) {
+    match typed_program(alloc, program_name, files, out) {
         Err(refusal) => refusal,
-        Ok(program) => {
-            if is_first_program(&program) {
-                run_on(alloc, &program, service_name, files, out)
+        Ok(typed) => {
+            let program = typed.program();
+            if is_first_program(program) {
+                run_on(alloc, program, service_name, files, out)
             } else {
                 say(
                     Status::SourceRefused(SourceError::NotBuilt),

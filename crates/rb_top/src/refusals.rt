@@ -4,11 +4,11 @@ ghost use Rattle.std.specs.Prelude.{◌≡◌, ◌++◌, IfOk, codes};
 ghost use Rattle.std.specs.String.{string_bytes};
 ghost use Rattle.std.specs.Fmt.{decimal};
 ghost use Rattle.rb_meaning.specs.Shown.{line};
-ghost use Rattle.rb_top.specs.Refusals.{lex_heading, heading, lex_offset, offset, shown_refusal};
-ghost use Rattle.rb_top.specs.Texts.{Fits, lacks_memory, wants_memory};
+ghost use Rattle.rb_top.specs.Refusals.{lex_heading, heading, lex_offset, offset, violation_heading, violation_offset, shown_at, shown_refusal, shown_violation};
+ghost use Rattle.rb_top.specs.Texts.{Fits, lacks_memory, wants_memory, no_violation};
 
 use rb_base::place;
-use rb_trees::{LexError, ReadError};
+use rb_trees::{LexError, ReadError, TypeError};
 use std::alloc::{AllocError, Global};
 
 /// Whether there are no tokens for want of memory.
@@ -30,6 +30,16 @@ pub fn is_memory(error: &ReadError) -> bool
         ReadError::Unexpected(_) => false,
         ReadError::TooNested(_) => false,
         ReadError::Memory => true,
+    }
+}
+
+/// Whether this is want of memory, which is no violation of a program's.
+pub fn is_no_violation(error: &TypeError) -> bool
+    ensures { result ≡ no_violation error.now }
+{
+    match error {
+        TypeError::Memory => true,
+        _ => false,
     }
 }
 
@@ -59,6 +69,23 @@ fn heading(error: &ReadError) -> &'static str
     }
 }
 
+/// The stage, the number and the name of a violation.
+fn violation_heading(error: &TypeError) -> &'static str
+    ensures { result.now ≡ violation_heading error.now }
+{
+    match error {
+        TypeError::UnknownName(_) => "types 1 UnknownName",
+        TypeError::NameTaken(_) => "types 2 NameTaken",
+        TypeError::WrongType(_, _) => "types 3 WrongType",
+        TypeError::WrongCount(_) => "types 4 WrongCount",
+        TypeError::NotAssignable(_) => "types 5 NotAssignable",
+        TypeError::MissingReturn(_) => "types 6 MissingReturn",
+        TypeError::TypeNotHere(_) => "types 7 TypeNotHere",
+        TypeError::NotAllowedHere(_) => "types 8 NotAllowedHere",
+        TypeError::Memory => "",
+    }
+}
+
 fn lex_offset(fault: &LexError) -> u32
     ensures { result ≡ lex_offset fault.now }
 {
@@ -81,6 +108,23 @@ fn offset(error: &ReadError) -> u32
         ReadError::Unexpected(at) => *at,
         ReadError::TooNested(at) => *at,
         ReadError::Memory => 0,
+    }
+}
+
+/// Where a program has a violation.
+fn violation_offset(error: &TypeError) -> u32
+    ensures { result ≡ violation_offset error.now }
+{
+    match error {
+        TypeError::UnknownName(at) => *at,
+        TypeError::NameTaken(at) => *at,
+        TypeError::WrongType(at, _) => *at,
+        TypeError::WrongCount(at) => *at,
+        TypeError::NotAssignable(at) => *at,
+        TypeError::MissingReturn(at) => *at,
+        TypeError::TypeNotHere(at) => *at,
+        TypeError::NotAllowedHere(at) => *at,
+        TypeError::Memory => 0,
     }
 }
 
@@ -116,13 +160,34 @@ fn line_at(alloc: Global, heading: &str, place: &[u8]) -> Result<Vec<u8>, AllocE
     Ok(text)
 }
 
+/// The line of what is refused at an offset of a text.
+fn line_in(alloc: Global, text: &[u8], heading: &str, at: u32) -> Result<Vec<u8>, AllocError>
+    requires { Fits text.now }
+    ensures { IfOk result (λ shown. shown.items ≡ line (shown_at text.now heading.now at)) }
+{
+    let at = at.min(text.len() as u32);
+    let (row, column) = place(text, at);
+    let place = place_text(alloc, row, column)?;
+    line_at(alloc, heading, place.as_slice())
+}
+
 /// The line that shows a refusal of a text.
 pub fn refusal_line(alloc: Global, text: &[u8], error: &ReadError) -> Result<Vec<u8>, AllocError>
     requires { Fits text.now }
     ensures { IfOk result (λ shown. shown.items ≡ line (shown_refusal text.now error.now)) }
 {
-    let at = offset(error).min(text.len() as u32);
-    let (row, column) = place(text, at);
-    let place = place_text(alloc, row, column)?;
-    line_at(alloc, heading(error), place.as_slice())
+    line_in(alloc, text, heading(error), offset(error))
+}
+
+/// The line that shows a violation in a text.
+pub fn violation_line(alloc: Global, text: &[u8], error: &TypeError) -> Result<Vec<u8>, AllocError>
+    requires { Fits text.now }
+    ensures { IfOk result (λ shown. shown.items ≡ line (shown_violation text.now error.now)) }
+{
+    line_in(
+        alloc,
+        text,
+        violation_heading(error),
+        violation_offset(error),
+    )
 }

@@ -1,7 +1,7 @@
 ghost use Rattle.std.specs.Prelude.{◌≡◌};
 ghost use Rattle.rb_top.specs.Codes.{code_of};
 
-use rb_trees::{ReadError, Word};
+use rb_trees::{ReadError, TypeError, Word};
 use thiserror::Error;
 
 /// Why a program's text is refused.
@@ -13,6 +13,9 @@ pub enum SourceError {
     /// The text isn't read. This holds no Memory, nor does its `Lex`.
     #[error("{0}")]
     Read(ReadError),
+    /// The program that was read isn't typed. This holds no Memory.
+    #[error("{0}")]
+    Types(TypeError),
 }
 
 /// Why a service's text is refused.
