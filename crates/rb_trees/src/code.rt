@@ -1,6 +1,7 @@
 use crate::boxes::Boxed;
 use crate::sequence::{Seq, Word};
 use crate::values::Value;
+use std::fmt;
 
 /// A type as it is written, at the position of its first token.
 #[cycle(types)]
@@ -22,6 +23,29 @@ pub enum TypeForm {
     Named(Word),
     ListOf(Boxed<TypeTree>),
     RowsOf(Boxed<TypeTree>),
+}
+
+impl fmt::Display for TypeForm {
+    fn fmt<W: fmt::Write>(&self, f: &mut fmt::Formatter<W>) -> fmt::Result {
+        match self {
+            TypeForm::Int => write!(f, "Int"),
+            TypeForm::Bool => write!(f, "Bool"),
+            TypeForm::Text => write!(f, "Text"),
+            TypeForm::Unit => write!(f, "Unit"),
+            TypeForm::Named(name) => match str::from_utf8(name.as_slice()) {
+                Ok(name) => write!(f, "{name}"),
+                Err(_) => write!(f, "a type"),
+            },
+            TypeForm::ListOf(item) => {
+                let form = &item.get().form;
+                write!(f, "List<{form}>")
+            }
+            TypeForm::RowsOf(row) => {
+                let form = &row.get().form;
+                write!(f, "Rows<{form}>")
+            }
+        }
+    }
 }
 
 /// The operators before one operand, in the order of their codes from 1.

@@ -12,7 +12,7 @@ pub enum TypeError {
     #[error("the name at offset {0} is taken")]
     NameTaken(u32),
     /// An expression of a type that isn't wanted there, with that type.
-    #[error("the expression at offset {0} has a type that isn't wanted there")]
+    #[error("the expression at offset {0} has the type {1}, where another is wanted")]
     WrongType(u32, TypeForm),
     /// A call or a `new` with another count of arguments than is declared.
     #[error("the call at offset {0} has a wrong count of arguments")]
