@@ -20,7 +20,7 @@ fn main(rt: HostRuntime) -> io::Result<()> {
 }
 
 /// Prints how it went with the file.
-fn report<R: Files + AllocGlobal + Print>(rt: &R, what: &str, path: &str) -> io::Result<()> {
+fn report<R: Files + AllocGlobal + Print + Eprint>(rt: &R, what: &str, path: &str) -> io::Result<()> {
     let text = fs::read(rt, path)?;
     let source = text.as_slice();
     let alloc = rt.alloc();
