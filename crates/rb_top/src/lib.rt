@@ -17,6 +17,8 @@ mod run;
 mod status;
 #[cfg(test)]
 mod tests;
+#[cfg(test)]
+mod typing_tests;
 mod wire;
 
 pub use answer::first_answer;

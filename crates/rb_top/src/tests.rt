@@ -68,7 +68,7 @@ fn shown(alloc: Global, program: Option<&str>, service: Option<&str>) -> Result<
 }
 
 /// What `check p` answers on a text.
-fn checked(alloc: Global, text: &[u8]) -> Result<String, Fail> {
+pub fn checked(alloc: Global, text: &[u8]) -> Result<String, Fail> {
     let mut files = MemoryFiles::make(alloc, Seq::new(alloc));
     files.add("p", text)?;
     answer(alloc, "check p", files)
@@ -112,9 +112,10 @@ fn payloads_are_the_worked_bytes(rt: HostRuntime) -> Result<(), Fail> {
 }
 
 /// Texts, each behind what `check` answers: the refusals, each limit, and each form.
-const CHECKED: &str = r#"0 read|main { }
-0 read|main { print(x); } // not typed yet
-0 read|main { val a = - -1; val b = !-a; }
+const CHECKED: &str = r#"0 typed|main { }
+0 typed|main { print(1); } // a comment
+0 typed|main { val a = - -1; val b = - -a; }
+4 types 1 UnknownName at 1:14|main { print(x); }
 4 lex 1 BadByte at 1:16|main { print(1 $ 2); }
 4 lex 1 BadByte at 1:16|main { print("a\qb"); }
 4 lex 2 OpenText at 1:14|main { print("a); }
@@ -131,21 +132,23 @@ const CHECKED: &str = r#"0 read|main { }
 4 parse 7 TooNested at 1:216|main { val a = ~-~201~1; }
 4 parse 7 TooNested at 1:966|main {~ while (true) {~64~
 4 parse 7 TooNested at 1:338|class C { v: ~List<~65~Int
-0 read|main { val a = ~-~200~1; }
-0 read|main {~ while (true) {~63~~ }~64~
-0 read|class C { v: ~List<~64~Int~>~64~; } main { }
-0 read|interface D { fun n(): Int; fun f(a: Int, b: List<Text>): Rows<D>; fun g(); } main { }
-0 read|class C { v: Int; remote fun m(): Bool { return true; } fun k(o: C): Unit { } } main { }
-0 read|main: Text { val a = 1; var b = "t\n"; b = "u"; f.h(a)[0].g(); return b; }
-0 read|main { print(len(b)); throw "x"; if (true) { } else { } if (false) { } while (a) { } }
-0 read|main { for (x in y) { } try { throw x; } catch (e) { } batch (D r) { r.n(); } }
-0 read|main { val a = this.v.m(1, b); val c = new C(1, d); val e = List<Int>(1, 2)[0]; }
-0 read|main { val a = new C(); val b = List<List<Bool>>(); val c = str(1) + (d); }
-0 read|main { val a = b || c && d == e; val f = g != h; val i = j < k; val l = m >= n; }
-0 read|main { val a = b <= c == (d > e); val f = g + h - i * j / k % l; val m = !n; }"#;
+0 typed|main { val a = ~-~200~1; }
+0 typed|main {~ while (true) {~63~~ }~64~
+0 typed|class C { v: ~List<~64~Int~>~64~; } main { }
+0 typed|interface D { fun n(): Int; fun f(a: Int, b: Text): Rows<D>; fun g(); } main { }
+0 typed|class C { v: Int; remote fun m(): Bool { return true; } fun k(o: C): Unit { } } main { }
+0 typed|class F { fun h(a: Int): List<F> { return List<F>(this); } fun g() { } } main { val f = new F(); f.h(1)[0].g(); }
+0 typed|main: Text { val a = 1; var b = "t\n"; b = "u"; return b; }
+0 typed|main { print(len("b")); throw "x"; if (true) { } else { } if (false) { } while (true) { } }
+0 typed|main { for (x in List<Int>()) { } try { throw "x"; } catch (e) { } }
+0 typed|interface D { fun n(); } main { batch (D r) { r.n(); } }
+0 typed|class C { v: C; fun m(a: Int, b: Int): C { val c = this.v.m(a, List<Int>(1, 2)[0]); return new C(c); } } main { }
+0 typed|class C { } main { val a = new C(); val b = List<List<Bool>>(); val c = str(1) + ("d"); }
+0 typed|main { val a = true || false && 1 == 2; val b = "g" != "h"; val c = 1 < 2; val d = 3 >= 4; }
+0 typed|main { val a = 1 <= 2 == (3 > 4); val b = 1 + 2 - 3 * 4 / 5 % 6; val c = !a; }"#;
 
 #[test]
-fn texts_are_read_or_refused_at_their_first_fault(rt: HostRuntime) -> Result<(), Fail> {
+fn texts_are_typed_or_refused_at_their_first_fault(rt: HostRuntime) -> Result<(), Fail> {
     for row in CHECKED.split('\n') {
         let Some((wanted, row)) = row.split_once('|') else {
             return Err(Fail::from("a row lacks its bar"));
@@ -162,6 +165,10 @@ fn lines_and_bytes_count(rt: HostRuntime) -> Result<(), Fail> {
     for (text, wanted) in [
         (b"main \xff".as_slice(), "4 lex 4 NotUtf8 at 1:6\n"),
         (b"main {\n  val a = 1\n}", "4 parse 6 Unexpected at 3:1\n"),
+        (
+            b"main {\n  val a = 1;\n  print(a + b);\n}",
+            "4 types 1 UnknownName at 3:13\n",
+        ),
     ] {
         assert_eq!(rt; checked(rt.alloc(), text)?.as_str(), wanted, "{wanted}");
     }
@@ -194,22 +201,18 @@ fn a_batch_prints_its_lines_and_the_end(rt: HostRuntime) -> Result<(), Fail> {
     Ok(())
 }
 
-/// Programs that are read, and aren't of the form that is built.
+/// Programs that are typed, and aren't of the form that is built.
 const NOT_BUILT: &str = "\
 interface D { fun n(): Int; } main { batch (D r) { print(1); } }\n\
 interface D { fun n(): Int; } main { batch (D r) { r.n(); } }\n\
-interface D { fun n(): Int; } main { batch (D r) { print(r.n(1)); } }\n\
-interface D { fun n(): Int; fun n(): Int; } main { batch (D r) { print(r.n()); } }\n\
 interface D { fun n(): Int; } main { batch (D D) { print(D.n()); } }\n\
-interface D { fun n(): Int; } main { batch (E r) { print(r.n()); } }\n\
-interface D { fun n(): Int; } main { batch (D r) { print(q.n()); } }\n\
-interface D { fun n(): Int; } main { batch (D r) { print(r.m()); } }\n\
 interface D { fun n(): Text; } main { batch (D r) { print(r.n()); } }\n\
-interface D { fun n(a: Int): Int; } main { batch (D r) { print(r.n()); } }\n\
+interface D { fun n(a: Int): Int; } main { batch (D r) { print(r.n(1)); } }\n\
 interface D { fun n(): Int; } class C { } main { batch (D r) { print(r.n()); } }\n\
 interface D { fun n(): Int; } interface E { } main { batch (D r) { print(r.n()); } }\n\
-interface D { fun n(): Int; } main { batch (D r) { print(r.n()); } return 1; }\n\
+interface D { fun n(): Int; } main: Int { batch (D r) { print(r.n()); } return 1; }\n\
 interface D { fun n(): Int; } main { batch (D r) { } batch (D r) { } }\n\
+interface D { fun n(): Int; } main { }\n\
 main { }";
 
 #[test]
@@ -225,13 +228,29 @@ fn programs_of_other_forms_are_not_built(rt: HostRuntime) -> Result<(), Fail> {
 }
 
 #[test]
-fn programs_that_are_not_read_are_refused_first(rt: HostRuntime) -> Result<(), Fail> {
+fn programs_that_are_not_read_or_not_typed_are_refused_first(rt: HostRuntime) -> Result<(), Fail> {
     for (program, wanted) in [
         (
             "interface D { fun n(): Int; } main { batch (D r) { print(r.n()); } } }",
             "4 parse 6 Unexpected at 1:70\n",
         ),
         ("$", "4 lex 1 BadByte at 1:1\n"),
+        (
+            "interface D { fun n(): Int; } main { batch (D r) { print(r.n(1)); } }",
+            "4 types 4 WrongCount at 1:60\n",
+        ),
+        (
+            "interface D { fun n(): Int; fun n(): Int; } main { batch (D r) { print(r.n()); } }",
+            "4 types 2 NameTaken at 1:33\n",
+        ),
+        (
+            "interface D { fun n(): Int; } main { batch (E r) { print(r.n()); } }",
+            "4 types 1 UnknownName at 1:38\n",
+        ),
+        (
+            "interface D { fun n(): Int; } main { batch (D r) { print(r.n()); } return 1; }",
+            "4 types 3 WrongType at 1:75\n",
+        ),
     ] {
         assert_eq!(rt; shown(rt.alloc(), Some(program), None)?.as_str(), wanted);
     }
