@@ -5,8 +5,7 @@
 use rb_lex::lex;
 use rb_parse::parse_program;
 use rb_trees::{Program, print_program};
-use rb_types::check;
-use std::alloc::Global;
+use rb_types::{Typed, check};
 use std::rt::Files;
 use std::{env, fs, io};
 
@@ -20,7 +19,11 @@ fn main(rt: HostRuntime) -> io::Result<()> {
 }
 
 /// Prints how it went with the file.
-fn report<R: Files + AllocGlobal + Print + Eprint>(rt: &R, what: &str, path: &str) -> io::Result<()> {
+fn report<R: Files + AllocGlobal + Print + Eprint>(
+    rt: &R,
+    what: &str,
+    path: &str,
+) -> io::Result<()> {
     let text = fs::read(rt, path)?;
     let source = text.as_slice();
     let alloc = rt.alloc();
@@ -40,10 +43,7 @@ fn report<R: Files + AllocGlobal + Print + Eprint>(rt: &R, what: &str, path: &st
             Ok(program) => printed(rt, &program),
             Err(error) => println!(rt; "{error}"),
         },
-        "check" => match parse_program(alloc, source) {
-            Ok(program) => checked(rt, source.len(), program),
-            Err(error) => println!(rt; "{error}"),
-        },
+        "check" => checked(rt, source),
         _ => eprintln!(rt; "usage: bench_read lex|parse|print|check FILE"),
     }
 }
@@ -60,17 +60,27 @@ fn printed<R: AllocGlobal + Print>(rt: &R, program: &Program) -> io::Result<()> 
 }
 
 /// Prints at how many of the offsets an expression has a type, or the program's first violation.
-fn checked<R: AllocGlobal + Print>(rt: &R, size: usize, program: Program) -> io::Result<()> {
-    match check(rt.alloc(), program) {
-        Ok(typed) => {
-            let mut count = 0u32;
-            for at in 0..size as u32 {
-                if typed.type_of(at).is_some() {
-                    count += 1;
-                }
+fn checked<R: AllocGlobal + Print>(rt: &R, source: &[u8]) -> io::Result<()> {
+    let alloc = rt.alloc();
+    match parse_program(alloc, source) {
+        Ok(program) => match check(alloc, program) {
+            Ok(typed) => {
+                let count = expressions(&typed, source.len().min(1_048_576) as u32);
+                println!(rt; "{count} expressions typed")
             }
-            println!(rt; "{count} expressions typed")
-        }
+            Err(error) => println!(rt; "{error}"),
+        },
         Err(error) => println!(rt; "{error}"),
     }
+}
+
+/// At how many of the first offsets an expression has a type.
+fn expressions(typed: &Typed, size: u32) -> u32 {
+    let mut count = 0u32;
+    for at in 0..size {
+        if typed.type_of(at).is_some() {
+            count = count.saturating_add(1);
+        }
+    }
+    count
 }
