@@ -14,6 +14,8 @@ mod reading;
 mod refusals;
 mod request;
 mod run;
+#[cfg(test)]
+mod service_tests;
 mod status;
 #[cfg(test)]
 mod tests;
