@@ -2,7 +2,7 @@
 pub mod Kinds
 pub mod Values
 pub mod Symbols
-pub mod Rules
+pub mod Productions
 pub mod Derives
 pub mod Limits
 pub mod Refusals

@@ -4,7 +4,8 @@ use Rattle.rb_trees.specs.mirror.Types.{TypeTree}
 use Rattle.rb_trees.specs.mirror.Code.{Expr}
 use Rattle.rb_trees.specs.mirror.Declarations.{Interface, Method, Class, Body}
 use Rattle.rb_meaning_types.specs.Kinds.{Kind, kind_of, is_unit, same_kind}
-use Rattle.rb_meaning_types.specs.Faults.{Checked, Placed, MissingReturn, ◌>>=◌, ◌>>◌, must, wrong_type}
+use Rattle.rb_meaning_types.specs.Violations.{Checked, Placed, MissingReturn, wrong_type}
+use Rattle.rb_trees.specs.Outcome.{◌>>=◌, ◌>>◌, must}
 use Rattle.rb_meaning_types.specs.Scopes.{Scope, parameters}
 use Rattle.rb_meaning_types.specs.Expressions.{Context}
 use Rattle.rb_meaning_types.specs.Statements.{placed, check_stmts}

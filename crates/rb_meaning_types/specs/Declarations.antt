@@ -2,7 +2,8 @@
 use Rattle.std.specs.Prelude.{ℕ, List, [], ◌∷◌, ◌++◌, Bool, true, false, not, ◌&&◌, Ok}
 use Rattle.rb_trees.specs.mirror.Declarations.{Param, Signature, Interface, Method, Class}
 use Rattle.rb_meaning_types.specs.Names.{is_new}
-use Rattle.rb_meaning_types.specs.Faults.{Checked, NameTaken, NotAllowedHere, ◌>>◌, must}
+use Rattle.rb_meaning_types.specs.Violations.{Checked, NameTaken, NotAllowedHere}
+use Rattle.rb_trees.specs.Outcome.{◌>>◌, must}
 use Rattle.rb_meaning_types.specs.Places.{parameter_type, result_type}
 
 -- a name that differs from those before

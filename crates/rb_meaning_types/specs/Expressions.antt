@@ -5,7 +5,8 @@ use Rattle.rb_trees.specs.mirror.Types.{TypeTree}
 use Rattle.rb_trees.specs.mirror.Code.{Expr, Exprs, Lit, Name, This, Unary, Binary, Field, Call, Index, New, Items, Taken, NoExprs, MoreExprs, expr_at}
 use Rattle.rb_trees.specs.mirror.Declarations.{Interface, Class}
 use Rattle.rb_meaning_types.specs.Kinds.{Kind, Named, ListOf, kind_of}
-use Rattle.rb_meaning_types.specs.Faults.{Checked, Placed, UnknownName, NotAllowedHere, ◌>>=◌, ◌>>◌, known, wanted, with_place}
+use Rattle.rb_meaning_types.specs.Violations.{Checked, Placed, UnknownName, NotAllowedHere, wanted, with_place}
+use Rattle.rb_trees.specs.Outcome.{◌>>=◌, ◌>>◌, known}
 use Rattle.rb_meaning_types.specs.Scopes.{Scope, variable_named}
 use Rattle.rb_meaning_types.specs.Literals.{literal_kind}
 use Rattle.rb_meaning_types.specs.Operators.{unary_kind, binary_kind, index_kind}

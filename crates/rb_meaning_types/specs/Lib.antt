@@ -1,5 +1,5 @@
 pub mod Kinds
-pub mod Faults
+pub mod Violations
 pub mod Names
 pub mod Scopes
 pub mod Literals
@@ -11,7 +11,6 @@ pub mod Statements
 pub mod Bodies
 pub mod Declarations
 pub mod Programs
-pub mod Gives
 pub mod Notes
 pub mod Batches
 pub mod Lawful

@@ -3,7 +3,8 @@ use Rattle.std.specs.Prelude.{ℕ, List, [], ◌∷◌, Bool, not, ◌||◌, len
 use Rattle.rb_trees.specs.mirror.Declarations.{Param, Signature, Interface, Class}
 use Rattle.rb_meaning_types.specs.Kinds.{Kind, Named, kind_of}
 use Rattle.rb_meaning_types.specs.Names.{interface_named, class_named, field_named, signature_named, method_named}
-use Rattle.rb_meaning_types.specs.Faults.{Checked, Placed, UnknownName, WrongCount, NotAllowedHere, ◌>>=◌, ◌>>◌, known, must, wanted, wrong_type}
+use Rattle.rb_meaning_types.specs.Violations.{Checked, Placed, UnknownName, WrongCount, NotAllowedHere, wanted, wrong_type}
+use Rattle.rb_trees.specs.Outcome.{◌>>=◌, ◌>>◌, known, must}
 
 -- each argument has the type of its parameter
 abbrev pub arguments_wanted : List Param → List Placed → Checked (Unit {0})

@@ -4,7 +4,8 @@ use Rattle.std.specs.Prelude.{ℕ, List, [], ◌∷◌, ◌++◌, Bool, false, c
 use Rattle.rb_trees.specs.mirror.Code.{Expr, Exprs, Lit, Name, This, Unary, Binary, Field, Call, Index, New, Items, Taken, NoExprs, MoreExprs, expr_at, Stmt, Stmts, Val, Var, Assign, Run, Print, Throw, If, While, For, Try, Batch, NoStmts, MoreStmts}
 use Rattle.rb_trees.specs.mirror.Declarations.{Body, Method, Class, Program, Interface}
 use Rattle.rb_meaning_types.specs.Kinds.{Kind}
-use Rattle.rb_meaning_types.specs.Faults.{Checked, ◌>>=◌}
+use Rattle.rb_meaning_types.specs.Violations.{Checked}
+use Rattle.rb_trees.specs.Outcome.{◌>>=◌}
 use Rattle.rb_meaning_types.specs.Scopes.{Scope, parameters}
 use Rattle.rb_meaning_types.specs.Expressions.{Context, type_of}
 use Rattle.rb_meaning_types.specs.Statements.{placed, loop_scope, catch_scope, batch_scope, check_stmt, check_stmts}

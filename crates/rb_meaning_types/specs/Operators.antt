@@ -5,7 +5,8 @@ use Rattle.rb_trees.specs.declared.code.BinOp.{BinOp}
 use Rattle.rb_trees.specs.declared.code.UnOp.TheVariants as un
 use Rattle.rb_trees.specs.declared.code.BinOp.TheVariants as bin
 use Rattle.rb_meaning_types.specs.Kinds.{Kind, Int, Bool, Text, ListOf, is_int, is_bool, is_text, is_list, is_primitive}
-use Rattle.rb_meaning_types.specs.Faults.{Checked, Placed, ◌>>=◌, ◌>>◌, must, wanted, wrong_type}
+use Rattle.rb_meaning_types.specs.Violations.{Checked, Placed, wanted, wrong_type}
+use Rattle.rb_trees.specs.Outcome.{◌>>=◌, ◌>>◌, must}
 
 -- `!` takes a Bool, `-` an Int, `len` a Text or a List, `str` an Int or a Bool
 abbrev pub takes_operand : UnOp → Kind → Truth

@@ -4,7 +4,8 @@ use Rattle.std.specs.Prelude.{ℕ, List, Bool as Truth, true, false, cond, nat_e
 use Rattle.rb_trees.specs.mirror.Types.{TypeTree, Int, Bool, Text, Unit as UnitType, Named, ListOf, RowsOf, type_at}
 use Rattle.rb_trees.specs.mirror.Declarations.{Interface, Class}
 use Rattle.rb_meaning_types.specs.Names.{is_interface, is_class, is_declared}
-use Rattle.rb_meaning_types.specs.Faults.{Checked, UnknownName, TypeNotHere, ◌>>◌, must}
+use Rattle.rb_meaning_types.specs.Violations.{Checked, UnknownName, TypeNotHere}
+use Rattle.rb_trees.specs.Outcome.{◌>>◌, must}
 
 -- the names in a type are those of interfaces and classes
 abbrev pub declared_type : List Interface → List Class → TypeTree → Checked (Unit {0})

@@ -3,7 +3,8 @@
 use Rattle.std.specs.Prelude.{List, [], map, Bool, true, false, None}
 use Rattle.std.specs.Result.{is_ok}
 use Rattle.rb_trees.specs.mirror.Declarations.{Interface, Class, Program}
-use Rattle.rb_meaning_types.specs.Faults.{Checked, ◌>>◌}
+use Rattle.rb_meaning_types.specs.Violations.{Checked}
+use Rattle.rb_trees.specs.Outcome.{◌>>◌}
 use Rattle.rb_meaning_types.specs.Places.{main_type}
 use Rattle.rb_meaning_types.specs.Expressions.{Context}
 use Rattle.rb_meaning_types.specs.Bodies.{check_body, check_class_bodies}

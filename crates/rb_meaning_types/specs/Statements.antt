@@ -5,7 +5,8 @@ use Rattle.rb_trees.specs.mirror.Code.{Expr, Stmt, Stmts, Name, Field, Val, Var,
 use Rattle.rb_trees.specs.mirror.Declarations.{Interface}
 use Rattle.rb_meaning_types.specs.Kinds.{Kind, Int, Bool, Text, Unit as UnitKind, Named, ListOf, RowsOf, is_unit}
 use Rattle.rb_meaning_types.specs.Names.{is_interface}
-use Rattle.rb_meaning_types.specs.Faults.{Checked, Placed, UnknownName, NameTaken, NotAssignable, NotAllowedHere, ◌>>=◌, ◌>>◌, must, wanted, wrong_type, with_place}
+use Rattle.rb_meaning_types.specs.Violations.{Checked, Placed, UnknownName, NameTaken, NotAssignable, NotAllowedHere, wanted, wrong_type, with_place}
+use Rattle.rb_trees.specs.Outcome.{◌>>=◌, ◌>>◌, must}
 use Rattle.rb_meaning_types.specs.Scopes.{Scope, Variable, variable_named, is_free, with_variable}
 use Rattle.rb_meaning_types.specs.Expressions.{Context, type_of}
 

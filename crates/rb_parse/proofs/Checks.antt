@@ -2,7 +2,7 @@
 use Rattle.std.proofs.Common.{◌≡◌, ℕ, Bool, true, false, cond, List, [], ◌∷◌, ◌++◌, refl, Option, Some, None, ltb}
 use Rattle.rb_trees.specs.declared.tokens.TokenKind.{TokenKind}
 use Rattle.rb_meaning_bytes.specs.grammar.Symbols as s
-use Rattle.rb_meaning_bytes.specs.grammar.Symbols.{Symbol, Terminal, The, Part, Chain, MoreChain}
+use Rattle.rb_meaning_bytes.specs.grammar.Symbols.{Symbol, Terminal, The, Nonterminal, Chain, MoreChain}
 use Rattle.rb_parse.specs.Table.{Choice, begins, may_be_empty, symbol_may_be_empty, all_begin, cases, otherwise}
 use Rattle.rb_parse.specs.Reading.{rank}
 use Rattle.rb_parse.proofs.KindLists.{both, within, apart}
@@ -28,7 +28,7 @@ abbrev pub or_bars : List TokenKind
 or_bars = begins (MoreChain s.OrLevel) ++ and_bars
 
 -- the kinds that can't follow a part, since it would go on with them
-unfoldable pub bars : Part → List TokenKind
+unfoldable pub bars : Nonterminal → List TokenKind
 bars s.Interfaces = begins s.Interfaces
 bars s.Signatures = begins s.Signatures
 bars s.ASignature = begins s.ResultType
@@ -96,37 +96,37 @@ ending ks [] = true
 ending ks (x ∷ l) = both (implies (all_empty l) (within (symbol_bars x) ks)) (ending ks l)
 
 -- a production of the part is as the table says
-pub record Sound (p : Part) (l : List Symbol) : Type 0 where
+pub record Sound (p : Nonterminal) (l : List Symbol) : Type 0 where
   pub ranks : ranked (rank p) l ≡ true
   pub empties : implies (all_empty l) (may_be_empty p) ≡ true
   pub firsts : within (all_begin l) (begins p) ≡ true
   pub fits : fitting l ≡ true
   pub ends : ending (bars p) l ≡ true
 
-abbrev pub sound_at : Part → List Symbol → Bool
+abbrev pub sound_at : Nonterminal → List Symbol → Bool
 sound_at p l = both (ranked (rank p) l) (both (implies (all_empty l) (may_be_empty p)) (both (within (all_begin l) (begins p)) (both (fitting l) (ending (bars p) l))))
 
 -- each production is sound
-abbrev pub all_sound : {source : List ℕ} (p : Part) → List (Choice source p) → Option (Choice source p) → Bool
+abbrev pub all_sound : {source : List ℕ} (p : Nonterminal) → List (Choice source p) → Option (Choice source p) → Bool
 all_sound p [] None = true
 all_sound p [] (Some c) = sound_at p c.parts
 all_sound p (c ∷ cs) d = both (sound_at p c.parts) (all_sound p cs d)
 
 -- the kinds that some production begins with
-abbrev pub any_begin : {source : List ℕ} {p : Part} → List (Choice source p) → Option (Choice source p) → List TokenKind
+abbrev pub any_begin : {source : List ℕ} {p : Nonterminal} → List (Choice source p) → Option (Choice source p) → List TokenKind
 any_begin [] None = []
 any_begin [] (Some c) = all_begin c.parts
 any_begin (c ∷ cs) d = all_begin c.parts ++ any_begin cs d
 
 -- no two productions begin with one kind, and none but the last may be empty
-abbrev pub told_apart : {source : List ℕ} {p : Part} → List (Choice source p) → Option (Choice source p) → Bool
+abbrev pub told_apart : {source : List ℕ} {p : Nonterminal} → List (Choice source p) → Option (Choice source p) → Bool
 told_apart [] d = true
 told_apart (c ∷ cs) d = both (apart (all_begin c.parts) (any_begin cs d)) (both (cond (all_empty c.parts) false true) (told_apart cs d))
 
-abbrev pub checks : (source : List ℕ) → Part → Bool
+abbrev pub checks : (source : List ℕ) → Nonterminal → Bool
 checks source p = both (all_sound p (cases source p) (otherwise source p)) (both (told_apart (cases source p) (otherwise source p)) (both (implies (may_be_empty p) (within (begins p) (bars p))) (ltb (rank p) 16)))
 
-pub checked : (source : List ℕ) (p : Part) → checks source p ≡ true
+pub checked : (source : List ℕ) (p : Nonterminal) → checks source p ≡ true
 unfolding cases otherwise begins may_be_empty rank bars
 checked source (Chain s.OrLevel) = refl
 checked source (Chain s.AndLevel) = refl

@@ -3,9 +3,9 @@ use Rattle.std.proofs.Common.{◌≡◌, ℕ, Bool, true, false, cond, not, List
 use Rattle.rb_trees.specs.declared.tokens.Token.{Token}
 use Rattle.rb_trees.specs.declared.tokens.TokenKind.{TokenKind}
 use Rattle.rb_meaning_bytes.specs.grammar.Kinds.{is_kind, is_one_of}
-use Rattle.rb_meaning_bytes.specs.grammar.Symbols.{Symbol, Terminal, The, Part, TreeOf, Trees, made}
+use Rattle.rb_meaning_bytes.specs.grammar.Symbols.{Symbol, Terminal, The, Nonterminal, TreeOf, Trees, made}
 use Rattle.rb_meaning_bytes.specs.grammar.Derives as g
-use Rattle.rb_meaning_bytes.specs.grammar.Derives.{Spells, Front}
+use Rattle.rb_meaning_bytes.specs.grammar.Derives.{Spells, IsPrefix}
 use Rattle.rb_parse.specs.Table.{Choice, choice, begins, may_be_empty, all_begin, cases, otherwise, predict}
 use Rattle.rb_parse.proofs.KindLists.{kind_is, both, both_one, both_two, within, apart, one_within, one_apart, one_here, one_there}
 use Rattle.rb_parse.proofs.Checks.{bars, symbol_bars, implies, implied, all_empty, fitting, ending}
@@ -22,9 +22,9 @@ module _ (source : List ℕ) where
   empty_of : {l : List Symbol} {ws : List Token} {xs : Trees l} → Spells source l ws xs → ws ≡ [] → all_empty l ≡ true
   empty_of g.nothing h = refl
   empty_of (g.token t d) h = cc
-  empty_of (g.rule {p} {m} {l} {ts = []} r d e) h =
+  empty_of (g.production {p} {m} {l} {ts = []} r d e) h =
       both_true (may_be_empty p) (all_empty l) (implied (all_empty m) (may_be_empty p) (sound (choice r) (listed r)).empties (empty_of d refl)) (empty_of e h)
-  empty_of (g.rule {ts = a ∷ ts} r d e) h = cc
+  empty_of (g.production {ts = a ∷ ts} r d e) h = cc
 
   -- a spelling begins with a kind that the symbols begin with
   first_of : {l : List Symbol} {ws : List Token} {xs : Trees l} → Spells source l ws xs → (t : Token) (ts : List Token) → ws ≡ t ∷ ts → is_one_of t.kind (all_begin l) ≡ true
@@ -32,10 +32,10 @@ module _ (source : List ℕ) where
   first_of (g.token {l} s d) t ts h =
       let same : s ≡ t = cc in
       ap (λ b. cond b true (is_one_of t.kind [])) (subst (λ x. is_kind t.kind x.kind ≡ true) (sym same) (kind_is t.kind))
-  first_of (g.rule {p} {m} {l} {ts = []} r d e) t ts h =
+  first_of (g.production {p} {m} {l} {ts = []} r d e) t ts h =
       let w : may_be_empty p ≡ true = implied (all_empty m) (may_be_empty p) (sound (choice r) (listed r)).empties (empty_of d refl) in
       one_there t.kind (begins p) (cond (may_be_empty p) (all_begin l) []) (subst (λ b. is_one_of t.kind (cond b (all_begin l) []) ≡ true) (sym w) (first_of e t ts h))
-  first_of (g.rule {p} {m} {l} {ts = a ∷ front} r d e) t ts h =
+  first_of (g.production {p} {m} {l} {ts = a ∷ front} r d e) t ts h =
       let same : a ≡ t = cc in
       let i : is_one_of a.kind (all_begin m) ≡ true = first_of d a front refl in
       one_here t.kind (begins p) (cond (may_be_empty p) (all_begin l) []) (subst (λ x. is_one_of x.kind (begins p) ≡ true) same (one_within a.kind (all_begin m) (begins p) (sound (choice r) (listed r)).firsts i))
@@ -69,7 +69,7 @@ module _ (source : List ℕ) where
       (after_ending ks l k (both_two (implies (all_empty l) (within (symbol_bars x) ks)) (ending ks l) h) n)
 
   -- the parts of a production may be followed by what doesn't bar the part
-  follows_parts : (p : Part) (m : List Symbol) → ending (bars p) m ≡ true → (ws : List Token) → Clear p ws → Follows m ws
+  follows_parts : (p : Nonterminal) (m : List Symbol) → ending (bars p) m ≡ true → (ws : List Token) → Clear p ws → Follows m ws
   follows_parts p m h [] c = tt
   follows_parts p m h (t ∷ ts) c = after_ending (bars p) m t.kind h c
 
@@ -78,19 +78,19 @@ module _ (source : List ℕ) where
   follows_rest x l (t ∷ ts) h = both_two (implies (all_empty l) (not (is_one_of t.kind (symbol_bars x)))) (after l t.kind) h
 
   -- nothing that comes behind a part bars it
-  clear : (p : Part) (l : List Symbol) (us rest : List Token) (xs : Trees l) → Spells source l us xs → fitting (The p ∷ l) ≡ true → Follows (The p ∷ l) rest → Clear p (us ++ rest)
+  clear : (p : Nonterminal) (l : List Symbol) (us rest : List Token) (xs : Trees l) → Spells source l us xs → fitting (The p ∷ l) ≡ true → Follows (The p ∷ l) rest → Clear p (us ++ rest)
   clear p l [] [] xs d h f = tt
   clear p l [] (t ∷ ts) xs d h f = is_false (is_one_of t.kind (bars p)) (implied (all_empty l) (not (is_one_of t.kind (bars p))) (both_one (implies (all_empty l) (not (is_one_of t.kind (bars p)))) (after l t.kind) f) (empty_of d refl))
   clear p l (t ∷ us) rest xs d h f = one_apart t.kind (all_begin l) (bars p) (both_one (apart (all_begin l) (bars p)) (fitting l) h) (first_of d t us refl)
 
-  predicted : {p : Part} (c : Choice source p) → In c (cases source p) (otherwise source p) → (ts ws : List Token) (ys : Trees c.parts) → Spells source c.parts ts ys → Clear p ws → predict source p (ts ++ ws) ≡ Some c
+  predicted : {p : Nonterminal} (c : Choice source p) → In c (cases source p) (otherwise source p) → (ts ws : List Token) (ys : Trees c.parts) → Spells source c.parts ts ys → Clear p ws → predict source p (ts ++ ws) ≡ Some c
   predicted c i [] ws ys d n = untold c i ws (empty_of d refl) n
   predicted c i (t ∷ ts) ws ys d n = told c i t (ts ++ ws) (first_of d t ts refl)
 
   pub complete : {l : List Symbol} {ts : List Token} {xs : Trees l} → Spells source l ts xs → fitting l ≡ true → (rest : List Token) → Follows l rest → Takes source l (ts ++ rest) xs rest
   complete g.nothing h rest f = done
   complete (g.token {l} t d) h rest f = token t (kind_is t.kind) (complete d (both_two (apart (all_begin l) []) (fitting l) h) rest (follows_rest (Terminal t.kind) l rest f))
-  complete (g.rule {p} {m} {l} {f = make} {ts} {us} {ys} {xs} r d e) h rest f =
+  complete (g.production {p} {m} {l} {f = make} {ts} {us} {ys} {xs} r d e) h rest f =
       let i = listed r in
       let s = sound (choice r) i in
       let n = clear p l us rest xs e h f in

@@ -6,7 +6,7 @@ use Rattle.rb_trees.specs.mirror.Types as type
 use Rattle.rb_meaning_bytes.specs.grammar.Kinds as k
 use Rattle.rb_meaning_bytes.specs.grammar.Kinds.{is_kind, is_one_of}
 use Rattle.rb_meaning_bytes.specs.grammar.Symbols as s
-use Rattle.rb_meaning_bytes.specs.grammar.Symbols.{Symbol, Terminal, The, Part, TreeOf, Makes}
+use Rattle.rb_meaning_bytes.specs.grammar.Symbols.{Symbol, Terminal, The, Nonterminal, TreeOf, Makes}
 use Rattle.rb_meaning_bytes.specs.grammar.Values.{name_of}
 use Rattle.rb_parse.specs.Table.{Choice, begins, may_be_empty, all_begin, cases, otherwise, chosen}
 use Rattle.rb_parse.specs.Reading.{Read, Reader, ◌>>=◌, read_into, by_choice, read_of, taken, next_in, on_taken}
@@ -14,7 +14,7 @@ use Rattle.rb_trees.specs.declared.code.UnOp.TheVariants as unary
 use Rattle.rb_trees.specs.declared.code.BinOp.{BinOp}
 use Rattle.rb_trees.specs.mirror.Code as code
 use Rattle.rb_trees.specs.mirror.Code.{Expr, Exprs, mirror_expr, mirror_exprs}
-use Rattle.rb_meaning_bytes.specs.grammar.Rules.{member}
+use Rattle.rb_meaning_bytes.specs.grammar.Productions.{member}
 use Rattle.rb_parse.specs.declared.levels.Level.{Level}
 use Rattle.rb_parse.specs.declared.levels.Level.TheVariants as l
 use Rattle.rb_parse.specs.Table.{expression_kinds}
@@ -27,7 +27,7 @@ by_parts R [] T f ts other = other
 by_parts R (Terminal kind ∷ l) T f ts other = on_taken (taken kind ts) (λ x. read_into R l T (f x.0) x.1) other
 by_parts R (The p ∷ l) T f ts other = cond (next_in (all_begin (The p ∷ l)) ts) (read_into R (The p ∷ l) T f ts) other
 
-abbrev pub by_cases : {source : List ℕ} {p : Part} → Reader → List (Choice source p) → Option (Choice source p) → List Token → Read (TreeOf p)
+abbrev pub by_cases : {source : List ℕ} {p : Nonterminal} → Reader → List (Choice source p) → Option (Choice source p) → List Token → Read (TreeOf p)
 by_cases R [] d ts = by_choice R d ts
 by_cases {p = p} R (c ∷ cs) d ts = by_parts R c.parts (TreeOf p) c.makes ts (by_cases R cs d ts)
 
@@ -41,11 +41,11 @@ module _ (R : Reader) where
   parts_told (Terminal kind ∷ l) T f t ts other = token_told (is_kind t.kind kind) t ts (length (t ∷ ts)) (λ x. read_into R l T (f x.0) x.1) other
   parts_told (The p ∷ l) T f t ts other = refl
 
-  cond_choice : {source : List ℕ} {p : Part} (b : Bool) (x y : Option (Choice source p)) (ts : List Token) → by_choice R (cond b x y) ts ≡ cond b (by_choice R x ts) (by_choice R y ts)
+  cond_choice : {source : List ℕ} {p : Nonterminal} (b : Bool) (x y : Option (Choice source p)) (ts : List Token) → by_choice R (cond b x y) ts ≡ cond b (by_choice R x ts) (by_choice R y ts)
   cond_choice true x y ts = refl
   cond_choice false x y ts = refl
 
-  cases_told : {source : List ℕ} {p : Part} (cs : List (Choice source p)) (d : Option (Choice source p)) (t : Token) (ts : List Token) → by_choice R (chosen t.kind cs d) (t ∷ ts) ≡ by_cases R cs d (t ∷ ts)
+  cases_told : {source : List ℕ} {p : Nonterminal} (cs : List (Choice source p)) (d : Option (Choice source p)) (t : Token) (ts : List Token) → by_choice R (chosen t.kind cs d) (t ∷ ts) ≡ by_cases R cs d (t ∷ ts)
   cases_told [] d t ts = refl
   cases_told {p = p} (c ∷ cs) d t ts =
       cond_choice (is_one_of t.kind (all_begin c.parts)) (Some c) (chosen t.kind cs d) (t ∷ ts)
@@ -57,11 +57,11 @@ module _ (R : Reader) where
   parts_ended (Terminal kind ∷ l) T f other = refl
   parts_ended (The p ∷ l) T f other = refl
 
-  cases_ended : {source : List ℕ} {p : Part} (cs : List (Choice source p)) (d : Option (Choice source p)) → by_choice R d [] ≡ by_cases R cs d []
+  cases_ended : {source : List ℕ} {p : Nonterminal} (cs : List (Choice source p)) (d : Option (Choice source p)) → by_choice R d [] ≡ by_cases R cs d []
   cases_ended [] d = refl
   cases_ended {p = p} (c ∷ cs) d = cases_ended cs d ∙ parts_ended c.parts (TreeOf p) c.makes (by_cases R cs d [])
 
-pub reads_by : (source : List ℕ) (p : Part) (ts : List Token) → read_of source p ts ≡ by_cases (read_of source) (cases source p) (otherwise source p) ts
+pub reads_by : (source : List ℕ) (p : Nonterminal) (ts : List Token) → read_of source p ts ≡ by_cases (read_of source) (cases source p) (otherwise source p) ts
 reads_by source p [] = reads source p [] ∙ cases_ended (read_of source) (cases source p) (otherwise source p)
 reads_by source p (t ∷ ts) = reads source p (t ∷ ts) ∙ cases_told (read_of source) (cases source p) (otherwise source p) t ts
 

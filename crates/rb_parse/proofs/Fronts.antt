@@ -6,11 +6,11 @@ use Rattle.rb_trees.specs.declared.tokens.TokenKind.TheVariants as kind
 use Rattle.rb_trees.specs.mirror.Declarations.{Program}
 use Rattle.rb_meaning_bytes.specs.grammar.Kinds as k
 use Rattle.rb_meaning_bytes.specs.grammar.Symbols as s
-use Rattle.rb_meaning_bytes.specs.grammar.Symbols.{Symbol, Terminal, The, Part, Chain, MoreChain, Expression, TheProgram, TreeOf, Trees, Makes, made}
-use Rattle.rb_meaning_bytes.specs.grammar.Rules as r
-use Rattle.rb_meaning_bytes.specs.grammar.Rules.{Rule}
+use Rattle.rb_meaning_bytes.specs.grammar.Symbols.{Symbol, Terminal, The, Nonterminal, Chain, MoreChain, Expression, TheProgram, TreeOf, Trees, Makes, made}
+use Rattle.rb_meaning_bytes.specs.grammar.Productions as r
+use Rattle.rb_meaning_bytes.specs.grammar.Productions.{Production}
 use Rattle.rb_meaning_bytes.specs.grammar.Derives as g
-use Rattle.rb_meaning_bytes.specs.grammar.Derives.{Spells, Front, Derives, Begins, Stuck, Breaks}
+use Rattle.rb_meaning_bytes.specs.grammar.Derives.{Spells, IsPrefix, Derives, Begins, Stuck, Breaks}
 use Rattle.rb_parse.specs.Reading.{Read, ◌>>=◌, alone, read_of, rank, program_of}
 use Rattle.rb_parse.proofs.Takes.{Takes, Stops, done, part, none, within, took, halts, takes_local, stops_local}
 use Rattle.rb_parse.proofs.Complete.{complete}
@@ -36,8 +36,8 @@ module _ (source : List ℕ) where
   a : {l : List Symbol} (kind : TokenKind) → Spelled l → Spelled (Terminal kind ∷ l)
   a kind x = let t : Token = record { kind = kind; start = 0; end = 0 } in record { tokens = t ∷ x.tokens; trees = (t, x.trees); spells = g.token t x.spells }
 
-  by : {p : Part} {m l : List Symbol} {f : Makes m (TreeOf p)} → Rule source p m f → Spelled m → Spelled l → Spelled (The p ∷ l)
-  by {p} {m} {f = f} r x y = record { tokens = x.tokens ++ y.tokens; trees = (made m (TreeOf p) f x.trees, y.trees); spells = g.rule r x.spells y.spells }
+  by : {p : Nonterminal} {m l : List Symbol} {f : Makes m (TreeOf p)} → Production source p m f → Spelled m → Spelled l → Spelled (The p ∷ l)
+  by {p} {m} {f = f} r x y = record { tokens = x.tokens ++ y.tokens; trees = (made m (TreeOf p) f x.trees, y.trees); spells = g.production r x.spells y.spells }
 
   prefix : {l : List Symbol} → Spelled l → Spelled (The s.Prefix ∷ l)
   prefix x = by r.postfix (by r.first (by r.this (a k.keyword_this nil) (by r.no_members nil nil)) nil) x
@@ -55,7 +55,7 @@ module _ (source : List ℕ) where
   a_signature x = by r.signature (a k.keyword_fun (a kind.Name (a k.sign_open (by r.no_params nil (a k.sign_close (by r.no_result_type nil nil)))))) x
 
   -- every part has a spelling
-  some_part : (p : Part) {l : List Symbol} → Spelled l → Spelled (The p ∷ l)
+  some_part : (p : Nonterminal) {l : List Symbol} → Spelled l → Spelled (The p ∷ l)
   some_part s.TheProgram x = by r.program (by r.no_interfaces nil (by r.no_classes nil (a k.keyword_main (by r.no_result_type nil (a_body nil))))) x
   some_part s.Interfaces x = by r.no_interfaces nil x
   some_part s.AnInterface x = by r.interface (a k.keyword_interface (a kind.Name (a k.sign_open_brace (by r.no_signatures nil (a k.sign_close_brace nil))))) x
@@ -103,22 +103,22 @@ module _ (source : List ℕ) where
     pub trees : Trees l
     pub spells : Spells source l (ts ++ rest) trees
 
-  pub goes_on : {l : List Symbol} {ts : List Token} → Front source l ts → GoesOn l ts
+  pub goes_on : {l : List Symbol} {ts : List Token} → IsPrefix source l ts → GoesOn l ts
   goes_on (g.none {l}) = let x = some l in record { rest = x.tokens; trees = x.trees; spells = x.spells }
   goes_on (g.after_token t f) = let x = goes_on f in record { rest = x.rest; trees = (t, x.trees); spells = g.token t x.spells }
   goes_on (g.within {p} {m} {l} {f} {ts} rule w) =
       let x = goes_on w in
       let y = some l in
-      record { rest = x.rest ++ y.tokens; trees = (made m (TreeOf p) f x.trees, y.trees); spells = subst (λ z. Spells source (The p ∷ l) z (made m (TreeOf p) f x.trees, y.trees)) (append_assoc ts x.rest y.tokens) (g.rule rule x.spells y.spells) }
+      record { rest = x.rest ++ y.tokens; trees = (made m (TreeOf p) f x.trees, y.trees); spells = subst (λ z. Spells source (The p ∷ l) z (made m (TreeOf p) f x.trees, y.trees)) (append_assoc ts x.rest y.tokens) (g.production rule x.spells y.spells) }
   goes_on (g.past {p} {m} {l} {f} {ts} {us} {ys} rule e w) =
       let x = goes_on w in
-      record { rest = x.rest; trees = (made m (TreeOf p) f ys, x.trees); spells = subst (λ z. Spells source (The p ∷ l) z (made m (TreeOf p) f ys, x.trees)) (sym (append_assoc ts us x.rest)) (g.rule rule e x.spells) }
+      record { rest = x.rest; trees = (made m (TreeOf p) f ys, x.trees); spells = subst (λ z. Spells source (The p ∷ l) z (made m (TreeOf p) f ys, x.trees)) (sym (append_assoc ts us x.rest)) (g.production rule e x.spells) }
 
   -- a whole spelling is a prefix
-  pub whole_front : {l : List Symbol} {ts : List Token} {xs : Trees l} → Spells source l ts xs → Front source l ts
+  pub whole_front : {l : List Symbol} {ts : List Token} {xs : Trees l} → Spells source l ts xs → IsPrefix source l ts
   whole_front g.nothing = g.none
   whole_front (g.token t e) = g.after_token t (whole_front e)
-  whole_front (g.rule rule e w) = g.past rule e (whole_front w)
+  whole_front (g.production rule e w) = g.past rule e (whole_front w)
 
   -- a text is taken whole
   text_taken : (ts : List Token) (x : Program) → Derives source ts x → Takes source (The TheProgram ∷ []) ts (x, tt) []

@@ -3,7 +3,7 @@ use Rattle.std.proofs.Common.{◌≡◌, ℕ, zero, suc, ◌+◌, ◌*◌, ◌<�
 use Rattle.rb_trees.specs.declared.tokens.Token.{Token}
 use Rattle.rb_trees.specs.declared.tokens.TokenKind.{TokenKind}
 use Rattle.rb_meaning_bytes.specs.grammar.Kinds.{is_kind}
-use Rattle.rb_meaning_bytes.specs.grammar.Symbols.{Symbol, Terminal, The, Part, TreeOf, Trees, Makes, made}
+use Rattle.rb_meaning_bytes.specs.grammar.Symbols.{Symbol, Terminal, The, Nonterminal, TreeOf, Trees, Makes, made}
 use Rattle.rb_parse.specs.Table.{Choice, may_be_empty, predict}
 use Rattle.rb_parse.specs.Reading.{Read, Reader, ◌>>=◌, take_kind, read_into, by_choice, rank, read, read_of}
 use Rattle.rb_parse.proofs.KindLists.{both, both_one, both_two}
@@ -42,7 +42,7 @@ module _ (source : List ℕ) where
     fits : 16 * length ts + r ≤ bound
     ranks : ranked r l ≡ true
 
-  room_behind : (bound r : ℕ) (p : Part) (l : List Symbol) (c : Choice source p) (ts us : List Token) (ys : Trees c.parts) → predict source p ts ≡ Some c → Takes source c.parts ts ys us → 16 * length ts + r ≤ bound → ranked r (The p ∷ l) ≡ true → Room bound l us
+  room_behind : (bound r : ℕ) (p : Nonterminal) (l : List Symbol) (c : Choice source p) (ts us : List Token) (ys : Trees c.parts) → predict source p ts ≡ Some c → Takes source c.parts ts ys us → 16 * length ts + r ≤ bound → ranked r (The p ∷ l) ≡ true → Room bound l us
   room_behind bound r p l c ts us ys h k fits ranks = go (may_be_empty p) refl
     where
       go : (e : Bool) → may_be_empty p ≡ e → Room bound l us
@@ -53,13 +53,13 @@ module _ (source : List ℕ) where
           let s = (shorter source (d.part c h k d.done)).some (both_end (may_be_empty p) e) in
           record { r = 16; fits = omega arith; ranks = all_ranked l }
 
-  below : (bound r : ℕ) (p : Part) (l : List Symbol) (ts : List Token) → 16 * length ts + r ≤ bound → ranked r (The p ∷ l) ≡ true → 16 * length ts + rank p < bound
+  below : (bound r : ℕ) (p : Nonterminal) (l : List Symbol) (ts : List Token) → 16 * length ts + r ≤ bound → ranked r (The p ∷ l) ≡ true → 16 * length ts + rank p < bound
   below bound r p l ts fits ranks =
       let k : rank p < r = ltb-true (rank p) r (both_one (ltb (rank p) r) (implies (may_be_empty p) (ranked r l)) ranks) in
       omega arith
 
   -- How a part comes out.
-  pub data Came (p : Part) (ts : List Token) : Type 0 where
+  pub data Came (p : Nonterminal) (ts : List Token) : Type 0 where
     taken : (c : Choice source p) (ys : Trees c.parts) (us : List Token) → predict source p ts ≡ Some c → Takes source c.parts ts ys us → Came p ts
     untold : predict source p ts ≡ None → Came p ts
     stopped : (c : Choice source p) (m : ℕ) → predict source p ts ≡ Some c → Stops source c.parts ts m → Came p ts
@@ -69,7 +69,7 @@ module _ (source : List ℕ) where
     takes : (xs : Trees l) (us : List Token) → Takes source l ts xs us → Outcome l ts
     stops : (m : ℕ) → Stops source l ts m → Outcome l ts
 
-  outcomes : (bound : ℕ) → ((p : Part) (ts : List Token) → 16 * length ts + rank p < bound → Came p ts) → (l : List Symbol) (r : ℕ) (ts : List Token) → 16 * length ts + r ≤ bound → ranked r l ≡ true → Outcome l ts
+  outcomes : (bound : ℕ) → ((p : Nonterminal) (ts : List Token) → 16 * length ts + rank p < bound → Came p ts) → (l : List Symbol) (r : ℕ) (ts : List Token) → 16 * length ts + r ≤ bound → ranked r l ≡ true → Outcome l ts
   outcomes bound f [] r ts fits ranks = takes tt ts d.done
   outcomes bound f (Terminal kind ∷ l) r [] fits ranks = stops 0 d.ended
   outcomes bound f (Terminal kind ∷ l) r (t ∷ ts) fits ranks = go (is_kind t.kind kind) refl (outcomes bound f l 16 ts (omega arith) (all_ranked l))
@@ -89,7 +89,7 @@ module _ (source : List ℕ) where
       go (untold h) g = stops (length ts) (d.none ts h)
       go (stopped c m h k) g = stops m (d.within c h k)
 
-  pub came : (bound : ℕ) (p : Part) (ts : List Token) → 16 * length ts + rank p < bound → Came p ts
+  pub came : (bound : ℕ) (p : Nonterminal) (ts : List Token) → 16 * length ts + rank p < bound → Came p ts
   came zero p ts h = absurd (omega arith)
   came (suc n) p ts h = go (predict source p ts) refl (λ c. outcomes n (came n) c.parts (rank p) ts (omega arith))
     where
@@ -103,9 +103,9 @@ module _ (source : List ℕ) where
 
   -- A reader reads parts as they come out, within a bound.
   pub record Good (read : Reader) (bound : ℕ) : Type 0 where
-    pub takes : {p : Part} (c : Choice source p) (ts : List Token) (ys : Trees c.parts) (us : List Token) → 16 * length ts + rank p < bound → predict source p ts ≡ Some c → Takes source c.parts ts ys us → read p ts ≡ Ok (made c.parts (TreeOf p) c.makes ys, us)
-    pub none : (p : Part) (ts : List Token) → 16 * length ts + rank p < bound → predict source p ts ≡ None → read p ts ≡ Err (length ts)
-    pub stops : {p : Part} (c : Choice source p) (ts : List Token) (m : ℕ) → 16 * length ts + rank p < bound → predict source p ts ≡ Some c → Stops source c.parts ts m → read p ts ≡ Err m
+    pub takes : {p : Nonterminal} (c : Choice source p) (ts : List Token) (ys : Trees c.parts) (us : List Token) → 16 * length ts + rank p < bound → predict source p ts ≡ Some c → Takes source c.parts ts ys us → read p ts ≡ Ok (made c.parts (TreeOf p) c.makes ys, us)
+    pub none : (p : Nonterminal) (ts : List Token) → 16 * length ts + rank p < bound → predict source p ts ≡ None → read p ts ≡ Err (length ts)
+    pub stops : {p : Nonterminal} (c : Choice source p) (ts : List Token) (m : ℕ) → 16 * length ts + rank p < bound → predict source p ts ≡ Some c → Stops source c.parts ts m → read p ts ≡ Err m
 
   module _ (R : Reader) (bound : ℕ) (good : Good R bound) where
     pub takes_into : {l : List Symbol} {ts us : List Token} {xs : Trees l} → Takes source l ts xs us → (r : ℕ) → 16 * length ts + r ≤ bound → ranked r l ≡ true → (T : Type 0) (f : Makes l T) → read_into R l T f ts ≡ Ok (made l T f xs, us)
@@ -156,7 +156,7 @@ module _ (source : List ℕ) where
   read_stops {l} {ts} k T f = stops_into (read_of source) (16 * length ts + 16) (good_of (16 * length ts + 16)) k 16 (omega arith) (all_ranked l) T f
 
   -- a part is read by the production that the table tells
-  pub reads : (p : Part) (ts : List Token) → read_of source p ts ≡ by_choice (read_of source) (predict source p ts) ts
+  pub reads : (p : Nonterminal) (ts : List Token) → read_of source p ts ≡ by_choice (read_of source) (predict source p ts) ts
   reads p ts = go (came (suc (16 * length ts + rank p)) p ts (omega arith))
     where
       go : Came p ts → read_of source p ts ≡ by_choice (read_of source) (predict source p ts) ts

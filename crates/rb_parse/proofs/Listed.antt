@@ -1,18 +1,18 @@
 -- Each production stands in the table.
 use Rattle.std.proofs.Common.{ℕ, List, [], ◌∷◌, Option, Some}
 use Rattle.rb_meaning_bytes.specs.grammar.Symbols as s
-use Rattle.rb_meaning_bytes.specs.grammar.Symbols.{Symbol, Part, TreeOf, Makes}
-use Rattle.rb_meaning_bytes.specs.grammar.Rules as r
-use Rattle.rb_meaning_bytes.specs.grammar.Rules.{Rule}
+use Rattle.rb_meaning_bytes.specs.grammar.Symbols.{Symbol, Nonterminal, TreeOf, Makes}
+use Rattle.rb_meaning_bytes.specs.grammar.Productions as r
+use Rattle.rb_meaning_bytes.specs.grammar.Productions.{Production}
 use Rattle.rb_parse.specs.Table.{Choice, choice, cases, otherwise}
 
 -- a production is one of the list, or the last one
-pub data In {source : List ℕ} {p : Part} (c : Choice source p) : List (Choice source p) → Option (Choice source p) → Type 0 where
+pub data In {source : List ℕ} {p : Nonterminal} (c : Choice source p) : List (Choice source p) → Option (Choice source p) → Type 0 where
   here : {cs : List (Choice source p)} {d : Option (Choice source p)} → In c (c ∷ cs) d
   there : {b : Choice source p} {cs : List (Choice source p)} {d : Option (Choice source p)} → In c cs d → In c (b ∷ cs) d
   last : In c [] (Some c)
 
-pub listed : {source : List ℕ} {p : Part} {l : List Symbol} {f : Makes l (TreeOf p)} (rule : Rule source p l f) → In (choice rule) (cases source p) (otherwise source p)
+pub listed : {source : List ℕ} {p : Nonterminal} {l : List Symbol} {f : Makes l (TreeOf p)} (rule : Production source p l f) → In (choice rule) (cases source p) (otherwise source p)
 unfolding cases otherwise
 listed r.program = last
 listed r.more_interfaces = here

@@ -3,7 +3,7 @@ use Rattle.std.proofs.Common.{◌≡◌, ℕ, ◌<◌, Bool, true, false, cond, 
 use Rattle.rb_trees.specs.declared.tokens.Token.{Token}
 use Rattle.rb_trees.specs.declared.tokens.TokenKind.{TokenKind}
 use Rattle.rb_meaning_bytes.specs.grammar.Kinds.{is_one_of}
-use Rattle.rb_meaning_bytes.specs.grammar.Symbols.{Symbol, Part}
+use Rattle.rb_meaning_bytes.specs.grammar.Symbols.{Symbol, Nonterminal}
 use Rattle.rb_parse.specs.Table.{Choice, begins, may_be_empty, all_begin, cases, otherwise, chosen, predict}
 use Rattle.rb_parse.specs.Reading.{rank}
 use Rattle.rb_parse.proofs.KindLists.{both, both_one, both_two, within, apart, one_within, one_apart, one_here, one_there, cond_false}
@@ -14,15 +14,15 @@ pub not_true : (b : Bool) → (b ≡ true → ⊥) → b ≡ false
 not_true true f = absurd (f refl)
 not_true false f = refl
 
-pub some_same : {source : List ℕ} {p : Part} (a b : Choice source p) → Some a ≡ Some b → a ≡ b
+pub some_same : {source : List ℕ} {p : Nonterminal} (a b : Choice source p) → Some a ≡ Some b → a ≡ b
 some_same a b h = cc
 
-sound_in : {source : List ℕ} {p : Part} {c : Choice source p} {cs : List (Choice source p)} {d : Option (Choice source p)} → In c cs d → all_sound p cs d ≡ true → sound_at p c.parts ≡ true
+sound_in : {source : List ℕ} {p : Nonterminal} {c : Choice source p} {cs : List (Choice source p)} {d : Option (Choice source p)} → In c cs d → all_sound p cs d ≡ true → sound_at p c.parts ≡ true
 sound_in {p = p} {c = c} (here {cs} {d}) h = both_one (sound_at p c.parts) (all_sound p cs d) h
 sound_in {p = p} (there {b} {cs} {d} i) h = sound_in i (both_two (sound_at p b.parts) (all_sound p cs d) h)
 sound_in last h = h
 
-split_sound : (p : Part) (l : List Symbol) → sound_at p l ≡ true → Sound p l
+split_sound : (p : Nonterminal) (l : List Symbol) → sound_at p l ≡ true → Sound p l
 split_sound p l h =
     let a = ranked (rank p) l in
     let b = implies (all_empty l) (may_be_empty p) in
@@ -35,13 +35,13 @@ split_sound p l h =
     record { ranks = both_one a (both b (both c (both d e))) h; empties = both_one b (both c (both d e)) h1; firsts = both_one c (both d e) h2; fits = both_one d e h3; ends = both_two d e h3 }
 
 -- what the checks of a part say
-pub record Checked (source : List ℕ) (p : Part) : Type 0 where
+pub record Checked (source : List ℕ) (p : Nonterminal) : Type 0 where
   pub all : all_sound p (cases source p) (otherwise source p) ≡ true
   pub told : told_apart (cases source p) (otherwise source p) ≡ true
   pub bared : implies (may_be_empty p) (within (begins p) (bars p)) ≡ true
   pub small : rank p < 16
 
-pub check_of : (source : List ℕ) (p : Part) → Checked source p
+pub check_of : (source : List ℕ) (p : Nonterminal) → Checked source p
 check_of source p =
     let h = checked source p in
     let a = all_sound p (cases source p) (otherwise source p) in
@@ -52,14 +52,14 @@ check_of source p =
     let h2 = both_two b (both c d) h1 in
     record { all = both_one a (both b (both c d)) h; told = both_one b (both c d) h1; bared = both_one c d h2; small = ltb-true (rank p) 16 (both_two c d h2) }
 
-pub sound : {source : List ℕ} {p : Part} (c : Choice source p) → In c (cases source p) (otherwise source p) → Sound p c.parts
+pub sound : {source : List ℕ} {p : Nonterminal} (c : Choice source p) → In c (cases source p) (otherwise source p) → Sound p c.parts
 sound {source} {p} c i = split_sound p c.parts (sound_in i (check_of source p).all)
 
-last_in : {source : List ℕ} {p : Part} (c : Choice source p) (cs : List (Choice source p)) (d : Option (Choice source p)) → d ≡ Some c → In c cs d
+last_in : {source : List ℕ} {p : Nonterminal} (c : Choice source p) (cs : List (Choice source p)) (d : Option (Choice source p)) → d ≡ Some c → In c cs d
 last_in c [] d h = subst (In c []) (sym h) last
 last_in c (b ∷ cs) d h = there (last_in c cs d h)
 
-chosen_in : {source : List ℕ} {p : Part} (k : TokenKind) (c : Choice source p) (cs : List (Choice source p)) (d : Option (Choice source p)) → chosen k cs d ≡ Some c → In c cs d
+chosen_in : {source : List ℕ} {p : Nonterminal} (k : TokenKind) (c : Choice source p) (cs : List (Choice source p)) (d : Option (Choice source p)) → chosen k cs d ≡ Some c → In c cs d
 chosen_in k c [] d h = last_in c [] d h
 chosen_in k c (b ∷ cs) d h = go (is_one_of k (all_begin b.parts)) h (chosen_in k c cs d)
   where
@@ -67,23 +67,23 @@ chosen_in k c (b ∷ cs) d h = go (is_one_of k (all_begin b.parts)) h (chosen_in
     go true h f = subst (λ x. In c (x ∷ cs) d) (sym (some_same b c h)) here
     go false h f = there (f h)
 
-pub predict_in : {source : List ℕ} {p : Part} (c : Choice source p) (ts : List Token) → predict source p ts ≡ Some c → In c (cases source p) (otherwise source p)
+pub predict_in : {source : List ℕ} {p : Nonterminal} (c : Choice source p) (ts : List Token) → predict source p ts ≡ Some c → In c (cases source p) (otherwise source p)
 predict_in {source} {p} c [] h = last_in c (cases source p) (otherwise source p) h
 predict_in {source} {p} c (t ∷ ts) h = chosen_in t.kind c (cases source p) (otherwise source p) h
 
-begins_in : {source : List ℕ} {p : Part} {c : Choice source p} {cs : List (Choice source p)} {d : Option (Choice source p)} (k : TokenKind) → In c cs d → is_one_of k (all_begin c.parts) ≡ true → is_one_of k (any_begin cs d) ≡ true
+begins_in : {source : List ℕ} {p : Nonterminal} {c : Choice source p} {cs : List (Choice source p)} {d : Option (Choice source p)} (k : TokenKind) → In c cs d → is_one_of k (all_begin c.parts) ≡ true → is_one_of k (any_begin cs d) ≡ true
 begins_in {c = c} k (here {cs} {d}) h = one_here k (all_begin c.parts) (any_begin cs d) h
 begins_in k (there {b} {cs} {d} i) h = one_there k (all_begin b.parts) (any_begin cs d) (begins_in k i h)
 begins_in k last h = h
 
-told_in : {source : List ℕ} {p : Part} {c : Choice source p} {cs : List (Choice source p)} {d : Option (Choice source p)} (k : TokenKind) → In c cs d → told_apart cs d ≡ true → is_one_of k (all_begin c.parts) ≡ true → chosen k cs d ≡ Some c
+told_in : {source : List ℕ} {p : Nonterminal} {c : Choice source p} {cs : List (Choice source p)} {d : Option (Choice source p)} (k : TokenKind) → In c cs d → told_apart cs d ≡ true → is_one_of k (all_begin c.parts) ≡ true → chosen k cs d ≡ Some c
 told_in {c = c} k (here {cs} {d}) h e = ap (λ b. cond b (Some c) (chosen k cs d)) e
 told_in {c = c} k (there {b} {cs} {d} i) h e =
     let n : is_one_of k (all_begin b.parts) ≡ false = not_true (is_one_of k (all_begin b.parts)) (λ y. cc (one_apart k (all_begin b.parts) (any_begin cs d) (both_one (apart (all_begin b.parts) (any_begin cs d)) _ h) y, begins_in k i e)) in
     ap (λ x. cond x (Some b) (chosen k cs d)) n ∙ told_in k i (both_two _ (told_apart cs d) (both_two (apart (all_begin b.parts) (any_begin cs d)) _ h)) e
 told_in k last h e = refl
 
-untold_in : {source : List ℕ} {p : Part} {c : Choice source p} {cs : List (Choice source p)} {d : Option (Choice source p)} (k : TokenKind) → In c cs d → told_apart cs d ≡ true → all_sound p cs d ≡ true → all_empty c.parts ≡ true → is_one_of k (begins p) ≡ false → chosen k cs d ≡ Some c
+untold_in : {source : List ℕ} {p : Nonterminal} {c : Choice source p} {cs : List (Choice source p)} {d : Option (Choice source p)} (k : TokenKind) → In c cs d → told_apart cs d ≡ true → all_sound p cs d ≡ true → all_empty c.parts ≡ true → is_one_of k (begins p) ≡ false → chosen k cs d ≡ Some c
 untold_in {c = c} k (here {cs} {d}) h a e n = cc (cond_false (all_empty c.parts) (both_one (cond (all_empty c.parts) false true) (told_apart cs d) (both_two (apart (all_begin c.parts) (any_begin cs d)) _ h)))
 untold_in {p = p} {c = c} k (there {b} {cs} {d} i) h a e n =
     let s = split_sound p b.parts (both_one (sound_at p b.parts) (all_sound p cs d) a) in
@@ -91,22 +91,22 @@ untold_in {p = p} {c = c} k (there {b} {cs} {d} i) h a e n =
     ap (λ x. cond x (Some b) (chosen k cs d)) m ∙ untold_in k i (both_two _ (told_apart cs d) (both_two (apart (all_begin b.parts) (any_begin cs d)) _ h)) (both_two (sound_at p b.parts) (all_sound p cs d) a) e n
 untold_in k last h a e n = refl
 
-ended_in : {source : List ℕ} {p : Part} {c : Choice source p} {cs : List (Choice source p)} {d : Option (Choice source p)} → In c cs d → told_apart cs d ≡ true → all_empty c.parts ≡ true → d ≡ Some c
+ended_in : {source : List ℕ} {p : Nonterminal} {c : Choice source p} {cs : List (Choice source p)} {d : Option (Choice source p)} → In c cs d → told_apart cs d ≡ true → all_empty c.parts ≡ true → d ≡ Some c
 ended_in {c = c} (here {cs} {d}) h e = cc (cond_false (all_empty c.parts) (both_one (cond (all_empty c.parts) false true) (told_apart cs d) (both_two (apart (all_begin c.parts) (any_begin cs d)) _ h)))
 ended_in (there {b} {cs} {d} i) h e = ended_in i (both_two _ (told_apart cs d) (both_two (apart (all_begin b.parts) (any_begin cs d)) _ h)) e
 ended_in last h e = refl
 
 -- a production that the next token begins is predicted
-pub told : {source : List ℕ} {p : Part} (c : Choice source p) → In c (cases source p) (otherwise source p) → (t : Token) (ts : List Token) → is_one_of t.kind (all_begin c.parts) ≡ true → predict source p (t ∷ ts) ≡ Some c
+pub told : {source : List ℕ} {p : Nonterminal} (c : Choice source p) → In c (cases source p) (otherwise source p) → (t : Token) (ts : List Token) → is_one_of t.kind (all_begin c.parts) ≡ true → predict source p (t ∷ ts) ≡ Some c
 told {source} {p} c i t ts e = told_in t.kind i (check_of source p).told e
 
 -- The next token doesn't bar the part.
-abbrev pub Clear : Part → List Token → Type 0
+abbrev pub Clear : Nonterminal → List Token → Type 0
 Clear p [] = Unit {0}
 Clear p (t ∷ ts) = is_one_of t.kind (bars p) ≡ false
 
 -- a production that may be empty is predicted where nothing bars the part
-pub untold : {source : List ℕ} {p : Part} (c : Choice source p) → In c (cases source p) (otherwise source p) → (ts : List Token) → all_empty c.parts ≡ true → Clear p ts → predict source p ts ≡ Some c
+pub untold : {source : List ℕ} {p : Nonterminal} (c : Choice source p) → In c (cases source p) (otherwise source p) → (ts : List Token) → all_empty c.parts ≡ true → Clear p ts → predict source p ts ≡ Some c
 untold {source} {p} c i [] e n = ended_in i (check_of source p).told e
 untold {source} {p} c i (t ∷ ts) e n =
     let k = check_of source p in

@@ -3,9 +3,9 @@ use Rattle.std.proofs.Common.{◌≡◌, ℕ, ◌<◌, ◌≤◌, Bool, true, fa
 use Rattle.rb_trees.specs.declared.tokens.Token.{Token}
 use Rattle.rb_trees.specs.declared.tokens.TokenKind.{TokenKind}
 use Rattle.rb_meaning_bytes.specs.grammar.Kinds.{is_kind}
-use Rattle.rb_meaning_bytes.specs.grammar.Symbols.{Symbol, Terminal, The, Part, TreeOf, Trees, made}
+use Rattle.rb_meaning_bytes.specs.grammar.Symbols.{Symbol, Terminal, The, Nonterminal, TreeOf, Trees, made}
 use Rattle.rb_meaning_bytes.specs.grammar.Derives as g
-use Rattle.rb_meaning_bytes.specs.grammar.Derives.{Spells, Front}
+use Rattle.rb_meaning_bytes.specs.grammar.Derives.{Spells, IsPrefix}
 use Rattle.rb_parse.specs.Table.{Choice, may_be_empty, predict}
 use Rattle.rb_parse.proofs.KindLists.{kind_same, both}
 use Rattle.rb_parse.proofs.Checks.{all_empty, implies}
@@ -16,7 +16,7 @@ pub data Takes (source : List ℕ) : (l : List Symbol) → List Token → Trees 
   done : {ts : List Token} → Takes source [] ts tt ts
   token : {kind : TokenKind} {l : List Symbol} {ts us : List Token} {xs : Trees l} (t : Token) → is_kind t.kind kind ≡ true
       → Takes source l ts xs us → Takes source (Terminal kind ∷ l) (t ∷ ts) (t, xs) us
-  part : {p : Part} {l : List Symbol} {ts ms us : List Token} {xs : Trees l} (c : Choice source p) {ys : Trees c.parts}
+  part : {p : Nonterminal} {l : List Symbol} {ts ms us : List Token} {xs : Trees l} (c : Choice source p) {ys : Trees c.parts}
       → predict source p ts ≡ Some c → Takes source c.parts ts ys ms → Takes source l ms xs us
       → Takes source (The p ∷ l) ts (made c.parts (TreeOf p) c.makes ys, xs) us
 
@@ -27,10 +27,10 @@ pub data Stops (source : List ℕ) : List Symbol → List Token → ℕ → Type
       → Stops source (Terminal kind ∷ l) (t ∷ ts) (length (t ∷ ts))
   behind_token : {kind : TokenKind} {l : List Symbol} {ts : List Token} {m : ℕ} (t : Token) → is_kind t.kind kind ≡ true
       → Stops source l ts m → Stops source (Terminal kind ∷ l) (t ∷ ts) m
-  none : {p : Part} {l : List Symbol} (ts : List Token) → predict source p ts ≡ None → Stops source (The p ∷ l) ts (length ts)
-  within : {p : Part} {l : List Symbol} {ts : List Token} {m : ℕ} (c : Choice source p) → predict source p ts ≡ Some c
+  none : {p : Nonterminal} {l : List Symbol} (ts : List Token) → predict source p ts ≡ None → Stops source (The p ∷ l) ts (length ts)
+  within : {p : Nonterminal} {l : List Symbol} {ts : List Token} {m : ℕ} (c : Choice source p) → predict source p ts ≡ Some c
       → Stops source c.parts ts m → Stops source (The p ∷ l) ts m
-  behind_part : {p : Part} {l : List Symbol} {ts ms : List Token} {m : ℕ} (c : Choice source p) {ys : Trees c.parts}
+  behind_part : {p : Nonterminal} {l : List Symbol} {ts ms : List Token} {m : ℕ} (c : Choice source p) {ys : Trees c.parts}
       → predict source p ts ≡ Some c → Takes source c.parts ts ys ms → Stops source l ms m → Stops source (The p ∷ l) ts m
 
 shorter_part : (m ce le : Bool) (x y z : ℕ) → implies ce m ≡ true → both m le ≡ false → y ≤ x → (ce ≡ false → y < x) → z ≤ y → (le ≡ false → z < y) → z < x
@@ -78,7 +78,7 @@ module _ (source : List ℕ) where
   took (part {p} {l} {ts} {ms} {us} c h d e) =
       let a = took d in
       let b = took e in
-      record { front = a.front ++ b.front; is = a.is ∙ ap (λ x. a.front ++ x) b.is ∙ sym (append_assoc a.front b.front us); spells = g.rule c.rule a.spells b.spells }
+      record { front = a.front ++ b.front; is = a.is ∙ ap (λ x. a.front ++ x) b.is ∙ sym (append_assoc a.front b.front us); spells = g.production c.rule a.spells b.spells }
 
   -- where symbols stop, the tokens so far are a prefix of them
   pub record Halts (l : List Symbol) (ts : List Token) (m : ℕ) : Type 0 where
@@ -86,14 +86,14 @@ module _ (source : List ℕ) where
     pub rest : List Token
     pub is : ts ≡ front ++ rest
     pub left : length rest ≡ m
-    pub begins : Front source l front
+    pub begins : IsPrefix source l front
 
   pub halts : {l : List Symbol} {ts : List Token} {m : ℕ} → Stops source l ts m → Halts l ts m
   halts ended = record { front = []; rest = []; is = refl; left = refl; begins = g.none }
   halts (wrong t ts h) = record { front = []; rest = t ∷ ts; is = refl; left = refl; begins = g.none }
   halts (behind_token {kind} {l} t h d) =
       let a = halts d in
-      record { front = t ∷ a.front; rest = a.rest; is = ap (λ x. t ∷ x) a.is; left = a.left; begins = subst (λ k. Front source (Terminal k ∷ l) (t ∷ a.front)) (kind_same t.kind kind h) (g.after_token t a.begins) }
+      record { front = t ∷ a.front; rest = a.rest; is = ap (λ x. t ∷ x) a.is; left = a.left; begins = subst (λ k. IsPrefix source (Terminal k ∷ l) (t ∷ a.front)) (kind_same t.kind kind h) (g.after_token t a.begins) }
   halts (none ts h) = record { front = []; rest = ts; is = refl; left = refl; begins = g.none }
   halts (within c h d) = let a = halts d in record { front = a.front; rest = a.rest; is = a.is; left = a.left; begins = g.within c.rule a.begins }
   halts (behind_part c h d e) =
@@ -102,7 +102,7 @@ module _ (source : List ℕ) where
       record { front = a.front ++ b.front; rest = b.rest; is = a.is ∙ ap (λ x. a.front ++ x) b.is ∙ sym (append_assoc a.front b.front b.rest); left = b.left; begins = g.past c.rule a.spells b.begins }
 
 module _ (source : List ℕ) (t : Token) (us ws : List Token) where
-  predict_same : {p : Part} (o : Option (Choice source p)) (ts a : List Token) → ts ≡ a ++ t ∷ us → predict source p ts ≡ o → predict source p (a ++ t ∷ ws) ≡ o
+  predict_same : {p : Nonterminal} (o : Option (Choice source p)) (ts a : List Token) → ts ≡ a ++ t ∷ us → predict source p ts ≡ o → predict source p (a ++ t ∷ ws) ≡ o
   predict_same {p} o ts [] e h = subst (λ l. predict source p l ≡ o) e h
   predict_same {p} o ts (x ∷ a) e h = subst (λ l. predict source p l ≡ o) e h
 

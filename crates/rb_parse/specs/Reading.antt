@@ -5,7 +5,7 @@ use Rattle.rb_trees.specs.declared.tokens.TokenKind.{TokenKind}
 use Rattle.rb_trees.specs.mirror.Declarations.{Program}
 use Rattle.rb_meaning_bytes.specs.grammar.Kinds.{is_kind, is_one_of}
 use Rattle.rb_meaning_bytes.specs.grammar.Symbols as s
-use Rattle.rb_meaning_bytes.specs.grammar.Symbols.{Symbol, Terminal, The, Part, Chain, MoreChain, TreeOf, Tree, Makes}
+use Rattle.rb_meaning_bytes.specs.grammar.Symbols.{Symbol, Terminal, The, Nonterminal, Chain, MoreChain, TreeOf, Tree, Makes}
 use Rattle.rb_parse.specs.declared.stop.Stop.{Stop}
 use Rattle.rb_parse.specs.declared.stop.Stop.TheVariants as stops
 use Rattle.rb_parse.specs.Table.{Choice, predict}
@@ -25,7 +25,7 @@ take_kind kind [] = Err 0
 take_kind kind (t ∷ ts) = cond (is_kind t.kind kind) (Ok (t, ts)) (Err (length (t ∷ ts)))
 
 abbrev pub Reader : Type 0
-Reader = (p : Part) → List Token → Read (TreeOf p)
+Reader = (p : Nonterminal) → List Token → Read (TreeOf p)
 
 abbrev pub read_symbol : Reader → (x : Symbol) → List Token → Read (Tree x)
 read_symbol r (Terminal kind) ts = take_kind kind ts
@@ -36,12 +36,12 @@ abbrev pub read_into : Reader → (l : List Symbol) (T : Type 0) → Makes l T �
 read_into r [] T f ts = Ok (f, ts)
 read_into r (x ∷ l) T f ts = read_symbol r x ts >>= λ a. read_into r l T (f a.0) a.1
 
-abbrev pub by_choice : {source : List ℕ} {p : Part} → Reader → Option (Choice source p) → List Token → Read (TreeOf p)
+abbrev pub by_choice : {source : List ℕ} {p : Nonterminal} → Reader → Option (Choice source p) → List Token → Read (TreeOf p)
 by_choice r None ts = Err (length ts)
 by_choice {p = p} r (Some c) ts = read_into r c.parts (TreeOf p) c.makes ts
 
 -- How many parts a part may begin with, one within the other.
-unfoldable pub rank : Part → ℕ
+unfoldable pub rank : Nonterminal → ℕ
 rank s.TheProgram = 3
 rank s.Interfaces = 1
 rank s.Signatures = 1

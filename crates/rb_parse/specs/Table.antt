@@ -6,17 +6,17 @@ use Rattle.rb_trees.specs.declared.tokens.TokenKind.TheVariants as kind
 use Rattle.rb_meaning_bytes.specs.grammar.Kinds as k
 use Rattle.rb_meaning_bytes.specs.grammar.Kinds.{is_one_of}
 use Rattle.rb_meaning_bytes.specs.grammar.Symbols as s
-use Rattle.rb_meaning_bytes.specs.grammar.Symbols.{Symbol, Terminal, The, Part, Chain, MoreChain, TreeOf, Makes}
-use Rattle.rb_meaning_bytes.specs.grammar.Rules.{Rule}
-use Rattle.rb_meaning_bytes.specs.grammar.Rules as r
+use Rattle.rb_meaning_bytes.specs.grammar.Symbols.{Symbol, Terminal, The, Nonterminal, Chain, MoreChain, TreeOf, Makes}
+use Rattle.rb_meaning_bytes.specs.grammar.Productions.{Production}
+use Rattle.rb_meaning_bytes.specs.grammar.Productions as r
 
 -- a production of a part
-pub record Choice (source : List ℕ) (p : Part) : Type 0 where
+pub record Choice (source : List ℕ) (p : Nonterminal) : Type 0 where
   pub parts : List Symbol
   pub makes : Makes parts (TreeOf p)
-  pub rule : Rule source p parts makes
+  pub rule : Production source p parts makes
 
-abbrev pub choice : {source : List ℕ} {p : Part} {l : List Symbol} {f : Makes l (TreeOf p)} → Rule source p l f → Choice source p
+abbrev pub choice : {source : List ℕ} {p : Nonterminal} {l : List Symbol} {f : Makes l (TreeOf p)} → Production source p l f → Choice source p
 choice {l = l} {f = f} r = record { parts = l; makes = f; rule = r }
 
 -- the kinds that a first part of an expression begins with
@@ -32,7 +32,7 @@ abbrev pub statement_kinds : List TokenKind
 statement_kinds = k.keyword_val ∷ k.keyword_var ∷ k.keyword_print ∷ k.keyword_throw ∷ k.keyword_if ∷ k.keyword_while ∷ k.keyword_for ∷ k.keyword_try ∷ k.keyword_batch ∷ expression_kinds
 
 -- the kinds that a part begins with
-unfoldable pub begins : Part → List TokenKind
+unfoldable pub begins : Nonterminal → List TokenKind
 begins s.TheProgram = k.keyword_interface ∷ k.keyword_class ∷ k.keyword_main ∷ []
 begins s.Interfaces = k.keyword_interface ∷ []
 begins s.AnInterface = k.keyword_interface ∷ []
@@ -71,7 +71,7 @@ begins s.Arguments = expression_kinds
 begins s.MoreArguments = k.sign_comma ∷ []
 
 -- whether no token may be a spelling of the part
-unfoldable pub may_be_empty : Part → Bool
+unfoldable pub may_be_empty : Nonterminal → Bool
 may_be_empty s.Interfaces = true
 may_be_empty s.Signatures = true
 may_be_empty s.Params = true
@@ -104,7 +104,7 @@ all_begin [] = []
 all_begin (x ∷ l) = symbol_begins x ++ cond (symbol_may_be_empty x) (all_begin l) []
 
 -- the productions that are told by the next token, in the order in which they are tried
-unfoldable pub cases : (source : List ℕ) (p : Part) → List (Choice source p)
+unfoldable pub cases : (source : List ℕ) (p : Nonterminal) → List (Choice source p)
 cases source s.TheProgram = []
 cases source s.Interfaces = choice r.more_interfaces ∷ []
 cases source s.AnInterface = []
@@ -148,7 +148,7 @@ cases source s.Arguments = choice r.arguments ∷ []
 cases source s.MoreArguments = choice r.more_arguments ∷ []
 
 -- the production that is taken where none of them is told
-unfoldable pub otherwise : (source : List ℕ) (p : Part) → Option (Choice source p)
+unfoldable pub otherwise : (source : List ℕ) (p : Nonterminal) → Option (Choice source p)
 otherwise source s.TheProgram = Some (choice r.program)
 otherwise source s.Interfaces = Some (choice r.no_interfaces)
 otherwise source s.AnInterface = Some (choice r.interface)
@@ -191,11 +191,11 @@ otherwise source s.First = None
 otherwise source s.Arguments = Some (choice r.no_arguments)
 otherwise source s.MoreArguments = Some (choice r.last_argument)
 
-abbrev pub chosen : {source : List ℕ} {p : Part} → TokenKind → List (Choice source p) → Option (Choice source p) → Option (Choice source p)
+abbrev pub chosen : {source : List ℕ} {p : Nonterminal} → TokenKind → List (Choice source p) → Option (Choice source p) → Option (Choice source p)
 chosen kind [] d = d
 chosen kind (c ∷ cs) d = cond (is_one_of kind (all_begin c.parts)) (Some c) (chosen kind cs d)
 
 -- the production that a part goes on by
-abbrev pub predict : (source : List ℕ) (p : Part) → List Token → Option (Choice source p)
+abbrev pub predict : (source : List ℕ) (p : Nonterminal) → List Token → Option (Choice source p)
 predict source p [] = otherwise source p
 predict source p (t ∷ ts) = chosen t.kind (cases source p) (otherwise source p)

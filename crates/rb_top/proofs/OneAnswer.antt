@@ -9,8 +9,8 @@ use Rattle.rb_trees.specs.mirror.Services.{Service}
 use Rattle.rb_base.specs.Directories.{Directory, next_read, after_read, told_after, Finds, FailsNext}
 use Rattle.rb_meaning_bytes.specs.grammar.Sources.{ReadSource}
 use Rattle.rb_meaning_types.specs.Kinds.{kind_of_form}
-use Rattle.rb_meaning_types.specs.Faults.{Checked, Fault, UnknownName, NameTaken, WrongType, WrongCount, NotAssignable, MissingReturn, TypeNotHere, NotAllowedHere}
-use Rattle.rb_meaning_types.specs.Gives.{Fails}
+use Rattle.rb_meaning_types.specs.Violations.{violation_of, Checked, Violation, UnknownName, NameTaken, WrongType, WrongCount, NotAssignable, MissingReturn, TypeNotHere, NotAllowedHere}
+use Rattle.rb_trees.specs.Outcome.{Refuses}
 use Rattle.rb_meaning_types.specs.Programs.{check_program, is_typed}
 use Rattle.rb_top.specs.FirstForm.{FirstProgram, Offers}
 use Rattle.rb_top.specs.Runs.{run_text}
@@ -64,15 +64,15 @@ program_short : (text : List ℕ) (program : Program) → ReadSource text (Ok pr
 program_short text program i = i.1.short
 
 -- a typed program has no violation
-never_untyped : (program : Program) (error : TypeError) → IsTrue (is_typed program) → Fails error (check_program program) → no_violation error ≡ false → ⊥
+never_untyped : (program : Program) (error : TypeError) → IsTrue (is_typed program) → Refuses (violation_of error) (check_program program) → no_violation error ≡ false → ⊥
 never_untyped program error t f n = no_failure (check_program program) error t f n
   where
-    fails_none : (fault : Fault) (checked : Checked (Unit {0})) → is_ok checked ≡ true → checked ≡ Err fault → ⊥
+    fails_none : (fault : Violation) (checked : Checked (Unit {0})) → is_ok checked ≡ true → checked ≡ Err fault → ⊥
     fails_none fault checked t f =
         let e = sym (ap is_ok f) ∙ t in
         absurd (cc)
 
-    no_failure : (checked : Checked (Unit {0})) (error : TypeError) → is_ok checked ≡ true → Fails error checked → no_violation error ≡ false → ⊥
+    no_failure : (checked : Checked (Unit {0})) (error : TypeError) → is_ok checked ≡ true → Refuses (violation_of error) checked → no_violation error ≡ false → ⊥
     no_failure checked (violations.UnknownName at) t f n = fails_none (UnknownName at) checked t f
     no_failure checked (violations.NameTaken at) t f n = fails_none (NameTaken at) checked t f
     no_failure checked (violations.WrongType at found) t f n = fails_none (WrongType at (kind_of_form found)) checked t f
@@ -97,7 +97,7 @@ one_answer fuel told ws p s status shown directory text other program service w 
 one_answer fuel told ws p s status shown directory text other program service w t h (program_untyped ws' p' text' program' error n f v) =
     let same = found_once told directory p p' text text' t (named_program ws p p' s n w) h.reads f in
     let one = read_once text program' program (subst (λ x. ReadSource x (Ok program')) same v.read) h.is_program.read in
-    absurd (never_untyped program error h.is_program.typed (subst (λ x. Fails error (check_program x)) one v.fails) v.is_violation)
+    absurd (never_untyped program error h.is_program.typed (subst (λ x. Refuses (violation_of error) (check_program x)) one v.fails) v.is_violation)
 one_answer fuel told ws p s status shown directory text other program service w t h (program_typed p' text' program' f i v) = absurd (other_words p p' s w)
 one_answer fuel told ws p s status shown directory text other program service w t h (program_form p' s' text' program' f i v n) =
     let same = found_once told directory p p' text text' t (ap first_name w) h.reads f in

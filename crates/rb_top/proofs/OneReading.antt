@@ -8,7 +8,7 @@ use Rattle.rb_trees.specs.mirror.Declarations.{Program}
 use Rattle.rb_meaning_bytes.specs.tokens.Texts.{IsTokens, IsRefusal}
 use Rattle.rb_meaning_bytes.specs.grammar.Symbols.{Symbol, Trees}
 use Rattle.rb_meaning_bytes.specs.grammar.Derives as g
-use Rattle.rb_meaning_bytes.specs.grammar.Derives.{Spells, Front, Derives, Begins, Stuck}
+use Rattle.rb_meaning_bytes.specs.grammar.Derives.{Spells, IsPrefix, Derives, Begins, Stuck}
 use Rattle.rb_meaning_bytes.specs.grammar.Limits.{Nesting, after, too_deep, broken, nothing_open, Within}
 use Rattle.rb_meaning_bytes.specs.grammar.Refusals.{UnexpectedAt, TooNestedAt}
 use Rattle.rb_meaning_bytes.specs.grammar.Sources.{ReadSource}
@@ -43,15 +43,15 @@ either : {A B C : Type 0} → A ⊎ B → (A → C) → (B → C) → C
 either (inl a) f g = f a
 either (inr b) f g = g b
 
-front_of : {source : List ℕ} {l : List Symbol} {whole : List Token} {xs : Trees l} → Spells source l whole xs → (a b : List Token) → whole ≡ a ++ b → Front source l a
+front_of : {source : List ℕ} {l : List Symbol} {whole : List Token} {xs : Trees l} → Spells source l whole xs → (a b : List Token) → whole ≡ a ++ b → IsPrefix source l a
 front_of g.nothing [] b e = g.none
 front_of g.nothing (y ∷ a) b e = absurd (cc)
 front_of (g.token t s) [] b e = g.none
 front_of {source} {l} (g.token t s) (y ∷ a) b e =
     let same : t ≡ y = cc in
-    subst (λ z. Front source l (z ∷ a)) same (g.after_token t (front_of s a b (cc)))
-front_of {source} {l} (g.rule {ts = ts} {us = us} r s k) a b e =
-    either (parted a b ts us e) (λ h. g.within r (front_of s a h.0 h.1)) (λ h. subst (Front source l) (sym h.1) (g.past r s (front_of k h.0 b h.2)))
+    subst (λ z. IsPrefix source l (z ∷ a)) same (g.after_token t (front_of s a b (cc)))
+front_of {source} {l} (g.production {ts = ts} {us = us} r s k) a b e =
+    either (parted a b ts us e) (λ h. g.within r (front_of s a h.0 h.1)) (λ h. subst (IsPrefix source l) (sym h.1) (g.past r s (front_of k h.0 b h.2)))
 
 within_front : (n : Nesting) (a b : List Token) → broken n (a ++ b) ≡ None → broken n a ≡ None
 within_front n [] b h = refl

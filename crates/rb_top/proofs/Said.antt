@@ -9,7 +9,8 @@ use Rattle.rb_trees.specs.mirror.Declarations.{Program}
 use Rattle.rb_trees.specs.mirror.Services.{Service}
 use Rattle.rb_meaning.specs.Shown.{line}
 use Rattle.rb_meaning_bytes.specs.grammar.Sources.{ReadSource}
-use Rattle.rb_meaning_types.specs.Gives.{Fails}
+use Rattle.rb_meaning_types.specs.Violations.{violation_of}
+use Rattle.rb_trees.specs.Outcome.{Refuses}
 use Rattle.rb_meaning_types.specs.Programs.{check_program, is_typed}
 use Rattle.rb_base.specs.Directories.{Directory, told_after, Finds}
 use Rattle.rb_base.specs.Sinks.{told_more, WrotePrefix}
@@ -66,7 +67,7 @@ program_not_read fuel told ws p old reads text error result new after n f s i r 
     says_unless fuel told ws old reads (wants_memory error) (SourceRefused (sources.Read error)) result (line (shown_refusal text error)) new after
     (λ m. program_refused ws p text error n f s (record { read = i; is_refusal = m })) r refl h
 
-pub program_not_typed : (fuel : ℕ) (told : Option Directory) (ws : List (List ℕ)) (p : List ℕ) (old : Option (List ℕ)) (reads : ℕ) (text : List ℕ) (program : Program) (error : TypeError) (result : Status) (new : Option (List ℕ)) (after : ℕ) → NamesProgram ws p → Finds told p text → ReadSource text (Ok program) → Fails error (check_program program) → Violates text error old result new → after ≡ reads → Says fuel told ws old reads result new after
+pub program_not_typed : (fuel : ℕ) (told : Option Directory) (ws : List (List ℕ)) (p : List ℕ) (old : Option (List ℕ)) (reads : ℕ) (text : List ℕ) (program : Program) (error : TypeError) (result : Status) (new : Option (List ℕ)) (after : ℕ) → NamesProgram ws p → Finds told p text → ReadSource text (Ok program) → Refuses (violation_of error) (check_program program) → Violates text error old result new → after ≡ reads → Says fuel told ws old reads result new after
 program_not_typed fuel told ws p old reads text program error result new after n f i v r h =
     says_unless fuel told ws old reads (no_violation error) (SourceRefused (sources.Types error)) result (line (shown_violation text error)) new after
     (λ m. program_untyped ws p text program error n f (record { read = i; fails = v; is_violation = m })) r refl h

@@ -12,7 +12,8 @@ use Rattle.rb_trees.specs.mirror.Declarations.{Program}
 use Rattle.rb_trees.specs.mirror.Services.{Service}
 use Rattle.rb_meaning_bytes.specs.tokens.Texts.{IsTokens, longest_text}
 use Rattle.rb_meaning_bytes.specs.grammar.Sources.{ReadSource}
-use Rattle.rb_meaning_types.specs.Gives.{Fails}
+use Rattle.rb_meaning_types.specs.Violations.{violation_of}
+use Rattle.rb_trees.specs.Outcome.{Refuses}
 use Rattle.rb_meaning_types.specs.Programs.{check_program, is_typed}
 use Rattle.rb_top.specs.FirstForm.{FirstProgram, Offers}
 use Rattle.rb_top.specs.FirstTexts.{service_at}
@@ -50,7 +51,7 @@ no_violation _ = false
 -- The text is read as this program, whose first violation this is.
 pub record IsUntyped (text : List ℕ) (p : Program) (error : TypeError) : Type 0 where
   pub read : ReadSource text (Ok p)
-  pub fails : Fails error (check_program p)
+  pub fails : Refuses (violation_of error) (check_program p)
   pub is_violation : no_violation error ≡ false
 
 -- The text is this program, typed and of the form that is built.

@@ -2,7 +2,7 @@
 use Rattle.std.proofs.Common.{◌≡◌, ℕ, List, [], ◌∷◌, ◌++◌, cond, nat_eq, Option, Some, Ok, refl, ap}
 use Rattle.rb_types.specs.declared.kinds.Placed as placed
 use Rattle.rb_meaning_types.specs.Kinds.{Kind, kind_of_form}
-use Rattle.rb_meaning_types.specs.Faults.{Checked}
+use Rattle.rb_meaning_types.specs.Violations.{Checked}
 use Rattle.rb_meaning_types.specs.Notes.{note_at}
 use Rattle.rb_types.specs.Views.{notes_of}
 

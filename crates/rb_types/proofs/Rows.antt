@@ -1,6 +1,6 @@
 -- Types of a list of expressions, with those of the expressions before it.
 use Rattle.std.proofs.Common.{◌≡◌, List, [], ◌∷◌, ◌++◌, Ok, Err, refl, ap}
-use Rattle.rb_meaning_types.specs.Faults.{Fault, Checked, Placed}
+use Rattle.rb_meaning_types.specs.Violations.{Violation, Checked, Placed}
 use Rattle.rb_meaning_types.specs.Expressions.{with_first}
 
 abbrev pub with_front : List Placed → Checked (List Placed) → Checked (List Placed)
@@ -15,7 +15,7 @@ pub front_none : (ps : List Placed) → with_front ps (Ok []) ≡ Ok ps
 front_none [] = refl
 front_none (p ∷ ps) = ap (with_first p) (front_none ps)
 
-pub front_fails : (ps : List Placed) (fault : Fault) → with_front ps (Err fault) ≡ Err fault
+pub front_fails : (ps : List Placed) (fault : Violation) → with_front ps (Err fault) ≡ Err fault
 front_fails [] fault = refl
 front_fails (p ∷ ps) fault = ap (with_first p) (front_fails ps fault)
 

@@ -1,7 +1,8 @@
 -- A loop whose source was placed.
 use Rattle.std.proofs.Common.{◌≡◌, ℕ, List, Ok, ap, ◌∙◌}
 use Rattle.rb_trees.specs.mirror.Code.{Expr, Stmt, Stmts, For}
-use Rattle.rb_meaning_types.specs.Faults.{Placed, ◌>>=◌}
+use Rattle.rb_meaning_types.specs.Violations.{Placed}
+use Rattle.rb_trees.specs.Outcome.{◌>>=◌}
 use Rattle.rb_meaning_types.specs.Scopes.{Scope}
 use Rattle.rb_meaning_types.specs.Expressions.{Context}
 use Rattle.rb_meaning_types.specs.Statements.{placed, loop_scope, check_stmt}

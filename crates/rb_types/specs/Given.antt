@@ -3,7 +3,7 @@ use Rattle.std.specs.Prelude.{Option, Ok}
 use Rattle.std.specs.Option.{option_map}
 use Rattle.rb_trees.specs.declared.code.TypeForm.{TypeForm}
 use Rattle.rb_meaning_types.specs.Kinds.{Kind, kind_of_form}
-use Rattle.rb_meaning_types.specs.Faults.{Checked}
+use Rattle.rb_meaning_types.specs.Violations.{Checked}
 
 -- a type that was found, as what the judgement gives
 abbrev pub kind_given : Option TypeForm → Option (Checked Kind)

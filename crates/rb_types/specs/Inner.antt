@@ -1,6 +1,7 @@
 -- A block whose scope was opened for it.
 use Rattle.rb_trees.specs.mirror.Code.{Stmts}
-use Rattle.rb_meaning_types.specs.Faults.{Checked, ◌>>=◌}
+use Rattle.rb_meaning_types.specs.Violations.{Checked}
+use Rattle.rb_trees.specs.Outcome.{◌>>=◌}
 use Rattle.rb_meaning_types.specs.Scopes.{Scope}
 use Rattle.rb_meaning_types.specs.Expressions.{Context}
 use Rattle.rb_meaning_types.specs.Statements.{closed, check_stmts}

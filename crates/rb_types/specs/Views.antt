@@ -6,7 +6,7 @@ use Rattle.rb_types.specs.declared.kinds.Placed as placed
 use Rattle.rb_types.specs.declared.scope.Variable as variable
 use Rattle.rb_types.specs.declared.context.Context as context
 use Rattle.rb_meaning_types.specs.Kinds.{kind_of_form}
-use Rattle.rb_meaning_types.specs.Faults.{Placed}
+use Rattle.rb_meaning_types.specs.Violations.{Placed}
 use Rattle.rb_meaning_types.specs.Scopes.{Variable, Scope}
 use Rattle.rb_meaning_types.specs.Expressions.{Context}
 use Rattle.rb_meaning_types.specs.Notes.{Note}

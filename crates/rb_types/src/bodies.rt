@@ -9,7 +9,8 @@ ghost use Rattle.rb_meaning_types.specs.Kinds.{kind_of, kind_of_form};
 ghost use Rattle.rb_meaning_types.specs.Scopes as scopes;
 ghost use Rattle.rb_meaning_types.specs.Bodies as bodies;
 ghost use Rattle.rb_meaning_types.specs.Notes.{return_noted, body_noted, method_noted, methods_noted, classes_noted};
-ghost use Rattle.rb_meaning_types.specs.Gives.{Gives};
+ghost use Rattle.rb_meaning_types.specs.Violations.{violation_of};
+ghost use Rattle.rb_trees.specs.Outcome.{Gives};
 ghost use Rattle.rb_types.specs.Views.{context_of, scope_of, placed_of, notes_of};
 
 use crate::classes::{Classes, IndexedClass};
@@ -23,7 +24,7 @@ use rb_trees::{Body, Expr, Method, Param, Seq, TypeError, TypeForm, TypeTree, Wo
 use std::alloc::Global;
 
 fn return_fits(alloc: Global, kind: &TypeForm, p: &Placed) -> Result<(), TypeError>
-    ensures { Gives (λ u. u) result (bodies.return_fits (kind_of_form kind.now) (placed_of p.now)) }
+    ensures { Gives (λ u. u) violation_of result (bodies.return_fits (kind_of_form kind.now) (placed_of p.now)) }
 {
     if !is_unit(kind) && same_kind(kind, &p.kind) {
         Ok(())
@@ -41,7 +42,7 @@ fn check_return(
     kind: &TypeForm,
     returned: &Option<Expr>,
 ) -> Result<(), TypeError>
-    ensures gives { Gives (λ u. u) result (bodies.check_return (context_of x.now) (scope_of scope.now) at (kind_of_form kind.now) (option_map mirror_expr returned.now)) }
+    ensures gives { Gives (λ u. u) violation_of result (bodies.check_return (context_of x.now) (scope_of scope.now) at (kind_of_form kind.now) (option_map mirror_expr returned.now)) }
     ensures notes { OnOk result (notes_of notes.new ≡ return_noted (context_of x.now) (scope_of scope.now) (notes_of notes.old) (option_map mirror_expr returned.now)) }
 {
     match returned {
@@ -70,7 +71,7 @@ pub fn check_body(
     kind: &TypeTree,
     body: &Body,
 ) -> Result<(), TypeError>
-    ensures gives { Gives (λ u. u) result (bodies.check_body (context_of x.now) (scope_of scope) at (mirror_type kind.now) (mirror_body body.now)) }
+    ensures gives { Gives (λ u. u) violation_of result (bodies.check_body (context_of x.now) (scope_of scope) at (mirror_type kind.now) (mirror_body body.now)) }
     ensures notes { OnOk result (notes_of notes.new ≡ body_noted (context_of x.now) (scope_of scope) (notes_of notes.old) (mirror_body body.now)) }
 {
     check_stmts(alloc, x, &mut scope, notes, body.statements.as_slice())?;
@@ -78,7 +79,7 @@ pub fn check_body(
 }
 
 fn parameters(alloc: Global, params: &[Param]) -> Result<Scope, TypeError>
-    ensures { Gives scope_of result (Ok (scopes.parameters (map mirror_param params.now))) }
+    ensures { Gives scope_of violation_of result (Ok (scopes.parameters (map mirror_param params.now))) }
 {
     let mut scope = Scope::new(alloc);
     for param in params {
@@ -98,7 +99,7 @@ fn check_method_body<'a>(
     notes: &mut Seq<Placed>,
     m: &Method,
 ) -> Result<(), TypeError>
-    ensures gives { Gives (λ u. u) result (bodies.check_method_body (map mirror_interface interfaces.now) (map mirror_class classes.now) service class.now (mirror_method m.now)) }
+    ensures gives { Gives (λ u. u) violation_of result (bodies.check_method_body (map mirror_interface interfaces.now) (map mirror_class classes.now) service class.now (mirror_method m.now)) }
     ensures notes { OnOk result (notes_of notes.new ≡ method_noted (map mirror_interface interfaces.now) (map mirror_class classes.now) service class.now (notes_of notes.old) (mirror_method m.now)) }
 {
     let scope = parameters(alloc, m.signature.params.as_slice())?;
@@ -129,7 +130,7 @@ fn check_method_bodies<'a>(
     notes: &mut Seq<Placed>,
     methods: &[Method],
 ) -> Result<(), TypeError>
-    ensures gives { Gives (λ u. u) result (bodies.check_method_bodies (map mirror_interface interfaces.now) (map mirror_class classes.now) service class.now (map mirror_method methods.now)) }
+    ensures gives { Gives (λ u. u) violation_of result (bodies.check_method_bodies (map mirror_interface interfaces.now) (map mirror_class classes.now) service class.now (map mirror_method methods.now)) }
     ensures notes { OnOk result (notes_of notes.new ≡ methods_noted (map mirror_interface interfaces.now) (map mirror_class classes.now) service class.now (notes_of notes.old) (map mirror_method methods.now)) }
 {
     for m in methods {
@@ -147,7 +148,7 @@ pub fn check_class_bodies<'a>(
     notes: &mut Seq<Placed>,
     items: &'a [IndexedClass],
 ) -> Result<(), TypeError>
-    ensures gives { Gives (λ u. u) result (bodies.check_class_bodies (map mirror_interface interfaces.now) (map mirror_class classes.now) service (map mirror_class items.now)) }
+    ensures gives { Gives (λ u. u) violation_of result (bodies.check_class_bodies (map mirror_interface interfaces.now) (map mirror_class classes.now) service (map mirror_class items.now)) }
     ensures notes { OnOk result (notes_of notes.new ≡ classes_noted (map mirror_interface interfaces.now) (map mirror_class classes.now) service (notes_of notes.old) (map mirror_class items.now)) }
 {
     for item in items {

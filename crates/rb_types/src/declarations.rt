@@ -3,7 +3,8 @@ ghost use Rattle.rb_trees.specs.mirror.Declarations.{mirror_param, mirror_signat
 ghost use Rattle.rb_meaning_types.specs.Names as naming;
 ghost use Rattle.rb_meaning_types.specs.Declarations as declarations;
 ghost use Rattle.rb_meaning_types.specs.Programs as programs;
-ghost use Rattle.rb_meaning_types.specs.Gives.{Gives};
+ghost use Rattle.rb_meaning_types.specs.Violations.{violation_of};
+ghost use Rattle.rb_trees.specs.Outcome.{Gives};
 
 use crate::classes::{Classes, IndexedClass};
 use crate::interfaces::{IndexedInterface, Interfaces};
@@ -21,7 +22,7 @@ fn is_new(names: &Words, name: &Word) -> bool
 
 /// Adds a name that differs from those before.
 fn add_name(alloc: Global, names: &mut Words, at: u32, name: &Word) -> Result<(), TypeError>
-    ensures gives { Gives (λ u. u) result (declarations.new_name (names.old) at name.now) }
+    ensures gives { Gives (λ u. u) violation_of result (declarations.new_name (names.old) at name.now) }
     ensures added { OnOk result (names.new ≡ names.old ++ name.now ∷ []) }
 {
     if !is_new(names, name) {
@@ -39,7 +40,7 @@ fn check_params(
     classes: &Classes,
     params: &[Param],
 ) -> Result<(), TypeError>
-    ensures { Gives (λ u. u) result (declarations.check_params remote (map mirror_interface interfaces.now) (map mirror_class classes.now) [] (map mirror_param params.now)) }
+    ensures { Gives (λ u. u) violation_of result (declarations.check_params remote (map mirror_interface interfaces.now) (map mirror_class classes.now) [] (map mirror_param params.now)) }
 {
     let mut names = Words::new(alloc);
     for param in params {
@@ -56,7 +57,7 @@ fn check_signature(
     classes: &Classes,
     s: &Signature,
 ) -> Result<(), TypeError>
-    ensures { Gives (λ u. u) result (declarations.check_signature remote (map mirror_interface interfaces.now) (map mirror_class classes.now) (mirror_signature s.now)) }
+    ensures { Gives (λ u. u) violation_of result (declarations.check_signature remote (map mirror_interface interfaces.now) (map mirror_class classes.now) (mirror_signature s.now)) }
 {
     check_params(alloc, remote, interfaces, classes, s.params.as_slice())?;
     result_type(remote, interfaces, classes, &s.result)
@@ -68,7 +69,7 @@ fn check_signatures(
     classes: &Classes,
     signatures: &[Signature],
 ) -> Result<(), TypeError>
-    ensures { Gives (λ u. u) result (declarations.check_signatures (map mirror_interface interfaces.now) (map mirror_class classes.now) [] (map mirror_signature signatures.now)) }
+    ensures { Gives (λ u. u) violation_of result (declarations.check_signatures (map mirror_interface interfaces.now) (map mirror_class classes.now) [] (map mirror_signature signatures.now)) }
 {
     let mut names = Words::new(alloc);
     for s in signatures {
@@ -85,7 +86,7 @@ fn check_method(
     service: bool,
     m: &Method,
 ) -> Result<(), TypeError>
-    ensures { Gives (λ u. u) result (declarations.check_method (map mirror_interface interfaces.now) (map mirror_class classes.now) service (mirror_method m.now)) }
+    ensures { Gives (λ u. u) violation_of result (declarations.check_method (map mirror_interface interfaces.now) (map mirror_class classes.now) service (mirror_method m.now)) }
 {
     check_signature(alloc, false, interfaces, classes, &m.signature)?;
     if service && m.remote {
@@ -101,7 +102,7 @@ fn check_methods(
     service: bool,
     methods: &[Method],
 ) -> Result<(), TypeError>
-    ensures { Gives (λ u. u) result (declarations.check_methods (map mirror_interface interfaces.now) (map mirror_class classes.now) service [] (map mirror_method methods.now)) }
+    ensures { Gives (λ u. u) violation_of result (declarations.check_methods (map mirror_interface interfaces.now) (map mirror_class classes.now) service [] (map mirror_method methods.now)) }
 {
     let mut names = Words::new(alloc);
     for m in methods {
@@ -118,7 +119,7 @@ fn check_class(
     service: bool,
     class: &Class,
 ) -> Result<(), TypeError>
-    ensures { Gives (λ u. u) result (declarations.check_class (map mirror_interface interfaces.now) (map mirror_class classes.now) service (mirror_class class.now)) }
+    ensures { Gives (λ u. u) violation_of result (declarations.check_class (map mirror_interface interfaces.now) (map mirror_class classes.now) service (mirror_class class.now)) }
 {
     check_params(alloc, false, interfaces, classes, class.fields.as_slice())?;
     check_methods(
@@ -137,7 +138,7 @@ fn check_interfaces(
     classes: &Classes,
     items: &[IndexedInterface],
 ) -> Result<(), TypeError>
-    ensures gives { Gives (λ u. u) result (declarations.check_interfaces (map mirror_interface interfaces.now) (map mirror_class classes.now) (names.old) (map mirror_interface items.now)) }
+    ensures gives { Gives (λ u. u) violation_of result (declarations.check_interfaces (map mirror_interface interfaces.now) (map mirror_class classes.now) (names.old) (map mirror_interface items.now)) }
     ensures added { OnOk result (names.new ≡ names.old ++ map (λ i. i.name) (map mirror_interface items.now)) }
 {
     for item in items {
@@ -156,7 +157,7 @@ fn check_classes(
     service: bool,
     items: &[IndexedClass],
 ) -> Result<(), TypeError>
-    ensures { Gives (λ u. u) result (declarations.check_classes (map mirror_interface interfaces.now) (map mirror_class classes.now) service (names.old) (map mirror_class items.now)) }
+    ensures { Gives (λ u. u) violation_of result (declarations.check_classes (map mirror_interface interfaces.now) (map mirror_class classes.now) service (names.old) (map mirror_class items.now)) }
 {
     for item in items {
         let class = item.get();
@@ -173,7 +174,7 @@ pub fn check_declarations(
     classes: &Classes,
     service: bool,
 ) -> Result<(), TypeError>
-    ensures { Gives (λ u. u) result (programs.check_declarations (map mirror_interface interfaces.now) (map mirror_class classes.now) service) }
+    ensures { Gives (λ u. u) violation_of result (programs.check_declarations (map mirror_interface interfaces.now) (map mirror_class classes.now) service) }
 {
     let mut names = Words::new(alloc);
     check_interfaces(

@@ -10,7 +10,8 @@ ghost use Rattle.rb_meaning_types.specs.Kinds.{kind_of_form};
 ghost use Rattle.rb_meaning_types.specs.Expressions as expressions;
 ghost use Rattle.rb_meaning_types.specs.Statements.{placed};
 ghost use Rattle.rb_meaning_types.specs.Notes.{noted, parts_noted, all_noted};
-ghost use Rattle.rb_meaning_types.specs.Gives.{Gives};
+ghost use Rattle.rb_meaning_types.specs.Violations.{violation_of};
+ghost use Rattle.rb_trees.specs.Outcome.{Gives};
 ghost use Rattle.rb_types.specs.Views.{context_of, scope_of, placed_of, notes_of};
 
 use crate::context::Context;
@@ -25,7 +26,7 @@ use rb_trees::{
 use std::alloc::Global;
 
 fn name_kind(alloc: Global, scope: &Scope, at: u32, name: &Word) -> Result<TypeForm, TypeError>
-    ensures { Gives kind_of_form result (expressions.name_kind (scope_of scope.now) at name.now) }
+    ensures { Gives kind_of_form violation_of result (expressions.name_kind (scope_of scope.now) at name.now) }
 {
     match scope.find(name) {
         Some(variable) => copy_kind(alloc, &variable.kind),
@@ -34,7 +35,7 @@ fn name_kind(alloc: Global, scope: &Scope, at: u32, name: &Word) -> Result<TypeF
 }
 
 fn this_kind(alloc: Global, this: Option<&Word>, at: u32) -> Result<TypeForm, TypeError>
-    ensures { Gives kind_of_form result (expressions.this_kind (option_copied this.entry) at) }
+    ensures { Gives kind_of_form violation_of result (expressions.this_kind (option_copied this.entry) at) }
 {
     match this {
         Some(class) => Ok(TypeForm::Named(copy_word(alloc, class)?)),
@@ -43,7 +44,7 @@ fn this_kind(alloc: Global, this: Option<&Word>, at: u32) -> Result<TypeForm, Ty
 }
 
 fn all_wanted(alloc: Global, kind: &TypeForm, items: &[Placed]) -> Result<(), TypeError>
-    ensures { Gives (λ u. u) result (expressions.all_wanted (kind_of_form kind.now) (map placed_of items.now)) }
+    ensures { Gives (λ u. u) violation_of result (expressions.all_wanted (kind_of_form kind.now) (map placed_of items.now)) }
 {
     for item in items {
         wanted(alloc, kind, item)?;
@@ -52,7 +53,7 @@ fn all_wanted(alloc: Global, kind: &TypeForm, items: &[Placed]) -> Result<(), Ty
 }
 
 fn list_of(alloc: Global, item: &TypeTree) -> Result<TypeForm, TypeError>
-    ensures { Gives kind_of_form result (Ok (kinds.ListOf (kinds.kind_of (mirror_type item.now)))) }
+    ensures { Gives kind_of_form violation_of result (Ok (kinds.ListOf (kinds.kind_of (mirror_type item.now)))) }
 {
     let item = copy_type(alloc, item)?;
     Ok(TypeForm::ListOf(Boxed::new(alloc, item)?))
@@ -64,7 +65,7 @@ fn items_kind(
     item: &TypeTree,
     items: &[Placed],
 ) -> Result<TypeForm, TypeError>
-    ensures { Gives kind_of_form result (expressions.items_kind (map mirror_interface x.now.interfaces.now) (map mirror_class x.now.classes.now) (mirror_type item.now) (map placed_of items.now)) }
+    ensures { Gives kind_of_form violation_of result (expressions.items_kind (map mirror_interface x.now.interfaces.now) (map mirror_class x.now.classes.now) (mirror_type item.now) (map placed_of items.now)) }
 {
     item_type(x.interfaces, x.classes, item)?;
     all_wanted(alloc, &item.form, items)?;
@@ -82,7 +83,7 @@ pub fn check_expr(
     notes: &mut Seq<Placed>,
     e: &Expr,
 ) -> Result<Placed, TypeError>
-    ensures gives { Gives placed_of result (placed (context_of x.now) (scope_of scope.now) (mirror_expr e.now)) }
+    ensures gives { Gives placed_of violation_of result (placed (context_of x.now) (scope_of scope.now) (mirror_expr e.now)) }
     ensures notes { OnOk result (notes_of notes.new ≡ noted (context_of x.now) (scope_of scope.now) (notes_of notes.old) (mirror_expr e.now)) }
 {
     let kind = expr_kind(alloc, x, scope, notes, e)?;
@@ -103,7 +104,7 @@ fn expr_kind(
     notes: &mut Seq<Placed>,
     e: &Expr,
 ) -> Result<TypeForm, TypeError>
-    ensures gives { Gives kind_of_form result (expressions.type_of (context_of x.now) (scope_of scope.now) (mirror_expr e.now)) }
+    ensures gives { Gives kind_of_form violation_of result (expressions.type_of (context_of x.now) (scope_of scope.now) (mirror_expr e.now)) }
     ensures notes { OnOk result (notes_of notes.new ≡ parts_noted (context_of x.now) (scope_of scope.now) (notes_of notes.old) (mirror_expr e.now)) }
 {
     let at = e.at;
@@ -155,7 +156,7 @@ fn check_exprs(
     notes: &mut Seq<Placed>,
     es: &[Expr],
 ) -> Result<Seq<Placed>, TypeError>
-    ensures gives { Gives (λ ps. map placed_of ps) result (expressions.types_of (context_of x.now) (scope_of scope.now) (mirror_exprs es.now)) }
+    ensures gives { Gives (λ ps. map placed_of ps) violation_of result (expressions.types_of (context_of x.now) (scope_of scope.now) (mirror_exprs es.now)) }
     ensures notes { OnOk result (notes_of notes.new ≡ all_noted (context_of x.now) (scope_of scope.now) (notes_of notes.old) (mirror_exprs es.now)) }
 {
     let mut placed = Seq::new(alloc);

@@ -5,8 +5,9 @@ ghost use Rattle.rb_trees.specs.mirror.Types.{mirror_type};
 ghost use Rattle.rb_meaning_types.specs.Kinds as kinds;
 ghost use Rattle.rb_meaning_types.specs.Kinds.{kind_of_form};
 ghost use Rattle.rb_meaning_types.specs.Literals as literals;
-ghost use Rattle.rb_meaning_types.specs.Faults as faults;
-ghost use Rattle.rb_meaning_types.specs.Gives.{Gives, Fails};
+ghost use Rattle.rb_meaning_types.specs.Violations as violations;
+ghost use Rattle.rb_meaning_types.specs.Violations.{violation_of};
+ghost use Rattle.rb_trees.specs.Outcome.{Gives, Refuses};
 ghost use Rattle.rb_types.specs.Views.{placed_of};
 
 use crate::names::same_word;
@@ -146,14 +147,14 @@ pub fn same_kind(a: &TypeForm, b: &TypeForm) -> bool
 
 /// A copy of a type: the same form.
 pub fn copy_kind(alloc: Global, kind: &TypeForm) -> Result<TypeForm, TypeError>
-    ensures { Gives kind_of_form result (Ok (kind_of_form kind.now)) }
+    ensures { Gives kind_of_form violation_of result (Ok (kind_of_form kind.now)) }
 {
     Ok(copy_type_form(alloc, kind)?)
 }
 
 /// The type that a written type stands for.
 pub fn kind_of(alloc: Global, kind: &TypeTree) -> Result<TypeForm, TypeError>
-    ensures { Gives kind_of_form result (Ok (kinds.kind_of (mirror_type kind.now))) }
+    ensures { Gives kind_of_form violation_of result (Ok (kinds.kind_of (mirror_type kind.now))) }
 {
     Ok(copy_type_form(alloc, &kind.form)?)
 }
@@ -173,7 +174,7 @@ pub fn literal_kind(value: &Value) -> TypeForm
 
 /// The violation of an expression whose type isn't wanted where it stands.
 pub fn wrong_type(alloc: Global, p: &Placed) -> TypeError
-    ensures { Fails {Y = ⊤} result (Err (faults.wrong_type (placed_of p.now))) }
+    ensures { Refuses {Y = ⊤} (violation_of result) (Err (violations.wrong_type (placed_of p.now))) }
 {
     match copy_type_form(alloc, &p.kind) {
         Ok(kind) => TypeError::WrongType(p.at, kind),
@@ -183,7 +184,7 @@ pub fn wrong_type(alloc: Global, p: &Placed) -> TypeError
 
 /// An expression that has to have one type.
 pub fn wanted(alloc: Global, kind: &TypeForm, p: &Placed) -> Result<(), TypeError>
-    ensures { Gives (λ u. u) result (faults.wanted (kind_of_form kind.now) (placed_of p.now)) }
+    ensures { Gives (λ u. u) violation_of result (violations.wanted (kind_of_form kind.now) (placed_of p.now)) }
 {
     if same_kind(kind, &p.kind) {
         Ok(())
@@ -194,7 +195,7 @@ pub fn wanted(alloc: Global, kind: &TypeForm, p: &Placed) -> Result<(), TypeErro
 
 /// An expression that has to have a written type.
 pub fn wanted_tree(alloc: Global, kind: &TypeTree, p: &Placed) -> Result<(), TypeError>
-    ensures { Gives (λ u. u) result (faults.wanted (kinds.kind_of (mirror_type kind.now)) (placed_of p.now)) }
+    ensures { Gives (λ u. u) violation_of result (violations.wanted (kinds.kind_of (mirror_type kind.now)) (placed_of p.now)) }
 {
     wanted(alloc, &kind.form, p)
 }

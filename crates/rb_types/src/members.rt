@@ -5,7 +5,8 @@ ghost use Rattle.std.specs.Option.{option_map, option_copied};
 ghost use Rattle.rb_trees.specs.mirror.Declarations.{mirror_param, mirror_signature, mirror_interface, mirror_class};
 ghost use Rattle.rb_meaning_types.specs.Kinds.{kind_of_form};
 ghost use Rattle.rb_meaning_types.specs.Members as members;
-ghost use Rattle.rb_meaning_types.specs.Gives.{Gives};
+ghost use Rattle.rb_meaning_types.specs.Violations.{violation_of};
+ghost use Rattle.rb_trees.specs.Outcome.{Gives};
 ghost use Rattle.rb_types.specs.Views.{placed_of};
 
 use crate::classes::{Classes, IndexedClass};
@@ -16,7 +17,7 @@ use rb_trees::{Param, Signature, TypeError, TypeForm, Word, copy_word};
 use std::alloc::Global;
 
 fn arguments_wanted(alloc: Global, params: &[Param], args: &[Placed]) -> Result<(), TypeError>
-    ensures { Gives (λ u. u) result (members.arguments_wanted (map mirror_param params.now) (map placed_of args.now)) }
+    ensures { Gives (λ u. u) violation_of result (members.arguments_wanted (map mirror_param params.now) (map placed_of args.now)) }
 {
     for (i, param) in params.iter().enumerate() {
         match args.get(i) {
@@ -28,7 +29,7 @@ fn arguments_wanted(alloc: Global, params: &[Param], args: &[Placed]) -> Result<
 }
 
 fn arguments_fit(alloc: Global, at: u32, params: &[Param], args: &[Placed]) -> Result<(), TypeError>
-    ensures { Gives (λ u. u) result (members.arguments_fit at (map mirror_param params.now) (map placed_of args.now)) }
+    ensures { Gives (λ u. u) violation_of result (members.arguments_fit at (map mirror_param params.now) (map placed_of args.now)) }
 {
     if args.len() == params.len() {
         arguments_wanted(alloc, params, args)
@@ -42,7 +43,7 @@ fn receiver_class<'a, 'b>(
     classes: &'b Classes<'a>,
     p: &Placed,
 ) -> Result<&'b IndexedClass<'a>, TypeError>
-    ensures { Gives (λ c. mirror_class c.now) result (members.receiver_class (map mirror_class classes.now) (placed_of p.now) (kind_of_form p.now.kind)) }
+    ensures { Gives (λ c. mirror_class c.now) violation_of result (members.receiver_class (map mirror_class classes.now) (placed_of p.now) (kind_of_form p.now.kind)) }
 {
     match &p.kind {
         TypeForm::Named(name) => match classes.find(name) {
@@ -62,7 +63,7 @@ pub fn field_kind(
     name: &Word,
     p: &Placed,
 ) -> Result<TypeForm, TypeError>
-    ensures { Gives kind_of_form result (members.field_kind (map mirror_class classes.now) at name.now (placed_of p.now)) }
+    ensures { Gives kind_of_form violation_of result (members.field_kind (map mirror_class classes.now) at name.now (placed_of p.now)) }
 {
     let class = receiver_class(alloc, classes, p)?;
     match class.find_field(name) {
@@ -77,7 +78,7 @@ fn signature_kind(
     signature: &Signature,
     args: &[Placed],
 ) -> Result<TypeForm, TypeError>
-    ensures { Gives kind_of_form result (members.signature_kind at (mirror_signature signature.now) (map placed_of args.now)) }
+    ensures { Gives kind_of_form violation_of result (members.signature_kind at (mirror_signature signature.now) (map placed_of args.now)) }
 {
     arguments_fit(alloc, at, signature.params.as_slice(), args)?;
     kind_of(alloc, &signature.result)
@@ -90,7 +91,7 @@ fn interface_call(
     interface: &IndexedInterface,
     args: &[Placed],
 ) -> Result<TypeForm, TypeError>
-    ensures { Gives kind_of_form result (members.interface_call at method.now (mirror_interface interface.now) (map placed_of args.now)) }
+    ensures { Gives kind_of_form violation_of result (members.interface_call at method.now (mirror_interface interface.now) (map placed_of args.now)) }
 {
     match interface.find_method(method) {
         Some(signature) => signature_kind(alloc, at, signature, args),
@@ -106,7 +107,7 @@ fn class_call(
     class: &IndexedClass,
     args: &[Placed],
 ) -> Result<TypeForm, TypeError>
-    ensures { Gives kind_of_form result (members.class_call remote at method.now (mirror_class class.now) (map placed_of args.now)) }
+    ensures { Gives kind_of_form violation_of result (members.class_call remote at method.now (mirror_class class.now) (map placed_of args.now)) }
 {
     match class.find_method(method) {
         Some(found) => {
@@ -144,7 +145,7 @@ pub fn call_kind(
     p: &Placed,
     args: &[Placed],
 ) -> Result<TypeForm, TypeError>
-    ensures { Gives kind_of_form result (members.call_kind (map mirror_interface x.now.interfaces.now) (map mirror_class x.now.classes.now) x.now.remote at method.now (placed_of p.now) (map placed_of args.now)) }
+    ensures { Gives kind_of_form violation_of result (members.call_kind (map mirror_interface x.now.interfaces.now) (map mirror_class x.now.classes.now) x.now.remote at method.now (placed_of p.now) (map placed_of args.now)) }
 {
     match receiver_interface(x.interfaces, &p.kind) {
         Some(interface) => interface_call(alloc, at, method, interface, args),
@@ -163,7 +164,7 @@ pub fn new_kind(
     name: &Word,
     args: &[Placed],
 ) -> Result<TypeForm, TypeError>
-    ensures { Gives kind_of_form result (members.new_kind (map mirror_class classes.now) at name.now (map placed_of args.now)) }
+    ensures { Gives kind_of_form violation_of result (members.new_kind (map mirror_class classes.now) at name.now (map placed_of args.now)) }
 {
     match classes.find(name) {
         Some(class) => {

@@ -5,8 +5,9 @@ ghost use Rattle.rb_trees.specs.mirror.Types.{mirror_type};
 ghost use Rattle.rb_trees.specs.mirror.Declarations.{mirror_interface, mirror_class};
 ghost use Rattle.rb_meaning_types.specs.Names as names;
 ghost use Rattle.rb_meaning_types.specs.Places as places;
-ghost use Rattle.rb_meaning_types.specs.Faults.{must, TypeNotHere};
-ghost use Rattle.rb_meaning_types.specs.Gives.{Gives};
+ghost use Rattle.rb_meaning_types.specs.Violations.{violation_of, TypeNotHere};
+ghost use Rattle.rb_trees.specs.Outcome.{must};
+ghost use Rattle.rb_trees.specs.Outcome.{Gives};
 
 use crate::classes::Classes;
 use crate::interfaces::Interfaces;
@@ -44,7 +45,7 @@ fn declared_type(
     classes: &Classes,
     kind: &TypeTree,
 ) -> Result<(), TypeError>
-    ensures { Gives (λ u. u) result (places.declared_type (map mirror_interface interfaces.now) (map mirror_class classes.now) (mirror_type kind.now)) }
+    ensures { Gives (λ u. u) violation_of result (places.declared_type (map mirror_interface interfaces.now) (map mirror_class classes.now) (mirror_type kind.now)) }
 {
     match &kind.form {
         TypeForm::Int | TypeForm::Bool | TypeForm::Text | TypeForm::Unit => Ok(()),
@@ -61,7 +62,7 @@ fn declared_type(
 }
 
 fn value_type(interfaces: &Interfaces, classes: &Classes, kind: &TypeTree) -> Result<(), TypeError>
-    ensures { Gives (λ u. u) result (places.value_type (map mirror_interface interfaces.now) (map mirror_class classes.now) (mirror_type kind.now)) }
+    ensures { Gives (λ u. u) violation_of result (places.value_type (map mirror_interface interfaces.now) (map mirror_class classes.now) (mirror_type kind.now)) }
 {
     match &kind.form {
         TypeForm::Int | TypeForm::Bool | TypeForm::Text => Ok(()),
@@ -82,7 +83,7 @@ fn value_result(
     classes: &Classes,
     kind: &TypeTree,
 ) -> Result<(), TypeError>
-    ensures { Gives (λ u. u) result (places.value_result (map mirror_interface interfaces.now) (map mirror_class classes.now) (mirror_type kind.now)) }
+    ensures { Gives (λ u. u) violation_of result (places.value_result (map mirror_interface interfaces.now) (map mirror_class classes.now) (mirror_type kind.now)) }
 {
     match &kind.form {
         TypeForm::Unit => Ok(()),
@@ -130,14 +131,14 @@ pub fn item_type(
     classes: &Classes,
     kind: &TypeTree,
 ) -> Result<(), TypeError>
-    ensures { Gives (λ u. u) result (places.item_type (map mirror_interface interfaces.now) (map mirror_class classes.now) (mirror_type kind.now)) }
+    ensures { Gives (λ u. u) violation_of result (places.item_type (map mirror_interface interfaces.now) (map mirror_class classes.now) (mirror_type kind.now)) }
 {
     declared_type(interfaces, classes, kind)?;
     value_type(interfaces, classes, kind)
 }
 
 fn must_stand(holds: bool, at: u32) -> Result<(), TypeError>
-    ensures { Gives (λ u. u) result (must holds (TypeNotHere at)) }
+    ensures { Gives (λ u. u) violation_of result (must holds (TypeNotHere at)) }
 {
     if holds {
         Ok(())
@@ -153,7 +154,7 @@ pub fn parameter_type(
     classes: &Classes,
     kind: &TypeTree,
 ) -> Result<(), TypeError>
-    ensures { Gives (λ u. u) result (places.parameter_type remote (map mirror_interface interfaces.now) (map mirror_class classes.now) (mirror_type kind.now)) }
+    ensures { Gives (λ u. u) violation_of result (places.parameter_type remote (map mirror_interface interfaces.now) (map mirror_class classes.now) (mirror_type kind.now)) }
 {
     declared_type(interfaces, classes, kind)?;
     if remote {
@@ -170,7 +171,7 @@ pub fn result_type(
     classes: &Classes,
     kind: &TypeTree,
 ) -> Result<(), TypeError>
-    ensures { Gives (λ u. u) result (places.result_type remote (map mirror_interface interfaces.now) (map mirror_class classes.now) (mirror_type kind.now)) }
+    ensures { Gives (λ u. u) violation_of result (places.result_type remote (map mirror_interface interfaces.now) (map mirror_class classes.now) (mirror_type kind.now)) }
 {
     declared_type(interfaces, classes, kind)?;
     if remote {
@@ -187,7 +188,7 @@ pub fn main_type(
     main: u32,
     kind: &TypeTree,
 ) -> Result<(), TypeError>
-    ensures { Gives (λ u. u) result (places.main_type (map mirror_interface interfaces.now) (map mirror_class classes.now) main (mirror_type kind.now)) }
+    ensures { Gives (λ u. u) violation_of result (places.main_type (map mirror_interface interfaces.now) (map mirror_class classes.now) main (mirror_type kind.now)) }
 {
     declared_type(interfaces, classes, kind)?;
     must_stand(is_main_result(main, kind), kind.at)

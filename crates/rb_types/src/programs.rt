@@ -3,7 +3,8 @@ ghost use Rattle.rb_trees.specs.mirror.Declarations.{mirror_class, mirror_progra
 ghost use Rattle.rb_meaning_types.specs.Programs as judged;
 ghost use Rattle.rb_meaning_types.specs.Notes as notes;
 ghost use Rattle.rb_meaning_types.specs.Lawful.{IsLawfulService};
-ghost use Rattle.rb_meaning_types.specs.Gives.{Gives};
+ghost use Rattle.rb_meaning_types.specs.Violations.{violation_of};
+ghost use Rattle.rb_trees.specs.Outcome.{Gives};
 ghost use Rattle.rb_types.specs.Views.{notes_of};
 
 use crate::bodies::{check_body, check_class_bodies};
@@ -26,7 +27,7 @@ fn check_main<'a>(
 ) -> Result<(), TypeError>
     requires interfaces { interfaces.now ≡ program.now.interfaces }
     requires classes { classes.now ≡ program.now.classes }
-    ensures gives { Gives (λ u. u) result (judged.check_main (mirror_program program.now)) }
+    ensures gives { Gives (λ u. u) violation_of result (judged.check_main (mirror_program program.now)) }
     ensures notes { OnOk result (notes_of noted.new ≡ notes.main_noted (notes_of noted.old) (mirror_program program.now)) }
 {
     main_type(interfaces, classes, program.at, &program.result)?;
@@ -51,7 +52,7 @@ fn check_main<'a>(
 
 /// The types of a program's expressions by position, or the first violation.
 pub fn check_all(alloc: Global, program: &Program) -> Result<Seq<Placed>, TypeError>
-    ensures gives { Gives (λ u. tt) result (judged.check_program (mirror_program program.now)) }
+    ensures gives { Gives (λ u. tt) violation_of result (judged.check_program (mirror_program program.now)) }
     ensures notes { IfOk result (λ all. notes_of all ≡ notes.program_notes (mirror_program program.now)) }
 {
     let interfaces = Interfaces::new(alloc, program.interfaces.as_slice())?;
@@ -74,7 +75,7 @@ pub fn check_all(alloc: Global, program: &Program) -> Result<Seq<Placed>, TypeEr
 /// stands in `check_service` of `rb_meaning_types`. Memory is free.
 pub fn check_service(alloc: Global, classes: &Seq<Class>) -> Result<(), TypeError>
     requires { IsLawfulService (map mirror_class classes.now) }
-    ensures { Gives (λ u. u) result (judged.check_service (map mirror_class classes.now)) }
+    ensures { Gives (λ u. u) violation_of result (judged.check_service (map mirror_class classes.now)) }
 {
     let none = Seq::new(alloc);
     let interfaces = Interfaces::new(alloc, none.as_slice())?;

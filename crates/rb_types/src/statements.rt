@@ -4,11 +4,12 @@ ghost use Rattle.std.specs.Prelude.{◌≡◌, map, take, length, OnOk};
 ghost use Rattle.rb_trees.specs.mirror.Code.{Assign, mirror_expr, mirror_stmt, mirror_stmts};
 ghost use Rattle.rb_trees.specs.mirror.Declarations.{mirror_interface};
 ghost use Rattle.rb_meaning_types.specs.Kinds.{kind_of_form, Bool, Text};
-ghost use Rattle.rb_meaning_types.specs.Faults as faults;
+ghost use Rattle.rb_meaning_types.specs.Violations as violations;
 ghost use Rattle.rb_meaning_types.specs.Statements as statements;
 ghost use Rattle.rb_meaning_types.specs.Scopes as scopes;
 ghost use Rattle.rb_meaning_types.specs.Notes.{scope_or, noted, stmt_noted, stmts_noted};
-ghost use Rattle.rb_meaning_types.specs.Gives.{Gives};
+ghost use Rattle.rb_meaning_types.specs.Violations.{violation_of};
+ghost use Rattle.rb_trees.specs.Outcome.{Gives};
 ghost use Rattle.rb_types.specs.Inner.{check_opened};
 ghost use Rattle.rb_types.specs.Views.{context_of, scope_of, placed_of, notes_of};
 
@@ -29,7 +30,7 @@ fn add(
     kind: &TypeForm,
     fixed: bool,
 ) -> Result<(), TypeError>
-    ensures gives { Gives (λ u. scope_of scope.new) result (Ok (scopes.with_variable (scope_of scope.old) name.now (kind_of_form kind.now) fixed)) }
+    ensures gives { Gives (λ u. scope_of scope.new) violation_of result (Ok (scopes.with_variable (scope_of scope.old) name.now (kind_of_form kind.now) fixed)) }
 {
     let name = copy_word(alloc, name)?;
     let kind = copy_kind(alloc, kind)?;
@@ -45,7 +46,7 @@ fn declare(
     fixed: bool,
     p: &Placed,
 ) -> Result<(), TypeError>
-    ensures gives { Gives (λ u. scope_of scope.new) result (statements.declare (scope_of scope.old) at name.now fixed (placed_of p.now)) }
+    ensures gives { Gives (λ u. scope_of scope.new) violation_of result (statements.declare (scope_of scope.old) at name.now fixed (placed_of p.now)) }
     ensures kept { OnOk result (take (length (scope_of scope.old)) (scope_of scope.new) ≡ scope_of scope.old) }
 {
     if !scope.is_free(name) {
@@ -81,7 +82,7 @@ fn assign(
     p: &Placed,
     q: &Placed,
 ) -> Result<(), TypeError>
-    ensures { Gives (λ u. scope_of scope.now) result (statements.assign (scope_of scope.now) at (mirror_expr left.now) (placed_of p.now) (placed_of q.now)) }
+    ensures { Gives (λ u. scope_of scope.now) violation_of result (statements.assign (scope_of scope.now) at (mirror_expr left.now) (placed_of p.now) (placed_of q.now)) }
 {
     if !is_assignable(scope, left) {
         return Err(TypeError::NotAssignable(at));
@@ -100,7 +101,7 @@ fn is_printable(interfaces: &Interfaces, kind: &TypeForm) -> bool
 }
 
 fn print(alloc: Global, x: &Context, scope: &Scope, at: u32, p: &Placed) -> Result<(), TypeError>
-    ensures { Gives (λ u. scope_of scope.now) result (statements.print (map mirror_interface x.now.interfaces.now) x.now.service (scope_of scope.now) at (placed_of p.now)) }
+    ensures { Gives (λ u. scope_of scope.now) violation_of result (statements.print (map mirror_interface x.now.interfaces.now) x.now.service (scope_of scope.now) at (placed_of p.now)) }
 {
     if !is_printable(x.interfaces, &p.kind) {
         return Err(wrong_type(alloc, p));
@@ -112,7 +113,7 @@ fn print(alloc: Global, x: &Context, scope: &Scope, at: u32, p: &Placed) -> Resu
 }
 
 fn turn_kind(alloc: Global, p: &Placed) -> Result<TypeForm, TypeError>
-    ensures { Gives kind_of_form result (statements.turn_kind (placed_of p.now) (kind_of_form p.now.kind)) }
+    ensures { Gives kind_of_form violation_of result (statements.turn_kind (placed_of p.now) (kind_of_form p.now.kind)) }
 {
     match &p.kind {
         TypeForm::ListOf(item) => copy_kind(alloc, &item.get().form),
@@ -129,7 +130,7 @@ fn open_loop(
     name: &Word,
     p: Placed,
 ) -> Result<(), TypeError>
-    ensures gives { Gives (λ u. scope_of scope.new) result (statements.loop_scope (scope_of scope.old) at name.now (placed_of p)) }
+    ensures gives { Gives (λ u. scope_of scope.new) violation_of result (statements.loop_scope (scope_of scope.old) at name.now (placed_of p)) }
     ensures kept { OnOk result (take (length (scope_of scope.old)) (scope_of scope.new) ≡ scope_of scope.old) }
 {
     if !scope.is_free(name) {
@@ -140,7 +141,7 @@ fn open_loop(
 }
 
 fn open_catch(alloc: Global, scope: &mut Scope, at: u32, name: &Word) -> Result<(), TypeError>
-    ensures gives { Gives (λ u. scope_of scope.new) result (statements.catch_scope (scope_of scope.old) at name.now) }
+    ensures gives { Gives (λ u. scope_of scope.new) violation_of result (statements.catch_scope (scope_of scope.old) at name.now) }
     ensures kept { OnOk result (take (length (scope_of scope.old)) (scope_of scope.new) ≡ scope_of scope.old) }
 {
     if !scope.is_free(name) {
@@ -157,7 +158,7 @@ fn open_batch(
     interface: &Word,
     root: &Word,
 ) -> Result<(), TypeError>
-    ensures gives { Gives (λ u. scope_of scope.new) result (statements.batch_scope (map mirror_interface x.now.interfaces.now) x.now.remote (scope_of scope.old) at interface.now root.now) }
+    ensures gives { Gives (λ u. scope_of scope.new) violation_of result (statements.batch_scope (map mirror_interface x.now.interfaces.now) x.now.remote (scope_of scope.old) at interface.now root.now) }
     ensures kept { OnOk result (take (length (scope_of scope.old)) (scope_of scope.new) ≡ scope_of scope.old) }
 {
     if !scope.is_free(root) {
@@ -180,7 +181,7 @@ fn check_condition(
     notes: &mut Seq<Placed>,
     e: &Expr,
 ) -> Result<(), TypeError>
-    ensures gives { Gives (λ u. u) result (statements.condition (context_of x.now) (scope_of scope.now) (mirror_expr e.now)) }
+    ensures gives { Gives (λ u. u) violation_of result (statements.condition (context_of x.now) (scope_of scope.now) (mirror_expr e.now)) }
     ensures notes { OnOk result (notes_of notes.new ≡ noted (context_of x.now) (scope_of scope.now) (notes_of notes.old) (mirror_expr e.now)) }
 {
     let p = check_expr(alloc, x, scope, notes, e)?;
@@ -196,7 +197,7 @@ fn check_assign(
     a: &Expr,
     b: &Expr,
 ) -> Result<(), TypeError>
-    ensures gives { Gives (λ u. scope_of scope.now) result (statements.check_stmt (context_of x.now) (scope_of scope.now) (Assign at (mirror_expr a.now) (mirror_expr b.now))) }
+    ensures gives { Gives (λ u. scope_of scope.now) violation_of result (statements.check_stmt (context_of x.now) (scope_of scope.now) (Assign at (mirror_expr a.now) (mirror_expr b.now))) }
     ensures notes { OnOk result (notes_of notes.new ≡ stmt_noted (context_of x.now) (scope_of scope.now) (notes_of notes.old) (Assign at (mirror_expr a.now) (mirror_expr b.now))) }
 {
     let p = check_expr(alloc, x, scope, notes, a)?;
@@ -215,7 +216,7 @@ fn check_stmt(
     notes: &mut Seq<Placed>,
     s: &Stmt,
 ) -> Result<(), TypeError>
-    ensures gives { Gives (λ u. scope_of scope.new) result (statements.check_stmt (context_of x.now) (scope_of scope.old) (mirror_stmt s.now)) }
+    ensures gives { Gives (λ u. scope_of scope.new) violation_of result (statements.check_stmt (context_of x.now) (scope_of scope.old) (mirror_stmt s.now)) }
     ensures kept { OnOk result (take (length (scope_of scope.old)) (scope_of scope.new) ≡ scope_of scope.old) }
     ensures notes { OnOk result (notes_of notes.new ≡ stmt_noted (context_of x.now) (scope_of scope.old) (notes_of notes.old) (mirror_stmt s.now)) }
 {
@@ -278,7 +279,7 @@ fn check_turns(
     p: Placed,
     ss: &[Stmt],
 ) -> Result<(), TypeError>
-    ensures gives { Gives (λ u. scope_of scope.new) result (check_opened (context_of x.now) (scope_of scope.old) (statements.loop_scope (scope_of scope.old) at name.now (placed_of p)) (mirror_stmts ss.now)) }
+    ensures gives { Gives (λ u. scope_of scope.new) violation_of result (check_opened (context_of x.now) (scope_of scope.old) (statements.loop_scope (scope_of scope.old) at name.now (placed_of p)) (mirror_stmts ss.now)) }
     ensures same { OnOk result (scope_of scope.new ≡ scope_of scope.old) }
     ensures notes { OnOk result (notes_of notes.new ≡ stmts_noted (context_of x.now) (scope_or (scope_of scope.old) (statements.loop_scope (scope_of scope.old) at name.now (placed_of p))) (notes_of notes.old) (mirror_stmts ss.now)) }
 {
@@ -301,7 +302,7 @@ fn check_handler(
     name: &Word,
     ss: &[Stmt],
 ) -> Result<(), TypeError>
-    ensures gives { Gives (λ u. scope_of scope.new) result (check_opened (context_of x.now) (scope_of scope.old) (statements.catch_scope (scope_of scope.old) at name.now) (mirror_stmts ss.now)) }
+    ensures gives { Gives (λ u. scope_of scope.new) violation_of result (check_opened (context_of x.now) (scope_of scope.old) (statements.catch_scope (scope_of scope.old) at name.now) (mirror_stmts ss.now)) }
     ensures same { OnOk result (scope_of scope.new ≡ scope_of scope.old) }
     ensures notes { OnOk result (notes_of notes.new ≡ stmts_noted (context_of x.now) (scope_or (scope_of scope.old) (statements.catch_scope (scope_of scope.old) at name.now)) (notes_of notes.old) (mirror_stmts ss.now)) }
 {
@@ -325,7 +326,7 @@ fn check_batch(
     root: &Word,
     ss: &[Stmt],
 ) -> Result<(), TypeError>
-    ensures gives { Gives (λ u. scope_of scope.new) result (check_opened (context_of x.now) (scope_of scope.old) (statements.batch_scope (map mirror_interface x.now.interfaces.now) x.now.remote (scope_of scope.old) at interface.now root.now) (mirror_stmts ss.now)) }
+    ensures gives { Gives (λ u. scope_of scope.new) violation_of result (check_opened (context_of x.now) (scope_of scope.old) (statements.batch_scope (map mirror_interface x.now.interfaces.now) x.now.remote (scope_of scope.old) at interface.now root.now) (mirror_stmts ss.now)) }
     ensures same { OnOk result (scope_of scope.new ≡ scope_of scope.old) }
     ensures notes { OnOk result (notes_of notes.new ≡ stmts_noted (context_of x.now) (scope_or (scope_of scope.old) (statements.batch_scope (map mirror_interface x.now.interfaces.now) x.now.remote (scope_of scope.old) at interface.now root.now)) (notes_of notes.old) (mirror_stmts ss.now)) }
 {
@@ -345,7 +346,7 @@ fn check_block(
     notes: &mut Seq<Placed>,
     ss: &[Stmt],
 ) -> Result<(), TypeError>
-    ensures gives { Gives (λ u. scope_of scope.new) result (statements.closed (scope_of scope.old) (statements.check_stmts (context_of x.now) (scope_of scope.old) (mirror_stmts ss.now))) }
+    ensures gives { Gives (λ u. scope_of scope.new) violation_of result (statements.closed (scope_of scope.old) (statements.check_stmts (context_of x.now) (scope_of scope.old) (mirror_stmts ss.now))) }
     ensures same { OnOk result (scope_of scope.new ≡ scope_of scope.old) }
     ensures notes { OnOk result (notes_of notes.new ≡ stmts_noted (context_of x.now) (scope_of scope.old) (notes_of notes.old) (mirror_stmts ss.now)) }
 {
@@ -365,7 +366,7 @@ pub fn check_stmts(
     notes: &mut Seq<Placed>,
     ss: &[Stmt],
 ) -> Result<(), TypeError>
-    ensures gives { Gives (λ u. scope_of scope.new) result (statements.check_stmts (context_of x.now) (scope_of scope.old) (mirror_stmts ss.now)) }
+    ensures gives { Gives (λ u. scope_of scope.new) violation_of result (statements.check_stmts (context_of x.now) (scope_of scope.old) (mirror_stmts ss.now)) }
     ensures kept { OnOk result (take (length (scope_of scope.old)) (scope_of scope.new) ≡ scope_of scope.old) }
     ensures notes { OnOk result (notes_of notes.new ≡ stmts_noted (context_of x.now) (scope_of scope.old) (notes_of notes.old) (mirror_stmts ss.now)) }
 {

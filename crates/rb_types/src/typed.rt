@@ -5,7 +5,8 @@ ghost use Rattle.rb_meaning_types.specs.Programs.{check_program, is_typed};
 ghost use Rattle.rb_meaning_types.specs.Notes as notes;
 ghost use Rattle.rb_meaning_types.specs.Batches.{batch_count};
 ghost use Rattle.rb_meaning_types.specs.Lawful.{IsLawful};
-ghost use Rattle.rb_meaning_types.specs.Gives.{Gives};
+ghost use Rattle.rb_meaning_types.specs.Violations.{violation_of};
+ghost use Rattle.rb_trees.specs.Outcome.{Gives};
 ghost use Rattle.rb_types.specs.Given.{kind_given};
 
 use crate::batches::count_batches;
@@ -78,7 +79,7 @@ impl Typed {
 /// `check_program` of `rb_meaning_types`. Memory is free.
 pub fn check(alloc: Global, program: Program) -> Result<Typed, TypeError>
     requires { IsLawful (mirror_program program) }
-    ensures gives { Gives (λ t. tt) result (check_program (mirror_program program)) }
+    ensures gives { Gives (λ t. tt) violation_of result (check_program (mirror_program program)) }
     ensures same { IfOk result (λ t. t ≡ program) }
 {
     let all = check_all(alloc, &program)?;

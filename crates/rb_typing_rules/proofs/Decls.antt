@@ -3,7 +3,8 @@ use Rattle.std.proofs.Common.{◌≡◌, ℕ, List, [], ◌∷◌, ◌++◌, map
 use Rattle.rb_trees.specs.mirror.Types.{TypeTree, Int, Bool, Text, Unit as UnitType, Named, ListOf, RowsOf, type_at}
 use Rattle.rb_trees.specs.mirror.Declarations.{Param, Signature, Interface, Method, Class}
 use Rattle.rb_meaning_types.specs.Names.{is_new, is_class, is_declared}
-use Rattle.rb_meaning_types.specs.Faults.{Checked, UnknownName, NameTaken, TypeNotHere, NotAllowedHere, ◌>>◌, must}
+use Rattle.rb_meaning_types.specs.Violations.{Checked, UnknownName, NameTaken, TypeNotHere, NotAllowedHere}
+use Rattle.rb_trees.specs.Outcome.{◌>>◌, must}
 use Rattle.rb_meaning_types.specs.Places.{declared_type, value_type, value_result, is_remote_value, is_remote_result, parameter_type, result_type}
 use Rattle.rb_meaning_types.specs.Declarations.{new_name, check_params, check_signature, check_signatures, check_method, check_methods, check_interfaces, check_class, check_classes}
 use Rattle.rb_meaning_types.specs.Programs.{check_declarations}

@@ -4,7 +4,8 @@ use Rattle.rb_trees.specs.mirror.Code.{Expr, Exprs, Lit, Name, This, Unary, Bina
 use Rattle.rb_trees.specs.mirror.Declarations.{Signature, Interface}
 use Rattle.rb_meaning_types.specs.Kinds.{Kind, Int, Bool, Text, Unit as UnitKind, Named, ListOf, RowsOf, kind_of}
 use Rattle.rb_meaning_types.specs.Names.{class_named, field_named, signature_named, method_named}
-use Rattle.rb_meaning_types.specs.Faults.{Checked, Placed, UnknownName, NotAllowedHere, ◌>>◌, known, must, wrong_type}
+use Rattle.rb_meaning_types.specs.Violations.{Checked, Placed, UnknownName, NotAllowedHere, wrong_type}
+use Rattle.rb_trees.specs.Outcome.{◌>>◌, known, must}
 use Rattle.rb_meaning_types.specs.Scopes.{Scope, variable_named}
 use Rattle.rb_meaning_types.specs.Literals.{literal_kind}
 use Rattle.rb_meaning_types.specs.Places.{item_type}

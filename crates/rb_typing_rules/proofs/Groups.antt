@@ -6,7 +6,8 @@ use Rattle.rb_trees.specs.declared.code.BinOp.{BinOp}
 use Rattle.rb_trees.specs.mirror.Declarations.{Param, Class}
 use Rattle.rb_meaning_types.specs.Kinds.{Kind, Int, Bool, Text, Unit as UnitKind, Named, ListOf, RowsOf, kind_of}
 use Rattle.rb_meaning_types.specs.Names.{class_named}
-use Rattle.rb_meaning_types.specs.Faults.{Placed, WrongCount, ◌>>◌, must, wanted, wrong_type}
+use Rattle.rb_meaning_types.specs.Violations.{Placed, WrongCount, wanted, wrong_type}
+use Rattle.rb_trees.specs.Outcome.{◌>>◌, must}
 use Rattle.rb_meaning_types.specs.Operators.{takes_operand, unary_result, takes_left, binary_result, unary_kind, binary_kind, item_of, index_kind}
 use Rattle.rb_meaning_types.specs.Members.{arguments_wanted, arguments_fit, receiver_class}
 use Rattle.rb_meaning_types.specs.Expressions.{this_kind, all_wanted}

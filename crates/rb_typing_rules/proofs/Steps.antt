@@ -2,7 +2,8 @@
 use Rattle.std.proofs.Common.{◌≡◌, ℕ, Bool as Truth, true, false, Option, Some, None, Ok, Err, refl, ap}
 use Rattle.std.proofs.lemmas.Slice.Eq.{bytes_eq-Decides}
 use Rattle.rb_meaning_types.specs.Kinds.{Kind, Int, Bool, Text, Unit as UnitKind, Named, ListOf, RowsOf, same_kind}
-use Rattle.rb_meaning_types.specs.Faults.{Fault, Checked, Placed, ◌>>=◌, ◌>>◌, known, must, with_place, wanted, wrong_type}
+use Rattle.rb_meaning_types.specs.Violations.{Violation, Checked, Placed, with_place, wanted, wrong_type}
+use Rattle.rb_trees.specs.Outcome.{◌>>=◌, ◌>>◌, known, must}
 
 pub bind_ok : {A B : Type 0} (r : Checked A) (f : A → Checked B) (y : B) → (r >>= f) ≡ Ok y → (a : A) × (r ≡ Ok a) × (f a ≡ Ok y)
 bind_ok (Ok a) f y h = (a, refl, h)
@@ -12,11 +13,11 @@ pub then_ok : {B : Type 0} (r : Checked (Unit {0})) (s : Checked B) (y : B) → 
 then_ok (Ok u) s y h = (refl, h)
 then_ok (Err e) s y h = absurd (cc)
 
-pub known_ok : {A : Type 0} (fault : Fault) (o : Option A) (x : A) → known fault o ≡ Ok x → o ≡ Some x
+pub known_ok : {A : Type 0} (fault : Violation) (o : Option A) (x : A) → known fault o ≡ Ok x → o ≡ Some x
 known_ok fault (Some y) x h = cc
 known_ok fault None x h = cc
 
-pub must_ok : (b : Truth) (fault : Fault) → must b fault ≡ Ok tt → b ≡ true
+pub must_ok : (b : Truth) (fault : Violation) → must b fault ≡ Ok tt → b ≡ true
 must_ok true fault h = refl
 must_ok false fault h = cc
 

@@ -4,7 +4,8 @@ use Rattle.rb_trees.specs.mirror.Code.{Expr, Stmt, Stmts, Val, Var, Assign, Run,
 use Rattle.rb_trees.specs.mirror.Declarations.{Interface}
 use Rattle.rb_meaning_types.specs.Kinds.{Kind, Int, Bool, Text, Unit as UnitKind, Named, ListOf, RowsOf, is_unit}
 use Rattle.rb_meaning_types.specs.Names.{is_interface}
-use Rattle.rb_meaning_types.specs.Faults.{Fault, Checked, Placed, UnknownName, NameTaken, NotAssignable, NotAllowedHere, ◌>>=◌, ◌>>◌, must, wanted, wrong_type}
+use Rattle.rb_meaning_types.specs.Violations.{Violation, Checked, Placed, UnknownName, NameTaken, NotAssignable, NotAllowedHere, wanted, wrong_type}
+use Rattle.rb_trees.specs.Outcome.{◌>>=◌, ◌>>◌, must}
 use Rattle.rb_meaning_types.specs.Scopes.{Scope, is_free, with_variable}
 use Rattle.rb_meaning_types.specs.Expressions.{Context, type_of}
 use Rattle.rb_meaning_types.specs.Statements.{condition, declare, is_assignable, assign, is_printable, print, loop_scope, catch_scope, batch_scope, closed, check_stmt, check_stmts}
@@ -67,7 +68,7 @@ for_shape : (r : Checked (Unit {0})) (item : Kind) (scope : Scope) (name : List 
 for_shape (Ok u) item scope name inner h = h
 for_shape (Err e) item scope name inner h = absurd (cc)
 
-none_turns : (b : Truth) (taken wrong : Fault) (f : Kind → Checked Scope) (inner : Scope) → ((must b taken >> Err wrong) >>= f) ≡ Ok inner → ⊥
+none_turns : (b : Truth) (taken wrong : Violation) (f : Kind → Checked Scope) (inner : Scope) → ((must b taken >> Err wrong) >>= f) ≡ Ok inner → ⊥
 none_turns true taken wrong f inner h = cc
 none_turns false taken wrong f inner h = cc
 

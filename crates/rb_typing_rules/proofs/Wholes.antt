@@ -4,7 +4,8 @@ use Rattle.rb_trees.specs.mirror.Types.{TypeTree, type_at}
 use Rattle.rb_trees.specs.mirror.Code.{Expr, expr_at}
 use Rattle.rb_trees.specs.mirror.Declarations.{Interface, Body, Method, Class, Program}
 use Rattle.rb_meaning_types.specs.Kinds.{Kind, kind_of, is_unit, same_kind}
-use Rattle.rb_meaning_types.specs.Faults.{Placed, TypeNotHere, MissingReturn, ◌>>◌, must, wrong_type}
+use Rattle.rb_meaning_types.specs.Violations.{Placed, TypeNotHere, MissingReturn, wrong_type}
+use Rattle.rb_trees.specs.Outcome.{◌>>◌, must}
 use Rattle.rb_meaning_types.specs.Scopes.{Scope, parameters}
 use Rattle.rb_meaning_types.specs.Places.{declared_type, is_main_result}
 use Rattle.rb_meaning_types.specs.Expressions.{Context, type_of}

@@ -2,28 +2,28 @@
 use Rattle.std.specs.Prelude.{◌≡◌, ℕ, List, [], ◌∷◌, ◌++◌, length}
 use Rattle.rb_trees.specs.declared.tokens.Token.{Token}
 use Rattle.rb_trees.specs.mirror.Declarations.{Program}
-use Rattle.rb_meaning_bytes.specs.grammar.Symbols.{Symbol, Terminal, The, Part, TheProgram, TreeOf, Trees, Makes, made}
-use Rattle.rb_meaning_bytes.specs.grammar.Rules.{Rule}
+use Rattle.rb_meaning_bytes.specs.grammar.Symbols.{Symbol, Terminal, The, Nonterminal, TheProgram, TreeOf, Trees, Makes, made}
+use Rattle.rb_meaning_bytes.specs.grammar.Productions.{Production}
 
 -- The tokens spell the symbols, one after the other, with these trees.
 pub data Spells (source : List ℕ) : (l : List Symbol) → List Token → Trees l → Type 0 where
   nothing : Spells source [] [] tt
   token : {l : List Symbol} {ts : List Token} {xs : Trees l} (t : Token) → Spells source l ts xs
       → Spells source (Terminal t.kind ∷ l) (t ∷ ts) (t, xs)
-  rule : {p : Part} {m l : List Symbol} {f : Makes m (TreeOf p)} {ts us : List Token} {ys : Trees m} {xs : Trees l}
-      → Rule source p m f → Spells source m ts ys → Spells source l us xs
+  production : {p : Nonterminal} {m l : List Symbol} {f : Makes m (TreeOf p)} {ts us : List Token} {ys : Trees m} {xs : Trees l}
+      → Production source p m f → Spells source m ts ys → Spells source l us xs
       → Spells source (The p ∷ l) (ts ++ us) (made m (TreeOf p) f ys, xs)
 
 -- A list of tokens is a prefix of symbols: it is empty, or the spelling of none or some of the first symbols followed
 -- by a prefix of the next one.
-pub data Front (source : List ℕ) : List Symbol → List Token → Type 0 where
-  none : {l : List Symbol} → Front source l []
-  after_token : {l : List Symbol} {ts : List Token} (t : Token) → Front source l ts
-      → Front source (Terminal t.kind ∷ l) (t ∷ ts)
-  within : {p : Part} {m l : List Symbol} {f : Makes m (TreeOf p)} {ts : List Token}
-      → Rule source p m f → Front source m ts → Front source (The p ∷ l) ts
-  past : {p : Part} {m l : List Symbol} {f : Makes m (TreeOf p)} {ts us : List Token} {ys : Trees m}
-      → Rule source p m f → Spells source m ts ys → Front source l us → Front source (The p ∷ l) (ts ++ us)
+pub data IsPrefix (source : List ℕ) : List Symbol → List Token → Type 0 where
+  none : {l : List Symbol} → IsPrefix source l []
+  after_token : {l : List Symbol} {ts : List Token} (t : Token) → IsPrefix source l ts
+      → IsPrefix source (Terminal t.kind ∷ l) (t ∷ ts)
+  within : {p : Nonterminal} {m l : List Symbol} {f : Makes m (TreeOf p)} {ts : List Token}
+      → Production source p m f → IsPrefix source m ts → IsPrefix source (The p ∷ l) ts
+  past : {p : Nonterminal} {m l : List Symbol} {f : Makes m (TreeOf p)} {ts us : List Token} {ys : Trees m}
+      → Production source p m f → Spells source m ts ys → IsPrefix source l us → IsPrefix source (The p ∷ l) (ts ++ us)
 
 -- The tokens of the source derive the program.
 abbrev pub Derives : List ℕ → List Token → Program → Type 0
@@ -31,7 +31,7 @@ Derives source tokens program = Spells source (The TheProgram ∷ []) tokens (pr
 
 -- Some program begins with the tokens.
 abbrev pub Begins : List ℕ → List Token → Type 0
-Begins source tokens = Front source (The TheProgram ∷ []) tokens
+Begins source tokens = IsPrefix source (The TheProgram ∷ []) tokens
 
 -- No text goes on from the tokens so far and the next one; at the end, the tokens are no text.
 abbrev pub Stuck : List ℕ → List Token → List Token → Type 0

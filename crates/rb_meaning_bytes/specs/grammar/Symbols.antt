@@ -16,60 +16,60 @@ pub data Level : Type 0 where
   ProductLevel : Level
 
 -- The parts of a text. What is repeated or may be absent is a part of its own.
-pub data Part : Type 0 where
-  TheProgram : Part
-  Interfaces : Part
-  AnInterface : Part
+pub data Nonterminal : Type 0 where
+  TheProgram : Nonterminal
+  Interfaces : Nonterminal
+  AnInterface : Nonterminal
   -- signatures, each with its semicolon
-  Signatures : Part
-  ASignature : Part
-  Params : Part
-  MoreParams : Part
-  AParam : Part
+  Signatures : Nonterminal
+  ASignature : Nonterminal
+  Params : Nonterminal
+  MoreParams : Nonterminal
+  AParam : Nonterminal
   -- a colon and a type, or nothing
-  ResultType : Part
-  Classes : Part
-  AClass : Part
+  ResultType : Nonterminal
+  Classes : Nonterminal
+  AClass : Nonterminal
   -- fields, each with its semicolon
-  Fields : Part
-  Methods : Part
-  AMethod : Part
-  AType : Part
-  ABody : Part
+  Fields : Nonterminal
+  Methods : Nonterminal
+  AMethod : Nonterminal
+  AType : Nonterminal
+  ABody : Nonterminal
   -- the return of a body, or nothing
-  Returns : Part
-  Block : Part
-  Statements : Part
-  Statement : Part
+  Returns : Nonterminal
+  Block : Nonterminal
+  Statements : Nonterminal
+  Statement : Nonterminal
   -- what follows the expression that a statement begins with
-  StatementEnd : Part
+  StatementEnd : Nonterminal
   -- an else and its block, or nothing
-  Otherwise : Part
+  Otherwise : Nonterminal
   -- operands of a level joined by its operators
-  Chain : Level → Part
-  MoreChain : Level → Part
-  Prefix : Part
-  Postfix : Part
+  Chain : Level → Nonterminal
+  MoreChain : Level → Nonterminal
+  Prefix : Nonterminal
+  Postfix : Nonterminal
   -- members and indexes that follow an expression
-  Members : Part
+  Members : Nonterminal
   -- the arguments of a call, or nothing
-  CallPart : Part
-  First : Part
+  CallPart : Nonterminal
+  First : Nonterminal
   -- expressions with commas between them, or nothing
-  Arguments : Part
-  MoreArguments : Part
+  Arguments : Nonterminal
+  MoreArguments : Nonterminal
 
 -- A symbol of a production: a token of a kind, or a part.
 pub data Symbol : Type 0 where
   Terminal : TokenKind → Symbol
-  The : Part → Symbol
+  The : Nonterminal → Symbol
 
-abbrev pub Expression : Part
+abbrev pub Expression : Nonterminal
 Expression = Chain OrLevel
 
 -- The tree of a part. What follows an expression has a tree in that expression, and an absent
 -- result type has one in the position of its declaration.
-abbrev pub TreeOf : Part → Type 0
+abbrev pub TreeOf : Nonterminal → Type 0
 TreeOf TheProgram = tree.Program
 TreeOf Interfaces = List tree.Interface
 TreeOf AnInterface = tree.Interface

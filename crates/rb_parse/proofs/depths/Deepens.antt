@@ -2,7 +2,7 @@
 use Rattle.std.proofs.Common.{◌≡◌, ℕ, suc, ◌+◌, ◌≤◌, max, List, Option, Some, None, refl, arith}
 use Rattle.rb_trees.specs.mirror.Code.{Expr, Exprs}
 use Rattle.rb_meaning_bytes.specs.grammar.Limits.{Nesting}
-use Rattle.rb_meaning_bytes.specs.grammar.Rules.{member}
+use Rattle.rb_meaning_bytes.specs.grammar.Productions.{member}
 use Rattle.rb_meaning_types.specs.Lawful.{expr_depth, exprs_depth}
 use Rattle.rb_parse.proofs.depths.States.{Ready, Moves, Marks, Spans, Carries, goes_on}
 use Rattle.rb_parse.proofs.depths.Invariants.{call_depth}

@@ -6,9 +6,9 @@ use Rattle.rb_trees.specs.mirror.Code as code
 use Rattle.rb_trees.specs.mirror.Code.{Expr, Exprs}
 use Rattle.rb_meaning_bytes.specs.grammar.Kinds as k
 use Rattle.rb_meaning_bytes.specs.grammar.Symbols as s
-use Rattle.rb_meaning_bytes.specs.grammar.Symbols.{Symbol, Part, Chain, MoreChain, TreeOf, Makes}
-use Rattle.rb_meaning_bytes.specs.grammar.Rules as r
-use Rattle.rb_meaning_bytes.specs.grammar.Rules.{Rule, member}
+use Rattle.rb_meaning_bytes.specs.grammar.Symbols.{Symbol, Nonterminal, Chain, MoreChain, TreeOf, Makes}
+use Rattle.rb_meaning_bytes.specs.grammar.Productions as r
+use Rattle.rb_meaning_bytes.specs.grammar.Productions.{Production, member}
 use Rattle.rb_meaning_bytes.specs.grammar.Values.{name_of}
 use Rattle.rb_meaning_bytes.specs.grammar.Limits.{Nesting, after}
 use Rattle.rb_meaning_types.specs.Lawful.{expr_depth, exprs_depth}
@@ -21,7 +21,7 @@ use Rattle.rb_parse.proofs.depths.Deepens.{carries_none, spans_none, behind, bef
 chained : (n m o : Nesting) (e : Expr) (f : Expr → Expr) → Deep n (expr_depth e) m → Follows m f o → Deep n (expr_depth (f e)) o
 chained n m o e f g h ready flat = let a = g ready flat in followed e f a (h a.goes.ready (a.goes.types ∙ flat))
 
-pub at_chain : {source : List ℕ} {l : List Symbol} (level : s.Level) {f : Makes l (TreeOf (Chain level))} → Rule source (Chain level) l f → Keeping (Chain level) l f
+pub at_chain : {source : List ℕ} {l : List Symbol} (level : s.Level) {f : Makes l (TreeOf (Chain level))} → Production source (Chain level) l f → Keeping (Chain level) l f
 at_chain _ r.alternatives = λ n ys run. chained n run.0 run.3.0 ys.0 ys.1.0 run.2 run.3.2
 at_chain _ r.conditions = λ n ys run. chained n run.0 run.3.0 ys.0 ys.1.0 run.2 run.3.2
 at_chain _ r.comparison = λ n ys run. chained n run.0 run.3.0 ys.0 ys.1.0 run.2 run.3.2
@@ -43,7 +43,7 @@ operated n m o p at op right f a g h flat =
 compared : (n m o : Nesting) (at : ℕ) (op : BinOp) (right : Expr) → Marks n m → Deep m (expr_depth right) o → n.types ≡ 0 → Carries n (λ left. code.Binary at op left right) o
 compared n m o at op right a g flat = operated n m o o at op right (λ e. e) a g (λ ready flat. carries_none o ready) flat
 
-pub at_more_chain : {source : List ℕ} {l : List Symbol} (level : s.Level) {f : Makes l (TreeOf (MoreChain level))} → Rule source (MoreChain level) l f → Keeping (MoreChain level) l f
+pub at_more_chain : {source : List ℕ} {l : List Symbol} (level : s.Level) {f : Makes l (TreeOf (MoreChain level))} → Production source (MoreChain level) l f → Keeping (MoreChain level) l f
 at_more_chain _ (r.last_operand level) = λ n ys run ready flat. carries_none n ready
 at_more_chain _ r.or = λ n ys run ready flat. operated n (after n k.sign_or) run.1.0 run.1.3.0 _ _ ys.1.0 ys.1.1.0 (mark n k.sign_or refl ready) run.1.2 run.1.3.2 flat
 at_more_chain _ r.and = λ n ys run ready flat. operated n (after n k.sign_and) run.1.0 run.1.3.0 _ _ ys.1.0 ys.1.1.0 (mark n k.sign_and refl ready) run.1.2 run.1.3.2 flat
@@ -63,12 +63,12 @@ at_more_chain _ r.remainder = λ n ys run ready flat. operated n (after n k.sign
 prefixed : (n m o : Nesting) (d : ℕ) → Marks n m → Deep m d o → n.types ≡ 0 → Spans n (suc d) o
 prefixed n m o d a g flat = marked a (g a.goes.ready (a.goes.types ∙ flat))
 
-pub at_prefix : {source : List ℕ} {l : List Symbol} {f : Makes l (TreeOf s.Prefix)} → Rule source s.Prefix l f → Keeping s.Prefix l f
+pub at_prefix : {source : List ℕ} {l : List Symbol} {f : Makes l (TreeOf s.Prefix)} → Production source s.Prefix l f → Keeping s.Prefix l f
 at_prefix r.not = λ n ys run ready flat. prefixed n (after n k.sign_not) run.1.0 (expr_depth ys.1.0) (mark n k.sign_not refl ready) run.1.2 flat
 at_prefix r.negative = λ n ys run ready flat. prefixed n (after n k.sign_minus) run.1.0 (expr_depth ys.1.0) (mark n k.sign_minus refl ready) run.1.2 flat
 at_prefix r.postfix = λ n ys run. run.2
 
-pub at_postfix : {source : List ℕ} {l : List Symbol} {f : Makes l (TreeOf s.Postfix)} → Rule source s.Postfix l f → Keeping s.Postfix l f
+pub at_postfix : {source : List ℕ} {l : List Symbol} {f : Makes l (TreeOf s.Postfix)} → Production source s.Postfix l f → Keeping s.Postfix l f
 at_postfix r.first = λ n ys run. chained n run.0 run.3.0 ys.0 ys.1.0 run.2 run.3.2
 
 -- what stands in brackets that are a mark, and tokens before them
@@ -83,7 +83,7 @@ wrapped n m o d a g flat =
     let b = g a.goes.ready (a.goes.types ∙ flat) in
     before a (behind b (inner o k.sign_close refl refl b.goes.ready))
 
-pub at_members : {source : List ℕ} {l : List Symbol} {f : Makes l (TreeOf s.Members)} → Rule source s.Members l f → Keeping s.Members l f
+pub at_members : {source : List ℕ} {l : List Symbol} {f : Makes l (TreeOf s.Members)} → Production source s.Members l f → Keeping s.Members l f
 at_members r.no_members = λ n ys run ready flat. carries_none n ready
 at_members {source} r.member_of = λ n ys run ready flat.
     let a = mark n k.sign_dot refl ready in
@@ -100,7 +100,7 @@ at_members r.index = λ n ys run ready flat.
     let d = run.1.3.1.2 c.goes.ready (c.goes.types ∙ (b.goes.types ∙ flat_in)) in
     joined (λ e. code.Index ys.0.start e ys.1.0) ys.1.1.1.0 (λ e. within_most (suc (max (expr_depth e) (expr_depth ys.1.0)))) a (behind b c) d
 
-pub at_call : {source : List ℕ} {l : List Symbol} {f : Makes l (TreeOf s.CallPart)} → Rule source s.CallPart l f → Keeping s.CallPart l f
+pub at_call : {source : List ℕ} {l : List Symbol} {f : Makes l (TreeOf s.CallPart)} → Production source s.CallPart l f → Keeping s.CallPart l f
 at_call r.no_call = λ n ys run ready flat. spans_none n ready
 at_call r.call = λ n ys run ready flat. wrapped n (after n k.sign_open) run.1.0 (exprs_depth ys.1.0) (inner n k.sign_open refl refl ready) run.1.2 flat
 
@@ -108,7 +108,7 @@ at_call r.call = λ n ys run ready flat. wrapped n (after n k.sign_open) run.1.0
 single : (n m : Nesting) → Moves n m → Spans n 1 m
 single n m a = record { goes = a.goes; grows = a.grows; deep = let x = a.grows in omega arith }
 
-pub at_first : {source : List ℕ} {l : List Symbol} {f : Makes l (TreeOf s.First)} → Rule source s.First l f → Keeping s.First l f
+pub at_first : {source : List ℕ} {l : List Symbol} {f : Makes l (TreeOf s.First)} → Production source s.First l f → Keeping s.First l f
 at_first r.number = λ n ys run ready flat. single n (after n kind.Number) (inner n kind.Number refl refl ready)
 at_first r.text = λ n ys run ready flat. single n (after n kind.TextLit) (inner n kind.TextLit refl refl ready)
 at_first r.true_literal = λ n ys run ready flat. single n (after n k.keyword_true) (inner n k.keyword_true refl refl ready)
@@ -140,11 +140,11 @@ at_first r.inside = λ n ys run ready flat. wrapped n (after n k.sign_open) run.
 both_listed : (n m o : Nesting) (d e : ℕ) → Deep n d m → Deep m e o → Deep n (max d e) o
 both_listed n m o d e g h ready flat = let a = g ready flat in listed a (h a.goes.ready (a.goes.types ∙ flat))
 
-pub at_arguments : {source : List ℕ} {l : List Symbol} {f : Makes l (TreeOf s.Arguments)} → Rule source s.Arguments l f → Keeping s.Arguments l f
+pub at_arguments : {source : List ℕ} {l : List Symbol} {f : Makes l (TreeOf s.Arguments)} → Production source s.Arguments l f → Keeping s.Arguments l f
 at_arguments r.no_arguments = λ n ys run ready flat. spans_none n ready
 at_arguments r.arguments = λ n ys run. both_listed n run.0 run.3.0 (expr_depth ys.0) (exprs_depth ys.1.0) run.2 run.3.2
 
-pub at_more_arguments : {source : List ℕ} {l : List Symbol} {f : Makes l (TreeOf s.MoreArguments)} → Rule source s.MoreArguments l f → Keeping s.MoreArguments l f
+pub at_more_arguments : {source : List ℕ} {l : List Symbol} {f : Makes l (TreeOf s.MoreArguments)} → Production source s.MoreArguments l f → Keeping s.MoreArguments l f
 at_more_arguments r.last_argument = λ n ys run ready flat. spans_none n ready
 at_more_arguments r.more_arguments = λ n ys run ready flat.
     let a = inner n k.sign_comma refl refl ready in

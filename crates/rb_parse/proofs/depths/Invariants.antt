@@ -3,7 +3,7 @@ use Rattle.std.proofs.Common.{◌≡◌, ℕ, ◌+◌, ◌≤◌, List, [], ◌�
 use Rattle.std.specs.List.{All}
 use Rattle.rb_trees.specs.mirror.Code.{Expr, Exprs, Stmt}
 use Rattle.rb_meaning_bytes.specs.grammar.Symbols as s
-use Rattle.rb_meaning_bytes.specs.grammar.Symbols.{Symbol, Terminal, The, Part, Chain, MoreChain, TreeOf, Trees, Makes, made}
+use Rattle.rb_meaning_bytes.specs.grammar.Symbols.{Symbol, Terminal, The, Nonterminal, Chain, MoreChain, TreeOf, Trees, Makes, made}
 use Rattle.rb_meaning_bytes.specs.grammar.Limits.{Nesting, after}
 use Rattle.rb_meaning_types.specs.Lawful.{expr_depth, exprs_depth, stmt_depth, stmts_depth, IsShallowExpr, IsShallowStmt, AreShallowStmts, IsShallowReturn, IsShallowBody, IsShallowClass}
 use Rattle.rb_parse.proofs.depths.States.{Ready, Limits, Goes, Moves, Spans, Carries}
@@ -51,7 +51,7 @@ abbrev pub Roomy : Nesting → Type 0 → ℕ → Nesting → Type 0
 Roomy n P depth m = Ready n → n.types ≡ 0 → Holds n P depth m
 
 -- of the states before and behind a part, and its tree
-abbrev pub Good : (p : Part) → Nesting → TreeOf p → Nesting → Type 0
+abbrev pub Good : (p : Nonterminal) → Nesting → TreeOf p → Nesting → Type 0
 Good s.TheProgram n x m = Ready n → n.types ≡ 0 → n.blocks ≡ 0 → All IsShallowClass x.classes × IsShallowBody x.body
 Good s.Interfaces n x m = Ready n → n.types ≡ 0 → n.blocks ≡ 0 → Goes n m
 Good s.AnInterface n x m = Ready n → n.types ≡ 0 → n.blocks ≡ 0 → Goes n m
@@ -97,5 +97,5 @@ end_of (Terminal kind ∷ l) n xs r = end_of l (after n kind) xs.1 r.1
 end_of (The p ∷ l) n xs r = end_of l r.0 xs.1 r.3
 
 -- A production keeps what holds of parts.
-abbrev pub Keeping : (p : Part) (l : List Symbol) → Makes l (TreeOf p) → Type 0
+abbrev pub Keeping : (p : Nonterminal) (l : List Symbol) → Makes l (TreeOf p) → Type 0
 Keeping p l f = (n : Nesting) (ys : Trees l) (r : Run l n ys) → Good p n (made l (TreeOf p) f ys) (end_of l n ys r)

@@ -4,8 +4,8 @@ use Rattle.std.specs.List.{All}
 use Rattle.rb_trees.specs.declared.tokens.Token.{Token}
 use Rattle.rb_trees.specs.mirror.Declarations.{Program}
 use Rattle.rb_meaning_bytes.specs.grammar.Symbols as s
-use Rattle.rb_meaning_bytes.specs.grammar.Symbols.{Symbol, Terminal, The, Part, Chain, MoreChain, TreeOf, Trees, Makes, made}
-use Rattle.rb_meaning_bytes.specs.grammar.Rules.{Rule}
+use Rattle.rb_meaning_bytes.specs.grammar.Symbols.{Symbol, Terminal, The, Nonterminal, Chain, MoreChain, TreeOf, Trees, Makes, made}
+use Rattle.rb_meaning_bytes.specs.grammar.Productions.{Production}
 use Rattle.rb_meaning_bytes.specs.grammar.Derives as g
 use Rattle.rb_meaning_bytes.specs.grammar.Derives.{Spells, Derives}
 use Rattle.rb_meaning_bytes.specs.grammar.Limits.{Nesting, after, too_deep, broken, nothing_open, Within}
@@ -18,7 +18,7 @@ use Rattle.rb_parse.proofs.depths.Statements.{at_statement, at_statement_end, at
 use Rattle.rb_parse.proofs.depths.Programs.{at_param, at_params, at_more_params, at_result, at_signature, at_signatures, at_fields, at_interface, at_interfaces, at_method, at_methods, at_class, at_classes, at_program}
 
 -- every production keeps what holds of parts
-keeps : {source : List ℕ} {l : List Symbol} (p : Part) {f : Makes l (TreeOf p)} → Rule source p l f → Keeping p l f
+keeps : {source : List ℕ} {l : List Symbol} (p : Nonterminal) {f : Makes l (TreeOf p)} → Production source p l f → Keeping p l f
 keeps s.TheProgram rule = at_program rule
 keeps s.Interfaces rule = at_interfaces rule
 keeps s.AnInterface rule = at_interface rule
@@ -113,7 +113,7 @@ ran (g.token {l} {ts} {xs} t d) n limits h =
     let fits = within_limits (after n t.kind) a.fits in
     let b = ran d (after n t.kind) fits a.more in
     record { run = (fits, b.run); ends = b.ends }
-ran (g.rule {p} {m} {l} {f} {ts} {us} {ys} {xs} rule d e) n limits h =
+ran (g.production {p} {m} {l} {f} {ts} {us} {ys} {xs} rule d e) n limits h =
     let a = split n ts us h in
     let fits = limits_after n ts limits a.front in
     let b = ran d n limits a.front in

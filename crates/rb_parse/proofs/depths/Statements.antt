@@ -5,9 +5,9 @@ use Rattle.rb_trees.specs.declared.tokens.TokenKind.TheVariants as kind
 use Rattle.rb_trees.specs.mirror.Code.{Expr, Stmts}
 use Rattle.rb_meaning_bytes.specs.grammar.Kinds as k
 use Rattle.rb_meaning_bytes.specs.grammar.Symbols as s
-use Rattle.rb_meaning_bytes.specs.grammar.Symbols.{Symbol, Part, TreeOf, Makes}
-use Rattle.rb_meaning_bytes.specs.grammar.Rules as r
-use Rattle.rb_meaning_bytes.specs.grammar.Rules.{Rule}
+use Rattle.rb_meaning_bytes.specs.grammar.Symbols.{Symbol, Nonterminal, TreeOf, Makes}
+use Rattle.rb_meaning_bytes.specs.grammar.Productions as r
+use Rattle.rb_meaning_bytes.specs.grammar.Productions.{Production}
 use Rattle.rb_meaning_bytes.specs.grammar.Limits.{Nesting, after}
 use Rattle.rb_meaning_types.specs.Lawful.{expr_depth, stmt_depth, stmts_depth, IsShallowExpr, AreShallowStmts}
 use Rattle.rb_parse.proofs.depths.States.{afters, Ready, Limits, goes_on, all_still, stills}
@@ -49,7 +49,7 @@ room_two n m o d e f g h i = let j = i (omega arith) in omega arith
 room_both : (n m o d e : ℕ) → m ≡ n → o ≡ n → m + (d + 1) ≤ 64 → o + (e + 1) ≤ 64 → n + suc (max d e) ≤ 64
 room_both n m o d e f g h i = omega arith
 
-pub at_statement : {source : List ℕ} {l : List Symbol} {f : Makes l (TreeOf s.Statement)} → Rule source s.Statement l f → Keeping s.Statement l f
+pub at_statement : {source : List ℕ} {l : List Symbol} {f : Makes l (TreeOf s.Statement)} → Production source s.Statement l f → Keeping s.Statement l f
 at_statement r.val = λ n ys run ready flat. flat_statement ready (around (k.keyword_val ∷ kind.Name ∷ k.sign_assign ∷ []) (k.sign_semicolon ∷ []) refl refl n run.1.1.1.0 ys.1.1.1.0 run.1.1.1.2 run.1.1.1.1 ready flat)
 at_statement r.var = λ n ys run ready flat. flat_statement ready (around (k.keyword_var ∷ kind.Name ∷ k.sign_assign ∷ []) (k.sign_semicolon ∷ []) refl refl n run.1.1.1.0 ys.1.1.1.0 run.1.1.1.2 run.1.1.1.1 ready flat)
 at_statement r.print = λ n ys run ready flat. flat_statement ready (around (k.keyword_print ∷ k.sign_open ∷ []) (k.sign_close ∷ k.sign_semicolon ∷ []) refl refl n run.1.1.0 ys.1.1.0 run.1.1.2 run.1.1.1 ready flat)
@@ -92,7 +92,7 @@ at_statement r.expression_first = λ n ys run ready flat.
     let b = run.3.2 a.goes.ready (a.goes.types ∙ flat) in
     record { goes = goes_on a.goes b.goes; shallow = b.shallow ys.0 a.shallow; room = rw (b.none ys.0) (room_none n.blocks ready.room) }
 
-pub at_statement_end : {source : List ℕ} {l : List Symbol} {f : Makes l (TreeOf s.StatementEnd)} → Rule source s.StatementEnd l f → Keeping s.StatementEnd l f
+pub at_statement_end : {source : List ℕ} {l : List Symbol} {f : Makes l (TreeOf s.StatementEnd)} → Production source s.StatementEnd l f → Keeping s.StatementEnd l f
 at_statement_end r.alone = λ n ys run ready flat. record { goes = stills (k.sign_semicolon ∷ []) refl n ready; shallow = λ e h. h; none = λ e. refl }
 at_statement_end r.assigned = λ n ys run ready flat.
     let a = around (k.sign_assign ∷ []) (k.sign_semicolon ∷ []) refl refl n run.1.0 ys.1.0 run.1.2 run.1.1 ready flat in
@@ -104,7 +104,7 @@ room_one n d h e = omega arith
 room_else : (n m d : ℕ) → m ≡ n → m + (d + 1) ≤ 64 → n + (d + 1) ≤ 64
 room_else n m d e f = omega arith
 
-pub at_otherwise : {source : List ℕ} {l : List Symbol} {f : Makes l (TreeOf s.Otherwise)} → Rule source s.Otherwise l f → Keeping s.Otherwise l f
+pub at_otherwise : {source : List ℕ} {l : List Symbol} {f : Makes l (TreeOf s.Otherwise)} → Production source s.Otherwise l f → Keeping s.Otherwise l f
 at_otherwise r.no_else = λ n ys run ready flat. record { goes = stills [] refl n ready; shallow = tt; room = λ h. room_one n.blocks 0 h refl }
 at_otherwise r.«else» = λ n ys run ready flat.
     let a = stills (k.keyword_else ∷ []) refl n ready in
@@ -114,7 +114,7 @@ at_otherwise r.«else» = λ n ys run ready flat.
 room_max : (n m d e : ℕ) → m ≡ n → n + d ≤ 64 → m + e ≤ 64 → n + max d e ≤ 64
 room_max n m d e f g h = omega arith
 
-pub at_statements : {source : List ℕ} {l : List Symbol} {f : Makes l (TreeOf s.Statements)} → Rule source s.Statements l f → Keeping s.Statements l f
+pub at_statements : {source : List ℕ} {l : List Symbol} {f : Makes l (TreeOf s.Statements)} → Production source s.Statements l f → Keeping s.Statements l f
 at_statements r.no_statements = λ n ys run ready flat. record { goes = stills [] refl n ready; shallow = tt; room = room_none n.blocks ready.room }
 at_statements r.more_statements = λ n ys run ready flat.
     let a = run.2 ready flat in
@@ -124,7 +124,7 @@ at_statements r.more_statements = λ n ys run ready flat.
 room_block : (n m d : ℕ) → m ≡ n + 1 → m + d ≤ 64 → n + (d + 1) ≤ 64
 room_block n m d e f = omega arith
 
-pub at_block : {source : List ℕ} {l : List Symbol} {f : Makes l (TreeOf s.Block)} → Rule source s.Block l f → Keeping s.Block l f
+pub at_block : {source : List ℕ} {l : List Symbol} {f : Makes l (TreeOf s.Block)} → Production source s.Block l f → Keeping s.Block l f
 at_block r.block = λ n ys run ready flat.
     let a = block_opens n ready run.0 in
     let b = run.1.2 a.ready (a.types ∙ flat) in
@@ -134,14 +134,14 @@ at_block r.block = λ n ys run ready flat.
       room = room_block n.blocks (after n k.sign_open_brace).blocks (stmts_depth ys.1.0) a.blocks b.room;
     }
 
-pub at_returns : {source : List ℕ} {l : List Symbol} {f : Makes l (TreeOf s.Returns)} → Rule source s.Returns l f → Keeping s.Returns l f
+pub at_returns : {source : List ℕ} {l : List Symbol} {f : Makes l (TreeOf s.Returns)} → Production source s.Returns l f → Keeping s.Returns l f
 at_returns r.no_return = λ n ys run ready flat. record { goes = stills [] refl n ready; shallow = tt }
 at_returns r.«return» = λ n ys run ready flat. around (k.keyword_return ∷ []) (k.sign_semicolon ∷ []) refl refl n run.1.0 ys.1.0 run.1.2 run.1.1 ready flat
 
 room_body : (n m d : ℕ) → m ≡ n + 1 → m + d ≤ 64 → suc d ≤ 64
 room_body n m d e f = omega arith
 
-pub at_body : {source : List ℕ} {l : List Symbol} {f : Makes l (TreeOf s.ABody)} → Rule source s.ABody l f → Keeping s.ABody l f
+pub at_body : {source : List ℕ} {l : List Symbol} {f : Makes l (TreeOf s.ABody)} → Production source s.ABody l f → Keeping s.ABody l f
 at_body r.body = λ n ys run ready flat.
     let a = block_opens n ready run.0 in
     let flat_in = a.types ∙ flat in

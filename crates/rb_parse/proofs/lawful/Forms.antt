@@ -12,9 +12,9 @@ use Rattle.rb_trees.specs.mirror.Code as code
 use Rattle.rb_trees.specs.mirror.Code.{Expr, Exprs, Stmts, NoStmts, MoreStmts}
 use Rattle.rb_meaning_bytes.specs.grammar.Values.{name_of, number_of, text_of}
 use Rattle.rb_meaning_bytes.specs.grammar.Symbols as s
-use Rattle.rb_meaning_bytes.specs.grammar.Symbols.{Symbol, Terminal, The, Part, Chain, MoreChain, TreeOf, Trees, Makes, made}
-use Rattle.rb_meaning_bytes.specs.grammar.Rules as r
-use Rattle.rb_meaning_bytes.specs.grammar.Rules.{Rule, member}
+use Rattle.rb_meaning_bytes.specs.grammar.Symbols.{Symbol, Terminal, The, Nonterminal, Chain, MoreChain, TreeOf, Trees, Makes, made}
+use Rattle.rb_meaning_bytes.specs.grammar.Productions as r
+use Rattle.rb_meaning_bytes.specs.grammar.Productions.{Production, member}
 use Rattle.rb_meaning_bytes.specs.grammar.Derives as g
 use Rattle.rb_meaning_bytes.specs.grammar.Derives.{Spells}
 use Rattle.rb_meaning_types.specs.Lawful.{IsName, IsShort, IsLiteral, IsLiteralForm, IsLawfulType, IsLawfulExpr, AreLawfulExprs, expr_count, stmt_count, IsLawfulStmt, AreLawfulStmts, IsLawfulBlock, IsLawfulReturn, IsLawfulBody, IsLawfulParam, IsLawfulSignature, IsLawfulMethod, IsLawfulInterface, IsLawfulClass}
@@ -26,7 +26,7 @@ CallFormed None = Unit {0}
 CallFormed (Some args) = AreLawfulExprs args × (expr_count args < 2 ^ 32)
 
 -- The tree of a part is lawful. What follows an expression is, if the expression is.
-abbrev pub Formed : (p : Part) → TreeOf p → Type 0
+abbrev pub Formed : (p : Nonterminal) → TreeOf p → Type 0
 Formed s.TheProgram x = All IsLawfulInterface x.interfaces × IsShort x.interfaces × All IsLawfulClass x.classes × IsShort x.classes × IsLawfulType x.result × IsLawfulBody x.body
 Formed s.Interfaces x = All IsLawfulInterface x
 Formed s.AnInterface x = IsLawfulInterface x
@@ -60,7 +60,7 @@ Formed s.Arguments x = AreLawfulExprs x
 Formed s.MoreArguments x = AreLawfulExprs x
 
 -- a part's tree, lawful and with few items
-pub record Holds (p : Part) (x : TreeOf p) : Type 0 where
+pub record Holds (p : Nonterminal) (x : TreeOf p) : Type 0 where
   pub formed : Formed p x
   pub short : items p x < 2 ^ 32
 
@@ -88,7 +88,7 @@ module _ (source : List ℕ) where
   AllHold (Terminal kind ∷ l) xs = Tells source kind xs.0 × AllHold l xs.1
   AllHold (The p ∷ l) xs = Holds p xs.0 × AllHold l xs.1
 
-  of_rule : {p : Part} {m : List Symbol} {f : Makes m (TreeOf p)} → Rule source p m f → (xs : Trees m) → AllHold m xs → Formed p (made m (TreeOf p) f xs)
+  of_rule : {p : Nonterminal} {m : List Symbol} {f : Makes m (TreeOf p)} → Production source p m f → (xs : Trees m) → AllHold m xs → Formed p (made m (TreeOf p) f xs)
   of_rule r.program xs h = (h.0.formed, h.0.short, h.1.0.formed, h.1.0.short, h.1.1.1.0.formed xs.1.1.0.start, h.1.1.1.1.0.formed)
   of_rule r.no_interfaces xs h = All-nil IsLawfulInterface
   of_rule r.more_interfaces xs h = All-cons IsLawfulInterface xs.0 xs.1.0 h.0.formed h.1.0.formed
@@ -188,10 +188,10 @@ module _ (source : List ℕ) where
   pub forms : {l : List Symbol} {ts : List Token} {xs : Trees l} → Spells source l ts xs → AllTell source ts → length ts < 2 ^ 32 → AllHold l xs
   forms g.nothing k n = tt
   forms (g.token t d) k n = (k.0, forms d k.1 (omega arith))
-  forms (g.rule {p} {m} {l} {f} {ts} {us} {ys} {xs} rule d e) k n =
+  forms (g.production {p} {m} {l} {f} {ts} {us} {ys} {xs} rule d e) k n =
       let c : length (ts ++ us) ≡ length ts + length us = length-append ts us in
       let a = forms d (tell_front source ts us k) (omega (arith, c)) in
       let b = forms e (tell_back source ts us k) (omega (arith, c)) in
-      let w : items p (made m (TreeOf p) f ys) + 0 ≤ length (ts ++ []) = counted source (g.rule {l = []} {xs = tt} rule d g.nothing) in
+      let w : items p (made m (TreeOf p) f ys) + 0 ≤ length (ts ++ []) = counted source (g.production {l = []} {xs = tt} rule d g.nothing) in
       let z : length (ts ++ []) ≡ length ts + 0 = length-append ts [] in
       (record { formed = of_rule rule ys a; short = omega (arith, w, z, c) }, b)

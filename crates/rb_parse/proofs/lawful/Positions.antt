@@ -6,9 +6,9 @@ use Rattle.rb_trees.specs.mirror.Code as code
 use Rattle.rb_trees.specs.mirror.Code.{Expr, Exprs}
 use Rattle.rb_meaning_bytes.specs.grammar.Values.{name_of}
 use Rattle.rb_meaning_bytes.specs.grammar.Symbols as s
-use Rattle.rb_meaning_bytes.specs.grammar.Symbols.{Symbol, Terminal, The, Part, Chain, MoreChain, TreeOf, Trees, Makes, made}
-use Rattle.rb_meaning_bytes.specs.grammar.Rules as r
-use Rattle.rb_meaning_bytes.specs.grammar.Rules.{Rule, member}
+use Rattle.rb_meaning_bytes.specs.grammar.Symbols.{Symbol, Terminal, The, Nonterminal, Chain, MoreChain, TreeOf, Trees, Makes, made}
+use Rattle.rb_meaning_bytes.specs.grammar.Productions as r
+use Rattle.rb_meaning_bytes.specs.grammar.Productions.{Production, member}
 use Rattle.rb_meaning_bytes.specs.grammar.Derives as g
 use Rattle.rb_meaning_bytes.specs.grammar.Derives.{Spells}
 use Rattle.rb_meaning_types.specs.Lawful.{expr_positions, exprs_positions, stmt_positions, stmts_positions, return_positions, body_positions, methods_positions, classes_positions}
@@ -41,7 +41,7 @@ call_positions (Some args) = exprs_positions args
 
 module _ (n : ℕ) where
   -- The number stands so often in the positions of a part's tree. What follows an expression adds so many.
-  abbrev pub Hits : (p : Part) → TreeOf p → ℕ → Type 0
+  abbrev pub Hits : (p : Nonterminal) → TreeOf p → ℕ → Type 0
   Hits s.TheProgram x k = times n (classes_positions x.classes ++ body_positions x.body) ≤ k
   Hits s.Interfaces x k = Unit {0}
   Hits s.AnInterface x k = Unit {0}
@@ -81,7 +81,7 @@ module _ (n : ℕ) where
     pub rest : R left
 
   -- a part takes some of the starts, and others have the rest
-  pub record PartTaken (p : Part) (x : TreeOf p) (R : ℕ → Type 0) (k : ℕ) : Type 0 where
+  pub record PartTaken (p : Nonterminal) (x : TreeOf p) (R : ℕ → Type 0) (k : ℕ) : Type 0 where
     pub own : ℕ
     pub left : ℕ
     pub fits : own + left ≤ k
@@ -98,7 +98,7 @@ module _ (n : ℕ) where
   call_hits at name (Some args) e k h = omega (arith, h, times_append n (expr_positions e) (exprs_positions args))
 
 module _ (source : List ℕ) (n : ℕ) where
-  of_rule : {p : Part} {m : List Symbol} {f : Makes m (TreeOf p)} → Rule source p m f → (xs : Trees m) (k : ℕ) → AllHit n m xs k → Hits n p (made m (TreeOf p) f xs) k
+  of_rule : {p : Nonterminal} {m : List Symbol} {f : Makes m (TreeOf p)} → Production source p m f → (xs : Trees m) (k : ℕ) → AllHit n m xs k → Hits n p (made m (TreeOf p) f xs) k
   of_rule r.program xs k h = omega (arith, h.fits, h.rest.fits, h.rest.hits, h.rest.rest.fits, h.rest.rest.rest.fits, h.rest.rest.rest.rest.fits, h.rest.rest.rest.rest.hits, times_append n (classes_positions xs.1.0) (body_positions xs.1.1.1.1.0))
   of_rule r.no_interfaces xs k h = tt
   of_rule r.more_interfaces xs k h = tt
@@ -198,4 +198,4 @@ module _ (source : List ℕ) (n : ℕ) where
   pub hits : {l : List Symbol} {ts : List Token} {xs : Trees l} → Spells source l ts xs → AllHit n l xs (starts n ts)
   hits g.nothing = tt
   hits (g.token {ts = ts} t d) = record { left = starts n ts; fits = omega arith; rest = hits d }
-  hits (g.rule {p} {m} {l} {f} {ts} {us} {ys} {xs} rule d e) = record { own = starts n ts; left = starts n us; fits = omega (arith, starts_append n ts us); hits = of_rule rule ys (starts n ts) (hits d); rest = hits e }
+  hits (g.production {p} {m} {l} {f} {ts} {us} {ys} {xs} rule d e) = record { own = starts n ts; left = starts n us; fits = omega (arith, starts_append n ts us); hits = of_rule rule ys (starts n ts) (hits d); rest = hits e }

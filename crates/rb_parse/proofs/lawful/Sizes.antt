@@ -3,9 +3,9 @@ use Rattle.std.proofs.Common.{ℕ, ◌+◌, ◌≤◌, List, [], ◌∷◌, leng
 use Rattle.rb_trees.specs.declared.tokens.Token.{Token}
 use Rattle.rb_trees.specs.mirror.Code.{Exprs}
 use Rattle.rb_meaning_bytes.specs.grammar.Symbols as s
-use Rattle.rb_meaning_bytes.specs.grammar.Symbols.{Symbol, Terminal, The, Part, Chain, MoreChain, TreeOf, Trees, Makes, made}
-use Rattle.rb_meaning_bytes.specs.grammar.Rules as r
-use Rattle.rb_meaning_bytes.specs.grammar.Rules.{Rule}
+use Rattle.rb_meaning_bytes.specs.grammar.Symbols.{Symbol, Terminal, The, Nonterminal, Chain, MoreChain, TreeOf, Trees, Makes, made}
+use Rattle.rb_meaning_bytes.specs.grammar.Productions as r
+use Rattle.rb_meaning_bytes.specs.grammar.Productions.{Production}
 use Rattle.rb_meaning_bytes.specs.grammar.Derives as g
 use Rattle.rb_meaning_bytes.specs.grammar.Derives.{Spells}
 use Rattle.rb_meaning_types.specs.Lawful.{expr_count, stmt_count}
@@ -15,7 +15,7 @@ call_items None = 0
 call_items (Some args) = expr_count args
 
 -- how many items a part's list has; what is an item counts as one
-abbrev pub items : (p : Part) → TreeOf p → ℕ
+abbrev pub items : (p : Nonterminal) → TreeOf p → ℕ
 items s.TheProgram x = 0
 items s.Interfaces x = length x
 items s.AnInterface x = 1
@@ -55,7 +55,7 @@ total (Terminal kind ∷ l) xs = 1 + total l xs.1
 total (The p ∷ l) xs = items p xs.0 + total l xs.1
 
 module _ (source : List ℕ) where
-  within : {p : Part} {m : List Symbol} {f : Makes m (TreeOf p)} → Rule source p m f → (xs : Trees m) → items p (made m (TreeOf p) f xs) ≤ total m xs
+  within : {p : Nonterminal} {m : List Symbol} {f : Makes m (TreeOf p)} → Production source p m f → (xs : Trees m) → items p (made m (TreeOf p) f xs) ≤ total m xs
   within r.program xs = omega arith
   within r.no_interfaces xs = omega arith
   within r.more_interfaces xs = omega arith
@@ -155,4 +155,4 @@ module _ (source : List ℕ) where
   pub counted : {l : List Symbol} {ts : List Token} {xs : Trees l} → Spells source l ts xs → total l xs ≤ length ts
   counted g.nothing = omega arith
   counted (g.token t d) = let n = counted d in omega arith
-  counted (g.rule {ts = ts} {us = us} {ys = ys} rule d e) = omega (arith, within rule ys, counted d, counted e, length-append ts us)
+  counted (g.production {ts = ts} {us = us} {ys = ys} rule d e) = omega (arith, within rule ys, counted d, counted e, length-append ts us)

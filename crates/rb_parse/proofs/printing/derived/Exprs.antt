@@ -13,8 +13,8 @@ use Rattle.rb_trees.specs.printing.Unplaced.{unplaced_type, unplaced_expr, unpla
 use Rattle.rb_meaning_bytes.specs.grammar.Values.{slice}
 use Rattle.rb_meaning_bytes.specs.grammar.Symbols as s
 use Rattle.rb_meaning_bytes.specs.grammar.Symbols.{Chain, MoreChain}
-use Rattle.rb_meaning_bytes.specs.grammar.Rules as r
-use Rattle.rb_meaning_bytes.specs.grammar.Rules.{member}
+use Rattle.rb_meaning_bytes.specs.grammar.Productions as r
+use Rattle.rb_meaning_bytes.specs.grammar.Productions.{member}
 use Rattle.rb_parse.proofs.printing.ReadTrees.{behind, before_operand, before_right, IsReadExpr, AreReadExprs}
 use Rattle.rb_parse.proofs.printing.derived.Made.{MadePart, end, skip, token, the, last, by, turned}
 use Rattle.rb_parse.proofs.printing.derived.Types.{type_made}

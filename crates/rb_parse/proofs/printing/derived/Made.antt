@@ -3,8 +3,8 @@ use Rattle.std.proofs.Common.{◌≡◌, ℕ, List, [], ◌∷◌, ◌++◌, sym
 use Rattle.rb_trees.specs.declared.tokens.Token.{Token as Lexeme}
 use Rattle.rb_trees.specs.declared.tokens.TokenKind.{TokenKind}
 use Rattle.rb_trees.specs.printing.Pieces.{Piece, Token, Space}
-use Rattle.rb_meaning_bytes.specs.grammar.Symbols.{Symbol, Terminal, The, Part, TreeOf, Trees, Makes, made}
-use Rattle.rb_meaning_bytes.specs.grammar.Rules.{Rule}
+use Rattle.rb_meaning_bytes.specs.grammar.Symbols.{Symbol, Terminal, The, Nonterminal, TreeOf, Trees, Makes, made}
+use Rattle.rb_meaning_bytes.specs.grammar.Productions.{Production}
 use Rattle.rb_meaning_bytes.specs.grammar.Derives as g
 use Rattle.rb_meaning_bytes.specs.grammar.Derives.{Spells}
 use Rattle.rb_meaning_bytes.specs.grammar.Values.{slice}
@@ -17,11 +17,11 @@ pub record Spelled (source : List ℕ) (l : List Symbol) (ts : List Lexeme) (Q :
   pub holds : Q trees
 
 -- a tree of a part that a production makes, of which something holds
-pub record Derived (source : List ℕ) (p : Part) (ts : List Lexeme) (P : TreeOf p → Type 0) : Type 0 where
+pub record Derived (source : List ℕ) (p : Nonterminal) (ts : List Lexeme) (P : TreeOf p → Type 0) : Type 0 where
   pub symbols : List Symbol
   pub makes : Makes symbols (TreeOf p)
   pub trees : Trees symbols
-  pub rule : Rule source p symbols makes
+  pub rule : Production source p symbols makes
   pub spells : Spells source symbols ts trees
   pub holds : P (made symbols (TreeOf p) makes trees)
 
@@ -30,7 +30,7 @@ pub record Made (source : List ℕ) (l : List Symbol) (ps : List Piece) (Q : Tre
   pub spell : (ts : List Lexeme) → Stands source ps ts → Spelled source l ts Q
 
 -- The tokens of the pieces are derived by the part.
-pub record MadePart (source : List ℕ) (p : Part) (ps : List Piece) (P : TreeOf p → Type 0) : Type 0 where
+pub record MadePart (source : List ℕ) (p : Nonterminal) (ps : List Piece) (P : TreeOf p → Type 0) : Type 0 where
   pub derive : (ts : List Lexeme) → Stands source ps ts → Derived source p ts P
 
 module _ {source : List ℕ} where
@@ -56,7 +56,7 @@ module _ {source : List ℕ} where
   token {Q = Q} f = record { spell = λ ts h. token_step Q f ts h }
 
   -- a part
-  pub the : {p : Part} {l : List Symbol} {ps qs : List Piece} {P : TreeOf p → Type 0} {Q : TreeOf p × Trees l → Type 0}
+  pub the : {p : Nonterminal} {l : List Symbol} {ps qs : List Piece} {P : TreeOf p → Type 0} {Q : TreeOf p × Trees l → Type 0}
       → MadePart source p ps P → ((x : TreeOf p) → P x → Made source l qs (λ xs. Q (x, xs))) → Made source (The p ∷ l) (ps ++ qs) Q
   the {p} {l} {ps} {qs} {P} {Q} m f = record {
     spell = λ ts h.
@@ -64,11 +64,11 @@ module _ {source : List ℕ} where
         let d = m.derive s.front s.front_stands in
         let r = (f (made d.symbols (TreeOf p) d.makes d.trees) d.holds).spell s.back s.back_stands in
         subst (λ l'. Spelled source (The p ∷ l) l' Q) (sym s.is)
-        (record { trees = (made d.symbols (TreeOf p) d.makes d.trees, r.trees); spells = g.rule d.rule d.spells r.spells; holds = r.holds });
+        (record { trees = (made d.symbols (TreeOf p) d.makes d.trees, r.trees); spells = g.production d.rule d.spells r.spells; holds = r.holds });
   }
 
   -- a part with nothing behind it
-  pub last : {p : Part} {ps : List Piece} {P : TreeOf p → Type 0} {Q : TreeOf p × Unit {0} → Type 0}
+  pub last : {p : Nonterminal} {ps : List Piece} {P : TreeOf p → Type 0} {Q : TreeOf p × Unit {0} → Type 0}
       → MadePart source p ps P → ((x : TreeOf p) → P x → Q (x, tt)) → Made source (The p ∷ []) ps Q
   last {p} {ps} {P} {Q} m f = subst (λ qs. Made source (The p ∷ []) qs Q) (append-nil ps) (the m (λ x h. end (f x h)))
 
@@ -77,6 +77,6 @@ module _ {source : List ℕ} where
   turned {l} {Q = Q} e m = subst (λ k. Made source l k Q) (sym e) m
 
   -- by a production
-  pub by : {p : Part} {m : List Symbol} {f : Makes m (TreeOf p)} {ps : List Piece} {P : TreeOf p → Type 0}
-      → Rule source p m f → Made source m ps (λ xs. P (made m (TreeOf p) f xs)) → MadePart source p ps P
+  pub by : {p : Nonterminal} {m : List Symbol} {f : Makes m (TreeOf p)} {ps : List Piece} {P : TreeOf p → Type 0}
+      → Production source p m f → Made source m ps (λ xs. P (made m (TreeOf p) f xs)) → MadePart source p ps P
   by {m = m} {f = f} rule d = record { derive = λ ts h. let s = d.spell ts h in record { symbols = m; makes = f; trees = s.trees; rule = rule; spells = s.spells; holds = s.holds } }

@@ -7,8 +7,8 @@ use Rattle.rb_trees.specs.printing.Pieces.{Piece}
 use Rattle.rb_trees.specs.printing.Exprs.{level_of, in_parentheses, placed_at}
 use Rattle.rb_trees.specs.printing.Unplaced.{unplaced_expr}
 use Rattle.rb_meaning_bytes.specs.grammar.Symbols as s
-use Rattle.rb_meaning_bytes.specs.grammar.Symbols.{Symbol, Trees, Part, TreeOf, Level, Chain, MoreChain}
-use Rattle.rb_meaning_bytes.specs.grammar.Rules as r
+use Rattle.rb_meaning_bytes.specs.grammar.Symbols.{Symbol, Trees, Nonterminal, TreeOf, Level, Chain, MoreChain}
+use Rattle.rb_meaning_bytes.specs.grammar.Productions as r
 use Rattle.rb_parse.proofs.printing.derived.Made.{MadePart, end, token, the, last, by}
 
 -- the expression, but for positions
@@ -51,7 +51,7 @@ module _ (source : List ℕ) where
   closed_postfix : (e : Expr) (ps : List Piece) → OpenPostfix e ps → MadePart source s.Postfix ps (λ x. Is e x)
   closed_postfix e ps h = subst (λ qs. MadePart source s.Postfix qs (λ x. Is e x)) (append-nil ps) (h [] (λ x. x) (by r.no_members (end λ left. refl)))
 
-  nothing_behind : {p : Part} {P : TreeOf p → Type 0} (ps : List Piece) → MadePart source p (ps ++ []) P → MadePart source p ps P
+  nothing_behind : {p : Nonterminal} {P : TreeOf p → Type 0} (ps : List Piece) → MadePart source p (ps ++ []) P → MadePart source p ps P
   nothing_behind {p} {P} ps m = subst (λ qs. MadePart source p qs P) (append-nil ps) m
 
   -- an expression of the next level

@@ -11,7 +11,7 @@ use Rattle.rb_trees.specs.printing.Words.{space, name_piece}
 use Rattle.rb_trees.specs.printing.Unplaced.{unplaced_expr, unplaced_stmt, unplaced_stmts, unplaced_body}
 use Rattle.rb_meaning_bytes.specs.grammar.Symbols as s
 use Rattle.rb_meaning_bytes.specs.grammar.Symbols.{Symbol, The, Trees, Chain}
-use Rattle.rb_meaning_bytes.specs.grammar.Rules as r
+use Rattle.rb_meaning_bytes.specs.grammar.Productions as r
 use Rattle.rb_parse.proofs.printing.ReadTrees.{IsReadStmt, AreReadStmts, IsReadReturn, IsReadBody}
 use Rattle.rb_parse.proofs.printing.derived.Made.{Made, MadePart, end, skip, token, the, last, by, turned}
 use Rattle.rb_parse.proofs.printing.derived.Shapes.{four, six}

@@ -5,7 +5,7 @@ use Rattle.rb_trees.specs.mirror.Types.{TypeTree}
 use Rattle.rb_trees.specs.printing.Types.{type_pieces, result_pieces}
 use Rattle.rb_trees.specs.printing.Unplaced.{unplaced_type}
 use Rattle.rb_meaning_bytes.specs.grammar.Symbols as s
-use Rattle.rb_meaning_bytes.specs.grammar.Rules as r
+use Rattle.rb_meaning_bytes.specs.grammar.Productions as r
 use Rattle.rb_parse.proofs.printing.derived.Made.{MadePart, end, skip, token, the, last, by}
 
 module _ (source : List ℕ) where

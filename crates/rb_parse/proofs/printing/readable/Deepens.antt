@@ -7,7 +7,7 @@ use Rattle.rb_trees.specs.mirror.Code.{Expr, Exprs}
 use Rattle.rb_trees.specs.printing.Exprs.{level_of, left_level, right_level, operand_level, unary_level, binary_level}
 use Rattle.rb_meaning_bytes.specs.tokens.Lists.{is_minus}
 use Rattle.rb_meaning_bytes.specs.grammar.Limits.{Nesting}
-use Rattle.rb_meaning_bytes.specs.grammar.Rules.{member}
+use Rattle.rb_meaning_bytes.specs.grammar.Productions.{member}
 use Rattle.rb_parse.proofs.printing.ReadTrees.{IsReadName, IsReadExpr, AreReadExprs, before_operand, before_right, placed_marks, marks_of, marks_of_all}
 use Rattle.rb_parse.proofs.printing.readable.Places.{Stands, lower, bare, outer_read, outer_marks}
 use Rattle.rb_parse.proofs.printing.readable.Steps.{Fit, Rest, Step, Marked, steps_on, step_of, none, Placed, Carries, Spans}

@@ -9,9 +9,9 @@ use Rattle.rb_trees.specs.printing.Exprs.{level_of}
 use Rattle.rb_meaning_bytes.specs.tokens.Lists.{is_minus}
 use Rattle.rb_meaning_bytes.specs.grammar.Kinds as k
 use Rattle.rb_meaning_bytes.specs.grammar.Symbols as s
-use Rattle.rb_meaning_bytes.specs.grammar.Symbols.{Symbol, Part, Chain, MoreChain, TreeOf, Makes}
-use Rattle.rb_meaning_bytes.specs.grammar.Rules as r
-use Rattle.rb_meaning_bytes.specs.grammar.Rules.{Rule, member}
+use Rattle.rb_meaning_bytes.specs.grammar.Symbols.{Symbol, Nonterminal, Chain, MoreChain, TreeOf, Makes}
+use Rattle.rb_meaning_bytes.specs.grammar.Productions as r
+use Rattle.rb_meaning_bytes.specs.grammar.Productions.{Production, member}
 use Rattle.rb_meaning_bytes.specs.grammar.Values.{name_of, text_of}
 use Rattle.rb_meaning_bytes.specs.grammar.Limits.{Nesting, after}
 use Rattle.rb_parse.proofs.printing.ReadTrees.{IsReadExpr, marks_of, marks_of_all}
@@ -28,7 +28,7 @@ use Rattle.rb_parse.proofs.printing.readable.Types.{item_read}
 chained : {n m o : Nesting} {e : Expr} {f : Expr → Expr} (high inner outer : ℕ) → inner ≤ high → (Fit n → Placed n high e m) → (Fit m → Carries m inner outer f o) → Fit n → Placed n outer (f e) o
 chained high inner outer h a b fit = let c = a fit in followed high inner outer h c (b c.step.fit)
 
-pub at_chain : {source : List ℕ} {l : List Symbol} (level : s.Level) {f : Makes l (TreeOf (Chain level))} → Rule source (Chain level) l f → Keeping source (Chain level) l f
+pub at_chain : {source : List ℕ} {l : List Symbol} (level : s.Level) {f : Makes l (TreeOf (Chain level))} → Production source (Chain level) l f → Keeping source (Chain level) l f
 at_chain _ r.alternatives = λ n ys run. chained 1 0 0 (omega arith) run.2 run.3.2
 at_chain _ r.conditions = λ n ys run. chained 2 1 1 (omega arith) run.2 run.3.2
 at_chain _ r.comparison = λ n ys run. chained 3 3 2 (omega arith) run.2 run.3.2
@@ -44,7 +44,7 @@ lowers s.OrderLevel = omega arith
 lowers s.SumLevel = omega arith
 lowers s.ProductLevel = omega arith
 
-pub at_more_chain : {source : List ℕ} {l : List Symbol} (level : s.Level) {f : Makes l (TreeOf (MoreChain level))} → Rule source (MoreChain level) l f → Keeping source (MoreChain level) l f
+pub at_more_chain : {source : List ℕ} {l : List Symbol} (level : s.Level) {f : Makes l (TreeOf (MoreChain level))} → Production source (MoreChain level) l f → Keeping source (MoreChain level) l f
 at_more_chain _ (r.last_operand level) = λ n ys run fit. carries_none (left_at level) (level_at level) (lowers level) n fit
 at_more_chain _ r.or = λ n ys run fit. operated ys.0.start binary.Or 0 refl refl (sign n k.sign_or refl refl fit) run.2.2 run.2.3.2
 at_more_chain _ r.and = λ n ys run fit. operated ys.0.start binary.And 1 refl refl (sign n k.sign_and refl refl fit) run.2.2 run.2.3.2
@@ -60,15 +60,15 @@ at_more_chain _ r.times = λ n ys run fit. operated ys.0.start binary.Mul 5 refl
 at_more_chain _ r.divided = λ n ys run fit. operated ys.0.start binary.Div 5 refl refl (sign n k.sign_slash refl refl fit) run.2.2 run.2.3.2
 at_more_chain _ r.remainder = λ n ys run fit. operated ys.0.start binary.Rem 5 refl refl (sign n k.sign_percent refl refl fit) run.2.2 run.2.3.2
 
-pub at_prefix : {source : List ℕ} {l : List Symbol} {f : Makes l (TreeOf s.Prefix)} → Rule source s.Prefix l f → Keeping source s.Prefix l f
+pub at_prefix : {source : List ℕ} {l : List Symbol} {f : Makes l (TreeOf s.Prefix)} → Production source s.Prefix l f → Keeping source s.Prefix l f
 at_prefix r.not = λ n ys run fit. prefixed ys.0.start unary.Not refl refl fit (sign n k.sign_not refl refl fit) run.2.2
 at_prefix r.negative = λ n ys run fit. prefixed ys.0.start unary.Neg refl refl fit (sign n k.sign_minus refl refl fit) run.2.2
 at_prefix r.postfix = λ n ys run fit. let a = run.2 fit in record { step = a.step; stands = lower 6 7 (omega arith) a.stands }
 
-pub at_postfix : {source : List ℕ} {l : List Symbol} {f : Makes l (TreeOf s.Postfix)} → Rule source s.Postfix l f → Keeping source s.Postfix l f
+pub at_postfix : {source : List ℕ} {l : List Symbol} {f : Makes l (TreeOf s.Postfix)} → Production source s.Postfix l f → Keeping source s.Postfix l f
 at_postfix r.first = λ n ys run. chained 8 7 7 (omega arith) run.2 run.3.2
 
-pub at_members : {source : List ℕ} {l : List Symbol} {f : Makes l (TreeOf s.Members)} → Rule source s.Members l f → Keeping source s.Members l f
+pub at_members : {source : List ℕ} {l : List Symbol} {f : Makes l (TreeOf s.Members)} → Production source s.Members l f → Keeping source s.Members l f
 at_members r.no_members = λ n ys run fit. carries_none 7 7 (omega arith) n fit
 at_members {source} r.member_of = λ n ys run fit.
     let a = sign n k.sign_dot refl refl fit in
@@ -78,7 +78,7 @@ at_members r.index = λ n ys run fit. indexed ys.0.start refl (sign n k.sign_ope
 call_more : (n m own o q : ℕ) → m ≡ n + 1 → m + own ≤ o → o ≤ q → n + suc own ≤ q
 call_more n m own o q e f g = omega arith
 
-pub at_call : {source : List ℕ} {l : List Symbol} {f : Makes l (TreeOf s.CallPart)} → Rule source s.CallPart l f → Keeping source s.CallPart l f
+pub at_call : {source : List ℕ} {l : List Symbol} {f : Makes l (TreeOf s.CallPart)} → Production source s.CallPart l f → Keeping source s.CallPart l f
 at_call r.no_call = λ n ys run fit. spans_none n (Unit {0}) fit tt
 at_call r.call = λ n ys run fit.
     let a = opens n fit in
@@ -97,7 +97,7 @@ single n m e low own h a = record { step = a; stands = bare (is_minus n.last) 8 
     one : (n m : ℕ) → n ≤ m → n + 0 ≤ m
     one n m h = omega arith
 
-pub at_first : {source : List ℕ} {l : List Symbol} {f : Makes l (TreeOf s.First)} → Rule source s.First l f → Keeping source s.First l f
+pub at_first : {source : List ℕ} {l : List Symbol} {f : Makes l (TreeOf s.First)} → Production source s.First l f → Keeping source s.First l f
 at_first {source} r.number = λ n ys run fit. single n (after n kind.Number) _ refl refl (read_int source (is_minus n.last) ys.0 run.1) (token n kind.Number refl refl refl fit)
 at_first {source} r.text = λ n ys run fit. single n (after n kind.TextLit) _ refl refl (read_text (is_minus n.last) (text_of source ys.0) run.1.0 run.1.1) (token n kind.TextLit refl refl refl fit)
 at_first r.true_literal = λ n ys run fit. single n (after n k.keyword_true) _ refl refl (read_bool (is_minus n.last) true) (token n k.keyword_true refl refl refl fit)
@@ -129,14 +129,14 @@ at_first r.inside = λ n ys run fit.
       stands = enclosed (is_minus n.last) 8 n.marks (after n k.sign_open).marks run.2.0.marks (after run.2.0 k.sign_close).marks ys.1.0 a.more c.grows b.stands;
     }
 
-pub at_arguments : {source : List ℕ} {l : List Symbol} {f : Makes l (TreeOf s.Arguments)} → Rule source s.Arguments l f → Keeping source s.Arguments l f
+pub at_arguments : {source : List ℕ} {l : List Symbol} {f : Makes l (TreeOf s.Arguments)} → Production source s.Arguments l f → Keeping source s.Arguments l f
 at_arguments r.no_arguments = λ n ys run rest. spans_none n (Unit {0}) rest.fit tt
 at_arguments r.arguments = λ n ys run rest. listed ys.0 ys.1.0 rest.no_minus (run.2 rest.fit) run.3.2
 
 marks_on : (n m own o : ℕ) → n ≤ m → m + own ≤ o → n + own ≤ o
 marks_on n m own o e f = omega arith
 
-pub at_more_arguments : {source : List ℕ} {l : List Symbol} {f : Makes l (TreeOf s.MoreArguments)} → Rule source s.MoreArguments l f → Keeping source s.MoreArguments l f
+pub at_more_arguments : {source : List ℕ} {l : List Symbol} {f : Makes l (TreeOf s.MoreArguments)} → Production source s.MoreArguments l f → Keeping source s.MoreArguments l f
 at_more_arguments r.last_argument = λ n ys run fit. spans_none n (Unit {0}) fit tt
 at_more_arguments r.more_arguments = λ n ys run fit.
     let a = token n k.sign_comma refl refl refl fit in

@@ -5,7 +5,7 @@ use Rattle.rb_trees.specs.mirror.Code.{Expr, Exprs}
 use Rattle.rb_trees.specs.mirror.Types.{TypeTree}
 use Rattle.rb_meaning_bytes.specs.tokens.Lists.{is_minus}
 use Rattle.rb_meaning_bytes.specs.grammar.Symbols as s
-use Rattle.rb_meaning_bytes.specs.grammar.Symbols.{Symbol, Terminal, The, Part, Chain, MoreChain, TreeOf, Trees, Makes, made}
+use Rattle.rb_meaning_bytes.specs.grammar.Symbols.{Symbol, Terminal, The, Nonterminal, Chain, MoreChain, TreeOf, Trees, Makes, made}
 use Rattle.rb_meaning_bytes.specs.grammar.Limits.{Nesting, after}
 use Rattle.rb_parse.proofs.printing.ReadTrees.{IsReadType, AreReadTypeNames, type_depth, AreReadExprs, marks_of_all, IsReadOutermost, IsReadStmt, AreReadStmts, IsReadReturn, IsReadBody, IsReadParam, IsReadSignature, IsReadInterface, IsReadMethod, IsReadClass, IsReadable}
 use Rattle.rb_parse.proofs.depths.States.{Ready, Moves}
@@ -52,7 +52,7 @@ abbrev pub Outside : Nesting → Type 0 → Nesting → Type 0
 Outside n P m = Ready n → n.types ≡ 0 → n.blocks ≡ 0 → Keeps n P m
 
 -- of the states before and behind a part, and its tree
-abbrev pub Good : (p : Part) → Nesting → TreeOf p → Nesting → Type 0
+abbrev pub Good : (p : Nonterminal) → Nesting → TreeOf p → Nesting → Type 0
 Good s.TheProgram n x m = Ready n → n.types ≡ 0 → n.blocks ≡ 0 → IsReadable x
 Good s.Interfaces n x m = Outside n (All IsReadInterface x) m
 Good s.AnInterface n x m = Outside n (IsReadInterface x) m
@@ -98,5 +98,5 @@ end_of source (Terminal kind ∷ l) n xs r = end_of source l (after n kind) xs.1
 end_of source (The p ∷ l) n xs r = end_of source l r.0 xs.1 r.3
 
 -- A production keeps what holds of parts.
-abbrev pub Keeping : List ℕ → (p : Part) (l : List Symbol) → Makes l (TreeOf p) → Type 0
+abbrev pub Keeping : List ℕ → (p : Nonterminal) (l : List Symbol) → Makes l (TreeOf p) → Type 0
 Keeping source p l f = (n : Nesting) (ys : Trees l) (r : Run source l n ys) → Good p n (made l (TreeOf p) f ys) (end_of source l n ys r)

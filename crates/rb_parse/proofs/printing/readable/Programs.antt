@@ -4,9 +4,9 @@ use Rattle.std.proofs.lemmas.List.Elements.{All-nil, All-cons}
 use Rattle.rb_trees.specs.declared.tokens.TokenKind.TheVariants as kind
 use Rattle.rb_meaning_bytes.specs.grammar.Kinds as k
 use Rattle.rb_meaning_bytes.specs.grammar.Symbols as s
-use Rattle.rb_meaning_bytes.specs.grammar.Symbols.{Symbol, Part, TreeOf, Makes}
-use Rattle.rb_meaning_bytes.specs.grammar.Rules as r
-use Rattle.rb_meaning_bytes.specs.grammar.Rules.{Rule}
+use Rattle.rb_meaning_bytes.specs.grammar.Symbols.{Symbol, Nonterminal, TreeOf, Makes}
+use Rattle.rb_meaning_bytes.specs.grammar.Productions as r
+use Rattle.rb_meaning_bytes.specs.grammar.Productions.{Production}
 use Rattle.rb_meaning_bytes.specs.grammar.Limits.{Nesting, after}
 use Rattle.rb_parse.proofs.printing.ReadTrees.{IsReadParam, IsReadSignature, IsReadInterface, IsReadMethod, IsReadClass}
 use Rattle.rb_parse.proofs.depths.States.{afters, Ready, Goes, goes_on, stills}
@@ -29,67 +29,67 @@ outside_then a g flat outside = let b = g a.ready (a.types ∙ flat) (a.blocks �
 no_types : (n : ℕ) → n ≡ 0 → n ≤ 64
 no_types n h = omega arith
 
-pub at_param : {source : List ℕ} {l : List Symbol} {f : Makes l (TreeOf s.AParam)} → Rule source s.AParam l f → Keeping source s.AParam l f
+pub at_param : {source : List ℕ} {l : List Symbol} {f : Makes l (TreeOf s.AParam)} → Production source s.AParam l f → Keeping source s.AParam l f
 at_param r.param = λ n ys run ready flat.
     let a = stills (kind.Name ∷ k.sign_colon ∷ []) refl n ready in
     let b = run.2.2.2 a.ready (no_types (afters n (kind.Name ∷ k.sign_colon ∷ [])).types (a.types ∙ flat)) in
     record { goes = goes_on a b.moves.goes; read = (run.1, type_read b) }
 
-pub at_params : {source : List ℕ} {l : List Symbol} {f : Makes l (TreeOf s.Params)} → Rule source s.Params l f → Keeping source s.Params l f
+pub at_params : {source : List ℕ} {l : List Symbol} {f : Makes l (TreeOf s.Params)} → Production source s.Params l f → Keeping source s.Params l f
 at_params r.no_params = λ n ys run ready flat. record { goes = still n ready; read = All-nil IsReadParam }
 at_params r.params = λ n ys run ready flat.
     let a = run.2 ready flat in
     let b = then a.goes run.3.2 flat in
     record { goes = b.goes; read = All-cons IsReadParam ys.0 ys.1.0 a.read b.read }
 
-pub at_more_params : {source : List ℕ} {l : List Symbol} {f : Makes l (TreeOf s.MoreParams)} → Rule source s.MoreParams l f → Keeping source s.MoreParams l f
+pub at_more_params : {source : List ℕ} {l : List Symbol} {f : Makes l (TreeOf s.MoreParams)} → Production source s.MoreParams l f → Keeping source s.MoreParams l f
 at_more_params r.last_param = λ n ys run ready flat. record { goes = still n ready; read = All-nil IsReadParam }
 at_more_params r.more_params = λ n ys run ready flat.
     let a = then (stills (k.sign_comma ∷ []) refl n ready) run.2.2 flat in
     let b = then a.goes run.2.3.2 flat in
     record { goes = b.goes; read = All-cons IsReadParam ys.1.0 ys.1.1.0 a.read b.read }
 
-pub at_result : {source : List ℕ} {l : List Symbol} {f : Makes l (TreeOf s.ResultType)} → Rule source s.ResultType l f → Keeping source s.ResultType l f
+pub at_result : {source : List ℕ} {l : List Symbol} {f : Makes l (TreeOf s.ResultType)} → Production source s.ResultType l f → Keeping source s.ResultType l f
 at_result r.no_result_type = λ n ys run ready flat. record { goes = still n ready; read = λ at. (tt, omega arith) }
 at_result r.result_type = λ n ys run ready flat.
     let a = stills (k.sign_colon ∷ []) refl n ready in
     let b = run.2.2 a.ready (no_types (after n k.sign_colon).types (a.types ∙ flat)) in
     record { goes = goes_on a b.moves.goes; read = λ at. type_read b }
 
-pub at_signature : {source : List ℕ} {l : List Symbol} {f : Makes l (TreeOf s.ASignature)} → Rule source s.ASignature l f → Keeping source s.ASignature l f
+pub at_signature : {source : List ℕ} {l : List Symbol} {f : Makes l (TreeOf s.ASignature)} → Production source s.ASignature l f → Keeping source s.ASignature l f
 at_signature r.signature = λ n ys run ready flat.
     let a = then (signature_opens n ready) run.2.2.2.2 flat in
     let b = goes_on a.goes (stills (k.sign_close ∷ []) refl run.2.2.2.0 a.goes.ready) in
     let c = then b run.2.2.2.3.2.2 flat in
     record { goes = c.goes; read = (run.2.1, a.read, c.read ys.1.0.start) }
 
-pub at_signatures : {source : List ℕ} {l : List Symbol} {f : Makes l (TreeOf s.Signatures)} → Rule source s.Signatures l f → Keeping source s.Signatures l f
+pub at_signatures : {source : List ℕ} {l : List Symbol} {f : Makes l (TreeOf s.Signatures)} → Production source s.Signatures l f → Keeping source s.Signatures l f
 at_signatures r.no_signatures = λ n ys run ready flat. record { goes = still n ready; read = All-nil IsReadSignature }
 at_signatures r.more_signatures = λ n ys run ready flat.
     let a = run.2 ready flat in
     let b = then (goes_on a.goes (stills (k.sign_semicolon ∷ []) refl run.0 a.goes.ready)) run.3.2.2 flat in
     record { goes = b.goes; read = All-cons IsReadSignature ys.0 ys.1.1.0 a.read b.read }
 
-pub at_fields : {source : List ℕ} {l : List Symbol} {f : Makes l (TreeOf s.Fields)} → Rule source s.Fields l f → Keeping source s.Fields l f
+pub at_fields : {source : List ℕ} {l : List Symbol} {f : Makes l (TreeOf s.Fields)} → Production source s.Fields l f → Keeping source s.Fields l f
 at_fields r.no_fields = λ n ys run ready flat. record { goes = still n ready; read = All-nil IsReadParam }
 at_fields r.more_fields = λ n ys run ready flat.
     let a = run.2 ready flat in
     let b = then (goes_on a.goes (stills (k.sign_semicolon ∷ []) refl run.0 a.goes.ready)) run.3.2.2 flat in
     record { goes = b.goes; read = All-cons IsReadParam ys.0 ys.1.1.0 a.read b.read }
 
-pub at_interface : {source : List ℕ} {l : List Symbol} {f : Makes l (TreeOf s.AnInterface)} → Rule source s.AnInterface l f → Keeping source s.AnInterface l f
+pub at_interface : {source : List ℕ} {l : List Symbol} {f : Makes l (TreeOf s.AnInterface)} → Production source s.AnInterface l f → Keeping source s.AnInterface l f
 at_interface r.interface = λ n ys run ready flat outside.
     let a = then (interface_opens n ready) run.2.2.2.2 flat in
     record { goes = head_closes n run.2.2.2.0 outside a.goes; read = (run.2.1, a.read) }
 
-pub at_interfaces : {source : List ℕ} {l : List Symbol} {f : Makes l (TreeOf s.Interfaces)} → Rule source s.Interfaces l f → Keeping source s.Interfaces l f
+pub at_interfaces : {source : List ℕ} {l : List Symbol} {f : Makes l (TreeOf s.Interfaces)} → Production source s.Interfaces l f → Keeping source s.Interfaces l f
 at_interfaces r.no_interfaces = λ n ys run ready flat outside. record { goes = still n ready; read = All-nil IsReadInterface }
 at_interfaces r.more_interfaces = λ n ys run ready flat outside.
     let a = run.2 ready flat outside in
     let b = outside_then a.goes run.3.2 flat outside in
     record { goes = b.goes; read = All-cons IsReadInterface ys.0 ys.1.0 a.read b.read }
 
-pub at_method : {source : List ℕ} {l : List Symbol} {f : Makes l (TreeOf s.AMethod)} → Rule source s.AMethod l f → Keeping source s.AMethod l f
+pub at_method : {source : List ℕ} {l : List Symbol} {f : Makes l (TreeOf s.AMethod)} → Production source s.AMethod l f → Keeping source s.AMethod l f
 at_method r.local_method = λ n ys run ready flat outside.
     let a = run.2 ready flat in
     let b = outside_then a.goes run.3.2 flat outside in
@@ -99,27 +99,27 @@ at_method r.remote_method = λ n ys run ready flat outside.
     let b = outside_then a.goes run.2.3.2 flat outside in
     record { goes = b.goes; read = (a.read, b.read) }
 
-pub at_methods : {source : List ℕ} {l : List Symbol} {f : Makes l (TreeOf s.Methods)} → Rule source s.Methods l f → Keeping source s.Methods l f
+pub at_methods : {source : List ℕ} {l : List Symbol} {f : Makes l (TreeOf s.Methods)} → Production source s.Methods l f → Keeping source s.Methods l f
 at_methods r.no_methods = λ n ys run ready flat outside. record { goes = still n ready; read = All-nil IsReadMethod }
 at_methods r.more_methods = λ n ys run ready flat outside.
     let a = run.2 ready flat outside in
     let b = outside_then a.goes run.3.2 flat outside in
     record { goes = b.goes; read = All-cons IsReadMethod ys.0 ys.1.0 a.read b.read }
 
-pub at_class : {source : List ℕ} {l : List Symbol} {f : Makes l (TreeOf s.AClass)} → Rule source s.AClass l f → Keeping source s.AClass l f
+pub at_class : {source : List ℕ} {l : List Symbol} {f : Makes l (TreeOf s.AClass)} → Production source s.AClass l f → Keeping source s.AClass l f
 at_class r.class = λ n ys run ready flat outside.
     let a = then (class_opens n ready) run.2.2.2.2 flat in
     let b = outside_then a.goes run.2.2.2.3.2 flat outside in
     record { goes = head_closes n run.2.2.2.3.0 outside b.goes; read = (run.2.1, a.read, b.read) }
 
-pub at_classes : {source : List ℕ} {l : List Symbol} {f : Makes l (TreeOf s.Classes)} → Rule source s.Classes l f → Keeping source s.Classes l f
+pub at_classes : {source : List ℕ} {l : List Symbol} {f : Makes l (TreeOf s.Classes)} → Production source s.Classes l f → Keeping source s.Classes l f
 at_classes r.no_classes = λ n ys run ready flat outside. record { goes = still n ready; read = All-nil IsReadClass }
 at_classes r.more_classes = λ n ys run ready flat outside.
     let a = run.2 ready flat outside in
     let b = outside_then a.goes run.3.2 flat outside in
     record { goes = b.goes; read = All-cons IsReadClass ys.0 ys.1.0 a.read b.read }
 
-pub at_program : {source : List ℕ} {l : List Symbol} {f : Makes l (TreeOf s.TheProgram)} → Rule source s.TheProgram l f → Keeping source s.TheProgram l f
+pub at_program : {source : List ℕ} {l : List Symbol} {f : Makes l (TreeOf s.TheProgram)} → Production source s.TheProgram l f → Keeping source s.TheProgram l f
 at_program r.program = λ n ys run ready flat outside.
     let a = run.2 ready flat outside in
     let b = outside_then a.goes run.3.2 flat outside in

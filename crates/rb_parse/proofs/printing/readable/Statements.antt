@@ -7,9 +7,9 @@ use Rattle.rb_meaning_bytes.specs.tokens.Lists.{is_minus}
 use Rattle.rb_meaning_bytes.specs.grammar.Kinds as k
 use Rattle.rb_meaning_bytes.specs.grammar.Kinds.{is_kind, is_one_of}
 use Rattle.rb_meaning_bytes.specs.grammar.Symbols as s
-use Rattle.rb_meaning_bytes.specs.grammar.Symbols.{Symbol, Part, TreeOf, Makes}
-use Rattle.rb_meaning_bytes.specs.grammar.Rules as r
-use Rattle.rb_meaning_bytes.specs.grammar.Rules.{Rule}
+use Rattle.rb_meaning_bytes.specs.grammar.Symbols.{Symbol, Nonterminal, TreeOf, Makes}
+use Rattle.rb_meaning_bytes.specs.grammar.Productions as r
+use Rattle.rb_meaning_bytes.specs.grammar.Productions.{Production}
 use Rattle.rb_meaning_bytes.specs.grammar.Limits.{Nesting, after}
 use Rattle.rb_parse.proofs.printing.ReadTrees.{IsReadOutermost, IsReadStmt, AreReadStmts}
 use Rattle.rb_parse.proofs.depths.States.{afters, Ready, Goes, goes_on, all_still, stills}
@@ -60,7 +60,7 @@ blocked {n} {m} {o} x a g flat =
     let b = g a.ready (a.types ∙ flat) in
     record { rest = b.rest; blocks = b.blocks ∙ a.blocks; read = (same_room a.blocks b.read.0, same_stmts x a.blocks b.read.1) }
 
-pub at_statement : {source : List ℕ} {l : List Symbol} {f : Makes l (TreeOf s.Statement)} → Rule source s.Statement l f → Keeping source s.Statement l f
+pub at_statement : {source : List ℕ} {l : List Symbol} {f : Makes l (TreeOf s.Statement)} → Production source s.Statement l f → Keeping source s.Statement l f
 at_statement r.val = λ n ys run rest.
     let a = headed (k.keyword_val ∷ kind.Name ∷ k.sign_assign ∷ []) refl n run.2.2.2.0 ys.1.1.1.0 refl refl refl run.2.2.2.2 run.2.2.2.1 rest.fit.ready rest.fit.flat in
     ended a rest.fit.flat (run.2.1, a.read)
@@ -98,7 +98,7 @@ at_statement r.expression_first = λ n ys run rest.
     let b = run.3.2 a.step.fit in
     record { rest = b.rest; blocks = b.blocks ∙ a.step.blocks; read = subst (λ z. IsReadStmt z (ys.1.0 ys.0)) a.step.blocks (b.read ys.0 (outermost n run.0 ys.0 rest.no_minus a run.1)) }
 
-pub at_statement_end : {source : List ℕ} {l : List Symbol} {f : Makes l (TreeOf s.StatementEnd)} → Rule source s.StatementEnd l f → Keeping source s.StatementEnd l f
+pub at_statement_end : {source : List ℕ} {l : List Symbol} {f : Makes l (TreeOf s.StatementEnd)} → Production source s.StatementEnd l f → Keeping source s.StatementEnd l f
 at_statement_end r.alone = λ n ys run fit.
     let a = stills (k.sign_semicolon ∷ []) refl n fit.ready in
     record { rest = rested n n k.sign_semicolon refl refl fit.ready a fit.flat; blocks = a.blocks; read = λ e h. h }
@@ -106,13 +106,13 @@ at_statement_end r.assigned = λ n ys run fit.
     let a = headed (k.sign_assign ∷ []) refl n run.2.0 ys.1.0 refl fit.ready.no_fun refl run.2.2 run.2.1 fit.ready fit.flat in
     ended a fit.flat (λ e h. (h, a.read))
 
-pub at_otherwise : {source : List ℕ} {l : List Symbol} {f : Makes l (TreeOf s.Otherwise)} → Rule source s.Otherwise l f → Keeping source s.Otherwise l f
+pub at_otherwise : {source : List ℕ} {l : List Symbol} {f : Makes l (TreeOf s.Otherwise)} → Production source s.Otherwise l f → Keeping source s.Otherwise l f
 at_otherwise r.no_else = λ n ys run rest. record { rest = rest; blocks = refl; read = tt }
 at_otherwise r.«else» = λ n ys run rest.
     let a = blocked ys.1.0 (stills (k.keyword_else ∷ []) refl n rest.fit.ready) run.2.2 rest.fit.flat in
     record { rest = a.rest; blocks = a.blocks; read = a.read.1 }
 
-pub at_statements : {source : List ℕ} {l : List Symbol} {f : Makes l (TreeOf s.Statements)} → Rule source s.Statements l f → Keeping source s.Statements l f
+pub at_statements : {source : List ℕ} {l : List Symbol} {f : Makes l (TreeOf s.Statements)} → Production source s.Statements l f → Keeping source s.Statements l f
 at_statements r.no_statements = λ n ys run rest. record { rest = rest; blocks = refl; read = tt }
 at_statements r.more_statements = λ n ys run rest.
     let a = run.2 rest in
@@ -128,7 +128,7 @@ goes_of a flat = record { ready = a.rest.fit.ready; blocks = a.blocks; types = a
 one_more : (n m : ℕ) → m ≡ n + 1 → m ≡ suc n
 one_more n m h = omega arith
 
-pub at_block : {source : List ℕ} {l : List Symbol} {f : Makes l (TreeOf s.Block)} → Rule source s.Block l f → Keeping source s.Block l f
+pub at_block : {source : List ℕ} {l : List Symbol} {f : Makes l (TreeOf s.Block)} → Production source s.Block l f → Keeping source s.Block l f
 at_block r.block = λ n ys run ready flat.
     let a = block_opens n ready run.0.limits in
     let flat_in = a.types ∙ flat in
@@ -141,7 +141,7 @@ at_block r.block = λ n ys run ready flat.
       read = (subst (λ z. z ≤ 64) same run.0.limits.blocks, subst (λ z. AreReadStmts z ys.1.0) same b.read);
     }
 
-pub at_returns : {source : List ℕ} {l : List Symbol} {f : Makes l (TreeOf s.Returns)} → Rule source s.Returns l f → Keeping source s.Returns l f
+pub at_returns : {source : List ℕ} {l : List Symbol} {f : Makes l (TreeOf s.Returns)} → Production source s.Returns l f → Keeping source s.Returns l f
 at_returns r.no_return = λ n ys run ready flat. record { goes = stills [] refl n ready; read = tt }
 at_returns r.«return» = λ n ys run ready flat.
     let a = headed (k.keyword_return ∷ []) refl n run.2.0 ys.1.0 refl ready.no_fun refl run.2.2 run.2.1 ready flat in
@@ -150,7 +150,7 @@ at_returns r.«return» = λ n ys run ready flat.
 first_block : (n m : ℕ) → m ≡ n + 1 → n ≡ 0 → m ≡ 1
 first_block n m h i = omega arith
 
-pub at_body : {source : List ℕ} {l : List Symbol} {f : Makes l (TreeOf s.ABody)} → Rule source s.ABody l f → Keeping source s.ABody l f
+pub at_body : {source : List ℕ} {l : List Symbol} {f : Makes l (TreeOf s.ABody)} → Production source s.ABody l f → Keeping source s.ABody l f
 at_body r.body = λ n ys run ready flat outside.
     let a = block_opens n ready run.0.limits in
     let flat_in = a.types ∙ flat in

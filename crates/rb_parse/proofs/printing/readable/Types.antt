@@ -5,8 +5,8 @@ use Rattle.rb_trees.specs.mirror.Types.{TypeTree}
 use Rattle.rb_meaning_bytes.specs.grammar.Kinds as k
 use Rattle.rb_meaning_bytes.specs.grammar.Symbols as s
 use Rattle.rb_meaning_bytes.specs.grammar.Symbols.{Symbol, TreeOf, Makes}
-use Rattle.rb_meaning_bytes.specs.grammar.Rules as r
-use Rattle.rb_meaning_bytes.specs.grammar.Rules.{Rule}
+use Rattle.rb_meaning_bytes.specs.grammar.Productions as r
+use Rattle.rb_meaning_bytes.specs.grammar.Productions.{Production}
 use Rattle.rb_meaning_bytes.specs.grammar.Limits.{Nesting}
 use Rattle.rb_parse.proofs.printing.ReadTrees.{IsReadType, IsReadItem, AreReadTypeNames, type_depth}
 use Rattle.rb_parse.proofs.depths.States.{afters, Moves, inner}
@@ -22,7 +22,7 @@ single n m t h names a room = record { moves = a; names = names; depth = rw h (d
 depth_more : (n m d : ℕ) → m ≡ n + 1 → m + d ≤ 64 → n + suc d ≤ 64
 depth_more n m d e f = omega arith
 
-pub at_type : {source : List ℕ} {l : List Symbol} {f : Makes l (TreeOf s.AType)} → Rule source s.AType l f → Keeping source s.AType l f
+pub at_type : {source : List ℕ} {l : List Symbol} {f : Makes l (TreeOf s.AType)} → Production source s.AType l f → Keeping source s.AType l f
 at_type r.int_type = λ n ys run ready room. single n _ _ refl tt (inner n k.keyword_Int refl refl ready) room
 at_type r.bool_type = λ n ys run ready room. single n _ _ refl tt (inner n k.keyword_Bool refl refl ready) room
 at_type r.text_type = λ n ys run ready room. single n _ _ refl tt (inner n k.keyword_Text refl refl ready) room

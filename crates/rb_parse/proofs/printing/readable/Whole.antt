@@ -4,8 +4,8 @@ use Rattle.rb_trees.specs.declared.tokens.Token.{Token}
 use Rattle.rb_trees.specs.mirror.Declarations.{Program}
 use Rattle.rb_meaning_bytes.specs.tokens.Texts.{IsTokens}
 use Rattle.rb_meaning_bytes.specs.grammar.Symbols as s
-use Rattle.rb_meaning_bytes.specs.grammar.Symbols.{Symbol, Part, Chain, MoreChain, TreeOf, Trees, Makes, made}
-use Rattle.rb_meaning_bytes.specs.grammar.Rules.{Rule}
+use Rattle.rb_meaning_bytes.specs.grammar.Symbols.{Symbol, Nonterminal, Chain, MoreChain, TreeOf, Trees, Makes, made}
+use Rattle.rb_meaning_bytes.specs.grammar.Productions.{Production}
 use Rattle.rb_meaning_bytes.specs.grammar.Derives as g
 use Rattle.rb_meaning_bytes.specs.grammar.Derives.{Spells, Derives}
 use Rattle.rb_meaning_bytes.specs.grammar.Limits.{Nesting, after, nothing_open, Within}
@@ -18,7 +18,7 @@ use Rattle.rb_parse.proofs.printing.readable.Statements.{at_statement, at_statem
 use Rattle.rb_parse.proofs.printing.readable.Programs.{at_param, at_params, at_more_params, at_result, at_signature, at_signatures, at_fields, at_interface, at_interfaces, at_method, at_methods, at_class, at_classes, at_program}
 
 -- every production keeps what holds of parts
-keeps : {source : List ℕ} {l : List Symbol} (p : Part) {f : Makes l (TreeOf p)} → Rule source p l f → Keeping source p l f
+keeps : {source : List ℕ} {l : List Symbol} (p : Nonterminal) {f : Makes l (TreeOf p)} → Production source p l f → Keeping source p l f
 keeps s.TheProgram rule = at_program rule
 keeps s.Interfaces rule = at_interfaces rule
 keeps s.AnInterface rule = at_interface rule
@@ -61,7 +61,7 @@ ran source g.nothing n room h = record { run = tt; ends = refl }
 ran source (g.token {l} {ts} {xs} t d) n room h =
     let b = ran source d (after n t.kind) h.0 h.2 in
     record { run = (h.0, h.1, b.run); ends = b.ends }
-ran source (g.rule {p} {m} {l} {f} {ts} {us} {ys} {xs} rule d e) n room h =
+ran source (g.production {p} {m} {l} {f} {ts} {us} {ys} {xs} rule d e) n room h =
     let front = fit_front source n ts us h in
     let behind = room_after source n ts room front in
     let b = ran source d n room front in
