@@ -1,3 +1,5 @@
+// Boxes in trees.
+
 ghost use Rattle.std.specs.Prelude.{◌≡◌, IfOk};
 
 use crate::want::Memory;
@@ -5,7 +7,7 @@ use std::alloc::Global;
 use std::marker::Model;
 
 /// A `Box` that contracts see as the value in it, so that a tree of them is plain data.
-#[derive(Debug, Drop)]
+#[derive(Drop)]
 pub struct Boxed<T> {
     inner: Box<T>,
 }

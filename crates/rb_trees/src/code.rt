@@ -1,11 +1,12 @@
+// The trees of code: types, expressions and statements.
+
 use crate::boxes::Boxed;
 use crate::sequence::{Seq, Word};
 use crate::values::Value;
-use std::fmt;
 
 /// A type as it is written, at the position of its first token.
 #[cycle(types)]
-#[derive(Debug, Drop)]
+#[derive(Drop)]
 pub struct TypeTree {
     pub at: u32,
     pub form: TypeForm,
@@ -13,7 +14,7 @@ pub struct TypeTree {
 
 /// The forms of a type.
 #[cycle(types)]
-#[derive(Debug, Drop)]
+#[derive(Drop)]
 pub enum TypeForm {
     Int,
     Bool,
@@ -25,31 +26,8 @@ pub enum TypeForm {
     RowsOf(Boxed<TypeTree>),
 }
 
-impl fmt::Display for TypeForm {
-    fn fmt<W: fmt::Write>(&self, f: &mut fmt::Formatter<W>) -> fmt::Result {
-        match self {
-            TypeForm::Int => write!(f, "Int"),
-            TypeForm::Bool => write!(f, "Bool"),
-            TypeForm::Text => write!(f, "Text"),
-            TypeForm::Unit => write!(f, "Unit"),
-            TypeForm::Named(name) => match str::from_utf8(name.as_slice()) {
-                Ok(name) => write!(f, "{name}"),
-                Err(_) => write!(f, "a type"),
-            },
-            TypeForm::ListOf(item) => {
-                let form = &item.get().form;
-                write!(f, "List<{form}>")
-            }
-            TypeForm::RowsOf(row) => {
-                let form = &row.get().form;
-                write!(f, "Rows<{form}>")
-            }
-        }
-    }
-}
-
 /// The operators before one operand, in the order of their codes from 1.
-#[derive(Clone, Copy, Debug, PartialEq, Eq)]
+#[derive(Clone, Copy, PartialEq, Eq)]
 pub enum UnOp {
     Not,
     Neg,
@@ -58,7 +36,7 @@ pub enum UnOp {
 }
 
 /// The operators between two operands, in the order of their codes from 1.
-#[derive(Clone, Copy, Debug, PartialEq, Eq)]
+#[derive(Clone, Copy, PartialEq, Eq)]
 pub enum BinOp {
     Add,
     Sub,
@@ -77,7 +55,7 @@ pub enum BinOp {
 
 /// An expression, at the position of its defining token.
 #[cycle(exprs)]
-#[derive(Debug, Drop)]
+#[derive(Drop)]
 pub struct Expr {
     pub at: u32,
     pub form: ExprForm,
@@ -85,7 +63,7 @@ pub struct Expr {
 
 /// The forms of an expression.
 #[cycle(exprs)]
-#[derive(Debug, Drop)]
+#[derive(Drop)]
 pub enum ExprForm {
     /// A literal: an Int, a Bool or a Text.
     Lit(Value),
@@ -110,7 +88,7 @@ pub enum ExprForm {
 
 /// A statement, at the position of its defining token.
 #[cycle(stmts)]
-#[derive(Debug, Drop)]
+#[derive(Drop)]
 pub struct Stmt {
     pub at: u32,
     pub form: StmtForm,
@@ -118,7 +96,7 @@ pub struct Stmt {
 
 /// The forms of a statement.
 #[cycle(stmts)]
-#[derive(Debug, Drop)]
+#[derive(Drop)]
 pub enum StmtForm {
     Val(Word, Expr),
     Var(Word, Expr),

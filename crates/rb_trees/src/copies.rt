@@ -5,9 +5,8 @@ ghost use Rattle.std.specs.Prelude.{◌≡◌, IfOk};
 
 use crate::boxes::Boxed;
 use crate::code::{Expr, ExprForm, Stmt, StmtForm, TypeForm, TypeTree};
-use crate::declarations::{Body, Class, Interface, Method, Param, Signature};
 use crate::sequence::{Seq, Word};
-use crate::values::{Fault, Value};
+use crate::values::Value;
 use crate::want::Memory;
 use std::alloc::Global;
 
@@ -45,16 +44,6 @@ pub fn copy_values(alloc: Global, values: &[Value]) -> Result<Seq<Value>, Memory
         copies.push(copy_value(alloc, value)?)?;
     }
     Ok(copies)
-}
-
-/// A copy of a fault: the same code and text.
-pub fn copy_fault(alloc: Global, fault: &Fault) -> Result<Fault, Memory>
-    ensures { IfOk result (λ copy. copy ≡ fault.now) }
-{
-    Ok(Fault {
-        code: fault.code,
-        text: copy_word(alloc, &fault.text)?,
-    })
 }
 
 /// A copy of a type: the same tree.
@@ -118,26 +107,18 @@ fn copy_expr_form(alloc: Global, form: &ExprForm) -> Result<ExprForm, Memory>
             let (a, b) = both(copy_boxed(alloc, a), copy_boxed(alloc, b))?;
             Ok(ExprForm::Binary(*op, a, b))
         }
-        ExprForm::Field(a, name) => {
-            let (a, name) = both(copy_boxed(alloc, a), copy_word(alloc, name))?;
-            Ok(ExprForm::Field(a, name))
-        }
+        ExprForm::Field(a, name) => copy_field(alloc, copy_boxed(alloc, a)?, name),
         ExprForm::Call(a, method, args) => {
-            let (a, method) = both(copy_boxed(alloc, a), copy_word(alloc, method))?;
-            let args = copy_exprs(alloc, args.as_slice())?;
-            Ok(ExprForm::Call(a, method, args))
+            let (a, args) = both(copy_boxed(alloc, a), copy_exprs(alloc, args.as_slice()))?;
+            copy_call(alloc, a, method, args)
         }
         ExprForm::Index(a, b) => {
             let (a, b) = both(copy_boxed(alloc, a), copy_boxed(alloc, b))?;
             Ok(ExprForm::Index(a, b))
         }
-        ExprForm::New(class, args) => {
-            let (class, args) = both(copy_word(alloc, class), copy_exprs(alloc, args.as_slice()))?;
-            Ok(ExprForm::New(class, args))
-        }
+        ExprForm::New(class, args) => copy_new(alloc, class, copy_exprs(alloc, args.as_slice())?),
         ExprForm::Items(item, items) => {
-            let (item, items) = both(copy_type(alloc, item), copy_exprs(alloc, items.as_slice()))?;
-            Ok(ExprForm::Items(item, items))
+            copy_items(alloc, item, copy_exprs(alloc, items.as_slice())?)
         }
         ExprForm::Taken(step) => Ok(ExprForm::Taken(*step)),
     }
@@ -162,6 +143,36 @@ fn both<A: Drop, B: Drop>(a: Result<A, Memory>, b: Result<B, Memory>) -> Result<
     Ok((a?, b?))
 }
 
+// The forms whose last parts are copies already.
+fn copy_field(alloc: Global, object: Boxed<Expr>, name: &Word) -> Result<ExprForm, Memory>
+    ensures { IfOk result (λ copy. copy ≡ ExprForm.Field object name.now) }
+{
+    Ok(ExprForm::Field(object, copy_word(alloc, name)?))
+}
+
+fn copy_call(
+    alloc: Global,
+    receiver: Boxed<Expr>,
+    method: &Word,
+    args: Seq<Expr>,
+) -> Result<ExprForm, Memory>
+    ensures { IfOk result (λ copy. copy ≡ ExprForm.Call receiver method.now args) }
+{
+    Ok(ExprForm::Call(receiver, copy_word(alloc, method)?, args))
+}
+
+fn copy_new(alloc: Global, class: &Word, args: Seq<Expr>) -> Result<ExprForm, Memory>
+    ensures { IfOk result (λ copy. copy ≡ ExprForm.New class.now args) }
+{
+    Ok(ExprForm::New(copy_word(alloc, class)?, args))
+}
+
+fn copy_items(alloc: Global, item: &TypeTree, items: Seq<Expr>) -> Result<ExprForm, Memory>
+    ensures { IfOk result (λ copy. copy ≡ ExprForm.Items item.now items) }
+{
+    Ok(ExprForm::Items(copy_type(alloc, item)?, items))
+}
+
 /// A copy of a statement: the same tree.
 #[cycle(stmt_copies)]
 pub fn copy_stmt(alloc: Global, stmt: &Stmt) -> Result<Stmt, Memory>
@@ -176,41 +187,101 @@ fn copy_stmt_form(alloc: Global, form: &StmtForm) -> Result<StmtForm, Memory>
     ensures { IfOk result (λ copy. copy ≡ form.now) }
 {
     match form {
-        StmtForm::Val(name, value) => {
-            Ok(StmtForm::Val(copy_word(alloc, name)?, copy_expr(alloc, value)?))
-        }
-        StmtForm::Var(name, value) => {
-            Ok(StmtForm::Var(copy_word(alloc, name)?, copy_expr(alloc, value)?))
-        }
-        StmtForm::Assign(left, right) => {
-            Ok(StmtForm::Assign(copy_expr(alloc, left)?, copy_expr(alloc, right)?))
-        }
+        StmtForm::Val(name, value) => copy_val(alloc, name, value),
+        StmtForm::Var(name, value) => copy_var(alloc, name, value),
+        StmtForm::Assign(left, right) => copy_assign(alloc, left, right),
         StmtForm::Run(expr) => Ok(StmtForm::Run(copy_expr(alloc, expr)?)),
         StmtForm::Print(expr) => Ok(StmtForm::Print(copy_expr(alloc, expr)?)),
         StmtForm::Throw(text) => Ok(StmtForm::Throw(copy_expr(alloc, text)?)),
         StmtForm::If(condition, yes, no) => {
-            let yes = copy_stmts(alloc, yes.as_slice())?;
-            let no = copy_stmts(alloc, no.as_slice())?;
-            Ok(StmtForm::If(copy_expr(alloc, condition)?, yes, no))
+            let blocks = both(
+                copy_stmts(alloc, yes.as_slice()),
+                copy_stmts(alloc, no.as_slice()),
+            );
+            copy_if(alloc, condition, blocks?)
         }
         StmtForm::While(condition, block) => {
-            let block = copy_stmts(alloc, block.as_slice())?;
-            Ok(StmtForm::While(copy_expr(alloc, condition)?, block))
+            copy_while(alloc, condition, copy_stmts(alloc, block.as_slice())?)
         }
         StmtForm::For(name, list, block) => {
-            let block = copy_stmts(alloc, block.as_slice())?;
-            Ok(StmtForm::For(copy_word(alloc, name)?, copy_expr(alloc, list)?, block))
+            copy_for(alloc, name, list, copy_stmts(alloc, block.as_slice())?)
         }
         StmtForm::Try(tried, name, handler) => {
-            let tried = copy_stmts(alloc, tried.as_slice())?;
-            let handler = copy_stmts(alloc, handler.as_slice())?;
-            Ok(StmtForm::Try(tried, copy_word(alloc, name)?, handler))
+            let blocks = both(
+                copy_stmts(alloc, tried.as_slice()),
+                copy_stmts(alloc, handler.as_slice()),
+            );
+            copy_try(alloc, blocks?, name)
         }
         StmtForm::Batch(interface, root, block) => {
-            let block = copy_stmts(alloc, block.as_slice())?;
-            Ok(StmtForm::Batch(copy_word(alloc, interface)?, copy_word(alloc, root)?, block))
+            copy_batch(alloc, interface, root, copy_stmts(alloc, block.as_slice())?)
         }
     }
+}
+
+fn copy_val(alloc: Global, name: &Word, value: &Expr) -> Result<StmtForm, Memory>
+    ensures { IfOk result (λ copy. copy ≡ StmtForm.Val name.now value.now) }
+{
+    let (name, value) = both(copy_word(alloc, name), copy_expr(alloc, value))?;
+    Ok(StmtForm::Val(name, value))
+}
+
+fn copy_var(alloc: Global, name: &Word, value: &Expr) -> Result<StmtForm, Memory>
+    ensures { IfOk result (λ copy. copy ≡ StmtForm.Var name.now value.now) }
+{
+    let (name, value) = both(copy_word(alloc, name), copy_expr(alloc, value))?;
+    Ok(StmtForm::Var(name, value))
+}
+
+fn copy_assign(alloc: Global, left: &Expr, right: &Expr) -> Result<StmtForm, Memory>
+    ensures { IfOk result (λ copy. copy ≡ StmtForm.Assign left.now right.now) }
+{
+    let (left, right) = both(copy_expr(alloc, left), copy_expr(alloc, right))?;
+    Ok(StmtForm::Assign(left, right))
+}
+
+// The forms whose blocks are copies already.
+fn copy_if(
+    alloc: Global,
+    condition: &Expr,
+    blocks: (Seq<Stmt>, Seq<Stmt>),
+) -> Result<StmtForm, Memory>
+    ensures { IfOk result (λ copy. copy ≡ StmtForm.If condition.now blocks.0 blocks.1) }
+{
+    let condition = copy_expr(alloc, condition)?;
+    Ok(StmtForm::If(condition, blocks.0, blocks.1))
+}
+
+fn copy_while(alloc: Global, condition: &Expr, block: Seq<Stmt>) -> Result<StmtForm, Memory>
+    ensures { IfOk result (λ copy. copy ≡ StmtForm.While condition.now block) }
+{
+    Ok(StmtForm::While(copy_expr(alloc, condition)?, block))
+}
+
+fn copy_for(alloc: Global, name: &Word, list: &Expr, block: Seq<Stmt>) -> Result<StmtForm, Memory>
+    ensures { IfOk result (λ copy. copy ≡ StmtForm.For name.now list.now block) }
+{
+    let (name, list) = both(copy_word(alloc, name), copy_expr(alloc, list))?;
+    Ok(StmtForm::For(name, list, block))
+}
+
+fn copy_try(alloc: Global, blocks: (Seq<Stmt>, Seq<Stmt>), name: &Word) -> Result<StmtForm, Memory>
+    ensures { IfOk result (λ copy. copy ≡ StmtForm.Try blocks.0 name.now blocks.1) }
+{
+    let name = copy_word(alloc, name)?;
+    Ok(StmtForm::Try(blocks.0, name, blocks.1))
+}
+
+fn copy_batch(
+    alloc: Global,
+    interface: &Word,
+    root: &Word,
+    block: Seq<Stmt>,
+) -> Result<StmtForm, Memory>
+    ensures { IfOk result (λ copy. copy ≡ StmtForm.Batch interface.now root.now block) }
+{
+    let (interface, root) = both(copy_word(alloc, interface), copy_word(alloc, root))?;
+    Ok(StmtForm::Batch(interface, root, block))
 }
 
 /// A copy of a list of statements: the same trees in order.
@@ -221,111 +292,6 @@ pub fn copy_stmts(alloc: Global, stmts: &[Stmt]) -> Result<Seq<Stmt>, Memory>
     let mut copies = Seq::new(alloc);
     for stmt in stmts {
         copies.push(copy_stmt(alloc, stmt)?)?;
-    }
-    Ok(copies)
-}
-
-/// A copy of a body: the same tree.
-pub fn copy_body(alloc: Global, body: &Body) -> Result<Body, Memory>
-    ensures { IfOk result (λ copy. copy ≡ body.now) }
-{
-    let statements = copy_stmts(alloc, body.statements.as_slice())?;
-    let result = match &body.result {
-        None => None,
-        Some(expr) => Some(copy_expr(alloc, expr)?),
-    };
-    Ok(Body { statements, result })
-}
-
-/// A copy of a parameter or field: the same tree.
-pub fn copy_param(alloc: Global, param: &Param) -> Result<Param, Memory>
-    ensures { IfOk result (λ copy. copy ≡ param.now) }
-{
-    Ok(Param {
-        name: copy_word(alloc, &param.name)?,
-        at: param.at,
-        kind: copy_type(alloc, &param.kind)?,
-    })
-}
-
-fn copy_params(alloc: Global, params: &[Param]) -> Result<Seq<Param>, Memory>
-    ensures { IfOk result (λ copies. copies ≡ params.now) }
-{
-    let mut copies = Seq::new(alloc);
-    for param in params {
-        copies.push(copy_param(alloc, param)?)?;
-    }
-    Ok(copies)
-}
-
-/// A copy of a signature: the same tree.
-pub fn copy_signature(alloc: Global, signature: &Signature) -> Result<Signature, Memory>
-    ensures { IfOk result (λ copy. copy ≡ signature.now) }
-{
-    Ok(Signature {
-        name: copy_word(alloc, &signature.name)?,
-        at: signature.at,
-        params: copy_params(alloc, signature.params.as_slice())?,
-        result: copy_type(alloc, &signature.result)?,
-    })
-}
-
-/// A copy of an interface: the same tree.
-pub fn copy_interface(alloc: Global, interface: &Interface) -> Result<Interface, Memory>
-    ensures { IfOk result (λ copy. copy ≡ interface.now) }
-{
-    let name = copy_word(alloc, &interface.name)?;
-    let mut methods = Seq::new(alloc);
-    for signature in interface.methods.as_slice() {
-        methods.push(copy_signature(alloc, signature)?)?;
-    }
-    Ok(Interface {
-        name,
-        at: interface.at,
-        methods,
-    })
-}
-
-/// A copy of a method: the same tree.
-pub fn copy_method(alloc: Global, method: &Method) -> Result<Method, Memory>
-    ensures { IfOk result (λ copy. copy ≡ method.now) }
-{
-    Ok(Method {
-        remote: method.remote,
-        signature: copy_signature(alloc, &method.signature)?,
-        body: copy_body(alloc, &method.body)?,
-    })
-}
-
-fn copy_methods(alloc: Global, methods: &[Method]) -> Result<Seq<Method>, Memory>
-    ensures { IfOk result (λ copies. copies ≡ methods.now) }
-{
-    let mut copies = Seq::new(alloc);
-    for method in methods {
-        copies.push(copy_method(alloc, method)?)?;
-    }
-    Ok(copies)
-}
-
-/// A copy of a class: the same tree.
-pub fn copy_class(alloc: Global, class: &Class) -> Result<Class, Memory>
-    ensures { IfOk result (λ copy. copy ≡ class.now) }
-{
-    Ok(Class {
-        name: copy_word(alloc, &class.name)?,
-        at: class.at,
-        fields: copy_params(alloc, class.fields.as_slice())?,
-        methods: copy_methods(alloc, class.methods.as_slice())?,
-    })
-}
-
-/// A copy of a list of classes: the same trees in order.
-pub fn copy_classes(alloc: Global, classes: &[Class]) -> Result<Seq<Class>, Memory>
-    ensures { IfOk result (λ copies. copies ≡ classes.now) }
-{
-    let mut copies = Seq::new(alloc);
-    for class in classes {
-        copies.push(copy_class(alloc, class)?)?;
     }
     Ok(copies)
 }

@@ -1,8 +1,10 @@
+// The trees of programs and of what they declare.
+
 use crate::code::{Expr, Stmt, TypeTree};
 use crate::sequence::{Seq, Word};
 
 /// A program: interfaces of remote objects, classes of local ones, and `main`.
-#[derive(Debug, Drop)]
+#[derive(Drop)]
 pub struct Program {
     pub interfaces: Seq<Interface>,
     pub classes: Seq<Class>,
@@ -14,7 +16,7 @@ pub struct Program {
 }
 
 /// An interface of remote objects.
-#[derive(Debug, Drop)]
+#[derive(Drop)]
 pub struct Interface {
     pub name: Word,
     pub at: u32,
@@ -22,7 +24,7 @@ pub struct Interface {
 }
 
 /// A method's name, parameters and result type.
-#[derive(Debug, Drop)]
+#[derive(Drop)]
 pub struct Signature {
     pub name: Word,
     pub at: u32,
@@ -31,7 +33,7 @@ pub struct Signature {
 }
 
 /// A parameter of a method, or a field of a class.
-#[derive(Debug, Drop)]
+#[derive(Drop)]
 pub struct Param {
     pub name: Word,
     pub at: u32,
@@ -39,7 +41,7 @@ pub struct Param {
 }
 
 /// A class: its fields and methods in order.
-#[derive(Debug, Drop)]
+#[derive(Drop)]
 pub struct Class {
     pub name: Word,
     pub at: u32,
@@ -48,7 +50,7 @@ pub struct Class {
 }
 
 /// A method of a class; a `remote` one may hold a batch.
-#[derive(Debug, Drop)]
+#[derive(Drop)]
 pub struct Method {
     pub remote: bool,
     pub signature: Signature,
@@ -56,7 +58,7 @@ pub struct Method {
 }
 
 /// The body of a method or of `main`: statements, and the expression of its `return`, if any.
-#[derive(Debug, Drop)]
+#[derive(Drop)]
 pub struct Body {
     pub statements: Seq<Stmt>,
     pub result: Option<Expr>,

@@ -1,9 +1,11 @@
+// What scripts give.
+
 use crate::sequence::Seq;
 use crate::values::{Fault, Value};
 
 /// What a block of a script gave: its entries in order, and the fault that ended it, if any.
 #[cycle(nodes)]
-#[derive(Debug, Drop)]
+#[derive(Drop)]
 pub struct Node {
     pub entries: Seq<Entry>,
     pub fault: Option<NodeFault>,
@@ -11,7 +13,7 @@ pub struct Node {
 
 /// What one step gave.
 #[cycle(nodes)]
-#[derive(Debug, Drop)]
+#[derive(Drop)]
 pub enum Entry {
     /// A kept value.
     Value(Value),
@@ -22,7 +24,7 @@ pub enum Entry {
 }
 
 /// The fault of a node: the step and the position in the source that it stands at.
-#[derive(Debug, Drop)]
+#[derive(Drop)]
 pub struct NodeFault {
     pub step: u32,
     pub at: u32,

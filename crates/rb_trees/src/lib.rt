@@ -25,9 +25,8 @@ mod want;
 pub use boxes::Boxed;
 pub use code::{BinOp, Expr, ExprForm, Stmt, StmtForm, TypeForm, TypeTree, UnOp};
 pub use copies::{
-    copy_body, copy_class, copy_classes, copy_expr, copy_exprs, copy_fault, copy_interface,
-    copy_method, copy_param, copy_signature, copy_stmt, copy_stmts, copy_type, copy_type_form,
-    copy_value, copy_values, copy_word,
+    copy_expr, copy_exprs, copy_stmt, copy_stmts, copy_type, copy_type_form, copy_value,
+    copy_values, copy_word,
 };
 pub use declarations::{Body, Class, Interface, Method, Param, Program, Signature};
 pub use forests::{Entry, Node, NodeFault};
@@ -42,6 +41,3 @@ pub use tokens::{Token, TokenKind};
 pub use typing::TypeError;
 pub use values::{Fault, Value};
 pub use want::Memory;
-
-#[cfg(test)]
-mod tests;

@@ -1,7 +1,9 @@
+// How running code ends.
+
 use crate::values::{Fault, Value};
 
 /// A fault of running code, with the position of the node that gave it, and whether it is remote.
-#[derive(Debug, Drop)]
+#[derive(Drop)]
 pub struct Raised {
     pub fault: Fault,
     pub at: u32,
@@ -9,7 +11,7 @@ pub struct Raised {
 }
 
 /// How a program ends: by the value of `main`, if it has one, or by a fault at a position.
-#[derive(Debug, Drop)]
+#[derive(Drop)]
 pub enum Ending {
     Done(Option<Value>),
     Faulted(Fault, u32),

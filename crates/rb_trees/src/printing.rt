@@ -13,8 +13,6 @@ mod declarations;
 mod expressions;
 mod operators;
 mod statements;
-#[cfg(test)]
-mod tests;
 mod types;
 mod words;
 

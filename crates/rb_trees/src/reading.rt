@@ -1,3 +1,5 @@
+// Why a text isn't read.
+
 use crate::want::Memory;
 use thiserror::Error;
 

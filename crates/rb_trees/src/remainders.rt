@@ -1,9 +1,11 @@
+// What a batch leaves to the client.
+
 use crate::code::{Expr, Stmt};
 use crate::scripts::Script;
 use crate::sequence::{Seq, Word};
 
 /// A part of a batch's remainder: what the client still does, on the node that the script gave.
-#[derive(Debug, Drop)]
+#[derive(Drop)]
 pub enum Part {
     /// A statement, with a Taken in place of each remote expression; the steps that it takes,
     /// in order of evaluation, each with the kind that its entry must have.
@@ -40,7 +42,7 @@ pub enum Part {
 
 /// The division of a batch: its number, its position, the names of its inputs, its script and its
 /// remainder.
-#[derive(Debug, Drop)]
+#[derive(Drop)]
 pub struct Split {
     pub batch: u32,
     pub at: u32,

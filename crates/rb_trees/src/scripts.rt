@@ -1,10 +1,12 @@
+// The trees of scripts.
+
 use crate::boxes::Boxed;
 use crate::code::{BinOp, UnOp};
 use crate::sequence::{Seq, Word};
 use crate::values::Value;
 
 /// A script: the number of its inputs, and its steps.
-#[derive(Debug, Drop)]
+#[derive(Drop)]
 pub struct Script {
     pub inputs: u8,
     pub body: Seq<Step>,
@@ -12,7 +14,7 @@ pub struct Script {
 
 /// A step, with its number in the script and its position in the source.
 #[cycle(steps)]
-#[derive(Debug, Drop)]
+#[derive(Drop)]
 pub struct Step {
     pub id: u32,
     pub at: u32,
@@ -21,7 +23,7 @@ pub struct Step {
 
 /// The forms of a step.
 #[cycle(steps)]
-#[derive(Debug, Drop)]
+#[derive(Drop)]
 pub enum StepForm {
     /// Performs the expression, and gives no entry.
     Do(SExpr),
@@ -45,7 +47,7 @@ pub enum StepForm {
 }
 
 /// An expression of a script. Operators and calls have their position in the source.
-#[derive(Debug, Drop)]
+#[derive(Drop)]
 pub enum SExpr {
     /// A literal: an Int, a Bool or a Text.
     Lit(Value),

@@ -1,23 +1,25 @@
+// Services, and their texts.
+
 use crate::declarations::Class;
 use crate::sequence::{Seq, Word};
 use crate::values::Value;
 
 /// A service: its classes, and the number of the root object.
-#[derive(Debug, Drop)]
+#[derive(Drop)]
 pub struct Service {
     pub classes: Seq<Class>,
     pub root: u32,
 }
 
 /// An object: its class, and its fields in order of declaration.
-#[derive(Debug, Drop)]
+#[derive(Drop)]
 pub struct Object {
     pub class: Word,
     pub fields: Seq<(Word, Value)>,
 }
 
 /// The text of a service as it was read.
-#[derive(Debug, Drop)]
+#[derive(Drop)]
 pub struct ServiceText {
     pub classes: Seq<Class>,
     pub objects: Seq<ObjectText>,
@@ -25,7 +27,7 @@ pub struct ServiceText {
 }
 
 /// An object as a service's text writes it, at the position of its class's name.
-#[derive(Debug, Drop)]
+#[derive(Drop)]
 pub struct ObjectText {
     pub number: u64,
     pub class: Word,
@@ -34,7 +36,7 @@ pub struct ObjectText {
 }
 
 /// A field's value as a service's text writes it.
-#[derive(Debug, Drop)]
+#[derive(Drop)]
 pub enum Literal {
     Int(i64),
     Bool(bool),

@@ -1,3 +1,5 @@
+// Tokens of a text.
+
 /// The kinds of tokens. A keyword or sign is numbered by its place in the language's list, from 0.
 #[derive(Clone, Copy, Debug, PartialEq, Eq)]
 pub enum TokenKind {
@@ -9,7 +11,7 @@ pub enum TokenKind {
 }
 
 /// A token: its kind, and its slice of the text by byte offsets.
-#[derive(Clone, Copy, Debug, PartialEq, Eq)]
+#[derive(Clone, Copy, PartialEq, Eq)]
 pub struct Token {
     pub kind: TokenKind,
     /// The offset of its first byte.

@@ -1,9 +1,12 @@
+// Why a program or a service isn't typed.
+
 use crate::code::TypeForm;
 use crate::want::Memory;
+use std::fmt;
 use thiserror::Error;
 
 /// Why a program or a service isn't typed: the first violation, at a position.
-#[derive(Debug, Drop, Error)]
+#[derive(Drop, Error)]
 pub enum TypeError {
     /// A name that isn't declared or isn't in scope, or `this` outside of a method.
     #[error("nothing of the name at offset {0} is known there")]
@@ -12,7 +15,7 @@ pub enum TypeError {
     #[error("the name at offset {0} is taken")]
     NameTaken(u32),
     /// An expression of a type that isn't wanted there, with that type.
-    #[error("the expression at offset {0} has the type {1}, where another is wanted")]
+    #[error("the expression at offset {0} has another type than is wanted")]
     WrongType(u32, TypeForm),
     /// A call or a `new` with another count of arguments than is declared.
     #[error("the call at offset {0} has a wrong count of arguments")]
@@ -31,6 +34,13 @@ pub enum TypeError {
     NotAllowedHere(u32),
     #[error("out of memory")]
     Memory,
+}
+
+// Its message: a derived text would want one of each type.
+impl fmt::Debug for TypeError {
+    fn fmt<W: fmt::Write>(&self, f: &mut fmt::Formatter<W>) -> fmt::Result {
+        write!(f, "{self}")
+    }
 }
 
 impl From<Memory> for TypeError {

@@ -1,7 +1,9 @@
+// Values and faults.
+
 use crate::sequence::{Seq, Word};
 
 /// A value of running code.
-#[derive(Debug, Drop)]
+#[derive(Drop)]
 pub enum Value {
     Unit,
     /// A 64-bit two's complement number.
@@ -20,7 +22,7 @@ pub enum Value {
 }
 
 /// Why code ended early: a code from 1 to 12, and a text that is empty but for code 8, Thrown.
-#[derive(Debug, Drop)]
+#[derive(Drop)]
 pub struct Fault {
     pub code: u8,
     pub text: Word,

@@ -15,7 +15,7 @@ use rb_trees::{TypeError, TypeForm, TypeTree, Value, Word, copy_type_form};
 use std::alloc::Global;
 
 /// The type of an expression, at the expression's position.
-#[derive(Debug, Drop)]
+#[derive(Drop)]
 pub struct Placed {
     pub at: u32,
     pub kind: TypeForm,
