@@ -1,5 +1,6 @@
 -- What the code finds at the head of a text, stands there.
 use Rattle.std.proofs.Common.{◌≡◌, ℕ, zero, suc, ◌+◌, ◌<◌, ◌≤◌, Bool, true, false, ◌&&◌, cond, eqb, List, [], ◌∷◌, ◌++◌, length, take, drop, refl, sym, ap, subst, ◌∙◌, arith, Option, None, Some, add-one, ◌⊎◌, inl, inr, append_assoc, length-append}
+use Rattle.std.proofs.lemmas.Bool.{and_parts}
 use Rattle.std.proofs.lemmas.Bool.Decides.{nat_tests}
 use Rattle.std.proofs.lemmas.List.Sums.{prefix_len-le-length}
 use Rattle.std.specs.List.{list_all, prefix_len}
@@ -24,7 +25,7 @@ use Rattle.rb_lex.specs.declared.heads.Head.TheVariants.{Skip, Take, Large, Long
 use Rattle.rb_lex.specs.Classes.{class_of}
 use Rattle.rb_lex.specs.Ends.{text_end}
 use Rattle.rb_lex.specs.Heads.{head_of, head_by, word_kind, keyword_or_name, text_head, other_head, one_sign, sign_or}
-use Rattle.rb_lex.proofs.Slices.{shows_at, told_by, slash_class, quote_class, separator_class, not_empty, word_formed, and_both}
+use Rattle.rb_lex.proofs.Slices.{shows_at, told_by, slash_class, quote_class, separator_class, not_empty, word_formed}
 use Rattle.rb_lex.proofs.Ended.{Ended, Closed, ended, body_closes, plain_apart}
 
 -- a fault at a place that is written in another way
@@ -224,7 +225,7 @@ eqb_is a b h = grind (arith, nat_tests)
 
 pairs_by : (minus : Bool) (at a b : ℕ) (rest : List ℕ) → class_of a ≡ classes.Other → (both : Bool) → (eqb a 47 && eqb b 47) ≡ both
     → Finds minus at (a ∷ b ∷ rest) (cond both (Skip (1 + prefix_len is_in_line rest)) (sign_or (place_in signs (a ∷ b ∷ [])) 1 (one_sign (a ∷ b ∷ rest))))
-pairs_by minus at a b rest h true e = let p = and_both (eqb a 47) (eqb b 47) e in comment_finds minus at a b rest (eqb_is a 47 p.0) (eqb_is b 47 p.1)
+pairs_by minus at a b rest h true e = let p = and_parts (eqb a 47) (eqb b 47) e in comment_finds minus at a b rest (eqb_is a 47 p.0) (eqb_is b 47 p.1)
 pairs_by minus at a b rest h false e =
     two_finds minus at a b rest h (λ c. let f = c.1 in let p : a ≡ 47 = cc in let q : b ≡ 47 = cc in let u : eqb a 47 ≡ true = ap (λ x. eqb x 47) p in let v : eqb b 47 ≡ true = ap (λ x. eqb x 47) q in cc)
     (place_in signs (a ∷ b ∷ [])) refl

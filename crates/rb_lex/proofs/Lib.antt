@@ -7,3 +7,4 @@ pub mod Found
 pub mod Turns
 pub mod Unique
 pub mod Places
+pub mod Total

@@ -8,7 +8,7 @@ use Rattle.rb_trees.specs.declared.tokens.Token.{Token}
 use Rattle.rb_trees.specs.declared.tokens.TokenKind.{TokenKind}
 use Rattle.rb_trees.specs.declared.tokens.TokenKind.TheVariants as kinds
 use Rattle.rb_trees.specs.declared.reading.LexError.{LexError}
-use Rattle.rb_trees.specs.declared.reading.LexError.TheVariants.{BadByte, OpenText, NumberTooLarge, TooLong, NotUtf8, Memory}
+use Rattle.rb_trees.specs.declared.reading.LexError.TheVariants.{TooLong, NotUtf8}
 use Rattle.rb_meaning_bytes.specs.tokens.Bytes.{is_in_line}
 use Rattle.rb_meaning_bytes.specs.tokens.Begins.{Begins, Skips, separator, comment}
 use Rattle.rb_meaning_bytes.specs.tokens.Faults.{Faults, WithinLimits}
@@ -16,7 +16,9 @@ use Rattle.rb_meaning_bytes.specs.tokens.Lists.{Gap, none, Stands, IsToken, Toke
 use Rattle.rb_meaning_bytes.specs.tokens.Lists as lists
 use Rattle.rb_meaning_bytes.specs.tokens.Texts.{Outcome, Lexed, IsRefusal, longest_text, too_long, not_utf8, stands}
 use Rattle.rb_meaning_bytes.specs.tokens.Lexes.{Lexes, with_front, done, skip, token, fault}
-use Rattle.rb_lex.specs.Answers.{Gives, Told, Reads}
+use Rattle.rb_trees.specs.Outcome.{Tells, Gives}
+use Rattle.rb_trees.specs.Reading.{lex_refusal}
+use Rattle.rb_trees.proofs.OutcomeWords.{tells_on, gives_one}
 use Rattle.rb_lex.proofs.Unique.{one_outcome, begins_size}
 
 -- from rests to places
@@ -159,25 +161,16 @@ ordered_read (read n v d) m u = d
 pub both_ways : (text : List ℕ) → length text ≤ longest_text → IsUtf8 text → (o : Outcome) → Lexed text o ↔ Lexes false 0 text o
 both_ways text l u o = (λ d. ordered_read (ordered text o d) l u, λ d. read_lexed text o l u d)
 
--- from what the inner function reads to what is answered
+-- what is answered, from rest to rest and then by places
 
-pub told : (text : List ℕ) (answer : Outcome) → length text ≤ longest_text → IsUtf8 text → Reads answer text → Told answer text
-told text (Ok list) l u d = read_lexed text (Ok list) l u d
-told text (Err (BadByte at)) l u d = read_lexed text (Err (BadByte at)) l u d
-told text (Err (OpenText at)) l u d = read_lexed text (Err (OpenText at)) l u d
-told text (Err (NumberTooLarge at)) l u d = read_lexed text (Err (NumberTooLarge at)) l u d
-told text (Err (TooLong at)) l u d = read_lexed text (Err (TooLong at)) l u d
-told text (Err (NotUtf8 at)) l u d = read_lexed text (Err (NotUtf8 at)) l u d
-told text (Err Memory) l u d = tt
+abbrev pub Told : Outcome → List ℕ → Type 0
+Told answer text = Tells (λ (tokens : List Token). tokens) lex_refusal answer (Lexed text)
 
-pub given : (text : List ℕ) (answer : Outcome) → Told answer text → (outcome : Outcome) → Lexed text outcome → Gives answer outcome
-given text (Ok list) d outcome e = one_lexed text _ outcome d e
-given text (Err (BadByte at)) d outcome e = one_lexed text (Err (BadByte at)) outcome d e
-given text (Err (OpenText at)) d outcome e = one_lexed text (Err (OpenText at)) outcome d e
-given text (Err (NumberTooLarge at)) d outcome e = one_lexed text (Err (NumberTooLarge at)) outcome d e
-given text (Err (TooLong at)) d outcome e = one_lexed text (Err (TooLong at)) outcome d e
-given text (Err (NotUtf8 at)) d outcome e = one_lexed text (Err (NotUtf8 at)) outcome d e
-given text (Err Memory) d outcome e = tt
+pub told : (text : List ℕ) (answer : Outcome) → length text ≤ longest_text → IsUtf8 text → Tells (λ (tokens : List Token). tokens) lex_refusal answer (Lexes false 0 text) → Told answer text
+told text answer l u d = tells_on (λ tokens. tokens) lex_refusal (Lexes false 0 text) (Lexed text) (λ o e. read_lexed text o l u e) answer d
+
+pub given : (text : List ℕ) (answer : Outcome) → Told answer text → (outcome : Outcome) → Lexed text outcome → Gives (λ (tokens : List Token). tokens) lex_refusal answer outcome
+given text answer d outcome e = gives_one (λ tokens. tokens) lex_refusal (Lexed text) outcome (λ o h. one_lexed text outcome o e h) answer d
 
 -- the tokens one by one
 

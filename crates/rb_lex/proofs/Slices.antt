@@ -1,5 +1,6 @@
 -- What the form of a slice tells by the class of its first byte.
 use Rattle.std.proofs.Common.{◌≡◌, ℕ, suc, ◌+◌, ◌<◌, Bool, true, false, not, ◌&&◌, cond, eqb, ltb, List, [], ◌∷◌, ◌++◌, length, refl, sym, ap, subst, ◌∙◌, arith, Option, None, Some}
+use Rattle.std.proofs.lemmas.Bool.{and_parts}
 use Rattle.std.proofs.lemmas.Bool.Decides.{nat_tests}
 use Rattle.std.proofs.lemmas.Slice.Eq.{bytes_eq-Decides}
 use Rattle.std.specs.List.{list_all, position_or_len}
@@ -37,50 +38,39 @@ unfolding class_of is_separator is_letter is_digit
 slash_class = refl
 
 -- what a class tells, by all tests in their order
-abbrev pub Tells : Class → ℕ → Type 0
-Tells classes.Separator b = is_separator b ≡ true
-Tells classes.Letter b = is_letter b ≡ true
-Tells classes.Digit b = is_digit b ≡ true
-Tells classes.Quote b = b ≡ 34
-Tells classes.Other b = Unit {0}
+abbrev pub ClassTells : Class → ℕ → Type 0
+ClassTells classes.Separator b = is_separator b ≡ true
+ClassTells classes.Letter b = is_letter b ≡ true
+ClassTells classes.Digit b = is_digit b ≡ true
+ClassTells classes.Quote b = b ≡ 34
+ClassTells classes.Other b = Unit {0}
 
-class_by : (b : ℕ) (s l d q : Bool) → is_separator b ≡ s → is_letter b ≡ l → is_digit b ≡ d → eqb b 34 ≡ q → Tells (cond s classes.Separator (cond l classes.Letter (cond d classes.Digit (cond q classes.Quote classes.Other)))) b
+class_by : (b : ℕ) (s l d q : Bool) → is_separator b ≡ s → is_letter b ≡ l → is_digit b ≡ d → eqb b 34 ≡ q → ClassTells (cond s classes.Separator (cond l classes.Letter (cond d classes.Digit (cond q classes.Quote classes.Other)))) b
 class_by b true l d q h1 h2 h3 h4 = h1
 class_by b false true d q h1 h2 h3 h4 = h2
 class_by b false false true q h1 h2 h3 h4 = h3
 class_by b false false false true h1 h2 h3 h4 = grind (arith, nat_tests)
 class_by b false false false false h1 h2 h3 h4 = tt
 
-pub class_tells : (b : ℕ) → Tells (class_of b) b
+pub class_tells : (b : ℕ) → ClassTells (class_of b) b
 unfolding class_of
 class_tells b = class_by b (is_separator b) (is_letter b) (is_digit b) (eqb b 34) refl refl refl refl
 
-pub told_by : (b : ℕ) (k : Class) → class_of b ≡ k → Tells k b
-told_by b k h = subst (λ c. Tells c b) h (class_tells b)
+pub told_by : (b : ℕ) (k : Class) → class_of b ≡ k → ClassTells k b
+told_by b k h = subst (λ c. ClassTells c b) h (class_tells b)
 
 -- a word that stands in a table passes the test that all of the table pass
-
-and_first : (a b : Bool) → (a && b) ≡ true → a ≡ true
-and_first true b h = refl
-and_first false b h = h
-
-and_second : (a b : Bool) → (a && b) ≡ true → b ≡ true
-and_second true b h = h
-and_second false b h = cc
-
-pub and_both : (a b : Bool) → (a && b) ≡ true → (a ≡ true) × (b ≡ true)
-and_both a b h = (and_first a b h, and_second a b h)
 
 module _ (test : List ℕ → Bool) (word : List ℕ) where
   first_by : (s : List ℕ) (table : List (List ℕ)) (e : Bool) → bytes_eq s word ≡ e → (test s && list_all test table) ≡ true
       → ltb (cond (not e) (1 + position_or_len (λ s. bytes_eq s word) table) 0) (suc (length table)) ≡ true
       → (ltb (position_or_len (λ s. bytes_eq s word) table) (length table) ≡ true → test word ≡ true) → test word ≡ true
-  first_by s table true h a l f = ap test (sym ((bytes_eq-Decides s word).0 h)) ∙ and_first (test s) _ a
+  first_by s table true h a l f = ap test (sym ((bytes_eq-Decides s word).0 h)) ∙ (and_parts (test s) _ a).0
   first_by s table false h a l f = f (grind (arith, nat_tests))
 
   stands : (table : List (List ℕ)) → list_all test table ≡ true → ltb (position_or_len (λ s. bytes_eq s word) table) (length table) ≡ true → test word ≡ true
   stands [] a l = cc
-  stands (s ∷ table) a l = first_by s table (bytes_eq s word) refl a l (stands table (and_second (test s) _ a))
+  stands (s ∷ table) a l = first_by s table (bytes_eq s word) refl a l (stands table (and_parts (test s) _ a).1)
 
   placed_by : (table : List (List ℕ)) (place n : ℕ) (b : Bool) → ltb (position_or_len (λ s. bytes_eq s word) table) (length table) ≡ b → list_all test table ≡ true
       → cond b (Some place) None ≡ Some n → test word ≡ true
@@ -103,7 +93,7 @@ words = refl
 
 word_is : (w : List ℕ) → is_word w ≡ true → IsWord w
 word_is [] h = cc
-word_is (b ∷ bs) h = and_both (is_letter b) (list_all is_word_byte bs) h
+word_is (b ∷ bs) h = and_parts (is_letter b) (list_all is_word_byte bs) h
 
 pub keyword_word : (w : List ℕ) (n : ℕ) → place_in keywords w ≡ Some n → IsWord w
 keyword_word w n h = word_is w (placed is_word w keywords n words h)

@@ -1,4 +1,4 @@
-pub mod Answers
 pub mod Classes
 pub mod Ends
 pub mod Heads
+pub mod Laws

@@ -1,3 +1,5 @@
+// Classes of bytes, and runs of them.
+
 ghost use Rattle.std.specs.Prelude.{◌≡◌, ◌≤◌, ◌+◌, drop, length};
 ghost use Rattle.std.specs.List.{prefix_len};
 ghost use Rattle.rb_meaning_bytes.specs.tokens.Bytes.{is_letter, is_digit, is_word_byte, is_in_line, is_separator, is_escaped};

@@ -1,3 +1,5 @@
+// What a text begins with.
+
 ghost use Rattle.std.specs.Prelude.{◌≡◌, ◌≤◌, ◌<◌, ◌+◌, false, length};
 ghost use Rattle.rb_lex.specs.Heads.{head_of, HeadWithin, word_kind, number_head, text_head, other_head, one_sign};
 ghost use Rattle.rb_lex.specs.Ends.{text_end};

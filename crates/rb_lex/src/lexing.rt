@@ -1,8 +1,11 @@
-ghost use Rattle.std.specs.Prelude.{◌≡◌, ◌≤◌, ◌↔◌, IfOk, All, IsUtf8, false, length};
+// From a text to its tokens.
+
+ghost use Rattle.std.specs.Prelude.{◌≡◌, ◌≤◌, IfOk, All, false, length};
+ghost use Rattle.rb_trees.specs.Outcome.{Tells, Gives};
+ghost use Rattle.rb_trees.specs.Reading.{lex_refusal};
 ghost use Rattle.rb_meaning_bytes.specs.tokens.Lexes.{Lexes};
 ghost use Rattle.rb_meaning_bytes.specs.tokens.Lists.{IsToken, Stands, slice, is_minus};
 ghost use Rattle.rb_meaning_bytes.specs.tokens.Texts.{Outcome, Lexed, longest_text};
-ghost use Rattle.rb_lex.specs.Answers.{Gives, Told, Reads};
 
 use crate::bytes::after;
 use crate::heads::{Head, head_at};
@@ -18,15 +21,11 @@ const LONGEST_TEXT: usize = 1_048_576;
 /// `Memory` may come at any time, and says nothing of the source.
 pub fn lex(alloc: Global, source: &[u8]) -> Result<Seq<Token>, LexError>
     // What is answered, the source has: these tokens, or this first fault.
-    ensures told { Told result source.now }
-    // What the source has is answered, and it has one list of tokens, or one first fault.
-    ensures only { (outcome : Outcome) → Lexed source.now outcome → Gives result outcome }
-    ensures once { (one : Outcome) → (other : Outcome) → Lexed source.now one → Lexed source.now other → one ≡ other }
-
+    ensures told { Tells (λ tokens. tokens) lex_refusal result (Lexed source.now) }
+    // What the source has is answered.
+    ensures only { (outcome : Outcome) → Lexed source.now outcome → Gives (λ tokens. tokens) lex_refusal result outcome }
     // Each token stands in the source, which has its slice.
     ensures each_token { IfOk result (λ tokens. All (λ token. IsToken source.now token) tokens) }
-    // The outcome, from rest to rest.
-    ensures rests { length source.now ≤ longest_text → IsUtf8 source.now → (outcome : Outcome) → (Lexed source.now outcome ↔ Lexes false 0 source.now outcome) }
 {
     if source.len() > LONGEST_TEXT {
         return Err(LexError::TooLong(LONGEST_TEXT as u32));
@@ -40,7 +39,7 @@ pub fn lex(alloc: Global, source: &[u8]) -> Result<Seq<Token>, LexError>
 /// The tokens of a text that isn't too long, or its first fault.
 fn tokens(alloc: Global, text: &[u8]) -> Result<Seq<Token>, LexError>
     requires { length text.now ≤ longest_text }
-    ensures { Reads result text.now }
+    ensures { Tells (λ tokens. tokens) lex_refusal result (Lexes false 0 text.now) }
 {
     let mut list = Seq::new(alloc);
     let mut minus = false;

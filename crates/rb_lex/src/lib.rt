@@ -5,13 +5,13 @@
 
 mod bytes;
 mod heads;
+mod laws;
 mod lexing;
 mod literals;
 mod numbers;
 mod tables;
-#[cfg(test)]
-mod tests;
 
+pub use laws::{every_text_has_an_outcome, outcomes_are_found_by_rests, texts_have_one_outcome};
 pub use lexing::{lex, token_slice};
 pub use literals::text_value;
 pub use numbers::{capped_value, number_value};

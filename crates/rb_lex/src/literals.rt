@@ -1,3 +1,5 @@
+// Text literals: where they end, and their values.
+
 ghost use Rattle.std.specs.Prelude.{◌≡◌, ◌≤◌, ◌<◌, ◌+◌, false, length, IfOk};
 ghost use Rattle.rb_meaning_bytes.specs.tokens.Bytes.{makes_escape};
 ghost use Rattle.rb_meaning_bytes.specs.tokens.Values.{text_value, escape_value, unescaped};

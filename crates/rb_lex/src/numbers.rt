@@ -1,3 +1,5 @@
+// Numbers: their values.
+
 ghost use Rattle.std.specs.Prelude.{◌≡◌, ◌≤◌, ◌<◌, ◌+◌, ◌^◌, length, min};
 ghost use Rattle.rb_meaning_bytes.specs.tokens.Values.{number_value, int_of};
 

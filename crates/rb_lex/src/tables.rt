@@ -1,3 +1,5 @@
+// The keywords and the signs.
+
 ghost use Rattle.std.specs.Prelude.{◌≡◌, ◌<◌, map, length, IfSome};
 ghost use Rattle.rb_meaning_bytes.specs.tokens.Tables.{keywords, signs, place_in};
 

@@ -8,6 +8,7 @@ use Rattle.rb_trees.specs.declared.values.Fault.{Fault}
 use Rattle.rb_trees.specs.declared.outcomes.Ending as ending
 use Rattle.rb_trees.specs.declared.outcomes.Ending.TheVariants as endings
 use Rattle.rb_trees.specs.declared.services.Object.{Object}
+use Rattle.rb_trees.specs.printing.Words.{all_escaped}
 use Rattle.rb_meaning.specs.Place.{line_of, column_of}
 use Rattle.rb_meaning.specs.State as state
 use Rattle.rb_meaning.specs.State.{Event}
@@ -16,14 +17,6 @@ use Rattle.rb_meaning.specs.Meaning.{Meaning}
 -- each line ends with a line feed
 abbrev pub line : List ℕ → List ℕ
 line bytes = bytes ++ 10 ∷ []
-
--- the byte of a text literal as it is written: a line feed, a quote and a backslash are escaped
-abbrev pub escaped : ℕ → List ℕ
-escaped b = cond (b == 10) (codes "\\n") (cond (b == 34) (codes "\\\"") (cond (b == 92) (codes "\\\\") (b ∷ [])))
-
-abbrev pub all_escaped : List ℕ → List ℕ
-all_escaped [] = []
-all_escaped (b ∷ bs) = escaped b ++ all_escaped bs
 
 abbrev pub text_literal : List ℕ → List ℕ
 text_literal bytes = codes "\"" ++ all_escaped bytes ++ codes "\""

@@ -7,8 +7,9 @@ use Rattle.rb_trees.specs.declared.reading.LexError.{LexError}
 use Rattle.rb_trees.specs.declared.reading.LexError.TheVariants.{BadByte, OpenText, NumberTooLarge, NotUtf8, TooLong, Memory}
 use Rattle.rb_trees.specs.mirror.Declarations.{Program}
 use Rattle.rb_trees.specs.mirror.Services.{Service, mirror_service}
-use Rattle.rb_meaning_bytes.specs.tokens.Texts.{IsTokens}
-use Rattle.rb_lex.specs.Answers.{Told}
+use Rattle.rb_meaning_bytes.specs.tokens.Texts.{IsTokens, Lexed}
+use Rattle.rb_trees.specs.Outcome.{Tells}
+use Rattle.rb_trees.specs.Reading.{lex_refusal}
 use Rattle.rb_top.specs.FirstForm.{FirstService, Offers, all_among, interface_names, class_names}
 use Rattle.rb_top.specs.FirstTexts.{service_at}
 use Rattle.rb_top.specs.Texts.{has_slash, lacks_memory, IsService, NoService, NoServiceFor, TellsService}
@@ -18,7 +19,7 @@ use Rattle.rb_top.proofs.ServiceForm.{service_form}
 none_some : {A : Type 0} (a : A) → None ≡ Some a → ⊥
 none_some a e = absurd (cc)
 
-pub refused_service : (text : List ℕ) (e : LexError) → lacks_memory e ≡ false → Told (Err e) text → NoService text
+pub refused_service : (text : List ℕ) (e : LexError) → lacks_memory e ≡ false → Tells (λ (ts : List Token). ts) lex_refusal (Err e) (Lexed text) → NoService text
 refused_service text (BadByte at) w r = λ s i. no_tokens text i.tokens (BadByte at) i.lexed r
 refused_service text (OpenText at) w r = λ s i. no_tokens text i.tokens (OpenText at) i.lexed r
 refused_service text (NumberTooLarge at) w r = λ s i. no_tokens text i.tokens (NumberTooLarge at) i.lexed r

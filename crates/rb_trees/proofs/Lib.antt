@@ -1,2 +1,3 @@
 pub mod mirror
 pub mod printed
+pub mod OutcomeWords

@@ -1,7 +1,7 @@
 use Rattle.std.proofs.Common.{subst, sym, Err}
 use Rattle.rb_trees.specs.declared.reading.LexError.TheVariants.{NotUtf8, TooLong}
 use Rattle.rb_meaning_bytes.specs.tokens.Texts.{IsRefusal, too_long, not_utf8}
-use Rattle.rb_lex.proofs.Places.{one_lexed, told, given, all_told, both_ways}
+use Rattle.rb_lex.proofs.Places.{told, given, all_told}
 use Rattle.rb_lex.proofs.lexing.lex.Goals as goal
 
 pub returns-then-source-gt-LONGEST_TEXT-clause-told : goal.returns-then-source-gt-LONGEST_TEXT-clause-told
@@ -27,21 +27,3 @@ returns-in-Err-clause-told c = subst (λ at. IsRefusal c.args.source.now (NotUtf
 pub returns-in-Err-clause-only : goal.returns-in-Err-clause-only
 returns-in-Err-clause-only c = given c.args.source.now (Err (NotUtf8 c.valid_up_to.result))
     (subst (λ at. IsRefusal c.args.source.now (NotUtf8 at)) (sym c.valid_up_to.ensures) (not_utf8 _ c.if-source-gt-LONGEST_TEXT.false c.in-Err.ensures.cases.1))
-
-pub returns-then-source-gt-LONGEST_TEXT-clause-once : goal.returns-then-source-gt-LONGEST_TEXT-clause-once
-returns-then-source-gt-LONGEST_TEXT-clause-once c = one_lexed c.args.source.now
-
-pub returns-then-source-gt-LONGEST_TEXT-clause-rests : goal.returns-then-source-gt-LONGEST_TEXT-clause-rests
-returns-then-source-gt-LONGEST_TEXT-clause-rests c = both_ways c.args.source.now
-
-pub returns-in-Ok-clause-once : goal.returns-in-Ok-clause-once
-returns-in-Ok-clause-once c = one_lexed c.args.source.now
-
-pub returns-in-Ok-clause-rests : goal.returns-in-Ok-clause-rests
-returns-in-Ok-clause-rests c = both_ways c.args.source.now
-
-pub returns-in-Err-clause-once : goal.returns-in-Err-clause-once
-returns-in-Err-clause-once c = one_lexed c.args.source.now
-
-pub returns-in-Err-clause-rests : goal.returns-in-Err-clause-rests
-returns-in-Err-clause-rests c = both_ways c.args.source.now

@@ -1,4 +1,6 @@
-use crate::{lex, number_value, text_value};
+// Texts with their tokens or their first faults, and the values of tokens.
+
+use rb_lex::{lex, number_value, text_value};
 use std::alloc::Global;
 use std::fmt::Write;
 use std::test::Fail;

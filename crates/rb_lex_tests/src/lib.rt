@@ -1,0 +1,5 @@
+//! Tests of the lexer.
+#![tactic(auto)]
+
+#[cfg(test)]
+mod texts;
