@@ -2,7 +2,7 @@
 use Rattle.std.proofs.Common.{◌≡◌, List, refl}
 use Rattle.rb_trees.specs.mirror.Code.{Expr, Lit, Name, This, Unary, Binary, Field, Call, Index, New, Items, Taken}
 use Rattle.rb_meaning_types.specs.Scopes.{Scope}
-use Rattle.rb_meaning_types.specs.Expressions.{Context}
+use Rattle.rb_meaning_types.specs.Declared.{Context}
 use Rattle.rb_meaning_types.specs.Notes.{Note, note, noted, parts_noted}
 
 pub noted_parts : (x : Context) (scope : Scope) (notes : List Note) (e : Expr) → noted x scope notes e ≡ note x scope (parts_noted x scope notes e) e

@@ -12,7 +12,7 @@ use Rattle.rb_meaning_types.specs.Kinds as kind
 use Rattle.rb_meaning_types.specs.Kinds.{Kind, kind_of}
 use Rattle.rb_meaning_types.specs.Names.{class_named, interface_named}
 use Rattle.rb_meaning_types.specs.Scopes.{Scope}
-use Rattle.rb_meaning_types.specs.Expressions.{Context}
+use Rattle.rb_meaning_types.specs.Declared.{Context}
 
 -- the classes of the objects of a heap, in order
 abbrev pub classes_of : List Object → List (List ℕ)
@@ -99,9 +99,9 @@ ThisFits classes None None = Unit {0}
 
 -- A local state holds at least what a scope has: so it is after a fault, too.
 pub record StateHolds (x : Context) (scope : Scope) (this : Option ℕ) (names : List (List ℕ × Value)) (heap : List Object) : Type 0 where
-  pub names_fit : NamesFit x.interfaces (classes_of heap) scope names
+  pub names_fit : NamesFit x.declared.interfaces (classes_of heap) scope names
   pub this_fits : ThisFits (classes_of heap) x.this this
-  pub heap_fits : HeapFits x.interfaces x.classes heap
+  pub heap_fits : HeapFits x.declared.interfaces x.declared.classes heap
 
 -- A local state fits a scope: it has the scope's names and no others.
 pub record StateFits (x : Context) (scope : Scope) (this : Option ℕ) (names : List (List ℕ × Value)) (heap : List Object) : Type 0 where

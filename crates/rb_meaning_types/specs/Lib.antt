@@ -1,6 +1,7 @@
 pub mod Kinds
 pub mod Violations
 pub mod Names
+pub mod Declared
 pub mod Scopes
 pub mod Literals
 pub mod Operators

@@ -1,6 +1,5 @@
 -- Names, and the first of a list that has a name.
 use Rattle.std.specs.Prelude.{ℕ, List, [], ◌∷◌, Bool, true, false, cond, Option, Some, None}
-use Rattle.std.specs.Option.{is_some}
 use Rattle.std.specs.Str.{bytes_eq}
 use Rattle.rb_trees.specs.mirror.Declarations.{Param, Signature, Interface, Method, Class}
 
@@ -28,15 +27,3 @@ signature_named signatures name = first_named (λ s. s.name) signatures name
 
 abbrev pub method_named : List Method → List ℕ → Option Method
 method_named methods name = first_named (λ m. m.signature.name) methods name
-
--- whether a name is that of an interface
-abbrev pub is_interface : List Interface → List ℕ → Bool
-is_interface interfaces name = is_some (interface_named interfaces name)
-
--- whether a name is that of a class; a name that is both counts as the interface
-abbrev pub is_class : List Interface → List Class → List ℕ → Bool
-is_class interfaces classes name = cond (is_interface interfaces name) false (is_some (class_named classes name))
-
--- whether a name is declared as a type
-abbrev pub is_declared : List Interface → List Class → List ℕ → Bool
-is_declared interfaces classes name = cond (is_interface interfaces name) true (is_some (class_named classes name))

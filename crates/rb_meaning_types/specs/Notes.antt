@@ -1,16 +1,15 @@
 -- What the judgement gives to each expression of code, in order of evaluation, and the type of the
 -- expression at a position.
-use Rattle.std.specs.Prelude.{ℕ, List, [], ◌∷◌, ◌++◌, Bool, false, cond, nat_eq, Option, Some, None, Ok, Err}
+use Rattle.std.specs.Prelude.{ℕ, List, [], ◌∷◌, ◌++◌, cond, nat_eq, Option, Some, None, Ok, Err}
 use Rattle.rb_trees.specs.mirror.Code.{Expr, Exprs, Lit, Name, This, Unary, Binary, Field, Call, Index, New, Items, Taken, NoExprs, MoreExprs, expr_at, Stmt, Stmts, Val, Var, Assign, Run, Print, Throw, If, While, For, Try, Batch, NoStmts, MoreStmts}
-use Rattle.rb_trees.specs.mirror.Declarations.{Body, Method, Class, Program, Interface}
+use Rattle.rb_trees.specs.mirror.Declarations.{Body, Method, Class, Program}
 use Rattle.rb_meaning_types.specs.Kinds.{Kind}
 use Rattle.rb_meaning_types.specs.Violations.{Checked}
 use Rattle.rb_trees.specs.Outcome.{◌>>=◌}
 use Rattle.rb_meaning_types.specs.Scopes.{Scope, parameters}
-use Rattle.rb_meaning_types.specs.Expressions.{Context, type_of}
+use Rattle.rb_meaning_types.specs.Declared.{Declarations, Context, of_program, method_context, main_context}
+use Rattle.rb_meaning_types.specs.Expressions.{type_of}
 use Rattle.rb_meaning_types.specs.Statements.{placed, loop_scope, catch_scope, batch_scope, check_stmt, check_stmts}
-use Rattle.rb_meaning_types.specs.Bodies.{method_context}
-use Rattle.rb_meaning_types.specs.Programs.{main_context}
 
 -- an expression's position, and what the judgement gives to it
 pub record Note : Type 0 where
@@ -74,7 +73,7 @@ abbrev mutual
       stmts_noted x (scope_or scope (placed x scope e >>= λ p. loop_scope scope at name p)) (noted x scope notes e) a
   stmt_noted x scope notes (Try at a name b) = stmts_noted x (scope_or scope (catch_scope scope at name)) (stmts_noted x scope notes a) b
   stmt_noted x scope notes (Batch at interface root a) =
-      stmts_noted x (scope_or scope (batch_scope x.interfaces x.remote scope at interface root)) notes a
+      stmts_noted x (scope_or scope (batch_scope x scope at interface root)) notes a
 
   pub stmts_noted : Context → Scope → List Note → Stmts → List Note
   stmts_noted x scope notes NoStmts = notes
@@ -88,26 +87,26 @@ abbrev pub body_noted : Context → Scope → List Note → Body → List Note
 body_noted x scope notes body =
     return_noted x (scope_or scope (check_stmts x scope body.statements)) (stmts_noted x scope notes body.statements) body.result
 
-abbrev pub method_noted : List Interface → List Class → Bool → List ℕ → List Note → Method → List Note
-method_noted interfaces classes service class notes m =
-    body_noted (method_context interfaces classes service class m.remote) (parameters m.signature.params) notes m.body
+abbrev pub method_noted : Declarations → List ℕ → List Note → Method → List Note
+method_noted d class notes m =
+    body_noted (method_context d class m.remote) (parameters m.signature.params) notes m.body
 
-abbrev pub methods_noted : List Interface → List Class → Bool → List ℕ → List Note → List Method → List Note
-methods_noted interfaces classes service class notes [] = notes
-methods_noted interfaces classes service class notes (m ∷ ms) =
-    methods_noted interfaces classes service class (method_noted interfaces classes service class notes m) ms
+abbrev pub methods_noted : Declarations → List ℕ → List Note → List Method → List Note
+methods_noted d class notes [] = notes
+methods_noted d class notes (m ∷ ms) =
+    methods_noted d class (method_noted d class notes m) ms
 
-abbrev pub classes_noted : List Interface → List Class → Bool → List Note → List Class → List Note
-classes_noted interfaces classes service notes [] = notes
-classes_noted interfaces classes service notes (c ∷ cs) =
-    classes_noted interfaces classes service (methods_noted interfaces classes service c.name notes c.methods) cs
+abbrev pub classes_noted : Declarations → List Note → List Class → List Note
+classes_noted d notes [] = notes
+classes_noted d notes (c ∷ cs) =
+    classes_noted d (methods_noted d c.name notes c.methods) cs
 
 abbrev pub main_noted : List Note → Program → List Note
-main_noted notes p = body_noted (main_context p.interfaces p.classes) [] notes p.body
+main_noted notes p = body_noted (main_context (of_program p)) [] notes p.body
 
 -- the notes of a program: the bodies of its methods in source order, then `main`
 abbrev pub program_notes : Program → List Note
-program_notes p = main_noted (classes_noted p.interfaces p.classes false [] p.classes) p
+program_notes p = main_noted (classes_noted (of_program p) [] p.classes) p
 
 -- the first note at a position, or else what was found elsewhere
 abbrev pub note_at : List Note → ℕ → Option (Checked Kind) → Option (Checked Kind)

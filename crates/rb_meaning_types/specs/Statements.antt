@@ -2,13 +2,12 @@
 -- then its own rules, then its blocks. A scope ends with its block.
 use Rattle.std.specs.Prelude.{ℕ, List, Bool as Truth, true, false, not, Option, Some, None, Ok, Err}
 use Rattle.rb_trees.specs.mirror.Code.{Expr, Stmt, Stmts, Name, Field, Val, Var, Assign, Run, Print, Throw, If, While, For, Try, Batch, NoStmts, MoreStmts, expr_at}
-use Rattle.rb_trees.specs.mirror.Declarations.{Interface}
 use Rattle.rb_meaning_types.specs.Kinds.{Kind, Int, Bool, Text, Unit as UnitKind, Named, ListOf, RowsOf, is_unit}
-use Rattle.rb_meaning_types.specs.Names.{is_interface}
+use Rattle.rb_meaning_types.specs.Declared.{Declarations, Context, is_interface}
 use Rattle.rb_meaning_types.specs.Violations.{Checked, Placed, UnknownName, NameTaken, NotAssignable, NotAllowedHere, wanted, wrong_type, with_place}
 use Rattle.rb_trees.specs.Outcome.{◌>>=◌, ◌>>◌, must}
 use Rattle.rb_meaning_types.specs.Scopes.{Scope, Variable, variable_named, is_free, with_variable}
-use Rattle.rb_meaning_types.specs.Expressions.{Context, type_of}
+use Rattle.rb_meaning_types.specs.Expressions.{type_of}
 
 -- an expression's type, at its position
 abbrev pub placed : Context → Scope → Expr → Checked Placed
@@ -37,18 +36,18 @@ abbrev pub assign : Scope → ℕ → Expr → Placed → Placed → Checked Sco
 assign scope at left p q = must (is_assignable scope left) (NotAssignable at) >> wanted p.kind q >> Ok scope
 
 -- `print` takes a primitive type, an interface or Rows
-abbrev pub is_printable : List Interface → Kind → Truth
-is_printable interfaces Int = true
-is_printable interfaces Bool = true
-is_printable interfaces Text = true
-is_printable interfaces UnitKind = false
-is_printable interfaces (Named name) = is_interface interfaces name
-is_printable interfaces (ListOf item) = false
-is_printable interfaces (RowsOf row) = true
+abbrev pub is_printable : Declarations → Kind → Truth
+is_printable d Int = true
+is_printable d Bool = true
+is_printable d Text = true
+is_printable d UnitKind = false
+is_printable d (Named name) = is_interface d name
+is_printable d (ListOf item) = false
+is_printable d (RowsOf row) = true
 
 -- a service prints nothing
-abbrev pub print : List Interface → Truth → Scope → ℕ → Placed → Checked Scope
-print interfaces service scope at p = must (is_printable interfaces p.kind) (wrong_type p) >> must (not service) (NotAllowedHere at) >> Ok scope
+abbrev pub print : Declarations → Scope → ℕ → Placed → Checked Scope
+print d scope at p = must (is_printable d p.kind) (wrong_type p) >> must (not d.service) (NotAllowedHere at) >> Ok scope
 
 -- what a loop goes over: the items of a List, or the rows of Rows
 abbrev pub turn_kind : Placed → Kind → Checked Kind
@@ -66,9 +65,9 @@ catch_scope scope at name = must (is_free scope name) (NameTaken at) >> Ok (with
 
 -- the root of a batch: its name is free, it is of an interface, and the batch stands in `main` or in a
 -- `remote` method
-abbrev pub batch_scope : List Interface → Truth → Scope → ℕ → List ℕ → List ℕ → Checked Scope
-batch_scope interfaces remote scope at interface root = must (is_free scope root) (NameTaken at)
-    >> must (is_interface interfaces interface) (UnknownName at) >> must remote (NotAllowedHere at)
+abbrev pub batch_scope : Context → Scope → ℕ → List ℕ → List ℕ → Checked Scope
+batch_scope x scope at interface root = must (is_free scope root) (NameTaken at)
+    >> must (is_interface x.declared interface) (UnknownName at) >> must x.remote (NotAllowedHere at)
     >> Ok (with_variable scope root (Named interface) true)
 
 -- the scope of before, after blocks that were checked
@@ -82,13 +81,13 @@ abbrev mutual
   check_stmt x scope (Var at name e) = placed x scope e >>= λ p. declare scope at name false p
   check_stmt x scope (Assign at a b) = placed x scope a >>= λ p. placed x scope b >>= λ q. assign scope at a p q
   check_stmt x scope (Run at e) = placed x scope e >>= λ p. Ok scope
-  check_stmt x scope (Print at e) = placed x scope e >>= λ p. print x.interfaces x.service scope at p
+  check_stmt x scope (Print at e) = placed x scope e >>= λ p. print x.declared scope at p
   check_stmt x scope (Throw at e) = placed x scope e >>= λ p. wanted Text p >> Ok scope
   check_stmt x scope (If at c a b) = condition x scope c >> closed scope (check_stmts x scope a) >>= λ s. closed scope (check_stmts x scope b)
   check_stmt x scope (While at c a) = condition x scope c >> closed scope (check_stmts x scope a)
   check_stmt x scope (For at name e a) = placed x scope e >>= λ p. loop_scope scope at name p >>= λ inner. closed scope (check_stmts x inner a)
   check_stmt x scope (Try at a name b) = closed scope (check_stmts x scope a) >>= λ s. catch_scope scope at name >>= λ inner. closed scope (check_stmts x inner b)
-  check_stmt x scope (Batch at interface root a) = batch_scope x.interfaces x.remote scope at interface root >>= λ inner. closed scope (check_stmts x inner a)
+  check_stmt x scope (Batch at interface root a) = batch_scope x scope at interface root >>= λ inner. closed scope (check_stmts x inner a)
 
   -- statements in order: each sees the scope that those before it leave
   pub check_stmts : Context → Scope → Stmts → Checked Scope

@@ -10,7 +10,8 @@ use Rattle.rb_meaning_types.specs.Scopes.{Scope, variable_named}
 use Rattle.rb_meaning_types.specs.Literals.{literal_kind}
 use Rattle.rb_meaning_types.specs.Places.{item_type}
 use Rattle.rb_meaning_types.specs.Members.{arguments_fit, receiver_class, signature_kind, class_call, receiver_interface, call_on}
-use Rattle.rb_meaning_types.specs.Expressions.{Context, type_of, types_of, with_first, all_wanted}
+use Rattle.rb_meaning_types.specs.Declared.{Context}
+use Rattle.rb_meaning_types.specs.Expressions.{type_of, types_of, with_first, all_wanted}
 use Rattle.rb_typing_rules.specs.Rules.{HasType, HaveTypes, kinds_of, AreAll, literal, variable, this, unary, binary, field, interface_call as on_interface, class_call as on_class, index, new, items, none, more}
 use Rattle.rb_typing_rules.proofs.Steps.{bind_ok, then_ok, known_ok, must_ok, placed_ok, same_refl}
 use Rattle.rb_typing_rules.proofs.Groups.{kinds_placed, this_ok, unary_ok, binary_ok, index_ok, fit_ok, fit_so, all_ok, all_so, receiver_ok}
@@ -30,7 +31,7 @@ signature_so x scope at s ps kind h =
 -- a call, by the interface that its receiver may have
 call_has : (x : Context) (scope : Scope) (at : ℕ) (a : Expr) (method : List ℕ) (args : Exprs) (receiver : Kind) (ps : List Placed) (kind : Kind)
     → HasType x scope a receiver → HaveTypes x scope args (kinds_placed ps)
-    → (found : Option Interface) → receiver_interface x.interfaces receiver ≡ found → call_on x.classes x.remote at method (placed_at (expr_at a) receiver) ps found ≡ Ok kind
+    → (found : Option Interface) → receiver_interface x.declared receiver ≡ found → call_on x at method (placed_at (expr_at a) receiver) ps found ≡ Ok kind
     → HasType x scope (Call at a method args) kind
 call_has x scope at a method args (Named name) ps kind typed typed_args (Some interface) is h =
     let s = bind_ok (known (UnknownName at) (signature_named interface.methods method)) (λ s. signature_kind at s ps) kind h in
@@ -39,8 +40,8 @@ call_has x scope at a method args (Named name) ps kind typed typed_args (Some in
     (on_interface at a method args name interface s.0 typed (subst (HaveTypes x scope args) t.0 typed_args) is (known_ok (UnknownName at) (signature_named interface.methods method) s.0 s.1))
 call_has x scope at a method args (Named name) ps kind typed typed_args None is h =
     let p = placed_at (expr_at a) (Named name) in
-    let s = bind_ok (receiver_class x.classes p (Named name)) (λ class. class_call x.remote at method class ps) kind h in
-    let found = known_ok (wrong_type p) (class_named x.classes name) s.0 s.1 in
+    let s = bind_ok (receiver_class x.declared p (Named name)) (λ class. class_call x at method class ps) kind h in
+    let found = known_ok (wrong_type p) (class_named x.declared.classes name) s.0 s.1 in
     let t = bind_ok (known (UnknownName at) (method_named s.0.methods method)) _ kind s.2 in
     let u = bind_ok (signature_kind at t.0.signature ps) _ kind t.2 in
     let v = then_ok (must (x.remote || not t.0.remote) (NotAllowedHere at)) (Ok u.0) kind u.2 in
@@ -82,8 +83,8 @@ mutual
       (binary at op a b s.0 (typed_has x scope a s.0 s.1) u.0 (subst (HasType x scope b) (sym u.1) (typed_has x scope b t.0 t.1)))
   typed_has x scope (Field at a name) kind h =
       let s = placed_ok (expr_at a) (type_of x scope a) _ kind h in
-      let t = bind_ok (receiver_class x.classes (placed_at (expr_at a) s.0) s.0) _ kind s.2 in
-      let r = receiver_ok x.classes (placed_at (expr_at a) s.0) s.0 t.0 t.1 in
+      let t = bind_ok (receiver_class x.declared (placed_at (expr_at a) s.0) s.0) _ kind s.2 in
+      let r = receiver_ok x.declared (placed_at (expr_at a) s.0) s.0 t.0 t.1 in
       let u = bind_ok (known (UnknownName at) (field_named t.0.fields name)) (λ f. Ok (kind_of f.kind)) kind t.2 in
       let e : kind_of u.0.kind ≡ kind = (let f = u.2 in cc) in
       subst (HasType x scope (Field at a name)) e
@@ -91,7 +92,7 @@ mutual
   typed_has x scope (Call at a method args) kind h =
       let s = placed_ok (expr_at a) (type_of x scope a) _ kind h in
       let t = bind_ok (types_of x scope args) _ kind s.2 in
-      call_has x scope at a method args s.0 t.0 kind (typed_has x scope a s.0 s.1) (typed_have x scope args t.0 t.1) (receiver_interface x.interfaces s.0) refl t.2
+      call_has x scope at a method args s.0 t.0 kind (typed_has x scope a s.0 s.1) (typed_have x scope args t.0 t.1) (receiver_interface x.declared s.0) refl t.2
   typed_has x scope (Index at a b) kind h =
       let s = placed_ok (expr_at a) (type_of x scope a) _ kind h in
       let t = placed_ok (expr_at b) (type_of x scope b) _ kind s.2 in
@@ -99,15 +100,15 @@ mutual
       index at a b kind (subst (HasType x scope a) u.0 (typed_has x scope a s.0 s.1)) (subst (HasType x scope b) (sym u.1) (typed_has x scope b t.0 t.1))
   typed_has x scope (New at name args) kind h =
       let s = bind_ok (types_of x scope args) _ kind h in
-      let t = bind_ok (known (UnknownName at) (class_named x.classes name)) _ kind s.2 in
+      let t = bind_ok (known (UnknownName at) (class_named x.declared.classes name)) _ kind s.2 in
       let u = then_ok (arguments_fit at t.0.fields s.0) (Ok (Named name)) kind t.2 in
       let e : Named name ≡ kind = (let f = u.1 in cc) in
       subst (HasType x scope (New at name args)) e
-      (new at name args t.0 (known_ok (UnknownName at) (class_named x.classes name) t.0 t.1) (subst (HaveTypes x scope args) (fit_ok at t.0.fields s.0 u.0) (typed_have x scope args s.0 s.1)))
+      (new at name args t.0 (known_ok (UnknownName at) (class_named x.declared.classes name) t.0 t.1) (subst (HaveTypes x scope args) (fit_ok at t.0.fields s.0 u.0) (typed_have x scope args s.0 s.1)))
   typed_has x scope (Items at item es) kind h =
       let s = bind_ok (types_of x scope es) _ kind h in
-      let t = then_ok (item_type x.interfaces x.classes item >> all_wanted (kind_of item) s.0) (Ok (ListOf (kind_of item))) kind s.2 in
-      let u = then_ok (item_type x.interfaces x.classes item) (all_wanted (kind_of item) s.0) tt t.0 in
+      let t = then_ok (item_type x.declared item >> all_wanted (kind_of item) s.0) (Ok (ListOf (kind_of item))) kind s.2 in
+      let u = then_ok (item_type x.declared item) (all_wanted (kind_of item) s.0) tt t.0 in
       let e : ListOf (kind_of item) ≡ kind = (let f = t.1 in cc) in
       subst (HasType x scope (Items at item es)) e (items at item es (kinds_placed s.0) (typed_have x scope es s.0 s.1) u.0 (all_ok (kind_of item) s.0 u.1))
   typed_has x scope (Taken at step) kind h = absurd (cc)

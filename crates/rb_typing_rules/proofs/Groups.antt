@@ -6,6 +6,7 @@ use Rattle.rb_trees.specs.declared.code.BinOp.{BinOp}
 use Rattle.rb_trees.specs.mirror.Declarations.{Param, Class}
 use Rattle.rb_meaning_types.specs.Kinds.{Kind, Int, Bool, Text, Unit as UnitKind, Named, ListOf, RowsOf, kind_of}
 use Rattle.rb_meaning_types.specs.Names.{class_named}
+use Rattle.rb_meaning_types.specs.Declared.{Declarations}
 use Rattle.rb_meaning_types.specs.Violations.{Placed, WrongCount, wanted, wrong_type}
 use Rattle.rb_trees.specs.Outcome.{◌>>◌, must}
 use Rattle.rb_meaning_types.specs.Operators.{takes_operand, unary_result, takes_left, binary_result, unary_kind, binary_kind, item_of, index_kind}
@@ -88,12 +89,12 @@ pub all_so : (kind : Kind) (ps : List Placed) → AreAll kind (kinds_placed ps) 
 all_so kind [] e = refl
 all_so kind (p ∷ ps) e = rw (wanted_so kind p e.0) (all_so kind ps e.1)
 
-pub receiver_ok : (classes : List Class) (p : Placed) (kind : Kind) (class : Class) → receiver_class classes p kind ≡ Ok class
-    → (name : List ℕ) × (kind ≡ Named name) × (class_named classes name ≡ Some class)
-receiver_ok classes p (Named name) class h = (name, refl, known_ok (wrong_type p) (class_named classes name) class h)
-receiver_ok classes p Int class h = absurd (cc)
-receiver_ok classes p Bool class h = absurd (cc)
-receiver_ok classes p Text class h = absurd (cc)
-receiver_ok classes p UnitKind class h = absurd (cc)
-receiver_ok classes p (ListOf item) class h = absurd (cc)
-receiver_ok classes p (RowsOf row) class h = absurd (cc)
+pub receiver_ok : (d : Declarations) (p : Placed) (kind : Kind) (class : Class) → receiver_class d p kind ≡ Ok class
+    → (name : List ℕ) × (kind ≡ Named name) × (class_named d.classes name ≡ Some class)
+receiver_ok d p (Named name) class h = (name, refl, known_ok (wrong_type p) (class_named d.classes name) class h)
+receiver_ok d p Int class h = absurd (cc)
+receiver_ok d p Bool class h = absurd (cc)
+receiver_ok d p Text class h = absurd (cc)
+receiver_ok d p UnitKind class h = absurd (cc)
+receiver_ok d p (ListOf item) class h = absurd (cc)
+receiver_ok d p (RowsOf row) class h = absurd (cc)

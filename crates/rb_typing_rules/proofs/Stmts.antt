@@ -1,13 +1,12 @@
 -- The rules on statements and the scope that is computed agree.
 use Rattle.std.proofs.Common.{◌≡◌, ℕ, List, Bool as Truth, true, false, not, Ok, Err, refl, sym, subst}
 use Rattle.rb_trees.specs.mirror.Code.{Expr, Stmt, Stmts, Val, Var, Assign, Run, Print, Throw, If, While, For, Try, Batch, NoStmts, MoreStmts, expr_at}
-use Rattle.rb_trees.specs.mirror.Declarations.{Interface}
 use Rattle.rb_meaning_types.specs.Kinds.{Kind, Int, Bool, Text, Unit as UnitKind, Named, ListOf, RowsOf, is_unit}
-use Rattle.rb_meaning_types.specs.Names.{is_interface}
+use Rattle.rb_meaning_types.specs.Declared.{Declarations, Context, is_interface}
 use Rattle.rb_meaning_types.specs.Violations.{Violation, Checked, Placed, UnknownName, NameTaken, NotAssignable, NotAllowedHere, wanted, wrong_type}
 use Rattle.rb_trees.specs.Outcome.{◌>>=◌, ◌>>◌, must}
 use Rattle.rb_meaning_types.specs.Scopes.{Scope, is_free, with_variable}
-use Rattle.rb_meaning_types.specs.Expressions.{Context, type_of}
+use Rattle.rb_meaning_types.specs.Expressions.{type_of}
 use Rattle.rb_meaning_types.specs.Statements.{condition, declare, is_assignable, assign, is_printable, print, loop_scope, catch_scope, batch_scope, closed, check_stmt, check_stmts}
 use Rattle.rb_typing_rules.specs.Rules.{HasType, Leads, AllLead, val, var, assign as assigned, run, print as printed, throw, branch, loop, items_loop, rows_loop, guarded, batch, end, then}
 use Rattle.rb_typing_rules.proofs.Steps.{bind_ok, then_ok, must_ok, placed_ok, same_refl, wanted_ok}
@@ -34,29 +33,29 @@ assign_ok scope at left p q after h =
     let t = then_ok (must (is_assignable scope left) (NotAssignable at)) (wanted p.kind q) tt s.0 in
     (must_ok (is_assignable scope left) (NotAssignable at) t.0, wanted_ok p.kind q t.1, let e = s.1 in cc)
 
-print_ok : (interfaces : List Interface) (service : Truth) (scope : Scope) (at : ℕ) (p : Placed) (after : Scope) → print interfaces service scope at p ≡ Ok after
-    → (is_printable interfaces p.kind ≡ true) × (service ≡ false) × (scope ≡ after)
-print_ok interfaces service scope at p after h =
-    let s = then_ok (must (is_printable interfaces p.kind) (wrong_type p) >> must (not service) (NotAllowedHere at)) (Ok scope) after h in
-    let t = then_ok (must (is_printable interfaces p.kind) (wrong_type p)) (must (not service) (NotAllowedHere at)) tt s.0 in
-    (must_ok (is_printable interfaces p.kind) (wrong_type p) t.0, not_so service (must_ok (not service) (NotAllowedHere at) t.1), let e = s.1 in cc)
+print_ok : (d : Declarations) (scope : Scope) (at : ℕ) (p : Placed) (after : Scope) → print d scope at p ≡ Ok after
+    → (is_printable d p.kind ≡ true) × (d.service ≡ false) × (scope ≡ after)
+print_ok d scope at p after h =
+    let s = then_ok (must (is_printable d p.kind) (wrong_type p) >> must (not d.service) (NotAllowedHere at)) (Ok scope) after h in
+    let t = then_ok (must (is_printable d p.kind) (wrong_type p)) (must (not d.service) (NotAllowedHere at)) tt s.0 in
+    (must_ok (is_printable d p.kind) (wrong_type p) t.0, not_so d.service (must_ok (not d.service) (NotAllowedHere at) t.1), let e = s.1 in cc)
 
 catch_ok : (scope : Scope) (at : ℕ) (name : List ℕ) (inner : Scope) → catch_scope scope at name ≡ Ok inner → (is_free scope name ≡ true) × (with_variable scope name Text true ≡ inner)
 catch_ok scope at name inner h =
     let s = then_ok (must (is_free scope name) (NameTaken at)) (Ok (with_variable scope name Text true)) inner h in
     (must_ok (is_free scope name) (NameTaken at) s.0, let e = s.1 in cc)
 
-batch_ok : (interfaces : List Interface) (remote : Truth) (scope : Scope) (at : ℕ) (interface root : List ℕ) (inner : Scope) → batch_scope interfaces remote scope at interface root ≡ Ok inner
-    → (is_free scope root ≡ true) × (is_interface interfaces interface ≡ true) × (remote ≡ true) × (with_variable scope root (Named interface) true ≡ inner)
-batch_ok interfaces remote scope at interface root inner h =
-    let s = then_ok (must (is_free scope root) (NameTaken at) >> must (is_interface interfaces interface) (UnknownName at) >> must remote (NotAllowedHere at)) (Ok (with_variable scope root (Named interface) true)) inner h in
-    let t = then_ok (must (is_free scope root) (NameTaken at) >> must (is_interface interfaces interface) (UnknownName at)) (must remote (NotAllowedHere at)) tt s.0 in
-    let u = then_ok (must (is_free scope root) (NameTaken at)) (must (is_interface interfaces interface) (UnknownName at)) tt t.0 in
-    (must_ok (is_free scope root) (NameTaken at) u.0, must_ok (is_interface interfaces interface) (UnknownName at) u.1, must_ok remote (NotAllowedHere at) t.1, let e = s.1 in cc)
+batch_ok : (x : Context) (scope : Scope) (at : ℕ) (interface root : List ℕ) (inner : Scope) → batch_scope x scope at interface root ≡ Ok inner
+    → (is_free scope root ≡ true) × (is_interface x.declared interface ≡ true) × (x.remote ≡ true) × (with_variable scope root (Named interface) true ≡ inner)
+batch_ok x scope at interface root inner h =
+    let s = then_ok (must (is_free scope root) (NameTaken at) >> must (is_interface x.declared interface) (UnknownName at) >> must x.remote (NotAllowedHere at)) (Ok (with_variable scope root (Named interface) true)) inner h in
+    let t = then_ok (must (is_free scope root) (NameTaken at) >> must (is_interface x.declared interface) (UnknownName at)) (must x.remote (NotAllowedHere at)) tt s.0 in
+    let u = then_ok (must (is_free scope root) (NameTaken at)) (must (is_interface x.declared interface) (UnknownName at)) tt t.0 in
+    (must_ok (is_free scope root) (NameTaken at) u.0, must_ok (is_interface x.declared interface) (UnknownName at) u.1, must_ok x.remote (NotAllowedHere at) t.1, let e = s.1 in cc)
 
-batch_so : (interfaces : List Interface) (remote : Truth) (scope : Scope) (at : ℕ) (interface root : List ℕ) → is_free scope root ≡ true → is_interface interfaces interface ≡ true → remote ≡ true
-    → batch_scope interfaces remote scope at interface root ≡ Ok (with_variable scope root (Named interface) true)
-batch_so interfaces remote scope at interface root free found may = rw free (rw found (rw may refl))
+batch_so : (x : Context) (scope : Scope) (at : ℕ) (interface root : List ℕ) → is_free scope root ≡ true → is_interface x.declared interface ≡ true → x.remote ≡ true
+    → batch_scope x scope at interface root ≡ Ok (with_variable scope root (Named interface) true)
+batch_so x scope at interface root free found may = rw free (rw found (rw may refl))
 
 condition_ok : (x : Context) (scope : Scope) (e : Expr) → condition x scope e ≡ Ok tt → HasType x scope e Bool
 condition_ok x scope e h =
@@ -110,7 +109,7 @@ mutual
       subst (Leads x scope (Run at e)) same (run scope at e s.0 (typed_has x scope e s.0 s.1))
   typed_leads x scope (Print at e) after h =
       let s = placed_ok (expr_at e) (type_of x scope e) _ after h in
-      let t = print_ok x.interfaces x.service scope at (placed_at (expr_at e) s.0) after s.2 in
+      let t = print_ok x.declared scope at (placed_at (expr_at e) s.0) after s.2 in
       subst (Leads x scope (Print at e)) t.2 (printed scope at e s.0 (typed_has x scope e s.0 s.1) t.0 t.1)
   typed_leads x scope (Throw at e) after h =
       let s = placed_ok (expr_at e) (type_of x scope e) _ after h in
@@ -141,8 +140,8 @@ mutual
       subst (Leads x scope (Try at a name b)) w.2
       (guarded scope t.0 w.0 at a name b (all_lead x scope a t.0 t.1) v.0 (subst (λ i. AllLead x i b w.0) (sym v.1) (all_lead x u.0 b w.0 w.1)))
   typed_leads x scope (Batch at interface root a) after h =
-      let u = bind_ok (batch_scope x.interfaces x.remote scope at interface root) (λ inner. closed scope (check_stmts x inner a)) after h in
-      let v = batch_ok x.interfaces x.remote scope at interface root u.0 u.1 in
+      let u = bind_ok (batch_scope x scope at interface root) (λ inner. closed scope (check_stmts x inner a)) after h in
+      let v = batch_ok x scope at interface root u.0 u.1 in
       let w = closed_ok scope (check_stmts x u.0 a) after u.2 in
       subst (Leads x scope (Batch at interface root a)) w.2
       (batch scope w.0 at interface root a v.0 v.1 v.2 (subst (λ i. AllLead x i a w.0) (sym v.3) (all_lead x u.0 a w.0 w.1)))
@@ -171,7 +170,7 @@ mutual
   leads_typed x _ _ _ (guarded scope after other at a name b first free second) =
       rw (lead_all x scope a after first) (rw free (rw (lead_all x (with_variable scope name Text true) b other second) refl))
   leads_typed x _ _ _ (batch scope after at interface root a free found remote block) =
-      rw (batch_so x.interfaces x.remote scope at interface root free found remote) (rw (lead_all x (with_variable scope root (Named interface) true) a after block) refl)
+      rw (batch_so x scope at interface root free found remote) (rw (lead_all x (with_variable scope root (Named interface) true) a after block) refl)
 
   pub lead_all : (x : Context) (scope : Scope) (ss : Stmts) (after : Scope) → AllLead x scope ss after → check_stmts x scope ss ≡ Ok after
   lead_all x _ _ _ (end scope) = refl

@@ -2,16 +2,18 @@
 use Rattle.std.proofs.Common.{◌≡◌, ℕ, List, [], ◌∷◌, Bool as Truth, true, false, not, ◌&&◌, Option, Some, None, Ok, refl, ap, sym, ◌∙◌, subst}
 use Rattle.rb_trees.specs.mirror.Types.{TypeTree, type_at}
 use Rattle.rb_trees.specs.mirror.Code.{Expr, expr_at}
-use Rattle.rb_trees.specs.mirror.Declarations.{Interface, Body, Method, Class, Program}
+use Rattle.rb_trees.specs.mirror.Declarations.{Body, Method, Class, Program}
 use Rattle.rb_meaning_types.specs.Kinds.{Kind, kind_of, is_unit, same_kind}
 use Rattle.rb_meaning_types.specs.Violations.{Placed, TypeNotHere, MissingReturn, wrong_type}
 use Rattle.rb_trees.specs.Outcome.{◌>>◌, must}
 use Rattle.rb_meaning_types.specs.Scopes.{Scope, parameters}
 use Rattle.rb_meaning_types.specs.Places.{declared_type, is_main_result}
-use Rattle.rb_meaning_types.specs.Expressions.{Context, type_of}
+use Rattle.rb_meaning_types.specs.Declared.{Declarations, Context, of_program, of_service, method_context, main_context}
+use Rattle.rb_meaning_types.specs.Expressions.{type_of}
 use Rattle.rb_meaning_types.specs.Statements.{check_stmts}
-use Rattle.rb_meaning_types.specs.Bodies.{return_fits, check_return, check_body, method_context, check_method_body, check_method_bodies, check_class_bodies}
-use Rattle.rb_meaning_types.specs.Programs.{main_context, check_declarations, check_main, check_program, check_service}
+use Rattle.rb_meaning_types.specs.Bodies.{return_fits, check_return, check_body, check_method_body, check_method_bodies, check_class_bodies}
+use Rattle.rb_meaning_types.specs.Declarations.{check_declarations}
+use Rattle.rb_meaning_types.specs.Programs.{check_main, check_program, check_service}
 use Rattle.rb_typing_rules.specs.Rules.{HasType}
 use Rattle.rb_typing_rules.specs.Programs.{Returns, IsBody, AreMethodBodies, AreClassBodies, IsTyped, IsTypedService}
 use Rattle.rb_typing_rules.proofs.Steps.{bind_ok, then_ok, must_ok, placed_ok, same_sound, same_refl}
@@ -47,54 +49,54 @@ body_so x scope at result body h =
 so_body : (x : Context) (scope : Scope) (at : ℕ) (result : TypeTree) (body : Body) → IsBody x scope (kind_of result) body → check_body x scope at result body ≡ Ok tt
 so_body x scope at result body b = rw (lead_all x scope body.statements b.after b.statements) (so_return x b.after at (kind_of result) body.result b.result)
 
-methods_so : (is : List Interface) (cs : List Class) (service : Truth) (class : List ℕ) (ms : List Method) → check_method_bodies is cs service class ms ≡ Ok tt → AreMethodBodies is cs service class ms
-methods_so is cs service class [] h = tt
-methods_so is cs service class (m ∷ ms) h =
-    let s = then_ok (check_method_body is cs service class m) (check_method_bodies is cs service class ms) tt h in
-    (body_so (method_context is cs service class m.remote) (parameters m.signature.params) m.signature.at m.signature.result m.body s.0, methods_so is cs service class ms s.1)
+methods_so : (d : Declarations) (class : List ℕ) (ms : List Method) → check_method_bodies d class ms ≡ Ok tt → AreMethodBodies d class ms
+methods_so d class [] h = tt
+methods_so d class (m ∷ ms) h =
+    let s = then_ok (check_method_body d class m) (check_method_bodies d class ms) tt h in
+    (body_so (method_context d class m.remote) (parameters m.signature.params) m.signature.at m.signature.result m.body s.0, methods_so d class ms s.1)
 
-so_methods : (is : List Interface) (cs : List Class) (service : Truth) (class : List ℕ) (ms : List Method) → AreMethodBodies is cs service class ms → check_method_bodies is cs service class ms ≡ Ok tt
-so_methods is cs service class [] h = refl
-so_methods is cs service class (m ∷ ms) h =
-    ap (λ r. r >> check_method_bodies is cs service class ms)
-    (so_body (method_context is cs service class m.remote) (parameters m.signature.params) m.signature.at m.signature.result m.body h.0)
-    ∙ so_methods is cs service class ms h.1
+so_methods : (d : Declarations) (class : List ℕ) (ms : List Method) → AreMethodBodies d class ms → check_method_bodies d class ms ≡ Ok tt
+so_methods d class [] h = refl
+so_methods d class (m ∷ ms) h =
+    ap (λ r. r >> check_method_bodies d class ms)
+    (so_body (method_context d class m.remote) (parameters m.signature.params) m.signature.at m.signature.result m.body h.0)
+    ∙ so_methods d class ms h.1
 
-bodies_so : (is : List Interface) (cs : List Class) (service : Truth) (ds : List Class) → check_class_bodies is cs service ds ≡ Ok tt → AreClassBodies is cs service ds
-bodies_so is cs service [] h = tt
-bodies_so is cs service (c ∷ ds) h =
-    let s = then_ok (check_method_bodies is cs service c.name c.methods) (check_class_bodies is cs service ds) tt h in
-    (methods_so is cs service c.name c.methods s.0, bodies_so is cs service ds s.1)
+bodies_so : (d : Declarations) (ds : List Class) → check_class_bodies d ds ≡ Ok tt → AreClassBodies d ds
+bodies_so d [] h = tt
+bodies_so d (c ∷ ds) h =
+    let s = then_ok (check_method_bodies d c.name c.methods) (check_class_bodies d ds) tt h in
+    (methods_so d c.name c.methods s.0, bodies_so d ds s.1)
 
-so_bodies : (is : List Interface) (cs : List Class) (service : Truth) (ds : List Class) → AreClassBodies is cs service ds → check_class_bodies is cs service ds ≡ Ok tt
-so_bodies is cs service [] h = refl
-so_bodies is cs service (c ∷ ds) h =
-    ap (λ r. r >> check_class_bodies is cs service ds) (so_methods is cs service c.name c.methods h.0) ∙ so_bodies is cs service ds h.1
+so_bodies : (d : Declarations) (ds : List Class) → AreClassBodies d ds → check_class_bodies d ds ≡ Ok tt
+so_bodies d [] h = refl
+so_bodies d (c ∷ ds) h =
+    ap (λ r. r >> check_class_bodies d ds) (so_methods d c.name c.methods h.0) ∙ so_bodies d ds h.1
 
 pub program_so : (p : Program) → check_program p ≡ Ok tt → IsTyped p
 program_so p h =
-    let s = three_so (check_declarations p.interfaces p.classes false) (check_class_bodies p.interfaces p.classes false p.classes) (check_main p) h in
-    let t = three_so (declared_type p.interfaces p.classes p.result) (must (is_main_result p.at p.result) (TypeNotHere (type_at p.result)))
-    (check_body (main_context p.interfaces p.classes) [] p.at p.result p.body) s.2 in
+    let s = three_so (check_declarations (of_program p)) (check_class_bodies (of_program p) p.classes) (check_main p) h in
+    let t = three_so (declared_type (of_program p) p.result) (must (is_main_result p.at p.result) (TypeNotHere (type_at p.result)))
+    (check_body (main_context (of_program p)) [] p.at p.result p.body) s.2 in
     record {
-      declared = declared_so p.interfaces p.classes false s.0;
-      bodies = bodies_so p.interfaces p.classes false p.classes s.1;
-      result_known = known_so p.interfaces p.classes p.result t.0;
+      declared = declared_so (of_program p) s.0;
+      bodies = bodies_so (of_program p) p.classes s.1;
+      result_known = known_so (of_program p) p.result t.0;
       result = must_ok (is_main_result p.at p.result) (TypeNotHere (type_at p.result)) t.1;
-      body = body_so (main_context p.interfaces p.classes) [] p.at p.result p.body t.2;
+      body = body_so (main_context (of_program p)) [] p.at p.result p.body t.2;
     }
 
 pub so_program : (p : Program) → IsTyped p → check_program p ≡ Ok tt
 so_program p h =
-    so_three (check_declarations p.interfaces p.classes false) (check_class_bodies p.interfaces p.classes false p.classes) (check_main p)
-    (so_declared p.interfaces p.classes false h.declared) (so_bodies p.interfaces p.classes false p.classes h.bodies)
-    (so_three (declared_type p.interfaces p.classes p.result) (must (is_main_result p.at p.result) (TypeNotHere (type_at p.result)))
-    (check_body (main_context p.interfaces p.classes) [] p.at p.result p.body)
-    (so_known p.interfaces p.classes p.result h.result_known) (rw h.result refl) (so_body (main_context p.interfaces p.classes) [] p.at p.result p.body h.body))
+    so_three (check_declarations (of_program p)) (check_class_bodies (of_program p) p.classes) (check_main p)
+    (so_declared (of_program p) h.declared) (so_bodies (of_program p) p.classes h.bodies)
+    (so_three (declared_type (of_program p) p.result) (must (is_main_result p.at p.result) (TypeNotHere (type_at p.result)))
+    (check_body (main_context (of_program p)) [] p.at p.result p.body)
+    (so_known (of_program p) p.result h.result_known) (rw h.result refl) (so_body (main_context (of_program p)) [] p.at p.result p.body h.body))
 
 pub service_so : (cs : List Class) → check_service cs ≡ Ok tt → IsTypedService cs
-service_so cs h = let s = then_ok (check_declarations [] cs true) (check_class_bodies [] cs true cs) tt h in
-    record { declared = declared_so [] cs true s.0; bodies = bodies_so [] cs true cs s.1 }
+service_so cs h = let s = then_ok (check_declarations (of_service cs)) (check_class_bodies (of_service cs) cs) tt h in
+    record { declared = declared_so (of_service cs) s.0; bodies = bodies_so (of_service cs) cs s.1 }
 
 pub so_service : (cs : List Class) → IsTypedService cs → check_service cs ≡ Ok tt
-so_service cs h = ap (λ r. r >> check_class_bodies [] cs true cs) (so_declared [] cs true h.declared) ∙ so_bodies [] cs true cs h.bodies
+so_service cs h = ap (λ r. r >> check_class_bodies (of_service cs) cs) (so_declared (of_service cs) h.declared) ∙ so_bodies (of_service cs) cs h.bodies

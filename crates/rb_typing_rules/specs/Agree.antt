@@ -4,7 +4,8 @@ use Rattle.rb_trees.specs.mirror.Code.{Expr, Stmts}
 use Rattle.rb_trees.specs.mirror.Declarations.{Class, Program}
 use Rattle.rb_meaning_types.specs.Kinds.{Kind}
 use Rattle.rb_meaning_types.specs.Scopes.{Scope}
-use Rattle.rb_meaning_types.specs.Expressions.{Context, type_of}
+use Rattle.rb_meaning_types.specs.Declared.{Context}
+use Rattle.rb_meaning_types.specs.Expressions.{type_of}
 use Rattle.rb_meaning_types.specs.Statements.{check_stmts}
 use Rattle.rb_meaning_types.specs.Programs.{check_program, check_service}
 use Rattle.rb_typing_rules.specs.Rules.{HasType, AllLead}
