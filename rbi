@@ -5,16 +5,37 @@ crates=$(dirname "$(readlink -f "$0")")/crates
 program=$crates/rbi/out/rbi
 log=$crates/rbi/out/build.log
 
+# Says something of the build, with the minutes and seconds since it began.
+say() {
+    spent=$(($(date +%s) - began))
+    printf 'rbi: %d:%02d %s\n' $((spent / 60)) $((spent % 60)) "$1" >&2
+}
+
 build() {
     cd "$crates/rbi" && : >out/begun && rt run -- both data/p data/s && touch -r out/begun out/rbi
 }
 
+# Keeps the build's output in the log, and says each crate that is proved. What is read last is the build's status,
+# without a line feed behind it.
+follow() {
+    while IFS= read -r line; do
+        printf '%s\n' "$line"
+        case $line in
+        "crate "*:*) crate=${line#crate } && crate=${crate%%:*} ;;
+        "logic=proved "*) say "$crate proved" ;;
+        "rt: waiting for "*) say "${line#rt: }" ;;
+        esac
+    done >"$log"
+    [ "$line" = "status 0" ]
+}
+
 if [ ! -x "$program" ] ||
     [ -n "$(find "$crates" "$crates.txt" -name out -prune -o -type f -newer "$program" -print)" ]; then
-    echo "rbi: building the program" >&2
+    began=$(date +%s)
     mkdir -p "$crates/rbi/out"
-    if ! (build) >"$log" 2>&1 </dev/null; then
-        echo "rbi: the build failed, see $log" >&2
+    say "building the program; each crate is proved first"
+    if ! { (build) 2>&1 </dev/null; printf '\nstatus %s' "$?"; } | follow; then
+        say "the build failed, see $log"
         exit 70
     fi
 fi
