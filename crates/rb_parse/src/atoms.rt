@@ -10,7 +10,7 @@ ghost use Rattle.rb_parse.specs.Parts.{atom_of};
 use crate::kinds::{FALSE, LEN, LIST, MINUS, NEW, NOT, OPEN, STR, THIS, TRUE};
 use crate::next::{same_kind, take_if};
 use crate::values::{name, number, text};
-use rb_trees::{Expr, ExprForm, Memory, Token, TokenKind, Value};
+use rb_trees::{Expr, ExprForm, Memory, Shared, Token, TokenKind, Value};
 use std::alloc::Global;
 
 /// The expression of a form at a token.
@@ -39,7 +39,7 @@ pub(crate) fn atom<'t>(
         return Ok(Some((of_form(token, form), rest)));
     }
     if let Some((token, rest)) = take_if(TokenKind::TextLit, tokens) {
-        let form = ExprForm::Lit(Value::Text(text(alloc, source, token)?));
+        let form = ExprForm::Lit(Value::Text(Shared::new(alloc, text(alloc, source, token)?)?));
         return Ok(Some((of_form(token, form), rest)));
     }
     if let Some((token, rest)) = take_if(TRUE, tokens) {

@@ -17,31 +17,29 @@ pub fn copy_word(alloc: Global, word: &Word) -> Result<Word, Memory>
     Seq::from_slice(alloc, word.as_slice())
 }
 
-/// A copy of a value: the same value.
-#[cycle(value_copies)]
-pub fn copy_value(alloc: Global, value: &Value) -> Result<Value, Memory>
+/// A copy of a value: the same value. Its texts and lists are shared, so that it costs the same for each.
+pub fn copy_value(value: &Value) -> Result<Value, Memory>
     ensures { IfOk result (λ copy. copy ≡ value.now) }
 {
     match value {
         Value::Unit => Ok(Value::Unit),
         Value::Int(number) => Ok(Value::Int(*number)),
         Value::Bool(truth) => Ok(Value::Bool(*truth)),
-        Value::Text(text) => Ok(Value::Text(copy_word(alloc, text)?)),
-        Value::List(items) => Ok(Value::List(copy_values(alloc, items.as_slice())?)),
+        Value::Text(text) => Ok(Value::Text(text.share()?)),
+        Value::List(items) => Ok(Value::List(items.share()?)),
         Value::Ref(object) => Ok(Value::Ref(*object)),
         Value::Remote(object) => Ok(Value::Remote(*object)),
-        Value::Rows(rows) => Ok(Value::Rows(copy_values(alloc, rows.as_slice())?)),
+        Value::Rows(rows) => Ok(Value::Rows(rows.share()?)),
     }
 }
 
 /// A copy of a list of values: the same values in order.
-#[cycle(value_copies)]
 pub fn copy_values(alloc: Global, values: &[Value]) -> Result<Seq<Value>, Memory>
     ensures { IfOk result (λ copies. copies ≡ values.now) }
 {
     let mut copies = Seq::new(alloc);
     for value in values {
-        copies.push(copy_value(alloc, value)?)?;
+        copies.push(copy_value(value)?)?;
     }
     Ok(copies)
 }
@@ -99,7 +97,7 @@ fn copy_expr_form(alloc: Global, form: &ExprForm) -> Result<ExprForm, Memory>
     ensures { IfOk result (λ copy. copy ≡ form.now) }
 {
     match form {
-        ExprForm::Lit(value) => Ok(ExprForm::Lit(copy_value(alloc, value)?)),
+        ExprForm::Lit(value) => Ok(ExprForm::Lit(copy_value(value)?)),
         ExprForm::Name(name) => Ok(ExprForm::Name(copy_word(alloc, name)?)),
         ExprForm::This => Ok(ExprForm::This),
         ExprForm::Unary(op, a) => Ok(ExprForm::Unary(*op, copy_boxed(alloc, a)?)),

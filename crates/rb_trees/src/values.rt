@@ -1,8 +1,9 @@
 // Values and faults.
 
 use crate::sequence::{Seq, Word};
+use crate::shared::Shared;
 
-/// A value of running code.
+/// A value of running code. Texts and lists are shared, so that a copy costs nothing.
 #[derive(Drop)]
 pub enum Value {
     Unit,
@@ -10,15 +11,15 @@ pub enum Value {
     Int(i64),
     Bool(bool),
     /// UTF-8 of at most 4,096 bytes.
-    Text(Word),
+    Text(Shared<Word>),
     /// An immutable list of at most 10,000 values.
-    List(Seq<Value>),
+    List(Shared<Seq<Value>>),
     /// An object of the own side's heap, by its number.
     Ref(u32),
     /// An object of the service's table as the client sees it, by its number.
     Remote(u32),
     /// A list of the service as the client sees it.
-    Rows(Seq<Value>),
+    Rows(Shared<Seq<Value>>),
 }
 
 /// Why code ended early: a code from 1 to 12, and a text that is empty but for code 8, Thrown.

@@ -69,7 +69,7 @@ pub fn print_literal(alloc: Global, value: &Value, into: &mut Word) -> Result<()
     match value {
         Value::Int(number) => print_int(alloc, *number, into),
         Value::Bool(truth) => print_bool(*truth, into),
-        Value::Text(text) => print_text(text.as_slice(), into),
+        Value::Text(text) => print_text(text.get().as_slice(), into),
         Value::Unit | Value::List(_) | Value::Ref(_) | Value::Remote(_) | Value::Rows(_) => Ok(()),
     }
 }
