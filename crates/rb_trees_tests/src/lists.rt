@@ -1,6 +1,6 @@
-// What no clause says: that calls succeed where there is memory, and the text of the error.
+// That calls succeed where there is memory, and the text of the error.
 
-use rb_trees::{Boxed, Memory, Seq, Value, copy_value};
+use rb_trees::{Boxed, Memory, Seq, Shared, Value, copy_values};
 use std::test::Fail;
 
 #[test]
@@ -33,14 +33,22 @@ fn a_box_holds_its_value(rt: HostRuntime) -> Result<(), Fail> {
 }
 
 #[test]
-fn a_value_is_copied(rt: HostRuntime) -> Result<(), Fail> {
+fn a_value_has_several_owners(rt: HostRuntime) -> Result<(), Fail> {
+    let one = Shared::new(rt.alloc(), 7u32)?;
+    let other = one.share()?;
+    assert_eq!(rt; *one.get(), 7);
+    assert_eq!(rt; *other.get(), 7);
+    Ok(())
+}
+
+#[test]
+fn values_are_copied(rt: HostRuntime) -> Result<(), Fail> {
     let alloc = rt.alloc();
-    let text = Value::Text(Seq::from_slice(alloc, b"text")?);
-    let value = Value::Rows(Seq::from_vec(vec![in alloc; text]?));
-    let Value::Rows(rows) = copy_value(alloc, &value)? else {
-        return Err(Fail::from("other rows"));
-    };
-    assert_eq!(rt; rows.len(), 1);
+    let text = Value::Text(Shared::new(alloc, Seq::from_slice(alloc, b"text")?)?);
+    let rows = Value::Rows(Shared::new(alloc, Seq::new(alloc))?);
+    let values = [Value::Int(-7), text, rows];
+    let copies = copy_values(alloc, values.as_slice())?;
+    assert_eq!(rt; copies.len(), 3);
     Ok(())
 }
 
