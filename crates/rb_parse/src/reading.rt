@@ -6,10 +6,8 @@ ghost use Rattle.rb_trees.specs.mirror.Declarations.{Program as Tree, mirror_pro
 ghost use Rattle.rb_trees.specs.Outcome.{Tells};
 ghost use Rattle.rb_trees.specs.Reading.{read_refusal};
 ghost use Rattle.rb_meaning_bytes.specs.grammar.Derives.{Derives};
-ghost use Rattle.rb_meaning_bytes.specs.grammar.Limits.{Within};
 ghost use Rattle.rb_meaning_bytes.specs.grammar.Refusals.{Read, place_of};
 ghost use Rattle.rb_parse.specs.Reading.{program_of};
-ghost use Rattle.rb_parse.specs.Told.{IsRead};
 ghost use Rattle.rb_parse.specs.Nested.{Answers, behind, cut_at, limited_of};
 
 use crate::declarations::program;
@@ -80,8 +78,6 @@ pub fn parse_tokens(alloc: Global, source: &[u8], tokens: &[Token]) -> Result<Pr
     requires small { length source.now < 2 ^ 32 }
     // What is answered, the tokens have: this program, or this first refusal.
     ensures read { Tells mirror_program read_refusal result (Read source.now tokens.now) }
-    // A program that the tokens derive within the limits is read, unless memory runs out.
-    ensures only { (program : Tree) → Derives source.now tokens.now program → Within tokens.now → IsRead program result }
 {
     match limited(alloc, source, tokens) {
         Ok(program) => Ok(program),
