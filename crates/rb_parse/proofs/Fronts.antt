@@ -14,6 +14,8 @@ use Rattle.rb_meaning_bytes.specs.grammar.Derives.{Spells, IsPrefix, Derives, Be
 use Rattle.rb_parse.specs.Reading.{Read, ◌>>=◌, alone, read_of, rank, program_of}
 use Rattle.rb_parse.proofs.Takes.{Takes, Stops, done, part, none, within, took, halts, takes_local, stops_local}
 use Rattle.rb_parse.proofs.Complete.{complete}
+use Rattle.rb_parse.proofs.Parted as parts
+use Rattle.rb_parse.proofs.Parted.{Parted, parted}
 use Rattle.rb_parse.proofs.Function.{Came, taken, untold, stopped, came, read_takes, read_stops}
 
 abbrev value : {A : Type 0} → A → Result A ℕ → A
@@ -114,11 +116,28 @@ module _ (source : List ℕ) where
       let x = goes_on w in
       record { rest = x.rest; trees = (made m (TreeOf p) f ys, x.trees); spells = subst (λ z. Spells source (The p ∷ l) z (made m (TreeOf p) f ys, x.trees)) (sym (append_assoc ts us x.rest)) (g.production rule e x.spells) }
 
+  -- what a spelling begins with is a prefix
+  pub front_of : {l : List Symbol} {whole : List Token} {xs : Trees l} → Spells source l whole xs → (a b : List Token) → whole ≡ a ++ b → IsPrefix source l a
+  front_of g.nothing [] b e = g.none
+  front_of g.nothing (y ∷ a) b e = absurd (cc)
+  front_of (g.token t s) [] b e = g.none
+  front_of (g.token {l} t s) (y ∷ a) b e =
+      let same : t ≡ y = cc in
+      subst (λ z. IsPrefix source (Terminal t.kind ∷ l) (z ∷ a)) same (g.after_token t (front_of s a b (cc)))
+  front_of (g.production {p} {m} {l} {f} {ts} {us} {ys} {xs} rule s k) a b e = go (parted ts us a b e) s (front_of s) (front_of k)
+    where
+      go : {ts us a b : List Token} → Parted ts us a b → Spells source m ts ys → ((c d : List Token) → ts ≡ c ++ d → IsPrefix source m c) → ((c d : List Token) → us ≡ c ++ d → IsPrefix source l c) → IsPrefix source (The p ∷ l) a
+      go (parts.same {a}) s one two = g.within rule (one a [] (sym (append-nil a)))
+      go (parts.before {d} t more) s one two = g.past rule s (two (t ∷ more) d refl)
+      go (parts.behind {c} t more) s one two = g.within rule (one c (t ∷ more) refl)
+
   -- a whole spelling is a prefix
   pub whole_front : {l : List Symbol} {ts : List Token} {xs : Trees l} → Spells source l ts xs → IsPrefix source l ts
-  whole_front g.nothing = g.none
-  whole_front (g.token t e) = g.after_token t (whole_front e)
-  whole_front (g.production rule e w) = g.past rule e (whole_front w)
+  whole_front {ts = ts} e = front_of e ts [] (sym (append-nil ts))
+
+  -- what a prefix begins with is one
+  pub front_begins : {l : List Symbol} (a b : List Token) → IsPrefix source l (a ++ b) → IsPrefix source l a
+  front_begins a b f = let x = goes_on f in front_of x.spells a (b ++ x.rest) (append_assoc a b x.rest)
 
   -- a text is taken whole
   text_taken : (ts : List Token) (x : Program) → Derives source ts x → Takes source (The TheProgram ∷ []) ts (x, tt) []

@@ -1,16 +1,22 @@
 -- Reading a source is reading its tokens.
-use Rattle.std.proofs.Common.{◌≡◌, ℕ, List, Ok, Err}
+use Rattle.std.proofs.Common.{ℕ, List, Result, Err}
 use Rattle.rb_trees.specs.declared.tokens.Token.{Token}
 use Rattle.rb_trees.specs.declared.reading.LexError.{LexError}
 use Rattle.rb_trees.specs.declared.reading.LexError.TheVariants as faults
-use Rattle.rb_trees.specs.mirror.Declarations.{Program}
-use Rattle.rb_trees.specs.Outcome.{Tells, Gives}
-use Rattle.rb_trees.specs.Reading.{lex_refusal}
-use Rattle.rb_meaning_bytes.specs.tokens.Texts.{Lexed}
-use Rattle.rb_parse.specs.Told.{ToldSource, IsRead, refusal_of}
+use Rattle.rb_trees.specs.declared.declarations.Program as code
+use Rattle.rb_trees.specs.declared.reading.ReadError.{ReadError}
+use Rattle.rb_trees.specs.mirror.Declarations.{mirror_program}
+use Rattle.rb_trees.specs.Outcome.{Tells, Refused}
+use Rattle.rb_trees.specs.Reading.{lex_refusal, read_refusal}
+use Rattle.rb_trees.proofs.OutcomeWords.{tells_on}
+use Rattle.rb_meaning_bytes.specs.tokens.Texts.{IsTokens, Lexed}
+use Rattle.rb_meaning_bytes.specs.grammar.Refusals.{Read}
+use Rattle.rb_meaning_bytes.specs.grammar.Sources.{ReadSource}
+use Rattle.rb_parse.specs.Told.{refusal_of}
+use Rattle.rb_parse.proofs.Outcomes.{of_tokens}
 
 -- a fault is the source's refusal
-pub fault_told : (source : List ℕ) (fault : LexError) → Tells (λ (ts : List Token). ts) lex_refusal (Err fault) (Lexed source) → ToldSource source (Err (refusal_of fault))
+pub fault_told : (source : List ℕ) (fault : LexError) → Tells (λ (ts : List Token). ts) lex_refusal (Err fault) (Lexed source) → Refused (ReadSource source) (read_refusal (refusal_of fault))
 fault_told source (faults.BadByte at) t = t
 fault_told source (faults.OpenText at) t = t
 fault_told source (faults.NumberTooLarge at) t = t
@@ -18,15 +24,6 @@ fault_told source (faults.NotUtf8 at) t = t
 fault_told source (faults.TooLong at) t = t
 fault_told source faults.Memory t = tt
 
--- a source with a fault has no tokens
-pub fault_only : (fault : LexError) (tokens : List Token) (program : Program) → Gives (λ (ts : List Token). ts) lex_refusal (Err fault) (Ok tokens) → IsRead program (Err (refusal_of fault))
-fault_only (faults.BadByte at) tokens program t = cc
-fault_only (faults.OpenText at) tokens program t = cc
-fault_only (faults.NumberTooLarge at) tokens program t = cc
-fault_only (faults.NotUtf8 at) tokens program t = cc
-fault_only (faults.TooLong at) tokens program t = cc
-fault_only faults.Memory tokens program t = tt
-
--- a source has one list of tokens
-pub same_tokens : (one other : List Token) → Gives (λ (ts : List Token). ts) lex_refusal (Ok one) (Ok other) → one ≡ other
-same_tokens one other h = cc
+-- what its tokens are read as, the source is read as
+pub tokens_told : (source : List ℕ) (tokens : List Token) (answer : Result code.Program ReadError) → IsTokens source tokens → Tells mirror_program read_refusal answer (Read source tokens) → Tells mirror_program read_refusal answer (ReadSource source)
+tokens_told source tokens answer i told = tells_on mirror_program read_refusal (Read source tokens) (ReadSource source) (λ outcome r. of_tokens source tokens outcome i r) answer told

@@ -6,14 +6,15 @@ use Rattle.rb_trees.specs.mirror.Declarations.{Program}
 use Rattle.rb_meaning_bytes.specs.grammar.Derives.{Derives, Begins, Stuck, Breaks}
 use Rattle.rb_meaning_bytes.specs.grammar.Limits.{Nesting, after, too_deep, broken, nothing_open, Within}
 use Rattle.rb_trees.specs.declared.reading.ReadError.TheVariants as errors
-use Rattle.rb_meaning_bytes.specs.grammar.Refusals.{Read, place_of}
+use Rattle.rb_meaning_bytes.specs.grammar.Refusals.{Read, UnexpectedAt, TooNestedAt, place_of}
 use Rattle.rb_parse.specs.declared.stop.Refusal.{Refusal}
 use Rattle.rb_parse.specs.declared.stop.Refusal.TheVariants as refusals
 use Rattle.rb_parse.specs.Reading.{program_of}
 use Rattle.rb_parse.specs.Nested.{unlimited, behind, cut_at, by_limit, limited_of}
-use Rattle.rb_parse.proofs.Fronts.{whole_sound, whole_complete, whole_breaks, whole_front}
+use Rattle.rb_parse.specs.Outcomes.{AtLeastOne}
+use Rattle.rb_parse.proofs.Fronts.{whole_sound, whole_breaks, whole_front}
 
-within_front : (n : Nesting) (a b : List Token) → broken n (a ++ b) ≡ None → broken n a ≡ None
+pub within_front : (n : Nesting) (a b : List Token) → broken n (a ++ b) ≡ None → broken n a ≡ None
 within_front n [] b h = refl
 within_front n (t ∷ a) b h = go (too_deep (after n t.kind)) h (within_front (after n t.kind) a b)
   where
@@ -60,38 +61,34 @@ behind_some left zero h = absurd (omega arith)
 behind_some left (suc m) h = let e : m ≡ suc m - 1 = omega arith in ap (λ k. refusals.Unexpected (left + k)) e
 
 module _ (source : List ℕ) (ts : List Token) where
-  -- So many tokens are left at the first one that no text has there; none before it breaks a limit.
-  pub record UnexpectedLeft (left : ℕ) : Type 0 where
-    pub front : List Token
-    pub rest : List Token
-    pub is : ts ≡ front ++ rest
-    pub within : Within front
-    pub goes : Begins source front
-    pub stuck : Stuck source front rest
-    pub left_is : length rest ≡ left
+  -- where the next token begins with so many tokens left
+  abbrev place : ℕ → ℕ
+  place left = place_of source (drop (length ts - left) ts)
 
-  -- So many tokens are left at the first one that breaks a limit.
-  pub record TooNestedLeft (left : ℕ) : Type 0 where
-    pub front : List Token
-    pub token : Token
-    pub rest : List Token
-    pub is : ts ≡ front ++ token ∷ rest
-    pub within : Within front
-    pub breaks : ¬ Within (front ++ token ∷ [])
-    pub goes : Begins source (front ++ token ∷ [])
-    pub left_is : length (token ∷ rest) ≡ left
-
+  -- What the code answers, the tokens have; where they are refused, so many of them are left at the place.
   abbrev pub Reads : Result Program Refusal → Type 0
   Reads (Ok x) = Derives source ts x × Within ts
-  Reads (Err (refusals.Unexpected left)) = UnexpectedLeft left
-  Reads (Err (refusals.TooNested left)) = TooNestedLeft left
-  Reads (Err refusals.Memory) = Unit {0}
+  Reads (Err (refusals.Unexpected left)) = (left ≤ length ts) × UnexpectedAt source ts (place left)
+  Reads (Err (refusals.TooNested left)) = (left ≤ length ts) × TooNestedAt source ts (place left)
+  Reads (Err refusals.Memory) = ⊥
+
+  few : (front rest : List Token) (left : ℕ) → ts ≡ front ++ rest → length rest ≡ left → left ≤ length ts
+  few front rest left e n = omega (arith, n, simp length-append at (ap length e))
+
+  -- where so many tokens are left
+  place_is : (front rest : List Token) (left : ℕ) → ts ≡ front ++ rest → length rest ≡ left → place left ≡ place_of source rest
+  place_is front rest left e n =
+      let k : length ts - left ≡ length front = omega (arith, n, simp length-append at (ap length e)) in
+      ap (place_of source) (ap (λ i. drop i ts) k ∙ ap (drop (length front)) e ∙ drop-append_seam front rest)
+
+  unexpected : (front rest : List Token) (left : ℕ) → ts ≡ front ++ rest → length rest ≡ left → Within front → Begins source front → Stuck source front rest → Reads (Err (refusals.Unexpected left))
+  unexpected front rest left e n w g k = (few front rest left e n, record { front = front; rest = rest; is = e; within = w; goes = g; stuck = k; place = place_is front rest left e n })
 
   reads_unlimited : Within ts → (r : Result Program ℕ) → program_of source ts ≡ r → Reads (unlimited r)
   reads_unlimited w (Ok x) h = (whole_sound source ts x h, w)
   reads_unlimited w (Err left) h =
       let b = whole_breaks source ts left h in
-      record { front = b.front; rest = b.rest; is = b.is; within = within_front nothing_open b.front b.rest (subst (λ l. broken nothing_open l ≡ None) b.is w); goes = b.goes; stuck = b.stuck; left_is = b.left_is }
+      unexpected b.front b.rest left b.is b.left_is (within_front nothing_open b.front b.rest (subst Within b.is w)) b.goes b.stuck
 
   front_is : (left : ℕ) (x : BrokenAt nothing_open ts left) → take (length ts - left + 1) ts ≡ x.front ++ x.token ∷ []
   front_is left x =
@@ -99,36 +96,30 @@ module _ (source : List ℕ) (ts : List Token) where
       let n : length ts - left + 1 ≡ length (x.front ++ x.token ∷ []) = omega (arith, x.left_is, simp length-append at (ap length x.is), length-append x.front (x.token ∷ [])) in
       ap (λ k. take k ts) n ∙ ap (take (length (x.front ++ x.token ∷ []))) whole ∙ take-append_seam (x.front ++ x.token ∷ []) x.rest
 
-  nested : (left : ℕ) (x : BrokenAt nothing_open ts left) → Begins source (x.front ++ x.token ∷ []) → TooNestedLeft left
-  nested left x g = record { front = x.front; token = x.token; rest = x.rest; is = x.is; within = x.within; breaks = x.breaks; goes = g; left_is = x.left_is }
+  nested : (left : ℕ) (x : BrokenAt nothing_open ts left) → Begins source (x.front ++ x.token ∷ []) → Reads (Err (refusals.TooNested left))
+  nested left x g =
+      (few x.front (x.token ∷ x.rest) left x.is x.left_is, record { front = x.front; token = x.token; rest = x.rest; is = x.is; within = x.within; breaks = x.breaks; goes = g; place = place_is x.front (x.token ∷ x.rest) left x.is x.left_is })
 
   reads_cut : (left : ℕ) (x : BrokenAt nothing_open ts left) (r : Result Program ℕ) → program_of source (x.front ++ x.token ∷ []) ≡ r → Reads (cut_at left r)
   reads_cut left x (Ok p) h = nested left x (whole_front source (whole_sound source (x.front ++ x.token ∷ []) p h))
   reads_cut left x (Err zero) h = ended (whole_breaks source (x.front ++ x.token ∷ []) 0 h)
     where
-      at_end : (front rest : List Token) → x.front ++ x.token ∷ [] ≡ front ++ rest → length rest ≡ 0 → Begins source front → TooNestedLeft left
+      at_end : (front rest : List Token) → x.front ++ x.token ∷ [] ≡ front ++ rest → length rest ≡ 0 → Begins source front → Reads (Err (refusals.TooNested left))
       at_end front [] e n g = nested left x (subst (Begins source) (sym (e ∙ append-nil front)) g)
       at_end front (t ∷ rest) e n g = absurd (omega (arith, n))
 
-      ended : Breaks source (x.front ++ x.token ∷ []) 0 → TooNestedLeft left
+      ended : Breaks source (x.front ++ x.token ∷ []) 0 → Reads (Err (refusals.TooNested left))
       ended b = at_end b.front b.rest b.is b.left_is b.goes
   reads_cut left x (Err (suc m)) h = stops (whole_breaks source (x.front ++ x.token ∷ []) (suc m) h)
     where
-      at_token : (front rest : List Token) → x.front ++ x.token ∷ [] ≡ front ++ rest → length rest ≡ suc m → Begins source front → Stuck source front rest → UnexpectedLeft (left + m)
+      at_token : (front rest : List Token) → x.front ++ x.token ∷ [] ≡ front ++ rest → length rest ≡ suc m → Begins source front → Stuck source front rest → Reads (Err (refusals.Unexpected (left + m)))
       at_token front [] e n g k = absurd (omega (arith, n))
       at_token front (t ∷ rest) e n g k =
           let i = before_end x.front x.token front t rest e in
-          record {
-            front = front;
-            rest = t ∷ (rest ++ x.rest);
-            is = x.is ∙ sym (append_assoc x.front (x.token ∷ []) x.rest) ∙ ap (λ l. l ++ x.rest) e ∙ append_assoc front (t ∷ rest) x.rest;
-            within = within_front nothing_open front i.0 (subst (λ l. broken nothing_open l ≡ None) i.1 x.within);
-            goes = g;
-            stuck = k;
-            left_is = omega (arith, n, x.left_is, length-append rest x.rest);
-          }
+          unexpected front (t ∷ (rest ++ x.rest)) (left + m) (x.is ∙ sym (append_assoc x.front (x.token ∷ []) x.rest) ∙ ap (λ l. l ++ x.rest) e ∙ append_assoc front (t ∷ rest) x.rest)
+          (omega (arith, n, x.left_is, length-append rest x.rest)) (within_front nothing_open front i.0 (subst Within i.1 x.within)) g k
 
-      stops : Breaks source (x.front ++ x.token ∷ []) (suc m) → UnexpectedLeft (left + m)
+      stops : Breaks source (x.front ++ x.token ∷ []) (suc m) → Reads (Err (refusals.Unexpected (left + m)))
       stops b = at_token b.front b.rest b.is b.left_is b.goes b.stuck
 
   pub limited_reads : Reads (limited_of source ts)
@@ -141,47 +132,33 @@ module _ (source : List ℕ) (ts : List Token) where
           let x = broken_at nothing_open ts left e in
           subst (λ l. Reads (cut_at left (program_of source l))) (sym (front_is left x)) (reads_cut left x (program_of source (x.front ++ x.token ∷ [])) refl)
 
-  pub limited_complete : (x : Program) → Derives source ts x → Within ts → limited_of source ts ≡ Ok x
-  unfolding limited_of
-  limited_complete x d w = ap (by_limit source ts) w ∙ ap unlimited (whole_complete source ts x d)
-
   -- reading stops within the tokens
   pub stops_within : (left : ℕ) → program_of source ts ≡ Err left → left ≤ length ts
   stops_within left h =
       let b = whole_breaks source ts left h in
       omega (arith, b.left_is, simp length-append at (ap length b.is))
 
-  -- where so many tokens are left
-  rest_is : (front rest : List Token) (left : ℕ) → ts ≡ front ++ rest → length rest ≡ left → rest ≡ drop (length ts - left) ts
-  rest_is front rest left e n =
-      let k : length ts - left ≡ length front = omega (arith, n, simp length-append at (ap length e)) in
-      sym (ap (λ i. drop i ts) k ∙ ap (drop (length front)) e ∙ drop-append_seam front rest)
-
   pub told_ok : (x : Program) → limited_of source ts ≡ Ok x → Read source ts (Ok x)
   told_ok x h = subst Reads h limited_reads
 
   pub told_unexpected : (left : ℕ) → limited_of source ts ≡ Err (refusals.Unexpected left) → Read source ts (Err (errors.Unexpected (place_of source (drop (length ts - left) ts))))
-  told_unexpected left h =
-      let u : UnexpectedLeft left = subst Reads h limited_reads in
-      record { front = u.front; rest = u.rest; is = u.is; within = u.within; goes = u.goes; stuck = u.stuck; place = ap (place_of source) (sym (rest_is u.front u.rest left u.is u.left_is)) }
+  told_unexpected left h = let u : Reads (Err (refusals.Unexpected left)) = subst Reads h limited_reads in u.1
 
   pub told_nested : (left : ℕ) → limited_of source ts ≡ Err (refusals.TooNested left) → Read source ts (Err (errors.TooNested (place_of source (drop (length ts - left) ts))))
-  told_nested left h =
-      let u : TooNestedLeft left = subst Reads h limited_reads in
-      record { front = u.front; token = u.token; rest = u.rest; is = u.is; within = u.within; breaks = u.breaks; goes = u.goes; place = ap (place_of source) (sym (rest_is u.front (u.token ∷ u.rest) left u.is u.left_is)) }
+  told_nested left h = let u : Reads (Err (refusals.TooNested left)) = subst Reads h limited_reads in u.1
 
   pub unexpected_within : (left : ℕ) → limited_of source ts ≡ Err (refusals.Unexpected left) → left ≤ length ts
-  unexpected_within left h =
-      let u : UnexpectedLeft left = subst Reads h limited_reads in
-      omega (arith, u.left_is, simp length-append at (ap length u.is))
+  unexpected_within left h = let u : Reads (Err (refusals.Unexpected left)) = subst Reads h limited_reads in u.0
 
   pub nested_within : (left : ℕ) → limited_of source ts ≡ Err (refusals.TooNested left) → left ≤ length ts
-  nested_within left h =
-      let u : TooNestedLeft left = subst Reads h limited_reads in
-      omega (arith, u.left_is, simp length-append at (ap length u.is))
+  nested_within left h = let u : Reads (Err (refusals.TooNested left)) = subst Reads h limited_reads in u.0
 
-  pub only_ok : (x p : Program) → limited_of source ts ≡ Ok x → Derives source ts p → Within ts → x ≡ p
-  only_ok x p h d w = let e = limited_complete p d w in let k : ◌≡◌ {A = Result Program Refusal} (Ok x) (Ok p) = sym h ∙ e in cc
-
-  pub only_err : (r : Refusal) (p : Program) → limited_of source ts ≡ Err r → Derives source ts p → Within ts → ⊥
-  only_err r p h d w = let e = limited_complete p d w in let k : ◌≡◌ {A = Result Program Refusal} (Err r) (Ok p) = sym h ∙ e in cc
+  -- the tokens have an outcome
+  pub some_read : AtLeastOne (Read source ts)
+  some_read = go (limited_of source ts) refl
+    where
+      go : (r : Result Program Refusal) → limited_of source ts ≡ r → AtLeastOne (Read source ts)
+      go (Ok x) h = (Ok x, told_ok x h)
+      go (Err (refusals.Unexpected left)) h = (Err (errors.Unexpected (place left)), told_unexpected left h)
+      go (Err (refusals.TooNested left)) h = (Err (errors.TooNested (place left)), told_nested left h)
+      go (Err refusals.Memory) h = absurd (subst Reads h limited_reads)

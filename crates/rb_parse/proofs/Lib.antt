@@ -4,6 +4,7 @@ pub mod Listed
 pub mod Predicts
 pub mod Takes
 pub mod Complete
+pub mod Parted
 pub mod Function
 pub mod Fronts
 pub mod Equations
@@ -11,6 +12,7 @@ pub mod Lists
 pub mod StatementEquations
 pub mod DeclarationEquations
 pub mod Laws
+pub mod Outcomes
 pub mod Joins
 pub mod lawful
 pub mod depths

@@ -4,11 +4,13 @@ use Rattle.rb_trees.specs.declared.tokens.Token.{Token}
 use Rattle.rb_trees.specs.declared.reading.ReadError.{ReadError}
 use Rattle.rb_trees.specs.declared.declarations.Program as code
 use Rattle.rb_trees.specs.mirror.Declarations.{Program, mirror_program}
+use Rattle.rb_trees.specs.Outcome.{Tells}
+use Rattle.rb_trees.specs.Reading.{read_refusal}
 use Rattle.rb_meaning_bytes.specs.tokens.Texts.{IsTokens}
 use Rattle.rb_meaning_bytes.specs.grammar.Derives.{Derives}
 use Rattle.rb_meaning_bytes.specs.grammar.Limits.{Within}
+use Rattle.rb_meaning_bytes.specs.grammar.Refusals.{Read}
 use Rattle.rb_meaning_types.specs.Lawful.{IsLawful}
-use Rattle.rb_parse.specs.Told.{Told}
 use Rattle.rb_parse.proofs.lawful.Whole.{formed}
 use Rattle.rb_parse.proofs.depths.Shallow.{shallow}
 
@@ -28,6 +30,6 @@ lawful source tokens program t d w =
       positions = f.positions;
     }
 
-pub lawful_answer : (source : List ℕ) (tokens : List Token) (answer : Result code.Program ReadError) → IsTokens source tokens → Told source tokens answer → IfOk answer (λ program. IsLawful (mirror_program program))
+pub lawful_answer : (source : List ℕ) (tokens : List Token) (answer : Result code.Program ReadError) → IsTokens source tokens → Tells mirror_program read_refusal answer (Read source tokens) → IfOk answer (λ program. IsLawful (mirror_program program))
 lawful_answer source tokens (Ok program) t told = lawful source tokens (mirror_program program) t told.0 told.1
 lawful_answer source tokens (Err error) t told = tt

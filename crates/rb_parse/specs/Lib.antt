@@ -5,4 +5,5 @@ pub mod Blocks
 pub mod Heads
 pub mod Nested
 pub mod Told
+pub mod Outcomes
 pub mod ReadsBack

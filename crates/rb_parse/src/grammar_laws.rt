@@ -7,9 +7,31 @@ ghost use Rattle.rb_trees.specs.printing.Programs.{printed_program};
 ghost use Rattle.rb_meaning_bytes.specs.tokens.Texts.{IsTokens, longest_text};
 ghost use Rattle.rb_meaning_bytes.specs.grammar.Derives.{Derives};
 ghost use Rattle.rb_meaning_bytes.specs.grammar.Limits.{Within};
+ghost use Rattle.rb_meaning_bytes.specs.grammar.Refusals.{Read};
 ghost use Rattle.rb_meaning_bytes.specs.grammar.Sources.{ReadSource};
 ghost use Rattle.rb_meaning_types.specs.Lawful.{IsLawful};
+ghost use Rattle.rb_parse.specs.Outcomes.{AtMostOne, AtLeastOne};
 ghost use Rattle.rb_parse.specs.ReadsBack.{ReadsBack};
+
+/// A list of tokens has at most one outcome: a program, or a refusal.
+pub fn token_lists_have_one_outcome()
+    ensures { (source : List ℕ) → (tokens : List Lexeme) → AtMostOne (Read source tokens) }
+{}
+
+/// A list of tokens has an outcome.
+pub fn every_token_list_has_an_outcome()
+    ensures { (source : List ℕ) → (tokens : List Lexeme) → AtLeastOne (Read source tokens) }
+{}
+
+/// A source has at most one outcome: a program, or a refusal.
+pub fn sources_have_one_outcome()
+    ensures { (source : List ℕ) → AtMostOne (ReadSource source) }
+{}
+
+/// A source has an outcome.
+pub fn every_source_has_an_outcome()
+    ensures { (source : List ℕ) → AtLeastOne (ReadSource source) }
+{}
 
 /// A program that the tokens of a source derive within the limits is lawful.
 pub fn derived_programs_are_lawful()

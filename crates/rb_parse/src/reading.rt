@@ -3,11 +3,11 @@
 ghost use Rattle.std.specs.Prelude.{◌≡◌, ◌<◌, ◌≤◌, ◌-◌, ◌+◌, ◌^◌, ℕ, List, length, take, drop};
 ghost use Rattle.rb_trees.specs.declared.tokens.Token.{Token as Lexeme};
 ghost use Rattle.rb_trees.specs.mirror.Declarations.{Program as Tree, mirror_program};
+ghost use Rattle.rb_trees.specs.Outcome.{Tells};
+ghost use Rattle.rb_trees.specs.Reading.{read_refusal};
 ghost use Rattle.rb_meaning_bytes.specs.grammar.Derives.{Derives};
-ghost use Rattle.rb_meaning_bytes.specs.grammar.Limits.{Within};
-ghost use Rattle.rb_meaning_bytes.specs.grammar.Refusals.{place_of};
+ghost use Rattle.rb_meaning_bytes.specs.grammar.Refusals.{Read, place_of};
 ghost use Rattle.rb_parse.specs.Reading.{program_of};
-ghost use Rattle.rb_parse.specs.Told.{Told, IsRead};
 ghost use Rattle.rb_parse.specs.Nested.{Answers, behind, cut_at, limited_of};
 
 use crate::declarations::program;
@@ -77,9 +77,7 @@ fn place(source: &[u8], tokens: &[Token], left: usize) -> u32
 pub fn parse_tokens(alloc: Global, source: &[u8], tokens: &[Token]) -> Result<Program, ReadError>
     requires small { length source.now < 2 ^ 32 }
     // What is answered, the tokens have: this program, or this first refusal.
-    ensures read { Told source.now tokens.now result }
-    // A program that the tokens derive within the limits is read, unless memory runs out.
-    ensures only { (program : Tree) → Derives source.now tokens.now program → Within tokens.now → IsRead program result }
+    ensures read { Tells mirror_program read_refusal result (Read source.now tokens.now) }
 {
     match limited(alloc, source, tokens) {
         Ok(program) => Ok(program),

@@ -1,13 +1,12 @@
 // Reading a source.
 
-ghost use Rattle.std.specs.Prelude.{◌≡◌, List, IfOk};
-ghost use Rattle.rb_trees.specs.declared.tokens.Token.{Token};
-ghost use Rattle.rb_trees.specs.mirror.Declarations.{Program as Tree, mirror_program};
-ghost use Rattle.rb_meaning_bytes.specs.tokens.Texts.{IsTokens};
-ghost use Rattle.rb_meaning_bytes.specs.grammar.Derives.{Derives};
-ghost use Rattle.rb_meaning_bytes.specs.grammar.Limits.{Within};
+ghost use Rattle.std.specs.Prelude.{◌≡◌, IfOk};
+ghost use Rattle.rb_trees.specs.mirror.Declarations.{mirror_program};
+ghost use Rattle.rb_trees.specs.Outcome.{Tells};
+ghost use Rattle.rb_trees.specs.Reading.{read_refusal};
+ghost use Rattle.rb_meaning_bytes.specs.grammar.Sources.{ReadSource};
 ghost use Rattle.rb_meaning_types.specs.Lawful.{IsLawful};
-ghost use Rattle.rb_parse.specs.Told.{ToldSource, IsRead, refusal_of};
+ghost use Rattle.rb_parse.specs.Told.{refusal_of};
 
 use crate::reading::parse_tokens;
 use rb_lex::lex;
@@ -20,9 +19,7 @@ use std::alloc::Global;
 /// nothing of the source.
 pub fn parse_program(alloc: Global, source: &[u8]) -> Result<Program, ReadError>
     // What is answered, the source has: this program, or this first refusal.
-    ensures read { ToldSource source.now result }
-    // A program that the source's tokens derive within the limits is read, unless memory runs out.
-    ensures only { (tokens : List Token) → (program : Tree) → IsTokens source.now tokens → Derives source.now tokens program → Within tokens → IsRead program result }
+    ensures read { Tells mirror_program read_refusal result (ReadSource source.now) }
     // What is read is lawful.
     ensures lawful { IfOk result (λ program. IsLawful (mirror_program program)) }
 {

@@ -4,13 +4,15 @@ use Rattle.std.specs.Prelude.{IsTrue}
 use Rattle.std.specs.Str.{bytes_eq}
 use Rattle.std.proofs.lemmas.Slice.Eq.{bytes_eq-Decides}
 use Rattle.rb_trees.specs.declared.reading.ReadError.{ReadError}
+use Rattle.rb_trees.specs.declared.reading.ReadError.TheVariants as errors
 use Rattle.rb_trees.specs.declared.typing.TypeError.{TypeError}
 use Rattle.rb_trees.specs.mirror.Declarations.{Program}
 use Rattle.rb_trees.specs.mirror.Services.{Service}
 use Rattle.rb_meaning.specs.Shown.{line}
 use Rattle.rb_meaning_bytes.specs.grammar.Sources.{ReadSource}
 use Rattle.rb_meaning_types.specs.Violations.{violation_of}
-use Rattle.rb_trees.specs.Outcome.{Refuses}
+use Rattle.rb_trees.specs.Outcome.{Refuses, Refused}
+use Rattle.rb_trees.specs.Reading.{read_refusal}
 use Rattle.rb_meaning_types.specs.Programs.{check_program, is_typed}
 use Rattle.rb_base.specs.Directories.{Directory, told_after, Finds}
 use Rattle.rb_base.specs.Sinks.{told_more, WrotePrefix}
@@ -62,10 +64,16 @@ says_unless : (fuel : ℕ) (told : Option Directory) (ws : List (List ℕ)) (old
 says_unless fuel told ws old reads true status result text new after a e r h = starves fuel told ws old reads result new after e.0 e.1 h
 says_unless fuel told ws old reads false status result text new after a e r h = says fuel told ws old reads status result text new after (a refl) e (h ∙ r)
 
-pub program_not_read : (fuel : ℕ) (told : Option Directory) (ws : List (List ℕ)) (p : List ℕ) (old : Option (List ℕ)) (reads : ℕ) (text : List ℕ) (error : ReadError) (result : Status) (new : Option (List ℕ)) (after : ℕ) → NamesProgram ws p → Finds told p text → Fits text → ReadSource text (Err error) → Refuses text error old result new → after ≡ reads → Says fuel told ws old reads result new after
-program_not_read fuel told ws p old reads text error result new after n f s i r h =
+not_read : (fuel : ℕ) (told : Option Directory) (ws : List (List ℕ)) (p : List ℕ) (old : Option (List ℕ)) (reads : ℕ) (text : List ℕ) (error : ReadError) (result : Status) (new : Option (List ℕ)) (after : ℕ) → NamesProgram ws p → Finds told p text → Fits text → ReadSource text (Err error) → Refuses text error old result new → after ≡ reads → Says fuel told ws old reads result new after
+not_read fuel told ws p old reads text error result new after n f s i r h =
     says_unless fuel told ws old reads (wants_memory error) (SourceRefused (sources.Read error)) result (line (shown_refusal text error)) new after
     (λ m. program_refused ws p text error n f s (record { read = i; is_refusal = m })) r refl h
+
+pub program_not_read : (fuel : ℕ) (told : Option Directory) (ws : List (List ℕ)) (p : List ℕ) (old : Option (List ℕ)) (reads : ℕ) (text : List ℕ) (error : ReadError) (result : Status) (new : Option (List ℕ)) (after : ℕ) → NamesProgram ws p → Finds told p text → Fits text → Refused (ReadSource text) (read_refusal error) → Refuses text error old result new → after ≡ reads → Says fuel told ws old reads result new after
+program_not_read fuel told ws p old reads text errors.Memory result new after n f s i r h = starves fuel told ws old reads result new after r.0 r.1 h
+program_not_read fuel told ws p old reads text (errors.Lex fault) result new after n f s i r h = not_read fuel told ws p old reads text (errors.Lex fault) result new after n f s i r h
+program_not_read fuel told ws p old reads text (errors.Unexpected at) result new after n f s i r h = not_read fuel told ws p old reads text (errors.Unexpected at) result new after n f s i r h
+program_not_read fuel told ws p old reads text (errors.TooNested at) result new after n f s i r h = not_read fuel told ws p old reads text (errors.TooNested at) result new after n f s i r h
 
 pub program_not_typed : (fuel : ℕ) (told : Option Directory) (ws : List (List ℕ)) (p : List ℕ) (old : Option (List ℕ)) (reads : ℕ) (text : List ℕ) (program : Program) (error : TypeError) (result : Status) (new : Option (List ℕ)) (after : ℕ) → NamesProgram ws p → Finds told p text → ReadSource text (Ok program) → Refuses (violation_of error) (check_program program) → Violates text error old result new → after ≡ reads → Says fuel told ws old reads result new after
 program_not_typed fuel told ws p old reads text program error result new after n f i v r h =

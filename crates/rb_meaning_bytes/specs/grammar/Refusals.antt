@@ -34,10 +34,10 @@ pub record TooNestedAt (source : List ℕ) (tokens : List Token) (at : ℕ) : Ty
   pub goes : Begins source (front ++ token ∷ [])
   pub place : at ≡ token.start
 
--- The tokens have this program or refusal. Want of memory says nothing of them.
+-- The tokens have this program or refusal. Want of memory is no refusal of theirs, and a fault is one of the source.
 abbrev pub Read : List ℕ → List Token → Result Program ReadError → Type 0
 Read source tokens (Ok program) = Derives source tokens program × Within tokens
 Read source tokens (Err (errors.Lex fault)) = ⊥
 Read source tokens (Err (errors.Unexpected at)) = UnexpectedAt source tokens at
 Read source tokens (Err (errors.TooNested at)) = TooNestedAt source tokens at
-Read source tokens (Err errors.Memory) = Unit {0}
+Read source tokens (Err errors.Memory) = ⊥

@@ -11,10 +11,11 @@ use Rattle.rb_meaning_bytes.specs.grammar.Refusals.{Read}
 abbrev pub OfTokens : List ℕ → Result Program ReadError → Type 0
 OfTokens source outcome = (tokens : List Token) × IsTokens source tokens × Read source tokens outcome
 
--- The source has this program or refusal. A source without tokens is refused for that first.
+-- The source has this program or refusal. A source without tokens is refused for that first. Want of memory is no
+-- refusal of a source.
 abbrev pub ReadSource : List ℕ → Result Program ReadError → Type 0
 ReadSource source (Ok program) = OfTokens source (Ok program)
 ReadSource source (Err (errors.Lex fault)) = IsRefusal source fault
 ReadSource source (Err (errors.Unexpected at)) = OfTokens source (Err (errors.Unexpected at))
 ReadSource source (Err (errors.TooNested at)) = OfTokens source (Err (errors.TooNested at))
-ReadSource source (Err errors.Memory) = Unit {0}
+ReadSource source (Err errors.Memory) = ⊥

@@ -1,22 +1,18 @@
-use Rattle.std.proofs.Common.{◌≡◌, ◌∙◌, sym, subst, Ok, Err}
+use Rattle.std.proofs.Common.{sym, subst, Err}
+use Rattle.rb_trees.specs.Outcome.{Refused}
+use Rattle.rb_trees.specs.Reading.{read_refusal}
 use Rattle.rb_meaning_bytes.specs.tokens.Texts.{IsTokens}
-use Rattle.rb_meaning_bytes.specs.grammar.Derives.{Derives}
-use Rattle.rb_meaning_bytes.specs.grammar.Limits.{Within}
-use Rattle.rb_parse.specs.Told.{ToldSource, IsRead}
-use Rattle.rb_parse.proofs.Joins.{fault_told, fault_only, same_tokens}
+use Rattle.rb_meaning_bytes.specs.grammar.Sources.{ReadSource}
+use Rattle.rb_parse.proofs.Joins.{fault_told, tokens_told}
 use Rattle.rb_parse.proofs.ReadsLawful.{lawful_answer}
 use Rattle.rb_parse.proofs.source.parse_program.Goals as goal
 
-pub returns-in-Ok-clause-only : goal.returns-in-Ok-clause-only
-returns-in-Ok-clause-only c = λ tokens p i d w.
-    let e : c.in-Ok.tokens ≡ tokens = same_tokens c.in-Ok.tokens tokens (c.in-Ok.ensures.only (Ok tokens) i) in
-    let s : c.as_slice.result.now ≡ tokens = c.as_slice.ensures ∙ e in
-    c.parse_tokens.ensures.only p (subst (λ ts. Derives c.args.source.now ts p) (sym s) d) (subst Within (sym s) w)
+pub returns-in-Ok-clause-read : goal.returns-in-Ok-clause-read
+returns-in-Ok-clause-read c = tokens_told c.args.source.now _ _ (subst (IsTokens c.args.source.now) (sym c.as_slice.ensures) c.in-Ok.ensures.told) c.parse_tokens.ensures.read
 
 pub returns-in-Err : goal.returns-in-Err
 returns-in-Err c = record {
-  read = subst (λ e. ToldSource c.args.source.now (Err e)) (sym c.refused.ensures) (fault_told c.args.source.now c.in-Err.fault c.in-Err.ensures.told);
-  only = λ tokens p i d w. subst (λ e. IsRead p (Err e)) (sym c.refused.ensures) (fault_only c.in-Err.fault tokens p (c.in-Err.ensures.only (Ok tokens) i));
+  read = subst (λ e. Refused (ReadSource c.args.source.now) (read_refusal e)) (sym c.refused.ensures) (fault_told c.args.source.now c.in-Err.fault c.in-Err.ensures.told);
   lawful = tt;
 }
 
