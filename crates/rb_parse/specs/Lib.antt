@@ -1,5 +1,6 @@
 pub mod Table
 pub mod Reading
+pub mod Readers
 pub mod Parts
 pub mod Blocks
 pub mod Heads

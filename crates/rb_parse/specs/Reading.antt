@@ -1,23 +1,17 @@
 -- What reading a part from the left gives: its tree and the tokens behind it, or where it stops.
-use Rattle.std.specs.Prelude.{◌≡◌, ℕ, zero, suc, ◌+◌, ◌*◌, List, [], ◌∷◌, length, Bool, false, cond, Option, Some, None, Result, Ok, Err}
+use Rattle.std.specs.Prelude.{ℕ, zero, suc, ◌+◌, ◌*◌, List, [], ◌∷◌, length, Bool, false, cond, Option, Some, None, Result, Ok, Err}
 use Rattle.rb_trees.specs.declared.tokens.Token.{Token}
 use Rattle.rb_trees.specs.declared.tokens.TokenKind.{TokenKind}
 use Rattle.rb_trees.specs.mirror.Declarations.{Program}
 use Rattle.rb_meaning_bytes.specs.grammar.Kinds.{is_kind, is_one_of}
 use Rattle.rb_meaning_bytes.specs.grammar.Symbols as s
 use Rattle.rb_meaning_bytes.specs.grammar.Symbols.{Symbol, Terminal, The, Nonterminal, Chain, MoreChain, TreeOf, Tree, Makes}
-use Rattle.rb_parse.specs.declared.stop.Stop.{Stop}
-use Rattle.rb_parse.specs.declared.stop.Stop.TheVariants as stops
 use Rattle.rb_parse.specs.Table.{Choice, predict}
+pub use Rattle.rb_trees.specs.Outcome.{◌>>=◌}
 
 -- a value and the tokens behind it, or how many tokens are left where reading stops
 abbrev pub Read : Type 0 → Type 0
 Read A = Result (A × List Token) ℕ
-
-infixl 10 ◌>>=◌
-abbrev pub ◌>>=◌ : {A B : Type 0} → Result A ℕ → (A → Result B ℕ) → Result B ℕ
-(Ok x) >>= f = f x
-(Err e) >>= f = Err e
 
 -- a token of the kind
 abbrev pub take_kind : TokenKind → List Token → Read Token
@@ -94,12 +88,3 @@ next_in kinds (t ∷ ts) = is_one_of t.kind kinds
 abbrev pub on_taken : {A : Type 0} → Option (Token × List Token) → (Token × List Token → A) → A → A
 on_taken None f other = other
 on_taken (Some x) f other = f x
-
--- What a function returned is what reading gives, unless memory ran out.
-abbrev pub Fails : {Y : Type 0} → Stop → Result Y ℕ → Type 0
-Fails stops.Memory read = Unit {0}
-Fails (stops.Unexpected left) read = read ≡ Err left
-
-abbrev pub Gives : {X Y : Type 0} → (X → Y) → Result X Stop → Result Y ℕ → Type 0
-Gives view (Ok x) read = read ≡ Ok (view x)
-Gives view (Err e) read = Fails e read

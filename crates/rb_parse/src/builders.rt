@@ -1,10 +1,11 @@
 // Expressions of their parts.
 
-ghost use Rattle.std.specs.Prelude.{◌≡◌, IfOk};
+ghost use Rattle.std.specs.Prelude.{◌≡◌};
 ghost use Rattle.rb_trees.specs.mirror.Types.{mirror_type};
 ghost use Rattle.rb_trees.specs.mirror.Code as code;
 ghost use Rattle.rb_trees.specs.mirror.Code.{mirror_expr, mirror_exprs};
 ghost use Rattle.rb_meaning_bytes.specs.grammar.Values.{name_of};
+ghost use Rattle.rb_parse.specs.Readers.{Builds};
 
 use crate::atoms::of_form;
 use crate::values::name as name_at;
@@ -20,7 +21,7 @@ pub(crate) fn binary(
     left: Expr,
     right: Expr,
 ) -> Result<Expr, Memory>
-    ensures { IfOk result (λ e. mirror_expr e ≡ code.Binary sign.start op (mirror_expr left) (mirror_expr right)) }
+    ensures { Builds result (code.Binary sign.start op (mirror_expr left) (mirror_expr right)) }
 {
     let left = Boxed::new(alloc, left)?;
     let right = Boxed::new(alloc, right)?;
@@ -30,7 +31,7 @@ pub(crate) fn binary(
 /// The operator at a sign or word before an operand.
 #[tactic(auto, using(rb_trees::proofs::mirror::Exprs::exprs))]
 pub(crate) fn unary(alloc: Global, sign: Token, op: UnOp, operand: Expr) -> Result<Expr, Memory>
-    ensures { IfOk result (λ e. mirror_expr e ≡ code.Unary sign.start op (mirror_expr operand)) }
+    ensures { Builds result (code.Unary sign.start op (mirror_expr operand)) }
 {
     let operand = Boxed::new(alloc, operand)?;
     Ok(of_form(sign, ExprForm::Unary(op, operand)))
@@ -39,7 +40,7 @@ pub(crate) fn unary(alloc: Global, sign: Token, op: UnOp, operand: Expr) -> Resu
 /// The field of a name.
 #[tactic(auto, using(rb_trees::proofs::mirror::Exprs::exprs))]
 pub(crate) fn field(alloc: Global, source: &[u8], object: Expr, name: Token) -> Result<Expr, Memory>
-    ensures { IfOk result (λ e. mirror_expr e ≡ code.Field name.start (mirror_expr object) (name_of source.now name)) }
+    ensures { Builds result (code.Field name.start (mirror_expr object) (name_of source.now name)) }
 {
     let object = Boxed::new(alloc, object)?;
     let word = name_at(alloc, source, name)?;
@@ -55,7 +56,7 @@ pub(crate) fn call(
     name: Token,
     args: Seq<Expr>,
 ) -> Result<Expr, Memory>
-    ensures { IfOk result (λ e. mirror_expr e ≡ code.Call name.start (mirror_expr object) (name_of source.now name) (mirror_exprs args)) }
+    ensures { Builds result (code.Call name.start (mirror_expr object) (name_of source.now name) (mirror_exprs args)) }
 {
     let object = Boxed::new(alloc, object)?;
     let word = name_at(alloc, source, name)?;
@@ -70,7 +71,7 @@ pub(crate) fn index_node(
     list: Expr,
     place: Expr,
 ) -> Result<Expr, Memory>
-    ensures { IfOk result (λ e. mirror_expr e ≡ code.Index sign.start (mirror_expr list) (mirror_expr place)) }
+    ensures { Builds result (code.Index sign.start (mirror_expr list) (mirror_expr place)) }
 {
     let list = Boxed::new(alloc, list)?;
     let place = Boxed::new(alloc, place)?;
@@ -86,7 +87,7 @@ pub(crate) fn object(
     class: Token,
     args: Seq<Expr>,
 ) -> Result<Expr, Memory>
-    ensures { IfOk result (λ e. mirror_expr e ≡ code.New word.start (name_of source.now class) (mirror_exprs args)) }
+    ensures { Builds result (code.New word.start (name_of source.now class) (mirror_exprs args)) }
 {
     let class = name_at(alloc, source, class)?;
     Ok(of_form(word, ExprForm::New(class, args)))

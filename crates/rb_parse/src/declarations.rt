@@ -1,11 +1,13 @@
 // Declarations and the program.
 
-ghost use Rattle.std.specs.Prelude.{◌≡◌, ◌<◌, ◌≤◌, length, map, option_map, IfOk};
+ghost use Rattle.std.specs.Prelude.{map, option_map};
+ghost use Rattle.rb_trees.specs.Outcome.{Gives};
 ghost use Rattle.rb_trees.specs.mirror.Types.{mirror_type};
 ghost use Rattle.rb_trees.specs.mirror.Code.{mirror_expr};
 ghost use Rattle.rb_trees.specs.mirror.Declarations.{mirror_param, mirror_signature, mirror_interface, mirror_body, mirror_method, mirror_class, mirror_program};
 ghost use Rattle.rb_meaning_bytes.specs.grammar.Symbols as s;
-ghost use Rattle.rb_parse.specs.Reading.{Gives, read_of, program_of};
+ghost use Rattle.rb_parse.specs.Reading.{read_of, program_of};
+ghost use Rattle.rb_parse.specs.Readers.{left_of, Reads, Shortens, NoLonger};
 ghost use Rattle.rb_parse.specs.Heads as d;
 
 use crate::kinds::{
@@ -32,8 +34,8 @@ fn result_type<'t>(
     at: u32,
     tokens: &'t [Token],
 ) -> Result<(TypeTree, &'t [Token]), Stop>
-    ensures value { Gives (λ x. (mirror_type x.0, x.1.now)) result (d.result_of source.now at tokens.now) }
-    ensures shorter { IfOk result (λ x. length x.1.now ≤ length tokens.now) }
+    ensures value { Reads mirror_type result (d.result_of source.now at tokens.now) }
+    ensures shorter { NoLonger tokens.now result }
 {
     match take_if(COLON, tokens) {
         Some((_, rest)) => type_tree(alloc, source, rest),
@@ -54,8 +56,8 @@ fn param<'t>(
     source: &[u8],
     tokens: &'t [Token],
 ) -> Result<(Param, &'t [Token]), Stop>
-    ensures value { Gives (λ x. (mirror_param x.0, x.1.now)) result (read_of source.now s.AParam tokens.now) }
-    ensures shorter { IfOk result (λ x. length x.1.now < length tokens.now) }
+    ensures value { Reads mirror_param result (read_of source.now s.AParam tokens.now) }
+    ensures shorter { Shortens tokens.now result }
 {
     let (token, rest) = expect(TokenKind::Name, tokens)?;
     let (_, rest) = expect(COLON, rest)?;
@@ -75,8 +77,8 @@ fn next_param<'t>(
     source: &[u8],
     tokens: &'t [Token],
 ) -> Result<(Param, &'t [Token]), Stop>
-    ensures value { Gives (λ x. (mirror_param x.0, x.1.now)) result (d.next_param source.now tokens.now) }
-    ensures shorter { IfOk result (λ x. length x.1.now < length tokens.now) }
+    ensures value { Reads mirror_param result (d.next_param source.now tokens.now) }
+    ensures shorter { Shortens tokens.now result }
 {
     let (_, rest) = expect(COMMA, tokens)?;
     param(alloc, source, rest)
@@ -90,8 +92,8 @@ fn more_params<'t>(
     first: Param,
     tokens: &'t [Token],
 ) -> Result<(Seq<Param>, &'t [Token]), Stop>
-    ensures value { Gives (λ x. (map mirror_param x.0, x.1.now)) result (d.params_on source.now (mirror_param first) tokens.now) }
-    ensures shorter { IfOk result (λ x. length x.1.now ≤ length tokens.now) }
+    ensures value { Reads (map mirror_param) result (d.params_on source.now (mirror_param first) tokens.now) }
+    ensures shorter { NoLonger tokens.now result }
 {
     let mut list = Seq::new(alloc);
     list.push(first)?;
@@ -111,8 +113,8 @@ fn params_to_close<'t>(
     source: &[u8],
     tokens: &'t [Token],
 ) -> Result<(Seq<Param>, &'t [Token]), Stop>
-    ensures value { Gives (λ x. (map mirror_param x.0, x.1.now)) result (d.params_to_close source.now tokens.now) }
-    ensures shorter { IfOk result (λ x. length x.1.now < length tokens.now) }
+    ensures value { Reads (map mirror_param) result (d.params_to_close source.now tokens.now) }
+    ensures shorter { Shortens tokens.now result }
 {
     if !next_is(TokenKind::Name, tokens) {
         let (_, rest) = expect(CLOSE, tokens)?;
@@ -131,8 +133,8 @@ fn signature<'t>(
     source: &[u8],
     tokens: &'t [Token],
 ) -> Result<(Signature, &'t [Token]), Stop>
-    ensures value { Gives (λ x. (mirror_signature x.0, x.1.now)) result (read_of source.now s.ASignature tokens.now) }
-    ensures shorter { IfOk result (λ x. length x.1.now < length tokens.now) }
+    ensures value { Reads mirror_signature result (read_of source.now s.ASignature tokens.now) }
+    ensures shorter { Shortens tokens.now result }
 {
     let (_, rest) = expect(FUN, tokens)?;
     let (token, rest) = expect(TokenKind::Name, rest)?;
@@ -155,8 +157,8 @@ fn signature_to_end<'t>(
     source: &[u8],
     tokens: &'t [Token],
 ) -> Result<(Signature, &'t [Token]), Stop>
-    ensures value { Gives (λ x. (mirror_signature x.0, x.1.now)) result (d.signature_to_end source.now tokens.now) }
-    ensures shorter { IfOk result (λ x. length x.1.now < length tokens.now) }
+    ensures value { Reads mirror_signature result (d.signature_to_end source.now tokens.now) }
+    ensures shorter { Shortens tokens.now result }
 {
     let (found, rest) = signature(alloc, source, tokens)?;
     let (_, rest) = expect(SEMICOLON, rest)?;
@@ -170,8 +172,8 @@ fn field_to_end<'t>(
     source: &[u8],
     tokens: &'t [Token],
 ) -> Result<(Param, &'t [Token]), Stop>
-    ensures value { Gives (λ x. (mirror_param x.0, x.1.now)) result (d.field_to_end source.now tokens.now) }
-    ensures shorter { IfOk result (λ x. length x.1.now < length tokens.now) }
+    ensures value { Reads mirror_param result (d.field_to_end source.now tokens.now) }
+    ensures shorter { Shortens tokens.now result }
 {
     let (found, rest) = param(alloc, source, tokens)?;
     let (_, rest) = expect(SEMICOLON, rest)?;
@@ -185,8 +187,8 @@ fn signatures<'t>(
     source: &[u8],
     tokens: &'t [Token],
 ) -> Result<(Seq<Signature>, &'t [Token]), Stop>
-    ensures value { Gives (λ x. (map mirror_signature x.0, x.1.now)) result (read_of source.now s.Signatures tokens.now) }
-    ensures shorter { IfOk result (λ x. length x.1.now ≤ length tokens.now) }
+    ensures value { Reads (map mirror_signature) result (read_of source.now s.Signatures tokens.now) }
+    ensures shorter { NoLonger tokens.now result }
 {
     let mut list = Seq::new(alloc);
     let mut rest = tokens;
@@ -205,8 +207,8 @@ fn fields<'t>(
     source: &[u8],
     tokens: &'t [Token],
 ) -> Result<(Seq<Param>, &'t [Token]), Stop>
-    ensures value { Gives (λ x. (map mirror_param x.0, x.1.now)) result (read_of source.now s.Fields tokens.now) }
-    ensures shorter { IfOk result (λ x. length x.1.now ≤ length tokens.now) }
+    ensures value { Reads (map mirror_param) result (read_of source.now s.Fields tokens.now) }
+    ensures shorter { NoLonger tokens.now result }
 {
     let mut list = Seq::new(alloc);
     let mut rest = tokens;
@@ -221,8 +223,8 @@ fn fields<'t>(
 /// The name of a declaration and the brace behind it.
 #[tactic(auto, unfolding(crate::specs::Heads::headed_of))]
 fn headed(tokens: &[Token]) -> Result<(Token, &[Token]), Stop>
-    ensures value { Gives (λ x. (x.0, x.1.now)) result (d.headed_of tokens.now) }
-    ensures shorter { IfOk result (λ x. length x.1.now < length tokens.now) }
+    ensures value { Reads (λ x. x) result (d.headed_of tokens.now) }
+    ensures shorter { Shortens tokens.now result }
 {
     let (name, rest) = expect(TokenKind::Name, tokens)?;
     let (_, rest) = expect(OPEN_BRACE, rest)?;
@@ -236,8 +238,8 @@ fn interface<'t>(
     source: &[u8],
     tokens: &'t [Token],
 ) -> Result<(Interface, &'t [Token]), Stop>
-    ensures value { Gives (λ x. (mirror_interface x.0, x.1.now)) result (read_of source.now s.AnInterface tokens.now) }
-    ensures shorter { IfOk result (λ x. length x.1.now < length tokens.now) }
+    ensures value { Reads mirror_interface result (read_of source.now s.AnInterface tokens.now) }
+    ensures shorter { Shortens tokens.now result }
 {
     let (_, rest) = expect(INTERFACE, tokens)?;
     let (token, rest) = headed(rest)?;
@@ -258,8 +260,8 @@ fn interfaces<'t>(
     source: &[u8],
     tokens: &'t [Token],
 ) -> Result<(Seq<Interface>, &'t [Token]), Stop>
-    ensures value { Gives (λ x. (map mirror_interface x.0, x.1.now)) result (read_of source.now s.Interfaces tokens.now) }
-    ensures shorter { IfOk result (λ x. length x.1.now ≤ length tokens.now) }
+    ensures value { Reads (map mirror_interface) result (read_of source.now s.Interfaces tokens.now) }
+    ensures shorter { NoLonger tokens.now result }
 {
     let mut list = Seq::new(alloc);
     let mut rest = tokens;
@@ -278,8 +280,8 @@ fn returned<'t>(
     source: &[u8],
     tokens: &'t [Token],
 ) -> Result<(Option<Expr>, &'t [Token]), Stop>
-    ensures value { Gives (λ x. (option_map mirror_expr x.0, x.1.now)) result (read_of source.now s.Returns tokens.now) }
-    ensures shorter { IfOk result (λ x. length x.1.now ≤ length tokens.now) }
+    ensures value { Reads (option_map mirror_expr) result (read_of source.now s.Returns tokens.now) }
+    ensures shorter { NoLonger tokens.now result }
 {
     match take_if(RETURN, tokens) {
         Some((_, rest)) => {
@@ -293,8 +295,8 @@ fn returned<'t>(
 /// A body.
 #[tactic(auto, using(crate::proofs::DeclarationEquations::body_is))]
 fn body<'t>(alloc: Global, source: &[u8], tokens: &'t [Token]) -> Result<(Body, &'t [Token]), Stop>
-    ensures value { Gives (λ x. (mirror_body x.0, x.1.now)) result (read_of source.now s.ABody tokens.now) }
-    ensures shorter { IfOk result (λ x. length x.1.now < length tokens.now) }
+    ensures value { Reads mirror_body result (read_of source.now s.ABody tokens.now) }
+    ensures shorter { Shortens tokens.now result }
 {
     let (_, rest) = expect(OPEN_BRACE, tokens)?;
     let (statements, rest) = statements(alloc, source, rest)?;
@@ -310,8 +312,8 @@ fn method<'t>(
     source: &[u8],
     tokens: &'t [Token],
 ) -> Result<(Method, &'t [Token]), Stop>
-    ensures value { Gives (λ x. (mirror_method x.0, x.1.now)) result (read_of source.now s.AMethod tokens.now) }
-    ensures shorter { IfOk result (λ x. length x.1.now < length tokens.now) }
+    ensures value { Reads mirror_method result (read_of source.now s.AMethod tokens.now) }
+    ensures shorter { Shortens tokens.now result }
 {
     let (remote, rest) = match take_if(REMOTE, tokens) {
         Some((_, rest)) => (true, rest),
@@ -334,8 +336,8 @@ fn methods<'t>(
     source: &[u8],
     tokens: &'t [Token],
 ) -> Result<(Seq<Method>, &'t [Token]), Stop>
-    ensures value { Gives (λ x. (map mirror_method x.0, x.1.now)) result (read_of source.now s.Methods tokens.now) }
-    ensures shorter { IfOk result (λ x. length x.1.now ≤ length tokens.now) }
+    ensures value { Reads (map mirror_method) result (read_of source.now s.Methods tokens.now) }
+    ensures shorter { NoLonger tokens.now result }
 {
     let mut list = Seq::new(alloc);
     let mut rest = tokens;
@@ -354,8 +356,8 @@ fn class<'t>(
     source: &[u8],
     tokens: &'t [Token],
 ) -> Result<(Class, &'t [Token]), Stop>
-    ensures value { Gives (λ x. (mirror_class x.0, x.1.now)) result (read_of source.now s.AClass tokens.now) }
-    ensures shorter { IfOk result (λ x. length x.1.now < length tokens.now) }
+    ensures value { Reads mirror_class result (read_of source.now s.AClass tokens.now) }
+    ensures shorter { Shortens tokens.now result }
 {
     let (_, rest) = expect(CLASS, tokens)?;
     let (token, rest) = headed(rest)?;
@@ -378,8 +380,8 @@ fn classes<'t>(
     source: &[u8],
     tokens: &'t [Token],
 ) -> Result<(Seq<Class>, &'t [Token]), Stop>
-    ensures value { Gives (λ x. (map mirror_class x.0, x.1.now)) result (read_of source.now s.Classes tokens.now) }
-    ensures shorter { IfOk result (λ x. length x.1.now ≤ length tokens.now) }
+    ensures value { Reads (map mirror_class) result (read_of source.now s.Classes tokens.now) }
+    ensures shorter { NoLonger tokens.now result }
 {
     let mut list = Seq::new(alloc);
     let mut rest = tokens;
@@ -398,8 +400,8 @@ fn program_part<'t>(
     source: &[u8],
     tokens: &'t [Token],
 ) -> Result<(Program, &'t [Token]), Stop>
-    ensures value { Gives (λ x. (mirror_program x.0, x.1.now)) result (read_of source.now s.TheProgram tokens.now) }
-    ensures shorter { IfOk result (λ x. length x.1.now < length tokens.now) }
+    ensures value { Reads mirror_program result (read_of source.now s.TheProgram tokens.now) }
+    ensures shorter { Shortens tokens.now result }
 {
     let (interfaces, rest) = interfaces(alloc, source, tokens)?;
     let (classes, rest) = classes(alloc, source, rest)?;
@@ -419,7 +421,7 @@ fn program_part<'t>(
 /// The program that all tokens are.
 #[tactic(auto, unfolding(crate::specs::Reading::program_of))]
 pub(crate) fn program(alloc: Global, source: &[u8], tokens: &[Token]) -> Result<Program, Stop>
-    ensures { Gives mirror_program result (program_of source.now tokens.now) }
+    ensures { Gives mirror_program left_of result (program_of source.now tokens.now) }
 {
     let (program, rest) = program_part(alloc, source, tokens)?;
     if rest.is_empty() {

@@ -1,9 +1,9 @@
 // Expressions: one function a kind of part.
 
-ghost use Rattle.std.specs.Prelude.{◌≡◌, ◌<◌, ◌≤◌, length, IfOk};
 ghost use Rattle.rb_trees.specs.mirror.Code.{mirror_expr, mirror_exprs};
 ghost use Rattle.rb_meaning_bytes.specs.grammar.Symbols as s;
-ghost use Rattle.rb_parse.specs.Reading.{Gives, read_of};
+ghost use Rattle.rb_parse.specs.Reading.{read_of};
+ghost use Rattle.rb_parse.specs.Readers.{Reads, Shortens, NoLonger};
 ghost use Rattle.rb_parse.specs.Parts as p;
 
 use crate::atoms::{atom, begins_expression};
@@ -27,8 +27,8 @@ pub(crate) fn chain<'t>(
     level: Level,
     tokens: &'t [Token],
 ) -> Result<(Expr, &'t [Token]), Stop>
-    ensures value { Gives (λ x. (mirror_expr x.0, x.1.now)) result (read_of source.now (s.Chain (p.level_of level)) tokens.now) }
-    ensures shorter { IfOk result (λ x. length x.1.now < length tokens.now) }
+    ensures value { Reads mirror_expr result (read_of source.now (s.Chain (p.level_of level)) tokens.now) }
+    ensures shorter { Shortens tokens.now result }
 {
     let (left, rest) = operand(alloc, source, level, tokens)?;
     chain_rest(alloc, source, level, left, rest)
@@ -43,8 +43,8 @@ fn operand<'t>(
     level: Level,
     tokens: &'t [Token],
 ) -> Result<(Expr, &'t [Token]), Stop>
-    ensures value { Gives (λ x. (mirror_expr x.0, x.1.now)) result (p.operand_of source.now level tokens.now) }
-    ensures shorter { IfOk result (λ x. length x.1.now < length tokens.now) }
+    ensures value { Reads mirror_expr result (p.operand_of source.now level tokens.now) }
+    ensures shorter { Shortens tokens.now result }
 {
     match level {
         Level::Or => chain(alloc, source, Level::And, tokens),
@@ -66,8 +66,8 @@ fn chain_rest<'t>(
     left: Expr,
     tokens: &'t [Token],
 ) -> Result<(Expr, &'t [Token]), Stop>
-    ensures value { Gives (λ x. (mirror_expr x.0, x.1.now)) result (p.more_of source.now level (mirror_expr left) tokens.now) }
-    ensures shorter { IfOk result (λ x. length x.1.now ≤ length tokens.now) }
+    ensures value { Reads mirror_expr result (p.more_of source.now level (mirror_expr left) tokens.now) }
+    ensures shorter { NoLonger tokens.now result }
 {
     match operator(level, tokens) {
         Some((op, sign, rest)) => joined(alloc, source, level, left, op, sign, rest),
@@ -87,8 +87,8 @@ fn joined<'t>(
     sign: Token,
     tokens: &'t [Token],
 ) -> Result<(Expr, &'t [Token]), Stop>
-    ensures value { Gives (λ x. (mirror_expr x.0, x.1.now)) result (p.joined_of source.now level (mirror_expr left) op sign tokens.now) }
-    ensures shorter { IfOk result (λ x. length x.1.now < length tokens.now) }
+    ensures value { Reads mirror_expr result (p.joined_of source.now level (mirror_expr left) op sign tokens.now) }
+    ensures shorter { Shortens tokens.now result }
 {
     let (right, rest) = operand(alloc, source, level, tokens)?;
     let both = binary(alloc, sign, op, left, right)?;
@@ -107,8 +107,8 @@ fn prefix<'t>(
     source: &[u8],
     tokens: &'t [Token],
 ) -> Result<(Expr, &'t [Token]), Stop>
-    ensures value { Gives (λ x. (mirror_expr x.0, x.1.now)) result (read_of source.now s.Prefix tokens.now) }
-    ensures shorter { IfOk result (λ x. length x.1.now < length tokens.now) }
+    ensures value { Reads mirror_expr result (read_of source.now s.Prefix tokens.now) }
+    ensures shorter { Shortens tokens.now result }
 {
     if let Some((sign, rest)) = take_if(NOT, tokens) {
         return prefixed(alloc, source, UnOp::Not, sign, rest);
@@ -130,8 +130,8 @@ fn prefixed<'t>(
     sign: Token,
     tokens: &'t [Token],
 ) -> Result<(Expr, &'t [Token]), Stop>
-    ensures value { Gives (λ x. (mirror_expr x.0, x.1.now)) result (p.prefixed_of source.now op sign tokens.now) }
-    ensures shorter { IfOk result (λ x. length x.1.now < length tokens.now) }
+    ensures value { Reads mirror_expr result (p.prefixed_of source.now op sign tokens.now) }
+    ensures shorter { Shortens tokens.now result }
 {
     let (operand, rest) = prefix(alloc, source, tokens)?;
     Ok((unary(alloc, sign, op, operand)?, rest))
@@ -146,8 +146,8 @@ fn members<'t>(
     object: Expr,
     tokens: &'t [Token],
 ) -> Result<(Expr, &'t [Token]), Stop>
-    ensures value { Gives (λ x. (mirror_expr x.0, x.1.now)) result (p.members_of source.now (mirror_expr object) tokens.now) }
-    ensures shorter { IfOk result (λ x. length x.1.now ≤ length tokens.now) }
+    ensures value { Reads mirror_expr result (p.members_of source.now (mirror_expr object) tokens.now) }
+    ensures shorter { NoLonger tokens.now result }
 {
     if let Some((_, rest)) = take_if(DOT, tokens) {
         let (name, rest) = expect(TokenKind::Name, rest)?;
@@ -169,8 +169,8 @@ fn called<'t>(
     name: Token,
     tokens: &'t [Token],
 ) -> Result<(Expr, &'t [Token]), Stop>
-    ensures value { Gives (λ x. (mirror_expr x.0, x.1.now)) result (p.called_of source.now (mirror_expr object) name tokens.now) }
-    ensures shorter { IfOk result (λ x. length x.1.now ≤ length tokens.now) }
+    ensures value { Reads mirror_expr result (p.called_of source.now (mirror_expr object) name tokens.now) }
+    ensures shorter { NoLonger tokens.now result }
 {
     if let Some((_, rest)) = take_if(OPEN, tokens) {
         let (args, rest) = arguments(alloc, source, rest)?;
@@ -191,8 +191,8 @@ fn index<'t>(
     sign: Token,
     tokens: &'t [Token],
 ) -> Result<(Expr, &'t [Token]), Stop>
-    ensures value { Gives (λ x. (mirror_expr x.0, x.1.now)) result (p.index_at source.now (mirror_expr list) sign tokens.now) }
-    ensures shorter { IfOk result (λ x. length x.1.now < length tokens.now) }
+    ensures value { Reads mirror_expr result (p.index_at source.now (mirror_expr list) sign tokens.now) }
+    ensures shorter { Shortens tokens.now result }
 {
     let (place, rest) = chain(alloc, source, Level::Or, tokens)?;
     let (_, rest) = expect(CLOSE_BRACKET, rest)?;
@@ -208,8 +208,8 @@ fn arguments<'t>(
     source: &[u8],
     tokens: &'t [Token],
 ) -> Result<(Seq<Expr>, &'t [Token]), Stop>
-    ensures value { Gives (λ x. (mirror_exprs x.0, x.1.now)) result (p.arguments_to_close source.now tokens.now) }
-    ensures shorter { IfOk result (λ x. length x.1.now < length tokens.now) }
+    ensures value { Reads mirror_exprs result (p.arguments_to_close source.now tokens.now) }
+    ensures shorter { Shortens tokens.now result }
 {
     if !begins_expression(tokens) {
         let (_, rest) = expect(CLOSE, tokens)?;
@@ -230,8 +230,8 @@ fn more_arguments<'t>(
     first: Expr,
     tokens: &'t [Token],
 ) -> Result<(Seq<Expr>, &'t [Token]), Stop>
-    ensures value { Gives (λ x. (mirror_exprs x.0, x.1.now)) result (p.more_on source.now (mirror_expr first) tokens.now) }
-    ensures shorter { IfOk result (λ x. length x.1.now ≤ length tokens.now) }
+    ensures value { Reads mirror_exprs result (p.more_on source.now (mirror_expr first) tokens.now) }
+    ensures shorter { NoLonger tokens.now result }
 {
     let mut list = Seq::new(alloc);
     list.push(first)?;
@@ -248,8 +248,8 @@ fn more_arguments<'t>(
 #[cycle(expressions)]
 #[tactic(auto, using(crate::proofs::Equations::first_is))]
 fn first<'t>(alloc: Global, source: &[u8], tokens: &'t [Token]) -> Result<(Expr, &'t [Token]), Stop>
-    ensures value { Gives (λ x. (mirror_expr x.0, x.1.now)) result (read_of source.now s.First tokens.now) }
-    ensures shorter { IfOk result (λ x. length x.1.now < length tokens.now) }
+    ensures value { Reads mirror_expr result (read_of source.now s.First tokens.now) }
+    ensures shorter { Shortens tokens.now result }
 {
     if let Some(found) = atom(alloc, source, tokens)? {
         return Ok(found);
@@ -282,8 +282,8 @@ fn measured<'t>(
     word: Token,
     tokens: &'t [Token],
 ) -> Result<(Expr, &'t [Token]), Stop>
-    ensures value { Gives (λ x. (mirror_expr x.0, x.1.now)) result (p.measured_of source.now op word tokens.now) }
-    ensures shorter { IfOk result (λ x. length x.1.now < length tokens.now) }
+    ensures value { Reads mirror_expr result (p.measured_of source.now op word tokens.now) }
+    ensures shorter { Shortens tokens.now result }
 {
     let (_, rest) = expect(OPEN, tokens)?;
     let (operand, rest) = inside(alloc, source, rest)?;
@@ -299,8 +299,8 @@ fn new_object<'t>(
     word: Token,
     tokens: &'t [Token],
 ) -> Result<(Expr, &'t [Token]), Stop>
-    ensures value { Gives (λ x. (mirror_expr x.0, x.1.now)) result (p.object_of source.now word tokens.now) }
-    ensures shorter { IfOk result (λ x. length x.1.now < length tokens.now) }
+    ensures value { Reads mirror_expr result (p.object_of source.now word tokens.now) }
+    ensures shorter { Shortens tokens.now result }
 {
     let (class, rest) = expect(TokenKind::Name, tokens)?;
     let (_, rest) = expect(OPEN, rest)?;
@@ -317,8 +317,8 @@ fn new_list<'t>(
     word: Token,
     tokens: &'t [Token],
 ) -> Result<(Expr, &'t [Token]), Stop>
-    ensures value { Gives (λ x. (mirror_expr x.0, x.1.now)) result (p.list_of source.now word tokens.now) }
-    ensures shorter { IfOk result (λ x. length x.1.now < length tokens.now) }
+    ensures value { Reads mirror_expr result (p.list_of source.now word tokens.now) }
+    ensures shorter { Shortens tokens.now result }
 {
     let (item, rest) = item_type(alloc, source, tokens)?;
     let (_, rest) = expect(OPEN, rest)?;
@@ -334,8 +334,8 @@ pub(crate) fn inside<'t>(
     source: &[u8],
     tokens: &'t [Token],
 ) -> Result<(Expr, &'t [Token]), Stop>
-    ensures value { Gives (λ x. (mirror_expr x.0, x.1.now)) result (p.expression_to_close source.now tokens.now) }
-    ensures shorter { IfOk result (λ x. length x.1.now < length tokens.now) }
+    ensures value { Reads mirror_expr result (p.expression_to_close source.now tokens.now) }
+    ensures shorter { Shortens tokens.now result }
 {
     let (expr, rest) = chain(alloc, source, Level::Or, tokens)?;
     let (_, rest) = expect(CLOSE, rest)?;

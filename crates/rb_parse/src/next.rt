@@ -1,8 +1,9 @@
 // Looks at the next token.
 
-ghost use Rattle.std.specs.Prelude.{◌≡◌, ◌<◌, [], ◌∷◌, length, IfOk, IfSome, option_map};
+ghost use Rattle.std.specs.Prelude.{◌≡◌, ◌<◌, [], ◌∷◌, length, IfSome, option_map};
 ghost use Rattle.rb_meaning_bytes.specs.grammar.Kinds.{is_kind};
-ghost use Rattle.rb_parse.specs.Reading.{Gives, take_kind, taken, next_in};
+ghost use Rattle.rb_parse.specs.Reading.{take_kind, taken, next_in};
+ghost use Rattle.rb_parse.specs.Readers.{Reads, Shortens};
 
 use crate::stop::Stop;
 use rb_trees::{Token, TokenKind};
@@ -55,8 +56,8 @@ pub(crate) fn take_if<'t>(kind: TokenKind, tokens: &'t [Token]) -> Option<(Token
 
 /// The next token, which has to be of the kind, and the tokens behind it.
 pub(crate) fn expect<'t>(kind: TokenKind, tokens: &'t [Token]) -> Result<(Token, &'t [Token]), Stop>
-    ensures value { Gives (λ x. (x.0, x.1.now)) result (take_kind kind tokens.now) }
-    ensures shorter { IfOk result (λ x. length x.1.now < length tokens.now) }
+    ensures value { Reads (λ x. x) result (take_kind kind tokens.now) }
+    ensures shorter { Shortens tokens.now result }
 {
     match tokens {
         [token, rest @ ..] => {

@@ -1,11 +1,12 @@
 // Statements without blocks, and the heads of those with blocks.
 
-ghost use Rattle.std.specs.Prelude.{◌≡◌, ◌<◌, length, IfOk};
+ghost use Rattle.std.specs.Prelude.{◌≡◌};
 ghost use Rattle.rb_trees.specs.mirror.Code as code;
 ghost use Rattle.rb_trees.specs.mirror.Code.{mirror_expr, mirror_stmt, mirror_stmt_form};
 ghost use Rattle.rb_meaning_bytes.specs.grammar.Kinds.{is_one_of};
 ghost use Rattle.rb_parse.specs.Table.{statement_kinds};
-ghost use Rattle.rb_parse.specs.Reading.{Gives, next_in};
+ghost use Rattle.rb_parse.specs.Reading.{next_in};
+ghost use Rattle.rb_parse.specs.Readers.{Reads, Shortens};
 ghost use Rattle.rb_parse.specs.Blocks as b;
 
 use crate::atoms::begins_with as begins_expression;
@@ -64,8 +65,8 @@ pub(crate) fn expression_to_end<'t>(
     source: &[u8],
     tokens: &'t [Token],
 ) -> Result<(Expr, &'t [Token]), Stop>
-    ensures value { Gives (λ x. (mirror_expr x.0, x.1.now)) result (b.expression_to_end source.now tokens.now) }
-    ensures shorter { IfOk result (λ x. length x.1.now < length tokens.now) }
+    ensures value { Reads mirror_expr result (b.expression_to_end source.now tokens.now) }
+    ensures shorter { Shortens tokens.now result }
 {
     let (expr, rest) = chain(alloc, source, Level::Or, tokens)?;
     let (_, rest) = expect(SEMICOLON, rest)?;
@@ -78,14 +79,14 @@ fn named_value<'t>(
     alloc: Global,
     source: &[u8],
     tokens: &'t [Token],
-) -> Result<(Word, Expr, &'t [Token]), Stop>
-    ensures value { Gives (λ x. ((x.0, mirror_expr x.1), x.2.now)) result (b.named_value_of source.now tokens.now) }
-    ensures shorter { IfOk result (λ x. length x.2.now < length tokens.now) }
+) -> Result<((Word, Expr), &'t [Token]), Stop>
+    ensures value { Reads (λ x. (x.0, mirror_expr x.1)) result (b.named_value_of source.now tokens.now) }
+    ensures shorter { Shortens tokens.now result }
 {
     let (token, rest) = expect(TokenKind::Name, tokens)?;
     let (_, rest) = expect(ASSIGN, rest)?;
     let (value, rest) = expression_to_end(alloc, source, rest)?;
-    Ok((name(alloc, source, token)?, value, rest))
+    Ok(((name(alloc, source, token)?, value), rest))
 }
 
 /// A condition between brackets.
@@ -95,8 +96,8 @@ pub(crate) fn condition<'t>(
     source: &[u8],
     tokens: &'t [Token],
 ) -> Result<(Expr, &'t [Token]), Stop>
-    ensures value { Gives (λ x. (mirror_expr x.0, x.1.now)) result (b.condition_of source.now tokens.now) }
-    ensures shorter { IfOk result (λ x. length x.1.now < length tokens.now) }
+    ensures value { Reads mirror_expr result (b.condition_of source.now tokens.now) }
+    ensures shorter { Shortens tokens.now result }
 {
     let (_, rest) = expect(OPEN, tokens)?;
     inside(alloc, source, rest)
@@ -109,8 +110,8 @@ fn printed<'t>(
     source: &[u8],
     tokens: &'t [Token],
 ) -> Result<(Expr, &'t [Token]), Stop>
-    ensures value { Gives (λ x. (mirror_expr x.0, x.1.now)) result (b.printed_of source.now tokens.now) }
-    ensures shorter { IfOk result (λ x. length x.1.now < length tokens.now) }
+    ensures value { Reads mirror_expr result (b.printed_of source.now tokens.now) }
+    ensures shorter { Shortens tokens.now result }
 {
     let (value, rest) = condition(alloc, source, tokens)?;
     let (_, rest) = expect(SEMICOLON, rest)?;
@@ -123,15 +124,15 @@ pub(crate) fn each<'t>(
     alloc: Global,
     source: &[u8],
     tokens: &'t [Token],
-) -> Result<(Word, Expr, &'t [Token]), Stop>
-    ensures value { Gives (λ x. ((x.0, mirror_expr x.1), x.2.now)) result (b.each_of source.now tokens.now) }
-    ensures shorter { IfOk result (λ x. length x.2.now < length tokens.now) }
+) -> Result<((Word, Expr), &'t [Token]), Stop>
+    ensures value { Reads (λ x. (x.0, mirror_expr x.1)) result (b.each_of source.now tokens.now) }
+    ensures shorter { Shortens tokens.now result }
 {
     let (_, rest) = expect(OPEN, tokens)?;
     let (token, rest) = expect(TokenKind::Name, rest)?;
     let (_, rest) = expect(IN, rest)?;
     let (list, rest) = inside(alloc, source, rest)?;
-    Ok((name(alloc, source, token)?, list, rest))
+    Ok(((name(alloc, source, token)?, list), rest))
 }
 
 /// The name that a `catch` gives a fault.
@@ -141,8 +142,8 @@ pub(crate) fn caught<'t>(
     source: &[u8],
     tokens: &'t [Token],
 ) -> Result<(Word, &'t [Token]), Stop>
-    ensures value { Gives (λ x. (x.0, x.1.now)) result (b.caught_of source.now tokens.now) }
-    ensures shorter { IfOk result (λ x. length x.1.now < length tokens.now) }
+    ensures value { Reads (λ x. x) result (b.caught_of source.now tokens.now) }
+    ensures shorter { Shortens tokens.now result }
 {
     let (_, rest) = expect(CATCH, tokens)?;
     let (_, rest) = expect(OPEN, rest)?;
@@ -157,16 +158,16 @@ pub(crate) fn rooted<'t>(
     alloc: Global,
     source: &[u8],
     tokens: &'t [Token],
-) -> Result<(Word, Word, &'t [Token]), Stop>
-    ensures value { Gives (λ x. ((x.0, x.1), x.2.now)) result (b.rooted_of source.now tokens.now) }
-    ensures shorter { IfOk result (λ x. length x.2.now < length tokens.now) }
+) -> Result<((Word, Word), &'t [Token]), Stop>
+    ensures value { Reads (λ x. x) result (b.rooted_of source.now tokens.now) }
+    ensures shorter { Shortens tokens.now result }
 {
     let (_, rest) = expect(OPEN, tokens)?;
     let (interface, rest) = expect(TokenKind::Name, rest)?;
     let (root, rest) = expect(TokenKind::Name, rest)?;
     let (_, rest) = expect(CLOSE, rest)?;
     let interface = name(alloc, source, interface)?;
-    Ok((interface, name(alloc, source, root)?, rest))
+    Ok(((interface, name(alloc, source, root)?), rest))
 }
 
 /// What follows the expression that a statement begins with.
@@ -177,8 +178,8 @@ fn ended<'t>(
     left: Expr,
     tokens: &'t [Token],
 ) -> Result<(Stmt, &'t [Token]), Stop>
-    ensures value { Gives (λ x. (mirror_stmt x.0, x.1.now)) result (b.ended_of source.now (mirror_expr left) tokens.now) }
-    ensures shorter { IfOk result (λ x. length x.1.now < length tokens.now) }
+    ensures value { Reads mirror_stmt result (b.ended_of source.now (mirror_expr left) tokens.now) }
+    ensures shorter { Shortens tokens.now result }
 {
     if let Some((end, rest)) = take_if(SEMICOLON, tokens) {
         return Ok((of_form(end, StmtForm::Run(left)), rest));
@@ -197,15 +198,15 @@ pub(crate) fn simple<'t>(
     source: &[u8],
     tokens: &'t [Token],
 ) -> Result<(Stmt, &'t [Token]), Stop>
-    ensures value { Gives (λ x. (mirror_stmt x.0, x.1.now)) result (b.simple_of source.now tokens.now) }
-    ensures shorter { IfOk result (λ x. length x.1.now < length tokens.now) }
+    ensures value { Reads mirror_stmt result (b.simple_of source.now tokens.now) }
+    ensures shorter { Shortens tokens.now result }
 {
     if let Some((word, rest)) = take_if(VAL, tokens) {
-        let (name, value, rest) = named_value(alloc, source, rest)?;
+        let ((name, value), rest) = named_value(alloc, source, rest)?;
         return Ok((of_form(word, StmtForm::Val(name, value)), rest));
     }
     if let Some((word, rest)) = take_if(VAR, tokens) {
-        let (name, value, rest) = named_value(alloc, source, rest)?;
+        let ((name, value), rest) = named_value(alloc, source, rest)?;
         return Ok((of_form(word, StmtForm::Var(name, value)), rest));
     }
     if let Some((word, rest)) = take_if(PRINT, tokens) {

@@ -1,9 +1,9 @@
 // Statements and blocks.
 
-ghost use Rattle.std.specs.Prelude.{◌≡◌, ◌<◌, ◌≤◌, length, IfOk};
 ghost use Rattle.rb_trees.specs.mirror.Code.{mirror_stmt, mirror_stmts};
 ghost use Rattle.rb_meaning_bytes.specs.grammar.Symbols as s;
-ghost use Rattle.rb_parse.specs.Reading.{Gives, read_of};
+ghost use Rattle.rb_parse.specs.Reading.{read_of};
+ghost use Rattle.rb_parse.specs.Readers.{Reads, Shortens, NoLonger};
 ghost use Rattle.rb_parse.specs.Blocks as b;
 
 use crate::kinds::{BATCH, CLOSE_BRACE, ELSE, FOR, IF, OPEN_BRACE, TRY, WHILE};
@@ -21,8 +21,8 @@ pub(crate) fn statement<'t>(
     source: &[u8],
     tokens: &'t [Token],
 ) -> Result<(Stmt, &'t [Token]), Stop>
-    ensures value { Gives (λ x. (mirror_stmt x.0, x.1.now)) result (read_of source.now s.Statement tokens.now) }
-    ensures shorter { IfOk result (λ x. length x.1.now < length tokens.now) }
+    ensures value { Reads mirror_stmt result (read_of source.now s.Statement tokens.now) }
+    ensures shorter { Shortens tokens.now result }
 {
     if let Some((word, rest)) = take_if(IF, tokens) {
         return if_statement(alloc, source, word, rest);
@@ -51,8 +51,8 @@ fn if_statement<'t>(
     word: Token,
     tokens: &'t [Token],
 ) -> Result<(Stmt, &'t [Token]), Stop>
-    ensures value { Gives (λ x. (mirror_stmt x.0, x.1.now)) result (b.if_of source.now word tokens.now) }
-    ensures shorter { IfOk result (λ x. length x.1.now < length tokens.now) }
+    ensures value { Reads mirror_stmt result (b.if_of source.now word tokens.now) }
+    ensures shorter { Shortens tokens.now result }
 {
     let (condition, rest) = condition(alloc, source, tokens)?;
     let (yes, rest) = block(alloc, source, rest)?;
@@ -68,8 +68,8 @@ fn otherwise<'t>(
     source: &[u8],
     tokens: &'t [Token],
 ) -> Result<(Seq<Stmt>, &'t [Token]), Stop>
-    ensures value { Gives (λ x. (mirror_stmts x.0, x.1.now)) result (read_of source.now s.Otherwise tokens.now) }
-    ensures shorter { IfOk result (λ x. length x.1.now ≤ length tokens.now) }
+    ensures value { Reads mirror_stmts result (read_of source.now s.Otherwise tokens.now) }
+    ensures shorter { NoLonger tokens.now result }
 {
     match take_if(ELSE, tokens) {
         Some((_, rest)) => block(alloc, source, rest),
@@ -86,8 +86,8 @@ fn while_statement<'t>(
     word: Token,
     tokens: &'t [Token],
 ) -> Result<(Stmt, &'t [Token]), Stop>
-    ensures value { Gives (λ x. (mirror_stmt x.0, x.1.now)) result (b.while_of source.now word tokens.now) }
-    ensures shorter { IfOk result (λ x. length x.1.now < length tokens.now) }
+    ensures value { Reads mirror_stmt result (b.while_of source.now word tokens.now) }
+    ensures shorter { Shortens tokens.now result }
 {
     let (condition, rest) = condition(alloc, source, tokens)?;
     let (block, rest) = block(alloc, source, rest)?;
@@ -103,10 +103,10 @@ fn for_statement<'t>(
     word: Token,
     tokens: &'t [Token],
 ) -> Result<(Stmt, &'t [Token]), Stop>
-    ensures value { Gives (λ x. (mirror_stmt x.0, x.1.now)) result (b.for_of source.now word tokens.now) }
-    ensures shorter { IfOk result (λ x. length x.1.now < length tokens.now) }
+    ensures value { Reads mirror_stmt result (b.for_of source.now word tokens.now) }
+    ensures shorter { Shortens tokens.now result }
 {
-    let (name, list, rest) = each(alloc, source, tokens)?;
+    let ((name, list), rest) = each(alloc, source, tokens)?;
     let (block, rest) = block(alloc, source, rest)?;
     Ok((of_form(word, StmtForm::For(name, list, block)), rest))
 }
@@ -120,8 +120,8 @@ fn try_statement<'t>(
     word: Token,
     tokens: &'t [Token],
 ) -> Result<(Stmt, &'t [Token]), Stop>
-    ensures value { Gives (λ x. (mirror_stmt x.0, x.1.now)) result (b.try_of source.now word tokens.now) }
-    ensures shorter { IfOk result (λ x. length x.1.now < length tokens.now) }
+    ensures value { Reads mirror_stmt result (b.try_of source.now word tokens.now) }
+    ensures shorter { Shortens tokens.now result }
 {
     let (tried, rest) = block(alloc, source, tokens)?;
     let (name, rest) = caught(alloc, source, rest)?;
@@ -138,10 +138,10 @@ fn batch_statement<'t>(
     word: Token,
     tokens: &'t [Token],
 ) -> Result<(Stmt, &'t [Token]), Stop>
-    ensures value { Gives (λ x. (mirror_stmt x.0, x.1.now)) result (b.batch_of source.now word tokens.now) }
-    ensures shorter { IfOk result (λ x. length x.1.now < length tokens.now) }
+    ensures value { Reads mirror_stmt result (b.batch_of source.now word tokens.now) }
+    ensures shorter { Shortens tokens.now result }
 {
-    let (interface, root, rest) = rooted(alloc, source, tokens)?;
+    let ((interface, root), rest) = rooted(alloc, source, tokens)?;
     let (block, rest) = block(alloc, source, rest)?;
     Ok((of_form(word, StmtForm::Batch(interface, root, block)), rest))
 }
@@ -154,8 +154,8 @@ fn block<'t>(
     source: &[u8],
     tokens: &'t [Token],
 ) -> Result<(Seq<Stmt>, &'t [Token]), Stop>
-    ensures value { Gives (λ x. (mirror_stmts x.0, x.1.now)) result (read_of source.now s.Block tokens.now) }
-    ensures shorter { IfOk result (λ x. length x.1.now < length tokens.now) }
+    ensures value { Reads mirror_stmts result (read_of source.now s.Block tokens.now) }
+    ensures shorter { Shortens tokens.now result }
 {
     let (_, rest) = expect(OPEN_BRACE, tokens)?;
     let (list, rest) = statements(alloc, source, rest)?;
@@ -171,8 +171,8 @@ pub(crate) fn statements<'t>(
     source: &[u8],
     tokens: &'t [Token],
 ) -> Result<(Seq<Stmt>, &'t [Token]), Stop>
-    ensures value { Gives (λ x. (mirror_stmts x.0, x.1.now)) result (read_of source.now s.Statements tokens.now) }
-    ensures shorter { IfOk result (λ x. length x.1.now ≤ length tokens.now) }
+    ensures value { Reads mirror_stmts result (read_of source.now s.Statements tokens.now) }
+    ensures shorter { NoLonger tokens.now result }
 {
     let mut list = Seq::new(alloc);
     let mut rest = tokens;

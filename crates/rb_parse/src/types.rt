@@ -1,9 +1,10 @@
 // Types.
 
-ghost use Rattle.std.specs.Prelude.{◌≡◌, ◌<◌, length, IfOk};
+ghost use Rattle.std.specs.Prelude.{◌≡◌};
 ghost use Rattle.rb_trees.specs.mirror.Types.{mirror_type, mirror_type_form};
 ghost use Rattle.rb_meaning_bytes.specs.grammar.Symbols as s;
-ghost use Rattle.rb_parse.specs.Reading.{Gives, read_of};
+ghost use Rattle.rb_parse.specs.Reading.{read_of};
+ghost use Rattle.rb_parse.specs.Readers.{Reads, Shortens};
 ghost use Rattle.rb_parse.specs.Parts.{item_of};
 
 use crate::kinds::{BOOL, GREATER, INT, LESS, LIST, ROWS, TEXT, UNIT};
@@ -21,8 +22,8 @@ pub(crate) fn type_tree<'t>(
     source: &[u8],
     tokens: &'t [Token],
 ) -> Result<(TypeTree, &'t [Token]), Stop>
-    ensures value { Gives (λ x. (mirror_type x.0, x.1.now)) result (read_of source.now s.AType tokens.now) }
-    ensures shorter { IfOk result (λ x. length x.1.now < length tokens.now) }
+    ensures value { Reads mirror_type result (read_of source.now s.AType tokens.now) }
+    ensures shorter { Shortens tokens.now result }
 {
     if let Some((word, rest)) = take_if(INT, tokens) {
         return Ok((of_form(word, TypeForm::Int), rest));
@@ -61,8 +62,8 @@ pub(crate) fn item_type<'t>(
     source: &[u8],
     tokens: &'t [Token],
 ) -> Result<(TypeTree, &'t [Token]), Stop>
-    ensures value { Gives (λ x. (mirror_type x.0, x.1.now)) result (item_of source.now tokens.now) }
-    ensures shorter { IfOk result (λ x. length x.1.now < length tokens.now) }
+    ensures value { Reads mirror_type result (item_of source.now tokens.now) }
+    ensures shorter { Shortens tokens.now result }
 {
     let (_, rest) = expect(LESS, tokens)?;
     let (item, rest) = type_tree(alloc, source, rest)?;
