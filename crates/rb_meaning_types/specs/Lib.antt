@@ -3,6 +3,7 @@ pub mod Violations
 pub mod Names
 pub mod Declared
 pub mod Scopes
+pub mod Values
 pub mod Literals
 pub mod Operators
 pub mod Members
