@@ -1,3 +1,4 @@
+-- The definitions of typing, each after those that it names.
 pub mod Kinds
 pub mod Violations
 pub mod Names
