@@ -11,7 +11,7 @@ use Rattle.rb_trees.specs.mirror.Declarations.{Param, Interface, Class}
 use Rattle.rb_meaning_types.specs.Kinds as kind
 use Rattle.rb_meaning_types.specs.Kinds.{Kind, kind_of}
 use Rattle.rb_meaning_types.specs.Names.{class_named, interface_named}
-use Rattle.rb_meaning_types.specs.Values.{IsWord, IsText, IsBounded}
+use Rattle.rb_meaning_types.specs.Values.{IsInt, IsText, IsList}
 use Rattle.rb_meaning_types.specs.Scopes.{Scope}
 use Rattle.rb_meaning_types.specs.Declared.{Context}
 
@@ -20,7 +20,7 @@ abbrev pub classes_of : List Object → List (List ℕ)
 classes_of objects = map (λ o. o.class) objects
 
 abbrev pub IsIntValue : Value-F Value → Type 0
-IsIntValue (Value-F.Int number) = IsWord number
+IsIntValue (Value-F.Int number) = IsInt number
 IsIntValue _ = ⊥
 
 abbrev pub IsBoolValue : Value-F Value → Type 0
@@ -46,14 +46,15 @@ IsRemoteValue (Value-F.Remote object) = Unit {0}
 IsRemoteValue _ = ⊥
 
 abbrev pub AreItems : (Value → Type 0) → Value-F Value → Type 0
-AreItems P (Value-F.List items) = IsBounded items × All P items
+AreItems P (Value-F.List items) = IsList items × All P items
 AreItems P _ = ⊥
 
 abbrev pub AreRows : (Value → Type 0) → Value-F Value → Type 0
 AreRows P (Value-F.Rows rows) = All P rows
 AreRows P _ = ⊥
 
--- a value of a name's type: an object of the service where the name is an interface's, else of the class
+-- a value of a name's type: an object of the service where the name is an interface's, else of the
+-- class; no name of a typed program is both
 abbrev pub FitsNamed : Option Interface → List (List ℕ) → List ℕ → Value-F Value → Type 0
 FitsNamed (Some interface) classes name value = IsRemoteValue value
 FitsNamed None classes name value = IsObjectOf classes name value
@@ -92,8 +93,8 @@ Frame = List (List ℕ × Value)
 abbrev pub this_name : List ℕ
 this_name = codes "this"
 
--- The names of a frame's code and their types: in a method `this` comes first, an object of the
--- method's class, and then the scope; in `main` there is the scope alone.
+-- The names that a frame has, and their types: in a method `this` comes first, with the type of its
+-- class, and then the scope; in `main` there is the scope alone.
 abbrev pub frame_scope : Option (List ℕ) → Scope → Scope
 frame_scope (Some class) scope = record { name = this_name; kind = kind.Named class; fixed = true } ∷ scope
 frame_scope None scope = scope
