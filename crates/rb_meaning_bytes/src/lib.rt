@@ -1,4 +1,5 @@
 //! The definitions on bytes: tokens, the grammar of programs, and the wire.
 //!
-//! They stand in `specs/`, over the mirror of the trees; the functions here are their laws.
+//! They stand in `specs/`, over the mirror of the trees. There is no code here; their laws are
+//! functions of the crates that read and write these bytes.
 #![tactic(auto)]

@@ -1,3 +1,4 @@
+-- The lemmas on the definitions.
 pub mod TypeForms
 pub mod LiteralForms
 pub mod Positions

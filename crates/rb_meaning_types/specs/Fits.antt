@@ -1,7 +1,7 @@
--- When values, objects, scopes, local states and tables fit the typing. Values fit a list of class
+-- When values, objects, frames, local states and tables fit the typing. Values fit a list of class
 -- names, that of the objects of their heap in order: it stays as it is where a field is written, and
 -- grows where an object is added.
-use Rattle.std.specs.Prelude.{◌≡◌, ℕ, ◌<◌, List, [], ◌∷◌, map, length, slice_get, Option, Some, None}
+use Rattle.std.specs.Prelude.{◌≡◌, ℕ, ◌<◌, List, [], ◌∷◌, map, true, length, slice_get, Option, Some, None, codes}
 use Rattle.std.specs.List.{All}
 use Rattle.rb_trees.specs.declared.values.Value.{Value}
 use Rattle.rb_trees.specs.declared.values.Value.TheOpen.{Value-F}
@@ -11,6 +11,7 @@ use Rattle.rb_trees.specs.mirror.Declarations.{Param, Interface, Class}
 use Rattle.rb_meaning_types.specs.Kinds as kind
 use Rattle.rb_meaning_types.specs.Kinds.{Kind, kind_of}
 use Rattle.rb_meaning_types.specs.Names.{class_named, interface_named}
+use Rattle.rb_meaning_types.specs.Values.{IsInt, IsText, IsList}
 use Rattle.rb_meaning_types.specs.Scopes.{Scope}
 use Rattle.rb_meaning_types.specs.Declared.{Context}
 
@@ -19,7 +20,7 @@ abbrev pub classes_of : List Object → List (List ℕ)
 classes_of objects = map (λ o. o.class) objects
 
 abbrev pub IsIntValue : Value-F Value → Type 0
-IsIntValue (Value-F.Int number) = Unit {0}
+IsIntValue (Value-F.Int number) = IsInt number
 IsIntValue _ = ⊥
 
 abbrev pub IsBoolValue : Value-F Value → Type 0
@@ -27,7 +28,7 @@ IsBoolValue (Value-F.Bool truth) = Unit {0}
 IsBoolValue _ = ⊥
 
 abbrev pub IsTextValue : Value-F Value → Type 0
-IsTextValue (Value-F.Text text) = Unit {0}
+IsTextValue (Value-F.Text text) = IsText text
 IsTextValue _ = ⊥
 
 abbrev pub IsUnitValue : Value-F Value → Type 0
@@ -45,14 +46,15 @@ IsRemoteValue (Value-F.Remote object) = Unit {0}
 IsRemoteValue _ = ⊥
 
 abbrev pub AreItems : (Value → Type 0) → Value-F Value → Type 0
-AreItems P (Value-F.List items) = All P items
+AreItems P (Value-F.List items) = IsList items × All P items
 AreItems P _ = ⊥
 
 abbrev pub AreRows : (Value → Type 0) → Value-F Value → Type 0
 AreRows P (Value-F.Rows rows) = All P rows
 AreRows P _ = ⊥
 
--- a value of a name's type: an object of the service where the name is an interface's, else of the class
+-- a value of a name's type: an object of the service where the name is an interface's, else of the
+-- class; no name of a typed program is both
 abbrev pub FitsNamed : Option Interface → List (List ℕ) → List ℕ → Value-F Value → Type 0
 FitsNamed (Some interface) classes name value = IsRemoteValue value
 FitsNamed None classes name value = IsObjectOf classes name value
@@ -84,29 +86,34 @@ pub record ObjectFits (interfaces : List Interface) (declared : List Class) (cla
 abbrev pub HeapFits : List Interface → List Class → List Object → Type 0
 HeapFits interfaces declared heap = All (ObjectFits interfaces declared (classes_of heap)) heap
 
--- The names of a scope stand first, in order, with values of their types; more names may follow.
-abbrev pub NamesFit : List Interface → List (List ℕ) → Scope → List (List ℕ × Value) → Type 0
-NamesFit interfaces classes [] names = Unit {0}
+-- A frame: names with their values, in order of binding.
+abbrev pub Frame : Type 0
+Frame = List (List ℕ × Value)
+
+abbrev pub this_name : List ℕ
+this_name = codes "this"
+
+-- The names that a frame has, and their types: in a method `this` comes first, with the type of its
+-- class, and then the scope; in `main` there is the scope alone.
+abbrev pub frame_scope : Option (List ℕ) → Scope → Scope
+frame_scope (Some class) scope = record { name = this_name; kind = kind.Named class; fixed = true } ∷ scope
+frame_scope None scope = scope
+
+-- These names stand first in a frame, in order, with values of their types; more names may follow.
+abbrev pub NamesFit : List Interface → List (List ℕ) → Scope → Frame → Type 0
+NamesFit interfaces classes [] frame = Unit {0}
 NamesFit interfaces classes (v ∷ vs) [] = ⊥
 NamesFit interfaces classes (v ∷ vs) (n ∷ ns) = (v.name ≡ n.0) × Fits interfaces classes v.kind n.1 × NamesFit interfaces classes vs ns
 
--- `this` is an object of the class in whose method the code stands, and nothing in `main`.
-abbrev pub ThisFits : List (List ℕ) → Option (List ℕ) → Option ℕ → Type 0
-ThisFits classes (Some class) (Some object) = slice_get classes object ≡ Some class
-ThisFits classes (Some class) None = ⊥
-ThisFits classes None (Some object) = ⊥
-ThisFits classes None None = Unit {0}
-
 -- A local state holds at least what a scope has: so it is after a fault, too.
-pub record StateHolds (x : Context) (scope : Scope) (this : Option ℕ) (names : List (List ℕ × Value)) (heap : List Object) : Type 0 where
-  pub names_fit : NamesFit x.declared.interfaces (classes_of heap) scope names
-  pub this_fits : ThisFits (classes_of heap) x.this this
+pub record StateHolds (x : Context) (scope : Scope) (frame : Frame) (heap : List Object) : Type 0 where
+  pub names_fit : NamesFit x.declared.interfaces (classes_of heap) (frame_scope x.this scope) frame
   pub heap_fits : HeapFits x.declared.interfaces x.declared.classes heap
 
--- A local state fits a scope: it has the scope's names and no others.
-pub record StateFits (x : Context) (scope : Scope) (this : Option ℕ) (names : List (List ℕ × Value)) (heap : List Object) : Type 0 where
-  pub holds : StateHolds x scope this names heap
-  pub count : length scope ≡ length names
+-- A local state fits a scope: its frame has these names and no others.
+pub record StateFits (x : Context) (scope : Scope) (frame : Frame) (heap : List Object) : Type 0 where
+  pub holds : StateHolds x scope frame heap
+  pub count : length (frame_scope x.this scope) ≡ length frame
 
 -- A table fits a service: each of its objects does, and the root is among them.
 pub record TableFits (classes : List Class) (root : ℕ) (table : List Object) : Type 0 where

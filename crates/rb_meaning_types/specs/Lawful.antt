@@ -2,7 +2,6 @@
 -- program is typed or not.
 use Rattle.std.specs.Prelude.{ℕ, ◌<◌, ◌≤◌, ◌^◌, max, suc, List, [], ◌∷◌, ◌++◌, length, Bool, true, false, ◌||◌, ◌&&◌, nat_le, nat_eq, IsTrue, Option, Some, None}
 use Rattle.std.specs.List.{All, IsDistinct}
-use Rattle.std.specs.Str.{IsUtf8}
 use Rattle.rb_trees.specs.declared.values.Value.{Value}
 use Rattle.rb_trees.specs.declared.values.Value.TheOpen.{Value-F}
 use Rattle.rb_trees.specs.declared.values.Value.TheViews.{out-Value}
@@ -10,6 +9,7 @@ use Rattle.rb_trees.specs.mirror.Types as type
 use Rattle.rb_trees.specs.mirror.Types.{TypeTree}
 use Rattle.rb_trees.specs.mirror.Code.{Expr, Exprs, Lit, Name, This, Unary, Binary, Field, Call, Index, New, Items, Taken, NoExprs, MoreExprs, Stmt, Stmts, Val, Var, Assign, Run, Print, Throw, If, While, For, Try, Batch, NoStmts, MoreStmts}
 use Rattle.rb_trees.specs.mirror.Declarations.{Param, Signature, Interface, Body, Method, Class, Program}
+use Rattle.rb_meaning_types.specs.Values.{IsText}
 
 -- A name: a letter or `_`, then letters, digits and `_`.
 abbrev pub is_letter : ℕ → Bool
@@ -30,11 +30,11 @@ IsName name = IsTrue (is_name name)
 abbrev pub IsShort : {A : Type 0} → List A → Type 0
 IsShort xs = length xs < 2 ^ 32
 
--- A literal is an Int, a Bool, or a Text of UTF-8 with at most 4,096 bytes.
+-- A literal is an Int, a Bool or a Text.
 abbrev pub IsLiteralForm : Value-F Value → Type 0
 IsLiteralForm (Value-F.Int number) = Unit {0}
 IsLiteralForm (Value-F.Bool truth) = Unit {0}
-IsLiteralForm (Value-F.Text text) = IsUtf8 text × (length text ≤ 4096)
+IsLiteralForm (Value-F.Text text) = IsText text
 IsLiteralForm _ = ⊥
 
 abbrev pub IsLiteral : Value → Type 0

@@ -1,8 +1,10 @@
+-- The definitions of typing, each after those that it names.
 pub mod Kinds
 pub mod Violations
 pub mod Names
 pub mod Declared
 pub mod Scopes
+pub mod Values
 pub mod Literals
 pub mod Operators
 pub mod Members

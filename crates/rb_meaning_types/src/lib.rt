@@ -1,5 +1,6 @@
-//! The definitions of typing: which programs and services are typed, and the first violation of
-//! those that aren't.
+//! The definitions of typing: which programs and services are typed, the first violation of those
+//! that aren't, which programs are lawful, and which values fit a type.
 //!
-//! They stand in `specs/`, over the mirror of the trees; the functions here are their laws.
+//! They stand in `specs/`, over the mirror of the trees, with lemmas on them in `proofs/`. There is no
+//! code here; the law that rules by cases agree with them is a function of `rb_typing_rules`.
 #![tactic(auto)]

@@ -6,7 +6,7 @@ use Rattle.rb_meaning_types.specs.Names.{is_new}
 use Rattle.rb_meaning_types.specs.Declared.{Declarations, is_class, is_declared}
 use Rattle.rb_meaning_types.specs.Violations.{Checked, UnknownName, NameTaken, TypeNotHere, NotAllowedHere}
 use Rattle.rb_trees.specs.Outcome.{◌>>◌, must}
-use Rattle.rb_meaning_types.specs.Places.{declared_type, value_type, value_result, is_remote_value, is_remote_result, parameter_type, result_type}
+use Rattle.rb_meaning_types.specs.Places.{declared_type, value_type, value_result, is_remote_value, is_remote_result, is_main_result, parameter_type, result_type, main_type}
 use Rattle.rb_meaning_types.specs.Declarations.{new_name, check_params, check_signature, check_signatures, check_method, check_methods, check_interfaces, check_class, check_classes, check_declarations}
 use Rattle.rb_typing_rules.specs.Programs.{IsKnown, IsValueType, IsValueResult, IsParameterType, IsResultType, AreParams, IsSignature, AreSignatures, IsMethod, AreMethods, AreInterfaces, IsClass, AreClasses, AreDeclared}
 use Rattle.rb_typing_rules.proofs.Steps.{then_ok, must_ok}
@@ -66,21 +66,21 @@ so_result d (Named at name) h = rw h refl
 so_result d (ListOf at item) h = so_value d item h
 so_result d (RowsOf at row) h = absurd h
 
-parameter_so : (remote : Truth) (d : Declarations) (t : TypeTree) → parameter_type remote d t ≡ Ok tt → IsParameterType remote d t
+pub parameter_so : (remote : Truth) (d : Declarations) (t : TypeTree) → parameter_type remote d t ≡ Ok tt → IsParameterType remote d t
 parameter_so true d t h = let s = then_ok (declared_type d t) (must (is_remote_value d t) (TypeNotHere (type_at t))) tt h in
     (known_so d t s.0, must_ok (is_remote_value d t) (TypeNotHere (type_at t)) s.1)
 parameter_so false d t h = let s = then_ok (declared_type d t) (value_type d t) tt h in (known_so d t s.0, value_so d t s.1)
 
-so_parameter : (remote : Truth) (d : Declarations) (t : TypeTree) → IsParameterType remote d t → parameter_type remote d t ≡ Ok tt
+pub so_parameter : (remote : Truth) (d : Declarations) (t : TypeTree) → IsParameterType remote d t → parameter_type remote d t ≡ Ok tt
 so_parameter true d t h = rw (so_known d t h.0) (rw h.1 refl)
 so_parameter false d t h = rw (so_known d t h.0) (so_value d t h.1)
 
-results_so : (remote : Truth) (d : Declarations) (t : TypeTree) → result_type remote d t ≡ Ok tt → IsResultType remote d t
+pub results_so : (remote : Truth) (d : Declarations) (t : TypeTree) → result_type remote d t ≡ Ok tt → IsResultType remote d t
 results_so true d t h = let s = then_ok (declared_type d t) (must (is_remote_result d t) (TypeNotHere (type_at t))) tt h in
     (known_so d t s.0, must_ok (is_remote_result d t) (TypeNotHere (type_at t)) s.1)
 results_so false d t h = let s = then_ok (declared_type d t) (value_result d t) tt h in (known_so d t s.0, result_so d t s.1)
 
-so_results : (remote : Truth) (d : Declarations) (t : TypeTree) → IsResultType remote d t → result_type remote d t ≡ Ok tt
+pub so_results : (remote : Truth) (d : Declarations) (t : TypeTree) → IsResultType remote d t → result_type remote d t ≡ Ok tt
 so_results true d t h = rw (so_known d t h.0) (rw h.1 refl)
 so_results false d t h = rw (so_known d t h.0) (so_result d t h.1)
 
@@ -94,76 +94,76 @@ three_so a b c h = let s = then_ok (a >> b) c tt h in let t = then_ok a b tt s.0
 pub so_three : (a b c : Checked (Unit {0})) → a ≡ Ok tt → b ≡ Ok tt → c ≡ Ok tt → (a >> b >> c) ≡ Ok tt
 so_three a b c e f g = ap (λ r. r >> b >> c) e ∙ ap (λ r. r >> c) f ∙ g
 
-params_so : (remote : Truth) (d : Declarations) (before : List (List ℕ)) (ps : List Param) → check_params remote d before ps ≡ Ok tt → AreParams remote d before ps
+pub params_so : (remote : Truth) (d : Declarations) (before : List (List ℕ)) (ps : List Param) → check_params remote d before ps ≡ Ok tt → AreParams remote d before ps
 params_so remote d before [] h = tt
 params_so remote d before (p ∷ ps) h =
     let s = three_so (new_name before p.at p.name) (parameter_type remote d p.kind) (check_params remote d (before ++ p.name ∷ []) ps) h in
     (new_so before p.at p.name s.0, parameter_so remote d p.kind s.1, params_so remote d (before ++ p.name ∷ []) ps s.2)
 
-so_params : (remote : Truth) (d : Declarations) (before : List (List ℕ)) (ps : List Param) → AreParams remote d before ps → check_params remote d before ps ≡ Ok tt
+pub so_params : (remote : Truth) (d : Declarations) (before : List (List ℕ)) (ps : List Param) → AreParams remote d before ps → check_params remote d before ps ≡ Ok tt
 so_params remote d before [] h = refl
 so_params remote d before (p ∷ ps) h =
     so_three (new_name before p.at p.name) (parameter_type remote d p.kind) (check_params remote d (before ++ p.name ∷ []) ps)
     (rw h.0 refl) (so_parameter remote d p.kind h.1) (so_params remote d (before ++ p.name ∷ []) ps h.2)
 
-signature_so : (remote : Truth) (d : Declarations) (s : Signature) → check_signature remote d s ≡ Ok tt → IsSignature remote d s
+pub signature_so : (remote : Truth) (d : Declarations) (s : Signature) → check_signature remote d s ≡ Ok tt → IsSignature remote d s
 signature_so remote d s h = let t = then_ok (check_params remote d [] s.params) (result_type remote d s.result) tt h in
     (params_so remote d [] s.params t.0, results_so remote d s.result t.1)
 
-so_signature : (remote : Truth) (d : Declarations) (s : Signature) → IsSignature remote d s → check_signature remote d s ≡ Ok tt
+pub so_signature : (remote : Truth) (d : Declarations) (s : Signature) → IsSignature remote d s → check_signature remote d s ≡ Ok tt
 so_signature remote d s h = ap (λ r. r >> result_type remote d s.result) (so_params remote d [] s.params h.0) ∙ so_results remote d s.result h.1
 
-signatures_so : (d : Declarations) (before : List (List ℕ)) (ss : List Signature) → check_signatures d before ss ≡ Ok tt → AreSignatures d before ss
+pub signatures_so : (d : Declarations) (before : List (List ℕ)) (ss : List Signature) → check_signatures d before ss ≡ Ok tt → AreSignatures d before ss
 signatures_so d before [] h = tt
 signatures_so d before (s ∷ ss) h =
     let t = three_so (new_name before s.at s.name) (check_signature true d s) (check_signatures d (before ++ s.name ∷ []) ss) h in
     (new_so before s.at s.name t.0, signature_so true d s t.1, signatures_so d (before ++ s.name ∷ []) ss t.2)
 
-so_signatures : (d : Declarations) (before : List (List ℕ)) (ss : List Signature) → AreSignatures d before ss → check_signatures d before ss ≡ Ok tt
+pub so_signatures : (d : Declarations) (before : List (List ℕ)) (ss : List Signature) → AreSignatures d before ss → check_signatures d before ss ≡ Ok tt
 so_signatures d before [] h = refl
 so_signatures d before (s ∷ ss) h =
     so_three (new_name before s.at s.name) (check_signature true d s) (check_signatures d (before ++ s.name ∷ []) ss)
     (rw h.0 refl) (so_signature true d s h.1) (so_signatures d (before ++ s.name ∷ []) ss h.2)
 
-method_so : (d : Declarations) (m : Method) → check_method d m ≡ Ok tt → IsMethod d m
+pub method_so : (d : Declarations) (m : Method) → check_method d m ≡ Ok tt → IsMethod d m
 method_so d m h =
     let s = then_ok (check_signature false d m.signature) (must (not (d.service && m.remote)) (NotAllowedHere m.signature.at)) tt h in
     (signature_so false d m.signature s.0, not_so (d.service && m.remote) (must_ok (not (d.service && m.remote)) (NotAllowedHere m.signature.at) s.1))
 
-so_method : (d : Declarations) (m : Method) → IsMethod d m → check_method d m ≡ Ok tt
+pub so_method : (d : Declarations) (m : Method) → IsMethod d m → check_method d m ≡ Ok tt
 so_method d m h =
     ap (λ r. r >> must (not (d.service && m.remote)) (NotAllowedHere m.signature.at)) (so_signature false d m.signature h.0)
     ∙ ap (λ b. must (not b) (NotAllowedHere m.signature.at)) h.1
 
-methods_so : (d : Declarations) (before : List (List ℕ)) (ms : List Method) → check_methods d before ms ≡ Ok tt → AreMethods d before ms
+pub methods_so : (d : Declarations) (before : List (List ℕ)) (ms : List Method) → check_methods d before ms ≡ Ok tt → AreMethods d before ms
 methods_so d before [] h = tt
 methods_so d before (m ∷ ms) h =
     let t = three_so (new_name before m.signature.at m.signature.name) (check_method d m) (check_methods d (before ++ m.signature.name ∷ []) ms) h in
     (new_so before m.signature.at m.signature.name t.0, method_so d m t.1, methods_so d (before ++ m.signature.name ∷ []) ms t.2)
 
-so_methods : (d : Declarations) (before : List (List ℕ)) (ms : List Method) → AreMethods d before ms → check_methods d before ms ≡ Ok tt
+pub so_methods : (d : Declarations) (before : List (List ℕ)) (ms : List Method) → AreMethods d before ms → check_methods d before ms ≡ Ok tt
 so_methods d before [] h = refl
 so_methods d before (m ∷ ms) h =
     so_three (new_name before m.signature.at m.signature.name) (check_method d m) (check_methods d (before ++ m.signature.name ∷ []) ms)
     (rw h.0 refl) (so_method d m h.1) (so_methods d (before ++ m.signature.name ∷ []) ms h.2)
 
-interfaces_so : (d : Declarations) (before : List (List ℕ)) (js : List Interface) → check_interfaces d before js ≡ Ok tt → AreInterfaces d before js
+pub interfaces_so : (d : Declarations) (before : List (List ℕ)) (js : List Interface) → check_interfaces d before js ≡ Ok tt → AreInterfaces d before js
 interfaces_so d before [] h = tt
 interfaces_so d before (i ∷ js) h =
     let t = three_so (new_name before i.at i.name) (check_signatures d [] i.methods) (check_interfaces d (before ++ i.name ∷ []) js) h in
     (new_so before i.at i.name t.0, signatures_so d [] i.methods t.1, interfaces_so d (before ++ i.name ∷ []) js t.2)
 
-so_interfaces : (d : Declarations) (before : List (List ℕ)) (js : List Interface) → AreInterfaces d before js → check_interfaces d before js ≡ Ok tt
+pub so_interfaces : (d : Declarations) (before : List (List ℕ)) (js : List Interface) → AreInterfaces d before js → check_interfaces d before js ≡ Ok tt
 so_interfaces d before [] h = refl
 so_interfaces d before (i ∷ js) h =
     so_three (new_name before i.at i.name) (check_signatures d [] i.methods) (check_interfaces d (before ++ i.name ∷ []) js)
     (rw h.0 refl) (so_signatures d [] i.methods h.1) (so_interfaces d (before ++ i.name ∷ []) js h.2)
 
-class_so : (d : Declarations) (c : Class) → check_class d c ≡ Ok tt → IsClass d c
+pub class_so : (d : Declarations) (c : Class) → check_class d c ≡ Ok tt → IsClass d c
 class_so d c h = let s = then_ok (check_params false d [] c.fields) (check_methods d [] c.methods) tt h in
     (params_so false d [] c.fields s.0, methods_so d [] c.methods s.1)
 
-so_class : (d : Declarations) (c : Class) → IsClass d c → check_class d c ≡ Ok tt
+pub so_class : (d : Declarations) (c : Class) → IsClass d c → check_class d c ≡ Ok tt
 so_class d c h = ap (λ r. r >> check_methods d [] c.methods) (so_params false d [] c.fields h.0) ∙ so_methods d [] c.methods h.1
 
 classes_so : (d : Declarations) (before : List (List ℕ)) (ds : List Class) → check_classes d before ds ≡ Ok tt → AreClasses d before ds
@@ -184,3 +184,10 @@ declared_so d h = let s = then_ok (check_interfaces d [] d.interfaces) (check_cl
 
 pub so_declared : (d : Declarations) → AreDeclared d → check_declarations d ≡ Ok tt
 so_declared d h = ap (λ r. r >> check_classes d (map (λ i. i.name) d.interfaces) d.classes) (so_interfaces d [] d.interfaces h.0) ∙ so_classes d (map (λ i. i.name) d.interfaces) d.classes h.1
+
+pub main_so : (d : Declarations) (at : ℕ) (t : TypeTree) → main_type d at t ≡ Ok tt → IsKnown d t × (is_main_result at t ≡ true)
+main_so d at t h = let s = then_ok (declared_type d t) (must (is_main_result at t) (TypeNotHere (type_at t))) tt h in
+    (known_so d t s.0, must_ok (is_main_result at t) (TypeNotHere (type_at t)) s.1)
+
+pub so_main : (d : Declarations) (at : ℕ) (t : TypeTree) → IsKnown d t → is_main_result at t ≡ true → main_type d at t ≡ Ok tt
+so_main d at t known fits = rw (so_known d t known) (rw fits refl)

@@ -16,7 +16,7 @@ pub not_so : (b : Truth) → not b ≡ true → b ≡ false
 not_so true h = sym h
 not_so false h = refl
 
-closed_ok : (scope : Scope) (r : Checked Scope) (after : Scope) → closed scope r ≡ Ok after → (inner : Scope) × (r ≡ Ok inner) × (scope ≡ after)
+pub closed_ok : (scope : Scope) (r : Checked Scope) (after : Scope) → closed scope r ≡ Ok after → (inner : Scope) × (r ≡ Ok inner) × (scope ≡ after)
 closed_ok scope (Ok inner) after h = (inner, refl, cc)
 closed_ok scope (Err e) after h = absurd (cc)
 
@@ -53,7 +53,7 @@ batch_ok x scope at interface root inner h =
     let u = then_ok (must (is_free scope root) (NameTaken at)) (must (is_interface x.declared interface) (UnknownName at)) tt t.0 in
     (must_ok (is_free scope root) (NameTaken at) u.0, must_ok (is_interface x.declared interface) (UnknownName at) u.1, must_ok x.remote (NotAllowedHere at) t.1, let e = s.1 in cc)
 
-batch_so : (x : Context) (scope : Scope) (at : ℕ) (interface root : List ℕ) → is_free scope root ≡ true → is_interface x.declared interface ≡ true → x.remote ≡ true
+pub batch_so : (x : Context) (scope : Scope) (at : ℕ) (interface root : List ℕ) → is_free scope root ≡ true → is_interface x.declared interface ≡ true → x.remote ≡ true
     → batch_scope x scope at interface root ≡ Ok (with_variable scope root (Named interface) true)
 batch_so x scope at interface root free found may = rw free (rw found (rw may refl))
 

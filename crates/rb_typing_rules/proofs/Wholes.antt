@@ -41,34 +41,34 @@ so_return : (x : Context) (scope : Scope) (at : ℕ) (kind : Kind) (r : Option E
 so_return x scope at kind (Some e) h = rw (has_typed x scope e kind h.1) (fits_so kind (placed_at (expr_at e) kind) h.0 refl)
 so_return x scope at kind None h = rw h refl
 
-body_so : (x : Context) (scope : Scope) (at : ℕ) (result : TypeTree) (body : Body) → check_body x scope at result body ≡ Ok tt → IsBody x scope (kind_of result) body
+pub body_so : (x : Context) (scope : Scope) (at : ℕ) (result : TypeTree) (body : Body) → check_body x scope at result body ≡ Ok tt → IsBody x scope (kind_of result) body
 body_so x scope at result body h =
     let s = bind_ok (check_stmts x scope body.statements) (λ after. check_return x after at (kind_of result) body.result) tt h in
     record { after = s.0; statements = all_lead x scope body.statements s.0 s.1; result = return_so x s.0 at (kind_of result) body.result s.2 }
 
-so_body : (x : Context) (scope : Scope) (at : ℕ) (result : TypeTree) (body : Body) → IsBody x scope (kind_of result) body → check_body x scope at result body ≡ Ok tt
+pub so_body : (x : Context) (scope : Scope) (at : ℕ) (result : TypeTree) (body : Body) → IsBody x scope (kind_of result) body → check_body x scope at result body ≡ Ok tt
 so_body x scope at result body b = rw (lead_all x scope body.statements b.after b.statements) (so_return x b.after at (kind_of result) body.result b.result)
 
-methods_so : (d : Declarations) (class : List ℕ) (ms : List Method) → check_method_bodies d class ms ≡ Ok tt → AreMethodBodies d class ms
+pub methods_so : (d : Declarations) (class : List ℕ) (ms : List Method) → check_method_bodies d class ms ≡ Ok tt → AreMethodBodies d class ms
 methods_so d class [] h = tt
 methods_so d class (m ∷ ms) h =
     let s = then_ok (check_method_body d class m) (check_method_bodies d class ms) tt h in
     (body_so (method_context d class m.remote) (parameters m.signature.params) m.signature.at m.signature.result m.body s.0, methods_so d class ms s.1)
 
-so_methods : (d : Declarations) (class : List ℕ) (ms : List Method) → AreMethodBodies d class ms → check_method_bodies d class ms ≡ Ok tt
+pub so_methods : (d : Declarations) (class : List ℕ) (ms : List Method) → AreMethodBodies d class ms → check_method_bodies d class ms ≡ Ok tt
 so_methods d class [] h = refl
 so_methods d class (m ∷ ms) h =
     ap (λ r. r >> check_method_bodies d class ms)
     (so_body (method_context d class m.remote) (parameters m.signature.params) m.signature.at m.signature.result m.body h.0)
     ∙ so_methods d class ms h.1
 
-bodies_so : (d : Declarations) (ds : List Class) → check_class_bodies d ds ≡ Ok tt → AreClassBodies d ds
+pub bodies_so : (d : Declarations) (ds : List Class) → check_class_bodies d ds ≡ Ok tt → AreClassBodies d ds
 bodies_so d [] h = tt
 bodies_so d (c ∷ ds) h =
     let s = then_ok (check_method_bodies d c.name c.methods) (check_class_bodies d ds) tt h in
     (methods_so d c.name c.methods s.0, bodies_so d ds s.1)
 
-so_bodies : (d : Declarations) (ds : List Class) → AreClassBodies d ds → check_class_bodies d ds ≡ Ok tt
+pub so_bodies : (d : Declarations) (ds : List Class) → AreClassBodies d ds → check_class_bodies d ds ≡ Ok tt
 so_bodies d [] h = refl
 so_bodies d (c ∷ ds) h =
     ap (λ r. r >> check_class_bodies d ds) (so_methods d c.name c.methods h.0) ∙ so_bodies d ds h.1

@@ -1,7 +1,8 @@
-//! The rules of typing by cases, and the law that they agree with the judgement that computes.
+//! The rules of typing by cases and the first violation by cases, and the laws that both agree with
+//! the judgement that computes.
 #![tactic(auto)]
 
-ghost use Rattle.rb_typing_rules.specs.Agree.{ExprsAgree, StmtsAgree, ProgramsAgree, ServicesAgree};
+ghost use Rattle.rb_typing_rules.specs.Agree.{ExprsAgree, StmtsAgree, ProgramsAgree, ServicesAgree, BrokenExprsAgree, BrokenStmtsAgree, FirstViolationsAgree, FirstViolationsOfServicesAgree};
 
 /// The rules by cases and the computed judgement are the same, for expressions, statements, programs
 /// and services.
@@ -10,4 +11,13 @@ pub fn rules_agree()
     ensures stmts { StmtsAgree }
     ensures programs { ProgramsAgree }
     ensures services { ServicesAgree }
+{}
+
+/// The violation that the judgement computes is the first by cases, for expressions, statements,
+/// programs and services: what stands before it is typed by the rules, and there the rule is broken.
+pub fn first_violations_agree()
+    ensures exprs { BrokenExprsAgree }
+    ensures stmts { BrokenStmtsAgree }
+    ensures programs { FirstViolationsAgree }
+    ensures services { FirstViolationsOfServicesAgree }
 {}

@@ -1,3 +1,4 @@
+-- Each clause holds by what its definition's own file proves.
 use Rattle.rb_typing_rules.proofs.Exprs.{typed_has, has_typed}
 use Rattle.rb_typing_rules.proofs.Stmts.{all_lead, lead_all}
 use Rattle.rb_typing_rules.proofs.Wholes.{program_so, so_program, service_so, so_service}
