@@ -1,13 +1,11 @@
 // Programs as text. Each function adds the text of a tree to the end of the text so far.
 
-ghost use Rattle.std.specs.Prelude.{◌≡◌, [], ◌∷◌, ◌++◌, map, OnOk, IfOk};
+ghost use Rattle.std.specs.Prelude.{◌≡◌, [], ◌++◌, map, IfOk};
 ghost use Rattle.rb_trees.specs.mirror.Types.{mirror_type};
 ghost use Rattle.rb_trees.specs.mirror.Declarations.{mirror_interface, mirror_class, mirror_body, mirror_program};
-ghost use Rattle.rb_trees.specs.printing.Pieces.{spelled};
-ghost use Rattle.rb_trees.specs.printing.Words.{main_word};
-ghost use Rattle.rb_trees.specs.printing.Types.{result_pieces};
-ghost use Rattle.rb_trees.specs.printing.Stmts.{line, closed, opened, body_pieces};
-ghost use Rattle.rb_trees.specs.printing.Programs.{inside, interfaces_pieces, classes_pieces, printed_program};
+ghost use Rattle.rb_trees.specs.printing.Pieces.{Adds};
+ghost use Rattle.rb_trees.specs.printing.Stmts.{within_pieces};
+ghost use Rattle.rb_trees.specs.printing.Programs.{main_head, interfaces_pieces, classes_pieces, printed_program};
 
 mod declarations;
 mod expressions;
@@ -43,7 +41,7 @@ pub fn print_program(alloc: Global, program: &Program) -> Result<Word, Memory>
 
 #[tactic(auto, using(crate::proofs::printed::Pieces::texts))]
 fn print_interfaces(interfaces: &[Interface], into: &mut Word) -> Result<(), Memory>
-    ensures { OnOk result (into.new ≡ into.old ++ spelled (interfaces_pieces (map mirror_interface interfaces.now))) }
+    ensures { Adds (interfaces_pieces (map mirror_interface interfaces.now)) into.old result into.new }
 {
     for interface in interfaces {
         print_interface(interface, into)?;
@@ -53,7 +51,7 @@ fn print_interfaces(interfaces: &[Interface], into: &mut Word) -> Result<(), Mem
 
 #[tactic(auto, using(crate::proofs::printed::Pieces::texts))]
 fn print_classes(alloc: Global, classes: &[Class], into: &mut Word) -> Result<(), Memory>
-    ensures { OnOk result (into.new ≡ into.old ++ spelled (classes_pieces (map mirror_class classes.now))) }
+    ensures { Adds (classes_pieces (map mirror_class classes.now)) into.old result into.new }
 {
     for class in classes {
         print_class(alloc, class, into)?;
@@ -63,7 +61,7 @@ fn print_classes(alloc: Global, classes: &[Class], into: &mut Word) -> Result<()
 
 #[tactic(auto, using(crate::proofs::printed::Pieces::texts))]
 fn print_main(alloc: Global, kind: &TypeTree, body: &Body, into: &mut Word) -> Result<(), Memory>
-    ensures { OnOk result (into.new ≡ into.old ++ spelled (line [] (opened (main_word ∷ result_pieces (mirror_type kind.now))) ++ body_pieces inside (mirror_body body.now) ++ closed [])) }
+    ensures { Adds (main_head (mirror_type kind.now) ++ within_pieces [] (mirror_body body.now)) into.old result into.new }
 {
     into.extend_from_slice(b"main")?;
     print_result(kind, into)?;

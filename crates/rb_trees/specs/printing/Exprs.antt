@@ -132,3 +132,19 @@ abbrev mutual
   pub more_args_pieces : Exprs → List Piece
   more_args_pieces NoExprs = []
   more_args_pieces (MoreExprs e es) = comma ∷ space ∷ expr_pieces e ++ more_args_pieces es
+
+-- an expression at a place of the level
+abbrev pub placed : ℕ → Expr → List Piece
+placed level e = placed_at level e (expr_pieces e)
+
+-- what stands behind the left operand
+abbrev pub right_pieces : BinOp → Expr → List Piece
+right_pieces op e = space ∷ binary_sign op ∷ space ∷ placed (right_level op) e
+
+-- what stands behind an indexed list
+abbrev pub index_pieces : Expr → List Piece
+index_pieces e = w.open_bracket ∷ expr_pieces e ++ w.close_bracket ∷ []
+
+-- arguments in parentheses
+abbrev pub call_pieces : Exprs → List Piece
+call_pieces args = in_parentheses (args_pieces args)

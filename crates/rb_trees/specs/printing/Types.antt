@@ -18,3 +18,7 @@ type_pieces (type.RowsOf at row) = Rows_word ∷ less ∷ type_pieces row ++ gre
 abbrev pub result_pieces : TypeTree → List Piece
 result_pieces (type.Unit at) = []
 result_pieces kind = colon ∷ space ∷ type_pieces kind
+
+-- the type of a list, by the type of its items
+abbrev pub list_pieces : TypeTree → List Piece
+list_pieces item = List_word ∷ less ∷ type_pieces item ++ greater ∷ []

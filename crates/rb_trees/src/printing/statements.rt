@@ -1,13 +1,12 @@
 // The text of statements, each on a line of its own, with two more spaces in each block.
 
-ghost use Rattle.std.specs.Prelude.{◌≡◌, [], ◌∷◌, ◌++◌, OnOk, IfOk};
+ghost use Rattle.std.specs.Prelude.{◌≡◌, [], ◌∷◌, ◌++◌, IfOk};
 ghost use Rattle.rb_trees.specs.mirror.Code.{mirror_expr, mirror_stmt, mirror_stmts};
 ghost use Rattle.rb_trees.specs.mirror.Declarations.{mirror_body};
-ghost use Rattle.rb_trees.specs.printing.Pieces.{Space, spelled};
-ghost use Rattle.rb_trees.specs.printing.Words as w;
+ghost use Rattle.rb_trees.specs.printing.Pieces.{Space, Adds};
 ghost use Rattle.rb_trees.specs.printing.Words.{space, name_piece};
-ghost use Rattle.rb_trees.specs.printing.Exprs.{in_parentheses, expr_pieces};
-ghost use Rattle.rb_trees.specs.printing.Stmts.{line, deeper, closed, headed, closed_by, otherwise, stmt_pieces, stmts_pieces, body_pieces};
+ghost use Rattle.rb_trees.specs.printing.Stmts.{line, deeper, closed, between, bound, assigned, for_head, catch_head, batch_head};
+ghost use Rattle.rb_trees.specs.printing.Stmts.{stmt_pieces, stmts_pieces, block_pieces, otherwise_pieces, handler_pieces, body_pieces, within_pieces};
 
 use super::expressions::print_expr;
 use crate::code::{Expr, Stmt, StmtForm};
@@ -19,7 +18,7 @@ use std::alloc::Global;
 /// Adds a line of this text.
 #[tactic(auto, using(crate::proofs::printed::Stmts::printed_stmts))]
 pub fn print_line(indent: &[u8], text: &[u8], into: &mut Word) -> Result<(), Memory>
-    ensures { OnOk result (into.new ≡ into.old ++ spelled (line indent.now (Space text.now ∷ []))) }
+    ensures { Adds (line indent.now (Space text.now ∷ [])) into.old result into.new }
 {
     into.extend_from_slice(indent)?;
     into.extend_from_slice(text)?;
@@ -36,13 +35,24 @@ fn print_between(
     back: &[u8],
     into: &mut Word,
 ) -> Result<(), Memory>
-    ensures { OnOk result (into.new ≡ into.old ++ spelled (line indent.now (Space front.now ∷ expr_pieces (mirror_expr expr.now) ++ Space back.now ∷ []))) }
+    ensures { Adds (line indent.now (between front.now (mirror_expr expr.now) back.now)) into.old result into.new }
 {
     into.extend_from_slice(indent)?;
     into.extend_from_slice(front)?;
     print_expr(alloc, expr, into)?;
     into.extend_from_slice(back)?;
     into.extend_from_slice(b"\n")
+}
+
+// Adds the front of a line up to a new name.
+#[tactic(auto, using(crate::proofs::printed::Stmts::printed_stmts))]
+fn print_new_name(indent: &[u8], front: &[u8], name: &Word, into: &mut Word) -> Result<(), Memory>
+    ensures { Adds (Space indent.now ∷ Space front.now ∷ space ∷ name_piece name.now ∷ []) into.old result into.new }
+{
+    into.extend_from_slice(indent)?;
+    into.extend_from_slice(front)?;
+    into.extend_from_slice(b" ")?;
+    into.extend_from_slice(name.as_slice())
 }
 
 // Adds the line that gives a value to a new name.
@@ -55,11 +65,9 @@ fn print_bound(
     value: &Expr,
     into: &mut Word,
 ) -> Result<(), Memory>
-    ensures { OnOk result (into.new ≡ into.old ++ spelled (line indent.now (Space front.now ∷ name_piece name.now ∷ space ∷ w.assign ∷ space ∷ expr_pieces (mirror_expr value.now) ++ w.semicolon ∷ []))) }
+    ensures { Adds (line indent.now (bound (Space front.now) name.now (mirror_expr value.now))) into.old result into.new }
 {
-    into.extend_from_slice(indent)?;
-    into.extend_from_slice(front)?;
-    into.extend_from_slice(name.as_slice())?;
+    print_new_name(indent, front, name, into)?;
     into.extend_from_slice(b" = ")?;
     print_expr(alloc, value, into)?;
     into.extend_from_slice(b";\n")
@@ -74,7 +82,7 @@ fn print_assignment(
     right: &Expr,
     into: &mut Word,
 ) -> Result<(), Memory>
-    ensures { OnOk result (into.new ≡ into.old ++ spelled (line indent.now (expr_pieces (mirror_expr left.now) ++ space ∷ w.assign ∷ space ∷ expr_pieces (mirror_expr right.now) ++ w.semicolon ∷ []))) }
+    ensures { Adds (line indent.now (assigned (mirror_expr left.now) (mirror_expr right.now))) into.old result into.new }
 {
     into.extend_from_slice(indent)?;
     print_expr(alloc, left, into)?;
@@ -92,7 +100,7 @@ fn print_for(
     list: &Expr,
     into: &mut Word,
 ) -> Result<(), Memory>
-    ensures { OnOk result (into.new ≡ into.old ++ spelled (line indent.now (headed w.for_word (name_piece name.now ∷ space ∷ w.in_word ∷ space ∷ expr_pieces (mirror_expr list.now))))) }
+    ensures { Adds (line indent.now (for_head name.now (mirror_expr list.now))) into.old result into.new }
 {
     into.extend_from_slice(indent)?;
     into.extend_from_slice(b"for (")?;
@@ -105,7 +113,7 @@ fn print_for(
 // Adds the line between a block that is tried and its handler.
 #[tactic(auto, using(crate::proofs::printed::Stmts::printed_stmts))]
 fn print_catch(indent: &[u8], name: &Word, into: &mut Word) -> Result<(), Memory>
-    ensures { OnOk result (into.new ≡ into.old ++ spelled (line indent.now (closed_by (w.catch_word ∷ space ∷ in_parentheses (name_piece name.now ∷ []))))) }
+    ensures { Adds (line indent.now (catch_head name.now)) into.old result into.new }
 {
     into.extend_from_slice(indent)?;
     into.extend_from_slice(b"} catch (")?;
@@ -116,7 +124,7 @@ fn print_catch(indent: &[u8], name: &Word, into: &mut Word) -> Result<(), Memory
 // Adds the line that opens a batch.
 #[tactic(auto, using(crate::proofs::printed::Stmts::printed_stmts))]
 fn print_batch(indent: &[u8], interface: &Word, root: &Word, into: &mut Word) -> Result<(), Memory>
-    ensures { OnOk result (into.new ≡ into.old ++ spelled (line indent.now (headed w.batch_word (name_piece interface.now ∷ space ∷ name_piece root.now ∷ [])))) }
+    ensures { Adds (line indent.now (batch_head interface.now root.now)) into.old result into.new }
 {
     into.extend_from_slice(indent)?;
     into.extend_from_slice(b"batch (")?;
@@ -130,11 +138,11 @@ fn print_batch(indent: &[u8], interface: &Word, root: &Word, into: &mut Word) ->
 #[cycle(printed_stmts)]
 #[tactic(auto, using(crate::proofs::printed::Stmts::printed_stmts))]
 fn print_stmt(alloc: Global, indent: &[u8], stmt: &Stmt, into: &mut Word) -> Result<(), Memory>
-    ensures { OnOk result (into.new ≡ into.old ++ spelled (stmt_pieces indent.now (mirror_stmt stmt.now))) }
+    ensures { Adds (stmt_pieces indent.now (mirror_stmt stmt.now)) into.old result into.new }
 {
     match &stmt.form {
-        StmtForm::Val(name, value) => print_bound(alloc, indent, b"val ", name, value, into),
-        StmtForm::Var(name, value) => print_bound(alloc, indent, b"var ", name, value, into),
+        StmtForm::Val(name, value) => print_bound(alloc, indent, b"val", name, value, into),
+        StmtForm::Var(name, value) => print_bound(alloc, indent, b"var", name, value, into),
         StmtForm::Assign(left, right) => print_assignment(alloc, indent, left, right, into),
         StmtForm::Run(expr) => print_between(alloc, indent, b"", expr, b";", into),
         StmtForm::Print(expr) => print_between(alloc, indent, b"print(", expr, b");", into),
@@ -155,8 +163,7 @@ fn print_stmt(alloc: Global, indent: &[u8], stmt: &Stmt, into: &mut Word) -> Res
         StmtForm::Try(tried, name, handler) => {
             print_line(indent, b"try {", into)?;
             print_block(alloc, indent, tried.as_slice(), into)?;
-            print_catch(indent, name, into)?;
-            print_closed(alloc, indent, handler.as_slice(), into)
+            print_handler(alloc, indent, name, handler.as_slice(), into)
         }
         StmtForm::Batch(interface, root, block) => {
             print_batch(indent, interface, root, into)?;
@@ -169,7 +176,7 @@ fn print_stmt(alloc: Global, indent: &[u8], stmt: &Stmt, into: &mut Word) -> Res
 #[cycle(printed_stmts)]
 #[tactic(auto, using(crate::proofs::printed::Stmts::printed_stmts))]
 fn print_stmts(alloc: Global, indent: &[u8], stmts: &[Stmt], into: &mut Word) -> Result<(), Memory>
-    ensures { OnOk result (into.new ≡ into.old ++ spelled (stmts_pieces indent.now (mirror_stmts stmts.now))) }
+    ensures { Adds (stmts_pieces indent.now (mirror_stmts stmts.now)) into.old result into.new }
 {
     for stmt in stmts {
         print_stmt(alloc, indent, stmt, into)?;
@@ -190,7 +197,7 @@ fn two_more(alloc: Global, indent: &[u8]) -> Result<Word, Memory>
 #[cycle(printed_stmts)]
 #[tactic(auto, using(crate::proofs::printed::Stmts::printed_stmts))]
 fn print_block(alloc: Global, indent: &[u8], block: &[Stmt], into: &mut Word) -> Result<(), Memory>
-    ensures { OnOk result (into.new ≡ into.old ++ spelled (stmts_pieces (deeper indent.now) (mirror_stmts block.now))) }
+    ensures { Adds (block_pieces indent.now (mirror_stmts block.now)) into.old result into.new }
 {
     let spaces = two_more(alloc, indent)?;
     print_stmts(alloc, spaces.as_slice(), block, into)
@@ -200,10 +207,26 @@ fn print_block(alloc: Global, indent: &[u8], block: &[Stmt], into: &mut Word) ->
 #[cycle(printed_stmts)]
 #[tactic(auto, using(crate::proofs::printed::Stmts::printed_stmts))]
 fn print_closed(alloc: Global, indent: &[u8], block: &[Stmt], into: &mut Word) -> Result<(), Memory>
-    ensures { OnOk result (into.new ≡ into.old ++ spelled (stmts_pieces (deeper indent.now) (mirror_stmts block.now) ++ closed indent.now)) }
+    ensures { Adds (block_pieces indent.now (mirror_stmts block.now) ++ closed indent.now) into.old result into.new }
 {
     print_block(alloc, indent, block, into)?;
     print_line(indent, b"}", into)
+}
+
+// Adds what stands behind a block that is tried.
+#[cycle(printed_stmts)]
+#[tactic(auto, using(crate::proofs::printed::Stmts::printed_stmts))]
+fn print_handler(
+    alloc: Global,
+    indent: &[u8],
+    name: &Word,
+    block: &[Stmt],
+    into: &mut Word,
+) -> Result<(), Memory>
+    ensures { Adds (handler_pieces indent.now name.now (mirror_stmts block.now)) into.old result into.new }
+{
+    print_catch(indent, name, into)?;
+    print_closed(alloc, indent, block, into)
 }
 
 // Adds the end of an `if`, whose second block isn't printed where it is empty.
@@ -215,7 +238,7 @@ fn print_otherwise(
     block: &[Stmt],
     into: &mut Word,
 ) -> Result<(), Memory>
-    ensures { OnOk result (into.new ≡ into.old ++ spelled (otherwise indent.now (mirror_stmts block.now) (stmts_pieces (deeper indent.now) (mirror_stmts block.now)))) }
+    ensures { Adds (otherwise_pieces indent.now (mirror_stmts block.now)) into.old result into.new }
 {
     if block.is_empty() {
         return print_line(indent, b"}", into);
@@ -227,7 +250,7 @@ fn print_otherwise(
 // Adds the lines of a body.
 #[tactic(auto, using(crate::proofs::printed::Stmts::printed_stmts))]
 fn print_body(alloc: Global, indent: &[u8], body: &Body, into: &mut Word) -> Result<(), Memory>
-    ensures { OnOk result (into.new ≡ into.old ++ spelled (body_pieces indent.now (mirror_body body.now))) }
+    ensures { Adds (body_pieces indent.now (mirror_body body.now)) into.old result into.new }
 {
     print_stmts(alloc, indent, body.statements.as_slice(), into)?;
     match &body.result {
@@ -244,7 +267,7 @@ pub fn print_within(
     body: &Body,
     into: &mut Word,
 ) -> Result<(), Memory>
-    ensures { OnOk result (into.new ≡ into.old ++ spelled (body_pieces (deeper indent.now) (mirror_body body.now) ++ closed indent.now)) }
+    ensures { Adds (within_pieces indent.now (mirror_body body.now)) into.old result into.new }
 {
     let spaces = two_more(alloc, indent)?;
     print_body(alloc, spaces.as_slice(), body, into)?;

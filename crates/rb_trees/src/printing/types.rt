@@ -1,9 +1,8 @@
 // The text of types.
 
-ghost use Rattle.std.specs.Prelude.{◌≡◌, ◌∷◌, ◌++◌, OnOk};
 ghost use Rattle.rb_trees.specs.mirror.Types.{mirror_type};
-ghost use Rattle.rb_trees.specs.printing.Pieces.{spelled};
-ghost use Rattle.rb_trees.specs.printing.Types.{type_pieces, result_pieces};
+ghost use Rattle.rb_trees.specs.printing.Pieces.{Adds};
+ghost use Rattle.rb_trees.specs.printing.Types.{type_pieces, result_pieces, list_pieces};
 
 use crate::code::{TypeForm, TypeTree};
 use crate::sequence::Word;
@@ -12,7 +11,7 @@ use crate::want::Memory;
 /// Adds a type.
 #[tactic(auto, using(crate::proofs::printed::Types::printed_types))]
 pub fn print_type(kind: &TypeTree, into: &mut Word) -> Result<(), Memory>
-    ensures { OnOk result (into.new ≡ into.old ++ spelled (type_pieces (mirror_type kind.now))) }
+    ensures { Adds (type_pieces (mirror_type kind.now)) into.old result into.new }
 {
     match &kind.form {
         TypeForm::Int => into.extend_from_slice(b"Int"),
@@ -36,7 +35,7 @@ pub fn print_type(kind: &TypeTree, into: &mut Word) -> Result<(), Memory>
 /// Adds a result type with its colon. Unit adds nothing.
 #[tactic(auto, using(crate::proofs::printed::Types::printed_types))]
 pub fn print_result(kind: &TypeTree, into: &mut Word) -> Result<(), Memory>
-    ensures { OnOk result (into.new ≡ into.old ++ spelled (result_pieces (mirror_type kind.now))) }
+    ensures { Adds (result_pieces (mirror_type kind.now)) into.old result into.new }
 {
     match &kind.form {
         TypeForm::Unit => Ok(()),
@@ -50,4 +49,14 @@ pub fn print_result(kind: &TypeTree, into: &mut Word) -> Result<(), Memory>
             print_type(kind, into)
         }
     }
+}
+
+/// Adds the type of a list, by the type of its items.
+#[tactic(auto, using(crate::proofs::printed::Types::printed_types))]
+pub fn print_list_type(item: &TypeTree, into: &mut Word) -> Result<(), Memory>
+    ensures { Adds (list_pieces (mirror_type item.now)) into.old result into.new }
+{
+    into.extend_from_slice(b"List<")?;
+    print_type(item, into)?;
+    into.extend_from_slice(b">")
 }

@@ -1,7 +1,7 @@
 // The text of numbers and literals.
 
 ghost use Rattle.std.specs.Prelude.{◌≡◌, [], ◌∷◌, ◌++◌, OnOk};
-ghost use Rattle.rb_trees.specs.printing.Pieces.{spelled};
+ghost use Rattle.rb_trees.specs.printing.Pieces.{Adds};
 ghost use Rattle.rb_trees.specs.printing.Words.{number_piece, int_pieces, bool_piece, escaped, text_piece, literal_pieces};
 
 use crate::sequence::Word;
@@ -11,7 +11,7 @@ use std::alloc::Global;
 
 /// Adds a number in decimal.
 pub fn print_number(alloc: Global, number: u64, into: &mut Word) -> Result<(), Memory>
-    ensures { OnOk result (into.new ≡ into.old ++ spelled (number_piece number ∷ [])) }
+    ensures { Adds (number_piece number ∷ []) into.old result into.new }
 {
     let digits = format!(in alloc; "{number}")?;
     into.extend_from_slice(digits.as_bytes())
@@ -20,7 +20,7 @@ pub fn print_number(alloc: Global, number: u64, into: &mut Word) -> Result<(), M
 // Adds an Int. The least one stands without a sign.
 #[tactic(auto, using(crate::proofs::printed::Words::words))]
 fn print_int(alloc: Global, number: i64, into: &mut Word) -> Result<(), Memory>
-    ensures { OnOk result (into.new ≡ into.old ++ spelled (int_pieces number)) }
+    ensures { Adds (int_pieces number) into.old result into.new }
 {
     if number < 0 && number != i64::MIN {
         into.extend_from_slice(b"-")?;
@@ -29,7 +29,7 @@ fn print_int(alloc: Global, number: i64, into: &mut Word) -> Result<(), Memory>
 }
 
 fn print_bool(truth: bool, into: &mut Word) -> Result<(), Memory>
-    ensures { OnOk result (into.new ≡ into.old ++ spelled (bool_piece truth ∷ [])) }
+    ensures { Adds (bool_piece truth ∷ []) into.old result into.new }
 {
     if truth {
         into.extend_from_slice(b"true")
@@ -52,7 +52,7 @@ fn print_escaped(byte: u8, into: &mut Word) -> Result<(), Memory>
 
 #[tactic(auto, using(crate::proofs::printed::Words::words))]
 fn print_text(text: &[u8], into: &mut Word) -> Result<(), Memory>
-    ensures { OnOk result (into.new ≡ into.old ++ spelled (text_piece text.now ∷ [])) }
+    ensures { Adds (text_piece text.now ∷ []) into.old result into.new }
 {
     into.push(b'"')?;
     for byte in text {
@@ -64,7 +64,7 @@ fn print_text(text: &[u8], into: &mut Word) -> Result<(), Memory>
 /// Adds a literal. Values without a literal add nothing.
 #[tactic(auto, using(crate::proofs::printed::Words::literals))]
 pub fn print_literal(alloc: Global, value: &Value, into: &mut Word) -> Result<(), Memory>
-    ensures { OnOk result (into.new ≡ into.old ++ spelled (literal_pieces value.now)) }
+    ensures { Adds (literal_pieces value.now) into.old result into.new }
 {
     match value {
         Value::Int(number) => print_int(alloc, *number, into),
