@@ -6,7 +6,7 @@ use Rattle.rb_meaning_bytes.specs.tokens.Bytes.{makes_escape}
 use Rattle.rb_meaning_bytes.specs.tokens.Values.{unescaped, escape_value}
 use Rattle.rb_lex.specs.declared.literals.End.{End}
 use Rattle.rb_lex.specs.declared.literals.End.TheVariants.{Closes, Breaks, Never}
-use Rattle.rb_lex.specs.Ends.{later, broken, text_end, closed_at, first_bad, found_later}
+use Rattle.rb_lex.specs.Ends.{later, broken, text_end, end_at_quote, first_bad, found_later}
 
 closes_same : {m n size more : ℕ} → m ≡ n → size ≡ more → Closes m size ≡ Closes n more
 closes_same h g = cc
@@ -56,13 +56,13 @@ at_place bad n size s l = ap (λ r. found_later bad n size (text_end false r)) (
 not_eqb : (a b : ℕ) → ¬ (a ≡ b) → eqb a b ≡ false
 not_eqb a b h = grind (arith, nat_tests)
 
-pub shuts : (bad : Option ℕ) (n size : ℕ) (s : List ℕ) → n < length s → get_or s n 0 ≡ 34 → found_later bad n size (text_end false (drop n s)) ≡ closed_at bad n size
+pub shuts : (bad : Option ℕ) (n size : ℕ) (s : List ℕ) → n < length s → get_or s n 0 ≡ 34 → found_later bad n size (text_end false (drop n s)) ≡ end_at_quote bad n size
 shuts bad n size s l h =
-    at_place bad n size s l ∙ ap (found_later bad n size) (end_quote _ _ (ap (λ b. eqb b 34) h)) ∙ closed bad
+    at_place bad n size s l ∙ ap (found_later bad n size) (end_quote _ _ (ap (λ b. eqb b 34) h)) ∙ at_quote bad
   where
-    closed : (bad : Option ℕ) → found_later bad n size (Closes 0 0) ≡ closed_at bad n size
-    closed None = closes_same (omega arith) (omega arith)
-    closed (Some at) = refl
+    at_quote : (bad : Option ℕ) → found_later bad n size (Closes 0 0) ≡ end_at_quote bad n size
+    at_quote None = closes_same (omega arith) (omega arith)
+    at_quote (Some at) = refl
 
 pub breaks_line : (bad : Option ℕ) (n size : ℕ) (s : List ℕ) → n < length s → get_or s n 0 ≡ 10 → found_later bad n size (text_end false (drop n s)) ≡ Never
 breaks_line bad n size s l h =

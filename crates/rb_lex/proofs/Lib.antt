@@ -1,3 +1,4 @@
+-- The lemmas of the lexer.
 pub mod Runs
 pub mod Endings
 pub mod Lookup

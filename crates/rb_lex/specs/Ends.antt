@@ -27,9 +27,9 @@ text_end false (b ∷ bs) =
     (later 1 1 (text_end false bs))))
 
 -- The end at a quote, with the first bad escape so far.
-abbrev pub closed_at : Option ℕ → ℕ → ℕ → End
-closed_at None n size = Closes n size
-closed_at (Some at) n size = Breaks at
+abbrev pub end_at_quote : Option ℕ → ℕ → ℕ → End
+end_at_quote None n size = Closes n size
+end_at_quote (Some at) n size = Breaks at
 
 abbrev pub first_bad : Option ℕ → ℕ → Option ℕ
 first_bad None n = Some n

@@ -3,7 +3,7 @@
 ghost use Rattle.std.specs.Prelude.{◌≡◌, ◌≤◌, ◌<◌, ◌+◌, false, length, IfOk};
 ghost use Rattle.rb_meaning_bytes.specs.tokens.Bytes.{makes_escape};
 ghost use Rattle.rb_meaning_bytes.specs.tokens.Values.{text_value, escape_value, unescaped};
-ghost use Rattle.rb_lex.specs.Ends.{text_end, EndsWithin, closed_at, first_bad};
+ghost use Rattle.rb_lex.specs.Ends.{text_end, EndsWithin, end_at_quote, first_bad};
 
 use crate::bytes::{after, is_escaped};
 use rb_trees::{Memory, Seq, Word};
@@ -43,7 +43,7 @@ pub fn end_of_text(text: &[u8]) -> End
     while n < text.len() {
         let b = text[n];
         if b == b'"' {
-            return closed(bad, n, size);
+            return end_at_quote(bad, n, size);
         }
         if b == b'\n' {
             return End::Never;
@@ -62,8 +62,8 @@ pub fn end_of_text(text: &[u8]) -> End
 }
 
 /// A quote closes the literal, whose first bad escape may have been found.
-fn closed(bad: Option<usize>, n: usize, size: usize) -> End
-    ensures { result ≡ closed_at bad n size }
+fn end_at_quote(bad: Option<usize>, n: usize, size: usize) -> End
+    ensures { result ≡ end_at_quote bad n size }
 {
     match bad {
         None => End::Closes(n, size),

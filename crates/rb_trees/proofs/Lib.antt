@@ -1,3 +1,4 @@
+-- The lemmas on trees and their texts.
 pub mod mirror
 pub mod printed
 pub mod OutcomeWords

@@ -1,1 +1,2 @@
+-- Shared values in recursive types.
 pub mod Shared

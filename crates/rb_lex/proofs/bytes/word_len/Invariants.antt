@@ -1,3 +1,4 @@
+-- The loop of `word_len`.
 use Rattle.std.proofs.Common.{◌≡◌, ◌+◌, ◌-◌, ◌≤◌, length, drop}
 use Rattle.std.specs.List.{prefix_len}
 use Rattle.rb_meaning_bytes.specs.tokens.Bytes.{is_word_byte}

@@ -1,3 +1,4 @@
+-- What `lex` answers.
 use Rattle.std.proofs.Common.{subst, sym, Err}
 use Rattle.rb_trees.specs.declared.reading.LexError.TheVariants.{NotUtf8, TooLong}
 use Rattle.rb_meaning_bytes.specs.tokens.Texts.{IsRefusal, too_long, not_utf8}

@@ -1,3 +1,4 @@
+-- The turns of the loop of `tokens`.
 use Rattle.std.proofs.Common.{◌+◌, length, ap, arith, length-drop}
 use Rattle.std.proofs.lemmas.Bool.Decides.{nat_tests}
 use Rattle.rb_lex.proofs.Turns.{skip_turn, take_turn, large_turn, long_turn, open_turn, bad_turn, last_turn}

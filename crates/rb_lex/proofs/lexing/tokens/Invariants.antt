@@ -1,3 +1,4 @@
+-- The loop of `tokens`.
 use Rattle.std.proofs.Common.{◌-◌, ◌≤◌, length, false}
 use Rattle.rb_meaning_bytes.specs.tokens.Lexes.{Lexes, with_front}
 use Rattle.rb_meaning_bytes.specs.tokens.Texts.{Outcome}

@@ -1,3 +1,4 @@
+-- The turns of the loop of `end_of_text`.
 use Rattle.std.proofs.Common.{arith}
 use Rattle.std.proofs.lemmas.Grind.{common_steps}
 use Rattle.rb_lex.proofs.Endings.{end_steps}

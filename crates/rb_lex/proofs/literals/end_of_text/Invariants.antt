@@ -1,3 +1,4 @@
+-- The loop of `end_of_text`.
 use Rattle.std.proofs.Common.{◌≡◌, ◌-◌, ◌≤◌, ◌<◌, length, drop, false, MatchOption}
 use Rattle.rb_lex.specs.Ends.{text_end, found_later}
 use Rattle.rb_lex.proofs.literals.end_of_text.Given as goal

@@ -1,3 +1,4 @@
+-- The loop of `unescaped`.
 use Rattle.std.proofs.Common.{◌≡◌, ◌++◌, length, false}
 use Rattle.rb_meaning_bytes.specs.tokens.Values.{unescaped}
 use Rattle.rb_lex.proofs.literals.unescaped.Given as goal

@@ -1,3 +1,4 @@
+-- The loop of `capped_value`.
 use Rattle.std.proofs.Common.{◌≡◌, min, take}
 use Rattle.rb_meaning_bytes.specs.tokens.Values.{number_value}
 use Rattle.rb_lex.proofs.numbers.capped_value.Given as goal

@@ -1,3 +1,4 @@
+-- What `keyword_place` answers.
 use Rattle.rb_meaning_bytes.specs.tokens.Tables.{keywords}
 use Rattle.rb_lex.proofs.tables.keyword_place.Goals as goal
 

@@ -1,3 +1,4 @@
+-- What `sign_place` answers.
 use Rattle.rb_meaning_bytes.specs.tokens.Tables.{signs}
 use Rattle.rb_lex.proofs.tables.sign_place.Goals as goal
 
