@@ -1,0 +1,9 @@
+pub mod Faults
+pub mod Operators
+pub mod State
+pub mod Dialogue
+pub mod Objects
+pub mod Calls
+pub mod Expressions
+pub mod Statements
+pub mod Bodies
