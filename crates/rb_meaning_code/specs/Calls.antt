@@ -1,14 +1,13 @@
 -- Calls of methods of the own side: what is checked, in which order, and what a body begins with.
-use Rattle.std.specs.Prelude.{ℕ, zero, suc, ◌+◌, List, [], ◌∷◌, length, cond, nat_eq, nat_lt, Option, None, Some, Result, Ok, Err, option_and_then, slice_get}
+use Rattle.std.specs.Prelude.{ℕ, zero, suc, ◌+◌, List, ◌∷◌, length, nat_eq, nat_lt, Option, Result, Ok, Err, option_and_then, slice_get}
 use Rattle.rb_trees.specs.Named.{first_named}
 use Rattle.rb_trees.specs.Outcome.{known, must, ◌>>=◌, ◌>>◌}
 use Rattle.rb_trees.specs.declared.values.Value.{Value, out-Value}
 use Rattle.rb_trees.specs.declared.values.Value.TheOpen.{Value-F}
 use Rattle.rb_trees.specs.declared.values.Fault.{Fault}
-use Rattle.rb_trees.specs.declared.outcomes.Raised.{Raised}
 use Rattle.rb_trees.specs.declared.services.Object.{Object}
 use Rattle.rb_trees.specs.mirror.Declarations.{Body, Class, Method, Param}
-use Rattle.rb_meaning_code.specs.Faults.{fuel_used, too_deep, kind, raised, raises}
+use Rattle.rb_meaning_code.specs.Faults.{fuel_used, too_deep, kind, raises}
 use Rattle.rb_meaning_code.specs.State.{Names, Local, this_name, spent}
 use Rattle.rb_meaning_code.specs.Dialogue.{Invoke, Done, Ask, Outcome, Gave, Faulted, Run, seq, next, end}
 use Rattle.rb_meaning_code.specs.Objects.{matched, class_named}

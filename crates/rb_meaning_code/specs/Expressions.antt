@@ -1,7 +1,8 @@
 -- What expressions mean, whatever surrounds them: from left to right, a receiver before its arguments.
 use Rattle.std.specs.Prelude.{ℕ, ℤ, pos, negsuc, List, [], ◌∷◌, ◌++◌, length, nat_lt, nat_le, Option, None, Some, Result, Ok, Err, slice_get}
-use Rattle.rb_trees.specs.Outcome.{known, must, ◌>>=◌, ◌>>◌}
-use Rattle.rb_trees.specs.declared.code.BinOp.{BinOp}
+use Rattle.rb_trees.specs.Named.{lookup}
+use Rattle.rb_trees.specs.Objects.{most_objects}
+use Rattle.rb_trees.specs.Outcome.{known, must, ◌>>◌}
 use Rattle.rb_trees.specs.declared.values.Value.{Value, out-Value}
 use Rattle.rb_trees.specs.declared.values.Value.TheOpen.{Value-F}
 use Rattle.rb_trees.specs.declared.values.Value.TheVariants as value
@@ -10,9 +11,9 @@ use Rattle.rb_trees.specs.mirror.Code as code
 use Rattle.rb_trees.specs.mirror.Code.{Expr, Exprs}
 use Rattle.rb_meaning_code.specs.Faults.{index_outside, list_too_long, heap_full, kind, raises}
 use Rattle.rb_meaning_code.specs.Operators.{on_one, on_two, by_left, longest_list}
-use Rattle.rb_meaning_code.specs.State.{Names, Local, this_name, lookup}
+use Rattle.rb_meaning_code.specs.State.{Names, Local, this_name}
 use Rattle.rb_meaning_code.specs.Dialogue.{Taken, Ask, Run, next, gives, end}
-use Rattle.rb_meaning_code.specs.Objects.{object_of, field_of, most_objects}
+use Rattle.rb_meaning_code.specs.Objects.{object_of, field_of}
 use Rattle.rb_meaning_code.specs.Calls.{Bodies, called}
 
 -- the value of a name in scope

@@ -1,5 +1,5 @@
 -- What operators give: a value or a fault. Numbers have 64 bits and wrap; other operands than a row's fault Kind.
-use Rattle.std.specs.Prelude.{ℕ, ◌+◌, ℤ, pos, ◌+ℤ◌, ◌-ℤ◌, ◌*ℤ◌, neg_ℤ, int_lt, int_le, int_rem, List, ◌++◌, length, Bool, true, false, not, ◌&&◌, ◌||◌, cond, nat_lt, Option, None, Some, Result, Ok, Err, codes}
+use Rattle.std.specs.Prelude.{ℕ, ℤ, pos, ◌+ℤ◌, ◌-ℤ◌, ◌*ℤ◌, neg_ℤ, int_lt, int_le, int_rem, List, ◌++◌, length, Bool, true, false, not, ◌&&◌, ◌||◌, cond, nat_lt, Option, None, Some, Result, Ok, Err, codes}
 use Rattle.std.specs.Int.{int_wrap, int_wrapping_div, w64}
 use Rattle.std.specs.Ordering.{int_eq}
 use Rattle.std.specs.Str.{bytes_eq}

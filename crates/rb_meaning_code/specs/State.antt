@@ -1,7 +1,5 @@
 -- The state of running code.
-use Rattle.std.specs.Prelude.{ℕ, ◌+◌, ◌-◌, List, [], ◌∷◌, ◌++◌, Option, None, Some, cond, option_map, take, codes}
-use Rattle.std.specs.Str.{bytes_eq}
-use Rattle.rb_trees.specs.Named.{first_named}
+use Rattle.std.specs.Prelude.{ℕ, ◌-◌, List, [], ◌∷◌, ◌++◌, take, codes}
 use Rattle.rb_trees.specs.declared.values.Value.{Value}
 use Rattle.rb_trees.specs.declared.services.Object.{Object}
 
@@ -19,15 +17,6 @@ pub record Local : Type 0 where
 -- the name of the object in whose method code stands
 abbrev pub this_name : List ℕ
 this_name = codes "this"
-
--- the first value of a name
-abbrev pub lookup : Names → List ℕ → Option Value
-lookup names name = option_map (λ n. n.1) (first_named (λ n. n.0) names name)
-
--- the names where the first of a name has another value
-abbrev pub replaced : Names → List ℕ → Value → Names
-replaced [] name value = []
-replaced (n ∷ ns) name value = cond (bytes_eq n.0 name) ((n.0, value) ∷ ns) (n ∷ replaced ns name value)
 
 -- with one name more, at the end
 abbrev pub bound : List ℕ → Value → Local → Local

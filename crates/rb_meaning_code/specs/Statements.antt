@@ -1,16 +1,16 @@
 -- What statements mean, whatever surrounds them. The gas bounds the turns of loops; enough is as much as the fuel.
-use Rattle.std.specs.Prelude.{ℕ, zero, suc, List, [], ◌∷◌, length, cond, Bool, true, false, Option, None, Some, Result, Ok, Err, option_map}
-use Rattle.rb_trees.specs.Outcome.{known, ◌>>=◌}
+use Rattle.std.specs.Prelude.{ℕ, zero, suc, List, [], ◌∷◌, length, cond, Bool, true, false, Option, None, Some, Result, Ok, Err}
+use Rattle.rb_trees.specs.Named.{replaced}
+use Rattle.rb_trees.specs.Outcome.{◌>>=◌}
 use Rattle.rb_trees.specs.declared.values.Value.{Value, out-Value}
 use Rattle.rb_trees.specs.declared.values.Value.TheOpen.{Value-F}
 use Rattle.rb_trees.specs.declared.values.Value.TheVariants as value
 use Rattle.rb_trees.specs.declared.values.Fault.{Fault}
-use Rattle.rb_trees.specs.declared.outcomes.Raised.{Raised}
 use Rattle.rb_trees.specs.mirror.Code as code
 use Rattle.rb_trees.specs.mirror.Code.{Expr, Stmt, Stmts, expr_at}
 use Rattle.rb_meaning_code.specs.Faults.{fuel_used, thrown, kind, raised, raises, caught_text, is_caught}
 use Rattle.rb_meaning_code.specs.Operators.{shown_value}
-use Rattle.rb_meaning_code.specs.State.{Names, Local, bound, closed, replaced, spent}
+use Rattle.rb_meaning_code.specs.State.{Names, Local, bound, closed, spent}
 use Rattle.rb_meaning_code.specs.Dialogue.{Question, Line, Turn, ListTurn, Done, Ask, AskBatch, Outcome, Gave, Faulted, Run, seq, next, gives, end, told}
 use Rattle.rb_meaning_code.specs.Objects.{with_field_of}
 use Rattle.rb_meaning_code.specs.Calls.{Bodies, unit_due}
