@@ -8,7 +8,7 @@ use Rattle.rb_trees.specs.mirror.Declarations.{Body, Class}
 use Rattle.rb_meaning_code.specs.Faults.{fuel_used, kind, raised}
 use Rattle.rb_meaning_code.specs.State.{Local}
 use Rattle.rb_meaning_code.specs.Dialogue as ask
-use Rattle.rb_meaning_code.specs.Dialogue.{Question, Done, Faulted, Run, next, gives}
+use Rattle.rb_meaning_code.specs.Dialogue.{Question, Done, Faulted, Run, Handler, next, gives}
 use Rattle.rb_meaning_code.specs.Calls.{Bodies}
 use Rattle.rb_meaning_code.specs.Expressions.{evaluates}
 use Rattle.rb_meaning_code.specs.Statements.{performs_all}
@@ -38,3 +38,7 @@ unasked (ask.Taken step) = Err (raised kind 0)
 unasked (ask.Invoke at target method args) = Err (raised kind at)
 unasked (ask.Turn at) = Err (raised kind at)
 unasked (ask.ListTurn at) = Ok value.Unit
+
+-- the surroundings of a service's code; no batch stands in it
+abbrev pub in_service : Handler (Unit {0})
+in_service = record { answer = λ s question. (unasked question, s); batch = λ s at l. (Faulted (raised kind at) l, s) }
