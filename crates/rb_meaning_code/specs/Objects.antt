@@ -1,6 +1,6 @@
 -- Objects of running code: new ones, and their fields.
 use Rattle.std.specs.Prelude.{ℕ, List, [], ◌∷◌, length, nat_eq, Option, Result, Ok, Err}
-use Rattle.rb_trees.specs.Named.{first_named}
+use Rattle.rb_trees.specs.Classes.{class_named}
 use Rattle.rb_trees.specs.Objects.{field_value, with_field_value}
 use Rattle.rb_trees.specs.Outcome.{known, must, ◌>>=◌, ◌>>◌}
 use Rattle.rb_trees.specs.declared.values.Value.{Value}
@@ -16,9 +16,6 @@ abbrev pub matched : List Param → List Value → Names
 matched [] values = []
 matched (p ∷ ps) [] = []
 matched (p ∷ ps) (v ∷ vs) = (p.name, v) ∷ matched ps vs
-
-abbrev pub class_named : List Class → List ℕ → Option Class
-class_named classes name = first_named (λ c. c.name) classes name
 
 -- an object of a class with values for its fields, in order of declaration
 abbrev pub object_of : List Class → List ℕ → List Value → Result Object Fault
