@@ -1,0 +1,10 @@
+//! The classes of running code, and look-ups in them by name.
+//!
+//! Contracts see a [`Code`] as the list of its classes; what a look-up finds stands in `specs/Classes` of `rb_trees`.
+#![tactic(auto)]
+
+mod code;
+mod copies;
+mod look_ups;
+
+pub use code::Code;

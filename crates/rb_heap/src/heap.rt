@@ -1,0 +1,124 @@
+// The heap as the list of its objects.
+
+ghost use Rattle.std.specs.Prelude.{◌≡◌, [], ◌∷◌, ◌++◌, ◌<◌, ◌≤◌, length, slice_get, IfOk, OnOk, IfErr, OnErr};
+ghost use Rattle.std.specs.Option.{option_copied, option_map};
+ghost use Rattle.rb_trees.specs.Objects.{most_objects, field_value};
+ghost use Rattle.rb_heap.specs.Additions.{RefusesObject};
+ghost use Rattle.rb_heap.specs.Writes.{SetsField};
+
+use crate::copies::copy_object;
+use crate::fields::{value_of, write};
+use crate::stops::AddStop;
+use rb_trees::{Memory, Object, Seq, Value};
+use std::alloc::Global;
+use std::marker::Model;
+
+/// How many objects a heap has at most.
+const MOST_OBJECTS: u32 = 100_000;
+
+/// The objects of running code. Contracts see the list of the objects; an object's number is its place from 0.
+#[derive(Drop)]
+pub struct Heap {
+    objects: Seq<Object>,
+}
+
+impl Model for Heap {
+    ghost use Rattle.std.specs.Prelude.{◌≤◌, List, length};
+    ghost use Rattle.std.specs.Coded.{coded_list};
+    ghost use Rattle.rb_trees.specs.declared.services.Object.{Object};
+    ghost use Rattle.rb_trees.specs.contracts.services.Object as object_code;
+    ghost use Rattle.rb_trees.specs.Objects.{most_objects};
+
+    ghost Value = { List Object };
+
+    ghost coded = { coded_list object_code.the_row.coded };
+
+    ghost view = { λ heap. heap.objects };
+
+    ghost invariant = { λ heap. length heap.objects ≤ most_objects };
+}
+
+impl Heap {
+    /// The heap without objects, which takes no memory.
+    pub fn make(alloc: Global) -> Heap
+        ensures { result ≡ [] }
+    {
+        Heap {
+            objects: Seq::new(alloc),
+        }
+    }
+
+    /// The number of objects, of which there are at most `most_objects`.
+    pub fn len(&self) -> u32
+        ensures value { result ≡ length self.now }
+        ensures within { length self.now ≤ most_objects }
+    {
+        self.objects.len() as u32
+    }
+
+    /// A copy of the heap: the same objects. Its error is want of memory.
+    pub fn copy(&self, alloc: Global) -> Result<Heap, Memory>
+        ensures { IfOk result (λ copy. copy ≡ self.now) }
+    {
+        let mut objects = Seq::new(alloc);
+        for object in self.objects.as_slice() {
+            objects.push(copy_object(alloc, object)?)?;
+        }
+        Ok(Heap { objects })
+    }
+
+    /// Adds an object at the end and answers its number. `Full` hands it back exactly where the heap has
+    /// `most_objects`; after an error nothing changed.
+    pub fn add(&mut self, object: Object) -> Result<u32, AddStop>
+        ensures room { OnOk result (length self.old < most_objects) }
+        ensures added { IfOk result (λ number. (number ≡ length self.old) × (self.new ≡ self.old ++ object ∷ [])) }
+        ensures refused { IfErr result (λ stop. RefusesObject self.old object stop) }
+        ensures kept { OnErr result (self.new ≡ self.old) }
+    {
+        let number = self.len();
+        if number >= MOST_OBJECTS {
+            return Err(AddStop::Full(object));
+        }
+        self.objects.push(object)?;
+        Ok(number)
+    }
+
+    /// The object of a number, or None where there is none.
+    pub fn get(&self, object: u32) -> Option<&Object>
+        ensures { option_copied result ≡ slice_get self.now object }
+    {
+        self.objects.get(object as usize)
+    }
+
+    /// The class of an object, or None where there is no such object.
+    pub fn class_of(&self, object: u32) -> Option<&[u8]>
+        ensures { option_copied result ≡ option_map (λ o. o.class) (slice_get self.now object) }
+    {
+        match self.get(object) {
+            Some(found) => Some(found.class.as_slice()),
+            None => None,
+        }
+    }
+
+    /// The value of an object's field, or None where there is no such object or field: `field_value`.
+    pub fn get_field(&self, object: u32, name: &[u8]) -> Option<&Value>
+        ensures { option_copied result ≡ field_value self.now object name.now }
+    {
+        match self.get(object) {
+            Some(found) => value_of(found, name),
+            None => None,
+        }
+    }
+
+    /// Gives an object's field another value: `with_field_value`. Where there is no such object or field the value is
+    /// handed back and nothing changed.
+    #[tactic(auto, using(crate::proofs::Written::object_written, crate::proofs::Written::object_missing))]
+    pub fn set_field(&mut self, object: u32, name: &[u8], value: Value) -> Result<(), Value>
+        ensures { SetsField self.old object name.now value result self.new }
+    {
+        match self.objects.get_mut(object as usize) {
+            Some(found) => write(found, name, value),
+            None => Err(value),
+        }
+    }
+}
