@@ -25,7 +25,11 @@ fn classes_and_methods_are_found_by_name(rt: HostRuntime) -> Result<(), Fail> {
         (b"B", b"f", None),
         (b"C", b"f", None),
     ] {
-        assert_eq!(rt; code.find_method(class, name).map(|method| method.signature.at), at);
+        assert_eq!(rt;
+            code.find_method(class, name)
+                .map(|method| method.signature.at),
+            at
+        );
     }
     Ok(())
 }
