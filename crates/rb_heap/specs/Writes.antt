@@ -1,5 +1,5 @@
 -- Writes into fields: what is answered, and what is left.
-use Rattle.std.specs.Prelude.{◌≡◌, ℕ, List, Option, Some, None, Result, Ok, Err, IsSome}
+use Rattle.std.specs.Prelude.{◌≡◌, ℕ, List, None, Result, Ok, Err, IsSome}
 use Rattle.rb_trees.specs.Named.{lookup}
 use Rattle.rb_trees.specs.Objects.{field_value, with_field, with_field_value}
 use Rattle.rb_trees.specs.declared.values.Value.{Value}

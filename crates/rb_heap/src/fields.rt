@@ -6,7 +6,7 @@ ghost use Rattle.rb_trees.specs.Named.{lookup};
 ghost use Rattle.rb_heap.specs.Places.{first_place};
 ghost use Rattle.rb_heap.specs.Writes.{WritesField};
 
-use rb_trees::{Object, Value, Word};
+use rb_trees::{Object, Seq, Value, Word};
 
 // The first place of a name.
 #[tactic(auto, using(crate::proofs::Placed::place_found, crate::proofs::Placed::place_passed))]
@@ -21,13 +21,13 @@ fn place_of(fields: &[(Word, Value)], name: &[u8]) -> Option<usize>
     None
 }
 
-/// The value of a field.
+/// The value of a field, or None where there is none of the name.
 #[tactic(auto, using(crate::proofs::Placed::lookup_placed))]
-pub fn value_of<'a>(object: &'a Object, name: &[u8]) -> Option<&'a Value>
-    ensures { option_copied result ≡ lookup object.now.fields name.now }
+pub fn find_value<'a>(fields: &'a Seq<(Word, Value)>, name: &[u8]) -> Option<&'a Value>
+    ensures { option_copied result ≡ lookup fields.now name.now }
 {
-    match place_of(object.fields.as_slice(), name) {
-        Some(place) => match object.fields.get(place) {
+    match place_of(fields.as_slice(), name) {
+        Some(place) => match fields.get(place) {
             Some(field) => Some(&field.1),
             None => None,
         },

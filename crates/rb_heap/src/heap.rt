@@ -7,7 +7,7 @@ ghost use Rattle.rb_heap.specs.Additions.{RefusesObject};
 ghost use Rattle.rb_heap.specs.Writes.{SetsField};
 
 use crate::copies::copy_object;
-use crate::fields::{value_of, write};
+use crate::fields::{find_value, write};
 use crate::stops::AddStop;
 use rb_trees::{Memory, Object, Seq, Value};
 use std::alloc::Global;
@@ -105,7 +105,7 @@ impl Heap {
         ensures { option_copied result ≡ field_value self.now object name.now }
     {
         match self.get(object) {
-            Some(found) => value_of(found, name),
+            Some(found) => find_value(&found.fields, name),
             None => None,
         }
     }

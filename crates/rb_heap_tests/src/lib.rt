@@ -1,0 +1,7 @@
+//! Tests of the heap.
+#![tactic(auto)]
+
+#[cfg(test)]
+mod fields;
+#[cfg(test)]
+mod objects;
