@@ -3,6 +3,7 @@ pub mod Steps
 pub mod Groups
 pub mod Exprs
 pub mod Stmts
+pub mod Members
 pub mod Decls
 pub mod Wholes
 pub mod Stops

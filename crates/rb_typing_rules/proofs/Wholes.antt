@@ -19,7 +19,8 @@ use Rattle.rb_typing_rules.specs.Programs.{Returns, IsBody, AreMethodBodies, Are
 use Rattle.rb_typing_rules.proofs.Steps.{bind_ok, then_ok, must_ok, placed_ok, same_sound, same_refl}
 use Rattle.rb_typing_rules.proofs.Exprs.{placed_at, typed_has, has_typed}
 use Rattle.rb_typing_rules.proofs.Stmts.{all_lead, lead_all, not_so}
-use Rattle.rb_typing_rules.proofs.Decls.{known_so, so_known, three_so, so_three, declared_so, so_declared}
+use Rattle.rb_typing_rules.proofs.Members.{three_so, so_three}
+use Rattle.rb_typing_rules.proofs.Decls.{known_so, so_known, declared_so, so_declared}
 
 both_so : (a b : Truth) → (a && b) ≡ true → (a ≡ true) × (b ≡ true)
 both_so true true h = (refl, refl)
