@@ -1,13 +1,12 @@
 -- The rules on declarations, bodies and programs agree with what is computed.
-use Rattle.std.proofs.Common.{◌≡◌, ℕ, List, [], ◌∷◌, ◌++◌, map, Bool as Truth, true, false, not, ◌&&◌, Ok, refl, ap, ◌∙◌}
+use Rattle.std.proofs.Common.{◌≡◌, ℕ, List, [], map, Bool as Truth, true, false, not, ◌&&◌, Ok, refl, ap, ◌∙◌}
 use Rattle.rb_trees.specs.mirror.Types.{TypeTree, Int, Bool, Text, Unit as UnitType, Named, ListOf, RowsOf, type_at}
 use Rattle.rb_trees.specs.mirror.Declarations.{Param, Signature, Interface, Method, Class}
-use Rattle.rb_meaning_types.specs.Names.{is_new}
 use Rattle.rb_meaning_types.specs.Declared.{Declarations, is_class, is_declared}
-use Rattle.rb_meaning_types.specs.Violations.{Checked, UnknownName, NameTaken, TypeNotHere, NotAllowedHere}
+use Rattle.rb_meaning_types.specs.Violations.{UnknownName, TypeNotHere, NotAllowedHere}
 use Rattle.rb_trees.specs.Outcome.{◌>>◌, must}
 use Rattle.rb_meaning_types.specs.Places.{declared_type, value_type, value_result, is_remote_value, is_remote_result, is_main_result, parameter_type, result_type, main_type}
-use Rattle.rb_meaning_types.specs.Declarations.{new_name, check_params, check_signature, check_signatures, check_method, check_methods, check_interfaces, check_class, check_classes, check_declarations}
+use Rattle.rb_meaning_types.specs.Declarations.{check_params, check_signature, check_signatures, check_method, check_methods, check_interfaces, check_class, check_classes, check_declarations}
 use Rattle.rb_typing_rules.specs.Programs.{IsKnown, IsValueType, IsValueResult, IsParameterType, IsResultType, AreParams, IsSignature, AreSignatures, IsMethod, AreMethods, AreInterfaces, IsClass, AreClasses, AreDeclared}
 use Rattle.rb_typing_rules.proofs.Steps.{then_ok, must_ok}
 use Rattle.rb_typing_rules.proofs.Members.{members_so, so_members}
@@ -86,10 +85,12 @@ so_results true d t h = rw (so_known d t h.0) (rw h.1 refl)
 so_results false d t h = rw (so_known d t h.0) (so_result d t h.1)
 
 pub params_so : (remote : Truth) (d : Declarations) (before : List (List ℕ)) (ps : List Param) → check_params remote d before ps ≡ Ok tt → AreParams remote d before ps
-params_so remote d = members_so (λ p. p.at) (λ p. p.name) (λ p. IsParameterType remote d p.kind) (λ p. parameter_type remote d p.kind) (check_params remote d) (λ before p ps. refl) (λ p h. parameter_so remote d p.kind h)
+params_so remote d = members_so (λ p. p.at) (λ p. p.name) (λ p. IsParameterType remote d p.kind)
+    (λ p. parameter_type remote d p.kind) (check_params remote d) (λ before p ps. refl) (λ p h. parameter_so remote d p.kind h)
 
 pub so_params : (remote : Truth) (d : Declarations) (before : List (List ℕ)) (ps : List Param) → AreParams remote d before ps → check_params remote d before ps ≡ Ok tt
-so_params remote d = so_members (λ p. p.at) (λ p. p.name) (λ p. IsParameterType remote d p.kind) (λ p. parameter_type remote d p.kind) (check_params remote d) (λ before. refl) (λ before p ps. refl) (λ p h. so_parameter remote d p.kind h)
+so_params remote d = so_members (λ p. p.at) (λ p. p.name) (λ p. IsParameterType remote d p.kind)
+    (λ p. parameter_type remote d p.kind) (check_params remote d) (λ before. refl) (λ before p ps. refl) (λ p h. so_parameter remote d p.kind h)
 
 pub signature_so : (remote : Truth) (d : Declarations) (s : Signature) → check_signature remote d s ≡ Ok tt → IsSignature remote d s
 signature_so remote d s h = let t = then_ok (check_params remote d [] s.params) (result_type remote d s.result) tt h in
@@ -99,10 +100,12 @@ pub so_signature : (remote : Truth) (d : Declarations) (s : Signature) → IsSig
 so_signature remote d s h = ap (λ r. r >> result_type remote d s.result) (so_params remote d [] s.params h.0) ∙ so_results remote d s.result h.1
 
 pub signatures_so : (d : Declarations) (before : List (List ℕ)) (ss : List Signature) → check_signatures d before ss ≡ Ok tt → AreSignatures d before ss
-signatures_so d = members_so (λ s. s.at) (λ s. s.name) (IsSignature true d) (check_signature true d) (check_signatures d) (λ before s ss. refl) (signature_so true d)
+signatures_so d = members_so (λ s. s.at) (λ s. s.name) (IsSignature true d)
+    (check_signature true d) (check_signatures d) (λ before s ss. refl) (signature_so true d)
 
 pub so_signatures : (d : Declarations) (before : List (List ℕ)) (ss : List Signature) → AreSignatures d before ss → check_signatures d before ss ≡ Ok tt
-so_signatures d = so_members (λ s. s.at) (λ s. s.name) (IsSignature true d) (check_signature true d) (check_signatures d) (λ before. refl) (λ before s ss. refl) (so_signature true d)
+so_signatures d = so_members (λ s. s.at) (λ s. s.name) (IsSignature true d)
+    (check_signature true d) (check_signatures d) (λ before. refl) (λ before s ss. refl) (so_signature true d)
 
 pub method_so : (d : Declarations) (m : Method) → check_method d m ≡ Ok tt → IsMethod d m
 method_so d m h =
@@ -115,16 +118,20 @@ so_method d m h =
     ∙ ap (λ b. must (not b) (NotAllowedHere m.signature.at)) h.1
 
 pub methods_so : (d : Declarations) (before : List (List ℕ)) (ms : List Method) → check_methods d before ms ≡ Ok tt → AreMethods d before ms
-methods_so d = members_so (λ m. m.signature.at) (λ m. m.signature.name) (IsMethod d) (check_method d) (check_methods d) (λ before m ms. refl) (method_so d)
+methods_so d = members_so (λ m. m.signature.at) (λ m. m.signature.name) (IsMethod d)
+    (check_method d) (check_methods d) (λ before m ms. refl) (method_so d)
 
 pub so_methods : (d : Declarations) (before : List (List ℕ)) (ms : List Method) → AreMethods d before ms → check_methods d before ms ≡ Ok tt
-so_methods d = so_members (λ m. m.signature.at) (λ m. m.signature.name) (IsMethod d) (check_method d) (check_methods d) (λ before. refl) (λ before m ms. refl) (so_method d)
+so_methods d = so_members (λ m. m.signature.at) (λ m. m.signature.name) (IsMethod d)
+    (check_method d) (check_methods d) (λ before. refl) (λ before m ms. refl) (so_method d)
 
 pub interfaces_so : (d : Declarations) (before : List (List ℕ)) (js : List Interface) → check_interfaces d before js ≡ Ok tt → AreInterfaces d before js
-interfaces_so d = members_so (λ i. i.at) (λ i. i.name) (λ i. AreSignatures d [] i.methods) (λ i. check_signatures d [] i.methods) (check_interfaces d) (λ before i is. refl) (λ i h. signatures_so d [] i.methods h)
+interfaces_so d = members_so (λ i. i.at) (λ i. i.name) (λ i. AreSignatures d [] i.methods)
+    (λ i. check_signatures d [] i.methods) (check_interfaces d) (λ before i is. refl) (λ i h. signatures_so d [] i.methods h)
 
 pub so_interfaces : (d : Declarations) (before : List (List ℕ)) (js : List Interface) → AreInterfaces d before js → check_interfaces d before js ≡ Ok tt
-so_interfaces d = so_members (λ i. i.at) (λ i. i.name) (λ i. AreSignatures d [] i.methods) (λ i. check_signatures d [] i.methods) (check_interfaces d) (λ before. refl) (λ before i is. refl) (λ i h. so_signatures d [] i.methods h)
+so_interfaces d = so_members (λ i. i.at) (λ i. i.name) (λ i. AreSignatures d [] i.methods)
+    (λ i. check_signatures d [] i.methods) (check_interfaces d) (λ before. refl) (λ before i is. refl) (λ i h. so_signatures d [] i.methods h)
 
 pub class_so : (d : Declarations) (c : Class) → check_class d c ≡ Ok tt → IsClass d c
 class_so d c h = let s = then_ok (check_params false d [] c.fields) (check_methods d [] c.methods) tt h in
@@ -137,7 +144,8 @@ classes_so : (d : Declarations) (before : List (List ℕ)) (ds : List Class) →
 classes_so d = members_so (λ c. c.at) (λ c. c.name) (IsClass d) (check_class d) (check_classes d) (λ before c cs. refl) (class_so d)
 
 so_classes : (d : Declarations) (before : List (List ℕ)) (ds : List Class) → AreClasses d before ds → check_classes d before ds ≡ Ok tt
-so_classes d = so_members (λ c. c.at) (λ c. c.name) (IsClass d) (check_class d) (check_classes d) (λ before. refl) (λ before c cs. refl) (so_class d)
+so_classes d = so_members (λ c. c.at) (λ c. c.name) (IsClass d)
+    (check_class d) (check_classes d) (λ before. refl) (λ before c cs. refl) (so_class d)
 
 pub declared_so : (d : Declarations) → check_declarations d ≡ Ok tt → AreDeclared d
 declared_so d h = let s = then_ok (check_interfaces d [] d.interfaces) (check_classes d (map (λ i. i.name) d.interfaces) d.classes) tt h in

@@ -1,10 +1,10 @@
--- Members are right exactly where their check passes: each by its name first, and then itself.
+-- Parts in order are right exactly where their check passes.
 use Rattle.std.proofs.Common.{◌≡◌, ℕ, List, [], ◌∷◌, ◌++◌, Ok, refl, ap, sym, ◌∙◌}
 use Rattle.rb_meaning_types.specs.Names.{is_new}
 use Rattle.rb_meaning_types.specs.Violations.{Checked, NameTaken}
 use Rattle.rb_trees.specs.Outcome.{◌>>◌}
 use Rattle.rb_meaning_types.specs.Declarations.{new_name}
-use Rattle.rb_typing_rules.specs.Order.{AreMembers}
+use Rattle.rb_typing_rules.specs.Order.{Each, AreMembers}
 use Rattle.rb_typing_rules.proofs.Steps.{then_ok, must_ok}
 
 pub three_so : (a b c : Checked (Unit {0})) → (a >> b >> c) ≡ Ok tt → (a ≡ Ok tt) × (b ≡ Ok tt) × (c ≡ Ok tt)
@@ -13,6 +13,18 @@ three_so a b c h = let s = then_ok (a >> b) c tt h in let t = then_ok a b tt s.0
 pub so_three : (a b c : Checked (Unit {0})) → a ≡ Ok tt → b ≡ Ok tt → c ≡ Ok tt → (a >> b >> c) ≡ Ok tt
 so_three a b c e f g = ap (λ r. r >> b >> c) e ∙ ap (λ r. r >> c) f ∙ g
 
+pub each_so : {A : Type 0} (Right : A → Type 0) (check : A → Checked (Unit {0})) (all : List A → Checked (Unit {0}))
+    → ((a : A) (others : List A) → all (a ∷ others) ≡ (check a >> all others)) → ((a : A) → check a ≡ Ok tt → Right a) → (list : List A) → all list ≡ Ok tt → Each Right list
+each_so Right check all step right [] h = tt
+each_so Right check all step right (a ∷ others) h =
+    let s = then_ok (check a) (all others) tt (sym (step a others) ∙ h) in (right a s.0, each_so Right check all step right others s.1)
+
+pub so_each : {A : Type 0} (Right : A → Type 0) (check : A → Checked (Unit {0})) (all : List A → Checked (Unit {0})) → all [] ≡ Ok tt
+    → ((a : A) (others : List A) → all (a ∷ others) ≡ (check a >> all others)) → ((a : A) → Right a → check a ≡ Ok tt) → (list : List A) → Each Right list → all list ≡ Ok tt
+so_each Right check all end step so [] h = end
+so_each Right check all end step so (a ∷ others) h = step a others ∙ ap (λ r. r >> all others) (so a h.0) ∙ so_each Right check all end step so others h.1
+
+-- members: each by its name first, and then itself
 pub members_so : {A : Type 0} (at : A → ℕ) (name : A → List ℕ) (Right : A → Type 0) (check : A → Checked (Unit {0})) (all : List (List ℕ) → List A → Checked (Unit {0}))
     → ((before : List (List ℕ)) (m : A) (ms : List A) → all before (m ∷ ms) ≡ (new_name before (at m) (name m) >> check m >> all (before ++ name m ∷ []) ms))
     → ((m : A) → check m ≡ Ok tt → Right m) → (before : List (List ℕ)) (ms : List A) → all before ms ≡ Ok tt → AreMembers name Right before ms

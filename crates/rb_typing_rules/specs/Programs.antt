@@ -1,14 +1,13 @@
 -- The rules by cases of bodies, declarations, programs and services.
-use Rattle.std.specs.Prelude.{◌≡◌, ℕ, List, [], ◌∷◌, ◌++◌, map, Bool as Truth, true, false, ◌&&◌, Option, Some, None}
+use Rattle.std.specs.Prelude.{◌≡◌, ℕ, List, [], map, Bool as Truth, true, false, ◌&&◌, Option, Some, None}
 use Rattle.rb_trees.specs.mirror.Types.{TypeTree, Int, Bool, Text, Unit as UnitType, Named, ListOf, RowsOf}
 use Rattle.rb_trees.specs.mirror.Code.{Expr}
 use Rattle.rb_trees.specs.mirror.Declarations.{Param, Signature, Interface, Body, Method, Class, Program}
 use Rattle.rb_meaning_types.specs.Kinds.{Kind, kind_of, is_unit}
-use Rattle.rb_meaning_types.specs.Names.{is_new}
 use Rattle.rb_meaning_types.specs.Scopes.{Scope, parameters}
 use Rattle.rb_meaning_types.specs.Places.{is_remote_value, is_remote_result, is_main_result}
 use Rattle.rb_meaning_types.specs.Declared.{Declarations, Context, is_class, is_declared, of_program, of_service, method_context, main_context}
-use Rattle.rb_typing_rules.specs.Order.{AreMembers}
+use Rattle.rb_typing_rules.specs.Order.{Each, AreMembers}
 use Rattle.rb_typing_rules.specs.Rules.{HasType, AllLead}
 
 -- the names in a type are declared
@@ -92,14 +91,10 @@ IsMethodBody d class m =
     IsBody (method_context d class m.remote) (parameters m.signature.params) (kind_of m.signature.result) m.body
 
 abbrev pub AreMethodBodies : Declarations → List ℕ → List Method → Type 0
-AreMethodBodies d class [] = Unit {0}
-AreMethodBodies d class (m ∷ ms) =
-    IsMethodBody d class m × AreMethodBodies d class ms
+AreMethodBodies d class = Each (IsMethodBody d class)
 
 abbrev pub AreClassBodies : Declarations → List Class → Type 0
-AreClassBodies d [] = Unit {0}
-AreClassBodies d (c ∷ cs) =
-    AreMethodBodies d c.name c.methods × AreClassBodies d cs
+AreClassBodies d = Each (λ c. AreMethodBodies d c.name c.methods)
 
 -- A typed program.
 pub record IsTyped (p : Program) : Type 0 where
