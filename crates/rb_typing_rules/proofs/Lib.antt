@@ -13,3 +13,4 @@ pub mod Misfits
 pub mod BrokenExprs
 pub mod BrokenStmts
 pub mod BrokenPrograms
+pub mod Outcomes
