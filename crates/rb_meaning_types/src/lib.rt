@@ -2,5 +2,5 @@
 //! that aren't, which programs are lawful, and which values fit a type.
 //!
 //! They stand in `specs/`, over the mirror of the trees, with lemmas on them in `proofs/`. There is no
-//! code here; the law that rules by cases agree with them is a function of `rb_typing_rules`.
+//! code here; the laws that the rules by cases agree with them are functions of `rb_typing_rules`.
 #![tactic(auto)]

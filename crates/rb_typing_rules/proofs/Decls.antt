@@ -1,15 +1,15 @@
 -- The rules on declarations, bodies and programs agree with what is computed.
-use Rattle.std.proofs.Common.{◌≡◌, ℕ, List, [], ◌∷◌, ◌++◌, map, Bool as Truth, true, false, not, ◌&&◌, Ok, refl, ap, ◌∙◌}
+use Rattle.std.proofs.Common.{◌≡◌, ℕ, List, [], map, Bool as Truth, true, false, not, ◌&&◌, Ok, refl, ap, ◌∙◌}
 use Rattle.rb_trees.specs.mirror.Types.{TypeTree, Int, Bool, Text, Unit as UnitType, Named, ListOf, RowsOf, type_at}
 use Rattle.rb_trees.specs.mirror.Declarations.{Param, Signature, Interface, Method, Class}
-use Rattle.rb_meaning_types.specs.Names.{is_new}
 use Rattle.rb_meaning_types.specs.Declared.{Declarations, is_class, is_declared}
-use Rattle.rb_meaning_types.specs.Violations.{Checked, UnknownName, NameTaken, TypeNotHere, NotAllowedHere}
+use Rattle.rb_meaning_types.specs.Violations.{UnknownName, TypeNotHere, NotAllowedHere}
 use Rattle.rb_trees.specs.Outcome.{◌>>◌, must}
 use Rattle.rb_meaning_types.specs.Places.{declared_type, value_type, value_result, is_remote_value, is_remote_result, is_main_result, parameter_type, result_type, main_type}
-use Rattle.rb_meaning_types.specs.Declarations.{new_name, check_params, check_signature, check_signatures, check_method, check_methods, check_interfaces, check_class, check_classes, check_declarations}
+use Rattle.rb_meaning_types.specs.Declarations.{check_params, check_signature, check_signatures, check_method, check_methods, check_interfaces, check_class, check_classes, check_declarations}
 use Rattle.rb_typing_rules.specs.Programs.{IsKnown, IsValueType, IsValueResult, IsParameterType, IsResultType, AreParams, IsSignature, AreSignatures, IsMethod, AreMethods, AreInterfaces, IsClass, AreClasses, AreDeclared}
 use Rattle.rb_typing_rules.proofs.Steps.{then_ok, must_ok}
+use Rattle.rb_typing_rules.proofs.Members.{members_so, so_members}
 use Rattle.rb_typing_rules.proofs.Stmts.{not_so}
 
 pub known_so : (d : Declarations) (t : TypeTree) → declared_type d t ≡ Ok tt → IsKnown d t
@@ -84,27 +84,13 @@ pub so_results : (remote : Truth) (d : Declarations) (t : TypeTree) → IsResult
 so_results true d t h = rw (so_known d t h.0) (rw h.1 refl)
 so_results false d t h = rw (so_known d t h.0) (so_result d t h.1)
 
-new_so : (before : List (List ℕ)) (at : ℕ) (name : List ℕ) → new_name before at name ≡ Ok tt → is_new name before ≡ true
-new_so before at name h = must_ok (is_new name before) (NameTaken at) h
-
--- a member is right, and so are those after it
-pub three_so : (a b c : Checked (Unit {0})) → (a >> b >> c) ≡ Ok tt → (a ≡ Ok tt) × (b ≡ Ok tt) × (c ≡ Ok tt)
-three_so a b c h = let s = then_ok (a >> b) c tt h in let t = then_ok a b tt s.0 in (t.0, t.1, s.1)
-
-pub so_three : (a b c : Checked (Unit {0})) → a ≡ Ok tt → b ≡ Ok tt → c ≡ Ok tt → (a >> b >> c) ≡ Ok tt
-so_three a b c e f g = ap (λ r. r >> b >> c) e ∙ ap (λ r. r >> c) f ∙ g
-
 pub params_so : (remote : Truth) (d : Declarations) (before : List (List ℕ)) (ps : List Param) → check_params remote d before ps ≡ Ok tt → AreParams remote d before ps
-params_so remote d before [] h = tt
-params_so remote d before (p ∷ ps) h =
-    let s = three_so (new_name before p.at p.name) (parameter_type remote d p.kind) (check_params remote d (before ++ p.name ∷ []) ps) h in
-    (new_so before p.at p.name s.0, parameter_so remote d p.kind s.1, params_so remote d (before ++ p.name ∷ []) ps s.2)
+params_so remote d = members_so (λ p. p.at) (λ p. p.name) (λ p. IsParameterType remote d p.kind)
+    (λ p. parameter_type remote d p.kind) (check_params remote d) (λ before p ps. refl) (λ p h. parameter_so remote d p.kind h)
 
 pub so_params : (remote : Truth) (d : Declarations) (before : List (List ℕ)) (ps : List Param) → AreParams remote d before ps → check_params remote d before ps ≡ Ok tt
-so_params remote d before [] h = refl
-so_params remote d before (p ∷ ps) h =
-    so_three (new_name before p.at p.name) (parameter_type remote d p.kind) (check_params remote d (before ++ p.name ∷ []) ps)
-    (rw h.0 refl) (so_parameter remote d p.kind h.1) (so_params remote d (before ++ p.name ∷ []) ps h.2)
+so_params remote d = so_members (λ p. p.at) (λ p. p.name) (λ p. IsParameterType remote d p.kind)
+    (λ p. parameter_type remote d p.kind) (check_params remote d) (λ before. refl) (λ before p ps. refl) (λ p h. so_parameter remote d p.kind h)
 
 pub signature_so : (remote : Truth) (d : Declarations) (s : Signature) → check_signature remote d s ≡ Ok tt → IsSignature remote d s
 signature_so remote d s h = let t = then_ok (check_params remote d [] s.params) (result_type remote d s.result) tt h in
@@ -114,16 +100,12 @@ pub so_signature : (remote : Truth) (d : Declarations) (s : Signature) → IsSig
 so_signature remote d s h = ap (λ r. r >> result_type remote d s.result) (so_params remote d [] s.params h.0) ∙ so_results remote d s.result h.1
 
 pub signatures_so : (d : Declarations) (before : List (List ℕ)) (ss : List Signature) → check_signatures d before ss ≡ Ok tt → AreSignatures d before ss
-signatures_so d before [] h = tt
-signatures_so d before (s ∷ ss) h =
-    let t = three_so (new_name before s.at s.name) (check_signature true d s) (check_signatures d (before ++ s.name ∷ []) ss) h in
-    (new_so before s.at s.name t.0, signature_so true d s t.1, signatures_so d (before ++ s.name ∷ []) ss t.2)
+signatures_so d = members_so (λ s. s.at) (λ s. s.name) (IsSignature true d)
+    (check_signature true d) (check_signatures d) (λ before s ss. refl) (signature_so true d)
 
 pub so_signatures : (d : Declarations) (before : List (List ℕ)) (ss : List Signature) → AreSignatures d before ss → check_signatures d before ss ≡ Ok tt
-so_signatures d before [] h = refl
-so_signatures d before (s ∷ ss) h =
-    so_three (new_name before s.at s.name) (check_signature true d s) (check_signatures d (before ++ s.name ∷ []) ss)
-    (rw h.0 refl) (so_signature true d s h.1) (so_signatures d (before ++ s.name ∷ []) ss h.2)
+so_signatures d = so_members (λ s. s.at) (λ s. s.name) (IsSignature true d)
+    (check_signature true d) (check_signatures d) (λ before. refl) (λ before s ss. refl) (so_signature true d)
 
 pub method_so : (d : Declarations) (m : Method) → check_method d m ≡ Ok tt → IsMethod d m
 method_so d m h =
@@ -136,28 +118,20 @@ so_method d m h =
     ∙ ap (λ b. must (not b) (NotAllowedHere m.signature.at)) h.1
 
 pub methods_so : (d : Declarations) (before : List (List ℕ)) (ms : List Method) → check_methods d before ms ≡ Ok tt → AreMethods d before ms
-methods_so d before [] h = tt
-methods_so d before (m ∷ ms) h =
-    let t = three_so (new_name before m.signature.at m.signature.name) (check_method d m) (check_methods d (before ++ m.signature.name ∷ []) ms) h in
-    (new_so before m.signature.at m.signature.name t.0, method_so d m t.1, methods_so d (before ++ m.signature.name ∷ []) ms t.2)
+methods_so d = members_so (λ m. m.signature.at) (λ m. m.signature.name) (IsMethod d)
+    (check_method d) (check_methods d) (λ before m ms. refl) (method_so d)
 
 pub so_methods : (d : Declarations) (before : List (List ℕ)) (ms : List Method) → AreMethods d before ms → check_methods d before ms ≡ Ok tt
-so_methods d before [] h = refl
-so_methods d before (m ∷ ms) h =
-    so_three (new_name before m.signature.at m.signature.name) (check_method d m) (check_methods d (before ++ m.signature.name ∷ []) ms)
-    (rw h.0 refl) (so_method d m h.1) (so_methods d (before ++ m.signature.name ∷ []) ms h.2)
+so_methods d = so_members (λ m. m.signature.at) (λ m. m.signature.name) (IsMethod d)
+    (check_method d) (check_methods d) (λ before. refl) (λ before m ms. refl) (so_method d)
 
 pub interfaces_so : (d : Declarations) (before : List (List ℕ)) (js : List Interface) → check_interfaces d before js ≡ Ok tt → AreInterfaces d before js
-interfaces_so d before [] h = tt
-interfaces_so d before (i ∷ js) h =
-    let t = three_so (new_name before i.at i.name) (check_signatures d [] i.methods) (check_interfaces d (before ++ i.name ∷ []) js) h in
-    (new_so before i.at i.name t.0, signatures_so d [] i.methods t.1, interfaces_so d (before ++ i.name ∷ []) js t.2)
+interfaces_so d = members_so (λ i. i.at) (λ i. i.name) (λ i. AreSignatures d [] i.methods)
+    (λ i. check_signatures d [] i.methods) (check_interfaces d) (λ before i is. refl) (λ i h. signatures_so d [] i.methods h)
 
 pub so_interfaces : (d : Declarations) (before : List (List ℕ)) (js : List Interface) → AreInterfaces d before js → check_interfaces d before js ≡ Ok tt
-so_interfaces d before [] h = refl
-so_interfaces d before (i ∷ js) h =
-    so_three (new_name before i.at i.name) (check_signatures d [] i.methods) (check_interfaces d (before ++ i.name ∷ []) js)
-    (rw h.0 refl) (so_signatures d [] i.methods h.1) (so_interfaces d (before ++ i.name ∷ []) js h.2)
+so_interfaces d = so_members (λ i. i.at) (λ i. i.name) (λ i. AreSignatures d [] i.methods)
+    (λ i. check_signatures d [] i.methods) (check_interfaces d) (λ before. refl) (λ before i is. refl) (λ i h. so_signatures d [] i.methods h)
 
 pub class_so : (d : Declarations) (c : Class) → check_class d c ≡ Ok tt → IsClass d c
 class_so d c h = let s = then_ok (check_params false d [] c.fields) (check_methods d [] c.methods) tt h in
@@ -167,16 +141,11 @@ pub so_class : (d : Declarations) (c : Class) → IsClass d c → check_class d 
 so_class d c h = ap (λ r. r >> check_methods d [] c.methods) (so_params false d [] c.fields h.0) ∙ so_methods d [] c.methods h.1
 
 classes_so : (d : Declarations) (before : List (List ℕ)) (ds : List Class) → check_classes d before ds ≡ Ok tt → AreClasses d before ds
-classes_so d before [] h = tt
-classes_so d before (c ∷ ds) h =
-    let t = three_so (new_name before c.at c.name) (check_class d c) (check_classes d (before ++ c.name ∷ []) ds) h in
-    (new_so before c.at c.name t.0, class_so d c t.1, classes_so d (before ++ c.name ∷ []) ds t.2)
+classes_so d = members_so (λ c. c.at) (λ c. c.name) (IsClass d) (check_class d) (check_classes d) (λ before c cs. refl) (class_so d)
 
 so_classes : (d : Declarations) (before : List (List ℕ)) (ds : List Class) → AreClasses d before ds → check_classes d before ds ≡ Ok tt
-so_classes d before [] h = refl
-so_classes d before (c ∷ ds) h =
-    so_three (new_name before c.at c.name) (check_class d c) (check_classes d (before ++ c.name ∷ []) ds)
-    (rw h.0 refl) (so_class d c h.1) (so_classes d (before ++ c.name ∷ []) ds h.2)
+so_classes d = so_members (λ c. c.at) (λ c. c.name) (IsClass d)
+    (check_class d) (check_classes d) (λ before. refl) (λ before c cs. refl) (so_class d)
 
 pub declared_so : (d : Declarations) → check_declarations d ≡ Ok tt → AreDeclared d
 declared_so d h = let s = then_ok (check_interfaces d [] d.interfaces) (check_classes d (map (λ i. i.name) d.interfaces) d.classes) tt h in

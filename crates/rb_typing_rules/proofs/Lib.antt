@@ -3,6 +3,7 @@ pub mod Steps
 pub mod Groups
 pub mod Exprs
 pub mod Stmts
+pub mod Members
 pub mod Decls
 pub mod Wholes
 pub mod Stops
@@ -12,3 +13,4 @@ pub mod Misfits
 pub mod BrokenExprs
 pub mod BrokenStmts
 pub mod BrokenPrograms
+pub mod Outcomes

@@ -5,7 +5,7 @@ use Rattle.rb_meaning_types.specs.Names.{is_new}
 use Rattle.rb_meaning_types.specs.Violations.{Violation, Checked, Placed, NameTaken, with_place, wanted, wrong_type}
 use Rattle.rb_trees.specs.Outcome.{◌>>=◌, ◌>>◌, known, must}
 use Rattle.rb_meaning_types.specs.Declarations.{new_name}
-use Rattle.rb_typing_rules.specs.First.{Differ, InOrder, first, second, InList, item, later_item, InMembers, name_taken, member, later_member}
+use Rattle.rb_typing_rules.specs.Order.{Differ, InOrder, first, second, InList, item, later_item, InMembers, name_taken, member, later_member}
 use Rattle.rb_typing_rules.proofs.Steps.{same_sound, same_refl}
 
 -- each violation that a check gives has a property

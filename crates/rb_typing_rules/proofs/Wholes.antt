@@ -1,5 +1,5 @@
 -- The rules on bodies, programs and services agree with what is computed.
-use Rattle.std.proofs.Common.{◌≡◌, ℕ, List, [], ◌∷◌, Bool as Truth, true, false, not, ◌&&◌, Option, Some, None, Ok, refl, ap, sym, ◌∙◌, subst}
+use Rattle.std.proofs.Common.{◌≡◌, ℕ, List, [], Bool as Truth, true, false, not, ◌&&◌, Option, Some, None, Ok, refl, ap, sym, ◌∙◌, subst}
 use Rattle.rb_trees.specs.mirror.Types.{TypeTree, type_at}
 use Rattle.rb_trees.specs.mirror.Code.{Expr, expr_at}
 use Rattle.rb_trees.specs.mirror.Declarations.{Body, Method, Class, Program}
@@ -15,11 +15,12 @@ use Rattle.rb_meaning_types.specs.Bodies.{return_fits, check_return, check_body,
 use Rattle.rb_meaning_types.specs.Declarations.{check_declarations}
 use Rattle.rb_meaning_types.specs.Programs.{check_main, check_program, check_service}
 use Rattle.rb_typing_rules.specs.Rules.{HasType}
-use Rattle.rb_typing_rules.specs.Programs.{Returns, IsBody, AreMethodBodies, AreClassBodies, IsTyped, IsTypedService}
+use Rattle.rb_typing_rules.specs.Programs.{Returns, IsBody, IsMethodBody, AreMethodBodies, AreClassBodies, IsTyped, IsTypedService}
 use Rattle.rb_typing_rules.proofs.Steps.{bind_ok, then_ok, must_ok, placed_ok, same_sound, same_refl}
 use Rattle.rb_typing_rules.proofs.Exprs.{placed_at, typed_has, has_typed}
 use Rattle.rb_typing_rules.proofs.Stmts.{all_lead, lead_all, not_so}
-use Rattle.rb_typing_rules.proofs.Decls.{known_so, so_known, three_so, so_three, declared_so, so_declared}
+use Rattle.rb_typing_rules.proofs.Members.{three_so, so_three, each_so, so_each}
+use Rattle.rb_typing_rules.proofs.Decls.{known_so, so_known, declared_so, so_declared}
 
 both_so : (a b : Truth) → (a && b) ≡ true → (a ≡ true) × (b ≡ true)
 both_so true true h = (refl, refl)
@@ -50,28 +51,20 @@ pub so_body : (x : Context) (scope : Scope) (at : ℕ) (result : TypeTree) (body
 so_body x scope at result body b = rw (lead_all x scope body.statements b.after b.statements) (so_return x b.after at (kind_of result) body.result b.result)
 
 pub methods_so : (d : Declarations) (class : List ℕ) (ms : List Method) → check_method_bodies d class ms ≡ Ok tt → AreMethodBodies d class ms
-methods_so d class [] h = tt
-methods_so d class (m ∷ ms) h =
-    let s = then_ok (check_method_body d class m) (check_method_bodies d class ms) tt h in
-    (body_so (method_context d class m.remote) (parameters m.signature.params) m.signature.at m.signature.result m.body s.0, methods_so d class ms s.1)
+methods_so d class = each_so (IsMethodBody d class) (check_method_body d class) (check_method_bodies d class) (λ m ms. refl)
+    (λ m. body_so (method_context d class m.remote) (parameters m.signature.params) m.signature.at m.signature.result m.body)
 
 pub so_methods : (d : Declarations) (class : List ℕ) (ms : List Method) → AreMethodBodies d class ms → check_method_bodies d class ms ≡ Ok tt
-so_methods d class [] h = refl
-so_methods d class (m ∷ ms) h =
-    ap (λ r. r >> check_method_bodies d class ms)
-    (so_body (method_context d class m.remote) (parameters m.signature.params) m.signature.at m.signature.result m.body h.0)
-    ∙ so_methods d class ms h.1
+so_methods d class = so_each (IsMethodBody d class) (check_method_body d class) (check_method_bodies d class) refl (λ m ms. refl)
+    (λ m. so_body (method_context d class m.remote) (parameters m.signature.params) m.signature.at m.signature.result m.body)
 
 pub bodies_so : (d : Declarations) (ds : List Class) → check_class_bodies d ds ≡ Ok tt → AreClassBodies d ds
-bodies_so d [] h = tt
-bodies_so d (c ∷ ds) h =
-    let s = then_ok (check_method_bodies d c.name c.methods) (check_class_bodies d ds) tt h in
-    (methods_so d c.name c.methods s.0, bodies_so d ds s.1)
+bodies_so d = each_so (λ c. AreMethodBodies d c.name c.methods) (λ c. check_method_bodies d c.name c.methods) (check_class_bodies d)
+    (λ c cs. refl) (λ c. methods_so d c.name c.methods)
 
 pub so_bodies : (d : Declarations) (ds : List Class) → AreClassBodies d ds → check_class_bodies d ds ≡ Ok tt
-so_bodies d [] h = refl
-so_bodies d (c ∷ ds) h =
-    ap (λ r. r >> check_class_bodies d ds) (so_methods d c.name c.methods h.0) ∙ so_bodies d ds h.1
+so_bodies d = so_each (λ c. AreMethodBodies d c.name c.methods) (λ c. check_method_bodies d c.name c.methods) (check_class_bodies d)
+    refl (λ c cs. refl) (λ c. so_methods d c.name c.methods)
 
 pub program_so : (p : Program) → check_program p ≡ Ok tt → IsTyped p
 program_so p h =

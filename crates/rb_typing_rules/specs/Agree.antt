@@ -1,5 +1,5 @@
 -- The rules by cases agree with the judgement that computes, both ways.
-use Rattle.std.specs.Prelude.{◌≡◌, ◌↔◌, List, Ok, Err}
+use Rattle.std.specs.Prelude.{◌≡◌, ◌↔◌, ◌⊎◌, List, Ok, Err}
 use Rattle.rb_trees.specs.mirror.Code.{Expr, Stmts}
 use Rattle.rb_trees.specs.mirror.Declarations.{Class, Program}
 use Rattle.rb_meaning_types.specs.Kinds.{Kind}
@@ -45,3 +45,14 @@ FirstViolationsAgree = (p : Program) (v : Violation) → (check_program p ≡ Er
 -- a service's first violation is computed exactly where the rules are broken there first
 abbrev pub FirstViolationsOfServicesAgree : Type 0
 FirstViolationsOfServicesAgree = (classes : List Class) (v : Violation) → (check_service classes ≡ Err v) ↔ FirstViolationOfService classes v
+
+-- what is judged is typed or has a first violation, not both, and one violation alone
+abbrev pub HasOneOutcome : Type 0 → (Violation → Type 0) → Type 0
+HasOneOutcome Typed First =
+    (Typed ⊎ ((v : Violation) × First v)) × ((v : Violation) → Typed → First v → ⊥) × ((v w : Violation) → First v → First w → v ≡ w)
+
+abbrev pub ProgramsHaveOneOutcome : Type 0
+ProgramsHaveOneOutcome = (p : Program) → HasOneOutcome (IsTyped p) (FirstViolation p)
+
+abbrev pub ServicesHaveOneOutcome : Type 0
+ServicesHaveOneOutcome = (classes : List Class) → HasOneOutcome (IsTypedService classes) (FirstViolationOfService classes)

@@ -15,7 +15,7 @@ use Rattle.rb_meaning_types.specs.Places.{item_type}
 use Rattle.rb_meaning_types.specs.Declared.{Declarations, Context, is_interface}
 use Rattle.rb_meaning_types.specs.Statements.{is_assignable, is_printable}
 use Rattle.rb_typing_rules.specs.Rules.{HasType, HaveTypes, Leads, AllLead, kinds_of}
-use Rattle.rb_typing_rules.specs.First.{Differ}
+use Rattle.rb_typing_rules.specs.Order.{Differ}
 use Rattle.rb_typing_rules.specs.BrokenTypes.{BrokenItem}
 
 -- The parts of an expression, in order of evaluation.

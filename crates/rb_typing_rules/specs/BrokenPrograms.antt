@@ -9,7 +9,7 @@ use Rattle.rb_meaning_types.specs.Declared.{Declarations, Context, of_program, o
 use Rattle.rb_meaning_types.specs.Places.{is_main_result}
 use Rattle.rb_typing_rules.specs.Rules.{HasType, AllLead}
 use Rattle.rb_typing_rules.specs.Programs.{IsKnown, IsParameterType, AreParams, IsSignature, AreSignatures, IsMethod, AreInterfaces, IsClass, AreDeclared, IsMethodBody, AreMethodBodies, AreClassBodies}
-use Rattle.rb_typing_rules.specs.First.{Differ, InOrder, InList, InMembers}
+use Rattle.rb_typing_rules.specs.Order.{Differ, InOrder, InList, InMembers}
 use Rattle.rb_typing_rules.specs.BrokenTypes.{BrokenParameter, BrokenResult, BrokenMainResult}
 use Rattle.rb_typing_rules.specs.BrokenCode.{BrokenExpr, BrokenStmts}
 

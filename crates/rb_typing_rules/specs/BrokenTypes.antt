@@ -4,7 +4,7 @@ use Rattle.rb_trees.specs.mirror.Types.{TypeTree, Unit, Named, ListOf, RowsOf, t
 use Rattle.rb_meaning_types.specs.Declared.{Declarations, is_class, is_declared}
 use Rattle.rb_meaning_types.specs.Violations.{Violation, UnknownName, TypeNotHere}
 use Rattle.rb_meaning_types.specs.Places.{is_remote_value, is_remote_result, is_main_result}
-use Rattle.rb_typing_rules.specs.First.{InOrder}
+use Rattle.rb_typing_rules.specs.Order.{InOrder}
 use Rattle.rb_typing_rules.specs.Programs.{IsKnown}
 
 -- A name in a type isn't declared.

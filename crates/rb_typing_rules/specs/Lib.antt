@@ -3,6 +3,6 @@ pub mod Agree
 pub mod BrokenCode
 pub mod BrokenPrograms
 pub mod BrokenTypes
-pub mod First
+pub mod Order
 pub mod Programs
 pub mod Rules

@@ -1,13 +1,13 @@
 -- The rules by cases of bodies, declarations, programs and services.
-use Rattle.std.specs.Prelude.{◌≡◌, ℕ, List, [], ◌∷◌, ◌++◌, map, Bool as Truth, true, false, ◌&&◌, Option, Some, None}
+use Rattle.std.specs.Prelude.{◌≡◌, ℕ, List, [], map, Bool as Truth, true, false, ◌&&◌, Option, Some, None}
 use Rattle.rb_trees.specs.mirror.Types.{TypeTree, Int, Bool, Text, Unit as UnitType, Named, ListOf, RowsOf}
 use Rattle.rb_trees.specs.mirror.Code.{Expr}
 use Rattle.rb_trees.specs.mirror.Declarations.{Param, Signature, Interface, Body, Method, Class, Program}
 use Rattle.rb_meaning_types.specs.Kinds.{Kind, kind_of, is_unit}
-use Rattle.rb_meaning_types.specs.Names.{is_new}
 use Rattle.rb_meaning_types.specs.Scopes.{Scope, parameters}
 use Rattle.rb_meaning_types.specs.Places.{is_remote_value, is_remote_result, is_main_result}
 use Rattle.rb_meaning_types.specs.Declared.{Declarations, Context, is_class, is_declared, of_program, of_service, method_context, main_context}
+use Rattle.rb_typing_rules.specs.Order.{Each, AreMembers}
 use Rattle.rb_typing_rules.specs.Rules.{HasType, AllLead}
 
 -- the names in a type are declared
@@ -47,39 +47,29 @@ IsResultType false d kind = IsKnown d kind × IsValueResult d kind
 
 -- parameters: each name differs from those before, and each type may stand there
 abbrev pub AreParams : Truth → Declarations → List (List ℕ) → List Param → Type 0
-AreParams remote d before [] = Unit {0}
-AreParams remote d before (p ∷ ps) =
-    (is_new p.name before ≡ true) × IsParameterType remote d p.kind × AreParams remote d (before ++ p.name ∷ []) ps
+AreParams remote d = AreMembers (λ p. p.name) (λ p. IsParameterType remote d p.kind)
 
 abbrev pub IsSignature : Truth → Declarations → Signature → Type 0
 IsSignature remote d s = AreParams remote d [] s.params × IsResultType remote d s.result
 
 abbrev pub AreSignatures : Declarations → List (List ℕ) → List Signature → Type 0
-AreSignatures d before [] = Unit {0}
-AreSignatures d before (s ∷ ss) =
-    (is_new s.name before ≡ true) × IsSignature true d s × AreSignatures d (before ++ s.name ∷ []) ss
+AreSignatures d = AreMembers (λ s. s.name) (IsSignature true d)
 
 -- a service has no `remote` method
 abbrev pub IsMethod : Declarations → Method → Type 0
 IsMethod d m = IsSignature false d m.signature × ((d.service && m.remote) ≡ false)
 
 abbrev pub AreMethods : Declarations → List (List ℕ) → List Method → Type 0
-AreMethods d before [] = Unit {0}
-AreMethods d before (m ∷ ms) =
-    (is_new m.signature.name before ≡ true) × IsMethod d m × AreMethods d (before ++ m.signature.name ∷ []) ms
+AreMethods d = AreMembers (λ m. m.signature.name) (IsMethod d)
 
 abbrev pub AreInterfaces : Declarations → List (List ℕ) → List Interface → Type 0
-AreInterfaces d before [] = Unit {0}
-AreInterfaces d before (i ∷ is) =
-    (is_new i.name before ≡ true) × AreSignatures d [] i.methods × AreInterfaces d (before ++ i.name ∷ []) is
+AreInterfaces d = AreMembers (λ i. i.name) (λ i. AreSignatures d [] i.methods)
 
 abbrev pub IsClass : Declarations → Class → Type 0
 IsClass d c = AreParams false d [] c.fields × AreMethods d [] c.methods
 
 abbrev pub AreClasses : Declarations → List (List ℕ) → List Class → Type 0
-AreClasses d before [] = Unit {0}
-AreClasses d before (c ∷ cs) =
-    (is_new c.name before ≡ true) × IsClass d c × AreClasses d (before ++ c.name ∷ []) cs
+AreClasses d = AreMembers (λ c. c.name) (IsClass d)
 
 -- interfaces, then classes; a name of an interface is none of a class
 abbrev pub AreDeclared : Declarations → Type 0
@@ -101,14 +91,10 @@ IsMethodBody d class m =
     IsBody (method_context d class m.remote) (parameters m.signature.params) (kind_of m.signature.result) m.body
 
 abbrev pub AreMethodBodies : Declarations → List ℕ → List Method → Type 0
-AreMethodBodies d class [] = Unit {0}
-AreMethodBodies d class (m ∷ ms) =
-    IsMethodBody d class m × AreMethodBodies d class ms
+AreMethodBodies d class = Each (IsMethodBody d class)
 
 abbrev pub AreClassBodies : Declarations → List Class → Type 0
-AreClassBodies d [] = Unit {0}
-AreClassBodies d (c ∷ cs) =
-    AreMethodBodies d c.name c.methods × AreClassBodies d cs
+AreClassBodies d = Each (λ c. AreMethodBodies d c.name c.methods)
 
 -- A typed program.
 pub record IsTyped (p : Program) : Type 0 where

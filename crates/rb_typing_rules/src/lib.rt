@@ -2,7 +2,7 @@
 //! the judgement that computes.
 #![tactic(auto)]
 
-ghost use Rattle.rb_typing_rules.specs.Agree.{ExprsAgree, StmtsAgree, ProgramsAgree, ServicesAgree, BrokenExprsAgree, BrokenStmtsAgree, FirstViolationsAgree, FirstViolationsOfServicesAgree};
+ghost use Rattle.rb_typing_rules.specs.Agree.{ExprsAgree, StmtsAgree, ProgramsAgree, ServicesAgree, BrokenExprsAgree, BrokenStmtsAgree, FirstViolationsAgree, FirstViolationsOfServicesAgree, ProgramsHaveOneOutcome, ServicesHaveOneOutcome};
 
 /// The rules by cases and the computed judgement are the same, for expressions, statements, programs
 /// and services.
@@ -20,4 +20,11 @@ pub fn first_violations_agree()
     ensures stmts { BrokenStmtsAgree }
     ensures programs { FirstViolationsAgree }
     ensures services { FirstViolationsOfServicesAgree }
+{}
+
+/// By cases alone, a program or a service is typed or has a first violation, not both, and one
+/// violation alone.
+pub fn one_outcome()
+    ensures programs { ProgramsHaveOneOutcome }
+    ensures services { ServicesHaveOneOutcome }
 {}

@@ -1,7 +1,17 @@
--- Words for what is broken first.
+-- Parts in order: when all are right, and which is broken first.
 use Rattle.std.specs.Prelude.{◌≡◌, ℕ, List, [], ◌∷◌, ◌++◌, true, false}
 use Rattle.rb_meaning_types.specs.Names.{is_new}
 use Rattle.rb_meaning_types.specs.Violations.{Violation, NameTaken}
+
+-- Each item of a list is right.
+abbrev pub Each : {A : Type 0} → (A → Type 0) → List A → Type 0
+Each Right [] = Unit {0}
+Each Right (a ∷ others) = Right a × Each Right others
+
+-- Members are right, and the name of each differs from those before.
+abbrev pub AreMembers : {A : Type 0} → (A → List ℕ) → (A → Type 0) → List (List ℕ) → List A → Type 0
+AreMembers name Right before [] = Unit {0}
+AreMembers name Right before (m ∷ ms) = (is_new (name m) before ≡ true) × Right m × AreMembers name Right (before ++ name m ∷ []) ms
 
 abbrev pub Differ : {A : Type 0} → A → A → Type 0
 Differ a b = a ≡ b → ⊥
