@@ -10,6 +10,7 @@ pub mod Kept
 pub mod Literals
 pub mod Lines
 pub mod Loaded
+pub mod Named
 pub mod OneAnswer
 pub mod OneReading
 pub mod OneSpelling

@@ -19,8 +19,8 @@ use Rattle.rb_top.specs.FirstForm.{FirstProgram, Offers}
 use Rattle.rb_top.specs.FirstTexts.{service_at}
 
 -- The text has at most as many bytes as a text may have.
-abbrev pub Fits : List ℕ → Type 0
-Fits text = length text ≤ longest_text
+abbrev pub WithinLength : List ℕ → Type 0
+WithinLength text = length text ≤ longest_text
 
 -- The text has more.
 abbrev pub TooLong : List ℕ → Type 0

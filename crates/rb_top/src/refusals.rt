@@ -5,7 +5,7 @@ ghost use Rattle.std.specs.String.{string_bytes};
 ghost use Rattle.std.specs.Fmt.{decimal};
 ghost use Rattle.rb_meaning.specs.Shown.{line};
 ghost use Rattle.rb_top.specs.Refusals.{lex_heading, heading, lex_offset, offset, violation_heading, violation_offset, shown_at, shown_refusal, shown_violation};
-ghost use Rattle.rb_top.specs.Texts.{Fits, lacks_memory, wants_memory, no_violation};
+ghost use Rattle.rb_top.specs.Texts.{WithinLength, lacks_memory, wants_memory, no_violation};
 
 use rb_base::place;
 use rb_trees::{LexError, ReadError, TypeError};
@@ -162,7 +162,7 @@ fn line_at(alloc: Global, heading: &str, place: &[u8]) -> Result<Vec<u8>, AllocE
 
 /// The line of what is refused at an offset of a text.
 fn line_in(alloc: Global, text: &[u8], heading: &str, at: u32) -> Result<Vec<u8>, AllocError>
-    requires { Fits text.now }
+    requires { WithinLength text.now }
     ensures { IfOk result (λ shown. shown.items ≡ line (shown_at text.now heading.now at)) }
 {
     let at = at.min(text.len() as u32);
@@ -173,7 +173,7 @@ fn line_in(alloc: Global, text: &[u8], heading: &str, at: u32) -> Result<Vec<u8>
 
 /// The line that shows a refusal of a text.
 pub fn refusal_line(alloc: Global, text: &[u8], error: &ReadError) -> Result<Vec<u8>, AllocError>
-    requires { Fits text.now }
+    requires { WithinLength text.now }
     ensures { IfOk result (λ shown. shown.items ≡ line (shown_refusal text.now error.now)) }
 {
     line_in(alloc, text, heading(error), offset(error))
@@ -181,7 +181,7 @@ pub fn refusal_line(alloc: Global, text: &[u8], error: &ReadError) -> Result<Vec
 
 /// The line that shows a violation in a text.
 pub fn violation_line(alloc: Global, text: &[u8], error: &TypeError) -> Result<Vec<u8>, AllocError>
-    requires { Fits text.now }
+    requires { WithinLength text.now }
     ensures { IfOk result (λ shown. shown.items ≡ line (shown_violation text.now error.now)) }
 {
     line_in(
