@@ -1,6 +1,7 @@
 -- What the commands say, from what reading and running answer.
 use Rattle.std.proofs.Common.{◌≡◌, ℕ, List, Bool, true, false, Option, Result, Ok, Err, codes, ap, sym, ◌∙◌, refl, subst}
 use Rattle.std.specs.Prelude.{IsTrue}
+use Rattle.std.specs.Borrow.{Bor}
 use Rattle.rb_trees.specs.declared.reading.ReadError.{ReadError}
 use Rattle.rb_trees.specs.declared.typing.TypeError.{TypeError}
 use Rattle.rb_trees.specs.mirror.Declarations.{Program}
@@ -21,14 +22,16 @@ use Rattle.rb_top.specs.declared.status.StoreError.TheVariants as stores
 use Rattle.rb_top.specs.declared.status.Status.{Status}
 use Rattle.rb_top.specs.declared.status.Status.TheVariants.{Done, Words, FileFault, SourceRefused, ServiceRefused, Memory, FileTooLong}
 use Rattle.rb_top.specs.Answers.{Answers, words, program_fault, program_too_long, program_refused, program_untyped, program_typed, program_form, service_fault, service_too_long, service_form, run, Ends, Says, answered, starved_first, read_times, fault_line, too_long_line}
-use Rattle.rb_top.specs.Commands.{Starves, EndsUnread, EndsUnless, EndsRefused, EndsUntyped, status_after}
+use Rattle.rb_top.specs.Commands.{Starves, EndsUnread, EndsUnless, EndsRefused, EndsUntyped, GoesOn, RunsOn, status_after}
 use Rattle.rb_top.specs.Loads.{Unread, HoldsText, HoldsProgram}
 use Rattle.rb_top.specs.Printing.{PrintsRun}
 use Rattle.rb_top.specs.Refusals.{shown_refusal, shown_violation}
 use Rattle.rb_top.specs.Runs.{run_text}
 use Rattle.rb_top.specs.Scene.{Scene}
 use Rattle.rb_top.specs.Texts.{wants_memory, no_violation, IsProgram, IsService, NoServiceFor}
-use Rattle.rb_top.specs.Words.{NotUnderstood, NamesProgram, check_words, both_words, default_fuel}
+use Rattle.rb_top.specs.Words.{NotUnderstood, NamesProgram, by_check, by_both, check_words, both_words, default_fuel, program_of, words_of}
+use Rattle.rb_top.specs.declared.words.Command.{Command}
+use Rattle.rb_top.specs.declared.words.Command.TheVariants as commands
 use Rattle.rb_top.proofs.Ended.{ends_by}
 
 -- an answer, said over a scene whose files were left so
@@ -62,18 +65,13 @@ program_not_typed ws p text program error result before after n h r v e f =
     says_unless ws (no_violation error) (SourceRefused (sources.Types error)) result (line (shown_violation text error)) before after
     (λ m. program_untyped ws p text program error n h (record { read = r; fails = v; is_violation = m })) e f
 
--- what was printed behind the scene in the middle was printed behind the one before
-ends_from : (status : Status) (text : List ℕ) (result : Status) (before middle after : Scene) → middle ≡ record before { files = read_once before.files } → Ends status text result middle.out after.out → Ends status text result before.out after.out
-ends_from status text result before middle after m e = subst (λ s. Ends status text result s.out after.out) m e
+pub said_typed : (p : List ℕ) (program : Program) (result : Status) (first : Device Directory) (before after : Scene) → before.files ≡ read_once first → HoldsProgram first.told p program → Ends Done (line (codes "typed")) result before.out after.out → after.files ≡ before.files → Says (check_words p) result (record before { files = first }) after
+said_typed p program result first before after b h e f =
+    says (check_words p) Done result (line (codes "typed")) (read_once first) (record before { files = first }) after (program_typed p program h) (f ∙ b) e
 
-pub said_typed : (p : List ℕ) (program : Program) (result : Status) (before middle after : Scene) → HoldsProgram before.files.told p program → middle ≡ record before { files = read_once before.files } → Ends Done (line (codes "typed")) result middle.out after.out → after.files ≡ middle.files → Says (check_words p) result before after
-said_typed p program result before middle after h m e f =
-    says (check_words p) Done result (line (codes "typed")) (read_once before.files) before after (program_typed p program h) (f ∙ ap (λ s. s.files) m) (ends_from Done (line (codes "typed")) result before middle after m e)
-
-pub said_form : (p s : List ℕ) (program : Program) (result : Status) (before middle after : Scene) → HoldsProgram before.files.told p program → ¬ FirstProgram program → middle ≡ record before { files = read_once before.files } → Ends (SourceRefused sources.NotBuilt) (line (codes "not built")) result middle.out after.out → after.files ≡ middle.files → Says (both_words p s) result before after
-said_form p s program result before middle after h n m e f =
-    says (both_words p s) (SourceRefused sources.NotBuilt) result (line (codes "not built")) (read_once before.files) before after (program_form p s program h n) (f ∙ ap (λ x. x.files) m)
-    (ends_from (SourceRefused sources.NotBuilt) (line (codes "not built")) result before middle after m e)
+pub said_form : (p s : List ℕ) (program : Program) (result : Status) (first : Device Directory) (before after : Scene) → before.files ≡ read_once first → HoldsProgram first.told p program → ¬ FirstProgram program → Ends (SourceRefused sources.NotBuilt) (line (codes "not built")) result before.out after.out → after.files ≡ before.files → Says (both_words p s) result (record before { files = first }) after
+said_form p s program result first before after b h n e f =
+    says (both_words p s) (SourceRefused sources.NotBuilt) result (line (codes "not built")) (read_once first) (record before { files = first }) after (program_form p s program h n) (f ∙ b) e
 
 -- what is said over the scene in the middle with the files before is said over the one before
 pub says_from : (ws : List (List ℕ)) (result : Status) (before middle after : Scene) → middle ≡ record before { files = read_once before.files } → Says ws result (record middle { files = before.files }) after → Says ws result before after
@@ -121,3 +119,23 @@ not_understood ws result before after n e f = says ws Words result (line (codes 
 -- what is said of these words is said of those
 pub said_of : (those ws : List (List ℕ)) (result : Status) (before after : Scene) → those ≡ ws → Says those result before after → Says ws result before after
 said_of those ws result before after e h = subst (λ l. Says l result before after) e h
+
+-- a command names its program
+pub names_program : (command : Command) (p : List ℕ) → p ≡ program_of command → NamesProgram (words_of command) p
+names_program (commands.Check p') p e = subst (NamesProgram (check_words p'.now)) (sym e) (by_check p'.now)
+names_program (commands.Both p' s) p e = subst (NamesProgram (both_words p'.now s.now)) (sym e) (by_both p'.now s.now)
+
+-- the rest of `check P`
+pub goes_check : (program : Program) (command : Command) (p : Bor (List ℕ)) (result : Status) (before after : Scene) → command ≡ commands.Check p → Ends Done (line (codes "typed")) result before.out after.out → after.files ≡ before.files → GoesOn program command result before after
+goes_check program command p result before after c e f =
+    subst (λ k. GoesOn program k result before after) (sym c) (λ first b h. said_typed p.now program result first before after b h e f)
+
+-- the rest of `both P S`, where the program isn't of the form that is built
+pub goes_form : (program : Program) (command : Command) (p s : Bor (List ℕ)) (result : Status) (before after : Scene) → command ≡ commands.Both p s → ¬ FirstProgram program → Ends (SourceRefused sources.NotBuilt) (line (codes "not built")) result before.out after.out → after.files ≡ before.files → GoesOn program command result before after
+goes_form program command p s result before after c n e f =
+    subst (λ k. GoesOn program k result before after) (sym c) (λ first b h. said_form p.now s.now program result first before after b h n e f)
+
+-- the rest of `both P S`, where it is
+pub goes_run : (program : Program) (command : Command) (p s : Bor (List ℕ)) (result : Status) (before after : Scene) → command ≡ commands.Both p s → RunsOn program s.now result before after → GoesOn program command result before after
+goes_run program command p s result before after c r =
+    subst (λ k. GoesOn program k result before after) (sym c) (λ first b h. r p.now first b h)

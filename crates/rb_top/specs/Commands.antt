@@ -11,7 +11,8 @@ use Rattle.rb_top.specs.Loads.{HoldsProgram}
 use Rattle.rb_top.specs.Refusals.{shown_refusal, shown_violation}
 use Rattle.rb_top.specs.Scene.{Scene}
 use Rattle.rb_top.specs.Texts.{wants_memory, no_violation}
-use Rattle.rb_top.specs.Words.{both_words, NamesProgram}
+use Rattle.rb_top.specs.Words.{both_words, NamesProgram, words_of, program_of}
+use Rattle.rb_top.specs.declared.words.Command.{Command}
 use Rattle.rb_top.specs.declared.loading.TextStop.{TextStop}
 use Rattle.rb_top.specs.declared.loading.TextStop.TheVariants as stops
 use Rattle.rb_top.specs.declared.printing.PrintStop.{PrintStop}
@@ -61,3 +62,8 @@ LoadsProgram view p (Err status) before after = SaysFirst p status before after
 abbrev pub RunsOn : Program → List ℕ → Status → Scene → Scene → Type 0
 RunsOn program s result before after = (p : List ℕ) (first : Device Directory) → before.files ≡ read_once first → HoldsProgram first.told p program
     → Says (both_words p s) result (record before { files = first }) after
+
+-- The command is answered so, its program read before.
+abbrev pub GoesOn : Program → Command → Status → Scene → Scene → Type 0
+GoesOn program command result before after = (first : Device Directory) → before.files ≡ read_once first → HoldsProgram first.told (program_of command) program
+    → Says (words_of command) result (record before { files = first }) after

@@ -3,6 +3,8 @@ use Rattle.std.specs.Prelude.{◌≡◌, ℕ, List, [], ◌∷◌, Option, None,
 use Rattle.std.specs.Str.{bytes_eq}
 use Rattle.std.specs.String.{string_bytes}
 use Rattle.std.specs.declared.string.String.{String}
+use Rattle.rb_top.specs.declared.words.Command.{Command}
+use Rattle.rb_top.specs.declared.words.Command.TheVariants as commands
 
 -- the bytes of each word
 abbrev pub texts : {Z : Type 0} → List (String Z) → List (List ℕ)
@@ -38,3 +40,18 @@ check_of _ = None
 abbrev pub both_of : List (List ℕ) → Option (List ℕ × List ℕ)
 both_of (command ∷ p ∷ s ∷ []) = cond (bytes_eq command (codes "both")) (Some (p, s)) None
 both_of _ = None
+
+-- the words of a command
+abbrev pub words_of : Command → List (List ℕ)
+words_of (commands.Check p) = check_words p.now
+words_of (commands.Both p s) = both_words p.now s.now
+
+-- the name of its program's file
+abbrev pub program_of : Command → List ℕ
+program_of (commands.Check p) = p.now
+program_of (commands.Both p s) = p.now
+
+-- The words are this command, or none.
+abbrev pub Understands : List (List ℕ) → Option Command → Type 0
+Understands words None = NotUnderstood words
+Understands words (Some command) = words_of command ≡ words

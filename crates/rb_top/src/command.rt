@@ -1,15 +1,14 @@
 // The commands, from their words to what they print.
 
 ghost use Rattle.std.specs.Prelude.{◌≡◌, ◌++◌, IfOk};
-ghost use Rattle.std.specs.Option.{option_map};
 ghost use Rattle.rb_trees.specs.mirror.Declarations.{mirror_program};
 ghost use Rattle.rb_meaning.specs.Shown.{line};
 ghost use Rattle.rb_top.specs.Answers.{Ends, Says, ChecksTold, RunsTold};
-ghost use Rattle.rb_top.specs.Commands.{EndsRefused, EndsUntyped, EndsUnread, LoadsProgram, RunsOn, status_after};
+ghost use Rattle.rb_top.specs.Commands.{EndsRefused, EndsUntyped, EndsUnread, LoadsProgram, GoesOn, RunsOn, status_after};
 ghost use Rattle.rb_top.specs.FirstForm.{FirstProgram};
 ghost use Rattle.rb_top.specs.Scene.{output, outside};
 ghost use Rattle.rb_top.specs.Texts.{WithinLength};
-ghost use Rattle.rb_top.specs.Words.{texts, check_of, check_words, both_of, both_words};
+ghost use Rattle.rb_top.specs.Words.{texts, words_of};
 
 use crate::first_form::is_first_program;
 use crate::loading::{TextStop, load_text, service_for};
@@ -17,6 +16,7 @@ use crate::printing::{PrintStop, print_text};
 use crate::refusals::{is_memory, is_no_violation, refusal_line, violation_line};
 use crate::run::run_both;
 use crate::status::{SourceError, Status, StoreError};
+use crate::words::{Command, command_of};
 use rb_base::{Files, Sink};
 use rb_parse::parse_program;
 use rb_trees::{Memory, Program, ReadError, Seq, TypeError};
@@ -142,16 +142,6 @@ fn typed_program<F: Files, W: Sink>(
     }
 }
 
-/// `check P`: says whether the program in the file P is typed.
-fn check<F: Files, W: Sink>(alloc: Global, name: &str, files: &mut F, out: &mut W) -> Status
-    ensures { Says (check_words name.now) result (outside F.Files W.Sink files.old out.old) (outside F.Files W.Sink files.new out.new) }
-{
-    match typed_program(alloc, name, files, out) {
-        Err(status) => status,
-        Ok(_) => say(Status::Done, b"typed\n", out),
-    }
-}
-
 /// Runs a program on the service in a file.
 fn run_on<F: Files, W: Sink>(
     alloc: Global,
@@ -180,22 +170,21 @@ fn run_on<F: Files, W: Sink>(
     }
 }
 
-/// `both P S`: runs the program in the file P on the service in the file S.
-fn both<F: Files, W: Sink>(
+/// Carries out the rest of a command, once its program is known to be typed.
+fn go_on<F: Files, W: Sink>(
     alloc: Global,
-    program_name: &str,
-    service_name: &str,
+    program: &Program,
+    command: &Command,
     files: &mut F,
     out: &mut W,
 ) -> Status
-    ensures { Says (both_words program_name.now service_name.now) result (outside F.Files W.Sink files.old out.old) (outside F.Files W.Sink files.new out.new) }
+    ensures { GoesOn (mirror_program program.now) command.now result (outside F.Files W.Sink files.old out.old) (outside F.Files W.Sink files.new out.new) }
 {
-    match typed_program(alloc, program_name, files, out) {
-        Err(refusal) => refusal,
-        Ok(typed) => {
-            let program = typed.program();
+    match command {
+        Command::Check(_) => say(Status::Done, b"typed\n", out),
+        Command::Both(_, service) => {
             if is_first_program(program) {
-                run_on(alloc, program, service_name, files, out)
+                run_on(alloc, program, service, files, out)
             } else {
                 say(
                     Status::SourceRefused(SourceError::NotBuilt),
@@ -207,35 +196,22 @@ fn both<F: Files, W: Sink>(
     }
 }
 
-/// The name of the file, where the words are `check P`.
-fn check_name(words: &[String]) -> Option<&str>
-    ensures { option_map (λ r. r.now) result ≡ check_of (texts words.now) }
+/// Carries out a command: its program is read and typed first.
+fn carry_out<F: Files, W: Sink>(
+    alloc: Global,
+    command: &Command,
+    files: &mut F,
+    out: &mut W,
+) -> Status
+    ensures { Says (words_of command.now) result (outside F.Files W.Sink files.old out.old) (outside F.Files W.Sink files.new out.new) }
 {
-    match words {
-        [command, program] => {
-            if command.as_str() == "check" {
-                Some(program.as_str())
-            } else {
-                None
-            }
+    match typed_program(alloc, command.program(), files, out) {
+        Err(status) => status,
+        Ok(typed) => {
+            let status = go_on(alloc, typed.program(), command, files, out);
+            drop(typed);
+            status
         }
-        _ => None,
-    }
-}
-
-/// The names of the two files, where the words are `both P S`.
-fn both_names(words: &[String]) -> Option<(&str, &str)>
-    ensures { option_map (λ r. (r.0.now, r.1.now)) result ≡ both_of (texts words.now) }
-{
-    match words {
-        [command, program, service] => {
-            if command.as_str() == "both" {
-                Some((program.as_str(), service.as_str()))
-            } else {
-                None
-            }
-        }
-        _ => None,
     }
 }
 
@@ -253,11 +229,8 @@ pub fn top<F: Files, W: Sink>(alloc: Global, words: &[String], files: &mut F, ou
     // A program that the files tell is run on a service for it that they tell, unless the output fails or memory is wanting.
     ensures runs { RunsTold (texts words.now) result (outside F.Files W.Sink files.old out.old) (outside F.Files W.Sink files.new out.new) }
 {
-    match check_name(words) {
-        Some(program) => check(alloc, program, files, out),
-        None => match both_names(words) {
-            Some((program, service)) => both(alloc, program, service, files, out),
-            None => say(Status::Words, b"words not understood\n", out),
-        },
+    match command_of(words) {
+        Some(command) => carry_out(alloc, &command, files, out),
+        None => say(Status::Words, b"words not understood\n", out),
     }
 }

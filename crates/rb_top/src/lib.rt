@@ -22,6 +22,7 @@ mod tests;
 #[cfg(test)]
 mod typing_tests;
 mod wire;
+mod words;
 
 pub use answer::first_answer;
 pub use command::top;
