@@ -1,5 +1,6 @@
 -- How a call that prints a text ends.
-use Rattle.std.proofs.Common.{◌≡◌, ℕ, List, Bool, true, false, Result, Ok, Err, refl}
+use Rattle.std.proofs.Common.{◌≡◌, ℕ, List, true, false, Option, None, Some, Result, Ok, Err, refl, subst}
+use Rattle.std.specs.Option.{is_none}
 use Rattle.rb_base.specs.Devices.{Device}
 use Rattle.rb_top.specs.declared.loading.TextStop.{TextStop}
 use Rattle.rb_top.specs.declared.loading.TextStop.TheVariants as stops
@@ -9,7 +10,7 @@ use Rattle.rb_top.specs.declared.status.Status.{Status}
 use Rattle.rb_top.specs.declared.status.Status.TheVariants.{Memory}
 use Rattle.rb_top.specs.Printing.{Prints}
 use Rattle.rb_top.specs.Answers.{Ends, whole, cut, starved, fault_line, too_long_line}
-use Rattle.rb_top.specs.Commands.{status_after, EndsUnread, EndsUnless}
+use Rattle.rb_top.specs.Commands.{status_after, EndsUnread, EndsWith}
 use Rattle.rb_top.proofs.Printed.{wrote_none}
 
 pub ends_by : {A : Type 0} (status : Status) (text : List ℕ) (before after : Device (List ℕ)) (r : Result A PrintStop) (result : Status) → result ≡ status_after status r → Prints text r before after → Ends status text result before after
@@ -28,6 +29,16 @@ starved_unread stops.TooLong name before = starved_at_once _ (too_long_line name
 starved_unread stops.Memory name before = (refl, refl)
 
 -- without memory for the line a refusal isn't said
-pub starved_line : (wanting : Bool) (status : Status) (text : List ℕ) (before : Device (List ℕ)) → EndsUnless wanting status text Memory before before
-starved_line true status text before = (refl, refl)
-starved_line false status text before = starved_at_once status text before
+pub starved_line : {D : Type 0} (refusal : Option D) (status : Status) (text : List ℕ) (before : Device (List ℕ)) → EndsWith refusal status text Memory before before
+starved_line None status text before = (refl, refl)
+starved_line (Some refusal) status text before = starved_at_once status text before
+
+-- memory was wanting already
+pub starved_before : {D : Type 0} (refusal : Option D) (status : Status) (text : List ℕ) (before : Device (List ℕ)) → is_none refusal ≡ true → EndsWith refusal status text Memory before before
+starved_before None status text before n = (refl, refl)
+starved_before (Some refusal) status text before n = absurd (cc)
+
+-- a refusal was said
+pub said_line : {D : Type 0} (refusal : Option D) (status : Status) (text shown : List ℕ) (result : Status) (before after : Device (List ℕ)) → is_none refusal ≡ false → shown ≡ text → Ends status shown result before after → EndsWith refusal status text result before after
+said_line None status text shown result before after n s e = absurd (cc)
+said_line (Some refusal) status text shown result before after n s e = subst (λ t. Ends status t result before after) s e

@@ -12,7 +12,6 @@ pub mod Lines
 pub mod Loaded
 pub mod Named
 pub mod OneAnswer
-pub mod OneReading
 pub mod OneSpelling
 pub mod Others
 pub mod Parts

@@ -1,12 +1,14 @@
 -- What the commands say, from what reading and running answer.
-use Rattle.std.proofs.Common.{◌≡◌, ℕ, List, Bool, true, false, Option, Result, Ok, Err, codes, ap, sym, ◌∙◌, refl, subst}
+use Rattle.std.proofs.Common.{◌≡◌, ℕ, List, Option, None, Some, Result, Ok, Err, codes, ap, sym, ◌∙◌, refl, subst}
 use Rattle.std.specs.Prelude.{IsTrue}
 use Rattle.std.specs.Borrow.{Bor}
 use Rattle.rb_trees.specs.declared.reading.ReadError.{ReadError}
+use Rattle.rb_trees.specs.declared.reading.ReadError.TheVariants as errors
 use Rattle.rb_trees.specs.declared.typing.TypeError.{TypeError}
 use Rattle.rb_trees.specs.mirror.Declarations.{Program}
 use Rattle.rb_trees.specs.mirror.Services.{Service}
-use Rattle.rb_trees.specs.Outcome.{Refuses}
+use Rattle.rb_trees.specs.Outcome.{Refused, Refuses}
+use Rattle.rb_trees.specs.Reading.{read_refusal}
 use Rattle.rb_meaning.specs.Shown.{line}
 use Rattle.rb_meaning_bytes.specs.grammar.Sources.{ReadSource}
 use Rattle.rb_meaning_types.specs.Violations.{violation_of}
@@ -22,13 +24,13 @@ use Rattle.rb_top.specs.declared.status.StoreError.TheVariants as stores
 use Rattle.rb_top.specs.declared.status.Status.{Status}
 use Rattle.rb_top.specs.declared.status.Status.TheVariants.{Done, Words, FileFault, SourceRefused, ServiceRefused, Memory, FileTooLong}
 use Rattle.rb_top.specs.Answers.{Answers, words, program_fault, program_too_long, program_refused, program_untyped, program_typed, program_form, service_fault, service_too_long, service_form, run, Ends, Says, answered, starved_first, read_times, fault_line, too_long_line}
-use Rattle.rb_top.specs.Commands.{Starves, EndsUnread, EndsUnless, EndsRefused, EndsUntyped, GoesOn, RunsOn, status_after}
+use Rattle.rb_top.specs.Commands.{Starves, EndsUnread, EndsWith, EndsRefused, EndsUntyped, GoesOn, RunsOn, status_after}
 use Rattle.rb_top.specs.Loads.{Unread, HoldsText, HoldsProgram}
 use Rattle.rb_top.specs.Printing.{PrintsRun}
 use Rattle.rb_top.specs.Refusals.{shown_refusal, shown_violation}
 use Rattle.rb_top.specs.Runs.{run_text}
 use Rattle.rb_top.specs.Scene.{Scene}
-use Rattle.rb_top.specs.Texts.{wants_memory, no_violation, IsProgram, IsService, NoServiceFor}
+use Rattle.rb_top.specs.Texts.{IsProgram, IsService, NoServiceFor}
 use Rattle.rb_top.specs.Words.{NotUnderstood, NamesProgram, by_check, by_both, check_words, both_words, default_fuel, program_of, words_of}
 use Rattle.rb_top.specs.declared.words.Command.{Command}
 use Rattle.rb_top.specs.declared.words.Command.TheVariants as commands
@@ -45,25 +47,32 @@ starves ws result before after count s f = starved_first count s.0 (same s.1 f)
     same : after.out ≡ before.out → after.files ≡ read_times count before.files → after ≡ record before { files = read_times count before.files }
     same o f = ap (λ d. record { files = after.files; out = d }) o ∙ ap (λ d. record { files = d; out = before.out }) f
 
--- what was to be said, unless memory was wanting already, after one read
-says_unless : (ws : List (List ℕ)) (wanting : Bool) (status result : Status) (text : List ℕ) (before after : Scene) → (wanting ≡ false → Answers before.files ws status text (read_once before.files)) → EndsUnless wanting status text result before.out after.out → after.files ≡ read_once before.files → Says ws result before after
-says_unless ws true status result text before after a e f = starves ws result before after 1 e f
-says_unless ws false status result text before after a e f = says ws status result text (read_once before.files) before after (a refl) f e
+-- what was to be said of a refusal, where there is one, after one read
+says_with : {D : Type 0} (ws : List (List ℕ)) (refusal : Option D) (status result : Status) (text : List ℕ) (before after : Scene) → ((d : D) → refusal ≡ Some d → Answers before.files ws status text (read_once before.files)) → EndsWith refusal status text result before.out after.out → after.files ≡ read_once before.files → Says ws result before after
+says_with ws None status result text before after a e f = starves ws result before after 1 e f
+says_with ws (Some d) status result text before after a e f = says ws status result text (read_once before.files) before after (a d refl) f e
 
 pub program_unread : (ws : List (List ℕ)) (p : List ℕ) (stop : TextStop) (result : Status) (before after : Scene) → NamesProgram ws p → Unread stop p before.files after.files → EndsUnread stop p result before.out after.out → Says ws result before after
 program_unread ws p stops.FileFault result before after n u e = says ws (FileFault p) result (fault_line p) (failed (read_once before.files)) before after (program_fault ws p n u.0) u.1 e
 program_unread ws p stops.TooLong result before after n u e = says ws (FileTooLong p) result (too_long_line p) (read_once before.files) before after (program_too_long ws p n u.0) u.1 e
 program_unread ws p stops.Memory result before after n u e = starves ws result before after 1 e u
 
-pub program_not_read : (ws : List (List ℕ)) (p text : List ℕ) (error : ReadError) (result : Status) (before after : Scene) → NamesProgram ws p → HoldsText before.files.told p text → ReadSource text (Err error) → EndsRefused text error result before.out after.out → after.files ≡ read_once before.files → Says ws result before after
+-- the refusal that is told is the error itself
+same_refusal : (error d : ReadError) → read_refusal error ≡ Some d → error ≡ d
+same_refusal errors.Memory d e = absurd (cc)
+same_refusal (errors.Lex fault) d e = cc
+same_refusal (errors.Unexpected at) d e = cc
+same_refusal (errors.TooNested at) d e = cc
+
+pub program_not_read : (ws : List (List ℕ)) (p text : List ℕ) (error : ReadError) (result : Status) (before after : Scene) → NamesProgram ws p → HoldsText before.files.told p text → Refused (ReadSource text) (read_refusal error) → EndsRefused text error result before.out after.out → after.files ≡ read_once before.files → Says ws result before after
 program_not_read ws p text error result before after n h r e f =
-    says_unless ws (wants_memory error) (SourceRefused (sources.Read error)) result (line (shown_refusal text error)) before after
-    (λ m. program_refused ws p text error n h (record { read = r; is_refusal = m })) e f
+    says_with ws (read_refusal error) (SourceRefused (sources.Read error)) result (line (shown_refusal text error)) before after
+    (λ d m. program_refused ws p text error n h (subst (λ x. ReadSource text (Err x)) (sym (same_refusal error d m)) (subst (Refused (ReadSource text)) m r))) e f
 
 pub program_not_typed : (ws : List (List ℕ)) (p text : List ℕ) (program : Program) (error : TypeError) (result : Status) (before after : Scene) → NamesProgram ws p → Finds before.files.told p text → ReadSource text (Ok program) → Refuses (violation_of error) (check_program program) → EndsUntyped text error result before.out after.out → after.files ≡ read_once before.files → Says ws result before after
 program_not_typed ws p text program error result before after n h r v e f =
-    says_unless ws (no_violation error) (SourceRefused (sources.Types error)) result (line (shown_violation text error)) before after
-    (λ m. program_untyped ws p text program error n h (record { read = r; fails = v; is_violation = m })) e f
+    says_with ws (violation_of error) (SourceRefused (sources.Types error)) result (line (shown_violation text error)) before after
+    (λ d m. program_untyped ws p text program error n h (record { read = r; violation = d; told = m; fails = subst (λ o. Refuses o (check_program program)) m v })) e f
 
 pub said_typed : (p : List ℕ) (program : Program) (result : Status) (first : Device Directory) (before after : Scene) → before.files ≡ read_once first → HoldsProgram first.told p program → Ends Done (line (codes "typed")) result before.out after.out → after.files ≡ before.files → Says (check_words p) result (record before { files = first }) after
 said_typed p program result first before after b h e f =

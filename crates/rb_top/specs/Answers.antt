@@ -15,7 +15,7 @@ use Rattle.rb_top.specs.Loads.{HoldsText, FindsTooLong, HoldsProgram}
 use Rattle.rb_top.specs.Refusals.{shown_refusal, shown_violation}
 use Rattle.rb_top.specs.Runs.{run_text}
 use Rattle.rb_top.specs.Scene.{Scene}
-use Rattle.rb_top.specs.Texts.{IsRefused, IsUntyped, IsProgram, IsService, NoServiceFor}
+use Rattle.rb_top.specs.Texts.{IsUntyped, IsProgram, IsService, NoServiceFor}
 use Rattle.rb_top.specs.Words.{check_words, both_words, default_fuel, NotUnderstood, NamesProgram}
 use Rattle.rb_top.specs.declared.status.SourceError.TheVariants as sources
 use Rattle.rb_top.specs.declared.status.StoreError.TheVariants as stores
@@ -39,7 +39,7 @@ pub data Answers (files : Device Directory) : List (List ℕ) → Status → Lis
   program_too_long : (words : List (List ℕ)) (p : List ℕ) → NamesProgram words p → FindsTooLong files.told p
       → Answers files words (FileTooLong p) (too_long_line p) (read_once files)
   program_refused : (words : List (List ℕ)) (p text : List ℕ) (error : ReadError) → NamesProgram words p → HoldsText files.told p text
-      → IsRefused text error
+      → ReadSource text (Err error)
       → Answers files words (SourceRefused (sources.Read error)) (line (shown_refusal text error)) (read_once files)
   program_untyped : (words : List (List ℕ)) (p text : List ℕ) (program : Program) (error : TypeError) → NamesProgram words p
       → Finds files.told p text → IsUntyped text program error

@@ -1,16 +1,17 @@
 -- What the parts of the commands answer.
-use Rattle.std.specs.Prelude.{◌≡◌, ℕ, List, Bool, Result, Ok, Err, MatchBool}
+use Rattle.std.specs.Prelude.{◌≡◌, ℕ, List, Option, None, Some, Result, Ok, Err}
 use Rattle.rb_trees.specs.declared.reading.ReadError.{ReadError}
 use Rattle.rb_trees.specs.declared.typing.TypeError.{TypeError}
 use Rattle.rb_trees.specs.mirror.Declarations.{Program}
+use Rattle.rb_trees.specs.Reading.{read_refusal}
 use Rattle.rb_meaning.specs.Shown.{line}
+use Rattle.rb_meaning_types.specs.Violations.{violation_of}
 use Rattle.rb_base.specs.Devices.{Device}
 use Rattle.rb_base.specs.Directories.{Directory, read_once}
 use Rattle.rb_top.specs.Answers.{Ends, Says, fault_line, too_long_line}
 use Rattle.rb_top.specs.Loads.{HoldsProgram}
 use Rattle.rb_top.specs.Refusals.{shown_refusal, shown_violation}
 use Rattle.rb_top.specs.Scene.{Scene}
-use Rattle.rb_top.specs.Texts.{wants_memory, no_violation}
 use Rattle.rb_top.specs.Words.{both_words, NamesProgram, words_of, program_of}
 use Rattle.rb_top.specs.declared.words.Command.{Command}
 use Rattle.rb_top.specs.declared.loading.TextStop.{TextStop}
@@ -37,17 +38,18 @@ EndsUnread stops.FileFault name result before after = Ends (FileFault name) (fau
 EndsUnread stops.TooLong name result before after = Ends (FileTooLong name) (too_long_line name) result before after
 EndsUnread stops.Memory name result before after = Starves result before after
 
--- This was to be printed and answered, unless memory was wanting already.
-abbrev pub EndsUnless : Bool → Status → List ℕ → Status → Device (List ℕ) → Device (List ℕ) → Type 0
-EndsUnless wanting status text result before after = MatchBool wanting (Starves result before after) (Ends status text result before after)
+-- There was a refusal, and this was to be printed and answered; or memory was wanting.
+abbrev pub EndsWith : {D : Type 0} → Option D → Status → List ℕ → Status → Device (List ℕ) → Device (List ℕ) → Type 0
+EndsWith None status text result before after = Starves result before after
+EndsWith (Some refusal) status text result before after = Ends status text result before after
 
 -- The text is refused, and that was said, unless memory was wanting.
 abbrev pub EndsRefused : List ℕ → ReadError → Status → Device (List ℕ) → Device (List ℕ) → Type 0
-EndsRefused text error = EndsUnless (wants_memory error) (SourceRefused (sources.Read error)) (line (shown_refusal text error))
+EndsRefused text error = EndsWith (read_refusal error) (SourceRefused (sources.Read error)) (line (shown_refusal text error))
 
 -- The program in the text has this violation, and that was said, unless memory was wanting.
 abbrev pub EndsUntyped : List ℕ → TypeError → Status → Device (List ℕ) → Device (List ℕ) → Type 0
-EndsUntyped text error = EndsUnless (no_violation error) (SourceRefused (sources.Types error)) (line (shown_violation text error))
+EndsUntyped text error = EndsWith (violation_of error) (SourceRefused (sources.Types error)) (line (shown_violation text error))
 
 -- A command that names this program is answered so, before it is known whether the program is typed.
 abbrev pub SaysFirst : List ℕ → Status → Scene → Scene → Type 0

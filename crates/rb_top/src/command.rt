@@ -18,7 +18,8 @@ use crate::run::run_both;
 use crate::status::{SourceError, Status, StoreError};
 use crate::words::{Command, command_of};
 use rb_base::{Files, Sink};
-use rb_parse::parse_program;
+use rb_lex::texts_have_one_outcome;
+use rb_parse::{parse_program, sources_have_one_outcome};
 use rb_trees::{Memory, Program, ReadError, Seq, TypeError};
 use rb_types::{Typed, check as check_types};
 use std::alloc::{AllocError, Global};
@@ -229,6 +230,8 @@ pub fn top<F: Files, W: Sink>(alloc: Global, words: &[String], files: &mut F, ou
     // A program that the files tell is run on a service for it that they tell, unless the output fails or memory is wanting.
     ensures runs { RunsTold (texts words.now) result (outside F.Files W.Sink files.old out.old) (outside F.Files W.Sink files.new out.new) }
 {
+    texts_have_one_outcome();
+    sources_have_one_outcome();
     match command_of(words) {
         Some(command) => carry_out(alloc, &command, files, out),
         None => say(Status::Words, b"words not understood\n", out),

@@ -14,7 +14,7 @@ use crate::offers::offers;
 use crate::refusals::lacks_memory;
 use bytes::BytesMut;
 use rb_base::{Files, FilesStop};
-use rb_lex::lex;
+use rb_lex::{lex, texts_have_one_outcome};
 use rb_trees::{Memory, Program, Service};
 use std::alloc::Global;
 
@@ -84,6 +84,7 @@ pub fn service_for(alloc: Global, program: &Program, text: &[u8]) -> Result<Opti
     ensures told { IfOk result (λ r. TellsServiceFor (mirror_program program.now) text.now (option_map mirror_service r)) }
     ensures form { IfOk result (λ r. IfSome r (λ service. FirstService (mirror_service service))) }
 {
+    texts_have_one_outcome();
     match service_in(alloc, text) {
         Err(Memory) => Err(Memory),
         Ok(None) => Ok(None),
