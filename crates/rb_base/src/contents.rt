@@ -1,3 +1,5 @@
+// Contents that are read up to a limit.
+
 ghost use Rattle.std.specs.Prelude.{◌≡◌, ◌+◌, ◌++◌, take, OnOk, OnErr};
 
 use bytes::BytesMut;

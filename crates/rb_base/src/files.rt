@@ -1,6 +1,8 @@
+// Files of the outside, read by their names.
+
 ghost use Rattle.std.specs.Prelude.{◌≡◌, ℕ, List, Option, OnOk, OnErr};
-ghost use Rattle.rb_base.specs.Counts.{faults_after_read};
-ghost use Rattle.rb_base.specs.Directories.{Directory, told_after, FailsNext, ReadsFile};
+ghost use Rattle.rb_base.specs.Devices.{device};
+ghost use Rattle.rb_base.specs.Directories.{Directory, files_after, FailsNext, ReadsFile};
 
 use bytes::BytesMut;
 use rb_trees::Memory;
@@ -45,6 +47,5 @@ pub trait Files {
         ensures read { OnOk result (ReadsFile (told self.old) name.now limit into.old.items into.new.items) }
         ensures failed { result ≡ Err FilesStop.Failed → FailsNext (told self.old) name.now }
         ensures unchanged { OnErr result (into.new.items ≡ into.old.items) }
-        ensures told { told self.new ≡ told_after (told self.old) }
-        ensures faults { faults self.new ≡ faults_after_read result (faults self.old) };
+        ensures after { device told faults self.new ≡ files_after result (device told faults self.old) };
 }

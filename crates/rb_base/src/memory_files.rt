@@ -1,3 +1,5 @@
+// Files in memory.
+
 ghost use Rattle.std.specs.Prelude.{◌≡◌, OnOk, OnErr};
 ghost use Rattle.std.specs.Option.{option_copied};
 ghost use Rattle.rb_base.specs.Directories.{new_files, with_file, content_of};
@@ -30,7 +32,9 @@ impl Model for MemoryFiles {
     ghost Value = { FilesInMemory };
 
     ghost view = { λ it. record {
-      directory = record { files = it.files.items; reads = it.reads; failing = it.failing };
+      files = it.files.items;
+      reads = it.reads;
+      failing = it.failing;
       faults = it.faults;
     } };
 }
@@ -63,8 +67,9 @@ impl MemoryFiles {
 
 impl Files for MemoryFiles {
     ghost use Rattle.std.specs.Prelude.{Some};
+    ghost use Rattle.rb_base.specs.Directories.{directory_of};
 
-    ghost told = { λ it. Some it.directory };
+    ghost told = { λ it. Some (directory_of it) };
 
     ghost faults = { λ it. it.faults };
 

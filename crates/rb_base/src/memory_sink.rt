@@ -1,3 +1,5 @@
+// A sink in memory.
+
 ghost use Rattle.std.specs.Prelude.{◌≡◌, ◌<◌, false, length, min, IfOk, OnOk};
 ghost use Rattle.rb_base.specs.Sinks.{new_sink, fails_next, after_write};
 

@@ -1,3 +1,5 @@
+// A sink that keeps nothing.
+
 ghost use Rattle.std.specs.Prelude.{◌≡◌, ◌<◌, length};
 
 use crate::sinks::{Failed, Sink};

@@ -1,3 +1,5 @@
+// Lines and columns of a text.
+
 ghost use Rattle.std.specs.Prelude.{◌≡◌, ◌<◌, ◌≤◌, ◌-◌, ◌^◌, length};
 ghost use Rattle.rb_meaning.specs.Place.{line_of, column_of};
 

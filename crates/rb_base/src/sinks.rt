@@ -1,6 +1,8 @@
-ghost use Rattle.std.specs.Prelude.{◌≡◌, ℕ, ◌<◌, ◌≤◌, List, Option, length, take, IfOk, OnOk, OnErr};
-ghost use Rattle.rb_base.specs.Counts.{faults_after};
-ghost use Rattle.rb_base.specs.Sinks.{told_more, WrotePrefix};
+// Where bytes are written.
+
+ghost use Rattle.std.specs.Prelude.{◌≡◌, ℕ, ◌<◌, ◌≤◌, List, Option, length, IfOk};
+ghost use Rattle.rb_base.specs.Devices.{device};
+ghost use Rattle.rb_base.specs.Sinks.{sink_after, Writes};
 
 use thiserror::Error;
 
@@ -26,16 +28,12 @@ pub trait Sink {
         requires { 0 < length piece.now }
         ensures some { IfOk result (λ count. 0 < count) }
         ensures within { IfOk result (λ count. count ≤ length piece.now) }
-        ensures taken { IfOk result (λ count. told self.new ≡ told_more (told self.old) (take count piece.now)) }
-        ensures unchanged { OnErr result (told self.new ≡ told self.old) }
-        ensures faults { faults self.new ≡ faults_after result (faults self.old) };
+        ensures after { device told faults self.new ≡ sink_after piece.now result (device told faults self.old) };
 }
 
 /// Writes all of the piece. After `Failed` a front of it was written.
 pub fn write_whole<W: Sink>(out: &mut W, piece: &[u8]) -> Result<(), Failed>
-    ensures written { OnOk result (W.told out.new ≡ told_more (W.told out.old) piece.now) }
-    ensures front { OnErr result (WrotePrefix (W.told out.old) (W.told out.new) piece.now) }
-    ensures faults { W.faults out.new ≡ faults_after result (W.faults out.old) }
+    ensures { Writes piece.now result (device W.told W.faults out.old) (device W.told W.faults out.new) }
 {
     let mut rest = piece;
     while !rest.is_empty() {

@@ -1,34 +1,44 @@
 -- How a call that prints a text ends.
-use Rattle.std.proofs.Common.{◌≡◌, ℕ, List, Option, None, Some, Result, Ok, Err, OnOk, OnErr, ap, sym, refl, subst, rules}
-use Rattle.rb_base.specs.Sinks.{told_more, WrotePrefix}
+use Rattle.std.proofs.Common.{◌≡◌, ℕ, List, true, false, Option, None, Some, Result, Ok, Err, refl, subst}
+use Rattle.std.specs.Option.{is_none}
+use Rattle.rb_base.specs.Devices.{Device}
+use Rattle.rb_top.specs.declared.loading.TextStop.{TextStop}
+use Rattle.rb_top.specs.declared.loading.TextStop.TheVariants as stops
 use Rattle.rb_top.specs.declared.printing.PrintStop.{PrintStop}
 use Rattle.rb_top.specs.declared.printing.PrintStop.TheVariants as print
 use Rattle.rb_top.specs.declared.status.Status.{Status}
-use Rattle.rb_top.specs.declared.status.Status.TheVariants.{Done, Words, FileFault, SourceRefused, ServiceRefused, WriteFault, Memory, FileTooLong}
-use Rattle.rb_top.specs.Printing.{faults_after_print}
-use Rattle.rb_top.specs.Answers.{Ends, whole, cut, starved, IsWhole, status_after, write_faults}
+use Rattle.rb_top.specs.declared.status.Status.TheVariants.{Memory}
+use Rattle.rb_top.specs.Printing.{Prints}
+use Rattle.rb_top.specs.Answers.{Ends, whole, cut, starved, fault_line, too_long_line}
+use Rattle.rb_top.specs.Commands.{status_after, EndsUnread, EndsWith}
+use Rattle.rb_top.proofs.Printed.{wrote_none}
 
--- Nothing was written.
-pub wrote_none : (old : Option (List ℕ)) (text : List ℕ) → WrotePrefix old old text
-wrote_none None text = record { count = 0; within = search rules; told = refl }
-wrote_none (Some w) text = record { count = 0; within = search rules; told = search rules }
+pub ends_by : {A : Type 0} (status : Status) (text : List ℕ) (before after : Device (List ℕ)) (r : Result A PrintStop) (result : Status) → result ≡ status_after status r → Prints text r before after → Ends status text result before after
+ends_by status text before after (Ok done) result e p = whole e p
+ends_by status text before after (Err print.WriteFault) result e p = cut e p
+ends_by status text before after (Err print.Memory) result e p = starved e p
 
-pub ends_by : (status : Status) (text : List ℕ) (old new : Option (List ℕ)) (r : Result (Unit {0}) PrintStop) (result : Status) → result ≡ status_after status r → OnOk r (new ≡ told_more old text) → OnErr r (WrotePrefix old new text) → Ends status text old result new
-ends_by status text old new (Ok done) result e ok err = subst (λ s. Ends status text old s new) (sym e) (subst (Ends status text old status) (sym ok) whole)
-ends_by status text old new (Err print.WriteFault) result e ok err = subst (λ s. Ends status text old s new) (sym e) (cut new err)
-ends_by status text old new (Err print.Memory) result e ok err = subst (λ s. Ends status text old s new) (sym e) (starved new err)
+-- without memory nothing is printed
+pub starved_at_once : (status : Status) (text : List ℕ) (before : Device (List ℕ)) → Ends status text Memory before before
+starved_at_once status text before = starved refl (wrote_none before text)
 
-whole_faults : (status : Status) (n : ℕ) → IsWhole status → n ≡ write_faults status n
-whole_faults Done n w = refl
-whole_faults Words n w = refl
-whole_faults (FileFault name) n w = refl
-whole_faults (SourceRefused error) n w = refl
-whole_faults (ServiceRefused error) n w = refl
-whole_faults WriteFault n w = elim w [ ]
-whole_faults Memory n w = refl
-whole_faults (FileTooLong name) n w = refl
+-- without memory for the file's name nothing is said
+pub starved_unread : (stop : TextStop) (name : List ℕ) (before : Device (List ℕ)) → EndsUnread stop name Memory before before
+starved_unread stops.FileFault name before = starved_at_once _ (fault_line name) before
+starved_unread stops.TooLong name before = starved_at_once _ (too_long_line name) before
+starved_unread stops.Memory name before = (refl, refl)
 
-pub faults_by : (status : Status) (n : ℕ) (r : Result (Unit {0}) PrintStop) (result : Status) → IsWhole status → result ≡ status_after status r → faults_after_print r n ≡ write_faults result n
-faults_by status n (Ok done) result w e = subst (λ s. n ≡ write_faults s n) (sym e) (whole_faults status n w)
-faults_by status n (Err print.WriteFault) result w e = ap (λ s. write_faults s n) (sym e)
-faults_by status n (Err print.Memory) result w e = ap (λ s. write_faults s n) (sym e)
+-- without memory for the line a refusal isn't said
+pub starved_line : {D : Type 0} (refusal : Option D) (status : Status) (text : List ℕ) (before : Device (List ℕ)) → EndsWith refusal status text Memory before before
+starved_line None status text before = (refl, refl)
+starved_line (Some refusal) status text before = starved_at_once status text before
+
+-- memory was wanting already
+pub starved_before : {D : Type 0} (refusal : Option D) (status : Status) (text : List ℕ) (before : Device (List ℕ)) → is_none refusal ≡ true → EndsWith refusal status text Memory before before
+starved_before None status text before n = (refl, refl)
+starved_before (Some refusal) status text before n = absurd (cc)
+
+-- a refusal was said
+pub said_line : {D : Type 0} (refusal : Option D) (status : Status) (text shown : List ℕ) (result : Status) (before after : Device (List ℕ)) → is_none refusal ≡ false → shown ≡ text → Ends status shown result before after → EndsWith refusal status text result before after
+said_line None status text shown result before after n s e = absurd (cc)
+said_line (Some refusal) status text shown result before after n s e = subst (λ t. Ends status t result before after) s e

@@ -10,8 +10,8 @@ pub mod Kept
 pub mod Literals
 pub mod Lines
 pub mod Loaded
+pub mod Named
 pub mod OneAnswer
-pub mod OneReading
 pub mod OneSpelling
 pub mod Others
 pub mod Parts

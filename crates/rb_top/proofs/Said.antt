@@ -1,21 +1,20 @@
 -- What the commands say, from what reading and running answer.
-use Rattle.std.proofs.Common.{◌≡◌, ℕ, List, [], ◌∷◌, Bool, true, false, Option, None, Some, Result, Ok, Err, OnOk, OnErr, cond, codes, ap, sym, ◌∙◌, refl, subst}
+use Rattle.std.proofs.Common.{◌≡◌, ℕ, List, Option, None, Some, Result, Ok, Err, codes, ap, sym, ◌∙◌, refl, subst}
 use Rattle.std.specs.Prelude.{IsTrue}
-use Rattle.std.specs.Str.{bytes_eq}
-use Rattle.std.proofs.lemmas.Slice.Eq.{bytes_eq-Decides}
+use Rattle.std.specs.Borrow.{Bor}
 use Rattle.rb_trees.specs.declared.reading.ReadError.{ReadError}
 use Rattle.rb_trees.specs.declared.reading.ReadError.TheVariants as errors
 use Rattle.rb_trees.specs.declared.typing.TypeError.{TypeError}
 use Rattle.rb_trees.specs.mirror.Declarations.{Program}
 use Rattle.rb_trees.specs.mirror.Services.{Service}
+use Rattle.rb_trees.specs.Outcome.{Refused, Refuses}
+use Rattle.rb_trees.specs.Reading.{read_refusal}
 use Rattle.rb_meaning.specs.Shown.{line}
 use Rattle.rb_meaning_bytes.specs.grammar.Sources.{ReadSource}
 use Rattle.rb_meaning_types.specs.Violations.{violation_of}
-use Rattle.rb_trees.specs.Outcome.{Refuses, Refused}
-use Rattle.rb_trees.specs.Reading.{read_refusal}
 use Rattle.rb_meaning_types.specs.Programs.{check_program, is_typed}
-use Rattle.rb_base.specs.Directories.{Directory, told_after, Finds}
-use Rattle.rb_base.specs.Sinks.{told_more, WrotePrefix}
+use Rattle.rb_base.specs.Devices.{Device, failed}
+use Rattle.rb_base.specs.Directories.{Directory, told_after, read_once, Finds}
 use Rattle.rb_top.specs.FirstForm.{FirstProgram, Offers}
 use Rattle.rb_top.specs.declared.loading.TextStop.{TextStop}
 use Rattle.rb_top.specs.declared.loading.TextStop.TheVariants as stops
@@ -24,168 +23,128 @@ use Rattle.rb_top.specs.declared.status.SourceError.TheVariants as sources
 use Rattle.rb_top.specs.declared.status.StoreError.TheVariants as stores
 use Rattle.rb_top.specs.declared.status.Status.{Status}
 use Rattle.rb_top.specs.declared.status.Status.TheVariants.{Done, Words, FileFault, SourceRefused, ServiceRefused, Memory, FileTooLong}
-use Rattle.rb_top.specs.Loads.{StopsText, HoldsProgram, faults_by}
+use Rattle.rb_top.specs.Answers.{Answers, words, program_fault, program_too_long, program_refused, program_untyped, program_typed, program_form, service_fault, service_too_long, service_form, run, Ends, Says, answered, starved_first, read_times, fault_line, too_long_line}
+use Rattle.rb_top.specs.Commands.{Starves, EndsUnread, EndsWith, EndsRefused, EndsUntyped, GoesOn, RunsOn, status_after}
+use Rattle.rb_top.specs.Loads.{Unread, HoldsText, HoldsProgram}
+use Rattle.rb_top.specs.Printing.{PrintsRun}
 use Rattle.rb_top.specs.Refusals.{shown_refusal, shown_violation}
 use Rattle.rb_top.specs.Runs.{run_text}
-use Rattle.rb_top.specs.Texts.{Fits, wants_memory, no_violation, IsProgram, IsService, NoServiceFor}
-use Rattle.rb_top.specs.Answers.{Answers, words, program_fault, program_too_long, program_refused, program_untyped, program_typed, program_form, service_fault, service_too_long, service_form, run, NamesProgram, Ends, starved, Says, answered, starved_first, check_words, check_of, both_words, both_of, fault_line, too_long_line, Unread, EndsUnless, Refuses, Violates, read_faults, status_after}
-use Rattle.rb_top.proofs.Ended.{ends_by, wrote_none}
+use Rattle.rb_top.specs.Scene.{Scene}
+use Rattle.rb_top.specs.Texts.{IsProgram, IsService, NoServiceFor}
+use Rattle.rb_top.specs.Words.{NotUnderstood, NamesProgram, by_check, by_both, check_words, both_words, default_fuel, program_of, words_of}
+use Rattle.rb_top.specs.declared.words.Command.{Command}
+use Rattle.rb_top.specs.declared.words.Command.TheVariants as commands
+use Rattle.rb_top.proofs.Ended.{ends_by}
 
-says : (fuel : ℕ) (told : Option Directory) (ws : List (List ℕ)) (old : Option (List ℕ)) (reads : ℕ) (status result : Status) (text : List ℕ) (new : Option (List ℕ)) (after : ℕ) → Answers fuel told ws status text → Ends status text old result new → after ≡ read_faults status reads → Says fuel told ws old reads result new after
-says fuel told ws old reads status result text new after a e h = subst (Says fuel told ws old reads result new) (sym h) (answered status result text new a e)
+-- an answer, said over a scene whose files were left so
+says : (ws : List (List ℕ)) (status result : Status) (text : List ℕ) (left : Device Directory) (before after : Scene) → Answers before.files ws status text left → after.files ≡ left → Ends status text result before.out after.out → Says ws result before after
+says ws status result text left before after a f e = answered status text (subst (Answers before.files ws status text) (sym f) a) e
 
-pub starves : (fuel : ℕ) (told : Option Directory) (ws : List (List ℕ)) (old : Option (List ℕ)) (reads : ℕ) (result : Status) (new : Option (List ℕ)) (after : ℕ) → result ≡ Memory → new ≡ old → after ≡ reads → Says fuel told ws old reads result new after
-starves fuel told ws old reads result new after r n a =
-    subst (λ s. Says fuel told ws old reads s new after) (sym r)
-    (subst (λ o. Says fuel told ws old reads Memory o after) (sym n) (subst (λ k. Says fuel told ws old reads Memory old k) (sym a) starved_first))
+-- memory was wanting after so many reads
+pub starves : (ws : List (List ℕ)) (result : Status) (before after : Scene) (count : ℕ) → Starves result before.out after.out → after.files ≡ read_times count before.files → Says ws result before after
+starves ws result before after count s f = starved_first count s.0 (same s.1 f)
+  where
+    same : after.out ≡ before.out → after.files ≡ read_times count before.files → after ≡ record before { files = read_times count before.files }
+    same o f = ap (λ d. record { files = after.files; out = d }) o ∙ ap (λ d. record { files = d; out = before.out }) f
 
--- what is said is the same over what was told and counted before
-pub says_from : (fuel : ℕ) (told : Option Directory) (ws : List (List ℕ)) (mid old : Option (List ℕ)) (between reads : ℕ) (result : Status) (new : Option (List ℕ)) (after : ℕ) → mid ≡ old → between ≡ reads → Says fuel told ws mid between result new after → Says fuel told ws old reads result new after
-says_from fuel told ws mid old between reads result new after m b h = subst (λ o. Says fuel told ws o reads result new after) m (subst (λ k. Says fuel told ws mid k result new after) b h)
+-- what was to be said of a refusal, where there is one, after one read
+says_with : {D : Type 0} (ws : List (List ℕ)) (refusal : Option D) (status result : Status) (text : List ℕ) (before after : Scene) → ((d : D) → refusal ≡ Some d → Answers before.files ws status text (read_once before.files)) → EndsWith refusal status text result before.out after.out → after.files ≡ read_once before.files → Says ws result before after
+says_with ws None status result text before after a e f = starves ws result before after 1 e f
+says_with ws (Some d) status result text before after a e f = says ws status result text (read_once before.files) before after (a d refl) f e
 
--- without memory for the file's name nothing is said
-pub starved_unread : (stop : TextStop) (name : List ℕ) (old : Option (List ℕ)) → Unread stop name old Memory old
-starved_unread stops.FileFault name old = starved old (wrote_none old (fault_line name))
-starved_unread stops.TooLong name old = starved old (wrote_none old (too_long_line name))
-starved_unread stops.Memory name old = (refl, refl)
+pub program_unread : (ws : List (List ℕ)) (p : List ℕ) (stop : TextStop) (result : Status) (before after : Scene) → NamesProgram ws p → Unread stop p before.files after.files → EndsUnread stop p result before.out after.out → Says ws result before after
+program_unread ws p stops.FileFault result before after n u e = says ws (FileFault p) result (fault_line p) (failed (read_once before.files)) before after (program_fault ws p n u.0) u.1 e
+program_unread ws p stops.TooLong result before after n u e = says ws (FileTooLong p) result (too_long_line p) (read_once before.files) before after (program_too_long ws p n u.0) u.1 e
+program_unread ws p stops.Memory result before after n u e = starves ws result before after 1 e u
 
--- without memory for the line a refusal isn't said
-pub starved_line : (wanting : Bool) (status : Status) (text : List ℕ) (old : Option (List ℕ)) → EndsUnless wanting status text old Memory old
-starved_line true status text old = (refl, refl)
-starved_line false status text old = starved old (wrote_none old text)
+-- the refusal that is told is the error itself
+same_refusal : (error d : ReadError) → read_refusal error ≡ Some d → error ≡ d
+same_refusal errors.Memory d e = absurd (cc)
+same_refusal (errors.Lex fault) d e = cc
+same_refusal (errors.Unexpected at) d e = cc
+same_refusal (errors.TooNested at) d e = cc
 
-pub program_unread : (fuel : ℕ) (told : Option Directory) (ws : List (List ℕ)) (p : List ℕ) (old : Option (List ℕ)) (reads : ℕ) (stop : TextStop) (result : Status) (new : Option (List ℕ)) (after : ℕ) → NamesProgram ws p → StopsText told p stop → Unread stop p old result new → after ≡ faults_by stop reads → Says fuel told ws old reads result new after
-program_unread fuel told ws p old reads stops.FileFault result new after n l r h = says fuel told ws old reads (FileFault p) result (fault_line p) new after (program_fault ws p n l) r h
-program_unread fuel told ws p old reads stops.TooLong result new after n l r h = says fuel told ws old reads (FileTooLong p) result (too_long_line p) new after (program_too_long ws p l.0 n l.1 l.2) r h
-program_unread fuel told ws p old reads stops.Memory result new after n l r h = starves fuel told ws old reads result new after r.0 r.1 h
+pub program_not_read : (ws : List (List ℕ)) (p text : List ℕ) (error : ReadError) (result : Status) (before after : Scene) → NamesProgram ws p → HoldsText before.files.told p text → Refused (ReadSource text) (read_refusal error) → EndsRefused text error result before.out after.out → after.files ≡ read_once before.files → Says ws result before after
+program_not_read ws p text error result before after n h r e f =
+    says_with ws (read_refusal error) (SourceRefused (sources.Read error)) result (line (shown_refusal text error)) before after
+    (λ d m. program_refused ws p text error n h (subst (λ x. ReadSource text (Err x)) (sym (same_refusal error d m)) (subst (Refused (ReadSource text)) m r))) e f
 
--- what is said, unless memory was wanting already
-says_unless : (fuel : ℕ) (told : Option Directory) (ws : List (List ℕ)) (old : Option (List ℕ)) (reads : ℕ) (wanting : Bool) (status result : Status) (text : List ℕ) (new : Option (List ℕ)) (after : ℕ) → (wanting ≡ false → Answers fuel told ws status text) → EndsUnless wanting status text old result new → reads ≡ read_faults status reads → after ≡ reads → Says fuel told ws old reads result new after
-says_unless fuel told ws old reads true status result text new after a e r h = starves fuel told ws old reads result new after e.0 e.1 h
-says_unless fuel told ws old reads false status result text new after a e r h = says fuel told ws old reads status result text new after (a refl) e (h ∙ r)
+pub program_not_typed : (ws : List (List ℕ)) (p text : List ℕ) (program : Program) (error : TypeError) (result : Status) (before after : Scene) → NamesProgram ws p → Finds before.files.told p text → ReadSource text (Ok program) → Refuses (violation_of error) (check_program program) → EndsUntyped text error result before.out after.out → after.files ≡ read_once before.files → Says ws result before after
+program_not_typed ws p text program error result before after n h r v e f =
+    says_with ws (violation_of error) (SourceRefused (sources.Types error)) result (line (shown_violation text error)) before after
+    (λ d m. program_untyped ws p text program error n h (record { read = r; violation = d; told = m; fails = subst (λ o. Refuses o (check_program program)) m v })) e f
 
-not_read : (fuel : ℕ) (told : Option Directory) (ws : List (List ℕ)) (p : List ℕ) (old : Option (List ℕ)) (reads : ℕ) (text : List ℕ) (error : ReadError) (result : Status) (new : Option (List ℕ)) (after : ℕ) → NamesProgram ws p → Finds told p text → Fits text → ReadSource text (Err error) → Refuses text error old result new → after ≡ reads → Says fuel told ws old reads result new after
-not_read fuel told ws p old reads text error result new after n f s i r h =
-    says_unless fuel told ws old reads (wants_memory error) (SourceRefused (sources.Read error)) result (line (shown_refusal text error)) new after
-    (λ m. program_refused ws p text error n f s (record { read = i; is_refusal = m })) r refl h
+pub said_typed : (p : List ℕ) (program : Program) (result : Status) (first : Device Directory) (before after : Scene) → before.files ≡ read_once first → HoldsProgram first.told p program → Ends Done (line (codes "typed")) result before.out after.out → after.files ≡ before.files → Says (check_words p) result (record before { files = first }) after
+said_typed p program result first before after b h e f =
+    says (check_words p) Done result (line (codes "typed")) (read_once first) (record before { files = first }) after (program_typed p program h) (f ∙ b) e
 
-pub program_not_read : (fuel : ℕ) (told : Option Directory) (ws : List (List ℕ)) (p : List ℕ) (old : Option (List ℕ)) (reads : ℕ) (text : List ℕ) (error : ReadError) (result : Status) (new : Option (List ℕ)) (after : ℕ) → NamesProgram ws p → Finds told p text → Fits text → Refused (ReadSource text) (read_refusal error) → Refuses text error old result new → after ≡ reads → Says fuel told ws old reads result new after
-program_not_read fuel told ws p old reads text errors.Memory result new after n f s i r h = starves fuel told ws old reads result new after r.0 r.1 h
-program_not_read fuel told ws p old reads text (errors.Lex fault) result new after n f s i r h = not_read fuel told ws p old reads text (errors.Lex fault) result new after n f s i r h
-program_not_read fuel told ws p old reads text (errors.Unexpected at) result new after n f s i r h = not_read fuel told ws p old reads text (errors.Unexpected at) result new after n f s i r h
-program_not_read fuel told ws p old reads text (errors.TooNested at) result new after n f s i r h = not_read fuel told ws p old reads text (errors.TooNested at) result new after n f s i r h
+pub said_form : (p s : List ℕ) (program : Program) (result : Status) (first : Device Directory) (before after : Scene) → before.files ≡ read_once first → HoldsProgram first.told p program → ¬ FirstProgram program → Ends (SourceRefused sources.NotBuilt) (line (codes "not built")) result before.out after.out → after.files ≡ before.files → Says (both_words p s) result (record before { files = first }) after
+said_form p s program result first before after b h n e f =
+    says (both_words p s) (SourceRefused sources.NotBuilt) result (line (codes "not built")) (read_once first) (record before { files = first }) after (program_form p s program h n) (f ∙ b) e
 
-pub program_not_typed : (fuel : ℕ) (told : Option Directory) (ws : List (List ℕ)) (p : List ℕ) (old : Option (List ℕ)) (reads : ℕ) (text : List ℕ) (program : Program) (error : TypeError) (result : Status) (new : Option (List ℕ)) (after : ℕ) → NamesProgram ws p → Finds told p text → ReadSource text (Ok program) → Refuses (violation_of error) (check_program program) → Violates text error old result new → after ≡ reads → Says fuel told ws old reads result new after
-program_not_typed fuel told ws p old reads text program error result new after n f i v r h =
-    says_unless fuel told ws old reads (no_violation error) (SourceRefused (sources.Types error)) result (line (shown_violation text error)) new after
-    (λ m. program_untyped ws p text program error n f (record { read = i; fails = v; is_violation = m })) r refl h
+-- what is said over the scene in the middle with the files before is said over the one before
+pub says_from : (ws : List (List ℕ)) (result : Status) (before middle after : Scene) → middle ≡ record before { files = read_once before.files } → Says ws result (record middle { files = before.files }) after → Says ws result before after
+says_from ws result before middle after m h = subst (λ s. Says ws result (record s { files = before.files }) after) m h
 
-pub said_typed : (fuel : ℕ) (told : Option Directory) (p : List ℕ) (old : Option (List ℕ)) (reads : ℕ) (program : Program) (result : Status) (new : Option (List ℕ)) (after : ℕ) → HoldsProgram told p program → Ends Done (line (codes "typed")) old result new → after ≡ reads → Says fuel told (check_words p) old reads result new after
-said_typed fuel told p old reads program result new after m e h = says fuel told (check_words p) old reads Done result (line (codes "typed")) new after (program_typed p m.0 program m.1 m.2 m.3) e h
+-- what a program and a service are
+is_program : (program : Program) (told : Option Directory) (p : List ℕ) (h : HoldsProgram told p program) → FirstProgram program → IsProgram h.0 program
+is_program program told p h f = record { read = h.2; typed = h.3; form = f }
 
-pub said_form : (fuel : ℕ) (told : Option Directory) (p s : List ℕ) (old : Option (List ℕ)) (reads : ℕ) (program : Program) (result : Status) (new : Option (List ℕ)) (after : ℕ) → HoldsProgram told p program → ¬ FirstProgram program → Ends (SourceRefused sources.NotBuilt) (line (codes "not built")) old result new → after ≡ reads → Says fuel told (both_words p s) old reads result new after
-said_form fuel told p s old reads program result new after m n e h = says fuel told (both_words p s) old reads (SourceRefused sources.NotBuilt) result (line (codes "not built")) new after (program_form p s m.0 program m.1 m.2 m.3 n) e h
+again : (first before after : Device Directory) → before ≡ read_once first → after ≡ read_once before → after ≡ read_once (read_once first)
+again first before after b a = a ∙ ap read_once b
 
-is_program : (text : List ℕ) (program : Program) → ReadSource text (Ok program) → IsTrue (is_typed program) → FirstProgram program → IsProgram text program
-is_program text program i t f = record { read = i; typed = t; form = f }
+-- the scene before, with the files before the program was read
+abbrev at_first : Scene → Device Directory → Scene
+at_first before first = record before { files = first }
 
-pub service_unread : (fuel : ℕ) (told between : Option Directory) (p s : List ℕ) (old : Option (List ℕ)) (reads : ℕ) (program : Program) (stop : TextStop) (result : Status) (new : Option (List ℕ)) (after : ℕ) → HoldsProgram told p program → FirstProgram program → between ≡ told_after told → StopsText between s stop → Unread stop s old result new → after ≡ faults_by stop reads → Says fuel told (both_words p s) old reads result new after
-service_unread fuel told between p s old reads program stops.FileFault result new after m f b l r h =
-    says fuel told (both_words p s) old reads (FileFault s) result (fault_line s) new after (service_fault p s m.0 program m.1 (is_program m.0 program m.2 m.3 f) (subst (λ t. StopsText t s stops.FileFault) b l)) r h
-service_unread fuel told between p s old reads program stops.TooLong result new after m f b l r h =
-    let k = subst (λ t. StopsText t s stops.TooLong) b l in
-    says fuel told (both_words p s) old reads (FileTooLong s) result (too_long_line s) new after (service_too_long p s m.0 k.0 program m.1 (is_program m.0 program m.2 m.3 f) k.1 k.2) r h
-service_unread fuel told between p s old reads program stops.Memory result new after m f b l r h = starves fuel told (both_words p s) old reads result new after r.0 r.1 h
+pub service_unread : (p s : List ℕ) (program : Program) (stop : TextStop) (result : Status) (first : Device Directory) (before after : Scene) → before.files ≡ read_once first → HoldsProgram first.told p program → FirstProgram program → Unread stop s before.files after.files → EndsUnread stop s result before.out after.out → Says (both_words p s) result (record before { files = first }) after
+service_unread p s program stops.FileFault result first before after b h f u e =
+    let k = subst (λ d. Unread stops.FileFault s d after.files) b u in
+    says (both_words p s) (FileFault s) result (fault_line s) (failed (read_once (read_once first))) (at_first before first) after (service_fault p s h.0 program h.1 (is_program program first.told p h f) k.0) k.1 e
+service_unread p s program stops.TooLong result first before after b h f u e =
+    let k = subst (λ d. Unread stops.TooLong s d after.files) b u in
+    says (both_words p s) (FileTooLong s) result (too_long_line s) (read_once (read_once first)) (at_first before first) after (service_too_long p s h.0 program h.1 (is_program program first.told p h f) k.0) k.1 e
+service_unread p s program stops.Memory result first before after b h f u e = starves (both_words p s) result (at_first before first) after 2 e (again first before.files after.files b u)
 
-pub no_service : (fuel : ℕ) (told between : Option Directory) (p s : List ℕ) (old : Option (List ℕ)) (reads : ℕ) (program : Program) (other : List ℕ) (result : Status) (new : Option (List ℕ)) (after : ℕ) → HoldsProgram told p program → FirstProgram program → between ≡ told_after told → Finds between s other → Fits other → NoServiceFor program other → Ends (ServiceRefused stores.NotBuilt) (line (codes "service not built")) old result new → after ≡ reads → Says fuel told (both_words p s) old reads result new after
-no_service fuel told between p s old reads program other result new after m f b l t n e h =
-    says fuel told (both_words p s) old reads (ServiceRefused stores.NotBuilt) result (line (codes "service not built")) new after (service_form p s m.0 other program m.1 (is_program m.0 program m.2 m.3 f) (subst (λ t. Finds t s other) b l) t n) e h
+pub service_starved : (p s : List ℕ) (first : Device Directory) (before after : Scene) → before.files ≡ read_once first → after.files ≡ read_once before.files → after.out ≡ before.out → Says (both_words p s) Memory (record before { files = first }) after
+service_starved p s first before after b a o = starves (both_words p s) Memory (at_first before first) after 2 (refl, o) (again first before.files after.files b a)
 
-at_ok : (printed : Result (Unit {0}) PrintStop) (P Q : Type 0) → (P → Q) → OnOk printed P → OnOk printed Q
-at_ok (Ok done) P Q f p = f p
-at_ok (Err stop) P Q f p = tt
+pub no_service : (p s other : List ℕ) (program : Program) (result : Status) (first : Device Directory) (before after : Scene) → before.files ≡ read_once first → HoldsProgram first.told p program → FirstProgram program → HoldsText before.files.told s other → after.files ≡ read_once before.files → NoServiceFor program other → Ends (ServiceRefused stores.NotBuilt) (line (codes "service not built")) result before.out after.out → Says (both_words p s) result (record before { files = first }) after
+no_service p s other program result first before after b h f t a n e =
+    says (both_words p s) (ServiceRefused stores.NotBuilt) result (line (codes "service not built")) (read_once (read_once first)) (at_first before first) after
+    (service_form p s h.0 other program h.1 (is_program program first.told p h f) (subst (λ d. HoldsText d.told s other) b t) n) (again first before.files after.files b a) e
 
-at_err : (printed : Result (Unit {0}) PrintStop) (P Q : Type 0) → (P → Q) → OnErr printed P → OnErr printed Q
-at_err (Ok done) P Q f p = tt
-at_err (Err stop) P Q f p = f p
+pub run_ended : {A : Type 0} (p s other : List ℕ) (program : Program) (service : Service) (printed : Result A PrintStop) (result : Status) (first : Device Directory) (before after : Scene) → before.files ≡ read_once first → HoldsProgram first.told p program → FirstProgram program → HoldsText before.files.told s other → after.files ≡ read_once before.files → IsService other service → Offers program service
+    → PrintsRun program service printed before.out after.out → result ≡ status_after Done printed → Says (both_words p s) result (record before { files = first }) after
+run_ended p s other program service printed result first before after b h f t a i o r e =
+    let text = run_text h.0 default_fuel program service in
+    says (both_words p s) Done result text (read_once (read_once first)) (at_first before first) after
+    (run p s h.0 other program service h.1 (is_program program first.told p h f) (subst (λ d. HoldsText d.told s other) b t).0 i o) (again first before.files after.files b a)
+    (ends_by Done text before.out after.out printed result e (r h.0 default_fuel))
 
-pub run_ended : (fuel : ℕ) (told between : Option Directory) (p s : List ℕ) (old : Option (List ℕ)) (reads : ℕ) (program : Program) (service : Service) (other : List ℕ) (printed : Result (Unit {0}) PrintStop) (result : Status) (new : Option (List ℕ)) (after : ℕ) → HoldsProgram told p program → FirstProgram program → between ≡ told_after told → Finds between s other → IsService other service → Offers program service
-    → OnOk printed ((source : List ℕ) (fuel : ℕ) → new ≡ told_more old (run_text source fuel program service))
-    → OnErr printed ((source : List ℕ) (fuel : ℕ) → WrotePrefix old new (run_text source fuel program service))
-    → result ≡ status_after Done printed → after ≡ reads → Says fuel told (both_words p s) old reads result new after
-run_ended fuel told between p s old reads program service other printed result new after m f b l i o ok err e h =
-    let text = run_text m.0 fuel program service in
-    says fuel told (both_words p s) old reads Done result text new after (run p s m.0 other program service m.1 (is_program m.0 program m.2 m.3 f) (subst (λ t. Finds t s other) b l) i o)
-    (ends_by Done text old new printed result e (at_ok printed _ _ (λ all. all m.0 fuel) ok) (at_err printed _ _ (λ all. all m.0 fuel) err)) h
+pub not_understood : (ws : List (List ℕ)) (result : Status) (before after : Scene) → NotUnderstood ws → Ends Words (line (codes "words not understood")) result before.out after.out → after.files ≡ before.files → Says ws result before after
+not_understood ws result before after n e f = says ws Words result (line (codes "words not understood")) before.files before after (words ws n) f e
 
-abbrev the_names : List ℕ → List ℕ → Option (List ℕ × List ℕ)
-the_names p s = Some (p, s)
+-- what is said of these words is said of those
+pub said_of : (those ws : List (List ℕ)) (result : Status) (before after : Scene) → those ≡ ws → Says those result before after → Says ws result before after
+said_of those ws result before after e h = subst (λ l. Says l result before after) e h
 
--- the names in words that may be `both P S`
-abbrev named : List ℕ → List ℕ → List ℕ → Bool → Option (List ℕ × List ℕ)
-named command p s true = Some (p, s)
-named command p s false = None
+-- a command names its program
+pub names_program : (command : Command) (p : List ℕ) → p ≡ program_of command → NamesProgram (words_of command) p
+names_program (commands.Check p') p e = subst (NamesProgram (check_words p'.now)) (sym e) (by_check p'.now)
+names_program (commands.Both p' s) p e = subst (NamesProgram (both_words p'.now s.now)) (sym e) (by_both p'.now s.now)
 
-abbrev names_of : Option (List ℕ × List ℕ) → List ℕ × List ℕ
-names_of None = ([], [])
-names_of (Some names) = names
+-- the rest of `check P`
+pub goes_check : (program : Program) (command : Command) (p : Bor (List ℕ)) (result : Status) (before after : Scene) → command ≡ commands.Check p → Ends Done (line (codes "typed")) result before.out after.out → after.files ≡ before.files → GoesOn program command result before after
+goes_check program command p result before after c e f =
+    subst (λ k. GoesOn program k result before after) (sym c) (λ first b h. said_typed p.now program result first before after b h e f)
 
-both_is : (command p s p' s' : List ℕ) (b : Bool) → (b ≡ true → command ≡ codes "both") → named command p s b ≡ Some (p', s') → both_words p' s' ≡ command ∷ p ∷ s ∷ []
-both_is command p s p' s' false f h = absurd (cc)
-both_is command p s p' s' true f h =
-    let first : p ≡ p' = ap (λ o. (names_of o).0) h in
-    let second : s ≡ s' = ap (λ o. (names_of o).1) h in
-    ap (λ l. codes "both" ∷ l ∷ s' ∷ []) (sym first) ∙ ap (λ l. codes "both" ∷ p ∷ l ∷ []) (sym second) ∙ ap (λ l. l ∷ p ∷ s ∷ []) (sym (f refl))
+-- the rest of `both P S`, where the program isn't of the form that is built
+pub goes_form : (program : Program) (command : Command) (p s : Bor (List ℕ)) (result : Status) (before after : Scene) → command ≡ commands.Both p s → ¬ FirstProgram program → Ends (SourceRefused sources.NotBuilt) (line (codes "not built")) result before.out after.out → after.files ≡ before.files → GoesOn program command result before after
+goes_form program command p s result before after c n e f =
+    subst (λ k. GoesOn program k result before after) (sym c) (λ first b h. said_form p.now s.now program result first before after b h n e f)
 
-named_same : (a b c : List ℕ) (t : Bool) → cond t (the_names b c) None ≡ named a b c t
-named_same a b c true = refl
-named_same a b c false = refl
-
-pub both_named : (ws : List (List ℕ)) (p s : List ℕ) → both_of ws ≡ Some (p, s) → both_words p s ≡ ws
-both_named [] p s h = absurd (cc)
-both_named (a ∷ []) p s h = absurd (cc)
-both_named (a ∷ b ∷ []) p s h = absurd (cc)
-both_named (a ∷ b ∷ c ∷ []) p s h = both_is a b c p s (bytes_eq a (codes "both")) (bytes_eq-Decides a (codes "both")).0 (sym (named_same a b c (bytes_eq a (codes "both"))) ∙ h)
-both_named (a ∷ b ∷ c ∷ d ∷ ws) p s h = absurd (cc)
-
--- the name in words that may be `check P`
-abbrev one_named : List ℕ → Bool → Option (List ℕ)
-one_named p true = Some p
-one_named p false = None
-
-abbrev name_of : Option (List ℕ) → List ℕ
-name_of None = []
-name_of (Some name) = name
-
-check_is : (command p p' : List ℕ) (b : Bool) → (b ≡ true → command ≡ codes "check") → one_named p b ≡ Some p' → check_words p' ≡ command ∷ p ∷ []
-check_is command p p' false f h = absurd (cc)
-check_is command p p' true f h = ap (λ l. codes "check" ∷ l ∷ []) (sym (ap name_of h)) ∙ ap (λ l. l ∷ p ∷ []) (sym (f refl))
-
-one_named_same : (p : List ℕ) (t : Bool) → cond t (Some p) None ≡ one_named p t
-one_named_same p true = refl
-one_named_same p false = refl
-
-pub check_named : (ws : List (List ℕ)) (p : List ℕ) → check_of ws ≡ Some p → check_words p ≡ ws
-check_named [] p h = absurd (cc)
-check_named (a ∷ []) p h = absurd (cc)
-check_named (a ∷ b ∷ []) p h = check_is a b p (bytes_eq a (codes "check")) (bytes_eq-Decides a (codes "check")).0 (sym (one_named_same b (bytes_eq a (codes "check"))) ∙ h)
-check_named (a ∷ b ∷ c ∷ ws) p h = absurd (cc)
-
-not_both : (ws : List (List ℕ)) → both_of ws ≡ None → (p s : List ℕ) → ws ≡ both_words p s → ⊥
-not_both ws h p s e =
-    let k = sym (ap both_of e) ∙ h in
-    absurd (cc)
-
-not_check : (ws : List (List ℕ)) → check_of ws ≡ None → (p : List ℕ) → ws ≡ check_words p → ⊥
-not_check ws h p e =
-    let k = sym (ap check_of e) ∙ h in
-    absurd (cc)
-
-pub not_understood : (fuel : ℕ) (told : Option Directory) (ws : List (List ℕ)) (old : Option (List ℕ)) (reads : ℕ) (result : Status) (new : Option (List ℕ)) → None ≡ check_of ws → None ≡ both_of ws → Ends Words (line (codes "words not understood")) old result new → Says fuel told ws old reads result new reads
-not_understood fuel told ws old reads result new c h e = says fuel told ws old reads Words result (line (codes "words not understood")) new reads (words ws (not_both ws (sym h), not_check ws (sym c))) e refl
-
-pub named_says : (fuel : ℕ) (told : Option Directory) (ws : List (List ℕ)) (p s : List ℕ) (old : Option (List ℕ)) (reads : ℕ) (result : Status) (new : Option (List ℕ)) (after : ℕ) → the_names p s ≡ both_of ws → Says fuel told (both_words p s) old reads result new after → Says fuel told ws old reads result new after
-named_says fuel told ws p s old reads result new after h e = subst (λ l. Says fuel told l old reads result new after) (both_named ws p s (sym h)) e
-
-pub check_says : (fuel : ℕ) (told : Option Directory) (ws : List (List ℕ)) (p : List ℕ) (old : Option (List ℕ)) (reads : ℕ) (result : Status) (new : Option (List ℕ)) (after : ℕ) → Some p ≡ check_of ws → Says fuel told (check_words p) old reads result new after → Says fuel told ws old reads result new after
-check_says fuel told ws p old reads result new after h e = subst (λ l. Says fuel told l old reads result new after) (check_named ws p (sym h)) e
+-- the rest of `both P S`, where it is
+pub goes_run : (program : Program) (command : Command) (p s : Bor (List ℕ)) (result : Status) (before after : Scene) → command ≡ commands.Both p s → RunsOn program s.now result before after → GoesOn program command result before after
+goes_run program command p s result before after c r =
+    subst (λ k. GoesOn program k result before after) (sym c) (λ first b h. r p.now first b h)

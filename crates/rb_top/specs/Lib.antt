@@ -1,4 +1,7 @@
+pub mod Scene
+pub mod Words
 pub mod Answers
+pub mod Commands
 pub mod Buffers
 pub mod Codes
 pub mod FirstForm

@@ -1,29 +1,32 @@
--- What reading a text from the files answers.
-use Rattle.std.specs.Prelude.{ℕ, List, Option, Result, Ok, Err, IsTrue}
+-- What reading a text from the files answers, and how it leaves them.
+use Rattle.std.specs.Prelude.{◌≡◌, ℕ, List, Option, Result, Ok, Err, IsTrue}
 use Rattle.rb_trees.specs.mirror.Declarations.{Program}
 use Rattle.rb_meaning_bytes.specs.grammar.Sources.{ReadSource}
-use Rattle.rb_base.specs.Counts.{risen}
-use Rattle.rb_base.specs.Directories.{Directory, Finds, FailsNext}
+use Rattle.rb_base.specs.Devices.{Device, failed}
+use Rattle.rb_base.specs.Directories.{Directory, Finds, FailsNext, read_once}
 use Rattle.rb_meaning_types.specs.Programs.{is_typed}
-use Rattle.rb_top.specs.Texts.{TooLong}
+use Rattle.rb_top.specs.Texts.{WithinLength, TooLong}
 use Rattle.rb_top.specs.declared.loading.TextStop.{TextStop}
 use Rattle.rb_top.specs.declared.loading.TextStop.TheVariants as stops
 
--- No text is read from the file of the name for this cause, as far as the files tell.
-abbrev pub StopsText : Option Directory → List ℕ → TextStop → Type 0
-StopsText told name stops.FileFault = FailsNext told name
-StopsText told name stops.TooLong = (text : List ℕ) × Finds told name text × TooLong text
-StopsText told name stops.Memory = Unit {0}
+-- The file of the name holds too long a text, as far as the files tell.
+abbrev pub FindsTooLong : Option Directory → List ℕ → Type 0
+FindsTooLong told name = (text : List ℕ) × Finds told name text × TooLong text
 
-abbrev pub faults_by : TextStop → ℕ → ℕ
-faults_by stops.FileFault n = risen n
-faults_by stops.TooLong n = n
-faults_by stops.Memory n = n
+-- No text was read from the file of the name for this cause.
+abbrev pub Unread : TextStop → List ℕ → Device Directory → Device Directory → Type 0
+Unread stops.FileFault name before after = FailsNext before.told name × (after ≡ failed (read_once before))
+Unread stops.TooLong name before after = FindsTooLong before.told name × (after ≡ read_once before)
+Unread stops.Memory name before after = after ≡ read_once before
 
--- the files' count of faults after a text was read, or wasn't
-abbrev pub faults_after_load : {A : Type 0} → Result A TextStop → ℕ → ℕ
-faults_after_load (Ok a) n = n
-faults_after_load (Err stop) n = faults_by stop n
+-- The file of the name holds this text, which is within the limit, as far as the files tell.
+abbrev pub HoldsText : Option Directory → List ℕ → List ℕ → Type 0
+HoldsText told name text = Finds told name text × WithinLength text
+
+-- The text of the file of the name was read, or none for some cause.
+abbrev pub LoadsText : {R : Type 0} → (R → List ℕ) → List ℕ → Result R TextStop → Device Directory → Device Directory → Type 0
+LoadsText view name (Ok text) before after = HoldsText before.told name (view text) × (after ≡ read_once before)
+LoadsText view name (Err stop) before after = Unread stop name before after
 
 -- The file of the name holds a text that is read as this program, as far as the files tell, and it is typed.
 abbrev pub HoldsProgram : Option Directory → List ℕ → Program → Type 0

@@ -2,57 +2,30 @@
 use Rattle.std.specs.Prelude.{◌≡◌, ◌==◌, ℕ, ◌<◌, ◌≤◌, List, Bool, true, false, Option, None, Some, Ok, Err, length, IsTrue}
 use Rattle.std.specs.List.{list_any}
 use Rattle.rb_trees.specs.declared.tokens.Token.{Token}
-use Rattle.rb_trees.specs.declared.reading.ReadError.{ReadError}
-use Rattle.rb_trees.specs.declared.reading.ReadError.TheVariants as errors
-use Rattle.rb_trees.specs.declared.reading.LexError.{LexError}
-use Rattle.rb_trees.specs.declared.reading.LexError.TheVariants as faults
 use Rattle.rb_trees.specs.declared.typing.TypeError.{TypeError}
-use Rattle.rb_trees.specs.declared.typing.TypeError.TheVariants as violations
 use Rattle.rb_trees.specs.mirror.Declarations.{Program}
 use Rattle.rb_trees.specs.mirror.Services.{Service}
 use Rattle.rb_meaning_bytes.specs.tokens.Texts.{IsTokens, longest_text}
 use Rattle.rb_meaning_bytes.specs.grammar.Sources.{ReadSource}
-use Rattle.rb_meaning_types.specs.Violations.{violation_of}
-use Rattle.rb_trees.specs.Outcome.{Refuses}
+use Rattle.rb_meaning_types.specs.Violations.{Violation, violation_of}
 use Rattle.rb_meaning_types.specs.Programs.{check_program, is_typed}
 use Rattle.rb_top.specs.FirstForm.{FirstProgram, Offers}
 use Rattle.rb_top.specs.FirstTexts.{service_at}
 
 -- The text has at most as many bytes as a text may have.
-abbrev pub Fits : List ℕ → Type 0
-Fits text = length text ≤ longest_text
+abbrev pub WithinLength : List ℕ → Type 0
+WithinLength text = length text ≤ longest_text
 
 -- The text has more.
 abbrev pub TooLong : List ℕ → Type 0
 TooLong text = longest_text < length text
 
--- whether there are no tokens for want of memory
-abbrev pub lacks_memory : LexError → Bool
-lacks_memory faults.Memory = true
-lacks_memory _ = false
-
--- whether this is want of memory, which is no refusal of a text
-abbrev pub wants_memory : ReadError → Bool
-wants_memory errors.Memory = true
-wants_memory (errors.Lex fault) = lacks_memory fault
-wants_memory (errors.Unexpected at) = false
-wants_memory (errors.TooNested at) = false
-
--- The text is refused for this.
-pub record IsRefused (text : List ℕ) (error : ReadError) : Type 0 where
-  pub read : ReadSource text (Err error)
-  pub is_refusal : wants_memory error ≡ false
-
--- whether this is want of memory, which is no violation of a program's
-abbrev pub no_violation : TypeError → Bool
-no_violation violations.Memory = true
-no_violation _ = false
-
--- The text is read as this program, whose first violation this is.
+-- The text is read as this program, and this error tells its first violation.
 pub record IsUntyped (text : List ℕ) (p : Program) (error : TypeError) : Type 0 where
   pub read : ReadSource text (Ok p)
-  pub fails : Refuses (violation_of error) (check_program p)
-  pub is_violation : no_violation error ≡ false
+  pub violation : Violation
+  pub told : violation_of error ≡ Some violation
+  pub fails : check_program p ≡ Err violation
 
 -- The text is this program, typed and of the form that is built.
 pub record IsProgram (text : List ℕ) (p : Program) : Type 0 where

@@ -1,19 +1,14 @@
 // The commands, from their words to what they print.
 
-ghost use Rattle.std.specs.Prelude.{◌≡◌, ◌++◌, ℕ, List, Option, Some, map, IfOk, IfErr, OnOk, codes};
-ghost use Rattle.std.specs.Option.{option_map};
-ghost use Rattle.std.specs.String.{string_bytes};
-ghost use Rattle.rb_trees.specs.mirror.Declarations as program_mirror;
+ghost use Rattle.std.specs.Prelude.{◌≡◌, ◌++◌, IfOk};
 ghost use Rattle.rb_trees.specs.mirror.Declarations.{mirror_program};
-ghost use Rattle.rb_trees.specs.mirror.Services as service_mirror;
 ghost use Rattle.rb_meaning.specs.Shown.{line};
-ghost use Rattle.rb_base.specs.Directories.{Directory, told_after};
+ghost use Rattle.rb_top.specs.Answers.{Ends, Says, ChecksTold, RunsTold};
+ghost use Rattle.rb_top.specs.Commands.{EndsRefused, EndsUntyped, EndsUnread, LoadsProgram, GoesOn, RunsOn, status_after};
 ghost use Rattle.rb_top.specs.FirstForm.{FirstProgram};
-ghost use Rattle.rb_top.specs.Loads.{HoldsProgram};
-ghost use Rattle.rb_top.specs.Runs.{run_text};
-ghost use Rattle.rb_top.specs.Texts.{Fits};
-ghost use Rattle.rb_top.specs.declared.status.Status.TheVariants as statuses;
-ghost use Rattle.rb_top.specs.Answers.{NamesProgram, Ends, Says, Holds, Refuses, Violates, Unread, IsWhole, check_of, check_words, both_of, both_words, faults_after_reading, status_after, write_faults};
+ghost use Rattle.rb_top.specs.Scene.{output, outside};
+ghost use Rattle.rb_top.specs.Texts.{WithinLength};
+ghost use Rattle.rb_top.specs.Words.{texts, words_of};
 
 use crate::first_form::is_first_program;
 use crate::loading::{TextStop, load_text, service_for};
@@ -21,8 +16,10 @@ use crate::printing::{PrintStop, print_text};
 use crate::refusals::{is_memory, is_no_violation, refusal_line, violation_line};
 use crate::run::run_both;
 use crate::status::{SourceError, Status, StoreError};
+use crate::words::{Command, command_of};
 use rb_base::{Files, Sink};
-use rb_parse::parse_program;
+use rb_lex::texts_have_one_outcome;
+use rb_parse::{parse_program, sources_have_one_outcome};
 use rb_trees::{Memory, Program, ReadError, Seq, TypeError};
 use rb_types::{Typed, check as check_types};
 use std::alloc::{AllocError, Global};
@@ -40,9 +37,7 @@ fn ended(status: Status, printed: Result<(), PrintStop>) -> Status
 
 /// Prints a text and answers the status, or why the text wasn't printed whole.
 fn say<W: Sink>(status: Status, text: &[u8], out: &mut W) -> Status
-    requires { IsWhole status }
-    ensures ends { Ends status text.now (W.told out.old) result (W.told out.new) }
-    ensures writes { W.faults out.new ≡ write_faults result (W.faults out.old) }
+    ensures { Ends status text.now result (output W.Sink out.old) (output W.Sink out.new) }
 {
     let printed = print_text(text, out);
     ended(status, printed)
@@ -60,9 +55,7 @@ fn line_of(alloc: Global, what: &[u8], name: &str) -> Result<Vec<u8>, AllocError
 
 /// Says what is told of a file.
 fn say_of<W: Sink>(alloc: Global, status: Status, what: &[u8], name: &str, out: &mut W) -> Status
-    requires { IsWhole status }
-    ensures ends { Ends status (line (what.now ++ name.now)) (W.told out.old) result (W.told out.new) }
-    ensures writes { W.faults out.new ≡ write_faults result (W.faults out.old) }
+    ensures { Ends status (line (what.now ++ name.now)) result (output W.Sink out.old) (output W.Sink out.new) }
 {
     match line_of(alloc, what, name) {
         Ok(text) => say(status, text.as_slice(), out),
@@ -72,8 +65,7 @@ fn say_of<W: Sink>(alloc: Global, status: Status, what: &[u8], name: &str, out: 
 
 /// Says why no text is read from a file.
 fn say_unread<W: Sink>(alloc: Global, stop: TextStop, name: &str, out: &mut W) -> Status
-    ensures unread { Unread stop name.now (W.told out.old) result (W.told out.new) }
-    ensures writes { W.faults out.new ≡ write_faults result (W.faults out.old) }
+    ensures { EndsUnread stop name.now result (output W.Sink out.old) (output W.Sink out.new) }
 {
     let Ok(word) = Seq::from_slice(alloc, name.as_bytes()) else {
         return Status::Memory;
@@ -93,9 +85,8 @@ fn say_unread<W: Sink>(alloc: Global, stop: TextStop, name: &str, out: &mut W) -
 
 /// Says why a text is refused.
 fn refuse<W: Sink>(alloc: Global, text: &[u8], error: ReadError, out: &mut W) -> Status
-    requires { Fits text.now }
-    ensures refuses { Refuses text.now error (W.told out.old) result (W.told out.new) }
-    ensures writes { W.faults out.new ≡ write_faults result (W.faults out.old) }
+    requires { WithinLength text.now }
+    ensures { EndsRefused text.now error result (output W.Sink out.old) (output W.Sink out.new) }
 {
     if is_memory(&error) {
         return Status::Memory;
@@ -112,9 +103,8 @@ fn refuse<W: Sink>(alloc: Global, text: &[u8], error: ReadError, out: &mut W) ->
 
 /// Says why a program isn't typed.
 fn refuse_types<W: Sink>(alloc: Global, text: &[u8], error: TypeError, out: &mut W) -> Status
-    requires { Fits text.now }
-    ensures violates { Violates text.now error (W.told out.old) result (W.told out.new) }
-    ensures writes { W.faults out.new ≡ write_faults result (W.faults out.old) }
+    requires { WithinLength text.now }
+    ensures { EndsUntyped text.now error result (output W.Sink out.old) (output W.Sink out.new) }
 {
     if is_no_violation(&error) {
         return Status::Memory;
@@ -136,12 +126,7 @@ fn typed_program<F: Files, W: Sink>(
     files: &mut F,
     out: &mut W,
 ) -> Result<Typed, Status>
-    ensures program { IfOk result (λ typed. HoldsProgram (F.told files.old) name.now (mirror_program typed)) }
-    ensures refused { IfErr result (λ status. (fuel : ℕ) → (words : List (List ℕ)) → NamesProgram words name.now → Says fuel (F.told files.old) words (W.told out.old) (F.faults files.old) status (W.told out.new) (F.faults files.new)) }
-    ensures silent { OnOk result (W.told out.new ≡ W.told out.old) }
-    ensures told { F.told files.new ≡ told_after (F.told files.old) }
-    ensures reads { OnOk result (F.faults files.new ≡ F.faults files.old) }
-    ensures writes { W.faults out.new ≡ faults_after_reading result (W.faults out.old) }
+    ensures { LoadsProgram mirror_program name.now result (outside F.Files W.Sink files.old out.old) (outside F.Files W.Sink files.new out.new) }
 {
     match load_text(alloc, name, files) {
         Err(stop) => Err(say_unread(alloc, stop, name, out)),
@@ -158,17 +143,6 @@ fn typed_program<F: Files, W: Sink>(
     }
 }
 
-/// `check P`: says whether the program in the file P is typed.
-fn check<F: Files, W: Sink>(alloc: Global, name: &str, files: &mut F, out: &mut W) -> Status
-    ensures answer { (fuel : ℕ) → Says fuel (F.told files.old) (check_words name.now) (W.told out.old) (F.faults files.old) result (W.told out.new) (F.faults files.new) }
-    ensures writes { W.faults out.new ≡ write_faults result (W.faults out.old) }
-{
-    match typed_program(alloc, name, files, out) {
-        Err(status) => status,
-        Ok(_) => say(Status::Done, b"typed\n", out),
-    }
-}
-
 /// Runs a program on the service in a file.
 fn run_on<F: Files, W: Sink>(
     alloc: Global,
@@ -178,8 +152,7 @@ fn run_on<F: Files, W: Sink>(
     out: &mut W,
 ) -> Status
     requires { FirstProgram (mirror_program program.now) }
-    ensures answer { (fuel : ℕ) → (told : Option Directory) → (p : List ℕ) → F.told files.old ≡ told_after told → HoldsProgram told p (mirror_program program.now) → Says fuel told (both_words p name.now) (W.told out.old) (F.faults files.old) result (W.told out.new) (F.faults files.new) }
-    ensures writes { W.faults out.new ≡ write_faults result (W.faults out.old) }
+    ensures { RunsOn (mirror_program program.now) name.now result (outside F.Files W.Sink files.old out.old) (outside F.Files W.Sink files.new out.new) }
 {
     match load_text(alloc, name, files) {
         Err(stop) => say_unread(alloc, stop, name, out),
@@ -198,23 +171,21 @@ fn run_on<F: Files, W: Sink>(
     }
 }
 
-/// `both P S`: runs the program in the file P on the service in the file S.
-fn both<F: Files, W: Sink>(
+/// Carries out the rest of a command, once its program is known to be typed.
+fn go_on<F: Files, W: Sink>(
     alloc: Global,
-    program_name: &str,
-    service_name: &str,
+    program: &Program,
+    command: &Command,
     files: &mut F,
     out: &mut W,
 ) -> Status
-    ensures answer { (fuel : ℕ) → Says fuel (F.told files.old) (both_words program_name.now service_name.now) (W.told out.old) (F.faults files.old) result (W.told out.new) (F.faults files.new) }
-    ensures writes { W.faults out.new ≡ write_faults result (W.faults out.old) }
+    ensures { GoesOn (mirror_program program.now) command.now result (outside F.Files W.Sink files.old out.old) (outside F.Files W.Sink files.new out.new) }
 {
-    match typed_program(alloc, program_name, files, out) {
-        Err(refusal) => refusal,
-        Ok(typed) => {
-            let program = typed.program();
+    match command {
+        Command::Check(_) => say(Status::Done, b"typed\n", out),
+        Command::Both(_, service) => {
             if is_first_program(program) {
-                run_on(alloc, program, service_name, files, out)
+                run_on(alloc, program, service, files, out)
             } else {
                 say(
                     Status::SourceRefused(SourceError::NotBuilt),
@@ -226,56 +197,43 @@ fn both<F: Files, W: Sink>(
     }
 }
 
-/// The name of the file, where the words are `check P`.
-fn check_name(words: &[String]) -> Option<&str>
-    ensures { option_map (λ r. r.now) result ≡ check_of (map string_bytes words.now) }
+/// Carries out a command: its program is read and typed first.
+fn carry_out<F: Files, W: Sink>(
+    alloc: Global,
+    command: &Command,
+    files: &mut F,
+    out: &mut W,
+) -> Status
+    ensures { Says (words_of command.now) result (outside F.Files W.Sink files.old out.old) (outside F.Files W.Sink files.new out.new) }
 {
-    match words {
-        [command, program] => {
-            if command.as_str() == "check" {
-                Some(program.as_str())
-            } else {
-                None
-            }
+    match typed_program(alloc, command.program(), files, out) {
+        Err(status) => status,
+        Ok(typed) => {
+            let status = go_on(alloc, typed.program(), command, files, out);
+            drop(typed);
+            status
         }
-        _ => None,
-    }
-}
-
-/// The names of the two files, where the words are `both P S`.
-fn both_names(words: &[String]) -> Option<(&str, &str)>
-    ensures { option_map (λ r. (r.0.now, r.1.now)) result ≡ both_of (map string_bytes words.now) }
-{
-    match words {
-        [command, program, service] => {
-            if command.as_str() == "both" {
-                Some((program.as_str(), service.as_str()))
-            } else {
-                None
-            }
-        }
-        _ => None,
     }
 }
 
 /// Runs the command that the words are.
 ///
 /// Each answer has its cause in the words and the files, as far as they tell: `Says` and `Answers`
-/// state them, and the order in which they count. The files' count of faults rises exactly where a
-/// file can't be read, and the output's exactly where a write failed.
+/// state them, the order in which they count, and what is left of the files and the output. The
+/// files' count of faults rises exactly where a file can't be read, and the output's exactly where
+/// the answer is `WriteFault`.
 pub fn top<F: Files, W: Sink>(alloc: Global, words: &[String], files: &mut F, out: &mut W) -> Status
-    // What is answered and printed is what the words and the files mean, for every fuel.
-    ensures answer { (fuel : ℕ) → Says fuel (F.told files.old) (map string_bytes words.now) (W.told out.old) (F.faults files.old) result (W.told out.new) (F.faults files.new) }
-    // Where the files tell a program and a service for it, the run is printed, unless the output fails or memory is wanting.
-    ensures runs { (fuel : ℕ) → (p : List ℕ) → (s : List ℕ) → (directory : Directory) → (text : List ℕ) → (other : List ℕ) → (program : program_mirror.Program) → (service : service_mirror.Service) → map string_bytes words.now ≡ both_words p s → F.told files.old ≡ Some directory → Holds directory p s text other program service → Ends statuses.Done (run_text text fuel program service) (W.told out.old) result (W.told out.new) }
-    // The answer is WriteFault exactly where a write failed.
-    ensures writes { W.faults out.new ≡ write_faults result (W.faults out.old) }
+    // What is answered and printed is what the words and the files mean.
+    ensures answer { Says (texts words.now) result (outside F.Files W.Sink files.old out.old) (outside F.Files W.Sink files.new out.new) }
+    // A typed program that the files tell is checked, unless the output fails or memory is wanting.
+    ensures checks { ChecksTold (texts words.now) result (outside F.Files W.Sink files.old out.old) (outside F.Files W.Sink files.new out.new) }
+    // A program that the files tell is run on a service for it that they tell, unless the output fails or memory is wanting.
+    ensures runs { RunsTold (texts words.now) result (outside F.Files W.Sink files.old out.old) (outside F.Files W.Sink files.new out.new) }
 {
-    match check_name(words) {
-        Some(program) => check(alloc, program, files, out),
-        None => match both_names(words) {
-            Some((program, service)) => both(alloc, program, service, files, out),
-            None => say(Status::Words, b"words not understood\n", out),
-        },
+    texts_have_one_outcome();
+    sources_have_one_outcome();
+    match command_of(words) {
+        Some(command) => carry_out(alloc, &command, files, out),
+        None => say(Status::Words, b"words not understood\n", out),
     }
 }

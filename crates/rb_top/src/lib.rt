@@ -14,17 +14,15 @@ mod reading;
 mod refusals;
 mod request;
 mod run;
-#[cfg(test)]
-mod service_tests;
 mod status;
-#[cfg(test)]
-mod tests;
-#[cfg(test)]
-mod typing_tests;
 mod wire;
+mod words;
 
 pub use answer::first_answer;
 pub use command::top;
+pub use first_form::is_first_program;
 pub use laws::script_is_determined;
+pub use loading::service_for;
 pub use request::first_request;
+pub use run::exchange;
 pub use status::{SourceError, Status, StoreError};

@@ -1,20 +1,20 @@
 // Texts from their files, and the service that a text is.
 
-ghost use Rattle.std.specs.Prelude.{◌≡◌, ℕ, IfOk, IfErr};
+ghost use Rattle.std.specs.Prelude.{◌≡◌, IfOk};
 ghost use Rattle.std.specs.Option.{option_map, IfSome};
 ghost use Rattle.rb_trees.specs.mirror.Declarations.{mirror_program};
 ghost use Rattle.rb_trees.specs.mirror.Services.{mirror_service};
-ghost use Rattle.rb_base.specs.Directories.{told_after, Finds};
 ghost use Rattle.rb_top.specs.FirstForm.{FirstService};
-ghost use Rattle.rb_top.specs.Texts.{has_slash, Fits, TellsService, TellsServiceFor};
-ghost use Rattle.rb_top.specs.Loads.{StopsText, faults_after_load};
+ghost use Rattle.rb_top.specs.Texts.{has_slash, TellsService, TellsServiceFor};
+ghost use Rattle.rb_top.specs.Loads.{LoadsText};
+ghost use Rattle.rb_top.specs.Scene.{directory};
 
 use crate::first_service::read_first_service;
 use crate::offers::offers;
 use crate::refusals::lacks_memory;
 use bytes::BytesMut;
 use rb_base::{Files, FilesStop};
-use rb_lex::lex;
+use rb_lex::{lex, texts_have_one_outcome};
 use rb_trees::{Memory, Program, Service};
 use std::alloc::Global;
 
@@ -32,11 +32,7 @@ pub enum TextStop {
 
 /// The text in a file.
 pub fn load_text<F: Files>(alloc: Global, name: &str, files: &mut F) -> Result<BytesMut, TextStop>
-    ensures finds { IfOk result (λ text. Finds (F.told files.old) name.now text.items) }
-    ensures fits { IfOk result (λ text. Fits text.items) }
-    ensures stops { IfErr result (λ stop. StopsText (F.told files.old) name.now stop) }
-    ensures told { F.told files.new ≡ told_after (F.told files.old) }
-    ensures faults { F.faults files.new ≡ faults_after_load result (F.faults files.old) }
+    ensures { LoadsText (λ text. text.items) name.now result (directory F.Files files.old) (directory F.Files files.new) }
 {
     let mut text = BytesMut::new(alloc);
     match files.read(name, LONGEST_TEXT, &mut text) {
@@ -88,6 +84,7 @@ pub fn service_for(alloc: Global, program: &Program, text: &[u8]) -> Result<Opti
     ensures told { IfOk result (λ r. TellsServiceFor (mirror_program program.now) text.now (option_map mirror_service r)) }
     ensures form { IfOk result (λ r. IfSome r (λ service. FirstService (mirror_service service))) }
 {
+    texts_have_one_outcome();
     match service_in(alloc, text) {
         Err(Memory) => Err(Memory),
         Ok(None) => Ok(None),

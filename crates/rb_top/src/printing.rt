@@ -1,13 +1,12 @@
 // Lines on the output, each handed over whole with its line feed.
 
-ghost use Rattle.std.specs.Prelude.{◌≡◌, ◌∷◌, ◌++◌, [], IfOk, OnOk, OnErr, codes};
+ghost use Rattle.std.specs.Prelude.{◌≡◌, ◌++◌, IfOk, codes};
 ghost use Rattle.std.specs.String.{string_bytes};
 ghost use Rattle.std.specs.Fmt.{decimal, signed_decimal};
-ghost use Rattle.rb_trees.specs.declared.services.Object.{Object};
 ghost use Rattle.rb_meaning.specs.Shown.{line, shown_table};
-ghost use Rattle.rb_base.specs.Sinks.{told_more, WrotePrefix};
-ghost use Rattle.rb_top.specs.Printing.{faults_after_print, end_of, alone};
+ghost use Rattle.rb_top.specs.Printing.{Prints, end_of, alone};
 ghost use Rattle.rb_top.specs.Reading.{lines_of, lines_in};
+ghost use Rattle.rb_top.specs.Scene.{output};
 
 use crate::reading::{read_entries, read_entry};
 use rb_base::{Failed, Sink, write_whole};
@@ -56,9 +55,7 @@ impl From<Memory> for PrintStop {
 
 /// Prints a text.
 pub fn print_text<W: Sink>(text: &[u8], out: &mut W) -> Result<(), PrintStop>
-    ensures ok { OnOk result (W.told out.new ≡ told_more (W.told out.old) text.now) }
-    ensures err { OnErr result (WrotePrefix (W.told out.old) (W.told out.new) text.now) }
-    ensures faults { W.faults out.new ≡ faults_after_print result (W.faults out.old) }
+    ensures { Prints text.now result (output W.Sink out.old) (output W.Sink out.new) }
 {
     match write_whole(out, text) {
         Ok(()) => Ok(()),
@@ -75,9 +72,7 @@ fn number_line(alloc: Global, n: i64) -> Result<String, AllocError>
 
 /// Prints a number.
 fn print_number<W: Sink>(alloc: Global, n: i64, out: &mut W) -> Result<(), PrintStop>
-    ensures ok { OnOk result (W.told out.new ≡ told_more (W.told out.old) (line (signed_decimal n))) }
-    ensures err { OnErr result (WrotePrefix (W.told out.old) (W.told out.new) (line (signed_decimal n))) }
-    ensures faults { W.faults out.new ≡ faults_after_print result (W.faults out.old) }
+    ensures { Prints (line (signed_decimal n)) result (output W.Sink out.old) (output W.Sink out.new) }
 {
     match number_line(alloc, n) {
         Ok(text) => print_text(text.as_bytes(), out),
@@ -93,9 +88,7 @@ fn print_entries<W: Sink>(
     entries: &[u8],
     out: &mut W,
 ) -> Result<(), PrintStop>
-    ensures ok { OnOk result (W.told out.new ≡ told_more (W.told out.old) (lines_of count entries.now)) }
-    ensures err { OnErr result (WrotePrefix (W.told out.old) (W.told out.new) (lines_of count entries.now)) }
-    ensures faults { W.faults out.new ≡ faults_after_print result (W.faults out.old) }
+    ensures { Prints (lines_of count entries.now) result (output W.Sink out.old) (output W.Sink out.new) }
 {
     let mut rest = entries;
     for _entry in 0..count {
@@ -110,9 +103,7 @@ fn print_entries<W: Sink>(
 
 /// Prints the lines that a reply gives.
 pub fn print_reply<W: Sink>(alloc: Global, reply: &[u8], out: &mut W) -> Result<(), PrintStop>
-    ensures ok { OnOk result (W.told out.new ≡ told_more (W.told out.old) (lines_in reply.now)) }
-    ensures err { OnErr result (WrotePrefix (W.told out.old) (W.told out.new) (lines_in reply.now)) }
-    ensures faults { W.faults out.new ≡ faults_after_print result (W.faults out.old) }
+    ensures { Prints (lines_in reply.now) result (output W.Sink out.old) (output W.Sink out.new) }
 {
     match read_entries(reply) {
         None => Ok(()),
@@ -129,9 +120,7 @@ fn exchanges_line(alloc: Global) -> Result<String, AllocError>
 }
 
 fn print_exchanges<W: Sink>(alloc: Global, out: &mut W) -> Result<(), PrintStop>
-    ensures ok { OnOk result (W.told out.new ≡ told_more (W.told out.old) (line (codes "exchanges " ++ decimal 1))) }
-    ensures err { OnErr result (WrotePrefix (W.told out.old) (W.told out.new) (line (codes "exchanges " ++ decimal 1))) }
-    ensures faults { W.faults out.new ≡ faults_after_print result (W.faults out.old) }
+    ensures { Prints (line (codes "exchanges " ++ decimal 1)) result (output W.Sink out.old) (output W.Sink out.new) }
 {
     match exchanges_line(alloc) {
         Ok(text) => print_text(text.as_bytes(), out),
@@ -160,9 +149,7 @@ fn object_line(alloc: Global, class: &[u8]) -> Result<Vec<u8>, AllocError>
 }
 
 fn print_object<W: Sink>(alloc: Global, class: &[u8], out: &mut W) -> Result<(), PrintStop>
-    ensures ok { OnOk result (W.told out.new ≡ told_more (W.told out.old) (shown_table 0 (alone class.now))) }
-    ensures err { OnErr result (WrotePrefix (W.told out.old) (W.told out.new) (shown_table 0 (alone class.now))) }
-    ensures faults { W.faults out.new ≡ faults_after_print result (W.faults out.old) }
+    ensures { Prints (shown_table 0 (alone class.now)) result (output W.Sink out.old) (output W.Sink out.new) }
 {
     match object_line(alloc, class) {
         Ok(text) => print_text(text.as_slice(), out),
@@ -173,9 +160,7 @@ fn print_object<W: Sink>(alloc: Global, class: &[u8], out: &mut W) -> Result<(),
 /// Prints what follows the lines of a run that ends well after one exchange, over a table of one
 /// object of a class, without fields.
 pub fn print_end<W: Sink>(alloc: Global, class: &[u8], out: &mut W) -> Result<(), PrintStop>
-    ensures ok { OnOk result (W.told out.new ≡ told_more (W.told out.old) (end_of (alone class.now))) }
-    ensures err { OnErr result (WrotePrefix (W.told out.old) (W.told out.new) (end_of (alone class.now))) }
-    ensures faults { W.faults out.new ≡ faults_after_print result (W.faults out.old) }
+    ensures { Prints (end_of (alone class.now)) result (output W.Sink out.old) (output W.Sink out.new) }
 {
     print_text(b"done\n", out)?;
     print_exchanges(alloc, out)?;

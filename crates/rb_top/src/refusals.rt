@@ -1,11 +1,14 @@
 // The lines of refusals.
 
 ghost use Rattle.std.specs.Prelude.{◌≡◌, ◌++◌, IfOk, codes};
+ghost use Rattle.std.specs.Option.{is_none};
 ghost use Rattle.std.specs.String.{string_bytes};
 ghost use Rattle.std.specs.Fmt.{decimal};
+ghost use Rattle.rb_trees.specs.Reading.{lex_refusal, read_refusal};
 ghost use Rattle.rb_meaning.specs.Shown.{line};
+ghost use Rattle.rb_meaning_types.specs.Violations.{violation_of};
 ghost use Rattle.rb_top.specs.Refusals.{lex_heading, heading, lex_offset, offset, violation_heading, violation_offset, shown_at, shown_refusal, shown_violation};
-ghost use Rattle.rb_top.specs.Texts.{Fits, lacks_memory, wants_memory, no_violation};
+ghost use Rattle.rb_top.specs.Texts.{WithinLength};
 
 use rb_base::place;
 use rb_trees::{LexError, ReadError, TypeError};
@@ -13,7 +16,7 @@ use std::alloc::{AllocError, Global};
 
 /// Whether there are no tokens for want of memory.
 pub fn lacks_memory(fault: &LexError) -> bool
-    ensures { result ≡ lacks_memory fault.now }
+    ensures { result ≡ is_none (lex_refusal fault.now) }
 {
     match fault {
         LexError::Memory => true,
@@ -23,19 +26,17 @@ pub fn lacks_memory(fault: &LexError) -> bool
 
 /// Whether this is want of memory, which is no refusal of a text.
 pub fn is_memory(error: &ReadError) -> bool
-    ensures { result ≡ wants_memory error.now }
+    ensures { result ≡ is_none (read_refusal error.now) }
 {
     match error {
-        ReadError::Lex(fault) => lacks_memory(fault),
-        ReadError::Unexpected(_) => false,
-        ReadError::TooNested(_) => false,
         ReadError::Memory => true,
+        _ => false,
     }
 }
 
 /// Whether this is want of memory, which is no violation of a program's.
 pub fn is_no_violation(error: &TypeError) -> bool
-    ensures { result ≡ no_violation error.now }
+    ensures { result ≡ is_none (violation_of error.now) }
 {
     match error {
         TypeError::Memory => true,
@@ -162,7 +163,7 @@ fn line_at(alloc: Global, heading: &str, place: &[u8]) -> Result<Vec<u8>, AllocE
 
 /// The line of what is refused at an offset of a text.
 fn line_in(alloc: Global, text: &[u8], heading: &str, at: u32) -> Result<Vec<u8>, AllocError>
-    requires { Fits text.now }
+    requires { WithinLength text.now }
     ensures { IfOk result (λ shown. shown.items ≡ line (shown_at text.now heading.now at)) }
 {
     let at = at.min(text.len() as u32);
@@ -173,7 +174,7 @@ fn line_in(alloc: Global, text: &[u8], heading: &str, at: u32) -> Result<Vec<u8>
 
 /// The line that shows a refusal of a text.
 pub fn refusal_line(alloc: Global, text: &[u8], error: &ReadError) -> Result<Vec<u8>, AllocError>
-    requires { Fits text.now }
+    requires { WithinLength text.now }
     ensures { IfOk result (λ shown. shown.items ≡ line (shown_refusal text.now error.now)) }
 {
     line_in(alloc, text, heading(error), offset(error))
@@ -181,7 +182,7 @@ pub fn refusal_line(alloc: Global, text: &[u8], error: &ReadError) -> Result<Vec
 
 /// The line that shows a violation in a text.
 pub fn violation_line(alloc: Global, text: &[u8], error: &TypeError) -> Result<Vec<u8>, AllocError>
-    requires { Fits text.now }
+    requires { WithinLength text.now }
     ensures { IfOk result (λ shown. shown.items ≡ line (shown_violation text.now error.now)) }
 {
     line_in(

@@ -1,13 +1,13 @@
 // A run of a straight batch, from the program and the service to the lines.
 
-ghost use Rattle.std.specs.Prelude.{◌≡◌, ◌++◌, ℕ, List, map, IfOk, OnOk, OnErr};
+ghost use Rattle.std.specs.Prelude.{◌≡◌, ◌++◌, map, IfOk};
 ghost use Rattle.rb_trees.specs.mirror.Declarations.{mirror_program, mirror_class};
 ghost use Rattle.rb_trees.specs.mirror.Services.{mirror_service};
-ghost use Rattle.rb_base.specs.Sinks.{told_more, WrotePrefix};
 ghost use Rattle.rb_top.specs.FirstForm.{FirstProgram, FirstService, Offers, class_name_of};
-ghost use Rattle.rb_top.specs.Printing.{faults_after_print, alone, end_of};
+ghost use Rattle.rb_top.specs.Printing.{Prints, PrintsRun, alone, end_of};
 ghost use Rattle.rb_top.specs.Reading.{lines_in};
-ghost use Rattle.rb_top.specs.Runs.{reply_of, run_text};
+ghost use Rattle.rb_top.specs.Runs.{reply_of};
+ghost use Rattle.rb_top.specs.Scene.{output};
 
 use crate::answer::first_answer;
 use crate::printing::{PrintStop, print_end, print_reply};
@@ -54,9 +54,7 @@ pub fn run_both<W: Sink>(
     requires program { FirstProgram (mirror_program program.now) }
     requires service { FirstService (mirror_service service.now) }
     requires offers { Offers (mirror_program program.now) (mirror_service service.now) }
-    ensures ok { OnOk result ((source : List ℕ) (fuel : ℕ) → W.told out.new ≡ told_more (W.told out.old) (run_text source fuel (mirror_program program.now) (mirror_service service.now))) }
-    ensures err { OnErr result ((source : List ℕ) (fuel : ℕ) → WrotePrefix (W.told out.old) (W.told out.new) (run_text source fuel (mirror_program program.now) (mirror_service service.now))) }
-    ensures faults { W.faults out.new ≡ faults_after_print result (W.faults out.old) }
+    ensures { PrintsRun (mirror_program program.now) (mirror_service service.now) result (output W.Sink out.old) (output W.Sink out.new) }
 {
     match exchange(alloc, program, service) {
         Ok(reply) => print_run(alloc, reply.as_slice(), class_name(service), out),
@@ -71,9 +69,7 @@ fn print_run<W: Sink>(
     class: &[u8],
     out: &mut W,
 ) -> Result<(), PrintStop>
-    ensures ok { OnOk result (W.told out.new ≡ told_more (W.told out.old) (lines_in reply.now ++ end_of (alone class.now))) }
-    ensures err { OnErr result (WrotePrefix (W.told out.old) (W.told out.new) (lines_in reply.now ++ end_of (alone class.now))) }
-    ensures faults { W.faults out.new ≡ faults_after_print result (W.faults out.old) }
+    ensures { Prints (lines_in reply.now ++ end_of (alone class.now)) result (output W.Sink out.old) (output W.Sink out.new) }
 {
     print_reply(alloc, reply, out)?;
     print_end(alloc, class, out)

@@ -1,3 +1,5 @@
+// The files of the system.
+
 ghost use Rattle.std.specs.Prelude.{◌≡◌, ◌+◌, ◌≤◌, length, OnOk, IfOk, OnErr};
 ghost use Rattle.std.specs.Io.{StartsWith};
 
@@ -17,7 +19,9 @@ pub struct RealFiles<'a, R: rt::Files> {
 
 impl<'a, R: rt::Files> RealFiles<'a, R> {
     /// The files of a runtime, of which no read failed so far.
-    pub fn make(runtime: &'a R) -> RealFiles<'a, R> {
+    pub fn make(runtime: &'a R) -> RealFiles<'a, R>
+        ensures { result.faults ≡ 0 }
+    {
         RealFiles { runtime, faults: 0 }
     }
 }

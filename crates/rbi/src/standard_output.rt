@@ -1,3 +1,7 @@
+// The output of the system.
+
+ghost use Rattle.std.specs.Prelude.{◌≡◌};
+
 use rb_base::{Failed, Sink};
 
 /// Standard output.
@@ -11,7 +15,9 @@ pub struct StandardOutput<'a, P: Print> {
 
 impl<'a, P: Print> StandardOutput<'a, P> {
     /// A runtime's standard output, of which no write failed so far.
-    pub fn make(runtime: &'a P) -> StandardOutput<'a, P> {
+    pub fn make(runtime: &'a P) -> StandardOutput<'a, P>
+        ensures { result.faults ≡ 0 }
+    {
         StandardOutput { runtime, faults: 0 }
     }
 }

@@ -1,29 +1,28 @@
-use Rattle.std.proofs.Common.{map}
-use Rattle.std.specs.String.{string_bytes}
-use Rattle.rb_top.proofs.OneAnswer.{runs_so}
-use Rattle.rb_top.proofs.Said.{check_says, named_says, not_understood}
+use Rattle.std.proofs.Common.{refl}
+use Rattle.rb_top.specs.Scene.{outside}
+use Rattle.rb_top.specs.Words.{texts}
+use Rattle.rb_top.proofs.OneAnswer.{checks_told, runs_told}
+use Rattle.rb_top.proofs.Said.{said_of, not_understood}
 use Rattle.rb_top.proofs.command.top.Goals as goal
 
 pub returns-in-Some-clause-answer : goal.returns-in-Some-clause-answer
-returns-in-Some-clause-answer g c = λ fuel. check_says fuel _ (map string_bytes c.args.words.now) c.in-Some.program.now _ _ c.check.result _ _ c.in-Some.ensures (c.check.ensures.answer fuel)
+returns-in-Some-clause-answer g c = said_of _ _ _ _ _ c.in-Some.ensures c.carry_out.ensures
 
-pub returns-in-Some-both_names-clause-answer : goal.returns-in-Some-both_names-clause-answer
-returns-in-Some-both_names-clause-answer g c = λ fuel. named_says fuel _ (map string_bytes c.args.words.now) c.in-Some-both_names.program.now c.in-Some-both_names.service.now _ _ c.both.result _ _ c.in-Some-both_names.ensures (c.both.ensures.answer fuel)
-
-pub returns-in-None-both_names-clause-answer : goal.returns-in-None-both_names-clause-answer
-returns-in-None-both_names-clause-answer g c = λ fuel. not_understood fuel _ (map string_bytes c.args.words.now) _ _ c.say.result _ c.in-None.ensures c.in-None-both_names.ensures c.say.ensures.ends
+pub returns-in-Some-clause-checks : goal.returns-in-Some-clause-checks
+returns-in-Some-clause-checks g c = checks_told c.sources_have_one_outcome.ensures _ _ _ _ (said_of _ _ _ _ _ c.in-Some.ensures c.carry_out.ensures)
 
 pub returns-in-Some-clause-runs : goal.returns-in-Some-clause-runs
-returns-in-Some-clause-runs g c = λ fuel p s directory text other program service w t h.
-    runs_so fuel _ (map string_bytes c.args.words.now) p s _ _ _ _ c.check.result directory text other program service
-    (check_says fuel _ (map string_bytes c.args.words.now) c.in-Some.program.now _ _ c.check.result _ _ c.in-Some.ensures (c.check.ensures.answer fuel)) w t h
+returns-in-Some-clause-runs g c = runs_told c.sources_have_one_outcome.ensures c.texts_have_one_outcome.ensures _ _ _ _ (said_of _ _ _ _ _ c.in-Some.ensures c.carry_out.ensures)
 
-pub returns-in-Some-both_names-clause-runs : goal.returns-in-Some-both_names-clause-runs
-returns-in-Some-both_names-clause-runs g c = λ fuel p s directory text other program service w t h.
-    runs_so fuel _ (map string_bytes c.args.words.now) p s _ _ _ _ c.both.result directory text other program service
-    (named_says fuel _ (map string_bytes c.args.words.now) c.in-Some-both_names.program.now c.in-Some-both_names.service.now _ _ c.both.result _ _ c.in-Some-both_names.ensures (c.both.ensures.answer fuel)) w t h
+pub returns-in-None-clause-answer : goal.returns-in-None-clause-answer
+returns-in-None-clause-answer g c = not_understood (texts c.args.words.now) c.say.result _ _ c.in-None.ensures c.say.ensures refl
 
-pub returns-in-None-both_names-clause-runs : goal.returns-in-None-both_names-clause-runs
-returns-in-None-both_names-clause-runs g c = λ fuel p s directory text other program service w t h.
-    runs_so fuel _ (map string_bytes c.args.words.now) p s _ _ (g.F.Files.faults c.args.files.now) _ c.say.result directory text other program service
-    (not_understood fuel _ (map string_bytes c.args.words.now) _ (g.F.Files.faults c.args.files.now) c.say.result _ c.in-None.ensures c.in-None-both_names.ensures c.say.ensures.ends) w t h
+pub returns-in-None-clause-checks : goal.returns-in-None-clause-checks
+returns-in-None-clause-checks g c =
+    checks_told c.sources_have_one_outcome.ensures (texts c.args.words.now) c.say.result (outside g.F.Files g.W.Sink c.args.files.now c.args.out.now) (outside g.F.Files g.W.Sink c.args.files.now c.say.new.out)
+    (not_understood (texts c.args.words.now) c.say.result _ _ c.in-None.ensures c.say.ensures refl)
+
+pub returns-in-None-clause-runs : goal.returns-in-None-clause-runs
+returns-in-None-clause-runs g c =
+    runs_told c.sources_have_one_outcome.ensures c.texts_have_one_outcome.ensures (texts c.args.words.now) c.say.result (outside g.F.Files g.W.Sink c.args.files.now c.args.out.now) (outside g.F.Files g.W.Sink c.args.files.now c.say.new.out)
+    (not_understood (texts c.args.words.now) c.say.result _ _ c.in-None.ensures c.say.ensures refl)

@@ -12,4 +12,4 @@ returns-then-offers-clause-form c = formed_service c.args.text.now (mirror_servi
 
 pub returns-else-offers-clause-told : goal.returns-else-offers-clause-told
 returns-else-offers-clause-told c =
-    lacking_service c.args.text.now (mirror_program c.args.program.now) (mirror_service c.in-Ok-Some.service) (rw c.in-Ok-Some.field-0-is at c.in-Ok-Some.ensures) (sym c.offers.ensures ∙ c.if-offers.false)
+    lacking_service c.texts_have_one_outcome.ensures c.args.text.now (mirror_program c.args.program.now) (mirror_service c.in-Ok-Some.service) (rw c.in-Ok-Some.field-0-is at c.in-Ok-Some.ensures) (sym c.offers.ensures ∙ c.if-offers.false)

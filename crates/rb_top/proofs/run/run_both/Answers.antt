@@ -5,21 +5,13 @@ use Rattle.rb_top.specs.Reading.{lines_in}
 use Rattle.rb_top.specs.Printing.{alone, end_of}
 use Rattle.rb_top.specs.Runs.{run_text}
 use Rattle.rb_top.proofs.Replayed.{text_is}
-use Rattle.rb_top.proofs.Printed.{ok_said, err_said}
+use Rattle.rb_top.proofs.Printed.{prints_said}
 use Rattle.rb_top.proofs.run.run_both.Goals as goal
 
-pub returns-in-Ok-clause-ok : goal.returns-in-Ok-clause-ok
-returns-in-Ok-clause-ok g c =
+pub returns-in-Ok : goal.returns-in-Ok
+returns-in-Ok g c =
     let p = mirror_program c.args.program.now in
     let s = mirror_service c.args.service.now in
-    ok_said _ _ _ (lines_in c.as_slice.result.now ++ end_of (alone c.class_name.result.now)) (λ source fuel. run_text source fuel p s)
+    prints_said _ _ _ (lines_in c.as_slice.result.now ++ end_of (alone c.class_name.result.now)) (λ source fuel. run_text source fuel p s)
     (text_is p c.requires.program s c.requires.service c.requires.offers c.as_slice.result.now c.class_name.result.now (c.as_slice.ensures ∙ c.in-Ok.ensures) c.class_name.ensures)
-    c.print_run.ensures.ok
-
-pub returns-in-Ok-clause-err : goal.returns-in-Ok-clause-err
-returns-in-Ok-clause-err g c =
-    let p = mirror_program c.args.program.now in
-    let s = mirror_service c.args.service.now in
-    err_said _ _ _ (lines_in c.as_slice.result.now ++ end_of (alone c.class_name.result.now)) (λ source fuel. run_text source fuel p s)
-    (text_is p c.requires.program s c.requires.service c.requires.offers c.as_slice.result.now c.class_name.result.now (c.as_slice.ensures ∙ c.in-Ok.ensures) c.class_name.ensures)
-    c.print_run.ensures.err
+    c.print_run.ensures

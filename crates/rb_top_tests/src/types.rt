@@ -1,5 +1,5 @@
 // Which programs are typed, and which violation is the first, by rows of texts.
-use crate::tests::checked;
+use crate::answers::checked;
 use std::alloc::Global;
 use std::test::Fail;
 

@@ -2,7 +2,7 @@ use Rattle.std.proofs.Common.{◌≡◌, List, [], ◌∷◌, ◌++◌, Bool, fa
 use Rattle.std.specs.List.{IsDistinct, AllByRecursion}
 use Rattle.rb_trees.specs.mirror.Declarations.{Program}
 use Rattle.rb_meaning_types.specs.Lawful.{IsLawful, IsLawfulService, classes_positions}
-use Rattle.rb_top.proofs.service_tests.violation.Goals as goal
+use Rattle.rb_top_tests.proofs.service_classes.violation.Goals as goal
 
 apart_front : {A : Type 0} (e : A → A → Bool) (x : A) (xs ys : List A) → AllByRecursion (λ y. e x y ≡ false) (xs ++ ys) → AllByRecursion (λ y. e x y ≡ false) xs
 apart_front e x [] ys h = tt

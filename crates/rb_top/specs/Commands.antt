@@ -1,0 +1,71 @@
+-- What the parts of the commands answer.
+use Rattle.std.specs.Prelude.{◌≡◌, ℕ, List, Option, None, Some, Result, Ok, Err}
+use Rattle.rb_trees.specs.declared.reading.ReadError.{ReadError}
+use Rattle.rb_trees.specs.declared.typing.TypeError.{TypeError}
+use Rattle.rb_trees.specs.mirror.Declarations.{Program}
+use Rattle.rb_trees.specs.Reading.{read_refusal}
+use Rattle.rb_meaning.specs.Shown.{line}
+use Rattle.rb_meaning_types.specs.Violations.{violation_of}
+use Rattle.rb_base.specs.Devices.{Device}
+use Rattle.rb_base.specs.Directories.{Directory, read_once}
+use Rattle.rb_top.specs.Answers.{Ends, Says, fault_line, too_long_line}
+use Rattle.rb_top.specs.Loads.{HoldsProgram}
+use Rattle.rb_top.specs.Refusals.{shown_refusal, shown_violation}
+use Rattle.rb_top.specs.Scene.{Scene}
+use Rattle.rb_top.specs.Words.{both_words, NamesProgram, words_of, program_of}
+use Rattle.rb_top.specs.declared.words.Command.{Command}
+use Rattle.rb_top.specs.declared.loading.TextStop.{TextStop}
+use Rattle.rb_top.specs.declared.loading.TextStop.TheVariants as stops
+use Rattle.rb_top.specs.declared.printing.PrintStop.{PrintStop}
+use Rattle.rb_top.specs.declared.printing.PrintStop.TheVariants as print
+use Rattle.rb_top.specs.declared.status.SourceError.TheVariants as sources
+use Rattle.rb_top.specs.declared.status.Status.{Status}
+use Rattle.rb_top.specs.declared.status.Status.TheVariants.{FileFault, SourceRefused, WriteFault, Memory, FileTooLong}
+
+-- the status after a text was printed, or wasn't
+abbrev pub status_after : {A : Type 0} → Status → Result A PrintStop → Status
+status_after status (Ok a) = status
+status_after status (Err print.WriteFault) = WriteFault
+status_after status (Err print.Memory) = Memory
+
+-- No memory was left, and nothing was printed.
+abbrev pub Starves : Status → Device (List ℕ) → Device (List ℕ) → Type 0
+Starves result before after = (result ≡ Memory) × (after ≡ before)
+
+-- No text was read from the file of the name, for this cause, and that was said.
+abbrev pub EndsUnread : TextStop → List ℕ → Status → Device (List ℕ) → Device (List ℕ) → Type 0
+EndsUnread stops.FileFault name result before after = Ends (FileFault name) (fault_line name) result before after
+EndsUnread stops.TooLong name result before after = Ends (FileTooLong name) (too_long_line name) result before after
+EndsUnread stops.Memory name result before after = Starves result before after
+
+-- There was a refusal, and this was to be printed and answered; or memory was wanting.
+abbrev pub EndsWith : {D : Type 0} → Option D → Status → List ℕ → Status → Device (List ℕ) → Device (List ℕ) → Type 0
+EndsWith None status text result before after = Starves result before after
+EndsWith (Some refusal) status text result before after = Ends status text result before after
+
+-- The text is refused, and that was said, unless memory was wanting.
+abbrev pub EndsRefused : List ℕ → ReadError → Status → Device (List ℕ) → Device (List ℕ) → Type 0
+EndsRefused text error = EndsWith (read_refusal error) (SourceRefused (sources.Read error)) (line (shown_refusal text error))
+
+-- The program in the text has this violation, and that was said, unless memory was wanting.
+abbrev pub EndsUntyped : List ℕ → TypeError → Status → Device (List ℕ) → Device (List ℕ) → Type 0
+EndsUntyped text error = EndsWith (violation_of error) (SourceRefused (sources.Types error)) (line (shown_violation text error))
+
+-- A command that names this program is answered so, before it is known whether the program is typed.
+abbrev pub SaysFirst : List ℕ → Status → Scene → Scene → Type 0
+SaysFirst p result before after = (words : List (List ℕ)) → NamesProgram words p → Says words result before after
+
+-- The file of the name was read as a typed program; or it was said why there is none.
+abbrev pub LoadsProgram : {X : Type 0} → (X → Program) → List ℕ → Result X Status → Scene → Scene → Type 0
+LoadsProgram view p (Ok x) before after = HoldsProgram before.files.told p (view x) × (after ≡ record before { files = read_once before.files })
+LoadsProgram view p (Err status) before after = SaysFirst p status before after
+
+-- The command `both P S` is answered so, its program read from P before.
+abbrev pub RunsOn : Program → List ℕ → Status → Scene → Scene → Type 0
+RunsOn program s result before after = (p : List ℕ) (first : Device Directory) → before.files ≡ read_once first → HoldsProgram first.told p program
+    → Says (both_words p s) result (record before { files = first }) after
+
+-- The command is answered so, its program read before.
+abbrev pub GoesOn : Program → Command → Status → Scene → Scene → Type 0
+GoesOn program command result before after = (first : Device Directory) → before.files ≡ read_once first → HoldsProgram first.told (program_of command) program
+    → Says (words_of command) result (record before { files = first }) after

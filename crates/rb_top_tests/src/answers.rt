@@ -1,0 +1,62 @@
+// What the commands answer on texts, and rows of such answers.
+use rb_base::{MemoryFiles, MemorySink};
+use rb_top::top;
+use rb_trees::{Memory, Seq};
+use std::alloc::Global;
+use std::test::Fail;
+
+/// A program of the form that is built.
+pub const PROGRAM: &str = "interface D { fun n(): Int; } main { batch (D r) { print(r.n()); } }";
+
+/// A service for it.
+pub const SERVICE: &str = "class D { fun n(): Int { return 7; } } object 0: D { } root 0;";
+
+/// What follows the lines of a run.
+pub const TAIL: &str = "done\nexchanges 1\nobject 0: D { }\n";
+
+/// The words of a text, which single spaces part.
+pub fn words_of(alloc: Global, text: &str) -> Result<Vec<String>, Fail> {
+    let mut words = Vec::new(alloc);
+    for word in text.split(' ') {
+        words.push(String::from_str(alloc, word)?)?;
+    }
+    Ok(words)
+}
+
+/// The files `p` and `s`, where there is a text for them.
+pub fn files_of(
+    alloc: Global,
+    program: Option<&str>,
+    service: Option<&str>,
+) -> Result<MemoryFiles, Memory> {
+    let mut files = MemoryFiles::make(alloc, Seq::new(alloc));
+    if let Some(text) = program {
+        files.add("p", text.as_bytes())?;
+    }
+    if let Some(text) = service {
+        files.add("s", text.as_bytes())?;
+    }
+    Ok(files)
+}
+
+/// The exit status of the command that the words are, before what it prints.
+pub fn answer(alloc: Global, words: &str, mut files: MemoryFiles) -> Result<String, Fail> {
+    let words = words_of(alloc, words)?;
+    let mut out = MemorySink::make(alloc, Seq::new(alloc), usize::MAX);
+    let code = top(alloc, words.as_slice(), &mut files, &mut out).code();
+    let text = str::from_utf8(out.written())?;
+    let shown = format!(in alloc; "{code} {text}")?;
+    Ok(shown)
+}
+
+/// What `both p s` answers on two texts.
+pub fn shown(alloc: Global, program: Option<&str>, service: Option<&str>) -> Result<String, Fail> {
+    answer(alloc, "both p s", files_of(alloc, program, service)?)
+}
+
+/// What `check p` answers on a text.
+pub fn checked(alloc: Global, text: &[u8]) -> Result<String, Fail> {
+    let mut files = MemoryFiles::make(alloc, Seq::new(alloc));
+    files.add("p", text)?;
+    answer(alloc, "check p", files)
+}

@@ -1,0 +1,116 @@
+// What the commands answer where files, words or the output fail.
+use crate::answers::{PROGRAM, SERVICE, answer, files_of, shown, words_of};
+use bytes::BytesMut;
+use rb_base::{Files, FilesStop, MemoryFiles, MemorySink};
+use rb_top::top;
+use rb_trees::Seq;
+use std::alloc::Global;
+use std::test::Fail;
+
+#[test]
+fn long_files_are_named(rt: HostRuntime) -> Result<(), Fail> {
+    let alloc = rt.alloc();
+    let long = vec![in alloc; b'/'; 1_048_577]?;
+    let text = str::from_utf8(long.as_slice())?;
+    for (program, service, wanted) in [
+        (Some(text), None, "13 file too long p\n"),
+        (Some(PROGRAM), Some(text), "13 file too long s\n"),
+        (Some("main { }"), Some(text), "4 not built\n"),
+    ] {
+        assert_eq!(rt; shown(alloc, program, service)?.as_str(), wanted);
+    }
+    Ok(())
+}
+
+#[test]
+fn missing_files_are_named_in_order(rt: HostRuntime) -> Result<(), Fail> {
+    for (program, service, wanted) in [
+        (None, Some(SERVICE), "3 file fault p\n"),
+        (None, None, "3 file fault p\n"),
+        (Some(PROGRAM), None, "3 file fault s\n"),
+        (Some("main { }"), None, "4 not built\n"),
+    ] {
+        assert_eq!(rt; shown(rt.alloc(), program, service)?.as_str(), wanted);
+    }
+    let files = files_of(rt.alloc(), None, None)?;
+    assert_eq!(rt;
+        answer(rt.alloc(), "check q", files)?.as_str(),
+        "3 file fault q\n"
+    );
+    Ok(())
+}
+
+#[test]
+fn no_service_is_read_without_a_program(rt: HostRuntime) -> Result<(), Fail> {
+    let alloc = rt.alloc();
+    let words = words_of(alloc, "both p s")?;
+    // The second read fails, so that it shows how many were made.
+    let mut files = MemoryFiles::make(alloc, Seq::from_slice(alloc, &[2])?);
+    files.add("s", SERVICE.as_bytes())?;
+    let mut out = MemorySink::make(alloc, Seq::new(alloc), usize::MAX);
+    assert_eq!(rt;
+        top(alloc, words.as_slice(), &mut files, &mut out).code(),
+        3
+    );
+    assert_eq!(rt; out.written(), b"file fault p\n".as_slice());
+    let mut text = BytesMut::new(alloc);
+    assert!(rt; matches!(files.read("s", 99, &mut text), Err(FilesStop::Failed)));
+    files.read("s", 99, &mut text)?;
+    assert_eq!(rt; text.as_slice(), SERVICE.as_bytes());
+    Ok(())
+}
+
+#[test]
+fn other_words_are_not_understood(rt: HostRuntime) -> Result<(), Fail> {
+    let alloc = rt.alloc();
+    for text in [
+        "both p",
+        "both",
+        "Both p s",
+        "both p s s",
+        "p both s",
+        "check",
+        "check p s",
+        "Check p",
+    ] {
+        let words = words_of(alloc, text)?;
+        let mut files = files_of(alloc, Some(PROGRAM), Some(SERVICE))?;
+        let mut out = MemorySink::make(alloc, Seq::new(alloc), usize::MAX);
+        assert_eq!(rt;
+            top(alloc, words.as_slice(), &mut files, &mut out).code(),
+            2,
+            "{text}"
+        );
+        assert_eq!(rt;
+            out.written(),
+            b"words not understood\n".as_slice(),
+            "{text}"
+        );
+    }
+    Ok(())
+}
+
+#[test]
+fn lines_before_a_failed_write_stand(rt: HostRuntime) -> Result<(), Fail> {
+    let alloc = rt.alloc();
+    let words = words_of(alloc, "both p s")?;
+    for (failing, most, code, wanted) in [
+        (1, usize::MAX, 9, ""),
+        (2, usize::MAX, 9, "7\n"),
+        (3, usize::MAX, 9, "7\ndone\n"),
+        (4, usize::MAX, 9, "7\ndone\nexchanges 1\n"),
+        (5, usize::MAX, 0, "7\ndone\nexchanges 1\nobject 0: D { }\n"),
+        (99, 1, 0, "7\ndone\nexchanges 1\nobject 0: D { }\n"),
+        (4, 1, 9, "7\nd"),
+    ] {
+        let mut files = files_of(alloc, Some(PROGRAM), Some(SERVICE))?;
+        let mut out = MemorySink::make(alloc, Seq::from_slice(alloc, &[failing])?, most);
+        assert_eq!(rt;
+            top(alloc, words.as_slice(), &mut files, &mut out).code(),
+            code,
+            "{failing}"
+        );
+        assert_eq!(rt; out.written(), wanted.as_bytes(), "{failing}");
+    }
+    Ok(())
+}

@@ -1,0 +1,17 @@
+//! Tests of the commands, by rows of texts.
+#![tactic(auto)]
+
+#[cfg(test)]
+mod answers;
+#[cfg(test)]
+mod checks;
+#[cfg(test)]
+mod faults;
+#[cfg(test)]
+mod payloads;
+#[cfg(test)]
+mod runs;
+#[cfg(test)]
+mod service_classes;
+#[cfg(test)]
+mod types;
