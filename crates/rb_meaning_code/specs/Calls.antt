@@ -1,10 +1,6 @@
 -- Calls of methods of the own side: what is checked, in which order, and what a body begins with.
 use Rattle.std.specs.Prelude.{ℕ, zero, suc, ◌+◌, List, ◌∷◌, length, nat_eq, nat_lt, Option, Result, Ok, Err, option_and_then, slice_get}
-<<<<<<< HEAD
-use Rattle.rb_trees.specs.Named.{first_named}
-=======
 use Rattle.rb_trees.specs.Classes.{method_of_class}
->>>>>>> 811122b43e064e5b935b6295e96fd487e0a5a613
 use Rattle.rb_trees.specs.Outcome.{known, must, ◌>>=◌, ◌>>◌}
 use Rattle.rb_trees.specs.declared.values.Value.{Value, out-Value}
 use Rattle.rb_trees.specs.declared.values.Value.TheOpen.{Value-F}
@@ -14,11 +10,7 @@ use Rattle.rb_trees.specs.mirror.Declarations.{Body, Class, Method, Param}
 use Rattle.rb_meaning_code.specs.Faults.{fuel_used, too_deep, kind, raises}
 use Rattle.rb_meaning_code.specs.State.{Names, Local, this_name, spent}
 use Rattle.rb_meaning_code.specs.Dialogue.{Invoke, Done, Ask, Outcome, Gave, Faulted, Run, seq, next, end}
-<<<<<<< HEAD
-use Rattle.rb_meaning_code.specs.Objects.{matched, class_named}
-=======
 use Rattle.rb_meaning_code.specs.Objects.{matched}
->>>>>>> 811122b43e064e5b935b6295e96fd487e0a5a613
 
 -- the greatest number of calls of one side that are active within each other
 abbrev pub deepest_call : ℕ
@@ -29,15 +21,6 @@ pub record Bodies : Type 0 where
   pub classes : List Class
   pub run : Body → Local → Run Value
 
-<<<<<<< HEAD
-abbrev pub method_named : List Method → List ℕ → Option Method
-method_named methods name = first_named (λ m. m.signature.name) methods name
-
-abbrev pub method_of_class : List Class → List ℕ → List ℕ → Option Method
-method_of_class classes class name = option_and_then (λ c. method_named c.methods name) (class_named classes class)
-
-=======
->>>>>>> 811122b43e064e5b935b6295e96fd487e0a5a613
 -- the method of an object, by its name
 abbrev pub method_of : List Class → List Object → ℕ → List ℕ → Option Method
 method_of classes heap object name = option_and_then (λ o. method_of_class classes o.class name) (slice_get heap object)

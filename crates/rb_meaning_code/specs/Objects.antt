@@ -1,10 +1,6 @@
 -- Objects of running code: new ones, and their fields.
 use Rattle.std.specs.Prelude.{ℕ, List, [], ◌∷◌, length, nat_eq, Option, Result, Ok, Err}
-<<<<<<< HEAD
-use Rattle.rb_trees.specs.Named.{first_named}
-=======
 use Rattle.rb_trees.specs.Classes.{class_named}
->>>>>>> 811122b43e064e5b935b6295e96fd487e0a5a613
 use Rattle.rb_trees.specs.Objects.{field_value, with_field_value}
 use Rattle.rb_trees.specs.Outcome.{known, must, ◌>>=◌, ◌>>◌}
 use Rattle.rb_trees.specs.declared.values.Value.{Value}
@@ -21,12 +17,6 @@ matched [] values = []
 matched (p ∷ ps) [] = []
 matched (p ∷ ps) (v ∷ vs) = (p.name, v) ∷ matched ps vs
 
-<<<<<<< HEAD
-abbrev pub class_named : List Class → List ℕ → Option Class
-class_named classes name = first_named (λ c. c.name) classes name
-
-=======
->>>>>>> 811122b43e064e5b935b6295e96fd487e0a5a613
 -- an object of a class with values for its fields, in order of declaration
 abbrev pub object_of : List Class → List ℕ → List Value → Result Object Fault
 object_of classes name values = known kind (class_named classes name) >>= λ c.
