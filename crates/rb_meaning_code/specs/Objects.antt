@@ -1,5 +1,5 @@
 -- Objects of running code: new ones, and their fields.
-use Rattle.std.specs.Prelude.{ℕ, List, [], ◌∷◌, length, nat_eq, Option, Result, Ok, Err}
+use Rattle.std.specs.Prelude.{ℕ, List, [], ◌∷◌, length, nat_eq, Result, Ok, Err}
 use Rattle.rb_trees.specs.Classes.{class_named}
 use Rattle.rb_trees.specs.Objects.{field_value, with_field_value}
 use Rattle.rb_trees.specs.Outcome.{known, must, ◌>>=◌, ◌>>◌}
