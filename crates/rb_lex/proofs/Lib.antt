@@ -2,6 +2,7 @@
 pub mod Runs
 pub mod Endings
 pub mod Lookup
+pub mod InTables
 pub mod Slices
 pub mod Ended
 pub mod Found
