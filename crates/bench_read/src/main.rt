@@ -2,6 +2,9 @@
 //! one line of how it went.
 #![tactic(auto)]
 
+ghost use Rattle.rb_trees.specs.mirror.Declarations.{mirror_program};
+ghost use Rattle.rb_meaning_types.specs.Lawful.{IsLawful};
+
 use rb_lex::lex;
 use rb_parse::parse_program;
 use rb_trees::{Program, print_program};
@@ -25,31 +28,56 @@ fn report<R: Files + AllocGlobal + Print + Eprint>(
     path: &str,
 ) -> io::Result<()> {
     let text = fs::read(rt, path)?;
-    let source = text.as_slice();
-    let alloc = rt.alloc();
+    carry_out(rt, what, text.as_slice())
+}
+
+/// Prints how it went with the source.
+fn carry_out<R: AllocGlobal + Print + Eprint>(rt: &R, what: &str, source: &[u8]) -> io::Result<()> {
     match what {
-        "lex" => match lex(alloc, source) {
-            Ok(tokens) => {
-                let count = tokens.len();
-                println!(rt; "{count} tokens")
-            }
-            Err(error) => println!(rt; "{error}"),
-        },
-        "parse" => match parse_program(alloc, source) {
-            Ok(_) => println!(rt; "read"),
-            Err(error) => println!(rt; "{error}"),
-        },
-        "print" => match parse_program(alloc, source) {
-            Ok(program) => printed(rt, &program),
-            Err(error) => println!(rt; "{error}"),
-        },
+        "lex" => lexed(rt, source),
+        "parse" => parsed(rt, source),
+        "print" => printed(rt, source),
         "check" => checked(rt, source),
         _ => eprintln!(rt; "usage: bench_read lex|parse|print|check FILE"),
     }
 }
 
+/// Prints how many tokens the source has, or its first fault.
+fn lexed<R: AllocGlobal + Print>(rt: &R, source: &[u8]) -> io::Result<()> {
+    match lex(rt.alloc(), source) {
+        Ok(tokens) => {
+            let count = tokens.len();
+            println!(rt; "{count} tokens")
+        }
+        Err(error) => println!(rt; "{error}"),
+    }
+}
+
+/// Prints whether the source is a program, or its refusal.
+fn parsed<R: AllocGlobal + Print>(rt: &R, source: &[u8]) -> io::Result<()> {
+    match parse_program(rt.alloc(), source) {
+        Ok(program) => {
+            drop(program);
+            println!(rt; "read")
+        }
+        Err(error) => println!(rt; "{error}"),
+    }
+}
+
+/// Prints how many bytes the source has when it is printed, or its refusal.
+fn printed<R: AllocGlobal + Print>(rt: &R, source: &[u8]) -> io::Result<()> {
+    match parse_program(rt.alloc(), source) {
+        Ok(program) => {
+            let done = print_size(rt, &program);
+            drop(program);
+            done
+        }
+        Err(error) => println!(rt; "{error}"),
+    }
+}
+
 /// Prints how many bytes the program's printed text has.
-fn printed<R: AllocGlobal + Print>(rt: &R, program: &Program) -> io::Result<()> {
+fn print_size<R: AllocGlobal + Print>(rt: &R, program: &Program) -> io::Result<()> {
     match print_program(rt.alloc(), program) {
         Ok(text) => {
             let count = text.len();
@@ -59,17 +87,24 @@ fn printed<R: AllocGlobal + Print>(rt: &R, program: &Program) -> io::Result<()> 
     }
 }
 
-/// Prints at how many of the offsets an expression has a type, or the program's first violation.
+/// Prints at how many of the offsets an expression has a type, or the refusal or first violation.
 fn checked<R: AllocGlobal + Print>(rt: &R, source: &[u8]) -> io::Result<()> {
-    let alloc = rt.alloc();
-    match parse_program(alloc, source) {
-        Ok(program) => match check(alloc, program) {
-            Ok(typed) => {
-                let count = expressions(&typed, source.len().min(1_048_576) as u32);
-                println!(rt; "{count} expressions typed")
-            }
-            Err(error) => println!(rt; "{error}"),
-        },
+    match parse_program(rt.alloc(), source) {
+        Ok(program) => typed(rt, program, source.len().min(1_048_576) as u32),
+        Err(error) => println!(rt; "{error}"),
+    }
+}
+
+/// Prints at how many of the first offsets an expression has a type, or the first violation.
+fn typed<R: AllocGlobal + Print>(rt: &R, program: Program, size: u32) -> io::Result<()>
+    requires { IsLawful (mirror_program program) }
+{
+    match check(rt.alloc(), program) {
+        Ok(typed) => {
+            let count = expressions(&typed, size);
+            drop(typed);
+            println!(rt; "{count} expressions typed")
+        }
         Err(error) => println!(rt; "{error}"),
     }
 }

@@ -2,7 +2,8 @@
 use Rattle.std.specs.Prelude.{ℕ, zero, suc, ℤ, List, [], ◌∷◌, ◌++◌, Option, None, Some, cond, nat_lt, length, take, drop}
 use Rattle.std.specs.Int.{w32, w64, from_be_bytes, cast_signed}
 use Rattle.rb_trees.specs.mirror.Declarations.{Class}
-use Rattle.rb_meaning_bytes.specs.wire.Fields.{number, signed_number}
+use Rattle.rb_meaning_bytes.specs.wire.Fields.{number, signed_number, version}
+use Rattle.rb_meaning_bytes.specs.wire.Tags.{tag_end, tag_int, tag_value}
 use Rattle.std.specs.Fmt.{signed_decimal}
 use Rattle.rb_meaning.specs.Shown.{line}
 use Rattle.rb_top.specs.FirstForm.{number_in}
@@ -40,7 +41,7 @@ entry_at bs = then_read (byte_at bs) (λ tag r1. then_read (byte_at r1) (λ kind
 
 -- what the server answers to so many steps: the entry of each, in order, up to one that it can't read
 abbrev pub entry_of : ℤ → List ℕ
-entry_of n = 0x31 ∷ 0x01 ∷ signed_number n
+entry_of n = tag_value ∷ tag_int ∷ signed_number n
 
 abbrev pub by_number : Option ℤ → List ℕ → (List ℕ → List ℕ) → List ℕ
 by_number None rest go = []
@@ -60,11 +61,11 @@ head_at bs = then_read (byte_at bs) (λ version r1. then_read (byte_at r1) (λ i
 
 abbrev pub by_head : List Class → Option (ℕ × List ℕ) → List ℕ
 by_head classes None = []
-by_head classes (Some (count, rest)) = number count ++ entries_to classes count rest ++ 0x00 ∷ []
+by_head classes (Some (count, rest)) = number count ++ entries_to classes count rest ++ tag_end ∷ []
 
 -- the reply to a request
 abbrev pub reply_to : List Class → List ℕ → List ℕ
-reply_to classes request = 0x01 ∷ by_head classes (head_at request)
+reply_to classes request = version ∷ by_head classes (head_at request)
 
 -- the lines of so many entries, in order, up to one that can't be read
 abbrev pub by_entry : Option (ℤ × List ℕ) → (List ℕ → List ℕ) → List ℕ

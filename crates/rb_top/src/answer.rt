@@ -15,7 +15,7 @@ ghost use Rattle.rb_top.specs.FirstForm.{int_of, literal_of, number_named, numbe
 ghost use Rattle.rb_top.specs.Reading.{entry_of, entries_to, reply_to};
 
 use crate::reading::{read_head, read_step};
-use crate::wire::{put_byte, put_number, put_signed};
+use crate::wire::{TAG_END, TAG_INT, TAG_VALUE, VERSION, put_byte, put_number, put_signed};
 use bytes::BytesMut;
 use rb_trees::{Expr, ExprForm, Memory, Method, Service, Value};
 
@@ -72,8 +72,8 @@ fn put_entry(reply: &mut BytesMut, n: i64) -> Result<(), Memory>
     ensures ok { OnOk result (reply.new.items ≡ reply.old.items ++ entry_of n) }
     ensures err { OnErr result (Keeps reply.old.items reply.new.items) }
 {
-    put_byte(reply, 0x31)?;
-    put_byte(reply, 0x01)?;
+    put_byte(reply, TAG_VALUE)?;
+    put_byte(reply, TAG_INT)?;
     put_signed(reply, n)?;
     Ok(())
 }
@@ -108,11 +108,11 @@ fn put_reply(reply: &mut BytesMut, service: &Service, request: &[u8]) -> Result<
     ensures ok { OnOk result (reply.new.items ≡ reply.old.items ++ reply_to (map mirror_class service.now.classes) request.now) }
     ensures err { OnErr result (Keeps reply.old.items reply.new.items) }
 {
-    put_byte(reply, 0x01)?;
+    put_byte(reply, VERSION)?;
     if let Some((count, steps)) = read_head(request) {
         put_number(reply, count)?;
         put_entries(reply, service, count, steps)?;
-        put_byte(reply, 0x00)?;
+        put_byte(reply, TAG_END)?;
     }
     Ok(())
 }

@@ -10,9 +10,14 @@ ghost use Rattle.rb_meaning_bytes.specs.wire.Scripts.{expr, step, steps, count_s
 ghost use Rattle.rb_top.specs.Buffers.{Keeps};
 ghost use Rattle.rb_top.specs.FirstForm.{FitNames, FirstProgram, count_stmts};
 
-use crate::wire::{put_byte, put_number, put_text};
+use crate::wire::{
+    KIND_INT, TAG_CALL, TAG_KEEP, TAG_ROOT, VERSION, put_byte, put_number, put_text,
+};
 use bytes::BytesMut;
 use rb_trees::{ExprForm, Memory, Program, Stmt, StmtForm, Word};
+
+/// The number of the inputs of a script of the form that is built.
+const NO_INPUTS: u8 = 0;
 
 /// A print of a call: the call's position, and the name of the method.
 #[tactic(auto, using(rb_trees::proofs::mirror::Stmts::stmts, rb_trees::proofs::mirror::Exprs::exprs, std::proofs::lemmas::Grind::common_steps))]
@@ -64,11 +69,11 @@ fn put_call(into: &mut BytesMut, at: u32, method: &[u8]) -> Result<(), Memory>
     ensures ok { OnOk result (into.new.items ≡ into.old.items ++ expr (call_on_root at method.now)) }
     ensures err { OnErr result (Keeps into.old.items into.new.items) }
 {
-    put_byte(into, 0x26)?;
+    put_byte(into, TAG_CALL)?;
     put_number(into, at)?;
-    put_byte(into, 0x01)?;
+    put_byte(into, KIND_INT)?;
     put_text(into, method)?;
-    put_byte(into, 0x23)?;
+    put_byte(into, TAG_ROOT)?;
     put_number(into, 0)?;
     Ok(())
 }
@@ -80,7 +85,7 @@ fn put_step(into: &mut BytesMut, id: u32, at: u32, method: &[u8]) -> Result<(), 
     ensures ok { OnOk result (into.new.items ≡ into.old.items ++ step (keep_call id at method.now)) }
     ensures err { OnErr result (Keeps into.old.items into.new.items) }
 {
-    put_byte(into, 0x11)?;
+    put_byte(into, TAG_KEEP)?;
     put_number(into, id)?;
     put_number(into, at)?;
     put_call(into, at, method)?;
@@ -113,8 +118,8 @@ fn put_request(program: &Program, into: &mut BytesMut) -> Result<(), Memory>
     ensures err { OnErr result (Keeps into.old.items into.new.items) }
 {
     let block = block_of(program);
-    put_byte(into, 0x01)?;
-    put_byte(into, 0x00)?;
+    put_byte(into, VERSION)?;
+    put_byte(into, NO_INPUTS)?;
     put_number(into, count_of(block))?;
     put_steps(into, block)?;
     Ok(())

@@ -7,6 +7,30 @@ ghost use Rattle.rb_top.specs.Buffers.{Keeps};
 use bytes::{BufMut, BytesMut};
 use rb_trees::Memory;
 
+/// The version that each message begins with.
+pub const VERSION: u8 = 0x01;
+
+/// The step that keeps the value of an expression.
+pub const TAG_KEEP: u8 = 0x11;
+
+/// The root, as an expression of a script.
+pub const TAG_ROOT: u8 = 0x23;
+
+/// A call, as an expression of a script.
+pub const TAG_CALL: u8 = 0x26;
+
+/// The kind of a call's result that is an Int.
+pub const KIND_INT: u8 = 0x01;
+
+/// The entry that keeps a value.
+pub const TAG_VALUE: u8 = 0x31;
+
+/// A value that is an Int.
+pub const TAG_INT: u8 = 0x01;
+
+/// The end of a node that no fault ended.
+pub const TAG_END: u8 = 0x00;
+
 /// Appends one byte.
 #[tactic(auto, using(crate::proofs::Kept::kept))]
 pub fn put_byte(into: &mut BytesMut, byte: u8) -> Result<(), Memory>

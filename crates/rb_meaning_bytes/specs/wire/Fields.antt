@@ -3,6 +3,7 @@ use Rattle.std.specs.Prelude.{ℕ, ℤ, List, [], ◌∷◌, ◌++◌, Bool, tru
 use Rattle.std.specs.Int.{w32, w64, to_be_bytes, cast_unsigned}
 use Rattle.rb_trees.specs.declared.values.Value.{Value, out-Value}
 use Rattle.rb_trees.specs.declared.values.Value.TheOpen.{Value-F}
+use Rattle.rb_meaning_bytes.specs.wire.Tags.{tag_bool, tag_int, tag_text}
 
 -- a number of 32 bits
 unfoldable pub number : ℕ → List ℕ
@@ -25,9 +26,9 @@ truth false = 0 ∷ []
 truth true = 1 ∷ []
 
 abbrev pub value_form : Value-F Value → List ℕ
-value_form (Value-F.Int z) = 0x01 ∷ signed_number z
-value_form (Value-F.Bool b) = 0x02 ∷ truth b
-value_form (Value-F.Text bytes) = 0x03 ∷ text bytes
+value_form (Value-F.Int z) = tag_int ∷ signed_number z
+value_form (Value-F.Bool b) = tag_bool ∷ truth b
+value_form (Value-F.Text bytes) = tag_text ∷ text bytes
 value_form _ = []
 
 -- a primitive value; no other has a spelling

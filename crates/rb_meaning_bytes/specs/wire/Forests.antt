@@ -4,6 +4,7 @@ use Rattle.rb_trees.specs.declared.forests.NodeFault.{NodeFault}
 use Rattle.rb_trees.specs.mirror.Forests as tree
 use Rattle.rb_trees.specs.mirror.Forests.{Node, Entry, Entries, Nodes}
 use Rattle.rb_meaning_bytes.specs.wire.Fields.{number, text, truth, value, version}
+use Rattle.rb_meaning_bytes.specs.wire.Tags.{tag_branch, tag_end, tag_fault, tag_rows, tag_value}
 
 -- the code of the fault that keeps a text, Thrown
 abbrev pub thrown : ℕ
@@ -11,8 +12,8 @@ thrown = 8
 
 -- how a node ends: at its last entry, or by a fault at a step
 abbrev pub end : Option NodeFault → List ℕ
-end None = 0x00 ∷ []
-end (Some f) = 0x01 ∷ number f.step ++ number f.at ++ f.fault.code ∷ cond (f.fault.code == thrown) (text f.fault.text) []
+end None = tag_end ∷ []
+end (Some f) = tag_fault ∷ number f.step ++ number f.at ++ f.fault.code ∷ cond (f.fault.code == thrown) (text f.fault.text) []
 
 abbrev pub count_entries : Entries → ℕ
 count_entries tree.NoEntries = 0
@@ -27,9 +28,9 @@ abbrev mutual
   node (tree.Holds es f) = number (count_entries es) ++ entries es ++ end f
 
   pub entry : Entry → List ℕ
-  entry (tree.Value v) = 0x31 ∷ value v
-  entry (tree.Branch taken n) = 0x32 ∷ truth taken ++ node n
-  entry (tree.Rows ns) = 0x33 ∷ number (count_nodes ns) ++ nodes ns
+  entry (tree.Value v) = tag_value ∷ value v
+  entry (tree.Branch taken n) = tag_branch ∷ truth taken ++ node n
+  entry (tree.Rows ns) = tag_rows ∷ number (count_nodes ns) ++ nodes ns
 
   pub entries : Entries → List ℕ
   entries tree.NoEntries = []

@@ -8,6 +8,7 @@ use Rattle.rb_trees.specs.declared.code.BinOp.TheVariants as binary
 use Rattle.rb_trees.specs.mirror.Scripts as tree
 use Rattle.rb_trees.specs.mirror.Scripts.{SExpr, SExprs, Step, Steps, Script}
 use Rattle.rb_meaning_bytes.specs.wire.Fields.{number, text, truth, value, values, version}
+use Rattle.rb_meaning_bytes.specs.wire.Tags.{tag_binary, tag_call, tag_do, tag_each, tag_if, tag_input, tag_keep, tag_let, tag_literal, tag_root, tag_unary, tag_variable}
 
 -- the codes of the operators, in their order from 1
 abbrev pub unary_code : UnOp → ℕ
@@ -37,14 +38,14 @@ count_exprs (tree.MoreSExprs e es) = suc (count_exprs es)
 
 abbrev mutual
   pub expr : SExpr → List ℕ
-  expr (tree.Lit v) = 0x20 ∷ value v
-  expr (tree.Input n) = 0x21 ∷ n ∷ []
-  expr (tree.Var n) = 0x22 ∷ number n
-  expr tree.Root = 0x23 ∷ []
-  expr (tree.Unary op at a) = 0x24 ∷ unary_code op ∷ number at ++ expr a
-  expr (tree.Binary op at a b) = 0x25 ∷ binary_code op ∷ number at ++ expr a ++ expr b
+  expr (tree.Lit v) = tag_literal ∷ value v
+  expr (tree.Input n) = tag_input ∷ n ∷ []
+  expr (tree.Var n) = tag_variable ∷ number n
+  expr tree.Root = tag_root ∷ []
+  expr (tree.Unary op at a) = tag_unary ∷ unary_code op ∷ number at ++ expr a
+  expr (tree.Binary op at a b) = tag_binary ∷ binary_code op ∷ number at ++ expr a ++ expr b
   expr (tree.Call at kind method target args) =
-      0x26 ∷ number at ++ kind ∷ text method ++ expr target ++ number (count_exprs args) ++ exprs args
+      tag_call ∷ number at ++ kind ∷ text method ++ expr target ++ number (count_exprs args) ++ exprs args
 
   pub exprs : SExprs → List ℕ
   exprs tree.NoSExprs = []
@@ -56,13 +57,13 @@ count_steps (tree.MoreSteps s ss) = suc (count_steps ss)
 
 abbrev mutual
   pub step : Step → List ℕ
-  step (tree.Do id at e) = 0x10 ∷ number id ++ number at ++ expr e
-  step (tree.Keep id at e) = 0x11 ∷ number id ++ number at ++ expr e
-  step (tree.Let id at var keep e) = 0x12 ∷ number id ++ number at ++ number var ++ truth keep ++ expr e
+  step (tree.Do id at e) = tag_do ∷ number id ++ number at ++ expr e
+  step (tree.Keep id at e) = tag_keep ∷ number id ++ number at ++ expr e
+  step (tree.Let id at var keep e) = tag_let ∷ number id ++ number at ++ number var ++ truth keep ++ expr e
   step (tree.If id at e a b) =
-      0x13 ∷ number id ++ number at ++ expr e ++ number (count_steps a) ++ steps a ++ number (count_steps b) ++ steps b
+      tag_if ∷ number id ++ number at ++ expr e ++ number (count_steps a) ++ steps a ++ number (count_steps b) ++ steps b
   step (tree.Each id at var keep e a) =
-      0x14 ∷ number id ++ number at ++ number var ++ truth keep ++ expr e ++ number (count_steps a) ++ steps a
+      tag_each ∷ number id ++ number at ++ number var ++ truth keep ++ expr e ++ number (count_steps a) ++ steps a
 
   pub steps : Steps → List ℕ
   steps tree.NoSteps = []
