@@ -10,6 +10,7 @@ pub mod Fronts
 pub mod Equations
 pub mod Lists
 pub mod StatementEquations
+pub mod ItemLists
 pub mod DeclarationEquations
 pub mod Laws
 pub mod Outcomes

@@ -1,5 +1,5 @@
 -- Reading of what the code of declarations reads by a function of its own.
-use Rattle.std.specs.Prelude.{ℕ, List, ◌∷◌, ◌++◌, map, Ok}
+use Rattle.std.specs.Prelude.{ℕ, List, ◌∷◌, Ok}
 use Rattle.rb_trees.specs.declared.tokens.Token.{Token}
 use Rattle.rb_trees.specs.declared.tokens.TokenKind.TheVariants as kind
 use Rattle.rb_trees.specs.mirror.Types.{TypeTree}
@@ -31,10 +31,6 @@ params_to_close source ts = read_of source s.Params ts >>= λ a. take_kind k.sig
 -- the name of a declaration and the brace behind it
 unfoldable pub headed_of : List Token → Read Token
 headed_of ts = take_kind kind.Name ts >>= λ n. take_kind k.sign_open_brace n.1 >>= λ o. Ok (n.0, o.1)
-
--- the items so far with those that follow
-unfoldable pub listed_on : {A R : Type 0} → (List Token → Read (List A)) → (R → A) → List R → List Token → Read (List A)
-listed_on reader view list ts = reader ts >>= λ m. Ok (map view list ++ m.0, m.1)
 
 -- the parameters that follow the first one
 unfoldable pub params_on : List ℕ → tree.Param → List Token → Read (List tree.Param)

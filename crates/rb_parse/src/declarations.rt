@@ -85,7 +85,7 @@ fn next_param<'t>(
 }
 
 /// The parameters from the first one on.
-#[tactic(auto, using(crate::proofs::DeclarationEquations::params))]
+#[tactic(auto, using(crate::proofs::DeclarationEquations::params_first, crate::proofs::ItemLists::lists))]
 fn more_params<'t>(
     alloc: Global,
     source: &[u8],
@@ -181,7 +181,7 @@ fn field_to_end<'t>(
 }
 
 /// The signatures that come next.
-#[tactic(auto, using(crate::proofs::DeclarationEquations::signatures))]
+#[tactic(auto, using(crate::proofs::ItemLists::lists))]
 fn signatures<'t>(
     alloc: Global,
     source: &[u8],
@@ -201,7 +201,7 @@ fn signatures<'t>(
 }
 
 /// The fields that come next.
-#[tactic(auto, using(crate::proofs::DeclarationEquations::fields))]
+#[tactic(auto, using(crate::proofs::ItemLists::lists))]
 fn fields<'t>(
     alloc: Global,
     source: &[u8],
@@ -254,7 +254,7 @@ fn interface<'t>(
 }
 
 /// The interfaces that come next.
-#[tactic(auto, using(crate::proofs::DeclarationEquations::interfaces))]
+#[tactic(auto, using(crate::proofs::ItemLists::lists))]
 fn interfaces<'t>(
     alloc: Global,
     source: &[u8],
@@ -330,7 +330,7 @@ fn method<'t>(
 }
 
 /// The methods that come next.
-#[tactic(auto, using(crate::proofs::DeclarationEquations::methods))]
+#[tactic(auto, using(crate::proofs::ItemLists::lists))]
 fn methods<'t>(
     alloc: Global,
     source: &[u8],
@@ -374,7 +374,7 @@ fn class<'t>(
 }
 
 /// The classes that come next.
-#[tactic(auto, using(crate::proofs::DeclarationEquations::classes))]
+#[tactic(auto, using(crate::proofs::ItemLists::lists))]
 fn classes<'t>(
     alloc: Global,
     source: &[u8],

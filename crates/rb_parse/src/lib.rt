@@ -15,8 +15,6 @@ mod simple;
 mod source;
 mod statements;
 mod stop;
-#[cfg(test)]
-mod tests;
 mod types;
 mod values;
 

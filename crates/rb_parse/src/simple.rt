@@ -85,8 +85,9 @@ fn named_value<'t>(
 {
     let (token, rest) = expect(TokenKind::Name, tokens)?;
     let (_, rest) = expect(ASSIGN, rest)?;
+    let name = name(alloc, source, token)?;
     let (value, rest) = expression_to_end(alloc, source, rest)?;
-    Ok(((name(alloc, source, token)?, value), rest))
+    Ok(((name, value), rest))
 }
 
 /// A condition between brackets.
@@ -131,8 +132,9 @@ pub(crate) fn each<'t>(
     let (_, rest) = expect(OPEN, tokens)?;
     let (token, rest) = expect(TokenKind::Name, rest)?;
     let (_, rest) = expect(IN, rest)?;
+    let name = name(alloc, source, token)?;
     let (list, rest) = inside(alloc, source, rest)?;
-    Ok(((name(alloc, source, token)?, list), rest))
+    Ok(((name, list), rest))
 }
 
 /// The name that a `catch` gives a fault.

@@ -1,12 +1,12 @@
 use Rattle.std.proofs.Common.{◌≡◌, ◌≤◌, length}
-use Rattle.rb_trees.specs.mirror.Declarations.{mirror_class}
 use Rattle.rb_meaning_bytes.specs.grammar.Symbols as s
 use Rattle.rb_parse.specs.Reading.{read_of}
-use Rattle.rb_parse.specs.Heads.{listed_on}
+use Rattle.rb_parse.proofs.ItemLists.{listed_on}
+use Rattle.rb_parse.proofs.DeclarationEquations.{classes}
 use Rattle.rb_parse.proofs.declarations.classes.Given as goal
 
 abbrev pub invariant-loop-alloc : goal.invariant-loop-alloc
-invariant-loop-alloc l = record { value : read_of l.source s.Classes l.tokens ≡ listed_on (read_of l.source s.Classes) mirror_class l.list l.rest; shorter : length l.rest ≤ length l.tokens }
+invariant-loop-alloc l = record { value : read_of l.source s.Classes l.tokens ≡ listed_on classes l.source l.list l.rest; shorter : length l.rest ≤ length l.tokens }
 
 abbrev pub decreases-loop-alloc : goal.decreases-loop-alloc
 decreases-loop-alloc l = length l.rest
