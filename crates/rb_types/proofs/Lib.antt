@@ -1,8 +1,14 @@
 pub mod Fronts
 pub mod LastNotes
 pub mod Guided
+pub mod Kept
+pub mod ExprSteps
+pub mod StmtSteps
+pub mod BodySteps
+pub mod Judged
 pub mod Rows
 pub mod Rules
 pub mod ExprRules
 pub mod StmtRules
-pub mod Turned
+pub mod StmtTrees
+pub mod BodyRules

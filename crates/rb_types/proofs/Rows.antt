@@ -1,22 +1,23 @@
--- Types of a list of expressions, with those of the expressions before it.
+-- What was found of a list of expressions, with that of the expressions before it.
 use Rattle.std.proofs.Common.{◌≡◌, List, [], ◌∷◌, ◌++◌, Ok, Err, refl, ap}
 use Rattle.rb_meaning_types.specs.Violations.{Violation, Checked, Placed}
-use Rattle.rb_meaning_types.specs.Expressions.{with_first}
+use Rattle.rb_types.specs.Steps.{State}
+use Rattle.rb_types.proofs.ExprSteps.{with_head}
 
-abbrev pub with_front : List Placed → Checked (List Placed) → Checked (List Placed)
+abbrev pub with_front : List Placed → Checked (List Placed × State) → Checked (List Placed × State)
 with_front [] rest = rest
-with_front (p ∷ ps) rest = with_first p (with_front ps rest)
+with_front (p ∷ ps) rest = with_head p (with_front ps rest)
 
-pub front_more : (ps : List Placed) (p : Placed) (rest : Checked (List Placed)) → with_front (ps ++ p ∷ []) rest ≡ with_front ps (with_first p rest)
+pub front_more : (ps : List Placed) (p : Placed) (rest : Checked (List Placed × State)) → with_front (ps ++ p ∷ []) rest ≡ with_front ps (with_head p rest)
 front_more [] p rest = refl
-front_more (q ∷ ps) p rest = ap (with_first q) (front_more ps p rest)
+front_more (q ∷ ps) p rest = ap (with_head q) (front_more ps p rest)
 
-pub front_none : (ps : List Placed) → with_front ps (Ok []) ≡ Ok ps
-front_none [] = refl
-front_none (p ∷ ps) = ap (with_first p) (front_none ps)
+pub front_none : (ps : List Placed) (s : State) → with_front ps (Ok ([], s)) ≡ Ok (ps, s)
+front_none [] s = refl
+front_none (p ∷ ps) s = ap (with_head p) (front_none ps s)
 
-pub front_fails : (ps : List Placed) (fault : Violation) → with_front ps (Err fault) ≡ Err fault
-front_fails [] fault = refl
-front_fails (p ∷ ps) fault = ap (with_first p) (front_fails ps fault)
+pub front_fails : (ps : List Placed) (violation : Violation) → with_front ps (Err violation) ≡ Err violation
+front_fails [] violation = refl
+front_fails (p ∷ ps) violation = ap (with_head p) (front_fails ps violation)
 
 pub ruleset rows = (front_more, front_none, front_fails)

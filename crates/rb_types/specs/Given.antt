@@ -1,10 +1,16 @@
 -- Types of the code as what the judgement gives.
-use Rattle.std.specs.Prelude.{Option, Ok}
+use Rattle.std.specs.Prelude.{◌≡◌, ℕ, Option, Ok}
 use Rattle.std.specs.Option.{option_map}
 use Rattle.rb_trees.specs.declared.code.TypeForm.{TypeForm}
+use Rattle.rb_trees.specs.mirror.Declarations.{Program}
 use Rattle.rb_meaning_types.specs.Kinds.{Kind, kind_of_form}
 use Rattle.rb_meaning_types.specs.Violations.{Checked}
+use Rattle.rb_meaning_types.specs.Notes.{type_at}
 
 -- a type that was found, as what the judgement gives
 abbrev pub kind_given : Option TypeForm → Option (Checked Kind)
 kind_given kind = option_map (λ k. Ok (kind_of_form k)) kind
+
+-- the types at the positions of a program, by what finds one
+abbrev pub AreTypes : Program → (ℕ → Option TypeForm) → Type 0
+AreTypes p type = (at : ℕ) → kind_given (type at) ≡ type_at p at

@@ -1,4 +1,5 @@
+pub mod Checks
 pub mod Given
 pub mod Guesses
-pub mod Inner
+pub mod Steps
 pub mod Views

@@ -4,15 +4,19 @@ use Rattle.std.specs.Option.{option_copied}
 use Rattle.rb_trees.specs.mirror.Declarations.{mirror_interface, mirror_class}
 use Rattle.rb_types.specs.declared.kinds.Placed as placed
 use Rattle.rb_types.specs.declared.scope.Variable as variable
+use Rattle.rb_types.specs.declared.context.Declarations as declarations
 use Rattle.rb_types.specs.declared.context.Context as context
 use Rattle.rb_meaning_types.specs.Kinds.{kind_of_form}
 use Rattle.rb_meaning_types.specs.Violations.{Placed}
 use Rattle.rb_meaning_types.specs.Scopes.{Variable, Scope}
-use Rattle.rb_meaning_types.specs.Expressions.{Context}
+use Rattle.rb_meaning_types.specs.Declared.{Declarations, Context}
 use Rattle.rb_meaning_types.specs.Notes.{Note}
 
 abbrev pub placed_of : placed.Placed → Placed
 placed_of p = record { at = p.at; kind = kind_of_form p.kind }
+
+abbrev pub all_placed : List placed.Placed → List Placed
+all_placed ps = map placed_of ps
 
 abbrev pub variable_of : variable.Variable → Variable
 variable_of v = record { name = v.name; kind = kind_of_form v.kind; fixed = v.fixed }
@@ -20,14 +24,11 @@ variable_of v = record { name = v.name; kind = kind_of_form v.kind; fixed = v.fi
 abbrev pub scope_of : List variable.Variable → Scope
 scope_of variables = map variable_of variables
 
+abbrev pub declarations_of : declarations.Declarations → Declarations
+declarations_of d = record { interfaces = map mirror_interface d.interfaces; classes = map mirror_class d.classes; service = d.service }
+
 abbrev pub context_of : context.Context → Context
-context_of x = record {
-  interfaces = map mirror_interface x.interfaces.now;
-  classes = map mirror_class x.classes.now;
-  this = option_copied x.this;
-  remote = x.remote;
-  service = x.service;
-}
+context_of x = record { declared = declarations_of x.declared.now; this = option_copied x.this; remote = x.remote }
 
 -- a placed type as what the judgement gives to its expression
 abbrev pub note_of : placed.Placed → Note

@@ -16,7 +16,7 @@ fn one_more(count: u32) -> Result<u32, Memory>
 }
 
 #[cycle(batches)]
-#[tactic(auto, using(crate::proofs::StmtRules::stmt_rules))]
+#[tactic(auto, using(crate::proofs::StmtTrees::stmt_trees))]
 fn count_of(count: u32, s: &Stmt) -> Result<u32, Memory>
     ensures { IfOk result (λ n. n ≡ count + batches.batches_of (mirror_stmt s.now)) }
 {
@@ -40,7 +40,7 @@ fn count_of(count: u32, s: &Stmt) -> Result<u32, Memory>
 }
 
 #[cycle(batches)]
-#[tactic(auto, using(crate::proofs::StmtRules::stmt_rules))]
+#[tactic(auto, using(crate::proofs::StmtTrees::stmt_trees))]
 fn count_in(count: u32, ss: &[Stmt]) -> Result<u32, Memory>
     ensures { IfOk result (λ n. n ≡ count + batches.batches_in (mirror_stmts ss.now)) }
 {

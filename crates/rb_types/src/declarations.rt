@@ -2,12 +2,12 @@ ghost use Rattle.std.specs.Prelude.{◌≡◌, [], ◌∷◌, ◌++◌, map, OnO
 ghost use Rattle.rb_trees.specs.mirror.Declarations.{mirror_param, mirror_signature, mirror_interface, mirror_method, mirror_class};
 ghost use Rattle.rb_meaning_types.specs.Names as naming;
 ghost use Rattle.rb_meaning_types.specs.Declarations as declarations;
-ghost use Rattle.rb_meaning_types.specs.Programs as programs;
-ghost use Rattle.rb_meaning_types.specs.Violations.{violation_of};
-ghost use Rattle.rb_trees.specs.Outcome.{Gives};
+ghost use Rattle.rb_types.specs.Checks.{Passes};
+ghost use Rattle.rb_types.specs.Views.{declarations_of};
 
-use crate::classes::{Classes, IndexedClass};
-use crate::interfaces::{IndexedInterface, Interfaces};
+use crate::classes::IndexedClass;
+use crate::context::Declarations;
+use crate::interfaces::IndexedInterface;
 use crate::places::{parameter_type, result_type};
 use crate::words::Words;
 use rb_trees::{Class, Method, Param, Signature, TypeError, Word, copy_word};
@@ -22,7 +22,7 @@ fn is_new(names: &Words, name: &Word) -> bool
 
 /// Adds a name that differs from those before.
 fn add_name(alloc: Global, names: &mut Words, at: u32, name: &Word) -> Result<(), TypeError>
-    ensures gives { Gives (λ u. u) violation_of result (declarations.new_name (names.old) at name.now) }
+    ensures gives { Passes result (declarations.new_name names.old at name.now) }
     ensures added { OnOk result (names.new ≡ names.old ++ name.now ∷ []) }
 {
     if !is_new(names, name) {
@@ -36,16 +36,15 @@ fn add_name(alloc: Global, names: &mut Words, at: u32, name: &Word) -> Result<()
 fn check_params(
     alloc: Global,
     remote: bool,
-    interfaces: &Interfaces,
-    classes: &Classes,
+    d: &Declarations,
     params: &[Param],
 ) -> Result<(), TypeError>
-    ensures { Gives (λ u. u) violation_of result (declarations.check_params remote (map mirror_interface interfaces.now) (map mirror_class classes.now) [] (map mirror_param params.now)) }
+    ensures { Passes result (declarations.check_params remote (declarations_of d.now) [] (map mirror_param params.now)) }
 {
     let mut names = Words::new(alloc);
     for param in params {
         add_name(alloc, &mut names, param.at, &param.name)?;
-        parameter_type(remote, interfaces, classes, &param.kind)?;
+        parameter_type(remote, d, &param.kind)?;
     }
     Ok(())
 }
@@ -53,98 +52,71 @@ fn check_params(
 fn check_signature(
     alloc: Global,
     remote: bool,
-    interfaces: &Interfaces,
-    classes: &Classes,
+    d: &Declarations,
     s: &Signature,
 ) -> Result<(), TypeError>
-    ensures { Gives (λ u. u) violation_of result (declarations.check_signature remote (map mirror_interface interfaces.now) (map mirror_class classes.now) (mirror_signature s.now)) }
+    ensures { Passes result (declarations.check_signature remote (declarations_of d.now) (mirror_signature s.now)) }
 {
-    check_params(alloc, remote, interfaces, classes, s.params.as_slice())?;
-    result_type(remote, interfaces, classes, &s.result)
+    check_params(alloc, remote, d, s.params.as_slice())?;
+    result_type(remote, d, &s.result)
 }
 
 fn check_signatures(
     alloc: Global,
-    interfaces: &Interfaces,
-    classes: &Classes,
+    d: &Declarations,
     signatures: &[Signature],
 ) -> Result<(), TypeError>
-    ensures { Gives (λ u. u) violation_of result (declarations.check_signatures (map mirror_interface interfaces.now) (map mirror_class classes.now) [] (map mirror_signature signatures.now)) }
+    ensures { Passes result (declarations.check_signatures (declarations_of d.now) [] (map mirror_signature signatures.now)) }
 {
     let mut names = Words::new(alloc);
     for s in signatures {
         add_name(alloc, &mut names, s.at, &s.name)?;
-        check_signature(alloc, true, interfaces, classes, s)?;
+        check_signature(alloc, true, d, s)?;
     }
     Ok(())
 }
 
-fn check_method(
-    alloc: Global,
-    interfaces: &Interfaces,
-    classes: &Classes,
-    service: bool,
-    m: &Method,
-) -> Result<(), TypeError>
-    ensures { Gives (λ u. u) violation_of result (declarations.check_method (map mirror_interface interfaces.now) (map mirror_class classes.now) service (mirror_method m.now)) }
+fn check_method(alloc: Global, d: &Declarations, m: &Method) -> Result<(), TypeError>
+    ensures { Passes result (declarations.check_method (declarations_of d.now) (mirror_method m.now)) }
 {
-    check_signature(alloc, false, interfaces, classes, &m.signature)?;
-    if service && m.remote {
+    check_signature(alloc, false, d, &m.signature)?;
+    if d.service && m.remote {
         return Err(TypeError::NotAllowedHere(m.signature.at));
     }
     Ok(())
 }
 
-fn check_methods(
-    alloc: Global,
-    interfaces: &Interfaces,
-    classes: &Classes,
-    service: bool,
-    methods: &[Method],
-) -> Result<(), TypeError>
-    ensures { Gives (λ u. u) violation_of result (declarations.check_methods (map mirror_interface interfaces.now) (map mirror_class classes.now) service [] (map mirror_method methods.now)) }
+fn check_methods(alloc: Global, d: &Declarations, methods: &[Method]) -> Result<(), TypeError>
+    ensures { Passes result (declarations.check_methods (declarations_of d.now) [] (map mirror_method methods.now)) }
 {
     let mut names = Words::new(alloc);
     for m in methods {
         add_name(alloc, &mut names, m.signature.at, &m.signature.name)?;
-        check_method(alloc, interfaces, classes, service, m)?;
+        check_method(alloc, d, m)?;
     }
     Ok(())
 }
 
-fn check_class(
-    alloc: Global,
-    interfaces: &Interfaces,
-    classes: &Classes,
-    service: bool,
-    class: &Class,
-) -> Result<(), TypeError>
-    ensures { Gives (λ u. u) violation_of result (declarations.check_class (map mirror_interface interfaces.now) (map mirror_class classes.now) service (mirror_class class.now)) }
+fn check_class(alloc: Global, d: &Declarations, class: &Class) -> Result<(), TypeError>
+    ensures { Passes result (declarations.check_class (declarations_of d.now) (mirror_class class.now)) }
 {
-    check_params(alloc, false, interfaces, classes, class.fields.as_slice())?;
-    check_methods(
-        alloc,
-        interfaces,
-        classes,
-        service,
-        class.methods.as_slice(),
-    )
+    check_params(alloc, false, d, class.fields.as_slice())?;
+    check_methods(alloc, d, class.methods.as_slice())
 }
 
 fn check_interfaces(
     alloc: Global,
     names: &mut Words,
-    interfaces: &Interfaces,
-    classes: &Classes,
+    d: &Declarations,
     items: &[IndexedInterface],
 ) -> Result<(), TypeError>
-    ensures gives { Gives (λ u. u) violation_of result (declarations.check_interfaces (map mirror_interface interfaces.now) (map mirror_class classes.now) (names.old) (map mirror_interface items.now)) }
+    ensures gives { Passes result (declarations.check_interfaces (declarations_of d.now) names.old (map mirror_interface items.now)) }
     ensures added { OnOk result (names.new ≡ names.old ++ map (λ i. i.name) (map mirror_interface items.now)) }
 {
     for item in items {
         let interface = item.get();
         add_name(alloc, names, interface.at, &interface.name)?;
-        check_signatures(alloc, interfaces, classes, interface.methods.as_slice())?;
+        check_signatures(alloc, d, interface.methods.as_slice())?;
     }
     Ok(())
 }
@@ -152,38 +124,24 @@ fn check_interfaces(
 fn check_classes(
     alloc: Global,
     names: &mut Words,
-    interfaces: &Interfaces,
-    classes: &Classes,
-    service: bool,
+    d: &Declarations,
     items: &[IndexedClass],
 ) -> Result<(), TypeError>
-    ensures { Gives (λ u. u) violation_of result (declarations.check_classes (map mirror_interface interfaces.now) (map mirror_class classes.now) service (names.old) (map mirror_class items.now)) }
+    ensures { Passes result (declarations.check_classes (declarations_of d.now) names.old (map mirror_class items.now)) }
 {
     for item in items {
         let class = item.get();
         add_name(alloc, names, class.at, &class.name)?;
-        check_class(alloc, interfaces, classes, service, class)?;
+        check_class(alloc, d, class)?;
     }
     Ok(())
 }
 
 /// Declarations in source order: interfaces, then classes, each by its name and then its members.
-pub fn check_declarations(
-    alloc: Global,
-    interfaces: &Interfaces,
-    classes: &Classes,
-    service: bool,
-) -> Result<(), TypeError>
-    ensures { Gives (λ u. u) violation_of result (programs.check_declarations (map mirror_interface interfaces.now) (map mirror_class classes.now) service) }
+pub fn check_declarations(alloc: Global, d: &Declarations) -> Result<(), TypeError>
+    ensures { Passes result (declarations.check_declarations (declarations_of d.now)) }
 {
     let mut names = Words::new(alloc);
-    check_interfaces(
-        alloc,
-        &mut names,
-        interfaces,
-        classes,
-        interfaces.as_slice(),
-    )?;
-    let items = classes.as_slice();
-    check_classes(alloc, &mut names, interfaces, classes, service, items)
+    check_interfaces(alloc, &mut names, d, d.interfaces.as_slice())?;
+    check_classes(alloc, &mut names, d, d.classes.as_slice())
 }

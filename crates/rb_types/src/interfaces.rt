@@ -1,4 +1,4 @@
-ghost use Rattle.std.specs.Prelude.{◌≡◌, map, IfOk};
+ghost use Rattle.std.specs.Prelude.{◌≡◌, [], map, IfOk};
 ghost use Rattle.std.specs.Option.{option_map, option_copied};
 ghost use Rattle.rb_trees.specs.mirror.Declarations.{mirror_signature, mirror_interface};
 ghost use Rattle.rb_meaning_types.specs.Names.{interface_named, signature_named};
@@ -95,6 +95,16 @@ impl<'a> Model for Interfaces<'a> {
 }
 
 impl<'a> Interfaces<'a> {
+    /// No interfaces.
+    pub fn none(alloc: Global) -> Interfaces<'a>
+        ensures { result ≡ [] }
+    {
+        Interfaces {
+            items: Seq::new(alloc),
+            names: Words::new(alloc),
+        }
+    }
+
     /// The interfaces, with their index.
     pub fn new(alloc: Global, interfaces: &'a [Interface]) -> Result<Interfaces<'a>, Memory>
         ensures { IfOk result (λ all. all ≡ interfaces.now) }

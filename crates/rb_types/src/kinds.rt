@@ -7,7 +7,8 @@ ghost use Rattle.rb_meaning_types.specs.Kinds.{kind_of_form};
 ghost use Rattle.rb_meaning_types.specs.Literals as literals;
 ghost use Rattle.rb_meaning_types.specs.Violations as violations;
 ghost use Rattle.rb_meaning_types.specs.Violations.{violation_of};
-ghost use Rattle.rb_trees.specs.Outcome.{Gives, Refuses};
+ghost use Rattle.rb_trees.specs.Outcome.{Refuses};
+ghost use Rattle.rb_types.specs.Checks.{Passes, Types};
 ghost use Rattle.rb_types.specs.Views.{placed_of};
 
 use crate::names::same_word;
@@ -147,14 +148,14 @@ pub fn same_kind(a: &TypeForm, b: &TypeForm) -> bool
 
 /// A copy of a type: the same form.
 pub fn copy_kind(alloc: Global, kind: &TypeForm) -> Result<TypeForm, TypeError>
-    ensures { Gives kind_of_form violation_of result (Ok (kind_of_form kind.now)) }
+    ensures { Types result (Ok (kind_of_form kind.now)) }
 {
     Ok(copy_type_form(alloc, kind)?)
 }
 
 /// The type that a written type stands for.
 pub fn kind_of(alloc: Global, kind: &TypeTree) -> Result<TypeForm, TypeError>
-    ensures { Gives kind_of_form violation_of result (Ok (kinds.kind_of (mirror_type kind.now))) }
+    ensures { Types result (Ok (kinds.kind_of (mirror_type kind.now))) }
 {
     Ok(copy_type_form(alloc, &kind.form)?)
 }
@@ -184,7 +185,7 @@ pub fn wrong_type(alloc: Global, p: &Placed) -> TypeError
 
 /// An expression that has to have one type.
 pub fn wanted(alloc: Global, kind: &TypeForm, p: &Placed) -> Result<(), TypeError>
-    ensures { Gives (λ u. u) violation_of result (violations.wanted (kind_of_form kind.now) (placed_of p.now)) }
+    ensures { Passes result (violations.wanted (kind_of_form kind.now) (placed_of p.now)) }
 {
     if same_kind(kind, &p.kind) {
         Ok(())
@@ -195,7 +196,7 @@ pub fn wanted(alloc: Global, kind: &TypeForm, p: &Placed) -> Result<(), TypeErro
 
 /// An expression that has to have a written type.
 pub fn wanted_tree(alloc: Global, kind: &TypeTree, p: &Placed) -> Result<(), TypeError>
-    ensures { Gives (λ u. u) violation_of result (violations.wanted (kinds.kind_of (mirror_type kind.now)) (placed_of p.now)) }
+    ensures { Passes result (violations.wanted (kinds.kind_of (mirror_type kind.now)) (placed_of p.now)) }
 {
     wanted(alloc, &kind.form, p)
 }

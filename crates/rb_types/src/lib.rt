@@ -3,6 +3,7 @@
 
 mod batches;
 mod bodies;
+mod checker;
 mod classes;
 mod context;
 mod declarations;
@@ -17,8 +18,6 @@ mod places;
 mod programs;
 mod scope;
 mod statements;
-#[cfg(test)]
-mod tests;
 mod typed;
 mod words;
 

@@ -7,17 +7,18 @@ ghost use Rattle.rb_meaning_types.specs.Kinds.{kind_of_form};
 ghost use Rattle.rb_meaning_types.specs.Members as members;
 ghost use Rattle.rb_meaning_types.specs.Violations.{violation_of};
 ghost use Rattle.rb_trees.specs.Outcome.{Gives};
-ghost use Rattle.rb_types.specs.Views.{placed_of};
+ghost use Rattle.rb_types.specs.Checks.{Passes, Types};
+ghost use Rattle.rb_types.specs.Views.{declarations_of, context_of, placed_of, all_placed};
 
-use crate::classes::{Classes, IndexedClass};
-use crate::context::Context;
-use crate::interfaces::{IndexedInterface, Interfaces};
+use crate::classes::IndexedClass;
+use crate::context::{Context, Declarations};
+use crate::interfaces::IndexedInterface;
 use crate::kinds::{Placed, kind_of, wanted_tree, wrong_type};
 use rb_trees::{Param, Signature, TypeError, TypeForm, Word, copy_word};
 use std::alloc::Global;
 
 fn arguments_wanted(alloc: Global, params: &[Param], args: &[Placed]) -> Result<(), TypeError>
-    ensures { Gives (λ u. u) violation_of result (members.arguments_wanted (map mirror_param params.now) (map placed_of args.now)) }
+    ensures { Passes result (members.arguments_wanted (map mirror_param params.now) (all_placed args.now)) }
 {
     for (i, param) in params.iter().enumerate() {
         match args.get(i) {
@@ -29,7 +30,7 @@ fn arguments_wanted(alloc: Global, params: &[Param], args: &[Placed]) -> Result<
 }
 
 fn arguments_fit(alloc: Global, at: u32, params: &[Param], args: &[Placed]) -> Result<(), TypeError>
-    ensures { Gives (λ u. u) violation_of result (members.arguments_fit at (map mirror_param params.now) (map placed_of args.now)) }
+    ensures { Passes result (members.arguments_fit at (map mirror_param params.now) (all_placed args.now)) }
 {
     if args.len() == params.len() {
         arguments_wanted(alloc, params, args)
@@ -40,13 +41,13 @@ fn arguments_fit(alloc: Global, at: u32, params: &[Param], args: &[Placed]) -> R
 
 fn receiver_class<'a, 'b>(
     alloc: Global,
-    classes: &'b Classes<'a>,
+    d: &'b Declarations<'a>,
     p: &Placed,
 ) -> Result<&'b IndexedClass<'a>, TypeError>
-    ensures { Gives (λ c. mirror_class c.now) violation_of result (members.receiver_class (map mirror_class classes.now) (placed_of p.now) (kind_of_form p.now.kind)) }
+    ensures { Gives (λ c. mirror_class c.now) violation_of result (members.receiver_class (declarations_of d.now) (placed_of p.now) (kind_of_form p.now.kind)) }
 {
     match &p.kind {
-        TypeForm::Named(name) => match classes.find(name) {
+        TypeForm::Named(name) => match d.classes.find(name) {
             Some(class) => Ok(class),
             None => Err(wrong_type(alloc, p)),
         },
@@ -58,14 +59,14 @@ fn receiver_class<'a, 'b>(
 /// The type of a field of an object.
 pub fn field_kind(
     alloc: Global,
-    classes: &Classes,
+    d: &Declarations,
     at: u32,
     name: &Word,
     p: &Placed,
 ) -> Result<TypeForm, TypeError>
-    ensures { Gives kind_of_form violation_of result (members.field_kind (map mirror_class classes.now) at name.now (placed_of p.now)) }
+    ensures { Types result (members.field_kind (declarations_of d.now) at name.now (placed_of p.now)) }
 {
-    let class = receiver_class(alloc, classes, p)?;
+    let class = receiver_class(alloc, d, p)?;
     match class.find_field(name) {
         Some(field) => kind_of(alloc, &field.kind),
         None => Err(TypeError::UnknownName(at)),
@@ -78,7 +79,7 @@ fn signature_kind(
     signature: &Signature,
     args: &[Placed],
 ) -> Result<TypeForm, TypeError>
-    ensures { Gives kind_of_form violation_of result (members.signature_kind at (mirror_signature signature.now) (map placed_of args.now)) }
+    ensures { Types result (members.signature_kind at (mirror_signature signature.now) (all_placed args.now)) }
 {
     arguments_fit(alloc, at, signature.params.as_slice(), args)?;
     kind_of(alloc, &signature.result)
@@ -91,7 +92,7 @@ fn interface_call(
     interface: &IndexedInterface,
     args: &[Placed],
 ) -> Result<TypeForm, TypeError>
-    ensures { Gives kind_of_form violation_of result (members.interface_call at method.now (mirror_interface interface.now) (map placed_of args.now)) }
+    ensures { Types result (members.interface_call at method.now (mirror_interface interface.now) (all_placed args.now)) }
 {
     match interface.find_method(method) {
         Some(signature) => signature_kind(alloc, at, signature, args),
@@ -101,18 +102,18 @@ fn interface_call(
 
 fn class_call(
     alloc: Global,
-    remote: bool,
+    x: &Context,
     at: u32,
     method: &Word,
     class: &IndexedClass,
     args: &[Placed],
 ) -> Result<TypeForm, TypeError>
-    ensures { Gives kind_of_form violation_of result (members.class_call remote at method.now (mirror_class class.now) (map placed_of args.now)) }
+    ensures { Types result (members.class_call (context_of x.now) at method.now (mirror_class class.now) (all_placed args.now)) }
 {
     match class.find_method(method) {
         Some(found) => {
             let kind = signature_kind(alloc, at, &found.signature, args)?;
-            if remote || !found.remote {
+            if x.remote || !found.remote {
                 Ok(kind)
             } else {
                 Err(TypeError::NotAllowedHere(at))
@@ -123,13 +124,13 @@ fn class_call(
 }
 
 fn receiver_interface<'a, 'b>(
-    interfaces: &'b Interfaces<'a>,
+    d: &'b Declarations<'a>,
     kind: &TypeForm,
 ) -> Option<&'b IndexedInterface<'a>>
-    ensures { option_map mirror_interface (option_copied result) ≡ members.receiver_interface (map mirror_interface interfaces.now) (kind_of_form kind.now) }
+    ensures { option_map mirror_interface (option_copied result) ≡ members.receiver_interface (declarations_of d.now) (kind_of_form kind.now) }
 {
     match kind {
-        TypeForm::Named(name) => interfaces.find(name),
+        TypeForm::Named(name) => d.interfaces.find(name),
         TypeForm::Int | TypeForm::Bool | TypeForm::Text => None,
         TypeForm::Unit | TypeForm::ListOf(_) | TypeForm::RowsOf(_) => None,
     }
@@ -145,13 +146,13 @@ pub fn call_kind(
     p: &Placed,
     args: &[Placed],
 ) -> Result<TypeForm, TypeError>
-    ensures { Gives kind_of_form violation_of result (members.call_kind (map mirror_interface x.now.interfaces.now) (map mirror_class x.now.classes.now) x.now.remote at method.now (placed_of p.now) (map placed_of args.now)) }
+    ensures { Types result (members.call_kind (context_of x.now) at method.now (placed_of p.now) (all_placed args.now)) }
 {
-    match receiver_interface(x.interfaces, &p.kind) {
+    match receiver_interface(x.declared, &p.kind) {
         Some(interface) => interface_call(alloc, at, method, interface, args),
         None => {
-            let class = receiver_class(alloc, x.classes, p)?;
-            class_call(alloc, x.remote, at, method, class, args)
+            let class = receiver_class(alloc, x.declared, p)?;
+            class_call(alloc, x, at, method, class, args)
         }
     }
 }
@@ -159,14 +160,14 @@ pub fn call_kind(
 /// A new object: the class is there, and the arguments fit its fields.
 pub fn new_kind(
     alloc: Global,
-    classes: &Classes,
+    d: &Declarations,
     at: u32,
     name: &Word,
     args: &[Placed],
 ) -> Result<TypeForm, TypeError>
-    ensures { Gives kind_of_form violation_of result (members.new_kind (map mirror_class classes.now) at name.now (map placed_of args.now)) }
+    ensures { Types result (members.new_kind (declarations_of d.now) at name.now (all_placed args.now)) }
 {
-    match classes.find(name) {
+    match d.classes.find(name) {
         Some(class) => {
             arguments_fit(alloc, at, class.get().fields.as_slice(), args)?;
             Ok(TypeForm::Named(copy_word(alloc, name)?))

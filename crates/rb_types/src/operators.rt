@@ -3,8 +3,7 @@
 ghost use Rattle.std.specs.Prelude.{◌≡◌};
 ghost use Rattle.rb_meaning_types.specs.Kinds.{kind_of_form};
 ghost use Rattle.rb_meaning_types.specs.Operators as operators;
-ghost use Rattle.rb_meaning_types.specs.Violations.{violation_of};
-ghost use Rattle.rb_trees.specs.Outcome.{Gives};
+ghost use Rattle.rb_types.specs.Checks.{Types};
 ghost use Rattle.rb_types.specs.Views.{placed_of};
 
 use crate::kinds::{
@@ -26,7 +25,7 @@ fn takes_operand(op: UnOp, kind: &TypeForm) -> bool
 
 /// The type of an operator's result, or the violation of its operand.
 pub fn unary_kind(alloc: Global, op: UnOp, p: &Placed) -> Result<TypeForm, TypeError>
-    ensures { Gives kind_of_form violation_of result (operators.unary_kind op (placed_of p.now)) }
+    ensures { Types result (operators.unary_kind op (placed_of p.now)) }
 {
     if !takes_operand(op, &p.kind) {
         return Err(wrong_type(alloc, p));
@@ -51,7 +50,7 @@ fn takes_left(op: BinOp, kind: &TypeForm) -> bool
 }
 
 fn binary_result(alloc: Global, op: BinOp, kind: &TypeForm) -> Result<TypeForm, TypeError>
-    ensures { Gives kind_of_form violation_of result (Ok (operators.binary_result op (kind_of_form kind.now))) }
+    ensures { Types result (Ok (operators.binary_result op (kind_of_form kind.now))) }
 {
     match op {
         BinOp::Add => copy_kind(alloc, kind),
@@ -63,7 +62,7 @@ fn binary_result(alloc: Global, op: BinOp, kind: &TypeForm) -> Result<TypeForm, 
 
 /// The type of an operator's result, or the violation of its left or right operand.
 pub fn binary_kind(alloc: Global, op: BinOp, p: &Placed, q: &Placed) -> Result<TypeForm, TypeError>
-    ensures { Gives kind_of_form violation_of result (operators.binary_kind op (placed_of p.now) (placed_of q.now)) }
+    ensures { Types result (operators.binary_kind op (placed_of p.now) (placed_of q.now)) }
 {
     if !takes_left(op, &p.kind) {
         return Err(wrong_type(alloc, p));
@@ -73,7 +72,7 @@ pub fn binary_kind(alloc: Global, op: BinOp, p: &Placed, q: &Placed) -> Result<T
 }
 
 fn item_of(alloc: Global, p: &Placed) -> Result<TypeForm, TypeError>
-    ensures { Gives kind_of_form violation_of result (operators.item_of (placed_of p.now) (kind_of_form p.now.kind)) }
+    ensures { Types result (operators.item_of (placed_of p.now) (kind_of_form p.now.kind)) }
 {
     match &p.kind {
         TypeForm::ListOf(item) => copy_kind(alloc, &item.get().form),
@@ -84,7 +83,7 @@ fn item_of(alloc: Global, p: &Placed) -> Result<TypeForm, TypeError>
 
 /// The type of a list's item, or the violation of the list or the index.
 pub fn index_kind(alloc: Global, p: &Placed, q: &Placed) -> Result<TypeForm, TypeError>
-    ensures { Gives kind_of_form violation_of result (operators.index_kind (placed_of p.now) (placed_of q.now)) }
+    ensures { Types result (operators.index_kind (placed_of p.now) (placed_of q.now)) }
 {
     let item = item_of(alloc, p)?;
     wanted(alloc, &TypeForm::Int, q)?;

@@ -1,93 +1,84 @@
-ghost use Rattle.std.specs.Prelude.{◌≡◌, map, OnOk, IfOk};
+// Whole programs and services.
+#![tactic(auto, using(crate::proofs::Rules::rules))]
+
+ghost use Rattle.std.specs.Prelude.{◌≡◌, map, IfOk};
 ghost use Rattle.rb_trees.specs.mirror.Declarations.{mirror_class, mirror_program};
+ghost use Rattle.rb_trees.specs.Outcome.{Gives};
+ghost use Rattle.rb_meaning_types.specs.Declared.{of_program};
 ghost use Rattle.rb_meaning_types.specs.Programs as judged;
-ghost use Rattle.rb_meaning_types.specs.Notes as notes;
+ghost use Rattle.rb_meaning_types.specs.Notes.{program_notes};
 ghost use Rattle.rb_meaning_types.specs.Lawful.{IsLawfulService};
 ghost use Rattle.rb_meaning_types.specs.Violations.{violation_of};
-ghost use Rattle.rb_trees.specs.Outcome.{Gives};
-ghost use Rattle.rb_types.specs.Views.{notes_of};
+ghost use Rattle.rb_types.specs.Checks.{Passes, Notes};
+ghost use Rattle.rb_types.specs.Steps as steps;
+ghost use Rattle.rb_types.specs.Views.{declarations_of, notes_of};
 
-use crate::bodies::{check_body, check_class_bodies};
-use crate::classes::Classes;
-use crate::context::Context;
+use crate::checker::Checker;
+use crate::context::{Context, Declarations};
 use crate::declarations::check_declarations;
-use crate::interfaces::Interfaces;
 use crate::kinds::Placed;
 use crate::places::main_type;
-use crate::scope::Scope;
 use rb_trees::{Class, Program, Seq, TypeError};
 use std::alloc::Global;
 
-fn check_main<'a>(
-    alloc: Global,
-    interfaces: &'a Interfaces,
-    classes: &'a Classes,
-    program: &Program,
-    noted: &mut Seq<Placed>,
-) -> Result<(), TypeError>
-    requires interfaces { interfaces.now ≡ program.now.interfaces }
-    requires classes { classes.now ≡ program.now.classes }
-    ensures gives { Gives (λ u. u) violation_of result (judged.check_main (mirror_program program.now)) }
-    ensures notes { OnOk result (notes_of noted.new ≡ notes.main_noted (notes_of noted.old) (mirror_program program.now)) }
+impl Checker {
+    #[tactic(auto, using(crate::proofs::BodyRules::body_rules))]
+    fn check_main(&mut self, d: &Declarations, program: &Program) -> Result<(), TypeError>
+        requires { declarations_of d.now ≡ of_program (mirror_program program.now) }
+        ensures { Notes (steps.main (mirror_program program.now)) self.old result self.new }
+    {
+        main_type(d, program.at, &program.result)?;
+        self.scope.truncate(0);
+        let x = Context {
+            declared: d,
+            this: None,
+            remote: true,
+        };
+        self.check_body(&x, program.at, &program.result, &program.body)
+    }
+}
+
+/// The declarations, then the bodies of all methods.
+fn check_classes(alloc: Global, d: &Declarations) -> Result<Checker, TypeError>
+    ensures { Gives (λ c. notes_of c.notes) violation_of result (steps.declared (declarations_of d.now)) }
 {
-    main_type(interfaces, classes, program.at, &program.result)?;
-    let x = Context {
-        interfaces,
-        classes,
-        this: None,
-        remote: true,
-        service: false,
-    };
-    let scope = Scope::new(alloc);
-    check_body(
-        alloc,
-        &x,
-        scope,
-        noted,
-        program.at,
-        &program.result,
-        &program.body,
-    )
+    check_declarations(alloc, d)?;
+    let mut checker = Checker::new(alloc);
+    checker.check_class_bodies(d, d.classes.as_slice())?;
+    Ok(checker)
+}
+
+#[tactic(auto, using(crate::proofs::BodyRules::body_rules))]
+fn check_declared(
+    alloc: Global,
+    d: &Declarations,
+    program: &Program,
+) -> Result<Seq<Placed>, TypeError>
+    requires { declarations_of d.now ≡ of_program (mirror_program program.now) }
+    ensures { Gives notes_of violation_of result (steps.program (mirror_program program.now)) }
+{
+    let mut checker = check_classes(alloc, d)?;
+    checker.check_main(d, program)?;
+    Ok(checker.notes)
 }
 
 /// The types of a program's expressions by position, or the first violation.
 pub fn check_all(alloc: Global, program: &Program) -> Result<Seq<Placed>, TypeError>
-    ensures gives { Gives (λ u. tt) violation_of result (judged.check_program (mirror_program program.now)) }
-    ensures notes { IfOk result (λ all. notes_of all ≡ notes.program_notes (mirror_program program.now)) }
+    ensures gives { Gives (λ all. tt) violation_of result (judged.check_program (mirror_program program.now)) }
+    ensures notes { IfOk result (λ all. notes_of all ≡ program_notes (mirror_program program.now)) }
 {
-    let interfaces = Interfaces::new(alloc, program.interfaces.as_slice())?;
-    let classes = Classes::new(alloc, program.classes.as_slice())?;
-    check_declarations(alloc, &interfaces, &classes, false)?;
-    let mut all = Seq::new(alloc);
-    check_class_bodies(
-        alloc,
-        &interfaces,
-        &classes,
-        false,
-        &mut all,
-        classes.as_slice(),
-    )?;
-    check_main(alloc, &interfaces, &classes, program, &mut all)?;
-    Ok(all)
+    let declared = Declarations::of_program(alloc, program)?;
+    check_declared(alloc, &declared, program)
 }
 
 /// Checks the classes of a service: Ok exactly where they are typed, else the first violation. The rule
 /// stands in `check_service` of `rb_meaning_types`. Memory is free.
+#[tactic(auto, using(crate::proofs::BodySteps::service_is, crate::proofs::Rules::rules))]
 pub fn check_service(alloc: Global, classes: &Seq<Class>) -> Result<(), TypeError>
     requires { IsLawfulService (map mirror_class classes.now) }
-    ensures { Gives (λ u. u) violation_of result (judged.check_service (map mirror_class classes.now)) }
+    ensures { Passes result (judged.check_service (map mirror_class classes.now)) }
 {
-    let none = Seq::new(alloc);
-    let interfaces = Interfaces::new(alloc, none.as_slice())?;
-    let classes = Classes::new(alloc, classes.as_slice())?;
-    check_declarations(alloc, &interfaces, &classes, true)?;
-    let mut all = Seq::new(alloc);
-    check_class_bodies(
-        alloc,
-        &interfaces,
-        &classes,
-        true,
-        &mut all,
-        classes.as_slice(),
-    )
+    let declared = Declarations::of_service(alloc, classes.as_slice())?;
+    check_classes(alloc, &declared)?;
+    Ok(())
 }

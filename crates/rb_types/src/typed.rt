@@ -1,4 +1,6 @@
-ghost use Rattle.std.specs.Prelude.{◌≡◌, ℕ, IfOk, IsTrue};
+// Typed programs.
+ghost use Rattle.std.specs.Prelude.{◌≡◌, nat_eq, IfOk, IsTrue};
+ghost use Rattle.std.specs.HashMap.{get};
 ghost use Rattle.std.specs.Option.{option_copied};
 ghost use Rattle.rb_trees.specs.mirror.Declarations.{mirror_program};
 ghost use Rattle.rb_meaning_types.specs.Programs.{check_program, is_typed};
@@ -7,7 +9,7 @@ ghost use Rattle.rb_meaning_types.specs.Batches.{batch_count};
 ghost use Rattle.rb_meaning_types.specs.Lawful.{IsLawful};
 ghost use Rattle.rb_meaning_types.specs.Violations.{violation_of};
 ghost use Rattle.rb_trees.specs.Outcome.{Gives};
-ghost use Rattle.rb_types.specs.Given.{kind_given};
+ghost use Rattle.rb_types.specs.Given.{kind_given, AreTypes};
 
 use crate::batches::count_batches;
 use crate::index::index_notes;
@@ -28,15 +30,14 @@ pub struct Typed {
 }
 
 impl Model for Typed {
-    ghost use Rattle.std.specs.Prelude.{◌≡◌, ℕ, IsTrue, nat_eq};
+    ghost use Rattle.std.specs.Prelude.{◌≡◌, IsTrue, nat_eq};
     ghost use Rattle.std.specs.HashMap.{get};
     ghost use Rattle.rb_trees.specs.declared.declarations.Program.{Program};
     ghost use Rattle.rb_trees.specs.mirror.Declarations.{mirror_program};
     ghost use Rattle.rb_meaning_types.specs.Programs.{is_typed};
-    ghost use Rattle.rb_meaning_types.specs.Notes as notes;
     ghost use Rattle.rb_meaning_types.specs.Batches.{batch_count};
     ghost use Rattle.rb_meaning_types.specs.Lawful.{IsLawful};
-    ghost use Rattle.rb_types.specs.Given.{kind_given};
+    ghost use Rattle.rb_types.specs.Given.{AreTypes};
     ghost use Rattle.rb_trees.specs.contracts.declarations.Program as program_code;
 
     ghost Value = { Program };
@@ -46,7 +47,7 @@ impl Model for Typed {
     ghost view = { λ t. t.program };
 
     ghost invariant = { λ t. IsTrue (is_typed (mirror_program t.program)) × IsLawful (mirror_program t.program) × (t.batches ≡ batch_count (mirror_program t.program))
-        × ((at : ℕ) → kind_given (get nat_eq t.types at) ≡ notes.type_at (mirror_program t.program) at) };
+        × AreTypes (mirror_program t.program) (get nat_eq t.types) };
 }
 
 impl Typed {
@@ -75,6 +76,31 @@ impl Typed {
     }
 }
 
+// What is found of a program that is typed.
+#[derive(Drop)]
+struct Found {
+    batches: u32,
+    types: HashMap<u32, TypeForm>,
+}
+
+fn find_types(alloc: Global, program: &Program) -> Result<HashMap<u32, TypeForm>, TypeError>
+    ensures gives { Gives (λ t. tt) violation_of result (check_program (mirror_program program.now)) }
+    ensures types { IfOk result (λ types. AreTypes (mirror_program program.now) (get nat_eq types)) }
+{
+    let all = check_all(alloc, program)?;
+    Ok(index_notes(alloc, all)?)
+}
+
+fn find(alloc: Global, program: &Program) -> Result<Found, TypeError>
+    ensures gives { Gives (λ t. tt) violation_of result (check_program (mirror_program program.now)) }
+    ensures batches { IfOk result (λ found. found.batches ≡ batch_count (mirror_program program.now)) }
+    ensures types { IfOk result (λ found. AreTypes (mirror_program program.now) (get nat_eq found.types)) }
+{
+    let batches = count_batches(program)?;
+    let types = find_types(alloc, program)?;
+    Ok(Found { batches, types })
+}
+
 /// Checks a program: Ok exactly where it is typed, else the first violation. The rule stands in
 /// `check_program` of `rb_meaning_types`. Memory is free.
 pub fn check(alloc: Global, program: Program) -> Result<Typed, TypeError>
@@ -82,9 +108,7 @@ pub fn check(alloc: Global, program: Program) -> Result<Typed, TypeError>
     ensures gives { Gives (λ t. tt) violation_of result (check_program (mirror_program program)) }
     ensures same { IfOk result (λ t. t ≡ program) }
 {
-    let all = check_all(alloc, &program)?;
-    let batches = count_batches(&program)?;
-    let types = index_notes(alloc, all)?;
+    let Found { batches, types } = find(alloc, &program)?;
     Ok(Typed {
         program,
         batches,
