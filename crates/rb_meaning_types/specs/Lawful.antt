@@ -1,7 +1,8 @@
 -- Lawful programs and services, as a parser gives them: what checking may rely on, whether the
 -- program is typed or not.
-use Rattle.std.specs.Prelude.{ℕ, ◌<◌, ◌≤◌, ◌^◌, max, suc, List, [], ◌∷◌, ◌++◌, length, Bool, true, false, ◌||◌, ◌&&◌, nat_le, nat_eq, IsTrue, Option, Some, None}
+use Rattle.std.specs.Prelude.{ℕ, ◌<◌, ◌≤◌, ◌^◌, max, suc, List, [], ◌∷◌, ◌++◌, length, nat_eq, Option, Some, None}
 use Rattle.std.specs.List.{All, IsDistinct}
+use Rattle.rb_trees.specs.Spelling.{IsName}
 use Rattle.rb_trees.specs.declared.values.Value.{Value}
 use Rattle.rb_trees.specs.declared.values.Value.TheOpen.{Value-F}
 use Rattle.rb_trees.specs.declared.values.Value.TheViews.{out-Value}
@@ -10,21 +11,6 @@ use Rattle.rb_trees.specs.mirror.Types.{TypeTree}
 use Rattle.rb_trees.specs.mirror.Code.{Expr, Exprs, Lit, Name, This, Unary, Binary, Field, Call, Index, New, Items, Taken, NoExprs, MoreExprs, Stmt, Stmts, Val, Var, Assign, Run, Print, Throw, If, While, For, Try, Batch, NoStmts, MoreStmts}
 use Rattle.rb_trees.specs.mirror.Declarations.{Param, Signature, Interface, Body, Method, Class, Program}
 use Rattle.rb_meaning_types.specs.Values.{IsText}
-
--- A name: a letter or `_`, then letters, digits and `_`.
-abbrev pub is_letter : ℕ → Bool
-is_letter c = (nat_le 65 c && nat_le c 90) || (nat_le 97 c && nat_le c 122) || nat_eq c 95
-
-abbrev pub is_name_rest : List ℕ → Bool
-is_name_rest [] = true
-is_name_rest (c ∷ cs) = (is_letter c || (nat_le 48 c && nat_le c 57)) && is_name_rest cs
-
-abbrev pub is_name : List ℕ → Bool
-is_name [] = false
-is_name (c ∷ cs) = is_letter c && is_name_rest cs
-
-abbrev pub IsName : List ℕ → Type 0
-IsName name = IsTrue (is_name name)
 
 -- A list that a position can count.
 abbrev pub IsShort : {A : Type 0} → List A → Type 0
@@ -53,7 +39,7 @@ abbrev pub expr_count : Exprs → ℕ
 expr_count NoExprs = 0
 expr_count (MoreExprs e es) = suc (expr_count es)
 
--- An expression: its names have a name's form, its literals are such, its lists are short, and no value
+-- An expression: its names and literals are such, its lists are short, and no value
 -- of a script is taken.
 abbrev mutual
   pub IsLawfulExpr : Expr → Type 0

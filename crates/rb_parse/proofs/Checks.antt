@@ -1,11 +1,11 @@
 -- What the table has to keep, as tests of it that compute.
-use Rattle.std.proofs.Common.{◌≡◌, ℕ, Bool, true, false, cond, List, [], ◌∷◌, ◌++◌, refl, Option, Some, None, ltb}
+use Rattle.std.proofs.Common.{◌≡◌, ℕ, Bool, true, false, List, [], ◌∷◌, ◌++◌, refl, Option, Some, None, ltb, ◌&&◌, not}
 use Rattle.rb_trees.specs.declared.tokens.TokenKind.{TokenKind}
 use Rattle.rb_meaning_bytes.specs.grammar.Symbols as s
 use Rattle.rb_meaning_bytes.specs.grammar.Symbols.{Symbol, Terminal, The, Nonterminal, Chain, MoreChain}
 use Rattle.rb_parse.specs.Table.{Choice, begins, may_be_empty, symbol_may_be_empty, all_begin, cases, otherwise}
 use Rattle.rb_parse.specs.Reading.{rank}
-use Rattle.rb_parse.proofs.KindLists.{both, within, apart}
+use Rattle.rb_parse.proofs.KindLists.{within, apart}
 
 -- the kinds that can't follow an operand of a level, since it would go on with them
 
@@ -75,25 +75,29 @@ pub implied : (a b : Bool) → implies a b ≡ true → a ≡ true → b ≡ tru
 implied true b h e = h
 implied false b h e = cc
 
+pub implies_true : (a b : Bool) → (a ≡ true → b ≡ true) → implies a b ≡ true
+implies_true true b f = f refl
+implies_true false b f = refl
+
 abbrev pub all_empty : List Symbol → Bool
 all_empty [] = true
-all_empty (x ∷ l) = both (symbol_may_be_empty x) (all_empty l)
+all_empty (x ∷ l) = symbol_may_be_empty x && all_empty l
 
 -- the parts that symbols begin with have ranks below r
 abbrev pub ranked : ℕ → List Symbol → Bool
 ranked r [] = true
 ranked r (Terminal kind ∷ l) = true
-ranked r (The p ∷ l) = both (ltb (rank p) r) (implies (may_be_empty p) (ranked r l))
+ranked r (The p ∷ l) = ltb (rank p) r && implies (may_be_empty p) (ranked r l)
 
 -- no symbol would go on with what the next ones begin with
 abbrev pub fitting : List Symbol → Bool
 fitting [] = true
-fitting (x ∷ l) = both (apart (all_begin l) (symbol_bars x)) (fitting l)
+fitting (x ∷ l) = apart (all_begin l) (symbol_bars x) && fitting l
 
 -- what bars the symbols that may stand last is among the kinds
 abbrev pub ending : List TokenKind → List Symbol → Bool
 ending ks [] = true
-ending ks (x ∷ l) = both (implies (all_empty l) (within (symbol_bars x) ks)) (ending ks l)
+ending ks (x ∷ l) = implies (all_empty l) (within (symbol_bars x) ks) && ending ks l
 
 -- a production of the part is as the table says
 pub record Sound (p : Nonterminal) (l : List Symbol) : Type 0 where
@@ -104,13 +108,13 @@ pub record Sound (p : Nonterminal) (l : List Symbol) : Type 0 where
   pub ends : ending (bars p) l ≡ true
 
 abbrev pub sound_at : Nonterminal → List Symbol → Bool
-sound_at p l = both (ranked (rank p) l) (both (implies (all_empty l) (may_be_empty p)) (both (within (all_begin l) (begins p)) (both (fitting l) (ending (bars p) l))))
+sound_at p l = ranked (rank p) l && (implies (all_empty l) (may_be_empty p) && (within (all_begin l) (begins p) && (fitting l && ending (bars p) l)))
 
 -- each production is sound
 abbrev pub all_sound : {source : List ℕ} (p : Nonterminal) → List (Choice source p) → Option (Choice source p) → Bool
 all_sound p [] None = true
 all_sound p [] (Some c) = sound_at p c.parts
-all_sound p (c ∷ cs) d = both (sound_at p c.parts) (all_sound p cs d)
+all_sound p (c ∷ cs) d = sound_at p c.parts && all_sound p cs d
 
 -- the kinds that some production begins with
 abbrev pub any_begin : {source : List ℕ} {p : Nonterminal} → List (Choice source p) → Option (Choice source p) → List TokenKind
@@ -121,10 +125,10 @@ any_begin (c ∷ cs) d = all_begin c.parts ++ any_begin cs d
 -- no two productions begin with one kind, and none but the last may be empty
 abbrev pub told_apart : {source : List ℕ} {p : Nonterminal} → List (Choice source p) → Option (Choice source p) → Bool
 told_apart [] d = true
-told_apart (c ∷ cs) d = both (apart (all_begin c.parts) (any_begin cs d)) (both (cond (all_empty c.parts) false true) (told_apart cs d))
+told_apart (c ∷ cs) d = apart (all_begin c.parts) (any_begin cs d) && (not (all_empty c.parts) && told_apart cs d)
 
 abbrev pub checks : (source : List ℕ) → Nonterminal → Bool
-checks source p = both (all_sound p (cases source p) (otherwise source p)) (both (told_apart (cases source p) (otherwise source p)) (both (implies (may_be_empty p) (within (begins p) (bars p))) (ltb (rank p) 16)))
+checks source p = all_sound p (cases source p) (otherwise source p) && (told_apart (cases source p) (otherwise source p) && (implies (may_be_empty p) (within (begins p) (bars p)) && ltb (rank p) 16))
 
 pub checked : (source : List ℕ) (p : Nonterminal) → checks source p ≡ true
 unfolding cases otherwise begins may_be_empty rank bars

@@ -1,28 +1,16 @@
 -- The reading function is what its derivations say, and it reads by the table.
 use Rattle.std.proofs.Common.{◌≡◌, ℕ, zero, suc, ◌+◌, ◌*◌, ◌<◌, ◌≤◌, Bool, true, false, cond, List, [], ◌∷◌, length, refl, ap, sym, ◌∙◌, Option, Some, None, Ok, Err, arith, ltb, ltb-true, lt-ltb}
+use Rattle.std.proofs.lemmas.Bool.{and_left, and_parts, and_from}
 use Rattle.rb_trees.specs.declared.tokens.Token.{Token}
 use Rattle.rb_trees.specs.declared.tokens.TokenKind.{TokenKind}
 use Rattle.rb_meaning_bytes.specs.grammar.Kinds.{is_kind}
 use Rattle.rb_meaning_bytes.specs.grammar.Symbols.{Symbol, Terminal, The, Nonterminal, TreeOf, Trees, Makes, made}
 use Rattle.rb_parse.specs.Table.{Choice, may_be_empty, predict}
 use Rattle.rb_parse.specs.Reading.{Read, Reader, ◌>>=◌, take_kind, read_into, by_choice, rank, read, read_of}
-use Rattle.rb_parse.proofs.KindLists.{both, both_one, both_two}
-use Rattle.rb_parse.proofs.Checks.{implies, implied, ranked}
+use Rattle.rb_parse.proofs.Checks.{implies, implied, implies_true, ranked}
 use Rattle.rb_parse.proofs.Predicts.{sound, predict_in, check_of}
 use Rattle.rb_parse.proofs.Takes as d
 use Rattle.rb_parse.proofs.Takes.{Takes, Stops, shorter}
-
-both_true : (a b : Bool) → a ≡ true → b ≡ true → both a b ≡ true
-both_true true b h k = k
-both_true false b h k = cc
-
-implies_true : (a b : Bool) → b ≡ true → implies a b ≡ true
-implies_true true b f = f
-implies_true false b f = refl
-
-both_end : (a : Bool) → a ≡ false → both a true ≡ false
-both_end true h = cc
-both_end false h = refl
 
 take_yes : (kind : TokenKind) (t : Token) (ts : List Token) → is_kind t.kind kind ≡ true → take_kind kind (t ∷ ts) ≡ Ok (t, ts)
 take_yes kind t ts h = ap {B = Read Token} (λ b. cond b (Ok (t, ts)) (Err (length (t ∷ ts)))) h
@@ -34,7 +22,7 @@ module _ (source : List ℕ) where
   all_ranked : (l : List Symbol) → ranked 16 l ≡ true
   all_ranked [] = refl
   all_ranked (Terminal kind ∷ l) = refl
-  all_ranked (The p ∷ l) = both_true (ltb (rank p) 16) (implies (may_be_empty p) (ranked 16 l)) (lt-ltb (rank p) 16 (check_of source p).small) (implies_true (may_be_empty p) (ranked 16 l) (all_ranked l))
+  all_ranked (The p ∷ l) = and_from (ltb (rank p) 16) (implies (may_be_empty p) (ranked 16 l)) (lt-ltb (rank p) 16 (check_of source p).small) (implies_true (may_be_empty p) (ranked 16 l) (λ e. all_ranked l))
 
   -- the symbols behind a part are within the bound
   record Room (bound : ℕ) (l : List Symbol) (ts : List Token) : Type 0 where
@@ -48,14 +36,14 @@ module _ (source : List ℕ) where
       go : (e : Bool) → may_be_empty p ≡ e → Room bound l us
       go true e =
           let s = (shorter source (d.part c h k d.done)).no_longer in
-          record { r = r; fits = omega arith; ranks = implied (may_be_empty p) (ranked r l) (both_two (ltb (rank p) r) (implies (may_be_empty p) (ranked r l)) ranks) e }
+          record { r = r; fits = omega arith; ranks = implied (may_be_empty p) (ranked r l) (and_parts (ltb (rank p) r) (implies (may_be_empty p) (ranked r l)) ranks).1 e }
       go false e =
-          let s = (shorter source (d.part c h k d.done)).some (both_end (may_be_empty p) e) in
+          let s = (shorter source (d.part c h k d.done)).some (and_left (may_be_empty p) true e) in
           record { r = 16; fits = omega arith; ranks = all_ranked l }
 
   below : (bound r : ℕ) (p : Nonterminal) (l : List Symbol) (ts : List Token) → 16 * length ts + r ≤ bound → ranked r (The p ∷ l) ≡ true → 16 * length ts + rank p < bound
   below bound r p l ts fits ranks =
-      let k : rank p < r = ltb-true (rank p) r (both_one (ltb (rank p) r) (implies (may_be_empty p) (ranked r l)) ranks) in
+      let k : rank p < r = ltb-true (rank p) r (and_parts (ltb (rank p) r) (implies (may_be_empty p) (ranked r l)) ranks).0 in
       omega arith
 
   -- How a part comes out.

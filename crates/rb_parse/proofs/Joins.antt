@@ -1,5 +1,5 @@
--- Reading a source is reading its tokens.
-use Rattle.std.proofs.Common.{ℕ, List, Result, Err}
+-- Reading a source is reading its tokens, and what is read is lawful.
+use Rattle.std.proofs.Common.{ℕ, List, Result, Ok, Err, IfOk}
 use Rattle.rb_trees.specs.declared.tokens.Token.{Token}
 use Rattle.rb_trees.specs.declared.reading.LexError.{LexError}
 use Rattle.rb_trees.specs.declared.reading.LexError.TheVariants as faults
@@ -12,8 +12,10 @@ use Rattle.rb_trees.proofs.OutcomeWords.{tells_on}
 use Rattle.rb_meaning_bytes.specs.tokens.Texts.{IsTokens, Lexed}
 use Rattle.rb_meaning_bytes.specs.grammar.Refusals.{Read}
 use Rattle.rb_meaning_bytes.specs.grammar.Sources.{ReadSource}
+use Rattle.rb_meaning_types.specs.Lawful.{IsLawful}
 use Rattle.rb_parse.specs.Told.{refusal_of}
 use Rattle.rb_parse.proofs.Outcomes.{of_tokens}
+use Rattle.rb_parse.proofs.lawful.Whole.{lawful}
 
 -- a fault is the source's refusal
 pub fault_told : (source : List ℕ) (fault : LexError) → Tells (λ (ts : List Token). ts) lex_refusal (Err fault) (Lexed source) → Refused (ReadSource source) (read_refusal (refusal_of fault))
@@ -27,3 +29,8 @@ fault_told source faults.Memory t = tt
 -- what its tokens are read as, the source is read as
 pub tokens_told : (source : List ℕ) (tokens : List Token) (answer : Result code.Program ReadError) → IsTokens source tokens → Tells mirror_program read_refusal answer (Read source tokens) → Tells mirror_program read_refusal answer (ReadSource source)
 tokens_told source tokens answer i told = tells_on mirror_program read_refusal (Read source tokens) (ReadSource source) (λ outcome r. of_tokens source tokens outcome i r) answer told
+
+-- what is answered is lawful
+pub lawful_answer : (source : List ℕ) (tokens : List Token) (answer : Result code.Program ReadError) → IsTokens source tokens → Tells mirror_program read_refusal answer (Read source tokens) → IfOk answer (λ program. IsLawful (mirror_program program))
+lawful_answer source tokens (Ok program) i told = lawful source tokens (mirror_program program) i told.0 told.1
+lawful_answer source tokens (Err error) i told = tt

@@ -3,7 +3,7 @@ use Rattle.std.proofs.Common.{◌≡◌, ℕ, zero, suc, ◌+◌, ◌-◌, ◌<�
 use Rattle.std.proofs.Math.Seq.{take-append_seam, drop-append_seam}
 use Rattle.rb_trees.specs.declared.tokens.Token.{Token}
 use Rattle.rb_trees.specs.mirror.Declarations.{Program}
-use Rattle.rb_meaning_bytes.specs.grammar.Derives.{Derives, Begins, Stuck, Breaks}
+use Rattle.rb_meaning_bytes.specs.grammar.Derives.{Derives, IsProgramPrefix, Stuck, Breaks}
 use Rattle.rb_meaning_bytes.specs.grammar.Limits.{Nesting, after, too_deep, broken, nothing_open, Within}
 use Rattle.rb_trees.specs.declared.reading.ReadError.TheVariants as errors
 use Rattle.rb_meaning_bytes.specs.grammar.Refusals.{Read, UnexpectedAt, TooNestedAt, place_of}
@@ -12,11 +12,11 @@ use Rattle.rb_parse.specs.declared.stop.Refusal.TheVariants as refusals
 use Rattle.rb_parse.specs.Reading.{program_of}
 use Rattle.rb_parse.specs.Nested.{unlimited, behind, cut_at, by_limit, limited_of}
 use Rattle.rb_parse.specs.Outcomes.{AtLeastOne}
-use Rattle.rb_parse.proofs.Fronts.{whole_sound, whole_breaks, whole_front}
+use Rattle.rb_parse.proofs.Prefixes.{whole_sound, whole_breaks, whole_prefix}
 
-pub within_front : (n : Nesting) (a b : List Token) → broken n (a ++ b) ≡ None → broken n a ≡ None
-within_front n [] b h = refl
-within_front n (t ∷ a) b h = go (too_deep (after n t.kind)) h (within_front (after n t.kind) a b)
+pub within_prefix : (n : Nesting) (a b : List Token) → broken n (a ++ b) ≡ None → broken n a ≡ None
+within_prefix n [] b h = refl
+within_prefix n (t ∷ a) b h = go (too_deep (after n t.kind)) h (within_prefix (after n t.kind) a b)
   where
     go : (e : Bool) → cond e (Some (length (t ∷ (a ++ b)))) (broken (after n t.kind) (a ++ b)) ≡ None → (broken (after n t.kind) (a ++ b) ≡ None → broken (after n t.kind) a ≡ None) → cond e (Some (length (t ∷ a))) (broken (after n t.kind) a) ≡ None
     go true h f = cc
@@ -81,14 +81,14 @@ module _ (source : List ℕ) (ts : List Token) where
       let k : length ts - left ≡ length front = omega (arith, n, simp length-append at (ap length e)) in
       ap (place_of source) (ap (λ i. drop i ts) k ∙ ap (drop (length front)) e ∙ drop-append_seam front rest)
 
-  unexpected : (front rest : List Token) (left : ℕ) → ts ≡ front ++ rest → length rest ≡ left → Within front → Begins source front → Stuck source front rest → Reads (Err (refusals.Unexpected left))
+  unexpected : (front rest : List Token) (left : ℕ) → ts ≡ front ++ rest → length rest ≡ left → Within front → IsProgramPrefix source front → Stuck source front rest → Reads (Err (refusals.Unexpected left))
   unexpected front rest left e n w g k = (few front rest left e n, record { front = front; rest = rest; is = e; within = w; goes = g; stuck = k; place = place_is front rest left e n })
 
   reads_unlimited : Within ts → (r : Result Program ℕ) → program_of source ts ≡ r → Reads (unlimited r)
   reads_unlimited w (Ok x) h = (whole_sound source ts x h, w)
   reads_unlimited w (Err left) h =
       let b = whole_breaks source ts left h in
-      unexpected b.front b.rest left b.is b.left_is (within_front nothing_open b.front b.rest (subst Within b.is w)) b.goes b.stuck
+      unexpected b.front b.rest left b.is b.left_is (within_prefix nothing_open b.front b.rest (subst Within b.is w)) b.goes b.stuck
 
   front_is : (left : ℕ) (x : BrokenAt nothing_open ts left) → take (length ts - left + 1) ts ≡ x.front ++ x.token ∷ []
   front_is left x =
@@ -96,28 +96,28 @@ module _ (source : List ℕ) (ts : List Token) where
       let n : length ts - left + 1 ≡ length (x.front ++ x.token ∷ []) = omega (arith, x.left_is, simp length-append at (ap length x.is), length-append x.front (x.token ∷ [])) in
       ap (λ k. take k ts) n ∙ ap (take (length (x.front ++ x.token ∷ []))) whole ∙ take-append_seam (x.front ++ x.token ∷ []) x.rest
 
-  nested : (left : ℕ) (x : BrokenAt nothing_open ts left) → Begins source (x.front ++ x.token ∷ []) → Reads (Err (refusals.TooNested left))
+  nested : (left : ℕ) (x : BrokenAt nothing_open ts left) → IsProgramPrefix source (x.front ++ x.token ∷ []) → Reads (Err (refusals.TooNested left))
   nested left x g =
       (few x.front (x.token ∷ x.rest) left x.is x.left_is, record { front = x.front; token = x.token; rest = x.rest; is = x.is; within = x.within; breaks = x.breaks; goes = g; place = place_is x.front (x.token ∷ x.rest) left x.is x.left_is })
 
   reads_cut : (left : ℕ) (x : BrokenAt nothing_open ts left) (r : Result Program ℕ) → program_of source (x.front ++ x.token ∷ []) ≡ r → Reads (cut_at left r)
-  reads_cut left x (Ok p) h = nested left x (whole_front source (whole_sound source (x.front ++ x.token ∷ []) p h))
+  reads_cut left x (Ok p) h = nested left x (whole_prefix source (whole_sound source (x.front ++ x.token ∷ []) p h))
   reads_cut left x (Err zero) h = ended (whole_breaks source (x.front ++ x.token ∷ []) 0 h)
     where
-      at_end : (front rest : List Token) → x.front ++ x.token ∷ [] ≡ front ++ rest → length rest ≡ 0 → Begins source front → Reads (Err (refusals.TooNested left))
-      at_end front [] e n g = nested left x (subst (Begins source) (sym (e ∙ append-nil front)) g)
+      at_end : (front rest : List Token) → x.front ++ x.token ∷ [] ≡ front ++ rest → length rest ≡ 0 → IsProgramPrefix source front → Reads (Err (refusals.TooNested left))
+      at_end front [] e n g = nested left x (subst (IsProgramPrefix source) (sym (e ∙ append-nil front)) g)
       at_end front (t ∷ rest) e n g = absurd (omega (arith, n))
 
       ended : Breaks source (x.front ++ x.token ∷ []) 0 → Reads (Err (refusals.TooNested left))
       ended b = at_end b.front b.rest b.is b.left_is b.goes
   reads_cut left x (Err (suc m)) h = stops (whole_breaks source (x.front ++ x.token ∷ []) (suc m) h)
     where
-      at_token : (front rest : List Token) → x.front ++ x.token ∷ [] ≡ front ++ rest → length rest ≡ suc m → Begins source front → Stuck source front rest → Reads (Err (refusals.Unexpected (left + m)))
+      at_token : (front rest : List Token) → x.front ++ x.token ∷ [] ≡ front ++ rest → length rest ≡ suc m → IsProgramPrefix source front → Stuck source front rest → Reads (Err (refusals.Unexpected (left + m)))
       at_token front [] e n g k = absurd (omega (arith, n))
       at_token front (t ∷ rest) e n g k =
           let i = before_end x.front x.token front t rest e in
           unexpected front (t ∷ (rest ++ x.rest)) (left + m) (x.is ∙ sym (append_assoc x.front (x.token ∷ []) x.rest) ∙ ap (λ l. l ++ x.rest) e ∙ append_assoc front (t ∷ rest) x.rest)
-          (omega (arith, n, x.left_is, length-append rest x.rest)) (within_front nothing_open front i.0 (subst Within i.1 x.within)) g k
+          (omega (arith, n, x.left_is, length-append rest x.rest)) (within_prefix nothing_open front i.0 (subst Within i.1 x.within)) g k
 
       stops : Breaks source (x.front ++ x.token ∷ []) (suc m) → Reads (Err (refusals.Unexpected (left + m)))
       stops b = at_token b.front b.rest b.is b.left_is b.goes b.stuck

@@ -6,7 +6,7 @@ pub mod Takes
 pub mod Complete
 pub mod Parted
 pub mod Function
-pub mod Fronts
+pub mod Prefixes
 pub mod Equations
 pub mod Lists
 pub mod StatementEquations
@@ -14,9 +14,9 @@ pub mod ItemLists
 pub mod DeclarationEquations
 pub mod Laws
 pub mod Outcomes
-pub mod Joins
+pub mod readable
+pub mod Shallow
 pub mod lawful
-pub mod depths
-pub mod ReadsLawful
+pub mod Joins
 pub mod printing
 pub mod PrintedReads

@@ -6,7 +6,7 @@ use Rattle.rb_trees.specs.declared.reading.ReadError.TheVariants as errors
 use Rattle.rb_trees.specs.mirror.Declarations.{Program}
 use Rattle.rb_meaning_bytes.specs.tokens.Texts.{IsTokens, IsRefusal, Lexed}
 use Rattle.rb_meaning_bytes.specs.tokens.Texts as texts
-use Rattle.rb_meaning_bytes.specs.grammar.Derives.{Derives, Begins, Stuck}
+use Rattle.rb_meaning_bytes.specs.grammar.Derives.{Derives, IsProgramPrefix, Stuck}
 use Rattle.rb_meaning_bytes.specs.grammar.Limits.{nothing_open, Within}
 use Rattle.rb_meaning_bytes.specs.grammar.Refusals.{Read, UnexpectedAt, TooNestedAt, place_of}
 use Rattle.rb_meaning_bytes.specs.grammar.Sources.{ReadSource, OfTokens}
@@ -15,11 +15,11 @@ use Rattle.rb_lex.proofs.Total.{some_outcome}
 use Rattle.rb_parse.specs.Outcomes.{Outcome, AtMostOne, AtLeastOne}
 use Rattle.rb_parse.proofs.Parted as parts
 use Rattle.rb_parse.proofs.Parted.{Parted, parted}
-use Rattle.rb_parse.proofs.Fronts.{one_tree, front_begins, whole_front}
-use Rattle.rb_parse.proofs.Laws.{within_front, some_read}
+use Rattle.rb_parse.proofs.Prefixes.{one_tree, shorter_prefix, whole_prefix}
+use Rattle.rb_parse.proofs.Laws.{within_prefix, some_read}
 
 within_one : (front : List Token) (t : Token) (more : List Token) → Within (front ++ t ∷ more) → Within (front ++ t ∷ [])
-within_one front t more w = within_front nothing_open (front ++ t ∷ []) more (subst Within (sym (append_assoc front (t ∷ []) more)) w)
+within_one front t more w = within_prefix nothing_open (front ++ t ∷ []) more (subst Within (sym (append_assoc front (t ∷ []) more)) w)
 
 not_nested : (tokens front : List Token) (t : Token) (rest : List Token) → tokens ≡ front ++ t ∷ rest → ¬ Within (front ++ t ∷ []) → ¬ Within tokens
 not_nested tokens front t rest e breaks w = breaks (within_one front t rest (subst Within e w))
@@ -38,23 +38,23 @@ one_nested (parts.behind {c} first rest) t u more others d e wf bf wg bg =
 
 module _ (source : List ℕ) where
   -- behind tokens that are stuck no text goes on
-  no_further : (front : List Token) (t : Token) (more rest : List Token) → Stuck source front (t ∷ rest) → ¬ Begins source (front ++ t ∷ more)
-  no_further front t more rest stuck b = stuck (front_begins source (front ++ t ∷ []) more (subst (Begins source) (sym (append_assoc front (t ∷ []) more)) b))
+  no_further : (front : List Token) (t : Token) (more rest : List Token) → Stuck source front (t ∷ rest) → ¬ IsProgramPrefix source (front ++ t ∷ more)
+  no_further front t more rest stuck b = stuck (shorter_prefix source (front ++ t ∷ []) more (subst (IsProgramPrefix source) (sym (append_assoc front (t ∷ []) more)) b))
 
   not_unexpected : (tokens front rest : List Token) (p : Program) → tokens ≡ front ++ rest → Stuck source front rest → ¬ Derives source tokens p
   not_unexpected tokens front [] p e stuck d = stuck p (subst (λ l. Derives source l p) (e ∙ append-nil front) d)
-  not_unexpected tokens front (t ∷ rest) p e stuck d = no_further front t rest rest stuck (whole_front source (subst (λ l. Derives source l p) e d))
+  not_unexpected tokens front (t ∷ rest) p e stuck d = no_further front t rest rest stuck (whole_prefix source (subst (λ l. Derives source l p) e d))
 
-  one_unexpected : {f r g s : List Token} → Parted f r g s → Begins source f → Stuck source f r → Begins source g → Stuck source g s → place_of source r ≡ place_of source s
+  one_unexpected : {f r g s : List Token} → Parted f r g s → IsProgramPrefix source f → Stuck source f r → IsProgramPrefix source g → Stuck source g s → place_of source r ≡ place_of source s
   one_unexpected parts.same bf sf bg sg = refl
   one_unexpected (parts.before {a} {d} t more) bf sf bg sg = absurd (no_further a t more (more ++ d) sf bg)
   one_unexpected (parts.behind {c} {b} t more) bf sf bg sg = absurd (no_further c t more (more ++ b) sg bf)
 
-  not_both : {f r g s : List Token} → Parted f r g s → (u : Token) (others : List Token) → s ≡ u ∷ others → Within f → Stuck source f r → ¬ Within (g ++ u ∷ []) → ¬ Begins source (g ++ u ∷ [])
+  not_both : {f r g s : List Token} → Parted f r g s → (u : Token) (others : List Token) → s ≡ u ∷ others → Within f → Stuck source f r → ¬ Within (g ++ u ∷ []) → ¬ IsProgramPrefix source (g ++ u ∷ [])
   not_both (parts.same {a} {b}) u others e w stuck breaks goes =
       let at : Stuck source a (u ∷ others) = subst (Stuck source a) e stuck in
       at goes
-  not_both (parts.before {a} {d} t more) u others e w stuck breaks goes = no_further a t (more ++ u ∷ []) (more ++ d) stuck (subst (Begins source) (append_assoc a (t ∷ more) (u ∷ [])) goes)
+  not_both (parts.before {a} {d} t more) u others e w stuck breaks goes = no_further a t (more ++ u ∷ []) (more ++ d) stuck (subst (IsProgramPrefix source) (append_assoc a (t ∷ more) (u ∷ [])) goes)
   not_both (parts.behind {c} {b} t more) u others e w stuck breaks goes =
       let one : t ≡ u = cc in
       breaks (subst (λ x. Within (c ++ x ∷ [])) one (within_one c t more w))

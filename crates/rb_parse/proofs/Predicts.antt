@@ -1,25 +1,22 @@
 -- What the table predicts is the production whose spelling comes.
-use Rattle.std.proofs.Common.{◌≡◌, ℕ, ◌<◌, Bool, true, false, cond, List, [], ◌∷◌, refl, ap, sym, ◌∙◌, subst, Option, Some, ltb, ltb-true}
+use Rattle.std.proofs.Common.{◌≡◌, ℕ, ◌<◌, Bool, true, false, cond, List, [], ◌∷◌, refl, ap, sym, ◌∙◌, subst, Option, Some, ltb, ltb-true, ◌&&◌, not}
+use Rattle.std.proofs.lemmas.Bool.{not-true, and_parts, false_from_ne_true}
 use Rattle.rb_trees.specs.declared.tokens.Token.{Token}
 use Rattle.rb_trees.specs.declared.tokens.TokenKind.{TokenKind}
 use Rattle.rb_meaning_bytes.specs.grammar.Kinds.{is_one_of}
 use Rattle.rb_meaning_bytes.specs.grammar.Symbols.{Symbol, Nonterminal}
 use Rattle.rb_parse.specs.Table.{Choice, begins, may_be_empty, all_begin, cases, otherwise, chosen, predict}
 use Rattle.rb_parse.specs.Reading.{rank}
-use Rattle.rb_parse.proofs.KindLists.{both, both_one, both_two, within, apart, one_within, one_apart, one_here, one_there, cond_false}
+use Rattle.rb_parse.proofs.KindLists.{within, apart, one_within, one_apart, one_here, one_there}
 use Rattle.rb_parse.proofs.Checks.{bars, implies, implied, all_empty, ranked, fitting, ending, Sound, sound_at, all_sound, any_begin, told_apart, checked}
 use Rattle.rb_parse.proofs.Listed.{In, here, there, last}
-
-pub not_true : (b : Bool) → (b ≡ true → ⊥) → b ≡ false
-not_true true f = absurd (f refl)
-not_true false f = refl
 
 pub some_same : {source : List ℕ} {p : Nonterminal} (a b : Choice source p) → Some a ≡ Some b → a ≡ b
 some_same a b h = cc
 
 sound_in : {source : List ℕ} {p : Nonterminal} {c : Choice source p} {cs : List (Choice source p)} {d : Option (Choice source p)} → In c cs d → all_sound p cs d ≡ true → sound_at p c.parts ≡ true
-sound_in {p = p} {c = c} (here {cs} {d}) h = both_one (sound_at p c.parts) (all_sound p cs d) h
-sound_in {p = p} (there {b} {cs} {d} i) h = sound_in i (both_two (sound_at p b.parts) (all_sound p cs d) h)
+sound_in {p = p} {c = c} (here {cs} {d}) h = (and_parts (sound_at p c.parts) (all_sound p cs d) h).0
+sound_in {p = p} (there {b} {cs} {d} i) h = sound_in i (and_parts (sound_at p b.parts) (all_sound p cs d) h).1
 sound_in last h = h
 
 split_sound : (p : Nonterminal) (l : List Symbol) → sound_at p l ≡ true → Sound p l
@@ -29,10 +26,10 @@ split_sound p l h =
     let c = within (all_begin l) (begins p) in
     let d = fitting l in
     let e = ending (bars p) l in
-    let h1 = both_two a (both b (both c (both d e))) h in
-    let h2 = both_two b (both c (both d e)) h1 in
-    let h3 = both_two c (both d e) h2 in
-    record { ranks = both_one a (both b (both c (both d e))) h; empties = both_one b (both c (both d e)) h1; firsts = both_one c (both d e) h2; fits = both_one d e h3; ends = both_two d e h3 }
+    let h1 = (and_parts a (b && (c && (d && e))) h).1 in
+    let h2 = (and_parts b (c && (d && e)) h1).1 in
+    let h3 = (and_parts c (d && e) h2).1 in
+    record { ranks = (and_parts a (b && (c && (d && e))) h).0; empties = (and_parts b (c && (d && e)) h1).0; firsts = (and_parts c (d && e) h2).0; fits = (and_parts d e h3).0; ends = (and_parts d e h3).1 }
 
 -- what the checks of a part say
 pub record Checked (source : List ℕ) (p : Nonterminal) : Type 0 where
@@ -48,9 +45,9 @@ check_of source p =
     let b = told_apart (cases source p) (otherwise source p) in
     let c = implies (may_be_empty p) (within (begins p) (bars p)) in
     let d = ltb (rank p) 16 in
-    let h1 = both_two a (both b (both c d)) h in
-    let h2 = both_two b (both c d) h1 in
-    record { all = both_one a (both b (both c d)) h; told = both_one b (both c d) h1; bared = both_one c d h2; small = ltb-true (rank p) 16 (both_two c d h2) }
+    let h1 = (and_parts a (b && (c && d)) h).1 in
+    let h2 = (and_parts b (c && d) h1).1 in
+    record { all = (and_parts a (b && (c && d)) h).0; told = (and_parts b (c && d) h1).0; bared = (and_parts c d h2).0; small = ltb-true (rank p) 16 (and_parts c d h2).1 }
 
 pub sound : {source : List ℕ} {p : Nonterminal} (c : Choice source p) → In c (cases source p) (otherwise source p) → Sound p c.parts
 sound {source} {p} c i = split_sound p c.parts (sound_in i (check_of source p).all)
@@ -79,21 +76,21 @@ begins_in k last h = h
 told_in : {source : List ℕ} {p : Nonterminal} {c : Choice source p} {cs : List (Choice source p)} {d : Option (Choice source p)} (k : TokenKind) → In c cs d → told_apart cs d ≡ true → is_one_of k (all_begin c.parts) ≡ true → chosen k cs d ≡ Some c
 told_in {c = c} k (here {cs} {d}) h e = ap (λ b. cond b (Some c) (chosen k cs d)) e
 told_in {c = c} k (there {b} {cs} {d} i) h e =
-    let n : is_one_of k (all_begin b.parts) ≡ false = not_true (is_one_of k (all_begin b.parts)) (λ y. cc (one_apart k (all_begin b.parts) (any_begin cs d) (both_one (apart (all_begin b.parts) (any_begin cs d)) _ h) y, begins_in k i e)) in
-    ap (λ x. cond x (Some b) (chosen k cs d)) n ∙ told_in k i (both_two _ (told_apart cs d) (both_two (apart (all_begin b.parts) (any_begin cs d)) _ h)) e
+    let n : is_one_of k (all_begin b.parts) ≡ false = false_from_ne_true (is_one_of k (all_begin b.parts)) (λ y. cc (one_apart k (all_begin b.parts) (any_begin cs d) (and_parts (apart (all_begin b.parts) (any_begin cs d)) _ h).0 y, begins_in k i e)) in
+    ap (λ x. cond x (Some b) (chosen k cs d)) n ∙ told_in k i (and_parts _ (told_apart cs d) (and_parts (apart (all_begin b.parts) (any_begin cs d)) _ h).1).1 e
 told_in k last h e = refl
 
 untold_in : {source : List ℕ} {p : Nonterminal} {c : Choice source p} {cs : List (Choice source p)} {d : Option (Choice source p)} (k : TokenKind) → In c cs d → told_apart cs d ≡ true → all_sound p cs d ≡ true → all_empty c.parts ≡ true → is_one_of k (begins p) ≡ false → chosen k cs d ≡ Some c
-untold_in {c = c} k (here {cs} {d}) h a e n = cc (cond_false (all_empty c.parts) (both_one (cond (all_empty c.parts) false true) (told_apart cs d) (both_two (apart (all_begin c.parts) (any_begin cs d)) _ h)))
+untold_in {c = c} k (here {cs} {d}) h a e n = cc (not-true (all_empty c.parts) (and_parts (not (all_empty c.parts)) (told_apart cs d) (and_parts (apart (all_begin c.parts) (any_begin cs d)) _ h).1).0)
 untold_in {p = p} {c = c} k (there {b} {cs} {d} i) h a e n =
-    let s = split_sound p b.parts (both_one (sound_at p b.parts) (all_sound p cs d) a) in
-    let m : is_one_of k (all_begin b.parts) ≡ false = not_true (is_one_of k (all_begin b.parts)) (λ y. cc (one_within k (all_begin b.parts) (begins p) s.firsts y)) in
-    ap (λ x. cond x (Some b) (chosen k cs d)) m ∙ untold_in k i (both_two _ (told_apart cs d) (both_two (apart (all_begin b.parts) (any_begin cs d)) _ h)) (both_two (sound_at p b.parts) (all_sound p cs d) a) e n
+    let s = split_sound p b.parts (and_parts (sound_at p b.parts) (all_sound p cs d) a).0 in
+    let m : is_one_of k (all_begin b.parts) ≡ false = false_from_ne_true (is_one_of k (all_begin b.parts)) (λ y. cc (one_within k (all_begin b.parts) (begins p) s.firsts y)) in
+    ap (λ x. cond x (Some b) (chosen k cs d)) m ∙ untold_in k i (and_parts _ (told_apart cs d) (and_parts (apart (all_begin b.parts) (any_begin cs d)) _ h).1).1 (and_parts (sound_at p b.parts) (all_sound p cs d) a).1 e n
 untold_in k last h a e n = refl
 
 ended_in : {source : List ℕ} {p : Nonterminal} {c : Choice source p} {cs : List (Choice source p)} {d : Option (Choice source p)} → In c cs d → told_apart cs d ≡ true → all_empty c.parts ≡ true → d ≡ Some c
-ended_in {c = c} (here {cs} {d}) h e = cc (cond_false (all_empty c.parts) (both_one (cond (all_empty c.parts) false true) (told_apart cs d) (both_two (apart (all_begin c.parts) (any_begin cs d)) _ h)))
-ended_in (there {b} {cs} {d} i) h e = ended_in i (both_two _ (told_apart cs d) (both_two (apart (all_begin b.parts) (any_begin cs d)) _ h)) e
+ended_in {c = c} (here {cs} {d}) h e = cc (not-true (all_empty c.parts) (and_parts (not (all_empty c.parts)) (told_apart cs d) (and_parts (apart (all_begin c.parts) (any_begin cs d)) _ h).1).0)
+ended_in (there {b} {cs} {d} i) h e = ended_in i (and_parts _ (told_apart cs d) (and_parts (apart (all_begin b.parts) (any_begin cs d)) _ h).1).1 e
 ended_in last h e = refl
 
 -- a production that the next token begins is predicted
@@ -112,4 +109,4 @@ untold {source} {p} c i (t ∷ ts) e n =
     let k = check_of source p in
     let m : may_be_empty p ≡ true = implied (all_empty c.parts) (may_be_empty p) (sound c i).empties e in
     let w : within (begins p) (bars p) ≡ true = implied (may_be_empty p) (within (begins p) (bars p)) k.bared m in
-    untold_in t.kind i k.told k.all e (not_true (is_one_of t.kind (begins p)) (λ y. cc (one_within t.kind (begins p) (bars p) w y)))
+    untold_in t.kind i k.told k.all e (false_from_ne_true (is_one_of t.kind (begins p)) (λ y. cc (one_within t.kind (begins p) (bars p) w y)))

@@ -7,7 +7,7 @@ use Rattle.rb_meaning_bytes.specs.tokens.Texts.{longest_text}
 use Rattle.rb_meaning_bytes.specs.grammar.Sources.{ReadSource}
 use Rattle.rb_parse.specs.ReadsBack.{ReadsBack}
 use Rattle.rb_parse.proofs.printing.Spots.{tokens_at}
-use Rattle.rb_parse.proofs.printing.readable.Whole.{readable}
+use Rattle.rb_parse.proofs.readable.Whole.{readable}
 use Rattle.rb_parse.proofs.printing.lexed.Whole.{lexed}
 use Rattle.rb_parse.proofs.printing.derived.Whole.{derived}
 use Rattle.rb_parse.proofs.printing.within.Programs.{within}

@@ -1,5 +1,6 @@
 -- How reading goes, as derivations: symbols take tokens up to a rest, or stop with so many tokens left.
-use Rattle.std.proofs.Common.{◌≡◌, ℕ, ◌<◌, ◌≤◌, Bool, true, false, List, [], ◌∷◌, ◌++◌, length, refl, ap, sym, ◌∙◌, subst, Option, Some, None, arith, append_assoc, length-append}
+use Rattle.std.proofs.Common.{◌≡◌, ℕ, ◌<◌, ◌≤◌, Bool, true, false, List, [], ◌∷◌, ◌++◌, length, refl, ap, sym, ◌∙◌, subst, Option, Some, None, arith, append_assoc, length-append, ◌&&◌}
+use Rattle.std.proofs.lemmas.List.{append_cancel_right}
 use Rattle.rb_trees.specs.declared.tokens.Token.{Token}
 use Rattle.rb_trees.specs.declared.tokens.TokenKind.{TokenKind}
 use Rattle.rb_meaning_bytes.specs.grammar.Kinds.{is_kind}
@@ -7,7 +8,7 @@ use Rattle.rb_meaning_bytes.specs.grammar.Symbols.{Symbol, Terminal, The, Nonter
 use Rattle.rb_meaning_bytes.specs.grammar.Derives as g
 use Rattle.rb_meaning_bytes.specs.grammar.Derives.{Spells, IsPrefix}
 use Rattle.rb_parse.specs.Table.{Choice, may_be_empty, predict}
-use Rattle.rb_parse.proofs.KindLists.{kind_same, both}
+use Rattle.rb_parse.proofs.KindLists.{kind_same}
 use Rattle.rb_parse.proofs.Checks.{all_empty, implies}
 use Rattle.rb_parse.proofs.Predicts.{sound, predict_in}
 
@@ -33,7 +34,7 @@ pub data Stops (source : List ℕ) : List Symbol → List Token → ℕ → Type
   behind_part : {p : Nonterminal} {l : List Symbol} {ts ms : List Token} {m : ℕ} (c : Choice source p) {ys : Trees c.parts}
       → predict source p ts ≡ Some c → Takes source c.parts ts ys ms → Stops source l ms m → Stops source (The p ∷ l) ts m
 
-shorter_part : (m ce le : Bool) (x y z : ℕ) → implies ce m ≡ true → both m le ≡ false → y ≤ x → (ce ≡ false → y < x) → z ≤ y → (le ≡ false → z < y) → z < x
+shorter_part : (m ce le : Bool) (x y z : ℕ) → implies ce m ≡ true → (m && le) ≡ false → y ≤ x → (ce ≡ false → y < x) → z ≤ y → (le ≡ false → z < y) → z < x
 shorter_part true ce le x y z i n a f b g = let k = g n in omega arith
 shorter_part false true le x y z i n a f b g = cc
 shorter_part false false le x y z i n a f b g = let k = f refl in omega arith
@@ -43,12 +44,6 @@ same_end [] [] c d h n = h
 same_end [] (b ∷ y) c d h n = absurd (omega (arith, simp length-append at (ap length h)))
 same_end (a ∷ x) [] c d h n = absurd (omega (arith, simp length-append at (ap length h)))
 same_end (a ∷ x) (b ∷ y) c d h n = same_end x y c d (cc) n
-
-pub same_front : (x y c : List Token) → x ++ c ≡ y ++ c → x ≡ y
-same_front [] [] c h = refl
-same_front [] (b ∷ y) c h = absurd (omega (arith, simp length-append at (ap length h)))
-same_front (a ∷ x) [] c h = absurd (omega (arith, simp length-append at (ap length h)))
-same_front (a ∷ x) (b ∷ y) c h = let e = same_front x y c (cc) in cc
 
 pub record Shorter (l : List Symbol) (ts us : List Token) : Type 0 where
   pub no_longer : length us ≤ length ts
@@ -108,7 +103,7 @@ module _ (source : List ℕ) (t : Token) (us ws : List Token) where
 
   -- what is taken before a token is taken whatever follows it
   pub takes_local : {l : List Symbol} {ts rest : List Token} {xs : Trees l} → Takes source l ts xs rest → (a b : List Token) → ts ≡ a ++ t ∷ us → rest ≡ b ++ t ∷ us → Takes source l (a ++ t ∷ ws) xs (b ++ t ∷ ws)
-  takes_local (done {ts}) a b h k = subst (λ x. Takes source [] (a ++ t ∷ ws) tt (x ++ t ∷ ws)) (same_front a b (t ∷ us) (sym h ∙ k)) done
+  takes_local (done {ts}) a b h k = subst (λ x. Takes source [] (a ++ t ∷ ws) tt (x ++ t ∷ ws)) (append_cancel_right a b (t ∷ us) (sym h ∙ k)) done
   takes_local (token {ts = ts} {us = rest} s h d) [] b e k = absurd (go (shorter source d).no_longer)
     where
       go : length rest ≤ length ts → ⊥

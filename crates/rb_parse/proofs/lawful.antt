@@ -1,7 +1,5 @@
--- What the grammar derives is lawful in its forms, list lengths and positions.
-pub mod Formed
+-- What the grammar derives within the limits is lawful.
 pub mod Utf8
-pub mod Kept
 pub mod Sizes
 pub mod Forms
 pub mod Positions

@@ -30,13 +30,13 @@ abbrev pub Derives : List ℕ → List Token → Program → Type 0
 Derives source tokens program = Spells source (The TheProgram ∷ []) tokens (program, tt)
 
 -- Some program begins with the tokens.
-abbrev pub Begins : List ℕ → List Token → Type 0
-Begins source tokens = IsPrefix source (The TheProgram ∷ []) tokens
+abbrev pub IsProgramPrefix : List ℕ → List Token → Type 0
+IsProgramPrefix source tokens = IsPrefix source (The TheProgram ∷ []) tokens
 
 -- No text goes on from the tokens so far and the next one; at the end, the tokens are no text.
 abbrev pub Stuck : List ℕ → List Token → List Token → Type 0
 Stuck source front [] = (program : Program) → ¬ Derives source front program
-Stuck source front (t ∷ ts) = ¬ Begins source (front ++ t ∷ [])
+Stuck source front (t ∷ ts) = ¬ IsProgramPrefix source (front ++ t ∷ [])
 
 -- So many tokens from the end stands the first token with which the tokens so far are a prefix of no text,
 -- or the end, where it is not expected.
@@ -45,5 +45,5 @@ pub record Breaks (source : List ℕ) (tokens : List Token) (left : ℕ) : Type 
   pub rest : List Token
   pub is : tokens ≡ front ++ rest
   pub left_is : length rest ≡ left
-  pub goes : Begins source front
+  pub goes : IsProgramPrefix source front
   pub stuck : Stuck source front rest

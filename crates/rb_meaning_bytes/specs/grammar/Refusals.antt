@@ -4,7 +4,7 @@ use Rattle.rb_trees.specs.declared.tokens.Token.{Token}
 use Rattle.rb_trees.specs.declared.reading.ReadError.{ReadError}
 use Rattle.rb_trees.specs.declared.reading.ReadError.TheVariants as errors
 use Rattle.rb_trees.specs.mirror.Declarations.{Program}
-use Rattle.rb_meaning_bytes.specs.grammar.Derives.{Derives, Begins, Stuck}
+use Rattle.rb_meaning_bytes.specs.grammar.Derives.{Derives, IsProgramPrefix, Stuck}
 use Rattle.rb_meaning_bytes.specs.grammar.Limits.{Within}
 
 -- where the next token begins; the source's length where no token is left
@@ -19,7 +19,7 @@ pub record UnexpectedAt (source : List ℕ) (tokens : List Token) (at : ℕ) : T
   pub rest : List Token
   pub is : tokens ≡ front ++ rest
   pub within : Within front
-  pub goes : Begins source front
+  pub goes : IsProgramPrefix source front
   pub stuck : Stuck source front rest
   pub place : at ≡ place_of source rest
 
@@ -31,7 +31,7 @@ pub record TooNestedAt (source : List ℕ) (tokens : List Token) (at : ℕ) : Ty
   pub is : tokens ≡ front ++ token ∷ rest
   pub within : Within front
   pub breaks : ¬ Within (front ++ token ∷ [])
-  pub goes : Begins source (front ++ token ∷ [])
+  pub goes : IsProgramPrefix source (front ++ token ∷ [])
   pub place : at ≡ token.start
 
 -- The tokens have this program or refusal. Want of memory is no refusal of theirs, and a fault is one of the source.

@@ -1,6 +1,6 @@
 -- Bytes by name, and their classes. A byte is its number; one above 127 stands in comments and text literals alone.
 use Rattle.std.specs.Prelude.{ℕ, Bool, not, ◌||◌, ◌==◌, List, [], ◌∷◌, false}
-use Rattle.std.specs.Int.{is_in_range}
+unfoldable pub use Rattle.rb_trees.specs.Spelling.{is_letter, is_digit, is_word_byte}
 
 abbrev pub tab : ℕ
 tab = 9
@@ -30,18 +30,6 @@ letter_n = 110
 -- Space, tab, carriage return and line feed separate tokens.
 unfoldable pub is_separator : ℕ → Bool
 is_separator b = (b == space) || ((b == tab) || ((b == carriage_return) || (b == line_feed)))
-
--- A to Z, a to z, and _
-unfoldable pub is_letter : ℕ → Bool
-is_letter b = is_in_range 65 90 b || (is_in_range 97 122 b || (b == 95))
-
--- 0 to 9
-unfoldable pub is_digit : ℕ → Bool
-is_digit b = is_in_range 48 57 b
-
--- What may follow the first letter of a name or keyword.
-unfoldable pub is_word_byte : ℕ → Bool
-is_word_byte b = is_letter b || is_digit b
 
 -- Not the line feed: a comment goes on.
 unfoldable pub is_in_line : ℕ → Bool

@@ -1,15 +1,11 @@
 -- The forms of tokens: which slices are tokens of which kind.
-use Rattle.std.specs.Prelude.{◌≡◌, ℕ, true, List, [], ◌∷◌, ◌++◌, None, Some}
+use Rattle.std.specs.Prelude.{◌≡◌, ℕ, true, List, [], ◌∷◌, ◌++◌, Some}
 use Rattle.std.specs.List.{list_all}
 use Rattle.rb_trees.specs.declared.tokens.TokenKind.{TokenKind}
 use Rattle.rb_trees.specs.declared.tokens.TokenKind.TheVariants as kinds
-use Rattle.rb_meaning_bytes.specs.tokens.Bytes.{is_letter, is_word_byte, is_digit, is_plain, is_escaped, quote, backslash}
-use Rattle.rb_meaning_bytes.specs.tokens.Tables.{keywords, signs, place_in}
-
--- A word: a letter, then letters and digits.
-abbrev pub IsWord : List ℕ → Type 0
-IsWord [] = ⊥
-IsWord (b ∷ bs) = (is_letter b ≡ true) × (list_all is_word_byte bs ≡ true)
+use Rattle.rb_trees.specs.Spelling.{is_digit, keywords, signs, place_in, IsName}
+pub use Rattle.rb_trees.specs.Spelling.{IsWord}
+use Rattle.rb_meaning_bytes.specs.tokens.Bytes.{is_plain, is_escaped, quote, backslash}
 
 -- A number: one or more digits.
 abbrev pub IsNumber : List ℕ → Type 0
@@ -28,7 +24,7 @@ IsLiteral slice = (body : List ℕ) × (slice ≡ quote ∷ (body ++ quote ∷ [
 
 -- The slice has the form of the kind.
 abbrev pub Form : TokenKind → List ℕ → Type 0
-Form kinds.Name slice = IsWord slice × (place_in keywords slice ≡ None)
+Form kinds.Name slice = IsName slice
 Form kinds.Number slice = IsNumber slice
 Form kinds.TextLit slice = IsLiteral slice
 Form (kinds.Keyword place) slice = place_in keywords slice ≡ Some place

@@ -2,6 +2,7 @@
 use Rattle.std.proofs.Common.{◌≡◌, ℕ, ℤ, ◌+◌, ◌<◌, ◌≤◌, ◌^◌, Bool, true, false, IsUtf8, ap, sym, subst, ◌∙◌, List, [], ◌∷◌, ◌++◌, length, Option, Some, None, arith, length-append}
 use Rattle.std.specs.List.{All}
 use Rattle.std.proofs.lemmas.List.Elements.{All-nil, All-cons}
+use Rattle.rb_trees.specs.Spelling.{IsName}
 use Rattle.rb_trees.specs.declared.tokens.Token.{Token}
 use Rattle.rb_trees.specs.declared.values.Value.TheVariants as value
 use Rattle.rb_trees.specs.declared.values.Value.{out-Value}
@@ -10,6 +11,8 @@ use Rattle.rb_trees.specs.declared.values.Value.TheViews.{out-roll-Value}
 use Rattle.rb_trees.specs.declared.code.BinOp.TheVariants as binary
 use Rattle.rb_trees.specs.mirror.Code as code
 use Rattle.rb_trees.specs.mirror.Code.{Expr, Exprs, Stmts, NoStmts, MoreStmts}
+use Rattle.rb_meaning_bytes.specs.tokens.Lists.{is_minus}
+use Rattle.rb_meaning_bytes.specs.grammar.Limits.{Nesting, after}
 use Rattle.rb_meaning_bytes.specs.grammar.Values.{name_of, number_of, text_of}
 use Rattle.rb_meaning_bytes.specs.grammar.Symbols as s
 use Rattle.rb_meaning_bytes.specs.grammar.Symbols.{Symbol, Terminal, The, Nonterminal, Chain, MoreChain, TreeOf, Trees, Makes, made}
@@ -17,8 +20,8 @@ use Rattle.rb_meaning_bytes.specs.grammar.Productions as r
 use Rattle.rb_meaning_bytes.specs.grammar.Productions.{Production, member}
 use Rattle.rb_meaning_bytes.specs.grammar.Derives as g
 use Rattle.rb_meaning_bytes.specs.grammar.Derives.{Spells}
-use Rattle.rb_meaning_types.specs.Lawful.{IsName, IsShort, IsLiteral, IsLiteralForm, IsLawfulType, IsLawfulExpr, AreLawfulExprs, expr_count, stmt_count, IsLawfulStmt, AreLawfulStmts, IsLawfulBlock, IsLawfulReturn, IsLawfulBody, IsLawfulParam, IsLawfulSignature, IsLawfulMethod, IsLawfulInterface, IsLawfulClass}
-use Rattle.rb_parse.proofs.lawful.Kept.{Tells, AllTell, tell_front, tell_back}
+use Rattle.rb_meaning_types.specs.Lawful.{IsShort, IsLiteral, IsLiteralForm, IsLawfulType, IsLawfulExpr, AreLawfulExprs, expr_count, stmt_count, IsLawfulStmt, AreLawfulStmts, IsLawfulBlock, IsLawfulReturn, IsLawfulBody, IsLawfulParam, IsLawfulSignature, IsLawfulMethod, IsLawfulInterface, IsLawfulClass}
+use Rattle.rb_parse.proofs.readable.Tokens.{Tells, tells_behind, AllFit, state_after, fit_front, fit_back}
 use Rattle.rb_parse.proofs.lawful.Sizes.{items, counted}
 
 abbrev pub CallFormed : Option Exprs → Type 0
@@ -85,7 +88,7 @@ literal_text text u n = subst IsLiteralForm (sym (ap out-Value (sym (value.rolls
 module _ (source : List ℕ) where
   abbrev pub AllHold : (l : List Symbol) → Trees l → Type 0
   AllHold [] xs = Unit {0}
-  AllHold (Terminal kind ∷ l) xs = Tells source kind xs.0 × AllHold l xs.1
+  AllHold (Terminal kind ∷ l) xs = Tells source true kind xs.0 × AllHold l xs.1
   AllHold (The p ∷ l) xs = Holds p xs.0 × AllHold l xs.1
 
   of_rule : {p : Nonterminal} {m : List Symbol} {f : Makes m (TreeOf p)} → Production source p m f → (xs : Trees m) → AllHold m xs → Formed p (made m (TreeOf p) f xs)
@@ -185,13 +188,13 @@ module _ (source : List ℕ) where
   of_rule r.more_arguments xs h = (h.1.0.formed, h.1.1.0.formed)
 
   -- the trees that tokens spell are lawful, where the tokens are few
-  pub forms : {l : List Symbol} {ts : List Token} {xs : Trees l} → Spells source l ts xs → AllTell source ts → length ts < 2 ^ 32 → AllHold l xs
-  forms g.nothing k n = tt
-  forms (g.token t d) k n = (k.0, forms d k.1 (omega arith))
-  forms (g.production {p} {m} {l} {f} {ts} {us} {ys} {xs} rule d e) k n =
+  pub forms : {l : List Symbol} {ts : List Token} {xs : Trees l} → Spells source l ts xs → (n : Nesting) → AllFit source n ts → length ts < 2 ^ 32 → AllHold l xs
+  forms g.nothing n k few = tt
+  forms (g.token t d) n k few = (tells_behind source (is_minus n.last) t.kind t k.1, forms d (after n t.kind) k.2 (omega arith))
+  forms (g.production {p} {m} {l} {f} {ts} {us} {ys} {xs} rule d e) n k few =
       let c : length (ts ++ us) ≡ length ts + length us = length-append ts us in
-      let a = forms d (tell_front source ts us k) (omega (arith, c)) in
-      let b = forms e (tell_back source ts us k) (omega (arith, c)) in
+      let a = forms d n (fit_front source n ts us k) (omega (arith, c)) in
+      let b = forms e (state_after n ts) (fit_back source n ts us k) (omega (arith, c)) in
       let w : items p (made m (TreeOf p) f ys) + 0 ≤ length (ts ++ []) = counted source (g.production {l = []} {xs = tt} rule d g.nothing) in
       let z : length (ts ++ []) ≡ length ts + 0 = length-append ts [] in
       (record { formed = of_rule rule ys a; short = omega (arith, w, z, c) }, b)

@@ -1,5 +1,6 @@
 -- The value of a text literal is UTF-8, where the text is.
-use Rattle.std.proofs.Common.{◌≡◌, ℕ, ◌+◌, ◌<◌, ◌≤◌, ◌==◌, Bool, true, false, cond, ◌&&◌, ltb, List, [], ◌∷◌, ◌++◌, length, get_or, take, drop, refl, ap, sym, subst, ◌∙◌, arith, IsUtf8, le-ltb, ltb-false, ltb-true, ne_eqb, append_assoc, take-append-drop, length-drop, get_or-drop, drop-drop}
+use Rattle.std.proofs.Common.{◌≡◌, ℕ, ◌+◌, ◌<◌, ◌≤◌, ◌==◌, Bool, true, false, cond, ltb, List, [], ◌∷◌, ◌++◌, length, get_or, take, drop, refl, ap, sym, subst, ◌∙◌, arith, IsUtf8, le-ltb, ltb-false, ltb-true, ne_eqb, append_assoc, take-append-drop, length-drop, get_or-drop, drop-drop}
+use Rattle.std.proofs.lemmas.Bool.{and_parts}
 use Rattle.std.proofs.lemmas.Bool.Decides.{nat_tests}
 use Rattle.std.proofs.lemmas.Str.{IsUtf8-append, IsUtf8-nil, IsUtf8-encode, IsUtf8-from_ascii, IsUtf8-drop, IsCharBoundary-after_ascii, encode_ascii, length-encode, len_utf8_bounds}
 use Rattle.std.proofs.lemmas.Str.Ascii.{IsAscii-cons}
@@ -71,17 +72,9 @@ char_utf8 false e c bs h k u =
     subst IsUtf8 (sym (unescaped_highs e (encode c) bs (encode_high c l) (omega (arith, length-encode c, (len_utf8_bounds c).0))))
     (IsUtf8-append (encode c) (unescaped false bs) (IsUtf8-encode c k) (u false))
 
-pub both_left : (a b : Bool) → (a && b) ≡ true → a ≡ true
-both_left true b h = refl
-both_left false b h = cc
-
-pub both_right : (a b : Bool) → (a && b) ≡ true → b ≡ true
-both_right true b h = h
-both_right false b h = cc
-
 chars_utf8 : (cs : List ℕ) → scalars cs ≡ true → (e : Bool) → IsUtf8 (unescaped e (encodes cs))
 chars_utf8 [] h e = IsUtf8-nil
-chars_utf8 (c ∷ cs) h e = char_utf8 (ltb c 128) e c (encodes cs) refl (both_left (scalar c) (scalars cs) h) (chars_utf8 cs (both_right (scalar c) (scalars cs) h))
+chars_utf8 (c ∷ cs) h e = char_utf8 (ltb c 128) e c (encodes cs) refl (and_parts (scalar c) (scalars cs) h).0 (chars_utf8 cs (and_parts (scalar c) (scalars cs) h).1)
 
 unescaped_utf8 : (e : Bool) (bs : List ℕ) → IsUtf8 bs → IsUtf8 (unescaped e bs)
 unescaped_utf8 e bs u = subst (λ v. IsUtf8 (unescaped e v)) u.1.1 (chars_utf8 u.0 u.1.0 e)

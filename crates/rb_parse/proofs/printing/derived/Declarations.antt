@@ -10,7 +10,7 @@ use Rattle.rb_trees.specs.printing.Words as w
 use Rattle.rb_trees.specs.printing.Unplaced.{unplaced_param, unplaced_signature, unplaced_interface, unplaced_method, unplaced_class, unplaced}
 use Rattle.rb_meaning_bytes.specs.grammar.Symbols as s
 use Rattle.rb_meaning_bytes.specs.grammar.Productions as r
-use Rattle.rb_parse.proofs.printing.ReadTrees.{IsReadBody, IsReadMethod, IsReadClass, IsReadable}
+use Rattle.rb_parse.proofs.readable.Trees.{IsReadBody, IsReadMethod, IsReadClass, IsReadable}
 use Rattle.rb_parse.proofs.printing.derived.Made.{MadePart, end, skip, token, the, last, by, turned}
 use Rattle.rb_parse.proofs.printing.derived.Shapes.{four, five}
 use Rattle.rb_parse.proofs.printing.derived.Types.{type_made, result_made}

@@ -15,7 +15,7 @@ use Rattle.rb_meaning_bytes.specs.grammar.Symbols as s
 use Rattle.rb_meaning_bytes.specs.grammar.Symbols.{Chain, MoreChain}
 use Rattle.rb_meaning_bytes.specs.grammar.Productions as r
 use Rattle.rb_meaning_bytes.specs.grammar.Productions.{member}
-use Rattle.rb_parse.proofs.printing.ReadTrees.{behind, before_operand, before_right, IsReadExpr, AreReadExprs}
+use Rattle.rb_parse.proofs.readable.Trees.{behind, before_operand, before_right, IsReadExpr, AreReadExprs}
 use Rattle.rb_parse.proofs.printing.derived.Made.{MadePart, end, skip, token, the, last, by, turned}
 use Rattle.rb_parse.proofs.printing.derived.Types.{type_made}
 use Rattle.rb_parse.proofs.printing.derived.Literals.{literal_made}

@@ -14,7 +14,7 @@ use Rattle.rb_meaning_bytes.specs.tokens.Values.{number_value, int_of, text_valu
 use Rattle.rb_meaning_bytes.specs.grammar.Values.{slice, number_of}
 use Rattle.rb_meaning_bytes.specs.grammar.Symbols as s
 use Rattle.rb_meaning_bytes.specs.grammar.Productions as r
-use Rattle.rb_parse.proofs.printing.ReadTrees.{IsReadInt, IsReadForm, IsReadLiteral}
+use Rattle.rb_parse.proofs.readable.Trees.{IsReadInt, IsReadForm, IsReadLiteral}
 use Rattle.rb_parse.proofs.printing.Values.{number_of_decimal, text_of_literal}
 use Rattle.rb_parse.proofs.printing.derived.Made.{MadePart, end, token, by}
 

@@ -12,7 +12,7 @@ use Rattle.rb_trees.specs.printing.Unplaced.{unplaced_expr, unplaced_stmt, unpla
 use Rattle.rb_meaning_bytes.specs.grammar.Symbols as s
 use Rattle.rb_meaning_bytes.specs.grammar.Symbols.{Symbol, The, Trees, Chain}
 use Rattle.rb_meaning_bytes.specs.grammar.Productions as r
-use Rattle.rb_parse.proofs.printing.ReadTrees.{IsReadStmt, AreReadStmts, IsReadReturn, IsReadBody}
+use Rattle.rb_parse.proofs.readable.Trees.{IsReadStmt, AreReadStmts, IsReadReturn, IsReadBody}
 use Rattle.rb_parse.proofs.printing.derived.Made.{Made, MadePart, end, skip, token, the, last, by, turned}
 use Rattle.rb_parse.proofs.printing.derived.Shapes.{four, six}
 use Rattle.rb_parse.proofs.printing.derived.Exprs.{expr_made}

@@ -5,7 +5,7 @@ use Rattle.rb_trees.specs.printing.Programs.{program_pieces, printed_program}
 use Rattle.rb_trees.specs.printing.Unplaced.{unplaced}
 use Rattle.rb_meaning_bytes.specs.grammar.Derives.{Derives}
 use Rattle.rb_meaning_bytes.specs.grammar.Symbols.{The, TheProgram}
-use Rattle.rb_parse.proofs.printing.ReadTrees.{IsReadable}
+use Rattle.rb_parse.proofs.readable.Trees.{IsReadable}
 use Rattle.rb_parse.proofs.printing.Spots.{tokens_at}
 use Rattle.rb_parse.proofs.printing.derived.Stands.{stand}
 use Rattle.rb_parse.proofs.printing.derived.Made.{Made, last}

@@ -1,5 +1,6 @@
 -- The pieces of readable types and expressions are good.
 use Rattle.std.proofs.Common.{ℕ, ℤ, pos, negsuc, nat_lt, cond, Bool, true, false, List, [], ◌∷◌, ◌++◌, refl, sym, subst, arith, append_assoc}
+use Rattle.rb_trees.specs.Spelling.{IsName}
 use Rattle.rb_trees.specs.declared.code.UnOp.{UnOp}
 use Rattle.rb_trees.specs.declared.code.UnOp.TheVariants as unary
 use Rattle.rb_trees.specs.declared.code.BinOp.{BinOp}
@@ -15,7 +16,8 @@ use Rattle.rb_trees.specs.printing.Types.{type_pieces, result_pieces}
 use Rattle.rb_trees.specs.printing.Exprs.{expr_pieces, args_pieces, more_args_pieces, unary_pieces, in_parentheses, placed_at, level_of, left_level, right_level, operand_level, binary_sign}
 use Rattle.rb_trees.specs.printing.Words as w
 use Rattle.rb_trees.specs.printing.Words.{space, name_piece, number_piece, int_pieces, bool_piece, form_pieces, literal_pieces}
-use Rattle.rb_parse.proofs.printing.ReadTrees.{IsReadName, IsReadInt, IsReadForm, AreReadTypeNames, IsReadExpr, AreReadExprs, before_operand, before_right}
+use Rattle.rb_meaning_types.specs.Lawful.{IsLawfulType}
+use Rattle.rb_parse.proofs.readable.Trees.{IsReadInt, IsReadForm, IsReadExpr, AreReadExprs, before_operand, before_right}
 use Rattle.rb_parse.proofs.printing.lexed.Good.{Good}
 use Rattle.rb_parse.proofs.printing.lexed.Leads as leads
 use Rattle.rb_parse.proofs.printing.lexed.Leads.{Followed, Opened, Leads, opens_too, spaced, name_leads, number_leads, text_leads}
@@ -67,7 +69,7 @@ greater_trails ps t rest r = record { good = leads.greater_stands false _ (opens
 angles : (ps qs : List Piece) → Flows false ps → Trails qs → Trails (w.less ∷ ps ++ w.greater ∷ qs)
 angles ps qs f t rest r = record { good = leads.less_stands false _ (flows_then false ps (w.greater ∷ qs) f (greater_trails qs t) rest r); ends = refl }
 
-pub type_flows : (t : TypeTree) → AreReadTypeNames t → Flows false (type_pieces t)
+pub type_flows : (t : TypeTree) → IsLawfulType t → Flows false (type_pieces t)
 type_flows (type.Int at) h = one_flows w.Int_word leads.Int_leads false
 type_flows (type.Bool at) h = one_flows w.Bool_word leads.Bool_leads false
 type_flows (type.Text at) h = one_flows w.Text_word leads.Text_leads false
@@ -76,10 +78,10 @@ type_flows (type.Named at name) h = one_flows (name_piece name) (name_leads name
 type_flows (type.ListOf at item) h = word_flows w.List_word (w.less ∷ type_pieces item ++ w.greater ∷ []) leads.List_leads (angles (type_pieces item) [] (type_flows item h) nothing_trails) false
 type_flows (type.RowsOf at row) h = word_flows w.Rows_word (w.less ∷ type_pieces row ++ w.greater ∷ []) leads.Rows_leads (angles (type_pieces row) [] (type_flows row h) nothing_trails) false
 
-pub typed_trails : (t : TypeTree) → AreReadTypeNames t → Trails (w.colon ∷ space ∷ type_pieces t)
+pub typed_trails : (t : TypeTree) → IsLawfulType t → Trails (w.colon ∷ space ∷ type_pieces t)
 typed_trails t h rest r = record { good = leads.colon_stands false _ (opens_too (spaced_trails (type_pieces t) (type_flows t h) rest r)); ends = refl }
 
-pub result_trails : (t : TypeTree) → AreReadTypeNames t → Trails (result_pieces t)
+pub result_trails : (t : TypeTree) → IsLawfulType t → Trails (result_pieces t)
 result_trails (type.Int at) h = typed_trails (type.Int at) h
 result_trails (type.Bool at) h = typed_trails (type.Bool at) h
 result_trails (type.Text at) h = typed_trails (type.Text at) h
@@ -140,7 +142,7 @@ sign_between binary.Rem rest g = leads.percent_stands false _ (after_space false
 operator_trails : (op : BinOp) (ps : List Piece) → Flows (before_right op) ps → Trails (space ∷ binary_sign op ∷ space ∷ ps)
 operator_trails op ps f rest r = spaced _ (sign_between op (ps ++ rest) (f rest r).good)
 
-dot_trails : (name : List ℕ) (ps : List Piece) → IsReadName name → Trails ps → Trails (w.dot ∷ name_piece name ∷ ps)
+dot_trails : (name : List ℕ) (ps : List Piece) → IsName name → Trails ps → Trails (w.dot ∷ name_piece name ∷ ps)
 dot_trails name ps h t rest r = record { good = leads.dot_stands false _ (name_leads name h false (ps ++ rest) (t rest r)); ends = refl }
 
 close_bracket_trails : Trails (w.close_bracket ∷ [])

@@ -1,5 +1,6 @@
 -- Pieces of which each token has its form and is parted from what follows it: the text of such pieces has their tokens.
 use Rattle.std.proofs.Common.{◌≡◌, ℕ, zero, suc, ◌+◌, ◌-◌, ◌<◌, ◌≤◌, Bool, true, List, [], ◌∷◌, ◌++◌, length, take, drop, refl, sym, ap, subst, ◌∙◌, arith, length-drop, length-append, IsUtf8}
+use Rattle.std.proofs.lemmas.Bool.{and_parts}
 use Rattle.std.proofs.lemmas.List.{drop-drop}
 use Rattle.std.specs.List.{list_all}
 use Rattle.std.proofs.lemmas.Str.{IsUtf8-append, IsUtf8-nil}
@@ -13,7 +14,7 @@ use Rattle.rb_meaning_bytes.specs.tokens.Faults.{WithinLimits}
 use Rattle.rb_meaning_bytes.specs.tokens.Lists.{Gap, none, Stands, TokensBetween, AllWithinLimits, is_minus}
 use Rattle.rb_meaning_bytes.specs.tokens.Lists as lists
 use Rattle.rb_parse.proofs.printing.Spots.{tokens_at}
-use Rattle.rb_parse.proofs.printing.lexed.Slices.{Parts, no_longer, no_comment, not_empty, and_first, and_second}
+use Rattle.rb_parse.proofs.printing.lexed.Slices.{Parts, no_longer, no_comment, not_empty}
 
 -- The token has its form, and the text behind it may follow. The flag says that the token before it is a minus.
 pub record IsGood (minus : Bool) (kind : TokenKind) (bytes : List ℕ) (text : List ℕ) : Type 0 where
@@ -107,8 +108,8 @@ module _ (whole : List ℕ) where
   spaces [] text minus at list s h b = let e : at + 0 ≡ at = omega arith in subst (λ k. TokensBetween whole k list (length whole)) e b
   spaces (c ∷ bytes) text minus at list s h b =
       let e : at + suc (length bytes) ≡ at + 1 + length bytes = omega arith in
-      gap_before whole at (length whole) list 1 (subst (λ t. Skips t 1) h.is (separator c (bytes ++ text) (and_first (is_separator c) _ s)))
-      (spaces bytes text minus (at + 1) list (and_second (is_separator c) _ s) (later at (c ∷ []) (bytes ++ text) h)
+      gap_before whole at (length whole) list 1 (subst (λ t. Skips t 1) h.is (separator c (bytes ++ text) (and_parts (is_separator c) _ s).0))
+      (spaces bytes text minus (at + 1) list (and_parts (is_separator c) _ s).1 (later at (c ∷ []) (bytes ++ text) h)
       (subst (λ k. TokensBetween whole k list (length whole)) e b))
 
   pub listed : (minus : Bool) (at : ℕ) (ps : List Piece) → Good minus ps → At at (spelled ps) → Listed minus at ps

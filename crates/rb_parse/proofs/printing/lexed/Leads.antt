@@ -4,17 +4,18 @@ use Rattle.std.proofs.lemmas.Bool.Decides.{nat_tests}
 use Rattle.std.specs.Fmt.{decimal}
 use Rattle.std.specs.Prelude.{codes}
 use Rattle.std.specs.List.{list_all}
-use Rattle.rb_trees.specs.declared.tokens.TokenKind.TheVariants as kinds
+use Rattle.rb_trees.specs.Spelling.{IsName}
 use Rattle.rb_trees.specs.printing.Pieces.{Piece, Space, spelled}
 use Rattle.rb_trees.specs.printing.Words as w
 use Rattle.rb_trees.specs.printing.Words.{name_piece, number_piece, text_piece}
 use Rattle.rb_meaning_bytes.specs.tokens.Bytes.{is_letter, is_digit, is_separator}
-use Rattle.rb_meaning_bytes.specs.tokens.Forms.{Form, IsWord, IsNumber}
+use Rattle.rb_meaning_bytes.specs.tokens.Forms.{IsWord, IsNumber}
 use Rattle.rb_meaning_bytes.specs.tokens.Faults.{greatest_number}
 use Rattle.rb_meaning_bytes.specs.tokens.Tables.{keywords, signs, place_in}
 use Rattle.rb_meaning_bytes.specs.tokens.Values.{number_value}
+use Rattle.rb_lex.proofs.InTables.{keyword_word}
 use Rattle.rb_parse.proofs.printing.Values.{number_of_decimal, text_of_literal}
-use Rattle.rb_parse.proofs.printing.lexed.Slices.{Starts, Ends, starts, ends_starts, keyword_word}
+use Rattle.rb_parse.proofs.printing.lexed.Slices.{Starts, Ends, starts, ends_starts}
 use Rattle.rb_parse.proofs.printing.lexed.Words.{word_utf8, number_utf8, sign_utf8, separators_utf8, decimal_number, literal_form, literal_utf8}
 use Rattle.rb_parse.proofs.printing.lexed.Good.{Good}
 
@@ -49,7 +50,7 @@ word_starts : (bytes text : List ℕ) → IsWord bytes → Starts (bytes ++ text
 word_starts [] text h = absurd h
 word_starts (b ∷ bytes) text h = letter_starts b h.0
 
-pub name_leads : (name : List ℕ) → Form kinds.Name name → Leads (name_piece name)
+pub name_leads : (name : List ℕ) → IsName name → Leads (name_piece name)
 name_leads name h minus rest f = record {
   good = (record { formed = h; limits = tt; utf8 = word_utf8 name h.0; parts = f.ends }, f.good);
   starts = word_starts name (spelled rest) h.0;

@@ -2,6 +2,7 @@
 use Rattle.std.proofs.Common.{ℕ, Bool, true, false, List, [], ◌∷◌, ◌++◌, refl}
 use Rattle.std.specs.List.{AllByRecursion}
 use Rattle.std.proofs.lemmas.List.Elements.{recursion_from_All}
+use Rattle.rb_trees.specs.Spelling.{IsName}
 use Rattle.rb_trees.specs.mirror.Declarations.{Param, Signature, Interface, Method, Class, Program}
 use Rattle.rb_trees.specs.printing.Pieces.{Piece}
 use Rattle.rb_trees.specs.printing.Types.{type_pieces, result_pieces}
@@ -10,7 +11,7 @@ use Rattle.rb_trees.specs.printing.Stmts.{line, deeper, opened, closed, body_pie
 use Rattle.rb_trees.specs.printing.Programs.{param_pieces, more_params_pieces, params_pieces, signature_pieces, signatures_pieces, fields_pieces, remote_pieces, method_pieces, methods_pieces, inside, interface_pieces, interfaces_pieces, class_pieces, classes_pieces, program_pieces}
 use Rattle.rb_trees.specs.printing.Words as w
 use Rattle.rb_trees.specs.printing.Words.{space, name_piece}
-use Rattle.rb_parse.proofs.printing.ReadTrees.{IsReadName, IsReadParam, IsReadSignature, IsReadInterface, IsReadMethod, IsReadClass, IsReadable}
+use Rattle.rb_parse.proofs.readable.Trees.{IsReadParam, IsReadSignature, IsReadInterface, IsReadMethod, IsReadClass, IsReadable}
 use Rattle.rb_parse.proofs.printing.lexed.Leads as leads
 use Rattle.rb_parse.proofs.printing.lexed.Leads.{Leads, name_leads}
 use Rattle.rb_parse.proofs.printing.lexed.Exprs.{Flows, Trails, flows_then, nothing_trails, trails_flow, word_flows, spaced_trails, semicolon_trails, in_parentheses_trails, comma_trails, typed_trails, result_trails}
@@ -68,7 +69,7 @@ inside_indent : IsIndent inside
 inside_indent = deeper_indent [] refl
 
 -- `WORD NAME {`
-named_line : (word : Piece) (name : List ℕ) → Leads word → IsReadName name → Lines (line [] (opened (word ∷ space ∷ name_piece name ∷ [])))
+named_line : (word : Piece) (name : List ℕ) → Leads word → IsName name → Lines (line [] (opened (word ∷ space ∷ name_piece name ∷ [])))
 named_line word name l n = line_good [] (opened (word ∷ space ∷ name_piece name ∷ [])) refl (opened_flows (word ∷ space ∷ name_piece name ∷ []) (names_flow word name l n [] nothing_trails))
 
 interface_good : (i : Interface) → IsReadInterface i → Lines (interface_pieces i)

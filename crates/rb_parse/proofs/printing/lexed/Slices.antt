@@ -1,15 +1,15 @@
 -- What the form of a slice tells by its first byte, and that no slice which goes on behind a printed token has a form.
-use Rattle.std.proofs.Common.{◌≡◌, ℕ, suc, ◌+◌, ◌==◌, ◌||◌, Bool, true, false, not, ◌&&◌, cond, ltb, List, [], ◌∷◌, ◌++◌, length, refl, sym, ap, subst, ◌∙◌, arith, None, Some, append_assoc}
+use Rattle.std.proofs.Common.{◌≡◌, ℕ, ◌==◌, ◌||◌, Bool, true, false, not, ◌&&◌, ltb, List, [], ◌∷◌, ◌++◌, refl, ap, subst, ◌∙◌, arith, Some, append_assoc}
+use Rattle.std.proofs.lemmas.Bool.{and_parts}
 use Rattle.std.proofs.lemmas.Bool.Decides.{nat_tests}
-use Rattle.std.proofs.lemmas.Slice.Eq.{bytes_eq-Decides}
-use Rattle.std.specs.List.{list_all, position_or_len}
-use Rattle.std.specs.Str.{bytes_eq}
+use Rattle.std.specs.List.{list_all}
 use Rattle.rb_trees.specs.declared.tokens.TokenKind.{TokenKind}
 use Rattle.rb_trees.specs.declared.tokens.TokenKind.TheVariants as kinds
 use Rattle.rb_meaning_bytes.specs.tokens.Bytes.{is_letter, is_digit, is_word_byte, is_plain}
-use Rattle.rb_meaning_bytes.specs.tokens.Tables.{keywords, signs, place_in}
-use Rattle.rb_meaning_bytes.specs.tokens.Forms.{Form, IsWord, IsLiteral, Body, empty, plain, escape}
+use Rattle.rb_meaning_bytes.specs.tokens.Tables.{signs, place_in}
+use Rattle.rb_meaning_bytes.specs.tokens.Forms.{Form, IsLiteral, Body, empty, plain, escape}
 use Rattle.rb_meaning_bytes.specs.tokens.Begins.{IsComment}
+use Rattle.rb_lex.proofs.InTables.{placed, keyword_word}
 
 -- The byte may follow a sign: it isn't `=` or `/`.
 abbrev pub starts : ℕ → Bool
@@ -51,57 +51,9 @@ ends_no_digit : (b : ℕ) → ends b ≡ true → is_digit b ≡ true → ⊥
 unfolding is_digit
 ends_no_digit b h w = grind (arith, nat_tests)
 
--- parts of tests
-
-pub and_first : (a b : Bool) → (a && b) ≡ true → a ≡ true
-and_first true b h = refl
-and_first false b h = h
-
-pub and_second : (a b : Bool) → (a && b) ≡ true → b ≡ true
-and_second true b h = h
-and_second false b h = cc
-
 inside : (p : ℕ → Bool) (cs : List ℕ) (b : ℕ) (u : List ℕ) → list_all p (cs ++ b ∷ u) ≡ true → p b ≡ true
-inside p [] b u h = and_first (p b) _ h
-inside p (c ∷ cs) b u h = inside p cs b u (and_second (p c) _ h)
-
--- a word that stands in a table passes the test that all of the table pass
-module _ (test : List ℕ → Bool) (word : List ℕ) where
-  first_by : (s : List ℕ) (table : List (List ℕ)) (e : Bool) → bytes_eq s word ≡ e → (test s && list_all test table) ≡ true
-      → ltb (cond (not e) (1 + position_or_len (λ s. bytes_eq s word) table) 0) (suc (length table)) ≡ true
-      → (ltb (position_or_len (λ s. bytes_eq s word) table) (length table) ≡ true → test word ≡ true) → test word ≡ true
-  first_by s table true h a l f = ap test (sym ((bytes_eq-Decides s word).0 h)) ∙ and_first (test s) _ a
-  first_by s table false h a l f = f (grind (arith, nat_tests))
-
-  stands : (table : List (List ℕ)) → list_all test table ≡ true → ltb (position_or_len (λ s. bytes_eq s word) table) (length table) ≡ true → test word ≡ true
-  stands [] a l = cc
-  stands (s ∷ table) a l = first_by s table (bytes_eq s word) refl a l (stands table (and_second (test s) _ a))
-
-  placed_by : (table : List (List ℕ)) (place n : ℕ) (b : Bool) → ltb (position_or_len (λ s. bytes_eq s word) table) (length table) ≡ b → list_all test table ≡ true
-      → cond b (Some place) None ≡ Some n → test word ≡ true
-  placed_by table place n true h a e = stands table a h
-  placed_by table place n false h a e = cc
-
-  placed : (table : List (List ℕ)) (n : ℕ) → list_all test table ≡ true → place_in table word ≡ Some n → test word ≡ true
-  unfolding place_in
-  placed table n a e = placed_by table (position_or_len (λ s. bytes_eq s word) table) n (ltb (position_or_len (λ s. bytes_eq s word) table) (length table)) refl a e
-
--- each keyword is a word
-
-abbrev is_word : List ℕ → Bool
-is_word [] = false
-is_word (b ∷ bs) = is_letter b && list_all is_word_byte bs
-
-words : list_all is_word keywords ≡ true
-unfolding keywords is_letter is_digit is_word_byte
-words = refl
-
-word_is : (w : List ℕ) → is_word w ≡ true → IsWord w
-word_is [] h = cc
-word_is (b ∷ bs) h = (and_first (is_letter b) _ h, and_second (is_letter b) _ h)
-
-pub keyword_word : (w : List ℕ) (n : ℕ) → place_in keywords w ≡ Some n → IsWord w
-keyword_word w n h = word_is w (placed is_word w keywords n words h)
+inside p [] b u h = (and_parts (p b) _ h).0
+inside p (c ∷ cs) b u h = inside p cs b u (and_parts (p c) _ h).1
 
 -- each sign has one or two bytes, and a sign of one byte goes on to a longer one by `=` alone
 
@@ -122,8 +74,8 @@ pub sign_is : (w : List ℕ) (n : ℕ) → place_in signs w ≡ Some n → is_si
 sign_is w n h = placed is_sign w signs n all_signs h
 
 other_first : (a : ℕ) (bs : List ℕ) → is_sign (a ∷ bs) ≡ true → is_other a ≡ true
-other_first a [] h = and_first (is_other a) _ h
-other_first a (b ∷ []) h = and_first (is_other a) _ h
+other_first a [] h = (and_parts (is_other a) _ h).0
+other_first a (b ∷ []) h = (and_parts (is_other a) _ h).0
 other_first a (b ∷ c ∷ bs) h = cc
 
 abbrev is_ascii : ℕ → Bool

@@ -1,8 +1,10 @@
 -- The lines of readable statements are good.
-use Rattle.std.proofs.Common.{◌≡◌, ℕ, ◌&&◌, Bool, true, false, List, [], ◌∷◌, ◌++◌, Option, None, Some, refl, sym, subst, ◌∙◌, append_assoc}
+use Rattle.std.proofs.Common.{◌≡◌, ℕ, true, false, List, [], ◌∷◌, ◌++◌, Option, None, Some, refl, sym, subst, ◌∙◌, append_assoc}
+use Rattle.std.proofs.lemmas.Bool.{and_from}
 use Rattle.std.specs.Prelude.{codes}
 use Rattle.std.specs.List.{list_all}
 use Rattle.std.proofs.lemmas.List.Folds.{list_all-append}
+use Rattle.rb_trees.specs.Spelling.{IsName}
 use Rattle.rb_trees.specs.mirror.Code.{Expr, Stmt, Stmts, Val, Var, Assign, Run, Print, Throw, If, While, For, Try, Batch, NoStmts, MoreStmts}
 use Rattle.rb_trees.specs.mirror.Declarations.{Body}
 use Rattle.rb_trees.specs.printing.Pieces.{Piece, Space}
@@ -11,7 +13,7 @@ use Rattle.rb_trees.specs.printing.Stmts.{line, deeper, opened, closed, headed, 
 use Rattle.rb_trees.specs.printing.Words as w
 use Rattle.rb_trees.specs.printing.Words.{space, name_piece}
 use Rattle.rb_meaning_bytes.specs.tokens.Bytes.{is_separator}
-use Rattle.rb_parse.proofs.printing.ReadTrees.{IsReadName, IsReadExpr, IsReadStmt, AreReadStmts, IsReadReturn, IsReadBody}
+use Rattle.rb_parse.proofs.readable.Trees.{IsReadExpr, IsReadStmt, AreReadStmts, IsReadReturn, IsReadBody}
 use Rattle.rb_parse.proofs.printing.lexed.Good.{Good}
 use Rattle.rb_parse.proofs.printing.lexed.Leads as leads
 use Rattle.rb_parse.proofs.printing.lexed.Leads.{Followed, Opened, Leads, opens_too, spaced, ended, name_leads, space_good}
@@ -35,11 +37,7 @@ unfolding is_separator
 two_spaces = refl
 
 pub deeper_indent : (indent : List ℕ) → IsIndent indent → IsIndent (deeper indent)
-deeper_indent indent h = list_all-append is_separator indent (codes "  ") ∙ both (list_all is_separator indent) (list_all is_separator (codes "  ")) h two_spaces
-  where
-    both : (a b : Bool) → a ≡ true → b ≡ true → (a && b) ≡ true
-    both true b h k = k
-    both false b h k = h
+deeper_indent indent h = list_all-append is_separator indent (codes "  ") ∙ and_from (list_all is_separator indent) (list_all is_separator (codes "  ")) h two_spaces
 
 pub line_good : (indent : List ℕ) (ps : List Piece) → IsIndent indent → Flows false ps → Lines (line indent ps)
 line_good indent ps i f rest g =
@@ -68,7 +66,7 @@ closed_by_flows ps f rest r = record { good = leads.close_brace_stands false _ (
 assign_trails : (ps : List Piece) → Flows false ps → Trails (space ∷ w.assign ∷ space ∷ ps)
 assign_trails ps f rest r = spaced _ (leads.assign_stands false _ (after_space false _ (f rest r).good))
 
-bound_flows : (word : Piece) (name : List ℕ) (value : Expr) → Leads word → IsReadName name → IsReadExpr false value → Flows false (bound word name value)
+bound_flows : (word : Piece) (name : List ℕ) (value : Expr) → Leads word → IsName name → IsReadExpr false value → Flows false (bound word name value)
 bound_flows word name value l n h =
     let tail = space ∷ w.assign ∷ space ∷ expr_pieces value in
     flows_then false (word ∷ space ∷ name_piece name ∷ tail) (w.semicolon ∷ [])
@@ -80,20 +78,20 @@ bound_flows word name value l n h =
 word_then : (word : Piece) (e : Expr) → Leads word → IsReadExpr false e → Flows false (word ∷ space ∷ expr_pieces e)
 word_then word e l h = word_flows word (space ∷ expr_pieces e) l (spaced_trails (expr_pieces e) (expr_flows e false h)) false
 
-pub names_flow : (word : Piece) (name : List ℕ) → Leads word → IsReadName name → (ps : List Piece) → Trails ps → Flows false (word ∷ space ∷ name_piece name ∷ ps)
+pub names_flow : (word : Piece) (name : List ℕ) → Leads word → IsName name → (ps : List Piece) → Trails ps → Flows false (word ∷ space ∷ name_piece name ∷ ps)
 names_flow word name l n ps t = word_flows word (space ∷ name_piece name ∷ ps) l (spaced_trails (name_piece name ∷ ps) (word_flows (name_piece name) ps (name_leads name n) t false)) false
 
-for_flows : (name : List ℕ) (e : Expr) → IsReadName name → IsReadExpr false e → Flows false (name_piece name ∷ space ∷ w.in_word ∷ space ∷ expr_pieces e)
+for_flows : (name : List ℕ) (e : Expr) → IsName name → IsReadExpr false e → Flows false (name_piece name ∷ space ∷ w.in_word ∷ space ∷ expr_pieces e)
 for_flows name e n h =
     word_flows (name_piece name) (space ∷ w.in_word ∷ space ∷ expr_pieces e) (name_leads name n)
     (spaced_trails (w.in_word ∷ space ∷ expr_pieces e) (word_then w.in_word e leads.in_leads h)) false
 
-batch_flows : (interface root : List ℕ) → IsReadName interface → IsReadName root → Flows false (name_piece interface ∷ space ∷ name_piece root ∷ [])
+batch_flows : (interface root : List ℕ) → IsName interface → IsName root → Flows false (name_piece interface ∷ space ∷ name_piece root ∷ [])
 batch_flows interface root n m =
     word_flows (name_piece interface) (space ∷ name_piece root ∷ []) (name_leads interface n)
     (spaced_trails (name_piece root ∷ []) (one_flows (name_piece root) (name_leads root m) false)) false
 
-catch_flows : (name : List ℕ) → IsReadName name → Flows false (w.catch_word ∷ space ∷ in_parentheses (name_piece name ∷ []))
+catch_flows : (name : List ℕ) → IsName name → Flows false (w.catch_word ∷ space ∷ in_parentheses (name_piece name ∷ []))
 catch_flows name n =
     word_flows w.catch_word (space ∷ in_parentheses (name_piece name ∷ [])) leads.catch_leads
     (spaced_trails (in_parentheses (name_piece name ∷ []))

@@ -4,7 +4,7 @@ use Rattle.std.proofs.lemmas.List.{append-nil}
 use Rattle.rb_trees.specs.mirror.Declarations.{Program}
 use Rattle.rb_trees.specs.printing.Programs.{program_pieces, printed_program}
 use Rattle.rb_meaning_bytes.specs.tokens.Texts.{IsTokens, longest_text}
-use Rattle.rb_parse.proofs.printing.ReadTrees.{IsReadable}
+use Rattle.rb_parse.proofs.readable.Trees.{IsReadable}
 use Rattle.rb_parse.proofs.printing.Spots.{tokens_at}
 use Rattle.rb_parse.proofs.printing.lexed.Good.{Good, good_utf8, listed}
 use Rattle.rb_parse.proofs.printing.lexed.Programs.{program_good}

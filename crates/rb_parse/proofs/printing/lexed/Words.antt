@@ -1,5 +1,6 @@
 -- The tokens of printed programs have their forms.
 use Rattle.std.proofs.Common.{◌≡◌, ℕ, ◌+◌, ◌<◌, ◌≤◌, ◌^◌, ◌%◌, ◌&&◌, eqb, ltb, cond, Bool, true, false, List, [], ◌∷◌, ◌++◌, refl, sym, ap, subst, ◌∙◌, arith, Some, IsUtf8, ltb-false, ltb-true, ne_eqb}
+use Rattle.std.proofs.lemmas.Bool.{and_from, and_parts}
 use Rattle.std.proofs.lemmas.Bool.Decides.{nat_tests}
 use Rattle.std.proofs.lemmas.Fmt.{decimal_by_steps}
 use Rattle.std.specs.Fmt.{decimal}
@@ -14,13 +15,13 @@ use Rattle.rb_meaning_bytes.specs.tokens.Bytes.{is_letter, is_digit, is_word_byt
 use Rattle.rb_meaning_bytes.specs.tokens.Forms.{Form, IsWord, IsNumber, Body, empty, plain, escape}
 use Rattle.rb_meaning_bytes.specs.tokens.Tables.{signs, place_in}
 use Rattle.rb_parse.proofs.lawful.Utf8.{AllHigh, encode_high, ascii_first}
-use Rattle.rb_parse.proofs.printing.lexed.Slices.{sign_ascii, and_first, and_second}
+use Rattle.rb_parse.proofs.printing.lexed.Slices.{sign_ascii}
 
 -- ASCII text is UTF-8
 
 all_utf8 : (p : ℕ → Bool) → ((b : ℕ) → p b ≡ true → b < 128) → (bs : List ℕ) → list_all p bs ≡ true → IsUtf8 bs
 all_utf8 p low [] h = IsUtf8-nil
-all_utf8 p low (b ∷ bs) h = ascii_first b bs (low b (and_first (p b) _ h)) (all_utf8 p low bs (and_second (p b) _ h))
+all_utf8 p low (b ∷ bs) h = ascii_first b bs (low b (and_parts (p b) _ h).0) (all_utf8 p low bs (and_parts (p b) _ h).1)
 
 letter_low : (b : ℕ) → is_letter b ≡ true → b < 128
 unfolding is_letter
@@ -60,12 +61,7 @@ digit_is n h = grind (arith, nat_tests)
 
 number_more : (ds : List ℕ) (d : ℕ) → is_digit d ≡ true → IsNumber ds → IsNumber (ds ++ d ∷ [])
 number_more [] d h f = absurd f
-number_more (b ∷ bs) d h f = (f.0, list_all-append is_digit bs (d ∷ []) ∙ both (list_all is_digit bs) (is_digit d) f.1 h)
-  where
-    both : (a c : Bool) → a ≡ true → c ≡ true → (a && (c && true)) ≡ true
-    both true true g k = refl
-    both true false g k = k
-    both false c g k = g
+number_more (b ∷ bs) d h f = (f.0, list_all-append is_digit bs (d ∷ []) ∙ and_from (list_all is_digit bs) (is_digit d && true) f.1 (and_from (is_digit d) true h refl))
 
 pub decimal_number : (n : ℕ) → n < 2 ^ 64 → IsNumber (decimal n)
 decimal_number n h = decimal_by_steps (λ m ds. IsNumber ds) one more n h
@@ -122,7 +118,7 @@ char_escaped false c bs h k u =
 
 chars_escaped : (cs : List ℕ) → scalars cs ≡ true → IsUtf8 (all_escaped (encodes cs))
 chars_escaped [] h = IsUtf8-nil
-chars_escaped (c ∷ cs) h = char_escaped (ltb c 128) c (encodes cs) refl (and_first (scalar c) (scalars cs) h) (chars_escaped cs (and_second (scalar c) (scalars cs) h))
+chars_escaped (c ∷ cs) h = char_escaped (ltb c 128) c (encodes cs) refl (and_parts (scalar c) (scalars cs) h).0 (chars_escaped cs (and_parts (scalar c) (scalars cs) h).1)
 
 pub literal_utf8 : (t : List ℕ) → IsUtf8 t → IsUtf8 (codes "\"" ++ all_escaped t ++ codes "\"")
 literal_utf8 t u =

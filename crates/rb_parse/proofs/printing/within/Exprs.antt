@@ -19,7 +19,7 @@ use Rattle.rb_trees.specs.printing.Exprs.{binary_sign, unary_pieces, in_parenthe
 use Rattle.rb_meaning_bytes.specs.grammar.Kinds as k
 use Rattle.rb_meaning_bytes.specs.grammar.Kinds.{is_one_of}
 use Rattle.rb_meaning_bytes.specs.grammar.Limits.{Nesting, after}
-use Rattle.rb_parse.proofs.printing.ReadTrees.{IsReadInt, IsReadForm, IsReadExpr, AreReadExprs, type_depth, marks_of, marks_of_all}
+use Rattle.rb_parse.proofs.readable.Trees.{IsReadInt, IsReadForm, IsReadExpr, AreReadExprs, type_depth, marks_of, marks_of_all}
 use Rattle.rb_parse.proofs.printing.within.States.{Open, Plain, brackets, counting, more_marks, after_calm, after_mark, after_opened, after_closed, after_less, after_greater}
 use Rattle.rb_parse.proofs.printing.within.Fits.{Fits, nothing, spaced, joined, weaker, next}
 use Rattle.rb_parse.proofs.printing.within.Types.{Behind, type_fits}

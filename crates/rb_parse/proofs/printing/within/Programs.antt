@@ -16,7 +16,7 @@ use Rattle.rb_trees.specs.printing.Words.{space, name_piece}
 use Rattle.rb_meaning_bytes.specs.grammar.Kinds as k
 use Rattle.rb_meaning_bytes.specs.grammar.Kinds.{is_one_of}
 use Rattle.rb_meaning_bytes.specs.grammar.Limits.{Within, nothing_open}
-use Rattle.rb_parse.proofs.printing.ReadTrees.{IsReadType, IsReadParam, IsReadSignature, IsReadInterface, IsReadMethod, IsReadClass, IsReadable}
+use Rattle.rb_parse.proofs.readable.Trees.{IsReadType, IsReadParam, IsReadSignature, IsReadInterface, IsReadMethod, IsReadClass, IsReadable}
 use Rattle.rb_parse.proofs.printing.Spots.{tokens_at}
 use Rattle.rb_parse.proofs.printing.within.States.{counting, after_calm, after_mark, after_head}
 use Rattle.rb_parse.proofs.printing.within.Fits.{nothing, spaced, joined, next, unbroken}

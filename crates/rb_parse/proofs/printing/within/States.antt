@@ -1,11 +1,11 @@
 -- What one more token does to what is open.
-use Rattle.std.proofs.Common.{◌≡◌, ℕ, suc, ◌+◌, ◌-◌, ◌≤◌, Bool, true, false, cond, nat_lt, List, [], ◌∷◌, refl, sym, ◌∙◌, arith, le-ltb}
+use Rattle.std.proofs.Common.{◌≡◌, ℕ, suc, ◌+◌, ◌-◌, ◌≤◌, Bool, true, false, cond, nat_lt, List, [], ◌∷◌, refl, ◌∙◌, arith, le-ltb}
 use Rattle.std.proofs.Math.Dec.{eqb-suc-zero}
 use Rattle.rb_trees.specs.declared.tokens.TokenKind.{TokenKind}
 use Rattle.rb_meaning_bytes.specs.grammar.Kinds as k
 use Rattle.rb_meaning_bytes.specs.grammar.Kinds.{is_kind, is_one_of}
 use Rattle.rb_meaning_bytes.specs.grammar.Limits.{Nesting, opens_block, opens_type, opens_mark, is_mark, ends_expression, blocks_after, types_after, marks_after, after, too_deep}
-use Rattle.rb_parse.proofs.KindLists.{within, one_within, neither}
+use Rattle.rb_parse.proofs.KindLists.{not_kind, none_within}
 
 -- So many blocks and types are open, and so many marks at most; no limit is broken.
 pub record Open (b t m : ℕ) (n : Nesting) : Type 0 where
@@ -46,17 +46,6 @@ marks = k.sign_not ∷ k.sign_minus ∷ k.sign_or ∷ k.sign_and ∷ k.sign_equa
 -- the kinds that count for something
 abbrev pub counting : List TokenKind
 counting = k.sign_open_brace ∷ k.sign_close_brace ∷ k.sign_less ∷ k.sign_greater ∷ k.sign_open ∷ k.sign_semicolon ∷ k.sign_assign ∷ k.keyword_in ∷ k.sign_not ∷ k.sign_minus ∷ k.sign_or ∷ k.sign_and ∷ k.sign_equal ∷ k.sign_unequal ∷ k.sign_at_most ∷ k.sign_at_least ∷ k.sign_plus ∷ k.sign_star ∷ k.sign_slash ∷ k.sign_percent ∷ k.sign_dot ∷ k.sign_open_bracket ∷ []
-
--- a kind that is none of some kinds is none of fewer
-none_within : (kind : TokenKind) (xs ys : List TokenKind) → within xs ys ≡ true → is_one_of kind ys ≡ false → is_one_of kind xs ≡ false
-none_within kind xs ys w h = go (is_one_of kind xs) refl
-  where
-    go : (x : Bool) → is_one_of kind xs ≡ x → x ≡ false
-    go false e = refl
-    go true e = sym (one_within kind xs ys w e) ∙ h
-
-not_kind : (kind other : TokenKind) (ys : List TokenKind) → within (other ∷ []) ys ≡ true → is_one_of kind ys ≡ false → is_kind kind other ≡ false
-not_kind kind other ys w h = (neither (is_kind kind other) false (none_within kind (other ∷ []) ys w h)).0
 
 -- A token that is no bracket of blocks and types leaves those as they are.
 same_blocks : (n : Nesting) (kind : TokenKind) → is_one_of kind brackets ≡ false → blocks_after n kind ≡ n.blocks

@@ -9,7 +9,7 @@ use Rattle.rb_trees.specs.printing.Stmts.{deeper, headed, bound, otherwise, stmt
 use Rattle.rb_trees.specs.printing.Words as w
 use Rattle.rb_meaning_bytes.specs.grammar.Kinds as k
 use Rattle.rb_meaning_bytes.specs.grammar.Kinds.{is_one_of}
-use Rattle.rb_parse.proofs.printing.ReadTrees.{IsReadOutermost, IsReadStmt, AreReadStmts, IsReadReturn, IsReadBody, marks_of}
+use Rattle.rb_parse.proofs.readable.Trees.{IsReadOutermost, IsReadStmt, AreReadStmts, IsReadReturn, IsReadBody, marks_of}
 use Rattle.rb_parse.proofs.printing.within.States.{Plain, words, counting}
 use Rattle.rb_parse.proofs.printing.within.Types.{Behind}
 use Rattle.rb_parse.proofs.printing.within.Exprs.{expr_fits}

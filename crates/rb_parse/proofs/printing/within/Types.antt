@@ -10,7 +10,7 @@ use Rattle.rb_trees.specs.printing.Words.{space, colon}
 use Rattle.rb_meaning_bytes.specs.grammar.Kinds as k
 use Rattle.rb_meaning_bytes.specs.grammar.Kinds.{is_one_of}
 use Rattle.rb_meaning_bytes.specs.grammar.Limits.{Nesting}
-use Rattle.rb_parse.proofs.printing.ReadTrees.{type_depth}
+use Rattle.rb_parse.proofs.readable.Trees.{type_depth}
 use Rattle.rb_parse.proofs.printing.within.States.{Open, Plain, counting, after_calm, after_opened, after_closed}
 use Rattle.rb_parse.proofs.printing.within.Fits.{Fits, nothing, spaced, joined, next}
 

@@ -7,11 +7,11 @@ place-requires-clause-within c = unexpected_within c.args.source.now c.args.toke
 pub place-requires-in-Err-TooNested-clause-within : goal.place-requires-in-Err-TooNested-clause-within
 place-requires-in-Err-TooNested-clause-within c = nested_within c.args.source.now c.args.tokens.now c.in-Err-TooNested.left (rw c.in-Err-TooNested.field-0-is at c.in-Err-TooNested.ensures)
 
-pub returns-in-Ok-clause-read : goal.returns-in-Ok-clause-read
-returns-in-Ok-clause-read c = told_ok c.args.source.now c.args.tokens.now _ c.in-Ok.ensures
+pub returns-in-Ok : goal.returns-in-Ok
+returns-in-Ok c = record { read = told_ok c.args.source.now c.args.tokens.now _ c.in-Ok.ensures }
 
-pub returns-in-Err-Unexpected-clause-read : goal.returns-in-Err-Unexpected-clause-read
-returns-in-Err-Unexpected-clause-read c = rw c.place.ensures (told_unexpected c.args.source.now c.args.tokens.now c.in-Err-Unexpected.left (rw c.in-Err-Unexpected.field-0-is at c.in-Err-Unexpected.ensures))
+pub returns-in-Err-Unexpected : goal.returns-in-Err-Unexpected
+returns-in-Err-Unexpected c = record { read = rw c.place.ensures (told_unexpected c.args.source.now c.args.tokens.now c.in-Err-Unexpected.left (rw c.in-Err-Unexpected.field-0-is at c.in-Err-Unexpected.ensures)) }
 
-pub returns-in-Err-TooNested-clause-read : goal.returns-in-Err-TooNested-clause-read
-returns-in-Err-TooNested-clause-read c = rw c.place-in-Err-TooNested.ensures (told_nested c.args.source.now c.args.tokens.now c.in-Err-TooNested.left (rw c.in-Err-TooNested.field-0-is at c.in-Err-TooNested.ensures))
+pub returns-in-Err-TooNested : goal.returns-in-Err-TooNested
+returns-in-Err-TooNested c = record { read = rw c.place-in-Err-TooNested.ensures (told_nested c.args.source.now c.args.tokens.now c.in-Err-TooNested.left (rw c.in-Err-TooNested.field-0-is at c.in-Err-TooNested.ensures)) }

@@ -1,4 +1,4 @@
-use Rattle.rb_parse.proofs.Fronts.{one_tree}
+use Rattle.rb_parse.proofs.Prefixes.{one_tree}
 use Rattle.rb_parse.proofs.reading.tokens_derive_one_program.Goals as goal
 
 pub returns : goal.returns

@@ -1,10 +1,9 @@
-use Rattle.std.proofs.Common.{sym, subst, Err}
+use Rattle.std.proofs.Common.{sym, subst}
 use Rattle.rb_trees.specs.Outcome.{Refused}
 use Rattle.rb_trees.specs.Reading.{read_refusal}
 use Rattle.rb_meaning_bytes.specs.tokens.Texts.{IsTokens}
 use Rattle.rb_meaning_bytes.specs.grammar.Sources.{ReadSource}
-use Rattle.rb_parse.proofs.Joins.{fault_told, tokens_told}
-use Rattle.rb_parse.proofs.ReadsLawful.{lawful_answer}
+use Rattle.rb_parse.proofs.Joins.{fault_told, tokens_told, lawful_answer}
 use Rattle.rb_parse.proofs.source.parse_program.Goals as goal
 
 pub returns-in-Ok-clause-read : goal.returns-in-Ok-clause-read

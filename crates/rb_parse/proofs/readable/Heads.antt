@@ -4,7 +4,7 @@ use Rattle.rb_trees.specs.declared.tokens.TokenKind.TheVariants as kind
 use Rattle.rb_meaning_bytes.specs.grammar.Kinds as k
 use Rattle.rb_meaning_bytes.specs.grammar.Kinds.{is_kind, is_one_of}
 use Rattle.rb_meaning_bytes.specs.grammar.Limits.{Nesting, opens_block, opens_type, is_mark, ends_expression, blocks_after, types_after, marks_after, after}
-use Rattle.rb_parse.proofs.depths.States.{afters, Ready, Limits, Goes, Moves, Marks}
+use Rattle.rb_parse.proofs.readable.States.{afters, Ready, Room, Goes, Moves, Marks}
 
 -- a type's angle bracket is open
 pub record TypeOpens (n m : Nesting) : Type 0 where
@@ -71,7 +71,7 @@ pub record Opens (n m : Nesting) : Type 0 where
   pub blocks : m.blocks ≡ n.blocks + 1
   pub types : m.types ≡ n.types
 
-pub block_opens : (n : Nesting) → Ready n → Limits (after n k.sign_open_brace) → Opens n (after n k.sign_open_brace)
+pub block_opens : (n : Nesting) → Ready n → Room (after n k.sign_open_brace) → Opens n (after n k.sign_open_brace)
 unfolding blocks_after opens_block types_after opens_type marks_after ends_expression is_mark
 block_opens n r l = record {
   ready = record { no_fun = refl; no_list = refl; no_head = refl; no_head_before = r.no_head; room = l.blocks };

@@ -1,13 +1,13 @@
--- The trees that reading gives, by the trees alone: more than lawful ones, since no keyword is a name, no literal is
--- negative but the least Int directly behind a minus, and as many marks, blocks and types are open as the limits allow.
-use Rattle.std.specs.Prelude.{ℕ, ◌≡◌, ◌≤◌, ◌+◌, suc, nat_lt, length, ℤ, pos, negsuc, List, Bool, true, false, cond, Option, None, Some}
+-- The trees that reading gives, by the trees alone: no literal is negative but the least Int directly behind a minus,
+-- and no more marks, blocks and types are open than the limits allow.
+use Rattle.std.specs.Prelude.{ℕ, ◌≡◌, ◌≤◌, ◌+◌, suc, nat_lt, length, ℤ, pos, negsuc, Bool, true, false, cond, Option, None, Some}
 use Rattle.std.specs.List.{All}
 use Rattle.std.specs.Str.{IsUtf8}
+use Rattle.rb_trees.specs.Spelling.{IsName}
 use Rattle.rb_trees.specs.declared.code.UnOp.{UnOp}
 use Rattle.rb_trees.specs.declared.code.UnOp.TheVariants as unary
 use Rattle.rb_trees.specs.declared.code.BinOp.{BinOp}
 use Rattle.rb_trees.specs.declared.code.BinOp.TheVariants as binary
-use Rattle.rb_trees.specs.declared.tokens.TokenKind.TheVariants as kind
 use Rattle.rb_trees.specs.declared.values.Value.{Value}
 use Rattle.rb_trees.specs.declared.values.Value.TheOpen.{Value-F}
 use Rattle.rb_trees.specs.declared.values.Value.TheViews.{out-Value}
@@ -16,11 +16,7 @@ use Rattle.rb_trees.specs.mirror.Types.{TypeTree}
 use Rattle.rb_trees.specs.mirror.Code.{Expr, Exprs, Lit, Name, This, Unary, Binary, Field, Call, Index, New, Items, Taken, NoExprs, MoreExprs, Stmt, Stmts, Val, Var, Assign, Run, Print, Throw, If, While, For, Try, Batch, NoStmts, MoreStmts}
 use Rattle.rb_trees.specs.mirror.Declarations.{Param, Signature, Interface, Body, Method, Class, Program}
 use Rattle.rb_trees.specs.printing.Exprs.{level_of, left_level, right_level, operand_level}
-use Rattle.rb_meaning_bytes.specs.tokens.Forms.{Form}
-
--- a name that is no keyword
-abbrev pub IsReadName : List ℕ → Type 0
-IsReadName name = Form kind.Name name
+use Rattle.rb_meaning_types.specs.Lawful.{IsLawfulType}
 
 -- The flag says that the literal stands directly behind a minus.
 abbrev pub IsReadInt : Bool → ℤ → Type 0
@@ -37,25 +33,19 @@ IsReadForm minus _ = ⊥
 abbrev pub IsReadLiteral : Bool → Value → Type 0
 IsReadLiteral minus value = IsReadForm minus (out-Value value)
 
-abbrev pub AreReadTypeNames : TypeTree → Type 0
-AreReadTypeNames (type.Named at name) = IsReadName name
-AreReadTypeNames (type.ListOf at item) = AreReadTypeNames item
-AreReadTypeNames (type.RowsOf at row) = AreReadTypeNames row
-AreReadTypeNames _ = Unit {0}
-
 -- how many types are open within each other
 abbrev pub type_depth : TypeTree → ℕ
 type_depth (type.ListOf at item) = suc (type_depth item)
 type_depth (type.RowsOf at row) = suc (type_depth row)
 type_depth _ = 0
 
--- A type: its names are no keywords, and at most 64 types are open.
+-- A type: at most 64 types are open.
 abbrev pub IsReadType : TypeTree → Type 0
-IsReadType t = AreReadTypeNames t × (type_depth t ≤ 64)
+IsReadType t = IsLawfulType t × (type_depth t ≤ 64)
 
 -- The type of the items of a list expression: the `List<` before it opens one type more.
 abbrev pub IsReadItem : TypeTree → Type 0
-IsReadItem t = AreReadTypeNames t × (suc (type_depth t) ≤ 64)
+IsReadItem t = IsLawfulType t × (suc (type_depth t) ≤ 64)
 
 -- whether an expression at a place of the level stands directly behind the minus before its place: parentheses part them
 abbrev pub behind : Bool → ℕ → Expr → Bool
@@ -74,15 +64,15 @@ abbrev mutual
   -- The flag says that the expression's first token stands directly behind a minus.
   pub IsReadExpr : Bool → Expr → Type 0
   IsReadExpr minus (Lit at value) = IsReadLiteral minus value
-  IsReadExpr minus (Name at name) = IsReadName name
+  IsReadExpr minus (Name at name) = IsName name
   IsReadExpr minus (This at) = Unit {0}
   IsReadExpr minus (Unary at op a) = IsReadExpr (behind (before_operand op) (operand_level op) a) a
   IsReadExpr minus (Binary at op a b) =
       IsReadExpr (behind minus (left_level op) a) a × IsReadExpr (behind (before_right op) (right_level op) b) b
-  IsReadExpr minus (Field at a name) = IsReadExpr (behind minus 7 a) a × IsReadName name
-  IsReadExpr minus (Call at a method args) = IsReadExpr (behind minus 7 a) a × IsReadName method × AreReadExprs args
+  IsReadExpr minus (Field at a name) = IsReadExpr (behind minus 7 a) a × IsName name
+  IsReadExpr minus (Call at a method args) = IsReadExpr (behind minus 7 a) a × IsName method × AreReadExprs args
   IsReadExpr minus (Index at a b) = IsReadExpr (behind minus 7 a) a × IsReadExpr false b
-  IsReadExpr minus (New at class args) = IsReadName class × AreReadExprs args
+  IsReadExpr minus (New at class args) = IsName class × AreReadExprs args
   IsReadExpr minus (Items at item items) = IsReadItem item × AreReadExprs items
   IsReadExpr minus (Taken at step) = ⊥
 
@@ -117,17 +107,17 @@ IsReadOutermost e = IsReadExpr false e × (marks_of e ≤ 200)
 abbrev mutual
   -- The number says how many blocks are open around the statement; at most 64 are.
   pub IsReadStmt : ℕ → Stmt → Type 0
-  IsReadStmt blocks (Val at name e) = IsReadName name × IsReadOutermost e
-  IsReadStmt blocks (Var at name e) = IsReadName name × IsReadOutermost e
+  IsReadStmt blocks (Val at name e) = IsName name × IsReadOutermost e
+  IsReadStmt blocks (Var at name e) = IsName name × IsReadOutermost e
   IsReadStmt blocks (Assign at a b) = IsReadOutermost a × IsReadOutermost b
   IsReadStmt blocks (Run at e) = IsReadOutermost e
   IsReadStmt blocks (Print at e) = IsReadOutermost e
   IsReadStmt blocks (Throw at e) = IsReadOutermost e
   IsReadStmt blocks (If at e a b) = IsReadOutermost e × (suc blocks ≤ 64) × AreReadStmts (suc blocks) a × AreReadStmts (suc blocks) b
   IsReadStmt blocks (While at e a) = IsReadOutermost e × (suc blocks ≤ 64) × AreReadStmts (suc blocks) a
-  IsReadStmt blocks (For at name e a) = IsReadName name × IsReadOutermost e × (suc blocks ≤ 64) × AreReadStmts (suc blocks) a
-  IsReadStmt blocks (Try at a name b) = IsReadName name × (suc blocks ≤ 64) × AreReadStmts (suc blocks) a × AreReadStmts (suc blocks) b
-  IsReadStmt blocks (Batch at interface root a) = IsReadName interface × IsReadName root × (suc blocks ≤ 64) × AreReadStmts (suc blocks) a
+  IsReadStmt blocks (For at name e a) = IsName name × IsReadOutermost e × (suc blocks ≤ 64) × AreReadStmts (suc blocks) a
+  IsReadStmt blocks (Try at a name b) = IsName name × (suc blocks ≤ 64) × AreReadStmts (suc blocks) a × AreReadStmts (suc blocks) b
+  IsReadStmt blocks (Batch at interface root a) = IsName interface × IsName root × (suc blocks ≤ 64) × AreReadStmts (suc blocks) a
 
   pub AreReadStmts : ℕ → Stmts → Type 0
   AreReadStmts blocks NoStmts = Unit {0}
@@ -142,19 +132,19 @@ abbrev pub IsReadBody : Body → Type 0
 IsReadBody b = AreReadStmts 1 b.statements × IsReadReturn b.result
 
 abbrev pub IsReadParam : Param → Type 0
-IsReadParam p = IsReadName p.name × IsReadType p.kind
+IsReadParam p = IsName p.name × IsReadType p.kind
 
 abbrev pub IsReadSignature : Signature → Type 0
-IsReadSignature s = IsReadName s.name × All IsReadParam s.params × IsReadType s.result
+IsReadSignature s = IsName s.name × All IsReadParam s.params × IsReadType s.result
 
 abbrev pub IsReadInterface : Interface → Type 0
-IsReadInterface i = IsReadName i.name × All IsReadSignature i.methods
+IsReadInterface i = IsName i.name × All IsReadSignature i.methods
 
 abbrev pub IsReadMethod : Method → Type 0
 IsReadMethod m = IsReadSignature m.signature × IsReadBody m.body
 
 abbrev pub IsReadClass : Class → Type 0
-IsReadClass c = IsReadName c.name × All IsReadParam c.fields × All IsReadMethod c.methods
+IsReadClass c = IsName c.name × All IsReadParam c.fields × All IsReadMethod c.methods
 
 pub record IsReadable (p : Program) : Type 0 where
   pub interfaces : All IsReadInterface p.interfaces

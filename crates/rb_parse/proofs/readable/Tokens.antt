@@ -2,6 +2,7 @@
 use Rattle.std.proofs.Common.{◌≡◌, ℕ, pos, negsuc, ◌-◌, ◌≤◌, ◌==◌, min, Bool, true, false, cond, List, [], ◌∷◌, ◌++◌, length, refl, ap, sym, subst, ◌∙◌, Some, None, arith, ltb, ltb-true, ltb-false, IsUtf8, eqb-true}
 use Rattle.std.proofs.lemmas.Bool.{eqb-false}
 use Rattle.std.proofs.Math.Nat.{min-eq_left}
+use Rattle.rb_trees.specs.Spelling.{IsName}
 use Rattle.rb_trees.specs.declared.tokens.Token.{Token}
 use Rattle.rb_trees.specs.declared.tokens.TokenKind.{TokenKind}
 use Rattle.rb_trees.specs.declared.tokens.TokenKind.TheVariants as kinds
@@ -15,22 +16,29 @@ use Rattle.rb_meaning_bytes.specs.tokens.Values.{number_value, int_of}
 use Rattle.rb_meaning_bytes.specs.tokens.Lists.{TokensBetween, AllWithinLimits, is_minus}
 use Rattle.rb_meaning_bytes.specs.grammar.Values.{slice, name_of, number_of, text_of}
 use Rattle.rb_meaning_bytes.specs.grammar.Limits.{Nesting, after, too_deep, broken}
-use Rattle.rb_parse.proofs.printing.ReadTrees.{IsReadInt, IsReadForm, IsReadLiteral}
+use Rattle.rb_parse.proofs.readable.Trees.{IsReadInt, IsReadForm, IsReadLiteral}
 use Rattle.rb_parse.proofs.lawful.Utf8.{literal_utf8}
-use Rattle.rb_parse.proofs.depths.States.{Limits}
-
--- No limit is broken.
-pub record Room (n : Nesting) : Type 0 where
-  pub limits : Limits n
-  pub types : n.types ≤ 64
+use Rattle.rb_parse.proofs.readable.States.{Room}
 
 -- what a token of the kind tells of its slice; the flag says that the token before it is a minus
 abbrev pub Tells : List ℕ → Bool → TokenKind → Token → Type 0
-Tells source minus kinds.Name t = Form kinds.Name (name_of source t)
+Tells source minus kinds.Name t = IsName (name_of source t)
 Tells source minus kinds.Number t = number_value (slice source t) ≤ greatest_number minus
 Tells source minus kinds.TextLit t = IsUtf8 (text_of source t) × (length (text_of source t) ≤ 4096)
 Tells source minus (kinds.Keyword place) t = Unit {0}
 Tells source minus (kinds.Sign place) t = Unit {0}
+
+greatest : (minus : Bool) → greatest_number minus ≤ 9223372036854775808
+greatest true = omega arith
+greatest false = omega arith
+
+-- what a token tells, it tells behind a minus too
+pub tells_behind : (source : List ℕ) (minus : Bool) (kind : TokenKind) (t : Token) → Tells source minus kind t → Tells source true kind t
+tells_behind source minus kinds.Name t h = h
+tells_behind source minus kinds.Number t h = omega (arith, h, greatest minus)
+tells_behind source minus kinds.TextLit t h = h
+tells_behind source minus (kinds.Keyword place) t h = tt
+tells_behind source minus (kinds.Sign place) t h = tt
 
 -- Each token breaks no limit, and tells what one of its kind does.
 abbrev pub AllFit : List ℕ → Nesting → List Token → Type 0
@@ -65,7 +73,7 @@ room_of n h = go (ltb 64 n.blocks) (ltb 64 n.types) (ltb 200 n.marks) refl refl 
     go true b c e f g h = cc
     go false true c e f g h = cc
     go false false true e f g h = cc
-    go false false false e f g h = record { limits = record { blocks = ltb-false 64 n.blocks e; marks = ltb-false 200 n.marks g }; types = ltb-false 64 n.types f }
+    go false false false e f g h = record { blocks = ltb-false 64 n.blocks e; types = ltb-false 64 n.types f; marks = ltb-false 200 n.marks g }
 
 -- a token that breaks no limit, and the tokens behind it
 record First (n : Nesting) (t : Token) (ts : List Token) : Type 0 where
@@ -104,10 +112,6 @@ int_by true true v e h = refl
 int_by true false v e h = large v e h
 int_by false true v e h = let i = eqb-true v 9223372036854775808 e in absurd (omega (arith, i))
 int_by false false v e h = h
-
-greatest : (minus : Bool) → greatest_number minus ≤ 9223372036854775808
-greatest true = omega arith
-greatest false = omega arith
 
 literal : (minus : Bool) (v : Value-F Value) (x : Value) → out-Value x ≡ v → IsReadForm minus v → IsReadLiteral minus x
 literal minus v x e h = subst (IsReadForm minus) (sym e) h

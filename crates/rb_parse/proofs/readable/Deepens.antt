@@ -1,5 +1,6 @@
 -- Expressions made of others are read at their places.
 use Rattle.std.proofs.Common.{◌≡◌, ℕ, suc, ◌+◌, ◌≤◌, Bool, false, nat_lt, List, Option, Some, None, refl, sym, subst, arith}
+use Rattle.rb_trees.specs.Spelling.{IsName}
 use Rattle.rb_trees.specs.declared.code.UnOp.{UnOp}
 use Rattle.rb_trees.specs.declared.code.BinOp.{BinOp}
 use Rattle.rb_trees.specs.mirror.Code as code
@@ -8,10 +9,10 @@ use Rattle.rb_trees.specs.printing.Exprs.{level_of, left_level, right_level, ope
 use Rattle.rb_meaning_bytes.specs.tokens.Lists.{is_minus}
 use Rattle.rb_meaning_bytes.specs.grammar.Limits.{Nesting}
 use Rattle.rb_meaning_bytes.specs.grammar.Productions.{member}
-use Rattle.rb_parse.proofs.printing.ReadTrees.{IsReadName, IsReadExpr, AreReadExprs, before_operand, before_right, placed_marks, marks_of, marks_of_all}
-use Rattle.rb_parse.proofs.printing.readable.Places.{Stands, lower, bare, outer_read, outer_marks}
-use Rattle.rb_parse.proofs.printing.readable.Steps.{Fit, Rest, Step, Marked, steps_on, step_of, none, Placed, Carries, Spans}
-use Rattle.rb_parse.proofs.printing.readable.Invariants.{IsReadCall, call_marks}
+use Rattle.rb_parse.proofs.readable.Trees.{IsReadExpr, AreReadExprs, before_operand, before_right, placed_marks, marks_of, marks_of_all}
+use Rattle.rb_parse.proofs.readable.Places.{Stands, lower, bare, outer_read, outer_marks}
+use Rattle.rb_parse.proofs.readable.Steps.{Fit, Rest, Step, Marked, steps_on, step_of, none, Placed, Carries, Spans}
+use Rattle.rb_parse.proofs.readable.Invariants.{IsReadCall, call_marks}
 
 -- nothing follows
 pub carries_none : (inner outer : ℕ) → outer ≤ inner → (n : Nesting) → Fit n → Carries n inner outer (λ e. e) n
@@ -81,7 +82,7 @@ call_own : (b l n m o r q : ℕ) → b + l ≤ n → m ≡ n + 1 → m ≤ o →
 call_own b l n m o r q e f g h = omega arith
 
 -- a member of an expression
-member_stands : {minus : Bool} {base n m o q : ℕ} {e : Expr} (at : ℕ) (name : List ℕ) (args : Option Exprs) → IsReadName name → IsReadCall args
+member_stands : {minus : Bool} {base n m o q : ℕ} {e : Expr} (at : ℕ) (name : List ℕ) (args : Option Exprs) → IsName name → IsReadCall args
     → m ≡ n + 1 → m ≤ o → o + call_marks args ≤ q → Stands minus 7 base e n → Stands minus 7 base (member at name args e) q
 member_stands {minus} {base} {n} {m} {o} {q} {e} at name None named called f g h k =
     bare minus 7 base q (code.Field at e name) refl (k.read, named) (field_marks base (placed_marks 7 e (marks_of e)) n m o q k.marks f g h)
@@ -89,7 +90,7 @@ member_stands {minus} {base} {n} {m} {o} {q} {e} at name (Some args) named calle
     bare minus 7 base q (code.Call at e name args) refl (k.read, named, called) (call_own base (placed_marks 7 e (marks_of e)) n m o (marks_of_all args) q k.marks f g h)
 
 -- a dot, a name and perhaps arguments, and the members that follow
-pub membered : {n m o q p : Nesting} {f : Expr → Expr} (at : ℕ) (name : List ℕ) (args : Option Exprs) → IsReadName name
+pub membered : {n m o q p : Nesting} {f : Expr → Expr} (at : ℕ) (name : List ℕ) (args : Option Exprs) → IsName name
     → Marked n m → Step m o → (Fit o → Spans o (IsReadCall args) (call_marks args) q) → (Fit q → Carries q 7 7 f p) → Carries n 7 7 (λ e. f (member at name args e)) p
 membered {n} {m} {o} {q} {p} {f} at name args named a b g h =
     let c = g b.fit in

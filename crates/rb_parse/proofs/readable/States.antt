@@ -1,12 +1,11 @@
 -- How tokens move what is open.
-use Rattle.std.proofs.Common.{◌≡◌, ℕ, ◌+◌, ◌-◌, ◌≤◌, Bool, true, false, cond, not, List, [], ◌∷◌, refl, sym, subst, ◌∙◌, arith}
+use Rattle.std.proofs.Common.{◌≡◌, ℕ, ◌+◌, ◌-◌, ◌≤◌, Bool, true, false, cond, not, List, [], ◌∷◌, refl, sym, subst, ◌∙◌, arith, ◌&&◌}
+use Rattle.std.proofs.lemmas.Bool.{not-true, and_parts}
 use Rattle.rb_trees.specs.declared.tokens.TokenKind.{TokenKind}
-use Rattle.rb_trees.specs.mirror.Code.{Expr}
 use Rattle.rb_meaning_bytes.specs.grammar.Kinds as k
 use Rattle.rb_meaning_bytes.specs.grammar.Kinds.{is_kind, is_one_of}
 use Rattle.rb_meaning_bytes.specs.grammar.Limits.{Nesting, opens_block, opens_type, opens_mark, always_mark, is_mark, ends_expression, blocks_after, types_after, marks_after, after}
-use Rattle.rb_meaning_types.specs.Lawful.{expr_depth}
-use Rattle.rb_parse.proofs.KindLists.{kind_same, both, both_one, both_two, within, one_within, cond_false}
+use Rattle.rb_parse.proofs.KindLists.{not_kind, none_within}
 
 -- what is open behind tokens of these kinds
 abbrev pub afters : Nesting → List TokenKind → Nesting
@@ -22,8 +21,9 @@ pub record Ready (n : Nesting) : Type 0 where
   pub room : n.blocks ≤ 64
 
 -- No limit is broken.
-pub record Limits (n : Nesting) : Type 0 where
+pub record Room (n : Nesting) : Type 0 where
   pub blocks : n.blocks ≤ 64
+  pub types : n.types ≤ 64
   pub marks : n.marks ≤ 200
 
 -- The same is open in both states.
@@ -42,52 +42,26 @@ pub record Marks (n m : Nesting) : Type 0 where
   pub goes : Goes n m
   pub more : m.marks ≡ n.marks + 1
 
--- The same is open, and an expression of this depth has its marks.
-pub record Spans (n : Nesting) (depth : ℕ) (m : Nesting) : Type 0 where
-  pub goes : Goes n m
-  pub grows : n.marks ≤ m.marks
-  pub deep : n.marks + depth ≤ m.marks + 1
-
--- The same is open, and what follows an expression has marks for the depth that it adds.
-pub record Carries (n : Nesting) (f : Expr → Expr) (m : Nesting) : Type 0 where
-  pub goes : Goes n m
-  pub grows : n.marks ≤ m.marks
-  pub deep : (b : ℕ) (e : Expr) → b ≤ n.marks → b + expr_depth e ≤ n.marks + 1 → b + expr_depth (f e) ≤ m.marks + 1
-
 pub goes_on : {n m o : Nesting} → Goes n m → Goes m o → Goes n o
 goes_on a b = record { ready = b.ready; blocks = b.blocks ∙ a.blocks; types = b.types ∙ a.types }
-
-is_not : (a x : TokenKind) (xs : List TokenKind) → is_one_of x xs ≡ true → is_one_of a xs ≡ false → is_kind a x ≡ false
-is_not a x xs h n = go (is_kind a x) refl
-  where
-    go : (b : Bool) → is_kind a x ≡ b → is_kind a x ≡ false
-    go true e = let t : is_one_of a xs ≡ true = subst (λ z. is_one_of z xs ≡ true) (sym (kind_same a x e)) h in cc
-    go false e = e
-
-none_of : (a : TokenKind) (ys xs : List TokenKind) → within ys xs ≡ true → is_one_of a xs ≡ false → is_one_of a ys ≡ false
-none_of a ys xs h n = go (is_one_of a ys) refl
-  where
-    go : (b : Bool) → is_one_of a ys ≡ b → is_one_of a ys ≡ false
-    go true e = let t : is_one_of a xs ≡ true = one_within a ys xs h e in cc
-    go false e = e
 
 -- the kinds that move more than the marks
 abbrev pub movers : List TokenKind
 movers = k.keyword_fun ∷ k.keyword_List ∷ k.keyword_Rows ∷ k.keyword_interface ∷ k.keyword_class ∷ k.sign_open_brace ∷ k.sign_close_brace ∷ k.sign_less ∷ k.sign_greater ∷ []
 
 abbrev pub is_still : TokenKind → Bool
-is_still a = cond (is_one_of a movers) false true
+is_still a = not (is_one_of a movers)
 
 abbrev pub all_still : List TokenKind → Bool
 all_still [] = true
-all_still (a ∷ ks) = both (is_still a) (all_still ks)
+all_still (a ∷ ks) = is_still a && all_still ks
 
 -- the kinds that end expressions
 abbrev pub enders : List TokenKind
 enders = k.sign_semicolon ∷ k.sign_assign ∷ k.keyword_in ∷ k.sign_open_brace ∷ k.sign_close_brace ∷ []
 
 abbrev pub is_inner : TokenKind → Bool
-is_inner a = cond (is_one_of a enders) false true
+is_inner a = not (is_one_of a enders)
 
 by_two : (a b c : Bool) (x y z : ℕ) → a ≡ false → c ≡ false → cond (cond a b false) x (cond c y z) ≡ z
 by_two true b c x y z e f = cc
@@ -96,21 +70,21 @@ by_two false b false x y z e f = refl
 
 still_blocks : (n : Nesting) (a : TokenKind) → is_one_of a movers ≡ false → blocks_after n a ≡ n.blocks
 unfolding blocks_after opens_block
-still_blocks n a h = by_two (is_kind a k.sign_open_brace) (not (is_one_of n.before (k.keyword_interface ∷ k.keyword_class ∷ []))) (is_kind a k.sign_close_brace) (n.blocks + 1) (n.blocks - 1) n.blocks (is_not a k.sign_open_brace movers refl h) (is_not a k.sign_close_brace movers refl h)
+still_blocks n a h = by_two (is_kind a k.sign_open_brace) (not (is_one_of n.before (k.keyword_interface ∷ k.keyword_class ∷ []))) (is_kind a k.sign_close_brace) (n.blocks + 1) (n.blocks - 1) n.blocks (not_kind a k.sign_open_brace movers refl h) (not_kind a k.sign_close_brace movers refl h)
 
 still_types : (n : Nesting) (a : TokenKind) → is_one_of a movers ≡ false → types_after n a ≡ n.types
 unfolding types_after opens_type
-still_types n a h = by_two (is_kind a k.sign_less) (is_one_of n.last (k.keyword_List ∷ k.keyword_Rows ∷ [])) (is_kind a k.sign_greater) (n.types + 1) (n.types - 1) n.types (is_not a k.sign_less movers refl h) (is_not a k.sign_greater movers refl h)
+still_types n a h = by_two (is_kind a k.sign_less) (is_one_of n.last (k.keyword_List ∷ k.keyword_Rows ∷ [])) (is_kind a k.sign_greater) (n.types + 1) (n.types - 1) n.types (not_kind a k.sign_less movers refl h) (not_kind a k.sign_greater movers refl h)
 
 pub after_still : (n : Nesting) (a : TokenKind) → is_still a ≡ true → Ready n → Goes n (after n a)
 after_still n a h r =
-    let o = cond_false (is_one_of a movers) h in
+    let o = not-true (is_one_of a movers) h in
     let b = still_blocks n a o in
     record {
       ready = record {
-        no_fun = is_not a k.keyword_fun movers refl o;
-        no_list = none_of a (k.keyword_List ∷ k.keyword_Rows ∷ []) movers refl o;
-        no_head = none_of a (k.keyword_interface ∷ k.keyword_class ∷ []) movers refl o;
+        no_fun = not_kind a k.keyword_fun movers refl o;
+        no_list = none_within a (k.keyword_List ∷ k.keyword_Rows ∷ []) movers refl o;
+        no_head = none_within a (k.keyword_interface ∷ k.keyword_class ∷ []) movers refl o;
         no_head_before = r.no_head;
         room = subst (λ x. x ≤ 64) (sym b) r.room;
       };
@@ -122,8 +96,8 @@ after_still n a h r =
 pub stills : (ks : List TokenKind) → all_still ks ≡ true → (n : Nesting) → Ready n → Goes n (afters n ks)
 stills [] h n r = record { ready = r; blocks = refl; types = refl }
 stills (a ∷ ks) h n r =
-    let g = after_still n a (both_one (is_still a) (all_still ks) h) r in
-    goes_on g (stills ks (both_two (is_still a) (all_still ks) h) (after n a) g.ready)
+    let g = after_still n a (and_parts (is_still a) (all_still ks) h).0 r in
+    goes_on g (stills ks (and_parts (is_still a) (all_still ks) h).1 (after n a) g.ready)
 
 mark_grows : (a b : Bool) (m : ℕ) → a ≡ false → m ≤ cond a 0 (cond b (m + 1) m)
 mark_grows true b m e = cc
@@ -137,11 +111,11 @@ mark_more false false m e f = cc
 
 inner_grows : (n : Nesting) (a : TokenKind) → is_inner a ≡ true → n.marks ≤ marks_after n a
 unfolding marks_after ends_expression
-inner_grows n a h = mark_grows (is_one_of a enders) (is_mark n a) n.marks (cond_false (is_one_of a enders) h)
+inner_grows n a h = mark_grows (is_one_of a enders) (is_mark n a) n.marks (not-true (is_one_of a enders) h)
 
 inner_more : (n : Nesting) (a : TokenKind) → is_inner a ≡ true → is_mark n a ≡ true → marks_after n a ≡ n.marks + 1
 unfolding marks_after ends_expression
-inner_more n a h e = mark_more (is_one_of a enders) (is_mark n a) n.marks (cond_false (is_one_of a enders) h) e
+inner_more n a h e = mark_more (is_one_of a enders) (is_mark n a) n.marks (not-true (is_one_of a enders) h) e
 
 -- a token within an expression
 pub inner : (n : Nesting) (a : TokenKind) → is_still a ≡ true → is_inner a ≡ true → Ready n → Moves n (after n a)
@@ -162,21 +136,21 @@ unsure = k.sign_open ∷ k.sign_less ∷ k.sign_greater ∷ []
 
 sure_mark : (n : Nesting) (a : TokenKind) → is_one_of a unsure ≡ false → always_mark a ≡ true → is_mark n a ≡ true
 unfolding is_mark
-sure_mark n a h e = by_three (is_kind a k.sign_open) (is_kind a k.sign_less) (is_kind a k.sign_greater) _ _ _ (always_mark a) (is_not a k.sign_open unsure refl h) (is_not a k.sign_less unsure refl h) (is_not a k.sign_greater unsure refl h) e
+sure_mark n a h e = by_three (is_kind a k.sign_open) (is_kind a k.sign_less) (is_kind a k.sign_greater) _ _ _ (always_mark a) (not_kind a k.sign_open unsure refl h) (not_kind a k.sign_less unsure refl h) (not_kind a k.sign_greater unsure refl h) e
 
 -- whether a kind is a mark wherever it stands
 abbrev pub is_sure : TokenKind → Bool
-is_sure a = both (is_still a) (both (is_inner a) (both (cond (is_one_of a unsure) false true) (always_mark a)))
+is_sure a = is_still a && (is_inner a && (not (is_one_of a unsure) && always_mark a))
 
 -- a mark of an expression
 pub mark : (n : Nesting) (a : TokenKind) → is_sure a ≡ true → Ready n → Marks n (after n a)
 mark n a h r =
-    let one = both_one (is_still a) (both (is_inner a) (both (cond (is_one_of a unsure) false true) (always_mark a))) h in
-    let two = both_two (is_still a) (both (is_inner a) (both (cond (is_one_of a unsure) false true) (always_mark a))) h in
-    let three = both_two (is_inner a) (both (cond (is_one_of a unsure) false true) (always_mark a)) two in
+    let one = (and_parts (is_still a) (is_inner a && (not (is_one_of a unsure) && always_mark a)) h).0 in
+    let two = (and_parts (is_still a) (is_inner a && (not (is_one_of a unsure) && always_mark a)) h).1 in
+    let three = (and_parts (is_inner a) (not (is_one_of a unsure) && always_mark a) two).1 in
     record {
       goes = after_still n a one r;
-      more = inner_more n a (both_one (is_inner a) (both (cond (is_one_of a unsure) false true) (always_mark a)) two) (sure_mark n a (cond_false (is_one_of a unsure) (both_one (cond (is_one_of a unsure) false true) (always_mark a) three)) (both_two (cond (is_one_of a unsure) false true) (always_mark a) three));
+      more = inner_more n a (and_parts (is_inner a) (not (is_one_of a unsure) && always_mark a) two).0 (sure_mark n a (not-true (is_one_of a unsure) (and_parts (not (is_one_of a unsure)) (always_mark a) three).0) (and_parts (not (is_one_of a unsure)) (always_mark a) three).1);
     }
 
 open_is_mark : (n : Nesting) → is_one_of n.last (k.keyword_if ∷ k.keyword_while ∷ k.keyword_for ∷ k.keyword_print ∷ k.keyword_catch ∷ k.keyword_batch ∷ []) ≡ false → is_kind n.before k.keyword_fun ≡ false → is_mark n k.sign_open ≡ true

@@ -10,7 +10,7 @@ use Rattle.rb_meaning_bytes.specs.grammar.Symbols.{Symbol, Terminal, The, Nonter
 use Rattle.rb_meaning_bytes.specs.grammar.Productions as r
 use Rattle.rb_meaning_bytes.specs.grammar.Productions.{Production}
 use Rattle.rb_meaning_bytes.specs.grammar.Derives as g
-use Rattle.rb_meaning_bytes.specs.grammar.Derives.{Spells, IsPrefix, Derives, Begins, Stuck, Breaks}
+use Rattle.rb_meaning_bytes.specs.grammar.Derives.{Spells, IsPrefix, Derives, IsProgramPrefix, Stuck, Breaks}
 use Rattle.rb_parse.specs.Reading.{Read, ◌>>=◌, alone, read_of, rank, program_of}
 use Rattle.rb_parse.proofs.Takes.{Takes, Stops, done, part, none, within, took, halts, takes_local, stops_local}
 use Rattle.rb_parse.proofs.Complete.{complete}
@@ -117,14 +117,14 @@ module _ (source : List ℕ) where
       record { rest = x.rest; trees = (made m (TreeOf p) f ys, x.trees); spells = subst (λ z. Spells source (The p ∷ l) z (made m (TreeOf p) f ys, x.trees)) (sym (append_assoc ts us x.rest)) (g.production rule e x.spells) }
 
   -- what a spelling begins with is a prefix
-  pub front_of : {l : List Symbol} {whole : List Token} {xs : Trees l} → Spells source l whole xs → (a b : List Token) → whole ≡ a ++ b → IsPrefix source l a
-  front_of g.nothing [] b e = g.none
-  front_of g.nothing (y ∷ a) b e = absurd (cc)
-  front_of (g.token t s) [] b e = g.none
-  front_of (g.token {l} t s) (y ∷ a) b e =
+  pub prefix_of : {l : List Symbol} {whole : List Token} {xs : Trees l} → Spells source l whole xs → (a b : List Token) → whole ≡ a ++ b → IsPrefix source l a
+  prefix_of g.nothing [] b e = g.none
+  prefix_of g.nothing (y ∷ a) b e = absurd (cc)
+  prefix_of (g.token t s) [] b e = g.none
+  prefix_of (g.token {l} t s) (y ∷ a) b e =
       let same : t ≡ y = cc in
-      subst (λ z. IsPrefix source (Terminal t.kind ∷ l) (z ∷ a)) same (g.after_token t (front_of s a b (cc)))
-  front_of (g.production {p} {m} {l} {f} {ts} {us} {ys} {xs} rule s k) a b e = go (parted ts us a b e) s (front_of s) (front_of k)
+      subst (λ z. IsPrefix source (Terminal t.kind ∷ l) (z ∷ a)) same (g.after_token t (prefix_of s a b (cc)))
+  prefix_of (g.production {p} {m} {l} {f} {ts} {us} {ys} {xs} rule s k) a b e = go (parted ts us a b e) s (prefix_of s) (prefix_of k)
     where
       go : {ts us a b : List Token} → Parted ts us a b → Spells source m ts ys → ((c d : List Token) → ts ≡ c ++ d → IsPrefix source m c) → ((c d : List Token) → us ≡ c ++ d → IsPrefix source l c) → IsPrefix source (The p ∷ l) a
       go (parts.same {a}) s one two = g.within rule (one a [] (sym (append-nil a)))
@@ -132,12 +132,12 @@ module _ (source : List ℕ) where
       go (parts.behind {c} t more) s one two = g.within rule (one c (t ∷ more) refl)
 
   -- a whole spelling is a prefix
-  pub whole_front : {l : List Symbol} {ts : List Token} {xs : Trees l} → Spells source l ts xs → IsPrefix source l ts
-  whole_front {ts = ts} e = front_of e ts [] (sym (append-nil ts))
+  pub whole_prefix : {l : List Symbol} {ts : List Token} {xs : Trees l} → Spells source l ts xs → IsPrefix source l ts
+  whole_prefix {ts = ts} e = prefix_of e ts [] (sym (append-nil ts))
 
   -- what a prefix begins with is one
-  pub front_begins : {l : List Symbol} (a b : List Token) → IsPrefix source l (a ++ b) → IsPrefix source l a
-  front_begins a b f = let x = goes_on f in front_of x.spells a (b ++ x.rest) (append_assoc a b x.rest)
+  pub shorter_prefix : {l : List Symbol} (a b : List Token) → IsPrefix source l (a ++ b) → IsPrefix source l a
+  shorter_prefix a b f = let x = goes_on f in prefix_of x.spells a (b ++ x.rest) (append_assoc a b x.rest)
 
   -- a text is taken whole
   text_taken : (ts : List Token) (x : Program) → Derives source ts x → Takes source (The TheProgram ∷ []) ts (x, tt) []
@@ -209,7 +209,7 @@ module _ (source : List ℕ) where
             rest = t ∷ us;
             is = w.is;
             left_is = cc;
-            goes = whole_front w.spells;
+            goes = whole_prefix w.spells;
             stuck = λ f.
                 let x = goes_on f in
                 let all : Takes source (The TheProgram ∷ []) (w.front ++ t ∷ x.rest) x.trees [] = subst (λ z. Takes source (The TheProgram ∷ []) z x.trees []) (append_assoc w.front (t ∷ []) x.rest) (text_taken ((w.front ++ t ∷ []) ++ x.rest) x.trees.0 x.spells) in

@@ -11,12 +11,11 @@ use Rattle.rb_meaning_bytes.specs.grammar.Symbols.{Symbol, Nonterminal, TreeOf, 
 use Rattle.rb_meaning_bytes.specs.grammar.Productions as r
 use Rattle.rb_meaning_bytes.specs.grammar.Productions.{Production}
 use Rattle.rb_meaning_bytes.specs.grammar.Limits.{Nesting, after}
-use Rattle.rb_parse.proofs.printing.ReadTrees.{IsReadOutermost, IsReadStmt, AreReadStmts}
-use Rattle.rb_parse.proofs.depths.States.{afters, Ready, Goes, goes_on, all_still, stills}
-use Rattle.rb_parse.proofs.depths.Heads.{Opens, block_opens, block_closes}
-use Rattle.rb_parse.proofs.printing.readable.Tokens.{Room}
-use Rattle.rb_parse.proofs.printing.readable.Steps.{openers, Fit, Rest, led, Placed, Stated, outermost}
-use Rattle.rb_parse.proofs.printing.readable.Invariants.{Keeping}
+use Rattle.rb_parse.proofs.readable.Trees.{IsReadOutermost, IsReadStmt, AreReadStmts}
+use Rattle.rb_parse.proofs.readable.States.{Room, afters, Ready, Goes, goes_on, all_still, stills}
+use Rattle.rb_parse.proofs.readable.Heads.{Opens, block_opens, block_closes}
+use Rattle.rb_parse.proofs.readable.Steps.{openers, Fit, Rest, led, Placed, Stated, outermost}
+use Rattle.rb_parse.proofs.readable.Invariants.{Keeping}
 
 -- a statement may begin behind this token
 rested : (n m : Nesting) (a : TokenKind) → is_one_of a openers ≡ false → is_minus a ≡ false → Ready m → Goes n (after m a) → n.types ≡ 0 → Rest (after m a)
@@ -130,7 +129,7 @@ one_more n m h = omega arith
 
 pub at_block : {source : List ℕ} {l : List Symbol} {f : Makes l (TreeOf s.Block)} → Production source s.Block l f → Keeping source s.Block l f
 at_block r.block = λ n ys run ready flat.
-    let a = block_opens n ready run.0.limits in
+    let a = block_opens n ready run.0 in
     let flat_in = a.types ∙ flat in
     let b = run.2.2 (block_rests n ready a flat) in
     let c = block_closes n (after n k.sign_open_brace) run.2.0 ready a (goes_of b flat_in) in
@@ -138,7 +137,7 @@ at_block r.block = λ n ys run ready flat.
     record {
       rest = rested n run.2.0 k.sign_close_brace refl refl b.rest.fit.ready c flat;
       blocks = c.blocks;
-      read = (subst (λ z. z ≤ 64) same run.0.limits.blocks, subst (λ z. AreReadStmts z ys.1.0) same b.read);
+      read = (subst (λ z. z ≤ 64) same run.0.blocks, subst (λ z. AreReadStmts z ys.1.0) same b.read);
     }
 
 pub at_returns : {source : List ℕ} {l : List Symbol} {f : Makes l (TreeOf s.Returns)} → Production source s.Returns l f → Keeping source s.Returns l f
@@ -152,7 +151,7 @@ first_block n m h i = omega arith
 
 pub at_body : {source : List ℕ} {l : List Symbol} {f : Makes l (TreeOf s.ABody)} → Production source s.ABody l f → Keeping source s.ABody l f
 at_body r.body = λ n ys run ready flat outside.
-    let a = block_opens n ready run.0.limits in
+    let a = block_opens n ready run.0 in
     let flat_in = a.types ∙ flat in
     let b = run.2.2 (block_rests n ready a flat) in
     let c = run.2.3.2 b.rest.fit.ready b.rest.fit.flat in

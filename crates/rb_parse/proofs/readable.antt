@@ -1,4 +1,7 @@
 -- What reading gives is readable.
+pub mod Trees
+pub mod States
+pub mod Heads
 pub mod Places
 pub mod Tokens
 pub mod Steps

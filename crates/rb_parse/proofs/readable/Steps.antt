@@ -6,11 +6,10 @@ use Rattle.rb_meaning_bytes.specs.tokens.Lists.{is_minus}
 use Rattle.rb_meaning_bytes.specs.grammar.Kinds as k
 use Rattle.rb_meaning_bytes.specs.grammar.Kinds.{is_kind, is_one_of}
 use Rattle.rb_meaning_bytes.specs.grammar.Limits.{Nesting, after}
-use Rattle.rb_parse.proofs.printing.ReadTrees.{marks_of, IsReadOutermost}
-use Rattle.rb_parse.proofs.depths.States.{Ready, Goes, Marks, is_still, is_inner, is_sure, inner, mark, open_mark}
-use Rattle.rb_parse.proofs.depths.Heads.{less_mark, greater_mark}
-use Rattle.rb_parse.proofs.printing.readable.Tokens.{Room}
-use Rattle.rb_parse.proofs.printing.readable.Places.{Stands, outer_read, outer_marks}
+use Rattle.rb_parse.proofs.readable.Trees.{marks_of, IsReadOutermost}
+use Rattle.rb_parse.proofs.readable.States.{Room, Ready, Goes, Marks, is_still, is_inner, is_sure, inner, mark, open_mark}
+use Rattle.rb_parse.proofs.readable.Heads.{less_mark, greater_mark}
+use Rattle.rb_parse.proofs.readable.Places.{Stands, outer_read, outer_marks}
 
 -- the words behind which a bracket is no mark
 abbrev pub openers : List TokenKind
@@ -119,4 +118,4 @@ by_flag false h a = a
 pub outermost : (n m : Nesting) (e : Expr) → is_minus n.last ≡ false → Placed n 0 e m → Room m → IsReadOutermost e
 outermost n m e h a room =
     let s = by_flag (is_minus n.last) h a.stands in
-    (outer_read s, within_most n.marks (marks_of e) m.marks (outer_marks s) room.limits.marks)
+    (outer_read s, within_most n.marks (marks_of e) m.marks (outer_marks s) room.marks)

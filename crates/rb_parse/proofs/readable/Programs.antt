@@ -8,12 +8,12 @@ use Rattle.rb_meaning_bytes.specs.grammar.Symbols.{Symbol, Nonterminal, TreeOf, 
 use Rattle.rb_meaning_bytes.specs.grammar.Productions as r
 use Rattle.rb_meaning_bytes.specs.grammar.Productions.{Production}
 use Rattle.rb_meaning_bytes.specs.grammar.Limits.{Nesting, after}
-use Rattle.rb_parse.proofs.printing.ReadTrees.{IsReadParam, IsReadSignature, IsReadInterface, IsReadMethod, IsReadClass}
-use Rattle.rb_parse.proofs.depths.States.{afters, Ready, Goes, goes_on, stills}
-use Rattle.rb_parse.proofs.depths.Heads.{head_closes, interface_opens, class_opens, signature_opens}
-use Rattle.rb_parse.proofs.printing.readable.Steps.{Keeps}
-use Rattle.rb_parse.proofs.printing.readable.Invariants.{Shown, Outside, Keeping}
-use Rattle.rb_parse.proofs.printing.readable.Types.{type_read}
+use Rattle.rb_parse.proofs.readable.Trees.{IsReadParam, IsReadSignature, IsReadInterface, IsReadMethod, IsReadClass}
+use Rattle.rb_parse.proofs.readable.States.{afters, Ready, Goes, goes_on, stills}
+use Rattle.rb_parse.proofs.readable.Heads.{head_closes, interface_opens, class_opens, signature_opens}
+use Rattle.rb_parse.proofs.readable.Steps.{Keeps}
+use Rattle.rb_parse.proofs.readable.Invariants.{Shown, Outside, Keeping}
+use Rattle.rb_parse.proofs.readable.Types.{type_read}
 
 -- nothing stands there
 still : (n : Nesting) → Ready n → Goes n n

@@ -9,13 +9,14 @@ use Rattle.rb_meaning_bytes.specs.grammar.Productions.{Production}
 use Rattle.rb_meaning_bytes.specs.grammar.Derives as g
 use Rattle.rb_meaning_bytes.specs.grammar.Derives.{Spells, Derives}
 use Rattle.rb_meaning_bytes.specs.grammar.Limits.{Nesting, after, nothing_open, Within}
-use Rattle.rb_parse.proofs.printing.ReadTrees.{IsReadable}
-use Rattle.rb_parse.proofs.printing.readable.Tokens.{Room, AllFit, all_fit, state_after, state_behind, fit_front, fit_back, room_after}
-use Rattle.rb_parse.proofs.printing.readable.Invariants.{Good, Run, end_of, Keeping}
-use Rattle.rb_parse.proofs.printing.readable.Types.{at_type}
-use Rattle.rb_parse.proofs.printing.readable.Expressions.{at_chain, at_more_chain, at_prefix, at_postfix, at_members, at_call, at_first, at_arguments, at_more_arguments}
-use Rattle.rb_parse.proofs.printing.readable.Statements.{at_statement, at_statement_end, at_otherwise, at_statements, at_block, at_returns, at_body}
-use Rattle.rb_parse.proofs.printing.readable.Programs.{at_param, at_params, at_more_params, at_result, at_signature, at_signatures, at_fields, at_interface, at_interfaces, at_method, at_methods, at_class, at_classes, at_program}
+use Rattle.rb_parse.proofs.readable.States.{Room}
+use Rattle.rb_parse.proofs.readable.Trees.{IsReadable}
+use Rattle.rb_parse.proofs.readable.Tokens.{AllFit, all_fit, state_after, state_behind, fit_front, fit_back, room_after}
+use Rattle.rb_parse.proofs.readable.Invariants.{Good, Run, end_of, Keeping}
+use Rattle.rb_parse.proofs.readable.Types.{at_type}
+use Rattle.rb_parse.proofs.readable.Expressions.{at_chain, at_more_chain, at_prefix, at_postfix, at_members, at_call, at_first, at_arguments, at_more_arguments}
+use Rattle.rb_parse.proofs.readable.Statements.{at_statement, at_statement_end, at_otherwise, at_statements, at_block, at_returns, at_body}
+use Rattle.rb_parse.proofs.readable.Programs.{at_param, at_params, at_more_params, at_result, at_signature, at_signatures, at_fields, at_interface, at_interfaces, at_method, at_methods, at_class, at_classes, at_program}
 
 -- every production keeps what holds of parts
 keeps : {source : List ℕ} {l : List Symbol} (p : Nonterminal) {f : Makes l (TreeOf p)} → Production source p l f → Keeping source p l f
@@ -72,5 +73,5 @@ ran source (g.production {p} {m} {l} {f} {ts} {us} {ys} {xs} rule d e) n room h 
 pub readable : (source : List ℕ) (tokens : List Token) (program : Program) → IsTokens source tokens → Derives source tokens program → Within tokens → IsReadable program
 readable source tokens program t d h =
     let fit = all_fit source nothing_open 0 (length source) tokens t.utf8 t.stand t.limits h in
-    let a = ran source d nothing_open (record { limits = record { blocks = omega arith; marks = omega arith }; types = omega arith }) fit in
+    let a = ran source d nothing_open (record { blocks = omega arith; types = omega arith; marks = omega arith }) fit in
     a.run.2 (record { no_fun = refl; no_list = refl; no_head = refl; no_head_before = refl; room = omega arith }) refl refl

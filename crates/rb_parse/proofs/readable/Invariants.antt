@@ -7,10 +7,11 @@ use Rattle.rb_meaning_bytes.specs.tokens.Lists.{is_minus}
 use Rattle.rb_meaning_bytes.specs.grammar.Symbols as s
 use Rattle.rb_meaning_bytes.specs.grammar.Symbols.{Symbol, Terminal, The, Nonterminal, Chain, MoreChain, TreeOf, Trees, Makes, made}
 use Rattle.rb_meaning_bytes.specs.grammar.Limits.{Nesting, after}
-use Rattle.rb_parse.proofs.printing.ReadTrees.{IsReadType, AreReadTypeNames, type_depth, AreReadExprs, marks_of_all, IsReadOutermost, IsReadStmt, AreReadStmts, IsReadReturn, IsReadBody, IsReadParam, IsReadSignature, IsReadInterface, IsReadMethod, IsReadClass, IsReadable}
-use Rattle.rb_parse.proofs.depths.States.{Ready, Moves}
-use Rattle.rb_parse.proofs.printing.readable.Tokens.{Room, Tells}
-use Rattle.rb_parse.proofs.printing.readable.Steps.{Fit, Rest, Placed, Carries, Spans, Keeps, Stated}
+use Rattle.rb_meaning_types.specs.Lawful.{IsLawfulType}
+use Rattle.rb_parse.proofs.readable.Trees.{IsReadType, type_depth, AreReadExprs, marks_of_all, IsReadOutermost, IsReadStmt, AreReadStmts, IsReadReturn, IsReadBody, IsReadParam, IsReadSignature, IsReadInterface, IsReadMethod, IsReadClass, IsReadable}
+use Rattle.rb_parse.proofs.readable.States.{Room, Ready, Moves}
+use Rattle.rb_parse.proofs.readable.Tokens.{Tells}
+use Rattle.rb_parse.proofs.readable.Steps.{Fit, Rest, Placed, Carries, Spans, Keeps, Stated}
 
 -- the level of the places of a chain's expressions
 abbrev pub level_at : s.Level → ℕ
@@ -41,7 +42,7 @@ call_marks (Some args) = suc (marks_of_all args)
 -- The same is open, and a type is read.
 pub record Typed (n : Nesting) (t : TypeTree) (m : Nesting) : Type 0 where
   pub moves : Moves n m
-  pub names : AreReadTypeNames t
+  pub names : IsLawfulType t
   pub depth : n.types + type_depth t ≤ 64
 
 abbrev pub Shown : Nesting → Type 0 → Nesting → Type 0

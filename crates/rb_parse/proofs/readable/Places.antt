@@ -4,7 +4,7 @@ use Rattle.rb_trees.specs.declared.values.Value.{Value, out-Value}
 use Rattle.rb_trees.specs.declared.values.Value.TheOpen.{Value-F}
 use Rattle.rb_trees.specs.mirror.Code.{Expr, Lit, Name, This, Unary, Binary, Field, Call, Index, New, Items, Taken}
 use Rattle.rb_trees.specs.printing.Exprs.{level_of, left_level}
-use Rattle.rb_parse.proofs.printing.ReadTrees.{IsReadInt, IsReadForm, IsReadExpr, behind, placed_marks, marks_of}
+use Rattle.rb_parse.proofs.readable.Trees.{IsReadInt, IsReadForm, IsReadExpr, behind, placed_marks, marks_of}
 
 loose_int : (z : ℤ) → IsReadInt false z → IsReadInt true z
 loose_int (pos n) h = h

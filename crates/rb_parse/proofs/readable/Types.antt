@@ -8,15 +8,16 @@ use Rattle.rb_meaning_bytes.specs.grammar.Symbols.{Symbol, TreeOf, Makes}
 use Rattle.rb_meaning_bytes.specs.grammar.Productions as r
 use Rattle.rb_meaning_bytes.specs.grammar.Productions.{Production}
 use Rattle.rb_meaning_bytes.specs.grammar.Limits.{Nesting}
-use Rattle.rb_parse.proofs.printing.ReadTrees.{IsReadType, IsReadItem, AreReadTypeNames, type_depth}
-use Rattle.rb_parse.proofs.depths.States.{afters, Moves, inner}
-use Rattle.rb_parse.proofs.depths.Heads.{TypeOpens, list_opens, rows_opens, type_closes}
-use Rattle.rb_parse.proofs.printing.readable.Invariants.{Typed, Keeping}
+use Rattle.rb_meaning_types.specs.Lawful.{IsLawfulType}
+use Rattle.rb_parse.proofs.readable.Trees.{IsReadType, IsReadItem, type_depth}
+use Rattle.rb_parse.proofs.readable.States.{afters, Moves, inner}
+use Rattle.rb_parse.proofs.readable.Heads.{TypeOpens, list_opens, rows_opens, type_closes}
+use Rattle.rb_parse.proofs.readable.Invariants.{Typed, Keeping}
 
 depth_none : (n : ℕ) → n ≤ 64 → n + 0 ≤ 64
 depth_none n h = omega arith
 
-single : (n m : Nesting) (t : TypeTree) → type_depth t ≡ 0 → AreReadTypeNames t → Moves n m → n.types ≤ 64 → Typed n t m
+single : (n m : Nesting) (t : TypeTree) → type_depth t ≡ 0 → IsLawfulType t → Moves n m → n.types ≤ 64 → Typed n t m
 single n m t h names a room = record { moves = a; names = names; depth = rw h (depth_none n.types room) }
 
 depth_more : (n m d : ℕ) → m ≡ n + 1 → m + d ≤ 64 → n + suc d ≤ 64

@@ -14,15 +14,15 @@ use Rattle.rb_meaning_bytes.specs.grammar.Productions as r
 use Rattle.rb_meaning_bytes.specs.grammar.Productions.{Production, member}
 use Rattle.rb_meaning_bytes.specs.grammar.Values.{name_of, text_of}
 use Rattle.rb_meaning_bytes.specs.grammar.Limits.{Nesting, after}
-use Rattle.rb_parse.proofs.printing.ReadTrees.{IsReadExpr, marks_of, marks_of_all}
-use Rattle.rb_parse.proofs.depths.States.{afters}
-use Rattle.rb_parse.proofs.depths.Heads.{list_opens, type_closes}
-use Rattle.rb_parse.proofs.printing.readable.Places.{lower, bare, enclosed}
-use Rattle.rb_parse.proofs.printing.readable.Tokens.{read_int, read_bool, read_text}
-use Rattle.rb_parse.proofs.printing.readable.Steps.{Fit, Step, led, token, sign, opens, lesses, greaters, steps_on, step_of, Placed, Carries}
-use Rattle.rb_parse.proofs.printing.readable.Invariants.{level_at, left_at, Keeping}
-use Rattle.rb_parse.proofs.printing.readable.Deepens.{carries_none, spans_none, followed, operated, compared, applied, prefixed, membered, indexed, bracketed, listed}
-use Rattle.rb_parse.proofs.printing.readable.Types.{item_read}
+use Rattle.rb_parse.proofs.readable.Trees.{IsReadExpr, marks_of, marks_of_all}
+use Rattle.rb_parse.proofs.readable.States.{afters}
+use Rattle.rb_parse.proofs.readable.Heads.{list_opens, type_closes}
+use Rattle.rb_parse.proofs.readable.Places.{lower, bare, enclosed}
+use Rattle.rb_parse.proofs.readable.Tokens.{read_int, read_bool, read_text}
+use Rattle.rb_parse.proofs.readable.Steps.{Fit, Step, led, token, sign, opens, lesses, greaters, steps_on, step_of, Placed, Carries}
+use Rattle.rb_parse.proofs.readable.Invariants.{level_at, left_at, Keeping}
+use Rattle.rb_parse.proofs.readable.Deepens.{carries_none, spans_none, followed, operated, compared, applied, prefixed, membered, indexed, bracketed, listed}
+use Rattle.rb_parse.proofs.readable.Types.{item_read}
 
 -- an operand, and the operators and operands that follow it
 chained : {n m o : Nesting} {e : Expr} {f : Expr → Expr} (high inner outer : ℕ) → inner ≤ high → (Fit n → Placed n high e m) → (Fit m → Carries m inner outer f o) → Fit n → Placed n outer (f e) o
