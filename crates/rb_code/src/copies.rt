@@ -1,4 +1,4 @@
-// Copies of classes: what is answered is the same tree.
+// Copies of classes: what is answered is the same.
 
 ghost use Rattle.std.specs.Prelude.{◌≡◌, IfOk};
 
