@@ -1,3 +1,5 @@
+// How a command ends.
+
 ghost use Rattle.std.specs.Prelude.{◌≡◌};
 ghost use Rattle.rb_top.specs.Codes.{code_of};
 
