@@ -21,7 +21,7 @@ use Rattle.rb_parse.specs.Reading.{Read, ◌>>=◌, take_kind, read_of, taken, n
 use Rattle.rb_parse.specs.Blocks.{expression_to_end}
 use Rattle.rb_parse.specs.Heads.{result_of, signature_to_end, field_to_end, next_param, params_to_close, headed_of, params_on}
 use Rattle.rb_parse.proofs.Equations.{reads_by, taken_bind, bind_bind, bind_ok}
-use Rattle.rb_parse.proofs.ItemLists.{ItemList, listed_on}
+use Rattle.rb_parse.proofs.ItemLists.{IsListed, ItemList, listed_on}
 
 abbrev typed_at : ℕ → (ℕ → TypeTree) × List Token → Read TypeTree
 typed_at at m = Ok (m.0 at, m.1)
@@ -74,42 +74,42 @@ token_next kind g other (t ∷ ts) = token_one (is_kind t.kind kind) t ts (lengt
 
 -- the lists of declarations, item by item
 
-pub interfaces_by : (source : List ℕ) (ts : List Token) → read_of source s.Interfaces ts ≡ cond (next_in (k.keyword_interface ∷ []) ts) (read_of source s.AnInterface ts >>= λ a. read_of source s.Interfaces a.1 >>= λ m. Ok (a.0 ∷ m.0, m.1)) (Ok ([], ts))
+pub interfaces_by : (source : List ℕ) → IsListed (k.keyword_interface ∷ []) (read_of source s.AnInterface) (read_of source s.Interfaces)
 unfolding cases otherwise begins may_be_empty
 interfaces_by source ts = reads_by source s.Interfaces ts
 
 abbrev pub interfaces : ItemList tree.Interface interface.Interface
 interfaces = record { view = mirror_interface; list = λ source ts. read_of source s.Interfaces ts; item = λ source ts. read_of source s.AnInterface ts; kinds = k.keyword_interface ∷ []; is = interfaces_by }
 
-pub signatures_by : (source : List ℕ) (ts : List Token) → read_of source s.Signatures ts ≡ cond (next_in (k.keyword_fun ∷ []) ts) (signature_to_end source ts >>= λ a. read_of source s.Signatures a.1 >>= λ m. Ok (a.0 ∷ m.0, m.1)) (Ok ([], ts))
+pub signatures_by : (source : List ℕ) → IsListed (k.keyword_fun ∷ []) (signature_to_end source) (read_of source s.Signatures)
 unfolding cases otherwise begins may_be_empty signature_to_end
 signatures_by source ts = simp bind_bind (reads_by source s.Signatures ts)
 
 abbrev pub signatures : ItemList tree.Signature signature.Signature
 signatures = record { view = mirror_signature; list = λ source ts. read_of source s.Signatures ts; item = signature_to_end; kinds = k.keyword_fun ∷ []; is = signatures_by }
 
-pub classes_by : (source : List ℕ) (ts : List Token) → read_of source s.Classes ts ≡ cond (next_in (k.keyword_class ∷ []) ts) (read_of source s.AClass ts >>= λ a. read_of source s.Classes a.1 >>= λ m. Ok (a.0 ∷ m.0, m.1)) (Ok ([], ts))
+pub classes_by : (source : List ℕ) → IsListed (k.keyword_class ∷ []) (read_of source s.AClass) (read_of source s.Classes)
 unfolding cases otherwise begins may_be_empty
 classes_by source ts = reads_by source s.Classes ts
 
 abbrev pub classes : ItemList tree.Class class.Class
 classes = record { view = mirror_class; list = λ source ts. read_of source s.Classes ts; item = λ source ts. read_of source s.AClass ts; kinds = k.keyword_class ∷ []; is = classes_by }
 
-pub fields_by : (source : List ℕ) (ts : List Token) → read_of source s.Fields ts ≡ cond (next_in (kind.Name ∷ []) ts) (field_to_end source ts >>= λ a. read_of source s.Fields a.1 >>= λ m. Ok (a.0 ∷ m.0, m.1)) (Ok ([], ts))
+pub fields_by : (source : List ℕ) → IsListed (kind.Name ∷ []) (field_to_end source) (read_of source s.Fields)
 unfolding cases otherwise begins may_be_empty field_to_end
 fields_by source ts = simp bind_bind (reads_by source s.Fields ts)
 
 abbrev pub fields : ItemList tree.Param param.Param
 fields = record { view = mirror_param; list = λ source ts. read_of source s.Fields ts; item = field_to_end; kinds = kind.Name ∷ []; is = fields_by }
 
-pub methods_by : (source : List ℕ) (ts : List Token) → read_of source s.Methods ts ≡ cond (next_in (k.keyword_remote ∷ k.keyword_fun ∷ []) ts) (read_of source s.AMethod ts >>= λ a. read_of source s.Methods a.1 >>= λ m. Ok (a.0 ∷ m.0, m.1)) (Ok ([], ts))
+pub methods_by : (source : List ℕ) → IsListed (k.keyword_remote ∷ k.keyword_fun ∷ []) (read_of source s.AMethod) (read_of source s.Methods)
 unfolding cases otherwise begins may_be_empty
 methods_by source ts = reads_by source s.Methods ts
 
 abbrev pub methods : ItemList tree.Method method.Method
 methods = record { view = mirror_method; list = λ source ts. read_of source s.Methods ts; item = λ source ts. read_of source s.AMethod ts; kinds = k.keyword_remote ∷ k.keyword_fun ∷ []; is = methods_by }
 
-pub more_params_by : (source : List ℕ) (ts : List Token) → read_of source s.MoreParams ts ≡ cond (next_in (k.sign_comma ∷ []) ts) (next_param source ts >>= λ a. read_of source s.MoreParams a.1 >>= λ m. Ok (a.0 ∷ m.0, m.1)) (Ok ([], ts))
+pub more_params_by : (source : List ℕ) → IsListed (k.sign_comma ∷ []) (next_param source) (read_of source s.MoreParams)
 unfolding cases otherwise begins may_be_empty next_param
 more_params_by source ts = simp bind_bind (reads_by source s.MoreParams ts ∙ token_next k.sign_comma (λ x. read_of source s.AParam x.1 >>= λ a. read_of source s.MoreParams a.1 >>= λ m. Ok (a.0 ∷ m.0, m.1)) (Ok ([], ts)) ts)
 

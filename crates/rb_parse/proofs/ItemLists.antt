@@ -5,13 +5,17 @@ use Rattle.rb_trees.specs.declared.tokens.TokenKind.{TokenKind}
 use Rattle.rb_parse.specs.Reading.{Read, ◌>>=◌, next_in}
 use Rattle.rb_parse.proofs.Equations.{bind_bind, bind_ok}
 
+-- The list is one item and those that follow it, as long as the next token begins one.
+abbrev pub IsListed : {A : Type 0} → List TokenKind → (List Token → Read A) → (List Token → Read (List A)) → Type 0
+IsListed kinds item list = (ts : List Token) → list ts ≡ cond (next_in kinds ts) (item ts >>= λ a. list a.1 >>= λ m. Ok (a.0 ∷ m.0, m.1)) (Ok ([], ts))
+
 -- what a list is of: how an item stands in the mirror, how the list and an item are read, and what an item begins with
 pub record ItemList (A R : Type 0) : Type 0 where
   pub view : R → A
   pub list : List ℕ → List Token → Read (List A)
   pub item : List ℕ → List Token → Read A
   pub kinds : List TokenKind
-  pub is : (source : List ℕ) (ts : List Token) → list source ts ≡ cond (next_in kinds ts) (item source ts >>= λ a. list source a.1 >>= λ m. Ok (a.0 ∷ m.0, m.1)) (Ok ([], ts))
+  pub is : (source : List ℕ) → IsListed kinds (item source) (list source)
 
 -- the items so far with those that follow
 unfoldable pub listed_on : {A R : Type 0} → ItemList A R → List ℕ → List R → List Token → Read (List A)
