@@ -1,5 +1,5 @@
 -- The limits of nesting as the code counts them, and reading within them.
-use Rattle.std.specs.Prelude.{◌≡◌, ℕ, zero, suc, ◌+◌, ◌-◌, List, length, take, Option, Some, None, Result, Ok, Err}
+use Rattle.std.specs.Prelude.{ℕ, zero, suc, ◌+◌, ◌-◌, List, length, take, Option, Some, None, Result, Ok, Err}
 use Rattle.rb_trees.specs.declared.tokens.Token.{Token}
 use Rattle.rb_trees.specs.mirror.Declarations.{Program}
 use Rattle.rb_meaning_bytes.specs.grammar.Limits.{Nesting, broken, nothing_open}
@@ -27,17 +27,20 @@ abbrev pub cut_at : ℕ → Result Program ℕ → Result Program Refusal
 cut_at left (Ok x) = Err (refusals.TooNested left)
 cut_at left (Err more) = Err (behind left more)
 
+-- what is read of the tokens up to the one that breaks a limit, where so many are left from it on
+abbrev pub cut_of : List ℕ → List Token → ℕ → Result Program Refusal
+cut_of source ts left = cut_at left (program_of source (take (length ts - left + 1) ts))
+
 abbrev pub by_limit : List ℕ → List Token → Option ℕ → Result Program Refusal
 by_limit source ts None = unlimited (program_of source ts)
-by_limit source ts (Some left) = cut_at left (program_of source (take (length ts - left + 1) ts))
+by_limit source ts (Some left) = cut_of source ts left
 
 -- reading within the limits
 unfoldable pub limited_of : List ℕ → List Token → Result Program Refusal
 limited_of source ts = by_limit source ts (broken nothing_open ts)
 
--- What a function returned is this, unless memory ran out.
-abbrev pub Answers : {X Y : Type 0} → (X → Y) → Result X Refusal → Result Y Refusal → Type 0
-Answers view (Ok x) r = r ≡ Ok (view x)
-Answers view (Err refusals.Memory) r = Unit {0}
-Answers view (Err (refusals.Unexpected left)) r = r ≡ Err (refusals.Unexpected left)
-Answers view (Err (refusals.TooNested left)) r = r ≡ Err (refusals.TooNested left)
+-- the refusal that an answer tells
+abbrev pub refusal_told : Refusal → Option Refusal
+refusal_told refusals.Memory = None
+refusal_told (refusals.Unexpected left) = Some (refusals.Unexpected left)
+refusal_told (refusals.TooNested left) = Some (refusals.TooNested left)

@@ -3,12 +3,12 @@
 ghost use Rattle.std.specs.Prelude.{◌≡◌, ◌<◌, ◌≤◌, ◌-◌, ◌+◌, ◌^◌, ℕ, List, length, take, drop};
 ghost use Rattle.rb_trees.specs.declared.tokens.Token.{Token as Lexeme};
 ghost use Rattle.rb_trees.specs.mirror.Declarations.{Program as Tree, mirror_program};
-ghost use Rattle.rb_trees.specs.Outcome.{Tells};
+ghost use Rattle.rb_trees.specs.Outcome.{Gives, Tells};
 ghost use Rattle.rb_trees.specs.Reading.{read_refusal};
 ghost use Rattle.rb_meaning_bytes.specs.grammar.Derives.{Derives};
 ghost use Rattle.rb_meaning_bytes.specs.grammar.Refusals.{Read, place_of};
 ghost use Rattle.rb_parse.specs.Reading.{program_of};
-ghost use Rattle.rb_parse.specs.Nested.{Answers, behind, cut_at, limited_of};
+ghost use Rattle.rb_parse.specs.Nested.{behind, cut_of, limited_of, refusal_told};
 
 use crate::declarations::program;
 use crate::limits::broken;
@@ -19,7 +19,7 @@ use std::alloc::Global;
 /// The program that the tokens are, within the limits.
 #[tactic(auto, unfolding(crate::specs::Nested::limited_of))]
 fn limited(alloc: Global, source: &[u8], tokens: &[Token]) -> Result<Program, Refusal>
-    ensures { Answers mirror_program result (limited_of source.now tokens.now) }
+    ensures { Gives mirror_program refusal_told result (limited_of source.now tokens.now) }
 {
     match broken(tokens) {
         None => match program(alloc, source, tokens) {
@@ -36,7 +36,7 @@ fn limited(alloc: Global, source: &[u8], tokens: &[Token]) -> Result<Program, Re
 fn cut(alloc: Global, source: &[u8], tokens: &[Token], left: usize) -> Result<Program, Refusal>
     requires some { 0 < left }
     requires within { left ≤ length tokens.now }
-    ensures { Answers mirror_program result (cut_at left (program_of source.now (take (length tokens.now - left + 1) tokens.now))) }
+    ensures { Gives mirror_program refusal_told result (cut_of source.now tokens.now left) }
 {
     let front = &tokens[..tokens.len() - left + 1];
     match program(alloc, source, front) {
