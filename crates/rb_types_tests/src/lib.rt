@@ -1,0 +1,7 @@
+//! Tests of the checker.
+#![tactic(auto)]
+
+#[cfg(test)]
+mod services;
+#[cfg(test)]
+mod typed;

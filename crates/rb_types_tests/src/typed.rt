@@ -1,0 +1,85 @@
+// What is known of a program that is typed.
+use rb_parse::parse_program;
+use rb_types::{Typed, check};
+use std::alloc::Global;
+use std::fmt::Write;
+use std::test::Fail;
+
+/// Texts with a position in each, and the type of the expression that stands there, or that none does.
+static TYPES: [(&str, u32, &str); 9] = [
+    ("main: Int { return 7; }", 19, "Int"),
+    ("main: Int { return 7; }", 6, "none"),
+    ("main { val a = true; a; }", 21, "Bool"),
+    ("main { val a = true; a; }", 11, "none"),
+    ("main { val a = List<Text>(\"x\"); a; }", 32, "List<Text>"),
+    ("class C { v: C; fun f() { this; } } main { }", 26, "C"),
+    (
+        "class C { fun f(a: Int) { while (a < 1) { throw \"x\"; } } } main { }",
+        48,
+        "Text",
+    ),
+    ("interface D { } main { batch (D r) { r; } }", 37, "D"),
+    ("interface D { } main { batch (D r) { r; } }", 23, "none"),
+];
+
+/// Texts, and how many batches each has.
+static BATCHES: [(&str, u32); 4] = [
+    ("main: Int { return 7; }", 0),
+    (
+        "interface D { } main { batch (D r) { } batch (D r) { } }",
+        2,
+    ),
+    (
+        "interface D { } main { while (true) { batch (D r) { batch (D s) { } } } }",
+        2,
+    ),
+    (
+        "interface D { } class C { remote fun f() { batch (D r) { } } } main { batch (D r) { } }",
+        2,
+    ),
+];
+
+/// The program of a text, typed.
+fn typed(alloc: Global, text: &str) -> Result<Typed, Fail> {
+    let Ok(program) = parse_program(alloc, text.as_bytes()) else {
+        return Err(Fail::from("the text isn't read"));
+    };
+    match check(alloc, program) {
+        Ok(typed) => Ok(typed),
+        Err(_) => Err(Fail::from("the program isn't typed")),
+    }
+}
+
+/// The type of the expression at a position of a text, or that none stands there.
+fn type_at(alloc: Global, text: &str, at: u32) -> Result<String, Fail> {
+    let typed = typed(alloc, text)?;
+    let mut line = String::new(alloc);
+    match typed.type_of(at) {
+        Some(kind) => write!(line, "{kind}")?,
+        None => line.push_str("none")?,
+    }
+    Ok(line)
+}
+
+#[test]
+fn each_position_has_its_type(rt: HostRuntime) -> Result<(), Fail> {
+    for (text, at, wanted) in TYPES {
+        assert_eq!(rt; type_at(rt.alloc(), text, at)?.as_str(), wanted, "{text}");
+    }
+    Ok(())
+}
+
+#[test]
+fn batches_are_counted(rt: HostRuntime) -> Result<(), Fail> {
+    for (text, wanted) in BATCHES {
+        assert_eq!(rt; typed(rt.alloc(), text)?.batches(), wanted, "{text}");
+    }
+    Ok(())
+}
+
+#[test]
+fn the_program_is_the_one_that_was_read(rt: HostRuntime) -> Result<(), Fail> {
+    let typed = typed(rt.alloc(), "main: Int { return 7; }")?;
+    assert_eq!(rt; typed.program().result.at, 6);
+    Ok(())
+}
