@@ -3,3 +3,4 @@ pub mod TypeForms
 pub mod LiteralForms
 pub mod Positions
 pub mod Noted
+pub mod Standing

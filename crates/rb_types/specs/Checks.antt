@@ -1,5 +1,8 @@
 -- How the checker's answers stand to the rules.
 use Rattle.std.specs.Prelude.{List, Result}
+use Rattle.std.specs.Borrow.{Bor}
+use Rattle.rb_trees.specs.declared.declarations.Class as class
+use Rattle.rb_trees.specs.mirror.Declarations.{Class, mirror_class}
 use Rattle.rb_trees.specs.declared.typing.TypeError.{TypeError}
 use Rattle.rb_trees.specs.declared.code.TypeForm.{TypeForm}
 use Rattle.rb_trees.specs.Outcome.{Gives}
@@ -19,6 +22,10 @@ Passes result rule = Gives (λ u. u) violation_of result rule
 -- A check that gives a type: that of the rule, or its first violation.
 abbrev pub Types : Result TypeForm TypeError → Checked Kind → Type 0
 Types result rule = Gives kind_of_form violation_of result rule
+
+-- A check that gives a class: that of the rule, or its first violation.
+abbrev pub Classes : Result (Bor class.Class) TypeError → Checked Class → Type 0
+Classes result rule = Gives (λ c. mirror_class c.now) violation_of result rule
 
 -- A check that leaves the scope as it is: Ok exactly where the rule gives that scope, else its first violation.
 abbrev pub Leaves : List Variable → Result (Unit {0}) TypeError → Checked Scope → Type 0

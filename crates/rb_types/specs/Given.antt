@@ -1,5 +1,5 @@
 -- Types of the code as what the judgement gives.
-use Rattle.std.specs.Prelude.{◌≡◌, ℕ, Option, Ok}
+use Rattle.std.specs.Prelude.{◌≡◌, ℕ, nat_eq, cond, Option, Some, Ok}
 use Rattle.std.specs.Option.{option_map}
 use Rattle.rb_trees.specs.declared.code.TypeForm.{TypeForm}
 use Rattle.rb_trees.specs.mirror.Declarations.{Program}
@@ -14,3 +14,7 @@ kind_given kind = option_map (λ k. Ok (kind_of_form k)) kind
 -- the types at the positions of a program, by what finds one
 abbrev pub AreTypes : Program → (ℕ → Option TypeForm) → Type 0
 AreTypes p type = (at : ℕ) → kind_given (type at) ≡ type_at p at
+
+-- one more type at a position, by what found one before and what finds one now
+abbrev pub Adds : ℕ → Kind → (ℕ → Option TypeForm) → (ℕ → Option TypeForm) → Type 0
+Adds here kind before now = (at : ℕ) → kind_given (now at) ≡ cond (nat_eq here at) (Some (Ok kind)) (kind_given (before at))

@@ -1,7 +1,9 @@
 -- What the checker's structs stand for in the definitions.
-use Rattle.std.specs.Prelude.{List, map, Ok}
-use Rattle.std.specs.Option.{option_copied}
+use Rattle.std.specs.Prelude.{List, map, Option, Ok}
+use Rattle.std.specs.Option.{option_map, option_copied}
 use Rattle.rb_trees.specs.mirror.Declarations.{mirror_interface, mirror_class}
+use Rattle.rb_trees.specs.declared.code.Expr as code
+use Rattle.rb_trees.specs.mirror.Code.{Expr, mirror_expr}
 use Rattle.rb_types.specs.declared.kinds.Placed as placed
 use Rattle.rb_types.specs.declared.scope.Variable as variable
 use Rattle.rb_types.specs.declared.context.Declarations as declarations
@@ -36,3 +38,7 @@ note_of p = record { at = p.at; gives = Ok (kind_of_form p.kind) }
 
 abbrev pub notes_of : List placed.Placed → List Note
 notes_of notes = map note_of notes
+
+-- what a body gives back, or nothing
+abbrev pub returned_of : Option code.Expr → Option Expr
+returned_of returned = option_map mirror_expr returned

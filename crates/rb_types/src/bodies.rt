@@ -13,7 +13,7 @@ ghost use Rattle.rb_meaning_types.specs.Scopes as scopes;
 ghost use Rattle.rb_meaning_types.specs.Bodies as bodies;
 ghost use Rattle.rb_types.specs.Checks.{Passes, Checks, Notes};
 ghost use Rattle.rb_types.specs.Steps as steps;
-ghost use Rattle.rb_types.specs.Views.{declarations_of, context_of, scope_of, placed_of};
+ghost use Rattle.rb_types.specs.Views.{declarations_of, context_of, scope_of, placed_of, returned_of};
 
 use crate::checker::Checker;
 use crate::classes::IndexedClass;
@@ -54,7 +54,7 @@ impl Checker {
         kind: &TypeForm,
         returned: &Option<Expr>,
     ) -> Result<(), TypeError>
-        ensures { Checks (steps.returned (context_of x.now) at (kind_of_form kind.now) (option_map mirror_expr returned.now)) self.old result self.new }
+        ensures { Checks (steps.returned (context_of x.now) at (kind_of_form kind.now) (returned_of returned.now)) self.old result self.new }
     {
         match returned {
             Some(e) => {

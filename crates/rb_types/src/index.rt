@@ -1,8 +1,8 @@
-ghost use Rattle.std.specs.Prelude.{◌≡◌, ℕ, nat_eq, cond, IfOk, OnOk};
+ghost use Rattle.std.specs.Prelude.{◌≡◌, ℕ, nat_eq, IfOk, OnOk};
 ghost use Rattle.std.specs.HashMap.{get};
 ghost use Rattle.rb_meaning_types.specs.Kinds.{kind_of_form};
 ghost use Rattle.rb_meaning_types.specs.Notes.{note_at};
-ghost use Rattle.rb_types.specs.Given.{kind_given};
+ghost use Rattle.rb_types.specs.Given.{kind_given, Adds};
 ghost use Rattle.rb_types.specs.Views.{notes_of};
 
 use crate::kinds::Placed;
@@ -11,7 +11,7 @@ use std::alloc::Global;
 use std::collections::HashMap;
 
 fn insert(index: &mut HashMap<u32, TypeForm>, p: Placed) -> Result<(), Memory>
-    ensures { OnOk result ((at : ℕ) → kind_given (get nat_eq index.new at) ≡ cond (nat_eq p.at at) (Some (Ok (kind_of_form p.kind))) (kind_given (get nat_eq index.old at))) }
+    ensures { OnOk result (Adds p.at (kind_of_form p.kind) (get nat_eq index.old) (get nat_eq index.new)) }
 {
     let Placed { at, kind } = p;
     let _before = index.insert(at, kind)?;

@@ -5,9 +5,7 @@ ghost use Rattle.std.specs.Option.{option_map, option_copied};
 ghost use Rattle.rb_trees.specs.mirror.Declarations.{mirror_param, mirror_signature, mirror_interface, mirror_class};
 ghost use Rattle.rb_meaning_types.specs.Kinds.{kind_of_form};
 ghost use Rattle.rb_meaning_types.specs.Members as members;
-ghost use Rattle.rb_meaning_types.specs.Violations.{violation_of};
-ghost use Rattle.rb_trees.specs.Outcome.{Gives};
-ghost use Rattle.rb_types.specs.Checks.{Passes, Types};
+ghost use Rattle.rb_types.specs.Checks.{Passes, Types, Classes};
 ghost use Rattle.rb_types.specs.Views.{declarations_of, context_of, placed_of, all_placed};
 
 use crate::classes::IndexedClass;
@@ -44,7 +42,7 @@ fn receiver_class<'a, 'b>(
     d: &'b Declarations<'a>,
     p: &Placed,
 ) -> Result<&'b IndexedClass<'a>, TypeError>
-    ensures { Gives (λ c. mirror_class c.now) violation_of result (members.receiver_class (declarations_of d.now) (placed_of p.now) (kind_of_form p.now.kind)) }
+    ensures { Classes result (members.receiver_class (declarations_of d.now) (placed_of p.now) (kind_of_form p.now.kind)) }
 {
     match &p.kind {
         TypeForm::Named(name) => match d.classes.find(name) {

@@ -68,7 +68,8 @@ impl Typed {
     }
 
     /// The type that the judgement gives to the expression at a position, or None exactly where no
-    /// expression stands there. The rule stands in `type_at` of `rb_meaning_types`.
+    /// expression stands there. The rule stands in `type_at` of
+    /// `rb_meaning_types`, whose law `types_stand_at_expressions` says where one stands.
     pub fn type_of(&self, at: u32) -> Option<&TypeForm>
         ensures { kind_given (option_copied result) ≡ notes.type_at (mirror_program self.now) at }
     {
