@@ -40,11 +40,26 @@ pub fn files_of(
 }
 
 /// The exit status of the command that the words are, before what it prints.
-pub fn answer(alloc: Global, words: &str, mut files: MemoryFiles) -> Result<String, Fail> {
+pub fn answer(alloc: Global, words: &str, files: MemoryFiles) -> Result<String, Fail> {
+    let out = MemorySink::make(alloc, Seq::new(alloc), usize::MAX);
+    answer_over(alloc, words, files, out)
+}
+
+/// The same over an output.
+pub fn answer_over(
+    alloc: Global,
+    words: &str,
+    mut files: MemoryFiles,
+    mut out: MemorySink,
+) -> Result<String, Fail> {
     let words = words_of(alloc, words)?;
-    let mut out = MemorySink::make(alloc, Seq::new(alloc), usize::MAX);
     let code = top(alloc, words.as_slice(), &mut files, &mut out).code();
-    let text = str::from_utf8(out.written())?;
+    answer_text(alloc, code, out.written())
+}
+
+/// An exit status before what was printed.
+fn answer_text(alloc: Global, code: u8, written: &[u8]) -> Result<String, Fail> {
+    let text = str::from_utf8(written)?;
     let shown = format!(in alloc; "{code} {text}")?;
     Ok(shown)
 }

@@ -1,5 +1,5 @@
 // What the commands answer where files, words or the output fail.
-use crate::answers::{PROGRAM, SERVICE, answer, files_of, shown, words_of};
+use crate::answers::{PROGRAM, SERVICE, answer, answer_over, files_of, shown, words_of};
 use bytes::BytesMut;
 use rb_base::{Files, FilesStop, MemoryFiles, MemorySink};
 use rb_top::top;
@@ -60,57 +60,51 @@ fn no_service_is_read_without_a_program(rt: HostRuntime) -> Result<(), Fail> {
     Ok(())
 }
 
+/// Words that are no command.
+const OTHER_WORDS: &str = "both p,both,Both p s,both p s s,p both s,check,check p s,Check p";
+
 #[test]
 fn other_words_are_not_understood(rt: HostRuntime) -> Result<(), Fail> {
-    let alloc = rt.alloc();
-    for text in [
-        "both p",
-        "both",
-        "Both p s",
-        "both p s s",
-        "p both s",
-        "check",
-        "check p s",
-        "Check p",
-    ] {
-        let words = words_of(alloc, text)?;
-        let mut files = files_of(alloc, Some(PROGRAM), Some(SERVICE))?;
-        let mut out = MemorySink::make(alloc, Seq::new(alloc), usize::MAX);
+    for words in OTHER_WORDS.split(',') {
         assert_eq!(rt;
-            top(alloc, words.as_slice(), &mut files, &mut out).code(),
-            2,
-            "{text}"
-        );
-        assert_eq!(rt;
-            out.written(),
-            b"words not understood\n".as_slice(),
-            "{text}"
+            first_example(rt.alloc(), words)?.as_str(),
+            "2 words not understood\n",
+            "{words}"
         );
     }
     Ok(())
 }
 
+/// What the words are answered on the first example.
+fn first_example(alloc: Global, words: &str) -> Result<String, Fail> {
+    answer(alloc, words, files_of(alloc, Some(PROGRAM), Some(SERVICE))?)
+}
+
+/// What `both p s` answers on the first example, over an output of which a write fails and that takes
+/// so many bytes at most.
+fn cut_off(alloc: Global, failing: u64, most: usize) -> Result<String, Fail> {
+    let failing = Seq::from_slice(alloc, &[failing])?;
+    let out = MemorySink::make(alloc, failing, most.max(1));
+    let files = files_of(alloc, Some(PROGRAM), Some(SERVICE))?;
+    answer_over(alloc, "both p s", files, out)
+}
+
 #[test]
 fn lines_before_a_failed_write_stand(rt: HostRuntime) -> Result<(), Fail> {
-    let alloc = rt.alloc();
-    let words = words_of(alloc, "both p s")?;
-    for (failing, most, code, wanted) in [
-        (1, usize::MAX, 9, ""),
-        (2, usize::MAX, 9, "7\n"),
-        (3, usize::MAX, 9, "7\ndone\n"),
-        (4, usize::MAX, 9, "7\ndone\nexchanges 1\n"),
-        (5, usize::MAX, 0, "7\ndone\nexchanges 1\nobject 0: D { }\n"),
-        (99, 1, 0, "7\ndone\nexchanges 1\nobject 0: D { }\n"),
-        (4, 1, 9, "7\nd"),
+    for (failing, most, wanted) in [
+        (1, usize::MAX, "9 "),
+        (2, usize::MAX, "9 7\n"),
+        (3, usize::MAX, "9 7\ndone\n"),
+        (4, usize::MAX, "9 7\ndone\nexchanges 1\n"),
+        (5, usize::MAX, "0 7\ndone\nexchanges 1\nobject 0: D { }\n"),
+        (99, 1, "0 7\ndone\nexchanges 1\nobject 0: D { }\n"),
+        (4, 1, "9 7\nd"),
     ] {
-        let mut files = files_of(alloc, Some(PROGRAM), Some(SERVICE))?;
-        let mut out = MemorySink::make(alloc, Seq::from_slice(alloc, &[failing])?, most);
         assert_eq!(rt;
-            top(alloc, words.as_slice(), &mut files, &mut out).code(),
-            code,
+            cut_off(rt.alloc(), failing, most)?.as_str(),
+            wanted,
             "{failing}"
         );
-        assert_eq!(rt; out.written(), wanted.as_bytes(), "{failing}");
     }
     Ok(())
 }
