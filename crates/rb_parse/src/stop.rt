@@ -1,7 +1,9 @@
+// Why reading stops.
+
 use rb_trees::Memory;
 
 /// Why reading stops.
-#[derive(Debug, Drop)]
+#[derive(Drop)]
 pub(crate) enum Stop {
     /// With so many tokens left: the next one isn't expected.
     Unexpected(usize),
@@ -20,7 +22,7 @@ impl From<Memory> for Stop {
 }
 
 /// Why the tokens of a text aren't read.
-#[derive(Debug, Drop)]
+#[derive(Drop)]
 pub(crate) enum Refusal {
     /// With so many tokens left: the next one isn't expected.
     Unexpected(usize),

@@ -1,3 +1,5 @@
+// Interfaces and classes, each by its name and members.
+
 ghost use Rattle.std.specs.Prelude.{◌≡◌, [], ◌∷◌, ◌++◌, map, OnOk};
 ghost use Rattle.rb_trees.specs.mirror.Declarations.{mirror_param, mirror_signature, mirror_interface, mirror_method, mirror_class};
 ghost use Rattle.rb_meaning_types.specs.Names as naming;

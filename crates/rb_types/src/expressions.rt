@@ -1,3 +1,5 @@
+// The types of expressions.
+
 #![tactic(auto, using(crate::proofs::Rules::rules))]
 
 ghost use Rattle.std.specs.Prelude.{◌≡◌};

@@ -1,3 +1,5 @@
+// The types of expressions by their positions.
+
 ghost use Rattle.std.specs.Prelude.{◌≡◌, ℕ, nat_eq, IfOk, OnOk};
 ghost use Rattle.std.specs.HashMap.{get};
 ghost use Rattle.rb_meaning_types.specs.Kinds.{kind_of_form};

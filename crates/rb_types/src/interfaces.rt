@@ -1,3 +1,5 @@
+// Interfaces with an index of their members.
+
 ghost use Rattle.std.specs.Prelude.{◌≡◌, [], map, IfOk};
 ghost use Rattle.std.specs.Option.{option_map, option_copied};
 ghost use Rattle.rb_trees.specs.mirror.Declarations.{mirror_signature, mirror_interface};

@@ -1,3 +1,5 @@
+// Types as the checker keeps them, and violations by wrong types.
+
 #![tactic(auto, using(crate::proofs::Rules::rules))]
 
 ghost use Rattle.std.specs.Prelude.{◌≡◌, ⊤};

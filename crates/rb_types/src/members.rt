@@ -1,3 +1,5 @@
+// Fields, methods, arguments and new objects.
+
 #![tactic(auto, using(crate::proofs::Rules::rules))]
 
 ghost use Rattle.std.specs.Prelude.{◌≡◌, map};

@@ -1,3 +1,5 @@
+// Operators and what they take.
+
 #![tactic(auto, using(crate::proofs::Rules::rules))]
 
 ghost use Rattle.std.specs.Prelude.{◌≡◌};

@@ -1,3 +1,5 @@
+// Which type may stand where.
+
 #![tactic(auto, using(crate::proofs::Rules::rules))]
 
 ghost use Rattle.std.specs.Prelude.{◌≡◌};

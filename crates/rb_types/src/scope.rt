@@ -1,3 +1,5 @@
+// The variables in scope.
+
 ghost use Rattle.std.specs.Prelude.{◌≡◌, [], take, length, OnOk};
 ghost use Rattle.std.specs.Option.{option_map, option_copied};
 ghost use Rattle.rb_meaning_types.specs.Kinds.{kind_of_form};

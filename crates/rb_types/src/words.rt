@@ -1,3 +1,5 @@
+// Lists of names with an index.
+
 ghost use Rattle.std.specs.Prelude.{◌≡◌, [], ◌∷◌, ◌++◌, take, length, OnOk, OnErr};
 ghost use Rattle.rb_types.specs.Guesses.{first_place};
 
