@@ -1,3 +1,2 @@
 pub mod Additions
-pub mod Places
 pub mod Writes

@@ -1,14 +1,8 @@
 -- Writes into fields: what is answered, and what is left.
 use Rattle.std.specs.Prelude.{◌≡◌, ℕ, List, None, Result, Ok, Err, IsSome}
-use Rattle.rb_trees.specs.Named.{lookup}
-use Rattle.rb_trees.specs.Objects.{field_value, with_field, with_field_value}
+use Rattle.rb_trees.specs.Objects.{field_value, with_field_value}
 use Rattle.rb_trees.specs.declared.values.Value.{Value}
 use Rattle.rb_trees.specs.declared.services.Object.{Object}
-
--- The object has such a field, whose value it is now; or it hasn't, and the value is handed back.
-abbrev pub WritesField : Object → List ℕ → Value → Result (Unit {0}) Value → Object → Type 0
-WritesField before name value (Ok u) after = IsSome (lookup before.fields name) × (after ≡ with_field before name value)
-WritesField before name value (Err back) after = (lookup before.fields name ≡ None) × (back ≡ value) × (after ≡ before)
 
 -- There is such an object with such a field, whose value it is now; or there isn't, and the value is handed back.
 abbrev pub SetsField : List Object → ℕ → List ℕ → Value → Result (Unit {0}) Value → List Object → Type 0

@@ -7,8 +7,8 @@ ghost use Rattle.rb_heap.specs.Additions.{RefusesObject};
 ghost use Rattle.rb_heap.specs.Writes.{SetsField};
 
 use crate::copies::copy_object;
-use crate::fields::{find_value, write};
 use crate::stops::AddStop;
+use rb_named::{find_value, replace_value};
 use rb_trees::{Memory, Object, Seq, Value};
 use std::alloc::Global;
 use std::marker::Model;
@@ -117,7 +117,7 @@ impl Heap {
         ensures { SetsField self.old object name.now value result self.new }
     {
         match self.objects.get_mut(object as usize) {
-            Some(found) => write(found, name, value),
+            Some(found) => replace_value(&mut found.fields, name, value),
             None => Err(value),
         }
     }

@@ -5,7 +5,6 @@
 #![tactic(auto)]
 
 mod copies;
-mod fields;
 mod heap;
 mod stops;
 

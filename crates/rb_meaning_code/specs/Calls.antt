@@ -25,10 +25,14 @@ pub record Bodies : Type 0 where
 abbrev pub method_of : List Class → List Object → ℕ → List ℕ → Option Method
 method_of classes heap object name = option_and_then (λ o. method_of_class classes o.class name) (slice_get heap object)
 
--- the method that is called: the receiver is an own object, and the method has as many parameters as there are arguments
-abbrev pub called_method : List Class → List Object → Value-F Value → List ℕ → ℕ → Result Method Fault
-called_method classes heap (Value-F.Ref object) name count = known kind (method_of classes heap object name) >>= λ m.
+-- a method of an own object, which has as many parameters as there are arguments
+abbrev pub own_method : List Class → List Object → ℕ → List ℕ → ℕ → Result Method Fault
+own_method classes heap object name count = known kind (method_of classes heap object name) >>= λ m.
     must (nat_eq (length m.signature.params) count) kind >> Ok m
+
+-- the method that is called: the receiver is an own object
+abbrev pub called_method : List Class → List Object → Value-F Value → List ℕ → ℕ → Result Method Fault
+called_method classes heap (Value-F.Ref object) name count = own_method classes heap object name count
 called_method classes heap _ name count = Err kind
 
 -- a unit of fuel is due

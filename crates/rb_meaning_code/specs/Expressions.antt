@@ -1,7 +1,6 @@
 -- What expressions mean, whatever surrounds them: from left to right, a receiver before its arguments.
-use Rattle.std.specs.Prelude.{ℕ, ℤ, pos, negsuc, List, [], ◌∷◌, ◌++◌, length, nat_lt, nat_le, Option, None, Some, Result, Ok, Err, slice_get}
+use Rattle.std.specs.Prelude.{ℕ, ℤ, pos, negsuc, List, [], ◌∷◌, length, nat_le, Option, None, Some, Result, Ok, Err, slice_get}
 use Rattle.rb_trees.specs.Named.{lookup}
-use Rattle.rb_trees.specs.Objects.{most_objects}
 use Rattle.rb_trees.specs.Outcome.{known, must, ◌>>◌}
 use Rattle.rb_trees.specs.declared.values.Value.{Value, out-Value}
 use Rattle.rb_trees.specs.declared.values.Value.TheOpen.{Value-F}
@@ -9,11 +8,11 @@ use Rattle.rb_trees.specs.declared.values.Value.TheVariants as value
 use Rattle.rb_trees.specs.declared.values.Fault.{Fault}
 use Rattle.rb_trees.specs.mirror.Code as code
 use Rattle.rb_trees.specs.mirror.Code.{Expr, Exprs}
-use Rattle.rb_meaning_code.specs.Faults.{index_outside, list_too_long, heap_full, kind, raises}
+use Rattle.rb_meaning_code.specs.Faults.{index_outside, list_too_long, kind, raises}
 use Rattle.rb_meaning_code.specs.Operators.{on_one, on_two, by_left, longest_list}
 use Rattle.rb_meaning_code.specs.State.{Names, Local, this_name}
 use Rattle.rb_meaning_code.specs.Dialogue.{Taken, Ask, Run, next, gives, end}
-use Rattle.rb_meaning_code.specs.Objects.{object_of, field_of}
+use Rattle.rb_meaning_code.specs.Objects.{constructed, field_of}
 use Rattle.rb_meaning_code.specs.Calls.{Bodies, called}
 
 -- the value of a name in scope
@@ -38,12 +37,10 @@ abbrev pub decided_or : Option Value → (Local → Run Value) → Local → Run
 decided_or (Some v) go l = gives v l
 decided_or None go l = go l
 
--- A new object: its class is there and has as many fields, and the heap has room.
+-- a new object, at the end of the heap
 abbrev pub constructs : Bodies → ℕ → List ℕ → List Value → Local → Run Value
 constructs bodies at name values l =
-    next (end l (raises at (object_of bodies.classes name values))) (λ o l1.
-    next (end l1 (raises at (must (nat_lt (length l1.heap) most_objects) heap_full))) (λ u l2.
-    gives (value.Ref (length l2.heap)) (record l2 { heap = l2.heap ++ o ∷ [] })))
+    next (end l (raises at (constructed bodies.classes l.heap name values))) (λ made l1. gives made.0 (record l1 { heap = made.1 }))
 
 abbrev mutual
   -- the value of an expression

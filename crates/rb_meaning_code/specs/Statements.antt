@@ -11,7 +11,7 @@ use Rattle.rb_trees.specs.mirror.Code.{Expr, Stmt, Stmts, expr_at}
 use Rattle.rb_meaning_code.specs.Faults.{fuel_used, thrown, kind, raised, raises, caught_text, is_caught}
 use Rattle.rb_meaning_code.specs.Operators.{shown_value}
 use Rattle.rb_meaning_code.specs.State.{Names, Local, bound, closed, spent}
-use Rattle.rb_meaning_code.specs.Dialogue.{Question, Line, Turn, ListTurn, Done, Ask, AskBatch, Outcome, Gave, Faulted, Run, seq, next, gives, end, told}
+use Rattle.rb_meaning_code.specs.Dialogue.{Line, Turn, ListTurn, Done, Ask, AskBatch, Outcome, Gave, Faulted, Run, seq, next, gives, end, told}
 use Rattle.rb_meaning_code.specs.Objects.{with_field_of}
 use Rattle.rb_meaning_code.specs.Calls.{Bodies, unit_due}
 use Rattle.rb_meaning_code.specs.Expressions.{value_of, evaluates}
@@ -55,24 +55,24 @@ while_turns zero at condition body l = Done (Faulted (raised fuel_used at) l)
 while_turns (suc gas) at condition body l =
     next (condition l) (λ v l1. by_truth at v (after_unit at (λ l2. next (body l2) (λ u l3. while_turns gas at condition body l3))) nothing l1)
 
--- A turn of a loop: the surroundings are asked, and then the block runs with the turn's name.
-abbrev pub turn : Question → List ℕ → Value → Effect → Effect
-turn question name v statements l = next (Ask question (told l)) (λ u l1. block (λ l2. statements (bound name v l2)) l1)
+-- the turns of a loop over values: how each begins, and then the block with the turn's name
+abbrev pub turns_over : Effect → List ℕ → List Value → Effect → Effect
+turns_over begins name [] statements l = nothing l
+turns_over begins name (v ∷ vs) statements l =
+    next (begins l) (λ u l1.
+    next (block (λ l2. statements (bound name v l2)) l1) (λ w l3. turns_over begins name vs statements l3))
 
--- The turns over a list, each with a unit of fuel that is due at its start.
-abbrev pub list_turns : ℕ → List ℕ → List Value → Effect → Effect
-list_turns at name [] statements l = nothing l
-list_turns at name (v ∷ vs) statements l =
-    next (after_unit at (turn (ListTurn at) name v statements) l) (λ u l1. list_turns at name vs statements l1)
+-- A turn over a list takes a unit of fuel, which is due, and then the surroundings are asked.
+abbrev pub list_turn : ℕ → Effect
+list_turn at l = after_unit at (λ l1. Ask (ListTurn at) (told l1)) l
 
--- The turns over rows; the surroundings charge them.
-abbrev pub row_turns : ℕ → List ℕ → List Value → Effect → Effect
-row_turns at name [] statements l = nothing l
-row_turns at name (v ∷ vs) statements l = next (turn (Turn at) name v statements l) (λ u l1. row_turns at name vs statements l1)
+-- A turn over rows: the surroundings are asked, and charge it.
+abbrev pub row_turn : ℕ → Effect
+row_turn at l = Ask (Turn at) (told l)
 
 abbrev pub turns : ℕ → List ℕ → Value-F Value → Effect → Effect
-turns at name (Value-F.List items) statements l = list_turns at name items statements l
-turns at name (Value-F.Rows rows) statements l = row_turns at name rows statements l
+turns at name (Value-F.List items) statements l = turns_over (list_turn at) name items statements l
+turns at name (Value-F.Rows rows) statements l = turns_over (row_turn at) name rows statements l
 turns at name _ statements l = Done (Faulted (raised kind at) l)
 
 -- the line that `print` shows

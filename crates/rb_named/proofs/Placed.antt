@@ -5,7 +5,7 @@ use Rattle.std.specs.Option.{option_map}
 use Rattle.std.specs.Str.{bytes_eq}
 use Rattle.rb_trees.specs.declared.values.Value.{Value}
 use Rattle.rb_trees.specs.Named.{first_named, lookup, replaced}
-use Rattle.rb_heap.specs.Places.{first_place}
+use Rattle.rb_named.specs.Places.{first_place}
 
 -- the field at a place, if there is one
 abbrev pub field_at : List (List ℕ × Value) → Option ℕ → Option (List ℕ × Value)

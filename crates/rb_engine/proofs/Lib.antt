@@ -1,0 +1,13 @@
+pub mod Blocks
+pub mod BothNumbers
+pub mod Exprs
+pub mod Forms
+pub mod Known
+pub mod Loops
+pub mod Matched
+pub mod Parts
+pub mod Runs
+pub mod Steps
+pub mod Values
+pub mod Weight
+pub mod Wrapped

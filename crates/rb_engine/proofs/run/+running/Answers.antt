@@ -1,0 +1,416 @@
+-- How each step of the engine follows what code means.
+use Rattle.std.proofs.Common.{rules, arith, ap, sym, ◌∙◌, Ok, Err, ◌≡◌, refl, [], ◌∷◌, map, append-nil}
+use Rattle.std.specs.Option.{option_map}
+use Rattle.rb_engine.specs.declared.ends.End.TheVariants.{NoMemory}
+use Rattle.rb_trees.specs.declared.values.Value.{out-Value}
+use Rattle.rb_trees.specs.mirror.Code.{mirror_expr}
+use Rattle.rb_trees.specs.mirror.Declarations.{mirror_class, mirror_method, mirror_body}
+use Rattle.rb_meaning_code.specs.State.{spent}
+use Rattle.rb_meaning_code.specs.Statements.{truth_of, throws, block, while_turns}
+use Rattle.rb_engine.specs.Code.{bodies, value_run, stmts_run}
+use Rattle.rb_engine.specs.Ends.{lifted}
+use Rattle.rb_engine.specs.Locals.{local}
+use Rattle.rb_engine.proofs.Blocks.{call_returns, try_fine, try_passed, try_handled, while_false, while_true, while_unclear, while_fails, unit_taken, unit_wasted, unit_missing, turn_more}
+use Rattle.rb_engine.proofs.Forms.{lit_form, name_form, this_form, unary_form, binary_form, field_form, call_form, index_form, new_form, items_form, taken_form, val_form, var_form, assign_form, run_form, print_form, throw_form, if_form, while_form, for_form, try_form, batch_form}
+use Rattle.rb_engine.proofs.Loops.{leads_to_itself, values_begin, leads_far, one_value, no_value, no_more_values, with_value, one_effect, no_effect, no_more_effects, plain_block, bound_block, one_turn, no_turn, half_turn, no_more_turns}
+use Rattle.rb_engine.proofs.Parts.{expr_run, statement_run, remote_called, own_called, turns_by_form, name_written, field_written, nothing_assigned, fuel_left, depth_left}
+use Rattle.rb_engine.proofs.Runs.{gave, cut, at_run, by_result, ended, stands, no_memory, sequel_of_stop, fixed, unfixed}
+use Rattle.rb_engine.proofs.Steps.{ok_means, helped, unhelped, unhelped_at, helped_end, changed, given, asked, batched, bound_after, closes_after, want}
+use Rattle.rb_engine.proofs.Weight.{room, expr_weight, stmt_weight, body_weight, weight_of, weights_of, effect_of, effects_of, expr_in, stmt_in, object_light, method_light, room_falls, result_weight}
+use Rattle.rb_engine.proofs.run.+running.Goals as goal
+
+pub value_of-value_of-requires : goal.value_of-value_of-requires
+value_of-value_of-requires g t c κs within = (let w = ap expr_weight (unary_form c.args.expr.now c.in-Unary.a c.in-Unary.is) in let e = ap weight_of c.get.ensures in omega arith, within)
+
+pub value_of-returns-in_err-value-in-Unary : goal.value_of-returns-in_err-value-in-Unary
+value_of-returns-in_err-value-in-Unary g t c = expr_run _ c.args.expr.now (unary_form c.args.expr.now _ c.in-Unary.is) (rw (← c.get.ensures) (cut _ c.value_of.ensures c.in_err-value-in-Unary.was (search rules)))
+
+pub value_of-returns-in_ok-value-in-Unary : goal.value_of-returns-in_ok-value-in-Unary
+value_of-returns-in_ok-value-in-Unary g t c = expr_run _ c.args.expr.now (unary_form c.args.expr.now _ c.in-Unary.is) (rw (← c.get.ensures) (gave _ c.value_of.ensures c.in_ok-value-in-Unary.was (helped_end _ _ _ c.unary.ensures c.lift-in-Unary.ensures)))
+
+pub value_of-binary_value-requires : goal.value_of-binary_value-requires
+value_of-binary_value-requires g t c κs within = (let w = ap expr_weight (binary_form c.args.expr.now c.in-Binary.a c.in-Binary.b c.in-Binary.is) in let e = ap weight_of c.get-in-Binary.ensures in let f = ap weight_of c.get-in-Binary-2.ensures in omega arith, within)
+
+pub value_of-returns-in-Binary : goal.value_of-returns-in-Binary
+value_of-returns-in-Binary g t c = expr_run _ c.args.expr.now (binary_form c.args.expr.now _ _ c.in-Binary.is) (rw (← c.get-in-Binary.ensures, ← c.get-in-Binary-2.ensures) c.binary_value.ensures)
+
+pub value_of-value_of-requires-in-Field : goal.value_of-value_of-requires-in-Field
+value_of-value_of-requires-in-Field g t c κs within = (let w = ap expr_weight (field_form c.args.expr.now c.in-Field.a c.in-Field.is) in let e = ap weight_of c.get-in-Field.ensures in omega arith, within)
+
+pub value_of-returns-in_err-object-in-Field : goal.value_of-returns-in_err-object-in-Field
+value_of-returns-in_err-object-in-Field g t c = expr_run _ c.args.expr.now (field_form c.args.expr.now _ c.in-Field.is) (rw (← c.get-in-Field.ensures) (cut _ c.value_of-in-Field.ensures c.in_err-object-in-Field.was (search rules)))
+
+pub value_of-returns-in_ok-object-in-Field : goal.value_of-returns-in_ok-object-in-Field
+value_of-returns-in_ok-object-in-Field g t c = expr_run _ c.args.expr.now (field_form c.args.expr.now _ c.in-Field.is) (rw (← c.get-in-Field.ensures) (gave _ c.value_of-in-Field.ensures c.in_ok-object-in-Field.was (rw (← c.as_slice-in-Field.ensures) (helped_end _ _ _ c.read_field.ensures c.lift-in-Field.ensures))))
+
+pub value_of-called_value-requires : goal.value_of-called_value-requires
+value_of-called_value-requires g t c κs within = (let w = ap expr_weight (call_form c.args.expr.now c.in-Call.receiver c.in-Call.args c.in-Call.is) in let e = ap weight_of c.get-in-Call.ensures in omega arith, within)
+
+pub value_of-returns-in-Call : goal.value_of-returns-in-Call
+value_of-returns-in-Call g t c = expr_run _ c.args.expr.now (call_form c.args.expr.now _ _ c.in-Call.is) (rw (← c.get-in-Call.ensures) c.called_value.ensures)
+
+pub value_of-value_of-requires-in-Index : goal.value_of-value_of-requires-in-Index
+value_of-value_of-requires-in-Index g t c κs within = (let w = ap expr_weight (index_form c.args.expr.now c.in-Index.a c.in-Index.b c.in-Index.is) in let e = ap weight_of c.get-in-Index.ensures in omega arith, within)
+
+pub value_of-returns-in_err-list-in-Index : goal.value_of-returns-in_err-list-in-Index
+value_of-returns-in_err-list-in-Index g t c = expr_run _ c.args.expr.now (index_form c.args.expr.now _ _ c.in-Index.is) (rw (← c.get-in-Index.ensures) (cut _ c.value_of-in-Index.ensures c.in_err-list-in-Index.was (search rules)))
+
+pub value_of-value_of-requires-in-Index-2 : goal.value_of-value_of-requires-in-Index-2
+value_of-value_of-requires-in-Index-2 g t c κs within = (let w = ap expr_weight (index_form c.args.expr.now c.in-Index.a c.in-Index.b c.in-Index.is) in let e = ap weight_of c.get-in-Index-2.ensures in let d = ap (room (map mirror_class c.args.code.now)) c.value_of-in-Index.ensures.depth in omega arith, within)
+
+pub value_of-returns-in_err-index-in-Index : goal.value_of-returns-in_err-index-in-Index
+value_of-returns-in_err-index-in-Index g t c = expr_run _ c.args.expr.now (index_form c.args.expr.now _ _ c.in-Index.is) (rw (← c.get-in-Index.ensures, ← c.get-in-Index-2.ensures) (gave _ c.value_of-in-Index.ensures c.in_ok-list-in-Index.was (cut _ c.value_of-in-Index-2.ensures c.in_err-index-in-Index.was (search rules))))
+
+pub value_of-returns-in_ok-index-in-Index : goal.value_of-returns-in_ok-index-in-Index
+value_of-returns-in_ok-index-in-Index g t c = expr_run _ c.args.expr.now (index_form c.args.expr.now _ _ c.in-Index.is) (rw (← c.get-in-Index.ensures, ← c.get-in-Index-2.ensures) (gave _ c.value_of-in-Index.ensures c.in_ok-list-in-Index.was (gave _ c.value_of-in-Index-2.ensures c.in_ok-index-in-Index.was (helped_end _ _ _ c.item_of.ensures c.lift-in-Index.ensures))))
+
+pub value_of-values_of-requires : goal.value_of-values_of-requires
+value_of-values_of-requires g t c κs within = (let w = ap expr_weight (new_form c.args.expr.now c.in-New.args c.in-New.is) in let e = ap weights_of c.as_slice-in-New.ensures in omega arith, within)
+
+pub value_of-returns-in_err-fields-in-New : goal.value_of-returns-in_err-fields-in-New
+value_of-returns-in_err-fields-in-New g t c = expr_run _ c.args.expr.now (new_form c.args.expr.now _ c.in-New.is) (rw (← c.as_slice-in-New.ensures) (cut _ c.values_of.ensures c.in_err-fields-in-New.was (search rules)))
+
+pub value_of-returns-in_ok-fields-in-New : goal.value_of-returns-in_ok-fields-in-New
+value_of-returns-in_ok-fields-in-New g t c = expr_run _ c.args.expr.now (new_form c.args.expr.now _ c.in-New.is) (rw (← c.as_slice-in-New.ensures) (gave _ c.values_of.ensures c.in_ok-fields-in-New.was (changed (λ v. (v, c.construct.new.heap)) _ _ _ (λ heap. record (local c.args.frame.now c.values_of.new.state) { heap = heap }) c.values_of.new.state.heap c.construct.new.heap _ refl refl refl (λ a. refl) c.construct.ensures.gives c.construct.ensures.kept c.lift-in-New.ensures)))
+
+pub value_of-values_of-requires-in-Items : goal.value_of-values_of-requires-in-Items
+value_of-values_of-requires-in-Items g t c κs within = (let w = ap expr_weight (items_form c.args.expr.now _ c.in-Items.items c.in-Items.is) in let e = ap weights_of c.as_slice-in-Items.ensures in omega arith, within)
+
+pub value_of-returns-in_err-values-in-Items : goal.value_of-returns-in_err-values-in-Items
+value_of-returns-in_err-values-in-Items g t c = expr_run _ c.args.expr.now (items_form c.args.expr.now _ _ c.in-Items.is) (rw (← c.as_slice-in-Items.ensures) (cut _ c.values_of-in-Items.ensures c.in_err-values-in-Items.was (search rules)))
+
+pub value_of-returns-in_ok-values-in-Items : goal.value_of-returns-in_ok-values-in-Items
+value_of-returns-in_ok-values-in-Items g t c = expr_run _ c.args.expr.now (items_form c.args.expr.now _ _ c.in-Items.is) (rw (← c.as_slice-in-Items.ensures) (gave _ c.values_of-in-Items.ensures c.in_ok-values-in-Items.was (helped_end _ _ _ c.list_of.ensures c.lift-in-Items.ensures)))
+
+pub value_of-returns-in-Lit : goal.value_of-returns-in-Lit
+value_of-returns-in-Lit g t c = expr_run _ c.args.expr.now (lit_form c.args.expr.now c.in-Lit.is) (given _ _ (λ gas. refl) c.copied.ensures refl refl (omega arith) refl)
+
+pub value_of-returns-in-Name : goal.value_of-returns-in-Name
+value_of-returns-in-Name g t c = expr_run _ c.args.expr.now (name_form c.args.expr.now c.in-Name.is) (rw (← c.as_slice.ensures) (helped_end _ _ _ c.named_value.ensures c.lift.ensures))
+
+pub value_of-returns-in-This : goal.value_of-returns-in-This
+value_of-returns-in-This g t c = expr_run _ c.args.expr.now (this_form c.args.expr.now c.in-This.is) (helped_end _ _ _ c.named_value-in-This.ensures c.lift-in-This.ensures)
+
+pub value_of-returns-in-Taken : goal.value_of-returns-in-Taken
+value_of-returns-in-Taken g t c = expr_run _ c.args.expr.now (taken_form c.args.expr.now c.in-Taken.is) (asked _ _ c.flat.ensures c.taken.ensures)
+
+pub binary_value-returns-in_err-left : goal.binary_value-returns-in_err-left
+binary_value-returns-in_err-left g t c = cut _ c.value_of.ensures c.in_err-left.was (search rules)
+
+pub binary_value-returns-in_err-decided : goal.binary_value-returns-in_err-decided
+binary_value-returns-in_err-decided g t c = gave _ c.value_of.ensures c.in_ok-left.was (unhelped (λ v. v) c.args.at c.by_left.result _ _ c.by_left.ensures c.lift.ensures c.in_err-decided.was (search rules))
+
+pub binary_value-returns-in-Some : goal.binary_value-returns-in-Some
+binary_value-returns-in-Some g t c = gave _ c.value_of.ensures c.in_ok-left.was (helped (λ v. v) c.args.at c.by_left.result _ _ _ c.by_left.ensures c.lift.ensures (c.in_ok-decided.was ∙ ap Ok c.in-Some.is) (ended _))
+
+pub binary_value-value_of-requires-in-None : goal.binary_value-value_of-requires-in-None
+binary_value-value_of-requires-in-None g t c κs within = (let d = ap (room (map mirror_class c.args.code.now)) c.value_of.ensures.depth in omega arith, within)
+
+pub binary_value-returns-in_err-right-in-None : goal.binary_value-returns-in_err-right-in-None
+binary_value-returns-in_err-right-in-None g t c = gave _ c.value_of.ensures c.in_ok-left.was (helped (λ v. v) c.args.at c.by_left.result _ _ _ c.by_left.ensures c.lift.ensures (c.in_ok-decided.was ∙ ap Ok c.in-None.is) (cut _ c.value_of-in-None.ensures c.in_err-right-in-None.was (search rules)))
+
+pub binary_value-returns-in_ok-right-in-None : goal.binary_value-returns-in_ok-right-in-None
+binary_value-returns-in_ok-right-in-None g t c = gave _ c.value_of.ensures c.in_ok-left.was (helped (λ v. v) c.args.at c.by_left.result _ _ _ c.by_left.ensures c.lift.ensures (c.in_ok-decided.was ∙ ap Ok c.in-None.is) (gave _ c.value_of-in-None.ensures c.in_ok-right-in-None.was (helped_end _ _ _ c.binary.ensures c.lift-in-None.ensures)))
+
+pub called_value-returns-in_err-target : goal.called_value-returns-in_err-target
+called_value-returns-in_err-target g t c = cut _ c.value_of.ensures c.in_err-target.was (search rules)
+
+pub called_value-values_of-requires : goal.called_value-values_of-requires
+called_value-values_of-requires g t c κs within = (let d = ap (room (map mirror_class c.args.code.now)) c.value_of.ensures.depth in let e = ap weights_of c.as_slice.ensures in omega arith, within)
+
+pub called_value-returns-in_err-values : goal.called_value-returns-in_err-values
+called_value-returns-in_err-values g t c = rw (← c.as_slice.ensures) (gave _ c.value_of.ensures c.in_ok-target.was (cut _ c.values_of.ensures c.in_err-values.was (search rules)))
+
+pub called_value-returns-then-is_remote : goal.called_value-returns-then-is_remote
+called_value-returns-then-is_remote g t c = rw (← c.as_slice.ensures) (gave _ c.value_of.ensures c.in_ok-target.was (gave _ c.values_of.ensures c.in_ok-values.was (at_run (λ gas. remote_called (bodies c.args.code.now gas) c.args.at c.in_ok-target.target (out-Value c.in_ok-target.target) c.args.name.now c.in_ok-values.values (local c.args.frame.now c.values_of.new.state) (sym c.is_remote.ensures ∙ c.if-is_remote.true)) (rw (← c.as_slice-then-is_remote.ensures) (asked _ _ c.flat.ensures c.invoke.ensures)))))
+
+pub called_value-call_method-requires : goal.called_value-call_method-requires
+called_value-call_method-requires g t c κs within = (let d = ap (room (map mirror_class c.args.code.now)) (c.values_of.ensures.depth ∙ c.value_of.ensures.depth) in omega arith, within)
+
+pub called_value-returns : goal.called_value-returns
+called_value-returns g t c = rw (← c.as_slice.ensures) (gave _ c.value_of.ensures c.in_ok-target.was (gave _ c.values_of.ensures c.in_ok-values.was (at_run (λ gas. own_called (bodies c.args.code.now gas) c.args.at c.in_ok-target.target (out-Value c.in_ok-target.target) c.args.name.now c.in_ok-values.values (local c.args.frame.now c.values_of.new.state) (sym c.is_remote.ensures ∙ c.if-is_remote.false)) (rw (← c.as_slice-2.ensures) (c.call_method.ensures c.args.frame.now)))))
+
+pub values_of-exprs-init : goal.values_of-exprs-init
+values_of-exprs-init g t c = record { depth = refl; leads = rw c.new-values.ensures values_begin }
+
+pub values_of-value_of-requires : goal.values_of-value_of-requires
+values_of-value_of-requires g t c κs within = (let w = expr_in c.args.exprs.now c.exprs.expr-index c.expr-item.result (omega arith) in let e = ap weight_of c.expr-item.is in let d = ap (room (map mirror_class c.args.code.now)) c.exprs.invariant.depth in omega arith, within)
+
+pub values_of-returns-in_err-value : goal.values_of-returns-in_err-value
+values_of-returns-in_err-value g t c = by_result (search rules) (c.exprs.invariant.leads.by (Err c.in_err-value.field-0.0) _ (no_value c.args.code.now c.args.exprs.now c.exprs.expr-index c.expr-item.result (omega arith) c.expr-item.is c.value_of.ensures c.in_err-value.was))
+
+pub values_of-returns-in_err-add : goal.values_of-returns-in_err-add
+values_of-returns-in_err-add g t c = by_result (want (search rules) c.in_err-add.ensures) (c.exprs.invariant.leads.by (Err NoMemory) _ (no_memory _ c.value_of.ensures.fuel c.value_of.ensures.depth))
+
+pub values_of-exprs-preserved : goal.values_of-exprs-preserved
+values_of-exprs-preserved g t c = record { depth = c.value_of.ensures.depth ∙ c.exprs.invariant.depth; leads = with_value c.exprs.values (c.in_ok-value.value ∷ []) _ (leads_far c.exprs.invariant.leads (one_value c.args.code.now c.args.exprs.now c.exprs.expr-index c.expr-item.result (omega arith) c.expr-item.is c.value_of.ensures c.in_ok-value.was)) c.in_ok-add.ensures }
+
+pub values_of-returns : goal.values_of-returns
+values_of-returns g t c = by_result (ap Ok (sym (append-nil c.exprs.values))) (c.exprs.invariant.leads.by (Ok []) _ (no_more_values c.args.code.now c.args.exprs.now c.exprs.expr-index (omega arith)))
+
+pub call_method-returns-in_err-method : goal.call_method-returns-in_err-method
+call_method-returns-in_err-method g t c = λ names. unhelped (λ m. mirror_method m.now) c.args.at c.called_method.result _ _ (rw c.len.ensures at c.called_method.ensures) c.lift.ensures c.in_err-method.was (search rules)
+
+pub call_method-returns-in_err-lift : goal.call_method-returns-in_err-lift
+call_method-returns-in_err-lift g t c = λ names. helped (λ m. mirror_method m.now) c.args.at c.called_method.result _ _ _ (rw c.len.ensures at c.called_method.ensures) c.lift.ensures c.in_ok-method.was (unhelped (λ u. u) c.args.at c.check_unit.result _ _ c.check_unit.ensures c.lift-2.ensures c.in_err-lift.was (search rules))
+
+pub call_method-overflow_sub-state : goal.call_method-overflow_sub-state
+call_method-overflow_sub-state g t c = let low = (fuel_left c.args.at c.args.state.now.fuel c.check_unit.result c.check_unit.ensures c.lift-2.ensures c.in_ok-lift.was) in omega arith
+
+pub call_method-returns-in_err-lift-2 : goal.call_method-returns-in_err-lift-2
+call_method-returns-in_err-lift-2 g t c = λ names. helped (λ m. mirror_method m.now) c.args.at c.called_method.result _ _ _ (rw c.len.ensures at c.called_method.ensures) c.lift.ensures c.in_ok-method.was (helped (λ u. u) c.args.at c.check_unit.result _ _ _ c.check_unit.ensures c.lift-2.ensures c.in_ok-lift.was (unhelped_at (λ u. u) c.args.at c.check_depth.result _ (spent (local names c.args.state.now)) _ c.check_depth.ensures c.lift-3.ensures c.in_err-lift-2.was (search rules) (omega arith) refl))
+
+pub call_method-returns-in_err-frame : goal.call_method-returns-in_err-frame
+call_method-returns-in_err-frame g t c = λ names. by_result (want (search rules) c.in_err-frame.ensures) (no_memory _ (omega arith) refl)
+
+pub call_method-overflow_add-state : goal.call_method-overflow_add-state
+call_method-overflow_add-state g t c = let deep = (depth_left c.args.at c.args.state.now.depth c.check_depth.result c.check_depth.ensures c.lift-3.ensures c.in_ok-lift-2.was) in omega arith
+
+pub call_method-run_body-result-requires : goal.call_method-run_body-result-requires
+call_method-run_body-result-requires g t c κs within = (let deep = (depth_left c.args.at c.args.state.now.depth c.check_depth.result c.check_depth.ensures c.lift-3.ensures c.in_ok-lift-2.was) in let light = method_light (map mirror_class c.args.code.now) c.args.state.now.heap (out-Value c.args.receiver.now) c.args.name.now c.len.result (mirror_method c.in_ok-method.method.now) (ok_means (λ m. mirror_method m.now) c.args.at c.called_method.result c.lift.result _ c.in_ok-method.method c.called_method.ensures c.lift.ensures c.in_ok-method.was) in let r = room_falls (map mirror_class c.args.code.now) c.args.state.now.depth (body_weight (mirror_body c.in_ok-method.method.now.body)) deep light in omega arith, within)
+
+pub call_method-overflow_sub-state-2 : goal.call_method-overflow_sub-state-2
+call_method-overflow_sub-state-2 g t c = let d = c.run_body-result.ensures.depth in omega arith
+
+pub call_method-returns : goal.call_method-returns
+call_method-returns g t c = λ names. helped (λ m. mirror_method m.now) c.args.at c.called_method.result _ _ _ (rw c.len.ensures at c.called_method.ensures) c.lift.ensures c.in_ok-method.was (helped (λ u. u) c.args.at c.check_unit.result _ _ _ c.check_unit.ensures c.lift-2.ensures c.in_ok-lift.was (helped (λ u. u) c.args.at c.check_depth.result _ _ _ c.check_depth.ensures c.lift-3.ensures c.in_ok-lift-2.was (call_returns c.args.code.now c.in_ok-method.method.now.body _ _ (rw (c.as_slice.ensures, c.as_slice-2.ensures) at c.in_ok-frame.ensures) (fuel_left c.args.at c.args.state.now.fuel c.check_unit.result c.check_unit.ensures c.lift-2.ensures c.in_ok-lift.was) c.run_body-result.ensures)))
+
+pub run_body-run_all-requires : goal.run_body-run_all-requires
+run_body-run_all-requires g t c κs within = (let e = ap effects_of c.as_slice.ensures in omega arith, within)
+
+pub run_body-returns-in_err-run_all : goal.run_body-returns-in_err-run_all
+run_body-returns-in_err-run_all g t c = rw (← c.as_slice.ensures) (cut _ c.run_all.ensures c.in_err-run_all.was (search rules))
+
+pub run_body-value_of-requires : goal.run_body-value_of-requires
+run_body-value_of-requires g t c κs within = (let w : result_weight (option_map mirror_expr c.args.body.now.result) ≡ weight_of c.in-Some.expr = ap (λ o. result_weight (option_map mirror_expr o)) c.in-Some.is in let d = ap (room (map mirror_class c.args.code.now)) c.run_all.ensures.depth in omega arith, within)
+
+pub run_body-returns-in-Some : goal.run_body-returns-in-Some
+run_body-returns-in-Some g t c = rw (← c.as_slice.ensures, c.in-Some.is) (gave _ c.run_all.ensures c.in_ok-run_all.was c.value_of.ensures)
+
+pub run_body-returns-in-None : goal.run_body-returns-in-None
+run_body-returns-in-None g t c = rw (← c.as_slice.ensures, c.in-None.is) (gave _ c.run_all.ensures c.in_ok-run_all.was (ended _))
+
+pub run_all-stmts-init : goal.run_all-stmts-init
+run_all-stmts-init g t c = record { depth = refl; leads = leads_to_itself }
+
+pub run_all-run_stmt-requires : goal.run_all-run_stmt-requires
+run_all-run_stmt-requires g t c κs within = (let w = stmt_in c.args.stmts.now c.stmts.stmt-index c.stmt-item.result (omega arith) in let e = ap effect_of c.stmt-item.is in let d = ap (room (map mirror_class c.args.code.now)) c.stmts.invariant.depth in omega arith, within)
+
+pub run_all-returns-in_err-run_stmt : goal.run_all-returns-in_err-run_stmt
+run_all-returns-in_err-run_stmt g t c = by_result (search rules) (c.stmts.invariant.leads.by (Err c.in_err-run_stmt.field-0.0) _ (no_effect c.args.code.now c.args.stmts.now c.stmts.stmt-index c.stmt-item.result (omega arith) c.stmt-item.is c.run_stmt.ensures c.in_err-run_stmt.was))
+
+pub run_all-stmts-preserved : goal.run_all-stmts-preserved
+run_all-stmts-preserved g t c = record { depth = c.run_stmt.ensures.depth ∙ c.stmts.invariant.depth; leads = leads_far c.stmts.invariant.leads (one_effect c.args.code.now c.args.stmts.now c.stmts.stmt-index c.stmt-item.result (omega arith) c.stmt-item.is c.run_stmt.ensures c.in_ok-run_stmt.was) }
+
+pub run_all-returns : goal.run_all-returns
+run_all-returns g t c = c.stmts.invariant.leads.by (Ok _) _ (no_more_effects c.args.code.now c.args.stmts.now c.stmts.stmt-index (omega arith))
+
+pub run_scope-run_all-result-requires : goal.run_scope-run_all-result-requires
+run_scope-run_all-result-requires g t c κs within = (let e = ap effects_of c.as_slice.ensures in omega arith, within)
+
+pub run_scope-returns : goal.run_scope-returns
+run_scope-returns g t c = rw (← c.as_slice.ensures) (closes_after _ _ c.truncate.ensures c.run_all-result.ensures)
+
+pub assign-returns-in_err-value-in-Name : goal.assign-returns-in_err-value-in-Name
+assign-returns-in_err-value-in-Name g t c = at_run (λ gas. name_written (bodies c.args.code.now gas) c.args.at c.args.left.now _ _ _ c.in-Name.ensures) (cut _ c.value_of.ensures c.in_err-value-in-Name.was (search rules))
+
+pub assign-returns-in_ok-value-in-Name : goal.assign-returns-in_ok-value-in-Name
+assign-returns-in_ok-value-in-Name g t c = at_run (λ gas. name_written (bodies c.args.code.now gas) c.args.at c.args.left.now _ _ _ c.in-Name.ensures) (gave _ c.value_of.ensures c.in_ok-value-in-Name.was (rw (← c.as_slice.ensures) (changed (λ u. c.set_name.new.frame) _ _ _ (λ names. local names c.value_of.new.state) c.args.frame.now c.set_name.new.frame _ refl refl refl (λ a. refl) c.set_name.ensures.gives c.set_name.ensures.kept c.lift.ensures)))
+
+pub assign-value_of-requires-in-Field : goal.assign-value_of-requires-in-Field
+assign-value_of-requires-in-Field g t c κs within = (let w = object_light (mirror_expr c.args.left.now) (mirror_expr c.in-Field.object.now) c.in-Field.name.now c.in-Field.ensures in omega arith, within)
+
+pub assign-returns-in_err-target-in-Field : goal.assign-returns-in_err-target-in-Field
+assign-returns-in_err-target-in-Field g t c = at_run (λ gas. field_written (bodies c.args.code.now gas) c.args.at c.args.left.now _ _ _ _ c.in-Field.ensures) (cut _ c.value_of-in-Field.ensures c.in_err-target-in-Field.was (search rules))
+
+pub assign-value_of-requires-in-Field-2 : goal.assign-value_of-requires-in-Field-2
+assign-value_of-requires-in-Field-2 g t c κs within = (let d = ap (room (map mirror_class c.args.code.now)) c.value_of-in-Field.ensures.depth in omega arith, within)
+
+pub assign-returns-in_err-value-in-Field : goal.assign-returns-in_err-value-in-Field
+assign-returns-in_err-value-in-Field g t c = at_run (λ gas. field_written (bodies c.args.code.now gas) c.args.at c.args.left.now _ _ _ _ c.in-Field.ensures) (gave _ c.value_of-in-Field.ensures c.in_ok-target-in-Field.was (cut _ c.value_of-in-Field-2.ensures c.in_err-value-in-Field.was (search rules)))
+
+pub assign-returns-in_ok-value-in-Field : goal.assign-returns-in_ok-value-in-Field
+assign-returns-in_ok-value-in-Field g t c = at_run (λ gas. field_written (bodies c.args.code.now gas) c.args.at c.args.left.now _ _ _ _ c.in-Field.ensures) (gave _ c.value_of-in-Field.ensures c.in_ok-target-in-Field.was (gave _ c.value_of-in-Field-2.ensures c.in_ok-value-in-Field.was (rw (← c.as_slice-in-Field.ensures) (changed (λ u. c.write_field.new.heap) _ _ _ (λ heap. record (local c.args.frame.now c.value_of-in-Field-2.new.state) { heap = heap }) c.value_of-in-Field-2.new.state.heap c.write_field.new.heap _ refl refl refl (λ a. refl) c.write_field.ensures.gives c.write_field.ensures.kept c.lift-in-Field.ensures))))
+
+pub assign-returns-in-Other : goal.assign-returns-in-Other
+assign-returns-in-Other g t c = at_run (λ gas. nothing_assigned (bodies c.args.code.now gas) c.args.at (mirror_expr c.args.left.now) _ _ c.in-Other.ensures) (by_result (c.lift-in-Other.ensures ∙ ap (λ k. lifted c.args.at (Err k)) c.kind.ensures) (stands _))
+
+pub run_stmt-value_of-requires : goal.run_stmt-value_of-requires
+run_stmt-value_of-requires g t c κs within = (let w = ap stmt_weight (val_form c.args.stmt.now c.in-Val.is) in omega arith, within)
+
+pub run_stmt-returns-in_err-value-in-Val : goal.run_stmt-returns-in_err-value-in-Val
+run_stmt-returns-in_err-value-in-Val g t c = statement_run _ c.args.stmt.now (val_form c.args.stmt.now c.in-Val.is) (cut _ c.value_of.ensures c.in_err-value-in-Val.was (search rules))
+
+pub run_stmt-returns-in_ok-value-in-Val : goal.run_stmt-returns-in_ok-value-in-Val
+run_stmt-returns-in_ok-value-in-Val g t c = statement_run _ c.args.stmt.now (val_form c.args.stmt.now c.in-Val.is) (gave _ c.value_of.ensures c.in_ok-value-in-Val.was (bound_after _ _ _ c.bind.ensures))
+
+pub run_stmt-value_of-requires-in-Var : goal.run_stmt-value_of-requires-in-Var
+run_stmt-value_of-requires-in-Var g t c κs within = (let w = ap stmt_weight (var_form c.args.stmt.now c.in-Var.is) in omega arith, within)
+
+pub run_stmt-returns-in_err-value-in-Var : goal.run_stmt-returns-in_err-value-in-Var
+run_stmt-returns-in_err-value-in-Var g t c = statement_run _ c.args.stmt.now (var_form c.args.stmt.now c.in-Var.is) (cut _ c.value_of-in-Var.ensures c.in_err-value-in-Var.was (search rules))
+
+pub run_stmt-returns-in_ok-value-in-Var : goal.run_stmt-returns-in_ok-value-in-Var
+run_stmt-returns-in_ok-value-in-Var g t c = statement_run _ c.args.stmt.now (var_form c.args.stmt.now c.in-Var.is) (gave _ c.value_of-in-Var.ensures c.in_ok-value-in-Var.was (bound_after _ _ _ c.bind-in-Var.ensures))
+
+pub run_stmt-assign-requires : goal.run_stmt-assign-requires
+run_stmt-assign-requires g t c κs within = (let w = ap stmt_weight (assign_form c.args.stmt.now c.in-Assign.left c.in-Assign.right c.in-Assign.is) in omega arith, within)
+
+pub run_stmt-returns-in-Assign : goal.run_stmt-returns-in-Assign
+run_stmt-returns-in-Assign g t c = statement_run _ c.args.stmt.now (assign_form c.args.stmt.now _ _ c.in-Assign.is) c.assign.ensures
+
+pub run_stmt-value_of-requires-in-Run : goal.run_stmt-value_of-requires-in-Run
+run_stmt-value_of-requires-in-Run g t c κs within = (let w = ap stmt_weight (run_form c.args.stmt.now c.in-Run.is) in omega arith, within)
+
+pub run_stmt-returns-in_err-_value-in-Run : goal.run_stmt-returns-in_err-_value-in-Run
+run_stmt-returns-in_err-_value-in-Run g t c = statement_run _ c.args.stmt.now (run_form c.args.stmt.now c.in-Run.is) (cut _ c.value_of-in-Run.ensures c.in_err-_value-in-Run.was (search rules))
+
+pub run_stmt-returns-in_ok-_value-in-Run : goal.run_stmt-returns-in_ok-_value-in-Run
+run_stmt-returns-in_ok-_value-in-Run g t c = statement_run _ c.args.stmt.now (run_form c.args.stmt.now c.in-Run.is) (gave _ c.value_of-in-Run.ensures c.in_ok-_value-in-Run.was (ended _))
+
+pub run_stmt-value_of-requires-in-Print : goal.run_stmt-value_of-requires-in-Print
+run_stmt-value_of-requires-in-Print g t c κs within = (let w = ap stmt_weight (print_form c.args.stmt.now c.in-Print.is) in omega arith, within)
+
+pub run_stmt-returns-in_err-value-in-Print : goal.run_stmt-returns-in_err-value-in-Print
+run_stmt-returns-in_err-value-in-Print g t c = statement_run _ c.args.stmt.now (print_form c.args.stmt.now c.in-Print.is) (cut _ c.value_of-in-Print.ensures c.in_err-value-in-Print.was (search rules))
+
+pub run_stmt-returns-in_ok-value-in-Print : goal.run_stmt-returns-in_ok-value-in-Print
+run_stmt-returns-in_ok-value-in-Print g t c = statement_run _ c.args.stmt.now (print_form c.args.stmt.now c.in-Print.is) (gave _ c.value_of-in-Print.ensures c.in_ok-value-in-Print.was (c.print.ensures c.args.frame.now))
+
+pub run_stmt-value_of-requires-in-Throw : goal.run_stmt-value_of-requires-in-Throw
+run_stmt-value_of-requires-in-Throw g t c κs within = (let w = ap stmt_weight (throw_form c.args.stmt.now c.in-Throw.is) in omega arith, within)
+
+pub run_stmt-returns-in_err-value-in-Throw : goal.run_stmt-returns-in_err-value-in-Throw
+run_stmt-returns-in_err-value-in-Throw g t c = statement_run _ c.args.stmt.now (throw_form c.args.stmt.now c.in-Throw.is) (cut _ c.value_of-in-Throw.ensures c.in_err-value-in-Throw.was (search rules))
+
+pub run_stmt-returns-in_ok-value-in-Throw : goal.run_stmt-returns-in_ok-value-in-Throw
+run_stmt-returns-in_ok-value-in-Throw g t c = statement_run _ c.args.stmt.now (throw_form c.args.stmt.now c.in-Throw.is) (gave _ c.value_of-in-Throw.ensures c.in_ok-value-in-Throw.was (helped_end _ _ (Err (throws (out-Value c.in_ok-value-in-Throw.value))) c.thrown.ensures c.lift.ensures))
+
+pub run_stmt-value_of-requires-in-If : goal.run_stmt-value_of-requires-in-If
+run_stmt-value_of-requires-in-If g t c κs within = (let w = ap stmt_weight (if_form c.args.stmt.now c.in-If.yes c.in-If.no c.in-If.is) in omega arith, within)
+
+pub run_stmt-returns-in_err-value-in-If : goal.run_stmt-returns-in_err-value-in-If
+run_stmt-returns-in_err-value-in-If g t c = statement_run _ c.args.stmt.now (if_form c.args.stmt.now _ _ c.in-If.is) (cut _ c.value_of-in-If.ensures c.in_err-value-in-If.was (search rules))
+
+pub run_stmt-returns-in_err-holds-in-If : goal.run_stmt-returns-in_err-holds-in-If
+run_stmt-returns-in_err-holds-in-If g t c = statement_run _ c.args.stmt.now (if_form c.args.stmt.now _ _ c.in-If.is) (gave _ c.value_of-in-If.ensures c.in_ok-value-in-If.was (unhelped (λ b. b) c.args.stmt.now.at c.truth_of.result (truth_of (out-Value c.in_ok-value-in-If.value)) _ c.truth_of.ensures c.lift-in-If.ensures c.in_err-holds-in-If.was (search rules)))
+
+pub run_stmt-run_scope-requires : goal.run_stmt-run_scope-requires
+run_stmt-run_scope-requires g t c κs within = (let w = ap stmt_weight (if_form c.args.stmt.now c.in-If.yes c.in-If.no c.in-If.is) in let d = ap (room (map mirror_class c.args.code.now)) c.value_of-in-If.ensures.depth in omega arith, within)
+
+pub run_stmt-returns-then-holds : goal.run_stmt-returns-then-holds
+run_stmt-returns-then-holds g t c = statement_run _ c.args.stmt.now (if_form c.args.stmt.now _ _ c.in-If.is) (gave _ c.value_of-in-If.ensures c.in_ok-value-in-If.was (helped (λ b. b) c.args.stmt.now.at c.truth_of.result (truth_of (out-Value c.in_ok-value-in-If.value)) _ _ c.truth_of.ensures c.lift-in-If.ensures c.in_ok-holds-in-If.was (rw c.if-holds.true (plain_block _ _ _ c.len-count.ensures c.run_scope.ensures))))
+
+pub run_stmt-run_scope-requires-in-If : goal.run_stmt-run_scope-requires-in-If
+run_stmt-run_scope-requires-in-If g t c κs within = (let w = ap stmt_weight (if_form c.args.stmt.now c.in-If.yes c.in-If.no c.in-If.is) in let d = ap (room (map mirror_class c.args.code.now)) c.value_of-in-If.ensures.depth in omega arith, within)
+
+pub run_stmt-returns-else-holds : goal.run_stmt-returns-else-holds
+run_stmt-returns-else-holds g t c = statement_run _ c.args.stmt.now (if_form c.args.stmt.now _ _ c.in-If.is) (gave _ c.value_of-in-If.ensures c.in_ok-value-in-If.was (helped (λ b. b) c.args.stmt.now.at c.truth_of.result (truth_of (out-Value c.in_ok-value-in-If.value)) _ _ c.truth_of.ensures c.lift-in-If.ensures c.in_ok-holds-in-If.was (rw c.if-holds.false (plain_block _ _ _ c.len-count.ensures c.run_scope-in-If.ensures))))
+
+pub run_stmt-run_while-requires : goal.run_stmt-run_while-requires
+run_stmt-run_while-requires g t c κs within = (let w = ap stmt_weight (while_form c.args.stmt.now c.in-While.block c.in-While.is) in omega arith, within)
+
+pub run_stmt-returns-in-While : goal.run_stmt-returns-in-While
+run_stmt-returns-in-While g t c = statement_run _ c.args.stmt.now (while_form c.args.stmt.now _ c.in-While.is) c.run_while.ensures
+
+pub run_stmt-run_for-requires : goal.run_stmt-run_for-requires
+run_stmt-run_for-requires g t c κs within = (let w = ap stmt_weight (for_form c.args.stmt.now c.in-For.block c.in-For.is) in omega arith, within)
+
+pub run_stmt-returns-in-For : goal.run_stmt-returns-in-For
+run_stmt-returns-in-For g t c = statement_run _ c.args.stmt.now (for_form c.args.stmt.now _ c.in-For.is) c.run_for.ensures
+
+pub run_stmt-run_try-requires : goal.run_stmt-run_try-requires
+run_stmt-run_try-requires g t c κs within = (let w = ap stmt_weight (try_form c.args.stmt.now c.in-Try.tried c.in-Try.handler c.in-Try.is) in omega arith, within)
+
+pub run_stmt-returns-in-Try : goal.run_stmt-returns-in-Try
+run_stmt-returns-in-Try g t c = statement_run _ c.args.stmt.now (try_form c.args.stmt.now _ _ c.in-Try.is) c.run_try.ensures
+
+pub run_stmt-returns-in-Batch : goal.run_stmt-returns-in-Batch
+run_stmt-returns-in-Batch g t c = statement_run _ c.args.stmt.now (batch_form c.args.stmt.now _ c.in-Batch.is) (batched _ _ c.flat.ensures c.batch.ensures.performs c.batch.ensures.fuel c.batch.ensures.depth)
+
+pub run_for-returns-in_err-value : goal.run_for-returns-in_err-value
+run_for-returns-in_err-value g t c = cut _ c.value_of.ensures c.in_err-value.was (search rules)
+
+pub run_for-returns-in_err-turns : goal.run_for-returns-in_err-turns
+run_for-returns-in_err-turns g t c = gave _ c.value_of.ensures c.in_ok-value.was (at_run (λ gas. turns_by_form gas c.args.at c.args.name.now (out-Value c.in_ok-value.value) (stmts_run c.args.code.now c.args.block.now gas) (local c.args.frame.now c.value_of.new.state)) (unhelped (λ p. p) c.args.at c.turns_of.result _ _ c.turns_of.ensures c.lift.ensures c.in_err-turns.was (search rules)))
+
+pub run_for-run_turns-requires : goal.run_for-run_turns-requires
+run_for-run_turns-requires g t c κs within = (let d = ap (room (map mirror_class c.args.code.now)) c.value_of.ensures.depth in omega arith, within)
+
+pub run_for-returns : goal.run_for-returns
+run_for-returns g t c = gave _ c.value_of.ensures c.in_ok-value.was (at_run (λ gas. turns_by_form gas c.args.at c.args.name.now (out-Value c.in_ok-value.value) (stmts_run c.args.code.now c.args.block.now gas) (local c.args.frame.now c.value_of.new.state)) (helped (λ p. p) c.args.at c.turns_of.result _ _ _ c.turns_of.ensures c.lift.ensures c.in_ok-turns.was (rw (← c.get.ensures, ← c.as_slice-values.ensures) c.run_turns.ensures)))
+
+pub run_turns-turns-init : goal.run_turns-turns-init
+run_turns-turns-init g t c = record { depth = refl; leads = leads_to_itself }
+
+pub run_turns-returns-in_err-begin_turn : goal.run_turns-returns-in_err-begin_turn
+run_turns-returns-in_err-begin_turn g t c = by_result (search rules) (c.turns.invariant.leads.by (Err c.in_err-begin_turn.field-0.0) _ (no_turn c.args.code.now c.args.turns c.args.at c.args.name.now c.args.values.now c.args.block.now c.turns.value-index c.value-item.result (omega arith) c.value-item.is (c.begin_turn.ensures c.turns.frame) c.in_err-begin_turn.was))
+
+pub run_turns-returns-in_err-bind_copy : goal.run_turns-returns-in_err-bind_copy
+run_turns-returns-in_err-bind_copy g t c = by_result (want (search rules) c.in_err-bind_copy.ensures) (c.turns.invariant.leads.by (Err NoMemory) _ (no_memory _ (c.begin_turn.ensures c.turns.frame).fuel (c.begin_turn.ensures c.turns.frame).depth))
+
+pub run_turns-run_scope-requires : goal.run_turns-run_scope-requires
+run_turns-run_scope-requires g t c κs within = (let d = ap (room (map mirror_class c.args.code.now)) ((c.begin_turn.ensures c.turns.frame).depth ∙ c.turns.invariant.depth) in omega arith, within)
+
+pub run_turns-returns-in_err-run_scope : goal.run_turns-returns-in_err-run_scope
+run_turns-returns-in_err-run_scope g t c = by_result (search rules) (c.turns.invariant.leads.by (Err c.in_err-run_scope.field-0.0) _ (half_turn c.args.code.now c.args.turns c.args.at c.args.name.now c.args.values.now c.args.block.now c.turns.value-index c.value-item.result (omega arith) c.value-item.is (c.begin_turn.ensures c.turns.frame) c.in_ok-begin_turn.was (bound_block c.args.code.now c.len-count.result c.args.block.now c.args.name.now c.value-item.result _ c.len-count.ensures c.in_ok-bind_copy.ensures c.run_scope.ensures) c.in_err-run_scope.was))
+
+pub run_turns-turns-preserved : goal.run_turns-turns-preserved
+run_turns-turns-preserved g t c = record { depth = c.run_scope.ensures.depth ∙ (c.begin_turn.ensures c.turns.frame).depth ∙ c.turns.invariant.depth; leads = leads_far c.turns.invariant.leads (one_turn c.args.code.now c.args.turns c.args.at c.args.name.now c.args.values.now c.args.block.now c.turns.value-index c.value-item.result (omega arith) c.value-item.is (c.begin_turn.ensures c.turns.frame) c.in_ok-begin_turn.was (bound_block c.args.code.now c.len-count.result c.args.block.now c.args.name.now c.value-item.result _ c.len-count.ensures c.in_ok-bind_copy.ensures c.run_scope.ensures) c.in_ok-run_scope.was) }
+
+pub run_turns-returns : goal.run_turns-returns
+run_turns-returns g t c = c.turns.invariant.leads.by (Ok _) _ (no_more_turns c.args.code.now c.args.turns c.args.at c.args.name.now c.args.values.now c.args.block.now c.turns.value-index (omega arith))
+
+pub run_try-returns-then-not-is_caught : goal.run_try-returns-then-not-is_caught
+run_try-returns-then-not-is_caught g t c = try_passed c.args.code.now c.args.tried.now c.args.name.now c.args.handler.now (plain_block _ _ _ c.len-count.ensures c.run_scope.ensures) (c.in-Err-Raised.is ∙ ap Err c.in-Err-Raised.field-0-is) (sym c.is_caught.ensures ∙ c.if-not-is_caught.true)
+
+pub run_try-run_scope-requires-in-Err-Raised : goal.run_try-run_scope-requires-in-Err-Raised
+run_try-run_scope-requires-in-Err-Raised g t c κs within = (let d = ap (room (map mirror_class c.args.code.now)) c.run_scope.ensures.depth in omega arith, within)
+
+pub run_try-returns-in_ok-bind_caught-in-Err-Raised : goal.run_try-returns-in_ok-bind_caught-in-Err-Raised
+run_try-returns-in_ok-bind_caught-in-Err-Raised g t c = try_handled c.args.code.now c.args.tried.now c.args.name.now c.args.handler.now (plain_block _ _ _ c.len-count.ensures c.run_scope.ensures) (c.in-Err-Raised.is ∙ ap Err c.in-Err-Raised.field-0-is) (sym c.is_caught.ensures ∙ c.if-not-is_caught.false) (bound_block _ _ _ _ _ _ c.len-count-in-Err-Raised.ensures c.in_ok-bind_caught-in-Err-Raised.ensures c.run_scope-in-Err-Raised.ensures)
+
+pub run_try-returns-in-Err-NoMemory : goal.run_try-returns-in-Err-NoMemory
+run_try-returns-in-Err-NoMemory g t c = no_memory _ c.run_scope.ensures.fuel c.run_scope.ensures.depth
+
+pub run_try-returns-in-Err-Stopped : goal.run_try-returns-in-Err-Stopped
+run_try-returns-in-Err-Stopped g t c = sequel_of_stop _ (plain_block _ _ _ c.len-count.ensures c.run_scope.ensures) (c.in-Err-Stopped.is ∙ ap Err c.in-Err-Stopped.field-0-is)
+
+pub run_try-returns-in-Ok : goal.run_try-returns-in-Ok
+run_try-returns-in-Ok g t c = try_fine c.args.code.now c.args.tried.now c.args.name.now c.args.handler.now (plain_block _ _ _ c.len-count.ensures c.run_scope.ensures) c.in-Ok.is
+
+pub run_while-turns-init : goal.run_while-turns-init
+run_while-turns-init g t c = record { depth = refl; fuel = omega arith; leads = λ gas le. (gas, le, leads_to_itself) }
+
+pub run_while-value_of-requires : goal.run_while-value_of-requires
+run_while-value_of-requires g t c κs within = (let d = ap (room (map mirror_class c.args.code.now)) c.turns.invariant.depth in omega arith, within)
+
+pub run_while-returns-in_err-value : goal.run_while-returns-in_err-value
+run_while-returns-in_err-value g t c = by_result (search rules) (unfixed (λ gas le. let i = c.turns.invariant.leads gas le in let f = c.turns.invariant.fuel in i.2.by _ _ (while_fails i.0 c.args.at (value_run c.args.code.now c.args.condition.now gas) (block (stmts_run c.args.code.now c.args.block.now gas)) (fixed gas (omega arith) c.value_of.ensures) c.in_err-value.was)))
+
+pub run_while-returns-in_err-holds : goal.run_while-returns-in_err-holds
+run_while-returns-in_err-holds g t c = by_result (search rules) (unfixed (λ gas le. let i = c.turns.invariant.leads gas le in let f = c.turns.invariant.fuel in i.2.by _ _ (while_unclear i.0 c.args.at (value_run c.args.code.now c.args.condition.now gas) (block (stmts_run c.args.code.now c.args.block.now gas)) c.truth_of.result (fixed gas (omega arith) c.value_of.ensures) c.in_ok-value.was c.truth_of.ensures c.lift.ensures c.in_err-holds.was)))
+
+pub run_while-returns-then-not-holds : goal.run_while-returns-then-not-holds
+run_while-returns-then-not-holds g t c = unfixed (λ gas le. let i = c.turns.invariant.leads gas le in let f = c.turns.invariant.fuel in i.2.by _ _ (while_false i.0 c.args.at (value_run c.args.code.now c.args.condition.now gas) (block (stmts_run c.args.code.now c.args.block.now gas)) c.truth_of.result (fixed gas (omega arith) c.value_of.ensures) c.in_ok-value.was c.truth_of.ensures c.lift.ensures (c.in_ok-holds.was ∙ ap Ok c.if-not-holds.true)))
+
+pub run_while-returns-in_err-lift : goal.run_while-returns-in_err-lift
+run_while-returns-in_err-lift g t c = by_result (search rules) (unfixed (λ gas le. let i = c.turns.invariant.leads gas le in let f = c.turns.invariant.fuel in i.2.by _ _ (while_true i.0 c.args.at (value_run c.args.code.now c.args.condition.now gas) (block (stmts_run c.args.code.now c.args.block.now gas)) c.truth_of.result (fixed gas (omega arith) c.value_of.ensures) c.in_ok-value.was c.truth_of.ensures c.lift.ensures (c.in_ok-holds.was ∙ ap Ok c.if-not-holds.false) (unit_missing c.args.at (block (stmts_run c.args.code.now c.args.block.now gas)) (while_turns i.0 c.args.at (value_run c.args.code.now c.args.condition.now gas) (block (stmts_run c.args.code.now c.args.block.now gas))) c.check_unit.result c.check_unit.ensures c.lift-in-turns.ensures c.in_err-lift.was))))
+
+pub run_try-returns-in_err-bind_caught-in-Err-Raised : goal.run_try-returns-in_err-bind_caught-in-Err-Raised
+run_try-returns-in_err-bind_caught-in-Err-Raised g t c = by_result (want (search rules) c.in_err-bind_caught-in-Err-Raised.ensures) (no_memory _ c.run_scope.ensures.fuel c.run_scope.ensures.depth)
+
+pub run_while-overflow_sub-state : goal.run_while-overflow_sub-state
+run_while-overflow_sub-state g t c = let low = (fuel_left c.args.at c.value_of.new.state.fuel c.check_unit.result c.check_unit.ensures c.lift-in-turns.ensures c.in_ok-lift.was) in omega arith
+
+pub run_while-run_scope-requires : goal.run_while-run_scope-requires
+run_while-run_scope-requires g t c κs within = (let d = ap (room (map mirror_class c.args.code.now)) (c.value_of.ensures.depth ∙ c.turns.invariant.depth) in omega arith, within)
+
+pub run_while-returns-in_err-run_scope : goal.run_while-returns-in_err-run_scope
+run_while-returns-in_err-run_scope g t c = by_result (search rules) (unfixed (λ gas le. let i = c.turns.invariant.leads gas le in let f = c.turns.invariant.fuel in i.2.by _ _ (while_true i.0 c.args.at (value_run c.args.code.now c.args.condition.now gas) (block (stmts_run c.args.code.now c.args.block.now gas)) c.truth_of.result (fixed gas (omega arith) c.value_of.ensures) c.in_ok-value.was c.truth_of.ensures c.lift.ensures (c.in_ok-holds.was ∙ ap Ok c.if-not-holds.false) (unit_wasted c.args.at (block (stmts_run c.args.code.now c.args.block.now gas)) (while_turns i.0 c.args.at (value_run c.args.code.now c.args.condition.now gas) (block (stmts_run c.args.code.now c.args.block.now gas))) c.check_unit.result c.check_unit.ensures c.lift-in-turns.ensures c.in_ok-lift.was (fixed gas (let x = c.value_of.ensures.fuel in omega arith) (plain_block _ _ _ c.len-count.ensures c.run_scope.ensures)) c.in_err-run_scope.was))))
+
+pub run_while-turns-smaller : goal.run_while-turns-smaller
+run_while-turns-smaller g t c = let low = (fuel_left c.args.at c.value_of.new.state.fuel c.check_unit.result c.check_unit.ensures c.lift-in-turns.ensures c.in_ok-lift.was) in let x = c.value_of.ensures.fuel in let y = c.run_scope.ensures.fuel in omega arith
+
+pub run_while-turns-preserved : goal.run_while-turns-preserved
+run_while-turns-preserved g t c = record { depth = c.run_scope.ensures.depth ∙ c.value_of.ensures.depth ∙ c.turns.invariant.depth; fuel = (let f = c.turns.invariant.fuel in let x = c.value_of.ensures.fuel in let y = c.run_scope.ensures.fuel in omega arith); leads = λ gas le. let i = c.turns.invariant.leads gas le in let f = c.turns.invariant.fuel in let x = c.value_of.ensures.fuel in let y = c.run_scope.ensures.fuel in let low = (fuel_left c.args.at c.value_of.new.state.fuel c.check_unit.result c.check_unit.ensures c.lift-in-turns.ensures c.in_ok-lift.was) in let n = turn_more i.0 c.value_of.new.state.fuel c.args.at (value_run c.args.code.now c.args.condition.now gas) (block (stmts_run c.args.code.now c.args.block.now gas)) (local c.run_scope.new.frame c.run_scope.new.state) low (omega arith) in (n.0, omega arith, record { by = λ r s m. i.2.by r s (while_true i.0 c.args.at (value_run c.args.code.now c.args.condition.now gas) (block (stmts_run c.args.code.now c.args.block.now gas)) c.truth_of.result (fixed gas (omega arith) c.value_of.ensures) c.in_ok-value.was c.truth_of.ensures c.lift.ensures (c.in_ok-holds.was ∙ ap Ok c.if-not-holds.false) (unit_taken c.args.at (block (stmts_run c.args.code.now c.args.block.now gas)) (while_turns i.0 c.args.at (value_run c.args.code.now c.args.condition.now gas) (block (stmts_run c.args.code.now c.args.block.now gas))) c.check_unit.result c.check_unit.ensures c.lift-in-turns.ensures c.in_ok-lift.was (fixed gas (let x = c.value_of.ensures.fuel in omega arith) (plain_block _ _ _ c.len-count.ensures c.run_scope.ensures)) c.in_ok-run_scope.was (at_run (λ any. n.2) m))) }) }

@@ -1,0 +1,82 @@
+use Rattle.std.proofs.Common.{◌≡◌, ℕ, ◌≤◌, suc, ◌+◌, max, drop, map}
+use Rattle.rb_trees.specs.mirror.Code.{mirror_expr, mirror_exprs, mirror_stmt, mirror_stmts}
+use Rattle.rb_trees.specs.mirror.Declarations.{mirror_class, mirror_body}
+use Rattle.rb_engine.proofs.Weight.{room, expr_weight, exprs_weight, stmt_weight, stmts_weight, body_weight}
+use Rattle.rb_meaning_code.specs.Statements.{block, while_turns}
+use Rattle.rb_engine.specs.Code.{value_run, values_run, stmts_run, turns_run}
+use Rattle.rb_engine.specs.Locals.{local}
+use Rattle.rb_engine.specs.Meets.{scene}
+use Rattle.rb_engine.specs.Worlds.{asks}
+use Rattle.rb_engine.proofs.Runs.{LeadsOn}
+use Rattle.rb_engine.proofs.Loops.{after, as_is}
+use Rattle.rb_engine.proofs.run.+running.Given as goal
+
+abbrev pub decreases-value_of : goal.decreases-value_of
+decreases-value_of g l = room (map mirror_class l.code.now) l.state.now.depth + expr_weight (mirror_expr l.expr.now)
+
+abbrev pub decreases-binary_value : goal.decreases-binary_value
+decreases-binary_value g l = room (map mirror_class l.code.now) l.state.now.depth + max (expr_weight (mirror_expr l.a.now)) (expr_weight (mirror_expr l.b.now)) + 1
+
+abbrev pub decreases-called_value : goal.decreases-called_value
+decreases-called_value g l = room (map mirror_class l.code.now) l.state.now.depth + max (expr_weight (mirror_expr l.receiver.now)) (exprs_weight (mirror_exprs l.args.now)) + 2
+
+abbrev pub decreases-values_of : goal.decreases-values_of
+decreases-values_of g l = room (map mirror_class l.code.now) l.state.now.depth + exprs_weight (mirror_exprs l.exprs.now) + 1
+
+abbrev pub decreases-call_method : goal.decreases-call_method
+decreases-call_method g l = room (map mirror_class l.code.now) l.state.now.depth + 1
+
+abbrev pub decreases-run_body : goal.decreases-run_body
+decreases-run_body g l = room (map mirror_class l.code.now) l.state.now.depth + body_weight (mirror_body l.body.now)
+
+abbrev pub decreases-run_all : goal.decreases-run_all
+decreases-run_all g l = room (map mirror_class l.code.now) l.state.now.depth + stmts_weight (mirror_stmts l.stmts.now) + 1
+
+abbrev pub decreases-run_scope : goal.decreases-run_scope
+decreases-run_scope g l = room (map mirror_class l.code.now) l.state.now.depth + stmts_weight (mirror_stmts l.stmts.now) + 2
+
+abbrev pub decreases-run_stmt : goal.decreases-run_stmt
+decreases-run_stmt g l = room (map mirror_class l.code.now) l.state.now.depth + stmt_weight (mirror_stmt l.stmt.now)
+
+abbrev pub decreases-assign : goal.decreases-assign
+decreases-assign g l = room (map mirror_class l.code.now) l.state.now.depth + max (expr_weight (mirror_expr l.left.now)) (expr_weight (mirror_expr l.right.now)) + 1
+
+abbrev pub decreases-run_while : goal.decreases-run_while
+decreases-run_while g l = room (map mirror_class l.code.now) l.state.now.depth + max (expr_weight (mirror_expr l.condition.now)) (stmts_weight (mirror_stmts l.block.now)) + 3
+
+abbrev pub decreases-run_for : goal.decreases-run_for
+decreases-run_for g l = room (map mirror_class l.code.now) l.state.now.depth + max (expr_weight (mirror_expr l.list.now)) (stmts_weight (mirror_stmts l.block.now)) + 4
+
+abbrev pub decreases-run_turns : goal.decreases-run_turns
+decreases-run_turns g l = room (map mirror_class l.code.now) l.state.now.depth + stmts_weight (mirror_stmts l.block.now) + 3
+
+abbrev pub decreases-run_try : goal.decreases-run_try
+decreases-run_try g l = room (map mirror_class l.code.now) l.state.now.depth + max (stmts_weight (mirror_stmts l.tried.now)) (stmts_weight (mirror_stmts l.handler.now)) + 3
+
+abbrev pub decreases-run_while-turns : goal.decreases-run_while-turns
+decreases-run_while-turns g l = l.state.fuel
+
+abbrev pub invariant-values_of-exprs : goal.invariant-values_of-exprs
+invariant-values_of-exprs g l = record {
+  depth : l.state.depth ≡ l.fn.state.depth;
+  leads : LeadsOn (asks g.W.World) (λ gas. values_run l.code l.exprs gas (local l.frame l.fn.state)) (scene l.frame l.fn.state l.fn.world) (λ gas. values_run l.code (drop l.expr-index l.exprs) gas (local l.frame l.state)) (scene l.frame l.state l.world) (after l.values);
+}
+
+abbrev pub invariant-run_all-stmts : goal.invariant-run_all-stmts
+invariant-run_all-stmts g l = record {
+  depth : l.state.depth ≡ l.fn.state.depth;
+  leads : LeadsOn (asks g.W.World) (λ gas. stmts_run l.code l.stmts gas (local l.fn.frame l.fn.state)) (scene l.fn.frame l.fn.state l.fn.world) (λ gas. stmts_run l.code (drop l.stmt-index l.stmts) gas (local l.frame l.state)) (scene l.frame l.state l.world) as_is;
+}
+
+abbrev pub invariant-run_while-turns : goal.invariant-run_while-turns
+invariant-run_while-turns g l = record {
+  depth : l.state.depth ≡ l.fn.state.depth;
+  fuel : l.state.fuel ≤ l.fn.state.fuel;
+  leads : (gas : ℕ) → l.fn.state.fuel ≤ gas → (m : ℕ) × (l.state.fuel ≤ m) × LeadsOn (asks g.W.World) (λ any. while_turns (suc gas) l.at (value_run l.code l.condition gas) (block (stmts_run l.code l.block gas)) (local l.fn.frame l.fn.state)) (scene l.fn.frame l.fn.state l.fn.world) (λ any. while_turns (suc m) l.at (value_run l.code l.condition gas) (block (stmts_run l.code l.block gas)) (local l.frame l.state)) (scene l.frame l.state l.world) as_is;
+}
+
+abbrev pub invariant-run_turns-turns : goal.invariant-run_turns-turns
+invariant-run_turns-turns g l = record {
+  depth : l.state.depth ≡ l.fn.state.depth;
+  leads : LeadsOn (asks g.W.World) (λ gas. turns_run l.code l.turns l.at l.name l.values l.block gas (local l.fn.frame l.fn.state)) (scene l.fn.frame l.fn.state l.fn.world) (λ gas. turns_run l.code l.turns l.at l.name (drop l.value-index l.values) l.block gas (local l.frame l.state)) (scene l.frame l.state l.world) as_is;
+}

@@ -1,0 +1,80 @@
+-- What the trees of code mean, within so much gas.
+use Rattle.std.specs.Prelude.{ℕ, suc, List, Result, map}
+use Rattle.rb_trees.specs.declared.values.Value.{Value, out-Value}
+use Rattle.rb_trees.specs.declared.code.BinOp.{BinOp}
+use Rattle.rb_trees.specs.declared.code.Expr as expr
+use Rattle.rb_trees.specs.declared.code.Stmt as stmt
+use Rattle.rb_trees.specs.declared.declarations.Class as class
+use Rattle.rb_trees.specs.declared.declarations.Body as body
+use Rattle.rb_trees.specs.mirror.Code as code
+use Rattle.rb_trees.specs.mirror.Code.{mirror_expr, mirror_exprs, mirror_stmt, mirror_stmts}
+use Rattle.rb_trees.specs.declared.services.Object.{Object}
+use Rattle.rb_trees.specs.declared.values.Fault.{Fault}
+use Rattle.rb_trees.specs.mirror.Declarations.{Method, mirror_class, mirror_body}
+use Rattle.rb_meaning_code.specs.State.{Local}
+use Rattle.rb_meaning_code.specs.Dialogue.{Run, seq, next}
+use Rattle.rb_meaning_code.specs.Operators.{shown_value}
+use Rattle.rb_meaning_code.specs.Calls.{Bodies, call, called_method}
+use Rattle.rb_meaning_code.specs.Expressions.{evaluates, evaluates_all}
+use Rattle.rb_meaning_code.specs.Statements.{Effect, performs, performs_all, closes, block, assignment, while_turns, turns, turns_over, list_turn, row_turn, handles, prints}
+use Rattle.rb_meaning_code.specs.Bodies.{bodies_of, runs}
+use Rattle.rb_engine.specs.declared.targets.Turns.{Turns}
+use Rattle.rb_engine.specs.declared.targets.Turns.TheVariants as over
+
+abbrev pub bodies : List class.Class → ℕ → Bodies
+bodies classes gas = bodies_of (map mirror_class classes) gas
+
+abbrev pub value_run : List class.Class → expr.Expr → ℕ → Local → Run Value
+value_run classes e gas l = evaluates (bodies classes gas) (mirror_expr e) l
+
+abbrev pub values_run : List class.Class → List expr.Expr → ℕ → Local → Run (List Value)
+values_run classes es gas l = evaluates_all (bodies classes gas) (mirror_exprs es) l
+
+abbrev pub stmt_run : List class.Class → stmt.Stmt → ℕ → Effect
+stmt_run classes s gas l = performs (bodies classes gas) gas (mirror_stmt s) l
+
+abbrev pub stmts_run : List class.Class → List stmt.Stmt → ℕ → Effect
+stmts_run classes ss gas l = performs_all (bodies classes gas) gas (mirror_stmts ss) l
+
+abbrev pub body_run : List class.Class → body.Body → ℕ → Local → Run Value
+body_run classes b gas l = runs (bodies classes gas) gas (mirror_body b) l
+
+abbrev pub call_run : List class.Class → ℕ → Value → List ℕ → List Value → ℕ → Local → Run Value
+call_run classes at receiver name args gas l = call (bodies classes gas) at receiver name args l
+
+abbrev pub binary_run : List class.Class → ℕ → BinOp → expr.Expr → expr.Expr → ℕ → Local → Run Value
+binary_run classes at op a b gas l = evaluates (bodies classes gas) (code.Binary at op (mirror_expr a) (mirror_expr b)) l
+
+abbrev pub called_run : List class.Class → ℕ → expr.Expr → List ℕ → List expr.Expr → ℕ → Local → Run Value
+called_run classes at receiver name args gas l = evaluates (bodies classes gas) (code.Call at (mirror_expr receiver) name (mirror_exprs args)) l
+
+abbrev pub assign_run : List class.Class → ℕ → expr.Expr → expr.Expr → ℕ → Effect
+assign_run classes at left right gas l = assignment (bodies classes gas) at (mirror_expr left) (mirror_expr right) l
+
+-- the statements of a block, after which the first names stay
+abbrev pub scope_run : List class.Class → ℕ → List stmt.Stmt → ℕ → Effect
+scope_run classes count ss gas l = seq (stmts_run classes ss gas l) (closes count)
+
+abbrev pub while_run : List class.Class → ℕ → expr.Expr → List stmt.Stmt → ℕ → Effect
+while_run classes at condition ss gas l = while_turns (suc gas) at (value_run classes condition gas) (block (stmts_run classes ss gas)) l
+
+abbrev pub for_run : List class.Class → ℕ → List ℕ → expr.Expr → List stmt.Stmt → ℕ → Effect
+for_run classes at name e ss gas l = next (value_run classes e gas l) (λ v l1. turns at name (out-Value v) (stmts_run classes ss gas) l1)
+
+-- a turn begins
+abbrev pub begin_run : Turns → ℕ → ℕ → Effect
+begin_run over.List at gas l = list_turn at l
+begin_run over.Rows at gas l = row_turn at l
+
+abbrev pub turns_run : List class.Class → Turns → ℕ → List ℕ → List Value → List stmt.Stmt → ℕ → Effect
+turns_run classes over at name vs ss gas l = turns_over (begin_run over at gas) name vs (stmts_run classes ss gas) l
+
+abbrev pub try_run : List class.Class → List stmt.Stmt → List ℕ → List stmt.Stmt → ℕ → Effect
+try_run classes tried name handler gas l = seq (block (stmts_run classes tried gas) l) (handles name (stmts_run classes handler gas))
+
+abbrev pub line_run : ℕ → Value → ℕ → Effect
+line_run at v gas l = prints at (shown_value (out-Value v)) l
+
+-- the method that is called on a receiver
+abbrev pub method_called : List class.Class → List Object → Value → List ℕ → ℕ → Result Method Fault
+method_called classes heap receiver name count = called_method (map mirror_class classes) heap (out-Value receiver) name count

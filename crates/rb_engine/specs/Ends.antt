@@ -1,0 +1,33 @@
+-- How code ends early, as the code says it.
+use Rattle.std.specs.Prelude.{◌≡◌, ℕ, Option, Some, None, Result, Ok, Err, MatchResult}
+use Rattle.rb_trees.specs.declared.values.Fault.{Fault}
+use Rattle.rb_trees.specs.declared.outcomes.Raised.{Raised}
+use Rattle.rb_meaning_code.specs.Faults.{raised}
+use Rattle.rb_engine.specs.declared.ends.Refusal.{Refusal}
+use Rattle.rb_engine.specs.declared.ends.Refusal.TheVariants as refusal
+use Rattle.rb_engine.specs.declared.ends.End.{End}
+use Rattle.rb_engine.specs.declared.ends.End.TheVariants as end
+use Rattle.rb_engine.specs.declared.world.Halt.{Halt}
+use Rattle.rb_engine.specs.declared.world.Halt.TheVariants.{Memory, World}
+
+-- the fault that a rule says, which want of memory isn't
+abbrev pub fault_of : Refusal → Option Fault
+fault_of (refusal.Fault fault) = Some fault
+fault_of refusal.Memory = None
+
+-- what a rule at a position gives to code
+abbrev pub lifted : {T X : Type 0} → ℕ → Result T Refusal → Result T (End X)
+lifted at (Ok value) = Ok value
+lifted at (Err (refusal.Fault fault)) = Err (end.Raised (raised fault at))
+lifted at (Err refusal.Memory) = Err end.NoMemory
+
+-- a step with its kinds of end as one
+abbrev pub flattened : {T X : Type 0} → Result (Result T Raised) (Halt X) → Result T (End X)
+flattened (Ok (Ok value)) = Ok value
+flattened (Ok (Err r)) = Err (end.Raised r)
+flattened (Err Memory) = Err end.NoMemory
+flattened (Err (World x)) = Err (end.Stopped x)
+
+-- This holds of what is given, unless memory ran out.
+abbrev pub UnlessMemory : {T X : Type 0} → Result T (End X) → (T → Type 0) → Type 0
+UnlessMemory result Holds = MatchResult result Holds (λ e. e ≡ end.NoMemory)

@@ -1,0 +1,10 @@
+pub mod Answers
+pub mod Code
+pub mod Ends
+pub mod Locals
+pub mod Meets
+pub mod Numbers
+pub mod Service
+pub mod Shown
+pub mod Targets
+pub mod Worlds

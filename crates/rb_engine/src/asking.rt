@@ -1,0 +1,48 @@
+// What code asks of its World, with what is checked before.
+
+ghost use Rattle.rb_trees.specs.declared.values.Value.{out-Value};
+ghost use Rattle.rb_engine.specs.Code.{line_run, begin_run};
+ghost use Rattle.rb_engine.specs.Worlds.{AnyNames};
+
+use crate::conditions::shown;
+use crate::ends::{End, flat, lift};
+use crate::state::State;
+use crate::targets::Turns;
+use crate::units::check_unit;
+use crate::world::World;
+use rb_trees::Value;
+use std::alloc::Global;
+
+/// A turn of a loop begins.
+pub fn begin_turn<W: World>(
+    alloc: Global,
+    state: &mut State,
+    world: &mut W,
+    at: u32,
+    turns: Turns,
+) -> Result<(), End<W::Stop>>
+    ensures { AnyNames W.World (begin_run turns at) state.old world.old result state.new world.new }
+{
+    match turns {
+        Turns::List => {
+            lift(at, check_unit(alloc, state.fuel))?;
+            state.fuel -= 1;
+            flat(world.list_turn(at))
+        }
+        Turns::Rows => flat(world.turn(at)),
+    }
+}
+
+/// Prints the line of a value.
+pub fn print<W: World>(
+    alloc: Global,
+    state: &State,
+    world: &mut W,
+    at: u32,
+    value: Value,
+) -> Result<(), End<W::Stop>>
+    ensures { AnyNames W.World (line_run at value) state.now world.old result state.now world.new }
+{
+    let line = lift(at, shown(alloc, &value))?;
+    flat(world.line(at, line.as_slice()))
+}

@@ -1,0 +1,137 @@
+// Conditions, what is thrown, and what is caught.
+#![tactic(auto, using(crate::proofs::Values::values))]
+
+ghost use Rattle.std.specs.Prelude.{◌≡◌, [], ◌∷◌, ◌++◌, IfOk};
+ghost use Rattle.rb_trees.specs.Outcome.{Gives};
+ghost use Rattle.rb_trees.specs.declared.values.Value.{out-Value};
+ghost use Rattle.rb_meaning_code.specs.Faults as faults;
+ghost use Rattle.rb_meaning_code.specs.Faults.{caught_text};
+ghost use Rattle.rb_meaning_code.specs.Statements as rules;
+ghost use Rattle.rb_engine.specs.Ends.{fault_of, UnlessMemory};
+ghost use Rattle.rb_engine.specs.Shown.{remote_form, shown_or_kind, name_of_code};
+
+use crate::ends::{End, Refusal};
+use crate::faults::kind;
+use crate::frame::Frame;
+use crate::names::bind;
+use crate::operators::{bool_text, number_text, text_value};
+use rb_trees::{Fault, Memory, Raised, Seq, Value, Word, copy_word};
+use std::alloc::Global;
+
+fn truth_in(alloc: Global, value: &Value) -> Result<bool, Refusal>
+    ensures { Gives (λ holds. holds) fault_of result (rules.truth_of (out-Value value.now)) }
+{
+    match value {
+        Value::Bool(holds) => Ok(*holds),
+        _ => Err(kind(alloc)),
+    }
+}
+
+/// The truth of a condition: `truth_of`.
+pub fn truth_of(alloc: Global, value: Value) -> Result<bool, Refusal>
+    ensures { Gives (λ holds. holds) fault_of result (rules.truth_of (out-Value value)) }
+{
+    truth_in(alloc, &value)
+}
+
+/// The fault that `throw` ends by: `throws`.
+pub fn thrown(alloc: Global, value: Value) -> Result<(), Refusal>
+    ensures { Gives (λ u. u) fault_of result (Err (rules.throws (out-Value value))) }
+{
+    thrown_in(alloc, &value)
+}
+
+/// Whether a value is remote.
+pub fn is_remote(value: &Value) -> bool
+    ensures { result ≡ remote_form (out-Value value.now) }
+{
+    match value {
+        Value::Remote(_) => true,
+        _ => false,
+    }
+}
+
+fn thrown_in(alloc: Global, value: &Value) -> Result<(), Refusal>
+    ensures { Gives (λ u. u) fault_of result (Err (rules.throws (out-Value value.now))) }
+{
+    match value {
+        Value::Text(text) => Err(Refusal::Fault(Fault {
+            code: 8,
+            text: copy_word(alloc, text.get())?,
+        })),
+        _ => Err(kind(alloc)),
+    }
+}
+
+/// The line that `print` shows of a value.
+pub fn shown(alloc: Global, value: &Value) -> Result<Word, Refusal>
+    ensures { Gives (λ line. line) fault_of result (shown_or_kind (out-Value value.now)) }
+{
+    match value {
+        Value::Int(number) => Ok(number_text(alloc, *number)?),
+        Value::Bool(truth) => Ok(bool_text(alloc, *truth)?),
+        Value::Text(text) => Ok(copy_word(alloc, text.get())?),
+        _ => Err(kind(alloc)),
+    }
+}
+
+/// Whether a fault is caught: `is_caught`.
+pub fn is_caught(raised: &Raised) -> bool
+    ensures { result ≡ faults.is_caught raised.now }
+{
+    raised.remote || raised.fault.code != 7
+}
+
+// The name of a fault's code.
+fn name_of(code: u8) -> &'static [u8]
+    ensures { result.now ≡ name_of_code code }
+{
+    match code {
+        0 | 1 => b"DivZero",
+        2 => b"Index",
+        3 => b"TextTooLong",
+        4 => b"ListTooLong",
+        5 => b"HeapFull",
+        6 => b"TooDeep",
+        7 => b"FuelUsed",
+        8 => b"Thrown",
+        9 => b"NoMethod",
+        10 => b"BadArguments",
+        11 => b"WrongKind",
+        12 => b"Kind",
+        _ => b"",
+    }
+}
+
+// What a `catch` binds: `caught_text`.
+fn text_of(alloc: Global, fault: &Fault) -> Result<Word, Memory>
+    ensures { IfOk result (λ text. text ≡ caught_text fault.now) }
+{
+    if fault.code == 8 {
+        copy_word(alloc, &fault.text)
+    } else {
+        Seq::from_slice(alloc, name_of(fault.code))
+    }
+}
+
+// What a `catch` binds, as a value.
+fn caught_value(alloc: Global, fault: &Fault) -> Result<Value, Memory>
+    ensures { IfOk result (λ v. v ≡ Value.Text (caught_text fault.now)) }
+{
+    text_value(alloc, text_of(alloc, fault)?)
+}
+
+/// Binds a name to what is caught of a fault.
+pub fn bind_caught<X>(
+    alloc: Global,
+    frame: &mut Frame,
+    name: &Word,
+    fault: &Fault,
+) -> Result<(), End<X>>
+    ensures { UnlessMemory result (λ u. frame.new ≡ frame.old ++ (name.now, Value.Text (caught_text fault.now)) ∷ []) }
+{
+    match caught_value(alloc, fault) {
+        Ok(value) => bind(alloc, frame, name, value),
+        Err(_) => Err(End::NoMemory),
+    }
+}

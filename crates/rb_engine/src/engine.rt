@@ -1,0 +1,63 @@
+// The engine's public calls.
+
+ghost use Rattle.rb_trees.specs.declared.values.Value.TheVariants as value;
+ghost use Rattle.rb_engine.specs.Code.{value_run, call_run, stmts_run};
+ghost use Rattle.rb_engine.specs.Ends.{flattened};
+ghost use Rattle.rb_engine.specs.Worlds.{AnyNames, Effects, Values};
+
+use crate::ends::step_of;
+use crate::frame::Frame;
+use crate::run::{call_method, run_all, value_of};
+use crate::state::State;
+use crate::world::{Step, World};
+use rb_code::Code;
+use rb_trees::{Expr, Seq, Stmt, Value};
+use std::alloc::Global;
+
+/// Calls a method of an object of the own side, at a position: `call`.
+#[tactic(auto, using(crate::proofs::Wrapped::wrapped))]
+pub fn call<W: World>(
+    alloc: Global,
+    code: &Code,
+    state: &mut State,
+    world: &mut W,
+    at: u32,
+    object: u32,
+    method: &[u8],
+    args: Seq<Value>,
+) -> Step<Value, W::Stop>
+    ensures { AnyNames W.World (call_run code.now at (value.Ref object) method.now args) state.old world.old (flattened result) state.new world.new }
+{
+    let receiver = Value::Ref(object);
+    step_of(call_method(alloc, code, state, world, at, &receiver, method, &args))
+}
+
+/// Runs statements in order: `performs_all`.
+#[tactic(auto, using(crate::proofs::Wrapped::wrapped))]
+pub fn exec<W: World>(
+    alloc: Global,
+    code: &Code,
+    state: &mut State,
+    frame: &mut Frame,
+    world: &mut W,
+    body: &Seq<Stmt>,
+) -> Step<(), W::Stop>
+    ensures { Effects W.World (stmts_run code.now body.now) frame.old state.old world.old (flattened result) frame.new state.new world.new }
+{
+    step_of(run_all(alloc, code, state, frame, world, body.as_slice()))
+}
+
+/// The value of an expression: `evaluates`.
+#[tactic(auto, using(crate::proofs::Wrapped::wrapped))]
+pub fn eval<W: World>(
+    alloc: Global,
+    code: &Code,
+    state: &mut State,
+    frame: &Frame,
+    world: &mut W,
+    expr: &Expr,
+) -> Step<Value, W::Stop>
+    ensures { Values W.World (value_run code.now expr.now) frame.now state.old world.old (flattened result) state.new world.new }
+{
+    step_of(value_of(alloc, code, state, frame, world, expr))
+}

@@ -1,0 +1,76 @@
+// The faults of rules.
+
+ghost use Rattle.std.specs.Prelude.{◌≡◌};
+ghost use Rattle.rb_meaning_code.specs.Faults as faults;
+ghost use Rattle.rb_meaning_code.specs.Faults.{plain_fault};
+ghost use Rattle.rb_engine.specs.declared.ends.Refusal.TheVariants as refusal;
+
+use crate::ends::Refusal;
+use rb_trees::{Fault, Seq};
+use std::alloc::Global;
+
+// The fault of a code, without a text.
+fn refuse(alloc: Global, code: u8) -> Refusal
+    ensures { result ≡ refusal.Fault (plain_fault code) }
+{
+    Refusal::Fault(Fault {
+        code,
+        text: Seq::new(alloc),
+    })
+}
+
+/// A division by 0, or its remainder.
+pub fn division_by_zero(alloc: Global) -> Refusal
+    ensures { result ≡ refusal.Fault faults.division_by_zero }
+{
+    refuse(alloc, 1)
+}
+
+/// An index below 0, or not below the list's length.
+pub fn index_outside(alloc: Global) -> Refusal
+    ensures { result ≡ refusal.Fault faults.index_outside }
+{
+    refuse(alloc, 2)
+}
+
+/// A joined text that would be too long.
+pub fn text_too_long(alloc: Global) -> Refusal
+    ensures { result ≡ refusal.Fault faults.text_too_long }
+{
+    refuse(alloc, 3)
+}
+
+/// A list that would be too long.
+pub fn list_too_long(alloc: Global) -> Refusal
+    ensures { result ≡ refusal.Fault faults.list_too_long }
+{
+    refuse(alloc, 4)
+}
+
+/// A new object where the heap is full.
+pub fn heap_full(alloc: Global) -> Refusal
+    ensures { result ≡ refusal.Fault faults.heap_full }
+{
+    refuse(alloc, 5)
+}
+
+/// A call where too many are active.
+pub fn too_deep(alloc: Global) -> Refusal
+    ensures { result ≡ refusal.Fault faults.too_deep }
+{
+    refuse(alloc, 6)
+}
+
+/// A unit of fuel where none is left.
+pub fn fuel_used(alloc: Global) -> Refusal
+    ensures { result ≡ refusal.Fault faults.fuel_used }
+{
+    refuse(alloc, 7)
+}
+
+/// Something of a wrong kind, or that isn't there.
+pub fn kind(alloc: Global) -> Refusal
+    ensures { result ≡ refusal.Fault faults.kind }
+{
+    refuse(alloc, 12)
+}

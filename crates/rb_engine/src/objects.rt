@@ -1,0 +1,233 @@
+// New objects, fields, and what a method begins with.
+#![tactic(auto, using(crate::proofs::Values::values))]
+
+ghost use Rattle.std.specs.Prelude.{◌≡◌, ◌++◌, map, IfOk, OnOk, OnErr};
+ghost use Rattle.rb_trees.specs.Outcome.{Gives};
+ghost use Rattle.rb_trees.specs.declared.values.Value.{out-Value};
+ghost use Rattle.rb_trees.specs.mirror.Declarations.{mirror_param, mirror_class, mirror_method};
+ghost use Rattle.rb_meaning_code.specs.Calls as calls;
+ghost use Rattle.rb_meaning_code.specs.Calls.{names_within};
+ghost use Rattle.rb_meaning_code.specs.Objects as objects;
+ghost use Rattle.rb_meaning_code.specs.Objects.{matched, constructed};
+ghost use Rattle.rb_engine.specs.Code.{method_called};
+ghost use Rattle.rb_engine.specs.Ends.{fault_of, UnlessMemory};
+
+use crate::ends::{End, Refusal};
+use crate::faults::{heap_full, kind};
+use crate::frame::Frame;
+use rb_code::Code;
+use rb_heap::{AddStop, Heap};
+use rb_trees::{Memory, Method, Object, Param, Seq, Value, Word, copy_value, copy_word};
+use std::alloc::Global;
+
+// Adds the names of parameters or fields with values, in order, as long as both last.
+#[tactic(auto, using(crate::proofs::Matched::matches))]
+fn match_values(
+    alloc: Global,
+    names: &mut Seq<(Word, Value)>,
+    params: &[Param],
+    values: &[Value],
+) -> Result<(), Memory>
+    ensures { OnOk result (names.new ≡ names.old ++ matched (map mirror_param params.now) values.now) }
+{
+    for (place, param) in params.iter().enumerate() {
+        match values.get(place) {
+            Some(value) => names.push((copy_word(alloc, &param.name)?, copy_value(value)?))?,
+            None => return Ok(()),
+        }
+    }
+    Ok(())
+}
+
+// An object of a class with values for its fields: `object_of`.
+fn object_of(alloc: Global, code: &Code, name: &Word, values: &[Value]) -> Result<Object, Refusal>
+    ensures { Gives (λ o. o) fault_of result (objects.object_of (map mirror_class code.now) name.now values.now) }
+{
+    match code.find_class(name.as_slice()) {
+        Some(class) => object_with(alloc, name, class.fields.as_slice(), values),
+        None => Err(kind(alloc)),
+    }
+}
+
+fn object_with(
+    alloc: Global,
+    name: &Word,
+    fields: &[Param],
+    values: &[Value],
+) -> Result<Object, Refusal>
+    ensures { Gives (λ o. o) fault_of result (objects.object_with name.now (map mirror_param fields.now) values.now) }
+{
+    if fields.len() != values.len() {
+        return Err(kind(alloc));
+    }
+    let mut named = Seq::new(alloc);
+    match_values(alloc, &mut named, fields, values)?;
+    Ok(Object {
+        class: copy_word(alloc, name)?,
+        fields: named,
+    })
+}
+
+// Puts an object at the end of the heap, which needs room.
+fn place(alloc: Global, heap: &mut Heap, object: Object) -> Result<Value, Refusal>
+    ensures gives { Gives (λ v. (v, heap.new)) fault_of result (objects.placed heap.old object) }
+    ensures kept { OnErr result (heap.new ≡ heap.old) }
+{
+    match heap.add(object) {
+        Ok(number) => Ok(Value::Ref(number)),
+        Err(AddStop::Full(_object)) => Err(heap_full(alloc)),
+        Err(AddStop::Memory) => Err(Refusal::Memory),
+    }
+}
+
+/// A new object: `constructed`. After an error the heap is as it was.
+pub fn construct(
+    alloc: Global,
+    code: &Code,
+    heap: &mut Heap,
+    name: &Word,
+    values: Seq<Value>,
+) -> Result<Value, Refusal>
+    ensures gives { Gives (λ v. (v, heap.new)) fault_of result (constructed (map mirror_class code.now) heap.old name.now values) }
+    ensures kept { OnErr result (heap.new ≡ heap.old) }
+{
+    let object = object_of(alloc, code, name, values.as_slice())?;
+    place(alloc, heap, object)
+}
+
+fn field_in(alloc: Global, heap: &Heap, object: &Value, name: &[u8]) -> Result<Value, Refusal>
+    ensures { Gives (λ v. v) fault_of result (objects.field_of heap.now (out-Value object.now) name.now) }
+{
+    match object {
+        Value::Ref(number) => match heap.get_field(*number, name) {
+            Some(found) => Ok(copy_value(found)?),
+            None => Err(kind(alloc)),
+        },
+        _ => Err(kind(alloc)),
+    }
+}
+
+fn write_into(
+    alloc: Global,
+    heap: &mut Heap,
+    object: &Value,
+    name: &[u8],
+    value: Value,
+) -> Result<(), Refusal>
+    ensures gives { Gives (λ u. heap.new) fault_of result (objects.with_field_of heap.old (out-Value object.now) name.now value) }
+    ensures kept { OnErr result (heap.new ≡ heap.old) }
+{
+    match object {
+        Value::Ref(number) => write_own(alloc, heap, *number, name, value),
+        _ => Err(kind(alloc)),
+    }
+}
+
+#[tactic(auto, using(crate::proofs::Known::known_steps))]
+fn write_own(
+    alloc: Global,
+    heap: &mut Heap,
+    object: u32,
+    name: &[u8],
+    value: Value,
+) -> Result<(), Refusal>
+    ensures gives { Gives (λ u. heap.new) fault_of result (objects.with_own_field heap.old object name.now value) }
+    ensures kept { OnErr result (heap.new ≡ heap.old) }
+{
+    match heap.set_field(object, name, value) {
+        Ok(()) => Ok(()),
+        Err(_value) => Err(kind(alloc)),
+    }
+}
+
+/// The value of an object's field: `field_of`.
+pub fn read_field(alloc: Global, heap: &Heap, object: Value, name: &[u8]) -> Result<Value, Refusal>
+    ensures { Gives (λ v. v) fault_of result (objects.field_of heap.now (out-Value object) name.now) }
+{
+    field_in(alloc, heap, &object, name)
+}
+
+/// Gives an object's field another value: `with_field_of`. After an error the heap is as it was.
+pub fn write_field(
+    alloc: Global,
+    heap: &mut Heap,
+    object: Value,
+    name: &[u8],
+    value: Value,
+) -> Result<(), Refusal>
+    ensures gives { Gives (λ u. heap.new) fault_of result (objects.with_field_of heap.old (out-Value object) name.now value) }
+    ensures kept { OnErr result (heap.new ≡ heap.old) }
+{
+    write_into(alloc, heap, &object, name, value)
+}
+
+/// The method that is called: `called_method`.
+pub fn called_method<'a>(
+    alloc: Global,
+    code: &'a Code,
+    heap: &Heap,
+    receiver: &Value,
+    name: &[u8],
+    count: usize,
+) -> Result<&'a Method, Refusal>
+    ensures { Gives (λ m. mirror_method m.now) fault_of result (method_called code.now heap.now receiver.now name.now count) }
+{
+    match receiver {
+        Value::Ref(object) => own_method(alloc, code, heap, *object, name, count),
+        _ => Err(kind(alloc)),
+    }
+}
+
+fn own_method<'a>(
+    alloc: Global,
+    code: &'a Code,
+    heap: &Heap,
+    object: u32,
+    name: &[u8],
+    count: usize,
+) -> Result<&'a Method, Refusal>
+    ensures { Gives (λ m. mirror_method m.now) fault_of result (calls.own_method (map mirror_class code.now) heap.now object name.now count) }
+{
+    let found = match heap.get(object) {
+        Some(found) => code.find_method(found.class.as_slice(), name),
+        None => None,
+    };
+    match found {
+        Some(method) => if method.signature.params.len() == count {
+            Ok(method)
+        } else {
+            Err(kind(alloc))
+        },
+        None => Err(kind(alloc)),
+    }
+}
+
+// The names that a method begins with: `names_within`.
+fn names_of(
+    alloc: Global,
+    receiver: &Value,
+    params: &[Param],
+    args: &[Value],
+) -> Result<Seq<(Word, Value)>, Memory>
+    ensures { IfOk result (λ names. names ≡ names_within receiver.now (map mirror_param params.now) args.now) }
+{
+    let mut names = Seq::new(alloc);
+    names.push((Seq::from_slice(alloc, b"this")?, copy_value(receiver)?))?;
+    match_values(alloc, &mut names, params, args)?;
+    Ok(names)
+}
+
+/// The frame that a method begins with: `names_within`.
+pub fn enter<X>(
+    alloc: Global,
+    receiver: &Value,
+    params: &[Param],
+    args: &[Value],
+) -> Result<Frame, End<X>>
+    ensures { UnlessMemory result (λ frame. frame ≡ names_within receiver.now (map mirror_param params.now) args.now) }
+{
+    match names_of(alloc, receiver, params, args) {
+        Ok(names) => Ok(Frame::of(names)),
+        Err(_) => Err(End::NoMemory),
+    }
+}

@@ -1,0 +1,7 @@
+//! Tests of the engine: programs read from texts, over a World that keeps what it is asked.
+#![tactic(auto)]
+
+#[cfg(test)]
+mod programs;
+#[cfg(test)]
+mod record;
