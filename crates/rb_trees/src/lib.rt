@@ -1,4 +1,5 @@
-//! The trees of the product: programs, services, scripts, remainders, forests and tokens.
+//! The trees of the product: programs, services, scripts, remainders, forests and tokens; and what is told of
+//! them.
 //!
 //! Contracts see a [`Seq`] as its list and a [`Boxed`] as its value, so that a tree is plain data
 //! and `result ≡ tree` says that two trees are the same. Definitions of the product are written
@@ -9,10 +10,13 @@ mod boxes;
 mod code;
 mod copies;
 mod declarations;
+mod flows;
 mod forests;
+mod marks;
 mod outcomes;
 mod printing;
 mod reading;
+mod refusals;
 mod remainders;
 mod scripts;
 mod sequence;
@@ -30,10 +34,13 @@ pub use copies::{
     copy_values, copy_word,
 };
 pub use declarations::{Body, Class, Interface, Method, Param, Program, Signature};
+pub use flows::{BadPart, Writer};
 pub use forests::{Entry, Node, NodeFault};
+pub use marks::{Mark, Place};
 pub use outcomes::{Ending, Raised};
 pub use printing::print_program;
 pub use reading::{LexError, ReadError};
+pub use refusals::Refusal;
 pub use remainders::{Part, Split};
 pub use scripts::{SExpr, Script, Step, StepForm};
 pub use sequence::{Seq, Word};
