@@ -7,3 +7,4 @@ pub mod Calls
 pub mod Expressions
 pub mod Statements
 pub mod Bodies
+pub mod Laws
