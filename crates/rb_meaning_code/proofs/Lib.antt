@@ -7,3 +7,4 @@ pub mod Within
 pub mod Orders
 pub mod Runs
 pub mod OfCode
+pub mod Led

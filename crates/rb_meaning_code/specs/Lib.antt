@@ -8,3 +8,4 @@ pub mod Expressions
 pub mod Statements
 pub mod Bodies
 pub mod Laws
+pub mod Led
