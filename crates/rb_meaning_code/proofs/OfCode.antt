@@ -2,7 +2,7 @@
 use Rattle.std.proofs.Common.{refl, ℕ}
 use Rattle.rb_meaning_code.specs.State.{Local}
 use Rattle.rb_meaning_code.specs.Dialogue.{Handler}
-use Rattle.rb_meaning_code.specs.Laws.{Meaning, OfCode, LeavesLater, SameWithin, BatchesLeaveLater, BatchesKeepFuel, HandledLater, HandledSame}
+use Rattle.rb_meaning_code.specs.Laws.{Meaning, OfCode, LeavesLater, SameWithinMoreGas, BatchesLeaveLater, BatchesKeepFuel, HandledLater, HandledSameWithinMoreGas}
 use Rattle.rb_meaning_code.proofs.Alike.{Order, From}
 use Rattle.rb_meaning_code.proofs.Values.{Reach, one, both, value_alike, values_alike, call_alike}
 use Rattle.rb_meaning_code.proofs.Effects.{stmt_alike, stmts_alike, block_alike}
@@ -40,11 +40,11 @@ so f all = record {
 pub code_leaves_later : OfCode LeavesLater
 code_leaves_later = so (λ A meaning alike gas l. leaves (alike gas gas l (one refl)).alike) (all_alike later)
 
-pub same_within : OfCode SameWithin
+pub same_within : OfCode SameWithinMoreGas
 same_within = so (λ A meaning alike gas more l enough too. same_run (alike gas more l (both enough too)).alike) (all_alike keeps_fuel)
 
 pub handled_later : {S : Type 0} (h : Handler S) → BatchesLeaveLater h → OfCode (HandledLater h)
 handled_later h lawful = so (λ A meaning law gas l s. handled_leaves h _ lawful (meaning gas l) s (law gas l)) code_leaves_later
 
-pub handled_the_same : {S : Type 0} (h : Handler S) → BatchesKeepFuel h → OfCode (HandledSame h)
+pub handled_the_same : {S : Type 0} (h : Handler S) → BatchesKeepFuel h → OfCode (HandledSameWithinMoreGas h)
 handled_the_same h kept = so (λ A meaning law gas more l s enough too. handled_same h kept s (law gas more l enough too)) same_within

@@ -66,8 +66,8 @@ abbrev pub LeavesLater : (A : Type 0) → Meaning A → Type 0
 LeavesLater A meaning = (gas : ℕ) (l : Local) → Leaves (λ o. Later l (state_of o)) (meaning gas l)
 
 -- Within each gas that is at least the fuel, it is the same run.
-abbrev pub SameWithin : (A : Type 0) → Meaning A → Type 0
-SameWithin A meaning = (gas more : ℕ) (l : Local) → l.fuel ≤ gas → l.fuel ≤ more → SameRun (meaning gas l) (meaning more l)
+abbrev pub SameWithinMoreGas : (A : Type 0) → Meaning A → Type 0
+SameWithinMoreGas A meaning = (gas more : ℕ) (l : Local) → l.fuel ≤ gas → l.fuel ≤ more → SameRun (meaning gas l) (meaning more l)
 
 -- The handler's batches leave later states than they were lent; or no more fuel.
 abbrev pub BatchesLeaveLater : {S : Type 0} → Handler S → Type 0
@@ -80,8 +80,8 @@ BatchesKeepFuel h = (s : _) (at : ℕ) (l : Local) → (state_of (h.batch s at l
 abbrev pub HandledLater : {S : Type 0} → Handler S → (A : Type 0) → Meaning A → Type 0
 HandledLater {S = S} h A meaning = (gas : ℕ) (l : Local) (s : S) → Later l (state_of (handle h (meaning gas l) s).0)
 
-abbrev pub HandledSame : {S : Type 0} → Handler S → (A : Type 0) → Meaning A → Type 0
-HandledSame {S = S} h A meaning = (gas more : ℕ) (l : Local) (s : S) → l.fuel ≤ gas → l.fuel ≤ more → handle h (meaning gas l) s ≡ handle h (meaning more l) s
+abbrev pub HandledSameWithinMoreGas : {S : Type 0} → Handler S → (A : Type 0) → Meaning A → Type 0
+HandledSameWithinMoreGas {S = S} h A meaning = (gas more : ℕ) (l : Local) (s : S) → l.fuel ≤ gas → l.fuel ≤ more → handle h (meaning gas l) s ≡ handle h (meaning more l) s
 
 -- Later than itself, and than whatever is earlier.
 abbrev pub IsReflexive : Type 0

@@ -1,4 +1,4 @@
--- Runs that surroundings lead: what the laws say of them, and of which surroundings a handler tells the answers.
+-- Runs that surroundings lead: what they leave, and how a handler that answers as the surroundings do ends them.
 use Rattle.std.specs.Prelude.{◌≡◌, ◌≤◌, ℕ, Result, Ok, Err}
 use Rattle.rb_trees.specs.declared.values.Value.{Value}
 use Rattle.rb_trees.specs.declared.outcomes.Raised.{Raised}
@@ -7,19 +7,19 @@ use Rattle.rb_meaning_code.specs.Dialogue.{Question, Outcome, Dialogue, Done, As
 use Rattle.rb_meaning_code.specs.Laws.{Later, state_of, Meaning}
 
 -- The surroundings' batches leave later states than they were lent; or no more fuel.
-abbrev pub PerformsLater : {W X : Type 0} → Surroundings W X → Type 0
-PerformsLater {W = W} R = (w w' : W) (at : ℕ) (l : Local) (o : Outcome (Unit {0})) → R.performs w at l (Ok o) w' → Later l (state_of o)
+abbrev pub LedBatchesLeaveLater : {W X : Type 0} → Surroundings W X → Type 0
+LedBatchesLeaveLater {W = W} R = (w w' : W) (at : ℕ) (l : Local) (o : Outcome (Unit {0})) → R.performs w at l (Ok o) w' → Later l (state_of o)
 
-abbrev pub PerformsKeepFuel : {W X : Type 0} → Surroundings W X → Type 0
-PerformsKeepFuel {W = W} R = (w w' : W) (at : ℕ) (l : Local) (o : Outcome (Unit {0})) → R.performs w at l (Ok o) w' → (state_of o).fuel ≤ l.fuel
+abbrev pub LedBatchesKeepFuel : {W X : Type 0} → Surroundings W X → Type 0
+LedBatchesKeepFuel {W = W} R = (w w' : W) (at : ℕ) (l : Local) (o : Outcome (Unit {0})) → R.performs w at l (Ok o) w' → (state_of o).fuel ≤ l.fuel
 
 -- Where they lead a run to an outcome, that leaves a later local state.
 abbrev pub LedLater : {W X : Type 0} → Surroundings W X → (A : Type 0) → Meaning A → Type 0
 LedLater {W = W} R A meaning = (gas : ℕ) (l : Local) (o : Outcome A) (w w' : W) → Follows R (meaning gas l) w (Ok o) w' → Later l (state_of o)
 
 -- Where they lead a run within some gas that is at least the fuel, they lead it so within any other.
-abbrev pub LedSame : {W X : Type 0} → Surroundings W X → (A : Type 0) → Meaning A → Type 0
-LedSame {W = W} {X = X} R A meaning = (gas more : ℕ) (l : Local) (r : Result (Outcome A) X) (w w' : W) → l.fuel ≤ gas → l.fuel ≤ more
+abbrev pub LedSameWithinMoreGas : {W X : Type 0} → Surroundings W X → (A : Type 0) → Meaning A → Type 0
+LedSameWithinMoreGas {W = W} {X = X} R A meaning = (gas more : ℕ) (l : Local) (r : Result (Outcome A) X) (w w' : W) → l.fuel ≤ gas → l.fuel ≤ more
     → Follows R (meaning gas l) w r w' → Follows R (meaning more l) w r w'
 
 -- What the surroundings gave is what the handler gives, and they are then seen as its state then.
@@ -31,13 +31,13 @@ pub record AnswersAs {W X S : Type 0} (Sees : W → S → Type 0) (R : Surroundi
   pub questions : (w w' : W) (s : S) (q : Question) (a : Result Value Raised) → Sees w s → R.answers w q (Ok a) w' → Agrees Sees a w' (h.answer s q)
   pub batches : (w w' : W) (s : S) (at : ℕ) (l : Local) (o : Outcome (Unit {0})) → Sees w s → R.performs w at l (Ok o) w' → Agrees Sees o w' (h.batch s at l)
 
--- The handler takes a run from a state to what is left of it, at another state.
-pub data Comes {S A : Type 0} (h : Handler S) : Dialogue A → S → Dialogue A → S → Type 0 where
-  here : (d : Dialogue A) (s : S) → Comes h d s d s
+-- A run that the handler answers from a state passes what is left of it, at another state.
+pub data Passes {S A : Type 0} (h : Handler S) : Dialogue A → S → Dialogue A → S → Type 0 where
+  here : (d : Dialogue A) (s : S) → Passes h d s d s
   answered : (q : Question) (go : Result Value Raised → Dialogue A) (s s' : S) (rest : Dialogue A)
-      → Comes h (go (h.answer s q).0) (h.answer s q).1 rest s' → Comes h (Ask q go) s rest s'
+      → Passes h (go (h.answer s q).0) (h.answer s q).1 rest s' → Passes h (Ask q go) s rest s'
   performed : (at : ℕ) (l : Local) (go : Outcome (Unit {0}) → Dialogue A) (s s' : S) (rest : Dialogue A)
-      → Comes h (go (h.batch s at l).0) (h.batch s at l).1 rest s' → Comes h (AskBatch at l go) s rest s'
+      → Passes h (go (h.batch s at l).0) (h.batch s at l).1 rest s' → Passes h (AskBatch at l go) s rest s'
 
 -- The surroundings cut a run off at what it asks first.
 abbrev pub CutsOff : {W X A : Type 0} → Surroundings W X → Dialogue A → W → X → W → Type 0
@@ -45,19 +45,24 @@ CutsOff R (Done a) w x w' = ⊥
 CutsOff R (Ask q go) w x w' = R.answers w q (Err x) w'
 CutsOff R (AskBatch at l go) w x w' = R.performs w at l (Err x) w'
 
--- The surroundings cut a run off at a place to which the handler comes too, where they are seen as its state there.
+-- The surroundings cut the run off at something that it passes under the handler too, where they are seen as its state.
 pub record IsCutWithin {W X S A : Type 0} (Sees : W → S → Type 0) (R : Surroundings W X) (h : Handler S) (d : Dialogue A) (s : S) (x : X) (w' : W) : Type 0 where
   pub rest : Dialogue A
   pub state : S
   pub before : W
-  pub comes : Comes h d s rest state
+  pub passes : Passes h d s rest state
   pub seen : Sees before state
   pub cut : CutsOff R rest before x w'
 
--- A run that is led to its end ends as the handler ends it; one that is cut off is so where the handler comes to.
+-- A run that is led to its end ends as under the handler, and the surroundings are then seen as its state.
 abbrev pub EndsAsHandled : {W X S : Type 0} → (W → S → Type 0) → Surroundings W X → Handler S → (A : Type 0) → Type 0
 EndsAsHandled {W = W} {S = S} Sees R h A = (d : Dialogue A) (w w' : W) (s : S) (a : A) → Sees w s → Follows R d w (Ok a) w' → Agrees Sees a w' (handle h d s)
 
+-- A run that is cut off is so at something that it passes under the handler.
 abbrev pub IsCutAsHandled : {W X S : Type 0} → (W → S → Type 0) → Surroundings W X → Handler S → (A : Type 0) → Type 0
 IsCutAsHandled {W = W} {X = X} {S = S} Sees R h A =
     (d : Dialogue A) (w w' : W) (s : S) (x : X) → Sees w s → Follows R d w (Err x) w' → IsCutWithin Sees R h d s x w'
+
+-- What is left of a run ends under the handler as the whole.
+abbrev pub RestEndsAsWhole : {S : Type 0} → Handler S → (A : Type 0) → Type 0
+RestEndsAsWhole {S = S} h A = (d rest : Dialogue A) (s s' : S) → Passes h d s rest s' → handle h rest s' ≡ handle h d s

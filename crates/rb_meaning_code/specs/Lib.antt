@@ -9,3 +9,4 @@ pub mod Statements
 pub mod Bodies
 pub mod Laws
 pub mod Led
+pub mod Leads

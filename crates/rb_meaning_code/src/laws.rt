@@ -1,7 +1,11 @@
 // Laws of class code. They take no memory and do nothing.
 
 ghost use Rattle.rb_meaning_code.specs.Dialogue.{Handler};
-ghost use Rattle.rb_meaning_code.specs.Laws.{IsReflexive, IsTransitive, OfCode, LeavesLater, SameWithin, BatchesLeaveLater, BatchesKeepFuel, HandledLater, HandledSame};
+ghost use Rattle.rb_meaning_code.specs.Laws.{IsReflexive, IsTransitive, OfCode, LeavesLater, SameWithinMoreGas, BatchesLeaveLater, BatchesKeepFuel, HandledLater, HandledSameWithinMoreGas};
+ghost use Rattle.rb_meaning_code.specs.Led.{LedBatchesLeaveLater, LedBatchesKeepFuel, LedLater, LedSameWithinMoreGas, AnswersAs, EndsAsHandled, IsCutAsHandled, RestEndsAsWhole};
+ghost use Rattle.rb_meaning_code.specs.Leads.{leads};
+
+use crate::surroundings::{SeenAs, Surroundings};
 
 /// A local state is later than itself, and what is later than a later one is later.
 pub fn later_is_an_order()
@@ -14,17 +18,35 @@ pub fn code_leaves_later_states()
     ensures { OfCode LeavesLater }
 {}
 
-/// Within each gas that is at least the fuel, code runs the same.
-pub fn more_gas_is_the_same_run()
-    ensures { OfCode SameWithin }
-{}
-
-/// Code leaves only later local states under a handler whose batches do.
+/// The same under a handler whose batches leave later local states.
 pub fn handled_code_leaves_later_states<S>()
     ensures { (h : Handler S) → BatchesLeaveLater h → OfCode (HandledLater h) }
 {}
 
-/// Within each gas that is at least the fuel, code ends the same under a handler whose batches keep fuel.
+/// The same where surroundings lead whose batches leave later local states.
+pub fn led_code_leaves_later_states<W: Surroundings>()
+    ensures { LedBatchesLeaveLater (leads W.Surroundings) → OfCode (LedLater (leads W.Surroundings)) }
+{}
+
+/// Within each gas that is at least the fuel, code is the same run.
+pub fn more_gas_is_the_same_run()
+    ensures { OfCode SameWithinMoreGas }
+{}
+
+/// The same under a handler whose batches keep fuel: from each of its states it ends alike.
 pub fn more_gas_is_handled_the_same<S>()
-    ensures { (h : Handler S) → BatchesKeepFuel h → OfCode (HandledSame h) }
+    ensures { (h : Handler S) → BatchesKeepFuel h → OfCode (HandledSameWithinMoreGas h) }
+{}
+
+/// The same where surroundings lead whose batches keep fuel: they lead it alike.
+pub fn more_gas_is_led_the_same<W: Surroundings>()
+    ensures { LedBatchesKeepFuel (leads W.Surroundings) → OfCode (LedSameWithinMoreGas (leads W.Surroundings)) }
+{}
+
+/// A handler that answers as surroundings do, where they are seen as its state, ends each run as they do, and passes
+/// what they cut off.
+pub fn led_runs_are_handled<W: SeenAs<S>, S, A>()
+    ensures ended { (h : Handler S) → AnswersAs W.sees (leads W.Surroundings) h → EndsAsHandled W.sees (leads W.Surroundings) h A }
+    ensures cut { (h : Handler S) → AnswersAs W.sees (leads W.Surroundings) h → IsCutAsHandled W.sees (leads W.Surroundings) h A }
+    ensures rest { (h : Handler S) → RestEndsAsWhole h A }
 {}
