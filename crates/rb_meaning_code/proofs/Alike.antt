@@ -15,21 +15,21 @@ use Rattle.rb_meaning_code.specs.Laws.{Grows, state_of}
 -- count whose local state stands in the relation to the one that the batch was lent.
 pub data Alike {A : Type 0} (Keeps : Local → Local → Type 0) (P : A → Type 0) : Dialogue A → Dialogue A → Type 0 where
   ends : (a : A) → P a → Alike Keeps P (Done a) (Done a)
-  asks : (q : Question) (go on : Result Value Raised → Dialogue A) → ((a : Result Value Raised) → Alike Keeps P (go a) (on a)) → Alike Keeps P (Ask q go) (Ask q on)
-  lends : (at : ℕ) (l : Local) (go on : Outcome (Unit {0}) → Dialogue A) → ((o : Outcome (Unit {0})) → Keeps l (state_of o) → Alike Keeps P (go o) (on o))
-      → Alike Keeps P (AskBatch at l go) (AskBatch at l on)
+  asks : (q : Question) (go go' : Result Value Raised → Dialogue A) → ((a : Result Value Raised) → Alike Keeps P (go a) (go' a)) → Alike Keeps P (Ask q go) (Ask q go')
+  lends : (at : ℕ) (l : Local) (go go' : Outcome (Unit {0}) → Dialogue A) → ((o : Outcome (Unit {0})) → Keeps l (state_of o) → Alike Keeps P (go o) (go' o))
+      → Alike Keeps P (AskBatch at l go) (AskBatch at l go')
 
 -- what follows runs that are alike
 pub alike_seq : {A B : Type 0} {Keeps : Local → Local → Type 0} {P : A → Type 0} {Q : B → Type 0} {d e : Dialogue A} {k m : A → Dialogue B}
     → Alike Keeps P d e → ((a : A) → P a → Alike Keeps Q (k a) (m a)) → Alike Keeps Q (seq d k) (seq e m)
 alike_seq (ends a p) f = f a p
-alike_seq {k = k} {m = m} (asks q go on h) f = asks q (λ a. seq (go a) k) (λ a. seq (on a) m) (λ a. alike_seq (h a) f)
-alike_seq {k = k} {m = m} (lends at l go on h) f = lends at l (λ o. seq (go o) k) (λ o. seq (on o) m) (λ o kept. alike_seq (h o kept) f)
+alike_seq {k = k} {m = m} (asks q go go' h) f = asks q (λ a. seq (go a) k) (λ a. seq (go' a) m) (λ a. alike_seq (h a) f)
+alike_seq {k = k} {m = m} (lends at l go go' h) f = lends at l (λ o. seq (go o) k) (λ o. seq (go' o) m) (λ o kept. alike_seq (h o kept) f)
 
 pub weaker : {A : Type 0} {Keeps : Local → Local → Type 0} {P Q : A → Type 0} {d e : Dialogue A} → ((a : A) → P a → Q a) → Alike Keeps P d e → Alike Keeps Q d e
 weaker f (ends a p) = ends a (f a p)
-weaker f (asks q go on h) = asks q go on (λ a. weaker f (h a))
-weaker f (lends at l go on h) = lends at l go on (λ o kept. weaker f (h o kept))
+weaker f (asks q go go' h) = asks q go go' (λ a. weaker f (h a))
+weaker f (lends at l go go' h) = lends at l go go' (λ o kept. weaker f (h o kept))
 
 -- A relation between local states in which each step of code keeps what it had before to what it has then.
 pub record Order (Keeps : Local → Local → Type 0) : Type 0 where
@@ -85,9 +85,9 @@ ruled order at (Ok a) k m g = g a refl
 ruled {l = l} order at (Err fault) k m g = fell order (raised fault at) l
 
 -- what is asked
-pub asked : {A : Type 0} {Keeps : Local → Local → Type 0} {l : Local} {go on : Result Value Raised → Run A} → Order Keeps → (q : Question)
-    → ((a : Result Value Raised) → From Keeps l (go a) (on a)) → From Keeps l (Ask q go) (Ask q on)
-asked {go = go} {on = on} order q g = record { alike = asks q go on (λ a. (g a).alike) }
+pub asked : {A : Type 0} {Keeps : Local → Local → Type 0} {l : Local} {go go' : Result Value Raised → Run A} → Order Keeps → (q : Question)
+    → ((a : Result Value Raised) → From Keeps l (go a) (go' a)) → From Keeps l (Ask q go) (Ask q go')
+asked {go = go} {go' = go'} order q g = record { alike = asks q go go' (λ a. (g a).alike) }
 
 -- a body, and then the caller again
 

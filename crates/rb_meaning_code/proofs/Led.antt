@@ -3,7 +3,7 @@ use Rattle.std.proofs.Common.{◌≡◌, inl, inr, refl, sym, subst}
 use Rattle.std.specs.Prelude.{Result, Ok, Err}
 use Rattle.rb_meaning_code.specs.Dialogue.{Dialogue, Done, Ask, AskBatch, Surroundings, Follows, Handler, handle}
 use Rattle.rb_meaning_code.specs.Laws.{Leaves, SameRun, ends, asks, lends, OfCode}
-use Rattle.rb_meaning_code.specs.Led.{LedBatchesLeaveLater, LedBatchesKeepFuel, LedLater, LedSameWithinMoreGas, Agrees, AnswersAs, Passes, here, answered, performed, EndsAsHandled, IsCutAsHandled, RestEndsAsWhole}
+use Rattle.rb_meaning_code.specs.Led.{LedBatchesLeaveLater, LedBatchesKeepFuel, LedLater, LedSameWithinMoreGas, Agrees, AnswersAs, Passes, here, answered, performed, EndsAsHandled, IsCutAsHandled, RestsEndAsWhole}
 use Rattle.rb_meaning_code.proofs.OfCode.{so, code_leaves_later, same_within}
 
 -- what holds of whatever a run ends by holds of what it is led to
@@ -17,10 +17,10 @@ led_leaves R P later (AskBatch at l go) a w w' leaves (inr (x, e, is)) = absurd 
 -- runs that are the same are led the same
 pub led_same : {W X A : Type 0} {d e : Dialogue A} (R : Surroundings W X) → LedBatchesKeepFuel R → (r : Result A X) (w w' : W) → SameRun d e → Follows R d w r w' → Follows R e w r w'
 led_same R kept r w w' (ends a) led = led
-led_same R kept r w w' (asks q go on same) (inl (a, mid, e, led)) = inl (a, mid, e, led_same R kept r mid w' (same a) led)
-led_same R kept r w w' (asks q go on same) (inr cut) = inr cut
-led_same R kept r w w' (lends at l go on same) (inl (o, mid, e, led)) = inl (o, mid, e, led_same R kept r mid w' (same o (kept w mid at l o e)) led)
-led_same R kept r w w' (lends at l go on same) (inr cut) = inr cut
+led_same R kept r w w' (asks q go go' same) (inl (a, mid, e, led)) = inl (a, mid, e, led_same R kept r mid w' (same a) led)
+led_same R kept r w w' (asks q go go' same) (inr cut) = inr cut
+led_same R kept r w w' (lends at l go go' same) (inl (o, mid, e, led)) = inl (o, mid, e, led_same R kept r mid w' (same o (kept w mid at l o e)) led)
+led_same R kept r w w' (lends at l go go' same) (inr cut) = inr cut
 
 pub led_later : {W X : Type 0} (R : Surroundings W X) → LedBatchesLeaveLater R → OfCode (LedLater R)
 led_later R lawful = so (λ A meaning law gas l o w w' led. led_leaves R _ lawful (meaning gas l) o w w' (law gas l) led) code_leaves_later
@@ -30,7 +30,7 @@ led_the_same R kept = so (λ A meaning law gas more l r w w' enough too led. led
 
 -- where a handler answers as the surroundings do
 
-pub ends_as_handled : {W X S A : Type 0} (Sees : W → S → Type 0) (R : Surroundings W X) (h : Handler S) → AnswersAs Sees R h → EndsAsHandled Sees R h A
+pub ends_as_handled : {W X S A : Type 0} (Sees : W → S → Type 0) (R : Surroundings W X) (h : Handler S) → AnswersAs Sees R h → (d : Dialogue A) → EndsAsHandled Sees R h d
 ends_as_handled Sees R h tells (Done b) w w' s a sees led = (cc (led.0), subst (λ v. Sees v s) (sym led.1) sees)
 ends_as_handled Sees R h tells (Ask q go) w w' s a sees (inl (b, mid, e, led)) =
     let same = tells.questions w mid s q b sees e in
@@ -41,7 +41,7 @@ ends_as_handled Sees R h tells (AskBatch at l go) w w' s a sees (inl (o, mid, e,
     subst (λ x. Agrees Sees a w' (handle h (go x) (h.batch s at l).1)) same.0 (ends_as_handled Sees R h tells (go o) mid w' (h.batch s at l).1 a same.1 led)
 ends_as_handled Sees R h tells (AskBatch at l go) w w' s a sees (inr (x, e, is)) = absurd (cc (is))
 
-pub is_cut_as_handled : {W X S A : Type 0} (Sees : W → S → Type 0) (R : Surroundings W X) (h : Handler S) → AnswersAs Sees R h → IsCutAsHandled Sees R h A
+pub is_cut_as_handled : {W X S A : Type 0} (Sees : W → S → Type 0) (R : Surroundings W X) (h : Handler S) → AnswersAs Sees R h → (d : Dialogue A) → IsCutAsHandled Sees R h d
 is_cut_as_handled Sees R h tells (Done b) w w' s x sees led = absurd (cc (led.0))
 is_cut_as_handled Sees R h tells (Ask q go) w w' s x sees (inl (b, mid, e, led)) =
     let same = tells.questions w mid s q b sees e in
@@ -60,7 +60,7 @@ is_cut_as_handled Sees R h tells (AskBatch at l go) w w' s x sees (inr (y, e, is
     let same : y ≡ x = cc (is) in
     record { rest = AskBatch at l go; state = s; before = w; passes = here (AskBatch at l go) s; seen = sees; cut = subst (λ z. R.performs w at l (Err z) w') same e }
 
-pub rest_ends_as_whole : {S A : Type 0} (h : Handler S) → RestEndsAsWhole h A
+pub rest_ends_as_whole : {S A : Type 0} → RestsEndAsWhole S A
 rest_ends_as_whole h _ _ _ _ (here d s) = refl
 rest_ends_as_whole h _ _ _ _ (answered q go s s' rest p) = rest_ends_as_whole h _ rest _ s' p
 rest_ends_as_whole h _ _ _ _ (performed at l go s s' rest p) = rest_ends_as_whole h _ rest _ s' p

@@ -8,13 +8,13 @@ use Rattle.rb_meaning_code.proofs.Orders.{KeepsFuel}
 
 pub leaves : {A : Type 0} {P : A → Type 0} {d e : Dialogue A} → Alike Later P d e → Leaves P d
 leaves (alike.ends a p) = p
-leaves (alike.asks q go on h) = λ a. leaves (h a)
-leaves (alike.lends at l go on h) = λ o later. leaves (h o later)
+leaves (alike.asks q go go' h) = λ a. leaves (h a)
+leaves (alike.lends at l go go' h) = λ o later. leaves (h o later)
 
 pub same_run : {A : Type 0} {P : A → Type 0} {d e : Dialogue A} → Alike KeepsFuel P d e → SameRun d e
 same_run (alike.ends a p) = ends a
-same_run (alike.asks q go on h) = asks q go on (λ a. same_run (h a))
-same_run (alike.lends at l go on h) = lends at l go on (λ o kept. same_run (h o kept))
+same_run (alike.asks q go go' h) = asks q go go' (λ a. same_run (h a))
+same_run (alike.lends at l go go' h) = lends at l go go' (λ o kept. same_run (h o kept))
 
 -- under a handler
 
@@ -25,5 +25,5 @@ handled_leaves h P later (AskBatch at l go) s leaves = handled_leaves h P later 
 
 pub handled_same : {S A : Type 0} {d e : Dialogue A} (h : Handler S) → BatchesKeepFuel h → (s : S) → SameRun d e → handle h d s ≡ handle h e s
 handled_same h kept s (ends a) = refl
-handled_same h kept s (asks q go on same) = handled_same h kept (h.answer s q).1 (same (h.answer s q).0)
-handled_same h kept s (lends at l go on same) = handled_same h kept (h.batch s at l).1 (same (h.batch s at l).0 (kept s at l))
+handled_same h kept s (asks q go go' same) = handled_same h kept (h.answer s q).1 (same (h.answer s q).0)
+handled_same h kept s (lends at l go go' same) = handled_same h kept (h.batch s at l).1 (same (h.batch s at l).0 (kept s at l))

@@ -70,10 +70,10 @@ called_alike x at receiver _ name args l r = call_alike x at receiver name args 
 
 -- expressions
 
-decided_alike : {Keeps : Local → Local → Type 0} {l : Local} → Order Keeps → (decided : Option Value) (go on : Local → Run Value) → From Keeps l (go l) (on l)
-    → From Keeps l (decided_or decided go l) (decided_or decided on l)
-decided_alike {l = l} order (Some v) go on f = gave order v l
-decided_alike order None go on f = f
+decided_alike : {Keeps : Local → Local → Type 0} {l : Local} → Order Keeps → (decided : Option Value) (go go' : Local → Run Value) → From Keeps l (go l) (go' l)
+    → From Keeps l (decided_or decided go l) (decided_or decided go' l)
+decided_alike {l = l} order (Some v) go go' f = gave order v l
+decided_alike order None go go' f = f
 
 constructs_alike : {Keeps : Local → Local → Type 0} {classes : List Class} {gas more : ℕ} → Gases Keeps classes gas more
     → (at : ℕ) (name : List ℕ) (values : List Value) (l : Local) → From Keeps l (constructs (bodies_of classes gas) at name values l) (constructs (bodies_of classes more) at name values l)

@@ -42,9 +42,9 @@ Leaves P (AskBatch at l go) = (o : Outcome (Unit {0})) → Later l (state_of o) 
 -- ends count that leave no more fuel than it was lent.
 pub data SameRun {A : Type 0} : Dialogue A → Dialogue A → Type 0 where
   ends : (a : A) → SameRun (Done a) (Done a)
-  asks : (q : Question) (go on : Result Value Raised → Dialogue A) → ((a : Result Value Raised) → SameRun (go a) (on a)) → SameRun (Ask q go) (Ask q on)
-  lends : (at : ℕ) (l : Local) (go on : Outcome (Unit {0}) → Dialogue A) → ((o : Outcome (Unit {0})) → (state_of o).fuel ≤ l.fuel → SameRun (go o) (on o))
-      → SameRun (AskBatch at l go) (AskBatch at l on)
+  asks : (q : Question) (go go' : Result Value Raised → Dialogue A) → ((a : Result Value Raised) → SameRun (go a) (go' a)) → SameRun (Ask q go) (Ask q go')
+  lends : (at : ℕ) (l : Local) (go go' : Outcome (Unit {0}) → Dialogue A) → ((o : Outcome (Unit {0})) → (state_of o).fuel ≤ l.fuel → SameRun (go o) (go' o))
+      → SameRun (AskBatch at l go) (AskBatch at l go')
 
 -- what code means within a gas, from a local state
 abbrev pub Meaning : Type 0 → Type 0
@@ -69,23 +69,27 @@ LeavesLater A meaning = (gas : ℕ) (l : Local) → Leaves (λ o. Later l (state
 abbrev pub SameWithinMoreGas : (A : Type 0) → Meaning A → Type 0
 SameWithinMoreGas A meaning = (gas more : ℕ) (l : Local) → l.fuel ≤ gas → l.fuel ≤ more → SameRun (meaning gas l) (meaning more l)
 
--- The handler's batches leave later states than they were lent; or no more fuel.
+-- The batches that the handler performs leave later local states than they were lent.
 abbrev pub BatchesLeaveLater : {S : Type 0} → Handler S → Type 0
 BatchesLeaveLater h = (s : _) (at : ℕ) (l : Local) → Later l (state_of (h.batch s at l).0)
 
+-- The batches that the handler performs leave no more fuel than they were lent.
 abbrev pub BatchesKeepFuel : {S : Type 0} → Handler S → Type 0
 BatchesKeepFuel h = (s : _) (at : ℕ) (l : Local) → (state_of (h.batch s at l).0).fuel ≤ l.fuel
 
--- what both say where a handler answers
+-- Under the handler it leaves only later local states.
 abbrev pub HandledLater : {S : Type 0} → Handler S → (A : Type 0) → Meaning A → Type 0
 HandledLater {S = S} h A meaning = (gas : ℕ) (l : Local) (s : S) → Later l (state_of (handle h (meaning gas l) s).0)
 
+-- Under the handler it ends the same within each gas that is at least the fuel.
 abbrev pub HandledSameWithinMoreGas : {S : Type 0} → Handler S → (A : Type 0) → Meaning A → Type 0
-HandledSameWithinMoreGas {S = S} h A meaning = (gas more : ℕ) (l : Local) (s : S) → l.fuel ≤ gas → l.fuel ≤ more → handle h (meaning gas l) s ≡ handle h (meaning more l) s
+HandledSameWithinMoreGas {S = S} h A meaning = (gas more : ℕ) (l : Local) (s : S) → l.fuel ≤ gas → l.fuel ≤ more
+    → handle h (meaning gas l) s ≡ handle h (meaning more l) s
 
--- Later than itself, and than whatever is earlier.
+-- A local state is later than itself.
 abbrev pub IsReflexive : Type 0
 IsReflexive = (l : Local) → Later l l
 
+-- What is later than a later local state is later.
 abbrev pub IsTransitive : Type 0
 IsTransitive = (a b c : Local) → Later a b → Later b c → Later a c

@@ -6,10 +6,11 @@ use Rattle.rb_meaning_code.specs.State.{Local}
 use Rattle.rb_meaning_code.specs.Dialogue.{Question, Outcome, Dialogue, Done, Ask, AskBatch, Surroundings, Follows, Handler, handle}
 use Rattle.rb_meaning_code.specs.Laws.{Later, state_of, Meaning}
 
--- The surroundings' batches leave later states than they were lent; or no more fuel.
+-- The batches that the surroundings perform leave later local states than they were lent.
 abbrev pub LedBatchesLeaveLater : {W X : Type 0} → Surroundings W X → Type 0
 LedBatchesLeaveLater {W = W} R = (w w' : W) (at : ℕ) (l : Local) (o : Outcome (Unit {0})) → R.performs w at l (Ok o) w' → Later l (state_of o)
 
+-- The batches that the surroundings perform leave no more fuel than they were lent.
 abbrev pub LedBatchesKeepFuel : {W X : Type 0} → Surroundings W X → Type 0
 LedBatchesKeepFuel {W = W} R = (w w' : W) (at : ℕ) (l : Local) (o : Outcome (Unit {0})) → R.performs w at l (Ok o) w' → (state_of o).fuel ≤ l.fuel
 
@@ -54,15 +55,22 @@ pub record IsCutWithin {W X S A : Type 0} (Sees : W → S → Type 0) (R : Surro
   pub seen : Sees before state
   pub cut : CutsOff R rest before x w'
 
--- A run that is led to its end ends as under the handler, and the surroundings are then seen as its state.
-abbrev pub EndsAsHandled : {W X S : Type 0} → (W → S → Type 0) → Surroundings W X → Handler S → (A : Type 0) → Type 0
-EndsAsHandled {W = W} {S = S} Sees R h A = (d : Dialogue A) (w w' : W) (s : S) (a : A) → Sees w s → Follows R d w (Ok a) w' → Agrees Sees a w' (handle h d s)
+-- Where the run is led to its end, it ends as under the handler, and the surroundings are then seen as its state.
+abbrev pub EndsAsHandled : {W X S A : Type 0} → (W → S → Type 0) → Surroundings W X → Handler S → Dialogue A → Type 0
+EndsAsHandled {W = W} {S = S} {A = A} Sees R h d = (w w' : W) (s : S) (a : A) → Sees w s → Follows R d w (Ok a) w' → Agrees Sees a w' (handle h d s)
 
--- A run that is cut off is so at something that it passes under the handler.
-abbrev pub IsCutAsHandled : {W X S : Type 0} → (W → S → Type 0) → Surroundings W X → Handler S → (A : Type 0) → Type 0
-IsCutAsHandled {W = W} {X = X} {S = S} Sees R h A =
-    (d : Dialogue A) (w w' : W) (s : S) (x : X) → Sees w s → Follows R d w (Err x) w' → IsCutWithin Sees R h d s x w'
+-- Where the run is cut off, it is so at something that it passes under the handler.
+abbrev pub IsCutAsHandled : {W X S A : Type 0} → (W → S → Type 0) → Surroundings W X → Handler S → Dialogue A → Type 0
+IsCutAsHandled {W = W} {X = X} {S = S} Sees R h d = (w w' : W) (s : S) (x : X) → Sees w s → Follows R d w (Err x) w' → IsCutWithin Sees R h d s x w'
+
+-- Under each handler that answers as the surroundings do, runs end as those lead them.
+abbrev pub RunsEndAsHandled : {W X S : Type 0} → (W → S → Type 0) → Surroundings W X → (A : Type 0) → Type 0
+RunsEndAsHandled {S = S} Sees R A = (h : Handler S) → AnswersAs Sees R h → (d : Dialogue A) → EndsAsHandled Sees R h d
+
+-- Under each handler that answers as the surroundings do, runs pass what those cut off.
+abbrev pub RunsAreCutAsHandled : {W X S : Type 0} → (W → S → Type 0) → Surroundings W X → (A : Type 0) → Type 0
+RunsAreCutAsHandled {S = S} Sees R A = (h : Handler S) → AnswersAs Sees R h → (d : Dialogue A) → IsCutAsHandled Sees R h d
 
 -- What is left of a run ends under the handler as the whole.
-abbrev pub RestEndsAsWhole : {S : Type 0} → Handler S → (A : Type 0) → Type 0
-RestEndsAsWhole {S = S} h A = (d rest : Dialogue A) (s s' : S) → Passes h d s rest s' → handle h rest s' ≡ handle h d s
+abbrev pub RestsEndAsWhole : (S A : Type 0) → Type 0
+RestsEndAsWhole S A = (h : Handler S) (d rest : Dialogue A) (s s' : S) → Passes h d s rest s' → handle h rest s' ≡ handle h d s

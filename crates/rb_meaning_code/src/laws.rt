@@ -2,7 +2,7 @@
 
 ghost use Rattle.rb_meaning_code.specs.Dialogue.{Handler};
 ghost use Rattle.rb_meaning_code.specs.Laws.{IsReflexive, IsTransitive, OfCode, LeavesLater, SameWithinMoreGas, BatchesLeaveLater, BatchesKeepFuel, HandledLater, HandledSameWithinMoreGas};
-ghost use Rattle.rb_meaning_code.specs.Led.{LedBatchesLeaveLater, LedBatchesKeepFuel, LedLater, LedSameWithinMoreGas, AnswersAs, EndsAsHandled, IsCutAsHandled, RestEndsAsWhole};
+ghost use Rattle.rb_meaning_code.specs.Led.{LedBatchesLeaveLater, LedBatchesKeepFuel, LedLater, LedSameWithinMoreGas, RunsEndAsHandled, RunsAreCutAsHandled, RestsEndAsWhole};
 ghost use Rattle.rb_meaning_code.specs.Leads.{leads};
 
 use crate::surroundings::{SeenAs, Surroundings};
@@ -43,10 +43,10 @@ pub fn more_gas_is_led_the_same<W: Surroundings>()
     ensures { LedBatchesKeepFuel (leads W.Surroundings) → OfCode (LedSameWithinMoreGas (leads W.Surroundings)) }
 {}
 
-/// A handler that answers as surroundings do, where they are seen as its state, ends each run as they do, and passes
-/// what they cut off.
+/// Under a handler that answers as surroundings do, where they are seen as its state, each run ends as they lead it,
+/// and passes what they cut off; what is left of it there ends as the whole.
 pub fn led_runs_are_handled<W: SeenAs<S>, S, A>()
-    ensures ended { (h : Handler S) → AnswersAs W.sees (leads W.Surroundings) h → EndsAsHandled W.sees (leads W.Surroundings) h A }
-    ensures cut { (h : Handler S) → AnswersAs W.sees (leads W.Surroundings) h → IsCutAsHandled W.sees (leads W.Surroundings) h A }
-    ensures rest { (h : Handler S) → RestEndsAsWhole h A }
+    ensures ended { RunsEndAsHandled W.sees (leads W.Surroundings) A }
+    ensures cut { RunsAreCutAsHandled W.sees (leads W.Surroundings) A }
+    ensures rest { RestsEndAsWhole S A }
 {}
