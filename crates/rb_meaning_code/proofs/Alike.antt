@@ -20,13 +20,13 @@ pub data Alike {A : Type 0} (Keeps : Local → Local → Type 0) (P : A → Type
       → Alike Keeps P (AskBatch at l go) (AskBatch at l go')
 
 -- what follows runs that are alike
-pub alike_seq : {A B : Type 0} {Keeps : Local → Local → Type 0} {P : A → Type 0} {Q : B → Type 0} {d e : Dialogue A} {k m : A → Dialogue B}
+alike_seq : {A B : Type 0} {Keeps : Local → Local → Type 0} {P : A → Type 0} {Q : B → Type 0} {d e : Dialogue A} {k m : A → Dialogue B}
     → Alike Keeps P d e → ((a : A) → P a → Alike Keeps Q (k a) (m a)) → Alike Keeps Q (seq d k) (seq e m)
 alike_seq (ends a p) f = f a p
 alike_seq {k = k} {m = m} (asks q go go' h) f = asks q (λ a. seq (go a) k) (λ a. seq (go' a) m) (λ a. alike_seq (h a) f)
 alike_seq {k = k} {m = m} (lends at l go go' h) f = lends at l (λ o. seq (go o) k) (λ o. seq (go' o) m) (λ o kept. alike_seq (h o kept) f)
 
-pub weaker : {A : Type 0} {Keeps : Local → Local → Type 0} {P Q : A → Type 0} {d e : Dialogue A} → ((a : A) → P a → Q a) → Alike Keeps P d e → Alike Keeps Q d e
+weaker : {A : Type 0} {Keeps : Local → Local → Type 0} {P Q : A → Type 0} {d e : Dialogue A} → ((a : A) → P a → Q a) → Alike Keeps P d e → Alike Keeps Q d e
 weaker f (ends a p) = ends a (f a p)
 weaker f (asks q go go' h) = asks q go go' (λ a. weaker f (h a))
 weaker f (lends at l go go' h) = lends at l go go' (λ o kept. weaker f (h o kept))

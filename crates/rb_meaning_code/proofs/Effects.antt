@@ -40,7 +40,7 @@ told_alike order l (Ok v) = gave order tt l
 told_alike order l (Err r) = fell order r l
 
 -- a name more
-pub bound_alike : {Keeps : Local → Local → Type 0} → Order Keeps → (name : List ℕ) (v : Value) (l : Local) → From Keeps l (nothing (bound name v l)) (nothing (bound name v l))
+bound_alike : {Keeps : Local → Local → Type 0} → Order Keeps → (name : List ℕ) (v : Value) (l : Local) → From Keeps l (nothing (bound name v l)) (nothing (bound name v l))
 bound_alike order name v l = earlier order (order.names l _) (gave order tt (bound name v l))
 
 -- conditions and units of fuel
@@ -59,7 +59,7 @@ unit_alike order at l first second f = ruled order at (unit_due l.fuel) _ _ (λ 
 
 -- loops
 
-pub while_alike : {Keeps : Local → Local → Type 0} {gas more : ℕ} {condition condition' : Local → Run Value} {body body' : Effect} → Order Keeps → Each Keeps gas more condition condition' → Each Keeps gas more body body'
+while_alike : {Keeps : Local → Local → Type 0} {gas more : ℕ} {condition condition' : Local → Run Value} {body body' : Effect} → Order Keeps → Each Keeps gas more condition condition' → Each Keeps gas more body body'
     → (turns turns' at : ℕ) (l : Local) → Reach gas more l.fuel → Reach turns turns' (l.fuel + 1) → From Keeps l (while_turns turns at condition body l) (while_turns turns' at condition' body' l)
 while_alike order c b zero zero at l r t = fell order (raised fuel_used at) l
 while_alike order c b zero (suc m) at l r (one same) = absurd (cc (same))

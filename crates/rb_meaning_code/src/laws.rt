@@ -18,12 +18,12 @@ pub fn code_leaves_later_states()
     ensures { OfCode LeavesLater }
 {}
 
-/// The same under a handler whose batches leave later local states.
+/// Under a handler whose batches leave later local states, code leaves only those too.
 pub fn handled_code_leaves_later_states<S>()
     ensures { (h : Handler S) → BatchesLeaveLater h → OfCode (HandledLater h) }
 {}
 
-/// The same where surroundings lead whose batches leave later local states.
+/// Where surroundings lead whose batches leave later local states, code leaves only those too.
 pub fn led_code_leaves_later_states<W: Surroundings>()
     ensures { LedBatchesLeaveLater (leads W.Surroundings) → OfCode (LedLater (leads W.Surroundings)) }
 {}
@@ -33,12 +33,12 @@ pub fn more_gas_is_the_same_run()
     ensures { OfCode SameWithinMoreGas }
 {}
 
-/// The same under a handler whose batches keep fuel: from each of its states it ends alike.
+/// Under a handler whose batches keep fuel, code ends alike within each gas that is at least the fuel.
 pub fn more_gas_is_handled_the_same<S>()
     ensures { (h : Handler S) → BatchesKeepFuel h → OfCode (HandledSameWithinMoreGas h) }
 {}
 
-/// The same where surroundings lead whose batches keep fuel: they lead it alike.
+/// Surroundings whose batches keep fuel lead code alike within each gas that is at least the fuel.
 pub fn more_gas_is_led_the_same<W: Surroundings>()
     ensures { LedBatchesKeepFuel (leads W.Surroundings) → OfCode (LedSameWithinMoreGas (leads W.Surroundings)) }
 {}

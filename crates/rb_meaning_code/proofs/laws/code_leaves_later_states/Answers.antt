@@ -1,3 +1,4 @@
+-- What all code leaves.
 use Rattle.rb_meaning_code.proofs.OfCode.{code_leaves_later}
 use Rattle.rb_meaning_code.proofs.laws.code_leaves_later_states.Goals as goal
 

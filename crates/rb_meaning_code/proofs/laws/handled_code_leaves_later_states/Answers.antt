@@ -1,3 +1,4 @@
+-- What all code leaves under a handler.
 use Rattle.rb_meaning_code.proofs.OfCode.{handled_later}
 use Rattle.rb_meaning_code.proofs.laws.handled_code_leaves_later_states.Goals as goal
 

@@ -1,3 +1,4 @@
+-- Both hold of each of the three facts of later states.
 use Rattle.rb_meaning_code.proofs.Orders.{later_same, later_on}
 use Rattle.rb_meaning_code.proofs.laws.later_is_an_order.Goals as goal
 

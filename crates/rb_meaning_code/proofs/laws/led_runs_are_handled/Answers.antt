@@ -1,3 +1,4 @@
+-- Each clause holds by induction on the run.
 use Rattle.rb_meaning_code.specs.Leads.{leads}
 use Rattle.rb_meaning_code.proofs.Led.{ends_as_handled, is_cut_as_handled, rest_ends_as_whole}
 use Rattle.rb_meaning_code.proofs.laws.led_runs_are_handled.Goals as goal

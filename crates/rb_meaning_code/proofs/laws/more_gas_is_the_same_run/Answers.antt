@@ -1,3 +1,4 @@
+-- All code within two gases.
 use Rattle.rb_meaning_code.proofs.OfCode.{same_within}
 use Rattle.rb_meaning_code.proofs.laws.more_gas_is_the_same_run.Goals as goal
 
