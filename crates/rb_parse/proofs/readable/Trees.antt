@@ -1,6 +1,6 @@
 -- The trees that reading gives, by the trees alone: no literal is negative but the least Int directly behind a minus,
 -- and no more marks, blocks and types are open than the limits allow.
-use Rattle.std.specs.Prelude.{ℕ, ◌≡◌, ◌≤◌, ◌+◌, suc, nat_lt, length, ℤ, pos, negsuc, Bool, true, false, cond, Option, None, Some}
+use Rattle.std.specs.Prelude.{ℕ, ◌≡◌, ◌≤◌, ◌+◌, suc, nat_lt, ℤ, pos, negsuc, Bool, true, false, cond, Option, None, Some}
 use Rattle.std.specs.List.{All}
 use Rattle.rb_trees.specs.Spelling.{IsName}
 use Rattle.rb_trees.specs.declared.code.UnOp.{UnOp}
