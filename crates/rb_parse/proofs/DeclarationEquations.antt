@@ -1,5 +1,5 @@
 -- What reading declarations is.
-use Rattle.std.proofs.Common.{◌≡◌, ℕ, Bool, true, false, cond, List, [], ◌∷◌, length, refl, ap, ◌∙◌, Some, None, Ok, Err}
+use Rattle.std.proofs.Common.{◌≡◌, ℕ, true, false, cond, List, [], ◌∷◌, length, refl, ap, ◌∙◌, Some, None, Ok}
 use Rattle.rb_trees.specs.declared.tokens.Token.{Token}
 use Rattle.rb_trees.specs.declared.tokens.TokenKind.{TokenKind}
 use Rattle.rb_trees.specs.declared.tokens.TokenKind.TheVariants as kind
@@ -20,7 +20,7 @@ use Rattle.rb_parse.specs.Table.{begins, may_be_empty, cases, otherwise}
 use Rattle.rb_parse.specs.Reading.{Read, ◌>>=◌, take_kind, read_of, taken, next_in, on_taken}
 use Rattle.rb_parse.specs.Blocks.{expression_to_end}
 use Rattle.rb_parse.specs.Heads.{result_of, signature_to_end, field_to_end, next_param, params_to_close, headed_of, params_on}
-use Rattle.rb_parse.proofs.Equations.{reads_by, taken_bind, bind_bind, bind_ok}
+use Rattle.rb_parse.proofs.Equations.{reads_by, taken_bind, bind_bind, bind_ok, token_told}
 use Rattle.rb_parse.proofs.ItemLists.{IsListed, ItemList, listed_on}
 
 abbrev typed_at : ℕ → (ℕ → TypeTree) × List Token → Read TypeTree
@@ -64,13 +64,9 @@ pub program_is : (source : List ℕ) (ts : List Token) → read_of source s.TheP
 unfolding cases otherwise result_of
 program_is source ts = simp bind_bind (reads_by source s.TheProgram ts)
 
-token_one : {A : Type 0} (e : Bool) (t : Token) (ts : List Token) (n : ℕ) (g : Token × List Token → Read A) (other : Read A) → on_taken (cond e (Some (t, ts)) None) g other ≡ cond (cond e true false) (◌>>=◌ {A = Token × List Token} (cond e (Ok (t, ts)) (Err n)) g) other
-token_one true t ts n g other = refl
-token_one false t ts n g other = refl
-
 token_next : {A : Type 0} (kind : TokenKind) (g : Token × List Token → Read A) (other : Read A) (ts : List Token) → on_taken (taken kind ts) g other ≡ cond (next_in (kind ∷ []) ts) (take_kind kind ts >>= g) other
 token_next kind g other [] = refl
-token_next kind g other (t ∷ ts) = token_one (is_kind t.kind kind) t ts (length (t ∷ ts)) g other
+token_next kind g other (t ∷ ts) = token_told (is_kind t.kind kind) t ts (length (t ∷ ts)) g other
 
 -- the lists of declarations, item by item
 

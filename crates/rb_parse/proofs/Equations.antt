@@ -31,11 +31,15 @@ abbrev pub by_cases : {source : List ℕ} {p : Nonterminal} → Reader → List 
 by_cases R [] d ts = by_choice R d ts
 by_cases {p = p} R (c ∷ cs) d ts = by_parts R c.parts (TreeOf p) c.makes ts (by_cases R cs d ts)
 
-module _ (R : Reader) where
-  token_told : {A : Type 0} (e : Bool) (t : Token) (ts : List Token) (n : ℕ) (g : Token × List Token → Read A) (other : Read A) → on_taken (cond e (Some (t, ts)) None) g other ≡ cond (cond e true false) (◌>>=◌ {A = Token × List Token} (cond e (Ok (t, ts)) (Err n)) g) other
-  token_told true t ts n g other = refl
-  token_told false t ts n g other = refl
+pub token_told : {A : Type 0} (e : Bool) (t : Token) (ts : List Token) (n : ℕ) (g : Token × List Token → Read A) (other : Read A) → on_taken (cond e (Some (t, ts)) None) g other ≡ cond (cond e true false) (◌>>=◌ {A = Token × List Token} (cond e (Ok (t, ts)) (Err n)) g) other
+token_told true t ts n g other = refl
+token_told false t ts n g other = refl
 
+pub cond_bind : {A B : Type 0} (b : Bool) (x y : Result A ℕ) (g : A → Result B ℕ) → (cond b x y >>= g) ≡ cond b (x >>= g) (y >>= g)
+cond_bind true x y g = refl
+cond_bind false x y g = refl
+
+module _ (R : Reader) where
   parts_told : (l : List Symbol) (T : Type 0) (f : Makes l T) (t : Token) (ts : List Token) (other : Read T) → by_parts R l T f (t ∷ ts) other ≡ cond (is_one_of t.kind (all_begin l)) (read_into R l T f (t ∷ ts)) other
   parts_told [] T f t ts other = refl
   parts_told (Terminal kind ∷ l) T f t ts other = token_told (is_kind t.kind kind) t ts (length (t ∷ ts)) (λ x. read_into R l T (f x.0) x.1) other

@@ -1,9 +1,9 @@
 -- Lists that are read item by item, as long as the next token begins one.
-use Rattle.std.proofs.Common.{◌≡◌, ℕ, Bool, true, false, cond, List, [], ◌∷◌, ◌++◌, map, refl, ap, ◌∙◌, Result, Ok, append-nil}
+use Rattle.std.proofs.Common.{◌≡◌, ℕ, true, false, cond, List, [], ◌∷◌, ◌++◌, map, refl, ap, ◌∙◌, Ok, append-nil}
 use Rattle.rb_trees.specs.declared.tokens.Token.{Token}
 use Rattle.rb_trees.specs.declared.tokens.TokenKind.{TokenKind}
 use Rattle.rb_parse.specs.Reading.{Read, ◌>>=◌, next_in}
-use Rattle.rb_parse.proofs.Equations.{bind_bind, bind_ok}
+use Rattle.rb_parse.proofs.Equations.{bind_bind, bind_ok, cond_bind}
 
 -- The list is one item and those that follow it, as long as the next token begins one.
 abbrev pub IsListed : {A : Type 0} → List TokenKind → (List Token → Read A) → (List Token → Read (List A)) → Type 0
@@ -20,10 +20,6 @@ pub record ItemList (A R : Type 0) : Type 0 where
 -- the items so far with those that follow
 unfoldable pub listed_on : {A R : Type 0} → ItemList A R → List ℕ → List R → List Token → Read (List A)
 listed_on l source xs ts = l.list source ts >>= λ m. Ok (map l.view xs ++ m.0, m.1)
-
-cond_bind : {A B : Type 0} (b : Bool) (x y : Result A ℕ) (g : A → Result B ℕ) → (cond b x y >>= g) ≡ cond b (x >>= g) (y >>= g)
-cond_bind true x y g = refl
-cond_bind false x y g = refl
 
 map_last : {A R : Type 0} (view : R → A) (xs : List R) (x : R) (l : List A) → map view (xs ++ x ∷ []) ++ l ≡ map view xs ++ (view x ∷ l)
 map_last view [] x l = refl

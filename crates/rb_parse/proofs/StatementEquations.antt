@@ -1,5 +1,5 @@
 -- What reading statements is.
-use Rattle.std.proofs.Common.{◌≡◌, ℕ, Bool, true, false, cond, List, [], ◌∷◌, ◌++◌, refl, ap, sym, ◌∙◌, Result, Ok, Err}
+use Rattle.std.proofs.Common.{◌≡◌, ℕ, true, false, cond, List, [], ◌∷◌, ◌++◌, refl, ap, sym, ◌∙◌, Ok, Err}
 use Rattle.rb_trees.specs.declared.tokens.Token.{Token}
 use Rattle.rb_trees.specs.declared.code.Stmt as stmt
 use Rattle.rb_trees.specs.mirror.Code as code
@@ -10,7 +10,7 @@ use Rattle.rb_parse.specs.Table.{begins, may_be_empty, statement_kinds, cases, o
 use Rattle.rb_parse.specs.Reading.{Read, ◌>>=◌, take_kind, read_of, taken, next_in, on_taken}
 use Rattle.rb_parse.specs.Parts.{expression_to_close}
 use Rattle.rb_parse.specs.Blocks.{expression_to_end, named_value_of, condition_of, printed_of, ended_of, simple_of, if_of, while_of, each_of, for_of, caught_of, try_of, rooted_of, batch_of, put_stmts, statements_on}
-use Rattle.rb_parse.proofs.Equations.{reads_by, taken_bind, bind_bind, bind_ok}
+use Rattle.rb_parse.proofs.Equations.{reads_by, taken_bind, bind_bind, bind_ok, cond_bind}
 
 abbrev end_with : Expr → (Expr → Stmt) × List Token → Read Stmt
 end_with left m = Ok (m.0 left, m.1)
@@ -47,10 +47,6 @@ put_stmts_all (y ∷ xs) = ap (code.MoreStmts (mirror_stmt y)) (put_stmts_all xs
 
 abbrev then_put : List stmt.Stmt → Stmts × List Token → Read Stmts
 then_put xs m = Ok (put_stmts xs m.0, m.1)
-
-cond_bind : {A B : Type 0} (b : Bool) (x y : Result A ℕ) (g : A → Result B ℕ) → (cond b x y >>= g) ≡ cond b (x >>= g) (y >>= g)
-cond_bind true x y g = refl
-cond_bind false x y g = refl
 
 statements_by : (source : List ℕ) (xs : List stmt.Stmt) (ts : List Token) → statements_on source xs ts ≡ cond (next_in statement_kinds ts) (read_of source s.Statement ts >>= λ a. read_of source s.Statements a.1 >>= λ m. Ok (put_stmts xs (code.MoreStmts a.0 m.0), m.1)) (Ok (put_stmts xs code.NoStmts, ts))
 unfolding cases otherwise begins may_be_empty statements_on

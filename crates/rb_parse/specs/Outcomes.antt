@@ -7,9 +7,9 @@ use Rattle.rb_trees.specs.mirror.Declarations.{Program}
 abbrev pub Outcome : Type 0
 Outcome = Result Program ReadError
 
--- There is at most one outcome of which this holds.
-abbrev pub AtMostOne : (Outcome → Type 0) → Type 0
-AtMostOne Has = (one other : Outcome) → Has one → Has other → one ≡ other
+-- There is at most one of which this holds.
+abbrev pub AtMostOne : {X : Type 0} → (X → Type 0) → Type 0
+AtMostOne {X} Has = (one other : X) → Has one → Has other → one ≡ other
 
 -- There is an outcome of which this holds.
 abbrev pub AtLeastOne : (Outcome → Type 0) → Type 0

@@ -1,17 +1,13 @@
 // Laws of the grammar that others rest on. They take no memory and do nothing.
 
-ghost use Rattle.std.specs.Prelude.{◌≤◌, ℕ, List, Ok, length};
+ghost use Rattle.std.specs.Prelude.{ℕ, List, Ok};
 ghost use Rattle.rb_trees.specs.declared.tokens.Token.{Token as Lexeme};
 ghost use Rattle.rb_trees.specs.mirror.Declarations.{Program as Tree};
-ghost use Rattle.rb_trees.specs.printing.Programs.{printed_program};
-ghost use Rattle.rb_meaning_bytes.specs.tokens.Texts.{IsTokens, longest_text};
-ghost use Rattle.rb_meaning_bytes.specs.grammar.Derives.{Derives};
-ghost use Rattle.rb_meaning_bytes.specs.grammar.Limits.{Within};
 ghost use Rattle.rb_meaning_bytes.specs.grammar.Refusals.{Read};
 ghost use Rattle.rb_meaning_bytes.specs.grammar.Sources.{ReadSource};
 ghost use Rattle.rb_meaning_types.specs.Lawful.{IsLawful};
 ghost use Rattle.rb_parse.specs.Outcomes.{AtMostOne, AtLeastOne};
-ghost use Rattle.rb_parse.specs.ReadsBack.{ReadsBack};
+ghost use Rattle.rb_parse.specs.ReadsBack.{PrintsShort, ReadsBack};
 
 /// A list of tokens has at most one outcome: a program, or a refusal.
 pub fn token_lists_have_one_outcome()
@@ -33,13 +29,13 @@ pub fn every_source_has_an_outcome()
     ensures { (source : List ℕ) → AtLeastOne (ReadSource source) }
 {}
 
-/// A program that the tokens of a source derive within the limits is lawful.
-pub fn derived_programs_are_lawful()
-    ensures { (source : List ℕ) → (tokens : List Lexeme) → (program : Tree) → IsTokens source tokens → Derives source tokens program → Within tokens → IsLawful program }
+/// A program that a source is read as is lawful.
+pub fn read_programs_are_lawful()
+    ensures { (source : List ℕ) → (program : Tree) → ReadSource source (Ok program) → IsLawful program }
 {}
 
 /// What is printed of a program that was read is read again, and as the same program but for positions, where its text
 /// isn't too long.
 pub fn printed_programs_read_back()
-    ensures { (source : List ℕ) → (program : Tree) → ReadSource source (Ok program) → length (printed_program program) ≤ longest_text → ReadsBack program }
+    ensures { (source : List ℕ) → (program : Tree) → ReadSource source (Ok program) → PrintsShort program → ReadsBack program }
 {}

@@ -19,8 +19,8 @@ mod types;
 mod values;
 
 pub use grammar_laws::{
-    derived_programs_are_lawful, every_source_has_an_outcome, every_token_list_has_an_outcome,
-    printed_programs_read_back, sources_have_one_outcome, token_lists_have_one_outcome,
+    every_source_has_an_outcome, every_token_list_has_an_outcome, printed_programs_read_back,
+    read_programs_are_lawful, sources_have_one_outcome, token_lists_have_one_outcome,
 };
 pub use reading::{parse_tokens, tokens_derive_one_program};
 pub use source::parse_program;

@@ -2,13 +2,14 @@
 
 ghost use Rattle.std.specs.Prelude.{◌≡◌, ◌<◌, ◌≤◌, ◌-◌, ◌+◌, ◌^◌, ℕ, List, length, take, drop};
 ghost use Rattle.rb_trees.specs.declared.tokens.Token.{Token as Lexeme};
-ghost use Rattle.rb_trees.specs.mirror.Declarations.{Program as Tree, mirror_program};
+ghost use Rattle.rb_trees.specs.mirror.Declarations.{mirror_program};
 ghost use Rattle.rb_trees.specs.Outcome.{Gives, Tells};
 ghost use Rattle.rb_trees.specs.Reading.{read_refusal};
 ghost use Rattle.rb_meaning_bytes.specs.grammar.Derives.{Derives};
 ghost use Rattle.rb_meaning_bytes.specs.grammar.Refusals.{Read, place_of};
 ghost use Rattle.rb_parse.specs.Reading.{program_of};
 ghost use Rattle.rb_parse.specs.Nested.{behind, cut_of, limited_of, refusal_told};
+ghost use Rattle.rb_parse.specs.Outcomes.{AtMostOne};
 
 use crate::declarations::program;
 use crate::limits::broken;
@@ -89,5 +90,5 @@ pub fn parse_tokens(alloc: Global, source: &[u8], tokens: &[Token]) -> Result<Pr
 
 /// A list of tokens derives at most one program.
 pub fn tokens_derive_one_program()
-    ensures { (source : List ℕ) → (tokens : List Lexeme) → (one : Tree) → (other : Tree) → Derives source tokens one → Derives source tokens other → one ≡ other }
+    ensures { (source : List ℕ) → (tokens : List Lexeme) → AtMostOne (Derives source tokens) }
 {}

@@ -27,9 +27,9 @@ Types result rule = Gives kind_of_form violation_of result rule
 abbrev pub Classes : Result (Bor class.Class) TypeError → Checked Class → Type 0
 Classes result rule = Gives (λ c. mirror_class c.now) violation_of result rule
 
--- A check that leaves the scope as it is: Ok exactly where the rule gives that scope, else its first violation.
-abbrev pub Leaves : List Variable → Result (Unit {0}) TypeError → Checked Scope → Type 0
-Leaves scope result rule = Gives (λ (u : Unit {0}). scope_of scope) violation_of result rule
+-- A check that leaves the scope as it is: Ok exactly where the rule does so, too, else its first violation.
+abbrev pub Leaves : (Scope → Checked Scope) → List Variable → Result (Unit {0}) TypeError → Type 0
+Leaves rule scope result = Gives (λ (u : Unit {0}). scope_of scope) violation_of result (rule (scope_of scope))
 
 -- what the checker keeps
 abbrev pub state_of : Checker → State

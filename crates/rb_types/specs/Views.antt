@@ -1,7 +1,9 @@
 -- What the checker's structs stand for in the definitions.
-use Rattle.std.specs.Prelude.{List, map, Option, Ok}
+use Rattle.std.specs.Prelude.{ℕ, List, map, Option, Ok}
 use Rattle.std.specs.Option.{option_map, option_copied}
+use Rattle.std.specs.Borrow.{Bor}
 use Rattle.rb_trees.specs.mirror.Declarations.{mirror_interface, mirror_class}
+use Rattle.rb_trees.specs.declared.declarations.Class as class
 use Rattle.rb_trees.specs.declared.code.Expr as code
 use Rattle.rb_trees.specs.mirror.Code.{Expr, mirror_expr}
 use Rattle.rb_types.specs.declared.kinds.Placed as placed
@@ -42,3 +44,14 @@ notes_of notes = map note_of notes
 -- what a body gives back, or nothing
 abbrev pub returned_of : Option code.Expr → Option Expr
 returned_of returned = option_map mirror_expr returned
+
+-- what is found, or nothing, seen by view
+abbrev pub found : {X Y : Type 0} → (X → Y) → Option (Bor X) → Option Y
+found view result = option_map view (option_copied result)
+
+-- the names of a class's fields and methods
+abbrev pub names_of_fields : class.Class → List (List ℕ)
+names_of_fields c = map (λ f. f.name) c.fields
+
+abbrev pub names_of_methods : class.Class → List (List ℕ)
+names_of_methods c = map (λ m. m.signature.name) c.methods

@@ -1,9 +1,9 @@
 // Classes with an index of their members.
 
 ghost use Rattle.std.specs.Prelude.{◌≡◌, map, IfOk};
-ghost use Rattle.std.specs.Option.{option_map, option_copied};
 ghost use Rattle.rb_trees.specs.mirror.Declarations.{mirror_param, mirror_method, mirror_class};
 ghost use Rattle.rb_meaning_types.specs.Names.{class_named, field_named, method_named};
+ghost use Rattle.rb_types.specs.Views.{found};
 
 use crate::words::Words;
 use rb_trees::{Class, Memory, Method, Param, Seq, Word, copy_word};
@@ -22,9 +22,10 @@ pub struct IndexedClass<'a> {
 }
 
 impl<'a> Model for IndexedClass<'a> {
-    ghost use Rattle.std.specs.Prelude.{◌≡◌, map};
+    ghost use Rattle.std.specs.Prelude.{◌≡◌};
     ghost use Rattle.rb_trees.specs.declared.declarations.Class.{Class};
     ghost use Rattle.rb_trees.specs.contracts.declarations.Class as class_code;
+    ghost use Rattle.rb_types.specs.Views.{names_of_fields, names_of_methods};
 
     ghost Value = { Class };
 
@@ -32,7 +33,7 @@ impl<'a> Model for IndexedClass<'a> {
 
     ghost view = { λ c. c.class.now };
 
-    ghost invariant = { λ c. (c.fields ≡ map (λ f. f.name) c.class.now.fields) × (c.methods ≡ map (λ m. m.signature.name) c.class.now.methods) };
+    ghost invariant = { λ c. (c.fields ≡ names_of_fields c.class.now) × (c.methods ≡ names_of_methods c.class.now) };
 }
 
 fn field_names(alloc: Global, fields: &[Param]) -> Result<Words, Memory>
@@ -81,7 +82,7 @@ impl<'a> IndexedClass<'a> {
     /// The first field of a name.
     #[tactic(auto, using(crate::proofs::Guided::field_viewed))]
     pub fn find_field(&self, name: &Word) -> Option<&Param>
-        ensures { option_map mirror_param (option_copied result) ≡ field_named (map mirror_param self.now.fields) name.now }
+        ensures { found mirror_param result ≡ field_named (map mirror_param self.now.fields) name.now }
     {
         match self.fields.find(name) {
             Some(place) => self.class.fields.get(place),
@@ -92,7 +93,7 @@ impl<'a> IndexedClass<'a> {
     /// The first method of a name.
     #[tactic(auto, using(crate::proofs::Guided::method_viewed))]
     pub fn find_method(&self, name: &Word) -> Option<&Method>
-        ensures { option_map mirror_method (option_copied result) ≡ method_named (map mirror_method self.now.methods) name.now }
+        ensures { found mirror_method result ≡ method_named (map mirror_method self.now.methods) name.now }
     {
         match self.methods.find(name) {
             Some(place) => self.class.methods.get(place),
@@ -151,7 +152,7 @@ impl<'a> Classes<'a> {
     /// The first class of a name.
     #[tactic(auto, using(crate::proofs::Guided::class_viewed))]
     pub fn find(&self, name: &Word) -> Option<&IndexedClass<'a>>
-        ensures { option_map mirror_class (option_copied result) ≡ class_named (map mirror_class self.now) name.now }
+        ensures { found mirror_class result ≡ class_named (map mirror_class self.now) name.now }
     {
         match self.names.find(name) {
             Some(place) => self.items.get(place),

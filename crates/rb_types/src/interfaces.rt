@@ -1,9 +1,9 @@
 // Interfaces with an index of their members.
 
 ghost use Rattle.std.specs.Prelude.{◌≡◌, [], map, IfOk};
-ghost use Rattle.std.specs.Option.{option_map, option_copied};
 ghost use Rattle.rb_trees.specs.mirror.Declarations.{mirror_signature, mirror_interface};
 ghost use Rattle.rb_meaning_types.specs.Names.{interface_named, signature_named};
+ghost use Rattle.rb_types.specs.Views.{found};
 
 use crate::words::Words;
 use rb_trees::{Interface, Memory, Seq, Signature, Word, copy_word};
@@ -63,7 +63,7 @@ impl<'a> IndexedInterface<'a> {
     /// The method of a name.
     #[tactic(auto, using(crate::proofs::Guided::signature_viewed))]
     pub fn find_method(&self, name: &Word) -> Option<&Signature>
-        ensures { option_map mirror_signature (option_copied result) ≡ signature_named (map mirror_signature self.now.methods) name.now }
+        ensures { found mirror_signature result ≡ signature_named (map mirror_signature self.now.methods) name.now }
     {
         match self.methods.find(name) {
             Some(place) => self.interface.methods.get(place),
@@ -132,7 +132,7 @@ impl<'a> Interfaces<'a> {
     /// The first interface of a name.
     #[tactic(auto, using(crate::proofs::Guided::interface_viewed))]
     pub fn find(&self, name: &Word) -> Option<&IndexedInterface<'a>>
-        ensures { option_map mirror_interface (option_copied result) ≡ interface_named (map mirror_interface self.now) name.now }
+        ensures { found mirror_interface result ≡ interface_named (map mirror_interface self.now) name.now }
     {
         match self.names.find(name) {
             Some(place) => self.items.get(place),

@@ -3,12 +3,11 @@
 #![tactic(auto, using(crate::proofs::Rules::rules))]
 
 ghost use Rattle.std.specs.Prelude.{◌≡◌, map};
-ghost use Rattle.std.specs.Option.{option_map, option_copied};
 ghost use Rattle.rb_trees.specs.mirror.Declarations.{mirror_param, mirror_signature, mirror_interface, mirror_class};
 ghost use Rattle.rb_meaning_types.specs.Kinds.{kind_of_form};
 ghost use Rattle.rb_meaning_types.specs.Members as members;
 ghost use Rattle.rb_types.specs.Checks.{Passes, Types, Classes};
-ghost use Rattle.rb_types.specs.Views.{declarations_of, context_of, placed_of, all_placed};
+ghost use Rattle.rb_types.specs.Views.{declarations_of, context_of, placed_of, all_placed, found};
 
 use crate::classes::IndexedClass;
 use crate::context::{Context, Declarations};
@@ -127,7 +126,7 @@ fn receiver_interface<'a, 'b>(
     d: &'b Declarations<'a>,
     kind: &TypeForm,
 ) -> Option<&'b IndexedInterface<'a>>
-    ensures { option_map mirror_interface (option_copied result) ≡ members.receiver_interface (declarations_of d.now) (kind_of_form kind.now) }
+    ensures { found mirror_interface result ≡ members.receiver_interface (declarations_of d.now) (kind_of_form kind.now) }
 {
     match kind {
         TypeForm::Named(name) => d.interfaces.find(name),

@@ -1,10 +1,9 @@
 // The variables in scope.
 
 ghost use Rattle.std.specs.Prelude.{◌≡◌, [], take, length, OnOk};
-ghost use Rattle.std.specs.Option.{option_map, option_copied};
 ghost use Rattle.rb_meaning_types.specs.Kinds.{kind_of_form};
 ghost use Rattle.rb_meaning_types.specs.Scopes as scopes;
-ghost use Rattle.rb_types.specs.Views.{variable_of, scope_of};
+ghost use Rattle.rb_types.specs.Views.{variable_of, scope_of, found};
 
 use crate::words::Words;
 use rb_trees::{Memory, Seq, TypeForm, Word, copy_word};
@@ -56,7 +55,7 @@ impl Scope {
     /// The variable of a name.
     #[tactic(auto, using(crate::proofs::Guided::variable_viewed))]
     pub fn find(&self, name: &Word) -> Option<&Variable>
-        ensures { option_map variable_of (option_copied result) ≡ scopes.variable_named (scope_of self.now) name.now }
+        ensures { found variable_of result ≡ scopes.variable_named (scope_of self.now) name.now }
     {
         match self.names.find(name) {
             Some(place) => self.variables.get(place),

@@ -41,7 +41,7 @@ fn assign(
     p: &Placed,
     q: &Placed,
 ) -> Result<(), TypeError>
-    ensures { Leaves scope.now result (statements.assign (scope_of scope.now) at (mirror_expr left.now) (placed_of p.now) (placed_of q.now)) }
+    ensures { Leaves (λ s. statements.assign s at (mirror_expr left.now) (placed_of p.now) (placed_of q.now)) scope.now result }
 {
     if !is_assignable(scope, left) {
         return Err(TypeError::NotAssignable(at));
@@ -66,7 +66,7 @@ fn print(
     at: u32,
     p: &Placed,
 ) -> Result<(), TypeError>
-    ensures { Leaves scope.now result (statements.print (declarations_of d.now) (scope_of scope.now) at (placed_of p.now)) }
+    ensures { Leaves (λ s. statements.print (declarations_of d.now) s at (placed_of p.now)) scope.now result }
 {
     if !is_printable(d, &p.kind) {
         return Err(wrong_type(alloc, p));

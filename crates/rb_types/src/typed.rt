@@ -30,14 +30,11 @@ pub struct Typed {
 }
 
 impl Model for Typed {
-    ghost use Rattle.std.specs.Prelude.{◌≡◌, IsTrue, nat_eq};
+    ghost use Rattle.std.specs.Prelude.{nat_eq};
     ghost use Rattle.std.specs.HashMap.{get};
     ghost use Rattle.rb_trees.specs.declared.declarations.Program.{Program};
     ghost use Rattle.rb_trees.specs.mirror.Declarations.{mirror_program};
-    ghost use Rattle.rb_meaning_types.specs.Programs.{is_typed};
-    ghost use Rattle.rb_meaning_types.specs.Batches.{batch_count};
-    ghost use Rattle.rb_meaning_types.specs.Lawful.{IsLawful};
-    ghost use Rattle.rb_types.specs.Given.{AreTypes};
+    ghost use Rattle.rb_types.specs.Given.{IsTypedWith};
     ghost use Rattle.rb_trees.specs.contracts.declarations.Program as program_code;
 
     ghost Value = { Program };
@@ -46,8 +43,7 @@ impl Model for Typed {
 
     ghost view = { λ t. t.program };
 
-    ghost invariant = { λ t. IsTrue (is_typed (mirror_program t.program)) × IsLawful (mirror_program t.program) × (t.batches ≡ batch_count (mirror_program t.program))
-        × AreTypes (mirror_program t.program) (get nat_eq t.types) };
+    ghost invariant = { λ t. IsTypedWith (mirror_program t.program) t.batches (get nat_eq t.types) };
 }
 
 impl Typed {

@@ -173,16 +173,16 @@ program_stops p =
     (λ g. let s = right.main_so d p.at p.result g in
     weaker _ _ body (λ v b. in_main v (right.declared_so d e) (bodies_so d p.classes f) s.0 s.1 b) (body_stops (main_context d) [] p.at p.result p.body)))))
 
-so_first : (p : Program) (v : Violation) → FirstViolation p v → check_program p ≡ Err v
-so_first p _ (in_declarations v b) = ap (λ r. r >> check_class_bodies (of_program p) p.classes >> check_main p) (so_declarations (of_program p) v b)
-so_first p _ (in_methods v h b) =
+pub first_program : (p : Program) (v : Violation) → FirstViolation p v → check_program p ≡ Err v
+first_program p _ (in_declarations v b) = ap (λ r. r >> check_class_bodies (of_program p) p.classes >> check_main p) (so_declarations (of_program p) v b)
+first_program p _ (in_methods v h b) =
     ap (λ r. r >> check_class_bodies (of_program p) p.classes >> check_main p) (right.so_declared (of_program p) h)
     ∙ ap (λ r. r >> check_main p) (so_class_bodies (of_program p) p.classes v b)
-so_first p _ (in_main_result v h k b) =
+first_program p _ (in_main_result v h k b) =
     let body = check_body (main_context (of_program p)) [] p.at p.result p.body in
     ap (λ r. r >> check_class_bodies (of_program p) p.classes >> check_main p) (right.so_declared (of_program p) h)
     ∙ ap (λ r. r >> check_main p) (so_bodies (of_program p) p.classes k) ∙ ap (λ r. r >> body) (so_main (of_program p) p.at p.result v b)
-so_first p _ (in_main v h k known fits b) =
+first_program p _ (in_main v h k known fits b) =
     let body = check_body (main_context (of_program p)) [] p.at p.result p.body in
     ap (λ r. r >> check_class_bodies (of_program p) p.classes >> check_main p) (right.so_declared (of_program p) h)
     ∙ ap (λ r. r >> check_main p) (so_bodies (of_program p) p.classes k) ∙ ap (λ r. r >> body) (right.so_main (of_program p) p.at p.result known fits)
@@ -194,9 +194,6 @@ service_stops cs = let d = of_service cs in
 
 pub program_first : (p : Program) (v : Violation) → check_program p ≡ Err v → FirstViolation p v
 program_first p v e = let s = program_stops p in s.by v e
-
-pub first_program : (p : Program) (v : Violation) → FirstViolation p v → check_program p ≡ Err v
-first_program p v b = so_first p v b
 
 pub service_first : (cs : List Class) (v : Violation) → check_service cs ≡ Err v → FirstViolationOfService cs v
 service_first cs v e = let s = service_stops cs in s.by v e

@@ -1,5 +1,5 @@
 -- The rules on bodies, programs and services agree with what is computed.
-use Rattle.std.proofs.Common.{◌≡◌, ℕ, List, [], Bool as Truth, true, false, not, ◌&&◌, Option, Some, None, Ok, refl, ap, sym, ◌∙◌, subst}
+use Rattle.std.proofs.Common.{◌≡◌, ℕ, List, [], false, not, ◌&&◌, Option, Some, None, Ok, refl, ap, sym, ◌∙◌, subst}
 use Rattle.std.proofs.lemmas.Bool.{and_parts}
 use Rattle.rb_trees.specs.mirror.Types.{TypeTree, type_at}
 use Rattle.rb_trees.specs.mirror.Code.{Expr, expr_at}

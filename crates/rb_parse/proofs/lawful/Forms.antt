@@ -1,5 +1,5 @@
 -- What the grammar derives has lawful names, literals and lists.
-use Rattle.std.proofs.Common.{◌≡◌, ℕ, ℤ, ◌+◌, ◌<◌, ◌≤◌, ◌^◌, Bool, true, false, IsUtf8, ap, sym, subst, ◌∙◌, List, [], ◌∷◌, ◌++◌, length, Option, Some, None, arith, length-append}
+use Rattle.std.proofs.Common.{◌≡◌, ℕ, ℤ, ◌+◌, ◌<◌, ◌≤◌, ◌^◌, Bool, true, false, ap, sym, subst, ◌∙◌, List, [], ◌∷◌, ◌++◌, length, Option, Some, None, arith, length-append}
 use Rattle.std.specs.List.{All}
 use Rattle.std.proofs.lemmas.List.Elements.{All-nil, All-cons}
 use Rattle.rb_trees.specs.Spelling.{IsName}
@@ -20,6 +20,7 @@ use Rattle.rb_meaning_bytes.specs.grammar.Productions as r
 use Rattle.rb_meaning_bytes.specs.grammar.Productions.{Production, member}
 use Rattle.rb_meaning_bytes.specs.grammar.Derives as g
 use Rattle.rb_meaning_bytes.specs.grammar.Derives.{Spells}
+use Rattle.rb_meaning_types.specs.Values.{IsText}
 use Rattle.rb_meaning_types.specs.Lawful.{IsShort, IsLiteral, IsLiteralForm, IsLawfulType, IsLawfulExpr, AreLawfulExprs, expr_count, stmt_count, IsLawfulStmt, AreLawfulStmts, IsLawfulBlock, IsLawfulReturn, IsLawfulBody, IsLawfulParam, IsLawfulSignature, IsLawfulMethod, IsLawfulInterface, IsLawfulClass}
 use Rattle.rb_parse.proofs.readable.Tokens.{Tells, tells_behind, AllFit, state_after, fit_front, fit_back}
 use Rattle.rb_parse.proofs.lawful.Sizes.{items, counted}
@@ -82,8 +83,8 @@ literal_int number = subst IsLiteralForm (sym (ap out-Value (sym (value.rolls-In
 literal_bool : (truth : Bool) → IsLiteral (value.Bool truth)
 literal_bool truth = subst IsLiteralForm (sym (ap out-Value (sym (value.rolls-Bool truth)) ∙ out-roll-Value (Value-F.Bool truth))) tt
 
-literal_text : (text : List ℕ) → IsUtf8 text → length text ≤ 4096 → IsLiteral (value.Text text)
-literal_text text u n = subst IsLiteralForm (sym (ap out-Value (sym (value.rolls-Text text)) ∙ out-roll-Value (Value-F.Text text))) (u, n)
+literal_text : (text : List ℕ) → IsText text → IsLiteral (value.Text text)
+literal_text text h = subst IsLiteralForm (sym (ap out-Value (sym (value.rolls-Text text)) ∙ out-roll-Value (Value-F.Text text))) h
 
 module _ (source : List ℕ) where
   abbrev pub AllHold : (l : List Symbol) → Trees l → Type 0
@@ -172,7 +173,7 @@ module _ (source : List ℕ) where
   of_rule r.no_call xs h = tt
   of_rule r.call xs h = (h.1.0.formed, h.1.0.short)
   of_rule r.number xs h = literal_int (number_of source xs.0)
-  of_rule r.text xs h = literal_text (text_of source xs.0) h.0.0 h.0.1
+  of_rule r.text xs h = literal_text (text_of source xs.0) h.0
   of_rule r.true_literal xs h = literal_bool true
   of_rule r.false_literal xs h = literal_bool false
   of_rule r.this xs h = tt

@@ -99,7 +99,7 @@ single n m e low own h a = record { step = a; stands = bare (is_minus n.last) 8 
 
 pub at_first : {source : List ℕ} {l : List Symbol} {f : Makes l (TreeOf s.First)} → Production source s.First l f → Keeping source s.First l f
 at_first {source} r.number = λ n ys run fit. single n (after n kind.Number) _ refl refl (read_int source (is_minus n.last) ys.0 run.1) (token n kind.Number refl refl refl fit)
-at_first {source} r.text = λ n ys run fit. single n (after n kind.TextLit) _ refl refl (read_text (is_minus n.last) (text_of source ys.0) run.1.0 run.1.1) (token n kind.TextLit refl refl refl fit)
+at_first {source} r.text = λ n ys run fit. single n (after n kind.TextLit) _ refl refl (read_text (is_minus n.last) (text_of source ys.0) run.1) (token n kind.TextLit refl refl refl fit)
 at_first r.true_literal = λ n ys run fit. single n (after n k.keyword_true) _ refl refl (read_bool (is_minus n.last) true) (token n k.keyword_true refl refl refl fit)
 at_first r.false_literal = λ n ys run fit. single n (after n k.keyword_false) _ refl refl (read_bool (is_minus n.last) false) (token n k.keyword_false refl refl refl fit)
 at_first r.this = λ n ys run fit. single n (after n k.keyword_this) _ refl refl tt (token n k.keyword_this refl refl refl fit)

@@ -16,6 +16,7 @@ use Rattle.rb_meaning_bytes.specs.tokens.Values.{number_value, int_of}
 use Rattle.rb_meaning_bytes.specs.tokens.Lists.{TokensBetween, AllWithinLimits, is_minus}
 use Rattle.rb_meaning_bytes.specs.grammar.Values.{slice, name_of, number_of, text_of}
 use Rattle.rb_meaning_bytes.specs.grammar.Limits.{Nesting, after, too_deep, broken}
+use Rattle.rb_meaning_types.specs.Values.{IsText}
 use Rattle.rb_parse.proofs.readable.Trees.{IsReadInt, IsReadForm, IsReadLiteral}
 use Rattle.rb_parse.proofs.lawful.Utf8.{literal_utf8}
 use Rattle.rb_parse.proofs.readable.States.{Room}
@@ -24,7 +25,7 @@ use Rattle.rb_parse.proofs.readable.States.{Room}
 abbrev pub Tells : List ℕ → Bool → TokenKind → Token → Type 0
 Tells source minus kinds.Name t = IsName (name_of source t)
 Tells source minus kinds.Number t = number_value (slice source t) ≤ greatest_number minus
-Tells source minus kinds.TextLit t = IsUtf8 (text_of source t) × (length (text_of source t) ≤ 4096)
+Tells source minus kinds.TextLit t = IsText (text_of source t)
 Tells source minus (kinds.Keyword place) t = Unit {0}
 Tells source minus (kinds.Sign place) t = Unit {0}
 
@@ -127,5 +128,5 @@ read_int source minus t h =
 pub read_bool : (minus : Bool) (truth : Bool) → IsReadLiteral minus (value.Bool truth)
 read_bool minus truth = literal minus (Value-F.Bool truth) (value.Bool truth) (ap out-Value (sym (value.rolls-Bool truth)) ∙ out-roll-Value (Value-F.Bool truth)) tt
 
-pub read_text : (minus : Bool) (text : List ℕ) → IsUtf8 text → length text ≤ 4096 → IsReadLiteral minus (value.Text text)
-read_text minus text u n = literal minus (Value-F.Text text) (value.Text text) (ap out-Value (sym (value.rolls-Text text)) ∙ out-roll-Value (Value-F.Text text)) (u, n)
+pub read_text : (minus : Bool) (text : List ℕ) → IsText text → IsReadLiteral minus (value.Text text)
+read_text minus text h = literal minus (Value-F.Text text) (value.Text text) (ap out-Value (sym (value.rolls-Text text)) ∙ out-roll-Value (Value-F.Text text)) h

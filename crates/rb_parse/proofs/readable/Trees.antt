@@ -1,8 +1,7 @@
 -- The trees that reading gives, by the trees alone: no literal is negative but the least Int directly behind a minus,
 -- and no more marks, blocks and types are open than the limits allow.
-use Rattle.std.specs.Prelude.{ℕ, ◌≡◌, ◌≤◌, ◌+◌, suc, nat_lt, length, ℤ, pos, negsuc, Bool, true, false, cond, Option, None, Some}
+use Rattle.std.specs.Prelude.{ℕ, ◌≡◌, ◌≤◌, ◌+◌, suc, nat_lt, ℤ, pos, negsuc, Bool, true, false, cond, Option, None, Some}
 use Rattle.std.specs.List.{All}
-use Rattle.std.specs.Str.{IsUtf8}
 use Rattle.rb_trees.specs.Spelling.{IsName}
 use Rattle.rb_trees.specs.declared.code.UnOp.{UnOp}
 use Rattle.rb_trees.specs.declared.code.UnOp.TheVariants as unary
@@ -16,6 +15,7 @@ use Rattle.rb_trees.specs.mirror.Types.{TypeTree}
 use Rattle.rb_trees.specs.mirror.Code.{Expr, Exprs, Lit, Name, This, Unary, Binary, Field, Call, Index, New, Items, Taken, NoExprs, MoreExprs, Stmt, Stmts, Val, Var, Assign, Run, Print, Throw, If, While, For, Try, Batch, NoStmts, MoreStmts}
 use Rattle.rb_trees.specs.mirror.Declarations.{Param, Signature, Interface, Body, Method, Class, Program}
 use Rattle.rb_trees.specs.printing.Exprs.{level_of, left_level, right_level, operand_level}
+use Rattle.rb_meaning_types.specs.Values.{IsText}
 use Rattle.rb_meaning_types.specs.Lawful.{IsLawfulType}
 
 -- The flag says that the literal stands directly behind a minus.
@@ -27,7 +27,7 @@ IsReadInt false (negsuc n) = ⊥
 abbrev pub IsReadForm : Bool → Value-F Value → Type 0
 IsReadForm minus (Value-F.Int n) = IsReadInt minus n
 IsReadForm minus (Value-F.Bool truth) = Unit {0}
-IsReadForm minus (Value-F.Text text) = IsUtf8 text × (length text ≤ 4096)
+IsReadForm minus (Value-F.Text text) = IsText text
 IsReadForm minus _ = ⊥
 
 abbrev pub IsReadLiteral : Bool → Value → Type 0

@@ -105,7 +105,7 @@ bool_flows minus false = one_flows w.false_word leads.false_leads minus
 form_flows : (minus : Bool) (v : Value-F Value) → IsReadForm minus v → Flows minus (form_pieces v)
 form_flows minus (Value-F.Int n) h = int_flows minus n h
 form_flows minus (Value-F.Bool truth) h = bool_flows minus truth
-form_flows minus (Value-F.Text text) h = one_flows (w.text_piece text) (text_leads text h.0 h.1) minus
+form_flows minus (Value-F.Text text) h = one_flows (w.text_piece text) (text_leads text h) minus
 form_flows minus _ h = absurd h
 
 -- operators

@@ -13,8 +13,9 @@ use Rattle.rb_meaning_bytes.specs.tokens.Begins.{Begins, Skips, separator}
 use Rattle.rb_meaning_bytes.specs.tokens.Faults.{WithinLimits}
 use Rattle.rb_meaning_bytes.specs.tokens.Lists.{Gap, none, Stands, TokensBetween, AllWithinLimits, is_minus}
 use Rattle.rb_meaning_bytes.specs.tokens.Lists as lists
+use Rattle.rb_lex.proofs.Slices.{not_empty}
 use Rattle.rb_parse.proofs.printing.Spots.{tokens_at}
-use Rattle.rb_parse.proofs.printing.lexed.Slices.{Parts, no_longer, no_comment, not_empty}
+use Rattle.rb_parse.proofs.printing.lexed.Slices.{Parts, no_longer, no_comment}
 
 -- The token has its form, and the text behind it may follow. The flag says that the token before it is a minus.
 pub record IsGood (minus : Bool) (kind : TokenKind) (bytes : List ℕ) (text : List ℕ) : Type 0 where

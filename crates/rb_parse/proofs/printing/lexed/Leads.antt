@@ -1,11 +1,12 @@
 -- Each printed token, and what may follow it.
-use Rattle.std.proofs.Common.{◌≡◌, ℕ, ◌<◌, ◌≤◌, ◌^◌, Bool, true, false, List, [], ◌∷◌, ◌++◌, length, refl, sym, subst, arith, Some, IsUtf8}
+use Rattle.std.proofs.Common.{◌≡◌, ℕ, ◌<◌, ◌≤◌, ◌^◌, Bool, true, false, List, [], ◌∷◌, ◌++◌, length, refl, sym, subst, arith, Some}
 use Rattle.std.proofs.lemmas.Bool.Decides.{nat_tests}
 use Rattle.std.specs.Fmt.{decimal}
 use Rattle.std.specs.Prelude.{codes}
 use Rattle.std.specs.List.{list_all}
 use Rattle.rb_trees.specs.Spelling.{IsName, keyword_table, sign_table, number_of}
 use Rattle.rb_trees.specs.Kinds as k
+use Rattle.rb_trees.specs.Limits.{longest_text}
 use Rattle.rb_trees.specs.printing.Pieces.{Piece, Space, spelled}
 use Rattle.rb_trees.specs.printing.Words as w
 use Rattle.rb_trees.specs.printing.Words.{name_piece, number_piece, text_piece}
@@ -15,6 +16,7 @@ use Rattle.rb_meaning_bytes.specs.tokens.Faults.{greatest_number}
 use Rattle.rb_meaning_bytes.specs.tokens.Lists.{is_minus}
 use Rattle.rb_meaning_bytes.specs.tokens.Tables.{keywords, signs, number_in}
 use Rattle.rb_meaning_bytes.specs.tokens.Values.{number_value}
+use Rattle.rb_meaning_types.specs.Values.{IsText}
 use Rattle.rb_lex.proofs.InTables.{keyword_word}
 use Rattle.rb_parse.proofs.printing.Values.{number_of_decimal, text_of_literal}
 use Rattle.rb_parse.proofs.printing.lexed.Slices.{Starts, Ends, starts, ends_starts}
@@ -89,10 +91,10 @@ number_leads n minus l rest f =
 
 -- text literals
 
-pub text_leads : (text : List ℕ) → IsUtf8 text → length text ≤ 4096 → Leads (text_piece text)
-text_leads text u l minus rest f =
-    let limits = subst (λ v. length v ≤ 4096) (sym (text_of_literal text)) l in
-    record { good = (record { formed = literal_form text; limits = limits; utf8 = literal_utf8 text u; parts = tt }, f.good); starts = refl }
+pub text_leads : (text : List ℕ) → IsText text → Leads (text_piece text)
+text_leads text h minus rest f =
+    let limits = subst (λ v. length v ≤ longest_text) (sym (text_of_literal text)) h.1 in
+    record { good = (record { formed = literal_form text; limits = limits; utf8 = literal_utf8 text h.0; parts = tt }, f.good); starts = refl }
 
 -- space
 

@@ -9,7 +9,9 @@ use Rattle.rb_meaning_bytes.specs.tokens.Bytes.{is_letter, is_digit, is_word_byt
 use Rattle.rb_meaning_bytes.specs.tokens.Tables.{signs, number_in}
 use Rattle.rb_meaning_bytes.specs.tokens.Forms.{Form, IsLiteral, Body, empty, plain, escape}
 use Rattle.rb_meaning_bytes.specs.tokens.Begins.{IsComment}
+use Rattle.rb_lex.specs.declared.bytes.Class.TheVariants as classes
 use Rattle.rb_lex.proofs.InTables.{placed, keyword_word}
+use Rattle.rb_lex.proofs.Slices.{letter_class, digit_class, quote_class, shows_at}
 
 -- The byte may follow a sign: it isn't `=` or `/`.
 abbrev pub starts : ℕ → Bool
@@ -90,18 +92,6 @@ sign_ascii w n h = placed (list_all is_ascii) w signs n ascii_signs h
 
 -- what the first byte tells
 
-letter_digit : (b : ℕ) → is_letter b ≡ true → is_digit b ≡ true → ⊥
-unfolding is_letter is_digit
-letter_digit b l d = grind (arith, nat_tests)
-
-letter_quote : (b : ℕ) → is_letter b ≡ true → b ≡ 34 → ⊥
-unfolding is_letter
-letter_quote b l e = grind (arith, nat_tests)
-
-digit_quote : (b : ℕ) → is_digit b ≡ true → b ≡ 34 → ⊥
-unfolding is_digit
-digit_quote b l e = grind (arith, nat_tests)
-
 other_letter : (b : ℕ) → is_other b ≡ true → is_letter b ≡ true → ⊥
 other_letter b h l = grind (arith, nat_tests)
 
@@ -115,25 +105,13 @@ literal_first : (b : ℕ) (bs : List ℕ) → IsLiteral (b ∷ bs) → b ≡ 34
 literal_first b bs f = let e = f.1 in cc
 
 letter_form : (kind : TokenKind) (b : ℕ) (bs : List ℕ) → is_letter b ≡ true → Form kind (b ∷ bs) → list_all is_word_byte bs ≡ true
-letter_form kinds.Name b bs l f = f.0.1
-letter_form kinds.Number b bs l f = absurd (letter_digit b l f.0)
-letter_form kinds.TextLit b bs l f = absurd (letter_quote b l (literal_first b bs f))
-letter_form (kinds.Keyword n) b bs l f = (keyword_word (b ∷ bs) n f).1
-letter_form (kinds.Sign n) b bs l f = absurd (other_letter b (other_first b bs (sign_is (b ∷ bs) n f)) l)
+letter_form kind b bs l f = let s = shows_at kind classes.Letter b bs (letter_class b l) f in s.1
 
 digit_form : (kind : TokenKind) (b : ℕ) (bs : List ℕ) → is_digit b ≡ true → Form kind (b ∷ bs) → list_all is_digit bs ≡ true
-digit_form kinds.Name b bs l f = absurd (letter_digit b f.0.0 l)
-digit_form kinds.Number b bs l f = f.1
-digit_form kinds.TextLit b bs l f = absurd (digit_quote b l (literal_first b bs f))
-digit_form (kinds.Keyword n) b bs l f = absurd (letter_digit b (keyword_word (b ∷ bs) n f).0 l)
-digit_form (kinds.Sign n) b bs l f = absurd (other_digit b (other_first b bs (sign_is (b ∷ bs) n f)) l)
+digit_form kind b bs d f = let s = shows_at kind classes.Digit b bs (digit_class b d) f in s.1
 
 quote_form : (kind : TokenKind) (bs : List ℕ) → Form kind (34 ∷ bs) → IsLiteral (34 ∷ bs)
-quote_form kinds.Name bs f = absurd (letter_quote 34 f.0.0 refl)
-quote_form kinds.Number bs f = absurd (digit_quote 34 f.0 refl)
-quote_form kinds.TextLit bs f = f
-quote_form (kinds.Keyword n) bs f = absurd (letter_quote 34 (keyword_word (34 ∷ bs) n f).0 refl)
-quote_form (kinds.Sign n) bs f = absurd (other_quote 34 (other_first 34 bs (sign_is (34 ∷ bs) n f)) refl)
+quote_form kind bs f = let s = shows_at kind classes.Quote 34 bs quote_class f in s.1
 
 sign_form : (kind : TokenKind) (a : ℕ) (bs : List ℕ) → is_other a ≡ true → Form kind (a ∷ bs) → is_sign (a ∷ bs) ≡ true
 sign_form kinds.Name a bs o f = absurd (other_letter a o f.0.0)
@@ -233,10 +211,3 @@ no_comment kinds.TextLit w text f p k = literal_comment w text f k
 no_comment (kinds.Keyword n) [] text f p k = absurd (keyword_word [] n f)
 no_comment (kinds.Keyword n) (c ∷ cs) text f p k = letter_slash c (keyword_word (c ∷ cs) n f).0 (first_slash c (cs ++ text) k)
 no_comment (kinds.Sign n) w text f p k = sign_comment w text (sign_is w n f) p k
-
-pub not_empty : (kind : TokenKind) → ¬ Form kind []
-not_empty kinds.Name f = f.0
-not_empty kinds.Number f = f
-not_empty kinds.TextLit f = let e = f.1 in cc
-not_empty (kinds.Keyword n) f = keyword_word [] n f
-not_empty (kinds.Sign n) f = let s = sign_is [] n f in cc
