@@ -14,6 +14,7 @@ use rb_trees::Value;
 use std::alloc::Global;
 
 /// A turn of a loop begins.
+#[inline(never)]
 pub fn begin_turn<W: World>(
     alloc: Global,
     state: &mut State,
@@ -34,6 +35,7 @@ pub fn begin_turn<W: World>(
 }
 
 /// Prints the line of a value.
+#[inline(never)]
 pub fn print<W: World>(
     alloc: Global,
     state: &State,

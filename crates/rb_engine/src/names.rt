@@ -15,6 +15,7 @@ use rb_trees::{Seq, Value, Word, copy_value, copy_word};
 use std::alloc::Global;
 
 /// A copy of a value, which costs nothing.
+#[inline(never)]
 pub fn copied<X>(value: &Value) -> Result<Value, End<X>>
     ensures { UnlessMemory result (λ v. v ≡ value.now) }
 {
@@ -25,6 +26,7 @@ pub fn copied<X>(value: &Value) -> Result<Value, End<X>>
 }
 
 /// Adds a value at the end.
+#[inline(never)]
 pub fn add<X>(values: &mut Seq<Value>, value: Value) -> Result<(), End<X>>
     ensures { UnlessMemory result (λ u. values.new ≡ values.old ++ value ∷ []) }
 {
@@ -35,6 +37,7 @@ pub fn add<X>(values: &mut Seq<Value>, value: Value) -> Result<(), End<X>>
 }
 
 /// The value of a name in scope: `value_of`.
+#[inline(never)]
 pub fn named_value(alloc: Global, frame: &Frame, name: &[u8]) -> Result<Value, Refusal>
     ensures { Gives (λ v. v) fault_of result (rules.value_of frame.now name.now) }
 {
@@ -45,6 +48,7 @@ pub fn named_value(alloc: Global, frame: &Frame, name: &[u8]) -> Result<Value, R
 }
 
 /// Binds a name to a value.
+#[inline(never)]
 pub fn bind<X>(alloc: Global, frame: &mut Frame, name: &Word, value: Value) -> Result<(), End<X>>
     ensures { UnlessMemory result (λ u. frame.new ≡ frame.old ++ (name.now, value) ∷ []) }
 {
@@ -58,6 +62,7 @@ pub fn bind<X>(alloc: Global, frame: &mut Frame, name: &Word, value: Value) -> R
 }
 
 /// Binds a name to a copy of a value.
+#[inline(never)]
 pub fn bind_copy<X>(
     alloc: Global,
     frame: &mut Frame,
@@ -73,6 +78,7 @@ pub fn bind_copy<X>(
 }
 
 /// Gives a name another value: `assigned`. After an error the names are as they were.
+#[inline(never)]
 pub fn set_name(alloc: Global, frame: &mut Frame, name: &[u8], value: Value) -> Result<(), Refusal>
     ensures gives { Gives (λ u. frame.new) fault_of result (statements.assigned frame.old name.now value) }
     ensures kept { OnErr result (frame.new ≡ frame.old) }

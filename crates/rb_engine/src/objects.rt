@@ -81,6 +81,7 @@ fn place(alloc: Global, heap: &mut Heap, object: Object) -> Result<Value, Refusa
 }
 
 /// A new object: `constructed`. After an error the heap is as it was.
+#[inline(never)]
 pub fn construct(
     alloc: Global,
     code: &Code,
@@ -141,6 +142,7 @@ fn write_own(
 }
 
 /// The value of an object's field: `field_of`.
+#[inline(never)]
 pub fn read_field(alloc: Global, heap: &Heap, object: Value, name: &[u8]) -> Result<Value, Refusal>
     ensures { Gives (λ v. v) fault_of result (objects.field_of heap.now (out-Value object) name.now) }
 {
@@ -148,6 +150,7 @@ pub fn read_field(alloc: Global, heap: &Heap, object: Value, name: &[u8]) -> Res
 }
 
 /// Gives an object's field another value: `with_field_of`. After an error the heap is as it was.
+#[inline(never)]
 pub fn write_field(
     alloc: Global,
     heap: &mut Heap,
@@ -162,6 +165,7 @@ pub fn write_field(
 }
 
 /// The method that is called: `called_method`.
+#[inline(never)]
 pub fn called_method<'a>(
     alloc: Global,
     code: &'a Code,
@@ -218,6 +222,7 @@ fn names_of(
 }
 
 /// The frame that a method begins with: `names_within`.
+#[inline(never)]
 pub fn enter<X>(
     alloc: Global,
     receiver: &Value,

@@ -2,7 +2,7 @@
 //
 // One function of the machine's stack stands for each node that is open, so its locals are few and small.
 
-ghost use Rattle.rb_engine.specs.Code.{value_run, values_run, binary_run, called_run, call_run, body_run, stmt_run, stmts_run, assign_run, scope_run, while_run, for_run, turns_run, try_run};
+ghost use Rattle.rb_engine.specs.Code.{value_run, values_run, unary_run, binary_run, field_run, item_run, new_run, list_run, called_run, call_run, body_run, stmt_run, stmts_run, binding_run, alone_run, print_run, throw_run, assign_run, scope_run, if_run, while_run, for_run, turns_run, try_run};
 ghost use Rattle.rb_engine.specs.Worlds.{AnyNames, Effects, Values};
 
 use crate::asking::{begin_turn, print};
@@ -19,11 +19,12 @@ use crate::targets::{Target, Turns, target_of, turns_of};
 use crate::units::{check_depth, check_unit};
 use crate::world::World;
 use rb_code::Code;
-use rb_trees::{BinOp, Body, Expr, ExprForm, Seq, Stmt, StmtForm, Value, Word};
+use rb_trees::{BinOp, Body, Expr, ExprForm, Seq, Stmt, StmtForm, UnOp, Value, Word};
 use std::alloc::Global;
 
 /// The value of an expression.
 #[cycle(running)]
+#[inline(never)]
 pub fn value_of<W: World>(
     alloc: Global,
     code: &Code,
@@ -39,16 +40,12 @@ pub fn value_of<W: World>(
         ExprForm::Lit(value) => copied(value),
         ExprForm::Name(name) => lift(at, named_value(alloc, frame, name.as_slice())),
         ExprForm::This => lift(at, named_value(alloc, frame, b"this")),
-        ExprForm::Unary(op, a) => {
-            let value = value_of(alloc, code, state, frame, world, a.get())?;
-            lift(at, unary(alloc, *op, value))
-        }
+        ExprForm::Unary(op, a) => unary_value(alloc, code, state, frame, world, at, *op, a.get()),
         ExprForm::Binary(op, a, b) => {
             binary_value(alloc, code, state, frame, world, at, *op, a.get(), b.get())
         }
         ExprForm::Field(a, name) => {
-            let object = value_of(alloc, code, state, frame, world, a.get())?;
-            lift(at, read_field(alloc, &state.heap, object, name.as_slice()))
+            field_value(alloc, code, state, frame, world, at, a.get(), name)
         }
         ExprForm::Call(receiver, name, args) => {
             called_value(
@@ -64,24 +61,36 @@ pub fn value_of<W: World>(
             )
         }
         ExprForm::Index(a, b) => {
-            let list = value_of(alloc, code, state, frame, world, a.get())?;
-            let index = value_of(alloc, code, state, frame, world, b.get())?;
-            lift(at, item_of(alloc, list, index))
+            item_value(alloc, code, state, frame, world, at, a.get(), b.get())
         }
-        ExprForm::New(name, args) => {
-            let fields = values_of(alloc, code, state, frame, world, args.as_slice())?;
-            lift(at, construct(alloc, code, &mut state.heap, name, fields))
-        }
-        ExprForm::Items(_, items) => {
-            let values = values_of(alloc, code, state, frame, world, items.as_slice())?;
-            lift(at, list_of(alloc, values))
-        }
+        ExprForm::New(name, args) => new_value(alloc, code, state, frame, world, at, name, args),
+        ExprForm::Items(_, items) => list_value(alloc, code, state, frame, world, at, items),
         ExprForm::Taken(step) => flat(world.taken(*step)),
     }
 }
 
+// The value of an operator on one operand.
+#[cycle(running)]
+#[inline(never)]
+fn unary_value<W: World>(
+    alloc: Global,
+    code: &Code,
+    state: &mut State,
+    frame: &Frame,
+    world: &mut W,
+    at: u32,
+    op: UnOp,
+    a: &Expr,
+) -> Result<Value, End<W::Stop>>
+    ensures { Values W.World (unary_run code.now at op a.now) frame.now state.old world.old result state.new world.new }
+{
+    let value = value_of(alloc, code, state, frame, world, a)?;
+    lift(at, unary(alloc, op, value))
+}
+
 // The value of an operator on two operands, where the left one may decide.
 #[cycle(running)]
+#[inline(never)]
 fn binary_value<W: World>(
     alloc: Global,
     code: &Code,
@@ -106,8 +115,85 @@ fn binary_value<W: World>(
     }
 }
 
+// The value of a field.
+#[cycle(running)]
+#[inline(never)]
+fn field_value<W: World>(
+    alloc: Global,
+    code: &Code,
+    state: &mut State,
+    frame: &Frame,
+    world: &mut W,
+    at: u32,
+    a: &Expr,
+    name: &Word,
+) -> Result<Value, End<W::Stop>>
+    ensures { Values W.World (field_run code.now at a.now name.now) frame.now state.old world.old result state.new world.new }
+{
+    let object = value_of(alloc, code, state, frame, world, a)?;
+    lift(at, read_field(alloc, &state.heap, object, name.as_slice()))
+}
+
+// An item of a list.
+#[cycle(running)]
+#[inline(never)]
+fn item_value<W: World>(
+    alloc: Global,
+    code: &Code,
+    state: &mut State,
+    frame: &Frame,
+    world: &mut W,
+    at: u32,
+    a: &Expr,
+    b: &Expr,
+) -> Result<Value, End<W::Stop>>
+    ensures { Values W.World (item_run code.now at a.now b.now) frame.now state.old world.old result state.new world.new }
+{
+    let list = value_of(alloc, code, state, frame, world, a)?;
+    let index = value_of(alloc, code, state, frame, world, b)?;
+    lift(at, item_of(alloc, list, index))
+}
+
+// A new object.
+#[cycle(running)]
+#[inline(never)]
+fn new_value<W: World>(
+    alloc: Global,
+    code: &Code,
+    state: &mut State,
+    frame: &Frame,
+    world: &mut W,
+    at: u32,
+    name: &Word,
+    args: &Seq<Expr>,
+) -> Result<Value, End<W::Stop>>
+    ensures { Values W.World (new_run code.now at name.now args.now) frame.now state.old world.old result state.new world.new }
+{
+    let fields = values_of(alloc, code, state, frame, world, args.as_slice())?;
+    lift(at, construct(alloc, code, &mut state.heap, name, fields))
+}
+
+// A list by its items.
+#[cycle(running)]
+#[inline(never)]
+fn list_value<W: World>(
+    alloc: Global,
+    code: &Code,
+    state: &mut State,
+    frame: &Frame,
+    world: &mut W,
+    at: u32,
+    items: &Seq<Expr>,
+) -> Result<Value, End<W::Stop>>
+    ensures { Values W.World (list_run code.now at items.now) frame.now state.old world.old result state.new world.new }
+{
+    let values = values_of(alloc, code, state, frame, world, items.as_slice())?;
+    lift(at, list_of(alloc, values))
+}
+
 // The value of a call: the World performs it where the receiver is remote.
 #[cycle(running)]
+#[inline(never)]
 fn called_value<W: World>(
     alloc: Global,
     code: &Code,
@@ -140,6 +226,7 @@ fn called_value<W: World>(
 
 // The values of expressions from left to right.
 #[cycle(running)]
+#[inline(never)]
 fn values_of<W: World>(
     alloc: Global,
     code: &Code,
@@ -160,6 +247,7 @@ fn values_of<W: World>(
 
 /// A call of a method of the own side.
 #[cycle(running)]
+#[inline(never)]
 pub fn call_method<W: World>(
     alloc: Global,
     code: &Code,
@@ -193,6 +281,7 @@ pub fn call_method<W: World>(
 
 // A method's body: its statements, then its value.
 #[cycle(running)]
+#[inline(never)]
 fn run_body<W: World>(
     alloc: Global,
     code: &Code,
@@ -212,6 +301,7 @@ fn run_body<W: World>(
 
 // The effects of statements in order.
 #[cycle(running)]
+#[inline(never)]
 pub fn run_all<W: World>(
     alloc: Global,
     code: &Code,
@@ -230,6 +320,7 @@ pub fn run_all<W: World>(
 
 // The statements of a block, after which the first names stay, so many.
 #[cycle(running)]
+#[inline(never)]
 fn run_scope<W: World>(
     alloc: Global,
     code: &Code,
@@ -248,6 +339,7 @@ fn run_scope<W: World>(
 
 // The effect of a statement.
 #[cycle(running)]
+#[inline(never)]
 fn run_stmt<W: World>(
     alloc: Global,
     code: &Code,
@@ -260,35 +352,14 @@ fn run_stmt<W: World>(
 {
     let at = stmt.at;
     match &stmt.form {
-        StmtForm::Val(name, expr) => {
-            let value = value_of(alloc, code, state, frame, world, expr)?;
-            bind(alloc, frame, name, value)
-        }
-        StmtForm::Var(name, expr) => {
-            let value = value_of(alloc, code, state, frame, world, expr)?;
-            bind(alloc, frame, name, value)
-        }
+        StmtForm::Val(name, expr) => run_binding(alloc, code, state, frame, world, name, expr),
+        StmtForm::Var(name, expr) => run_binding(alloc, code, state, frame, world, name, expr),
         StmtForm::Assign(left, right) => assign(alloc, code, state, frame, world, at, left, right),
-        StmtForm::Run(expr) => {
-            let _value = value_of(alloc, code, state, frame, world, expr)?;
-            Ok(())
-        }
-        StmtForm::Print(expr) => {
-            let value = value_of(alloc, code, state, frame, world, expr)?;
-            print(alloc, state, world, at, value)
-        }
-        StmtForm::Throw(expr) => {
-            let value = value_of(alloc, code, state, frame, world, expr)?;
-            lift(at, thrown(alloc, value))
-        }
+        StmtForm::Run(expr) => run_expr(alloc, code, state, frame, world, expr),
+        StmtForm::Print(expr) => run_print(alloc, code, state, frame, world, at, expr),
+        StmtForm::Throw(expr) => run_throw(alloc, code, state, frame, world, at, expr),
         StmtForm::If(condition, yes, no) => {
-            let value = value_of(alloc, code, state, frame, world, condition)?;
-            let holds = lift(at, truth_of(alloc, value))?;
-            let count = frame.len();
-            if holds {
-                return run_scope(alloc, code, state, frame, world, count, yes);
-            }
-            run_scope(alloc, code, state, frame, world, count, no)
+            run_if(alloc, code, state, frame, world, at, condition, yes, no)
         }
         StmtForm::While(condition, block) => {
             run_while(alloc, code, state, frame, world, at, condition, block)
@@ -303,8 +374,80 @@ fn run_stmt<W: World>(
     }
 }
 
+// A `val` or `var`.
+#[cycle(running)]
+#[inline(never)]
+fn run_binding<W: World>(
+    alloc: Global,
+    code: &Code,
+    state: &mut State,
+    frame: &mut Frame,
+    world: &mut W,
+    name: &Word,
+    expr: &Expr,
+) -> Result<(), End<W::Stop>>
+    ensures { Effects W.World (binding_run code.now name.now expr.now) frame.old state.old world.old result frame.new state.new world.new }
+{
+    let value = value_of(alloc, code, state, frame, world, expr)?;
+    bind(alloc, frame, name, value)
+}
+
+// An expression alone.
+#[cycle(running)]
+#[inline(never)]
+fn run_expr<W: World>(
+    alloc: Global,
+    code: &Code,
+    state: &mut State,
+    frame: &mut Frame,
+    world: &mut W,
+    expr: &Expr,
+) -> Result<(), End<W::Stop>>
+    ensures { Effects W.World (alone_run code.now expr.now) frame.old state.old world.old result frame.new state.new world.new }
+{
+    let _value = value_of(alloc, code, state, frame, world, expr)?;
+    Ok(())
+}
+
+// A `print`.
+#[cycle(running)]
+#[inline(never)]
+fn run_print<W: World>(
+    alloc: Global,
+    code: &Code,
+    state: &mut State,
+    frame: &mut Frame,
+    world: &mut W,
+    at: u32,
+    expr: &Expr,
+) -> Result<(), End<W::Stop>>
+    ensures { Effects W.World (print_run code.now at expr.now) frame.old state.old world.old result frame.new state.new world.new }
+{
+    let value = value_of(alloc, code, state, frame, world, expr)?;
+    print(alloc, state, world, at, value)
+}
+
+// A `throw`.
+#[cycle(running)]
+#[inline(never)]
+fn run_throw<W: World>(
+    alloc: Global,
+    code: &Code,
+    state: &mut State,
+    frame: &mut Frame,
+    world: &mut W,
+    at: u32,
+    expr: &Expr,
+) -> Result<(), End<W::Stop>>
+    ensures { Effects W.World (throw_run code.now at expr.now) frame.old state.old world.old result frame.new state.new world.new }
+{
+    let value = value_of(alloc, code, state, frame, world, expr)?;
+    lift(at, thrown(alloc, value))
+}
+
 // An assignment to a name or a field.
 #[cycle(running)]
+#[inline(never)]
 fn assign<W: World>(
     alloc: Global,
     code: &Code,
@@ -334,8 +477,34 @@ fn assign<W: World>(
     }
 }
 
+// An `if`.
+#[cycle(running)]
+#[inline(never)]
+fn run_if<W: World>(
+    alloc: Global,
+    code: &Code,
+    state: &mut State,
+    frame: &mut Frame,
+    world: &mut W,
+    at: u32,
+    condition: &Expr,
+    yes: &Seq<Stmt>,
+    no: &Seq<Stmt>,
+) -> Result<(), End<W::Stop>>
+    ensures { Effects W.World (if_run code.now at condition.now yes.now no.now) frame.old state.old world.old result frame.new state.new world.new }
+{
+    let value = value_of(alloc, code, state, frame, world, condition)?;
+    let holds = lift(at, truth_of(alloc, value))?;
+    let count = frame.len();
+    if holds {
+        return run_scope(alloc, code, state, frame, world, count, yes);
+    }
+    run_scope(alloc, code, state, frame, world, count, no)
+}
+
 // The turns of a `while`.
 #[cycle(running)]
+#[inline(never)]
 fn run_while<W: World>(
     alloc: Global,
     code: &Code,
@@ -363,6 +532,7 @@ fn run_while<W: World>(
 
 // A loop over a list or rows.
 #[cycle(running)]
+#[inline(never)]
 fn run_for<W: World>(
     alloc: Global,
     code: &Code,
@@ -386,6 +556,7 @@ fn run_for<W: World>(
 
 // The turns of a loop over values.
 #[cycle(running)]
+#[inline(never)]
 fn run_turns<W: World>(
     alloc: Global,
     code: &Code,
@@ -411,6 +582,7 @@ fn run_turns<W: World>(
 
 // A block that is tried, and the one that handles its fault.
 #[cycle(running)]
+#[inline(never)]
 fn run_try<W: World>(
     alloc: Global,
     code: &Code,

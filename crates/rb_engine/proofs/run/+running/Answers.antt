@@ -19,68 +19,17 @@ use Rattle.rb_engine.proofs.Steps.{ok_means, helped, unhelped, unhelped_at, help
 use Rattle.rb_engine.proofs.Weight.{room, expr_weight, stmt_weight, body_weight, weight_of, weights_of, effect_of, effects_of, expr_in, stmt_in, object_light, method_light, room_falls, result_weight}
 use Rattle.rb_engine.proofs.run.+running.Goals as goal
 
-pub value_of-value_of-requires : goal.value_of-value_of-requires
-value_of-value_of-requires g t c κs within = (let w = ap expr_weight (unary_form c.args.expr.now c.in-Unary.a c.in-Unary.is) in let e = ap weight_of c.get.ensures in omega arith, within)
-
-pub value_of-returns-in_err-value-in-Unary : goal.value_of-returns-in_err-value-in-Unary
-value_of-returns-in_err-value-in-Unary g t c = expr_run _ c.args.expr.now (unary_form c.args.expr.now _ c.in-Unary.is) (rw (← c.get.ensures) (cut _ c.value_of.ensures c.in_err-value-in-Unary.was (search rules)))
-
-pub value_of-returns-in_ok-value-in-Unary : goal.value_of-returns-in_ok-value-in-Unary
-value_of-returns-in_ok-value-in-Unary g t c = expr_run _ c.args.expr.now (unary_form c.args.expr.now _ c.in-Unary.is) (rw (← c.get.ensures) (gave _ c.value_of.ensures c.in_ok-value-in-Unary.was (helped_end _ _ _ c.unary.ensures c.lift-in-Unary.ensures)))
-
 pub value_of-binary_value-requires : goal.value_of-binary_value-requires
 value_of-binary_value-requires g t c κs within = (let w = ap expr_weight (binary_form c.args.expr.now c.in-Binary.a c.in-Binary.b c.in-Binary.is) in let e = ap weight_of c.get-in-Binary.ensures in let f = ap weight_of c.get-in-Binary-2.ensures in omega arith, within)
 
 pub value_of-returns-in-Binary : goal.value_of-returns-in-Binary
 value_of-returns-in-Binary g t c = expr_run _ c.args.expr.now (binary_form c.args.expr.now _ _ c.in-Binary.is) (rw (← c.get-in-Binary.ensures, ← c.get-in-Binary-2.ensures) c.binary_value.ensures)
 
-pub value_of-value_of-requires-in-Field : goal.value_of-value_of-requires-in-Field
-value_of-value_of-requires-in-Field g t c κs within = (let w = ap expr_weight (field_form c.args.expr.now c.in-Field.a c.in-Field.is) in let e = ap weight_of c.get-in-Field.ensures in omega arith, within)
-
-pub value_of-returns-in_err-object-in-Field : goal.value_of-returns-in_err-object-in-Field
-value_of-returns-in_err-object-in-Field g t c = expr_run _ c.args.expr.now (field_form c.args.expr.now _ c.in-Field.is) (rw (← c.get-in-Field.ensures) (cut _ c.value_of-in-Field.ensures c.in_err-object-in-Field.was (search rules)))
-
-pub value_of-returns-in_ok-object-in-Field : goal.value_of-returns-in_ok-object-in-Field
-value_of-returns-in_ok-object-in-Field g t c = expr_run _ c.args.expr.now (field_form c.args.expr.now _ c.in-Field.is) (rw (← c.get-in-Field.ensures) (gave _ c.value_of-in-Field.ensures c.in_ok-object-in-Field.was (rw (← c.as_slice-in-Field.ensures) (helped_end _ _ _ c.read_field.ensures c.lift-in-Field.ensures))))
-
 pub value_of-called_value-requires : goal.value_of-called_value-requires
 value_of-called_value-requires g t c κs within = (let w = ap expr_weight (call_form c.args.expr.now c.in-Call.receiver c.in-Call.args c.in-Call.is) in let e = ap weight_of c.get-in-Call.ensures in omega arith, within)
 
 pub value_of-returns-in-Call : goal.value_of-returns-in-Call
 value_of-returns-in-Call g t c = expr_run _ c.args.expr.now (call_form c.args.expr.now _ _ c.in-Call.is) (rw (← c.get-in-Call.ensures) c.called_value.ensures)
-
-pub value_of-value_of-requires-in-Index : goal.value_of-value_of-requires-in-Index
-value_of-value_of-requires-in-Index g t c κs within = (let w = ap expr_weight (index_form c.args.expr.now c.in-Index.a c.in-Index.b c.in-Index.is) in let e = ap weight_of c.get-in-Index.ensures in omega arith, within)
-
-pub value_of-returns-in_err-list-in-Index : goal.value_of-returns-in_err-list-in-Index
-value_of-returns-in_err-list-in-Index g t c = expr_run _ c.args.expr.now (index_form c.args.expr.now _ _ c.in-Index.is) (rw (← c.get-in-Index.ensures) (cut _ c.value_of-in-Index.ensures c.in_err-list-in-Index.was (search rules)))
-
-pub value_of-value_of-requires-in-Index-2 : goal.value_of-value_of-requires-in-Index-2
-value_of-value_of-requires-in-Index-2 g t c κs within = (let w = ap expr_weight (index_form c.args.expr.now c.in-Index.a c.in-Index.b c.in-Index.is) in let e = ap weight_of c.get-in-Index-2.ensures in let d = ap (room (map mirror_class c.args.code.now)) c.value_of-in-Index.ensures.depth in omega arith, within)
-
-pub value_of-returns-in_err-index-in-Index : goal.value_of-returns-in_err-index-in-Index
-value_of-returns-in_err-index-in-Index g t c = expr_run _ c.args.expr.now (index_form c.args.expr.now _ _ c.in-Index.is) (rw (← c.get-in-Index.ensures, ← c.get-in-Index-2.ensures) (gave _ c.value_of-in-Index.ensures c.in_ok-list-in-Index.was (cut _ c.value_of-in-Index-2.ensures c.in_err-index-in-Index.was (search rules))))
-
-pub value_of-returns-in_ok-index-in-Index : goal.value_of-returns-in_ok-index-in-Index
-value_of-returns-in_ok-index-in-Index g t c = expr_run _ c.args.expr.now (index_form c.args.expr.now _ _ c.in-Index.is) (rw (← c.get-in-Index.ensures, ← c.get-in-Index-2.ensures) (gave _ c.value_of-in-Index.ensures c.in_ok-list-in-Index.was (gave _ c.value_of-in-Index-2.ensures c.in_ok-index-in-Index.was (helped_end _ _ _ c.item_of.ensures c.lift-in-Index.ensures))))
-
-pub value_of-values_of-requires : goal.value_of-values_of-requires
-value_of-values_of-requires g t c κs within = (let w = ap expr_weight (new_form c.args.expr.now c.in-New.args c.in-New.is) in let e = ap weights_of c.as_slice-in-New.ensures in omega arith, within)
-
-pub value_of-returns-in_err-fields-in-New : goal.value_of-returns-in_err-fields-in-New
-value_of-returns-in_err-fields-in-New g t c = expr_run _ c.args.expr.now (new_form c.args.expr.now _ c.in-New.is) (rw (← c.as_slice-in-New.ensures) (cut _ c.values_of.ensures c.in_err-fields-in-New.was (search rules)))
-
-pub value_of-returns-in_ok-fields-in-New : goal.value_of-returns-in_ok-fields-in-New
-value_of-returns-in_ok-fields-in-New g t c = expr_run _ c.args.expr.now (new_form c.args.expr.now _ c.in-New.is) (rw (← c.as_slice-in-New.ensures) (gave _ c.values_of.ensures c.in_ok-fields-in-New.was (changed (λ v. (v, c.construct.new.heap)) _ _ _ (λ heap. record (local c.args.frame.now c.values_of.new.state) { heap = heap }) c.values_of.new.state.heap c.construct.new.heap _ refl refl refl (λ a. refl) c.construct.ensures.gives c.construct.ensures.kept c.lift-in-New.ensures)))
-
-pub value_of-values_of-requires-in-Items : goal.value_of-values_of-requires-in-Items
-value_of-values_of-requires-in-Items g t c κs within = (let w = ap expr_weight (items_form c.args.expr.now _ c.in-Items.items c.in-Items.is) in let e = ap weights_of c.as_slice-in-Items.ensures in omega arith, within)
-
-pub value_of-returns-in_err-values-in-Items : goal.value_of-returns-in_err-values-in-Items
-value_of-returns-in_err-values-in-Items g t c = expr_run _ c.args.expr.now (items_form c.args.expr.now _ _ c.in-Items.is) (rw (← c.as_slice-in-Items.ensures) (cut _ c.values_of-in-Items.ensures c.in_err-values-in-Items.was (search rules)))
-
-pub value_of-returns-in_ok-values-in-Items : goal.value_of-returns-in_ok-values-in-Items
-value_of-returns-in_ok-values-in-Items g t c = expr_run _ c.args.expr.now (items_form c.args.expr.now _ _ c.in-Items.is) (rw (← c.as_slice-in-Items.ensures) (gave _ c.values_of-in-Items.ensures c.in_ok-values-in-Items.was (helped_end _ _ _ c.list_of.ensures c.lift-in-Items.ensures)))
 
 pub value_of-returns-in-Lit : goal.value_of-returns-in-Lit
 value_of-returns-in-Lit g t c = expr_run _ c.args.expr.now (lit_form c.args.expr.now c.in-Lit.is) (given _ _ (λ gas. refl) c.copied.ensures refl refl (omega arith) refl)
@@ -93,6 +42,42 @@ value_of-returns-in-This g t c = expr_run _ c.args.expr.now (this_form c.args.ex
 
 pub value_of-returns-in-Taken : goal.value_of-returns-in-Taken
 value_of-returns-in-Taken g t c = expr_run _ c.args.expr.now (taken_form c.args.expr.now c.in-Taken.is) (asked _ _ c.flat.ensures c.taken.ensures)
+
+pub value_of-unary_value-requires : goal.value_of-unary_value-requires
+value_of-unary_value-requires g t c κs within = (let w = ap expr_weight (unary_form c.args.expr.now c.in-Unary.a c.in-Unary.is) in let e = ap weight_of c.get.ensures in omega arith, within)
+
+pub value_of-returns-in-Unary : goal.value_of-returns-in-Unary
+value_of-returns-in-Unary g t c = expr_run _ c.args.expr.now (unary_form c.args.expr.now _ c.in-Unary.is) (rw (← c.get.ensures) c.unary_value.ensures)
+
+pub value_of-field_value-requires : goal.value_of-field_value-requires
+value_of-field_value-requires g t c κs within = (let w = ap expr_weight (field_form c.args.expr.now c.in-Field.a c.in-Field.is) in let e = ap weight_of c.get-in-Field.ensures in omega arith, within)
+
+pub value_of-returns-in-Field : goal.value_of-returns-in-Field
+value_of-returns-in-Field g t c = expr_run _ c.args.expr.now (field_form c.args.expr.now _ c.in-Field.is) (rw (← c.get-in-Field.ensures) c.field_value.ensures)
+
+pub value_of-item_value-requires : goal.value_of-item_value-requires
+value_of-item_value-requires g t c κs within = (let w = ap expr_weight (index_form c.args.expr.now c.in-Index.a c.in-Index.b c.in-Index.is) in let e = ap weight_of c.get-in-Index.ensures in let f = ap weight_of c.get-in-Index-2.ensures in omega arith, within)
+
+pub value_of-returns-in-Index : goal.value_of-returns-in-Index
+value_of-returns-in-Index g t c = expr_run _ c.args.expr.now (index_form c.args.expr.now _ _ c.in-Index.is) (rw (← c.get-in-Index.ensures, ← c.get-in-Index-2.ensures) c.item_value.ensures)
+
+pub value_of-new_value-requires : goal.value_of-new_value-requires
+value_of-new_value-requires g t c κs within = (let w = ap expr_weight (new_form c.args.expr.now c.in-New.args c.in-New.is) in omega arith, within)
+
+pub value_of-returns-in-New : goal.value_of-returns-in-New
+value_of-returns-in-New g t c = expr_run _ c.args.expr.now (new_form c.args.expr.now _ c.in-New.is) c.new_value.ensures
+
+pub value_of-list_value-requires : goal.value_of-list_value-requires
+value_of-list_value-requires g t c κs within = (let w = ap expr_weight (items_form c.args.expr.now _ c.in-Items.items c.in-Items.is) in omega arith, within)
+
+pub value_of-returns-in-Items : goal.value_of-returns-in-Items
+value_of-returns-in-Items g t c = expr_run _ c.args.expr.now (items_form c.args.expr.now _ _ c.in-Items.is) c.list_value.ensures
+
+pub unary_value-returns-in_err-value : goal.unary_value-returns-in_err-value
+unary_value-returns-in_err-value g t c = cut _ c.value_of.ensures c.in_err-value.was (search rules)
+
+pub unary_value-returns : goal.unary_value-returns
+unary_value-returns g t c = gave _ c.value_of.ensures c.in_ok-value.was (helped_end _ _ _ c.unary.ensures c.lift.ensures)
 
 pub binary_value-returns-in_err-left : goal.binary_value-returns-in_err-left
 binary_value-returns-in_err-left g t c = cut _ c.value_of.ensures c.in_err-left.was (search rules)
@@ -111,6 +96,42 @@ binary_value-returns-in_err-right-in-None g t c = gave _ c.value_of.ensures c.in
 
 pub binary_value-returns-in_ok-right-in-None : goal.binary_value-returns-in_ok-right-in-None
 binary_value-returns-in_ok-right-in-None g t c = gave _ c.value_of.ensures c.in_ok-left.was (helped (λ v. v) c.args.at c.by_left.result _ _ _ c.by_left.ensures c.lift.ensures (c.in_ok-decided.was ∙ ap Ok c.in-None.is) (gave _ c.value_of-in-None.ensures c.in_ok-right-in-None.was (helped_end _ _ _ c.binary.ensures c.lift-in-None.ensures)))
+
+pub field_value-returns-in_err-object : goal.field_value-returns-in_err-object
+field_value-returns-in_err-object g t c = cut _ c.value_of.ensures c.in_err-object.was (search rules)
+
+pub field_value-returns : goal.field_value-returns
+field_value-returns g t c = gave _ c.value_of.ensures c.in_ok-object.was (rw (← c.as_slice.ensures) (helped_end _ _ _ c.read_field.ensures c.lift.ensures))
+
+pub item_value-returns-in_err-list : goal.item_value-returns-in_err-list
+item_value-returns-in_err-list g t c = cut _ c.value_of.ensures c.in_err-list.was (search rules)
+
+pub item_value-value_of-requires-2 : goal.item_value-value_of-requires-2
+item_value-value_of-requires-2 g t c κs within = (let d = ap (room (map mirror_class c.args.code.now)) c.value_of.ensures.depth in omega arith, within)
+
+pub item_value-returns-in_err-index : goal.item_value-returns-in_err-index
+item_value-returns-in_err-index g t c = gave _ c.value_of.ensures c.in_ok-list.was (cut _ c.value_of-2.ensures c.in_err-index.was (search rules))
+
+pub item_value-returns : goal.item_value-returns
+item_value-returns g t c = gave _ c.value_of.ensures c.in_ok-list.was (gave _ c.value_of-2.ensures c.in_ok-index.was (helped_end _ _ _ c.item_of.ensures c.lift.ensures))
+
+pub new_value-values_of-requires : goal.new_value-values_of-requires
+new_value-values_of-requires g t c κs within = (let e = ap weights_of c.as_slice.ensures in omega arith, within)
+
+pub new_value-returns-in_err-fields : goal.new_value-returns-in_err-fields
+new_value-returns-in_err-fields g t c = rw (← c.as_slice.ensures) (cut _ c.values_of.ensures c.in_err-fields.was (search rules))
+
+pub new_value-returns : goal.new_value-returns
+new_value-returns g t c = rw (← c.as_slice.ensures) (gave _ c.values_of.ensures c.in_ok-fields.was (changed (λ v. (v, c.construct.new.heap)) _ _ _ (λ heap. record (local c.args.frame.now c.values_of.new.state) { heap = heap }) c.values_of.new.state.heap c.construct.new.heap _ refl refl refl (λ a. refl) c.construct.ensures.gives c.construct.ensures.kept c.lift.ensures))
+
+pub list_value-values_of-requires : goal.list_value-values_of-requires
+list_value-values_of-requires g t c κs within = (let e = ap weights_of c.as_slice.ensures in omega arith, within)
+
+pub list_value-returns-in_err-values : goal.list_value-returns-in_err-values
+list_value-returns-in_err-values g t c = rw (← c.as_slice.ensures) (cut _ c.values_of.ensures c.in_err-values.was (search rules))
+
+pub list_value-returns : goal.list_value-returns
+list_value-returns g t c = rw (← c.as_slice.ensures) (gave _ c.values_of.ensures c.in_ok-values.was (helped_end _ _ _ c.list_of.ensures c.lift.ensures))
 
 pub called_value-returns-in_err-target : goal.called_value-returns-in_err-target
 called_value-returns-in_err-target g t c = cut _ c.value_of.ensures c.in_err-target.was (search rules)
@@ -211,6 +232,93 @@ run_scope-run_all-result-requires g t c κs within = (let e = ap effects_of c.as
 pub run_scope-returns : goal.run_scope-returns
 run_scope-returns g t c = rw (← c.as_slice.ensures) (closes_after _ _ c.truncate.ensures c.run_all-result.ensures)
 
+pub run_stmt-assign-requires : goal.run_stmt-assign-requires
+run_stmt-assign-requires g t c κs within = (let w = ap stmt_weight (assign_form c.args.stmt.now c.in-Assign.left c.in-Assign.right c.in-Assign.is) in omega arith, within)
+
+pub run_stmt-returns-in-Assign : goal.run_stmt-returns-in-Assign
+run_stmt-returns-in-Assign g t c = statement_run _ c.args.stmt.now (assign_form c.args.stmt.now _ _ c.in-Assign.is) c.assign.ensures
+
+pub run_stmt-run_while-requires : goal.run_stmt-run_while-requires
+run_stmt-run_while-requires g t c κs within = (let w = ap stmt_weight (while_form c.args.stmt.now c.in-While.block c.in-While.is) in omega arith, within)
+
+pub run_stmt-returns-in-While : goal.run_stmt-returns-in-While
+run_stmt-returns-in-While g t c = statement_run _ c.args.stmt.now (while_form c.args.stmt.now _ c.in-While.is) c.run_while.ensures
+
+pub run_stmt-run_for-requires : goal.run_stmt-run_for-requires
+run_stmt-run_for-requires g t c κs within = (let w = ap stmt_weight (for_form c.args.stmt.now c.in-For.block c.in-For.is) in omega arith, within)
+
+pub run_stmt-returns-in-For : goal.run_stmt-returns-in-For
+run_stmt-returns-in-For g t c = statement_run _ c.args.stmt.now (for_form c.args.stmt.now _ c.in-For.is) c.run_for.ensures
+
+pub run_stmt-run_try-requires : goal.run_stmt-run_try-requires
+run_stmt-run_try-requires g t c κs within = (let w = ap stmt_weight (try_form c.args.stmt.now c.in-Try.tried c.in-Try.handler c.in-Try.is) in omega arith, within)
+
+pub run_stmt-returns-in-Try : goal.run_stmt-returns-in-Try
+run_stmt-returns-in-Try g t c = statement_run _ c.args.stmt.now (try_form c.args.stmt.now _ _ c.in-Try.is) c.run_try.ensures
+
+pub run_stmt-returns-in-Batch : goal.run_stmt-returns-in-Batch
+run_stmt-returns-in-Batch g t c = statement_run _ c.args.stmt.now (batch_form c.args.stmt.now _ c.in-Batch.is) (batched _ _ c.flat.ensures c.batch.ensures.performs c.batch.ensures.fuel c.batch.ensures.depth)
+
+pub run_stmt-run_binding-requires : goal.run_stmt-run_binding-requires
+run_stmt-run_binding-requires g t c κs within = (let w = ap stmt_weight (val_form c.args.stmt.now c.in-Val.is) in omega arith, within)
+
+pub run_stmt-returns-in-Val : goal.run_stmt-returns-in-Val
+run_stmt-returns-in-Val g t c = statement_run _ c.args.stmt.now (val_form c.args.stmt.now c.in-Val.is) c.run_binding.ensures
+
+pub run_stmt-run_binding-requires-in-Var : goal.run_stmt-run_binding-requires-in-Var
+run_stmt-run_binding-requires-in-Var g t c κs within = (let w = ap stmt_weight (var_form c.args.stmt.now c.in-Var.is) in omega arith, within)
+
+pub run_stmt-returns-in-Var : goal.run_stmt-returns-in-Var
+run_stmt-returns-in-Var g t c = statement_run _ c.args.stmt.now (var_form c.args.stmt.now c.in-Var.is) c.run_binding-in-Var.ensures
+
+pub run_stmt-run_expr-requires : goal.run_stmt-run_expr-requires
+run_stmt-run_expr-requires g t c κs within = (let w = ap stmt_weight (run_form c.args.stmt.now c.in-Run.is) in omega arith, within)
+
+pub run_stmt-returns-in-Run : goal.run_stmt-returns-in-Run
+run_stmt-returns-in-Run g t c = statement_run _ c.args.stmt.now (run_form c.args.stmt.now c.in-Run.is) c.run_expr.ensures
+
+pub run_stmt-run_print-requires : goal.run_stmt-run_print-requires
+run_stmt-run_print-requires g t c κs within = (let w = ap stmt_weight (print_form c.args.stmt.now c.in-Print.is) in omega arith, within)
+
+pub run_stmt-returns-in-Print : goal.run_stmt-returns-in-Print
+run_stmt-returns-in-Print g t c = statement_run _ c.args.stmt.now (print_form c.args.stmt.now c.in-Print.is) c.run_print.ensures
+
+pub run_stmt-run_throw-requires : goal.run_stmt-run_throw-requires
+run_stmt-run_throw-requires g t c κs within = (let w = ap stmt_weight (throw_form c.args.stmt.now c.in-Throw.is) in omega arith, within)
+
+pub run_stmt-returns-in-Throw : goal.run_stmt-returns-in-Throw
+run_stmt-returns-in-Throw g t c = statement_run _ c.args.stmt.now (throw_form c.args.stmt.now c.in-Throw.is) c.run_throw.ensures
+
+pub run_stmt-run_if-requires : goal.run_stmt-run_if-requires
+run_stmt-run_if-requires g t c κs within = (let w = ap stmt_weight (if_form c.args.stmt.now c.in-If.yes c.in-If.no c.in-If.is) in omega arith, within)
+
+pub run_stmt-returns-in-If : goal.run_stmt-returns-in-If
+run_stmt-returns-in-If g t c = statement_run _ c.args.stmt.now (if_form c.args.stmt.now _ _ c.in-If.is) c.run_if.ensures
+
+pub run_binding-returns-in_err-value : goal.run_binding-returns-in_err-value
+run_binding-returns-in_err-value g t c = cut _ c.value_of.ensures c.in_err-value.was (search rules)
+
+pub run_binding-returns : goal.run_binding-returns
+run_binding-returns g t c = gave _ c.value_of.ensures c.in_ok-value.was (bound_after _ _ _ c.bind.ensures)
+
+pub run_expr-returns-in_err-_value : goal.run_expr-returns-in_err-_value
+run_expr-returns-in_err-_value g t c = cut _ c.value_of.ensures c.in_err-_value.was (search rules)
+
+pub run_expr-returns : goal.run_expr-returns
+run_expr-returns g t c = gave _ c.value_of.ensures c.in_ok-_value.was (ended _)
+
+pub run_print-returns-in_err-value : goal.run_print-returns-in_err-value
+run_print-returns-in_err-value g t c = cut _ c.value_of.ensures c.in_err-value.was (search rules)
+
+pub run_print-returns : goal.run_print-returns
+run_print-returns g t c = gave _ c.value_of.ensures c.in_ok-value.was (c.print.ensures c.args.frame.now)
+
+pub run_throw-returns-in_err-value : goal.run_throw-returns-in_err-value
+run_throw-returns-in_err-value g t c = cut _ c.value_of.ensures c.in_err-value.was (search rules)
+
+pub run_throw-returns : goal.run_throw-returns
+run_throw-returns g t c = gave _ c.value_of.ensures c.in_ok-value.was (helped_end _ _ (Err (throws (out-Value c.in_ok-value.value))) c.thrown.ensures c.lift.ensures)
+
 pub assign-returns-in_err-value-in-Name : goal.assign-returns-in_err-value-in-Name
 assign-returns-in_err-value-in-Name g t c = at_run (λ gas. name_written (bodies c.args.code.now gas) c.args.at c.args.left.now _ _ _ c.in-Name.ensures) (cut _ c.value_of.ensures c.in_err-value-in-Name.was (search rules))
 
@@ -235,98 +343,56 @@ assign-returns-in_ok-value-in-Field g t c = at_run (λ gas. field_written (bodie
 pub assign-returns-in-Other : goal.assign-returns-in-Other
 assign-returns-in-Other g t c = at_run (λ gas. nothing_assigned (bodies c.args.code.now gas) c.args.at (mirror_expr c.args.left.now) _ _ c.in-Other.ensures) (by_result (c.lift-in-Other.ensures ∙ ap (λ k. lifted c.args.at (Err k)) c.kind.ensures) (stands _))
 
-pub run_stmt-value_of-requires : goal.run_stmt-value_of-requires
-run_stmt-value_of-requires g t c κs within = (let w = ap stmt_weight (val_form c.args.stmt.now c.in-Val.is) in omega arith, within)
+pub run_if-returns-in_err-value : goal.run_if-returns-in_err-value
+run_if-returns-in_err-value g t c = cut _ c.value_of.ensures c.in_err-value.was (search rules)
 
-pub run_stmt-returns-in_err-value-in-Val : goal.run_stmt-returns-in_err-value-in-Val
-run_stmt-returns-in_err-value-in-Val g t c = statement_run _ c.args.stmt.now (val_form c.args.stmt.now c.in-Val.is) (cut _ c.value_of.ensures c.in_err-value-in-Val.was (search rules))
+pub run_if-returns-in_err-holds : goal.run_if-returns-in_err-holds
+run_if-returns-in_err-holds g t c = gave _ c.value_of.ensures c.in_ok-value.was (unhelped (λ b. b) c.args.at c.truth_of.result (truth_of (out-Value c.in_ok-value.value)) _ c.truth_of.ensures c.lift.ensures c.in_err-holds.was (search rules))
 
-pub run_stmt-returns-in_ok-value-in-Val : goal.run_stmt-returns-in_ok-value-in-Val
-run_stmt-returns-in_ok-value-in-Val g t c = statement_run _ c.args.stmt.now (val_form c.args.stmt.now c.in-Val.is) (gave _ c.value_of.ensures c.in_ok-value-in-Val.was (bound_after _ _ _ c.bind.ensures))
+pub run_if-run_scope-requires : goal.run_if-run_scope-requires
+run_if-run_scope-requires g t c κs within = (let d = ap (room (map mirror_class c.args.code.now)) c.value_of.ensures.depth in omega arith, within)
 
-pub run_stmt-value_of-requires-in-Var : goal.run_stmt-value_of-requires-in-Var
-run_stmt-value_of-requires-in-Var g t c κs within = (let w = ap stmt_weight (var_form c.args.stmt.now c.in-Var.is) in omega arith, within)
+pub run_if-returns-then-holds : goal.run_if-returns-then-holds
+run_if-returns-then-holds g t c = gave _ c.value_of.ensures c.in_ok-value.was (helped (λ b. b) c.args.at c.truth_of.result (truth_of (out-Value c.in_ok-value.value)) _ _ c.truth_of.ensures c.lift.ensures c.in_ok-holds.was (rw c.if-holds.true (plain_block _ _ _ c.len-count.ensures c.run_scope.ensures)))
 
-pub run_stmt-returns-in_err-value-in-Var : goal.run_stmt-returns-in_err-value-in-Var
-run_stmt-returns-in_err-value-in-Var g t c = statement_run _ c.args.stmt.now (var_form c.args.stmt.now c.in-Var.is) (cut _ c.value_of-in-Var.ensures c.in_err-value-in-Var.was (search rules))
+pub run_if-run_scope-requires-2 : goal.run_if-run_scope-requires-2
+run_if-run_scope-requires-2 g t c κs within = (let d = ap (room (map mirror_class c.args.code.now)) c.value_of.ensures.depth in omega arith, within)
 
-pub run_stmt-returns-in_ok-value-in-Var : goal.run_stmt-returns-in_ok-value-in-Var
-run_stmt-returns-in_ok-value-in-Var g t c = statement_run _ c.args.stmt.now (var_form c.args.stmt.now c.in-Var.is) (gave _ c.value_of-in-Var.ensures c.in_ok-value-in-Var.was (bound_after _ _ _ c.bind-in-Var.ensures))
+pub run_if-returns : goal.run_if-returns
+run_if-returns g t c = gave _ c.value_of.ensures c.in_ok-value.was (helped (λ b. b) c.args.at c.truth_of.result (truth_of (out-Value c.in_ok-value.value)) _ _ c.truth_of.ensures c.lift.ensures c.in_ok-holds.was (rw c.if-holds.false (plain_block _ _ _ c.len-count.ensures c.run_scope-2.ensures)))
 
-pub run_stmt-assign-requires : goal.run_stmt-assign-requires
-run_stmt-assign-requires g t c κs within = (let w = ap stmt_weight (assign_form c.args.stmt.now c.in-Assign.left c.in-Assign.right c.in-Assign.is) in omega arith, within)
+pub run_while-turns-init : goal.run_while-turns-init
+run_while-turns-init g t c = record { depth = refl; fuel = omega arith; leads = λ gas le. (gas, le, leads_to_itself) }
 
-pub run_stmt-returns-in-Assign : goal.run_stmt-returns-in-Assign
-run_stmt-returns-in-Assign g t c = statement_run _ c.args.stmt.now (assign_form c.args.stmt.now _ _ c.in-Assign.is) c.assign.ensures
+pub run_while-value_of-requires : goal.run_while-value_of-requires
+run_while-value_of-requires g t c κs within = (let d = ap (room (map mirror_class c.args.code.now)) c.turns.invariant.depth in omega arith, within)
 
-pub run_stmt-value_of-requires-in-Run : goal.run_stmt-value_of-requires-in-Run
-run_stmt-value_of-requires-in-Run g t c κs within = (let w = ap stmt_weight (run_form c.args.stmt.now c.in-Run.is) in omega arith, within)
+pub run_while-returns-in_err-value : goal.run_while-returns-in_err-value
+run_while-returns-in_err-value g t c = by_result (search rules) (unfixed (λ gas le. let i = c.turns.invariant.leads gas le in let f = c.turns.invariant.fuel in i.2.by _ _ (while_fails i.0 c.args.at (value_run c.args.code.now c.args.condition.now gas) (block (stmts_run c.args.code.now c.args.block.now gas)) (fixed gas (omega arith) c.value_of.ensures) c.in_err-value.was)))
 
-pub run_stmt-returns-in_err-_value-in-Run : goal.run_stmt-returns-in_err-_value-in-Run
-run_stmt-returns-in_err-_value-in-Run g t c = statement_run _ c.args.stmt.now (run_form c.args.stmt.now c.in-Run.is) (cut _ c.value_of-in-Run.ensures c.in_err-_value-in-Run.was (search rules))
+pub run_while-returns-in_err-holds : goal.run_while-returns-in_err-holds
+run_while-returns-in_err-holds g t c = by_result (search rules) (unfixed (λ gas le. let i = c.turns.invariant.leads gas le in let f = c.turns.invariant.fuel in i.2.by _ _ (while_unclear i.0 c.args.at (value_run c.args.code.now c.args.condition.now gas) (block (stmts_run c.args.code.now c.args.block.now gas)) c.truth_of.result (fixed gas (omega arith) c.value_of.ensures) c.in_ok-value.was c.truth_of.ensures c.lift.ensures c.in_err-holds.was)))
 
-pub run_stmt-returns-in_ok-_value-in-Run : goal.run_stmt-returns-in_ok-_value-in-Run
-run_stmt-returns-in_ok-_value-in-Run g t c = statement_run _ c.args.stmt.now (run_form c.args.stmt.now c.in-Run.is) (gave _ c.value_of-in-Run.ensures c.in_ok-_value-in-Run.was (ended _))
+pub run_while-returns-then-not-holds : goal.run_while-returns-then-not-holds
+run_while-returns-then-not-holds g t c = unfixed (λ gas le. let i = c.turns.invariant.leads gas le in let f = c.turns.invariant.fuel in i.2.by _ _ (while_false i.0 c.args.at (value_run c.args.code.now c.args.condition.now gas) (block (stmts_run c.args.code.now c.args.block.now gas)) c.truth_of.result (fixed gas (omega arith) c.value_of.ensures) c.in_ok-value.was c.truth_of.ensures c.lift.ensures (c.in_ok-holds.was ∙ ap Ok c.if-not-holds.true)))
 
-pub run_stmt-value_of-requires-in-Print : goal.run_stmt-value_of-requires-in-Print
-run_stmt-value_of-requires-in-Print g t c κs within = (let w = ap stmt_weight (print_form c.args.stmt.now c.in-Print.is) in omega arith, within)
+pub run_while-returns-in_err-lift : goal.run_while-returns-in_err-lift
+run_while-returns-in_err-lift g t c = by_result (search rules) (unfixed (λ gas le. let i = c.turns.invariant.leads gas le in let f = c.turns.invariant.fuel in i.2.by _ _ (while_true i.0 c.args.at (value_run c.args.code.now c.args.condition.now gas) (block (stmts_run c.args.code.now c.args.block.now gas)) c.truth_of.result (fixed gas (omega arith) c.value_of.ensures) c.in_ok-value.was c.truth_of.ensures c.lift.ensures (c.in_ok-holds.was ∙ ap Ok c.if-not-holds.false) (unit_missing c.args.at (block (stmts_run c.args.code.now c.args.block.now gas)) (while_turns i.0 c.args.at (value_run c.args.code.now c.args.condition.now gas) (block (stmts_run c.args.code.now c.args.block.now gas))) c.check_unit.result c.check_unit.ensures c.lift-in-turns.ensures c.in_err-lift.was))))
 
-pub run_stmt-returns-in_err-value-in-Print : goal.run_stmt-returns-in_err-value-in-Print
-run_stmt-returns-in_err-value-in-Print g t c = statement_run _ c.args.stmt.now (print_form c.args.stmt.now c.in-Print.is) (cut _ c.value_of-in-Print.ensures c.in_err-value-in-Print.was (search rules))
+pub run_while-overflow_sub-state : goal.run_while-overflow_sub-state
+run_while-overflow_sub-state g t c = let low = (fuel_left c.args.at c.value_of.new.state.fuel c.check_unit.result c.check_unit.ensures c.lift-in-turns.ensures c.in_ok-lift.was) in omega arith
 
-pub run_stmt-returns-in_ok-value-in-Print : goal.run_stmt-returns-in_ok-value-in-Print
-run_stmt-returns-in_ok-value-in-Print g t c = statement_run _ c.args.stmt.now (print_form c.args.stmt.now c.in-Print.is) (gave _ c.value_of-in-Print.ensures c.in_ok-value-in-Print.was (c.print.ensures c.args.frame.now))
+pub run_while-run_scope-requires : goal.run_while-run_scope-requires
+run_while-run_scope-requires g t c κs within = (let d = ap (room (map mirror_class c.args.code.now)) (c.value_of.ensures.depth ∙ c.turns.invariant.depth) in omega arith, within)
 
-pub run_stmt-value_of-requires-in-Throw : goal.run_stmt-value_of-requires-in-Throw
-run_stmt-value_of-requires-in-Throw g t c κs within = (let w = ap stmt_weight (throw_form c.args.stmt.now c.in-Throw.is) in omega arith, within)
+pub run_while-returns-in_err-run_scope : goal.run_while-returns-in_err-run_scope
+run_while-returns-in_err-run_scope g t c = by_result (search rules) (unfixed (λ gas le. let i = c.turns.invariant.leads gas le in let f = c.turns.invariant.fuel in i.2.by _ _ (while_true i.0 c.args.at (value_run c.args.code.now c.args.condition.now gas) (block (stmts_run c.args.code.now c.args.block.now gas)) c.truth_of.result (fixed gas (omega arith) c.value_of.ensures) c.in_ok-value.was c.truth_of.ensures c.lift.ensures (c.in_ok-holds.was ∙ ap Ok c.if-not-holds.false) (unit_wasted c.args.at (block (stmts_run c.args.code.now c.args.block.now gas)) (while_turns i.0 c.args.at (value_run c.args.code.now c.args.condition.now gas) (block (stmts_run c.args.code.now c.args.block.now gas))) c.check_unit.result c.check_unit.ensures c.lift-in-turns.ensures c.in_ok-lift.was (fixed gas (let x = c.value_of.ensures.fuel in omega arith) (plain_block _ _ _ c.len-count.ensures c.run_scope.ensures)) c.in_err-run_scope.was))))
 
-pub run_stmt-returns-in_err-value-in-Throw : goal.run_stmt-returns-in_err-value-in-Throw
-run_stmt-returns-in_err-value-in-Throw g t c = statement_run _ c.args.stmt.now (throw_form c.args.stmt.now c.in-Throw.is) (cut _ c.value_of-in-Throw.ensures c.in_err-value-in-Throw.was (search rules))
+pub run_while-turns-smaller : goal.run_while-turns-smaller
+run_while-turns-smaller g t c = let low = (fuel_left c.args.at c.value_of.new.state.fuel c.check_unit.result c.check_unit.ensures c.lift-in-turns.ensures c.in_ok-lift.was) in let x = c.value_of.ensures.fuel in let y = c.run_scope.ensures.fuel in omega arith
 
-pub run_stmt-returns-in_ok-value-in-Throw : goal.run_stmt-returns-in_ok-value-in-Throw
-run_stmt-returns-in_ok-value-in-Throw g t c = statement_run _ c.args.stmt.now (throw_form c.args.stmt.now c.in-Throw.is) (gave _ c.value_of-in-Throw.ensures c.in_ok-value-in-Throw.was (helped_end _ _ (Err (throws (out-Value c.in_ok-value-in-Throw.value))) c.thrown.ensures c.lift.ensures))
-
-pub run_stmt-value_of-requires-in-If : goal.run_stmt-value_of-requires-in-If
-run_stmt-value_of-requires-in-If g t c κs within = (let w = ap stmt_weight (if_form c.args.stmt.now c.in-If.yes c.in-If.no c.in-If.is) in omega arith, within)
-
-pub run_stmt-returns-in_err-value-in-If : goal.run_stmt-returns-in_err-value-in-If
-run_stmt-returns-in_err-value-in-If g t c = statement_run _ c.args.stmt.now (if_form c.args.stmt.now _ _ c.in-If.is) (cut _ c.value_of-in-If.ensures c.in_err-value-in-If.was (search rules))
-
-pub run_stmt-returns-in_err-holds-in-If : goal.run_stmt-returns-in_err-holds-in-If
-run_stmt-returns-in_err-holds-in-If g t c = statement_run _ c.args.stmt.now (if_form c.args.stmt.now _ _ c.in-If.is) (gave _ c.value_of-in-If.ensures c.in_ok-value-in-If.was (unhelped (λ b. b) c.args.stmt.now.at c.truth_of.result (truth_of (out-Value c.in_ok-value-in-If.value)) _ c.truth_of.ensures c.lift-in-If.ensures c.in_err-holds-in-If.was (search rules)))
-
-pub run_stmt-run_scope-requires : goal.run_stmt-run_scope-requires
-run_stmt-run_scope-requires g t c κs within = (let w = ap stmt_weight (if_form c.args.stmt.now c.in-If.yes c.in-If.no c.in-If.is) in let d = ap (room (map mirror_class c.args.code.now)) c.value_of-in-If.ensures.depth in omega arith, within)
-
-pub run_stmt-returns-then-holds : goal.run_stmt-returns-then-holds
-run_stmt-returns-then-holds g t c = statement_run _ c.args.stmt.now (if_form c.args.stmt.now _ _ c.in-If.is) (gave _ c.value_of-in-If.ensures c.in_ok-value-in-If.was (helped (λ b. b) c.args.stmt.now.at c.truth_of.result (truth_of (out-Value c.in_ok-value-in-If.value)) _ _ c.truth_of.ensures c.lift-in-If.ensures c.in_ok-holds-in-If.was (rw c.if-holds.true (plain_block _ _ _ c.len-count.ensures c.run_scope.ensures))))
-
-pub run_stmt-run_scope-requires-in-If : goal.run_stmt-run_scope-requires-in-If
-run_stmt-run_scope-requires-in-If g t c κs within = (let w = ap stmt_weight (if_form c.args.stmt.now c.in-If.yes c.in-If.no c.in-If.is) in let d = ap (room (map mirror_class c.args.code.now)) c.value_of-in-If.ensures.depth in omega arith, within)
-
-pub run_stmt-returns-else-holds : goal.run_stmt-returns-else-holds
-run_stmt-returns-else-holds g t c = statement_run _ c.args.stmt.now (if_form c.args.stmt.now _ _ c.in-If.is) (gave _ c.value_of-in-If.ensures c.in_ok-value-in-If.was (helped (λ b. b) c.args.stmt.now.at c.truth_of.result (truth_of (out-Value c.in_ok-value-in-If.value)) _ _ c.truth_of.ensures c.lift-in-If.ensures c.in_ok-holds-in-If.was (rw c.if-holds.false (plain_block _ _ _ c.len-count.ensures c.run_scope-in-If.ensures))))
-
-pub run_stmt-run_while-requires : goal.run_stmt-run_while-requires
-run_stmt-run_while-requires g t c κs within = (let w = ap stmt_weight (while_form c.args.stmt.now c.in-While.block c.in-While.is) in omega arith, within)
-
-pub run_stmt-returns-in-While : goal.run_stmt-returns-in-While
-run_stmt-returns-in-While g t c = statement_run _ c.args.stmt.now (while_form c.args.stmt.now _ c.in-While.is) c.run_while.ensures
-
-pub run_stmt-run_for-requires : goal.run_stmt-run_for-requires
-run_stmt-run_for-requires g t c κs within = (let w = ap stmt_weight (for_form c.args.stmt.now c.in-For.block c.in-For.is) in omega arith, within)
-
-pub run_stmt-returns-in-For : goal.run_stmt-returns-in-For
-run_stmt-returns-in-For g t c = statement_run _ c.args.stmt.now (for_form c.args.stmt.now _ c.in-For.is) c.run_for.ensures
-
-pub run_stmt-run_try-requires : goal.run_stmt-run_try-requires
-run_stmt-run_try-requires g t c κs within = (let w = ap stmt_weight (try_form c.args.stmt.now c.in-Try.tried c.in-Try.handler c.in-Try.is) in omega arith, within)
-
-pub run_stmt-returns-in-Try : goal.run_stmt-returns-in-Try
-run_stmt-returns-in-Try g t c = statement_run _ c.args.stmt.now (try_form c.args.stmt.now _ _ c.in-Try.is) c.run_try.ensures
-
-pub run_stmt-returns-in-Batch : goal.run_stmt-returns-in-Batch
-run_stmt-returns-in-Batch g t c = statement_run _ c.args.stmt.now (batch_form c.args.stmt.now _ c.in-Batch.is) (batched _ _ c.flat.ensures c.batch.ensures.performs c.batch.ensures.fuel c.batch.ensures.depth)
+pub run_while-turns-preserved : goal.run_while-turns-preserved
+run_while-turns-preserved g t c = record { depth = c.run_scope.ensures.depth ∙ c.value_of.ensures.depth ∙ c.turns.invariant.depth; fuel = (let f = c.turns.invariant.fuel in let x = c.value_of.ensures.fuel in let y = c.run_scope.ensures.fuel in omega arith); leads = λ gas le. let i = c.turns.invariant.leads gas le in let f = c.turns.invariant.fuel in let x = c.value_of.ensures.fuel in let y = c.run_scope.ensures.fuel in let low = (fuel_left c.args.at c.value_of.new.state.fuel c.check_unit.result c.check_unit.ensures c.lift-in-turns.ensures c.in_ok-lift.was) in let n = turn_more i.0 c.value_of.new.state.fuel c.args.at (value_run c.args.code.now c.args.condition.now gas) (block (stmts_run c.args.code.now c.args.block.now gas)) (local c.run_scope.new.frame c.run_scope.new.state) low (omega arith) in (n.0, omega arith, record { by = λ r s m. i.2.by r s (while_true i.0 c.args.at (value_run c.args.code.now c.args.condition.now gas) (block (stmts_run c.args.code.now c.args.block.now gas)) c.truth_of.result (fixed gas (omega arith) c.value_of.ensures) c.in_ok-value.was c.truth_of.ensures c.lift.ensures (c.in_ok-holds.was ∙ ap Ok c.if-not-holds.false) (unit_taken c.args.at (block (stmts_run c.args.code.now c.args.block.now gas)) (while_turns i.0 c.args.at (value_run c.args.code.now c.args.condition.now gas) (block (stmts_run c.args.code.now c.args.block.now gas))) c.check_unit.result c.check_unit.ensures c.lift-in-turns.ensures c.in_ok-lift.was (fixed gas (let x = c.value_of.ensures.fuel in omega arith) (plain_block _ _ _ c.len-count.ensures c.run_scope.ensures)) c.in_ok-run_scope.was (at_run (λ any. n.2) m))) }) }
 
 pub run_for-returns-in_err-value : goal.run_for-returns-in_err-value
 run_for-returns-in_err-value g t c = cut _ c.value_of.ensures c.in_err-value.was (search rules)
@@ -379,38 +445,5 @@ run_try-returns-in-Err-Stopped g t c = sequel_of_stop _ (plain_block _ _ _ c.len
 pub run_try-returns-in-Ok : goal.run_try-returns-in-Ok
 run_try-returns-in-Ok g t c = try_fine c.args.code.now c.args.tried.now c.args.name.now c.args.handler.now (plain_block _ _ _ c.len-count.ensures c.run_scope.ensures) c.in-Ok.is
 
-pub run_while-turns-init : goal.run_while-turns-init
-run_while-turns-init g t c = record { depth = refl; fuel = omega arith; leads = λ gas le. (gas, le, leads_to_itself) }
-
-pub run_while-value_of-requires : goal.run_while-value_of-requires
-run_while-value_of-requires g t c κs within = (let d = ap (room (map mirror_class c.args.code.now)) c.turns.invariant.depth in omega arith, within)
-
-pub run_while-returns-in_err-value : goal.run_while-returns-in_err-value
-run_while-returns-in_err-value g t c = by_result (search rules) (unfixed (λ gas le. let i = c.turns.invariant.leads gas le in let f = c.turns.invariant.fuel in i.2.by _ _ (while_fails i.0 c.args.at (value_run c.args.code.now c.args.condition.now gas) (block (stmts_run c.args.code.now c.args.block.now gas)) (fixed gas (omega arith) c.value_of.ensures) c.in_err-value.was)))
-
-pub run_while-returns-in_err-holds : goal.run_while-returns-in_err-holds
-run_while-returns-in_err-holds g t c = by_result (search rules) (unfixed (λ gas le. let i = c.turns.invariant.leads gas le in let f = c.turns.invariant.fuel in i.2.by _ _ (while_unclear i.0 c.args.at (value_run c.args.code.now c.args.condition.now gas) (block (stmts_run c.args.code.now c.args.block.now gas)) c.truth_of.result (fixed gas (omega arith) c.value_of.ensures) c.in_ok-value.was c.truth_of.ensures c.lift.ensures c.in_err-holds.was)))
-
-pub run_while-returns-then-not-holds : goal.run_while-returns-then-not-holds
-run_while-returns-then-not-holds g t c = unfixed (λ gas le. let i = c.turns.invariant.leads gas le in let f = c.turns.invariant.fuel in i.2.by _ _ (while_false i.0 c.args.at (value_run c.args.code.now c.args.condition.now gas) (block (stmts_run c.args.code.now c.args.block.now gas)) c.truth_of.result (fixed gas (omega arith) c.value_of.ensures) c.in_ok-value.was c.truth_of.ensures c.lift.ensures (c.in_ok-holds.was ∙ ap Ok c.if-not-holds.true)))
-
-pub run_while-returns-in_err-lift : goal.run_while-returns-in_err-lift
-run_while-returns-in_err-lift g t c = by_result (search rules) (unfixed (λ gas le. let i = c.turns.invariant.leads gas le in let f = c.turns.invariant.fuel in i.2.by _ _ (while_true i.0 c.args.at (value_run c.args.code.now c.args.condition.now gas) (block (stmts_run c.args.code.now c.args.block.now gas)) c.truth_of.result (fixed gas (omega arith) c.value_of.ensures) c.in_ok-value.was c.truth_of.ensures c.lift.ensures (c.in_ok-holds.was ∙ ap Ok c.if-not-holds.false) (unit_missing c.args.at (block (stmts_run c.args.code.now c.args.block.now gas)) (while_turns i.0 c.args.at (value_run c.args.code.now c.args.condition.now gas) (block (stmts_run c.args.code.now c.args.block.now gas))) c.check_unit.result c.check_unit.ensures c.lift-in-turns.ensures c.in_err-lift.was))))
-
 pub run_try-returns-in_err-bind_caught-in-Err-Raised : goal.run_try-returns-in_err-bind_caught-in-Err-Raised
 run_try-returns-in_err-bind_caught-in-Err-Raised g t c = by_result (want (search rules) c.in_err-bind_caught-in-Err-Raised.ensures) (no_memory _ c.run_scope.ensures.fuel c.run_scope.ensures.depth)
-
-pub run_while-overflow_sub-state : goal.run_while-overflow_sub-state
-run_while-overflow_sub-state g t c = let low = (fuel_left c.args.at c.value_of.new.state.fuel c.check_unit.result c.check_unit.ensures c.lift-in-turns.ensures c.in_ok-lift.was) in omega arith
-
-pub run_while-run_scope-requires : goal.run_while-run_scope-requires
-run_while-run_scope-requires g t c κs within = (let d = ap (room (map mirror_class c.args.code.now)) (c.value_of.ensures.depth ∙ c.turns.invariant.depth) in omega arith, within)
-
-pub run_while-returns-in_err-run_scope : goal.run_while-returns-in_err-run_scope
-run_while-returns-in_err-run_scope g t c = by_result (search rules) (unfixed (λ gas le. let i = c.turns.invariant.leads gas le in let f = c.turns.invariant.fuel in i.2.by _ _ (while_true i.0 c.args.at (value_run c.args.code.now c.args.condition.now gas) (block (stmts_run c.args.code.now c.args.block.now gas)) c.truth_of.result (fixed gas (omega arith) c.value_of.ensures) c.in_ok-value.was c.truth_of.ensures c.lift.ensures (c.in_ok-holds.was ∙ ap Ok c.if-not-holds.false) (unit_wasted c.args.at (block (stmts_run c.args.code.now c.args.block.now gas)) (while_turns i.0 c.args.at (value_run c.args.code.now c.args.condition.now gas) (block (stmts_run c.args.code.now c.args.block.now gas))) c.check_unit.result c.check_unit.ensures c.lift-in-turns.ensures c.in_ok-lift.was (fixed gas (let x = c.value_of.ensures.fuel in omega arith) (plain_block _ _ _ c.len-count.ensures c.run_scope.ensures)) c.in_err-run_scope.was))))
-
-pub run_while-turns-smaller : goal.run_while-turns-smaller
-run_while-turns-smaller g t c = let low = (fuel_left c.args.at c.value_of.new.state.fuel c.check_unit.result c.check_unit.ensures c.lift-in-turns.ensures c.in_ok-lift.was) in let x = c.value_of.ensures.fuel in let y = c.run_scope.ensures.fuel in omega arith
-
-pub run_while-turns-preserved : goal.run_while-turns-preserved
-run_while-turns-preserved g t c = record { depth = c.run_scope.ensures.depth ∙ c.value_of.ensures.depth ∙ c.turns.invariant.depth; fuel = (let f = c.turns.invariant.fuel in let x = c.value_of.ensures.fuel in let y = c.run_scope.ensures.fuel in omega arith); leads = λ gas le. let i = c.turns.invariant.leads gas le in let f = c.turns.invariant.fuel in let x = c.value_of.ensures.fuel in let y = c.run_scope.ensures.fuel in let low = (fuel_left c.args.at c.value_of.new.state.fuel c.check_unit.result c.check_unit.ensures c.lift-in-turns.ensures c.in_ok-lift.was) in let n = turn_more i.0 c.value_of.new.state.fuel c.args.at (value_run c.args.code.now c.args.condition.now gas) (block (stmts_run c.args.code.now c.args.block.now gas)) (local c.run_scope.new.frame c.run_scope.new.state) low (omega arith) in (n.0, omega arith, record { by = λ r s m. i.2.by r s (while_true i.0 c.args.at (value_run c.args.code.now c.args.condition.now gas) (block (stmts_run c.args.code.now c.args.block.now gas)) c.truth_of.result (fixed gas (omega arith) c.value_of.ensures) c.in_ok-value.was c.truth_of.ensures c.lift.ensures (c.in_ok-holds.was ∙ ap Ok c.if-not-holds.false) (unit_taken c.args.at (block (stmts_run c.args.code.now c.args.block.now gas)) (while_turns i.0 c.args.at (value_run c.args.code.now c.args.condition.now gas) (block (stmts_run c.args.code.now c.args.block.now gas))) c.check_unit.result c.check_unit.ensures c.lift-in-turns.ensures c.in_ok-lift.was (fixed gas (let x = c.value_of.ensures.fuel in omega arith) (plain_block _ _ _ c.len-count.ensures c.run_scope.ensures)) c.in_ok-run_scope.was (at_run (λ any. n.2) m))) }) }

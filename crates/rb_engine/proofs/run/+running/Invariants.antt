@@ -17,6 +17,36 @@ decreases-value_of g l = room (map mirror_class l.code.now) l.state.now.depth + 
 abbrev pub decreases-binary_value : goal.decreases-binary_value
 decreases-binary_value g l = room (map mirror_class l.code.now) l.state.now.depth + max (expr_weight (mirror_expr l.a.now)) (expr_weight (mirror_expr l.b.now)) + 1
 
+abbrev pub decreases-unary_value : goal.decreases-unary_value
+decreases-unary_value g l = room (map mirror_class l.code.now) l.state.now.depth + expr_weight (mirror_expr l.a.now) + 1
+
+abbrev pub decreases-field_value : goal.decreases-field_value
+decreases-field_value g l = room (map mirror_class l.code.now) l.state.now.depth + expr_weight (mirror_expr l.a.now) + 1
+
+abbrev pub decreases-item_value : goal.decreases-item_value
+decreases-item_value g l = room (map mirror_class l.code.now) l.state.now.depth + max (expr_weight (mirror_expr l.a.now)) (expr_weight (mirror_expr l.b.now)) + 1
+
+abbrev pub decreases-new_value : goal.decreases-new_value
+decreases-new_value g l = room (map mirror_class l.code.now) l.state.now.depth + exprs_weight (mirror_exprs l.args.now) + 2
+
+abbrev pub decreases-list_value : goal.decreases-list_value
+decreases-list_value g l = room (map mirror_class l.code.now) l.state.now.depth + exprs_weight (mirror_exprs l.items.now) + 2
+
+abbrev pub decreases-run_binding : goal.decreases-run_binding
+decreases-run_binding g l = room (map mirror_class l.code.now) l.state.now.depth + expr_weight (mirror_expr l.expr.now) + 1
+
+abbrev pub decreases-run_expr : goal.decreases-run_expr
+decreases-run_expr g l = room (map mirror_class l.code.now) l.state.now.depth + expr_weight (mirror_expr l.expr.now) + 1
+
+abbrev pub decreases-run_print : goal.decreases-run_print
+decreases-run_print g l = room (map mirror_class l.code.now) l.state.now.depth + expr_weight (mirror_expr l.expr.now) + 1
+
+abbrev pub decreases-run_throw : goal.decreases-run_throw
+decreases-run_throw g l = room (map mirror_class l.code.now) l.state.now.depth + expr_weight (mirror_expr l.expr.now) + 1
+
+abbrev pub decreases-run_if : goal.decreases-run_if
+decreases-run_if g l = room (map mirror_class l.code.now) l.state.now.depth + max (expr_weight (mirror_expr l.condition.now)) (max (stmts_weight (mirror_stmts l.yes.now)) (stmts_weight (mirror_stmts l.no.now))) + 3
+
 abbrev pub decreases-called_value : goal.decreases-called_value
 decreases-called_value g l = room (map mirror_class l.code.now) l.state.now.depth + max (expr_weight (mirror_expr l.receiver.now)) (exprs_weight (mirror_exprs l.args.now)) + 2
 
