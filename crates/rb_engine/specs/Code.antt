@@ -14,7 +14,7 @@ use Rattle.rb_trees.specs.declared.values.Fault.{Fault}
 use Rattle.rb_trees.specs.mirror.Declarations.{Method, mirror_class, mirror_body}
 use Rattle.rb_meaning_code.specs.Faults.{raises}
 use Rattle.rb_meaning_code.specs.State.{Local, bound}
-use Rattle.rb_meaning_code.specs.Dialogue.{Run, seq, next, end}
+use Rattle.rb_meaning_code.specs.Dialogue.{Taken, Ask, Run, seq, next, end}
 use Rattle.rb_meaning_code.specs.Operators.{shown_value}
 use Rattle.rb_meaning_code.specs.Calls.{Bodies, call, called_method}
 use Rattle.rb_meaning_code.specs.Expressions.{list_of, evaluates, evaluates_all}
@@ -114,3 +114,7 @@ line_run at v gas l = prints at (shown_value (out-Value v)) l
 -- the method that is called on a receiver
 abbrev pub method_called : List class.Class → List Object → Value → List ℕ → ℕ → Result Method Fault
 method_called classes heap receiver name count = called_method (map mirror_class classes) heap (out-Value receiver) name count
+
+-- the value that a step of the script kept
+abbrev pub taken_run : ℕ → ℕ → Local → Run Value
+taken_run step gas l = Ask (Taken step) (end l)

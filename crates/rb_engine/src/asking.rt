@@ -1,7 +1,7 @@
 // What code asks of its World, with what is checked before.
 
 ghost use Rattle.rb_trees.specs.declared.values.Value.{out-Value};
-ghost use Rattle.rb_engine.specs.Code.{line_run, begin_run};
+ghost use Rattle.rb_engine.specs.Code.{line_run, begin_run, taken_run};
 ghost use Rattle.rb_engine.specs.Worlds.{AnyNames};
 
 use crate::conditions::shown;
@@ -47,4 +47,12 @@ pub fn print<W: World>(
 {
     let line = lift(at, shown(alloc, &value))?;
     flat(world.line(at, line.as_slice()))
+}
+
+/// The value that a step of the script kept.
+#[inline(never)]
+pub fn taken<W: World>(state: &State, world: &mut W, step: u32) -> Result<Value, End<W::Stop>>
+    ensures { AnyNames W.World (taken_run step) state.now world.old result state.now world.new }
+{
+    flat(world.taken(step))
 }

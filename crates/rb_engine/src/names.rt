@@ -6,9 +6,9 @@ ghost use Rattle.rb_trees.specs.Outcome.{Gives};
 ghost use Rattle.rb_trees.specs.declared.values.Value.{out-Value};
 ghost use Rattle.rb_meaning_code.specs.Expressions as rules;
 ghost use Rattle.rb_meaning_code.specs.Statements as statements;
-ghost use Rattle.rb_engine.specs.Ends.{fault_of, UnlessMemory};
+ghost use Rattle.rb_engine.specs.Ends.{fault_of, GivesAt, UnlessMemory};
 
-use crate::ends::{End, Refusal};
+use crate::ends::{End, Refusal, lift};
 use crate::faults::kind;
 use crate::frame::Frame;
 use rb_trees::{Seq, Value, Word, copy_value, copy_word};
@@ -36,15 +36,22 @@ pub fn add<X>(values: &mut Seq<Value>, value: Value) -> Result<(), End<X>>
     }
 }
 
-/// The value of a name in scope: `value_of`.
-#[inline(never)]
-pub fn named_value(alloc: Global, frame: &Frame, name: &[u8]) -> Result<Value, Refusal>
+// The value of a name in scope: `value_of`.
+fn found_value(alloc: Global, frame: &Frame, name: &[u8]) -> Result<Value, Refusal>
     ensures { Gives (λ v. v) fault_of result (rules.value_of frame.now name.now) }
 {
     match frame.find(name) {
         Some(value) => Ok(copy_value(value)?),
         None => Err(kind(alloc)),
     }
+}
+
+/// The value of a name in scope, at a position: `value_of`.
+#[inline(never)]
+pub fn named_value<X>(alloc: Global, frame: &Frame, at: u32, name: &[u8]) -> Result<Value, End<X>>
+    ensures { GivesAt (λ v. v) at result (rules.value_of frame.now name.now) }
+{
+    lift(at, found_value(alloc, frame, name))
 }
 
 /// Binds a name to a value.

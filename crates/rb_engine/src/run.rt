@@ -5,7 +5,7 @@
 ghost use Rattle.rb_engine.specs.Code.{value_run, values_run, unary_run, binary_run, field_run, item_run, new_run, list_run, called_run, call_run, body_run, stmt_run, stmts_run, binding_run, alone_run, print_run, throw_run, assign_run, scope_run, if_run, while_run, for_run, turns_run, try_run};
 ghost use Rattle.rb_engine.specs.Worlds.{AnyNames, Effects, Values};
 
-use crate::asking::{begin_turn, print};
+use crate::asking::{begin_turn, print, taken};
 use crate::conditions::{bind_caught, is_caught, is_remote, thrown, truth_of};
 use crate::ends::{End, flat, lift};
 use crate::faults::kind;
@@ -38,8 +38,8 @@ pub fn value_of<W: World>(
     let at = expr.at;
     match &expr.form {
         ExprForm::Lit(value) => copied(value),
-        ExprForm::Name(name) => lift(at, named_value(alloc, frame, name.as_slice())),
-        ExprForm::This => lift(at, named_value(alloc, frame, b"this")),
+        ExprForm::Name(name) => named_value(alloc, frame, at, name.as_slice()),
+        ExprForm::This => named_value(alloc, frame, at, b"this"),
         ExprForm::Unary(op, a) => unary_value(alloc, code, state, frame, world, at, *op, a.get()),
         ExprForm::Binary(op, a, b) => {
             binary_value(alloc, code, state, frame, world, at, *op, a.get(), b.get())
@@ -65,7 +65,7 @@ pub fn value_of<W: World>(
         }
         ExprForm::New(name, args) => new_value(alloc, code, state, frame, world, at, name, args),
         ExprForm::Items(_, items) => list_value(alloc, code, state, frame, world, at, items),
-        ExprForm::Taken(step) => flat(world.taken(*step)),
+        ExprForm::Taken(step) => taken(state, world, *step),
     }
 }
 

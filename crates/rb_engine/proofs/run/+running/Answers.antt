@@ -35,13 +35,13 @@ pub value_of-returns-in-Lit : goal.value_of-returns-in-Lit
 value_of-returns-in-Lit g t c = expr_run _ c.args.expr.now (lit_form c.args.expr.now c.in-Lit.is) (given _ _ (λ gas. refl) c.copied.ensures refl refl (omega arith) refl)
 
 pub value_of-returns-in-Name : goal.value_of-returns-in-Name
-value_of-returns-in-Name g t c = expr_run _ c.args.expr.now (name_form c.args.expr.now c.in-Name.is) (rw (← c.as_slice.ensures) (helped_end _ _ _ c.named_value.ensures c.lift.ensures))
+value_of-returns-in-Name g t c = expr_run _ c.args.expr.now (name_form c.args.expr.now c.in-Name.is) (rw (← c.as_slice.ensures) (helped_end _ _ _ c.named_value.ensures.gives c.named_value.ensures.lifts))
 
 pub value_of-returns-in-This : goal.value_of-returns-in-This
-value_of-returns-in-This g t c = expr_run _ c.args.expr.now (this_form c.args.expr.now c.in-This.is) (helped_end _ _ _ c.named_value-in-This.ensures c.lift-in-This.ensures)
+value_of-returns-in-This g t c = expr_run _ c.args.expr.now (this_form c.args.expr.now c.in-This.is) (helped_end _ _ _ c.named_value-in-This.ensures.gives c.named_value-in-This.ensures.lifts)
 
 pub value_of-returns-in-Taken : goal.value_of-returns-in-Taken
-value_of-returns-in-Taken g t c = expr_run _ c.args.expr.now (taken_form c.args.expr.now c.in-Taken.is) (asked _ _ c.flat.ensures c.taken.ensures)
+value_of-returns-in-Taken g t c = expr_run _ c.args.expr.now (taken_form c.args.expr.now c.in-Taken.is) (c.taken.ensures c.args.frame.now)
 
 pub value_of-unary_value-requires : goal.value_of-unary_value-requires
 value_of-unary_value-requires g t c κs within = (let w = ap expr_weight (unary_form c.args.expr.now c.in-Unary.a c.in-Unary.is) in let e = ap weight_of c.get.ensures in omega arith, within)
