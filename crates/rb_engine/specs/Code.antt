@@ -16,7 +16,8 @@ use Rattle.rb_meaning_code.specs.Faults.{raises}
 use Rattle.rb_meaning_code.specs.State.{Local, bound}
 use Rattle.rb_meaning_code.specs.Dialogue.{Taken, Ask, Run, seq, next, end}
 use Rattle.rb_meaning_code.specs.Operators.{shown_value}
-use Rattle.rb_meaning_code.specs.Calls.{Bodies, call, called_method}
+use Rattle.rb_meaning_code.specs.Objects.{constructed}
+use Rattle.rb_meaning_code.specs.Calls.{Bodies, call, called_method, own_method}
 use Rattle.rb_meaning_code.specs.Expressions.{list_of, evaluates, evaluates_all}
 use Rattle.rb_meaning_code.specs.Statements.{Effect, nothing, by_truth, throws, performs, performs_all, closes, block, assignment, while_turns, turns, turns_over, list_turn, row_turn, handles, prints}
 use Rattle.rb_meaning_code.specs.Bodies.{bodies_of, runs}
@@ -114,6 +115,14 @@ line_run at v gas l = prints at (shown_value (out-Value v)) l
 -- the method that is called on a receiver
 abbrev pub method_called : List class.Class → List Object → Value → List ℕ → ℕ → Result Method Fault
 method_called classes heap receiver name count = called_method (map mirror_class classes) heap (out-Value receiver) name count
+
+-- the same where the receiver is an own object
+abbrev pub own_method_called : List class.Class → List Object → ℕ → List ℕ → ℕ → Result Method Fault
+own_method_called classes heap object name count = own_method (map mirror_class classes) heap object name count
+
+-- a new object, and the heap with it
+abbrev pub object_made : List class.Class → List Object → List ℕ → List Value → Result (Value × List Object) Fault
+object_made classes heap name values = constructed (map mirror_class classes) heap name values
 
 -- the value that a step of the script kept
 abbrev pub taken_run : ℕ → ℕ → Local → Run Value
