@@ -14,7 +14,7 @@ use Rattle.rb_trees.specs.declared.values.Fault.{Fault}
 use Rattle.rb_trees.specs.mirror.Declarations.{Method, mirror_class, mirror_body}
 use Rattle.rb_meaning_code.specs.Faults.{raises}
 use Rattle.rb_meaning_code.specs.State.{Local, bound}
-use Rattle.rb_meaning_code.specs.Dialogue.{Taken, Ask, Run, seq, next, end}
+use Rattle.rb_meaning_code.specs.Dialogue.{Taken, Invoke, Done, Ask, AskBatch, Run, seq, next, end}
 use Rattle.rb_meaning_code.specs.Operators.{shown_value}
 use Rattle.rb_meaning_code.specs.Objects.{constructed}
 use Rattle.rb_meaning_code.specs.Calls.{Bodies, call, called_method, own_method}
@@ -127,3 +127,10 @@ object_made classes heap name values = constructed (map mirror_class classes) he
 -- the value that a step of the script kept
 abbrev pub taken_run : ℕ → ℕ → Local → Run Value
 taken_run step gas l = Ask (Taken step) (end l)
+
+-- a remote call whose receiver and arguments were evaluated
+abbrev pub invoked_run : ℕ → Value → List ℕ → List Value → ℕ → Local → Run Value
+invoked_run at target name args gas l = Ask (Invoke at target name args) (end l)
+
+abbrev pub batch_run : ℕ → ℕ → Effect
+batch_run at gas l = AskBatch at l Done

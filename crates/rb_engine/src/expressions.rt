@@ -6,10 +6,10 @@
 ghost use Rattle.rb_engine.specs.Code.{value_run, unary_run, binary_run, field_run, item_run, new_run, list_run, called_run, values_run};
 ghost use Rattle.rb_engine.specs.Worlds.{Values};
 
-use crate::asking::taken;
+use crate::asking::{invoke, taken};
 use crate::calls::call_method;
 use crate::conditions::is_remote;
-use crate::ends::{End, flat, lift};
+use crate::ends::{End, lift};
 use crate::frame::Frame;
 use crate::names::{add, copied, named_value};
 use crate::objects::{construct, read_field};
@@ -209,7 +209,7 @@ fn called_value<W: World>(
     let target = value_of(alloc, code, state, frame, world, receiver)?;
     let values = values_of(alloc, code, state, frame, world, args.as_slice())?;
     if is_remote(&target) {
-        return flat(world.invoke(at, target, name.as_slice(), values));
+        return invoke(state, world, at, target, name.as_slice(), values);
     }
     call_method(
         alloc,

@@ -3,10 +3,10 @@
 ghost use Rattle.rb_engine.specs.Code.{stmts_run, scope_run, stmt_run, binding_run, alone_run, print_run, throw_run, assign_run};
 ghost use Rattle.rb_engine.specs.Worlds.{Effects};
 
-use crate::asking::print;
+use crate::asking::{perform_batch, print};
 use crate::conditions::thrown;
 use crate::control::{run_for, run_if, run_try, run_while};
-use crate::ends::{End, flat, lift};
+use crate::ends::{End, lift};
 use crate::expressions::value_of;
 use crate::faults::kind;
 use crate::frame::Frame;
@@ -90,7 +90,7 @@ fn run_stmt<W: World>(
         StmtForm::Try(tried, name, handler) => {
             run_try(alloc, code, state, frame, world, tried, name, handler)
         }
-        StmtForm::Batch(_, _, _) => flat(world.batch(at, state, frame)),
+        StmtForm::Batch(_, _, _) => perform_batch(state, frame, world, at),
     }
 }
 

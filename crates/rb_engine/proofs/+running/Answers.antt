@@ -15,7 +15,7 @@ use Rattle.rb_engine.proofs.Forms.{lit_form, name_form, this_form, unary_form, b
 use Rattle.rb_engine.proofs.Loops.{leads_to_itself, values_begin, leads_far, one_value, no_value, no_more_values, with_value, one_effect, no_effect, no_more_effects, plain_block, bound_block, one_turn, no_turn, half_turn, no_more_turns}
 use Rattle.rb_engine.proofs.Parts.{expr_run, statement_run, remote_called, own_called, turns_by_form, name_written, field_written, nothing_assigned, fuel_left, depth_left}
 use Rattle.rb_engine.proofs.Runs.{gave, cut, at_run, by_result, ended, stands, no_memory, sequel_of_stop, fixed, unfixed}
-use Rattle.rb_engine.proofs.Steps.{ok_means, helped, unhelped, unhelped_at, helped_end, changed, given, asked, batched, bound_after, closes_after, want}
+use Rattle.rb_engine.proofs.Steps.{ok_means, helped, unhelped, unhelped_at, helped_end, changed, given, bound_after, closes_after, want}
 use Rattle.rb_engine.proofs.Weight.{room, expr_weight, stmt_weight, body_weight, weight_of, weights_of, effect_of, effects_of, expr_in, stmt_in, object_light, method_light, room_falls, result_weight}
 use Rattle.rb_engine.proofs.+running.Goals as goal
 
@@ -143,7 +143,7 @@ pub expressions::called_value-returns-in_err-values : goal.expressions::called_v
 expressions::called_value-returns-in_err-values g t c = rw (← c.as_slice.ensures) (gave _ c.value_of.ensures c.in_ok-target.was (cut _ c.values_of.ensures c.in_err-values.was (search rules)))
 
 pub expressions::called_value-returns-then-is_remote : goal.expressions::called_value-returns-then-is_remote
-expressions::called_value-returns-then-is_remote g t c = rw (← c.as_slice.ensures) (gave _ c.value_of.ensures c.in_ok-target.was (gave _ c.values_of.ensures c.in_ok-values.was (at_run (λ gas. remote_called (bodies c.args.code.now gas) c.args.at c.in_ok-target.target (out-Value c.in_ok-target.target) c.args.name.now c.in_ok-values.values (local c.args.frame.now c.values_of.new.state) (sym c.is_remote.ensures ∙ c.if-is_remote.true)) (rw (← c.as_slice-then-is_remote.ensures) (asked _ _ c.flat.ensures c.invoke.ensures)))))
+expressions::called_value-returns-then-is_remote g t c = rw (← c.as_slice.ensures) (gave _ c.value_of.ensures c.in_ok-target.was (gave _ c.values_of.ensures c.in_ok-values.was (at_run (λ gas. remote_called (bodies c.args.code.now gas) c.args.at c.in_ok-target.target (out-Value c.in_ok-target.target) c.args.name.now c.in_ok-values.values (local c.args.frame.now c.values_of.new.state) (sym c.is_remote.ensures ∙ c.if-is_remote.true)) (rw (← c.as_slice-then-is_remote.ensures) (c.invoke.ensures c.args.frame.now)))))
 
 pub expressions::called_value-call_method-requires : goal.expressions::called_value-call_method-requires
 expressions::called_value-call_method-requires g t c κs within = (let d = ap (room (map mirror_class c.args.code.now)) (c.values_of.ensures.depth ∙ c.value_of.ensures.depth) in omega arith, within)
@@ -257,7 +257,7 @@ pub statements::run_stmt-returns-in-Try : goal.statements::run_stmt-returns-in-T
 statements::run_stmt-returns-in-Try g t c = statement_run _ c.args.stmt.now (try_form c.args.stmt.now _ _ c.in-Try.is) c.run_try.ensures
 
 pub statements::run_stmt-returns-in-Batch : goal.statements::run_stmt-returns-in-Batch
-statements::run_stmt-returns-in-Batch g t c = statement_run _ c.args.stmt.now (batch_form c.args.stmt.now _ c.in-Batch.is) (batched _ _ c.flat.ensures c.batch.ensures.performs c.batch.ensures.fuel c.batch.ensures.depth)
+statements::run_stmt-returns-in-Batch g t c = statement_run _ c.args.stmt.now (batch_form c.args.stmt.now _ c.in-Batch.is) c.perform_batch.ensures
 
 pub statements::run_stmt-run_binding-requires : goal.statements::run_stmt-run_binding-requires
 statements::run_stmt-run_binding-requires g t c κs within = (let w = ap stmt_weight (val_form c.args.stmt.now c.in-Val.is) in omega arith, within)
