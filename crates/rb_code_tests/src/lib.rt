@@ -2,6 +2,4 @@
 #![tactic(auto)]
 
 #[cfg(test)]
-mod differ;
-#[cfg(test)]
 mod look_ups;

@@ -1,6 +1,7 @@
 -- What the trees of code mean, within so much gas.
-use Rattle.std.specs.Prelude.{ℕ, suc, List, Result, map}
+use Rattle.std.specs.Prelude.{ℕ, suc, List, Result, Err, map}
 use Rattle.rb_trees.specs.declared.values.Value.{Value, out-Value}
+use Rattle.rb_trees.specs.declared.code.UnOp.{UnOp}
 use Rattle.rb_trees.specs.declared.code.BinOp.{BinOp}
 use Rattle.rb_trees.specs.declared.code.Expr as expr
 use Rattle.rb_trees.specs.declared.code.Stmt as stmt
@@ -11,12 +12,14 @@ use Rattle.rb_trees.specs.mirror.Code.{mirror_expr, mirror_exprs, mirror_stmt, m
 use Rattle.rb_trees.specs.declared.services.Object.{Object}
 use Rattle.rb_trees.specs.declared.values.Fault.{Fault}
 use Rattle.rb_trees.specs.mirror.Declarations.{Method, mirror_class, mirror_body}
-use Rattle.rb_meaning_code.specs.State.{Local}
-use Rattle.rb_meaning_code.specs.Dialogue.{Run, seq, next}
+use Rattle.rb_meaning_code.specs.Faults.{raises}
+use Rattle.rb_meaning_code.specs.State.{Local, bound}
+use Rattle.rb_meaning_code.specs.Dialogue.{Taken, Invoke, Done, Ask, AskBatch, Run, seq, next, end}
 use Rattle.rb_meaning_code.specs.Operators.{shown_value}
-use Rattle.rb_meaning_code.specs.Calls.{Bodies, call, called_method}
-use Rattle.rb_meaning_code.specs.Expressions.{evaluates, evaluates_all}
-use Rattle.rb_meaning_code.specs.Statements.{Effect, performs, performs_all, closes, block, assignment, while_turns, turns, turns_over, list_turn, row_turn, handles, prints}
+use Rattle.rb_meaning_code.specs.Objects.{constructed}
+use Rattle.rb_meaning_code.specs.Calls.{Bodies, call, called_method, own_method}
+use Rattle.rb_meaning_code.specs.Expressions.{list_of, evaluates, evaluates_all}
+use Rattle.rb_meaning_code.specs.Statements.{Effect, nothing, by_truth, throws, performs, performs_all, closes, block, assignment, while_turns, turns, turns_over, list_turn, row_turn, handles, prints}
 use Rattle.rb_meaning_code.specs.Bodies.{bodies_of, runs}
 use Rattle.rb_engine.specs.declared.targets.Turns.{Turns}
 use Rattle.rb_engine.specs.declared.targets.Turns.TheVariants as over
@@ -42,11 +45,41 @@ body_run classes b gas l = runs (bodies classes gas) gas (mirror_body b) l
 abbrev pub call_run : List class.Class → ℕ → Value → List ℕ → List Value → ℕ → Local → Run Value
 call_run classes at receiver name args gas l = call (bodies classes gas) at receiver name args l
 
+abbrev pub unary_run : List class.Class → ℕ → UnOp → expr.Expr → ℕ → Local → Run Value
+unary_run classes at op a gas l = evaluates (bodies classes gas) (code.Unary at op (mirror_expr a)) l
+
 abbrev pub binary_run : List class.Class → ℕ → BinOp → expr.Expr → expr.Expr → ℕ → Local → Run Value
 binary_run classes at op a b gas l = evaluates (bodies classes gas) (code.Binary at op (mirror_expr a) (mirror_expr b)) l
 
+abbrev pub field_run : List class.Class → ℕ → expr.Expr → List ℕ → ℕ → Local → Run Value
+field_run classes at a name gas l = evaluates (bodies classes gas) (code.Field at (mirror_expr a) name) l
+
+abbrev pub item_run : List class.Class → ℕ → expr.Expr → expr.Expr → ℕ → Local → Run Value
+item_run classes at a b gas l = evaluates (bodies classes gas) (code.Index at (mirror_expr a) (mirror_expr b)) l
+
+abbrev pub new_run : List class.Class → ℕ → List ℕ → List expr.Expr → ℕ → Local → Run Value
+new_run classes at name args gas l = evaluates (bodies classes gas) (code.New at name (mirror_exprs args)) l
+
+-- a list by its items, whatever their type
+abbrev pub list_run : List class.Class → ℕ → List expr.Expr → ℕ → Local → Run Value
+list_run classes at items gas l = next (values_run classes items gas l) (λ vs l1. end l1 (raises at (list_of vs)))
+
 abbrev pub called_run : List class.Class → ℕ → expr.Expr → List ℕ → List expr.Expr → ℕ → Local → Run Value
 called_run classes at receiver name args gas l = evaluates (bodies classes gas) (code.Call at (mirror_expr receiver) name (mirror_exprs args)) l
+
+-- a `val` or `var`
+abbrev pub binding_run : List class.Class → List ℕ → expr.Expr → ℕ → Effect
+binding_run classes name e gas l = next (value_run classes e gas l) (λ v l1. nothing (bound name v l1))
+
+-- an expression alone
+abbrev pub alone_run : List class.Class → expr.Expr → ℕ → Effect
+alone_run classes e gas l = next (value_run classes e gas l) (λ v l1. nothing l1)
+
+abbrev pub print_run : List class.Class → ℕ → expr.Expr → ℕ → Effect
+print_run classes at e gas l = next (value_run classes e gas l) (λ v l1. prints at (shown_value (out-Value v)) l1)
+
+abbrev pub throw_run : List class.Class → ℕ → expr.Expr → ℕ → Effect
+throw_run classes at e gas l = next (value_run classes e gas l) (λ v l1. end l1 (raises at (Err (throws (out-Value v)))))
 
 abbrev pub assign_run : List class.Class → ℕ → expr.Expr → expr.Expr → ℕ → Effect
 assign_run classes at left right gas l = assignment (bodies classes gas) at (mirror_expr left) (mirror_expr right) l
@@ -54,6 +87,10 @@ assign_run classes at left right gas l = assignment (bodies classes gas) at (mir
 -- the statements of a block, after which the first names stay
 abbrev pub scope_run : List class.Class → ℕ → List stmt.Stmt → ℕ → Effect
 scope_run classes count ss gas l = seq (stmts_run classes ss gas l) (closes count)
+
+abbrev pub if_run : List class.Class → ℕ → expr.Expr → List stmt.Stmt → List stmt.Stmt → ℕ → Effect
+if_run classes at c a b gas l =
+    next (value_run classes c gas l) (λ v l1. by_truth at v (block (stmts_run classes a gas)) (block (stmts_run classes b gas)) l1)
 
 abbrev pub while_run : List class.Class → ℕ → expr.Expr → List stmt.Stmt → ℕ → Effect
 while_run classes at condition ss gas l = while_turns (suc gas) at (value_run classes condition gas) (block (stmts_run classes ss gas)) l
@@ -78,3 +115,22 @@ line_run at v gas l = prints at (shown_value (out-Value v)) l
 -- the method that is called on a receiver
 abbrev pub method_called : List class.Class → List Object → Value → List ℕ → ℕ → Result Method Fault
 method_called classes heap receiver name count = called_method (map mirror_class classes) heap (out-Value receiver) name count
+
+-- the same where the receiver is an own object
+abbrev pub own_method_called : List class.Class → List Object → ℕ → List ℕ → ℕ → Result Method Fault
+own_method_called classes heap object name count = own_method (map mirror_class classes) heap object name count
+
+-- a new object, and the heap with it
+abbrev pub object_made : List class.Class → List Object → List ℕ → List Value → Result (Value × List Object) Fault
+object_made classes heap name values = constructed (map mirror_class classes) heap name values
+
+-- the value that a step of the script kept
+abbrev pub taken_run : ℕ → ℕ → Local → Run Value
+taken_run step gas l = Ask (Taken step) (end l)
+
+-- a remote call whose receiver and arguments were evaluated
+abbrev pub invoked_run : ℕ → Value → List ℕ → List Value → ℕ → Local → Run Value
+invoked_run at target name args gas l = Ask (Invoke at target name args) (end l)
+
+abbrev pub batch_run : ℕ → ℕ → Effect
+batch_run at gas l = AskBatch at l Done

@@ -1,5 +1,6 @@
 -- How code ends early, as the code says it.
 use Rattle.std.specs.Prelude.{◌≡◌, ℕ, Option, Some, None, Result, Ok, Err, MatchResult}
+use Rattle.rb_trees.specs.Outcome.{Gives}
 use Rattle.rb_trees.specs.declared.values.Fault.{Fault}
 use Rattle.rb_trees.specs.declared.outcomes.Raised.{Raised}
 use Rattle.rb_meaning_code.specs.Faults.{raised}
@@ -20,6 +21,12 @@ abbrev pub lifted : {T X : Type 0} → ℕ → Result T Refusal → Result T (En
 lifted at (Ok value) = Ok value
 lifted at (Err (refusal.Fault fault)) = Err (end.Raised (raised fault at))
 lifted at (Err refusal.Memory) = Err end.NoMemory
+
+-- what a rule gives to code at a position, unless memory runs out
+pub record GivesAt {T Y X : Type 0} (view : T → Y) (at : ℕ) (result : Result T (End X)) (rule : Result Y Fault) : Type 0 where
+  pub outcome : Result T Refusal
+  pub gives : Gives view fault_of outcome rule
+  pub lifts : result ≡ lifted at outcome
 
 -- a step with its kinds of end as one
 abbrev pub flattened : {T X : Type 0} → Result (Result T Raised) (Halt X) → Result T (End X)

@@ -1,19 +1,21 @@
 // What code asks of its World, with what is checked before.
 
 ghost use Rattle.rb_trees.specs.declared.values.Value.{out-Value};
-ghost use Rattle.rb_engine.specs.Code.{line_run, begin_run};
-ghost use Rattle.rb_engine.specs.Worlds.{AnyNames};
+ghost use Rattle.rb_engine.specs.Code.{line_run, begin_run, taken_run, invoked_run, batch_run};
+ghost use Rattle.rb_engine.specs.Worlds.{AnyNames, Effects};
 
 use crate::conditions::shown;
 use crate::ends::{End, flat, lift};
+use crate::frame::Frame;
 use crate::state::State;
 use crate::targets::Turns;
 use crate::units::check_unit;
 use crate::world::World;
-use rb_trees::Value;
+use rb_trees::{Seq, Value};
 use std::alloc::Global;
 
 /// A turn of a loop begins.
+#[inline(never)]
 pub fn begin_turn<W: World>(
     alloc: Global,
     state: &mut State,
@@ -34,6 +36,7 @@ pub fn begin_turn<W: World>(
 }
 
 /// Prints the line of a value.
+#[inline(never)]
 pub fn print<W: World>(
     alloc: Global,
     state: &State,
@@ -45,4 +48,40 @@ pub fn print<W: World>(
 {
     let line = lift(at, shown(alloc, &value))?;
     flat(world.line(at, line.as_slice()))
+}
+
+/// The value that a step of the script kept.
+#[inline(never)]
+pub fn taken<W: World>(state: &State, world: &mut W, step: u32) -> Result<Value, End<W::Stop>>
+    ensures { AnyNames W.World (taken_run step) state.now world.old result state.now world.new }
+{
+    flat(world.taken(step))
+}
+
+/// The value of a remote call whose receiver and arguments were evaluated.
+#[inline(never)]
+pub fn invoke<W: World>(
+    state: &State,
+    world: &mut W,
+    at: u32,
+    target: Value,
+    name: &[u8],
+    args: Seq<Value>,
+) -> Result<Value, End<W::Stop>>
+    ensures { AnyNames W.World (invoked_run at target name.now args) state.now world.old result state.now world.new }
+{
+    flat(world.invoke(at, target, name, args))
+}
+
+/// A batch, which is lent the state and the names.
+#[inline(never)]
+pub fn perform_batch<W: World>(
+    state: &mut State,
+    frame: &mut Frame,
+    world: &mut W,
+    at: u32,
+) -> Result<(), End<W::Stop>>
+    ensures { Effects W.World (batch_run at) frame.old state.old world.old result frame.new state.new world.new }
+{
+    flat(world.batch(at, state, frame))
 }

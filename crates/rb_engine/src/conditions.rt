@@ -28,6 +28,7 @@ fn truth_in(alloc: Global, value: &Value) -> Result<bool, Refusal>
 }
 
 /// The truth of a condition: `truth_of`.
+#[inline(never)]
 pub fn truth_of(alloc: Global, value: Value) -> Result<bool, Refusal>
     ensures { Gives (λ holds. holds) fault_of result (rules.truth_of (out-Value value)) }
 {
@@ -35,6 +36,7 @@ pub fn truth_of(alloc: Global, value: Value) -> Result<bool, Refusal>
 }
 
 /// The fault that `throw` ends by: `throws`.
+#[inline(never)]
 pub fn thrown(alloc: Global, value: Value) -> Result<(), Refusal>
     ensures { Gives (λ u. u) fault_of result (Err (rules.throws (out-Value value))) }
 {
@@ -122,6 +124,7 @@ fn caught_value(alloc: Global, fault: &Fault) -> Result<Value, Memory>
 }
 
 /// Binds a name to what is caught of a fault.
+#[inline(never)]
 pub fn bind_caught<X>(
     alloc: Global,
     frame: &mut Frame,

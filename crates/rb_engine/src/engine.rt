@@ -5,10 +5,12 @@ ghost use Rattle.rb_engine.specs.Code.{value_run, call_run, stmts_run};
 ghost use Rattle.rb_engine.specs.Ends.{flattened};
 ghost use Rattle.rb_engine.specs.Worlds.{AnyNames, Effects, Values};
 
+use crate::calls::call_method;
 use crate::ends::step_of;
+use crate::expressions::value_of;
 use crate::frame::Frame;
-use crate::run::{call_method, run_all, value_of};
 use crate::state::State;
+use crate::statements::run_all;
 use crate::world::{Step, World};
 use rb_code::Code;
 use rb_trees::{Expr, Seq, Stmt, Value};

@@ -75,6 +75,7 @@ impl Frame {
     }
 
     /// Keeps the first `count` names.
+    #[inline(never)]
     pub fn truncate(&mut self, count: usize)
         ensures { self.new ≡ take count self.old }
     {

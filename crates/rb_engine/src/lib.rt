@@ -5,9 +5,12 @@
 #![tactic(auto)]
 
 mod asking;
+mod calls;
 mod conditions;
+mod control;
 mod ends;
 mod engine;
+mod expressions;
 mod faults;
 mod frame;
 mod names;
@@ -15,9 +18,9 @@ mod numbers;
 mod objects;
 mod operators;
 mod pairs;
-mod run;
 mod service;
 mod state;
+mod statements;
 mod targets;
 mod units;
 mod world;

@@ -6,15 +6,16 @@ ghost use Rattle.rb_trees.specs.Outcome.{Gives};
 ghost use Rattle.rb_trees.specs.declared.values.Value.{out-Value};
 ghost use Rattle.rb_meaning_code.specs.Expressions as rules;
 ghost use Rattle.rb_meaning_code.specs.Statements as statements;
-ghost use Rattle.rb_engine.specs.Ends.{fault_of, UnlessMemory};
+ghost use Rattle.rb_engine.specs.Ends.{fault_of, GivesAt, UnlessMemory};
 
-use crate::ends::{End, Refusal};
+use crate::ends::{End, Refusal, lift};
 use crate::faults::kind;
 use crate::frame::Frame;
 use rb_trees::{Seq, Value, Word, copy_value, copy_word};
 use std::alloc::Global;
 
 /// A copy of a value, which costs nothing.
+#[inline(never)]
 pub fn copied<X>(value: &Value) -> Result<Value, End<X>>
     ensures { UnlessMemory result (λ v. v ≡ value.now) }
 {
@@ -25,6 +26,7 @@ pub fn copied<X>(value: &Value) -> Result<Value, End<X>>
 }
 
 /// Adds a value at the end.
+#[inline(never)]
 pub fn add<X>(values: &mut Seq<Value>, value: Value) -> Result<(), End<X>>
     ensures { UnlessMemory result (λ u. values.new ≡ values.old ++ value ∷ []) }
 {
@@ -34,8 +36,8 @@ pub fn add<X>(values: &mut Seq<Value>, value: Value) -> Result<(), End<X>>
     }
 }
 
-/// The value of a name in scope: `value_of`.
-pub fn named_value(alloc: Global, frame: &Frame, name: &[u8]) -> Result<Value, Refusal>
+// The value of a name in scope: `value_of`.
+fn found_value(alloc: Global, frame: &Frame, name: &[u8]) -> Result<Value, Refusal>
     ensures { Gives (λ v. v) fault_of result (rules.value_of frame.now name.now) }
 {
     match frame.find(name) {
@@ -44,7 +46,16 @@ pub fn named_value(alloc: Global, frame: &Frame, name: &[u8]) -> Result<Value, R
     }
 }
 
+/// The value of a name in scope, at a position: `value_of`.
+#[inline(never)]
+pub fn named_value<X>(alloc: Global, frame: &Frame, at: u32, name: &[u8]) -> Result<Value, End<X>>
+    ensures { GivesAt (λ v. v) at result (rules.value_of frame.now name.now) }
+{
+    lift(at, found_value(alloc, frame, name))
+}
+
 /// Binds a name to a value.
+#[inline(never)]
 pub fn bind<X>(alloc: Global, frame: &mut Frame, name: &Word, value: Value) -> Result<(), End<X>>
     ensures { UnlessMemory result (λ u. frame.new ≡ frame.old ++ (name.now, value) ∷ []) }
 {
@@ -58,6 +69,7 @@ pub fn bind<X>(alloc: Global, frame: &mut Frame, name: &Word, value: Value) -> R
 }
 
 /// Binds a name to a copy of a value.
+#[inline(never)]
 pub fn bind_copy<X>(
     alloc: Global,
     frame: &mut Frame,
@@ -73,6 +85,7 @@ pub fn bind_copy<X>(
 }
 
 /// Gives a name another value: `assigned`. After an error the names are as they were.
+#[inline(never)]
 pub fn set_name(alloc: Global, frame: &mut Frame, name: &[u8], value: Value) -> Result<(), Refusal>
     ensures gives { Gives (λ u. frame.new) fault_of result (statements.assigned frame.old name.now value) }
     ensures kept { OnErr result (frame.new ≡ frame.old) }

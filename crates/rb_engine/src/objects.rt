@@ -5,11 +5,10 @@ ghost use Rattle.std.specs.Prelude.{◌≡◌, ◌++◌, map, IfOk, OnOk, OnErr}
 ghost use Rattle.rb_trees.specs.Outcome.{Gives};
 ghost use Rattle.rb_trees.specs.declared.values.Value.{out-Value};
 ghost use Rattle.rb_trees.specs.mirror.Declarations.{mirror_param, mirror_class, mirror_method};
-ghost use Rattle.rb_meaning_code.specs.Calls as calls;
 ghost use Rattle.rb_meaning_code.specs.Calls.{names_within};
 ghost use Rattle.rb_meaning_code.specs.Objects as objects;
-ghost use Rattle.rb_meaning_code.specs.Objects.{matched, constructed};
-ghost use Rattle.rb_engine.specs.Code.{method_called};
+ghost use Rattle.rb_meaning_code.specs.Objects.{matched, with_field_of};
+ghost use Rattle.rb_engine.specs.Code.{method_called, own_method_called, object_made};
 ghost use Rattle.rb_engine.specs.Ends.{fault_of, UnlessMemory};
 
 use crate::ends::{End, Refusal};
@@ -81,6 +80,7 @@ fn place(alloc: Global, heap: &mut Heap, object: Object) -> Result<Value, Refusa
 }
 
 /// A new object: `constructed`. After an error the heap is as it was.
+#[inline(never)]
 pub fn construct(
     alloc: Global,
     code: &Code,
@@ -88,7 +88,7 @@ pub fn construct(
     name: &Word,
     values: Seq<Value>,
 ) -> Result<Value, Refusal>
-    ensures gives { Gives (λ v. (v, heap.new)) fault_of result (constructed (map mirror_class code.now) heap.old name.now values) }
+    ensures gives { Gives (λ v. (v, heap.new)) fault_of result (object_made code.now heap.old name.now values) }
     ensures kept { OnErr result (heap.new ≡ heap.old) }
 {
     let object = object_of(alloc, code, name, values.as_slice())?;
@@ -114,7 +114,7 @@ fn write_into(
     name: &[u8],
     value: Value,
 ) -> Result<(), Refusal>
-    ensures gives { Gives (λ u. heap.new) fault_of result (objects.with_field_of heap.old (out-Value object.now) name.now value) }
+    ensures gives { Gives (λ u. heap.new) fault_of result (with_field_of heap.old (out-Value object.now) name.now value) }
     ensures kept { OnErr result (heap.new ≡ heap.old) }
 {
     match object {
@@ -141,6 +141,7 @@ fn write_own(
 }
 
 /// The value of an object's field: `field_of`.
+#[inline(never)]
 pub fn read_field(alloc: Global, heap: &Heap, object: Value, name: &[u8]) -> Result<Value, Refusal>
     ensures { Gives (λ v. v) fault_of result (objects.field_of heap.now (out-Value object) name.now) }
 {
@@ -148,6 +149,7 @@ pub fn read_field(alloc: Global, heap: &Heap, object: Value, name: &[u8]) -> Res
 }
 
 /// Gives an object's field another value: `with_field_of`. After an error the heap is as it was.
+#[inline(never)]
 pub fn write_field(
     alloc: Global,
     heap: &mut Heap,
@@ -155,13 +157,14 @@ pub fn write_field(
     name: &[u8],
     value: Value,
 ) -> Result<(), Refusal>
-    ensures gives { Gives (λ u. heap.new) fault_of result (objects.with_field_of heap.old (out-Value object) name.now value) }
+    ensures gives { Gives (λ u. heap.new) fault_of result (with_field_of heap.old (out-Value object) name.now value) }
     ensures kept { OnErr result (heap.new ≡ heap.old) }
 {
     write_into(alloc, heap, &object, name, value)
 }
 
 /// The method that is called: `called_method`.
+#[inline(never)]
 pub fn called_method<'a>(
     alloc: Global,
     code: &'a Code,
@@ -186,7 +189,7 @@ fn own_method<'a>(
     name: &[u8],
     count: usize,
 ) -> Result<&'a Method, Refusal>
-    ensures { Gives (λ m. mirror_method m.now) fault_of result (calls.own_method (map mirror_class code.now) heap.now object name.now count) }
+    ensures { Gives (λ m. mirror_method m.now) fault_of result (own_method_called code.now heap.now object name.now count) }
 {
     let found = match heap.get(object) {
         Some(found) => code.find_method(found.class.as_slice(), name),
@@ -218,6 +221,7 @@ fn names_of(
 }
 
 /// The frame that a method begins with: `names_within`.
+#[inline(never)]
 pub fn enter<X>(
     alloc: Global,
     receiver: &Value,

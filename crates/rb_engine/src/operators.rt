@@ -104,6 +104,7 @@ fn on_one(alloc: Global, op: UnOp, a: &Value) -> Result<Value, Refusal>
 }
 
 /// What an operator on one operand gives: `on_one`.
+#[inline(never)]
 pub fn unary(alloc: Global, op: UnOp, a: Value) -> Result<Value, Refusal>
     ensures { Gives (λ v. v) fault_of result (rules.on_one op (out-Value a)) }
 {

@@ -173,6 +173,7 @@ fn on_two(alloc: Global, op: BinOp, a: &Value, b: &Value) -> Result<Value, Refus
 }
 
 /// The value that the left operand decides alone, or None where the right one counts too: `by_left`.
+#[inline(never)]
 pub fn by_left(alloc: Global, op: BinOp, a: &Value) -> Result<Option<Value>, Refusal>
     ensures { Gives (λ v. v) fault_of result (rules.by_left op (out-Value a.now)) }
 {
@@ -225,6 +226,7 @@ fn item_at(alloc: Global, items: &Seq<Value>, place: i64) -> Result<Value, Refus
 }
 
 /// A list of values: `list_of`.
+#[inline(never)]
 pub fn list_of(alloc: Global, items: Seq<Value>) -> Result<Value, Refusal>
     ensures { Gives (λ v. v) fault_of result (places.list_of items) }
 {
@@ -235,6 +237,7 @@ pub fn list_of(alloc: Global, items: Seq<Value>) -> Result<Value, Refusal>
 }
 
 /// What an operator on two operands gives: `on_two`.
+#[inline(never)]
 pub fn binary(alloc: Global, op: BinOp, a: Value, b: Value) -> Result<Value, Refusal>
     ensures { Gives (λ v. v) fault_of result (rules.on_two op (out-Value a) (out-Value b)) }
 {
@@ -242,6 +245,7 @@ pub fn binary(alloc: Global, op: BinOp, a: Value, b: Value) -> Result<Value, Ref
 }
 
 /// An item of a list: `indexed`.
+#[inline(never)]
 pub fn item_of(alloc: Global, list: Value, index: Value) -> Result<Value, Refusal>
     ensures { Gives (λ v. v) fault_of result (places.indexed (out-Value list) (out-Value index)) }
 {

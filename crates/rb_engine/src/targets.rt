@@ -21,6 +21,7 @@ pub enum Target<'a> {
 
 /// What an assignment to this left side writes.
 #[tactic(auto, using(crate::proofs::Exprs::expr_steps))]
+#[inline(never)]
 pub fn target_of(left: &Expr) -> Target<'_>
     ensures { mirror_target result ≡ target_form (mirror_expr left.now) }
 {
@@ -58,6 +59,7 @@ fn turns_in(alloc: Global, value: &Value) -> Result<(Turns, Shared<Seq<Value>>),
 }
 
 /// The values that a loop goes over, which are a list's or rows.
+#[inline(never)]
 pub fn turns_of(alloc: Global, value: Value) -> Result<(Turns, Shared<Seq<Value>>), Refusal>
     ensures { Gives (λ turns. turns) fault_of result (turns_form (out-Value value)) }
 {

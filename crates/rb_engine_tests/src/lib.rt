@@ -2,6 +2,10 @@
 #![tactic(auto)]
 
 #[cfg(test)]
+mod classes;
+#[cfg(test)]
 mod programs;
 #[cfg(test)]
 mod record;
+#[cfg(test)]
+mod runs;

@@ -1,53 +1,7 @@
 // What no clause says: that programs run well where there is memory.
 
-use crate::record::Record;
-use rb_engine::{Code, Frame, Halt, State, exec};
-use rb_heap::Heap;
-use rb_parse::parse_program;
-use rb_trees::{Memory, Program, Seq};
-use std::alloc::Global;
+use crate::runs::asked;
 use std::test::Fail;
-
-/// Runs the statements of `main` with so much fuel. A fault that ends them is a line too, by its code.
-fn run(
-    alloc: Global,
-    program: &Program,
-    fuel: u64,
-    record: &mut Record,
-) -> Result<(), Halt<Memory>> {
-    let classes = Seq::new(alloc);
-    let Ok(code) = Code::make(alloc, &classes) else {
-        return Err(Halt::Memory);
-    };
-    let mut state = State {
-        heap: Heap::make(alloc),
-        fuel,
-        depth: 0,
-    };
-    let mut frame = Frame::make(alloc);
-    let body = &program.body.statements;
-    match exec(alloc, &code, &mut state, &mut frame, record, body)? {
-        Ok(()) => Ok(()),
-        Err(raised) => {
-            let code: &[u8] = if raised.fault.code == 7 {
-                b"no fuel"
-            } else {
-                b"fault"
-            };
-            record.note(code)
-        }
-    }
-}
-
-/// What a program's `main` asks.
-fn asked(alloc: Global, text: &str, fuel: u64) -> Result<Record, Fail> {
-    let program = parse_program(alloc, text.as_bytes())?;
-    let mut record = Record::make(alloc);
-    match run(alloc, &program, fuel, &mut record) {
-        Ok(()) => Ok(record),
-        Err(_) => Err(Memory)?,
-    }
-}
 
 #[test]
 fn lines_are_printed_in_order(rt: HostRuntime) -> Result<(), Fail> {

@@ -1,4 +1,6 @@
-// Whether classes differ by name, as `Code::make` wants it of what a test has read.
+//! Whether classes differ by name, and the methods of each: what [`Code`](rb_code::Code) wants of the classes that it is
+//! made of. Programs and tests ask it of what they have read.
+#![tactic(auto)]
 
 ghost use Rattle.std.specs.Prelude.{◌≡◌, map, is_some, IsTrue};
 ghost use Rattle.rb_trees.specs.mirror.Declarations.{mirror_class, mirror_method};
