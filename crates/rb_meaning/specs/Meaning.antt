@@ -9,12 +9,16 @@ use Rattle.rb_trees.specs.declared.services.Object.{Object}
 use Rattle.rb_trees.specs.mirror.Code.{Expr}
 use Rattle.rb_trees.specs.mirror.Declarations.{Body, Class, Program}
 use Rattle.rb_trees.specs.mirror.Services.{Service}
-use Rattle.rb_meaning.specs.Faults.{kind, raised}
+use Rattle.rb_meaning_code.specs.Faults.{kind, raised}
+use Rattle.rb_meaning_code.specs.State.{Local}
+use Rattle.rb_meaning_code.specs.Dialogue as ask
+use Rattle.rb_meaning_code.specs.Dialogue.{Question, Outcome, Gave, Faulted, Run, next, gives, Handler, handle}
+use Rattle.rb_meaning_code.specs.Calls.{Bodies}
+use Rattle.rb_meaning_code.specs.Expressions.{evaluates}
+use Rattle.rb_meaning_code.specs.Statements.{performs_all}
+use Rattle.rb_meaning_code.specs.Bodies.{bodies_of}
 use Rattle.rb_meaning.specs.State as state
-use Rattle.rb_meaning.specs.State.{Event, Local, Outside, shows}
-use Rattle.rb_meaning.specs.Dialogue as ask
-use Rattle.rb_meaning.specs.Dialogue.{Question, Outcome, Gave, Faulted, Run, next, gives, Handler, handle}
-use Rattle.rb_meaning.specs.Code.{Bodies, evaluates, performs_all, bodies_of}
+use Rattle.rb_meaning.specs.State.{Event, Outside, shows}
 use Rattle.rb_meaning.specs.Unsplit.{BatchText, batch_at, performs_batch}
 
 pub record Meaning : Type 0 where
@@ -61,10 +65,10 @@ abbrev pub at_start : ℕ → Local
 at_start fuel = record { names = []; heap = []; fuel = fuel; depth = 0 }
 
 abbrev pub outside_of : List Object → Outside
-outside_of table = record { events = []; table = table; fuel = 0; depth = 0 }
+outside_of table = record { events = []; server = record { table = table; fuel = 0 } }
 
 abbrev pub meant : Outcome (Option Value) × Outside → Meaning
-meant r = record { ending = ending_of r.0; events = r.1.events; table = r.1.table }
+meant r = record { ending = ending_of r.0; events = r.1.events; table = r.1.server.table }
 
 abbrev pub meaning : Program → Service → List Object → ℕ → Meaning
 meaning program service table fuel =
