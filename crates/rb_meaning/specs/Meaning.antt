@@ -26,13 +26,21 @@ pub record Meaning : Type 0 where
   pub events : List Event
   pub table : List Object
 
--- what code outside of a batch gets: nothing is remote there
+-- what code outside of a batch is answered: nothing is remote there
+abbrev pub local_answer : Question → Result Value Raised
+local_answer (ask.Line at bytes) = Ok value.Unit
+local_answer (ask.Taken step) = Err (raised kind 0)
+local_answer (ask.Invoke at target method args) = Err (raised kind at)
+local_answer (ask.Turn at) = Err (raised kind at)
+local_answer (ask.ListTurn at) = Ok value.Unit
+
+-- what a question shows: a line is printed
+abbrev pub shown_by : Question → Outside → Outside
+shown_by (ask.Line at bytes) s = shows (state.Line bytes) s
+shown_by _ s = s
+
 abbrev pub answers_outside : Outside → Question → Result Value Raised × Outside
-answers_outside s (ask.Line at bytes) = (Ok value.Unit, shows (state.Line bytes) s)
-answers_outside s (ask.Taken step) = (Err (raised kind 0), s)
-answers_outside s (ask.Invoke at target method args) = (Err (raised kind at), s)
-answers_outside s (ask.Turn at) = (Err (raised kind at), s)
-answers_outside s (ask.ListTurn at) = (Ok value.Unit, s)
+answers_outside s question = (local_answer question, shown_by question s)
 
 abbrev pub performs_found : Program → Service → Option BatchText → ℕ → Local → Outside → Outcome (Unit {0}) × Outside
 performs_found program service None at l s = (Faulted (raised kind at) l, s)

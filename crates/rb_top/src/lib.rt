@@ -3,17 +3,21 @@
 
 mod answer;
 mod command;
+mod console;
 mod first_form;
 mod first_service;
 mod first_texts;
+mod fuel;
 mod laws;
 mod loading;
+mod local_run;
 mod offers;
 mod printing;
 mod reading;
 mod refusals;
 mod request;
 mod run;
+mod source;
 mod status;
 mod wire;
 mod words;
