@@ -13,6 +13,7 @@ use std::alloc::{AllocError, Global};
 
 /// The surroundings of a program's code that stands in no batch: its lines go to the output, a turn over a list goes on,
 /// and all else faults Kind. A run is cut off where its output stops.
+#[derive(Drop)]
 pub struct Console<'o, W> {
     alloc: Global,
     out: &'o mut W,

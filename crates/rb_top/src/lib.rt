@@ -27,6 +27,7 @@ pub use command::top;
 pub use first_form::is_first_program;
 pub use laws::script_is_determined;
 pub use loading::service_for;
+pub use offers::offers;
 pub use request::first_request;
 pub use run::exchange;
 pub use status::{SourceError, Status, StoreError};

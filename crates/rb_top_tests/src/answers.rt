@@ -75,3 +75,14 @@ pub fn checked(alloc: Global, text: &[u8]) -> Result<String, Fail> {
     files.add("p", text)?;
     answer(alloc, "check p", files)
 }
+
+/// What words answer on a program and `SERVICE`.
+pub fn ran(alloc: Global, words: &str, program: &str) -> Result<String, Fail> {
+    answer(alloc, words, files_of(alloc, Some(program), Some(SERVICE))?)
+}
+
+/// A status and lines, and what follows them after a run without a batch.
+pub fn ended(alloc: Global, text: &str) -> Result<String, Fail> {
+    let whole = format!(in alloc; "{text}exchanges 0\nobject 0: D {{ }}\n")?;
+    Ok(whole)
+}
