@@ -1,6 +1,6 @@
 -- Why an object isn't added.
 use Rattle.std.specs.Prelude.{◌≡◌, ◌<◌, List, length}
-use Rattle.rb_trees.specs.Objects.{most_objects}
+use Rattle.rb_trees.specs.Limits.{most_objects}
 use Rattle.rb_trees.specs.declared.services.Object.{Object}
 use Rattle.rb_heap.specs.declared.stops.AddStop.{AddStop}
 use Rattle.rb_heap.specs.declared.stops.AddStop.TheVariants.{Full, Memory}

@@ -2,7 +2,8 @@
 
 ghost use Rattle.std.specs.Prelude.{◌≡◌, [], ◌∷◌, ◌++◌, ◌<◌, ◌≤◌, length, slice_get, IfOk, OnOk, IfErr, OnErr};
 ghost use Rattle.std.specs.Option.{option_copied, option_map};
-ghost use Rattle.rb_trees.specs.Objects.{most_objects, field_value};
+ghost use Rattle.rb_trees.specs.Limits.{most_objects};
+ghost use Rattle.rb_trees.specs.Objects.{field_value};
 ghost use Rattle.rb_heap.specs.Additions.{RefusesObject};
 ghost use Rattle.rb_heap.specs.Writes.{SetsField};
 
@@ -27,7 +28,7 @@ impl Model for Heap {
     ghost use Rattle.std.specs.Coded.{coded_list};
     ghost use Rattle.rb_trees.specs.declared.services.Object.{Object};
     ghost use Rattle.rb_trees.specs.contracts.services.Object as object_code;
-    ghost use Rattle.rb_trees.specs.Objects.{most_objects};
+    ghost use Rattle.rb_trees.specs.Limits.{most_objects};
 
     ghost Value = { List Object };
 

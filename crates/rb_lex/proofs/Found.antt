@@ -11,7 +11,7 @@ use Rattle.rb_trees.specs.declared.tokens.TokenKind.{TokenKind}
 use Rattle.rb_trees.specs.declared.tokens.TokenKind.TheVariants as kinds
 use Rattle.rb_trees.specs.declared.reading.LexError.TheVariants.{BadByte, OpenText, NumberTooLarge, TooLong}
 use Rattle.rb_meaning_bytes.specs.tokens.Bytes.{is_digit, is_word_byte, is_in_line}
-use Rattle.rb_meaning_bytes.specs.tokens.Tables.{keywords, signs, place_in}
+use Rattle.rb_meaning_bytes.specs.tokens.Tables.{keywords, signs, number_in}
 use Rattle.rb_meaning_bytes.specs.tokens.Values.{number_value, text_value, unescaped, escape_value}
 use Rattle.rb_meaning_bytes.specs.tokens.Forms.{Form, IsWord, IsLiteral, Body, empty, plain, escape}
 use Rattle.rb_meaning_bytes.specs.tokens.Begins.{Begins, IsComment, Skips, separator, comment}
@@ -185,7 +185,7 @@ module _ (a : ℕ) (bs : List ℕ) (h : class_of a ≡ classes.Other) where
   no_skips : ¬ IsComment (a ∷ bs) → (size : ℕ) → ¬ Skips (a ∷ bs) size
   no_skips c size s = ⊎_elim (λ e. cc) c (skips_what s a bs refl)
 
-  no_begins : place_in signs (a ∷ []) ≡ None → ((n : ℕ) → 0 < n → n ≤ length bs → (other : TokenKind) → ¬ Form other (a ∷ take n bs)) → (kind : TokenKind) (size : ℕ) → ¬ Begins (a ∷ bs) kind size
+  no_begins : number_in signs (a ∷ []) ≡ None → ((n : ℕ) → 0 < n → n ≤ length bs → (other : TokenKind) → ¬ Form other (a ∷ take n bs)) → (kind : TokenKind) (size : ℕ) → ¬ Begins (a ∷ bs) kind size
   no_begins p l kind zero b = not_empty kind b.formed
   no_begins p l kind (suc zero) b = let s = shows_at kind classes.Other a [] h b.formed in let q = s.2 in cc
   no_begins p l kind (suc (suc n)) b = l (suc n) (omega arith) (let w = b.within in omega arith) kind b.formed
@@ -195,7 +195,7 @@ module _ (a : ℕ) (bs : List ℕ) (h : class_of a ≡ classes.Other) where
   one_longest l (suc n) k m other f = l n (omega arith) (omega arith) other f
 
   one_finds : (minus : Bool) (at : ℕ) → ¬ IsComment (a ∷ bs) → ((n : ℕ) → 0 < n → n ≤ length bs → (other : TokenKind) → ¬ Form other (a ∷ take n bs))
-      → (place : Option ℕ) → place_in signs (a ∷ []) ≡ place → Finds minus at (a ∷ bs) (sign_or place 0 (Bad 0))
+      → (place : Option ℕ) → number_in signs (a ∷ []) ≡ place → Finds minus at (a ∷ bs) (sign_or place 0 (Bad 0))
   one_finds minus at c l (Some n) p = (record { within = omega arith; formed = p; longest = one_longest l; no_comment = c }, tt)
   one_finds minus at c l None p =
       record { offset = at; is = omega arith; fault = bad_byte a bs (λ e. let f = ap class_of e in let q = quote_class in cc) (no_skips c) (no_begins p l) }
@@ -204,15 +204,15 @@ two_longest : (a b : ℕ) (rest : List ℕ) → class_of a ≡ classes.Other →
 two_longest a b rest h zero k m other f = omega arith
 two_longest a b rest h (suc n) k m other f = sign_not_long a (b ∷ rest) h n (omega arith) (omega arith) other f
 
-none_longer : (a b : ℕ) (rest : List ℕ) → class_of a ≡ classes.Other → place_in signs (a ∷ b ∷ []) ≡ None → (n : ℕ) → 0 < n → n ≤ length (b ∷ rest) → (other : TokenKind) → ¬ Form other (a ∷ take n (b ∷ rest))
+none_longer : (a b : ℕ) (rest : List ℕ) → class_of a ≡ classes.Other → number_in signs (a ∷ b ∷ []) ≡ None → (n : ℕ) → 0 < n → n ≤ length (b ∷ rest) → (other : TokenKind) → ¬ Form other (a ∷ take n (b ∷ rest))
 none_longer a b rest h p zero k m other f = omega arith
 none_longer a b rest h p (suc zero) k m other f = let s = shows_at other classes.Other a (b ∷ []) h f in let q = s.2 in cc
 none_longer a b rest h p (suc (suc n)) k m other f = sign_not_long a (b ∷ rest) h (suc (suc n)) (omega arith) m other f
 
-two_finds : (minus : Bool) (at a b : ℕ) (rest : List ℕ) → class_of a ≡ classes.Other → ¬ IsComment (a ∷ b ∷ rest) → (place : Option ℕ) → place_in signs (a ∷ b ∷ []) ≡ place
+two_finds : (minus : Bool) (at a b : ℕ) (rest : List ℕ) → class_of a ≡ classes.Other → ¬ IsComment (a ∷ b ∷ rest) → (place : Option ℕ) → number_in signs (a ∷ b ∷ []) ≡ place
     → Finds minus at (a ∷ b ∷ rest) (sign_or place 1 (one_sign (a ∷ b ∷ rest)))
 two_finds minus at a b rest h c (Some n) p = (record { within = omega arith; formed = p; longest = two_longest a b rest h; no_comment = c }, tt)
-two_finds minus at a b rest h c None p = one_finds a (b ∷ rest) h minus at c (none_longer a b rest h p) (place_in signs (a ∷ [])) refl
+two_finds minus at a b rest h c None p = one_finds a (b ∷ rest) h minus at c (none_longer a b rest h p) (number_in signs (a ∷ [])) refl
 
 comment_finds : (minus : Bool) (at a b : ℕ) (rest : List ℕ) → a ≡ 47 → b ≡ 47 → Finds minus at (a ∷ b ∷ rest) (Skip (1 + prefix_len is_in_line rest))
 comment_finds minus at a b rest h g =
@@ -224,15 +224,15 @@ eqb_is : (a b : ℕ) → eqb a b ≡ true → a ≡ b
 eqb_is a b h = grind (arith, nat_tests)
 
 pairs_by : (minus : Bool) (at a b : ℕ) (rest : List ℕ) → class_of a ≡ classes.Other → (both : Bool) → (eqb a 47 && eqb b 47) ≡ both
-    → Finds minus at (a ∷ b ∷ rest) (cond both (Skip (1 + prefix_len is_in_line rest)) (sign_or (place_in signs (a ∷ b ∷ [])) 1 (one_sign (a ∷ b ∷ rest))))
+    → Finds minus at (a ∷ b ∷ rest) (cond both (Skip (1 + prefix_len is_in_line rest)) (sign_or (number_in signs (a ∷ b ∷ [])) 1 (one_sign (a ∷ b ∷ rest))))
 pairs_by minus at a b rest h true e = let p = and_parts (eqb a 47) (eqb b 47) e in comment_finds minus at a b rest (eqb_is a 47 p.0) (eqb_is b 47 p.1)
 pairs_by minus at a b rest h false e =
     two_finds minus at a b rest h (λ c. let f = c.1 in let p : a ≡ 47 = cc in let q : b ≡ 47 = cc in let u : eqb a 47 ≡ true = ap (λ x. eqb x 47) p in let v : eqb b 47 ≡ true = ap (λ x. eqb x 47) q in cc)
-    (place_in signs (a ∷ b ∷ [])) refl
+    (number_in signs (a ∷ b ∷ [])) refl
 
 other_finds : (minus : Bool) (at a : ℕ) (bs : List ℕ) → class_of a ≡ classes.Other → Finds minus at (a ∷ bs) (other_head (a ∷ bs))
 other_finds minus at a [] h =
-    one_finds a [] h minus at (λ c. let f = c.1 in cc) (λ n l m other f. absurd (omega arith)) (place_in signs (a ∷ [])) refl
+    one_finds a [] h minus at (λ c. let f = c.1 in cc) (λ n l m other f. absurd (omega arith)) (number_in signs (a ∷ [])) refl
 other_finds minus at a (b ∷ rest) h = pairs_by minus at a b rest h (eqb a 47 && eqb b 47) refl
 
 -- all heads
@@ -240,7 +240,7 @@ other_finds minus at a (b ∷ rest) h = pairs_by minus at a b rest h (eqb a 47 &
 finds_by : (minus : Bool) (at b : ℕ) (bs : List ℕ) (k : Class) → class_of b ≡ k → Finds minus at (b ∷ bs) (head_by k minus (b ∷ bs) bs)
 finds_by minus at b bs classes.Separator h = separator b bs (told_by b classes.Separator h)
 finds_by minus at b bs classes.Letter h =
-    (word_begins b bs h, word_limits minus (place_in keywords (take (prefix_len is_word_byte bs + 1) (b ∷ bs))) (take (prefix_len is_word_byte bs + 1) (b ∷ bs)))
+    (word_begins b bs h, word_limits minus (number_in keywords (take (prefix_len is_word_byte bs + 1) (b ∷ bs))) (take (prefix_len is_word_byte bs + 1) (b ∷ bs)))
 finds_by minus at b bs classes.Digit h =
     let n = prefix_len is_digit bs in
     number_finds minus at (b ∷ bs) n (nat_le (number_value (take (n + 1) (b ∷ bs))) (greatest_number minus)) refl (number_begins b bs h)

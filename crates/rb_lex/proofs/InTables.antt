@@ -6,7 +6,7 @@ use Rattle.std.proofs.lemmas.Slice.Eq.{bytes_eq-Decides}
 use Rattle.std.specs.List.{list_all, position_or_len}
 use Rattle.std.specs.Str.{bytes_eq}
 use Rattle.rb_meaning_bytes.specs.tokens.Bytes.{is_letter, is_digit, is_word_byte}
-use Rattle.rb_meaning_bytes.specs.tokens.Tables.{keywords, place_in}
+use Rattle.rb_meaning_bytes.specs.tokens.Tables.{keywords, number_in}
 use Rattle.rb_meaning_bytes.specs.tokens.Forms.{IsWord}
 
 -- a word that stands in a table passes the test that all of the table pass
@@ -27,8 +27,8 @@ module _ (test : List ℕ → Bool) (word : List ℕ) where
   placed_by table place n true h a e = stands table a h
   placed_by table place n false h a e = cc
 
-  pub placed : (table : List (List ℕ)) (n : ℕ) → list_all test table ≡ true → place_in table word ≡ Some n → test word ≡ true
-  unfolding place_in
+  pub placed : (table : List (List ℕ)) (n : ℕ) → list_all test table ≡ true → number_in table word ≡ Some n → test word ≡ true
+  unfolding number_in
   placed table n a e = placed_by table (position_or_len (λ s. bytes_eq s word) table) n (ltb (position_or_len (λ s. bytes_eq s word) table) (length table)) refl a e
 
 -- each keyword is a word
@@ -45,5 +45,5 @@ word_is : (w : List ℕ) → is_word w ≡ true → IsWord w
 word_is [] h = cc
 word_is (b ∷ bs) h = and_parts (is_letter b) (list_all is_word_byte bs) h
 
-pub keyword_word : (w : List ℕ) (n : ℕ) → place_in keywords w ≡ Some n → IsWord w
+pub keyword_word : (w : List ℕ) (n : ℕ) → number_in keywords w ≡ Some n → IsWord w
 keyword_word w n h = word_is w (placed is_word w keywords n words h)

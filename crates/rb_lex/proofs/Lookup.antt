@@ -3,7 +3,7 @@ use Rattle.std.proofs.Common.{◌≡◌, ℕ, suc, ◌+◌, not, Bool, cond, ltb
 use Rattle.std.specs.Borrow.{Bor}
 use Rattle.std.specs.List.{prefix_len, position_or_len}
 use Rattle.std.specs.Str.{bytes_eq}
-use Rattle.rb_meaning_bytes.specs.tokens.Tables.{place_in}
+use Rattle.rb_meaning_bytes.specs.tokens.Tables.{number_in}
 
 abbrev pub texts : List (Bor (List ℕ)) → List (List ℕ)
 texts table = map (λ s. s.now) table
@@ -22,8 +22,8 @@ place_by n count = cond (ltb n count) (Some n) None
 
 pub place_found : (table : List (Bor (List ℕ))) (word : List ℕ) (r : Option ℕ)
     → r ≡ cond (ltb (position_or_len (λ s. bytes_eq s.now word) table) (length table)) (Some (position_or_len (λ s. bytes_eq s.now word) table)) None
-    → r ≡ place_in (texts table) word
-unfolding place_in
+    → r ≡ number_in (texts table) word
+unfolding number_in
 place_found table word r h =
     let a : position_or_len (λ s. bytes_eq s.now word) table ≡ position_or_len (λ s. bytes_eq s word) (texts table) = sym (prefix_len_texts (λ s. not (bytes_eq s word)) table) in
     let b : length table ≡ length (texts table) = sym (length_texts table) in

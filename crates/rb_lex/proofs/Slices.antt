@@ -5,7 +5,7 @@ use Rattle.std.specs.List.{list_all}
 use Rattle.rb_trees.specs.declared.tokens.TokenKind.{TokenKind}
 use Rattle.rb_trees.specs.declared.tokens.TokenKind.TheVariants as kinds
 use Rattle.rb_meaning_bytes.specs.tokens.Bytes.{is_separator, is_letter, is_digit, is_word_byte}
-use Rattle.rb_meaning_bytes.specs.tokens.Tables.{keywords, signs, place_in}
+use Rattle.rb_meaning_bytes.specs.tokens.Tables.{keywords, signs, number_in}
 use Rattle.rb_meaning_bytes.specs.tokens.Forms.{Form, IsWord, IsLiteral}
 use Rattle.rb_lex.specs.declared.bytes.Class.{Class}
 use Rattle.rb_lex.specs.declared.bytes.Class.TheVariants as classes
@@ -94,7 +94,7 @@ sign_is (a ∷ []) h = (other_is (class_of a) h, omega arith)
 sign_is (a ∷ b ∷ []) h = (other_is (class_of a) h, omega arith)
 sign_is (a ∷ b ∷ c ∷ bs) h = cc
 
-pub sign_short : (w : List ℕ) (n : ℕ) → place_in signs w ≡ Some n → IsSign w
+pub sign_short : (w : List ℕ) (n : ℕ) → number_in signs w ≡ Some n → IsSign w
 sign_short w n h = sign_is w (placed is_sign w signs n all_signs h)
 
 -- What the form of a slice tells by the class of its first byte.
@@ -103,7 +103,7 @@ Shows kind classes.Separator b bs = ⊥
 Shows kind classes.Letter b bs = (kind ≡ word_kind (b ∷ bs)) × (list_all is_word_byte bs ≡ true)
 Shows kind classes.Digit b bs = (kind ≡ kinds.Number) × (list_all is_digit bs ≡ true)
 Shows kind classes.Quote b bs = (kind ≡ kinds.TextLit) × IsLiteral (b ∷ bs)
-Shows kind classes.Other b bs = (place : ℕ) × (kind ≡ kinds.Sign place) × (place_in signs (b ∷ bs) ≡ Some place) × (length bs < 2)
+Shows kind classes.Other b bs = (place : ℕ) × (kind ≡ kinds.Sign place) × (number_in signs (b ∷ bs) ≡ Some place) × (length bs < 2)
 
 moved : (kind : TokenKind) (k : Class) (b : ℕ) (bs : List ℕ) → class_of b ≡ k → Shows kind k b bs → Shows kind (class_of b) b bs
 moved kind k b bs h s = subst (λ c. Shows kind c b bs) (sym h) s
@@ -141,9 +141,9 @@ one_form [] one other f g = absurd (not_empty one f)
 one_form (b ∷ bs) one other f g = kind_shown (class_of b) b bs one other (shows one b bs f) (shows other b bs g)
 
 -- a slice that begins with a letter, and goes on by letters and digits, is a word
-pub word_formed_by : (w : List ℕ) (place : Option ℕ) → place_in keywords w ≡ place → IsWord w → Form (keyword_or_name place) w
+pub word_formed_by : (w : List ℕ) (place : Option ℕ) → number_in keywords w ≡ place → IsWord w → Form (keyword_or_name place) w
 word_formed_by w None h f = (f, h)
 word_formed_by w (Some n) h f = h
 
 pub word_formed : (w : List ℕ) → IsWord w → Form (word_kind w) w
-word_formed w f = word_formed_by w (place_in keywords w) refl f
+word_formed w f = word_formed_by w (number_in keywords w) refl f

@@ -4,7 +4,7 @@ use Rattle.std.specs.List.{prefix_len}
 use Rattle.rb_trees.specs.declared.tokens.TokenKind.{TokenKind}
 use Rattle.rb_trees.specs.declared.tokens.TokenKind.TheVariants as kinds
 use Rattle.rb_meaning_bytes.specs.tokens.Bytes.{is_word_byte, is_digit, is_in_line}
-use Rattle.rb_meaning_bytes.specs.tokens.Tables.{keywords, signs, place_in}
+use Rattle.rb_meaning_bytes.specs.tokens.Tables.{keywords, signs, number_in}
 use Rattle.rb_meaning_bytes.specs.tokens.Values.{number_value}
 use Rattle.rb_meaning_bytes.specs.tokens.Faults.{greatest_number, longest_value}
 use Rattle.rb_lex.specs.declared.bytes.Class.{Class}
@@ -17,11 +17,11 @@ use Rattle.rb_lex.specs.Classes.{class_of}
 use Rattle.rb_lex.specs.Ends.{text_end}
 
 abbrev pub keyword_or_name : Option ℕ → TokenKind
-keyword_or_name (Some place) = kinds.Keyword place
+keyword_or_name (Some number) = kinds.Keyword number
 keyword_or_name None = kinds.Name
 
 abbrev pub word_kind : List ℕ → TokenKind
-word_kind word = keyword_or_name (place_in keywords word)
+word_kind word = keyword_or_name (number_in keywords word)
 
 abbrev pub number_head : Bool → List ℕ → ℕ → Head
 number_head minus digits n = cond (nat_le (number_value digits) (greatest_number minus)) (Take kinds.Number n) Large
@@ -33,18 +33,18 @@ text_head Never = Open
 
 -- a sign of so many bytes behind the first, or else that
 abbrev pub sign_or : Option ℕ → ℕ → Head → Head
-sign_or (Some place) n other = Take (kinds.Sign place) n
+sign_or (Some number) n other = Take (kinds.Sign number) n
 sign_or None n other = other
 
 abbrev pub one_sign : List ℕ → Head
 one_sign [] = Bad 0
-one_sign (a ∷ rest) = sign_or (place_in signs (a ∷ [])) 0 (Bad 0)
+one_sign (a ∷ rest) = sign_or (number_in signs (a ∷ [])) 0 (Bad 0)
 
 abbrev pub other_head : List ℕ → Head
 other_head [] = Bad 0
 other_head (a ∷ []) = one_sign (a ∷ [])
 other_head (a ∷ b ∷ rest) = cond ((a == 47) && (b == 47)) (Skip (1 + prefix_len is_in_line rest))
-    (sign_or (place_in signs (a ∷ b ∷ [])) 1 (one_sign (a ∷ b ∷ rest)))
+    (sign_or (number_in signs (a ∷ b ∷ [])) 1 (one_sign (a ∷ b ∷ rest)))
 
 abbrev pub head_by : Class → Bool → List ℕ → List ℕ → Head
 head_by classes.Separator minus text more = Skip 0

@@ -7,7 +7,7 @@ ghost use Rattle.rb_lex.specs.Ends.{text_end};
 use crate::bytes::{Class, after, byte_class, digits_len, line_len, word_len};
 use crate::literals::{End, end_of_text};
 use crate::numbers::capped_value;
-use crate::tables::{keyword_place, sign_place};
+use crate::tables::{keyword_number, sign_number};
 use rb_trees::TokenKind;
 
 /// The greatest value of a number, which is one more behind a minus.
@@ -62,8 +62,8 @@ pub fn head_at(minus: bool, text: &[u8]) -> Head
 fn word_kind(word: &[u8]) -> TokenKind
     ensures { result ≡ word_kind word.now }
 {
-    match keyword_place(word) {
-        Some(place) => TokenKind::Keyword(place as u8),
+    match keyword_number(word) {
+        Some(number) => TokenKind::Keyword(number as u8),
         None => TokenKind::Name,
     }
 }
@@ -106,8 +106,8 @@ fn other_head(text: &[u8]) -> Head
 {
     match text {
         [b'/', b'/', more @ ..] => Head::Skip(1 + line_len(more)),
-        [_, _, ..] => match sign_place(&text[..2]) {
-            Some(place) => Head::Take(TokenKind::Sign(place as u8), 1),
+        [_, _, ..] => match sign_number(&text[..2]) {
+            Some(number) => Head::Take(TokenKind::Sign(number as u8), 1),
             None => one_sign(text),
         },
         _ => one_sign(text),
@@ -122,8 +122,8 @@ fn one_sign(text: &[u8]) -> Head
 {
     match text {
         [] => unreachable!(),
-        [_, ..] => match sign_place(&text[..1]) {
-            Some(place) => Head::Take(TokenKind::Sign(place as u8), 0),
+        [_, ..] => match sign_number(&text[..1]) {
+            Some(number) => Head::Take(TokenKind::Sign(number as u8), 0),
             None => Head::Bad(0),
         },
     }

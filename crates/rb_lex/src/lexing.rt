@@ -82,7 +82,7 @@ fn is_minus(kind: TokenKind) -> bool
     ensures { result ≡ is_minus kind }
 {
     match kind {
-        TokenKind::Sign(place) => place == 10,
+        TokenKind::Sign(number) => number == 10,
         _ => false,
     }
 }

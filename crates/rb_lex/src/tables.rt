@@ -1,7 +1,7 @@
 // The keywords and the signs.
 
 ghost use Rattle.std.specs.Prelude.{◌≡◌, ◌<◌, map, length, IfSome};
-ghost use Rattle.rb_meaning_bytes.specs.tokens.Tables.{keywords, signs, place_in};
+ghost use Rattle.rb_meaning_bytes.specs.tokens.Tables.{keywords, signs, number_in};
 
 static KEYWORDS: [&str; 32] = [
     "interface",
@@ -43,26 +43,26 @@ static SIGNS: [&str; 26] = [
     ":", "(", ")", "{", "}", "[", "]", "#",
 ];
 
-/// The place of the word in the table, if it stands there.
-fn place_in(table: &[&str], word: &[u8]) -> Option<usize>
-    ensures value { result ≡ place_in (map (λ s. s.now) table.now) word.now }
-    ensures within { IfSome result (λ place. place < length table.now) }
+/// The number of the word in the table, if it stands there.
+fn number_in(table: &[&str], word: &[u8]) -> Option<usize>
+    ensures value { result ≡ number_in (map (λ s. s.now) table.now) word.now }
+    ensures within { IfSome result (λ number. number < length table.now) }
 {
     table.iter().position(|other| other.as_bytes() == word)
 }
 
-/// The place of the word among the keywords.
-pub fn keyword_place(word: &[u8]) -> Option<usize>
-    ensures value { result ≡ place_in keywords word.now }
-    ensures small { IfSome result (λ place. place < 256) }
+/// The number of a keyword.
+pub fn keyword_number(word: &[u8]) -> Option<usize>
+    ensures value { result ≡ number_in keywords word.now }
+    ensures small { IfSome result (λ number. number < 256) }
 {
-    place_in(&KEYWORDS, word)
+    number_in(&KEYWORDS, word)
 }
 
-/// The place of the slice among the signs.
-pub fn sign_place(slice: &[u8]) -> Option<usize>
-    ensures value { result ≡ place_in signs slice.now }
-    ensures small { IfSome result (λ place. place < 256) }
+/// The number of a sign.
+pub fn sign_number(slice: &[u8]) -> Option<usize>
+    ensures value { result ≡ number_in signs slice.now }
+    ensures small { IfSome result (λ number. number < 256) }
 {
-    place_in(&SIGNS, slice)
+    number_in(&SIGNS, slice)
 }

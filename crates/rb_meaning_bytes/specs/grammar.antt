@@ -1,5 +1,4 @@
 -- The grammar of programs.
-pub mod Kinds
 pub mod Values
 pub mod Symbols
 pub mod Productions

@@ -1,6 +1,7 @@
 -- What expressions mean, whatever surrounds them: from left to right, a receiver before its arguments.
 use Rattle.std.specs.Prelude.{ℕ, ℤ, pos, negsuc, List, [], ◌∷◌, length, nat_le, Option, None, Some, Result, Ok, Err, slice_get}
 use Rattle.rb_trees.specs.Named.{lookup}
+use Rattle.rb_trees.specs.Limits.{longest_list}
 use Rattle.rb_trees.specs.Outcome.{known, must, ◌>>◌}
 use Rattle.rb_trees.specs.declared.values.Value.{Value, out-Value}
 use Rattle.rb_trees.specs.declared.values.Value.TheOpen.{Value-F}
@@ -9,7 +10,7 @@ use Rattle.rb_trees.specs.declared.values.Fault.{Fault}
 use Rattle.rb_trees.specs.mirror.Code as code
 use Rattle.rb_trees.specs.mirror.Code.{Expr, Exprs}
 use Rattle.rb_meaning_code.specs.Faults.{index_outside, list_too_long, kind, raises}
-use Rattle.rb_meaning_code.specs.Operators.{on_one, on_two, by_left, longest_list}
+use Rattle.rb_meaning_code.specs.Operators.{on_one, on_two, by_left}
 use Rattle.rb_meaning_code.specs.State.{Names, Local, this_name}
 use Rattle.rb_meaning_code.specs.Dialogue.{Taken, Ask, Run, next, gives, end}
 use Rattle.rb_meaning_code.specs.Objects.{constructed, field_of}

@@ -6,51 +6,51 @@ use Rattle.rb_trees.specs.declared.outcomes.Raised.{Raised}
 abbrev pub plain_fault : ℕ → Fault
 plain_fault code = record { code = code; text = [] }
 
--- a division by 0, or its remainder
+-- a quotient or remainder by 0
 abbrev pub division_by_zero : Fault
 division_by_zero = plain_fault 1
 
--- an index below 0, or not below the list's length
+-- no item of the list has this index
 abbrev pub index_outside : Fault
 index_outside = plain_fault 2
 
--- a joined text would have more than 4,096 bytes
+-- a joined text would be too long
 abbrev pub text_too_long : Fault
 text_too_long = plain_fault 3
 
--- a list would have more than 10,000 items
+-- a list would have too many items
 abbrev pub list_too_long : Fault
 list_too_long = plain_fault 4
 
--- a new object where the side's heap has 100,000 objects
+-- no room for a new object on this side
 abbrev pub heap_full : Fault
 heap_full = plain_fault 5
 
--- a call of a method where 32 calls of this side are active
+-- a call of a method inside of too many others on this side
 abbrev pub too_deep : Fault
 too_deep = plain_fault 6
 
--- a unit of fuel is due and none is left
+-- all fuel is spent where a further unit is wanted
 abbrev pub fuel_used : Fault
 fuel_used = plain_fault 7
 
--- a text that was thrown
+-- code threw this text
 abbrev pub thrown : List ℕ → Fault
 thrown text = record { code = 8; text = text }
 
--- the object of a remote call isn't there, or its class has no such method
+-- a remote call finds no object, or no method of its name there
 abbrev pub no_method : Fault
 no_method = plain_fault 9
 
--- a remote call with another count of arguments than the method has, or one that isn't of its parameter's type
+-- a remote call brings arguments that are too few or too many, or of other types than the parameters
 abbrev pub bad_arguments : Fault
 bad_arguments = plain_fault 10
 
--- a remote call whose result isn't of the kind that the interface says
+-- what a remote call gives has another kind than its interface promises
 abbrev pub wrong_kind : Fault
 wrong_kind = plain_fault 11
 
--- something of a wrong kind, or that isn't there
+-- something has a kind that is of no use there, or is missing
 abbrev pub kind : Fault
 kind = plain_fault 12
 

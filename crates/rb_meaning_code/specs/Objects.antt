@@ -1,7 +1,8 @@
 -- Objects of running code: new ones, and their fields.
 use Rattle.std.specs.Prelude.{ℕ, List, [], ◌∷◌, ◌++◌, length, nat_eq, nat_lt, Result, Ok, Err}
 use Rattle.rb_trees.specs.Classes.{class_named}
-use Rattle.rb_trees.specs.Objects.{most_objects, field_value, with_field_value}
+use Rattle.rb_trees.specs.Limits.{most_objects}
+use Rattle.rb_trees.specs.Objects.{field_value, with_field_value}
 use Rattle.rb_trees.specs.Outcome.{known, must, ◌>>=◌, ◌>>◌}
 use Rattle.rb_trees.specs.declared.values.Value.{Value}
 use Rattle.rb_trees.specs.declared.values.Value.TheOpen.{Value-F}

@@ -4,6 +4,7 @@ use Rattle.std.specs.Int.{int_wrap, int_wrapping_div, w64}
 use Rattle.std.specs.Ordering.{int_eq}
 use Rattle.std.specs.Str.{bytes_eq}
 use Rattle.std.specs.Fmt.{signed_decimal}
+use Rattle.rb_trees.specs.Limits.{longest_text, longest_list}
 use Rattle.rb_trees.specs.declared.code.UnOp.{UnOp}
 use Rattle.rb_trees.specs.declared.code.UnOp.TheVariants as unary
 use Rattle.rb_trees.specs.declared.code.BinOp.{BinOp}
@@ -13,13 +14,6 @@ use Rattle.rb_trees.specs.declared.values.Value.TheOpen.{Value-F}
 use Rattle.rb_trees.specs.declared.values.Value.TheVariants as value
 use Rattle.rb_trees.specs.declared.values.Fault.{Fault}
 use Rattle.rb_meaning_code.specs.Faults.{division_by_zero, text_too_long, list_too_long, kind}
-
--- the greatest number of bytes of a text, and of items of a list
-abbrev pub longest_text : ℕ
-longest_text = 4096
-
-abbrev pub longest_list : ℕ
-longest_list = 10000
 
 abbrev pub bool_text : Bool → List ℕ
 bool_text true = codes "true"

@@ -1,6 +1,5 @@
 -- The lemmas on the definitions.
 pub mod TypeForms
 pub mod LiteralForms
-pub mod Positions
 pub mod Noted
 pub mod Standing

@@ -12,8 +12,8 @@ use Rattle.rb_trees.specs.mirror.Types as type
 use Rattle.rb_trees.specs.mirror.Types.{TypeTree}
 use Rattle.rb_trees.specs.mirror.Declarations as tree
 use Rattle.rb_trees.specs.mirror.Declarations.{mirror_param, mirror_signature, mirror_interface, mirror_method, mirror_class}
-use Rattle.rb_meaning_bytes.specs.grammar.Kinds as k
-use Rattle.rb_meaning_bytes.specs.grammar.Kinds.{is_kind}
+use Rattle.rb_trees.specs.Kinds as k
+use Rattle.rb_trees.specs.Kinds.{is_kind}
 use Rattle.rb_meaning_bytes.specs.grammar.Values.{name_of}
 use Rattle.rb_meaning_bytes.specs.grammar.Symbols as s
 use Rattle.rb_parse.specs.Table.{begins, may_be_empty, cases, otherwise}

@@ -3,8 +3,8 @@ use Rattle.std.proofs.Common.{◌≡◌, ℕ, Bool, true, false, cond, List, [],
 use Rattle.rb_trees.specs.declared.tokens.Token.{Token}
 use Rattle.rb_trees.specs.declared.tokens.TokenKind.TheVariants as kind
 use Rattle.rb_trees.specs.mirror.Types as type
-use Rattle.rb_meaning_bytes.specs.grammar.Kinds as k
-use Rattle.rb_meaning_bytes.specs.grammar.Kinds.{is_kind, is_one_of}
+use Rattle.rb_trees.specs.Kinds as k
+use Rattle.rb_trees.specs.Kinds.{is_kind, is_one_of}
 use Rattle.rb_meaning_bytes.specs.grammar.Symbols as s
 use Rattle.rb_meaning_bytes.specs.grammar.Symbols.{Symbol, Terminal, The, Nonterminal, TreeOf, Makes}
 use Rattle.rb_meaning_bytes.specs.grammar.Values.{name_of}

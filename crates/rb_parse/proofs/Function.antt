@@ -3,7 +3,7 @@ use Rattle.std.proofs.Common.{◌≡◌, ℕ, zero, suc, ◌+◌, ◌*◌, ◌<�
 use Rattle.std.proofs.lemmas.Bool.{and_left, and_parts, and_from}
 use Rattle.rb_trees.specs.declared.tokens.Token.{Token}
 use Rattle.rb_trees.specs.declared.tokens.TokenKind.{TokenKind}
-use Rattle.rb_meaning_bytes.specs.grammar.Kinds.{is_kind}
+use Rattle.rb_trees.specs.Kinds.{is_kind}
 use Rattle.rb_meaning_bytes.specs.grammar.Symbols.{Symbol, Terminal, The, Nonterminal, TreeOf, Trees, Makes, made}
 use Rattle.rb_parse.specs.Table.{Choice, may_be_empty, predict}
 use Rattle.rb_parse.specs.Reading.{Read, Reader, ◌>>=◌, take_kind, read_into, by_choice, rank, read, read_of}

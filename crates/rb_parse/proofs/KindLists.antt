@@ -3,7 +3,7 @@ use Rattle.std.proofs.Common.{◌≡◌, Bool, true, false, cond, List, [], ◌�
 use Rattle.std.proofs.lemmas.Bool.{not-true, and_parts, false_from_ne_true}
 use Rattle.rb_trees.specs.declared.tokens.TokenKind.{TokenKind}
 use Rattle.rb_trees.specs.declared.tokens.TokenKind.TheVariants.{Name, Number, TextLit, Keyword, Sign}
-use Rattle.rb_meaning_bytes.specs.grammar.Kinds.{is_kind, is_one_of}
+use Rattle.rb_trees.specs.Kinds.{is_kind, is_one_of}
 
 pub kind_same : (a b : TokenKind) → is_kind a b ≡ true → a ≡ b
 kind_same Name Name h = refl

@@ -3,7 +3,7 @@ use Rattle.std.proofs.Common.{◌≡◌, ℕ, ◌<◌, Bool, true, false, cond, 
 use Rattle.std.proofs.lemmas.Bool.{not-true, and_parts, false_from_ne_true}
 use Rattle.rb_trees.specs.declared.tokens.Token.{Token}
 use Rattle.rb_trees.specs.declared.tokens.TokenKind.{TokenKind}
-use Rattle.rb_meaning_bytes.specs.grammar.Kinds.{is_one_of}
+use Rattle.rb_trees.specs.Kinds.{is_one_of}
 use Rattle.rb_meaning_bytes.specs.grammar.Symbols.{Symbol, Nonterminal}
 use Rattle.rb_parse.specs.Table.{Choice, begins, may_be_empty, all_begin, cases, otherwise, chosen, predict}
 use Rattle.rb_parse.specs.Reading.{rank}

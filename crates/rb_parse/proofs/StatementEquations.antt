@@ -4,7 +4,7 @@ use Rattle.rb_trees.specs.declared.tokens.Token.{Token}
 use Rattle.rb_trees.specs.declared.code.Stmt as stmt
 use Rattle.rb_trees.specs.mirror.Code as code
 use Rattle.rb_trees.specs.mirror.Code.{Expr, Stmt, Stmts, mirror_stmt, mirror_stmts}
-use Rattle.rb_meaning_bytes.specs.grammar.Kinds as k
+use Rattle.rb_trees.specs.Kinds as k
 use Rattle.rb_meaning_bytes.specs.grammar.Symbols as s
 use Rattle.rb_parse.specs.Table.{begins, may_be_empty, statement_kinds, cases, otherwise}
 use Rattle.rb_parse.specs.Reading.{Read, ◌>>=◌, take_kind, read_of, taken, next_in, on_taken}

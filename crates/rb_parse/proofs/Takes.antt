@@ -3,7 +3,7 @@ use Rattle.std.proofs.Common.{◌≡◌, ℕ, ◌<◌, ◌≤◌, Bool, true, fa
 use Rattle.std.proofs.lemmas.List.{append_cancel_right}
 use Rattle.rb_trees.specs.declared.tokens.Token.{Token}
 use Rattle.rb_trees.specs.declared.tokens.TokenKind.{TokenKind}
-use Rattle.rb_meaning_bytes.specs.grammar.Kinds.{is_kind}
+use Rattle.rb_trees.specs.Kinds.{is_kind}
 use Rattle.rb_meaning_bytes.specs.grammar.Symbols.{Symbol, Terminal, The, Nonterminal, TreeOf, Trees, made}
 use Rattle.rb_meaning_bytes.specs.grammar.Derives as g
 use Rattle.rb_meaning_bytes.specs.grammar.Derives.{Spells, IsPrefix}

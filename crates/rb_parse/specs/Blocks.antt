@@ -5,7 +5,7 @@ use Rattle.rb_trees.specs.declared.tokens.TokenKind.TheVariants as kind
 use Rattle.rb_trees.specs.declared.code.Stmt as stmt
 use Rattle.rb_trees.specs.mirror.Code as code
 use Rattle.rb_trees.specs.mirror.Code.{Expr, Stmt, Stmts, mirror_stmt}
-use Rattle.rb_meaning_bytes.specs.grammar.Kinds as k
+use Rattle.rb_trees.specs.Kinds as k
 use Rattle.rb_meaning_bytes.specs.grammar.Values.{name_of}
 use Rattle.rb_meaning_bytes.specs.grammar.Symbols as s
 use Rattle.rb_parse.specs.Reading.{Read, ◌>>=◌, take_kind, taken, on_taken, read_of}

@@ -4,7 +4,7 @@ use Rattle.rb_trees.specs.declared.tokens.Token.{Token}
 use Rattle.rb_trees.specs.declared.tokens.TokenKind.TheVariants as kind
 use Rattle.rb_trees.specs.mirror.Types.{TypeTree}
 use Rattle.rb_trees.specs.mirror.Declarations as tree
-use Rattle.rb_meaning_bytes.specs.grammar.Kinds as k
+use Rattle.rb_trees.specs.Kinds as k
 use Rattle.rb_meaning_bytes.specs.grammar.Symbols as s
 use Rattle.rb_parse.specs.Reading.{Read, ◌>>=◌, take_kind, read_of}
 

@@ -2,7 +2,7 @@
 
 ghost use Rattle.std.specs.Prelude.{◌≡◌, ◌<◌, length, IfOk, IfSome, option_map};
 ghost use Rattle.rb_trees.specs.mirror.Code.{mirror_expr, mirror_expr_form};
-ghost use Rattle.rb_meaning_bytes.specs.grammar.Kinds.{is_one_of};
+ghost use Rattle.rb_trees.specs.Kinds.{is_one_of};
 ghost use Rattle.rb_parse.specs.Table.{expression_kinds};
 ghost use Rattle.rb_parse.specs.Reading.{next_in};
 ghost use Rattle.rb_parse.specs.Parts.{atom_of};

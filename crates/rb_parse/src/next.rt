@@ -1,7 +1,7 @@
 // Looks at the next token.
 
 ghost use Rattle.std.specs.Prelude.{◌≡◌, ◌<◌, [], ◌∷◌, length, IfSome, option_map};
-ghost use Rattle.rb_meaning_bytes.specs.grammar.Kinds.{is_kind};
+ghost use Rattle.rb_trees.specs.Kinds.{is_kind};
 ghost use Rattle.rb_parse.specs.Reading.{take_kind, taken, next_in};
 ghost use Rattle.rb_parse.specs.Readers.{Reads, Shortens};
 

@@ -3,7 +3,7 @@
 ghost use Rattle.std.specs.Prelude.{◌≡◌};
 ghost use Rattle.rb_trees.specs.mirror.Code as code;
 ghost use Rattle.rb_trees.specs.mirror.Code.{mirror_expr, mirror_stmt, mirror_stmt_form};
-ghost use Rattle.rb_meaning_bytes.specs.grammar.Kinds.{is_one_of};
+ghost use Rattle.rb_trees.specs.Kinds.{is_one_of};
 ghost use Rattle.rb_parse.specs.Table.{statement_kinds};
 ghost use Rattle.rb_parse.specs.Reading.{next_in};
 ghost use Rattle.rb_parse.specs.Readers.{Reads, Shortens};

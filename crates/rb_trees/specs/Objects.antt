@@ -4,10 +4,6 @@ use Rattle.rb_trees.specs.Named.{lookup, replaced}
 use Rattle.rb_trees.specs.declared.values.Value.{Value}
 use Rattle.rb_trees.specs.declared.services.Object.{Object}
 
--- the greatest number of objects of a heap
-abbrev pub most_objects : ℕ
-most_objects = 100000
-
 -- the value of an object's field, where there is such an object with such a field
 abbrev pub field_value : List Object → ℕ → List ℕ → Option Value
 field_value heap object name = option_and_then (λ o. lookup o.fields name) (slice_get heap object)

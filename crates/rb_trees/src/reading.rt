@@ -6,19 +6,19 @@ use thiserror::Error;
 /// Why a text has no tokens: the first violation, at a byte offset.
 #[derive(Debug, Drop, Error)]
 pub enum LexError {
-    /// A byte that begins no token, or a `\` in a text literal that no `n`, `"` or `\` follows.
+    /// A byte that no token can begin with, or a backslash of a text literal that makes no escape.
     #[error("no token begins with the byte at offset {0}")]
     BadByte(u32),
-    /// A text literal that no `"` closes before the line ends.
+    /// A text literal whose line is over before a quote closes it.
     #[error("the text literal at offset {0} isn't closed on its line")]
     OpenText(u32),
-    /// A number above 9223372036854775807, which isn't 9223372036854775808 after a `-`.
+    /// A number that no Int has: at most 9223372036854775807, and right behind a minus one more.
     #[error("the number at offset {0} is above 9223372036854775807")]
     NumberTooLarge(u32),
-    /// The end of the longest prefix that is UTF-8.
+    /// The text goes on from here by bytes that are no UTF-8.
     #[error("the text isn't UTF-8 from offset {0} on")]
     NotUtf8(u32),
-    /// A text of more than 1,048,576 bytes, or a text literal of more than 4,096.
+    /// The text is longer than 1,048,576 bytes, or the value of a text literal longer than 4,096.
     #[error("too long at offset {0}")]
     TooLong(u32),
     #[error("out of memory")]
@@ -30,10 +30,10 @@ pub enum LexError {
 pub enum ReadError {
     #[error("{0}")]
     Lex(LexError),
-    /// The first token with which the tokens so far begin no text of the grammar, or the end.
+    /// The grammar can go on from here, but not by this token; or it can't stop at this end.
     #[error("the token at offset {0} isn't expected there")]
     Unexpected(u32),
-    /// A token that breaks a limit of nesting.
+    /// The first token that a limit of nesting forbids.
     #[error("the token at offset {0} nests too deep")]
     TooNested(u32),
     #[error("out of memory")]

@@ -8,28 +8,28 @@ use thiserror::Error;
 /// Why a program or a service isn't typed: the first violation, at a position.
 #[derive(Drop, Error)]
 pub enum TypeError {
-    /// A name that isn't declared or isn't in scope, or `this` outside of a method.
+    /// Nothing is known by this name here; `this` is known in methods alone.
     #[error("nothing of the name at offset {0} is known there")]
     UnknownName(u32),
-    /// A name that stands for something already.
+    /// A second thing of the same name.
     #[error("the name at offset {0} is taken")]
     NameTaken(u32),
-    /// An expression of a type that isn't wanted there, with that type.
+    /// The type that an expression has, where another is wanted.
     #[error("the expression at offset {0} has another type than is wanted")]
     WrongType(u32, TypeForm),
-    /// A call or a `new` with another count of arguments than is declared.
+    /// A call or a `new` with too few or too many arguments.
     #[error("the call at offset {0} has a wrong count of arguments")]
     WrongCount(u32),
-    /// A left side of `=` that is neither a `var` nor a field.
+    /// What stands left of `=` has no place that a value could go to.
     #[error("the left side of the assignment at offset {0} can't be assigned")]
     NotAssignable(u32),
-    /// A body with a result type and without a `return`.
+    /// A body promises a result and ends without a `return`.
     #[error("the body declared at offset {0} needs a return")]
     MissingReturn(u32),
-    /// A type that may not stand at its place.
+    /// A type that is of no use where it stands.
     #[error("the type at offset {0} may not stand there")]
     TypeNotHere(u32),
-    /// A statement or call that may not stand at its place.
+    /// A statement or call that its surroundings forbid.
     #[error("what stands at offset {0} isn't allowed there")]
     NotAllowedHere(u32),
     #[error("out of memory")]

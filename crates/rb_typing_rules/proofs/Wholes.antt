@@ -1,5 +1,6 @@
 -- The rules on bodies, programs and services agree with what is computed.
 use Rattle.std.proofs.Common.{◌≡◌, ℕ, List, [], Bool as Truth, true, false, not, ◌&&◌, Option, Some, None, Ok, refl, ap, sym, ◌∙◌, subst}
+use Rattle.std.proofs.lemmas.Bool.{and_parts}
 use Rattle.rb_trees.specs.mirror.Types.{TypeTree, type_at}
 use Rattle.rb_trees.specs.mirror.Code.{Expr, expr_at}
 use Rattle.rb_trees.specs.mirror.Declarations.{Body, Method, Class, Program}
@@ -22,19 +23,13 @@ use Rattle.rb_typing_rules.proofs.Stmts.{all_lead, lead_all, not_so}
 use Rattle.rb_typing_rules.proofs.Members.{three_so, so_three, each_so, so_each}
 use Rattle.rb_typing_rules.proofs.Decls.{known_so, so_known, declared_so, so_declared}
 
-both_so : (a b : Truth) → (a && b) ≡ true → (a ≡ true) × (b ≡ true)
-both_so true true h = (refl, refl)
-both_so true false h = cc
-both_so false true h = cc
-both_so false false h = cc
-
 fits_so : (kind : Kind) (p : Placed) → is_unit kind ≡ false → kind ≡ p.kind → return_fits kind p ≡ Ok tt
 fits_so kind p some same = rw some (rw (← same) (rw (same_refl kind) refl))
 
 return_so : (x : Context) (scope : Scope) (at : ℕ) (kind : Kind) (r : Option Expr) → check_return x scope at kind r ≡ Ok tt → Returns x scope kind r
 return_so x scope at kind (Some e) h =
     let s = placed_ok (expr_at e) (type_of x scope e) (λ p. return_fits kind p) tt h in
-    let t = both_so (not (is_unit kind)) (same_kind kind s.0) (must_ok (not (is_unit kind) && same_kind kind s.0) (wrong_type (placed_at (expr_at e) s.0)) s.2) in
+    let t = and_parts (not (is_unit kind)) (same_kind kind s.0) (must_ok (not (is_unit kind) && same_kind kind s.0) (wrong_type (placed_at (expr_at e) s.0)) s.2) in
     (not_so (is_unit kind) t.0, subst (HasType x scope e) (sym (same_sound kind s.0 t.1)) (typed_has x scope e s.0 s.1))
 return_so x scope at kind None h = must_ok (is_unit kind) (MissingReturn at) h
 

@@ -2,8 +2,8 @@
 use Rattle.std.specs.Prelude.{◌≡◌, ℕ, ◌+◌, ◌-◌, Bool, true, false, not, cond, nat_eq, nat_lt, List, [], ◌∷◌, length, Option, Some, None}
 use Rattle.rb_trees.specs.declared.tokens.Token.{Token}
 use Rattle.rb_trees.specs.declared.tokens.TokenKind.{TokenKind}
-use Rattle.rb_meaning_bytes.specs.grammar.Kinds as k
-use Rattle.rb_meaning_bytes.specs.grammar.Kinds.{is_kind, is_one_of}
+use Rattle.rb_trees.specs.Kinds as k
+use Rattle.rb_trees.specs.Kinds.{is_kind, is_one_of}
 
 -- What is open behind some tokens: blocks, types in their angle brackets, and the marks so far of the outermost
 -- expression. An outermost expression stands directly in a statement. Beside these are the last two kinds.

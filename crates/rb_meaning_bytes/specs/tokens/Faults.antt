@@ -4,6 +4,7 @@ use Rattle.rb_trees.specs.declared.tokens.TokenKind.{TokenKind}
 use Rattle.rb_trees.specs.declared.tokens.TokenKind.TheVariants as kinds
 use Rattle.rb_trees.specs.declared.reading.LexError.{LexError}
 use Rattle.rb_trees.specs.declared.reading.LexError.TheVariants.{BadByte, OpenText, NumberTooLarge, TooLong}
+use Rattle.rb_trees.specs.Limits.{longest_text}
 use Rattle.rb_meaning_bytes.specs.tokens.Bytes.{is_plain, is_escaped, makes_escape, line_feed, quote, backslash}
 use Rattle.rb_meaning_bytes.specs.tokens.Values.{number_value, text_value}
 use Rattle.rb_meaning_bytes.specs.tokens.Forms.{Body}
@@ -15,15 +16,15 @@ greatest_number minus = cond minus 9223372036854775808 9223372036854775807
 
 -- The greatest number of bytes of a text literal's value.
 abbrev pub longest_value : ℕ
-longest_value = 4096
+longest_value = longest_text
 
 -- A slice of the kind is within the limits of values. The flag says that the token before it is a minus.
 abbrev pub WithinLimits : Bool → TokenKind → List ℕ → Type 0
 WithinLimits minus kinds.Number slice = number_value slice ≤ greatest_number minus
 WithinLimits minus kinds.TextLit slice = length (text_value slice) ≤ longest_value
 WithinLimits minus kinds.Name slice = Unit {0}
-WithinLimits minus (kinds.Keyword place) slice = Unit {0}
-WithinLimits minus (kinds.Sign place) slice = Unit {0}
+WithinLimits minus (kinds.Keyword number) slice = Unit {0}
+WithinLimits minus (kinds.Sign number) slice = Unit {0}
 
 -- A text literal goes on from one text to the rest of it, where escapes may be bad:
 -- a backslash that makes no escape stands alone, and the byte behind it is read on its own.

@@ -3,7 +3,7 @@ use Rattle.std.specs.Prelude.{◌≡◌, ℕ, true, List, [], ◌∷◌, ◌++�
 use Rattle.std.specs.List.{list_all}
 use Rattle.rb_trees.specs.declared.tokens.TokenKind.{TokenKind}
 use Rattle.rb_trees.specs.declared.tokens.TokenKind.TheVariants as kinds
-use Rattle.rb_trees.specs.Spelling.{is_digit, keywords, signs, place_in, IsName}
+use Rattle.rb_trees.specs.Spelling.{is_digit, keywords, signs, number_in, IsName}
 pub use Rattle.rb_trees.specs.Spelling.{IsWord}
 use Rattle.rb_meaning_bytes.specs.tokens.Bytes.{is_plain, is_escaped, quote, backslash}
 
@@ -27,5 +27,5 @@ abbrev pub Form : TokenKind → List ℕ → Type 0
 Form kinds.Name slice = IsName slice
 Form kinds.Number slice = IsNumber slice
 Form kinds.TextLit slice = IsLiteral slice
-Form (kinds.Keyword place) slice = place_in keywords slice ≡ Some place
-Form (kinds.Sign place) slice = place_in signs slice ≡ Some place
+Form (kinds.Keyword number) slice = number_in keywords slice ≡ Some number
+Form (kinds.Sign number) slice = number_in signs slice ≡ Some number

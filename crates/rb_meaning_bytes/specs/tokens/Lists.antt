@@ -1,9 +1,9 @@
 -- The tokens of a text, by their places in the whole of it.
-use Rattle.std.specs.Prelude.{ℕ, ◌+◌, ◌-◌, ◌<◌, ◌==◌, Bool, true, false, List, [], ◌∷◌, take, drop}
+use Rattle.std.specs.Prelude.{ℕ, ◌+◌, ◌-◌, ◌<◌, Bool, true, false, List, [], ◌∷◌, take, drop}
 use Rattle.rb_trees.specs.declared.tokens.Token.{Token}
 use Rattle.rb_trees.specs.declared.tokens.TokenKind.{TokenKind}
-use Rattle.rb_trees.specs.declared.tokens.TokenKind.TheVariants as kinds
 use Rattle.rb_trees.specs.declared.reading.LexError.{LexError}
+use Rattle.rb_trees.specs.Kinds.{is_kind, sign_minus}
 use Rattle.rb_meaning_bytes.specs.tokens.Begins.{Begins, Skips}
 use Rattle.rb_meaning_bytes.specs.tokens.Faults.{Faults, WithinLimits}
 
@@ -32,13 +32,9 @@ abbrev pub TokensBetween : List ℕ → ℕ → List Token → ℕ → Type 0
 TokensBetween text from [] to = Gap text from to
 TokensBetween text from (token ∷ tokens) to = Gap text from token.start × Stands text token × TokensBetween text token.end tokens to
 
--- The minus is the sign at place 10 of its table.
+-- whether it is the kind of the sign `-`
 abbrev pub is_minus : TokenKind → Bool
-is_minus (kinds.Sign place) = place == 10
-is_minus kinds.Name = false
-is_minus kinds.Number = false
-is_minus kinds.TextLit = false
-is_minus (kinds.Keyword place) = false
+is_minus kind = is_kind kind sign_minus
 
 -- Whether the last token is a minus; the flag says it where there is none.
 abbrev pub ends_in_minus : Bool → List Token → Bool

@@ -7,7 +7,7 @@ use Rattle.rb_trees.specs.mirror.Code as code
 use Rattle.rb_trees.specs.mirror.Code.{Expr, Exprs}
 use Rattle.rb_trees.specs.printing.Exprs.{level_of}
 use Rattle.rb_meaning_bytes.specs.tokens.Lists.{is_minus}
-use Rattle.rb_meaning_bytes.specs.grammar.Kinds as k
+use Rattle.rb_trees.specs.Kinds as k
 use Rattle.rb_meaning_bytes.specs.grammar.Symbols as s
 use Rattle.rb_meaning_bytes.specs.grammar.Symbols.{Symbol, Nonterminal, Chain, MoreChain, TreeOf, Makes}
 use Rattle.rb_meaning_bytes.specs.grammar.Productions as r

@@ -2,7 +2,7 @@
 use Rattle.std.proofs.Common.{◌≡◌, ℕ, ◌≤◌, List, [], ◌∷◌, refl, ◌∙◌, arith}
 use Rattle.std.proofs.lemmas.List.Elements.{All-nil, All-cons}
 use Rattle.rb_trees.specs.declared.tokens.TokenKind.TheVariants as kind
-use Rattle.rb_meaning_bytes.specs.grammar.Kinds as k
+use Rattle.rb_trees.specs.Kinds as k
 use Rattle.rb_meaning_bytes.specs.grammar.Symbols as s
 use Rattle.rb_meaning_bytes.specs.grammar.Symbols.{Symbol, Nonterminal, TreeOf, Makes}
 use Rattle.rb_meaning_bytes.specs.grammar.Productions as r

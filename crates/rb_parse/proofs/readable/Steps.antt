@@ -3,8 +3,8 @@ use Rattle.std.proofs.Common.{◌≡◌, ℕ, ◌+◌, ◌≤◌, Bool, true, fa
 use Rattle.rb_trees.specs.declared.tokens.TokenKind.{TokenKind}
 use Rattle.rb_trees.specs.mirror.Code.{Expr}
 use Rattle.rb_meaning_bytes.specs.tokens.Lists.{is_minus}
-use Rattle.rb_meaning_bytes.specs.grammar.Kinds as k
-use Rattle.rb_meaning_bytes.specs.grammar.Kinds.{is_kind, is_one_of}
+use Rattle.rb_trees.specs.Kinds as k
+use Rattle.rb_trees.specs.Kinds.{is_kind, is_one_of}
 use Rattle.rb_meaning_bytes.specs.grammar.Limits.{Nesting, after}
 use Rattle.rb_parse.proofs.readable.Trees.{marks_of, IsReadOutermost}
 use Rattle.rb_parse.proofs.readable.States.{Room, Ready, Goes, Marks, is_still, is_inner, is_sure, inner, mark, open_mark}

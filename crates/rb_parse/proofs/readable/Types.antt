@@ -2,7 +2,7 @@
 use Rattle.std.proofs.Common.{◌≡◌, ℕ, suc, ◌+◌, ◌≤◌, List, [], ◌∷◌, refl, arith}
 use Rattle.rb_trees.specs.declared.tokens.TokenKind.TheVariants as kind
 use Rattle.rb_trees.specs.mirror.Types.{TypeTree}
-use Rattle.rb_meaning_bytes.specs.grammar.Kinds as k
+use Rattle.rb_trees.specs.Kinds as k
 use Rattle.rb_meaning_bytes.specs.grammar.Symbols as s
 use Rattle.rb_meaning_bytes.specs.grammar.Symbols.{Symbol, TreeOf, Makes}
 use Rattle.rb_meaning_bytes.specs.grammar.Productions as r

@@ -1,186 +1,189 @@
--- The tokens of printed programs. A keyword or sign is numbered by its place in the language's list, from 0.
+-- The tokens of printed programs.
 use Rattle.std.specs.Prelude.{ℕ, ◌==◌, ℤ, pos, negsuc, suc, List, [], ◌∷◌, ◌++◌, Bool, true, false, cond, codes}
 use Rattle.std.specs.Fmt.{decimal}
 use Rattle.rb_trees.specs.declared.tokens.TokenKind.TheVariants as kind
 use Rattle.rb_trees.specs.declared.values.Value.{Value}
 use Rattle.rb_trees.specs.declared.values.Value.TheOpen.{Value-F}
 use Rattle.rb_trees.specs.declared.values.Value.TheViews.{out-Value}
+use Rattle.rb_trees.specs.Kinds as k
 use Rattle.rb_trees.specs.printing.Pieces.{Piece, Token, Space}
 
 -- one space
 abbrev pub space : Piece
 space = Space (codes " ")
 
-abbrev pub word : ℕ → List ℕ → Piece
-word place bytes = Token (kind.Keyword place) bytes
+-- a keyword, by its spelling
+abbrev pub word : List ℕ → Piece
+word spelling = Token (k.keyword spelling) spelling
 
 abbrev pub interface_word : Piece
-interface_word = word 0 (codes "interface")
+interface_word = word (codes "interface")
 
 abbrev pub class_word : Piece
-class_word = word 1 (codes "class")
+class_word = word (codes "class")
 
 abbrev pub fun_word : Piece
-fun_word = word 2 (codes "fun")
+fun_word = word (codes "fun")
 
 abbrev pub remote_word : Piece
-remote_word = word 3 (codes "remote")
+remote_word = word (codes "remote")
 
 abbrev pub main_word : Piece
-main_word = word 4 (codes "main")
+main_word = word (codes "main")
 
 abbrev pub val_word : Piece
-val_word = word 5 (codes "val")
+val_word = word (codes "val")
 
 abbrev pub var_word : Piece
-var_word = word 6 (codes "var")
+var_word = word (codes "var")
 
 abbrev pub if_word : Piece
-if_word = word 7 (codes "if")
+if_word = word (codes "if")
 
 abbrev pub else_word : Piece
-else_word = word 8 (codes "else")
+else_word = word (codes "else")
 
 abbrev pub for_word : Piece
-for_word = word 9 (codes "for")
+for_word = word (codes "for")
 
 abbrev pub in_word : Piece
-in_word = word 10 (codes "in")
+in_word = word (codes "in")
 
 abbrev pub while_word : Piece
-while_word = word 11 (codes "while")
+while_word = word (codes "while")
 
 abbrev pub try_word : Piece
-try_word = word 12 (codes "try")
+try_word = word (codes "try")
 
 abbrev pub catch_word : Piece
-catch_word = word 13 (codes "catch")
+catch_word = word (codes "catch")
 
 abbrev pub throw_word : Piece
-throw_word = word 14 (codes "throw")
+throw_word = word (codes "throw")
 
 abbrev pub return_word : Piece
-return_word = word 15 (codes "return")
+return_word = word (codes "return")
 
 abbrev pub batch_word : Piece
-batch_word = word 16 (codes "batch")
+batch_word = word (codes "batch")
 
 abbrev pub print_word : Piece
-print_word = word 17 (codes "print")
+print_word = word (codes "print")
 
 abbrev pub len_word : Piece
-len_word = word 18 (codes "len")
+len_word = word (codes "len")
 
 abbrev pub str_word : Piece
-str_word = word 19 (codes "str")
+str_word = word (codes "str")
 
 abbrev pub new_word : Piece
-new_word = word 20 (codes "new")
+new_word = word (codes "new")
 
 abbrev pub this_word : Piece
-this_word = word 21 (codes "this")
+this_word = word (codes "this")
 
 abbrev pub true_word : Piece
-true_word = word 22 (codes "true")
+true_word = word (codes "true")
 
 abbrev pub false_word : Piece
-false_word = word 23 (codes "false")
+false_word = word (codes "false")
 
 abbrev pub List_word : Piece
-List_word = word 24 (codes "List")
+List_word = word (codes "List")
 
 abbrev pub Rows_word : Piece
-Rows_word = word 25 (codes "Rows")
+Rows_word = word (codes "Rows")
 
 abbrev pub Int_word : Piece
-Int_word = word 26 (codes "Int")
+Int_word = word (codes "Int")
 
 abbrev pub Bool_word : Piece
-Bool_word = word 27 (codes "Bool")
+Bool_word = word (codes "Bool")
 
 abbrev pub Text_word : Piece
-Text_word = word 28 (codes "Text")
+Text_word = word (codes "Text")
 
 abbrev pub Unit_word : Piece
-Unit_word = word 29 (codes "Unit")
+Unit_word = word (codes "Unit")
 
-abbrev pub sign : ℕ → List ℕ → Piece
-sign place bytes = Token (kind.Sign place) bytes
+-- a sign, by its spelling
+abbrev pub sign : List ℕ → Piece
+sign spelling = Token (k.sign spelling) spelling
 
 abbrev pub equal : Piece
-equal = sign 0 (codes "==")
+equal = sign (codes "==")
 
 abbrev pub unequal : Piece
-unequal = sign 1 (codes "!=")
+unequal = sign (codes "!=")
 
 abbrev pub at_most : Piece
-at_most = sign 2 (codes "<=")
+at_most = sign (codes "<=")
 
 abbrev pub at_least : Piece
-at_least = sign 3 (codes ">=")
+at_least = sign (codes ">=")
 
 abbrev pub and : Piece
-and = sign 4 (codes "&&")
+and = sign (codes "&&")
 
 abbrev pub or : Piece
-or = sign 5 (codes "||")
+or = sign (codes "||")
 
 abbrev pub less : Piece
-less = sign 6 (codes "<")
+less = sign (codes "<")
 
 abbrev pub greater : Piece
-greater = sign 7 (codes ">")
+greater = sign (codes ">")
 
 abbrev pub assign : Piece
-assign = sign 8 (codes "=")
+assign = sign (codes "=")
 
 abbrev pub plus : Piece
-plus = sign 9 (codes "+")
+plus = sign (codes "+")
 
 abbrev pub minus : Piece
-minus = sign 10 (codes "-")
+minus = sign (codes "-")
 
 abbrev pub star : Piece
-star = sign 11 (codes "*")
+star = sign (codes "*")
 
 abbrev pub slash : Piece
-slash = sign 12 (codes "/")
+slash = sign (codes "/")
 
 abbrev pub percent : Piece
-percent = sign 13 (codes "%")
+percent = sign (codes "%")
 
 abbrev pub not_sign : Piece
-not_sign = sign 14 (codes "!")
+not_sign = sign (codes "!")
 
 abbrev pub dot : Piece
-dot = sign 15 (codes ".")
+dot = sign (codes ".")
 
 abbrev pub comma : Piece
-comma = sign 16 (codes ",")
+comma = sign (codes ",")
 
 abbrev pub semicolon : Piece
-semicolon = sign 17 (codes ";")
+semicolon = sign (codes ";")
 
 abbrev pub colon : Piece
-colon = sign 18 (codes ":")
+colon = sign (codes ":")
 
 abbrev pub opens : Piece
-opens = sign 19 (codes "(")
+opens = sign (codes "(")
 
 abbrev pub closes : Piece
-closes = sign 20 (codes ")")
+closes = sign (codes ")")
 
 abbrev pub open_brace : Piece
-open_brace = sign 21 (codes "{")
+open_brace = sign (codes "{")
 
 abbrev pub close_brace : Piece
-close_brace = sign 22 (codes "}")
+close_brace = sign (codes "}")
 
 abbrev pub open_bracket : Piece
-open_bracket = sign 23 (codes "[")
+open_bracket = sign (codes "[")
 
 abbrev pub close_bracket : Piece
-close_bracket = sign 24 (codes "]")
+close_bracket = sign (codes "]")
 
 abbrev pub name_piece : List ℕ → Piece
 name_piece name = Token kind.Name name

@@ -1,17 +1,19 @@
 -- Each printed token, and what may follow it.
-use Rattle.std.proofs.Common.{◌≡◌, ℕ, ◌==◌, ◌<◌, ◌≤◌, ◌^◌, Bool, true, false, List, [], ◌∷◌, ◌++◌, length, refl, sym, subst, arith, Some, IsUtf8}
+use Rattle.std.proofs.Common.{◌≡◌, ℕ, ◌<◌, ◌≤◌, ◌^◌, Bool, true, false, List, [], ◌∷◌, ◌++◌, length, refl, sym, subst, arith, Some, IsUtf8}
 use Rattle.std.proofs.lemmas.Bool.Decides.{nat_tests}
 use Rattle.std.specs.Fmt.{decimal}
 use Rattle.std.specs.Prelude.{codes}
 use Rattle.std.specs.List.{list_all}
-use Rattle.rb_trees.specs.Spelling.{IsName}
+use Rattle.rb_trees.specs.Spelling.{IsName, keyword_table, sign_table, number_of}
+use Rattle.rb_trees.specs.Kinds as k
 use Rattle.rb_trees.specs.printing.Pieces.{Piece, Space, spelled}
 use Rattle.rb_trees.specs.printing.Words as w
 use Rattle.rb_trees.specs.printing.Words.{name_piece, number_piece, text_piece}
 use Rattle.rb_meaning_bytes.specs.tokens.Bytes.{is_letter, is_digit, is_separator}
 use Rattle.rb_meaning_bytes.specs.tokens.Forms.{IsWord, IsNumber}
 use Rattle.rb_meaning_bytes.specs.tokens.Faults.{greatest_number}
-use Rattle.rb_meaning_bytes.specs.tokens.Tables.{keywords, signs, place_in}
+use Rattle.rb_meaning_bytes.specs.tokens.Lists.{is_minus}
+use Rattle.rb_meaning_bytes.specs.tokens.Tables.{keywords, signs, number_in}
 use Rattle.rb_meaning_bytes.specs.tokens.Values.{number_value}
 use Rattle.rb_lex.proofs.InTables.{keyword_word}
 use Rattle.rb_parse.proofs.printing.Values.{number_of_decimal, text_of_literal}
@@ -56,13 +58,13 @@ name_leads name h minus rest f = record {
   starts = word_starts name (spelled rest) h.0;
 }
 
-keyword_leads : (place : ℕ) (bytes : List ℕ) → place_in keywords bytes ≡ Some place → Leads (w.word place bytes)
-keyword_leads place bytes h minus rest f =
-    let k = keyword_word bytes place h in
+keyword_leads : (bytes : List ℕ) → number_in keywords bytes ≡ Some (number_of keyword_table bytes) → Leads (w.word bytes)
+keyword_leads bytes h minus rest f =
+    let k = keyword_word bytes _ h in
     record { good = (record { formed = h; limits = tt; utf8 = word_utf8 bytes k; parts = f.ends }, f.good); starts = word_starts bytes (spelled rest) k }
 
-sign_good : (place : ℕ) (bytes : List ℕ) → place_in signs bytes ≡ Some place → (minus : Bool) (rest : List Piece) → Opened (place == 10) rest → Good minus (w.sign place bytes ∷ rest)
-sign_good place bytes h minus rest f = (record { formed = h; limits = tt; utf8 = sign_utf8 bytes place h; parts = f.starts }, f.good)
+sign_good : (bytes : List ℕ) → number_in signs bytes ≡ Some (number_of sign_table bytes) → (minus : Bool) (rest : List Piece) → Opened (is_minus (k.sign bytes)) rest → Good minus (w.sign bytes ∷ rest)
+sign_good bytes h minus rest f = (record { formed = h; limits = tt; utf8 = sign_utf8 bytes _ h; parts = f.starts }, f.good)
 
 -- numbers
 
@@ -117,223 +119,223 @@ ended rest g = record { good = space_good (10 ∷ []) line_feed_separates false 
 -- keywords
 
 pub interface_leads : Leads w.interface_word
-unfolding keywords place_in
-interface_leads = keyword_leads 0 (codes "interface") refl
+unfolding keywords number_in
+interface_leads = keyword_leads (codes "interface") refl
 
 pub class_leads : Leads w.class_word
-unfolding keywords place_in
-class_leads = keyword_leads 1 (codes "class") refl
+unfolding keywords number_in
+class_leads = keyword_leads (codes "class") refl
 
 pub fun_leads : Leads w.fun_word
-unfolding keywords place_in
-fun_leads = keyword_leads 2 (codes "fun") refl
+unfolding keywords number_in
+fun_leads = keyword_leads (codes "fun") refl
 
 pub remote_leads : Leads w.remote_word
-unfolding keywords place_in
-remote_leads = keyword_leads 3 (codes "remote") refl
+unfolding keywords number_in
+remote_leads = keyword_leads (codes "remote") refl
 
 pub main_leads : Leads w.main_word
-unfolding keywords place_in
-main_leads = keyword_leads 4 (codes "main") refl
+unfolding keywords number_in
+main_leads = keyword_leads (codes "main") refl
 
 pub val_leads : Leads w.val_word
-unfolding keywords place_in
-val_leads = keyword_leads 5 (codes "val") refl
+unfolding keywords number_in
+val_leads = keyword_leads (codes "val") refl
 
 pub var_leads : Leads w.var_word
-unfolding keywords place_in
-var_leads = keyword_leads 6 (codes "var") refl
+unfolding keywords number_in
+var_leads = keyword_leads (codes "var") refl
 
 pub if_leads : Leads w.if_word
-unfolding keywords place_in
-if_leads = keyword_leads 7 (codes "if") refl
+unfolding keywords number_in
+if_leads = keyword_leads (codes "if") refl
 
 pub else_leads : Leads w.else_word
-unfolding keywords place_in
-else_leads = keyword_leads 8 (codes "else") refl
+unfolding keywords number_in
+else_leads = keyword_leads (codes "else") refl
 
 pub for_leads : Leads w.for_word
-unfolding keywords place_in
-for_leads = keyword_leads 9 (codes "for") refl
+unfolding keywords number_in
+for_leads = keyword_leads (codes "for") refl
 
 pub in_leads : Leads w.in_word
-unfolding keywords place_in
-in_leads = keyword_leads 10 (codes "in") refl
+unfolding keywords number_in
+in_leads = keyword_leads (codes "in") refl
 
 pub while_leads : Leads w.while_word
-unfolding keywords place_in
-while_leads = keyword_leads 11 (codes "while") refl
+unfolding keywords number_in
+while_leads = keyword_leads (codes "while") refl
 
 pub try_leads : Leads w.try_word
-unfolding keywords place_in
-try_leads = keyword_leads 12 (codes "try") refl
+unfolding keywords number_in
+try_leads = keyword_leads (codes "try") refl
 
 pub catch_leads : Leads w.catch_word
-unfolding keywords place_in
-catch_leads = keyword_leads 13 (codes "catch") refl
+unfolding keywords number_in
+catch_leads = keyword_leads (codes "catch") refl
 
 pub throw_leads : Leads w.throw_word
-unfolding keywords place_in
-throw_leads = keyword_leads 14 (codes "throw") refl
+unfolding keywords number_in
+throw_leads = keyword_leads (codes "throw") refl
 
 pub return_leads : Leads w.return_word
-unfolding keywords place_in
-return_leads = keyword_leads 15 (codes "return") refl
+unfolding keywords number_in
+return_leads = keyword_leads (codes "return") refl
 
 pub batch_leads : Leads w.batch_word
-unfolding keywords place_in
-batch_leads = keyword_leads 16 (codes "batch") refl
+unfolding keywords number_in
+batch_leads = keyword_leads (codes "batch") refl
 
 pub print_leads : Leads w.print_word
-unfolding keywords place_in
-print_leads = keyword_leads 17 (codes "print") refl
+unfolding keywords number_in
+print_leads = keyword_leads (codes "print") refl
 
 pub len_leads : Leads w.len_word
-unfolding keywords place_in
-len_leads = keyword_leads 18 (codes "len") refl
+unfolding keywords number_in
+len_leads = keyword_leads (codes "len") refl
 
 pub str_leads : Leads w.str_word
-unfolding keywords place_in
-str_leads = keyword_leads 19 (codes "str") refl
+unfolding keywords number_in
+str_leads = keyword_leads (codes "str") refl
 
 pub new_leads : Leads w.new_word
-unfolding keywords place_in
-new_leads = keyword_leads 20 (codes "new") refl
+unfolding keywords number_in
+new_leads = keyword_leads (codes "new") refl
 
 pub this_leads : Leads w.this_word
-unfolding keywords place_in
-this_leads = keyword_leads 21 (codes "this") refl
+unfolding keywords number_in
+this_leads = keyword_leads (codes "this") refl
 
 pub true_leads : Leads w.true_word
-unfolding keywords place_in
-true_leads = keyword_leads 22 (codes "true") refl
+unfolding keywords number_in
+true_leads = keyword_leads (codes "true") refl
 
 pub false_leads : Leads w.false_word
-unfolding keywords place_in
-false_leads = keyword_leads 23 (codes "false") refl
+unfolding keywords number_in
+false_leads = keyword_leads (codes "false") refl
 
 pub List_leads : Leads w.List_word
-unfolding keywords place_in
-List_leads = keyword_leads 24 (codes "List") refl
+unfolding keywords number_in
+List_leads = keyword_leads (codes "List") refl
 
 pub Rows_leads : Leads w.Rows_word
-unfolding keywords place_in
-Rows_leads = keyword_leads 25 (codes "Rows") refl
+unfolding keywords number_in
+Rows_leads = keyword_leads (codes "Rows") refl
 
 pub Int_leads : Leads w.Int_word
-unfolding keywords place_in
-Int_leads = keyword_leads 26 (codes "Int") refl
+unfolding keywords number_in
+Int_leads = keyword_leads (codes "Int") refl
 
 pub Bool_leads : Leads w.Bool_word
-unfolding keywords place_in
-Bool_leads = keyword_leads 27 (codes "Bool") refl
+unfolding keywords number_in
+Bool_leads = keyword_leads (codes "Bool") refl
 
 pub Text_leads : Leads w.Text_word
-unfolding keywords place_in
-Text_leads = keyword_leads 28 (codes "Text") refl
+unfolding keywords number_in
+Text_leads = keyword_leads (codes "Text") refl
 
 pub Unit_leads : Leads w.Unit_word
-unfolding keywords place_in
-Unit_leads = keyword_leads 29 (codes "Unit") refl
+unfolding keywords number_in
+Unit_leads = keyword_leads (codes "Unit") refl
 
 -- signs
 
 pub equal_stands : Stands w.equal
-unfolding signs place_in
-equal_stands = sign_good 0 (codes "==") refl
+unfolding signs number_in
+equal_stands = sign_good (codes "==") refl
 
 pub unequal_stands : Stands w.unequal
-unfolding signs place_in
-unequal_stands = sign_good 1 (codes "!=") refl
+unfolding signs number_in
+unequal_stands = sign_good (codes "!=") refl
 
 pub at_most_stands : Stands w.at_most
-unfolding signs place_in
-at_most_stands = sign_good 2 (codes "<=") refl
+unfolding signs number_in
+at_most_stands = sign_good (codes "<=") refl
 
 pub at_least_stands : Stands w.at_least
-unfolding signs place_in
-at_least_stands = sign_good 3 (codes ">=") refl
+unfolding signs number_in
+at_least_stands = sign_good (codes ">=") refl
 
 pub and_stands : Stands w.and
-unfolding signs place_in
-and_stands = sign_good 4 (codes "&&") refl
+unfolding signs number_in
+and_stands = sign_good (codes "&&") refl
 
 pub or_stands : Stands w.or
-unfolding signs place_in
-or_stands = sign_good 5 (codes "||") refl
+unfolding signs number_in
+or_stands = sign_good (codes "||") refl
 
 pub less_stands : Stands w.less
-unfolding signs place_in
-less_stands = sign_good 6 (codes "<") refl
+unfolding signs number_in
+less_stands = sign_good (codes "<") refl
 
 pub greater_stands : Stands w.greater
-unfolding signs place_in
-greater_stands = sign_good 7 (codes ">") refl
+unfolding signs number_in
+greater_stands = sign_good (codes ">") refl
 
 pub assign_stands : Stands w.assign
-unfolding signs place_in
-assign_stands = sign_good 8 (codes "=") refl
+unfolding signs number_in
+assign_stands = sign_good (codes "=") refl
 
 pub plus_stands : Stands w.plus
-unfolding signs place_in
-plus_stands = sign_good 9 (codes "+") refl
+unfolding signs number_in
+plus_stands = sign_good (codes "+") refl
 
 pub minus_stands : (before : Bool) (rest : List Piece) → Opened true rest → Good before (w.minus ∷ rest)
-unfolding signs place_in
-minus_stands = sign_good 10 (codes "-") refl
+unfolding signs number_in
+minus_stands = sign_good (codes "-") refl
 
 pub star_stands : Stands w.star
-unfolding signs place_in
-star_stands = sign_good 11 (codes "*") refl
+unfolding signs number_in
+star_stands = sign_good (codes "*") refl
 
 pub slash_stands : Stands w.slash
-unfolding signs place_in
-slash_stands = sign_good 12 (codes "/") refl
+unfolding signs number_in
+slash_stands = sign_good (codes "/") refl
 
 pub percent_stands : Stands w.percent
-unfolding signs place_in
-percent_stands = sign_good 13 (codes "%") refl
+unfolding signs number_in
+percent_stands = sign_good (codes "%") refl
 
 pub not_sign_stands : Stands w.not_sign
-unfolding signs place_in
-not_sign_stands = sign_good 14 (codes "!") refl
+unfolding signs number_in
+not_sign_stands = sign_good (codes "!") refl
 
 pub dot_stands : Stands w.dot
-unfolding signs place_in
-dot_stands = sign_good 15 (codes ".") refl
+unfolding signs number_in
+dot_stands = sign_good (codes ".") refl
 
 pub comma_stands : Stands w.comma
-unfolding signs place_in
-comma_stands = sign_good 16 (codes ",") refl
+unfolding signs number_in
+comma_stands = sign_good (codes ",") refl
 
 pub semicolon_stands : Stands w.semicolon
-unfolding signs place_in
-semicolon_stands = sign_good 17 (codes ";") refl
+unfolding signs number_in
+semicolon_stands = sign_good (codes ";") refl
 
 pub colon_stands : Stands w.colon
-unfolding signs place_in
-colon_stands = sign_good 18 (codes ":") refl
+unfolding signs number_in
+colon_stands = sign_good (codes ":") refl
 
 pub opens_stands : Stands w.opens
-unfolding signs place_in
-opens_stands = sign_good 19 (codes "(") refl
+unfolding signs number_in
+opens_stands = sign_good (codes "(") refl
 
 pub closes_stands : Stands w.closes
-unfolding signs place_in
-closes_stands = sign_good 20 (codes ")") refl
+unfolding signs number_in
+closes_stands = sign_good (codes ")") refl
 
 pub open_brace_stands : Stands w.open_brace
-unfolding signs place_in
-open_brace_stands = sign_good 21 (codes "{") refl
+unfolding signs number_in
+open_brace_stands = sign_good (codes "{") refl
 
 pub close_brace_stands : Stands w.close_brace
-unfolding signs place_in
-close_brace_stands = sign_good 22 (codes "}") refl
+unfolding signs number_in
+close_brace_stands = sign_good (codes "}") refl
 
 pub open_bracket_stands : Stands w.open_bracket
-unfolding signs place_in
-open_bracket_stands = sign_good 23 (codes "[") refl
+unfolding signs number_in
+open_bracket_stands = sign_good (codes "[") refl
 
 pub close_bracket_stands : Stands w.close_bracket
-unfolding signs place_in
-close_bracket_stands = sign_good 24 (codes "]") refl
+unfolding signs number_in
+close_bracket_stands = sign_good (codes "]") refl

@@ -6,7 +6,7 @@ use Rattle.std.specs.List.{list_all}
 use Rattle.rb_trees.specs.declared.tokens.TokenKind.{TokenKind}
 use Rattle.rb_trees.specs.declared.tokens.TokenKind.TheVariants as kinds
 use Rattle.rb_meaning_bytes.specs.tokens.Bytes.{is_letter, is_digit, is_word_byte, is_plain}
-use Rattle.rb_meaning_bytes.specs.tokens.Tables.{signs, place_in}
+use Rattle.rb_meaning_bytes.specs.tokens.Tables.{signs, number_in}
 use Rattle.rb_meaning_bytes.specs.tokens.Forms.{Form, IsLiteral, Body, empty, plain, escape}
 use Rattle.rb_meaning_bytes.specs.tokens.Begins.{IsComment}
 use Rattle.rb_lex.proofs.InTables.{placed, keyword_word}
@@ -70,7 +70,7 @@ all_signs : list_all is_sign signs ≡ true
 unfolding signs is_letter is_digit
 all_signs = refl
 
-pub sign_is : (w : List ℕ) (n : ℕ) → place_in signs w ≡ Some n → is_sign w ≡ true
+pub sign_is : (w : List ℕ) (n : ℕ) → number_in signs w ≡ Some n → is_sign w ≡ true
 sign_is w n h = placed is_sign w signs n all_signs h
 
 other_first : (a : ℕ) (bs : List ℕ) → is_sign (a ∷ bs) ≡ true → is_other a ≡ true
@@ -85,7 +85,7 @@ ascii_signs : list_all (list_all is_ascii) signs ≡ true
 unfolding signs
 ascii_signs = refl
 
-pub sign_ascii : (w : List ℕ) (n : ℕ) → place_in signs w ≡ Some n → list_all is_ascii w ≡ true
+pub sign_ascii : (w : List ℕ) (n : ℕ) → number_in signs w ≡ Some n → list_all is_ascii w ≡ true
 sign_ascii w n h = placed (list_all is_ascii) w signs n ascii_signs h
 
 -- what the first byte tells

@@ -13,7 +13,7 @@ use Rattle.rb_trees.specs.declared.tokens.TokenKind.TheVariants as kinds
 use Rattle.rb_trees.specs.printing.Words.{escaped, all_escaped}
 use Rattle.rb_meaning_bytes.specs.tokens.Bytes.{is_letter, is_digit, is_word_byte, is_separator, is_plain, is_escaped}
 use Rattle.rb_meaning_bytes.specs.tokens.Forms.{Form, IsWord, IsNumber, Body, empty, plain, escape}
-use Rattle.rb_meaning_bytes.specs.tokens.Tables.{signs, place_in}
+use Rattle.rb_meaning_bytes.specs.tokens.Tables.{signs, number_in}
 use Rattle.rb_parse.proofs.lawful.Utf8.{AllHigh, encode_high, ascii_first}
 use Rattle.rb_parse.proofs.printing.lexed.Slices.{sign_ascii}
 
@@ -50,7 +50,7 @@ number_utf8 (b ∷ bs) h = ascii_first b bs (digit_low b h.0) (all_utf8 is_digit
 pub separators_utf8 : (w : List ℕ) → list_all is_separator w ≡ true → IsUtf8 w
 separators_utf8 w h = all_utf8 is_separator separator_low w h
 
-pub sign_utf8 : (w : List ℕ) (n : ℕ) → place_in signs w ≡ Some n → IsUtf8 w
+pub sign_utf8 : (w : List ℕ) (n : ℕ) → number_in signs w ≡ Some n → IsUtf8 w
 sign_utf8 w n h = all_utf8 (λ b. ltb b 128) (λ b l. ltb-true b 128 l) w (sign_ascii w n h)
 
 -- numbers

@@ -16,8 +16,8 @@ use Rattle.rb_trees.specs.printing.Types.{type_pieces}
 use Rattle.rb_trees.specs.printing.Words as w
 use Rattle.rb_trees.specs.printing.Words.{form_pieces, int_pieces, bool_piece}
 use Rattle.rb_trees.specs.printing.Exprs.{binary_sign, unary_pieces, in_parentheses, expr_pieces, args_pieces, more_args_pieces}
-use Rattle.rb_meaning_bytes.specs.grammar.Kinds as k
-use Rattle.rb_meaning_bytes.specs.grammar.Kinds.{is_one_of}
+use Rattle.rb_trees.specs.Kinds as k
+use Rattle.rb_trees.specs.Kinds.{is_one_of}
 use Rattle.rb_meaning_bytes.specs.grammar.Limits.{Nesting, after}
 use Rattle.rb_parse.proofs.readable.Trees.{IsReadInt, IsReadForm, IsReadExpr, AreReadExprs, type_depth, marks_of, marks_of_all}
 use Rattle.rb_parse.proofs.printing.within.States.{Open, Plain, brackets, counting, more_marks, after_calm, after_mark, after_opened, after_closed, after_less, after_greater}

@@ -6,8 +6,8 @@ use Rattle.rb_trees.specs.printing.Pieces.{Piece, Token, Space}
 use Rattle.rb_trees.specs.printing.Exprs.{in_parentheses}
 use Rattle.rb_trees.specs.printing.Stmts.{line, opened, closed, closed_by}
 use Rattle.rb_trees.specs.printing.Words as w
-use Rattle.rb_meaning_bytes.specs.grammar.Kinds as k
-use Rattle.rb_meaning_bytes.specs.grammar.Kinds.{is_one_of}
+use Rattle.rb_trees.specs.Kinds as k
+use Rattle.rb_trees.specs.Kinds.{is_one_of}
 use Rattle.rb_meaning_bytes.specs.grammar.Limits.{Nesting, ends_expression}
 use Rattle.rb_parse.proofs.printing.within.States.{Open, Plain, words, brackets, counting, after_calm, after_end, after_word, after_brace, after_close}
 use Rattle.rb_parse.proofs.printing.within.Fits.{Fits, nothing, spaced, joined, weaker, next}

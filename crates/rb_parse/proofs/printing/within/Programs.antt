@@ -13,8 +13,8 @@ use Rattle.rb_trees.specs.printing.Stmts.{line, deeper, opened}
 use Rattle.rb_trees.specs.printing.Programs.{param_pieces, more_params_pieces, params_pieces, signature_pieces, signatures_pieces, fields_pieces, remote_pieces, method_pieces, methods_pieces, inside, interfaces_pieces, classes_pieces, program_pieces}
 use Rattle.rb_trees.specs.printing.Words as w
 use Rattle.rb_trees.specs.printing.Words.{space, name_piece}
-use Rattle.rb_meaning_bytes.specs.grammar.Kinds as k
-use Rattle.rb_meaning_bytes.specs.grammar.Kinds.{is_one_of}
+use Rattle.rb_trees.specs.Kinds as k
+use Rattle.rb_trees.specs.Kinds.{is_one_of}
 use Rattle.rb_meaning_bytes.specs.grammar.Limits.{Within, nothing_open}
 use Rattle.rb_parse.proofs.readable.Trees.{IsReadType, IsReadParam, IsReadSignature, IsReadInterface, IsReadMethod, IsReadClass, IsReadable}
 use Rattle.rb_parse.proofs.printing.Spots.{tokens_at}

@@ -7,8 +7,8 @@ use Rattle.rb_trees.specs.printing.Pieces.{Piece, Token}
 use Rattle.rb_trees.specs.printing.Exprs.{expr_pieces}
 use Rattle.rb_trees.specs.printing.Stmts.{deeper, headed, bound, otherwise, stmt_pieces, stmts_pieces, return_pieces, body_pieces}
 use Rattle.rb_trees.specs.printing.Words as w
-use Rattle.rb_meaning_bytes.specs.grammar.Kinds as k
-use Rattle.rb_meaning_bytes.specs.grammar.Kinds.{is_one_of}
+use Rattle.rb_trees.specs.Kinds as k
+use Rattle.rb_trees.specs.Kinds.{is_one_of}
 use Rattle.rb_parse.proofs.readable.Trees.{IsReadOutermost, IsReadStmt, AreReadStmts, IsReadReturn, IsReadBody, marks_of}
 use Rattle.rb_parse.proofs.printing.within.States.{Plain, words, counting}
 use Rattle.rb_parse.proofs.printing.within.Types.{Behind}

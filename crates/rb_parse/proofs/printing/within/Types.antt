@@ -7,8 +7,8 @@ use Rattle.rb_trees.specs.mirror.Types.{TypeTree}
 use Rattle.rb_trees.specs.printing.Pieces.{Token}
 use Rattle.rb_trees.specs.printing.Types.{type_pieces, result_pieces}
 use Rattle.rb_trees.specs.printing.Words.{space, colon}
-use Rattle.rb_meaning_bytes.specs.grammar.Kinds as k
-use Rattle.rb_meaning_bytes.specs.grammar.Kinds.{is_one_of}
+use Rattle.rb_trees.specs.Kinds as k
+use Rattle.rb_trees.specs.Kinds.{is_one_of}
 use Rattle.rb_meaning_bytes.specs.grammar.Limits.{Nesting}
 use Rattle.rb_parse.proofs.readable.Trees.{type_depth}
 use Rattle.rb_parse.proofs.printing.within.States.{Open, Plain, counting, after_calm, after_opened, after_closed}

@@ -1,7 +1,8 @@
--- The kinds of tokens by name. A keyword or sign is numbered by its place in the language's list, from 0.
-use Rattle.std.specs.Prelude.{Bool, true, false, cond, nat_eq, List, [], ◌∷◌}
+-- The kinds of tokens by name.
+use Rattle.std.specs.Prelude.{ℕ, Bool, true, false, cond, nat_eq, List, [], ◌∷◌, codes}
 use Rattle.rb_trees.specs.declared.tokens.TokenKind.{TokenKind}
 use Rattle.rb_trees.specs.declared.tokens.TokenKind.TheVariants.{Name, Number, TextLit, Keyword, Sign}
+use Rattle.rb_trees.specs.Spelling.{keyword_table, sign_table, number_of}
 
 -- whether two kinds are the same
 abbrev pub is_kind : TokenKind → TokenKind → Bool
@@ -17,202 +18,184 @@ abbrev pub is_one_of : TokenKind → List TokenKind → Bool
 is_one_of k [] = false
 is_one_of k (other ∷ others) = cond (is_kind k other) true (is_one_of k others)
 
+-- the kind of the keyword that is spelled so
+abbrev pub keyword : List ℕ → TokenKind
+keyword spelling = Keyword (number_of keyword_table spelling)
+
+-- the kind of the sign that is spelled so
+abbrev pub sign : List ℕ → TokenKind
+sign spelling = Sign (number_of sign_table spelling)
+
 abbrev pub keyword_interface : TokenKind
-keyword_interface = Keyword 0
+keyword_interface = keyword (codes "interface")
 
 abbrev pub keyword_class : TokenKind
-keyword_class = Keyword 1
+keyword_class = keyword (codes "class")
 
 abbrev pub keyword_fun : TokenKind
-keyword_fun = Keyword 2
+keyword_fun = keyword (codes "fun")
 
 abbrev pub keyword_remote : TokenKind
-keyword_remote = Keyword 3
+keyword_remote = keyword (codes "remote")
 
 abbrev pub keyword_main : TokenKind
-keyword_main = Keyword 4
+keyword_main = keyword (codes "main")
 
 abbrev pub keyword_val : TokenKind
-keyword_val = Keyword 5
+keyword_val = keyword (codes "val")
 
 abbrev pub keyword_var : TokenKind
-keyword_var = Keyword 6
+keyword_var = keyword (codes "var")
 
 abbrev pub keyword_if : TokenKind
-keyword_if = Keyword 7
+keyword_if = keyword (codes "if")
 
 abbrev pub keyword_else : TokenKind
-keyword_else = Keyword 8
+keyword_else = keyword (codes "else")
 
 abbrev pub keyword_for : TokenKind
-keyword_for = Keyword 9
+keyword_for = keyword (codes "for")
 
 abbrev pub keyword_in : TokenKind
-keyword_in = Keyword 10
+keyword_in = keyword (codes "in")
 
 abbrev pub keyword_while : TokenKind
-keyword_while = Keyword 11
+keyword_while = keyword (codes "while")
 
 abbrev pub keyword_try : TokenKind
-keyword_try = Keyword 12
+keyword_try = keyword (codes "try")
 
 abbrev pub keyword_catch : TokenKind
-keyword_catch = Keyword 13
+keyword_catch = keyword (codes "catch")
 
 abbrev pub keyword_throw : TokenKind
-keyword_throw = Keyword 14
+keyword_throw = keyword (codes "throw")
 
 abbrev pub keyword_return : TokenKind
-keyword_return = Keyword 15
+keyword_return = keyword (codes "return")
 
 abbrev pub keyword_batch : TokenKind
-keyword_batch = Keyword 16
+keyword_batch = keyword (codes "batch")
 
 abbrev pub keyword_print : TokenKind
-keyword_print = Keyword 17
+keyword_print = keyword (codes "print")
 
 abbrev pub keyword_len : TokenKind
-keyword_len = Keyword 18
+keyword_len = keyword (codes "len")
 
 abbrev pub keyword_str : TokenKind
-keyword_str = Keyword 19
+keyword_str = keyword (codes "str")
 
 abbrev pub keyword_new : TokenKind
-keyword_new = Keyword 20
+keyword_new = keyword (codes "new")
 
 abbrev pub keyword_this : TokenKind
-keyword_this = Keyword 21
+keyword_this = keyword (codes "this")
 
 abbrev pub keyword_true : TokenKind
-keyword_true = Keyword 22
+keyword_true = keyword (codes "true")
 
 abbrev pub keyword_false : TokenKind
-keyword_false = Keyword 23
+keyword_false = keyword (codes "false")
 
 abbrev pub keyword_List : TokenKind
-keyword_List = Keyword 24
+keyword_List = keyword (codes "List")
 
 abbrev pub keyword_Rows : TokenKind
-keyword_Rows = Keyword 25
+keyword_Rows = keyword (codes "Rows")
 
 abbrev pub keyword_Int : TokenKind
-keyword_Int = Keyword 26
+keyword_Int = keyword (codes "Int")
 
 abbrev pub keyword_Bool : TokenKind
-keyword_Bool = Keyword 27
+keyword_Bool = keyword (codes "Bool")
 
 abbrev pub keyword_Text : TokenKind
-keyword_Text = Keyword 28
+keyword_Text = keyword (codes "Text")
 
 abbrev pub keyword_Unit : TokenKind
-keyword_Unit = Keyword 29
+keyword_Unit = keyword (codes "Unit")
 
 abbrev pub keyword_object : TokenKind
-keyword_object = Keyword 30
+keyword_object = keyword (codes "object")
 
 abbrev pub keyword_root : TokenKind
-keyword_root = Keyword 31
+keyword_root = keyword (codes "root")
 
--- ==
 abbrev pub sign_equal : TokenKind
-sign_equal = Sign 0
+sign_equal = sign (codes "==")
 
--- !=
 abbrev pub sign_unequal : TokenKind
-sign_unequal = Sign 1
+sign_unequal = sign (codes "!=")
 
--- <=
 abbrev pub sign_at_most : TokenKind
-sign_at_most = Sign 2
+sign_at_most = sign (codes "<=")
 
--- >=
 abbrev pub sign_at_least : TokenKind
-sign_at_least = Sign 3
+sign_at_least = sign (codes ">=")
 
--- &&
 abbrev pub sign_and : TokenKind
-sign_and = Sign 4
+sign_and = sign (codes "&&")
 
--- ||
 abbrev pub sign_or : TokenKind
-sign_or = Sign 5
+sign_or = sign (codes "||")
 
--- <
 abbrev pub sign_less : TokenKind
-sign_less = Sign 6
+sign_less = sign (codes "<")
 
--- >
 abbrev pub sign_greater : TokenKind
-sign_greater = Sign 7
+sign_greater = sign (codes ">")
 
--- =
 abbrev pub sign_assign : TokenKind
-sign_assign = Sign 8
+sign_assign = sign (codes "=")
 
--- +
 abbrev pub sign_plus : TokenKind
-sign_plus = Sign 9
+sign_plus = sign (codes "+")
 
--- -
 abbrev pub sign_minus : TokenKind
-sign_minus = Sign 10
+sign_minus = sign (codes "-")
 
--- *
 abbrev pub sign_star : TokenKind
-sign_star = Sign 11
+sign_star = sign (codes "*")
 
--- /
 abbrev pub sign_slash : TokenKind
-sign_slash = Sign 12
+sign_slash = sign (codes "/")
 
--- %
 abbrev pub sign_percent : TokenKind
-sign_percent = Sign 13
+sign_percent = sign (codes "%")
 
--- !
 abbrev pub sign_not : TokenKind
-sign_not = Sign 14
+sign_not = sign (codes "!")
 
--- .
 abbrev pub sign_dot : TokenKind
-sign_dot = Sign 15
+sign_dot = sign (codes ".")
 
--- ,
 abbrev pub sign_comma : TokenKind
-sign_comma = Sign 16
+sign_comma = sign (codes ",")
 
--- ;
 abbrev pub sign_semicolon : TokenKind
-sign_semicolon = Sign 17
+sign_semicolon = sign (codes ";")
 
--- :
 abbrev pub sign_colon : TokenKind
-sign_colon = Sign 18
+sign_colon = sign (codes ":")
 
--- (
 abbrev pub sign_open : TokenKind
-sign_open = Sign 19
+sign_open = sign (codes "(")
 
--- )
 abbrev pub sign_close : TokenKind
-sign_close = Sign 20
+sign_close = sign (codes ")")
 
--- {
 abbrev pub sign_open_brace : TokenKind
-sign_open_brace = Sign 21
+sign_open_brace = sign (codes "{")
 
--- }
 abbrev pub sign_close_brace : TokenKind
-sign_close_brace = Sign 22
+sign_close_brace = sign (codes "}")
 
--- [
 abbrev pub sign_open_bracket : TokenKind
-sign_open_bracket = Sign 23
+sign_open_bracket = sign (codes "[")
 
--- ]
 abbrev pub sign_close_bracket : TokenKind
-sign_close_bracket = Sign 24
+sign_close_bracket = sign (codes "]")
 
--- #
 abbrev pub sign_number_sign : TokenKind
-sign_number_sign = Sign 25
+sign_number_sign = sign (codes "#")

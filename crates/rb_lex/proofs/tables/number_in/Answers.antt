@@ -1,10 +1,10 @@
--- What `place_in` answers.
+-- What `number_in` answers.
 use Rattle.std.proofs.Common.{rules, tests}
 use Rattle.std.proofs.lemmas.Iterator.{YieldsList-from_slice}
 use Rattle.std.proofs.lemmas.Iterator.Search.{position_from_yields_List}
 use Rattle.std.specs.Str.{bytes_eq}
 use Rattle.rb_lex.proofs.Lookup.{place_found}
-use Rattle.rb_lex.proofs.tables.place_in.Goals as goal
+use Rattle.rb_lex.proofs.tables.number_in.Goals as goal
 
 pub returns-clause-value : goal.returns-clause-value
 returns-clause-value c =

@@ -1,7 +1,0 @@
--- What `keyword_place` answers.
-use Rattle.rb_meaning_bytes.specs.tokens.Tables.{keywords}
-use Rattle.rb_lex.proofs.tables.keyword_place.Goals as goal
-
-pub returns-clause-value : goal.returns-clause-value
-unfolding keywords
-returns-clause-value c = c.place_in.ensures.value
