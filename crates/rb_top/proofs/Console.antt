@@ -43,7 +43,7 @@ more_events (Ask (ask.ListTurn at) go) s = more_events (go (local_answer (ask.Li
 more_events (AskBatch at l go) s = more_events (go (without_batches.batch s at l).0) s
 
 -- what was printed so far of a run that began at a device
-Printed : {W : Type 0} → sinks.Ghosts W → Device (List ℕ) → Outside → Console W → Type 0
+abbrev pub Printed : {W : Type 0} → sinks.Ghosts W → Device (List ℕ) → Outside → Console W → Type 0
 Printed g start s c = behind g c ≡ with_bytes start (shown_events s.events)
 
 -- one line more

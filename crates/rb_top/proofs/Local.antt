@@ -21,11 +21,24 @@ use Rattle.rb_meaning_code.specs.Statements.{performs_all}
 use Rattle.rb_meaning.specs.State as state
 use Rattle.rb_meaning.specs.State.{Event, Outside}
 use Rattle.rb_meaning.specs.Shown.{line, exchanges, shown, shown_ending, shown_events, shown_table}
-use Rattle.rb_meaning.specs.Meaning.{Meaning, meaning, meant, in_main, performs_found, main_result, runs_main, at_start, outside_of, ending_of, local_answer, shown_by}
+use Rattle.rb_meaning.specs.Meaning.{Meaning, meaning, meant, in_main, performs_found, main_result, runs_main, at_start, outside_of, ending_of, local_answer, shown_by, gives_some}
 use Rattle.rb_meaning.specs.Unsplit.{BatchText, batch_at}
 use Rattle.rb_top.specs.FirstForm.{FirstService, class_name_of, first_table, objects_of}
-use Rattle.rb_top.specs.Local.{without_batches, main_alone, local_end}
-use Rattle.rb_top.specs.Printing.{alone}
+use Rattle.rb_base.specs.Devices.{Device}
+use Rattle.rb_base.specs.Sinks.{WrotePrefix}
+use Rattle.rb_base.specs.declared.sinks.Sink as sinks
+use Rattle.rb_engine.specs.Ends.{flattened}
+use Rattle.rb_engine.specs.Meets.{Led}
+use Rattle.rb_engine.specs.declared.world.Halt.{Halt}
+use Rattle.rb_engine.specs.declared.world.Halt.TheVariants.{Memory, World}
+use Rattle.rb_top.specs.Console.{behind, surrounds, Leads}
+use Rattle.rb_top.specs.Local.{without_batches, main_alone, local_end, PrintsUnlessStarved, Performs}
+use Rattle.rb_top.specs.declared.console.Console.{Console}
+use Rattle.rb_top.specs.declared.printing.PrintStop.{PrintStop}
+use Rattle.rb_top.specs.declared.printing.PrintStop.TheVariants as print
+use Rattle.rb_top.proofs.Console.{Printed, led}
+use Rattle.rb_top.proofs.Printed.{bytes_none}
+use Rattle.rb_top.specs.Printing.{alone, stopped}
 use Rattle.rb_top.specs.Runs.{run_text}
 use Rattle.rb_top.specs.Texts.{HasNoBatch}
 
@@ -129,3 +142,59 @@ shows_alone text p s fuel h f =
     ∙ ap (λ n. rest n m.table) (no_exchange d (outside_of (first_table s)))
     ∙ ap (λ v. rest 0 v.table) (server_stays d (outside_of (first_table s)))
     ∙ ap (rest 0) (one_object s f)
+
+-- what the engine tells of a run over the console
+pub led_leads : {W A : Type 0} (g : sinks.Ghosts W) (d : Run A) (c c' : Console W) (l : Local) (r : Result (Result A Raised) (Halt PrintStop)) → Led (surrounds g) d c l (flattened r) c' → Leads g d c r c'
+led_leads g d c c' l (Ok (Ok a)) h = (l, h)
+led_leads g d c c' l (Ok (Err f)) h = (l, h)
+led_leads g d c c' l (Err Memory) h = tt
+led_leads g d c c' l (Err (World x)) h = h
+
+-- a value of an expression as that of `main`
+abbrev pub some_of : Result (Result Value Raised) (Halt PrintStop) → Result (Result (Option Value) Raised) (Halt PrintStop)
+some_of (Ok (Ok v)) = Ok (Ok (Some v))
+some_of (Ok (Err f)) = Ok (Err f)
+some_of (Err halt) = Err halt
+
+pub some_value : {W : Type 0} (g : sinks.Ghosts W) (d : Run Value) (c c' : Console W) (r : Result (Result Value Raised) (Halt PrintStop)) → Leads g d c r c' → Leads g (next d gives_some) c (some_of r) c'
+some_value g d c c' (Ok (Ok v)) h = (h.0, gave_on (surrounds g) d gives_some v h.0 _ c c' c' h.1 (refl, refl))
+some_value g d c c' (Ok (Err f)) h = (h.0, faulted_on (surrounds g) d gives_some f h.0 c c' h.1)
+some_value g d c c' (Err Memory) h = tt
+some_value g d c c' (Err (World x)) h = cut_on (surrounds g) d gives_some x c c' h
+
+-- the statements of `main`, which ended well, and its value
+pub then_value : {W : Type 0} (g : sinks.Ghosts W) (d : Run (Unit {0})) (k : Local → Run (Option Value)) (c mid c' : Console W) (l : Local) (r : Result (Result (Option Value) Raised) (Halt PrintStop)) → Follows (surrounds g) d c (Ok (Gave tt l)) mid → Leads g (k l) mid r c' → Leads g (next d (λ u l1. k l1)) c r c'
+then_value g d k c mid c' l (Ok (Ok v)) h more = (more.0, gave_on (surrounds g) d (λ u l1. k l1) tt l _ c mid c' h more.1)
+then_value g d k c mid c' l (Ok (Err f)) h more = (more.0, gave_on (surrounds g) d (λ u l1. k l1) tt l _ c mid c' h more.1)
+then_value g d k c mid c' l (Err Memory) h more = tt
+then_value g d k c mid c' l (Err (World x)) h more = gave_on (surrounds g) d (λ u l1. k l1) tt l _ c mid c' h more
+
+-- how a run over the console ended, as an ending
+abbrev pub ending_or_stop : Result (Result (Option Value) Raised) (Halt PrintStop) → Result Ending PrintStop
+ending_or_stop (Ok (Ok v)) = Ok (endings.Done v)
+ending_or_stop (Ok (Err f)) = Ok (endings.Faulted f.fault f.at)
+ending_or_stop (Err Memory) = Err print.Memory
+ending_or_stop (Err (World x)) = Err x
+
+-- nothing was printed before
+printed_nothing : {W : Type 0} (g : sinks.Ghosts W) (c : Console W) (table : List Object) → Printed g (behind g c) (outside_of table) c
+printed_nothing g c table = sym (bytes_none (behind g c))
+
+ended_so : {W : Type 0} (g : sinks.Ghosts W) (classes : List Class) (body : Body) (fuel : ℕ) (c c' : Console W) (o : Outcome (Option Value)) (table : List Object) → Follows (surrounds g) (runs_main classes fuel body (at_start fuel)) c (Ok o) c'
+    → PrintsUnlessStarved (main_alone classes body fuel table).ending (shown_events (main_alone classes body fuel table).events) (Ok (ending_of o)) (behind g c) (behind g c')
+ended_so g classes body fuel c c' o table h =
+    let i = led g (behind g c) (runs_main classes fuel body (at_start fuel)) (outside_of table) (Ok o) c c' (printed_nothing g c table) h in
+    (ap ending_of (sym i.told.0), i.told.1)
+
+stopped_so : (stop : PrintStop) (wanted : Ending) (text : List ℕ) (before after : Device (List ℕ)) → WrotePrefix (stopped stop before) after text → PrintsUnlessStarved wanted text (Err stop) before after
+stopped_so print.WriteFault wanted text before after w = w
+stopped_so print.Memory wanted text before after w = tt
+
+-- what `main` did over the console is what it means
+pub performs_so : {W : Type 0} (g : sinks.Ghosts W) (classes : List Class) (body : Body) (fuel : ℕ) (c c' : Console W) (r : Result (Result (Option Value) Raised) (Halt PrintStop)) → Leads g (runs_main classes fuel body (at_start fuel)) c r c' → Performs classes body fuel (ending_or_stop r) (behind g c) (behind g c')
+performs_so g classes body fuel c c' (Ok (Ok v)) h = λ table. ended_so g classes body fuel c c' (Gave v h.0) table h.1
+performs_so g classes body fuel c c' (Ok (Err f)) h = λ table. ended_so g classes body fuel c c' (Faulted f h.0) table h.1
+performs_so g classes body fuel c c' (Err Memory) h = λ table. tt
+performs_so g classes body fuel c c' (Err (World x)) h = λ table.
+    let i = led g (behind g c) (runs_main classes fuel body (at_start fuel)) (outside_of table) (Err x) c c' (printed_nothing g c table) h in
+    stopped_so x (main_alone classes body fuel table).ending (shown_events (main_alone classes body fuel table).events) (behind g c) (behind g c') i.told

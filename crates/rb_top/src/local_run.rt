@@ -41,9 +41,10 @@ fn main_value<W: Sink>(
     let Some(expr) = value else {
         return Ok(Ok(None));
     };
-    match eval(alloc, code, state, frame, console, expr)? {
-        Ok(value) => Ok(Ok(Some(value))),
-        Err(raised) => Ok(Err(raised)),
+    match eval(alloc, code, state, frame, console, expr) {
+        Ok(Ok(value)) => Ok(Ok(Some(value))),
+        Ok(Err(raised)) => Ok(Err(raised)),
+        Err(halt) => Err(halt),
     }
 }
 
@@ -58,9 +59,10 @@ fn run_main<W: Sink>(
     ensures { Leads W.Sink (runs_main (map mirror_class code.now) state.old.fuel (mirror_body body.now) (local [] state.old)) console.old result console.new }
 {
     let mut frame = Frame::make(alloc);
-    match exec(alloc, code, state, &mut frame, console, &body.statements)? {
-        Ok(()) => main_value(alloc, code, state, &frame, console, &body.result),
-        Err(raised) => Ok(Err(raised)),
+    match exec(alloc, code, state, &mut frame, console, &body.statements) {
+        Ok(Ok(())) => main_value(alloc, code, state, &frame, console, &body.result),
+        Ok(Err(raised)) => Ok(Err(raised)),
+        Err(halt) => Err(halt),
     }
 }
 

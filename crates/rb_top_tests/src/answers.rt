@@ -8,7 +8,10 @@ use std::test::Fail;
 /// A program of the form that is built.
 pub const PROGRAM: &str = "interface D { fun n(): Int; } main { batch (D r) { print(r.n()); } }";
 
-/// A service for it.
+/// A typed program that isn't of a form that is built.
+pub const OTHER: &str = "interface D { fun n(): Int; } main { batch (D r) { r.n(); } }";
+
+/// A service for both.
 pub const SERVICE: &str = "class D { fun n(): Int { return 7; } } object 0: D { } root 0;";
 
 /// What follows the lines of a run.
