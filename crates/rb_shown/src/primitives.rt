@@ -1,4 +1,4 @@
-// Numbers, truth values and texts as literals.
+// Numbers, truth values, texts and references to objects as literals.
 
 ghost use Rattle.std.specs.Prelude.{◌++◌, codes};
 ghost use Rattle.std.specs.Fmt.{decimal, signed_decimal};
