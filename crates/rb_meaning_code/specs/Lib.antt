@@ -7,3 +7,6 @@ pub mod Calls
 pub mod Expressions
 pub mod Statements
 pub mod Bodies
+pub mod Laws
+pub mod Led
+pub mod Leads
