@@ -3,7 +3,8 @@ use Rattle.std.proofs.Common.{◌≡◌, refl, ap, ◌∙◌, subst, ℕ, zero, 
 use Rattle.std.specs.Prelude.{Bool, true, false, cond, Option, Some, None, option_map, Result, Ok, Err, nat_lt, slice_get, slice_set}
 use Rattle.std.specs.Str.{bytes_eq}
 use Rattle.rb_trees.specs.Named.{replaced}
-use Rattle.rb_trees.specs.Objects.{most_objects, field_value, with_field, with_object, option_with_field, with_field_value}
+use Rattle.rb_trees.specs.Limits.{most_objects}
+use Rattle.rb_trees.specs.Objects.{field_value, with_field, with_object, option_with_field, with_field_value}
 use Rattle.rb_trees.specs.Outcome.{known, must, ◌>>=◌, ◌>>◌}
 use Rattle.rb_trees.specs.declared.values.Value.{Value}
 use Rattle.rb_trees.specs.declared.values.Value.TheOpen.{Value-F}
