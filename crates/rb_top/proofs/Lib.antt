@@ -2,6 +2,7 @@ pub mod Answered
 pub mod Calls
 pub mod Collected
 pub mod Console
+pub mod Differ
 pub mod Ended
 pub mod Entries
 pub mod Fields
