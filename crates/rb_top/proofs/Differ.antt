@@ -68,9 +68,10 @@ fresh_methods : (d : Declarations) (before : List (List ℕ)) (ms : List Method)
 fresh_methods d before [] h = tt
 fresh_methods d before (m ∷ ms) h =
     let name = new_name before m.signature.at m.signature.name in
-    let rest = check_methods d (before ++ m.signature.name ∷ []) ms in
-    (must_hold (is_new m.signature.name before) _ (first_passed name (check_method d m) (first_passed (name >> check_method d m) rest h)),
-    fresh_methods d (before ++ m.signature.name ∷ []) ms (then_passed (name >> check_method d m) rest h))
+    let rest = check_methods d (before ++ m.signature.name ∷ []) ms in (
+      must_hold (is_new m.signature.name before) _ (first_passed name (check_method d m) (first_passed (name >> check_method d m) rest h)),
+      fresh_methods d (before ++ m.signature.name ∷ []) ms (then_passed (name >> check_method d m) rest h),
+    )
 
 methods_differ : (before : List (List ℕ)) (ms : List Method) → Fresh (λ m. m.signature.name) before ms → MethodsDiffer ms
 methods_differ before [] f = tt
@@ -80,19 +81,21 @@ fresh_classes : (d : Declarations) (before : List (List ℕ)) (cs : List Class) 
 fresh_classes d before [] h = tt
 fresh_classes d before (c ∷ cs) h =
     let name = new_name before c.at c.name in
-    let rest = check_classes d (before ++ c.name ∷ []) cs in
-    (must_hold (is_new c.name before) _ (first_passed name (check_class d c) (first_passed (name >> check_class d c) rest h)),
-    fresh_classes d (before ++ c.name ∷ []) cs (then_passed (name >> check_class d c) rest h))
+    let rest = check_classes d (before ++ c.name ∷ []) cs in (
+      must_hold (is_new c.name before) _ (first_passed name (check_class d c) (first_passed (name >> check_class d c) rest h)),
+      fresh_classes d (before ++ c.name ∷ []) cs (then_passed (name >> check_class d c) rest h),
+    )
 
 classes_differ : (d : Declarations) (before : List (List ℕ)) (cs : List Class) → is_ok (check_classes d before cs) ≡ true → ClassesDiffer cs
 classes_differ d before [] h = tt
 classes_differ d before (c ∷ cs) h =
     let name = new_name before c.at c.name in
     let rest = check_classes d (before ++ c.name ∷ []) cs in
-    let class = then_passed name (check_class d c) (first_passed (name >> check_class d c) rest h) in
-    (none_later (λ x. x.name) before c cs (fresh_classes d before (c ∷ cs) h),
-    methods_differ [] c.methods (fresh_methods d [] c.methods (then_passed (check_params false d [] c.fields) (check_methods d [] c.methods) class)),
-    classes_differ d (before ++ c.name ∷ []) cs (then_passed (name >> check_class d c) rest h))
+    let class = then_passed name (check_class d c) (first_passed (name >> check_class d c) rest h) in (
+      none_later (λ x. x.name) before c cs (fresh_classes d before (c ∷ cs) h),
+      methods_differ [] c.methods (fresh_methods d [] c.methods (then_passed (check_params false d [] c.fields) (check_methods d [] c.methods) class)),
+      classes_differ d (before ++ c.name ∷ []) cs (then_passed (name >> check_class d c) rest h),
+    )
 
 -- the classes of a typed program are those that `Code` takes
 pub typed_differ : (p : Program) → is_typed p ≡ true → ClassesDiffer p.classes

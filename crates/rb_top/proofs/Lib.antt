@@ -1,7 +1,7 @@
 pub mod Answered
 pub mod Calls
 pub mod Collected
-pub mod Console
+pub mod ConsoleRuns
 pub mod Differ
 pub mod Ended
 pub mod Entries

@@ -147,7 +147,7 @@ found_at place interface root block =
     ap (λ b. cond b (Some (record { interface = interface; root = root; block = block })) None) e
 
 found_root : (root : List ℕ) (v : Value) → lookup ((root, v) ∷ []) root ≡ Some v
-found_root root v = ap (λ b. option_map (λ n. n.1) (cond b (Some (root, v)) None)) (same_bytes root)
+found_root root v = ap (λ b. option_map (λ (n : List ℕ × Value). n.1) (cond b (Some (root, v)) None)) (same_bytes root)
 
 -- each call of the batch gives an Int
 int_calls : (p : Program) (f : FirstProgram p) (at : ℕ) (method : List ℕ) → is_among (signature_names f.interface.methods) method ≡ true → call_kinds p f.interface.name at method ≡ int_kind

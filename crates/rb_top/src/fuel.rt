@@ -27,6 +27,7 @@ fn are_digits(bytes: &[u8]) -> bool
 }
 
 /// The fuel that a word names: one to ten digits, of at most 1,000,000,000.
+#[tactic(auto, using(std::proofs::lemmas::Bool::Decides::nat_tests), unfolding(crate::specs::Words::most_fuel))]
 pub fn fuel_of(word: &str) -> Option<u64>
     ensures { result ≡ fuel_of word.now }
 {

@@ -6,7 +6,7 @@ ghost use Rattle.std.specs.Prelude.{Decides};
 ghost use Rattle.rb_top.specs.Texts.{HasNoBatch, IsBuilt, Serves};
 
 use crate::first_form::is_first_program;
-use crate::offers::offers;
+use crate::offering::offers;
 use bytes::BytesMut;
 use rb_trees::Service;
 use rb_types::Typed;

@@ -61,6 +61,7 @@ fn both_command<'w>(
 }
 
 /// The command that the words are, or None where they are none.
+#[tactic(auto, unfolding(crate::specs::Words::default_fuel))]
 pub fn command_of(words: &[String]) -> Option<Command<'_>>
     ensures { option_map asked_by result ≡ asked (texts words.now) }
 {

@@ -1,5 +1,5 @@
 -- A run that the console leads prints what the run shows without batches.
-use Rattle.std.proofs.Common.{◌≡◌, ℕ, List, [], ◌∷◌, ◌++◌, Result, Ok, Err, ap, sym, ◌∙◌, refl, subst, append_assoc, append-nil}
+use Rattle.std.proofs.Common.{◌≡◌, ℕ, List, [], ◌∷◌, ◌++◌, Result, Ok, Err, ap, sym, ◌∙◌, refl, subst, append_assoc, append-nil, inl, inr}
 use Rattle.rb_trees.specs.declared.values.Value.{Value}
 use Rattle.rb_trees.specs.declared.values.Value.TheVariants as value
 use Rattle.rb_trees.specs.declared.outcomes.Raised.{Raised}
@@ -13,6 +13,7 @@ use Rattle.rb_meaning.specs.Shown.{line, shown_events}
 use Rattle.rb_base.specs.Devices.{Device}
 use Rattle.rb_base.specs.Sinks.{with_bytes, WrotePrefix}
 use Rattle.rb_base.specs.declared.sinks.Sink as sinks
+use Rattle.rb_engine.specs.Answers.{Answer}
 use Rattle.rb_top.specs.Console.{behind, Writes, SameOutput, surrounds}
 use Rattle.rb_top.specs.Local.{without_batches}
 use Rattle.rb_top.specs.Printing.{stopped}
@@ -60,11 +61,15 @@ pub record Shows {W A : Type 0} (g : sinks.Ghosts W) (start : Device (List ℕ))
   pub told : Told g start d s r c'
   pub same : SameOutput c c'
 
-same_ok : {X A : Type 0} (a b : A) → Ok {X = X} a ≡ Ok b → a ≡ b
-same_ok a b e = cc
+same_ok : {X A : Type 0} (r : Result A X) (a b : A) → r ≡ Ok a → r ≡ Ok b → a ≡ b
+same_ok r a b e f = cc
 
-no_stop : {X A : Type 0} {B : Type 0} (a : A) (x : X) → Err {A = A} x ≡ Ok a → B
-no_stop a x e = absurd (cc e)
+no_stop : {X A B : Type 0} (r : Result A X) (a : A) (x : X) → r ≡ Err x → r ≡ Ok a → B
+no_stop r a x e f = absurd (cc)
+
+-- an answer that cuts nothing off
+abbrev given : Result Value Raised → Answer PrintStop
+given a = Ok a
 
 -- a run that is done
 done : {W A : Type 0} (g : sinks.Ghosts W) (start : Device (List ℕ)) (a : A) (s : Outside) (r : Result A PrintStop) (c' : Console W) → behind g c' ≡ with_bytes start (shown_events s.events) → r ≡ Ok a → Told g start (Done a) s r c'
@@ -72,9 +77,10 @@ done g start a s r c' p e = subst (λ x. Told g start (Done a) s x c') (sym e) (
 
 -- an answer that changes nothing, and what follows it
 goes_on : {W A : Type 0} (g : sinks.Ghosts W) (start : Device (List ℕ)) (go : Result Value Raised → Dialogue A) (s : Outside) (r : Result A PrintStop) (c c' mid : Console W) (a b : Result Value Raised)
-    → (Ok a ≡ Ok {X = PrintStop} b) × (mid ≡ c) → ((m : Console W) → m ≡ c → Follows (surrounds g) (go b) m r c' → Shows g start (go b) s r m c') → Follows (surrounds g) (go a) mid r c' → Shows g start (go b) s r c c'
+    → (given a ≡ given b) × (mid ≡ c) → ((m : Console W) → m ≡ c → Follows (surrounds g) (go b) m r c' → Shows g start (go b) s r m c') → Follows (surrounds g) (go a) mid r c' → Told g start (go b) s r c' × SameOutput c c'
 goes_on g start go s r c c' mid a b h k rest =
-    subst (λ x. Shows g start (go b) s r x c') h.1 (k mid h.1 (subst (λ x. Follows (surrounds g) (go x) mid r c') (same_ok a b h.0) rest))
+    let i = k mid h.1 (subst (λ x. Follows (surrounds g) (go x) mid r c') (same_ok (given a) a b refl h.0) rest) in
+    (i.told, i.same ∙ ap (λ x. x.out.ghost_name) h.1)
 
 -- an output that stopped in a line
 cut_line : {W A : Type 0} (g : sinks.Ghosts W) (start : Device (List ℕ)) (go : Result Value Raised → Dialogue A) (s : Outside) (stop : PrintStop) (c c' : Console W) (bytes : List ℕ) → Printed g start s c
@@ -97,19 +103,23 @@ led g start (Ask (ask.Line at bytes) go) s r c c' p (inr (x, h, e)) = record {
   same = h.1;
 }
 led g start (Ask (ask.Taken step) go) s r c c' p (inl (a, mid, h, rest)) =
-    goes_on g start go s r c c' mid a (local_answer (ask.Taken step)) h (λ m e f. led g start (go (local_answer (ask.Taken step))) s r m c' (ap (behind g) e ∙ p) f) rest
-led g start (Ask (ask.Taken step) go) s r c c' p (inr (x, h, e)) = no_stop _ x h.0
+    let i = goes_on g start go s r c c' mid a (local_answer (ask.Taken step)) h (λ m e f. led g start (go (local_answer (ask.Taken step))) s r m c' (ap (behind g) e ∙ p) f) rest in
+    record { told = i.0; same = i.1 }
+led g start (Ask (ask.Taken step) go) s r c c' p (inr (x, h, e)) = no_stop (Err x) _ x refl h.0
 led g start (Ask (ask.Invoke at target method args) go) s r c c' p (inl (a, mid, h, rest)) =
-    goes_on g start go s r c c' mid a (local_answer (ask.Invoke at target method args)) h (λ m e f. led g start (go (local_answer (ask.Invoke at target method args))) s r m c' (ap (behind g) e ∙ p) f) rest
-led g start (Ask (ask.Invoke at target method args) go) s r c c' p (inr (x, h, e)) = no_stop _ x h.0
+    let i = goes_on g start go s r c c' mid a (local_answer (ask.Invoke at target method args)) h (λ m e f. led g start (go (local_answer (ask.Invoke at target method args))) s r m c' (ap (behind g) e ∙ p) f) rest in
+    record { told = i.0; same = i.1 }
+led g start (Ask (ask.Invoke at target method args) go) s r c c' p (inr (x, h, e)) = no_stop (Err x) _ x refl h.0
 led g start (Ask (ask.Turn at) go) s r c c' p (inl (a, mid, h, rest)) =
-    goes_on g start go s r c c' mid a (local_answer (ask.Turn at)) h (λ m e f. led g start (go (local_answer (ask.Turn at))) s r m c' (ap (behind g) e ∙ p) f) rest
-led g start (Ask (ask.Turn at) go) s r c c' p (inr (x, h, e)) = no_stop _ x h.0
+    let i = goes_on g start go s r c c' mid a (local_answer (ask.Turn at)) h (λ m e f. led g start (go (local_answer (ask.Turn at))) s r m c' (ap (behind g) e ∙ p) f) rest in
+    record { told = i.0; same = i.1 }
+led g start (Ask (ask.Turn at) go) s r c c' p (inr (x, h, e)) = no_stop (Err x) _ x refl h.0
 led g start (Ask (ask.ListTurn at) go) s r c c' p (inl (a, mid, h, rest)) =
-    goes_on g start go s r c c' mid a (local_answer (ask.ListTurn at)) h (λ m e f. led g start (go (local_answer (ask.ListTurn at))) s r m c' (ap (behind g) e ∙ p) f) rest
-led g start (Ask (ask.ListTurn at) go) s r c c' p (inr (x, h, e)) = no_stop _ x h.0
+    let i = goes_on g start go s r c c' mid a (local_answer (ask.ListTurn at)) h (λ m e f. led g start (go (local_answer (ask.ListTurn at))) s r m c' (ap (behind g) e ∙ p) f) rest in
+    record { told = i.0; same = i.1 }
+led g start (Ask (ask.ListTurn at) go) s r c c' p (inr (x, h, e)) = no_stop (Err x) _ x refl h.0
 led g start (AskBatch at l go) s r c c' p (inl (o, mid, h, rest)) =
     let b = (without_batches.batch s at l).0 in
-    let i = led g start (go b) s r mid c' (ap (behind g) h.1 ∙ p) (subst (λ x. Follows (surrounds g) (go x) mid r c') (same_ok o b h.0) rest) in
+    let i = led g start (go b) s r mid c' (ap (behind g) h.1 ∙ p) (subst (λ x. Follows (surrounds g) (go x) mid r c') (same_ok (Ok o) o b refl h.0) rest) in
     record { told = i.told; same = i.same ∙ ap (λ x. x.out.ghost_name) h.1 }
-led g start (AskBatch at l go) s r c c' p (inr (x, h, e)) = no_stop _ x h.0
+led g start (AskBatch at l go) s r c c' p (inr (x, h, e)) = no_stop (Err x) _ x refl h.0
