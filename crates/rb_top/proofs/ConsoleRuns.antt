@@ -5,16 +5,15 @@ use Rattle.rb_trees.specs.declared.values.Value.TheVariants as value
 use Rattle.rb_trees.specs.declared.outcomes.Raised.{Raised}
 use Rattle.rb_meaning_code.specs.Dialogue as ask
 use Rattle.rb_meaning_code.specs.Dialogue.{Question, Dialogue, Done, Ask, AskBatch, Outcome, Gave, Faulted, Run, seq, next, on, Surroundings, Follows, handle}
-use Rattle.rb_meaning_code.specs.State.{Local}
 use Rattle.rb_meaning.specs.State as state
 use Rattle.rb_meaning.specs.State.{Event, Outside, shows}
-use Rattle.rb_meaning.specs.Meaning.{local_answer, shown_by}
+use Rattle.rb_meaning.specs.Meaning.{local_answer}
 use Rattle.rb_meaning.specs.Shown.{line, shown_events}
 use Rattle.rb_base.specs.Devices.{Device}
 use Rattle.rb_base.specs.Sinks.{with_bytes, WrotePrefix}
 use Rattle.rb_base.specs.declared.sinks.Sink as sinks
 use Rattle.rb_engine.specs.Answers.{Answer}
-use Rattle.rb_top.specs.Console.{behind, Writes, SameOutput, surrounds}
+use Rattle.rb_top.specs.Console.{behind, SameOutput, surrounds}
 use Rattle.rb_top.specs.Local.{without_batches}
 use Rattle.rb_top.specs.Printing.{stopped}
 use Rattle.rb_top.specs.declared.console.Console.{Console}

@@ -1,5 +1,5 @@
 -- The classes of a typed program differ by name, and so do the methods of each.
-use Rattle.std.proofs.Common.{◌≡◌, ℕ, List, [], ◌∷◌, ◌++◌, map, Bool, true, false, Option, None, Some, Result, Ok, Err, cond, ap, sym, ◌∙◌, refl}
+use Rattle.std.proofs.Common.{◌≡◌, ℕ, List, [], ◌∷◌, ◌++◌, map, Bool, true, false, None, Some, Result, Ok, Err, cond, ap, sym, ◌∙◌, refl}
 use Rattle.std.specs.Str.{bytes_eq}
 use Rattle.std.specs.Result.{is_ok}
 use Rattle.rb_trees.specs.Named.{first_named}
@@ -10,7 +10,6 @@ use Rattle.rb_meaning_types.specs.Declared.{Declarations, of_program}
 use Rattle.rb_meaning_types.specs.Declarations.{new_name, check_params, check_method, check_methods, check_class, check_classes, check_interfaces, check_declarations}
 use Rattle.rb_meaning_types.specs.Bodies.{check_class_bodies}
 use Rattle.rb_meaning_types.specs.Programs.{check_main, is_typed}
-use Rattle.rb_meaning_types.specs.Violations.{Checked}
 use Rattle.rb_code.specs.Differ.{MethodsDiffer, ClassesDiffer}
 use Rattle.rb_top.proofs.Calls.{same_bytes}
 use Rattle.rb_top.proofs.Whole.{one_name}

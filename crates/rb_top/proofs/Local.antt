@@ -1,6 +1,6 @@
 -- Runs of programs without a batch: from the console's run to what the program means.
-use Rattle.std.proofs.Common.{◌≡◌, ◌≤◌, ℕ, suc, ◌+◌, List, [], ◌∷◌, ◌++◌, map, Option, None, Some, option_map, Result, Ok, Err, ap, sym, ◌∙◌, refl, subst, arith, append_assoc, inl, inr}
-use Rattle.std.specs.Prelude.{nat_eq, cond, codes}
+use Rattle.std.proofs.Common.{◌≡◌, ℕ, ◌+◌, List, [], ◌∷◌, ◌++◌, map, Option, None, Some, Result, Ok, Err, ap, sym, ◌∙◌, refl, subst, arith, append_assoc, inl, inr}
+use Rattle.std.specs.Prelude.{codes}
 use Rattle.std.specs.Fmt.{decimal}
 use Rattle.rb_trees.specs.declared.values.Value.{Value}
 use Rattle.rb_trees.specs.declared.outcomes.Raised.{Raised}
@@ -15,18 +15,16 @@ use Rattle.rb_trees.specs.declared.declarations.Body as body
 use Rattle.rb_trees.specs.declared.declarations.Program as program
 use Rattle.rb_trees.specs.mirror.Declarations.{Body, Class, Program, mirror_body, mirror_class, mirror_program}
 use Rattle.rb_trees.specs.mirror.Services.{Service}
-use Rattle.rb_meaning_types.specs.Batches.{batches_of, batches_in, class_batches}
+use Rattle.rb_meaning_types.specs.Batches.{batches_in, class_batches}
 use Rattle.rb_meaning_code.specs.Faults.{kind, raised}
 use Rattle.rb_meaning_code.specs.State.{Local}
 use Rattle.rb_meaning_code.specs.Dialogue as ask
 use Rattle.rb_meaning_code.specs.Dialogue.{Dialogue, Done, Ask, AskBatch, Outcome, Gave, Faulted, Run, seq, next, on, gives, Surroundings, Follows, handle}
-use Rattle.rb_meaning_code.specs.Bodies.{bodies_of}
-use Rattle.rb_meaning_code.specs.Statements.{performs_all}
 use Rattle.rb_meaning.specs.State as state
 use Rattle.rb_meaning.specs.State.{Event, Outside}
 use Rattle.rb_meaning.specs.Shown.{line, exchanges, shown, shown_ending, shown_events, shown_table}
-use Rattle.rb_meaning.specs.Meaning.{Meaning, meaning, meant, in_main, performs_found, main_result, runs_main, at_start, outside_of, ending_of, local_answer, shown_by, gives_some}
-use Rattle.rb_meaning.specs.Unsplit.{BatchText, batch_at}
+use Rattle.rb_meaning.specs.Meaning.{meaning, meant, in_main, performs_found, runs_main, at_start, outside_of, ending_of, local_answer, shown_by, gives_some}
+use Rattle.rb_meaning.specs.Unsplit.{batch_at}
 use Rattle.rb_top.specs.FirstForm.{FirstService, class_name_of, first_table, objects_of}
 use Rattle.rb_base.specs.Devices.{Device, failed}
 use Rattle.rb_base.specs.Sinks.{with_bytes, WrotePrefix}
@@ -302,7 +300,8 @@ pub local_whole : (text : List ℕ) (fuel : ℕ) (q : program.Program) (s : Serv
     → after ≡ with_bytes mid (local_end text ending class) → status ≡ ended_status ending → PrintsLocal text fuel (mirror_program q) s (Ok status) before after
 local_whole text fuel q s ending class status before mid after h f c p w e =
     let m = main_alone (mirror_program q).classes (mirror_program q).body fuel (first_table s) in
-    let done = p (first_table s) in
-    (e ∙ ap ended_status done.0 ∙ sym (ap (λ x. ended_status x.ending) (means_alone (mirror_program q) s (first_table s) fuel h)),
-    both_whole before mid after (shown_events m.events) (local_end text m.ending (class_name_of s.classes)) done.1 (w ∙ ap (with_bytes mid) (end_meant text ending m.ending class s done.0 c))
-    ∙ ap (with_bytes before) (sym (shows_alone text (mirror_program q) s fuel h f)))
+    let done = p (first_table s) in (
+      e ∙ ap ended_status done.0 ∙ sym (ap (λ x. ended_status x.ending) (means_alone (mirror_program q) s (first_table s) fuel h)),
+      both_whole before mid after (shown_events m.events) (local_end text m.ending (class_name_of s.classes)) done.1 (w ∙ ap (with_bytes mid) (end_meant text ending m.ending class s done.0 c))
+          ∙ ap (with_bytes before) (sym (shows_alone text (mirror_program q) s fuel h f)),
+    )

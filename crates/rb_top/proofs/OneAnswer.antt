@@ -1,5 +1,5 @@
 -- Where the files tell what the words name, the words have one answer.
-use Rattle.std.proofs.Common.{◌≡◌, ◌⊎◌, ℕ, true, List, [], ◌∷◌, Option, None, Some, Ok, Err, codes, ap, sym, ◌∙◌, refl, subst, arith, inl, inr}
+use Rattle.std.proofs.Common.{◌≡◌, ◌⊎◌, ℕ, true, List, [], Option, None, Some, Ok, Err, codes, ap, sym, ◌∙◌, refl, subst, arith, inl, inr}
 use Rattle.std.specs.Prelude.{IsTrue}
 use Rattle.std.specs.Result.{is_ok}
 use Rattle.rb_trees.specs.declared.reading.ReadError.{ReadError}
@@ -8,7 +8,7 @@ use Rattle.rb_trees.specs.mirror.Declarations.{Program}
 use Rattle.rb_trees.specs.mirror.Services.{Service}
 use Rattle.rb_meaning.specs.Shown.{line}
 use Rattle.rb_base.specs.Devices.{Device}
-use Rattle.rb_base.specs.Directories.{Directory, next_read, told_after, Finds, FailsNext}
+use Rattle.rb_base.specs.Directories.{Directory, told_after, Finds, FailsNext}
 use Rattle.rb_meaning_bytes.specs.grammar.Sources.{ReadSource}
 use Rattle.rb_meaning_types.specs.Violations.{Checked, Violation}
 use Rattle.rb_meaning_types.specs.Programs.{check_program, is_typed}
@@ -16,11 +16,11 @@ use Rattle.rb_parse.specs.Outcomes.{AtMostOne}
 use Rattle.rb_top.specs.Loads.{FindsTooLong}
 use Rattle.rb_top.specs.Runs.{run_status, run_text}
 use Rattle.rb_top.specs.Scene.{Scene}
-use Rattle.rb_top.specs.Texts.{WithinLength, TooLong, IsUntyped, IsProgram, IsBuilt, IsService, Serves}
+use Rattle.rb_top.specs.Texts.{WithinLength, TooLong, IsUntyped, IsBuilt, IsService, Serves}
 use Rattle.rb_top.specs.Words.{Asked, Check, Both, program_name}
 use Rattle.rb_top.specs.declared.status.Status.{Status}
 use Rattle.rb_top.specs.declared.status.Status.TheVariants.{Done, Memory}
-use Rattle.rb_top.specs.Answers.{Answers, words, program_fault, program_too_long, program_refused, program_untyped, program_typed, program_form, service_fault, service_too_long, service_form, run, Ends, starved, Says, answered, starved_first, starved_running, read_times, IsTold, ToldTyped, ToldBoth, ChecksTold, RunsTold}
+use Rattle.rb_top.specs.Answers.{Answers, words, program_fault, program_too_long, program_refused, program_untyped, program_typed, program_form, service_fault, service_too_long, service_form, run, Ends, Says, answered, starved_first, starved_running, read_times, IsTold, ToldTyped, ToldBoth, ChecksTold, RunsTold}
 use Rattle.rb_top.proofs.Ended.{starved_at_once}
 use Rattle.rb_top.proofs.Texts.{OneLexed, service_once}
 

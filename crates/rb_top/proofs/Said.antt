@@ -1,5 +1,5 @@
 -- What the commands say, from what reading and running answer.
-use Rattle.std.proofs.Common.{◌≡◌, ℕ, List, Option, None, Some, Result, Ok, Err, codes, ap, sym, ◌∙◌, refl, subst, inl, inr}
+use Rattle.std.proofs.Common.{◌≡◌, ℕ, List, Option, None, Some, Ok, Err, codes, ap, sym, ◌∙◌, refl, subst, inl, inr}
 use Rattle.rb_trees.specs.declared.reading.ReadError.{ReadError}
 use Rattle.rb_trees.specs.declared.reading.ReadError.TheVariants as errors
 use Rattle.rb_trees.specs.declared.typing.TypeError.{TypeError}
@@ -12,7 +12,7 @@ use Rattle.rb_meaning_bytes.specs.grammar.Sources.{ReadSource}
 use Rattle.rb_meaning_types.specs.Violations.{violation_of}
 use Rattle.rb_meaning_types.specs.Programs.{check_program}
 use Rattle.rb_base.specs.Devices.{Device, failed}
-use Rattle.rb_base.specs.Directories.{Directory, told_after, read_once, Finds}
+use Rattle.rb_base.specs.Directories.{Directory, read_once, Finds}
 use Rattle.rb_top.specs.declared.loading.TextStop.{TextStop}
 use Rattle.rb_top.specs.declared.loading.TextStop.TheVariants as stops
 use Rattle.rb_top.specs.declared.status.SourceError.TheVariants as sources

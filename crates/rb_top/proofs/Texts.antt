@@ -1,5 +1,5 @@
 -- What the text of a service is, from its tokens.
-use Rattle.std.proofs.Common.{◌≡◌, ℕ, List, Bool, true, false, Option, None, Some, Result, Ok, Err, IfOk, ap, sym, ◌∙◌, subst, IsTrue}
+use Rattle.std.proofs.Common.{◌≡◌, ℕ, List, false, Option, None, Some, Result, Ok, Err, IfOk, ap, sym, ◌∙◌, subst}
 use Rattle.std.specs.Option.{option_map, is_none}
 use Rattle.rb_trees.specs.declared.services.Service as service
 use Rattle.rb_trees.specs.declared.tokens.Token.{Token}

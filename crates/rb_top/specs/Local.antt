@@ -18,7 +18,7 @@ use Rattle.rb_meaning.specs.Meaning.{Meaning, answers_outside, at_start, outside
 use Rattle.rb_meaning.specs.Shown.{line, shown_ending, shown_events, shown_table}
 use Rattle.rb_base.specs.Devices.{Device, failed}
 use Rattle.rb_base.specs.Sinks.{with_bytes, WrotePrefix}
-use Rattle.rb_top.specs.Printing.{Prints, alone}
+use Rattle.rb_top.specs.Printing.{alone}
 use Rattle.rb_top.specs.Runs.{run_status, run_text}
 use Rattle.rb_top.specs.declared.printing.PrintStop.{PrintStop}
 use Rattle.rb_top.specs.declared.printing.PrintStop.TheVariants.{WriteFault, Memory}

@@ -1,5 +1,5 @@
 -- What the words of a command ask for: `check P`, or `both P S` with a fuel or without.
-use Rattle.std.specs.Prelude.{ℕ, List, [], ◌∷◌, Bool, true, false, ◌&&◌, Option, None, Some, option_map, cond, codes, length, map, nat_lt, nat_le}
+use Rattle.std.specs.Prelude.{ℕ, List, [], ◌∷◌, Bool, ◌&&◌, Option, None, Some, option_map, cond, codes, length, map, nat_lt, nat_le}
 use Rattle.std.specs.List.{list_all}
 use Rattle.std.specs.Str.{bytes_eq}
 use Rattle.std.specs.String.{string_bytes}

@@ -1,4 +1,4 @@
-use Rattle.std.proofs.Common.{refl, sym, subst, ◌∙◌, ap}
+use Rattle.std.proofs.Common.{sym, subst}
 use Rattle.rb_trees.specs.mirror.Declarations.{mirror_program}
 use Rattle.rb_top.specs.Loads.{HoldsText}
 use Rattle.rb_top.proofs.Said.{program_unread, program_not_read, program_not_typed}
