@@ -1,8 +1,5 @@
 pub mod Place
-pub mod Faults
 pub mod State
-pub mod Dialogue
-pub mod Code
 pub mod Remote
 pub mod Unsplit
 pub mod Meaning

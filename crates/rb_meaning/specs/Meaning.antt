@@ -9,12 +9,16 @@ use Rattle.rb_trees.specs.declared.services.Object.{Object}
 use Rattle.rb_trees.specs.mirror.Code.{Expr}
 use Rattle.rb_trees.specs.mirror.Declarations.{Body, Class, Program}
 use Rattle.rb_trees.specs.mirror.Services.{Service}
-use Rattle.rb_meaning.specs.Faults.{kind, raised}
+use Rattle.rb_meaning_code.specs.Faults.{kind, raised}
+use Rattle.rb_meaning_code.specs.State.{Local}
+use Rattle.rb_meaning_code.specs.Dialogue as ask
+use Rattle.rb_meaning_code.specs.Dialogue.{Question, Outcome, Gave, Faulted, Run, next, gives, Handler, handle}
+use Rattle.rb_meaning_code.specs.Calls.{Bodies}
+use Rattle.rb_meaning_code.specs.Expressions.{evaluates}
+use Rattle.rb_meaning_code.specs.Statements.{performs_all}
+use Rattle.rb_meaning_code.specs.Bodies.{bodies_of}
 use Rattle.rb_meaning.specs.State as state
-use Rattle.rb_meaning.specs.State.{Event, Local, Outside, shows}
-use Rattle.rb_meaning.specs.Dialogue as ask
-use Rattle.rb_meaning.specs.Dialogue.{Question, Outcome, Gave, Faulted, Run, next, gives, Handler, handle}
-use Rattle.rb_meaning.specs.Code.{Bodies, evaluates, performs_all, bodies_of}
+use Rattle.rb_meaning.specs.State.{Event, Outside, shows}
 use Rattle.rb_meaning.specs.Unsplit.{BatchText, batch_at, performs_batch}
 
 pub record Meaning : Type 0 where
@@ -22,13 +26,21 @@ pub record Meaning : Type 0 where
   pub events : List Event
   pub table : List Object
 
--- what code outside of a batch gets: nothing is remote there
+-- what code outside of a batch is answered: nothing is remote there
+abbrev pub local_answer : Question → Result Value Raised
+local_answer (ask.Line at bytes) = Ok value.Unit
+local_answer (ask.Taken step) = Err (raised kind 0)
+local_answer (ask.Invoke at target method args) = Err (raised kind at)
+local_answer (ask.Turn at) = Err (raised kind at)
+local_answer (ask.ListTurn at) = Ok value.Unit
+
+-- what a question shows: a line is printed
+abbrev pub shown_by : Question → Outside → Outside
+shown_by (ask.Line at bytes) s = shows (state.Line bytes) s
+shown_by _ s = s
+
 abbrev pub answers_outside : Outside → Question → Result Value Raised × Outside
-answers_outside s (ask.Line at bytes) = (Ok value.Unit, shows (state.Line bytes) s)
-answers_outside s (ask.Taken step) = (Err (raised kind 0), s)
-answers_outside s (ask.Invoke at target method args) = (Err (raised kind at), s)
-answers_outside s (ask.Turn at) = (Err (raised kind at), s)
-answers_outside s (ask.ListTurn at) = (Ok value.Unit, s)
+answers_outside s question = (local_answer question, shown_by question s)
 
 abbrev pub performs_found : Program → Service → Option BatchText → ℕ → Local → Outside → Outcome (Unit {0}) × Outside
 performs_found program service None at l s = (Faulted (raised kind at) l, s)
@@ -61,10 +73,10 @@ abbrev pub at_start : ℕ → Local
 at_start fuel = record { names = []; heap = []; fuel = fuel; depth = 0 }
 
 abbrev pub outside_of : List Object → Outside
-outside_of table = record { events = []; table = table; fuel = 0; depth = 0 }
+outside_of table = record { events = []; server = record { table = table; fuel = 0 } }
 
 abbrev pub meant : Outcome (Option Value) × Outside → Meaning
-meant r = record { ending = ending_of r.0; events = r.1.events; table = r.1.table }
+meant r = record { ending = ending_of r.0; events = r.1.events; table = r.1.server.table }
 
 abbrev pub meaning : Program → Service → List Object → ℕ → Meaning
 meaning program service table fuel =

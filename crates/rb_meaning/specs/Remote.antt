@@ -1,24 +1,18 @@
 -- A remote call on a service: the checks in their order, the body, and the result's kind.
-use Rattle.std.specs.Prelude.{ℕ, zero, suc, ◌==◌, List, [], ◌∷◌, cond, Option, None, Some, Result, Ok, Err, slice_get}
-use Rattle.std.specs.Str.{bytes_eq}
+use Rattle.std.specs.Prelude.{ℕ, zero, suc, ◌==◌, List, [], Bool, true, false, cond, Option, None, Some}
 use Rattle.rb_trees.specs.declared.values.Value.{Value, out-Value}
 use Rattle.rb_trees.specs.declared.values.Value.TheOpen.{Value-F}
 use Rattle.rb_trees.specs.declared.values.Value.TheVariants as value
 use Rattle.rb_trees.specs.declared.values.Fault.{Fault}
-use Rattle.rb_trees.specs.declared.outcomes.Raised.{Raised}
 use Rattle.rb_trees.specs.declared.services.Object.{Object}
 use Rattle.rb_trees.specs.mirror.Declarations.{Param, Class, Method}
 use Rattle.rb_trees.specs.mirror.Services.{Service}
-use Rattle.rb_meaning.specs.Faults as faults
-use Rattle.rb_meaning.specs.Faults.{fuel_used, no_method, bad_arguments, wrong_kind, raised}
-use Rattle.rb_meaning.specs.State.{Names, Local}
-use Rattle.rb_meaning.specs.Dialogue.{Question, Outcome, Gave, Faulted, Handler, handle}
-use Rattle.rb_meaning.specs.Code.{bodies_of}
-
--- the server: its table, and the fuel of the batch
-pub record Server : Type 0 where
-  pub table : List Object
-  pub fuel : ℕ
+use Rattle.rb_meaning_code.specs.Faults as faults
+use Rattle.rb_meaning_code.specs.Faults.{fuel_used, no_method, bad_arguments, wrong_kind}
+use Rattle.rb_meaning_code.specs.Dialogue.{Outcome, Gave, Faulted, handle}
+use Rattle.rb_meaning_code.specs.Calls.{method_of, names_within}
+use Rattle.rb_meaning_code.specs.Bodies.{body_within, in_service}
+use Rattle.rb_meaning.specs.State.{Server}
 
 -- what the server does: a value, or a fault at a position, with the server after it
 pub data Reply (A : Type 0) : Type 0 where
@@ -29,36 +23,10 @@ abbrev pub and_then : {A B : Type 0} → Reply A → (A → Server → Reply B) 
 and_then (Got a s) k = k a s
 and_then (Stopped at f s) k = Stopped at f s
 
--- the class of a name
-abbrev pub class_named : List Class → List ℕ → Option Class
-class_named [] name = None
-class_named (c ∷ cs) name = cond (bytes_eq c.name name) (Some c) (class_named cs name)
-
--- the method of a name
-abbrev pub method_named : List Method → List ℕ → Option Method
-method_named [] name = None
-method_named (m ∷ ms) name = cond (bytes_eq m.signature.name name) (Some m) (method_named ms name)
-
-abbrev pub method_of_class : Option Class → List ℕ → Option Method
-method_of_class None name = None
-method_of_class (Some c) name = method_named c.methods name
-
-abbrev pub method_of_object : List Class → Option Object → List ℕ → Option Method
-method_of_object classes None name = None
-method_of_object classes (Some o) name = method_of_class (class_named classes o.class) name
-
--- the name that the object of a method call has in the body
-abbrev pub this_name : List ℕ
-this_name = 116 ∷ 104 ∷ 105 ∷ 115 ∷ []
-
--- the parameters with the arguments. No type of a parameter takes an argument yet.
-abbrev pub matched : List Param → List Value → Option Names
-matched [] [] = Some []
-matched _ _ = None
-
--- Service code asks nothing: each question faults Kind.
-abbrev pub unasked : Handler (Unit {0})
-unasked = record { answer = λ s q. (Err (raised faults.kind 0), s); batch = λ s at l. (Faulted (raised faults.kind at) l, s) }
+-- Whether the arguments fit the parameters. No type of a parameter takes an argument yet.
+abbrev pub arguments_fit : List Param → List Value → Bool
+arguments_fit [] [] = true
+arguments_fit _ _ = false
 
 -- The kinds of values at the client are 0 Unit, 1 Int, 2 Bool, 3 Text, 4 object, and 5 to 8 rows of Int, Bool,
 -- Text and objects. Only 1 has values yet.
@@ -83,10 +51,10 @@ returned at kind (Gave v l) = of_kind at (seen_as kind v) (record { table = l.he
 returned at kind (Faulted r l) = Stopped at r.fault (record { table = l.heap; fuel = l.fuel })
 
 -- the body of a method of an object, once its unit of fuel is taken
-abbrev pub enters : List Class → ℕ → ℕ → ℕ → Method → Names → Server → Reply Value
-enters classes at kind object method names s =
-    returned at kind (handle unasked
-    (bodies_of classes (suc s.fuel) method.body (record { names = (this_name, value.Ref object) ∷ names; heap = s.table; fuel = s.fuel; depth = 1 }))
+abbrev pub enters : List Class → ℕ → ℕ → ℕ → Method → List Value → Server → Reply Value
+enters classes at kind object m args s =
+    returned at kind (handle in_service
+    (body_within classes (suc s.fuel) m.body (record { names = names_within (value.Ref object) m.signature.params args; heap = s.table; fuel = s.fuel; depth = 1 }))
     tt).0
 
 -- goes on where a unit of fuel is left, and takes it
@@ -94,19 +62,20 @@ abbrev pub charged : {A : Type 0} → ℕ → ℕ → List Object → (Server �
 charged at zero table go = Stopped at fuel_used (record { table = table; fuel = zero })
 charged at (suc n) table go = go (record { table = table; fuel = n })
 
-abbrev pub with_arguments : List Class → ℕ → ℕ → ℕ → Method → Option Names → Server → Reply Value
-with_arguments classes at kind object method None s = Stopped at bad_arguments s
-with_arguments classes at kind object method (Some names) s = charged at s.fuel s.table (enters classes at kind object method names)
+abbrev pub with_arguments : Bool → ℕ → (Server → Reply Value) → Server → Reply Value
+with_arguments false at go s = Stopped at bad_arguments s
+with_arguments true at go s = charged at s.fuel s.table go
 
 abbrev pub with_method : List Class → ℕ → ℕ → ℕ → Option Method → List Value → Server → Reply Value
 with_method classes at kind object None args s = Stopped at no_method s
-with_method classes at kind object (Some m) args s = with_arguments classes at kind object m (matched m.signature.params args) s
+with_method classes at kind object (Some m) args s =
+    with_arguments (arguments_fit m.signature.params args) at (enters classes at kind object m args) s
 
 -- A remote call at a position, whose result must be of a kind. In this order: the receiver is remote, the object has
 -- the method, the arguments fit, a unit of fuel is taken, the body runs, the result is of the kind.
 abbrev pub invoke : Service → ℕ → ℕ → Value-F Value → List ℕ → List Value → Server → Reply Value
 invoke service at kind (Value-F.Remote object) method args s =
-    with_method service.classes at kind object (method_of_object service.classes (slice_get s.table object) method) args s
+    with_method service.classes at kind object (method_of service.classes s.table object method) args s
 invoke service at kind target method args s = Stopped at faults.kind s
 
 -- the fuel of a batch, which is fresh at its start

@@ -11,8 +11,9 @@ use Rattle.rb_trees.specs.mirror.Scripts.{SExpr, SExprs, Step, Steps, Script}
 use Rattle.rb_trees.specs.mirror.Forests as forest
 use Rattle.rb_trees.specs.mirror.Forests.{Node, Holds, Entry, NoEntries, MoreEntries}
 use Rattle.rb_trees.specs.mirror.Services.{Service}
-use Rattle.rb_meaning.specs.Faults.{kind}
-use Rattle.rb_meaning.specs.Remote.{Server, Reply, Got, Stopped, and_then, invoke, batch_fuel}
+use Rattle.rb_meaning_code.specs.Faults.{kind}
+use Rattle.rb_meaning.specs.State.{Server}
+use Rattle.rb_meaning.specs.Remote.{Reply, Got, Stopped, and_then, invoke, batch_fuel}
 
 -- what a script runs on: the service and the values of its inputs
 pub record Ground : Type 0 where

@@ -1,5 +1,5 @@
 -- The text that a run prints: its lines, its ending, the number of exchanges, and the table.
-use Rattle.std.specs.Prelude.{ℕ, ◌+◌, ◌-◌, ◌==◌, List, [], ◌∷◌, ◌++◌, Bool, true, false, cond, Option, None, Some, codes, slice_get}
+use Rattle.std.specs.Prelude.{ℕ, ◌+◌, ◌==◌, List, [], ◌∷◌, ◌++◌, cond, Option, None, Some, codes}
 use Rattle.std.specs.Fmt.{decimal, signed_decimal}
 use Rattle.rb_trees.specs.declared.values.Value.{Value}
 use Rattle.rb_trees.specs.declared.values.Value.TheOpen.{Value-F}
@@ -9,6 +9,8 @@ use Rattle.rb_trees.specs.declared.outcomes.Ending as ending
 use Rattle.rb_trees.specs.declared.outcomes.Ending.TheVariants as endings
 use Rattle.rb_trees.specs.declared.services.Object.{Object}
 use Rattle.rb_trees.specs.printing.Words.{all_escaped}
+use Rattle.rb_meaning_code.specs.Faults.{fault_name}
+use Rattle.rb_meaning_code.specs.Operators.{bool_text}
 use Rattle.rb_meaning.specs.Place.{line_of, column_of}
 use Rattle.rb_meaning.specs.State as state
 use Rattle.rb_meaning.specs.State.{Event}
@@ -20,10 +22,6 @@ line bytes = bytes ++ 10 ∷ []
 
 abbrev pub text_literal : List ℕ → List ℕ
 text_literal bytes = codes "\"" ++ all_escaped bytes ++ codes "\""
-
-abbrev pub bool_literal : Bool → List ℕ
-bool_literal true = codes "true"
-bool_literal false = codes "false"
 
 -- texts with a comma and a space between them
 abbrev pub more_listed : List (List ℕ) → List ℕ
@@ -37,7 +35,7 @@ listed (t ∷ ts) = t ++ more_listed ts
 abbrev pub value_step : Value-F (List ℕ) → List ℕ
 value_step Value-F.Unit = []
 value_step (Value-F.Int n) = signed_decimal n
-value_step (Value-F.Bool b) = bool_literal b
+value_step (Value-F.Bool b) = bool_text b
 value_step (Value-F.Text text) = text_literal text
 value_step (Value-F.List items) = codes "[" ++ listed items ++ codes "]"
 value_step (Value-F.Ref object) = codes "#" ++ decimal object
@@ -51,19 +49,9 @@ literal = fold-Value (List ℕ) value_step
 abbrev pub line_and_column : List ℕ → ℕ → List ℕ
 line_and_column source at = decimal (line_of source at) ++ codes ":" ++ decimal (column_of source at)
 
--- the names of the faults, by their codes from 1
-abbrev pub fault_names : List (List ℕ)
-fault_names =
-    codes "DivZero" ∷ codes "Index" ∷ codes "TextTooLong" ∷ codes "ListTooLong" ∷ codes "HeapFull" ∷ codes "TooDeep" ∷ codes "FuelUsed"
-    ∷ codes "Thrown" ∷ codes "NoMethod" ∷ codes "BadArguments" ∷ codes "WrongKind" ∷ codes "Kind" ∷ []
-
-abbrev pub named : Option (List ℕ) → List ℕ
-named None = []
-named (Some name) = name
-
 -- a fault's code and name; Thrown shows its text
 abbrev pub shown_fault : Fault → List ℕ
-shown_fault f = decimal f.code ++ codes " " ++ named (slice_get fault_names (f.code - 1)) ++ cond (f.code == 8) (codes " " ++ text_literal f.text) []
+shown_fault f = decimal f.code ++ codes " " ++ fault_name f ++ cond (f.code == 8) (codes " " ++ text_literal f.text) []
 
 abbrev pub shown_result : Option Value → List ℕ
 shown_result None = codes "done"

@@ -11,13 +11,16 @@ use Rattle.rb_trees.specs.mirror.Code as code
 use Rattle.rb_trees.specs.mirror.Code.{Expr, Exprs, Stmt, Stmts, expr_at}
 use Rattle.rb_trees.specs.mirror.Declarations.{Signature, Interface, Program}
 use Rattle.rb_trees.specs.mirror.Services.{Service}
-use Rattle.rb_meaning.specs.Faults.{kind, raised, raised_remotely}
+use Rattle.rb_meaning_code.specs.Faults.{kind, raised, raises, raised_remotely}
+use Rattle.rb_meaning_code.specs.State.{Names, Local, bound, closed}
+use Rattle.rb_meaning_code.specs.Dialogue as ask
+use Rattle.rb_meaning_code.specs.Dialogue.{Question, Outcome, Gave, Faulted, Handler, handle}
+use Rattle.rb_meaning_code.specs.Expressions.{value_of}
+use Rattle.rb_meaning_code.specs.Statements.{performs_all}
+use Rattle.rb_meaning_code.specs.Bodies.{bodies_of}
 use Rattle.rb_meaning.specs.State as state
-use Rattle.rb_meaning.specs.State.{Names, Local, Outside, lookup, bound, closed, shows}
-use Rattle.rb_meaning.specs.Dialogue as ask
-use Rattle.rb_meaning.specs.Dialogue.{Question, Outcome, Gave, Faulted, Handler, handle}
-use Rattle.rb_meaning.specs.Code.{named, performs_all, bodies_of}
-use Rattle.rb_meaning.specs.Remote.{Server, Reply, Got, Stopped, and_then, int_kind, invoke, batch_fuel}
+use Rattle.rb_meaning.specs.State.{Server, Outside, shows}
+use Rattle.rb_meaning.specs.Remote.{Reply, Got, Stopped, and_then, int_kind, invoke, batch_fuel}
 
 -- the kind that an interface's result type demands; only Int has one yet
 abbrev pub kind_of_type : TypeTree → ℕ
@@ -40,12 +43,8 @@ Kinds = ℕ → List ℕ → ℕ
 abbrev pub call_kinds : Program → List ℕ → Kinds
 call_kinds program interface at method = result_kind (methods_of program.interfaces interface) method
 
--- the part of the state that the server has
-abbrev pub server_of : Outside → Server
-server_of s = record { table = s.table; fuel = s.fuel }
-
 abbrev pub with_server : Server → Outside → Outside
-with_server server s = record s { table = server.table; fuel = server.fuel }
+with_server server s = record s { server = server }
 
 -- a remote call, performed where it stands; its fault is remote
 abbrev pub performed : Outside → Reply Value → Result Value Raised × Outside
@@ -57,7 +56,7 @@ abbrev pub answers_in_batch : Service → Kinds → Outside → Question → Res
 answers_in_batch service kinds s (ask.Line at bytes) = (Ok value.Unit, shows (state.Line bytes) s)
 answers_in_batch service kinds s (ask.Taken step) = (Err (raised kind 0), s)
 answers_in_batch service kinds s (ask.Invoke at target method args) =
-    performed s (invoke service at (kinds at method) (out-Value target) method args (server_of s))
+    performed s (invoke service at (kinds at method) (out-Value target) method args s.server)
 answers_in_batch service kinds s (ask.Turn at) = (Err (raised_remotely kind at), s)
 answers_in_batch service kinds s (ask.ListTurn at) = (Ok value.Unit, s)
 
@@ -75,7 +74,7 @@ abbrev mutual
   -- the value of a remote expression
   pub remotely : Service → Kinds → Names → Expr → Server → Reply Value
   remotely service kinds names (code.Lit at v) s = Got v s
-  remotely service kinds names (code.Name at name) s = given (named at (lookup names name)) s
+  remotely service kinds names (code.Name at name) s = given (raises at (value_of names name)) s
   remotely service kinds names (code.Call at receiver method args) s =
       and_then (remotely service kinds names receiver s) (λ target s1.
       and_then (remotely_all service kinds names args s1) (λ vs s2. invoke service at (kinds at method) (out-Value target) method vs s2))
@@ -116,9 +115,9 @@ batch_at (code.MoreStmts (code.Batch place interface root block) ss) at =
     cond (place == at) (Some (record { interface = interface; root = root; block = block })) (batch_at ss at)
 batch_at (code.MoreStmts stmt ss) at = batch_at ss at
 
--- the event, fresh remote fuel, and remote depth 0
+-- a batch begins: its event, and fresh remote fuel
 abbrev pub begun : Outside → Outside
-begun s = record s { events = s.events ++ state.Batch ∷ []; fuel = batch_fuel; depth = 0 }
+begun s = record { events = s.events ++ state.Batch ∷ []; server = record { table = s.server.table; fuel = batch_fuel } }
 
 -- the table after a batch: a local fault leaves that of its whole remote part
 abbrev pub table_after : Raised → List Object → List Object → List Object
@@ -127,7 +126,8 @@ table_after r table whole = cond r.remote table whole
 -- back outside of the batch, whose names are gone
 abbrev pub settles : ℕ → List Object → Outcome (Unit {0}) × Outside → Outcome (Unit {0}) × Outside
 settles count whole (Gave u l, s) = (Gave u (closed count l), s)
-settles count whole (Faulted r l, s) = (Faulted r (closed count l), record s { table = table_after r s.table whole })
+settles count whole (Faulted r l, s) =
+    (Faulted r (closed count l), record s { server = record { table = table_after r s.server.table whole; fuel = s.server.fuel } })
 
 -- A batch: it is begun, its root is bound, and its body is performed.
 abbrev pub performs_batch : Program → Service → BatchText → Local → Outside → Outcome (Unit {0}) × Outside
@@ -135,5 +135,5 @@ performs_batch program service b l s =
     let kinds = call_kinds program b.interface in
     let start = bound b.root (value.Remote service.root) l in
     settles (length l.names)
-    (table_left (remote_only service kinds b.block start.names (server_of (begun s))))
+    (table_left (remote_only service kinds b.block start.names (begun s).server))
     (handle (in_batch service kinds) (performs_all (bodies_of program.classes l.fuel) l.fuel b.block start) (begun s))

@@ -9,7 +9,8 @@ use Rattle.rb_trees.specs.mirror.Scripts as script
 use Rattle.rb_trees.specs.mirror.Scripts.{Step, Steps, Script}
 use Rattle.rb_trees.specs.mirror.Forests as forest
 use Rattle.rb_trees.specs.mirror.Forests.{Entries, Holds}
-use Rattle.rb_meaning.specs.Remote.{Server, invoke, batch_fuel}
+use Rattle.rb_meaning.specs.State.{Server}
+use Rattle.rb_meaning.specs.Remote.{invoke, batch_fuel}
 use Rattle.rb_meaning.specs.ScriptRun.{Ground, Vars, Ran, ended, with_entry, on_reply, keeps, run_steps, run_script}
 use Rattle.rb_meaning_bytes.specs.wire.Fields.{number, value_form}
 use Rattle.rb_meaning_bytes.specs.wire.Scripts.{steps, count_steps, script as spelled_script}

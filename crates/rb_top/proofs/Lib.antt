@@ -1,6 +1,8 @@
 pub mod Answered
 pub mod Calls
 pub mod Collected
+pub mod ConsoleRuns
+pub mod Differ
 pub mod Ended
 pub mod Entries
 pub mod Fields
@@ -10,7 +12,7 @@ pub mod Kept
 pub mod Literals
 pub mod Lines
 pub mod Loaded
-pub mod Named
+pub mod Local
 pub mod OneAnswer
 pub mod OneSpelling
 pub mod Others

@@ -5,7 +5,7 @@ use Rattle.std.proofs.lemmas.List.{take-append-le}
 use Rattle.std.proofs.lemmas.Grind.{common_steps}
 use Rattle.std.specs.Prelude.{codes, Result, Ok, Err}
 use Rattle.std.specs.Fmt.{decimal}
-use Rattle.rb_base.specs.Devices.{Device, failed}
+use Rattle.rb_base.specs.Devices.{Device}
 use Rattle.rb_base.specs.Sinks.{told_more, with_bytes, WrotePrefix}
 use Rattle.rb_meaning.specs.Shown.{shown_table}
 use Rattle.rb_top.specs.Printing.{alone, stopped, Prints}

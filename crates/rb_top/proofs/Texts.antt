@@ -1,5 +1,5 @@
 -- What the text of a service is, from its tokens.
-use Rattle.std.proofs.Common.{◌≡◌, ℕ, List, Bool, true, false, Option, None, Some, Result, Ok, Err, IfOk, ap, sym, ◌∙◌, subst, IsTrue}
+use Rattle.std.proofs.Common.{◌≡◌, ℕ, List, false, Option, None, Some, Result, Ok, Err, IfOk, ap, sym, ◌∙◌, subst}
 use Rattle.std.specs.Option.{option_map, is_none}
 use Rattle.rb_trees.specs.declared.services.Service as service
 use Rattle.rb_trees.specs.declared.tokens.Token.{Token}
@@ -10,9 +10,9 @@ use Rattle.rb_meaning_bytes.specs.tokens.Texts.{IsTokens, Lexed, Outcome}
 use Rattle.rb_trees.specs.Outcome.{Gives, Refuses}
 use Rattle.rb_trees.specs.Reading.{lex_refusal}
 use Rattle.rb_lex.specs.Laws.{HasOneOutcome}
-use Rattle.rb_top.specs.FirstForm.{FirstService, Offers, all_among, interface_names, class_names}
+use Rattle.rb_top.specs.FirstForm.{FirstService}
 use Rattle.rb_top.specs.FirstTexts.{service_at}
-use Rattle.rb_top.specs.Texts.{has_slash, IsService, NoService, NoServiceFor, TellsService}
+use Rattle.rb_top.specs.Texts.{has_slash, IsService, NoService, Serves, NoServiceFor, TellsService}
 use Rattle.rb_top.proofs.ServiceForm.{service_form}
 
 none_some : {A : Type 0} (a : A) → None ≡ Some a → ⊥
@@ -59,14 +59,9 @@ pub if_service : {E : Type 0} (text : List ℕ) (ts : List Token) (r : Result (O
 if_service text ts (Ok o) h l only e = service_read text ts (option_map mirror_service o) h l only e
 if_service text ts (Err e') h l only e = tt
 
-lacking : (b : Bool) → b ≡ false → IsTrue b → ⊥
-lacking false e t = absurd (cc)
-lacking true e t = absurd (cc)
-
--- A service that lacks a method is none for the program.
-pub lacking_service : OneLexed → (text : List ℕ) (program : Program) (found : Service) → IsService text found → all_among (interface_names program.interfaces) (class_names found.classes) ≡ false → NoServiceFor program text
-lacking_service one text program found is lacks = λ s i o.
-    lacking (all_among (interface_names program.interfaces) (class_names found.classes)) lacks (subst (Offers program) (service_once one text s found i is) o)
+-- A service that doesn't serve is none for the program.
+pub lacking_service : OneLexed → (text : List ℕ) (program : Program) (found : Service) → IsService text found → ¬ Serves program found → NoServiceFor program text
+lacking_service one text program found is lacks = λ s i o. lacks (subst (Serves program) (service_once one text s found i is) o)
 
 pub no_service_for : (text : List ℕ) (program : Program) → NoService text → NoServiceFor program text
 no_service_for text program none = λ s i o. none s i

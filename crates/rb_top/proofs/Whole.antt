@@ -1,5 +1,5 @@
 -- What a program of the form that is built means on such a service.
-use Rattle.std.proofs.Common.{◌≡◌, ℕ, ℤ, suc, ◌+◌, ◌-◌, ◌≤◌, List, [], ◌∷◌, ◌++◌, Bool, true, false, Option, None, Some, cond, ap, sym, ◌∙◌, refl, arith, append_assoc, append-nil, zero-add}
+use Rattle.std.proofs.Common.{◌≡◌, ℕ, ℤ, suc, ◌+◌, ◌-◌, ◌≤◌, List, [], ◌∷◌, ◌++◌, Bool, true, false, Option, None, Some, option_map, cond, ap, sym, ◌∙◌, refl, arith, append_assoc, append-nil, zero-add}
 use Rattle.std.specs.Prelude.{◌||◌, ◌&&◌, nat_eq}
 use Rattle.std.proofs.lemmas.Bool.Decides.{nat_tests}
 use Rattle.std.specs.Str.{bytes_eq}
@@ -13,14 +13,22 @@ use Rattle.rb_trees.specs.mirror.Code.{Stmt, Stmts}
 use Rattle.rb_trees.specs.mirror.Declarations.{Signature, Method, Class, Program}
 use Rattle.rb_trees.specs.mirror.Services.{Service}
 use Rattle.rb_meaning.specs.State as state
-use Rattle.rb_meaning.specs.State.{Event, Local, Outside, lookup, bound, shows}
-use Rattle.rb_meaning.specs.Dialogue.{Outcome, Gave, Done, Run, next, end, handle}
-use Rattle.rb_meaning.specs.Code.{Bodies, named, printed, called, prints, evaluates_all, performs_all, bodies_of}
+use Rattle.rb_trees.specs.Named.{lookup}
+use Rattle.rb_trees.specs.Outcome.{known}
+use Rattle.rb_meaning_code.specs.Faults.{kind, raises}
+use Rattle.rb_meaning_code.specs.Operators.{shown_value}
+use Rattle.rb_meaning_code.specs.State.{Local, bound}
+use Rattle.rb_meaning_code.specs.Dialogue.{Outcome, Gave, Done, Run, next, end, handle}
+use Rattle.rb_meaning_code.specs.Calls.{Bodies, called}
+use Rattle.rb_meaning_code.specs.Expressions.{evaluates_all}
+use Rattle.rb_meaning_code.specs.Statements.{prints, performs_all}
+use Rattle.rb_meaning_code.specs.Bodies.{bodies_of}
+use Rattle.rb_meaning.specs.State.{Event, Outside}
 use Rattle.rb_meaning.specs.Remote.{int_kind, invoke, batch_fuel}
 use Rattle.rb_meaning.specs.Meaning.{Meaning, meaning, meant, in_main, at_start, outside_of, main_result, performs_found}
 use Rattle.rb_trees.specs.declared.outcomes.Ending.TheVariants as endings
 use Rattle.rb_meaning.specs.Division.{printed_call}
-use Rattle.rb_meaning.specs.Unsplit.{Kinds, in_batch, performed, server_of, kind_of_type, result_kind, methods_of, call_kinds, batch_at, begun, settles, table_left, remote_only}
+use Rattle.rb_meaning.specs.Unsplit.{Kinds, in_batch, performed, kind_of_type, result_kind, methods_of, call_kinds, batch_at, begun, settles, table_left, remote_only}
 use Rattle.rb_top.specs.FirstForm.{FirstProgram, FirstService, PrintsCalls, PlainSignatures, PlainMethods, GivesInt, ReturnsNumber, Offers, is_among, all_among, signature_names, method_names, interface_names, class_names, number_named, number_in, literal_of, first_table, count_stmts, int_of}
 use Rattle.rb_top.proofs.Calls.{int_out, remote_out, same_bytes, calls_root}
 use Rattle.rb_top.proofs.Answered.{or_zero}
@@ -92,7 +100,7 @@ lines (n ∷ ns) = state.Line (signed_decimal n) ∷ lines ns
 
 -- the state in a batch
 abbrev within : Service → List Event → ℕ → Outside
-within s events fuel = record { events = events; table = first_table s; fuel = fuel; depth = 0 }
+within s events fuel = record { events = events; server = record { table = first_table s; fuel = fuel } }
 
 -- a body of prints, with fuel for each call
 pub body_prints : (s : Service) (first : FirstService s) (kinds : Kinds) (root : List ℕ) (names : List (List ℕ)) (bodies : Bodies) (gas : ℕ) (block : Stmts) (l : Local) (events : List Event) (left : ℕ)
@@ -107,20 +115,21 @@ body_prints s first kinds root names bodies gas (code.MoreStmts (code.Print plac
     let w = in_batch s kinds in
     let n = has method h.1 in
     let rest : Unit {0} → Local → Run (Unit {0}) = λ u l1. performs_all bodies gas ss l1 in
-    let shown : Value → Local → Run (Unit {0}) = λ v l1. prints place l1 (printed place (out-Value v)) in
-    let target : Value → Local → Run Value = λ t l1. next (evaluates_all bodies code.NoExprs l1) (λ vs l2. called at method vs t (out-Value t) l2) in
+    let shown : Value → Local → Run (Unit {0}) = λ v l1. prints place (shown_value (out-Value v)) l1 in
+    let found_as : Option Value → Run Value = λ o. end l (raises here (known kind o)) in
+    let target : Value → Local → Run Value = λ t l1. next (evaluates_all bodies code.NoExprs l1) (λ vs l2. called bodies at t (out-Value t) method vs l2) in
     let root_value = value.Remote s.root in
     let fuel = count_stmts ss + left in
     let more : suc (count_stmts ss) + left ≡ suc (count_stmts ss + left) = omega arith in
     let outside : Outside = within s events (suc fuel) in
     let printing : List Event = events ++ state.Line (signed_decimal n.0) ∷ [] in
-    ap (λ k. handle w (next (next (next (end l (named here (lookup l.names name))) target) shown) rest) (within s events k)) more
-    ∙ ap (λ x. handle w (next (next (next (end l (named here (lookup l.names x))) target) shown) rest) outside) h.0
-    ∙ ap (λ o. handle w (next (next (next (end l (named here o)) target) shown) rest) outside) found
-    ∙ ap (λ t. handle w (next (next (called at method [] root_value t l) shown) rest) outside) (remote_out s.root)
-    ∙ ap (λ k. let r = performed outside (invoke s at k (out-Value root_value) method [] (server_of outside)) in handle w (next (next (end l r.0) shown) rest) r.1) (ints at method h.1)
+    ap (λ k. handle w (next (next (next (found_as (lookup l.names name)) target) shown) rest) (within s events k)) more
+    ∙ ap (λ x. handle w (next (next (next (found_as (lookup l.names x)) target) shown) rest) outside) h.0
+    ∙ ap (λ o. handle w (next (next (next (found_as o) target) shown) rest) outside) found
+    ∙ ap (λ t. handle w (next (next (called bodies at root_value t method [] l) shown) rest) outside) (remote_out s.root)
+    ∙ ap (λ k. let r = performed outside (invoke s at k (out-Value root_value) method [] outside.server) in handle w (next (next (end l r.0) shown) rest) r.1) (ints at method h.1)
     ∙ ap (λ x. let r = performed outside x in handle w (next (next (end l r.0) shown) rest) r.1) (calls_root s first at fuel method n.0 n.1)
-    ∙ ap (λ v. handle w (next (prints place l (printed place v)) rest) (within s events fuel)) (int_out n.0)
+    ∙ ap (λ v. handle w (next (prints place (shown_value v) l) rest) (within s events fuel)) (int_out n.0)
     ∙ body_prints s first kinds root names bodies gas ss l printing left ints has found h.3
     ∙ ap (λ es. (Gave tt l, within s es left)) (append_assoc events (state.Line (signed_decimal n.0) ∷ []) (lines (numbers s.classes ss)))
     ∙ ap (λ o. (Gave tt l, within s (events ++ lines (or_zero o ∷ numbers s.classes ss)) left)) (sym n.1)
@@ -138,7 +147,7 @@ found_at place interface root block =
     ap (λ b. cond b (Some (record { interface = interface; root = root; block = block })) None) e
 
 found_root : (root : List ℕ) (v : Value) → lookup ((root, v) ∷ []) root ≡ Some v
-found_root root v = ap (λ b. cond b (Some v) None) (same_bytes root)
+found_root root v = ap (λ b. option_map (λ (n : List ℕ × Value). n.1) (cond b (Some (root, v)) None)) (same_bytes root)
 
 -- each call of the batch gives an Int
 int_calls : (p : Program) (f : FirstProgram p) (at : ℕ) (method : List ℕ) → is_among (signature_names f.interface.methods) method ≡ true → call_kinds p f.interface.name at method ≡ int_kind
@@ -167,7 +176,7 @@ means p f s g offers fuel =
     let ended : Unit {0} → Local → Run (Option Value) = λ u l1. main_result bodies None l1 in
     let last : Unit {0} → Local → Run (Unit {0}) = λ u l1. performs_all bodies fuel code.NoStmts l1 in
     let kinds = call_kinds p f.interface.name in
-    let whole = table_left (remote_only s kinds f.block start.names (server_of (begun o))) in
+    let whole = table_left (remote_only s kinds f.block start.names (begun o).server) in
     let goes : Outcome (Unit {0}) × Outside → Meaning = λ r. meant (handle w (next (next (Done r.0) last) ended) r.1) in
     ap (λ ss. meant (handle w (next (performs_all bodies fuel ss l) (λ u l1. main_result bodies p.body.result l1)) o)) f.statements_are
     ∙ ap (λ r. meant (handle w (next (performs_all bodies fuel (code.MoreStmts (code.Batch f.place f.interface.name f.root f.block) code.NoStmts) l) (λ u l1. main_result bodies r l1)) o)) f.result_is

@@ -1,8 +1,9 @@
 -- What the parts of the commands answer.
-use Rattle.std.specs.Prelude.{◌≡◌, ℕ, List, Option, None, Some, Result, Ok, Err}
+use Rattle.std.specs.Prelude.{◌≡◌, ◌⊎◌, ℕ, List, Option, None, Some, Result, Ok, Err}
 use Rattle.rb_trees.specs.declared.reading.ReadError.{ReadError}
 use Rattle.rb_trees.specs.declared.typing.TypeError.{TypeError}
 use Rattle.rb_trees.specs.mirror.Declarations.{Program}
+use Rattle.rb_trees.specs.mirror.Services.{Service}
 use Rattle.rb_trees.specs.Reading.{read_refusal}
 use Rattle.rb_meaning.specs.Shown.{line}
 use Rattle.rb_meaning_types.specs.Violations.{violation_of}
@@ -11,9 +12,10 @@ use Rattle.rb_base.specs.Directories.{Directory, read_once}
 use Rattle.rb_top.specs.Answers.{Ends, Says, fault_line, too_long_line}
 use Rattle.rb_top.specs.Loads.{HoldsProgram}
 use Rattle.rb_top.specs.Refusals.{shown_refusal, shown_violation}
+use Rattle.rb_top.specs.Runs.{run_status, run_text}
 use Rattle.rb_top.specs.Scene.{Scene}
-use Rattle.rb_top.specs.Words.{both_words, NamesProgram, words_of, program_of}
-use Rattle.rb_top.specs.declared.words.Command.{Command}
+use Rattle.rb_top.specs.Texts.{HasNoBatch}
+use Rattle.rb_top.specs.Words.{Asked, Both, program_name}
 use Rattle.rb_top.specs.declared.loading.TextStop.{TextStop}
 use Rattle.rb_top.specs.declared.loading.TextStop.TheVariants as stops
 use Rattle.rb_top.specs.declared.printing.PrintStop.{PrintStop}
@@ -22,11 +24,15 @@ use Rattle.rb_top.specs.declared.status.SourceError.TheVariants as sources
 use Rattle.rb_top.specs.declared.status.Status.{Status}
 use Rattle.rb_top.specs.declared.status.Status.TheVariants.{FileFault, SourceRefused, WriteFault, Memory, FileTooLong}
 
+-- the status where not all was printed
+abbrev pub stopped_status : PrintStop → Status
+stopped_status print.WriteFault = WriteFault
+stopped_status print.Memory = Memory
+
 -- the status after a text was printed, or wasn't
 abbrev pub status_after : {A : Type 0} → Status → Result A PrintStop → Status
 status_after status (Ok a) = status
-status_after status (Err print.WriteFault) = WriteFault
-status_after status (Err print.Memory) = Memory
+status_after status (Err stop) = stopped_status stop
 
 -- No memory was left, and nothing was printed.
 abbrev pub Starves : Status → Device (List ℕ) → Device (List ℕ) → Type 0
@@ -51,21 +57,27 @@ EndsRefused text error = EndsWith (read_refusal error) (SourceRefused (sources.R
 abbrev pub EndsUntyped : List ℕ → TypeError → Status → Device (List ℕ) → Device (List ℕ) → Type 0
 EndsUntyped text error = EndsWith (violation_of error) (SourceRefused (sources.Types error)) (line (shown_violation text error))
 
--- A command that names this program is answered so, before it is known whether the program is typed.
+-- Whoever asks for something of the program of this name is answered so, before it is known whether it is typed.
 abbrev pub SaysFirst : List ℕ → Status → Scene → Scene → Type 0
-SaysFirst p result before after = (words : List (List ℕ)) → NamesProgram words p → Says words result before after
+SaysFirst p result before after = (a : Asked) → program_name a ≡ p → Says (Some a) result before after
 
 -- The file of the name was read as a typed program; or it was said why there is none.
-abbrev pub LoadsProgram : {X : Type 0} → (X → Program) → List ℕ → Result X Status → Scene → Scene → Type 0
-LoadsProgram view p (Ok x) before after = HoldsProgram before.files.told p (view x) × (after ≡ record before { files = read_once before.files })
-LoadsProgram view p (Err status) before after = SaysFirst p status before after
+abbrev pub LoadsProgram : {X : Type 0} → (X → List ℕ) → (X → Program) → List ℕ → Result X Status → Scene → Scene → Type 0
+LoadsProgram text program p (Ok x) before after =
+    HoldsProgram before.files.told p (text x) (program x) × (after ≡ record before { files = read_once before.files })
+LoadsProgram text program p (Err status) before after = SaysFirst p status before after
 
--- The command `both P S` is answered so, its program read from P before.
-abbrev pub RunsOn : Program → List ℕ → Status → Scene → Scene → Type 0
-RunsOn program s result before after = (p : List ℕ) (first : Device Directory) → before.files ≡ read_once first → HoldsProgram first.told p program
-    → Says (both_words p s) result (record before { files = first }) after
+-- What is asked of the program of this text, which was read before, is answered so.
+abbrev pub GoesOn : List ℕ → Program → Asked → Status → Scene → Scene → Type 0
+GoesOn text program a result before after =
+    (first : Device Directory) → before.files ≡ read_once first → HoldsProgram first.told (program_name a) text program
+    → Says (Some a) result (record before { files = first }) after
 
--- The command is answered so, its program read before.
-abbrev pub GoesOn : Program → Command → Status → Scene → Scene → Type 0
-GoesOn program command result before after = (first : Device Directory) → before.files ≡ read_once first → HoldsProgram first.told (program_of command) program
-    → Says (words_of command) result (record before { files = first }) after
+-- The run on the service of this name, with so much fuel, of the program of this text, is answered so.
+abbrev pub RunsOn : List ℕ → Program → List ℕ → ℕ → Status → Scene → Scene → Type 0
+RunsOn text program s fuel result before after = (p : List ℕ) → GoesOn text program (Both p s fuel) result before after
+
+-- The run was printed, and its status answered; or its code was wanting memory, where it has no batch.
+abbrev pub EndsRun : List ℕ → ℕ → Program → Service → Status → Device (List ℕ) → Device (List ℕ) → Type 0
+EndsRun text fuel p s result before after =
+    Ends (run_status fuel p s) (run_text text fuel p s) result before after ⊎ (HasNoBatch p × (result ≡ Memory))

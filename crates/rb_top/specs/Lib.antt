@@ -1,7 +1,9 @@
 pub mod Scene
+pub mod Sources
 pub mod Words
 pub mod Answers
 pub mod Commands
+pub mod Console
 pub mod Buffers
 pub mod Codes
 pub mod FirstForm
@@ -9,6 +11,7 @@ pub mod FirstTexts
 pub mod Laws
 pub mod FormTests
 pub mod Loads
+pub mod Local
 pub mod Printing
 pub mod Reading
 pub mod Refusals

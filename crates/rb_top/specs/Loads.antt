@@ -1,11 +1,9 @@
 -- What reading a text from the files answers, and how it leaves them.
-use Rattle.std.specs.Prelude.{◌≡◌, ℕ, List, Option, Result, Ok, Err, IsTrue}
+use Rattle.std.specs.Prelude.{◌≡◌, ℕ, List, Option, Result, Ok, Err}
 use Rattle.rb_trees.specs.mirror.Declarations.{Program}
-use Rattle.rb_meaning_bytes.specs.grammar.Sources.{ReadSource}
 use Rattle.rb_base.specs.Devices.{Device, failed}
 use Rattle.rb_base.specs.Directories.{Directory, Finds, FailsNext, read_once}
-use Rattle.rb_meaning_types.specs.Programs.{is_typed}
-use Rattle.rb_top.specs.Texts.{WithinLength, TooLong}
+use Rattle.rb_top.specs.Texts.{WithinLength, TooLong, IsProgram}
 use Rattle.rb_top.specs.declared.loading.TextStop.{TextStop}
 use Rattle.rb_top.specs.declared.loading.TextStop.TheVariants as stops
 
@@ -28,6 +26,7 @@ abbrev pub LoadsText : {R : Type 0} → (R → List ℕ) → List ℕ → Result
 LoadsText view name (Ok text) before after = HoldsText before.told name (view text) × (after ≡ read_once before)
 LoadsText view name (Err stop) before after = Unread stop name before after
 
--- The file of the name holds a text that is read as this program, as far as the files tell, and it is typed.
-abbrev pub HoldsProgram : Option Directory → List ℕ → Program → Type 0
-HoldsProgram told name program = (text : List ℕ) × Finds told name text × ReadSource text (Ok program) × IsTrue (is_typed program)
+-- The file of the name holds this text, as far as the files tell, and it is this typed program.
+pub record HoldsProgram (told : Option Directory) (name text : List ℕ) (program : Program) : Type 0 where
+  pub finds : Finds told name text
+  pub is : IsProgram text program

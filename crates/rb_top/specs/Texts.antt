@@ -1,5 +1,5 @@
 -- The texts of programs and services.
-use Rattle.std.specs.Prelude.{◌≡◌, ◌==◌, ℕ, ◌<◌, ◌≤◌, List, Bool, true, false, Option, None, Some, Ok, Err, length, IsTrue}
+use Rattle.std.specs.Prelude.{◌≡◌, ◌⊎◌, ◌==◌, ℕ, ◌<◌, ◌≤◌, List, Bool, false, Option, None, Some, Ok, Err, length, IsTrue}
 use Rattle.std.specs.List.{list_any}
 use Rattle.rb_trees.specs.declared.tokens.Token.{Token}
 use Rattle.rb_trees.specs.declared.typing.TypeError.{TypeError}
@@ -8,6 +8,7 @@ use Rattle.rb_trees.specs.mirror.Services.{Service}
 use Rattle.rb_meaning_bytes.specs.tokens.Texts.{IsTokens, longest_text}
 use Rattle.rb_meaning_bytes.specs.grammar.Sources.{ReadSource}
 use Rattle.rb_meaning_types.specs.Violations.{Violation, violation_of}
+use Rattle.rb_meaning_types.specs.Batches.{batch_count}
 use Rattle.rb_meaning_types.specs.Programs.{check_program, is_typed}
 use Rattle.rb_top.specs.FirstForm.{FirstProgram, Offers}
 use Rattle.rb_top.specs.FirstTexts.{service_at}
@@ -27,11 +28,18 @@ pub record IsUntyped (text : List ℕ) (p : Program) (error : TypeError) : Type 
   pub told : violation_of error ≡ Some violation
   pub fails : check_program p ≡ Err violation
 
--- The text is this program, typed and of the form that is built.
+-- The text is read as this program, which is typed.
 pub record IsProgram (text : List ℕ) (p : Program) : Type 0 where
   pub read : ReadSource text (Ok p)
   pub typed : IsTrue (is_typed p)
-  pub form : FirstProgram p
+
+-- The program has no batch.
+abbrev pub HasNoBatch : Program → Type 0
+HasNoBatch p = batch_count p ≡ 0
+
+-- The program is of a form that is built: it has no batch, or it is of the first form.
+abbrev pub IsBuilt : Program → Type 0
+IsBuilt p = HasNoBatch p ⊎ FirstProgram p
 
 -- whether a text has a `/`, with which comments begin, and in a service of the form that is built nothing else
 abbrev pub has_slash : List ℕ → Bool
@@ -47,16 +55,20 @@ pub record IsService (text : List ℕ) (s : Service) : Type 0 where
 abbrev pub NoService : List ℕ → Type 0
 NoService text = (s : Service) → IsService text s → ⊥
 
--- The text is no service that has the methods which the program's interface declares.
+-- The service has what the program asks of one: without a batch nothing, else the methods that the interface declares.
+abbrev pub Serves : Program → Service → Type 0
+Serves p s = HasNoBatch p ⊎ Offers p s
+
+-- The text is no service that has what the program asks of one.
 abbrev pub NoServiceFor : Program → List ℕ → Type 0
-NoServiceFor p text = (s : Service) → IsService text s → Offers p s → ⊥
+NoServiceFor p text = (s : Service) → IsService text s → Serves p s → ⊥
 
 -- The text is this service, or none.
 abbrev pub TellsService : List ℕ → Option Service → Type 0
 TellsService text None = NoService text
 TellsService text (Some s) = IsService text s
 
--- The text is this service, and it has the program's methods; or it is none that has.
+-- The text is this service, and it has what the program asks; or it is none that has.
 abbrev pub TellsServiceFor : Program → List ℕ → Option Service → Type 0
 TellsServiceFor p text None = NoServiceFor p text
-TellsServiceFor p text (Some s) = IsService text s × Offers p s
+TellsServiceFor p text (Some s) = IsService text s × Serves p s

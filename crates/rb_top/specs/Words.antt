@@ -1,8 +1,11 @@
--- The words of the commands `check P` and `both P S`.
-use Rattle.std.specs.Prelude.{◌≡◌, ℕ, List, [], ◌∷◌, Option, None, Some, cond, codes, map}
+-- What the words of a command ask for: `check P`, or `both P S` with a fuel or without.
+use Rattle.std.specs.Prelude.{ℕ, List, [], ◌∷◌, Bool, ◌&&◌, Option, None, Some, option_map, cond, codes, length, map, nat_lt, nat_le}
+use Rattle.std.specs.List.{list_all}
 use Rattle.std.specs.Str.{bytes_eq}
 use Rattle.std.specs.String.{string_bytes}
 use Rattle.std.specs.declared.string.String.{String}
+use Rattle.rb_trees.specs.Spelling.{is_digit}
+use Rattle.rb_meaning_bytes.specs.tokens.Values.{number_value}
 use Rattle.rb_top.specs.declared.words.Command.{Command}
 use Rattle.rb_top.specs.declared.words.Command.TheVariants as commands
 
@@ -10,48 +13,49 @@ use Rattle.rb_top.specs.declared.words.Command.TheVariants as commands
 abbrev pub texts : {Z : Type 0} → List (String Z) → List (List ℕ)
 texts words = map string_bytes words
 
--- the words `check P`
-abbrev pub check_words : List ℕ → List (List ℕ)
-check_words p = codes "check" ∷ p ∷ []
+-- what is asked for: a check of the program in a file, or its run on the service in another, with so much fuel
+pub data Asked : Type 0 where
+  Check : (p : List ℕ) → Asked
+  Both : (p s : List ℕ) (fuel : ℕ) → Asked
 
--- the words `both P S`
-abbrev pub both_words : List ℕ → List ℕ → List (List ℕ)
-both_words p s = codes "both" ∷ p ∷ s ∷ []
-
--- the fuel of a run, where the words name none
+-- the fuel of a run, where the words name none, and the most that words may name
 unfoldable pub default_fuel : ℕ
 default_fuel = 1000000
 
--- The words are neither `both P S` nor `check P`.
-abbrev pub NotUnderstood : List (List ℕ) → Type 0
-NotUnderstood words = ((p s : List ℕ) → words ≡ both_words p s → ⊥) × ((p : List ℕ) → words ≡ check_words p → ⊥)
+unfoldable pub most_fuel : ℕ
+most_fuel = 1000000000
 
--- The words are `check P` or `both P S`, with this P.
-pub data NamesProgram : List (List ℕ) → List ℕ → Type 0 where
-  by_check : (p : List ℕ) → NamesProgram (check_words p) p
-  by_both : (p s : List ℕ) → NamesProgram (both_words p s) p
+-- the most digits of a fuel
+abbrev pub most_digits : ℕ
+most_digits = 10
 
--- the name of the file, where the words are `check P`
-abbrev pub check_of : List (List ℕ) → Option (List ℕ)
-check_of (command ∷ p ∷ []) = cond (bytes_eq command (codes "check")) (Some p) None
-check_of _ = None
+-- whether a word names a fuel: one to ten digits, of no more than the most
+abbrev pub is_fuel : List ℕ → Bool
+is_fuel word =
+    list_all is_digit word && (nat_lt 0 (length word) && (nat_le (length word) most_digits && nat_le (number_value word) most_fuel))
 
--- the names of the two files, where the words are `both P S`
-abbrev pub both_of : List (List ℕ) → Option (List ℕ × List ℕ)
-both_of (command ∷ p ∷ s ∷ []) = cond (bytes_eq command (codes "both")) (Some (p, s)) None
-both_of _ = None
+abbrev pub fuel_of : List ℕ → Option ℕ
+fuel_of word = cond (is_fuel word) (Some (number_value word)) None
 
--- the words of a command
-abbrev pub words_of : Command → List (List ℕ)
-words_of (commands.Check p) = check_words p.now
-words_of (commands.Both p s) = both_words p.now s.now
+abbrev pub check_of : List ℕ → List ℕ → Option Asked
+check_of command p = cond (bytes_eq command (codes "check")) (Some (Check p)) None
 
--- the name of its program's file
-abbrev pub program_of : Command → List ℕ
-program_of (commands.Check p) = p.now
-program_of (commands.Both p s) = p.now
+abbrev pub both_of : List ℕ → List ℕ → List ℕ → Option ℕ → Option Asked
+both_of command p s fuel = cond (bytes_eq command (codes "both")) (option_map (Both p s) fuel) None
 
--- The words are this command, or none.
-abbrev pub Understands : List (List ℕ) → Option Command → Type 0
-Understands words None = NotUnderstood words
-Understands words (Some command) = words_of command ≡ words
+-- what words ask for, if they are understood
+abbrev pub asked : List (List ℕ) → Option Asked
+asked (command ∷ p ∷ []) = check_of command p
+asked (command ∷ p ∷ s ∷ []) = both_of command p s (Some default_fuel)
+asked (command ∷ p ∷ s ∷ fuel ∷ []) = both_of command p s (fuel_of fuel)
+asked _ = None
+
+-- the name of the file of the program
+abbrev pub program_name : Asked → List ℕ
+program_name (Check p) = p
+program_name (Both p s fuel) = p
+
+-- what a command is
+abbrev pub asked_by : Command → Asked
+asked_by (commands.Check p) = Check p.now
+asked_by (commands.Both p s fuel) = Both p.now s.now fuel

@@ -1,28 +1,40 @@
 // The commands, from their words to what they print.
 
-ghost use Rattle.std.specs.Prelude.{◌≡◌, ◌++◌, IfOk};
-ghost use Rattle.rb_trees.specs.mirror.Declarations.{mirror_program};
+ghost use Rattle.std.specs.Prelude.{◌≡◌, ◌++◌, Some, IfOk};
 ghost use Rattle.rb_meaning.specs.Shown.{line};
 ghost use Rattle.rb_top.specs.Answers.{Ends, Says, ChecksTold, RunsTold};
-ghost use Rattle.rb_top.specs.Commands.{EndsRefused, EndsUntyped, EndsUnread, LoadsProgram, GoesOn, RunsOn, status_after};
-ghost use Rattle.rb_top.specs.FirstForm.{FirstProgram};
+ghost use Rattle.rb_trees.specs.mirror.Services.{mirror_service};
+ghost use Rattle.rb_top.specs.Commands.{EndsRefused, EndsRun, EndsUntyped, EndsUnread, LoadsProgram, GoesOn, RunsOn, status_after, stopped_status};
+ghost use Rattle.rb_top.specs.FirstForm.{FirstService};
 ghost use Rattle.rb_top.specs.Scene.{output, outside};
-ghost use Rattle.rb_top.specs.Texts.{WithinLength};
-ghost use Rattle.rb_top.specs.Words.{texts, words_of};
+ghost use Rattle.rb_top.specs.Sources.{text_of, program_of};
+ghost use Rattle.rb_top.specs.Texts.{WithinLength, IsBuilt, Serves};
+ghost use Rattle.rb_top.specs.Words.{texts, asked, asked_by};
 
-use crate::first_form::is_first_program;
 use crate::loading::{TextStop, load_text, service_for};
+use crate::local_run::run_local;
 use crate::printing::{PrintStop, print_text};
 use crate::refusals::{is_memory, is_no_violation, refusal_line, violation_line};
 use crate::run::run_both;
+use crate::source::{Source, has_no_batch, is_built};
 use crate::status::{SourceError, Status, StoreError};
 use crate::words::{Command, command_of};
 use rb_base::{Files, Sink};
 use rb_lex::texts_have_one_outcome;
 use rb_parse::{parse_program, sources_have_one_outcome};
-use rb_trees::{Memory, Program, ReadError, Seq, TypeError};
-use rb_types::{Typed, check as check_types};
+use rb_trees::{Memory, ReadError, Seq, Service, TypeError};
+use rb_types::check as check_types;
 use std::alloc::{AllocError, Global};
+
+/// The status where not all was printed.
+fn stopped(stop: PrintStop) -> Status
+    ensures { result ≡ stopped_status stop }
+{
+    match stop {
+        PrintStop::WriteFault => Status::WriteFault,
+        PrintStop::Memory => Status::Memory,
+    }
+}
 
 /// The status after a text was printed, or wasn't.
 fn ended(status: Status, printed: Result<(), PrintStop>) -> Status
@@ -30,8 +42,7 @@ fn ended(status: Status, printed: Result<(), PrintStop>) -> Status
 {
     match printed {
         Ok(()) => status,
-        Err(PrintStop::WriteFault) => Status::WriteFault,
-        Err(PrintStop::Memory) => Status::Memory,
+        Err(stop) => stopped(stop),
     }
 }
 
@@ -125,8 +136,9 @@ fn typed_program<F: Files, W: Sink>(
     name: &str,
     files: &mut F,
     out: &mut W,
-) -> Result<Typed, Status>
-    ensures { LoadsProgram mirror_program name.now result (outside F.Files W.Sink files.old out.old) (outside F.Files W.Sink files.new out.new) }
+) -> Result<Source, Status>
+    ensures short { IfOk result (λ source. WithinLength (text_of source)) }
+    ensures loads { LoadsProgram text_of program_of name.now result (outside F.Files W.Sink files.old out.old) (outside F.Files W.Sink files.new out.new) }
 {
     match load_text(alloc, name, files) {
         Err(stop) => Err(say_unread(alloc, stop, name, out)),
@@ -136,37 +148,61 @@ fn typed_program<F: Files, W: Sink>(
                 Err(error) => Err(refuse(alloc, source, error, out)),
                 Ok(program) => match check_types(alloc, program) {
                     Err(error) => Err(refuse_types(alloc, source, error, out)),
-                    Ok(typed) => Ok(typed),
+                    Ok(typed) => Ok(Source { text, typed }),
                 },
             }
         }
     }
 }
 
-/// Runs a program on the service in a file.
+/// Runs a program on a service with so much fuel, and prints what it means there.
+fn run_program<W: Sink>(
+    alloc: Global,
+    source: &Source,
+    service: &Service,
+    fuel: u64,
+    out: &mut W,
+) -> Status
+    requires built { IsBuilt (program_of source.now) }
+    requires service { FirstService (mirror_service service.now) }
+    requires serves { Serves (program_of source.now) (mirror_service service.now) }
+    requires short { WithinLength (text_of source.now) }
+    ensures { EndsRun (text_of source.now) fuel (program_of source.now) (mirror_service service.now) result (output W.Sink out.old) (output W.Sink out.new) }
+{
+    if has_no_batch(&source.typed) {
+        match run_local(alloc, source, service, fuel, out) {
+            Ok(status) => status,
+            Err(stop) => stopped(stop),
+        }
+    } else {
+        let printed = run_both(alloc, source.typed.program(), service, out);
+        ended(Status::Done, printed)
+    }
+}
+
+/// Runs a program on the service in a file, with so much fuel.
 fn run_on<F: Files, W: Sink>(
     alloc: Global,
-    program: &Program,
+    source: &Source,
     name: &str,
+    fuel: u64,
     files: &mut F,
     out: &mut W,
 ) -> Status
-    requires { FirstProgram (mirror_program program.now) }
-    ensures { RunsOn (mirror_program program.now) name.now result (outside F.Files W.Sink files.old out.old) (outside F.Files W.Sink files.new out.new) }
+    requires built { IsBuilt (program_of source.now) }
+    requires short { WithinLength (text_of source.now) }
+    ensures { RunsOn (text_of source.now) (program_of source.now) name.now fuel result (outside F.Files W.Sink files.old out.old) (outside F.Files W.Sink files.new out.new) }
 {
     match load_text(alloc, name, files) {
         Err(stop) => say_unread(alloc, stop, name, out),
-        Ok(text) => match service_for(alloc, program, text.as_slice()) {
+        Ok(text) => match service_for(alloc, &source.typed, text.as_slice()) {
             Err(Memory) => Status::Memory,
             Ok(None) => say(
                 Status::ServiceRefused(StoreError::NotBuilt),
                 b"service not built\n",
                 out,
             ),
-            Ok(Some(service)) => {
-                let printed = run_both(alloc, program, &service, out);
-                ended(Status::Done, printed)
-            }
+            Ok(Some(service)) => run_program(alloc, source, &service, fuel, out),
         },
     }
 }
@@ -174,18 +210,19 @@ fn run_on<F: Files, W: Sink>(
 /// Carries out the rest of a command, once its program is known to be typed.
 fn go_on<F: Files, W: Sink>(
     alloc: Global,
-    program: &Program,
+    source: &Source,
     command: &Command,
     files: &mut F,
     out: &mut W,
 ) -> Status
-    ensures { GoesOn (mirror_program program.now) command.now result (outside F.Files W.Sink files.old out.old) (outside F.Files W.Sink files.new out.new) }
+    requires { WithinLength (text_of source.now) }
+    ensures { GoesOn (text_of source.now) (program_of source.now) (asked_by command.now) result (outside F.Files W.Sink files.old out.old) (outside F.Files W.Sink files.new out.new) }
 {
     match command {
         Command::Check(_) => say(Status::Done, b"typed\n", out),
-        Command::Both(_, service) => {
-            if is_first_program(program) {
-                run_on(alloc, program, service, files, out)
+        Command::Both(_, service, fuel) => {
+            if is_built(&source.typed) {
+                run_on(alloc, source, service, *fuel, files, out)
             } else {
                 say(
                     Status::SourceRefused(SourceError::NotBuilt),
@@ -204,13 +241,13 @@ fn carry_out<F: Files, W: Sink>(
     files: &mut F,
     out: &mut W,
 ) -> Status
-    ensures { Says (words_of command.now) result (outside F.Files W.Sink files.old out.old) (outside F.Files W.Sink files.new out.new) }
+    ensures { Says (Some (asked_by command.now)) result (outside F.Files W.Sink files.old out.old) (outside F.Files W.Sink files.new out.new) }
 {
     match typed_program(alloc, command.program(), files, out) {
         Err(status) => status,
-        Ok(typed) => {
-            let status = go_on(alloc, typed.program(), command, files, out);
-            drop(typed);
+        Ok(source) => {
+            let status = go_on(alloc, &source, command, files, out);
+            drop(source);
             status
         }
     }
@@ -224,11 +261,11 @@ fn carry_out<F: Files, W: Sink>(
 /// the answer is `WriteFault`.
 pub fn top<F: Files, W: Sink>(alloc: Global, words: &[String], files: &mut F, out: &mut W) -> Status
     // What is answered and printed is what the words and the files mean.
-    ensures answer { Says (texts words.now) result (outside F.Files W.Sink files.old out.old) (outside F.Files W.Sink files.new out.new) }
+    ensures answer { Says (asked (texts words.now)) result (outside F.Files W.Sink files.old out.old) (outside F.Files W.Sink files.new out.new) }
     // A typed program that the files tell is checked, unless the output fails or memory is wanting.
-    ensures checks { ChecksTold (texts words.now) result (outside F.Files W.Sink files.old out.old) (outside F.Files W.Sink files.new out.new) }
+    ensures checks { ChecksTold (asked (texts words.now)) result (outside F.Files W.Sink files.old out.old) (outside F.Files W.Sink files.new out.new) }
     // A program that the files tell is run on a service for it that they tell, unless the output fails or memory is wanting.
-    ensures runs { RunsTold (texts words.now) result (outside F.Files W.Sink files.old out.old) (outside F.Files W.Sink files.new out.new) }
+    ensures runs { RunsTold (asked (texts words.now)) result (outside F.Files W.Sink files.old out.old) (outside F.Files W.Sink files.new out.new) }
 {
     texts_have_one_outcome();
     sources_have_one_outcome();

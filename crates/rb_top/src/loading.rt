@@ -10,12 +10,13 @@ ghost use Rattle.rb_top.specs.Loads.{LoadsText};
 ghost use Rattle.rb_top.specs.Scene.{directory};
 
 use crate::first_service::read_first_service;
-use crate::offers::offers;
 use crate::refusals::lacks_memory;
+use crate::source::serves;
 use bytes::BytesMut;
 use rb_base::{Files, FilesStop};
 use rb_lex::{lex, texts_have_one_outcome};
-use rb_trees::{Memory, Program, Service};
+use rb_trees::{Memory, Service};
+use rb_types::Typed;
 use std::alloc::Global;
 
 /// The greatest number of bytes of a text.
@@ -79,9 +80,9 @@ fn service_in(alloc: Global, text: &[u8]) -> Result<Option<Service>, Memory>
     }
 }
 
-/// The service that a text is, if it has the methods that the program's interface declares.
-pub fn service_for(alloc: Global, program: &Program, text: &[u8]) -> Result<Option<Service>, Memory>
-    ensures told { IfOk result (λ r. TellsServiceFor (mirror_program program.now) text.now (option_map mirror_service r)) }
+/// The service that a text is, if it has what the program asks of one.
+pub fn service_for(alloc: Global, typed: &Typed, text: &[u8]) -> Result<Option<Service>, Memory>
+    ensures told { IfOk result (λ r. TellsServiceFor (mirror_program typed.now) text.now (option_map mirror_service r)) }
     ensures form { IfOk result (λ r. IfSome r (λ service. FirstService (mirror_service service))) }
 {
     texts_have_one_outcome();
@@ -89,7 +90,7 @@ pub fn service_for(alloc: Global, program: &Program, text: &[u8]) -> Result<Opti
         Err(Memory) => Err(Memory),
         Ok(None) => Ok(None),
         Ok(Some(service)) => {
-            if offers(program, &service) {
+            if serves(&service, typed) {
                 Ok(Some(service))
             } else {
                 Ok(None)

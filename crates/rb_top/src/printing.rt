@@ -148,7 +148,7 @@ fn object_line(alloc: Global, class: &[u8]) -> Result<Vec<u8>, AllocError>
     Ok(text)
 }
 
-fn print_object<W: Sink>(alloc: Global, class: &[u8], out: &mut W) -> Result<(), PrintStop>
+pub fn print_object<W: Sink>(alloc: Global, class: &[u8], out: &mut W) -> Result<(), PrintStop>
     ensures { Prints (shown_table 0 (alone class.now)) result (output W.Sink out.old) (output W.Sink out.new) }
 {
     match object_line(alloc, class) {

@@ -18,7 +18,7 @@ use rb_trees::{Memory, Program, Service};
 use std::alloc::Global;
 
 /// The name of the service's class.
-fn class_name(service: &Service) -> &[u8]
+pub fn class_name(service: &Service) -> &[u8]
     ensures { result.now ≡ class_name_of (map mirror_class service.now.classes) }
 {
     match service.classes.as_slice() {

@@ -3,7 +3,7 @@
 ghost use Rattle.std.specs.Prelude.{◌≡◌};
 ghost use Rattle.rb_top.specs.Codes.{code_of};
 
-use rb_trees::{ReadError, TypeError, Word};
+use rb_trees::{Fault, ReadError, TypeError, Word};
 use thiserror::Error;
 
 /// Why a program's text is refused.
@@ -29,9 +29,11 @@ pub enum StoreError {
 }
 
 /// How a command ended.
-#[derive(Debug, Drop)]
+#[derive(Drop)]
 pub enum Status {
     Done,
+    /// The program ended by a fault at a position.
+    Faulted(Fault, u32),
     /// The words are of no form that is built.
     Words,
     /// The file of this name can't be read.
@@ -52,6 +54,7 @@ impl Status {
     {
         match self {
             Status::Done => 0,
+            Status::Faulted(_, _) => 1,
             Status::Words => 2,
             Status::FileFault(_) => 3,
             Status::SourceRefused(_) => 4,

@@ -8,7 +8,10 @@ use std::test::Fail;
 /// A program of the form that is built.
 pub const PROGRAM: &str = "interface D { fun n(): Int; } main { batch (D r) { print(r.n()); } }";
 
-/// A service for it.
+/// A typed program that isn't of a form that is built.
+pub const OTHER: &str = "interface D { fun n(): Int; } main { batch (D r) { r.n(); } }";
+
+/// A service for both.
 pub const SERVICE: &str = "class D { fun n(): Int { return 7; } } object 0: D { } root 0;";
 
 /// What follows the lines of a run.
@@ -74,4 +77,15 @@ pub fn checked(alloc: Global, text: &[u8]) -> Result<String, Fail> {
     let mut files = MemoryFiles::make(alloc, Seq::new(alloc));
     files.add("p", text)?;
     answer(alloc, "check p", files)
+}
+
+/// What words answer on a program and `SERVICE`.
+pub fn ran(alloc: Global, words: &str, program: &str) -> Result<String, Fail> {
+    answer(alloc, words, files_of(alloc, Some(program), Some(SERVICE))?)
+}
+
+/// A status and lines, and what follows them after a run without a batch.
+pub fn ended(alloc: Global, text: &str) -> Result<String, Fail> {
+    let whole = format!(in alloc; "{text}exchanges 0\nobject 0: D {{ }}\n")?;
+    Ok(whole)
 }

@@ -1,5 +1,5 @@
 // What the commands answer where files, words or the output fail.
-use crate::answers::{PROGRAM, SERVICE, answer, answer_over, files_of, shown, words_of};
+use crate::answers::{OTHER, PROGRAM, SERVICE, answer, answer_over, files_of, shown, words_of};
 use bytes::BytesMut;
 use rb_base::{Files, FilesStop, MemoryFiles, MemorySink};
 use rb_top::top;
@@ -15,7 +15,7 @@ fn long_files_are_named(rt: HostRuntime) -> Result<(), Fail> {
     for (program, service, wanted) in [
         (Some(text), None, "13 file too long p\n"),
         (Some(PROGRAM), Some(text), "13 file too long s\n"),
-        (Some("main { }"), Some(text), "4 not built\n"),
+        (Some(OTHER), Some(text), "4 not built\n"),
     ] {
         assert_eq!(rt; shown(alloc, program, service)?.as_str(), wanted);
     }
@@ -28,7 +28,7 @@ fn missing_files_are_named_in_order(rt: HostRuntime) -> Result<(), Fail> {
         (None, Some(SERVICE), "3 file fault p\n"),
         (None, None, "3 file fault p\n"),
         (Some(PROGRAM), None, "3 file fault s\n"),
-        (Some("main { }"), None, "4 not built\n"),
+        (Some(OTHER), None, "4 not built\n"),
     ] {
         assert_eq!(rt; shown(rt.alloc(), program, service)?.as_str(), wanted);
     }
@@ -61,7 +61,8 @@ fn no_service_is_read_without_a_program(rt: HostRuntime) -> Result<(), Fail> {
 }
 
 /// Words that are no command.
-const OTHER_WORDS: &str = "both p,both,Both p s,both p s s,p both s,check,check p s,Check p";
+const OTHER_WORDS: &str =
+    "both p,both,Both p s,both p s s,p both s,check,check p s,Check p,both p s 1000000001,both p s 01000000000,both p s -1,both p s 1x,check p 1,both p s 1 2";
 
 #[test]
 fn other_words_are_not_understood(rt: HostRuntime) -> Result<(), Fail> {

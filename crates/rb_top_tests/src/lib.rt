@@ -8,6 +8,10 @@ mod checks;
 #[cfg(test)]
 mod faults;
 #[cfg(test)]
+mod local_faults;
+#[cfg(test)]
+mod local_runs;
+#[cfg(test)]
 mod payloads;
 #[cfg(test)]
 mod runs;

@@ -2,8 +2,9 @@
 use crate::answers::{PROGRAM, SERVICE};
 use bytes::BytesMut;
 use rb_parse::parse_program;
-use rb_top::{exchange, first_request, is_first_program, service_for};
+use rb_top::{exchange, first_request, is_first_program, offers, service_for};
 use rb_trees::Program;
+use rb_types::{Typed, check};
 use std::alloc::Global;
 use std::test::Fail;
 
@@ -19,9 +20,12 @@ static REPLY: [u8; 16] = [
 ];
 
 /// The program of a text.
-fn program_of(alloc: Global, text: &str) -> Result<Program, Fail> {
+fn program_of(alloc: Global, text: &str) -> Result<Typed, Fail> {
     match parse_program(alloc, text.as_bytes()) {
-        Ok(program) => Ok(program),
+        Ok(program) => match check(alloc, program) {
+            Ok(typed) => Ok(typed),
+            Err(_) => Err(Fail::from("the program is not typed")),
+        },
         Err(_) => Err(Fail::from("the program is not read")),
     }
 }
@@ -37,12 +41,19 @@ fn request_of(alloc: Global, program: &Program) -> Result<BytesMut, Fail> {
 }
 
 /// The reply of a service to a program's request.
-fn reply_of(alloc: Global, program: &Program, service: &str) -> Result<BytesMut, Fail> {
+fn reply_of(alloc: Global, typed: &Typed, service: &str) -> Result<BytesMut, Fail> {
+    let program = typed.program();
     if !is_first_program(program) {
         return Err(Fail::from("the program is not of the form that is built"));
     }
-    match service_for(alloc, program, service.as_bytes())? {
-        Some(service) => Ok(exchange(alloc, program, &service)?),
+    match service_for(alloc, typed, service.as_bytes())? {
+        Some(service) => {
+            if offers(program, &service) {
+                Ok(exchange(alloc, program, &service)?)
+            } else {
+                Err(Fail::from("the service lacks a method"))
+            }
+        }
         None => Err(Fail::from("the service is not read")),
     }
 }
@@ -50,7 +61,7 @@ fn reply_of(alloc: Global, program: &Program, service: &str) -> Result<BytesMut,
 #[test]
 fn a_request_is_the_worked_bytes(rt: HostRuntime) -> Result<(), Fail> {
     let program = program_of(rt.alloc(), PROGRAM)?;
-    let request = request_of(rt.alloc(), &program);
+    let request = request_of(rt.alloc(), program.program());
     drop(program);
     assert_eq!(rt; request?.as_slice(), REQUEST.as_slice());
     Ok(())

@@ -40,8 +40,8 @@ interface D { fun n(): Int; } class C { } main { batch (D r) { print(r.n()); } }
 interface D { fun n(): Int; } interface E { } main { batch (D r) { print(r.n()); } }\n\
 interface D { fun n(): Int; } main: Int { batch (D r) { print(r.n()); } return 1; }\n\
 interface D { fun n(): Int; } main { batch (D r) { } batch (D r) { } }\n\
-interface D { fun n(): Int; } main { }\n\
-main { }";
+interface D { fun n(): Int; } main { if (true) { batch (D r) { } } }\n\
+interface D { fun n(): Int; } class C { remote fun f() { batch (D r) { } } } main { }";
 
 #[test]
 fn programs_of_other_forms_are_not_built(rt: HostRuntime) -> Result<(), Fail> {

@@ -1,0 +1,14 @@
+main {
+  var i = 0;
+  var count = 0;
+  var text = "";
+  while (i < 700000) {
+    text = text + "x";
+    if (len(text) == 64) {
+      text = "";
+      count = count + 1;
+    }
+    i = i + 1;
+  }
+  print(count);
+}

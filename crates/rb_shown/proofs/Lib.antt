@@ -1,0 +1,4 @@
+-- The lemmas on texts that are added piece by piece.
+pub mod Pieces
+pub mod ValueForms
+pub mod Offsets
