@@ -1,0 +1,4 @@
+-- Words of the contracts inside this crate, each after those that it names.
+pub mod Levels
+pub mod Origins
+pub mod Walks

@@ -1,0 +1,9 @@
+//! Which flow from a remote call to a part of what is sent is named, and by which chain.
+#![tactic(auto)]
+
+mod chain;
+mod levels;
+mod origins;
+mod readers;
+
+pub use chain::{Reach, chain_to, least_chain, search_levels};
