@@ -2,3 +2,7 @@
 pub mod Levels
 pub mod Origins
 pub mod Walks
+pub mod Views
+pub mod Earliest
+pub mod Readings
+pub mod Found

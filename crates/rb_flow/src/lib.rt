@@ -2,8 +2,14 @@
 #![tactic(auto)]
 
 mod chain;
+mod facts;
+mod findings;
 mod levels;
 mod origins;
+mod portable;
 mod readers;
+mod reading;
+mod scope;
+mod standing;
 
 pub use chain::{Reach, chain_to, least_chain, search_levels};
