@@ -6,3 +6,4 @@ pub mod Views
 pub mod Earliest
 pub mod Readings
 pub mod Found
+pub mod Walked

@@ -2,10 +2,12 @@
 #![tactic(auto)]
 
 mod chain;
+mod earliest;
 mod facts;
 mod findings;
 mod levels;
 mod origins;
+mod parts;
 mod portable;
 mod readers;
 mod reading;
