@@ -4,6 +4,11 @@ use Rattle.std.specs.List.{Contains}
 use Rattle.std.proofs.lemmas.Bool.{cases_Bool, eqb-true, eqb-false, ltb-true, ltb-false, cond-true, cond-false, or_cases, or_parts, and_parts, and_cases}
 use Rattle.rb_trees.specs.declared.refusals.Refusal.{Refusal}
 use Rattle.rb_meaning_flow.specs.Refusals.{place, number, last_of, IsBefore}
+use Rattle.rb_trees.proofs.mirror.Exprs.{exprs}
+use Rattle.rb_trees.proofs.mirror.Stmts.{stmts}
+use Rattle.rb_meaning_types.proofs.Positions.{expr_at_tree}
+use Rattle.rb_flow.proofs.Trees.{stmt_at_tree}
+use Rattle.std.proofs.lemmas.Grind.{common_steps}
 use Rattle.rb_flow.specs.Earliest.{is_before, earlier, earliest, IsEarliest, EarliestIsFirst}
 
 -- the last of a list, or what came before it
@@ -113,3 +118,5 @@ earliest_is_first (s ∷ rs) =
 pub earliest_more : (rs ss : List Refusal) (first : Option Refusal) → earliest (rs ++ ss) first ≡ earliest ss (earliest rs first)
 earliest_more [] ss first = refl
 earliest_more (r ∷ rs) ss first = earliest_more rs ss (earlier first r)
+
+pub ruleset found_rules = (exprs, stmts, expr_at_tree, stmt_at_tree, earliest_more, common_steps)

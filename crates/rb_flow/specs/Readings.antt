@@ -58,6 +58,10 @@ abbrev mutual
   exprs_read x scope called r NoExprs = r
   exprs_read x scope called r (MoreExprs e es) = exprs_read x scope called (expr_read x scope called r e) es
 
+-- what an expression reads, and what is read around it
+abbrev pub whole_read : Facts → Scope → Reading → Expr → Reading
+whole_read x scope around e = joined (expr_read x scope false nothing e) around
+
 -- what was read, and what the parts of an expression read
 abbrev pub parts_read : Facts → Scope → Bool → Reading → Expr → Reading
 parts_read x scope called r (Lit at value) = r

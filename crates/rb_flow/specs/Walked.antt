@@ -15,7 +15,7 @@ use Rattle.rb_flow.specs.declared.standing.Standing.{Standing}
 use Rattle.rb_flow.specs.declared.standing.Inside.{Inside}
 use Rattle.rb_flow.specs.declared.findings.Findings.{Findings}
 use Rattle.rb_flow.specs.Earliest.{earliest}
-use Rattle.rb_flow.specs.Readings.{nothing, joined, expr_read, block_read}
+use Rattle.rb_flow.specs.Readings.{nothing, joined, expr_read, whole_read, block_read}
 use Rattle.rb_flow.specs.Found.{innermost, found_at_stmt, found_at_expr}
 
 -- whether a position is less than that of a bad part, if there is one
@@ -64,30 +64,47 @@ loop_looked x scope p _ = p
 abbrev pub writer_of : ℕ → ℕ → Reading → Writer
 writer_of at node r = record { at = at; writes = node; reads = r.nodes; sources = r.sources }
 
--- the writers of an expression, and what is read around it
+-- an expression that writes the objects
+abbrev pub objects_writer : Facts → Scope → Reading → Expr → List Writer
+objects_writer x scope around e = writer_of (expr_at e) objects (whole_read x scope around e) ∷ []
+
+-- the writer that an expression is, if it is one
 abbrev pub expr_writes : Facts → Scope → Reading → Expr → List Writer
-expr_writes x scope around (Call at a method args) =
-    cond (is_remote x a) [] (writer_of at objects (joined (expr_read x scope false nothing (Call at a method args)) around) ∷ [])
-expr_writes x scope around (New at class args) = writer_of at objects (joined (expr_read x scope false nothing (New at class args)) around) ∷ []
+expr_writes x scope around (Call at a method args) = cond (is_remote x a) [] (objects_writer x scope around (Call at a method args))
+expr_writes x scope around (New at class args) = objects_writer x scope around (New at class args)
 expr_writes x scope around _ = []
 
--- what an assignment reads: the left side only where it is a field
+-- what was read, and what the left side of an assignment reads
+abbrev pub left_read : Facts → Scope → Reading → Expr → Reading
+left_read x scope r (Name at name) = r
+left_read x scope r a = expr_read x scope false r a
+
+-- what an assignment reads
 abbrev pub assign_read : Facts → Scope → Expr → Expr → Reading
-assign_read x scope (Name at name) b = expr_read x scope false nothing b
-assign_read x scope a b = expr_read x scope false (expr_read x scope false nothing a) b
+assign_read x scope a b = expr_read x scope false (left_read x scope nothing a) b
 
 -- a writer of the node, if there is one
 abbrev pub writers_of : ℕ → List ℕ → Reading → List Writer
 writers_of at [] r = []
 writers_of at (n ∷ ns) r = writer_of at n r ∷ []
 
--- the writers of a statement, and what is read around it
+-- the statement at a position, by what it writes: a variable, what is assigned, the fault's name
+abbrev pub variable_writer : Facts → Scope → Reading → ℕ → Expr → List Writer
+variable_writer x scope around at e = writer_of at at (whole_read x scope around e) ∷ []
+
+abbrev pub assignment_writer : Facts → Scope → Reading → ℕ → Expr → Expr → List Writer
+assignment_writer x scope around at a b = writers_of at (assigned_node scope a) (joined (assign_read x scope a b) around)
+
+abbrev pub try_writer : Facts → Scope → Reading → ℕ → Stmts → List Writer
+try_writer x scope around at a = writer_of at at (joined (block_read x scope nothing a) around) ∷ []
+
+-- the writer that a statement is, if it is one
 abbrev pub stmt_writes : Facts → Scope → Reading → Stmt → List Writer
-stmt_writes x scope around (Val at name e) = writer_of at at (joined (expr_read x scope false nothing e) around) ∷ []
-stmt_writes x scope around (Var at name e) = writer_of at at (joined (expr_read x scope false nothing e) around) ∷ []
-stmt_writes x scope around (Assign at a b) = writers_of at (assigned_node scope a) (joined (assign_read x scope a b) around)
-stmt_writes x scope around (For at name e a) = writer_of at at (joined (expr_read x scope false nothing e) around) ∷ []
-stmt_writes x scope around (Try at a name b) = writer_of at at (joined (block_read x scope nothing a) around) ∷ []
+stmt_writes x scope around (Val at name e) = variable_writer x scope around at e
+stmt_writes x scope around (Var at name e) = variable_writer x scope around at e
+stmt_writes x scope around (Assign at a b) = assignment_writer x scope around at a b
+stmt_writes x scope around (For at name e a) = variable_writer x scope around at e
+stmt_writes x scope around (Try at a name b) = try_writer x scope around at a
 stmt_writes x scope around _ = []
 
 -- what is found once an expression is seen, its parts aside
@@ -176,12 +193,16 @@ while_inside standing c = record { condition = Some (expr_at c); tried = standin
 
 -- what stands around the blocks of an `if`, a `while` or a `for`: what is around it reads, and what its own expression reads
 abbrev pub more_around : Facts → Scope → Standing → Expr → Reading
-more_around x scope standing e = joined (expr_read x scope false nothing e) standing.around
+more_around x scope standing e = whole_read x scope standing.around e
+
+-- the condition above a block: that of outside where this one is known to the script
+abbrev pub condition_unless : Bool → Option ℕ → Expr → Option ℕ
+condition_unless known outer e = cond known outer (Some (expr_at e))
 
 abbrev pub branch_standing : Facts → Scope → Standing → Expr → Stmts → Stmts → Standing
 branch_standing x scope standing c a b = record {
   script = standing.script && branches_hold x a b;
-  condition = cond (portable x scope c) standing.condition (Some (expr_at c));
+  condition = condition_unless (portable x scope c) standing.condition c;
   tried = standing.tried;
   around = more_around x scope standing c;
 }
@@ -192,7 +213,7 @@ while_standing x scope standing c = record { script = false; condition = Some (e
 abbrev pub turn_standing : Facts → Scope → Standing → Expr → Standing
 turn_standing x scope standing e = record {
   script = standing.script && over_rows x e;
-  condition = cond (over_rows x e) standing.condition (Some (expr_at e));
+  condition = condition_unless (over_rows x e) standing.condition e;
   tried = standing.tried;
   around = more_around x scope standing e;
 }
@@ -230,6 +251,16 @@ scope_then x standing scope (For at name e a) = scope
 scope_then x standing scope (Try at a name b) = scope
 scope_then x standing scope (Batch at interface root a) = scope
 
+-- what is found once the condition of an `if`, that of a `while`, and the list or rows of a `for` are seen
+abbrev pub condition_walked : Facts → Standing → Scope → Findings → Expr → Findings
+condition_walked x standing scope f c = expr_walked x scope (more_around x scope standing c) (whole_inside standing false) f c
+
+abbrev pub turns_walked : Facts → Standing → Scope → Findings → Expr → Findings
+turns_walked x standing scope f c = expr_walked x scope (more_around x scope standing c) (while_inside standing c) f c
+
+abbrev pub list_walked : Facts → Standing → Scope → Findings → Expr → Findings
+list_walked x standing scope f e = expr_walked x scope (more_around x scope standing e) (whole_inside standing (over_rows x e)) f e
+
 -- what is found once a statement, its expressions and its blocks are seen
 abbrev mutual
   pub stmt_walked : Facts → Standing → Scope → Findings → Stmt → Findings
@@ -242,12 +273,12 @@ abbrev mutual
   stmt_walked x standing scope f (Throw at e) = expr_walked x scope standing.around (whole_inside standing false) (stmt_seen x standing scope f (Throw at e)) e
   stmt_walked x standing scope f (If at c a b) =
       block_walked x (branch_standing x scope standing c a b) scope (block_walked x (branch_standing x scope standing c a b) scope
-      (expr_walked x scope (more_around x scope standing c) (whole_inside standing false) (stmt_seen x standing scope f (If at c a b)) c) a) b
+      (condition_walked x standing scope (stmt_seen x standing scope f (If at c a b)) c) a) b
   stmt_walked x standing scope f (While at c a) =
-      block_walked x (while_standing x scope standing c) scope (expr_walked x scope (more_around x scope standing c) (while_inside standing c) (stmt_seen x standing scope f (While at c a)) c) a
+      block_walked x (while_standing x scope standing c) scope (turns_walked x standing scope (stmt_seen x standing scope f (While at c a)) c) a
   stmt_walked x standing scope f (For at name e a) =
       block_walked x (turn_standing x scope standing e) (with_variable scope name (turn_role x e) at)
-      (expr_walked x scope (more_around x scope standing e) (whole_inside standing (over_rows x e)) (stmt_seen x standing scope f (For at name e a)) e) a
+      (list_walked x standing scope (stmt_seen x standing scope f (For at name e a)) e) a
   stmt_walked x standing scope f (Try at a name b) =
       block_walked x (try_standing x scope standing at a name b) (with_variable scope name Role.Plain at) (block_walked x (try_standing x scope standing at a name b) scope (stmt_seen x standing scope f (Try at a name b)) a) b
   stmt_walked x standing scope f (Batch at interface root a) = block_walked x (batch_standing standing) (with_variable scope root Role.Plain at) (stmt_seen x standing scope f (Batch at interface root a)) a
@@ -266,13 +297,10 @@ within_walked x standing scope f (Run at e) = expr_walked x scope standing.aroun
 within_walked x standing scope f (Print at e) = expr_walked x scope standing.around (whole_inside standing false) f e
 within_walked x standing scope f (Throw at e) = expr_walked x scope standing.around (whole_inside standing false) f e
 within_walked x standing scope f (If at c a b) =
-    block_walked x (branch_standing x scope standing c a b) scope (block_walked x (branch_standing x scope standing c a b) scope
-    (expr_walked x scope (more_around x scope standing c) (whole_inside standing false) f c) a) b
-within_walked x standing scope f (While at c a) =
-    block_walked x (while_standing x scope standing c) scope (expr_walked x scope (more_around x scope standing c) (while_inside standing c) f c) a
+    block_walked x (branch_standing x scope standing c a b) scope (block_walked x (branch_standing x scope standing c a b) scope (condition_walked x standing scope f c) a) b
+within_walked x standing scope f (While at c a) = block_walked x (while_standing x scope standing c) scope (turns_walked x standing scope f c) a
 within_walked x standing scope f (For at name e a) =
-    block_walked x (turn_standing x scope standing e) (with_variable scope name (turn_role x e) at)
-    (expr_walked x scope (more_around x scope standing e) (whole_inside standing (over_rows x e)) f e) a
+    block_walked x (turn_standing x scope standing e) (with_variable scope name (turn_role x e) at) (list_walked x standing scope f e) a
 within_walked x standing scope f (Try at a name b) =
     block_walked x (try_standing x scope standing at a name b) (with_variable scope name Role.Plain at) (block_walked x (try_standing x scope standing at a name b) scope f a) b
 within_walked x standing scope f (Batch at interface root a) = block_walked x (batch_standing standing) (with_variable scope root Role.Plain at) f a

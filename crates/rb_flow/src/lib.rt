@@ -5,6 +5,7 @@ mod chain;
 mod earliest;
 mod facts;
 mod findings;
+mod frames;
 mod levels;
 mod origins;
 mod parts;
@@ -12,6 +13,10 @@ mod portable;
 mod readers;
 mod reading;
 mod scope;
+mod seen;
 mod standing;
+mod statements;
+mod walk;
+mod writers;
 
 pub use chain::{Reach, chain_to, least_chain, search_levels};
