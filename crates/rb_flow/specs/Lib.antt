@@ -7,3 +7,4 @@ pub mod Earliest
 pub mod Readings
 pub mod Found
 pub mod Walked
+pub mod Sited
