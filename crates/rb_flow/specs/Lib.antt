@@ -8,3 +8,4 @@ pub mod Readings
 pub mod Found
 pub mod Walked
 pub mod Sited
+pub mod Parts
