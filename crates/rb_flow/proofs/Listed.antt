@@ -13,12 +13,12 @@ use Rattle.rb_flow.specs.Found.{innermost, standing_in, inside_of, where_so, und
 use Rattle.rb_flow.proofs.Members.{none_contained, first_contained, contained_cases, GivenBy, given_by, gives_all, cond_contained, contained_cond, cond_list, list_cond}
 
 -- an expression of some statements is one of the expressions of one of them
-record OwnOf (ss : List StmtSite) (e : ExprSite) : Type 0 where
+pub record OwnOf (ss : List StmtSite) (e : ExprSite) : Type 0 where
   pub stmt : StmtSite
   pub is : Contains ss stmt
   pub has : Contains (all_sites stmt (own stmt.stmt)) e
 
-own_of : (ss : List StmtSite) (e : ExprSite) → Contains (exprs_of ss) e → OwnOf ss e
+pub own_of : (ss : List StmtSite) (e : ExprSite) → Contains (exprs_of ss) e → OwnOf ss e
 own_of [] e h = absurd (none_contained e h)
 own_of (s ∷ ss) e h = elim (Contains-append_cases (all_sites s (own s.stmt)) (exprs_of ss) e h) [
   | inl a ↦ record { stmt = s; is = first_contained s ss; has = a }

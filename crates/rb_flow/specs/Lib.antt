@@ -9,3 +9,4 @@ pub mod Found
 pub mod Walked
 pub mod Sited
 pub mod Parts
+pub mod Answers
