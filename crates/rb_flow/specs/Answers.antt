@@ -11,6 +11,8 @@ use Rattle.rb_meaning_flow.specs.Chains.{IsChain, IsLeastChain, PositionsDiffer}
 use Rattle.rb_meaning_flow.specs.Flow.{writers, bad_parts}
 use Rattle.rb_meaning_flow.specs.Refusals.{IsRefusal, IsBefore, place}
 use Rattle.rb_flow.specs.declared.findings.Findings.{Findings}
+use Rattle.rb_flow.specs.declared.standing.Standing.{Standing}
+use Rattle.rb_flow.specs.Readings.{nothing}
 use Rattle.rb_flow.specs.Sited.{all_seen}
 
 -- no two writers of a batch stand at one position, and no two bad parts
@@ -42,6 +44,10 @@ IsDecidedAt false first ws u answer = (r : Refusal) × (answer ≡ Some r) × Is
 abbrev pub IsDecided : Option Refusal → List Writer → Option BadPart → Option Refusal → Type 0
 IsDecided first ws None answer = answer ≡ first
 IsDecided first ws (Some u) answer = IsDecidedAt (stands_before first u.at) first ws u answer
+
+-- what stands around the statements of a batch itself: nothing
+abbrev pub outermost_standing : Standing
+outermost_standing = record { script = true; condition = None; tried = false; around = nothing }
 
 -- before anything is found
 abbrev pub no_findings : Findings

@@ -1,6 +1,7 @@
 //! Which flow from a remote call to a part of what is sent is named, and by which chain.
 #![tactic(auto)]
 
+mod batch;
 mod chain;
 mod earliest;
 mod facts;
