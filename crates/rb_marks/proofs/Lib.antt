@@ -4,4 +4,8 @@ mod Scopes
 mod Parts
 mod Fronts
 mod Rules
+mod Joined
+mod Agree
+mod AgreePlaces
+mod Outer
 mod Maps

@@ -63,7 +63,13 @@ fn mark_parts(
 {
     match &e.form {
         ExprForm::Lit(_) | ExprForm::Name(_) | ExprForm::This | ExprForm::Taken(_) => Ok(()),
-        ExprForm::Unary(_, a) | ExprForm::Field(a, _) => mark_expr(x, scope, inside, notes, a.get()),
+        ExprForm::Unary(_, a) | ExprForm::Field(a, _) => mark_expr(
+            x,
+            scope,
+            inside,
+            notes,
+            a.get(),
+        ),
         ExprForm::Binary(_, a, b) | ExprForm::Index(a, b) => {
             mark_expr(x, scope, inside, notes, a.get())?;
             mark_expr(x, scope, inside, notes, b.get())
@@ -194,10 +200,30 @@ fn mark_stmt(
         }
         StmtForm::Try(a, name, b) => {
             mark_block(alloc, x, false, scope, notes, a.as_slice())?;
-            mark_opened(alloc, x, false, scope, notes, name, Role::Plain, s.at, b.as_slice())
+            mark_opened(
+                alloc,
+                x,
+                false,
+                scope,
+                notes,
+                name,
+                Role::Plain,
+                s.at,
+                b.as_slice(),
+            )
         }
         StmtForm::Batch(_, root, a) => {
-            mark_opened(alloc, x, false, scope, notes, root, Role::Plain, s.at, a.as_slice())
+            mark_opened(
+                alloc,
+                x,
+                false,
+                scope,
+                notes,
+                root,
+                Role::Plain,
+                s.at,
+                a.as_slice(),
+            )
         }
     }
 }

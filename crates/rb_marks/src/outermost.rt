@@ -23,7 +23,11 @@ use std::alloc::Global;
 fn outer_role(primitive: bool) -> Role
     ensures { result ≡ outermost.outer_role primitive }
 {
-    if primitive { Role::Constant } else { Role::Plain }
+    if primitive {
+        Role::Constant
+    } else {
+        Role::Plain
+    }
 }
 
 // The scope in which a method's body begins.
@@ -165,7 +169,13 @@ fn mark_methods(
 {
     for m in methods {
         let mut scope = parameters(alloc, m.signature.params.as_slice())?;
-        mark_outer_stmts(alloc, facts, &mut scope, notes, m.body.statements.as_slice())?;
+        mark_outer_stmts(
+            alloc,
+            facts,
+            &mut scope,
+            notes,
+            m.body.statements.as_slice(),
+        )?;
     }
     Ok(())
 }
@@ -195,7 +205,13 @@ pub fn mark_program(
     let mut notes = Vec::new(alloc);
     mark_classes(alloc, facts, &mut notes, program.classes.as_slice())?;
     let mut scope = Scope::new(alloc);
-    mark_outer_stmts(alloc, facts, &mut scope, &mut notes, program.body.statements.as_slice())?;
+    mark_outer_stmts(
+        alloc,
+        facts,
+        &mut scope,
+        &mut notes,
+        program.body.statements.as_slice(),
+    )?;
     Ok(notes)
 }
 
@@ -219,7 +235,11 @@ fn place_outer(facts: &Facts, notes: &mut Vec<(u32, Place)>, s: &Stmt) -> Result
 }
 
 #[cycle(outer_places)]
-fn place_outer_stmts(facts: &Facts, notes: &mut Vec<(u32, Place)>, ss: &[Stmt]) -> Result<(), Memory>
+fn place_outer_stmts(
+    facts: &Facts,
+    notes: &mut Vec<(u32, Place)>,
+    ss: &[Stmt],
+) -> Result<(), Memory>
     ensures { OnOk result (notes.new.items ≡ passes.outer_block_placed (facts_of (mirror_program facts.now)) notes.old.items (mirror_stmts ss.now)) }
 {
     for s in ss {
@@ -228,7 +248,11 @@ fn place_outer_stmts(facts: &Facts, notes: &mut Vec<(u32, Place)>, ss: &[Stmt]) 
     Ok(())
 }
 
-fn place_methods(facts: &Facts, notes: &mut Vec<(u32, Place)>, methods: &[Method]) -> Result<(), Memory>
+fn place_methods(
+    facts: &Facts,
+    notes: &mut Vec<(u32, Place)>,
+    methods: &[Method],
+) -> Result<(), Memory>
     ensures { OnOk result (notes.new.items ≡ passes.methods_placed (facts_of (mirror_program facts.now)) notes.old.items (map mirror_method methods.now)) }
 {
     for m in methods {
@@ -237,7 +261,11 @@ fn place_methods(facts: &Facts, notes: &mut Vec<(u32, Place)>, methods: &[Method
     Ok(())
 }
 
-fn place_classes(facts: &Facts, notes: &mut Vec<(u32, Place)>, classes: &[Class]) -> Result<(), Memory>
+fn place_classes(
+    facts: &Facts,
+    notes: &mut Vec<(u32, Place)>,
+    classes: &[Class],
+) -> Result<(), Memory>
     ensures { OnOk result (notes.new.items ≡ passes.classes_placed (facts_of (mirror_program facts.now)) notes.old.items (map mirror_class classes.now)) }
 {
     for class in classes {

@@ -24,12 +24,7 @@ fn place_of(facts: &Facts, script: bool, s: &Stmt) -> Place
     Place::Elsewhere
 }
 
-fn note(
-    facts: &Facts,
-    script: bool,
-    notes: &mut Vec<(u32, Place)>,
-    s: &Stmt,
-) -> Result<(), Memory>
+fn note(facts: &Facts, script: bool, notes: &mut Vec<(u32, Place)>, s: &Stmt) -> Result<(), Memory>
     ensures { OnOk result (notes.new.items ≡ passes.place_noted (facts_of (mirror_program facts.now)) script notes.old.items (mirror_stmt s.now)) }
 {
     let place = place_of(facts, script, s);

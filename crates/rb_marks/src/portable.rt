@@ -22,7 +22,8 @@ pub fn is_portable(x: &Batch, scope: &Scope, e: &Expr) -> bool
         ExprForm::Lit(_) => true,
         ExprForm::Name(name) => x.is_portable(scope, name),
         ExprForm::Unary(_, a) => is_portable(x, scope, a.get()),
-        ExprForm::Binary(_, a, b) => is_portable(x, scope, a.get()) && is_portable(x, scope, b.get()),
+        ExprForm::Binary(_, a, b) => is_portable(x, scope, a.get())
+            && is_portable(x, scope, b.get()),
         ExprForm::Call(a, _, args) => {
             x.facts.is_remote(a.get())
                 && is_portable(x, scope, a.get())
@@ -53,7 +54,8 @@ pub fn is_constant(x: &Batch, scope: &Scope, e: &Expr) -> bool
         ExprForm::Lit(_) => true,
         ExprForm::Name(name) => x.is_constant(scope, name),
         ExprForm::Unary(_, a) => is_constant(x, scope, a.get()),
-        ExprForm::Binary(_, a, b) => is_constant(x, scope, a.get()) && is_constant(x, scope, b.get()),
+        ExprForm::Binary(_, a, b) => is_constant(x, scope, a.get())
+            && is_constant(x, scope, b.get()),
         ExprForm::This | ExprForm::Field(_, _) | ExprForm::Index(_, _) => false,
         ExprForm::Call(_, _, _) | ExprForm::New(_, _) => false,
         ExprForm::Items(_, _) | ExprForm::Taken(_) => false,
