@@ -8,7 +8,7 @@ use Rattle.rb_meaning_flow.specs.declared.scopes.Role.{Role}
 use Rattle.rb_meaning_flow.specs.Facts.{Facts, over_rows}
 use Rattle.rb_meaning_flow.specs.Scopes.{Scope, with_variable, role_with, variable_with, scope_with}
 use Rattle.rb_meaning_flow.specs.Portable.{portable, branches_hold}
-use Rattle.rb_meaning_flow.specs.Sites.{Around, Branch, WhileTurn, Turn, InTry, InBatch, is_script_place, StmtSite, Over, ExprSite, expr_sites, exprs_sites, all_sites, own, sites, block_sites, exprs_of, scope_after, val_role, turn_role}
+use Rattle.rb_meaning_flow.specs.Sites.{Around, Branch, WhileTurn, Turn, InTry, InBatch, is_script_place, StmtSite, Over, ExprSite, expr_sites, exprs_sites, all_sites, own, sites, block_sites, exprs_of, scope_after, turn_role}
 use Rattle.rb_meaning_flow.specs.Marks.{is_portable_call, is_remote_whole, is_remote_at, mark_at, marks_of}
 use Rattle.rb_marks.specs.Passes.{Marked, inner, note, marked, all_marked, scope_then, stmt_marked, block_marked}
 use Rattle.rb_marks.proofs.Joined.{with_one, with_two, joined, none}

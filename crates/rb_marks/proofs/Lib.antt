@@ -9,3 +9,6 @@ mod Agree
 mod AgreePlaces
 mod Outer
 mod Maps
+mod Counts
+mod Placed
+mod Law

@@ -7,6 +7,7 @@
 mod batch;
 mod facts;
 mod index;
+mod laws;
 mod marks;
 mod outermost;
 mod places;
@@ -16,5 +17,6 @@ mod scope;
 pub use batch::Batch;
 pub use facts::Facts;
 pub use index::{Marks, mark};
+pub use laws::{each_expression_has_its_mark, each_statement_has_its_place};
 pub use portable::{block_holds, holds_call, holds_operation, is_constant, is_portable};
 pub use scope::Scope;

@@ -1,4 +1,4 @@
-use Rattle.std.proofs.Common.{◌≡◌, length, take, ap, ◌∙◌}
+use Rattle.std.proofs.Common.{take, ap, ◌∙◌}
 use Rattle.rb_marks.proofs.Fronts.{opened_kept}
 use Rattle.rb_marks.proofs.marks.+stmts.Goals as goal
 

@@ -1,6 +1,6 @@
 use Rattle.std.proofs.Common.{◌≡◌, drop, take, length}
 use Rattle.rb_trees.specs.mirror.Code.{mirror_stmts}
-use Rattle.rb_marks.specs.Views.{facts_in, seen}
+use Rattle.rb_marks.specs.Views.{facts_in}
 use Rattle.rb_marks.specs.Passes as passes
 use Rattle.rb_marks.proofs.marks.+stmts.Given as goal
 
