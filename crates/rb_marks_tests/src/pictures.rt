@@ -8,7 +8,8 @@ use std::alloc::Global;
 use std::test::Fail;
 
 /// The interfaces of each text.
-static INTERFACES: &str = "interface F { fun size(): Int; fun grow(by: Int); } interface D { fun file(i: Int): F; fun files(): Rows<F>; } ";
+static INTERFACES: &str =
+    "interface F { fun size(): Int; fun grow(by: Int); } interface D { fun file(i: Int): F; fun files(): Rows<F>; } ";
 
 /// Texts, each with a letter under the defining token of each expression and each statement in a batch:
 /// R, C and L for Remote, Constant and Local, s, o and e for a script place, local only and elsewhere.
