@@ -28,6 +28,10 @@ outer_role primitive = cond primitive Role.Constant Role.Plain
 abbrev pub parameter : Param → Variable
 parameter p = record { name = p.name; role = outer_role (is_primitive (kind_of p.kind)); node = p.at }
 
+-- the scope in which a method's body begins
+abbrev pub parameters : List Param → Scope
+parameters params = map parameter params
+
 -- the scope after a statement outside batches
 abbrev pub outer_after : Facts → Scope → Stmt → Scope
 outer_after x scope (Val at name e) = with_variable scope name (outer_role (x.primitive (expr_at e))) at
@@ -54,7 +58,7 @@ abbrev mutual
   outermost_in x scope (MoreStmts s ss) = outermost x scope s ++ outermost_in x (outer_after x scope s) ss
 
 abbrev pub method_batches : Facts → Method → List Outermost
-method_batches x m = outermost_in x (map parameter m.signature.params) m.body.statements
+method_batches x m = outermost_in x (parameters m.signature.params) m.body.statements
 
 abbrev pub class_batches : Facts → Class → List Outermost
 class_batches x c = flat_map (method_batches x) c.methods
