@@ -10,3 +10,4 @@ pub mod Walked
 pub mod Sited
 pub mod Parts
 pub mod Answers
+pub mod Begun

@@ -9,6 +9,7 @@ mod findings;
 mod frames;
 mod levels;
 mod origins;
+mod outermost;
 mod parts;
 mod portable;
 mod readers;

@@ -9,6 +9,6 @@ mod Agree
 mod AgreePlaces
 mod Outer
 mod Maps
-mod Counts
-mod Placed
+pub mod Counts
+pub mod Placed
 mod Law
