@@ -52,19 +52,16 @@ both_counted q [] = omega arith
 both_counted q (s ∷ ss) = omega (arith, count_sites q (all_sites s (own s.stmt)) (exprs_of ss), both_counted q ss)
 
 -- at most one site stands at each position
-pub Once : List StmtSite → Type 0
+abbrev pub Once : List StmtSite → Type 0
 Once ss = (q : ℕ) → total q ss ≤ 1
 
 one_stmt : (ss : List StmtSite) → Once ss → (s t : StmtSite) → Contains ss s → Contains ss t → stmt_site_at s ≡ stmt_site_at t → s ≡ t
-unfolding Once
 one_stmt ss once s t h g e = one_at stmt_site_at ss (stmt_site_at t) (omega (arith, once (stmt_site_at t), both_counted (stmt_site_at t) ss)) s t h g e refl
 
 one_expr : (ss : List StmtSite) → Once ss → (s t : ExprSite) → Contains (exprs_of ss) s → Contains (exprs_of ss) t → site_at s ≡ site_at t → s ≡ t
-unfolding Once
 one_expr ss once s t h g e = one_at site_at (exprs_of ss) (site_at t) (omega (arith, once (site_at t), both_counted (site_at t) ss)) s t h g e refl
 
 no_both : (ss : List StmtSite) → Once ss → (s : StmtSite) (t : ExprSite) → Contains ss s → Contains (exprs_of ss) t → stmt_site_at s ≡ site_at t → ⊥
-unfolding Once
 no_both ss once s t h g e =
     let a = counted stmt_site_at ss s (site_at t) h e in
     let b = counted site_at (exprs_of ss) t (site_at t) g refl in

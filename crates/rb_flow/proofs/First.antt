@@ -25,8 +25,8 @@ last_whole [] = refl
 last_whole (p ∷ ps) = last_more p ps 0
 
 -- a refusal that isn't after another
-record AtMost (r s : Refusal) : Type 0 where
-  is : (place r < place s) ⊎ ((place r ≡ place s) × (number r ≤ number s))
+pub record AtMost (r s : Refusal) : Type 0 where
+  pub is : (place r < place s) ⊎ ((place r ≡ place s) × (number r ≤ number s))
 
 at_most_both : (r s t : Refusal) → AtMost r s → AtMost s t → AtMost r t
 at_most_both r s t g h = record {
@@ -39,7 +39,7 @@ at_most_both r s t g h = record {
 at_most_itself : (r : Refusal) → AtMost r r
 at_most_itself r = record { is = inr (refl, omega arith) }
 
-before_true : (r s : Refusal) → is_before r s ≡ true → AtMost r s
+pub before_true : (r s : Refusal) → is_before r s ≡ true → AtMost r s
 before_true r s e = record {
   is = elim (or_cases (nat_lt (place r) (place s)) (nat_eq (place r) (place s) && nat_lt (number r) (number s)) e) [
     | inl a ↦ inl (ltb-true (place r) (place s) a)
@@ -48,7 +48,7 @@ before_true r s e = record {
   ];
 }
 
-before_false : (r s : Refusal) → is_before r s ≡ false → AtMost s r
+pub before_false : (r s : Refusal) → is_before r s ≡ false → AtMost s r
 before_false r s e =
     let parts = or_parts (nat_lt (place r) (place s)) (nat_eq (place r) (place s) && nat_lt (number r) (number s)) e in
     let le : place s ≤ place r = ltb-false (place r) (place s) parts.0 in

@@ -11,3 +11,5 @@ pub mod Sited
 pub mod Parts
 pub mod Answers
 pub mod Begun
+pub mod Program
+pub mod Admission

@@ -1,6 +1,7 @@
 //! Which flow from a remote call to a part of what is sent is named, and by which chain.
 #![tactic(auto)]
 
+mod admission;
 mod batch;
 mod chain;
 mod earliest;
@@ -12,6 +13,7 @@ mod origins;
 mod outermost;
 mod parts;
 mod portable;
+mod program;
 mod readers;
 mod reading;
 mod scope;
@@ -21,4 +23,5 @@ mod statements;
 mod walk;
 mod writers;
 
+pub use admission::{AdmitStop, Admitted, admit};
 pub use chain::{Reach, chain_to, least_chain, search_levels};
