@@ -1,0 +1,158 @@
+// How a statement bears on its expressions and on what stands in its blocks.
+
+#![tactic(auto, using(crate::proofs::WalkRules::walk_rules))]
+
+ghost use Rattle.std.specs.Prelude.{◌≡◌, IfOk, OnOk};
+ghost use Rattle.rb_trees.specs.mirror.Code.{mirror_expr, mirror_stmts};
+ghost use Rattle.rb_meaning_flow.specs.Sites as sites;
+ghost use Rattle.rb_flow.specs.Readings as readings;
+ghost use Rattle.rb_flow.specs.Views.{facts};
+ghost use Rattle.rb_flow.specs.Walked as words;
+
+use crate::facts::over_rows;
+use crate::portable::{branches_hold, is_portable};
+use crate::reading::{read_block, read_opened};
+use crate::standing::{Inside, Reading, Standing};
+use crate::writers::read_around;
+use rb_meaning_flow::{Role, Variable};
+use rb_trees::{Expr, Memory, Seq, Stmt, Word};
+use rb_types::Typed;
+use std::alloc::Global;
+
+/// How what stands around a statement bears on an expression of it.
+pub fn whole_inside(standing: &Standing, may: bool) -> Inside
+    ensures { result ≡ words.whole_inside standing.now may }
+{
+    Inside {
+        condition: standing.condition,
+        tried: standing.tried,
+        may,
+    }
+}
+
+/// The same of the condition of a `while`.
+pub fn while_inside(standing: &Standing, c: &Expr) -> Inside
+    ensures { result ≡ words.while_inside standing.now (mirror_expr c.now) }
+{
+    Inside {
+        condition: Some(c.at),
+        tried: standing.tried,
+        may: false,
+    }
+}
+
+/// What the role of a `val` is.
+pub fn val_role(x: &Typed, standing: &Standing, scope: &Seq<Variable>, e: &Expr) -> Role
+    ensures { result ≡ words.val_role_in (facts x.now) standing.now scope.now (mirror_expr e.now) }
+{
+    if standing.script && is_portable(x, scope, e) {
+        Role::Carried
+    } else {
+        Role::Plain
+    }
+}
+
+fn condition_unless(known: bool, outer: Option<u32>, e: &Expr) -> Option<u32>
+    ensures { result ≡ words.condition_unless known outer (mirror_expr e.now) }
+{
+    if known { outer } else { Some(e.at) }
+}
+
+/// What stands around the branches of an `if`.
+pub fn branch_standing(
+    alloc: Global,
+    x: &Typed,
+    scope: &Seq<Variable>,
+    standing: &Standing,
+    c: &Expr,
+    a: &[Stmt],
+    b: &[Stmt],
+) -> Result<Standing, Memory>
+    ensures { IfOk result (λ s. s ≡ words.branch_standing (facts x.now) scope.now standing.now (mirror_expr c.now) (mirror_stmts a.now) (mirror_stmts b.now)) }
+{
+    let around = read_around(alloc, x, scope, &standing.around, c)?;
+    Ok(Standing {
+        script: standing.script && branches_hold(x, a, b),
+        condition: condition_unless(is_portable(x, scope, c), standing.condition, c),
+        tried: standing.tried,
+        around,
+    })
+}
+
+/// What stands around the block of a `while`.
+pub fn while_standing(
+    alloc: Global,
+    x: &Typed,
+    scope: &Seq<Variable>,
+    standing: &Standing,
+    c: &Expr,
+) -> Result<Standing, Memory>
+    ensures { IfOk result (λ s. s ≡ words.while_standing (facts x.now) scope.now standing.now (mirror_expr c.now)) }
+{
+    let around = read_around(alloc, x, scope, &standing.around, c)?;
+    Ok(Standing {
+        script: false,
+        condition: Some(c.at),
+        tried: standing.tried,
+        around,
+    })
+}
+
+/// What stands around the block of a `for`.
+pub fn turn_standing(
+    alloc: Global,
+    x: &Typed,
+    scope: &Seq<Variable>,
+    standing: &Standing,
+    e: &Expr,
+) -> Result<Standing, Memory>
+    ensures { IfOk result (λ s. s ≡ words.turn_standing (facts x.now) scope.now standing.now (mirror_expr e.now)) }
+{
+    let around = read_around(alloc, x, scope, &standing.around, e)?;
+    Ok(Standing {
+        script: standing.script && over_rows(x, e),
+        condition: condition_unless(over_rows(x, e), standing.condition, e),
+        tried: standing.tried,
+        around,
+    })
+}
+
+/// What stands around the blocks of a `try`. The scope stays.
+pub fn try_standing(
+    alloc: Global,
+    x: &Typed,
+    scope: &mut Seq<Variable>,
+    standing: &Standing,
+    at: u32,
+    a: &[Stmt],
+    name: &Word,
+    b: &[Stmt],
+) -> Result<Standing, Memory>
+    ensures standing { IfOk result (λ s. s ≡ words.try_standing (facts x.now) scope.old standing.now at (mirror_stmts a.now) name.now (mirror_stmts b.now)) }
+    ensures scope { OnOk result (scope.new ≡ scope.old) }
+{
+    let mut around = Reading::new(alloc);
+    read_block(alloc, x, scope, &mut around, a)?;
+    read_opened(alloc, x, scope, &mut around, name, at, b)?;
+    around.add(&standing.around)?;
+    Ok(Standing {
+        script: false,
+        condition: standing.condition,
+        tried: true,
+        around,
+    })
+}
+
+/// What stands around the block of a batch in a batch.
+pub fn batch_standing(alloc: Global, standing: &Standing) -> Result<Standing, Memory>
+    ensures { IfOk result (λ s. s ≡ words.batch_standing standing.now) }
+{
+    let mut around = Reading::new(alloc);
+    around.add(&standing.around)?;
+    Ok(Standing {
+        script: false,
+        condition: standing.condition,
+        tried: standing.tried,
+        around,
+    })
+}

@@ -1,0 +1,27 @@
+//! Which flow from a remote call to a part of what is sent is named, and by which chain.
+#![tactic(auto)]
+
+mod admission;
+mod batch;
+mod chain;
+mod earliest;
+mod facts;
+mod findings;
+mod frames;
+mod levels;
+mod origins;
+mod outermost;
+mod parts;
+mod portable;
+mod program;
+mod readers;
+mod reading;
+mod scope;
+mod seen;
+mod standing;
+mod statements;
+mod walk;
+mod writers;
+
+pub use admission::{AdmitStop, Admitted, admit};
+pub use chain::{Reach, chain_to, least_chain, search_levels};

@@ -1,0 +1,269 @@
+// The outermost batches of a program, each with the variables in scope where it begins.
+
+#![tactic(auto, using(crate::proofs::OuterRules::outer_rules))]
+
+ghost use Rattle.std.specs.Prelude.{◌≡◌, [], ◌++◌, map, take, length, IfOk, OnOk};
+ghost use Rattle.rb_trees.specs.mirror.Types.{mirror_type};
+ghost use Rattle.rb_trees.specs.mirror.Code.{mirror_stmt, mirror_stmts};
+ghost use Rattle.rb_trees.specs.mirror.Declarations.{mirror_param, mirror_method, mirror_class, mirror_program};
+ghost use Rattle.rb_meaning_types.specs.Kinds as kinds;
+ghost use Rattle.rb_meaning_flow.specs.Scopes as scopes;
+ghost use Rattle.rb_meaning_flow.specs.Outermost as outermost;
+ghost use Rattle.rb_flow.specs.Begun as begun;
+ghost use Rattle.rb_flow.specs.Begun.{begun_of};
+ghost use Rattle.rb_flow.specs.Views.{facts};
+
+use crate::scope::bind;
+use rb_marks::{Batch, Facts};
+use rb_meaning_flow::{Role, Variable};
+use rb_names::Names;
+use rb_trees::{
+    Class, Memory, Method, Param, Program, Seq, Stmt, StmtForm, TypeForm, Word, copy_word,
+};
+use std::alloc::Global;
+
+/// An outermost batch: the variables in scope where it begins, and its block.
+#[derive(Drop)]
+pub struct OpenBatch<'p> {
+    pub scope: Seq<Variable>,
+    pub block: &'p [Stmt],
+}
+
+fn is_primitive(kind: &TypeForm) -> bool
+    ensures { result ≡ kinds.is_primitive (kinds.kind_of_form kind.now) }
+{
+    match kind {
+        TypeForm::Int | TypeForm::Bool | TypeForm::Text => true,
+        TypeForm::Unit | TypeForm::Named(_) => false,
+        TypeForm::ListOf(_) | TypeForm::RowsOf(_) => false,
+    }
+}
+
+fn outer_role(primitive: bool) -> Role
+    ensures { result ≡ outermost.outer_role primitive }
+{
+    if primitive {
+        Role::Constant
+    } else {
+        Role::Plain
+    }
+}
+
+// The scope in which a method's body begins.
+fn parameters(alloc: Global, params: &[Param]) -> Result<Seq<Variable>, Memory>
+    ensures { IfOk result (λ scope. scope ≡ outermost.parameters (map mirror_param params.now)) }
+{
+    let mut scope = Seq::new(alloc);
+    for param in params {
+        let role = outer_role(is_primitive(&param.kind.form));
+        bind(alloc, &mut scope, &param.name, role, param.at)?;
+    }
+    Ok(scope)
+}
+
+fn role_with(assigned: &Names, v: &Variable) -> Role
+    ensures { result ≡ scopes.role_with assigned.now v.now.name v.now.role }
+{
+    match v.role {
+        Role::Constant => {
+            if assigned.has(&v.name) {
+                Role::Plain
+            } else {
+                Role::Constant
+            }
+        }
+        Role::Root => Role::Root,
+        Role::Row => Role::Row,
+        Role::Carried => Role::Carried,
+        Role::Plain => Role::Plain,
+    }
+}
+
+// The variables of a scope as a batch sees them in which these are assigned.
+fn scope_with(
+    alloc: Global,
+    assigned: &Names,
+    scope: &Seq<Variable>,
+) -> Result<Seq<Variable>, Memory>
+    ensures { IfOk result (λ s. s ≡ scopes.scope_with assigned.now scope.now) }
+{
+    let mut seen = Seq::new(alloc);
+    for v in scope.as_slice() {
+        let name = copy_word(alloc, &v.name)?;
+        let role = role_with(assigned, v);
+        let node = v.node;
+        seen.push(Variable { name, role, node })?;
+    }
+    Ok(seen)
+}
+
+// The variables in scope where a batch begins.
+fn open(
+    alloc: Global,
+    x: &Facts,
+    scope: &Seq<Variable>,
+    at: u32,
+    root: &Word,
+    block: &[Stmt],
+) -> Result<Seq<Variable>, Memory>
+    ensures { IfOk result (λ s. s ≡ scopes.opened scope.now at root.now (mirror_stmts block.now)) }
+{
+    let batch = Batch::new(alloc, x, block)?;
+    let mut seen = scope_with(alloc, &batch.assigned, scope)?;
+    bind(alloc, &mut seen, root, Role::Root, at)?;
+    Ok(seen)
+}
+
+fn push_batch<'p>(
+    alloc: Global,
+    x: &Facts,
+    scope: &Seq<Variable>,
+    batches: &mut Seq<OpenBatch<'p>>,
+    at: u32,
+    root: &Word,
+    block: &'p [Stmt],
+) -> Result<(), Memory>
+    ensures { OnOk result (map begun_of batches.new ≡ begun.with_batch (map begun_of batches.old) scope.now at root.now (mirror_stmts block.now)) }
+{
+    let scope = open(alloc, x, scope, at, root, block)?;
+    batches.push(OpenBatch { scope, block })
+}
+
+// Adds the outermost batches of a statement, and binds what it declares.
+#[cycle(outer)]
+fn collect_stmt<'p>(
+    alloc: Global,
+    x: &Facts,
+    scope: &mut Seq<Variable>,
+    batches: &mut Seq<OpenBatch<'p>>,
+    s: &'p Stmt,
+) -> Result<(), Memory>
+    ensures batches { OnOk result (map begun_of batches.new ≡ begun.stmt_begun (facts x.now) scope.old (map begun_of batches.old) (mirror_stmt s.now)) }
+    ensures scope { OnOk result (scope.new ≡ outermost.outer_after (facts x.now) scope.old (mirror_stmt s.now)) }
+{
+    match &s.form {
+        StmtForm::Val(name, e) | StmtForm::Var(name, e) => {
+            bind(alloc, scope, name, outer_role(x.is_primitive(e)), s.at)
+        }
+        StmtForm::Assign(_, _) | StmtForm::Run(_) => Ok(()),
+        StmtForm::Print(_) | StmtForm::Throw(_) => Ok(()),
+        StmtForm::If(_, a, b) => {
+            collect_block(alloc, x, scope, batches, a.as_slice())?;
+            collect_block(alloc, x, scope, batches, b.as_slice())
+        }
+        StmtForm::While(_, a) => collect_block(alloc, x, scope, batches, a.as_slice()),
+        StmtForm::For(name, e, a) => {
+            let role = outer_role(x.has_primitive_items(e));
+            collect_opened(alloc, x, scope, batches, name, role, s.at, a.as_slice())
+        }
+        StmtForm::Try(a, name, b) => {
+            collect_block(alloc, x, scope, batches, a.as_slice())?;
+            let role = outer_role(true);
+            collect_opened(alloc, x, scope, batches, name, role, s.at, b.as_slice())
+        }
+        StmtForm::Batch(_, root, a) => {
+            push_batch(alloc, x, scope, batches, s.at, root, a.as_slice())
+        }
+    }
+}
+
+// The same for a block, whose variables go at its end.
+#[cycle(outer)]
+fn collect_block<'p>(
+    alloc: Global,
+    x: &Facts,
+    scope: &mut Seq<Variable>,
+    batches: &mut Seq<OpenBatch<'p>>,
+    ss: &'p [Stmt],
+) -> Result<(), Memory>
+    ensures batches { OnOk result (map begun_of batches.new ≡ begun.block_begun (facts x.now) scope.old (map begun_of batches.old) (mirror_stmts ss.now)) }
+    ensures scope { OnOk result (scope.new ≡ scope.old) }
+{
+    let count = scope.len();
+    collect_stmts(alloc, x, scope, batches, ss)?;
+    scope.truncate(count);
+    Ok(())
+}
+
+// The same for a block with a variable of its own.
+#[cycle(outer)]
+fn collect_opened<'p>(
+    alloc: Global,
+    x: &Facts,
+    scope: &mut Seq<Variable>,
+    batches: &mut Seq<OpenBatch<'p>>,
+    name: &Word,
+    role: Role,
+    node: u32,
+    ss: &'p [Stmt],
+) -> Result<(), Memory>
+    ensures batches { OnOk result (map begun_of batches.new ≡ begun.block_begun (facts x.now) (scopes.with_variable scope.old name.now role node) (map begun_of batches.old) (mirror_stmts ss.now)) }
+    ensures scope { OnOk result (scope.new ≡ scope.old) }
+{
+    let count = scope.len();
+    bind(alloc, scope, name, role, node)?;
+    collect_stmts(alloc, x, scope, batches, ss)?;
+    scope.truncate(count);
+    Ok(())
+}
+
+#[cycle(outer)]
+fn collect_stmts<'p>(
+    alloc: Global,
+    x: &Facts,
+    scope: &mut Seq<Variable>,
+    batches: &mut Seq<OpenBatch<'p>>,
+    ss: &'p [Stmt],
+) -> Result<(), Memory>
+    ensures batches { OnOk result (map begun_of batches.new ≡ begun.block_begun (facts x.now) scope.old (map begun_of batches.old) (mirror_stmts ss.now)) }
+    ensures kept { OnOk result (take (length scope.old) scope.new ≡ scope.old) }
+{
+    for s in ss {
+        collect_stmt(alloc, x, scope, batches, s)?;
+    }
+    Ok(())
+}
+
+fn collect_methods<'p>(
+    alloc: Global,
+    x: &Facts,
+    batches: &mut Seq<OpenBatch<'p>>,
+    methods: &'p [Method],
+) -> Result<(), Memory>
+    ensures { OnOk result (map begun_of batches.new ≡ begun.methods_begun (facts x.now) (map begun_of batches.old) (map mirror_method methods.now)) }
+{
+    for m in methods {
+        let mut scope = parameters(alloc, m.signature.params.as_slice())?;
+        collect_stmts(alloc, x, &mut scope, batches, m.body.statements.as_slice())?;
+    }
+    Ok(())
+}
+
+fn collect_classes<'p>(
+    alloc: Global,
+    x: &Facts,
+    batches: &mut Seq<OpenBatch<'p>>,
+    classes: &'p [Class],
+) -> Result<(), Memory>
+    ensures { OnOk result (map begun_of batches.new ≡ begun.classes_begun (facts x.now) (map begun_of batches.old) (map mirror_class classes.now)) }
+{
+    for class in classes {
+        collect_methods(alloc, x, batches, class.methods.as_slice())?;
+    }
+    Ok(())
+}
+
+/// The outermost batches of a program: those of its methods in source order, then those of `main`.
+pub fn collect_batches<'p>(
+    alloc: Global,
+    x: &Facts,
+    program: &'p Program,
+) -> Result<Seq<OpenBatch<'p>>, Memory>
+    ensures { IfOk result (λ batches. map begun_of batches ≡ begun.program_begun (facts x.now) (mirror_program program.now)) }
+{
+    let mut batches = Seq::new(alloc);
+    collect_classes(alloc, x, &mut batches, program.classes.as_slice())?;
+    let mut scope = Seq::new(alloc);
+    collect_stmts(alloc, x, &mut scope, &mut batches, program.body.statements.as_slice())?;
+    Ok(batches)
+}

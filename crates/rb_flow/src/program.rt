@@ -1,0 +1,61 @@
+// The answer for all batches of a program.
+
+ghost use Rattle.std.specs.Prelude.{◌≡◌, map, IfOk};
+ghost use Rattle.rb_trees.specs.mirror.Declarations.{mirror_program};
+ghost use Rattle.rb_meaning_flow.specs.Facts.{facts_of};
+ghost use Rattle.rb_flow.specs.Begun.{begun_of, begun_sites};
+ghost use Rattle.rb_flow.specs.Answers.{SitesDiffer, IsBatchAnswer};
+ghost use Rattle.rb_flow.specs.Program as words;
+ghost use Rattle.rb_flow.specs.Views.{facts};
+
+use crate::batch::answer;
+use crate::earliest::earlier_of;
+use crate::outermost::{OpenBatch, collect_batches};
+use rb_marks::Facts;
+use rb_trees::{Memory, Refusal};
+use rb_types::Typed;
+use std::alloc::Global;
+
+fn with_answer(first: Option<Refusal>, answer: Option<Refusal>) -> Option<Refusal>
+    ensures { result ≡ words.with_answer first answer }
+{
+    match answer {
+        Some(r) => earlier_of(first, r),
+        None => first,
+    }
+}
+
+fn answer_one(alloc: Global, x: &Typed, batch: OpenBatch) -> Result<Option<Refusal>, Memory>
+    requires { SitesDiffer (facts x.now) (begun_sites (facts x.now) (begun_of batch)) }
+    ensures { IfOk result (IsBatchAnswer (facts x.now) (begun_sites (facts x.now) (begun_of batch.entry))) }
+{
+    let OpenBatch { scope, block } = batch;
+    let mut scope = scope;
+    answer(alloc, x, &mut scope, block)
+}
+
+fn answer_all(
+    alloc: Global,
+    x: &Typed,
+    batches: Vec<OpenBatch>,
+) -> Result<Option<Refusal>, Memory>
+    requires { words.AllDiffer (facts x.now) (map begun_of batches.items) }
+    ensures { IfOk result (words.IsAnswerAmong (facts x.now) (map begun_of batches.entry.items)) }
+{
+    let mut rest = batches;
+    let mut first = None;
+    while let Some(last) = rest.pop() {
+        let found = answer_one(alloc, x, last)?;
+        first = with_answer(first, found);
+    }
+    Ok(first)
+}
+
+/// The answer for a program: a refusal before which there is none, or None where it has no refusal.
+pub fn program_answer(alloc: Global, typed: &Typed) -> Result<Option<Refusal>, Memory>
+    ensures { IfOk result (words.IsProgramAnswer (mirror_program typed.now)) }
+{
+    let x = Facts::new(alloc, typed)?;
+    let batches = collect_batches(alloc, &x, typed.program())?;
+    answer_all(alloc, typed, batches.into_vec())
+}

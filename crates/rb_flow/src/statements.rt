@@ -1,0 +1,244 @@
+// The walk through the statements of a batch.
+
+#![tactic(auto, using(crate::proofs::WalkRules::walk_stmt_rules))]
+
+ghost use Rattle.std.specs.Prelude.{◌≡◌, take, length, IfOk, OnOk};
+ghost use Rattle.rb_trees.specs.mirror.Code.{mirror_expr, mirror_stmt, mirror_stmts};
+ghost use Rattle.rb_meaning_flow.specs.declared.scopes.Role.{Role};
+ghost use Rattle.rb_meaning_flow.specs.Scopes.{with_variable};
+ghost use Rattle.rb_meaning_flow.specs.Sites as sites;
+ghost use Rattle.rb_flow.specs.Views.{facts};
+ghost use Rattle.rb_flow.specs.Walked as words;
+
+use crate::facts::over_rows;
+use crate::findings::Findings;
+use crate::frames::{
+    batch_standing, branch_standing, try_standing, turn_standing, val_role, while_inside,
+    while_standing, whole_inside,
+};
+use crate::portable::has_call;
+use crate::scope::bind;
+use crate::seen::see_stmt;
+use crate::standing::Standing;
+use crate::walk::walk_expr;
+use rb_meaning_flow::{Role, Variable};
+use rb_trees::{Expr, Memory, Seq, Stmt, StmtForm, Word};
+use rb_types::Typed;
+use std::alloc::Global;
+
+fn turn_role(x: &Typed, list: &Expr) -> Role
+    ensures { result ≡ sites.turn_role (facts x.now) (mirror_expr list.now) }
+{
+    if over_rows(x, list) {
+        Role::Row
+    } else {
+        Role::Plain
+    }
+}
+
+// An outermost expression, where a remote object may stand or not.
+fn walk_whole(
+    alloc: Global,
+    x: &Typed,
+    standing: &Standing,
+    scope: &Seq<Variable>,
+    found: &mut Findings,
+    may: bool,
+    e: &Expr,
+) -> Result<(), Memory>
+    ensures { OnOk result (found.new ≡ words.expr_walked (facts x.now) scope.now standing.now.around (words.whole_inside standing.now may) found.old (mirror_expr e.now)) }
+{
+    let inside = whole_inside(standing, may);
+    walk_expr(alloc, x, scope, &standing.around, &inside, found, e)
+}
+
+// The condition of an `if`, and what stands around its branches.
+fn enter_if(
+    alloc: Global,
+    x: &Typed,
+    standing: &Standing,
+    scope: &Seq<Variable>,
+    found: &mut Findings,
+    c: &Expr,
+    a: &[Stmt],
+    b: &[Stmt],
+) -> Result<Standing, Memory>
+    ensures found { OnOk result (found.new ≡ words.condition_walked (facts x.now) standing.now scope.now found.old (mirror_expr c.now)) }
+    ensures within { IfOk result (λ s. s ≡ words.branch_standing (facts x.now) scope.now standing.now (mirror_expr c.now) (mirror_stmts a.now) (mirror_stmts b.now)) }
+{
+    let within = branch_standing(alloc, x, scope, standing, c, a, b)?;
+    let inside = whole_inside(standing, false);
+    walk_expr(alloc, x, scope, &within.around, &inside, found, c)?;
+    Ok(within)
+}
+
+// The condition of a `while`, and what stands around its block.
+fn enter_while(
+    alloc: Global,
+    x: &Typed,
+    standing: &Standing,
+    scope: &Seq<Variable>,
+    found: &mut Findings,
+    c: &Expr,
+) -> Result<Standing, Memory>
+    ensures found { OnOk result (found.new ≡ words.turns_walked (facts x.now) standing.now scope.now found.old (mirror_expr c.now)) }
+    ensures within { IfOk result (λ s. s ≡ words.while_standing (facts x.now) scope.now standing.now (mirror_expr c.now)) }
+{
+    let within = while_standing(alloc, x, scope, standing, c)?;
+    let inside = while_inside(standing, c);
+    walk_expr(alloc, x, scope, &within.around, &inside, found, c)?;
+    Ok(within)
+}
+
+// The list or rows of a `for`, and what stands around its block.
+fn enter_for(
+    alloc: Global,
+    x: &Typed,
+    standing: &Standing,
+    scope: &Seq<Variable>,
+    found: &mut Findings,
+    e: &Expr,
+) -> Result<Standing, Memory>
+    ensures found { OnOk result (found.new ≡ words.list_walked (facts x.now) standing.now scope.now found.old (mirror_expr e.now)) }
+    ensures within { IfOk result (λ s. s ≡ words.turn_standing (facts x.now) scope.now standing.now (mirror_expr e.now)) }
+{
+    let within = turn_standing(alloc, x, scope, standing, e)?;
+    let inside = whole_inside(standing, over_rows(x, e));
+    walk_expr(alloc, x, scope, &within.around, &inside, found, e)?;
+    Ok(within)
+}
+
+// A statement, and what it declares.
+#[cycle(stmts)]
+fn walk_stmt(
+    alloc: Global,
+    x: &Typed,
+    standing: &Standing,
+    scope: &mut Seq<Variable>,
+    found: &mut Findings,
+    s: &Stmt,
+) -> Result<(), Memory>
+    ensures found { OnOk result (found.new ≡ words.stmt_walked (facts x.now) standing.now scope.old found.old (mirror_stmt s.now)) }
+    ensures scope { OnOk result (scope.new ≡ words.scope_then (facts x.now) standing.now scope.old (mirror_stmt s.now)) }
+{
+    see_stmt(alloc, x, standing, scope, found, s)?;
+    walk_within(alloc, x, standing, scope, found, s)
+}
+
+// The expressions and blocks of a statement, and what it declares.
+#[cycle(stmts)]
+fn walk_within(
+    alloc: Global,
+    x: &Typed,
+    standing: &Standing,
+    scope: &mut Seq<Variable>,
+    found: &mut Findings,
+    s: &Stmt,
+) -> Result<(), Memory>
+    ensures found { OnOk result (found.new ≡ words.within_walked (facts x.now) standing.now scope.old found.old (mirror_stmt s.now)) }
+    ensures scope { OnOk result (scope.new ≡ words.scope_then (facts x.now) standing.now scope.old (mirror_stmt s.now)) }
+{
+    match &s.form {
+        StmtForm::Val(name, e) => {
+            walk_whole(alloc, x, standing, scope, found, standing.script, e)?;
+            let role = val_role(x, standing, scope, e);
+            bind(alloc, scope, name, role, s.at)
+        }
+        StmtForm::Var(name, e) => {
+            walk_whole(alloc, x, standing, scope, found, true, e)?;
+            bind(alloc, scope, name, Role::Plain, s.at)
+        }
+        StmtForm::Assign(a, b) => {
+            walk_whole(alloc, x, standing, scope, found, false, a)?;
+            walk_whole(alloc, x, standing, scope, found, false, b)
+        }
+        StmtForm::Run(e) => walk_whole(alloc, x, standing, scope, found, has_call(e), e),
+        StmtForm::Print(e) | StmtForm::Throw(e) => {
+            walk_whole(alloc, x, standing, scope, found, false, e)
+        }
+        StmtForm::If(c, a, b) => {
+            let within = enter_if(alloc, x, standing, scope, found, c, a.as_slice(), b.as_slice())?;
+            walk_block(alloc, x, &within, scope, found, a.as_slice())?;
+            walk_block(alloc, x, &within, scope, found, b.as_slice())
+        }
+        StmtForm::While(c, a) => {
+            let within = enter_while(alloc, x, standing, scope, found, c)?;
+            walk_block(alloc, x, &within, scope, found, a.as_slice())
+        }
+        StmtForm::For(name, e, a) => {
+            let within = enter_for(alloc, x, standing, scope, found, e)?;
+            let role = turn_role(x, e);
+            walk_opened(alloc, x, &within, scope, found, name, role, s.at, a.as_slice())
+        }
+        StmtForm::Try(a, name, b) => {
+            let within = try_standing(alloc, x, scope, standing, s.at, a.as_slice(), name, b.as_slice())?;
+            walk_block(alloc, x, &within, scope, found, a.as_slice())?;
+            walk_opened(alloc, x, &within, scope, found, name, Role::Plain, s.at, b.as_slice())
+        }
+        StmtForm::Batch(_, root, a) => {
+            let within = batch_standing(alloc, standing)?;
+            walk_opened(alloc, x, &within, scope, found, root, Role::Plain, s.at, a.as_slice())
+        }
+    }
+}
+
+// A block, whose variables go at its end.
+#[cycle(stmts)]
+fn walk_block(
+    alloc: Global,
+    x: &Typed,
+    standing: &Standing,
+    scope: &mut Seq<Variable>,
+    found: &mut Findings,
+    ss: &[Stmt],
+) -> Result<(), Memory>
+    ensures found { OnOk result (found.new ≡ words.block_walked (facts x.now) standing.now scope.old found.old (mirror_stmts ss.now)) }
+    ensures scope { OnOk result (scope.new ≡ scope.old) }
+{
+    let count = scope.len();
+    walk_stmts(alloc, x, standing, scope, found, ss)?;
+    scope.truncate(count);
+    Ok(())
+}
+
+// The same of a block with a variable of its own.
+#[cycle(stmts)]
+fn walk_opened(
+    alloc: Global,
+    x: &Typed,
+    standing: &Standing,
+    scope: &mut Seq<Variable>,
+    found: &mut Findings,
+    name: &Word,
+    role: Role,
+    node: u32,
+    ss: &[Stmt],
+) -> Result<(), Memory>
+    ensures found { OnOk result (found.new ≡ words.block_walked (facts x.now) standing.now (with_variable scope.old name.now role node) found.old (mirror_stmts ss.now)) }
+    ensures scope { OnOk result (scope.new ≡ scope.old) }
+{
+    let count = scope.len();
+    bind(alloc, scope, name, role, node)?;
+    walk_stmts(alloc, x, standing, scope, found, ss)?;
+    scope.truncate(count);
+    Ok(())
+}
+
+/// What is found at some statements, one after the other.
+#[cycle(stmts)]
+pub fn walk_stmts(
+    alloc: Global,
+    x: &Typed,
+    standing: &Standing,
+    scope: &mut Seq<Variable>,
+    found: &mut Findings,
+    ss: &[Stmt],
+) -> Result<(), Memory>
+    ensures found { OnOk result (found.new ≡ words.block_walked (facts x.now) standing.now scope.old found.old (mirror_stmts ss.now)) }
+    ensures kept { OnOk result (take (length scope.old) scope.new ≡ scope.old) }
+{
+    for s in ss {
+        walk_stmt(alloc, x, standing, scope, found, s)?;
+    }
+    Ok(())
+}

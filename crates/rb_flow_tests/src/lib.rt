@@ -1,0 +1,7 @@
+//! Tests of admission.
+#![tactic(auto)]
+
+#[cfg(test)]
+mod many;
+#[cfg(test)]
+mod refusals;

@@ -1,0 +1,4 @@
+pub mod Views
+pub mod Passes
+pub mod Notes
+pub mod Laws

@@ -1,0 +1,293 @@
+// The marks of the expressions of a batch.
+#![tactic(auto, using(crate::proofs::Rules::mark_rules))]
+
+ghost use Rattle.std.specs.Prelude.{◌≡◌, false, take, length, OnOk};
+ghost use Rattle.rb_trees.specs.mirror.Code.{mirror_expr, mirror_exprs, mirror_stmt, mirror_stmts};
+ghost use Rattle.rb_trees.specs.mirror.Declarations.{mirror_program};
+ghost use Rattle.rb_meaning_flow.specs.Facts.{facts_of};
+ghost use Rattle.rb_meaning_flow.specs.Scopes as scopes;
+ghost use Rattle.rb_meaning_flow.specs.Sites.{turn_role};
+ghost use Rattle.rb_marks.specs.Passes as passes;
+ghost use Rattle.rb_marks.specs.Views.{facts_in, seen};
+
+use crate::batch::Batch;
+use crate::facts::Facts;
+use crate::portable::{block_holds, holds_call, is_constant, is_portable};
+use crate::scope::Scope;
+use rb_meaning_flow::Role;
+use rb_trees::{Expr, ExprForm, Mark, Memory, Stmt, StmtForm, Word};
+use std::alloc::Global;
+
+fn inner(x: &Batch, scope: &Scope, inside: bool, e: &Expr) -> bool
+    ensures { result ≡ passes.inner (facts_in x.now) (seen x.now scope.now) inside (mirror_expr e.now) }
+{
+    inside || is_portable(x, scope, e) && holds_call(x.facts, e)
+}
+
+fn mark_of(x: &Batch, scope: &Scope, remote: bool, e: &Expr) -> Mark
+    ensures { result ≡ passes.mark_of (seen x.now scope.now) remote (mirror_expr e.now) }
+{
+    if remote {
+        return Mark::Remote;
+    }
+    if is_constant(x, scope, e) {
+        return Mark::Constant;
+    }
+    Mark::Local
+}
+
+fn note(
+    x: &Batch,
+    scope: &Scope,
+    remote: bool,
+    notes: &mut Vec<(u32, Mark)>,
+    e: &Expr,
+) -> Result<(), Memory>
+    ensures { OnOk result (notes.new.items ≡ passes.note (seen x.now scope.now) remote notes.old.items (mirror_expr e.now)) }
+{
+    let mark = mark_of(x, scope, remote, e);
+    notes.push((e.at, mark))?;
+    Ok(())
+}
+
+// Notes the marks of an expression's parts.
+#[cycle(exprs)]
+fn mark_parts(
+    x: &Batch,
+    scope: &Scope,
+    inside: bool,
+    notes: &mut Vec<(u32, Mark)>,
+    e: &Expr,
+) -> Result<(), Memory>
+    ensures { OnOk result (notes.new.items ≡ passes.parts_marked (facts_in x.now) (seen x.now scope.now) inside notes.old.items (mirror_expr e.now)) }
+{
+    match &e.form {
+        ExprForm::Lit(_) | ExprForm::Name(_) | ExprForm::This | ExprForm::Taken(_) => Ok(()),
+        ExprForm::Unary(_, a) | ExprForm::Field(a, _) => mark_expr(
+            x,
+            scope,
+            inside,
+            notes,
+            a.get(),
+        ),
+        ExprForm::Binary(_, a, b) | ExprForm::Index(a, b) => {
+            mark_expr(x, scope, inside, notes, a.get())?;
+            mark_expr(x, scope, inside, notes, b.get())
+        }
+        ExprForm::Call(a, _, args) => {
+            mark_expr(x, scope, inside, notes, a.get())?;
+            mark_exprs(x, scope, inside, notes, args.as_slice())
+        }
+        ExprForm::New(_, args) | ExprForm::Items(_, args) => {
+            mark_exprs(x, scope, inside, notes, args.as_slice())
+        }
+    }
+}
+
+// Notes the marks of an expression and of its parts.
+#[cycle(exprs)]
+fn mark_expr(
+    x: &Batch,
+    scope: &Scope,
+    inside: bool,
+    notes: &mut Vec<(u32, Mark)>,
+    e: &Expr,
+) -> Result<(), Memory>
+    ensures { OnOk result (notes.new.items ≡ passes.marked (facts_in x.now) (seen x.now scope.now) inside notes.old.items (mirror_expr e.now)) }
+{
+    let remote = inner(x, scope, inside, e);
+    note(x, scope, remote, notes, e)?;
+    mark_parts(x, scope, remote, notes, e)
+}
+
+#[cycle(exprs)]
+fn mark_exprs(
+    x: &Batch,
+    scope: &Scope,
+    inside: bool,
+    notes: &mut Vec<(u32, Mark)>,
+    es: &[Expr],
+) -> Result<(), Memory>
+    ensures { OnOk result (notes.new.items ≡ passes.all_marked (facts_in x.now) (seen x.now scope.now) inside notes.old.items (mirror_exprs es.now)) }
+{
+    for e in es {
+        mark_expr(x, scope, inside, notes, e)?;
+    }
+    Ok(())
+}
+
+/// Whether the branches of an `if` are script places.
+pub fn branch_script(facts: &Facts, script: bool, a: &[Stmt], b: &[Stmt]) -> bool
+    ensures { result ≡ passes.branch_script (facts_of (mirror_program facts.now)) script (mirror_stmts a.now) (mirror_stmts b.now) }
+{
+    script && (block_holds(facts, a) || block_holds(facts, b))
+}
+
+/// Whether the body of a loop is a script place.
+pub fn turn_script(facts: &Facts, script: bool, list: &Expr) -> bool
+    ensures { result ≡ passes.turn_script (facts_of (mirror_program facts.now)) script (mirror_expr list.now) }
+{
+    script && facts.over_rows(list)
+}
+
+fn turn_role_of(facts: &Facts, list: &Expr) -> Role
+    ensures { result ≡ turn_role (facts_of (mirror_program facts.now)) (mirror_expr list.now) }
+{
+    if facts.over_rows(list) {
+        Role::Row
+    } else {
+        Role::Plain
+    }
+}
+
+fn carried_role(x: &Batch, script: bool, scope: &Scope, e: &Expr) -> Role
+    ensures { result ≡ passes.carried_role (facts_in x.now) script (seen x.now scope.now) (mirror_expr e.now) }
+{
+    if script && is_portable(x, scope, e) {
+        Role::Carried
+    } else {
+        Role::Plain
+    }
+}
+
+// Notes the marks in a statement, and binds what it declares.
+#[cycle(stmts)]
+#[tactic(auto, using(crate::proofs::Rules::stmt_mark_rules))]
+fn mark_stmt(
+    alloc: Global,
+    x: &Batch,
+    script: bool,
+    scope: &mut Scope,
+    notes: &mut Vec<(u32, Mark)>,
+    s: &Stmt,
+) -> Result<(), Memory>
+    ensures notes { OnOk result (notes.new.items ≡ passes.stmt_marked (facts_in x.now) x.now.assigned script scope.old notes.old.items (mirror_stmt s.now)) }
+    ensures scope { OnOk result (scope.new ≡ passes.scope_then (facts_in x.now) x.now.assigned script scope.old (mirror_stmt s.now)) }
+{
+    match &s.form {
+        StmtForm::Val(name, e) => {
+            mark_expr(x, scope, false, notes, e)?;
+            let role = carried_role(x, script, scope, e);
+            scope.bind(alloc, name, role, s.at)
+        }
+        StmtForm::Var(name, e) => {
+            mark_expr(x, scope, false, notes, e)?;
+            scope.bind(alloc, name, Role::Plain, s.at)
+        }
+        StmtForm::Assign(a, b) => {
+            mark_expr(x, scope, false, notes, a)?;
+            mark_expr(x, scope, false, notes, b)
+        }
+        StmtForm::Run(e) | StmtForm::Print(e) | StmtForm::Throw(e) => {
+            mark_expr(x, scope, false, notes, e)
+        }
+        StmtForm::If(c, a, b) => {
+            let branch = branch_script(x.facts, script, a.as_slice(), b.as_slice());
+            mark_expr(x, scope, branch, notes, c)?;
+            mark_block(alloc, x, branch, scope, notes, a.as_slice())?;
+            mark_block(alloc, x, branch, scope, notes, b.as_slice())
+        }
+        StmtForm::While(c, a) => {
+            mark_expr(x, scope, false, notes, c)?;
+            mark_block(alloc, x, false, scope, notes, a.as_slice())
+        }
+        StmtForm::For(name, e, a) => {
+            let rows = x.facts.over_rows(e);
+            mark_expr(x, scope, rows, notes, e)?;
+            let turn = turn_script(x.facts, script, e);
+            let role = turn_role_of(x.facts, e);
+            mark_opened(alloc, x, turn, scope, notes, name, role, s.at, a.as_slice())
+        }
+        StmtForm::Try(a, name, b) => {
+            mark_block(alloc, x, false, scope, notes, a.as_slice())?;
+            mark_opened(
+                alloc,
+                x,
+                false,
+                scope,
+                notes,
+                name,
+                Role::Plain,
+                s.at,
+                b.as_slice(),
+            )
+        }
+        StmtForm::Batch(_, root, a) => {
+            mark_opened(
+                alloc,
+                x,
+                false,
+                scope,
+                notes,
+                root,
+                Role::Plain,
+                s.at,
+                a.as_slice(),
+            )
+        }
+    }
+}
+
+// The same for a block, whose variables go at its end.
+#[cycle(stmts)]
+#[tactic(auto, using(crate::proofs::Rules::stmt_mark_rules))]
+fn mark_block(
+    alloc: Global,
+    x: &Batch,
+    script: bool,
+    scope: &mut Scope,
+    notes: &mut Vec<(u32, Mark)>,
+    ss: &[Stmt],
+) -> Result<(), Memory>
+    ensures notes { OnOk result (notes.new.items ≡ passes.block_marked (facts_in x.now) x.now.assigned script scope.old notes.old.items (mirror_stmts ss.now)) }
+    ensures scope { OnOk result (scope.new ≡ scope.old) }
+{
+    let count = scope.len();
+    mark_stmts(alloc, x, script, scope, notes, ss)?;
+    scope.truncate(count);
+    Ok(())
+}
+
+// The same for a block with a variable of its own.
+#[cycle(stmts)]
+#[tactic(auto, using(crate::proofs::Rules::stmt_mark_rules))]
+fn mark_opened(
+    alloc: Global,
+    x: &Batch,
+    script: bool,
+    scope: &mut Scope,
+    notes: &mut Vec<(u32, Mark)>,
+    name: &Word,
+    role: Role,
+    node: u32,
+    ss: &[Stmt],
+) -> Result<(), Memory>
+    ensures notes { OnOk result (notes.new.items ≡ passes.block_marked (facts_in x.now) x.now.assigned script (scopes.with_variable scope.old name.now role node) notes.old.items (mirror_stmts ss.now)) }
+    ensures scope { OnOk result (scope.new ≡ scope.old) }
+{
+    let count = scope.len();
+    scope.bind(alloc, name, role, node)?;
+    mark_stmts(alloc, x, script, scope, notes, ss)?;
+    scope.truncate(count);
+    Ok(())
+}
+
+/// Notes the marks in statements of a batch, in order.
+#[cycle(stmts)]
+#[tactic(auto, using(crate::proofs::Rules::stmt_mark_rules))]
+pub fn mark_stmts(
+    alloc: Global,
+    x: &Batch,
+    script: bool,
+    scope: &mut Scope,
+    notes: &mut Vec<(u32, Mark)>,
+    ss: &[Stmt],
+) -> Result<(), Memory>
+    ensures notes { OnOk result (notes.new.items ≡ passes.block_marked (facts_in x.now) x.now.assigned script scope.old notes.old.items (mirror_stmts ss.now)) }
+    ensures kept { OnOk result (take (length scope.old) scope.new ≡ scope.old) }
+{
+    for s in ss {
+        mark_stmt(alloc, x, script, scope, notes, s)?;
+    }
+    Ok(())
+}

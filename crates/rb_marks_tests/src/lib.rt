@@ -1,0 +1,5 @@
+//! Tests of marks and places.
+#![tactic(auto)]
+
+#[cfg(test)]
+mod pictures;

@@ -1,0 +1,2 @@
+-- The lemmas on the definitions.
+pub mod Rows

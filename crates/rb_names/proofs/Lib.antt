@@ -1,0 +1,2 @@
+-- The lemmas on lists of names.
+pub mod Guided
