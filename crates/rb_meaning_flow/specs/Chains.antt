@@ -11,7 +11,7 @@ Leads writers reads sources c [] = Contains sources c
 Leads writers reads sources c (p ∷ ps) =
     (w : Writer) × Contains writers w × (w.at ≡ p) × Contains reads w.writes × Leads writers w.reads w.sources c ps
 
--- a chain to the bad part u is a list of positions c, w1, .., wk, u
+-- a chain to a bad part: the position of a source, those of writers in the order in which data goes through them, and its own
 abbrev pub IsChain : List Writer → BadPart → List ℕ → Type 0
 IsChain writers u chain = (c : ℕ) × (ws : List ℕ) × (chain ≡ c ∷ (ws ++ u.at ∷ [])) × Leads writers u.reads u.sources c (reverse ws)
 
@@ -21,7 +21,8 @@ IsLess [] ys = ⊥
 IsLess (x ∷ xs) [] = ⊥
 IsLess (x ∷ xs) (y ∷ ys) = (x < y) ⊎ ((x ≡ y) × IsLess xs ys)
 
--- the order of chains: the least k comes first, then the least wk, then the writer before it, .., then the least c
+-- The order of chains: one with fewer writers is before, and of those with as many the one with the lesser last writer, then
+-- the lesser writer before it, and so on to the lesser source.
 abbrev pub IsBefore : List ℕ → List ℕ → Type 0
 IsBefore chain other = (length chain < length other) ⊎ ((length chain ≡ length other) × IsLess (reverse chain) (reverse other))
 

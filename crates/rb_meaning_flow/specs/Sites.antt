@@ -14,8 +14,8 @@ pub data Around : Type 0 where
   InTry : (at : ℕ) (scope : Scope) (tried : Stmts) (name : List ℕ) (handler : Stmts) → Around
   InBatch : (at : ℕ) → Around
 
--- a script place: the batch's body; the body of a loop over rows that stands at a script place; each
--- branch of an `if` at a script place whose branches hold a remote operation
+-- Whether what stands so gets steps of its own in the script: directly in the batch, and, where the statement around does,
+-- in a turn over rows, and in a branch if one of the two branches has something remote to do.
 abbrev pub is_script_place : Facts → List Around → Bool
 is_script_place x [] = true
 is_script_place x (Branch at scope c a b ∷ around) = is_script_place x around && branches_hold x a b
