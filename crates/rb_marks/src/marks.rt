@@ -2,13 +2,11 @@
 #![tactic(auto, using(crate::proofs::Rules::mark_rules))]
 
 ghost use Rattle.std.specs.Prelude.{◌≡◌, false, take, length, OnOk};
-ghost use Rattle.rb_trees.specs.mirror.Code.{mirror_expr, mirror_exprs, mirror_stmt, mirror_stmts};
-ghost use Rattle.rb_trees.specs.mirror.Declarations.{mirror_program};
-ghost use Rattle.rb_meaning_flow.specs.Facts.{facts_of};
-ghost use Rattle.rb_meaning_flow.specs.Scopes as scopes;
+ghost use Rattle.rb_trees.specs.mirror.Code.{mirror_expr, mirror_stmts};
 ghost use Rattle.rb_meaning_flow.specs.Sites.{turn_role};
 ghost use Rattle.rb_marks.specs.Passes as passes;
-ghost use Rattle.rb_marks.specs.Views.{facts_in, seen};
+ghost use Rattle.rb_marks.specs.Views.{told, facts_in, seen};
+ghost use Rattle.rb_marks.specs.Walks as walks;
 
 use crate::batch::Batch;
 use crate::facts::Facts;
@@ -59,7 +57,7 @@ fn mark_parts(
     notes: &mut Vec<(u32, Mark)>,
     e: &Expr,
 ) -> Result<(), Memory>
-    ensures { OnOk result (notes.new.items ≡ passes.parts_marked (facts_in x.now) (seen x.now scope.now) inside notes.old.items (mirror_expr e.now)) }
+    ensures { OnOk result (notes.new.items ≡ walks.part_marks x.now scope.now inside notes.old.items e.now) }
 {
     match &e.form {
         ExprForm::Lit(_) | ExprForm::Name(_) | ExprForm::This | ExprForm::Taken(_) => Ok(()),
@@ -93,7 +91,7 @@ fn mark_expr(
     notes: &mut Vec<(u32, Mark)>,
     e: &Expr,
 ) -> Result<(), Memory>
-    ensures { OnOk result (notes.new.items ≡ passes.marked (facts_in x.now) (seen x.now scope.now) inside notes.old.items (mirror_expr e.now)) }
+    ensures { OnOk result (notes.new.items ≡ walks.expr_marks x.now scope.now inside notes.old.items e.now) }
 {
     let remote = inner(x, scope, inside, e);
     note(x, scope, remote, notes, e)?;
@@ -108,7 +106,7 @@ fn mark_exprs(
     notes: &mut Vec<(u32, Mark)>,
     es: &[Expr],
 ) -> Result<(), Memory>
-    ensures { OnOk result (notes.new.items ≡ passes.all_marked (facts_in x.now) (seen x.now scope.now) inside notes.old.items (mirror_exprs es.now)) }
+    ensures { OnOk result (notes.new.items ≡ walks.exprs_marks x.now scope.now inside notes.old.items es.now) }
 {
     for e in es {
         mark_expr(x, scope, inside, notes, e)?;
@@ -118,20 +116,20 @@ fn mark_exprs(
 
 /// Whether the branches of an `if` are script places.
 pub fn branch_script(facts: &Facts, script: bool, a: &[Stmt], b: &[Stmt]) -> bool
-    ensures { result ≡ passes.branch_script (facts_of (mirror_program facts.now)) script (mirror_stmts a.now) (mirror_stmts b.now) }
+    ensures { result ≡ passes.branch_script (told facts.now) script (mirror_stmts a.now) (mirror_stmts b.now) }
 {
     script && (block_holds(facts, a) || block_holds(facts, b))
 }
 
 /// Whether the body of a loop is a script place.
 pub fn turn_script(facts: &Facts, script: bool, list: &Expr) -> bool
-    ensures { result ≡ passes.turn_script (facts_of (mirror_program facts.now)) script (mirror_expr list.now) }
+    ensures { result ≡ passes.turn_script (told facts.now) script (mirror_expr list.now) }
 {
     script && facts.over_rows(list)
 }
 
 fn turn_role_of(facts: &Facts, list: &Expr) -> Role
-    ensures { result ≡ turn_role (facts_of (mirror_program facts.now)) (mirror_expr list.now) }
+    ensures { result ≡ turn_role (told facts.now) (mirror_expr list.now) }
 {
     if facts.over_rows(list) {
         Role::Row
@@ -161,8 +159,8 @@ fn mark_stmt(
     notes: &mut Vec<(u32, Mark)>,
     s: &Stmt,
 ) -> Result<(), Memory>
-    ensures notes { OnOk result (notes.new.items ≡ passes.stmt_marked (facts_in x.now) x.now.assigned script scope.old notes.old.items (mirror_stmt s.now)) }
-    ensures scope { OnOk result (scope.new ≡ passes.scope_then (facts_in x.now) x.now.assigned script scope.old (mirror_stmt s.now)) }
+    ensures notes { OnOk result (notes.new.items ≡ walks.stmt_marks x.now script scope.old notes.old.items s.now) }
+    ensures scope { OnOk result (scope.new ≡ walks.scope_behind x.now script scope.old s.now) }
 {
     match &s.form {
         StmtForm::Val(name, e) => {
@@ -239,7 +237,7 @@ fn mark_block(
     notes: &mut Vec<(u32, Mark)>,
     ss: &[Stmt],
 ) -> Result<(), Memory>
-    ensures notes { OnOk result (notes.new.items ≡ passes.block_marked (facts_in x.now) x.now.assigned script scope.old notes.old.items (mirror_stmts ss.now)) }
+    ensures notes { OnOk result (notes.new.items ≡ walks.stmts_marks x.now script scope.old notes.old.items ss.now) }
     ensures scope { OnOk result (scope.new ≡ scope.old) }
 {
     let count = scope.len();
@@ -262,7 +260,7 @@ fn mark_opened(
     node: u32,
     ss: &[Stmt],
 ) -> Result<(), Memory>
-    ensures notes { OnOk result (notes.new.items ≡ passes.block_marked (facts_in x.now) x.now.assigned script (scopes.with_variable scope.old name.now role node) notes.old.items (mirror_stmts ss.now)) }
+    ensures notes { OnOk result (notes.new.items ≡ walks.opened_marks x.now script scope.old name.now role node notes.old.items ss.now) }
     ensures scope { OnOk result (scope.new ≡ scope.old) }
 {
     let count = scope.len();
@@ -283,7 +281,7 @@ pub fn mark_stmts(
     notes: &mut Vec<(u32, Mark)>,
     ss: &[Stmt],
 ) -> Result<(), Memory>
-    ensures notes { OnOk result (notes.new.items ≡ passes.block_marked (facts_in x.now) x.now.assigned script scope.old notes.old.items (mirror_stmts ss.now)) }
+    ensures notes { OnOk result (notes.new.items ≡ walks.stmts_marks x.now script scope.old notes.old.items ss.now) }
     ensures kept { OnOk result (take (length scope.old) scope.new ≡ scope.old) }
 {
     for s in ss {
