@@ -12,3 +12,4 @@ mod Maps
 mod Counts
 mod Placed
 mod Law
+mod InScript

@@ -96,8 +96,8 @@ expr_writers x s _ = []
 abbrev pub writers : Facts → List StmtSite → List Writer
 writers x ss = flat_map (λ s. stmt_writers x s s.stmt) ss ++ flat_map (λ s. expr_writers x s s.expr) (exprs_of ss)
 
--- the bad parts of an expression, looked at from above: operators are passed through, and a remote call is
--- passed over, since its own receiver and arguments are looked at by themselves
+-- the bad parts of an expression, from its root down to what isn't an operator. A remote call is none, and
+-- what it is sent itself is looked at where it stands.
 abbrev pub bad_in : Facts → Scope → Expr → List Expr
 bad_in x scope (Lit at value) = []
 bad_in x scope (Name at name) = cond (portable x scope (Name at name)) [] (Name at name ∷ [])

@@ -22,7 +22,7 @@ is_and_or BinOp.And = true
 is_and_or BinOp.Or = true
 is_and_or _ = false
 
--- the left operand of an `&&` or `||` that isn't portable as a whole, above its right operand
+-- above the right operand of an `&&` or `||`, unless that whole is portable: the left operand
 abbrev pub operand_condition : Facts → Scope → Bool → Expr → List ℕ
 operand_condition x scope right (Binary at op a b) = cond (right && (is_and_or op && not (portable x scope (Binary at op a b)))) (expr_at a ∷ []) []
 operand_condition x scope right _ = []
@@ -95,8 +95,8 @@ abbrev mutual
   any_has_call NoExprs = false
   any_has_call (MoreExprs e es) = has_call e || any_has_call es
 
--- where the whole of a statement's own expression may have an interface or rows type: as the initialiser of a
--- `val` at a script place or of a `var`, alone where it holds a call, and as the rows of a loop
+-- where the whole of a statement's own expression may have an interface or rows type: where a `val` at a script
+-- place or a `var` binds it, where it stands alone and holds a call, and as the rows of a loop
 abbrev pub whole_may : Facts → List Around → Stmt → Bool
 whole_may x around (Val at name e) = is_script_place x around
 whole_may x around (Var at name e) = true

@@ -14,8 +14,8 @@ pub data Around : Type 0 where
   InTry : (at : ℕ) (scope : Scope) (tried : Stmts) (name : List ℕ) (handler : Stmts) → Around
   InBatch : (at : ℕ) → Around
 
--- a script place: the batch's body; the body of a loop over rows that stands at a script place; each
--- branch of an `if` at a script place whose branches hold a remote operation
+-- whether what stands here is a script place: the batch's own block is one; within one, the blocks of loops over
+-- rows are, and both blocks of an `if` that hold a remote operation between them; no other block is
 abbrev pub is_script_place : Facts → List Around → Bool
 is_script_place x [] = true
 is_script_place x (Branch at scope c a b ∷ around) = is_script_place x around && branches_hold x a b
@@ -85,7 +85,7 @@ abbrev pub all_sites : StmtSite → List Expr → List ExprSite
 all_sites s [] = []
 all_sites s (e ∷ es) = expr_sites s [] e ++ all_sites s es
 
--- a carried val is a val at a script place whose initialiser is portable
+-- a val is carried where it stands at a script place and what it binds is portable
 abbrev pub val_role : Facts → List Around → Scope → Expr → Role
 val_role x around scope e = cond (is_script_place x around && portable x scope e) Role.Carried Role.Plain
 
