@@ -20,7 +20,7 @@ is_equal Greater e = cc
 same_at : (a b : ℕ) → is_at (nat_cmp a) b ≡ true → a ≡ b
 same_at a b e = exact_unsigned a b (is_equal (nat_cmp a b) e)
 
-at_itself : (a b : ℕ) → a ≡ b → is_at (nat_cmp a) b ≡ true
+pub at_itself : (a b : ℕ) → a ≡ b → is_at (nat_cmp a) b ≡ true
 at_itself a b e = ap (λ q. is_at (nat_cmp a) q) (sym e) ∙ (eq_by_cmp_equiv nat_cmp_total).refl a
 
 -- one where two positions are the same

@@ -9,7 +9,7 @@ mod Agree
 mod AgreePlaces
 mod Outer
 mod Maps
-mod Counts
-mod Placed
+pub mod Counts
+pub mod Placed
 mod Law
 mod InScript

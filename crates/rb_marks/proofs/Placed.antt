@@ -51,10 +51,10 @@ mutual
       ∙ ap (λ ps. ps ++ map site_at (exprs_sites s above es)) (expr_stands s above e) ∙ ap (λ ps. expr_positions e ++ ps) (exprs_stand s above es)
 
 -- how often a statement or one of its own expressions stands at a position
-abbrev own_count : ℕ → StmtSite → ℕ
+abbrev pub own_count : ℕ → StmtSite → ℕ
 own_count q s = here q (stmt_site_at s) + count q (map site_at (all_sites s (own s.stmt)))
 
-abbrev total : ℕ → List StmtSite → ℕ
+abbrev pub total : ℕ → List StmtSite → ℕ
 total q [] = 0
 total q (s ∷ ss) = own_count q s + total q ss
 
@@ -62,7 +62,7 @@ total_append : (q : ℕ) (ss ts : List StmtSite) → total q (ss ++ ts) ≡ tota
 total_append q [] ts = omega arith
 total_append q (s ∷ ss) ts = omega (arith, total_append q ss ts)
 
-count_sites : (q : ℕ) (es fs : List ExprSite) → count q (map site_at (es ++ fs)) ≡ count q (map site_at es) + count q (map site_at fs)
+pub count_sites : (q : ℕ) (es fs : List ExprSite) → count q (map site_at (es ++ fs)) ≡ count q (map site_at es) + count q (map site_at fs)
 count_sites q es fs = ap (count q) (map-append site_at es fs) ∙ count_append q (map site_at es) (map site_at fs)
 
 -- an outermost expression stands at its positions
@@ -140,7 +140,7 @@ mutual
       ∙ sym (count_append q (stmt_positions s) (stmts_positions ss))
 
 -- how often one of all batches stands at a position
-abbrev totals : ℕ → Facts → List Outermost → ℕ
+abbrev pub totals : ℕ → Facts → List Outermost → ℕ
 totals q x [] = 0
 totals q x (b ∷ bs) = total q (batch_sites x b) + totals q x bs
 
@@ -216,7 +216,7 @@ classes_stand q x (c ∷ cs) =
       count_append q (methods_positions c.methods) (classes_positions cs),
     )
 
-program_stands : (q : ℕ) (x : Facts) (p : Program) → totals q x (program_batches x p) ≤ count q (classes_positions p.classes ++ body_positions p.body)
+pub program_stands : (q : ℕ) (x : Facts) (p : Program) → totals q x (program_batches x p) ≤ count q (classes_positions p.classes ++ body_positions p.body)
 program_stands q x p =
     omega (
       arith,
