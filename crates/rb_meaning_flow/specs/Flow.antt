@@ -121,7 +121,11 @@ bad_of_loop x scope _ = []
 
 -- a bad part, with what it reads
 abbrev pub bad_part : Facts → StmtSite → Expr → BadPart
-bad_part x s e = record { at = expr_at e; reads = flat_map (reads_of x) (expr_sites s [] e); sources = flat_map (source_of x) (expr_sites s [] e) }
+bad_part x s e = record {
+  at = expr_at e;
+  reads = flat_map (reads_of x) (expr_sites s [] e);
+  sources = flat_map (source_of x) (expr_sites s [] e);
+}
 
 -- the bad parts of a batch, whose statements these are
 abbrev pub bad_parts : Facts → List StmtSite → List BadPart

@@ -24,7 +24,8 @@ is_and_or _ = false
 
 -- above the right operand of an `&&` or `||`, unless that whole is portable: the left operand
 abbrev pub operand_condition : Facts → Scope → Bool → Expr → List ℕ
-operand_condition x scope right (Binary at op a b) = cond (right && (is_and_or op && not (portable x scope (Binary at op a b)))) (expr_at a ∷ []) []
+operand_condition x scope right (Binary at op a b) =
+    cond (right && (is_and_or op && not (portable x scope (Binary at op a b)))) (expr_at a ∷ []) []
 operand_condition x scope right _ = []
 
 -- the condition of a `while`, above each expression in it
@@ -136,12 +137,14 @@ escapes x s = has_remote_type x s.expr && not (may_be_remote x s.stands s.above)
 -- The table of refusals, row by row; the statements are all those of the batch. The last two are of the division.
 abbrev pub IsRefusal : Facts → List StmtSite → Refusal → Type 0
 IsRefusal x ss (Flow chain) = (u : BadPart) × Contains (bad_parts x ss) u × IsLeastChain (writers x ss) u chain
-IsRefusal x ss (NotConstant at) = (u : BadPart) × Contains (bad_parts x ss) u × (u.at ≡ at) × ((chain : List ℕ) → IsChain (writers x ss) u chain → ⊥)
+IsRefusal x ss (NotConstant at) = (u : BadPart) × Contains (bad_parts x ss) u × (u.at ≡ at)
+    × ((chain : List ℕ) → IsChain (writers x ss) u chain → ⊥)
 IsRefusal x ss (UnderLocalCondition condition operation) = (conditions : List ℕ) × (around : List Around)
     × IsOperationAt x ss operation conditions around × StandsFirst condition conditions
 IsRefusal x ss (Escapes at) = ExprAt (escapes x) ss at
 IsRefusal x ss (BatchInside at) = StmtAt is_batch ss at ⊎ ExprAt (λ s. calls_remote_method x s.expr) ss at
-IsRefusal x ss (InTryRefused at) = (conditions : List ℕ) × (around : List Around) × IsOperationAt x ss at conditions around × IsTrue (any_try around)
+IsRefusal x ss (InTryRefused at) = (conditions : List ℕ) × (around : List Around)
+    × IsOperationAt x ss at conditions around × IsTrue (any_try around)
 IsRefusal x ss (RemoteVar at) = StmtAt (is_remote_var x) ss at
 IsRefusal x ss (TooManyInputs batch count) = ⊥
 IsRefusal x ss (ScriptTooLarge batch bytes) = ⊥
