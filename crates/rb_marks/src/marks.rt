@@ -14,7 +14,6 @@ use crate::portable::{block_holds, holds_call, is_constant, is_portable};
 use crate::scope::Scope;
 use rb_meaning_flow::Role;
 use rb_trees::{Expr, ExprForm, Mark, Memory, Stmt, StmtForm, Word};
-use std::alloc::Global;
 
 fn inner(x: &Batch, scope: &Scope, inside: bool, e: &Expr) -> bool
     ensures { result ≡ passes.inner (facts_in x.now) (seen x.now scope.now) inside (mirror_expr e.now) }
@@ -152,7 +151,6 @@ fn carried_role(x: &Batch, script: bool, scope: &Scope, e: &Expr) -> Role
 #[cycle(stmts)]
 #[tactic(auto, using(crate::proofs::Rules::stmt_mark_rules))]
 fn mark_stmt(
-    alloc: Global,
     x: &Batch,
     script: bool,
     scope: &mut Scope,
@@ -166,11 +164,11 @@ fn mark_stmt(
         StmtForm::Val(name, e) => {
             mark_expr(x, scope, false, notes, e)?;
             let role = carried_role(x, script, scope, e);
-            scope.bind(alloc, name, role, s.at)
+            scope.bind(x.alloc, name, role, s.at)
         }
         StmtForm::Var(name, e) => {
             mark_expr(x, scope, false, notes, e)?;
-            scope.bind(alloc, name, Role::Plain, s.at)
+            scope.bind(x.alloc, name, Role::Plain, s.at)
         }
         StmtForm::Assign(a, b) => {
             mark_expr(x, scope, false, notes, a)?;
@@ -182,24 +180,23 @@ fn mark_stmt(
         StmtForm::If(c, a, b) => {
             let branch = branch_script(x.facts, script, a.as_slice(), b.as_slice());
             mark_expr(x, scope, branch, notes, c)?;
-            mark_block(alloc, x, branch, scope, notes, a.as_slice())?;
-            mark_block(alloc, x, branch, scope, notes, b.as_slice())
+            mark_block(x, branch, scope, notes, a.as_slice())?;
+            mark_block(x, branch, scope, notes, b.as_slice())
         }
         StmtForm::While(c, a) => {
             mark_expr(x, scope, false, notes, c)?;
-            mark_block(alloc, x, false, scope, notes, a.as_slice())
+            mark_block(x, false, scope, notes, a.as_slice())
         }
         StmtForm::For(name, e, a) => {
             let rows = x.facts.over_rows(e);
             mark_expr(x, scope, rows, notes, e)?;
             let turn = turn_script(x.facts, script, e);
             let role = turn_role_of(x.facts, e);
-            mark_opened(alloc, x, turn, scope, notes, name, role, s.at, a.as_slice())
+            mark_opened(x, turn, scope, notes, name, role, s.at, a.as_slice())
         }
         StmtForm::Try(a, name, b) => {
-            mark_block(alloc, x, false, scope, notes, a.as_slice())?;
+            mark_block(x, false, scope, notes, a.as_slice())?;
             mark_opened(
-                alloc,
                 x,
                 false,
                 scope,
@@ -212,7 +209,6 @@ fn mark_stmt(
         }
         StmtForm::Batch(_, root, a) => {
             mark_opened(
-                alloc,
                 x,
                 false,
                 scope,
@@ -230,7 +226,6 @@ fn mark_stmt(
 #[cycle(stmts)]
 #[tactic(auto, using(crate::proofs::Rules::stmt_mark_rules))]
 fn mark_block(
-    alloc: Global,
     x: &Batch,
     script: bool,
     scope: &mut Scope,
@@ -241,7 +236,7 @@ fn mark_block(
     ensures scope { OnOk result (scope.new ≡ scope.old) }
 {
     let count = scope.len();
-    mark_stmts(alloc, x, script, scope, notes, ss)?;
+    mark_stmts(x, script, scope, notes, ss)?;
     scope.truncate(count);
     Ok(())
 }
@@ -250,7 +245,6 @@ fn mark_block(
 #[cycle(stmts)]
 #[tactic(auto, using(crate::proofs::Rules::stmt_mark_rules))]
 fn mark_opened(
-    alloc: Global,
     x: &Batch,
     script: bool,
     scope: &mut Scope,
@@ -264,8 +258,8 @@ fn mark_opened(
     ensures scope { OnOk result (scope.new ≡ scope.old) }
 {
     let count = scope.len();
-    scope.bind(alloc, name, role, node)?;
-    mark_stmts(alloc, x, script, scope, notes, ss)?;
+    scope.bind(x.alloc, name, role, node)?;
+    mark_stmts(x, script, scope, notes, ss)?;
     scope.truncate(count);
     Ok(())
 }
@@ -274,7 +268,6 @@ fn mark_opened(
 #[cycle(stmts)]
 #[tactic(auto, using(crate::proofs::Rules::stmt_mark_rules))]
 pub fn mark_stmts(
-    alloc: Global,
     x: &Batch,
     script: bool,
     scope: &mut Scope,
@@ -285,7 +278,7 @@ pub fn mark_stmts(
     ensures kept { OnOk result (take (length scope.old) scope.new ≡ scope.old) }
 {
     for s in ss {
-        mark_stmt(alloc, x, script, scope, notes, s)?;
+        mark_stmt(x, script, scope, notes, s)?;
     }
     Ok(())
 }

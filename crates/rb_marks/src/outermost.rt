@@ -55,7 +55,7 @@ fn mark_batch(
     let count = scope.len();
     let x = Batch::new(alloc, facts, block)?;
     scope.bind(alloc, root, Role::Root, at)?;
-    mark_stmts(alloc, &x, true, scope, notes, block)?;
+    mark_stmts(&x, true, scope, notes, block)?;
     scope.truncate(count);
     Ok(())
 }
