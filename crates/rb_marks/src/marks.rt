@@ -196,28 +196,12 @@ fn mark_stmt(
         }
         StmtForm::Try(a, name, b) => {
             mark_block(x, false, scope, notes, a.as_slice())?;
-            mark_opened(
-                x,
-                false,
-                scope,
-                notes,
-                name,
-                Role::Plain,
-                s.at,
-                b.as_slice(),
-            )
+            let role = Role::Plain;
+            mark_opened(x, false, scope, notes, name, role, s.at, b.as_slice())
         }
         StmtForm::Batch(_, root, a) => {
-            mark_opened(
-                x,
-                false,
-                scope,
-                notes,
-                root,
-                Role::Plain,
-                s.at,
-                a.as_slice(),
-            )
+            let role = Role::Plain;
+            mark_opened(x, false, scope, notes, root, role, s.at, a.as_slice())
         }
     }
 }
