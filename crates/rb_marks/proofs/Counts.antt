@@ -65,10 +65,10 @@ contains_cases {A} t a ts h = at h.0 h.1 h.2
     at zero l e = inl e
     at (suc k) l e = inr (k, omega arith, e)
 
-first_one : {A : Type 0} (t : A) (ts : List A) → Contains (t ∷ ts) t
+pub first_one : {A : Type 0} (t : A) (ts : List A) → Contains (t ∷ ts) t
 first_one t ts = (zero, omega arith, refl)
 
-one_more : {A : Type 0} (t a : A) (ts : List A) → Contains ts a → Contains (t ∷ ts) a
+pub one_more : {A : Type 0} (t a : A) (ts : List A) → Contains ts a → Contains (t ∷ ts) a
 one_more t a ts h = (suc h.0, omega (arith, h.1), h.2)
 
 -- the position of one of a list stands there

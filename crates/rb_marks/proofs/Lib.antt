@@ -12,3 +12,4 @@ mod Maps
 pub mod Counts
 pub mod Placed
 mod Law
+mod InScript

@@ -1,4 +1,5 @@
 pub mod Views
 pub mod Passes
+pub mod Walks
 pub mod Notes
 pub mod Laws

@@ -15,6 +15,7 @@ use std::alloc::Global;
 /// What a walk through a batch asks: the facts of the program, and which variables the batch assigns.
 #[derive(Drop)]
 pub struct Batch<'a, 'p> {
+    pub alloc: Global,
     pub facts: &'a Facts<'p>,
     pub assigned: Names,
 }
@@ -82,7 +83,11 @@ impl<'a, 'p> Batch<'a, 'p> {
     {
         let mut assigned = Names::new(alloc);
         note_all_assigned(alloc, &mut assigned, block)?;
-        Ok(Batch { facts, assigned })
+        Ok(Batch {
+            alloc,
+            facts,
+            assigned,
+        })
     }
 
     fn role_with(&self, v: &Variable) -> Role

@@ -1,12 +1,12 @@
 // The marks and places of a program, by their positions.
 
-ghost use Rattle.std.specs.Prelude.{◌≡◌, ℕ, cond, IfOk, OnOk};
+ghost use Rattle.std.specs.Prelude.{◌≡◌, ℕ, IfOk, OnOk};
 ghost use Rattle.std.specs.Ordering.{nat_cmp};
-ghost use Rattle.std.specs.BTreeMap.{get, is_at};
+ghost use Rattle.std.specs.BTreeMap.{get};
 ghost use Rattle.std.specs.FinMap as map;
 ghost use Rattle.rb_trees.specs.mirror.Declarations.{mirror_program};
 ghost use Rattle.rb_meaning_flow.specs.Programs.{program_marks, program_places};
-ghost use Rattle.rb_marks.specs.Notes.{first_at};
+ghost use Rattle.rb_marks.specs.Notes.{first_at, Adds};
 
 use crate::facts::Facts;
 use crate::outermost::{mark_program, place_program};
@@ -42,7 +42,7 @@ impl Model for Marks {
 }
 
 fn insert_mark(index: &mut BTreeMap<u32, Mark>, at: u32, mark: Mark) -> Result<(), Memory>
-    ensures { OnOk result ((q : ℕ) → get nat_cmp index.new q ≡ cond (is_at (nat_cmp at) q) (Some mark) (get nat_cmp index.old q)) }
+    ensures { OnOk result (Adds at mark (get nat_cmp index.old) (get nat_cmp index.new)) }
 {
     let _before = index.insert(at, mark)?;
     Ok(())
@@ -60,7 +60,7 @@ fn index_marks(alloc: Global, notes: Vec<(u32, Mark)>) -> Result<BTreeMap<u32, M
 }
 
 fn insert_place(index: &mut BTreeMap<u32, Place>, at: u32, place: Place) -> Result<(), Memory>
-    ensures { OnOk result ((q : ℕ) → get nat_cmp index.new q ≡ cond (is_at (nat_cmp at) q) (Some place) (get nat_cmp index.old q)) }
+    ensures { OnOk result (Adds at place (get nat_cmp index.old) (get nat_cmp index.new)) }
 {
     let _before = index.insert(at, place)?;
     Ok(())

@@ -17,6 +17,9 @@ mod scope;
 pub use batch::Batch;
 pub use facts::Facts;
 pub use index::{Marks, mark};
-pub use laws::{each_expression_has_its_mark, each_statement_has_its_place};
+pub use laws::{
+    each_expression_has_its_mark, each_statement_has_its_place,
+    remote_expressions_stand_in_the_script,
+};
 pub use portable::{block_holds, holds_call, holds_operation, is_constant, is_portable};
 pub use scope::Scope;

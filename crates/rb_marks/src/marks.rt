@@ -2,13 +2,11 @@
 #![tactic(auto, using(crate::proofs::Rules::mark_rules))]
 
 ghost use Rattle.std.specs.Prelude.{◌≡◌, false, take, length, OnOk};
-ghost use Rattle.rb_trees.specs.mirror.Code.{mirror_expr, mirror_exprs, mirror_stmt, mirror_stmts};
-ghost use Rattle.rb_trees.specs.mirror.Declarations.{mirror_program};
-ghost use Rattle.rb_meaning_flow.specs.Facts.{facts_of};
-ghost use Rattle.rb_meaning_flow.specs.Scopes as scopes;
+ghost use Rattle.rb_trees.specs.mirror.Code.{mirror_expr, mirror_stmts};
 ghost use Rattle.rb_meaning_flow.specs.Sites.{turn_role};
 ghost use Rattle.rb_marks.specs.Passes as passes;
-ghost use Rattle.rb_marks.specs.Views.{facts_in, seen};
+ghost use Rattle.rb_marks.specs.Views.{told, facts_in, seen};
+ghost use Rattle.rb_marks.specs.Walks as walks;
 
 use crate::batch::Batch;
 use crate::facts::Facts;
@@ -16,7 +14,6 @@ use crate::portable::{block_holds, holds_call, is_constant, is_portable};
 use crate::scope::Scope;
 use rb_meaning_flow::Role;
 use rb_trees::{Expr, ExprForm, Mark, Memory, Stmt, StmtForm, Word};
-use std::alloc::Global;
 
 fn inner(x: &Batch, scope: &Scope, inside: bool, e: &Expr) -> bool
     ensures { result ≡ passes.inner (facts_in x.now) (seen x.now scope.now) inside (mirror_expr e.now) }
@@ -59,7 +56,7 @@ fn mark_parts(
     notes: &mut Vec<(u32, Mark)>,
     e: &Expr,
 ) -> Result<(), Memory>
-    ensures { OnOk result (notes.new.items ≡ passes.parts_marked (facts_in x.now) (seen x.now scope.now) inside notes.old.items (mirror_expr e.now)) }
+    ensures { OnOk result (notes.new.items ≡ walks.part_marks x.now scope.now inside notes.old.items e.now) }
 {
     match &e.form {
         ExprForm::Lit(_) | ExprForm::Name(_) | ExprForm::This | ExprForm::Taken(_) => Ok(()),
@@ -93,7 +90,7 @@ fn mark_expr(
     notes: &mut Vec<(u32, Mark)>,
     e: &Expr,
 ) -> Result<(), Memory>
-    ensures { OnOk result (notes.new.items ≡ passes.marked (facts_in x.now) (seen x.now scope.now) inside notes.old.items (mirror_expr e.now)) }
+    ensures { OnOk result (notes.new.items ≡ walks.expr_marks x.now scope.now inside notes.old.items e.now) }
 {
     let remote = inner(x, scope, inside, e);
     note(x, scope, remote, notes, e)?;
@@ -108,7 +105,7 @@ fn mark_exprs(
     notes: &mut Vec<(u32, Mark)>,
     es: &[Expr],
 ) -> Result<(), Memory>
-    ensures { OnOk result (notes.new.items ≡ passes.all_marked (facts_in x.now) (seen x.now scope.now) inside notes.old.items (mirror_exprs es.now)) }
+    ensures { OnOk result (notes.new.items ≡ walks.exprs_marks x.now scope.now inside notes.old.items es.now) }
 {
     for e in es {
         mark_expr(x, scope, inside, notes, e)?;
@@ -118,20 +115,20 @@ fn mark_exprs(
 
 /// Whether the branches of an `if` are script places.
 pub fn branch_script(facts: &Facts, script: bool, a: &[Stmt], b: &[Stmt]) -> bool
-    ensures { result ≡ passes.branch_script (facts_of (mirror_program facts.now)) script (mirror_stmts a.now) (mirror_stmts b.now) }
+    ensures { result ≡ passes.branch_script (told facts.now) script (mirror_stmts a.now) (mirror_stmts b.now) }
 {
     script && (block_holds(facts, a) || block_holds(facts, b))
 }
 
 /// Whether the body of a loop is a script place.
 pub fn turn_script(facts: &Facts, script: bool, list: &Expr) -> bool
-    ensures { result ≡ passes.turn_script (facts_of (mirror_program facts.now)) script (mirror_expr list.now) }
+    ensures { result ≡ passes.turn_script (told facts.now) script (mirror_expr list.now) }
 {
     script && facts.over_rows(list)
 }
 
 fn turn_role_of(facts: &Facts, list: &Expr) -> Role
-    ensures { result ≡ turn_role (facts_of (mirror_program facts.now)) (mirror_expr list.now) }
+    ensures { result ≡ turn_role (told facts.now) (mirror_expr list.now) }
 {
     if facts.over_rows(list) {
         Role::Row
@@ -154,25 +151,24 @@ fn carried_role(x: &Batch, script: bool, scope: &Scope, e: &Expr) -> Role
 #[cycle(stmts)]
 #[tactic(auto, using(crate::proofs::Rules::stmt_mark_rules))]
 fn mark_stmt(
-    alloc: Global,
     x: &Batch,
     script: bool,
     scope: &mut Scope,
     notes: &mut Vec<(u32, Mark)>,
     s: &Stmt,
 ) -> Result<(), Memory>
-    ensures notes { OnOk result (notes.new.items ≡ passes.stmt_marked (facts_in x.now) x.now.assigned script scope.old notes.old.items (mirror_stmt s.now)) }
-    ensures scope { OnOk result (scope.new ≡ passes.scope_then (facts_in x.now) x.now.assigned script scope.old (mirror_stmt s.now)) }
+    ensures notes { OnOk result (notes.new.items ≡ walks.stmt_marks x.now script scope.old notes.old.items s.now) }
+    ensures scope { OnOk result (scope.new ≡ walks.scope_behind x.now script scope.old s.now) }
 {
     match &s.form {
         StmtForm::Val(name, e) => {
             mark_expr(x, scope, false, notes, e)?;
             let role = carried_role(x, script, scope, e);
-            scope.bind(alloc, name, role, s.at)
+            scope.bind(x.alloc, name, role, s.at)
         }
         StmtForm::Var(name, e) => {
             mark_expr(x, scope, false, notes, e)?;
-            scope.bind(alloc, name, Role::Plain, s.at)
+            scope.bind(x.alloc, name, Role::Plain, s.at)
         }
         StmtForm::Assign(a, b) => {
             mark_expr(x, scope, false, notes, a)?;
@@ -184,46 +180,28 @@ fn mark_stmt(
         StmtForm::If(c, a, b) => {
             let branch = branch_script(x.facts, script, a.as_slice(), b.as_slice());
             mark_expr(x, scope, branch, notes, c)?;
-            mark_block(alloc, x, branch, scope, notes, a.as_slice())?;
-            mark_block(alloc, x, branch, scope, notes, b.as_slice())
+            mark_block(x, branch, scope, notes, a.as_slice())?;
+            mark_block(x, branch, scope, notes, b.as_slice())
         }
         StmtForm::While(c, a) => {
             mark_expr(x, scope, false, notes, c)?;
-            mark_block(alloc, x, false, scope, notes, a.as_slice())
+            mark_block(x, false, scope, notes, a.as_slice())
         }
         StmtForm::For(name, e, a) => {
             let rows = x.facts.over_rows(e);
             mark_expr(x, scope, rows, notes, e)?;
             let turn = turn_script(x.facts, script, e);
             let role = turn_role_of(x.facts, e);
-            mark_opened(alloc, x, turn, scope, notes, name, role, s.at, a.as_slice())
+            mark_opened(x, turn, scope, notes, name, role, s.at, a.as_slice())
         }
         StmtForm::Try(a, name, b) => {
-            mark_block(alloc, x, false, scope, notes, a.as_slice())?;
-            mark_opened(
-                alloc,
-                x,
-                false,
-                scope,
-                notes,
-                name,
-                Role::Plain,
-                s.at,
-                b.as_slice(),
-            )
+            mark_block(x, false, scope, notes, a.as_slice())?;
+            let role = Role::Plain;
+            mark_opened(x, false, scope, notes, name, role, s.at, b.as_slice())
         }
         StmtForm::Batch(_, root, a) => {
-            mark_opened(
-                alloc,
-                x,
-                false,
-                scope,
-                notes,
-                root,
-                Role::Plain,
-                s.at,
-                a.as_slice(),
-            )
+            let role = Role::Plain;
+            mark_opened(x, false, scope, notes, root, role, s.at, a.as_slice())
         }
     }
 }
@@ -232,18 +210,17 @@ fn mark_stmt(
 #[cycle(stmts)]
 #[tactic(auto, using(crate::proofs::Rules::stmt_mark_rules))]
 fn mark_block(
-    alloc: Global,
     x: &Batch,
     script: bool,
     scope: &mut Scope,
     notes: &mut Vec<(u32, Mark)>,
     ss: &[Stmt],
 ) -> Result<(), Memory>
-    ensures notes { OnOk result (notes.new.items ≡ passes.block_marked (facts_in x.now) x.now.assigned script scope.old notes.old.items (mirror_stmts ss.now)) }
+    ensures notes { OnOk result (notes.new.items ≡ walks.stmts_marks x.now script scope.old notes.old.items ss.now) }
     ensures scope { OnOk result (scope.new ≡ scope.old) }
 {
     let count = scope.len();
-    mark_stmts(alloc, x, script, scope, notes, ss)?;
+    mark_stmts(x, script, scope, notes, ss)?;
     scope.truncate(count);
     Ok(())
 }
@@ -252,7 +229,6 @@ fn mark_block(
 #[cycle(stmts)]
 #[tactic(auto, using(crate::proofs::Rules::stmt_mark_rules))]
 fn mark_opened(
-    alloc: Global,
     x: &Batch,
     script: bool,
     scope: &mut Scope,
@@ -262,12 +238,12 @@ fn mark_opened(
     node: u32,
     ss: &[Stmt],
 ) -> Result<(), Memory>
-    ensures notes { OnOk result (notes.new.items ≡ passes.block_marked (facts_in x.now) x.now.assigned script (scopes.with_variable scope.old name.now role node) notes.old.items (mirror_stmts ss.now)) }
+    ensures notes { OnOk result (notes.new.items ≡ walks.opened_marks x.now script scope.old name.now role node notes.old.items ss.now) }
     ensures scope { OnOk result (scope.new ≡ scope.old) }
 {
     let count = scope.len();
-    scope.bind(alloc, name, role, node)?;
-    mark_stmts(alloc, x, script, scope, notes, ss)?;
+    scope.bind(x.alloc, name, role, node)?;
+    mark_stmts(x, script, scope, notes, ss)?;
     scope.truncate(count);
     Ok(())
 }
@@ -276,18 +252,17 @@ fn mark_opened(
 #[cycle(stmts)]
 #[tactic(auto, using(crate::proofs::Rules::stmt_mark_rules))]
 pub fn mark_stmts(
-    alloc: Global,
     x: &Batch,
     script: bool,
     scope: &mut Scope,
     notes: &mut Vec<(u32, Mark)>,
     ss: &[Stmt],
 ) -> Result<(), Memory>
-    ensures notes { OnOk result (notes.new.items ≡ passes.block_marked (facts_in x.now) x.now.assigned script scope.old notes.old.items (mirror_stmts ss.now)) }
+    ensures notes { OnOk result (notes.new.items ≡ walks.stmts_marks x.now script scope.old notes.old.items ss.now) }
     ensures kept { OnOk result (take (length scope.old) scope.new ≡ scope.old) }
 {
     for s in ss {
-        mark_stmt(alloc, x, script, scope, notes, s)?;
+        mark_stmt(x, script, scope, notes, s)?;
     }
     Ok(())
 }

@@ -1,15 +1,12 @@
 // The walks through a program, which open each outermost batch in the scope in which it stands.
 #![tactic(auto, using(crate::proofs::Rules::outer_rules))]
 
-ghost use Rattle.std.specs.Prelude.{◌≡◌, [], map, true, take, length, OnOk, IfOk};
-ghost use Rattle.rb_trees.specs.mirror.Types.{mirror_type};
-ghost use Rattle.rb_trees.specs.mirror.Code.{mirror_expr, mirror_stmt, mirror_stmts};
-ghost use Rattle.rb_trees.specs.mirror.Declarations.{mirror_param, mirror_method, mirror_class, mirror_program};
-ghost use Rattle.rb_meaning_types.specs.Kinds as kinds;
-ghost use Rattle.rb_meaning_flow.specs.Facts.{facts_of};
-ghost use Rattle.rb_meaning_flow.specs.Scopes as scopes;
+ghost use Rattle.std.specs.Prelude.{◌≡◌, map, take, length, OnOk, IfOk};
+ghost use Rattle.rb_trees.specs.mirror.Declarations.{mirror_param, mirror_program};
 ghost use Rattle.rb_meaning_flow.specs.Outermost as outermost;
 ghost use Rattle.rb_marks.specs.Passes as passes;
+ghost use Rattle.rb_marks.specs.Views.{told};
+ghost use Rattle.rb_marks.specs.Walks as walks;
 
 use crate::batch::Batch;
 use crate::facts::{Facts, is_primitive};
@@ -52,13 +49,13 @@ fn mark_batch(
     at: u32,
     block: &[Stmt],
 ) -> Result<(), Memory>
-    ensures notes { OnOk result (notes.new.items ≡ passes.block_marked (facts_of (mirror_program facts.now)) (scopes.assigned_in (mirror_stmts block.now)) true (scopes.with_variable scope.old root.now Role.Root at) notes.old.items (mirror_stmts block.now)) }
+    ensures notes { OnOk result (notes.new.items ≡ walks.batch_marks facts.now scope.old root.now at notes.old.items block.now) }
     ensures scope { OnOk result (scope.new ≡ scope.old) }
 {
     let count = scope.len();
     let x = Batch::new(alloc, facts, block)?;
     scope.bind(alloc, root, Role::Root, at)?;
-    mark_stmts(alloc, &x, true, scope, notes, block)?;
+    mark_stmts(&x, true, scope, notes, block)?;
     scope.truncate(count);
     Ok(())
 }
@@ -72,8 +69,8 @@ fn mark_outer(
     notes: &mut Vec<(u32, Mark)>,
     s: &Stmt,
 ) -> Result<(), Memory>
-    ensures notes { OnOk result (notes.new.items ≡ passes.outer_marked (facts_of (mirror_program facts.now)) scope.old notes.old.items (mirror_stmt s.now)) }
-    ensures scope { OnOk result (scope.new ≡ outermost.outer_after (facts_of (mirror_program facts.now)) scope.old (mirror_stmt s.now)) }
+    ensures notes { OnOk result (notes.new.items ≡ walks.outer_marks facts.now scope.old notes.old.items s.now) }
+    ensures scope { OnOk result (scope.new ≡ walks.outer_scope_behind facts.now scope.old s.now) }
 {
     match &s.form {
         StmtForm::Val(name, e) | StmtForm::Var(name, e) => {
@@ -111,7 +108,7 @@ fn mark_outer_block(
     notes: &mut Vec<(u32, Mark)>,
     ss: &[Stmt],
 ) -> Result<(), Memory>
-    ensures notes { OnOk result (notes.new.items ≡ passes.outer_block_marked (facts_of (mirror_program facts.now)) scope.old notes.old.items (mirror_stmts ss.now)) }
+    ensures notes { OnOk result (notes.new.items ≡ walks.outer_stmts_marks facts.now scope.old notes.old.items ss.now) }
     ensures scope { OnOk result (scope.new ≡ scope.old) }
 {
     let count = scope.len();
@@ -132,7 +129,7 @@ fn mark_outer_opened(
     node: u32,
     ss: &[Stmt],
 ) -> Result<(), Memory>
-    ensures notes { OnOk result (notes.new.items ≡ passes.outer_block_marked (facts_of (mirror_program facts.now)) (scopes.with_variable scope.old name.now role node) notes.old.items (mirror_stmts ss.now)) }
+    ensures notes { OnOk result (notes.new.items ≡ walks.outer_opened_marks facts.now scope.old name.now role node notes.old.items ss.now) }
     ensures scope { OnOk result (scope.new ≡ scope.old) }
 {
     let count = scope.len();
@@ -150,7 +147,7 @@ fn mark_outer_stmts(
     notes: &mut Vec<(u32, Mark)>,
     ss: &[Stmt],
 ) -> Result<(), Memory>
-    ensures notes { OnOk result (notes.new.items ≡ passes.outer_block_marked (facts_of (mirror_program facts.now)) scope.old notes.old.items (mirror_stmts ss.now)) }
+    ensures notes { OnOk result (notes.new.items ≡ walks.outer_stmts_marks facts.now scope.old notes.old.items ss.now) }
     ensures kept { OnOk result (take (length scope.old) scope.new ≡ scope.old) }
 {
     for s in ss {
@@ -165,7 +162,7 @@ fn mark_methods(
     notes: &mut Vec<(u32, Mark)>,
     methods: &[Method],
 ) -> Result<(), Memory>
-    ensures { OnOk result (notes.new.items ≡ passes.methods_marked (facts_of (mirror_program facts.now)) notes.old.items (map mirror_method methods.now)) }
+    ensures { OnOk result (notes.new.items ≡ walks.methods_marks facts.now notes.old.items methods.now) }
 {
     for m in methods {
         let mut scope = parameters(alloc, m.signature.params.as_slice())?;
@@ -186,7 +183,7 @@ fn mark_classes(
     notes: &mut Vec<(u32, Mark)>,
     classes: &[Class],
 ) -> Result<(), Memory>
-    ensures { OnOk result (notes.new.items ≡ passes.classes_marked (facts_of (mirror_program facts.now)) notes.old.items (map mirror_class classes.now)) }
+    ensures { OnOk result (notes.new.items ≡ walks.classes_marks facts.now notes.old.items classes.now) }
 {
     for class in classes {
         mark_methods(alloc, facts, notes, class.methods.as_slice())?;
@@ -200,7 +197,7 @@ pub fn mark_program(
     facts: &Facts,
     program: &Program,
 ) -> Result<Vec<(u32, Mark)>, Memory>
-    ensures { IfOk result (λ notes. notes.items ≡ passes.program_marked (facts_of (mirror_program facts.now)) (mirror_program program.now)) }
+    ensures { IfOk result (λ notes. notes.items ≡ passes.program_marked (told facts.now) (mirror_program program.now)) }
 {
     let mut notes = Vec::new(alloc);
     mark_classes(alloc, facts, &mut notes, program.classes.as_slice())?;
@@ -218,7 +215,7 @@ pub fn mark_program(
 // Notes the places in the outermost batches of a statement.
 #[cycle(outer_places)]
 fn place_outer(facts: &Facts, notes: &mut Vec<(u32, Place)>, s: &Stmt) -> Result<(), Memory>
-    ensures { OnOk result (notes.new.items ≡ passes.outer_placed (facts_of (mirror_program facts.now)) notes.old.items (mirror_stmt s.now)) }
+    ensures { OnOk result (notes.new.items ≡ walks.outer_places facts.now notes.old.items s.now) }
 {
     match &s.form {
         StmtForm::Val(_, _) | StmtForm::Var(_, _) | StmtForm::Assign(_, _) => Ok(()),
@@ -240,7 +237,7 @@ fn place_outer_stmts(
     notes: &mut Vec<(u32, Place)>,
     ss: &[Stmt],
 ) -> Result<(), Memory>
-    ensures { OnOk result (notes.new.items ≡ passes.outer_block_placed (facts_of (mirror_program facts.now)) notes.old.items (mirror_stmts ss.now)) }
+    ensures { OnOk result (notes.new.items ≡ walks.outer_stmts_places facts.now notes.old.items ss.now) }
 {
     for s in ss {
         place_outer(facts, notes, s)?;
@@ -253,7 +250,7 @@ fn place_methods(
     notes: &mut Vec<(u32, Place)>,
     methods: &[Method],
 ) -> Result<(), Memory>
-    ensures { OnOk result (notes.new.items ≡ passes.methods_placed (facts_of (mirror_program facts.now)) notes.old.items (map mirror_method methods.now)) }
+    ensures { OnOk result (notes.new.items ≡ walks.methods_places facts.now notes.old.items methods.now) }
 {
     for m in methods {
         place_outer_stmts(facts, notes, m.body.statements.as_slice())?;
@@ -266,7 +263,7 @@ fn place_classes(
     notes: &mut Vec<(u32, Place)>,
     classes: &[Class],
 ) -> Result<(), Memory>
-    ensures { OnOk result (notes.new.items ≡ passes.classes_placed (facts_of (mirror_program facts.now)) notes.old.items (map mirror_class classes.now)) }
+    ensures { OnOk result (notes.new.items ≡ walks.classes_places facts.now notes.old.items classes.now) }
 {
     for class in classes {
         place_methods(facts, notes, class.methods.as_slice())?;
@@ -280,7 +277,7 @@ pub fn place_program(
     facts: &Facts,
     program: &Program,
 ) -> Result<Vec<(u32, Place)>, Memory>
-    ensures { IfOk result (λ notes. notes.items ≡ passes.program_placed (facts_of (mirror_program facts.now)) (mirror_program program.now)) }
+    ensures { IfOk result (λ notes. notes.items ≡ passes.program_placed (told facts.now) (mirror_program program.now)) }
 {
     let mut notes = Vec::new(alloc);
     place_classes(facts, &mut notes, program.classes.as_slice())?;

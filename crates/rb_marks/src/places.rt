@@ -2,10 +2,10 @@
 #![tactic(auto, using(crate::proofs::Rules::stmt_rules))]
 
 ghost use Rattle.std.specs.Prelude.{◌≡◌, OnOk};
-ghost use Rattle.rb_trees.specs.mirror.Code.{mirror_stmt, mirror_stmts};
-ghost use Rattle.rb_trees.specs.mirror.Declarations.{mirror_program};
-ghost use Rattle.rb_meaning_flow.specs.Facts.{facts_of};
+ghost use Rattle.rb_trees.specs.mirror.Code.{mirror_stmt};
 ghost use Rattle.rb_marks.specs.Passes as passes;
+ghost use Rattle.rb_marks.specs.Views.{told};
+ghost use Rattle.rb_marks.specs.Walks as walks;
 
 use crate::facts::Facts;
 use crate::marks::{branch_script, turn_script};
@@ -13,7 +13,7 @@ use crate::portable::holds_operation;
 use rb_trees::{Memory, Place, Stmt, StmtForm};
 
 fn place_of(facts: &Facts, script: bool, s: &Stmt) -> Place
-    ensures { result ≡ passes.place_of (facts_of (mirror_program facts.now)) script (mirror_stmt s.now) }
+    ensures { result ≡ passes.place_of (told facts.now) script (mirror_stmt s.now) }
 {
     if !holds_operation(facts, s) {
         return Place::LocalOnly;
@@ -25,7 +25,7 @@ fn place_of(facts: &Facts, script: bool, s: &Stmt) -> Place
 }
 
 fn note(facts: &Facts, script: bool, notes: &mut Vec<(u32, Place)>, s: &Stmt) -> Result<(), Memory>
-    ensures { OnOk result (notes.new.items ≡ passes.place_noted (facts_of (mirror_program facts.now)) script notes.old.items (mirror_stmt s.now)) }
+    ensures { OnOk result (notes.new.items ≡ passes.place_noted (told facts.now) script notes.old.items (mirror_stmt s.now)) }
 {
     let place = place_of(facts, script, s);
     notes.push((s.at, place))?;
@@ -40,7 +40,7 @@ fn place_stmt(
     notes: &mut Vec<(u32, Place)>,
     s: &Stmt,
 ) -> Result<(), Memory>
-    ensures { OnOk result (notes.new.items ≡ passes.stmt_placed (facts_of (mirror_program facts.now)) script notes.old.items (mirror_stmt s.now)) }
+    ensures { OnOk result (notes.new.items ≡ walks.stmt_places facts.now script notes.old.items s.now) }
 {
     note(facts, script, notes, s)?;
     match &s.form {
@@ -73,7 +73,7 @@ pub fn place_stmts(
     notes: &mut Vec<(u32, Place)>,
     ss: &[Stmt],
 ) -> Result<(), Memory>
-    ensures { OnOk result (notes.new.items ≡ passes.block_placed (facts_of (mirror_program facts.now)) script notes.old.items (mirror_stmts ss.now)) }
+    ensures { OnOk result (notes.new.items ≡ walks.stmts_places facts.now script notes.old.items ss.now) }
 {
     for s in ss {
         place_stmt(facts, script, notes, s)?;

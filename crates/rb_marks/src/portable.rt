@@ -3,10 +3,8 @@
 
 ghost use Rattle.std.specs.Prelude.{◌≡◌};
 ghost use Rattle.rb_trees.specs.mirror.Code.{mirror_expr, mirror_exprs, mirror_stmt, mirror_stmts};
-ghost use Rattle.rb_trees.specs.mirror.Declarations.{mirror_program};
-ghost use Rattle.rb_meaning_flow.specs.Facts.{facts_of};
 ghost use Rattle.rb_meaning_flow.specs.Portable as words;
-ghost use Rattle.rb_marks.specs.Views.{facts_in, seen};
+ghost use Rattle.rb_marks.specs.Views.{told, facts_in, seen};
 
 use crate::batch::Batch;
 use crate::facts::Facts;
@@ -65,7 +63,7 @@ pub fn is_constant(x: &Batch, scope: &Scope, e: &Expr) -> bool
 /// Whether a remote call stands in an expression.
 #[cycle(calls)]
 pub fn holds_call(facts: &Facts, e: &Expr) -> bool
-    ensures { result ≡ words.holds_call (facts_of (mirror_program facts.now)) (mirror_expr e.now) }
+    ensures { result ≡ words.holds_call (told facts.now) (mirror_expr e.now) }
 {
     match &e.form {
         ExprForm::Lit(_) | ExprForm::Name(_) | ExprForm::This | ExprForm::Taken(_) => false,
@@ -84,7 +82,7 @@ pub fn holds_call(facts: &Facts, e: &Expr) -> bool
 
 #[cycle(calls)]
 fn any_holds_call(facts: &Facts, es: &[Expr]) -> bool
-    ensures { result ≡ words.any_holds_call (facts_of (mirror_program facts.now)) (mirror_exprs es.now) }
+    ensures { result ≡ words.any_holds_call (told facts.now) (mirror_exprs es.now) }
 {
     for e in es {
         if holds_call(facts, e) {
@@ -98,7 +96,7 @@ fn any_holds_call(facts: &Facts, es: &[Expr]) -> bool
 #[cycle(operations)]
 #[tactic(auto, using(crate::proofs::Rules::stmt_rules))]
 pub fn holds_operation(facts: &Facts, s: &Stmt) -> bool
-    ensures { result ≡ words.holds_operation (facts_of (mirror_program facts.now)) (mirror_stmt s.now) }
+    ensures { result ≡ words.holds_operation (told facts.now) (mirror_stmt s.now) }
 {
     match &s.form {
         StmtForm::Val(_, e) | StmtForm::Var(_, e) => holds_call(facts, e),
@@ -124,7 +122,7 @@ pub fn holds_operation(facts: &Facts, s: &Stmt) -> bool
 #[cycle(operations)]
 #[tactic(auto, using(crate::proofs::Rules::stmt_rules))]
 pub fn block_holds(facts: &Facts, ss: &[Stmt]) -> bool
-    ensures { result ≡ words.block_holds (facts_of (mirror_program facts.now)) (mirror_stmts ss.now) }
+    ensures { result ≡ words.block_holds (told facts.now) (mirror_stmts ss.now) }
 {
     for s in ss {
         if holds_operation(facts, s) {

@@ -65,7 +65,10 @@ fn drawn(alloc: Global, text: &str) -> Result<Vec<u8>, Fail> {
     };
     let mut letters = Vec::new(alloc);
     for at in INTERFACES.len()..whole.len() {
-        letters.push(letter(&marks, at as u32))?;
+        let Ok(at) = u32::try_from(at) else {
+            return Err(Fail::from("the text is too long"));
+        };
+        letters.push(letter(&marks, at))?;
     }
     Ok(letters)
 }

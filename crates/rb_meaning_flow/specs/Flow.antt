@@ -96,8 +96,8 @@ expr_writers x s _ = []
 abbrev pub writers : Facts → List StmtSite → List Writer
 writers x ss = flat_map (λ s. stmt_writers x s s.stmt) ss ++ flat_map (λ s. expr_writers x s s.expr) (exprs_of ss)
 
--- the bad parts of an expression, looked at from above: operators are passed through, and a remote call is
--- passed over, since its own receiver and arguments are looked at by themselves
+-- the bad parts of an expression, from its root down to what isn't an operator. A remote call is none, and
+-- what it is sent itself is looked at where it stands.
 abbrev pub bad_in : Facts → Scope → Expr → List Expr
 bad_in x scope (Lit at value) = []
 bad_in x scope (Name at name) = cond (portable x scope (Name at name)) [] (Name at name ∷ [])
@@ -121,7 +121,11 @@ bad_of_loop x scope _ = []
 
 -- a bad part, with what it reads
 abbrev pub bad_part : Facts → StmtSite → Expr → BadPart
-bad_part x s e = record { at = expr_at e; reads = flat_map (reads_of x) (expr_sites s [] e); sources = flat_map (source_of x) (expr_sites s [] e) }
+bad_part x s e = record {
+  at = expr_at e;
+  reads = flat_map (reads_of x) (expr_sites s [] e);
+  sources = flat_map (source_of x) (expr_sites s [] e);
+}
 
 -- the bad parts of a batch, whose statements these are
 abbrev pub bad_parts : Facts → List StmtSite → List BadPart

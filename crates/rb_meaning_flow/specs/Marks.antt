@@ -19,17 +19,18 @@ is_remote_whole x around (If at c a b) = is_script_place x around && branches_ho
 is_remote_whole x around (For at name e a) = over_rows x e
 is_remote_whole x around _ = false
 
--- Remote: each part of a carried condition, of the rows of a loop, and of a portable expression that
--- holds a remote call. The initialiser of a carried val that holds a call is such an expression.
+-- Remote: all parts of a carried condition, of what a loop over rows goes over, and of each portable
+-- expression in which a remote call stands; a carried val is one whose initialiser is such
 abbrev pub is_remote_at : Facts → ExprSite → Bool
 is_remote_at x s = is_remote_whole x s.stands.around s.stands.stmt
     || (is_portable_call x s.stands.scope s.expr || list_any (λ o. is_portable_call x s.stands.scope o.expr) s.above)
 
--- Constant: what isn't Remote, and is made of literals, operators and constant variables alone
+-- Constant: what isn't Remote, and whose leaves are literals and constant variables under operators alone
 abbrev pub mark_at : Facts → ExprSite → Mark
 mark_at x s = cond (is_remote_at x s) Mark.Remote (cond (is_constant s.stands.scope s.expr) Mark.Constant Mark.Local)
 
--- LocalOnly where it holds no remote operation, else Script at a script place, else Elsewhere
+-- A statement without a remote operation is LocalOnly; any other is Script or Elsewhere, as its place is a
+-- script place or not.
 abbrev pub place_at : Facts → StmtSite → Place
 place_at x s = cond (holds_operation x s.stmt) (cond (is_script_place x s.around) Place.Script Place.Elsewhere) Place.LocalOnly
 

@@ -4,9 +4,9 @@ use Rattle.rb_trees.specs.mirror.Code.{Expr, Exprs, Lit, Name, This, Unary, Bina
 use Rattle.rb_meaning_flow.specs.Facts.{Facts, is_remote, over_rows}
 use Rattle.rb_meaning_flow.specs.Scopes.{Scope, role_of, is_constant_role, is_portable_role}
 
--- a portable expression: of literals, constant variables, the root, row variables, carried vals,
--- operators, and remote calls with portable receiver and arguments. No portable expression is a List,
--- so that each operator in one is on primitives.
+-- a portable expression: one that the service can evaluate. Its leaves are literals and variables of a portable
+-- role, and above them stand operators, and remote calls. No portable expression is a List, so that each
+-- operator in one is on primitives.
 abbrev mutual
   pub portable : Facts → Scope → Expr → Bool
   portable x scope (Lit at value) = true

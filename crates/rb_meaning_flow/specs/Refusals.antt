@@ -22,9 +22,10 @@ is_and_or BinOp.And = true
 is_and_or BinOp.Or = true
 is_and_or _ = false
 
--- the left operand of an `&&` or `||` that isn't portable as a whole, above its right operand
+-- above the right operand of an `&&` or `||`, unless that whole is portable: the left operand
 abbrev pub operand_condition : Facts → Scope → Bool → Expr → List ℕ
-operand_condition x scope right (Binary at op a b) = cond (right && (is_and_or op && not (portable x scope (Binary at op a b)))) (expr_at a ∷ []) []
+operand_condition x scope right (Binary at op a b) =
+    cond (right && (is_and_or op && not (portable x scope (Binary at op a b)))) (expr_at a ∷ []) []
 operand_condition x scope right _ = []
 
 -- the condition of a `while`, above each expression in it
@@ -95,8 +96,8 @@ abbrev mutual
   any_has_call NoExprs = false
   any_has_call (MoreExprs e es) = has_call e || any_has_call es
 
--- where the whole of a statement's own expression may have an interface or rows type: as the initialiser of a
--- `val` at a script place or of a `var`, alone where it holds a call, and as the rows of a loop
+-- where the whole of a statement's own expression may have an interface or rows type: where a `val` at a script
+-- place or a `var` binds it, where it stands alone and holds a call, and as the rows of a loop
 abbrev pub whole_may : Facts → List Around → Stmt → Bool
 whole_may x around (Val at name e) = is_script_place x around
 whole_may x around (Var at name e) = true
@@ -136,12 +137,14 @@ escapes x s = has_remote_type x s.expr && not (may_be_remote x s.stands s.above)
 -- The table of refusals, row by row; the statements are all those of the batch. The last two are of the division.
 abbrev pub IsRefusal : Facts → List StmtSite → Refusal → Type 0
 IsRefusal x ss (Flow chain) = (u : BadPart) × Contains (bad_parts x ss) u × IsLeastChain (writers x ss) u chain
-IsRefusal x ss (NotConstant at) = (u : BadPart) × Contains (bad_parts x ss) u × (u.at ≡ at) × ((chain : List ℕ) → IsChain (writers x ss) u chain → ⊥)
+IsRefusal x ss (NotConstant at) = (u : BadPart) × Contains (bad_parts x ss) u × (u.at ≡ at)
+    × ((chain : List ℕ) → IsChain (writers x ss) u chain → ⊥)
 IsRefusal x ss (UnderLocalCondition condition operation) = (conditions : List ℕ) × (around : List Around)
     × IsOperationAt x ss operation conditions around × StandsFirst condition conditions
 IsRefusal x ss (Escapes at) = ExprAt (escapes x) ss at
 IsRefusal x ss (BatchInside at) = StmtAt is_batch ss at ⊎ ExprAt (λ s. calls_remote_method x s.expr) ss at
-IsRefusal x ss (InTryRefused at) = (conditions : List ℕ) × (around : List Around) × IsOperationAt x ss at conditions around × IsTrue (any_try around)
+IsRefusal x ss (InTryRefused at) = (conditions : List ℕ) × (around : List Around)
+    × IsOperationAt x ss at conditions around × IsTrue (any_try around)
 IsRefusal x ss (RemoteVar at) = StmtAt (is_remote_var x) ss at
 IsRefusal x ss (TooManyInputs batch count) = ⊥
 IsRefusal x ss (ScriptTooLarge batch bytes) = ⊥

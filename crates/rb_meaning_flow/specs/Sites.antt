@@ -14,8 +14,8 @@ pub data Around : Type 0 where
   InTry : (at : ℕ) (scope : Scope) (tried : Stmts) (name : List ℕ) (handler : Stmts) → Around
   InBatch : (at : ℕ) → Around
 
--- Whether what stands so gets steps of its own in the script: directly in the batch, and, where the statement around does,
--- in a turn over rows, and in a branch if one of the two branches has something remote to do.
+-- whether what stands here is a script place: the batch's own block is one; within one, the blocks of loops over
+-- rows are, and both blocks of an `if` that hold a remote operation between them; no other block is
 abbrev pub is_script_place : Facts → List Around → Bool
 is_script_place x [] = true
 is_script_place x (Branch at scope c a b ∷ around) = is_script_place x around && branches_hold x a b
@@ -41,27 +41,33 @@ pub record ExprSite : Type 0 where
   pub above : List Over
   pub expr : Expr
 
+-- the site of an expression, and what stands above its parts: it, and what stands above it
+abbrev pub site : StmtSite → List Over → Expr → ExprSite
+site s above e = record { stands = s; above = above; expr = e }
+
+abbrev pub under : Expr → List Over → List Over
+under e above = record { expr = e; right = false } ∷ above
+
+abbrev pub right_under : Expr → List Over → List Over
+right_under e above = record { expr = e; right = true } ∷ above
+
 -- the sites of an expression and of all its parts
 abbrev mutual
   pub expr_sites : StmtSite → List Over → Expr → List ExprSite
-  expr_sites s above (Lit at value) = record { stands = s; above = above; expr = Lit at value } ∷ []
-  expr_sites s above (Name at name) = record { stands = s; above = above; expr = Name at name } ∷ []
-  expr_sites s above (This at) = record { stands = s; above = above; expr = This at } ∷ []
-  expr_sites s above (Unary at op a) = record { stands = s; above = above; expr = Unary at op a }
-      ∷ expr_sites s (record { expr = Unary at op a; right = false } ∷ above) a
-  expr_sites s above (Binary at op a b) = record { stands = s; above = above; expr = Binary at op a b }
-      ∷ (expr_sites s (record { expr = Binary at op a b; right = false } ∷ above) a ++ expr_sites s (record { expr = Binary at op a b; right = true } ∷ above) b)
-  expr_sites s above (Field at a name) = record { stands = s; above = above; expr = Field at a name }
-      ∷ expr_sites s (record { expr = Field at a name; right = false } ∷ above) a
-  expr_sites s above (Call at a method args) = record { stands = s; above = above; expr = Call at a method args }
-      ∷ (expr_sites s (record { expr = Call at a method args; right = false } ∷ above) a ++ exprs_sites s (record { expr = Call at a method args; right = false } ∷ above) args)
-  expr_sites s above (Index at a b) = record { stands = s; above = above; expr = Index at a b }
-      ∷ (expr_sites s (record { expr = Index at a b; right = false } ∷ above) a ++ expr_sites s (record { expr = Index at a b; right = false } ∷ above) b)
-  expr_sites s above (New at class args) = record { stands = s; above = above; expr = New at class args }
-      ∷ exprs_sites s (record { expr = New at class args; right = false } ∷ above) args
-  expr_sites s above (Items at item items) = record { stands = s; above = above; expr = Items at item items }
-      ∷ exprs_sites s (record { expr = Items at item items; right = false } ∷ above) items
-  expr_sites s above (Taken at step) = record { stands = s; above = above; expr = Taken at step } ∷ []
+  expr_sites s above (Lit at value) = site s above (Lit at value) ∷ []
+  expr_sites s above (Name at name) = site s above (Name at name) ∷ []
+  expr_sites s above (This at) = site s above (This at) ∷ []
+  expr_sites s above (Unary at op a) = site s above (Unary at op a) ∷ expr_sites s (under (Unary at op a) above) a
+  expr_sites s above (Binary at op a b) = site s above (Binary at op a b)
+      ∷ (expr_sites s (under (Binary at op a b) above) a ++ expr_sites s (right_under (Binary at op a b) above) b)
+  expr_sites s above (Field at a name) = site s above (Field at a name) ∷ expr_sites s (under (Field at a name) above) a
+  expr_sites s above (Call at a method args) = site s above (Call at a method args)
+      ∷ (expr_sites s (under (Call at a method args) above) a ++ exprs_sites s (under (Call at a method args) above) args)
+  expr_sites s above (Index at a b) = site s above (Index at a b)
+      ∷ (expr_sites s (under (Index at a b) above) a ++ expr_sites s (under (Index at a b) above) b)
+  expr_sites s above (New at class args) = site s above (New at class args) ∷ exprs_sites s (under (New at class args) above) args
+  expr_sites s above (Items at item items) = site s above (Items at item items) ∷ exprs_sites s (under (Items at item items) above) items
+  expr_sites s above (Taken at step) = site s above (Taken at step) ∷ []
 
   pub exprs_sites : StmtSite → List Over → Exprs → List ExprSite
   exprs_sites s above NoExprs = []
@@ -85,7 +91,7 @@ abbrev pub all_sites : StmtSite → List Expr → List ExprSite
 all_sites s [] = []
 all_sites s (e ∷ es) = expr_sites s [] e ++ all_sites s es
 
--- a carried val is a val at a script place whose initialiser is portable
+-- a val is carried where it stands at a script place and what it binds is portable
 abbrev pub val_role : Facts → List Around → Scope → Expr → Role
 val_role x around scope e = cond (is_script_place x around && portable x scope e) Role.Carried Role.Plain
 
@@ -98,23 +104,28 @@ scope_after x around scope (Val at name e) = with_variable scope name (val_role 
 scope_after x around scope (Var at name e) = with_variable scope name Role.Plain at
 scope_after x around scope _ = scope
 
--- a statement, and those of its blocks
+-- the site of a statement
+abbrev pub stmt_site : List Around → Scope → Stmt → StmtSite
+stmt_site around scope s = record { around = around; scope = scope; stmt = s }
+
+-- the sites of a statement and of those in its blocks
 abbrev mutual
   pub sites : Facts → List Around → Scope → Stmt → List StmtSite
-  sites x around scope (Val at name e) = record { around = around; scope = scope; stmt = Val at name e } ∷ []
-  sites x around scope (Var at name e) = record { around = around; scope = scope; stmt = Var at name e } ∷ []
-  sites x around scope (Assign at a b) = record { around = around; scope = scope; stmt = Assign at a b } ∷ []
-  sites x around scope (Run at e) = record { around = around; scope = scope; stmt = Run at e } ∷ []
-  sites x around scope (Print at e) = record { around = around; scope = scope; stmt = Print at e } ∷ []
-  sites x around scope (Throw at e) = record { around = around; scope = scope; stmt = Throw at e } ∷ []
-  sites x around scope (If at c a b) = record { around = around; scope = scope; stmt = If at c a b }
+  sites x around scope (Val at name e) = stmt_site around scope (Val at name e) ∷ []
+  sites x around scope (Var at name e) = stmt_site around scope (Var at name e) ∷ []
+  sites x around scope (Assign at a b) = stmt_site around scope (Assign at a b) ∷ []
+  sites x around scope (Run at e) = stmt_site around scope (Run at e) ∷ []
+  sites x around scope (Print at e) = stmt_site around scope (Print at e) ∷ []
+  sites x around scope (Throw at e) = stmt_site around scope (Throw at e) ∷ []
+  sites x around scope (If at c a b) = stmt_site around scope (If at c a b)
       ∷ (block_sites x (Branch at scope c a b ∷ around) scope a ++ block_sites x (Branch at scope c a b ∷ around) scope b)
-  sites x around scope (While at c a) = record { around = around; scope = scope; stmt = While at c a } ∷ block_sites x (WhileTurn at scope c ∷ around) scope a
-  sites x around scope (For at name e a) = record { around = around; scope = scope; stmt = For at name e a }
+  sites x around scope (While at c a) = stmt_site around scope (While at c a) ∷ block_sites x (WhileTurn at scope c ∷ around) scope a
+  sites x around scope (For at name e a) = stmt_site around scope (For at name e a)
       ∷ block_sites x (Turn at scope e ∷ around) (with_variable scope name (turn_role x e) at) a
-  sites x around scope (Try at a name b) = record { around = around; scope = scope; stmt = Try at a name b }
-      ∷ (block_sites x (InTry at scope a name b ∷ around) scope a ++ block_sites x (InTry at scope a name b ∷ around) (with_variable scope name Role.Plain at) b)
-  sites x around scope (Batch at interface root a) = record { around = around; scope = scope; stmt = Batch at interface root a }
+  sites x around scope (Try at a name b) = stmt_site around scope (Try at a name b)
+      ∷ (block_sites x (InTry at scope a name b ∷ around) scope a
+      ++ block_sites x (InTry at scope a name b ∷ around) (with_variable scope name Role.Plain at) b)
+  sites x around scope (Batch at interface root a) = stmt_site around scope (Batch at interface root a)
       ∷ block_sites x (InBatch at ∷ around) (with_variable scope root Role.Plain at) a
 
   pub block_sites : Facts → List Around → Scope → Stmts → List StmtSite

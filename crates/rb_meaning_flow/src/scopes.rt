@@ -5,13 +5,13 @@ use rb_trees::Word;
 /// What a variable is to a batch.
 #[derive(Clone, Copy)]
 pub enum Role {
-    /// Of primitive type, declared outside the batch, and not assigned in it.
+    /// A primitive one from outside the batch, which the batch doesn't assign.
     Constant,
     /// The root of the batch.
     Root,
     /// The variable of a loop over rows.
     Row,
-    /// A `val` at a script place whose initialiser is portable.
+    /// A `val` that goes along into the script: it stands at a script place, and what it binds is portable.
     Carried,
     /// Any other.
     Plain,
