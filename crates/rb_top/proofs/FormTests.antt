@@ -1,4 +1,5 @@
 -- The tests of the form that is built decide it.
+use Rattle.std.proofs.lemmas.Bool.{and_parts}
 use Rattle.std.proofs.Common.{◌≡◌, ℕ, ◌<◌, ◌≤◌, ◌^◌, Bool, true, false, not, List, [], ◌∷◌, length, Option, Some, None, ap, sym, ◌∙◌, refl, arith, IsTrue}
 use Rattle.std.specs.Prelude.{◌&&◌, nat_lt, nat_le, Decides}
 use Rattle.std.specs.Str.{bytes_eq}
@@ -11,10 +12,6 @@ use Rattle.rb_trees.specs.mirror.Code.{Expr, Exprs, Stmt, Stmts}
 use Rattle.rb_trees.specs.mirror.Declarations.{Signature, Interface, Program}
 use Rattle.rb_top.specs.FirstForm.{FirstProgram, GivesInt, PlainSignatures, PrintsCalls, is_among, distinct, signature_names, count_stmts}
 use Rattle.rb_top.specs.FormTests.{is_nil, no_exprs, printed_of, batch_of, gives_int, is_plain, plain_signatures, is_declared_on, on_root, prints_call_of, prints_calls, alone, without_result, only_batch, names_agree, has_prints, suits, by_batch, by_interface, first_form}
-
-both_true : (x y : Bool) → (x && y) ≡ true → (x ≡ true) × (y ≡ true)
-both_true true y h = (refl, h)
-both_true false y h = absurd (cc)
 
 and_true : (x y : Bool) → x ≡ true → y ≡ true → (x && y) ≡ true
 and_true true y h k = k
@@ -36,8 +33,8 @@ gives_it _ h = absurd h
 plain_by : (ss : List Signature) → plain_signatures ss ≡ true → PlainSignatures ss
 plain_by [] h = tt
 plain_by (s ∷ ss) h =
-    let e = both_true (is_plain s) (plain_signatures ss) h in
-    let f = both_true (is_nil s.params) (gives_int s.result) e.0 in
+    let e = and_parts (is_plain s) (plain_signatures ss) h in
+    let f = and_parts (is_nil s.params) (gives_int s.result) e.0 in
     (nil_is s.params f.0, int_given s.result f.1, plain_by ss e.1)
 
 plain_so : (ss : List Signature) → PlainSignatures ss → plain_signatures ss ≡ true
@@ -56,9 +53,9 @@ record OnRoot (root : List ℕ) (names : List (List ℕ)) (name method : List �
 
 on_root_by : (root : List ℕ) (names : List (List ℕ)) (name method : List ℕ) (args : Exprs) → on_root root names (Some name) method args ≡ true → OnRoot root names name method args
 on_root_by root names name method args h =
-    let a = both_true (no_exprs args) (is_declared_on root names name method) h in
-    let b = both_true (bytes_eq name root) (is_among names method && nat_lt (length method) (2 ^ 32)) a.1 in
-    let c = both_true (is_among names method) (nat_lt (length method) (2 ^ 32)) b.1 in
+    let a = and_parts (no_exprs args) (is_declared_on root names name method) h in
+    let b = and_parts (bytes_eq name root) (is_among names method && nat_lt (length method) (2 ^ 32)) a.1 in
+    let c = and_parts (is_among names method) (nat_lt (length method) (2 ^ 32)) b.1 in
     record {
       none = a.0;
       same = (bytes_eq-Decides name root).0 b.0;
@@ -81,7 +78,7 @@ stmt_by root names _ ss h rest = absurd (cc)
 stmts_by : (root : List ℕ) (names : List (List ℕ)) (ss : Stmts) → prints_calls root names ss ≡ true → PrintsCalls root names ss
 stmts_by root names code.NoStmts h = tt
 stmts_by root names (code.MoreStmts s ss) h =
-    let e = both_true (prints_call_of root names (printed_of s)) (prints_calls root names ss) h in
+    let e = and_parts (prints_call_of root names (printed_of s)) (prints_calls root names ss) h in
     stmt_by root names s ss e.0 (stmts_by root names ss e.1)
 
 stmts_so : (root : List ℕ) (names : List (List ℕ)) (ss : Stmts) → PrintsCalls root names ss → prints_calls root names ss ≡ true
@@ -112,11 +109,11 @@ differs_so a b h = go (bytes_eq a b) (bytes_eq-Decides a b).0
 suits_by : (i : Interface) (name root : List ℕ) (block : Stmts) → suits i name root block ≡ true → Suits i name root block
 suits_by i name root block h =
     let names = signature_names i.methods in
-    let a = both_true (names_agree i name root) (plain_signatures i.methods && has_prints root names block) h in
-    let b = both_true (bytes_eq name i.name) (not (bytes_eq root i.name) && distinct names) a.0 in
-    let c = both_true (not (bytes_eq root i.name)) (distinct names) b.1 in
-    let d = both_true (plain_signatures i.methods) (has_prints root names block) a.1 in
-    let e = both_true (nat_le (count_stmts block) 1000000) (prints_calls root names block) d.1 in
+    let a = and_parts (names_agree i name root) (plain_signatures i.methods && has_prints root names block) h in
+    let b = and_parts (bytes_eq name i.name) (not (bytes_eq root i.name) && distinct names) a.0 in
+    let c = and_parts (not (bytes_eq root i.name)) (distinct names) b.1 in
+    let d = and_parts (plain_signatures i.methods) (has_prints root names block) a.1 in
+    let e = and_parts (nat_le (count_stmts block) 1000000) (prints_calls root names block) d.1 in
     record {
       same = (bytes_eq-Decides name i.name).0 b.0;
       differs = differs_by root i.name c.0;
@@ -172,7 +169,7 @@ suiting (i ∷ j ∷ is) o h = absurd (cc)
 
 pub form_by : (p : Program) → first_form p ≡ true → FirstProgram p
 form_by p h =
-    let e = both_true (is_nil p.classes) (by_interface p.interfaces (only_batch p.body)) h in
+    let e = and_parts (is_nil p.classes) (by_interface p.interfaces (only_batch p.body)) h in
     let s = suiting p.interfaces (only_batch p.body) e.1 in
     let w = without_is p.body.result (alone p.body.statements) s.batch s.batch_is in
     let b = alone_is p.body.statements s.batch w.1 in

@@ -8,7 +8,8 @@ use Rattle.rb_trees.specs.mirror.Declarations.{Method}
 use Rattle.rb_trees.specs.mirror.Services.{Service}
 use Rattle.rb_meaning_bytes.specs.tokens.Values.{number_value}
 use Rattle.rb_top.specs.FirstForm.{FirstService, PlainMethods}
-use Rattle.rb_top.specs.FirstTexts.{word, then_token, text_of, opening_at, method_tokens_at, small_number, numbered, with_number, method_at, more_methods, methods_at, objects_at, objects_agree, service_of, with_methods, service_at}
+use Rattle.rb_trees.specs.Kinds.{keyword_class}
+use Rattle.rb_top.specs.FirstTexts.{then_token, text_of, opening_at, method_tokens_at, small_number, numbered, with_number, method_at, more_methods, methods_at, objects_at, objects_agree, service_of, with_methods, service_at}
 use Rattle.rb_top.proofs.Calls.{int_out}
 
 -- the number of a method fits
@@ -70,4 +71,4 @@ with_opening source (Some (name, rest)) s h =
     with_objects source name r.0 (objects_at r.1) s (plain_methods source (length rest) rest) h
 
 pub service_form : (source : List ℕ) (ts : List Token) (s : Service) → service_at source ts ≡ Some s → FirstService s
-service_form source ts s h = with_opening source (opening_at (word 1) ts) s h
+service_form source ts s h = with_opening source (opening_at keyword_class ts) s h

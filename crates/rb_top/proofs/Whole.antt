@@ -1,4 +1,5 @@
 -- What a program of the form that is built means on such a service.
+use Rattle.std.proofs.lemmas.Bool.{and_parts}
 use Rattle.std.proofs.Common.{◌≡◌, ℕ, ℤ, suc, ◌+◌, ◌-◌, ◌≤◌, List, [], ◌∷◌, ◌++◌, Bool, true, false, Option, None, Some, option_map, cond, ap, sym, ◌∙◌, refl, arith, append_assoc, append-nil, zero-add}
 use Rattle.std.specs.Prelude.{◌||◌, ◌&&◌, nat_eq}
 use Rattle.std.proofs.lemmas.Bool.Decides.{nat_tests}
@@ -33,17 +34,13 @@ use Rattle.rb_top.specs.FirstForm.{FirstProgram, FirstService, PrintsCalls, Plai
 use Rattle.rb_top.proofs.Calls.{int_out, remote_out, same_bytes, calls_root}
 use Rattle.rb_top.proofs.Answered.{or_zero}
 
-both_true : (x y : Bool) → (x && y) ≡ true → (x ≡ true) × (y ≡ true)
-both_true true y h = (refl, h)
-both_true false y h = absurd (cc)
-
 -- names that compare alike are one
 pub one_name : (a b : List ℕ) → bytes_eq a b ≡ true → a ≡ b
 one_name [] [] h = refl
 one_name [] (y ∷ ys) h = absurd (cc)
 one_name (x ∷ xs) [] h = absurd (cc)
 one_name (x ∷ xs) (y ∷ ys) h =
-    let b = both_true (nat_eq x y) (bytes_eq xs ys) h in
+    let b = and_parts (nat_eq x y) (bytes_eq xs ys) h in
     let i = one_name xs ys b.1 in
     let e : x ≡ y = grind (arith, nat_tests, b.0) in
     ap (λ z. z ∷ xs) e ∙ ap (λ zs. y ∷ zs) i

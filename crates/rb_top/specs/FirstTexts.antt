@@ -5,6 +5,7 @@ use Rattle.rb_trees.specs.declared.tokens.Token.{Token}
 use Rattle.rb_trees.specs.declared.tokens.TokenKind.{TokenKind}
 use Rattle.rb_trees.specs.declared.tokens.TokenKind.TheVariants as kinds
 use Rattle.rb_trees.specs.declared.values.Value.TheVariants as value
+use Rattle.rb_trees.specs.Kinds.{keyword_class, keyword_fun, keyword_return, keyword_Int, keyword_object, keyword_root, sign_semicolon, sign_colon, sign_open, sign_close, sign_open_brace, sign_close_brace}
 use Rattle.rb_trees.specs.mirror.Types as types
 use Rattle.rb_trees.specs.mirror.Code as code
 use Rattle.rb_trees.specs.mirror.Declarations.{Signature, Method}
@@ -12,13 +13,6 @@ use Rattle.rb_trees.specs.mirror.Services.{Service}
 use Rattle.rb_meaning_bytes.specs.tokens.Lists.{slice}
 use Rattle.rb_meaning_bytes.specs.tokens.Values.{number_value}
 use Rattle.rb_top.specs.FirstForm.{distinct, method_names}
-
--- Keywords and signs by their places in the language's lists.
-abbrev pub word : ℕ → TokenKind
-word place = kinds.Keyword place
-
-abbrev pub sign : ℕ → TokenKind
-sign place = kinds.Sign place
 
 -- a number for each kind
 abbrev pub kind_number : TokenKind → ℕ
@@ -43,8 +37,8 @@ text_of source t = slice source t.start t.end
 -- `fun NAME ( ) : Int`: the name and the type
 unfoldable pub plain_method_at : List Token → Option ((Token × Token) × List Token)
 plain_method_at ts =
-    then_token (expect (word 2) ts) (λ fun r1. then_token (expect kinds.Name r1) (λ name r2. then_token (expect (sign 19) r2) (λ opens r3.
-    then_token (expect (sign 20) r3) (λ closes r4. then_token (expect (sign 18) r4) (λ colon r5. then_token (expect (word 26) r5) (λ int r6. Some ((name, int), r6)))))))
+    then_token (expect keyword_fun ts) (λ fun r1. then_token (expect kinds.Name r1) (λ name r2. then_token (expect sign_open r2) (λ opens r3.
+    then_token (expect sign_close r3) (λ closes r4. then_token (expect sign_colon r4) (λ colon r5. then_token (expect keyword_Int r5) (λ int r6. Some ((name, int), r6)))))))
 
 abbrev pub signature_of : List ℕ → Token × Token → Signature
 signature_of source m = record { name = text_of source m.0; at = m.0.start; params = []; result = types.Int m.1.start }
@@ -54,7 +48,7 @@ with_first a r = (a ∷ r.0, r.1)
 
 -- `WORD NAME {`: the name
 unfoldable pub opening_at : TokenKind → List Token → Option (Token × List Token)
-opening_at first ts = then_token (expect first ts) (λ word r1. then_token (expect kinds.Name r1) (λ name r2. then_token (expect (sign 21) r2) (λ opens r3. Some (name, r3))))
+opening_at first ts = then_token (expect first ts) (λ word r1. then_token (expect kinds.Name r1) (λ name r2. then_token (expect sign_open_brace r2) (λ opens r3. Some (name, r3))))
 
 abbrev pub nothing_left : List Token → Bool
 nothing_left [] = true
@@ -63,8 +57,8 @@ nothing_left (t ∷ ts) = false
 -- `fun NAME ( ) : Int { return NUMBER ; }`: the name, the type and the number
 unfoldable pub method_tokens_at : List Token → Option (((Token × Token) × Token) × List Token)
 method_tokens_at ts =
-    then_token (plain_method_at ts) (λ m r1. then_token (expect (sign 21) r1) (λ opens r2. then_token (expect (word 15) r2) (λ return r3.
-    then_token (expect kinds.Number r3) (λ number r4. then_token (expect (sign 17) r4) (λ end r5. then_token (expect (sign 22) r5) (λ closes r6. Some ((m, number), r6)))))))
+    then_token (plain_method_at ts) (λ m r1. then_token (expect sign_open_brace r1) (λ opens r2. then_token (expect keyword_return r2) (λ return r3.
+    then_token (expect kinds.Number r3) (λ number r4. then_token (expect sign_semicolon r4) (λ end r5. then_token (expect sign_close_brace r5) (λ closes r6. Some ((m, number), r6)))))))
 
 -- a number of 64 bits
 abbrev pub small_number : List ℕ → Option ℤ
@@ -100,10 +94,10 @@ methods_at source (suc count) ts = more_methods source ts (method_at source ts) 
 -- `} object NUMBER : NAME { } root NUMBER ;` and the end: the first number, the class, and the second number
 unfoldable pub objects_at : List Token → Option ((Token × Token × Token) × List Token)
 objects_at ts =
-    then_token (expect (sign 22) ts) (λ closes r1. then_token (expect (word 30) r1) (λ object r2. then_token (expect kinds.Number r2) (λ number r3.
-    then_token (expect (sign 18) r3) (λ colon r4. then_token (expect kinds.Name r4) (λ class r5. then_token (expect (sign 21) r5) (λ opens r6.
-    then_token (expect (sign 22) r6) (λ closes' r7. then_token (expect (word 31) r7) (λ root r8. then_token (expect kinds.Number r8) (λ number' r9.
-    then_token (expect (sign 17) r9) (λ end r10. cond (nothing_left r10) (Some ((number, class, number'), r10)) None))))))))))
+    then_token (expect sign_close_brace ts) (λ closes r1. then_token (expect keyword_object r1) (λ object r2. then_token (expect kinds.Number r2) (λ number r3.
+    then_token (expect sign_colon r3) (λ colon r4. then_token (expect kinds.Name r4) (λ class r5. then_token (expect sign_open_brace r5) (λ opens r6.
+    then_token (expect sign_close_brace r6) (λ closes' r7. then_token (expect keyword_root r7) (λ root r8. then_token (expect kinds.Number r8) (λ number' r9.
+    then_token (expect sign_semicolon r9) (λ end r10. cond (nothing_left r10) (Some ((number, class, number'), r10)) None))))))))))
 
 -- Both numbers are 0, the object is of the class, and no two methods have one name.
 abbrev pub objects_agree : List ℕ → Token → List Method → Token × Token × Token → Bool
@@ -124,4 +118,4 @@ with_methods source name r =
 
 -- the service that the tokens are, if they are one of the form that is built
 abbrev pub service_at : List ℕ → List Token → Option Service
-service_at source ts = then_token (opening_at (word 1) ts) (λ name rest. with_methods source name (methods_at source (length rest) rest))
+service_at source ts = then_token (opening_at keyword_class ts) (λ name rest. with_methods source name (methods_at source (length rest) rest))
