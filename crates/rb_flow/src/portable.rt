@@ -11,7 +11,8 @@ ghost use Rattle.rb_flow.specs.Views.{facts};
 
 use crate::facts::{is_remote, over_rows};
 use crate::scope::role_of;
-use rb_meaning_flow::{Role, Variable};
+use rb_marks::Scope;
+use rb_meaning_flow::Role;
 use rb_trees::{Expr, ExprForm, Seq, Stmt, StmtForm};
 use rb_types::Typed;
 
@@ -26,7 +27,7 @@ fn is_portable_variable(role: Role) -> bool
 
 /// Whether an expression is portable.
 #[cycle(portables)]
-pub fn is_portable(x: &Typed, scope: &Seq<Variable>, e: &Expr) -> bool
+pub fn is_portable(x: &Typed, scope: &Scope, e: &Expr) -> bool
     ensures { result ≡ told.portable (facts x.now) scope.now (mirror_expr e.now) }
 {
     match &e.form {
@@ -45,7 +46,7 @@ pub fn is_portable(x: &Typed, scope: &Seq<Variable>, e: &Expr) -> bool
 }
 
 #[cycle(portables)]
-fn are_portable(x: &Typed, scope: &Seq<Variable>, es: &[Expr]) -> bool
+fn are_portable(x: &Typed, scope: &Scope, es: &[Expr]) -> bool
     ensures { result ≡ told.all_portable (facts x.now) scope.now (mirror_exprs es.now) }
 {
     for e in es {

@@ -13,7 +13,8 @@ ghost use Rattle.rb_flow.specs.Readings as words;
 use crate::facts::{is_call, is_remote};
 use crate::scope::{bind, node_of};
 use crate::standing::Reading;
-use rb_meaning_flow::{Role, Variable};
+use rb_marks::Scope;
+use rb_meaning_flow::Role;
 use rb_trees::{Expr, ExprForm, Memory, Seq, Stmt, StmtForm, Word};
 use rb_types::Typed;
 use std::alloc::Global;
@@ -41,7 +42,7 @@ impl Reading {
     }
 }
 
-fn node_read(x: &Typed, scope: &Seq<Variable>, e: &Expr) -> Option<u32>
+fn node_read(x: &Typed, scope: &Scope, e: &Expr) -> Option<u32>
     ensures { node_list result ≡ flow.read_here (facts x.now) scope.now (mirror_expr e.now) }
 {
     match &e.form {
@@ -75,7 +76,7 @@ fn source_here(x: &Typed, called: bool, e: &Expr) -> Option<u32>
 
 fn read_itself(
     x: &Typed,
-    scope: &Seq<Variable>,
+    scope: &Scope,
     called: bool,
     reading: &mut Reading,
     e: &Expr,
@@ -90,7 +91,7 @@ fn read_itself(
 #[cycle(exprs)]
 fn read_parts(
     x: &Typed,
-    scope: &Seq<Variable>,
+    scope: &Scope,
     called: bool,
     reading: &mut Reading,
     e: &Expr,
@@ -118,7 +119,7 @@ fn read_parts(
 #[cycle(exprs)]
 pub fn read_expr(
     x: &Typed,
-    scope: &Seq<Variable>,
+    scope: &Scope,
     called: bool,
     reading: &mut Reading,
     e: &Expr,
@@ -133,7 +134,7 @@ pub fn read_expr(
 #[cycle(exprs)]
 fn read_exprs(
     x: &Typed,
-    scope: &Seq<Variable>,
+    scope: &Scope,
     called: bool,
     reading: &mut Reading,
     es: &[Expr],
@@ -152,7 +153,7 @@ fn read_exprs(
 fn read_stmt(
     alloc: Global,
     x: &Typed,
-    scope: &mut Seq<Variable>,
+    scope: &mut Scope,
     reading: &mut Reading,
     s: &Stmt,
 ) -> Result<(), Memory>
@@ -200,7 +201,7 @@ fn read_stmt(
 pub fn read_block(
     alloc: Global,
     x: &Typed,
-    scope: &mut Seq<Variable>,
+    scope: &mut Scope,
     reading: &mut Reading,
     ss: &[Stmt],
 ) -> Result<(), Memory>
@@ -219,7 +220,7 @@ pub fn read_block(
 pub fn read_opened(
     alloc: Global,
     x: &Typed,
-    scope: &mut Seq<Variable>,
+    scope: &mut Scope,
     reading: &mut Reading,
     name: &Word,
     node: u32,
@@ -240,7 +241,7 @@ pub fn read_opened(
 fn read_stmts(
     alloc: Global,
     x: &Typed,
-    scope: &mut Seq<Variable>,
+    scope: &mut Scope,
     reading: &mut Reading,
     ss: &[Stmt],
 ) -> Result<(), Memory>

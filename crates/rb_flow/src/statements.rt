@@ -21,7 +21,8 @@ use crate::scope::bind;
 use crate::seen::see_stmt;
 use crate::standing::Standing;
 use crate::walk::walk_expr;
-use rb_meaning_flow::{Role, Variable};
+use rb_marks::Scope;
+use rb_meaning_flow::Role;
 use rb_trees::{Expr, Memory, Seq, Stmt, StmtForm, Word};
 use rb_types::Typed;
 use std::alloc::Global;
@@ -41,7 +42,7 @@ fn walk_whole(
     alloc: Global,
     x: &Typed,
     standing: &Standing,
-    scope: &Seq<Variable>,
+    scope: &Scope,
     found: &mut Findings,
     may: bool,
     e: &Expr,
@@ -57,7 +58,7 @@ fn enter_if(
     alloc: Global,
     x: &Typed,
     standing: &Standing,
-    scope: &Seq<Variable>,
+    scope: &Scope,
     found: &mut Findings,
     c: &Expr,
     a: &[Stmt],
@@ -77,7 +78,7 @@ fn enter_while(
     alloc: Global,
     x: &Typed,
     standing: &Standing,
-    scope: &Seq<Variable>,
+    scope: &Scope,
     found: &mut Findings,
     c: &Expr,
 ) -> Result<Standing, Memory>
@@ -95,7 +96,7 @@ fn enter_for(
     alloc: Global,
     x: &Typed,
     standing: &Standing,
-    scope: &Seq<Variable>,
+    scope: &Scope,
     found: &mut Findings,
     e: &Expr,
 ) -> Result<Standing, Memory>
@@ -114,7 +115,7 @@ fn walk_stmt(
     alloc: Global,
     x: &Typed,
     standing: &Standing,
-    scope: &mut Seq<Variable>,
+    scope: &mut Scope,
     found: &mut Findings,
     s: &Stmt,
 ) -> Result<(), Memory>
@@ -131,7 +132,7 @@ fn walk_within(
     alloc: Global,
     x: &Typed,
     standing: &Standing,
-    scope: &mut Seq<Variable>,
+    scope: &mut Scope,
     found: &mut Findings,
     s: &Stmt,
 ) -> Result<(), Memory>
@@ -188,7 +189,7 @@ fn walk_block(
     alloc: Global,
     x: &Typed,
     standing: &Standing,
-    scope: &mut Seq<Variable>,
+    scope: &mut Scope,
     found: &mut Findings,
     ss: &[Stmt],
 ) -> Result<(), Memory>
@@ -207,7 +208,7 @@ fn walk_opened(
     alloc: Global,
     x: &Typed,
     standing: &Standing,
-    scope: &mut Seq<Variable>,
+    scope: &mut Scope,
     found: &mut Findings,
     name: &Word,
     role: Role,
@@ -230,7 +231,7 @@ pub fn walk_stmts(
     alloc: Global,
     x: &Typed,
     standing: &Standing,
-    scope: &mut Seq<Variable>,
+    scope: &mut Scope,
     found: &mut Findings,
     ss: &[Stmt],
 ) -> Result<(), Memory>

@@ -29,7 +29,7 @@ static ROWS: [(&str, u8, &str); 16] = [
     (
         "main { batch (D r) { val b = new B(r.file(0).size()); r.file(b.n); } }",
         1,
-        "                             b               a                c     ",
+        "                     b                       a                c     ",
     ),
     (
         "main { val b = new B(0); batch (D r) { r.file(b.up()); } }",
