@@ -29,7 +29,7 @@ static ROWS: [(&str, u8, &str); 16] = [
     (
         "main { batch (D r) { val b = new B(r.file(0).size()); r.file(b.n); } }",
         1,
-        "                     b                       a                c     ",
+        "                     b                       a                 c    ",
     ),
     (
         "main { val b = new B(0); batch (D r) { r.file(b.up()); } }",
@@ -57,9 +57,9 @@ static ROWS: [(&str, u8, &str); 16] = [
         "                                       a      b                      ",
     ),
     (
-        "main { batch (D r) { print(r.file(0).size()); val x = List<F>(r.file(0)); } }",
+        "main { batch (D r) { print(r.file(0).size()); print(r.file(1)); } }",
         4,
-        "                                                                a           ",
+        "                                                      a            ",
     ),
     ("main { batch (D r) { batch (D q) { } } }", 5, "                     a                  "),
     (
@@ -80,7 +80,7 @@ static ROWS: [(&str, u8, &str); 16] = [
     (
         "main { batch (D r) { var a = r.file(0).size(); var b = r.file(1).size(); r.file(a + b); } }",
         1,
-        "                     b                 a                                       c         ",
+        "                     b                 a                                        c          ",
     ),
     (
         "main { val l = List<Int>(1); batch (D r) { for (i in l) { r.file(i).grow(1); } } }",
