@@ -41,12 +41,7 @@ fn no_findings(alloc: Global) -> Findings
 
 // What is found in a batch that begins with this scope.
 #[tactic(auto, using(crate::proofs::Answered::block_found))]
-fn find(
-    alloc: Global,
-    x: &Typed,
-    scope: &mut Scope,
-    block: &[Stmt],
-) -> Result<Findings, Memory>
+fn find(alloc: Global, x: &Typed, scope: &mut Scope, block: &[Stmt]) -> Result<Findings, Memory>
     ensures { IfOk result (λ f. f ≡ words.batch_found (facts x.now) (block_sites (facts x.now) [] scope.old (mirror_stmts block.now))) }
 {
     let mut found = no_findings(alloc);

@@ -17,9 +17,7 @@ use crate::scope::bind;
 use rb_marks::{Batch, Facts, Scope};
 use rb_meaning_flow::{Role, Variable};
 use rb_names::Names;
-use rb_trees::{
-    Class, Memory, Method, Param, Program, Seq, Stmt, StmtForm, TypeForm, Word,
-};
+use rb_trees::{Class, Memory, Method, Param, Program, Seq, Stmt, StmtForm, TypeForm, Word};
 use std::alloc::Global;
 
 /// An outermost batch: the variables in scope where it begins, and its block.
@@ -80,11 +78,7 @@ fn role_with(assigned: &Names, v: &Variable) -> Role
 }
 
 // The variables of a scope as a batch sees them in which these are assigned.
-fn scope_with(
-    alloc: Global,
-    assigned: &Names,
-    scope: &Scope,
-) -> Result<Scope, Memory>
+fn scope_with(alloc: Global, assigned: &Names, scope: &Scope) -> Result<Scope, Memory>
     ensures { IfOk result (λ s. s ≡ scopes.scope_with assigned.now scope.now) }
 {
     let mut seen = Scope::new(alloc);
@@ -261,6 +255,12 @@ pub fn collect_batches<'p>(
     let mut batches = Seq::new(alloc);
     collect_classes(alloc, x, &mut batches, program.classes.as_slice())?;
     let mut scope = Scope::new(alloc);
-    collect_stmts(alloc, x, &mut scope, &mut batches, program.body.statements.as_slice())?;
+    collect_stmts(
+        alloc,
+        x,
+        &mut scope,
+        &mut batches,
+        program.body.statements.as_slice(),
+    )?;
     Ok(batches)
 }

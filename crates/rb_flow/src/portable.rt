@@ -34,7 +34,8 @@ pub fn is_portable(x: &Typed, scope: &Scope, e: &Expr) -> bool
         ExprForm::Lit(_) => true,
         ExprForm::Name(name) => is_portable_variable(role_of(scope, name)),
         ExprForm::Unary(_, a) => is_portable(x, scope, a.get()),
-        ExprForm::Binary(_, a, b) => is_portable(x, scope, a.get()) && is_portable(x, scope, b.get()),
+        ExprForm::Binary(_, a, b) => is_portable(x, scope, a.get())
+            && is_portable(x, scope, b.get()),
         ExprForm::Call(a, _, args) => {
             is_remote(x, a.get())
                 && is_portable(x, scope, a.get())

@@ -48,7 +48,13 @@ fn node_read(x: &Typed, scope: &Scope, e: &Expr) -> Option<u32>
     match &e.form {
         ExprForm::Name(name) => node_of(scope, name),
         ExprForm::Field(_, _) => Some(OBJECTS),
-        ExprForm::Call(a, _, _) => { if is_remote(x, a.get()) { None } else { Some(OBJECTS) } }
+        ExprForm::Call(a, _, _) => {
+            if is_remote(x, a.get()) {
+                None
+            } else {
+                Some(OBJECTS)
+            }
+        }
         ExprForm::Lit(_) | ExprForm::This | ExprForm::Unary(_, _) => None,
         ExprForm::Binary(_, _, _) | ExprForm::Index(_, _) | ExprForm::New(_, _) => None,
         ExprForm::Items(_, _) | ExprForm::Taken(_) => None,
@@ -100,7 +106,13 @@ fn read_parts(
 {
     match &e.form {
         ExprForm::Lit(_) | ExprForm::Name(_) | ExprForm::This | ExprForm::Taken(_) => Ok(()),
-        ExprForm::Unary(_, a) | ExprForm::Field(a, _) => read_expr(x, scope, called, reading, a.get()),
+        ExprForm::Unary(_, a) | ExprForm::Field(a, _) => read_expr(
+            x,
+            scope,
+            called,
+            reading,
+            a.get(),
+        ),
         ExprForm::Binary(_, a, b) | ExprForm::Index(a, b) => {
             read_expr(x, scope, called, reading, a.get())?;
             read_expr(x, scope, called, reading, b.get())

@@ -158,7 +158,16 @@ fn walk_within(
             walk_whole(alloc, x, standing, scope, found, false, e)
         }
         StmtForm::If(c, a, b) => {
-            let within = enter_if(alloc, x, standing, scope, found, c, a.as_slice(), b.as_slice())?;
+            let within = enter_if(
+                alloc,
+                x,
+                standing,
+                scope,
+                found,
+                c,
+                a.as_slice(),
+                b.as_slice(),
+            )?;
             walk_block(alloc, x, &within, scope, found, a.as_slice())?;
             walk_block(alloc, x, &within, scope, found, b.as_slice())
         }
@@ -169,16 +178,55 @@ fn walk_within(
         StmtForm::For(name, e, a) => {
             let within = enter_for(alloc, x, standing, scope, found, e)?;
             let role = turn_role(x, e);
-            walk_opened(alloc, x, &within, scope, found, name, role, s.at, a.as_slice())
+            walk_opened(
+                alloc,
+                x,
+                &within,
+                scope,
+                found,
+                name,
+                role,
+                s.at,
+                a.as_slice(),
+            )
         }
         StmtForm::Try(a, name, b) => {
-            let within = try_standing(alloc, x, scope, standing, s.at, a.as_slice(), name, b.as_slice())?;
+            let within = try_standing(
+                alloc,
+                x,
+                scope,
+                standing,
+                s.at,
+                a.as_slice(),
+                name,
+                b.as_slice(),
+            )?;
             walk_block(alloc, x, &within, scope, found, a.as_slice())?;
-            walk_opened(alloc, x, &within, scope, found, name, Role::Plain, s.at, b.as_slice())
+            walk_opened(
+                alloc,
+                x,
+                &within,
+                scope,
+                found,
+                name,
+                Role::Plain,
+                s.at,
+                b.as_slice(),
+            )
         }
         StmtForm::Batch(_, root, a) => {
             let within = batch_standing(alloc, standing)?;
-            walk_opened(alloc, x, &within, scope, found, root, Role::Plain, s.at, a.as_slice())
+            walk_opened(
+                alloc,
+                x,
+                &within,
+                scope,
+                found,
+                root,
+                Role::Plain,
+                s.at,
+                a.as_slice(),
+            )
         }
     }
 }

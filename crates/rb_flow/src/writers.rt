@@ -92,19 +92,16 @@ fn assigned_node(scope: &Scope, left: &Expr) -> Option<u32>
     match &left.form {
         ExprForm::Name(name) => node_of(scope, name),
         ExprForm::Lit(_) | ExprForm::Field(_, _) | ExprForm::This => Some(OBJECTS),
-        ExprForm::Unary(_, _) | ExprForm::Binary(_, _, _) | ExprForm::Call(_, _, _) => Some(OBJECTS),
+        ExprForm::Unary(_, _) | ExprForm::Binary(_, _, _) | ExprForm::Call(_, _, _) => Some(
+            OBJECTS,
+        ),
         ExprForm::Index(_, _) | ExprForm::New(_, _) => Some(OBJECTS),
         ExprForm::Items(_, _) | ExprForm::Taken(_) => Some(OBJECTS),
     }
 }
 
 // What the left side of an assignment reads.
-fn read_left(
-    x: &Typed,
-    scope: &Scope,
-    reading: &mut Reading,
-    left: &Expr,
-) -> Result<(), Memory>
+fn read_left(x: &Typed, scope: &Scope, reading: &mut Reading, left: &Expr) -> Result<(), Memory>
     ensures { OnOk result (reading.new ≡ words.left_read (facts x.now) scope.now reading.old (mirror_expr left.now)) }
 {
     match &left.form {

@@ -15,7 +15,11 @@ static BEFORE: &str =
 /// Texts, each with the number of its refusal, 0 for none, and under it the positions that the refusal
 /// tells, a, b, c and so on.
 static ROWS: [(&str, u8, &str); 16] = [
-    ("main { val a = 1; batch (D r) { r.file(a).grow(2); } }", 0, ""),
+    (
+        "main { val a = 1; batch (D r) { r.file(a).grow(2); } }",
+        0,
+        "",
+    ),
     (
         "main { batch (D r) { var n = r.file(0).size(); r.file(n).grow(1); } }",
         1,
@@ -61,7 +65,11 @@ static ROWS: [(&str, u8, &str); 16] = [
         4,
         "                                                      a            ",
     ),
-    ("main { batch (D r) { batch (D q) { } } }", 5, "                     a                  "),
+    (
+        "main { batch (D r) { batch (D q) { } } }",
+        5,
+        "                     a                  ",
+    ),
     (
         "main { val b = new B(0); batch (D r) { b.go(); } }",
         5,
