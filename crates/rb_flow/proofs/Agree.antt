@@ -1,5 +1,5 @@
 -- The walk finds what the sites of a batch have.
-use Rattle.std.proofs.Common.{◌≡◌, ℕ, List, [], ◌∷◌, ◌++◌, Bool, true, false, cond, not, ◌&&◌, ◌||◌, Option, Some, None, refl, sym, ap, ◌∙◌, append_assoc}
+use Rattle.std.proofs.Common.{◌≡◌, ℕ, List, [], ◌∷◌, ◌++◌, Bool, true, false, cond, ◌&&◌, Option, Some, refl, sym, ap, ◌∙◌, append_assoc}
 use Rattle.std.proofs.lemmas.List.{append-nil}
 use Rattle.std.specs.List.{flat_map}
 use Rattle.rb_trees.specs.mirror.Code.{Expr, Exprs, Lit, Name, This, Unary, Binary, Field, Call, Index, New, Items, Taken, NoExprs, MoreExprs, expr_at, Stmt, Stmts, Val, Var, Assign, Run, Print, Throw, If, While, For, Try, Batch, NoStmts, MoreStmts}
@@ -14,9 +14,9 @@ use Rattle.rb_flow.specs.declared.standing.Reading.{Reading}
 use Rattle.rb_flow.specs.declared.standing.Standing.{Standing}
 use Rattle.rb_flow.specs.declared.standing.Inside.{Inside}
 use Rattle.rb_flow.specs.declared.findings.Findings.{Findings}
-use Rattle.rb_flow.specs.Readings.{nothing, joined, read_by, whole_read, stmt_read}
+use Rattle.rb_flow.specs.Readings.{nothing, joined, read_by, whole_read}
 use Rattle.rb_flow.specs.Found.{innermost, standing_in, conditions_above, inside_at}
-use Rattle.rb_flow.specs.Walked.{expr_seen, stmt_seen, or_outer, part_inside, expr_walked, exprs_walked, whole_inside, while_inside, more_around, condition_unless, branch_standing, while_standing, turn_standing, try_standing, batch_standing, scope_then, condition_walked, turns_walked, list_walked, stmt_walked, block_walked}
+use Rattle.rb_flow.specs.Walked.{expr_seen, or_outer, part_inside, expr_walked, exprs_walked, whole_inside, while_inside, condition_unless, branch_standing, while_standing, turn_standing, try_standing, scope_then, condition_walked, turns_walked, list_walked, stmt_walked, block_walked}
 use Rattle.rb_flow.specs.Sited.{around_of, expr_site_seen, exprs_seen, stmt_site_seen, all_seen}
 use Rattle.rb_flow.proofs.ReadSites.{read_both, same_scope, around_more, stmt_read_sites}
 

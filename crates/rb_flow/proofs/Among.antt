@@ -1,27 +1,26 @@
 -- The answer for one more batch.
-use Rattle.std.proofs.Common.{◌≡◌, ℕ, ◌<◌, ◌≤◌, ◌⊎◌, inl, inr, List, [], ◌∷◌, ◌++◌, map, true, false, Option, Some, None, refl, sym, ap, ◌∙◌, append_assoc, subst, arith}
-use Rattle.std.specs.List.{Contains, flat_map, IsDistinct}
-use Rattle.std.specs.Prelude.{nat_eq, IfOk, Result, Ok, Err}
+use Rattle.std.proofs.Common.{◌≡◌, ℕ, ◌≤◌, ◌⊎◌, inl, inr, List, [], ◌∷◌, ◌++◌, map, true, Option, Some, None, refl, sym, ap, ◌∙◌, append_assoc, subst, arith}
+use Rattle.std.specs.List.{Contains, flat_map}
+use Rattle.std.specs.Prelude.{IfOk, Result, Ok, Err}
 use Rattle.std.proofs.lemmas.Bool.{cases_Bool, cond-true, cond-false}
 use Rattle.std.proofs.lemmas.List.{append-nil, map-append}
-use Rattle.std.proofs.lemmas.List.Elements.{Contains-append_left, Contains-append_right, Contains-append_cases}
+use Rattle.std.proofs.lemmas.List.Elements.{Contains-append_left, Contains-append_right}
 use Rattle.rb_trees.specs.declared.refusals.Refusal.{Refusal}
 use Rattle.rb_trees.specs.mirror.Code.{expr_at, Stmt, Stmts, Val, Var, Assign, Run, Print, Throw, If, While, For, Try, Batch, NoStmts, MoreStmts}
 use Rattle.rb_trees.specs.mirror.Declarations.{Method, Class, Program}
 use Rattle.rb_meaning_types.specs.Lawful.{IsLawful, classes_positions, body_positions}
 use Rattle.rb_meaning_flow.specs.Facts.{Facts, facts_of}
 use Rattle.rb_meaning_flow.specs.Scopes.{Scope, with_variable}
-use Rattle.rb_meaning_flow.specs.Sites.{StmtSite}
 use Rattle.rb_meaning_flow.specs.Outermost.{Outermost, batch_sites, outer_role, outer_after, outermost, outermost_in, parameters, method_batches, class_batches, program_batches}
-use Rattle.rb_meaning_flow.specs.Refusals.{IsRefusal, IsBefore, place, number}
-use Rattle.rb_meaning_flow.specs.Programs.{sites_of, IsRefusalOf, IsAnswerOf}
-use Rattle.rb_marks.proofs.Counts.{count, at_most_once}
+use Rattle.rb_meaning_flow.specs.Refusals.{IsRefusal, IsBefore}
+use Rattle.rb_meaning_flow.specs.Programs.{IsRefusalOf}
+use Rattle.rb_marks.proofs.Counts.{at_most_once}
 use Rattle.rb_marks.proofs.Placed.{total, totals, program_stands}
-use Rattle.rb_flow.specs.Earliest.{is_before, earlier}
+use Rattle.rb_flow.specs.Earliest.{is_before}
 use Rattle.rb_flow.specs.declared.outermost.OpenBatch.{OpenBatch}
-use Rattle.rb_flow.specs.Begun.{Begun, begun_of, begun, begun_sites, with_batch, stmt_begun, block_begun, methods_begun, classes_begun, program_begun}
+use Rattle.rb_flow.specs.Begun.{Begun, begun_of, begun, begun_sites, stmt_begun, block_begun, methods_begun, classes_begun, program_begun}
 use Rattle.rb_flow.specs.Answers.{SitesDiffer, IsBatchAnswer}
-use Rattle.rb_flow.specs.Program.{AllDiffer, IsRefusalAmong, IsAnswerAmong, with_answer, TakenSo, HasNoRefusal, IsProgramAnswer}
+use Rattle.rb_flow.specs.Program.{AllDiffer, IsRefusalAmong, IsAnswerAmong, with_answer, TakenSo, IsProgramAnswer}
 use Rattle.rb_flow.proofs.Members.{none_contained, first_contained, more_contained, contained_cases}
 use Rattle.rb_flow.proofs.First.{AtMost, before_true, before_false}
 use Rattle.rb_flow.proofs.Differ.{Once, sites_differ}

@@ -1,5 +1,5 @@
 -- What the walk finds in a batch, and its writers' positions.
-use Rattle.std.proofs.Common.{◌≡◌, List, [], refl, ap, ◌∙◌, subst, sym}
+use Rattle.std.proofs.Common.{◌≡◌, List, [], subst, sym}
 use Rattle.rb_trees.specs.mirror.Code.{Stmts}
 use Rattle.rb_meaning_flow.specs.Facts.{Facts}
 use Rattle.rb_meaning_flow.specs.Scopes.{Scope}

@@ -1,5 +1,5 @@
 -- What is decided is the answer for a batch.
-use Rattle.std.proofs.Common.{◌≡◌, ℕ, suc, zero, ◌+◌, ◌<◌, ◌≤◌, ◌⊎◌, inl, inr, List, [], ◌∷◌, ◌++◌, Bool, true, false, cond, nat_lt, Option, Some, None, refl, sym, ap, ◌∙◌, subst, arith}
+use Rattle.std.proofs.Common.{◌≡◌, ℕ, ◌<◌, ◌≤◌, ◌⊎◌, inl, inr, List, [], ◌∷◌, ◌++◌, Bool, true, false, nat_lt, Option, Some, None, refl, sym, ap, ◌∙◌, subst, arith}
 use Rattle.std.specs.List.{Contains}
 use Rattle.std.proofs.lemmas.Bool.{cases_Bool, ltb-true, ltb-false, cond-true, cond-false}
 use Rattle.rb_trees.specs.declared.flows.Writer.{Writer}
@@ -8,12 +8,11 @@ use Rattle.rb_trees.specs.declared.refusals.Refusal.{Refusal}
 use Rattle.rb_trees.specs.declared.refusals.Refusal.TheVariants.{Flow, NotConstant, UnderLocalCondition, Escapes, BatchInside, InTry, RemoteVar, TooManyInputs, ScriptTooLarge}
 use Rattle.rb_meaning_flow.specs.Facts.{Facts}
 use Rattle.rb_meaning_flow.specs.Sites.{StmtSite}
-use Rattle.rb_meaning_flow.specs.Chains.{IsChain, IsLeastChain}
+use Rattle.rb_meaning_flow.specs.Chains.{IsChain}
 use Rattle.rb_meaning_flow.specs.Flow.{writers, bad_parts}
-use Rattle.rb_meaning_flow.specs.Refusals.{IsRefusal, IsBefore, place, number, last_of}
-use Rattle.rb_flow.specs.Earliest.{earliest, IsEarliest}
+use Rattle.rb_meaning_flow.specs.Refusals.{IsRefusal, place, number, last_of}
+use Rattle.rb_flow.specs.Earliest.{IsEarliest}
 use Rattle.rb_flow.specs.Found.{all_found}
-use Rattle.rb_flow.specs.Walked.{lesser_part}
 use Rattle.rb_flow.specs.Parts.{least_part, all_parts, all_writers}
 use Rattle.rb_flow.specs.Answers.{SitesDiffer, IsBatchAnswer, IsFlowRefusal, stands_before, IsDecidedAt, IsDecided, no_findings, batch_found}
 use Rattle.rb_flow.proofs.Members.{none_contained, first_contained, more_contained, contained_cases}
@@ -159,20 +158,26 @@ without_part x ss None e none = λ r h. elim (rows x ss r h) [
   | inl p ↦ none_contained p.0 (subst (λ ps. Contains ps p.0) none (parts_together x ss p.0 p.1))
   | inr n ↦ none_contained r (subst (λ rs. Contains rs r) e (refusal_is_found x ss r h n))
 ]
-without_part x ss (Some s) e none = (found_is_refusal x ss s e.0, λ other h before. elim (rows x ss other h) [
-  | inl p ↦ none_contained p.0 (subst (λ ps. Contains ps p.0) none (parts_together x ss p.0 p.1))
-  | inr n ↦ e.1 other (refusal_is_found x ss other h n) before
-])
+without_part x ss (Some s) e none = (
+  found_is_refusal x ss s e.0,
+  λ other h before. elim (rows x ss other h) [
+    | inl p ↦ none_contained p.0 (subst (λ ps. Contains ps p.0) none (parts_together x ss p.0 p.1))
+    | inr n ↦ e.1 other (refusal_is_found x ss other h n) before
+  ],
+)
 
 -- a refusal that stands before all bad parts
 before_parts : (x : Facts) (ss : List StmtSite) (s : Refusal) (u : BadPart) → IsEarliest (all_found x ss) (Some s) → IsLeastPart (all_parts x ss) (Some u) → place s < u.at → IsBatchAnswer x ss (Some s)
 unfolding OfPart
-before_parts x ss s u e least lt = (found_is_refusal x ss s e.0, λ other h before. elim (rows x ss other h) [
-  | inl p ↦
-      let after : u.at ≤ p.0.at = least.1 p.0 (parts_together x ss p.0 p.1) in
-      elim before [ inl b ↦ absurd (omega (arith, p.2, b, after, lt)) | inr b ↦ absurd (omega (arith, p.2, b.0, after, lt)) ]
-  | inr n ↦ e.1 other (refusal_is_found x ss other h n) before
-])
+before_parts x ss s u e least lt = (
+  found_is_refusal x ss s e.0,
+  λ other h before. elim (rows x ss other h) [
+    | inl p ↦
+        let after : u.at ≤ p.0.at = least.1 p.0 (parts_together x ss p.0 p.1) in
+        elim before [ inl b ↦ absurd (omega (arith, p.2, b, after, lt)) | inr b ↦ absurd (omega (arith, p.2, b.0, after, lt)) ]
+    | inr n ↦ e.1 other (refusal_is_found x ss other h n) before
+  ],
+)
 
 -- no refusal of single sites stands before a position
 NoneBefore : Facts → List StmtSite → ℕ → Type 0
@@ -189,22 +194,24 @@ unfolding OfPart NoneBefore
 part_first x ss u r differ least none f =
     let mine : Contains (bad_parts x ss) u = parts_apart x ss u least.0 in
     let flow : IsFlowRefusal (writers x ss) u r = flow_same (all_writers x ss) (writers x ss) (writers_apart x ss) (writers_together x ss) u r f in
-    let is = part_refused x ss u r mine flow in
-    (is.0, λ other h before. elim (rows x ss other h) [
-      | inl p ↦
-          let after : u.at ≤ p.0.at = least.1 p.0 (parts_together x ss p.0 p.1) in
-          elim before [
-            | inl b ↦ absurd (omega (arith, p.2, b, after, is.1))
-            | inr b ↦
-                let at : p.0.at ≡ u.at = sym p.2 ∙ b.0 ∙ is.1 in
-                let same : p.0 ≡ u = differ.parts p.0 u p.1 mine at in
-                one_refusal (writers x ss) u r other flow (subst (λ v. IsFlowRefusal (writers x ss) v other) same p.3) b.1
-          ]
-      | inr n ↦ elim before [
-        | inl b ↦ none other (refusal_is_found x ss other h n) (omega (arith, b, is.1))
-        | inr b ↦ absurd (omega (arith, n, b.1, is.2))
-      ]
-    ])
+    let is = part_refused x ss u r mine flow in (
+      is.0,
+      λ other h before. elim (rows x ss other h) [
+        | inl p ↦
+            let after : u.at ≤ p.0.at = least.1 p.0 (parts_together x ss p.0 p.1) in
+            elim before [
+              | inl b ↦ absurd (omega (arith, p.2, b, after, is.1))
+              | inr b ↦
+                  let at : p.0.at ≡ u.at = sym p.2 ∙ b.0 ∙ is.1 in
+                  let same : p.0 ≡ u = differ.parts p.0 u p.1 mine at in
+                  one_refusal (writers x ss) u r other flow (subst (λ v. IsFlowRefusal (writers x ss) v other) same p.3) b.1
+            ]
+        | inr n ↦ elim before [
+          | inl b ↦ none other (refusal_is_found x ss other h n) (omega (arith, b, is.1))
+          | inr b ↦ absurd (omega (arith, n, b.1, is.2))
+        ]
+      ],
+    )
 
 decided_at : (x : Facts) (ss : List StmtSite) (before : Bool) (first : Option Refusal) (u : BadPart) (answer : Option Refusal) → stands_before first u.at ≡ before → SitesDiffer x ss
     → IsEarliest (all_found x ss) first → IsLeastPart (all_parts x ss) (Some u) → IsDecidedAt before first (all_writers x ss) u answer → IsBatchAnswer x ss answer

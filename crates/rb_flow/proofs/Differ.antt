@@ -1,5 +1,5 @@
 -- Where each position has at most one site, writers differ, and so do bad parts.
-use Rattle.std.proofs.Common.{◌≡◌, ℕ, zero, suc, ◌+◌, ◌<◌, ◌≤◌, ◌⊎◌, inl, inr, List, [], ◌∷◌, ◌++◌, map, Bool, true, false, cond, refl, sym, ap, ◌∙◌, subst, arith}
+use Rattle.std.proofs.Common.{◌≡◌, ℕ, ◌+◌, ◌≤◌, ◌⊎◌, inl, inr, List, [], ◌∷◌, ◌++◌, map, Bool, true, false, cond, refl, sym, ap, ◌∙◌, subst, arith}
 use Rattle.std.specs.List.{Contains, flat_map}
 use Rattle.std.specs.Ordering.{nat_cmp}
 use Rattle.std.specs.BTreeMap.{is_at}
@@ -9,7 +9,6 @@ use Rattle.rb_trees.specs.declared.flows.Writer.{Writer}
 use Rattle.rb_trees.specs.declared.flows.BadPart.{BadPart}
 use Rattle.rb_trees.specs.mirror.Code.{Expr, Exprs, Lit, Name, This, Unary, Binary, Field, Call, Index, New, Items, Taken, NoExprs, MoreExprs, expr_at, Stmt, Val, Var, Assign, Run, Print, Throw, If, While, For, Try, Batch, stmt_at}
 use Rattle.rb_meaning_flow.specs.Facts.{Facts, is_remote, over_rows}
-use Rattle.rb_meaning_flow.specs.Scopes.{Scope}
 use Rattle.rb_meaning_flow.specs.Portable.{portable}
 use Rattle.rb_meaning_flow.specs.Sites.{Around, StmtSite, Over, ExprSite, expr_sites, exprs_sites, own, all_sites, exprs_of}
 use Rattle.rb_meaning_flow.specs.Chains.{PositionsDiffer}
@@ -18,8 +17,8 @@ use Rattle.rb_marks.proofs.Counts.{at_itself, here, count}
 use Rattle.rb_marks.proofs.Placed.{site_at, stmt_site_at, total, count_sites}
 use Rattle.rb_flow.specs.Parts.{parts_in}
 use Rattle.rb_flow.specs.Answers.{SitesDiffer}
-use Rattle.rb_flow.proofs.Members.{none_contained, first_contained, more_contained, contained_cases, GivenBy, given_by}
-use Rattle.rb_flow.proofs.Listed.{own_of, owned}
+use Rattle.rb_flow.proofs.Members.{none_contained, first_contained, more_contained, contained_cases, given_by}
+use Rattle.rb_flow.proofs.Listed.{owned}
 
 -- what stands at a position is counted there
 here_itself : (q a : ℕ) → is_at (nat_cmp a) q ≡ true → here q a ≡ 1

@@ -1,5 +1,5 @@
 -- What a type that was found tells of the expression at its position.
-use Rattle.std.proofs.Common.{◌≡◌, ℕ, List, Option, Some, None, sym, ap, refl}
+use Rattle.std.proofs.Common.{◌≡◌, ℕ, List, Option, sym, ap}
 use Rattle.rb_trees.specs.declared.code.TypeForm.{TypeForm}
 use Rattle.rb_trees.specs.mirror.Declarations.{Program}
 use Rattle.rb_meaning_types.specs.Declared.{of_program}

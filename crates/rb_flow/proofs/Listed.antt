@@ -1,16 +1,16 @@
 -- The refusals that are found are exactly those of the table that look at one statement or expression alone.
-use Rattle.std.proofs.Common.{◌≡◌, ℕ, suc, ◌≤◌, ◌⊎◌, inl, inr, List, [], ◌∷◌, ◌++◌, Bool, true, false, not, cond, ◌&&◌, IsTrue, Option, Some, None, refl, sym, ap, ◌∙◌, subst, arith}
+use Rattle.std.proofs.Common.{◌≡◌, ℕ, suc, ◌≤◌, ◌⊎◌, inl, inr, List, [], ◌∷◌, ◌++◌, Bool, not, ◌&&◌, IsTrue, Option, Some, None, refl, sym, ap, subst, arith}
 use Rattle.std.specs.List.{Contains, flat_map}
 use Rattle.std.proofs.lemmas.List.Elements.{Contains-append_left, Contains-append_right, Contains-append_cases}
 use Rattle.rb_trees.specs.declared.refusals.Refusal.{Refusal}
 use Rattle.rb_trees.specs.declared.refusals.Refusal.TheVariants.{Flow, NotConstant, UnderLocalCondition, Escapes, BatchInside, InTry, RemoteVar, TooManyInputs, ScriptTooLarge}
-use Rattle.rb_trees.specs.mirror.Code.{Expr, expr_at, Stmt, stmt_at}
+use Rattle.rb_trees.specs.mirror.Code.{expr_at, stmt_at}
 use Rattle.rb_meaning_flow.specs.Sites.{Around, StmtSite, ExprSite, own, all_sites, exprs_of}
 use Rattle.rb_meaning_flow.specs.Facts.{Facts}
 use Rattle.rb_meaning_flow.specs.Flow.{is_call}
 use Rattle.rb_meaning_flow.specs.Refusals.{number, has_remote_type, expr_conditions, stmt_conditions, any_try, StandsFirst, is_rows_loop, is_batch, is_remote_var, calls_remote_method, may_be_remote, IsOperationAt, IsRefusal}
-use Rattle.rb_flow.specs.Found.{innermost, standing_in, inside_of, where_so, under_found, operation_found, found_at_stmt, found_at_expr, stmt_found, expr_found, site_found, all_found}
-use Rattle.rb_flow.proofs.Members.{none_contained, first_contained, contained_cases, GivenBy, given_by, gives_all, cond_contained, contained_cond, cond_list, list_cond}
+use Rattle.rb_flow.specs.Found.{innermost, standing_in, inside_of, where_so, under_found, operation_found, stmt_found, expr_found, site_found, all_found}
+use Rattle.rb_flow.proofs.Members.{none_contained, first_contained, contained_cases, given_by, gives_all, cond_contained, contained_cond, cond_list, list_cond}
 
 -- an expression of some statements is one of the expressions of one of them
 pub record OwnOf (ss : List StmtSite) (e : ExprSite) : Type 0 where
@@ -73,16 +73,18 @@ under_is conditions (Some p) at r e h = elim (contained_cases (UnderLocalConditi
 operation_is : (is : Bool) (conditions : List ℕ) (tried : Bool) (at : ℕ) (r : Refusal) → Contains (operation_found is (innermost conditions) tried at) r → IsTrue is × OfOperation conditions tried at r
 unfolding OfOperation
 operation_is is conditions tried at r h =
-    let both = cond_list is (under_found (innermost conditions) at ++ where_so tried (InTry at)) r h in
-    (both.0, elim (Contains-append_cases (under_found (innermost conditions) at) (where_so tried (InTry at)) r both.1) [
-      | inl a ↦ inl (under_is conditions (innermost conditions) at r refl a)
-      | inr b ↦ inr (cond_contained tried (InTry at) r b)
-    ])
+    let both = cond_list is (under_found (innermost conditions) at ++ where_so tried (InTry at)) r h in (
+      both.0,
+      elim (Contains-append_cases (under_found (innermost conditions) at) (where_so tried (InTry at)) r both.1) [
+        | inl a ↦ inl (under_is conditions (innermost conditions) at r refl a)
+        | inr b ↦ inr (cond_contained tried (InTry at) r b)
+      ],
+    )
 
 is_under : (is : Bool) (conditions : List ℕ) (tried : Bool) (at p : ℕ) → IsTrue is → StandsFirst p conditions → Contains (operation_found is (innermost conditions) tried at) (UnderLocalCondition p at)
 is_under is conditions tried at p t h =
     let listed : Contains (under_found (innermost conditions) at) (UnderLocalCondition p at) =
-      subst (λ o. Contains (under_found o at) (UnderLocalCondition p at)) (sym (first_stands conditions p h)) (first_contained (UnderLocalCondition p at) []) in
+    subst (λ o. Contains (under_found o at) (UnderLocalCondition p at)) (sym (first_stands conditions p h)) (first_contained (UnderLocalCondition p at) []) in
     list_cond is _ _ t (Contains-append_left (under_found (innermost conditions) at) (where_so tried (InTry at)) (UnderLocalCondition p at) listed)
 
 is_in_try : (is : Bool) (conditions : List ℕ) (tried : Bool) (at : ℕ) → IsTrue is → IsTrue tried → Contains (operation_found is (innermost conditions) tried at) (InTry at)

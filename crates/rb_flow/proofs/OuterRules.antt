@@ -1,5 +1,5 @@
 -- The equations that the collection of batches stands on.
-use Rattle.std.proofs.Common.{◌≡◌, ℕ, List, ◌++◌, take, length, map, ap, refl}
+use Rattle.std.proofs.Common.{◌≡◌, ℕ, List, take, length}
 use Rattle.std.proofs.lemmas.List.{map-append}
 use Rattle.rb_trees.specs.mirror.Code.{Stmt, Val, Var, Assign, Run, Print, Throw, If, While, For, Try, Batch}
 use Rattle.rb_trees.proofs.mirror.Stmts.{stmts}

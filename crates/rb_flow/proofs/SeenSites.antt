@@ -1,19 +1,17 @@
 -- What is found at the sites of a batch: the earliest refusal, the writers, and the least bad part.
-use Rattle.std.proofs.Common.{◌≡◌, ℕ, List, [], ◌∷◌, ◌++◌, Bool, true, false, cond, Option, Some, None, refl, sym, ap, ◌∙◌, append_assoc}
+use Rattle.std.proofs.Common.{◌≡◌, ℕ, List, [], ◌∷◌, ◌++◌, Bool, true, false, cond, Option, refl, sym, ap, ◌∙◌, append_assoc}
 use Rattle.std.proofs.lemmas.List.{append-nil}
 use Rattle.std.proofs.lemmas.Grind.{flat_map-append}
 use Rattle.std.specs.List.{flat_map}
-use Rattle.rb_trees.specs.declared.flows.Writer.{Writer}
 use Rattle.rb_trees.specs.declared.flows.BadPart.{BadPart}
-use Rattle.rb_trees.specs.mirror.Code.{Expr, Exprs, Lit, Name, This, Unary, Binary, Field, Call, Index, New, Items, Taken, NoExprs, MoreExprs, expr_at, Stmt, Stmts, Val, Var, Assign, Run, Print, Throw, If, While, For, Try, Batch}
+use Rattle.rb_trees.specs.mirror.Code.{Expr, Exprs, Lit, Name, This, Unary, Binary, Field, Call, Index, New, Items, Taken, NoExprs, MoreExprs, expr_at, Stmt, Val, Var, Assign, Run, Print, Throw, If, While, For, Try, Batch}
 use Rattle.rb_meaning_flow.specs.Facts.{Facts, is_remote, over_rows}
-use Rattle.rb_meaning_flow.specs.Scopes.{Scope}
 use Rattle.rb_meaning_flow.specs.Portable.{portable}
 use Rattle.rb_meaning_flow.specs.Sites.{Around, StmtSite, ExprSite, expr_sites, own, all_sites, block_sites, exprs_of}
 use Rattle.rb_meaning_flow.specs.Flow.{objects, frame_sites, own_condition, assigned_node, writers_for, assignment_reads, stmt_writers, expr_writers, bad_in, all_bad_in, bad_of_call, bad_of_loop, bad_part}
 use Rattle.rb_flow.specs.declared.standing.Reading.{Reading}
 use Rattle.rb_flow.specs.declared.findings.Findings.{Findings}
-use Rattle.rb_flow.specs.Readings.{nothing, joined, read_by, expr_read, whole_read, block_read}
+use Rattle.rb_flow.specs.Readings.{nothing, joined, read_by, expr_read, whole_read}
 use Rattle.rb_flow.specs.Earliest.{earliest}
 use Rattle.rb_flow.specs.Found.{stmt_found, expr_found, site_found, all_found}
 use Rattle.rb_flow.specs.Walked.{lesser_part, part_of, looked, all_looked, call_looked, loop_looked, writer_of, writers_of, assign_read, expr_writes, stmt_writes}

@@ -1,5 +1,5 @@
 -- Lists by statements, each followed by its expressions, and lists by all statements followed by all expressions.
-use Rattle.std.proofs.Common.{◌≡◌, ℕ, ◌⊎◌, inl, inr, List, [], ◌∷◌, ◌++◌, refl}
+use Rattle.std.proofs.Common.{ℕ, inl, inr, List, [], ◌∷◌, ◌++◌}
 use Rattle.std.specs.List.{Contains, flat_map}
 use Rattle.std.proofs.lemmas.List.Elements.{Contains-append_left, Contains-append_right, Contains-append_cases}
 use Rattle.rb_trees.specs.declared.flows.Writer.{Writer}
@@ -9,7 +9,7 @@ use Rattle.rb_meaning_flow.specs.Sites.{StmtSite, ExprSite, own, all_sites, expr
 use Rattle.rb_meaning_flow.specs.Chains.{Leads, IsChain, IsLeastChain, PositionsDiffer}
 use Rattle.rb_meaning_flow.specs.Flow.{writers, stmt_writers, expr_writers, bad_parts, bad_of_loop}
 use Rattle.rb_flow.specs.Parts.{parts_in, expr_parts, all_parts, all_writers}
-use Rattle.rb_flow.proofs.Members.{GivenBy, given_by, gives_all}
+use Rattle.rb_flow.proofs.Members.{given_by, gives_all}
 use Rattle.rb_flow.proofs.Listed.{own_of, owned}
 
 apart : {A : Type 0} (f : StmtSite → List A) (g : ExprSite → List A) (ss : List StmtSite) (y : A)

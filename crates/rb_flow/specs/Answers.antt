@@ -1,5 +1,5 @@
 -- The answer for a batch, and how it is decided from what was found.
-use Rattle.std.specs.Prelude.{◌≡◌, ℕ, List, [], ◌∷◌, Bool, true, false, nat_lt, Option, Some, None}
+use Rattle.std.specs.Prelude.{◌≡◌, ℕ, List, [], Bool, true, false, nat_lt, Option, Some, None}
 use Rattle.std.specs.List.{Contains}
 use Rattle.rb_trees.specs.declared.flows.Writer.{Writer}
 use Rattle.rb_trees.specs.declared.flows.BadPart.{BadPart}

@@ -93,11 +93,7 @@ impl<'a> Admitted<'a> {
 
 /// Admits a program with its marks: Ok exactly where it has no refusal, else the refusal before which
 /// there is none. The rules stand in `specs/Refusals` and `specs/Programs` of `rb_meaning_flow`.
-pub fn admit<'a>(
-    alloc: Global,
-    typed: &'a Typed,
-    marks: Marks,
-) -> Result<Admitted<'a>, AdmitStop>
+pub fn admit<'a>(alloc: Global, typed: &'a Typed, marks: Marks) -> Result<Admitted<'a>, AdmitStop>
     ensures admission { Tells (λ a. tt) refusal_of result (IsAdmission (mirror_program typed.now)) }
     ensures typed { IfOk result (λ a. a.0 ≡ typed.now) }
     ensures marks { IfOk result (λ a. a.1 ≡ marks) }

@@ -14,7 +14,8 @@ use crate::portable::{branches_hold, is_portable};
 use crate::reading::{read_block, read_opened};
 use crate::standing::{Inside, Reading, Standing};
 use crate::writers::read_around;
-use rb_meaning_flow::{Role, Variable};
+use rb_marks::Scope;
+use rb_meaning_flow::Role;
 use rb_trees::{Expr, Memory, Seq, Stmt, Word};
 use rb_types::Typed;
 use std::alloc::Global;
@@ -42,7 +43,7 @@ pub fn while_inside(standing: &Standing, c: &Expr) -> Inside
 }
 
 /// What the role of a `val` is.
-pub fn val_role(x: &Typed, standing: &Standing, scope: &Seq<Variable>, e: &Expr) -> Role
+pub fn val_role(x: &Typed, standing: &Standing, scope: &Scope, e: &Expr) -> Role
     ensures { result ≡ words.val_role_in (facts x.now) standing.now scope.now (mirror_expr e.now) }
 {
     if standing.script && is_portable(x, scope, e) {
@@ -62,7 +63,7 @@ fn condition_unless(known: bool, outer: Option<u32>, e: &Expr) -> Option<u32>
 pub fn branch_standing(
     alloc: Global,
     x: &Typed,
-    scope: &Seq<Variable>,
+    scope: &Scope,
     standing: &Standing,
     c: &Expr,
     a: &[Stmt],
@@ -83,7 +84,7 @@ pub fn branch_standing(
 pub fn while_standing(
     alloc: Global,
     x: &Typed,
-    scope: &Seq<Variable>,
+    scope: &Scope,
     standing: &Standing,
     c: &Expr,
 ) -> Result<Standing, Memory>
@@ -102,7 +103,7 @@ pub fn while_standing(
 pub fn turn_standing(
     alloc: Global,
     x: &Typed,
-    scope: &Seq<Variable>,
+    scope: &Scope,
     standing: &Standing,
     e: &Expr,
 ) -> Result<Standing, Memory>
@@ -121,7 +122,7 @@ pub fn turn_standing(
 pub fn try_standing(
     alloc: Global,
     x: &Typed,
-    scope: &mut Seq<Variable>,
+    scope: &mut Scope,
     standing: &Standing,
     at: u32,
     a: &[Stmt],

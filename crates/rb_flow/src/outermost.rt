@@ -14,18 +14,16 @@ ghost use Rattle.rb_flow.specs.Begun.{begun_of};
 ghost use Rattle.rb_flow.specs.Views.{facts};
 
 use crate::scope::bind;
-use rb_marks::{Batch, Facts};
+use rb_marks::{Batch, Facts, Scope};
 use rb_meaning_flow::{Role, Variable};
 use rb_names::Names;
-use rb_trees::{
-    Class, Memory, Method, Param, Program, Seq, Stmt, StmtForm, TypeForm, Word, copy_word,
-};
+use rb_trees::{Class, Memory, Method, Param, Program, Seq, Stmt, StmtForm, TypeForm, Word};
 use std::alloc::Global;
 
 /// An outermost batch: the variables in scope where it begins, and its block.
 #[derive(Drop)]
 pub struct OpenBatch<'p> {
-    pub scope: Seq<Variable>,
+    pub scope: Scope,
     pub block: &'p [Stmt],
 }
 
@@ -50,10 +48,10 @@ fn outer_role(primitive: bool) -> Role
 }
 
 // The scope in which a method's body begins.
-fn parameters(alloc: Global, params: &[Param]) -> Result<Seq<Variable>, Memory>
+fn parameters(alloc: Global, params: &[Param]) -> Result<Scope, Memory>
     ensures { IfOk result (λ scope. scope ≡ outermost.parameters (map mirror_param params.now)) }
 {
-    let mut scope = Seq::new(alloc);
+    let mut scope = Scope::new(alloc);
     for param in params {
         let role = outer_role(is_primitive(&param.kind.form));
         bind(alloc, &mut scope, &param.name, role, param.at)?;
@@ -80,19 +78,12 @@ fn role_with(assigned: &Names, v: &Variable) -> Role
 }
 
 // The variables of a scope as a batch sees them in which these are assigned.
-fn scope_with(
-    alloc: Global,
-    assigned: &Names,
-    scope: &Seq<Variable>,
-) -> Result<Seq<Variable>, Memory>
+fn scope_with(alloc: Global, assigned: &Names, scope: &Scope) -> Result<Scope, Memory>
     ensures { IfOk result (λ s. s ≡ scopes.scope_with assigned.now scope.now) }
 {
-    let mut seen = Seq::new(alloc);
+    let mut seen = Scope::new(alloc);
     for v in scope.as_slice() {
-        let name = copy_word(alloc, &v.name)?;
-        let role = role_with(assigned, v);
-        let node = v.node;
-        seen.push(Variable { name, role, node })?;
+        bind(alloc, &mut seen, &v.name, role_with(assigned, v), v.node)?;
     }
     Ok(seen)
 }
@@ -101,11 +92,11 @@ fn scope_with(
 fn open(
     alloc: Global,
     x: &Facts,
-    scope: &Seq<Variable>,
+    scope: &Scope,
     at: u32,
     root: &Word,
     block: &[Stmt],
-) -> Result<Seq<Variable>, Memory>
+) -> Result<Scope, Memory>
     ensures { IfOk result (λ s. s ≡ scopes.opened scope.now at root.now (mirror_stmts block.now)) }
 {
     let batch = Batch::new(alloc, x, block)?;
@@ -117,7 +108,7 @@ fn open(
 fn push_batch<'p>(
     alloc: Global,
     x: &Facts,
-    scope: &Seq<Variable>,
+    scope: &Scope,
     batches: &mut Seq<OpenBatch<'p>>,
     at: u32,
     root: &Word,
@@ -134,7 +125,7 @@ fn push_batch<'p>(
 fn collect_stmt<'p>(
     alloc: Global,
     x: &Facts,
-    scope: &mut Seq<Variable>,
+    scope: &mut Scope,
     batches: &mut Seq<OpenBatch<'p>>,
     s: &'p Stmt,
 ) -> Result<(), Memory>
@@ -172,7 +163,7 @@ fn collect_stmt<'p>(
 fn collect_block<'p>(
     alloc: Global,
     x: &Facts,
-    scope: &mut Seq<Variable>,
+    scope: &mut Scope,
     batches: &mut Seq<OpenBatch<'p>>,
     ss: &'p [Stmt],
 ) -> Result<(), Memory>
@@ -190,7 +181,7 @@ fn collect_block<'p>(
 fn collect_opened<'p>(
     alloc: Global,
     x: &Facts,
-    scope: &mut Seq<Variable>,
+    scope: &mut Scope,
     batches: &mut Seq<OpenBatch<'p>>,
     name: &Word,
     role: Role,
@@ -211,7 +202,7 @@ fn collect_opened<'p>(
 fn collect_stmts<'p>(
     alloc: Global,
     x: &Facts,
-    scope: &mut Seq<Variable>,
+    scope: &mut Scope,
     batches: &mut Seq<OpenBatch<'p>>,
     ss: &'p [Stmt],
 ) -> Result<(), Memory>
@@ -263,7 +254,13 @@ pub fn collect_batches<'p>(
 {
     let mut batches = Seq::new(alloc);
     collect_classes(alloc, x, &mut batches, program.classes.as_slice())?;
-    let mut scope = Seq::new(alloc);
-    collect_stmts(alloc, x, &mut scope, &mut batches, program.body.statements.as_slice())?;
+    let mut scope = Scope::new(alloc);
+    collect_stmts(
+        alloc,
+        x,
+        &mut scope,
+        &mut batches,
+        program.body.statements.as_slice(),
+    )?;
     Ok(batches)
 }

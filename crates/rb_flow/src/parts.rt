@@ -11,12 +11,12 @@ use crate::facts::{is_remote, over_rows};
 use crate::portable::is_portable;
 use crate::reading::read_expr;
 use crate::standing::Reading;
-use rb_meaning_flow::Variable;
+use rb_marks::Scope;
 use rb_trees::{BadPart, Expr, ExprForm, Memory, Seq, Stmt, StmtForm};
 use rb_types::Typed;
 use std::alloc::Global;
 
-fn part_of(alloc: Global, x: &Typed, scope: &Seq<Variable>, e: &Expr) -> Result<BadPart, Memory>
+fn part_of(alloc: Global, x: &Typed, scope: &Scope, e: &Expr) -> Result<BadPart, Memory>
     ensures { IfOk result (λ p. p ≡ words.part_of (facts x.now) scope.now (mirror_expr e.now)) }
 {
     let mut reading = Reading::new(alloc);
@@ -42,7 +42,7 @@ fn is_less(part: &Option<BadPart>, at: u32) -> bool
 fn keep_part(
     alloc: Global,
     x: &Typed,
-    scope: &Seq<Variable>,
+    scope: &Scope,
     part: &mut Option<BadPart>,
     e: &Expr,
 ) -> Result<(), Memory>
@@ -58,7 +58,7 @@ fn keep_part(
 fn keep_unless(
     alloc: Global,
     x: &Typed,
-    scope: &Seq<Variable>,
+    scope: &Scope,
     part: &mut Option<BadPart>,
     known: bool,
     e: &Expr,
@@ -76,7 +76,7 @@ fn keep_unless(
 fn look(
     alloc: Global,
     x: &Typed,
-    scope: &Seq<Variable>,
+    scope: &Scope,
     part: &mut Option<BadPart>,
     e: &Expr,
 ) -> Result<(), Memory>
@@ -100,7 +100,7 @@ fn look(
 fn look_at_all(
     alloc: Global,
     x: &Typed,
-    scope: &Seq<Variable>,
+    scope: &Scope,
     part: &mut Option<BadPart>,
     es: &[Expr],
 ) -> Result<(), Memory>
@@ -116,7 +116,7 @@ fn look_at_all(
 pub fn look_at_call(
     alloc: Global,
     x: &Typed,
-    scope: &Seq<Variable>,
+    scope: &Scope,
     part: &mut Option<BadPart>,
     e: &Expr,
 ) -> Result<(), Memory>
@@ -142,7 +142,7 @@ pub fn look_at_call(
 pub fn look_at_loop(
     alloc: Global,
     x: &Typed,
-    scope: &Seq<Variable>,
+    scope: &Scope,
     part: &mut Option<BadPart>,
     s: &Stmt,
 ) -> Result<(), Memory>

@@ -11,7 +11,8 @@ ghost use Rattle.rb_flow.specs.Views.{facts};
 
 use crate::facts::{is_remote, over_rows};
 use crate::scope::role_of;
-use rb_meaning_flow::{Role, Variable};
+use rb_marks::Scope;
+use rb_meaning_flow::Role;
 use rb_trees::{Expr, ExprForm, Seq, Stmt, StmtForm};
 use rb_types::Typed;
 
@@ -26,14 +27,15 @@ fn is_portable_variable(role: Role) -> bool
 
 /// Whether an expression is portable.
 #[cycle(portables)]
-pub fn is_portable(x: &Typed, scope: &Seq<Variable>, e: &Expr) -> bool
+pub fn is_portable(x: &Typed, scope: &Scope, e: &Expr) -> bool
     ensures { result ≡ told.portable (facts x.now) scope.now (mirror_expr e.now) }
 {
     match &e.form {
         ExprForm::Lit(_) => true,
         ExprForm::Name(name) => is_portable_variable(role_of(scope, name)),
         ExprForm::Unary(_, a) => is_portable(x, scope, a.get()),
-        ExprForm::Binary(_, a, b) => is_portable(x, scope, a.get()) && is_portable(x, scope, b.get()),
+        ExprForm::Binary(_, a, b) => is_portable(x, scope, a.get())
+            && is_portable(x, scope, b.get()),
         ExprForm::Call(a, _, args) => {
             is_remote(x, a.get())
                 && is_portable(x, scope, a.get())
@@ -45,7 +47,7 @@ pub fn is_portable(x: &Typed, scope: &Seq<Variable>, e: &Expr) -> bool
 }
 
 #[cycle(portables)]
-fn are_portable(x: &Typed, scope: &Seq<Variable>, es: &[Expr]) -> bool
+fn are_portable(x: &Typed, scope: &Scope, es: &[Expr]) -> bool
     ensures { result ≡ told.all_portable (facts x.now) scope.now (mirror_exprs es.now) }
 {
     for e in es {

@@ -34,11 +34,7 @@ fn answer_one(alloc: Global, x: &Typed, batch: OpenBatch) -> Result<Option<Refus
     answer(alloc, x, &mut scope, block)
 }
 
-fn answer_all(
-    alloc: Global,
-    x: &Typed,
-    batches: Vec<OpenBatch>,
-) -> Result<Option<Refusal>, Memory>
+fn answer_all(alloc: Global, x: &Typed, batches: Vec<OpenBatch>) -> Result<Option<Refusal>, Memory>
     requires { words.AllDiffer (facts x.now) (map begun_of batches.items) }
     ensures { IfOk result (words.IsAnswerAmong (facts x.now) (map begun_of batches.entry.items)) }
 {

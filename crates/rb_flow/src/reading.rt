@@ -13,7 +13,8 @@ ghost use Rattle.rb_flow.specs.Readings as words;
 use crate::facts::{is_call, is_remote};
 use crate::scope::{bind, node_of};
 use crate::standing::Reading;
-use rb_meaning_flow::{Role, Variable};
+use rb_marks::Scope;
+use rb_meaning_flow::Role;
 use rb_trees::{Expr, ExprForm, Memory, Seq, Stmt, StmtForm, Word};
 use rb_types::Typed;
 use std::alloc::Global;
@@ -41,13 +42,19 @@ impl Reading {
     }
 }
 
-fn node_read(x: &Typed, scope: &Seq<Variable>, e: &Expr) -> Option<u32>
+fn node_read(x: &Typed, scope: &Scope, e: &Expr) -> Option<u32>
     ensures { node_list result ≡ flow.read_here (facts x.now) scope.now (mirror_expr e.now) }
 {
     match &e.form {
         ExprForm::Name(name) => node_of(scope, name),
         ExprForm::Field(_, _) => Some(OBJECTS),
-        ExprForm::Call(a, _, _) => { if is_remote(x, a.get()) { None } else { Some(OBJECTS) } }
+        ExprForm::Call(a, _, _) => {
+            if is_remote(x, a.get()) {
+                None
+            } else {
+                Some(OBJECTS)
+            }
+        }
         ExprForm::Lit(_) | ExprForm::This | ExprForm::Unary(_, _) => None,
         ExprForm::Binary(_, _, _) | ExprForm::Index(_, _) | ExprForm::New(_, _) => None,
         ExprForm::Items(_, _) | ExprForm::Taken(_) => None,
@@ -75,7 +82,7 @@ fn source_here(x: &Typed, called: bool, e: &Expr) -> Option<u32>
 
 fn read_itself(
     x: &Typed,
-    scope: &Seq<Variable>,
+    scope: &Scope,
     called: bool,
     reading: &mut Reading,
     e: &Expr,
@@ -90,7 +97,7 @@ fn read_itself(
 #[cycle(exprs)]
 fn read_parts(
     x: &Typed,
-    scope: &Seq<Variable>,
+    scope: &Scope,
     called: bool,
     reading: &mut Reading,
     e: &Expr,
@@ -99,7 +106,13 @@ fn read_parts(
 {
     match &e.form {
         ExprForm::Lit(_) | ExprForm::Name(_) | ExprForm::This | ExprForm::Taken(_) => Ok(()),
-        ExprForm::Unary(_, a) | ExprForm::Field(a, _) => read_expr(x, scope, called, reading, a.get()),
+        ExprForm::Unary(_, a) | ExprForm::Field(a, _) => read_expr(
+            x,
+            scope,
+            called,
+            reading,
+            a.get(),
+        ),
         ExprForm::Binary(_, a, b) | ExprForm::Index(a, b) => {
             read_expr(x, scope, called, reading, a.get())?;
             read_expr(x, scope, called, reading, b.get())
@@ -118,7 +131,7 @@ fn read_parts(
 #[cycle(exprs)]
 pub fn read_expr(
     x: &Typed,
-    scope: &Seq<Variable>,
+    scope: &Scope,
     called: bool,
     reading: &mut Reading,
     e: &Expr,
@@ -133,7 +146,7 @@ pub fn read_expr(
 #[cycle(exprs)]
 fn read_exprs(
     x: &Typed,
-    scope: &Seq<Variable>,
+    scope: &Scope,
     called: bool,
     reading: &mut Reading,
     es: &[Expr],
@@ -152,7 +165,7 @@ fn read_exprs(
 fn read_stmt(
     alloc: Global,
     x: &Typed,
-    scope: &mut Seq<Variable>,
+    scope: &mut Scope,
     reading: &mut Reading,
     s: &Stmt,
 ) -> Result<(), Memory>
@@ -200,7 +213,7 @@ fn read_stmt(
 pub fn read_block(
     alloc: Global,
     x: &Typed,
-    scope: &mut Seq<Variable>,
+    scope: &mut Scope,
     reading: &mut Reading,
     ss: &[Stmt],
 ) -> Result<(), Memory>
@@ -219,7 +232,7 @@ pub fn read_block(
 pub fn read_opened(
     alloc: Global,
     x: &Typed,
-    scope: &mut Seq<Variable>,
+    scope: &mut Scope,
     reading: &mut Reading,
     name: &Word,
     node: u32,
@@ -240,7 +253,7 @@ pub fn read_opened(
 fn read_stmts(
     alloc: Global,
     x: &Typed,
-    scope: &mut Seq<Variable>,
+    scope: &mut Scope,
     reading: &mut Reading,
     ss: &[Stmt],
 ) -> Result<(), Memory>

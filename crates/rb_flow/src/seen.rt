@@ -16,7 +16,7 @@ use crate::findings::Findings;
 use crate::parts::{look_at_call, look_at_loop};
 use crate::standing::{Inside, Reading, Standing};
 use crate::writers::{push_expr_writer, push_stmt_writer};
-use rb_meaning_flow::Variable;
+use rb_marks::Scope;
 use rb_trees::{Expr, Memory, Refusal, Seq, Stmt, StmtForm};
 use rb_types::Typed;
 use std::alloc::Global;
@@ -34,7 +34,7 @@ fn keep_at_expr(x: &Typed, inside: &Inside, first: &mut Option<Refusal>, e: &Exp
 pub fn see_expr(
     alloc: Global,
     x: &Typed,
-    scope: &Seq<Variable>,
+    scope: &Scope,
     around: &Reading,
     inside: &Inside,
     found: &mut Findings,
@@ -97,7 +97,7 @@ pub fn see_stmt(
     alloc: Global,
     x: &Typed,
     standing: &Standing,
-    scope: &mut Seq<Variable>,
+    scope: &mut Scope,
     found: &mut Findings,
     s: &Stmt,
 ) -> Result<(), Memory>

@@ -21,7 +21,8 @@ use crate::scope::bind;
 use crate::seen::see_stmt;
 use crate::standing::Standing;
 use crate::walk::walk_expr;
-use rb_meaning_flow::{Role, Variable};
+use rb_marks::Scope;
+use rb_meaning_flow::Role;
 use rb_trees::{Expr, Memory, Seq, Stmt, StmtForm, Word};
 use rb_types::Typed;
 use std::alloc::Global;
@@ -41,7 +42,7 @@ fn walk_whole(
     alloc: Global,
     x: &Typed,
     standing: &Standing,
-    scope: &Seq<Variable>,
+    scope: &Scope,
     found: &mut Findings,
     may: bool,
     e: &Expr,
@@ -57,7 +58,7 @@ fn enter_if(
     alloc: Global,
     x: &Typed,
     standing: &Standing,
-    scope: &Seq<Variable>,
+    scope: &Scope,
     found: &mut Findings,
     c: &Expr,
     a: &[Stmt],
@@ -77,7 +78,7 @@ fn enter_while(
     alloc: Global,
     x: &Typed,
     standing: &Standing,
-    scope: &Seq<Variable>,
+    scope: &Scope,
     found: &mut Findings,
     c: &Expr,
 ) -> Result<Standing, Memory>
@@ -95,7 +96,7 @@ fn enter_for(
     alloc: Global,
     x: &Typed,
     standing: &Standing,
-    scope: &Seq<Variable>,
+    scope: &Scope,
     found: &mut Findings,
     e: &Expr,
 ) -> Result<Standing, Memory>
@@ -114,7 +115,7 @@ fn walk_stmt(
     alloc: Global,
     x: &Typed,
     standing: &Standing,
-    scope: &mut Seq<Variable>,
+    scope: &mut Scope,
     found: &mut Findings,
     s: &Stmt,
 ) -> Result<(), Memory>
@@ -131,7 +132,7 @@ fn walk_within(
     alloc: Global,
     x: &Typed,
     standing: &Standing,
-    scope: &mut Seq<Variable>,
+    scope: &mut Scope,
     found: &mut Findings,
     s: &Stmt,
 ) -> Result<(), Memory>
@@ -157,7 +158,16 @@ fn walk_within(
             walk_whole(alloc, x, standing, scope, found, false, e)
         }
         StmtForm::If(c, a, b) => {
-            let within = enter_if(alloc, x, standing, scope, found, c, a.as_slice(), b.as_slice())?;
+            let within = enter_if(
+                alloc,
+                x,
+                standing,
+                scope,
+                found,
+                c,
+                a.as_slice(),
+                b.as_slice(),
+            )?;
             walk_block(alloc, x, &within, scope, found, a.as_slice())?;
             walk_block(alloc, x, &within, scope, found, b.as_slice())
         }
@@ -168,16 +178,55 @@ fn walk_within(
         StmtForm::For(name, e, a) => {
             let within = enter_for(alloc, x, standing, scope, found, e)?;
             let role = turn_role(x, e);
-            walk_opened(alloc, x, &within, scope, found, name, role, s.at, a.as_slice())
+            walk_opened(
+                alloc,
+                x,
+                &within,
+                scope,
+                found,
+                name,
+                role,
+                s.at,
+                a.as_slice(),
+            )
         }
         StmtForm::Try(a, name, b) => {
-            let within = try_standing(alloc, x, scope, standing, s.at, a.as_slice(), name, b.as_slice())?;
+            let within = try_standing(
+                alloc,
+                x,
+                scope,
+                standing,
+                s.at,
+                a.as_slice(),
+                name,
+                b.as_slice(),
+            )?;
             walk_block(alloc, x, &within, scope, found, a.as_slice())?;
-            walk_opened(alloc, x, &within, scope, found, name, Role::Plain, s.at, b.as_slice())
+            walk_opened(
+                alloc,
+                x,
+                &within,
+                scope,
+                found,
+                name,
+                Role::Plain,
+                s.at,
+                b.as_slice(),
+            )
         }
         StmtForm::Batch(_, root, a) => {
             let within = batch_standing(alloc, standing)?;
-            walk_opened(alloc, x, &within, scope, found, root, Role::Plain, s.at, a.as_slice())
+            walk_opened(
+                alloc,
+                x,
+                &within,
+                scope,
+                found,
+                root,
+                Role::Plain,
+                s.at,
+                a.as_slice(),
+            )
         }
     }
 }
@@ -188,7 +237,7 @@ fn walk_block(
     alloc: Global,
     x: &Typed,
     standing: &Standing,
-    scope: &mut Seq<Variable>,
+    scope: &mut Scope,
     found: &mut Findings,
     ss: &[Stmt],
 ) -> Result<(), Memory>
@@ -207,7 +256,7 @@ fn walk_opened(
     alloc: Global,
     x: &Typed,
     standing: &Standing,
-    scope: &mut Seq<Variable>,
+    scope: &mut Scope,
     found: &mut Findings,
     name: &Word,
     role: Role,
@@ -230,7 +279,7 @@ pub fn walk_stmts(
     alloc: Global,
     x: &Typed,
     standing: &Standing,
-    scope: &mut Seq<Variable>,
+    scope: &mut Scope,
     found: &mut Findings,
     ss: &[Stmt],
 ) -> Result<(), Memory>

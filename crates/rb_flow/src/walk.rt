@@ -14,7 +14,7 @@ use crate::findings::Findings;
 use crate::portable::is_portable;
 use crate::seen::see_expr;
 use crate::standing::{Inside, Reading};
-use rb_meaning_flow::Variable;
+use rb_marks::Scope;
 use rb_trees::{BinOp, Expr, ExprForm, Memory, Seq};
 use rb_types::Typed;
 use std::alloc::Global;
@@ -30,7 +30,7 @@ fn is_and_or(op: BinOp) -> bool
 }
 
 // The left operand of an `&&` or `||` that isn't portable as a whole, above its right operand.
-fn left_operand(x: &Typed, scope: &Seq<Variable>, right: bool, e: &Expr) -> Option<u32>
+fn left_operand(x: &Typed, scope: &Scope, right: bool, e: &Expr) -> Option<u32>
     ensures { result ≡ innermost (refusals.operand_condition (facts x.now) scope.now right (mirror_expr e.now)) }
 {
     match &e.form {
@@ -48,7 +48,7 @@ fn left_operand(x: &Typed, scope: &Seq<Variable>, right: bool, e: &Expr) -> Opti
 }
 
 // How what stands around bears on a part of an expression: a right operand, or another part.
-fn part_inside(x: &Typed, scope: &Seq<Variable>, right: bool, inside: &Inside, e: &Expr) -> Inside
+fn part_inside(x: &Typed, scope: &Scope, right: bool, inside: &Inside, e: &Expr) -> Inside
     ensures { result ≡ words.part_inside (facts x.now) scope.now right inside.now (mirror_expr e.now) }
 {
     let condition = match left_operand(x, scope, right, e) {
@@ -67,7 +67,7 @@ fn part_inside(x: &Typed, scope: &Seq<Variable>, right: bool, inside: &Inside, e
 fn walk_parts(
     alloc: Global,
     x: &Typed,
-    scope: &Seq<Variable>,
+    scope: &Scope,
     around: &Reading,
     inside: &Inside,
     found: &mut Findings,
@@ -105,7 +105,7 @@ fn walk_parts(
 pub fn walk_expr(
     alloc: Global,
     x: &Typed,
-    scope: &Seq<Variable>,
+    scope: &Scope,
     around: &Reading,
     inside: &Inside,
     found: &mut Findings,
@@ -121,7 +121,7 @@ pub fn walk_expr(
 fn walk_exprs(
     alloc: Global,
     x: &Typed,
-    scope: &Seq<Variable>,
+    scope: &Scope,
     around: &Reading,
     inside: &Inside,
     found: &mut Findings,

@@ -13,7 +13,7 @@ use crate::facts::is_remote;
 use crate::reading::{OBJECTS, read_block, read_expr};
 use crate::scope::node_of;
 use crate::standing::Reading;
-use rb_meaning_flow::Variable;
+use rb_marks::Scope;
 use rb_trees::{Expr, ExprForm, Memory, Seq, Stmt, StmtForm, Writer};
 use rb_types::Typed;
 use std::alloc::Global;
@@ -34,7 +34,7 @@ fn writer_of(at: u32, node: u32, reading: Reading) -> Writer
 pub fn read_around(
     alloc: Global,
     x: &Typed,
-    scope: &Seq<Variable>,
+    scope: &Scope,
     around: &Reading,
     e: &Expr,
 ) -> Result<Reading, Memory>
@@ -49,7 +49,7 @@ pub fn read_around(
 fn push_objects(
     alloc: Global,
     x: &Typed,
-    scope: &Seq<Variable>,
+    scope: &Scope,
     around: &Reading,
     writers: &mut Seq<Writer>,
     e: &Expr,
@@ -64,7 +64,7 @@ fn push_objects(
 pub fn push_expr_writer(
     alloc: Global,
     x: &Typed,
-    scope: &Seq<Variable>,
+    scope: &Scope,
     around: &Reading,
     writers: &mut Seq<Writer>,
     e: &Expr,
@@ -86,25 +86,22 @@ pub fn push_expr_writer(
     }
 }
 
-fn assigned_node(scope: &Seq<Variable>, left: &Expr) -> Option<u32>
+fn assigned_node(scope: &Scope, left: &Expr) -> Option<u32>
     ensures { node_list result ≡ flow.assigned_node scope.now (mirror_expr left.now) }
 {
     match &left.form {
         ExprForm::Name(name) => node_of(scope, name),
         ExprForm::Lit(_) | ExprForm::Field(_, _) | ExprForm::This => Some(OBJECTS),
-        ExprForm::Unary(_, _) | ExprForm::Binary(_, _, _) | ExprForm::Call(_, _, _) => Some(OBJECTS),
+        ExprForm::Unary(_, _) | ExprForm::Binary(_, _, _) | ExprForm::Call(_, _, _) => Some(
+            OBJECTS,
+        ),
         ExprForm::Index(_, _) | ExprForm::New(_, _) => Some(OBJECTS),
         ExprForm::Items(_, _) | ExprForm::Taken(_) => Some(OBJECTS),
     }
 }
 
 // What the left side of an assignment reads.
-fn read_left(
-    x: &Typed,
-    scope: &Seq<Variable>,
-    reading: &mut Reading,
-    left: &Expr,
-) -> Result<(), Memory>
+fn read_left(x: &Typed, scope: &Scope, reading: &mut Reading, left: &Expr) -> Result<(), Memory>
     ensures { OnOk result (reading.new ≡ words.left_read (facts x.now) scope.now reading.old (mirror_expr left.now)) }
 {
     match &left.form {
@@ -124,7 +121,7 @@ fn read_left(
 fn read_assignment(
     alloc: Global,
     x: &Typed,
-    scope: &Seq<Variable>,
+    scope: &Scope,
     around: &Reading,
     a: &Expr,
     b: &Expr,
@@ -155,7 +152,7 @@ fn push_some(
 fn push_variable(
     alloc: Global,
     x: &Typed,
-    scope: &Seq<Variable>,
+    scope: &Scope,
     around: &Reading,
     writers: &mut Seq<Writer>,
     at: u32,
@@ -170,7 +167,7 @@ fn push_variable(
 fn push_assignment(
     alloc: Global,
     x: &Typed,
-    scope: &Seq<Variable>,
+    scope: &Scope,
     around: &Reading,
     writers: &mut Seq<Writer>,
     at: u32,
@@ -186,7 +183,7 @@ fn push_assignment(
 fn push_try(
     alloc: Global,
     x: &Typed,
-    scope: &mut Seq<Variable>,
+    scope: &mut Scope,
     around: &Reading,
     writers: &mut Seq<Writer>,
     at: u32,
@@ -206,7 +203,7 @@ fn push_try(
 pub fn push_stmt_writer(
     alloc: Global,
     x: &Typed,
-    scope: &mut Seq<Variable>,
+    scope: &mut Scope,
     around: &Reading,
     writers: &mut Seq<Writer>,
     s: &Stmt,

@@ -8,7 +8,8 @@ use std::test::Fail;
 /// A batch of 10,000 statements: 5,000 variables, each set from the one before, further 4,999 that are
 /// set from constants, and a send of the last of the former.
 fn many(alloc: Global) -> Result<Vec<u8>, Fail> {
-    let start = "interface D { fun size(): Int; fun grow(by: Int); } main { batch (D r) { var a0 = r.size(); ";
+    let start =
+        "interface D { fun size(): Int; fun grow(by: Int); } main { batch (D r) { var a0 = r.size(); ";
     let mut text = Vec::from_slice(alloc, start.as_bytes())?;
     for i in 1..5000u32 {
         let before = i - 1;

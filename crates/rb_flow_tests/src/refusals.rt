@@ -15,7 +15,11 @@ static BEFORE: &str =
 /// Texts, each with the number of its refusal, 0 for none, and under it the positions that the refusal
 /// tells, a, b, c and so on.
 static ROWS: [(&str, u8, &str); 16] = [
-    ("main { val a = 1; batch (D r) { r.file(a).grow(2); } }", 0, ""),
+    (
+        "main { val a = 1; batch (D r) { r.file(a).grow(2); } }",
+        0,
+        "",
+    ),
     (
         "main { batch (D r) { var n = r.file(0).size(); r.file(n).grow(1); } }",
         1,
@@ -29,7 +33,7 @@ static ROWS: [(&str, u8, &str); 16] = [
     (
         "main { batch (D r) { val b = new B(r.file(0).size()); r.file(b.n); } }",
         1,
-        "                             b               a                c     ",
+        "                     b                       a                 c    ",
     ),
     (
         "main { val b = new B(0); batch (D r) { r.file(b.up()); } }",
@@ -57,11 +61,15 @@ static ROWS: [(&str, u8, &str); 16] = [
         "                                       a      b                      ",
     ),
     (
-        "main { batch (D r) { print(r.file(0).size()); val x = List<F>(r.file(0)); } }",
+        "main { batch (D r) { print(r.file(0).size()); print(r.file(1)); } }",
         4,
-        "                                                                a           ",
+        "                                                      a            ",
     ),
-    ("main { batch (D r) { batch (D q) { } } }", 5, "                     a                  "),
+    (
+        "main { batch (D r) { batch (D q) { } } }",
+        5,
+        "                     a                  ",
+    ),
     (
         "main { val b = new B(0); batch (D r) { b.go(); } }",
         5,
@@ -80,7 +88,7 @@ static ROWS: [(&str, u8, &str); 16] = [
     (
         "main { batch (D r) { var a = r.file(0).size(); var b = r.file(1).size(); r.file(a + b); } }",
         1,
-        "                     b                 a                                       c         ",
+        "                     b                 a                                        c          ",
     ),
     (
         "main { val l = List<Int>(1); batch (D r) { for (i in l) { r.file(i).grow(1); } } }",

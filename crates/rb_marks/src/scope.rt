@@ -70,6 +70,13 @@ impl Scope {
         Ok(())
     }
 
+    /// The variables in order of binding.
+    pub fn as_slice(&self) -> &[Variable]
+        ensures { result.now ≡ self.now }
+    {
+        self.variables.as_slice()
+    }
+
     /// How many variables are in scope.
     pub fn len(&self) -> usize
         ensures { result ≡ length self.now }
