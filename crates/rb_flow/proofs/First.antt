@@ -6,7 +6,7 @@ use Rattle.rb_trees.specs.declared.refusals.Refusal.{Refusal}
 use Rattle.rb_meaning_flow.specs.Refusals.{place, number, last_of, IsBefore}
 use Rattle.rb_trees.proofs.mirror.Exprs.{exprs}
 use Rattle.rb_trees.proofs.mirror.Stmts.{stmts}
-use Rattle.rb_meaning_types.proofs.Positions.{expr_at_tree}
+use Rattle.rb_trees.proofs.mirror.Positions.{expr_at_tree}
 use Rattle.rb_flow.proofs.Trees.{stmt_at_tree}
 use Rattle.std.proofs.lemmas.Grind.{common_steps}
 use Rattle.rb_flow.specs.Earliest.{is_before, earlier, earliest, IsEarliest, EarliestIsFirst}

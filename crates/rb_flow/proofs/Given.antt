@@ -5,7 +5,7 @@ use Rattle.rb_trees.specs.mirror.Declarations.{Program}
 use Rattle.rb_meaning_types.specs.Declared.{of_program}
 use Rattle.rb_meaning_types.specs.Notes.{type_at}
 use Rattle.rb_meaning_types.proofs.TypeForms.{kinds}
-use Rattle.rb_meaning_types.proofs.Positions.{expr_at_tree}
+use Rattle.rb_trees.proofs.mirror.Positions.{expr_at_tree}
 use Rattle.rb_trees.proofs.mirror.Exprs.{exprs}
 use Rattle.rb_meaning_flow.specs.Facts.{facts_of, kind_is, is_object, is_rows, has_remote_method}
 use Rattle.rb_types.specs.Given.{kind_given}

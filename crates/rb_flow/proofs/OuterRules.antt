@@ -4,7 +4,7 @@ use Rattle.std.proofs.lemmas.List.{map-append}
 use Rattle.rb_trees.specs.mirror.Code.{Stmt, Val, Var, Assign, Run, Print, Throw, If, While, For, Try, Batch}
 use Rattle.rb_trees.proofs.mirror.Stmts.{stmts}
 use Rattle.rb_meaning_types.proofs.TypeForms.{kinds}
-use Rattle.rb_meaning_types.proofs.Positions.{expr_at_tree}
+use Rattle.rb_trees.proofs.mirror.Positions.{expr_at_tree}
 use Rattle.rb_meaning_flow.specs.declared.scopes.Role.{Role}
 use Rattle.rb_meaning_flow.specs.Facts.{Facts}
 use Rattle.rb_meaning_flow.specs.Scopes.{Scope, with_variable, variable_with, scope_with}

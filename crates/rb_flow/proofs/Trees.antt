@@ -6,7 +6,7 @@ use Rattle.rb_trees.specs.declared.code.StmtForm.TheOpen.{StmtForm-F}
 use Rattle.rb_trees.specs.declared.code.StmtForm.TheFolds.{fold_out-StmtForm}
 use Rattle.rb_trees.specs.mirror.Code.{Stmt, stmt_form_step, stmt_step, mirror_stmt, mirror_stmt_form, stmt_at}
 use Rattle.rb_trees.proofs.mirror.Stmts.{at_Stmt, stmts}
-use Rattle.rb_meaning_types.proofs.Positions.{expr_at_tree}
+use Rattle.rb_trees.proofs.mirror.Positions.{expr_at_tree}
 use Rattle.std.proofs.lemmas.Grind.{common_steps}
 
 stmt_layer_at : (layer : StmtForm-F (ℕ → Stmt) Stmt) (at : ℕ) → stmt_at (stmt_form_step layer at) ≡ at

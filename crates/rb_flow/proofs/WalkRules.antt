@@ -3,7 +3,7 @@ use Rattle.std.proofs.Common.{◌≡◌, length, take, refl}
 use Rattle.rb_trees.specs.mirror.Code.{Expr, Lit, Name, This, Unary, Binary, Field, Call, Index, New, Items, Taken, Stmt, Val, Var, Assign, Run, Print, Throw, If, While, For, Try, Batch}
 use Rattle.rb_trees.proofs.mirror.Exprs.{exprs}
 use Rattle.rb_trees.proofs.mirror.Stmts.{stmts}
-use Rattle.rb_meaning_types.proofs.Positions.{expr_at_tree}
+use Rattle.rb_trees.proofs.mirror.Positions.{expr_at_tree}
 use Rattle.rb_meaning_flow.specs.Facts.{Facts}
 use Rattle.rb_meaning_flow.specs.Scopes.{Scope}
 use Rattle.rb_flow.specs.declared.standing.Reading.{Reading}

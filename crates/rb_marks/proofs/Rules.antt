@@ -3,7 +3,7 @@ use Rattle.rb_trees.proofs.mirror.Exprs.{exprs}
 use Rattle.rb_trees.proofs.mirror.Stmts.{stmts}
 use Rattle.std.proofs.lemmas.Grind.{common_steps}
 use Rattle.rb_meaning_types.proofs.TypeForms.{kinds}
-use Rattle.rb_meaning_types.proofs.Positions.{expr_at_tree}
+use Rattle.rb_trees.proofs.mirror.Positions.{expr_at_tree}
 use Rattle.rb_marks.proofs.Positions.{stmt_at_tree}
 use Rattle.rb_marks.proofs.Scopes.{interface_known}
 use Rattle.rb_marks.proofs.Parts.{marked_parts}
