@@ -148,17 +148,25 @@ pub fn answer(alloc: Global, text: &[u8]) -> Result<Option<Refusal>, Fail> {
     }
 }
 
+/// The letters that stand for a refusal's positions, in order.
+const LETTERS: &[u8] = b"abcdefghijklmnopqrstuvwxyz";
+
+/// The letter of the last of these positions that is a place, or a space where none is.
+fn letter_at(positions: &[u32], place: usize) -> u8 {
+    let mut letter = b' ';
+    for k in 0..positions.len() {
+        if positions[k] as usize == place {
+            letter = LETTERS.get(k).copied().unwrap_or(b'?');
+        }
+    }
+    letter
+}
+
 /// The letters under a text.
 fn drawn(alloc: Global, positions: &[u32], length: usize) -> Result<Vec<u8>, Fail> {
     let mut letters = Vec::new(alloc);
     for at in 0..length {
-        let mut letter = b' ';
-        for k in 0..positions.len() {
-            if positions[k] as usize == BEFORE.len() + at {
-                letter = b'a' + k as u8;
-            }
-        }
-        letters.push(letter)?;
+        letters.push(letter_at(positions, BEFORE.len().wrapping_add(at)))?;
     }
     Ok(letters)
 }
