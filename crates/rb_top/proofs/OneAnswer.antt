@@ -3,6 +3,7 @@ use Rattle.std.proofs.Common.{◌≡◌, ◌⊎◌, ℕ, true, List, [], Option,
 use Rattle.std.specs.Prelude.{IsTrue}
 use Rattle.std.specs.Result.{is_ok}
 use Rattle.rb_trees.specs.declared.reading.ReadError.{ReadError}
+use Rattle.rb_trees.specs.declared.refusals.Refusal.{Refusal}
 use Rattle.rb_trees.specs.declared.typing.TypeError.{TypeError}
 use Rattle.rb_trees.specs.mirror.Declarations.{Program}
 use Rattle.rb_trees.specs.mirror.Services.{Service}
@@ -12,15 +13,16 @@ use Rattle.rb_base.specs.Directories.{Directory, told_after, Finds, FailsNext}
 use Rattle.rb_meaning_bytes.specs.grammar.Sources.{ReadSource}
 use Rattle.rb_meaning_types.specs.Violations.{Checked, Violation}
 use Rattle.rb_meaning_types.specs.Programs.{check_program, is_typed}
+use Rattle.rb_flow.specs.Program.{HasNoRefusal}
 use Rattle.rb_parse.specs.Outcomes.{AtMostOne}
 use Rattle.rb_top.specs.Loads.{FindsTooLong}
 use Rattle.rb_top.specs.Runs.{run_status, run_text}
 use Rattle.rb_top.specs.Scene.{Scene}
-use Rattle.rb_top.specs.Texts.{WithinLength, TooLong, IsUntyped, IsBuilt, IsService, Serves}
+use Rattle.rb_top.specs.Texts.{WithinLength, TooLong, IsUntyped, IsRefused, IsProgram, IsBuilt, IsService, Serves}
 use Rattle.rb_top.specs.Words.{Asked, Check, Both, program_name}
 use Rattle.rb_top.specs.declared.status.Status.{Status}
 use Rattle.rb_top.specs.declared.status.Status.TheVariants.{Done, Memory}
-use Rattle.rb_top.specs.Answers.{Answers, words, program_fault, program_too_long, program_refused, program_untyped, program_typed, program_form, service_fault, service_too_long, service_form, run, Ends, Says, answered, starved_first, starved_running, read_times, IsTold, ToldTyped, ToldBoth, ChecksTold, RunsTold}
+use Rattle.rb_top.specs.Answers.{Answers, words, program_fault, program_too_long, program_refused, program_untyped, program_not_admitted, program_admitted, program_form, service_fault, service_too_long, service_form, run, Ends, Says, answered, starved_first, starved_running, read_times, IsTold, ToldAdmitted, ToldBoth, ChecksTold, RunsTold}
 use Rattle.rb_top.proofs.Ended.{starved_at_once}
 use Rattle.rb_top.proofs.Texts.{OneLexed, service_once}
 
@@ -101,12 +103,17 @@ never_ill_typed : OneSource → (told : Option Directory) (name text found : Lis
 never_ill_typed one told name text found program other error r i t f x =
     never_untyped (check_program program) x.violation t (subst (λ q. check_program q ≡ Err x.violation) (one_program one told name text found program other r i f x.read) x.fails)
 
+-- an admitted program has no refusal
+never_unadmitted : OneSource → (told : Option Directory) (name text found : List ℕ) (program other : Program) (refusal : Refusal) → IsTold told name text → IsProgram text program → Finds told name found → IsRefused found other refusal → ⊥
+never_unadmitted one told name text found program other refusal r i f x =
+    subst HasNoRefusal (sym (one_program one told name text found program other r i.read f x.read)) i.admitted refusal x.refused.0
+
 -- an answer is this one
 abbrev Is : Status → List ℕ → Status → List ℕ → Type 0
 Is status text status' text' = (status' ≡ status) × (text' ≡ text)
 
--- `check P`, where the files tell a typed program
-checked_once : OneSource → (files left : Device Directory) (asked : Option Asked) (p text : List ℕ) (program : Program) (status : Status) (shown : List ℕ) → asked ≡ Some (Check p) → ToldTyped files.told p text program → Answers files asked status shown left → Is Done (line (codes "typed")) status shown
+-- `check P`, where the files tell an admitted program
+checked_once : OneSource → (files left : Device Directory) (asked : Option Asked) (p text : List ℕ) (program : Program) (status : Status) (shown : List ℕ) → asked ≡ Some (Check p) → ToldAdmitted files.told p text program → Answers files asked status shown left → Is Done (line (codes "admitted")) status shown
 checked_once one files left asked p text program status shown w t words = absurd (cc w)
 checked_once one files left asked p text program status shown w t (program_fault a f) =
     absurd (never_fails files.told p text t.finds (subst (FailsNext files.told) (named a (Check p) w) f))
@@ -116,7 +123,9 @@ checked_once one files left asked p text program status shown w t (program_refus
     absurd (never_refused one files.told p text found program error t.finds t.is.read (subst (λ m. Finds files.told m found) (named a (Check p) w) f.0) x)
 checked_once one files left asked p text program status shown w t (program_untyped a found other error f x) =
     absurd (never_ill_typed one files.told p text found program other error t.finds t.is.read t.is.typed (subst (λ m. Finds files.told m found) (named a (Check p) w) f) x)
-checked_once one files left asked p text program status shown w t (program_typed p' found other h) = (refl, refl)
+checked_once one files left asked p text program status shown w t (program_not_admitted a found other refusal f x) =
+    absurd (never_unadmitted one files.told p text found program other refusal t.finds t.is (subst (λ m. Finds files.told m found) (named a (Check p) w) f) x)
+checked_once one files left asked p text program status shown w t (program_admitted p' found other h) = (refl, refl)
 checked_once one files left asked p text program status shown w t (program_form p' s' found fuel' other h n) = no_check p p' s' fuel' w
 checked_once one files left asked p text program status shown w t (service_fault p' s' found fuel' other h b g) = no_check p p' s' fuel' w
 checked_once one files left asked p text program status shown w t (service_too_long p' s' found fuel' other h b l) = no_check p p' s' fuel' w
@@ -134,7 +143,9 @@ run_once one lexed files left asked p s text other fuel program service status s
     absurd (never_refused one files.told p text found program error t.finds t.is.read (subst (λ m. Finds files.told m found) (named a (Both p s fuel) w) f.0) x)
 run_once one lexed files left asked p s text other fuel program service status shown w t (program_untyped a found program' error f x) =
     absurd (never_ill_typed one files.told p text found program program' error t.finds t.is.read t.is.typed (subst (λ m. Finds files.told m found) (named a (Both p s fuel) w) f) x)
-run_once one lexed files left asked p s text other fuel program service status shown w t (program_typed p' found program' h) = no_both p s p' fuel w
+run_once one lexed files left asked p s text other fuel program service status shown w t (program_not_admitted a found program' refusal f x) =
+    absurd (never_unadmitted one files.told p text found program program' refusal t.finds t.is (subst (λ m. Finds files.told m found) (named a (Both p s fuel) w) f) x)
+run_once one lexed files left asked p s text other fuel program service status shown w t (program_admitted p' found program' h) = no_both p s p' fuel w
 run_once one lexed files left asked p s text other fuel program service status shown w t (program_form p' s' found fuel' program' h n) =
     let e = same_both p' s' fuel' p s fuel w in
     let same_program = one_program one files.told p text found program program' t.finds t.is.read (subst (λ m. Finds files.told m found) (ap program_name e) h.finds) h.is.read in
@@ -171,10 +182,10 @@ ends_so : (status : Status) (text : List ℕ) (result : Status) (before after : 
 ends_so status text result before after status' text' is e =
     subst (λ x. Ends status x result before.out after.out) is.1 (subst (λ x. Ends x text' result before.out after.out) is.0 e)
 
-checks_by : OneSource → (asked : Option Asked) (p text : List ℕ) (program : Program) (result : Status) (before after : Scene) → asked ≡ Some (Check p) → ToldTyped before.files.told p text program → Says asked result before after → Ends Done (line (codes "typed")) result before.out after.out
+checks_by : OneSource → (asked : Option Asked) (p text : List ℕ) (program : Program) (result : Status) (before after : Scene) → asked ≡ Some (Check p) → ToldAdmitted before.files.told p text program → Says asked result before after → Ends Done (line (codes "admitted")) result before.out after.out
 checks_by one asked p text program result before after w t (answered status shown a e) =
-    ends_so Done (line (codes "typed")) result before after status shown (checked_once one before.files after.files asked p text program status shown w t a) e
-checks_by one asked p text program result before after w t (starved_first count r f) = ends_starved Done (line (codes "typed")) result count before after r f
+    ends_so Done (line (codes "admitted")) result before after status shown (checked_once one before.files after.files asked p text program status shown w t a) e
+checks_by one asked p text program result before after w t (starved_first count r f) = ends_starved Done (line (codes "admitted")) result count before after r f
 checks_by one asked p text program result before after w t (starved_running p' s' found fuel program' e h b r f) = no_check p p' s' fuel (sym e ∙ w)
 
 pub checks_told : OneSource → (asked : Option Asked) (result : Status) (before after : Scene) → Says asked result before after → ChecksTold asked result before after

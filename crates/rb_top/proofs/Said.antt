@@ -1,7 +1,9 @@
 -- What the commands say, from what reading and running answer.
-use Rattle.std.proofs.Common.{◌≡◌, ℕ, List, Option, None, Some, Ok, Err, codes, ap, sym, ◌∙◌, refl, subst, inl, inr}
+use Rattle.std.proofs.Common.{◌≡◌, ℕ, List, Option, None, Some, Result, Ok, Err, codes, ap, sym, ◌∙◌, refl, subst, inl, inr}
+use Rattle.std.specs.Prelude.{IsTrue, IfOk}
 use Rattle.rb_trees.specs.declared.reading.ReadError.{ReadError}
 use Rattle.rb_trees.specs.declared.reading.ReadError.TheVariants as errors
+use Rattle.rb_trees.specs.declared.refusals.Refusal.{Refusal}
 use Rattle.rb_trees.specs.declared.typing.TypeError.{TypeError}
 use Rattle.rb_trees.specs.mirror.Declarations.{Program}
 use Rattle.rb_trees.specs.mirror.Services.{Service}
@@ -10,7 +12,8 @@ use Rattle.rb_trees.specs.Reading.{read_refusal}
 use Rattle.rb_meaning.specs.Shown.{line}
 use Rattle.rb_meaning_bytes.specs.grammar.Sources.{ReadSource}
 use Rattle.rb_meaning_types.specs.Violations.{violation_of}
-use Rattle.rb_meaning_types.specs.Programs.{check_program}
+use Rattle.rb_meaning_types.specs.Programs.{check_program, is_typed}
+use Rattle.rb_meaning_flow.specs.Programs.{IsAnswerOf}
 use Rattle.rb_base.specs.Devices.{Device, failed}
 use Rattle.rb_base.specs.Directories.{Directory, read_once, Finds}
 use Rattle.rb_top.specs.declared.loading.TextStop.{TextStop}
@@ -18,14 +21,15 @@ use Rattle.rb_top.specs.declared.loading.TextStop.TheVariants as stops
 use Rattle.rb_top.specs.declared.status.SourceError.TheVariants as sources
 use Rattle.rb_top.specs.declared.status.StoreError.TheVariants as stores
 use Rattle.rb_top.specs.declared.status.Status.{Status}
-use Rattle.rb_top.specs.declared.status.Status.TheVariants.{Done, Words, FileFault, SourceRefused, ServiceRefused, Memory, FileTooLong}
-use Rattle.rb_top.specs.Answers.{Answers, words, program_fault, program_too_long, program_refused, program_untyped, program_typed, program_form, service_fault, service_too_long, service_form, run, Ends, Says, answered, starved_first, starved_running, read_times, fault_line, too_long_line}
-use Rattle.rb_top.specs.Commands.{Starves, EndsUnread, EndsWith, EndsRefused, EndsUntyped, EndsRun, GoesOn, RunsOn}
+use Rattle.rb_top.specs.declared.status.Status.TheVariants.{Done, Words, FileFault, SourceRefused, BatchRefused, ServiceRefused, Memory, FileTooLong}
+use Rattle.rb_top.specs.Answers.{Answers, words, program_fault, program_too_long, program_refused, program_untyped, program_not_admitted, program_admitted, program_form, service_fault, service_too_long, service_form, run, Ends, Says, answered, starved_first, starved_running, read_times, fault_line, too_long_line}
+use Rattle.rb_top.specs.BatchRefusals.{shown_batch_refusal}
+use Rattle.rb_top.specs.Commands.{Starves, EndsUnread, EndsWith, EndsRefused, EndsUntyped, EndsUnadmitted, EndsRun, Admits, LoadsProgram, GoesOn, RunsOn}
 use Rattle.rb_top.specs.Loads.{Unread, HoldsText, HoldsProgram}
 use Rattle.rb_top.specs.Refusals.{shown_refusal, shown_violation}
 use Rattle.rb_top.specs.Runs.{run_status, run_text}
 use Rattle.rb_top.specs.Scene.{Scene}
-use Rattle.rb_top.specs.Texts.{IsBuilt, IsService, Serves, NoServiceFor}
+use Rattle.rb_top.specs.Texts.{WithinLength, IsBuilt, IsService, Serves, NoServiceFor}
 use Rattle.rb_top.specs.Words.{Asked, Check, Both, program_name}
 
 -- an answer, said over a scene whose files were left so
@@ -70,14 +74,39 @@ program_not_typed a p text program error result before after n h r v e f =
     says_with (Some a) (violation_of error) (SourceRefused (sources.Types error)) result (line (shown_violation text error)) before after
     (λ d m. program_untyped a text program error (subst (λ q. Finds before.files.told q text) (sym n) h) (record { read = r; violation = d; told = m; fails = subst (λ o. Refuses o (check_program program)) m v })) e f
 
+unadmitted_text : (a : Asked) (p text : List ℕ) (program : Program) (refusal : Refusal) (result : Status) (before after : Scene) → program_name a ≡ p → Finds before.files.told p text → ReadSource text (Ok program) → IsTrue (is_typed program) → IsAnswerOf program refusal
+    → Ends (BatchRefused refusal) (line (shown_batch_refusal text refusal)) result before.out after.out → after.files ≡ read_once before.files → Says (Some a) result before after
+unadmitted_text a p text program refusal result before after n h r t is e f =
+    says (Some a) (BatchRefused refusal) result (line (shown_batch_refusal text refusal)) (read_once before.files) before after
+    (program_not_admitted a text program refusal (subst (λ q. Finds before.files.told q text) (sym n) h) (record { read = r; typed = t; refused = is })) f e
+
+pub program_unadmitted : (a : Asked) (p text : List ℕ) (program : Program) (result : Status) (before after : Scene) → program_name a ≡ p → Finds before.files.told p text → ReadSource text (Ok program) → IsTrue (is_typed program) → EndsUnadmitted text program result before.out after.out → after.files ≡ read_once before.files → Says (Some a) result before after
+program_unadmitted a p text program result before after n h r t (inl e) f = unadmitted_text a p text program e.0 result before after n h r t e.1 e.2 f
+program_unadmitted a p text program result before after n h r t (inr s) f = starves (Some a) result before after 1 s f
+
+-- two scenes whose files and outputs are these are one
+same_scene : (before after : Scene) → after.files ≡ read_once before.files → after.out ≡ before.out → after ≡ record before { files = read_once before.files }
+same_scene before after f o = ap (λ d. record { files = after.files; out = d }) o ∙ ap (λ d. record { files = d; out = before.out }) f
+
+-- what was read and typed is admitted, and so it was loaded; or it was said why it isn't
+pub program_loaded : {X : Type 0} (text_in : X → List ℕ) (program_in : X → Program) (p text : List ℕ) (program : Program) (result : Result X Status) (before after : Scene) → Finds before.files.told p text → ReadSource text (Ok program) → IsTrue (is_typed program) → Admits text_in program_in text program result before.out after.out → after.files ≡ read_once before.files → LoadsProgram text_in program_in p result before after
+program_loaded text_in program_in p text program (Ok x) before after h r t a f =
+    (subst (λ q. HoldsProgram before.files.told p (text_in x) q) (sym a.1) (subst (λ s. HoldsProgram before.files.told p s program) (sym a.0) (record { finds = h; is = record { read = r; typed = t; admitted = a.2 } })), same_scene before after f a.3)
+program_loaded text_in program_in p text program (Err status) before after h r t a f = λ w n. program_unadmitted w p text program status before after n h r t a f
+
+-- and its text is the one that was read
+pub short_program : {X : Type 0} (text_in : X → List ℕ) (program_in : X → Program) (text : List ℕ) (program : Program) (result : Result X Status) (before after : Device (List ℕ)) → WithinLength text → Admits text_in program_in text program result before after → IfOk result (λ x. WithinLength (text_in x))
+short_program text_in program_in text program (Ok x) before after w a = subst WithinLength (sym a.0) w
+short_program text_in program_in text program (Err status) before after w a = tt
+
 -- the scene before, with the files before the program was read
 abbrev at_first : Scene → Device Directory → Scene
 at_first before first = record before { files = first }
 
 -- the rest of `check P`
-pub goes_check : (text p : List ℕ) (program : Program) (result : Status) (before after : Scene) → Ends Done (line (codes "typed")) result before.out after.out → after.files ≡ before.files → GoesOn text program (Check p) result before after
+pub goes_check : (text p : List ℕ) (program : Program) (result : Status) (before after : Scene) → Ends Done (line (codes "admitted")) result before.out after.out → after.files ≡ before.files → GoesOn text program (Check p) result before after
 goes_check text p program result before after e f = λ first b h.
-    says (Some (Check p)) Done result (line (codes "typed")) (read_once first) (at_first before first) after (program_typed p text program h) (f ∙ b) e
+    says (Some (Check p)) Done result (line (codes "admitted")) (read_once first) (at_first before first) after (program_admitted p text program h) (f ∙ b) e
 
 -- the rest of `both P S`, where the program isn't of a form that is built
 pub goes_form : (text p s : List ℕ) (fuel : ℕ) (program : Program) (result : Status) (before after : Scene) → ¬ IsBuilt program → Ends (SourceRefused sources.NotBuilt) (line (codes "not built")) result before.out after.out → after.files ≡ before.files → GoesOn text program (Both p s fuel) result before after

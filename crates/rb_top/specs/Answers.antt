@@ -1,6 +1,7 @@
 -- What the commands `check P` and `both P S [FUEL]` answer: the status, the text on the output, and what is left of the scene.
 use Rattle.std.specs.Prelude.{◌≡◌, ◌⊎◌, ℕ, zero, suc, List, ◌++◌, Option, None, Some, Err, codes}
 use Rattle.rb_trees.specs.declared.reading.ReadError.{ReadError}
+use Rattle.rb_trees.specs.declared.refusals.Refusal.{Refusal}
 use Rattle.rb_trees.specs.declared.typing.TypeError.{TypeError}
 use Rattle.rb_trees.specs.mirror.Declarations.{Program}
 use Rattle.rb_trees.specs.mirror.Services.{Service}
@@ -9,16 +10,17 @@ use Rattle.rb_meaning_bytes.specs.grammar.Sources.{ReadSource}
 use Rattle.rb_base.specs.Devices.{Device, failed}
 use Rattle.rb_base.specs.Directories.{Directory, next_read, told_after, read_once, Finds, FailsNext}
 use Rattle.rb_base.specs.Sinks.{with_bytes, WrotePrefix}
+use Rattle.rb_top.specs.BatchRefusals.{shown_batch_refusal}
 use Rattle.rb_top.specs.Loads.{HoldsText, FindsTooLong, HoldsProgram}
 use Rattle.rb_top.specs.Refusals.{shown_refusal, shown_violation}
 use Rattle.rb_top.specs.Runs.{run_status, run_text}
 use Rattle.rb_top.specs.Scene.{Scene}
-use Rattle.rb_top.specs.Texts.{IsUntyped, IsProgram, HasNoBatch, IsBuilt, IsService, Serves, NoServiceFor}
+use Rattle.rb_top.specs.Texts.{IsUntyped, IsRefused, IsProgram, HasNoBatch, IsBuilt, IsService, Serves, NoServiceFor}
 use Rattle.rb_top.specs.Words.{Asked, Check, Both, program_name}
 use Rattle.rb_top.specs.declared.status.SourceError.TheVariants as sources
 use Rattle.rb_top.specs.declared.status.StoreError.TheVariants as stores
 use Rattle.rb_top.specs.declared.status.Status.{Status}
-use Rattle.rb_top.specs.declared.status.Status.TheVariants.{Done, Words, FileFault, SourceRefused, ServiceRefused, WriteFault, Memory, FileTooLong}
+use Rattle.rb_top.specs.declared.status.Status.TheVariants.{Done, Words, FileFault, SourceRefused, BatchRefused, ServiceRefused, WriteFault, Memory, FileTooLong}
 
 -- the line of a file that can't be read, and of one that has too many bytes
 abbrev pub fault_line : List ℕ → List ℕ
@@ -41,8 +43,11 @@ pub data Answers (files : Device Directory) : Option Asked → Status → List �
   program_untyped : (a : Asked) (text : List ℕ) (program : Program) (error : TypeError)
       → Finds files.told (program_name a) text → IsUntyped text program error
       → Answers files (Some a) (SourceRefused (sources.Types error)) (line (shown_violation text error)) (read_once files)
-  program_typed : (p text : List ℕ) (program : Program) → HoldsProgram files.told p text program
-      → Answers files (Some (Check p)) Done (line (codes "typed")) (read_once files)
+  program_not_admitted : (a : Asked) (text : List ℕ) (program : Program) (refusal : Refusal)
+      → Finds files.told (program_name a) text → IsRefused text program refusal
+      → Answers files (Some a) (BatchRefused refusal) (line (shown_batch_refusal text refusal)) (read_once files)
+  program_admitted : (p text : List ℕ) (program : Program) → HoldsProgram files.told p text program
+      → Answers files (Some (Check p)) Done (line (codes "admitted")) (read_once files)
   program_form : (p s text : List ℕ) (fuel : ℕ) (program : Program) → HoldsProgram files.told p text program → ¬ IsBuilt program
       → Answers files (Some (Both p s fuel)) (SourceRefused sources.NotBuilt) (line (codes "not built")) (read_once files)
   service_fault : (p s text : List ℕ) (fuel : ℕ) (program : Program) → HoldsProgram files.told p text program → IsBuilt program
@@ -86,8 +91,8 @@ abbrev pub IsTold : Option Directory → List ℕ → List ℕ → Type 0
 IsTold None name text = ⊥
 IsTold (Some directory) name text = next_read directory name ≡ Some text
 
--- The files tell a typed program under this name.
-pub record ToldTyped (told : Option Directory) (p text : List ℕ) (program : Program) : Type 0 where
+-- The files tell an admitted program under this name.
+pub record ToldAdmitted (told : Option Directory) (p text : List ℕ) (program : Program) : Type 0 where
   pub finds : IsTold told p text
   pub is : IsProgram text program
 
@@ -100,11 +105,11 @@ pub record ToldBoth (told : Option Directory) (p s text other : List ℕ) (progr
   pub is_service : IsService other service
   pub serves : Serves program service
 
--- Where `check P` is asked, and the files tell a typed program under this name, `typed` is printed and the answer is Done,
+-- Where `check P` is asked, and the files tell an admitted program under this name, `admitted` is printed and the answer is Done,
 -- unless the output fails or memory is wanting.
 abbrev pub ChecksTold : Option Asked → Status → Scene → Scene → Type 0
-ChecksTold asked result before after = (p text : List ℕ) (program : Program) → asked ≡ Some (Check p) → ToldTyped before.files.told p text program
-    → Ends Done (line (codes "typed")) result before.out after.out
+ChecksTold asked result before after = (p text : List ℕ) (program : Program) → asked ≡ Some (Check p) → ToldAdmitted before.files.told p text program
+    → Ends Done (line (codes "admitted")) result before.out after.out
 
 -- Where `both P S FUEL` is asked, and the files tell a program and a service for it under these names, its run is printed and
 -- the answer is how it ends, unless the output fails or memory is wanting.

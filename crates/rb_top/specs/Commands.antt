@@ -1,15 +1,19 @@
 -- What the parts of the commands answer.
 use Rattle.std.specs.Prelude.{◌≡◌, ◌⊎◌, ℕ, List, Option, None, Some, Result, Ok, Err}
 use Rattle.rb_trees.specs.declared.reading.ReadError.{ReadError}
+use Rattle.rb_trees.specs.declared.refusals.Refusal.{Refusal}
 use Rattle.rb_trees.specs.declared.typing.TypeError.{TypeError}
 use Rattle.rb_trees.specs.mirror.Declarations.{Program}
 use Rattle.rb_trees.specs.mirror.Services.{Service}
 use Rattle.rb_trees.specs.Reading.{read_refusal}
 use Rattle.rb_meaning.specs.Shown.{line}
 use Rattle.rb_meaning_types.specs.Violations.{violation_of}
+use Rattle.rb_meaning_flow.specs.Programs.{IsAnswerOf}
+use Rattle.rb_flow.specs.Program.{HasNoRefusal}
 use Rattle.rb_base.specs.Devices.{Device}
 use Rattle.rb_base.specs.Directories.{Directory, read_once}
 use Rattle.rb_top.specs.Answers.{Ends, Says, fault_line, too_long_line}
+use Rattle.rb_top.specs.BatchRefusals.{shown_batch_refusal}
 use Rattle.rb_top.specs.Loads.{HoldsProgram}
 use Rattle.rb_top.specs.Refusals.{shown_refusal, shown_violation}
 use Rattle.rb_top.specs.Runs.{run_status, run_text}
@@ -22,7 +26,7 @@ use Rattle.rb_top.specs.declared.printing.PrintStop.{PrintStop}
 use Rattle.rb_top.specs.declared.printing.PrintStop.TheVariants as print
 use Rattle.rb_top.specs.declared.status.SourceError.TheVariants as sources
 use Rattle.rb_top.specs.declared.status.Status.{Status}
-use Rattle.rb_top.specs.declared.status.Status.TheVariants.{FileFault, SourceRefused, WriteFault, Memory, FileTooLong}
+use Rattle.rb_top.specs.declared.status.Status.TheVariants.{FileFault, SourceRefused, BatchRefused, WriteFault, Memory, FileTooLong}
 
 -- the status where not all was printed
 abbrev pub stopped_status : PrintStop → Status
@@ -57,11 +61,23 @@ EndsRefused text error = EndsWith (read_refusal error) (SourceRefused (sources.R
 abbrev pub EndsUntyped : List ℕ → TypeError → Status → Device (List ℕ) → Device (List ℕ) → Type 0
 EndsUntyped text error = EndsWith (violation_of error) (SourceRefused (sources.Types error)) (line (shown_violation text error))
 
--- Whoever asks for something of the program of this name is answered so, before it is known whether it is typed.
+-- The program in the text isn't admitted, and that was said; or memory was wanting before anything was.
+abbrev pub EndsUnadmitted : List ℕ → Program → Status → Device (List ℕ) → Device (List ℕ) → Type 0
+EndsUnadmitted text p result before after =
+    ((refusal : Refusal) × IsAnswerOf p refusal × Ends (BatchRefused refusal) (line (shown_batch_refusal text refusal)) result before after)
+    ⊎ Starves result before after
+
+-- The program in the text is admitted, and is what is answered, with nothing said; or it was said why it isn't.
+abbrev pub Admits : {X : Type 0} → (X → List ℕ) → (X → Program) → List ℕ → Program → Result X Status → Device (List ℕ) → Device (List ℕ) → Type 0
+Admits text_in program_in text p (Ok x) before after =
+    (text_in x ≡ text) × (program_in x ≡ p) × HasNoRefusal p × (after ≡ before)
+Admits text_in program_in text p (Err status) before after = EndsUnadmitted text p status before after
+
+-- Whoever asks for something of the program of this name is answered so, before it is known whether it is admitted.
 abbrev pub SaysFirst : List ℕ → Status → Scene → Scene → Type 0
 SaysFirst p result before after = (a : Asked) → program_name a ≡ p → Says (Some a) result before after
 
--- The file of the name was read as a typed program; or it was said why there is none.
+-- The file of the name was read as an admitted program; or it was said why there is none.
 abbrev pub LoadsProgram : {X : Type 0} → (X → List ℕ) → (X → Program) → List ℕ → Result X Status → Scene → Scene → Type 0
 LoadsProgram text program p (Ok x) before after =
     HoldsProgram before.files.told p (text x) (program x) × (after ≡ record before { files = read_once before.files })

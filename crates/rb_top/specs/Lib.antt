@@ -2,6 +2,7 @@ pub mod Scene
 pub mod Sources
 pub mod Words
 pub mod Answers
+pub mod BatchRefusals
 pub mod Commands
 pub mod Console
 pub mod Buffers

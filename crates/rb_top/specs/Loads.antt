@@ -26,7 +26,7 @@ abbrev pub LoadsText : {R : Type 0} → (R → List ℕ) → List ℕ → Result
 LoadsText view name (Ok text) before after = HoldsText before.told name (view text) × (after ≡ read_once before)
 LoadsText view name (Err stop) before after = Unread stop name before after
 
--- The file of the name holds this text, as far as the files tell, and it is this typed program.
+-- The file of the name holds this text, as far as the files tell, and it is this program, typed and admitted.
 pub record HoldsProgram (told : Option Directory) (name text : List ℕ) (program : Program) : Type 0 where
   pub finds : Finds told name text
   pub is : IsProgram text program

@@ -1,4 +1,4 @@
--- A typed program as it was loaded.
+-- An admitted program as it was loaded.
 use Rattle.std.specs.Prelude.{ℕ, List}
 use Rattle.rb_trees.specs.mirror.Declarations.{Program, mirror_program}
 use Rattle.rb_top.specs.declared.source.Source.{Source}

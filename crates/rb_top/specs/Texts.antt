@@ -1,6 +1,7 @@
 -- The texts of programs and services.
 use Rattle.std.specs.Prelude.{◌≡◌, ◌⊎◌, ◌==◌, ℕ, ◌<◌, ◌≤◌, List, Bool, false, Option, None, Some, Ok, Err, length, IsTrue}
 use Rattle.std.specs.List.{list_any}
+use Rattle.rb_trees.specs.declared.refusals.Refusal.{Refusal}
 use Rattle.rb_trees.specs.declared.tokens.Token.{Token}
 use Rattle.rb_trees.specs.declared.typing.TypeError.{TypeError}
 use Rattle.rb_trees.specs.mirror.Declarations.{Program}
@@ -10,6 +11,8 @@ use Rattle.rb_meaning_bytes.specs.grammar.Sources.{ReadSource}
 use Rattle.rb_meaning_types.specs.Violations.{Violation, violation_of}
 use Rattle.rb_meaning_types.specs.Batches.{batch_count}
 use Rattle.rb_meaning_types.specs.Programs.{check_program, is_typed}
+use Rattle.rb_meaning_flow.specs.Programs.{IsAnswerOf}
+use Rattle.rb_flow.specs.Program.{HasNoRefusal}
 use Rattle.rb_top.specs.FirstForm.{FirstProgram, Offers}
 use Rattle.rb_top.specs.FirstTexts.{service_at}
 
@@ -28,10 +31,17 @@ pub record IsUntyped (text : List ℕ) (p : Program) (error : TypeError) : Type 
   pub told : violation_of error ≡ Some violation
   pub fails : check_program p ≡ Err violation
 
--- The text is read as this program, which is typed.
+-- The text is read as this program, which is typed, and this is its first refusal by admission.
+pub record IsRefused (text : List ℕ) (p : Program) (refusal : Refusal) : Type 0 where
+  pub read : ReadSource text (Ok p)
+  pub typed : IsTrue (is_typed p)
+  pub refused : IsAnswerOf p refusal
+
+-- The text is read as this program, which is typed and admitted.
 pub record IsProgram (text : List ℕ) (p : Program) : Type 0 where
   pub read : ReadSource text (Ok p)
   pub typed : IsTrue (is_typed p)
+  pub admitted : HasNoRefusal p
 
 -- The program has no batch.
 abbrev pub HasNoBatch : Program → Type 0

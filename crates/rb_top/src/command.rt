@@ -2,15 +2,20 @@
 
 ghost use Rattle.std.specs.Prelude.{◌≡◌, ◌++◌, Some, IfOk};
 ghost use Rattle.rb_meaning.specs.Shown.{line};
+ghost use Rattle.rb_top.specs.BatchRefusals.{shown_batch_refusal};
 ghost use Rattle.rb_top.specs.Answers.{Ends, Says, ChecksTold, RunsTold};
+ghost use Rattle.rb_trees.specs.mirror.Declarations.{mirror_program};
 ghost use Rattle.rb_trees.specs.mirror.Services.{mirror_service};
-ghost use Rattle.rb_top.specs.Commands.{EndsRefused, EndsRun, EndsUntyped, EndsUnread, LoadsProgram, GoesOn, RunsOn, status_after, stopped_status};
+ghost use Rattle.rb_top.specs.Commands.{Admits, EndsRefused, EndsRun, EndsUntyped, EndsUnread, LoadsProgram, GoesOn, RunsOn, status_after, stopped_status};
 ghost use Rattle.rb_top.specs.FirstForm.{FirstService};
 ghost use Rattle.rb_top.specs.Scene.{output, outside};
 ghost use Rattle.rb_top.specs.Sources.{text_of, program_of};
 ghost use Rattle.rb_top.specs.Texts.{WithinLength, IsBuilt, Serves};
+ghost use Rattle.rb_top.specs.declared.status.Status.TheVariants.{BatchRefused};
 ghost use Rattle.rb_top.specs.Words.{texts, asked, asked_by};
 
+use crate::admission::first_refusal;
+use crate::batch_refusals::batch_refusal_line;
 use crate::loading::{TextStop, load_text, service_for};
 use crate::local_run::run_local;
 use crate::printing::{PrintStop, print_text};
@@ -19,11 +24,12 @@ use crate::run::run_both;
 use crate::source::{Source, has_no_batch, is_built};
 use crate::status::{SourceError, Status, StoreError};
 use crate::words::{Command, command_of};
+use bytes::BytesMut;
 use rb_base::{Files, Sink};
 use rb_lex::texts_have_one_outcome;
 use rb_parse::{parse_program, sources_have_one_outcome};
-use rb_trees::{Memory, ReadError, Seq, Service, TypeError};
-use rb_types::check as check_types;
+use rb_trees::{Memory, ReadError, Refusal, Seq, Service, TypeError};
+use rb_types::{Typed, check as check_types};
 use std::alloc::{AllocError, Global};
 
 /// The status where not all was printed.
@@ -130,8 +136,43 @@ fn refuse_types<W: Sink>(alloc: Global, text: &[u8], error: TypeError, out: &mut
     }
 }
 
-/// The typed program in a file, or the status after it was said why there is none.
-fn typed_program<F: Files, W: Sink>(
+/// Says why a program isn't admitted.
+fn refuse_batch<W: Sink>(alloc: Global, text: &[u8], refusal: Refusal, out: &mut W) -> Status
+    requires { WithinLength text.now }
+    ensures { Ends (BatchRefused refusal) (line (shown_batch_refusal text.now refusal)) result (output W.Sink out.old) (output W.Sink out.new) }
+{
+    match batch_refusal_line(alloc, text, &refusal) {
+        Ok(line) => say(Status::BatchRefused(refusal), line.as_slice(), out),
+        Err(_) => Status::Memory,
+    }
+}
+
+/// The typed program of a text, if it is admitted, or the status after it was said why it isn't.
+fn admitted_program<W: Sink>(
+    alloc: Global,
+    text: BytesMut,
+    typed: Typed,
+    out: &mut W,
+) -> Result<Source, Status>
+    requires { WithinLength text.items }
+    ensures { Admits text_of program_of text.items (mirror_program typed) result (output W.Sink out.old) (output W.Sink out.new) }
+{
+    match first_refusal(alloc, &typed) {
+        Ok(None) => Ok(Source { text, typed }),
+        Ok(Some(refusal)) => {
+            let status = refuse_batch(alloc, text.as_slice(), refusal, out);
+            drop(typed);
+            Err(status)
+        }
+        Err(Memory) => {
+            drop(typed);
+            Err(Status::Memory)
+        }
+    }
+}
+
+/// The admitted program in a file, or the status after it was said why there is none.
+fn loaded_program<F: Files, W: Sink>(
     alloc: Global,
     name: &str,
     files: &mut F,
@@ -148,7 +189,7 @@ fn typed_program<F: Files, W: Sink>(
                 Err(error) => Err(refuse(alloc, source, error, out)),
                 Ok(program) => match check_types(alloc, program) {
                     Err(error) => Err(refuse_types(alloc, source, error, out)),
-                    Ok(typed) => Ok(Source { text, typed }),
+                    Ok(typed) => admitted_program(alloc, text, typed, out),
                 },
             }
         }
@@ -207,7 +248,7 @@ fn run_on<F: Files, W: Sink>(
     }
 }
 
-/// Carries out the rest of a command, once its program is known to be typed.
+/// Carries out the rest of a command, once its program is known to be admitted.
 fn go_on<F: Files, W: Sink>(
     alloc: Global,
     source: &Source,
@@ -219,7 +260,7 @@ fn go_on<F: Files, W: Sink>(
     ensures { GoesOn (text_of source.now) (program_of source.now) (asked_by command.now) result (outside F.Files W.Sink files.old out.old) (outside F.Files W.Sink files.new out.new) }
 {
     match command {
-        Command::Check(_) => say(Status::Done, b"typed\n", out),
+        Command::Check(_) => say(Status::Done, b"admitted\n", out),
         Command::Both(_, service, fuel) => {
             if is_built(&source.typed) {
                 run_on(alloc, source, service, *fuel, files, out)
@@ -234,7 +275,7 @@ fn go_on<F: Files, W: Sink>(
     }
 }
 
-/// Carries out a command: its program is read and typed first.
+/// Carries out a command: its program is read, typed and admitted first.
 fn carry_out<F: Files, W: Sink>(
     alloc: Global,
     command: &Command,
@@ -243,7 +284,7 @@ fn carry_out<F: Files, W: Sink>(
 ) -> Status
     ensures { Says (Some (asked_by command.now)) result (outside F.Files W.Sink files.old out.old) (outside F.Files W.Sink files.new out.new) }
 {
-    match typed_program(alloc, command.program(), files, out) {
+    match loaded_program(alloc, command.program(), files, out) {
         Err(status) => status,
         Ok(source) => {
             let status = go_on(alloc, &source, command, files, out);
@@ -262,7 +303,7 @@ fn carry_out<F: Files, W: Sink>(
 pub fn top<F: Files, W: Sink>(alloc: Global, words: &[String], files: &mut F, out: &mut W) -> Status
     // What is answered and printed is what the words and the files mean.
     ensures answer { Says (asked (texts words.now)) result (outside F.Files W.Sink files.old out.old) (outside F.Files W.Sink files.new out.new) }
-    // A typed program that the files tell is checked, unless the output fails or memory is wanting.
+    // An admitted program that the files tell is checked, unless the output fails or memory is wanting.
     ensures checks { ChecksTold (asked (texts words.now)) result (outside F.Files W.Sink files.old out.old) (outside F.Files W.Sink files.new out.new) }
     // A program that the files tell is run on a service for it that they tell, unless the output fails or memory is wanting.
     ensures runs { RunsTold (asked (texts words.now)) result (outside F.Files W.Sink files.old out.old) (outside F.Files W.Sink files.new out.new) }

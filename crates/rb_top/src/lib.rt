@@ -1,7 +1,9 @@
 //! The commands of the product, from words to what they print.
 #![tactic(auto)]
 
+mod admission;
 mod answer;
+mod batch_refusals;
 mod command;
 mod console;
 mod first_form;

@@ -7,7 +7,7 @@ ghost use Rattle.std.specs.Fmt.{decimal};
 ghost use Rattle.rb_trees.specs.Reading.{lex_refusal, read_refusal};
 ghost use Rattle.rb_meaning.specs.Shown.{line};
 ghost use Rattle.rb_meaning_types.specs.Violations.{violation_of};
-ghost use Rattle.rb_top.specs.Refusals.{lex_heading, heading, lex_offset, offset, violation_heading, violation_offset, shown_at, shown_refusal, shown_violation};
+ghost use Rattle.rb_top.specs.Refusals.{place_in, lex_heading, heading, lex_offset, offset, violation_heading, violation_offset, shown_at, shown_refusal, shown_violation};
 ghost use Rattle.rb_top.specs.Texts.{WithinLength};
 
 use rb_base::place;
@@ -161,14 +161,22 @@ fn line_at(alloc: Global, heading: &str, place: &[u8]) -> Result<Vec<u8>, AllocE
     Ok(text)
 }
 
+/// The line and the column of an offset, of the text's end where it is behind that.
+pub fn place_in(alloc: Global, text: &[u8], at: u32) -> Result<Vec<u8>, AllocError>
+    requires { WithinLength text.now }
+    ensures { IfOk result (λ shown. shown.items ≡ place_in text.now at) }
+{
+    let at = at.min(text.len() as u32);
+    let (row, column) = place(text, at);
+    place_text(alloc, row, column)
+}
+
 /// The line of what is refused at an offset of a text.
 fn line_in(alloc: Global, text: &[u8], heading: &str, at: u32) -> Result<Vec<u8>, AllocError>
     requires { WithinLength text.now }
     ensures { IfOk result (λ shown. shown.items ≡ line (shown_at text.now heading.now at)) }
 {
-    let at = at.min(text.len() as u32);
-    let (row, column) = place(text, at);
-    let place = place_text(alloc, row, column)?;
+    let place = place_in(alloc, text, at)?;
     line_at(alloc, heading, place.as_slice())
 }
 

@@ -1,4 +1,4 @@
-// Typed programs, and whether they are run.
+// Admitted programs, and whether they are run.
 
 ghost use Rattle.rb_trees.specs.mirror.Declarations.{mirror_program};
 ghost use Rattle.rb_trees.specs.mirror.Services.{mirror_service};
@@ -11,7 +11,7 @@ use bytes::BytesMut;
 use rb_trees::Service;
 use rb_types::Typed;
 
-/// A typed program, with the text that it was read from.
+/// A typed program that is admitted, with the text that it was read from.
 #[derive(Drop)]
 pub struct Source {
     pub text: BytesMut,

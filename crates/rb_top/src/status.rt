@@ -3,7 +3,7 @@
 ghost use Rattle.std.specs.Prelude.{◌≡◌};
 ghost use Rattle.rb_top.specs.Codes.{code_of};
 
-use rb_trees::{Fault, ReadError, TypeError, Word};
+use rb_trees::{Fault, ReadError, Refusal, TypeError, Word};
 use thiserror::Error;
 
 /// Why a program's text is refused.
@@ -39,6 +39,8 @@ pub enum Status {
     /// The file of this name can't be read.
     FileFault(Word),
     SourceRefused(SourceError),
+    /// A batch of the program isn't admitted.
+    BatchRefused(Refusal),
     ServiceRefused(StoreError),
     /// The output failed.
     WriteFault,
@@ -58,6 +60,7 @@ impl Status {
             Status::Words => 2,
             Status::FileFault(_) => 3,
             Status::SourceRefused(_) => 4,
+            Status::BatchRefused(_) => 5,
             Status::ServiceRefused(_) => 6,
             Status::WriteFault => 9,
             Status::Memory => 10,

@@ -79,6 +79,17 @@ pub fn checked(alloc: Global, text: &[u8]) -> Result<String, Fail> {
     answer(alloc, "check p", files)
 }
 
+/// The two lines of interfaces before each text whose batches are admitted or refused.
+const INTERFACES: &str = "\
+interface File { fun name(): Text; fun size(): Int; fun grow(by: Int); fun check(max: Int); fun rename(to: Text); }\n\
+interface Dir { fun files(): Rows<File>; fun file(i: Int): File; fun burn(n: Int); }\n";
+
+/// What `check p` answers on a text behind the interfaces.
+pub fn admission(alloc: Global, program: &str) -> Result<String, Fail> {
+    let text = format!(in alloc; "{INTERFACES}{program}")?;
+    checked(alloc, text.as_bytes())
+}
+
 /// What words answer on a program and `SERVICE`.
 pub fn ran(alloc: Global, words: &str, program: &str) -> Result<String, Fail> {
     answer(alloc, words, files_of(alloc, Some(program), Some(SERVICE))?)

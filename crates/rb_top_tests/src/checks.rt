@@ -21,9 +21,9 @@ fn text_of(alloc: Global, row: &str) -> Result<Vec<u8>, Fail> {
 }
 
 /// Texts, each behind what `check` answers: the refusals, each limit, and each form.
-const CHECKED: &str = r#"0 typed|main { }
-0 typed|main { print(1); } // a comment
-0 typed|main { val a = - -1; val b = - -a; }
+const CHECKED: &str = r#"0 admitted|main { }
+0 admitted|main { print(1); } // a comment
+0 admitted|main { val a = - -1; val b = - -a; }
 4 types 1 UnknownName at 1:14|main { print(x); }
 4 lex 1 BadByte at 1:16|main { print(1 $ 2); }
 4 lex 1 BadByte at 1:16|main { print("a\qb"); }
@@ -41,23 +41,23 @@ const CHECKED: &str = r#"0 typed|main { }
 4 parse 7 TooNested at 1:216|main { val a = ~-~201~1; }
 4 parse 7 TooNested at 1:966|main {~ while (true) {~64~
 4 parse 7 TooNested at 1:338|class C { v: ~List<~65~Int
-0 typed|main { val a = ~-~200~1; }
-0 typed|main {~ while (true) {~63~~ }~64~
-0 typed|class C { v: ~List<~64~Int~>~64~; } main { }
-0 typed|interface D { fun n(): Int; fun f(a: Int, b: Text): Rows<D>; fun g(); } main { }
-0 typed|class C { v: Int; remote fun m(): Bool { return true; } fun k(o: C): Unit { } } main { }
-0 typed|class F { fun h(a: Int): List<F> { return List<F>(this); } fun g() { } } main { val f = new F(); f.h(1)[0].g(); }
-0 typed|main: Text { val a = 1; var b = "t\n"; b = "u"; return b; }
-0 typed|main { print(len("b")); throw "x"; if (true) { } else { } if (false) { } while (true) { } }
-0 typed|main { for (x in List<Int>()) { } try { throw "x"; } catch (e) { } }
-0 typed|interface D { fun n(); } main { batch (D r) { r.n(); } }
-0 typed|class C { v: C; fun m(a: Int, b: Int): C { val c = this.v.m(a, List<Int>(1, 2)[0]); return new C(c); } } main { }
-0 typed|class C { } main { val a = new C(); val b = List<List<Bool>>(); val c = str(1) + ("d"); }
-0 typed|main { val a = true || false && 1 == 2; val b = "g" != "h"; val c = 1 < 2; val d = 3 >= 4; }
-0 typed|main { val a = 1 <= 2 == (3 > 4); val b = 1 + 2 - 3 * 4 / 5 % 6; val c = !a; }"#;
+0 admitted|main { val a = ~-~200~1; }
+0 admitted|main {~ while (true) {~63~~ }~64~
+0 admitted|class C { v: ~List<~64~Int~>~64~; } main { }
+0 admitted|interface D { fun n(): Int; fun f(a: Int, b: Text): Rows<D>; fun g(); } main { }
+0 admitted|class C { v: Int; remote fun m(): Bool { return true; } fun k(o: C): Unit { } } main { }
+0 admitted|class F { fun h(a: Int): List<F> { return List<F>(this); } fun g() { } } main { val f = new F(); f.h(1)[0].g(); }
+0 admitted|main: Text { val a = 1; var b = "t\n"; b = "u"; return b; }
+0 admitted|main { print(len("b")); throw "x"; if (true) { } else { } if (false) { } while (true) { } }
+0 admitted|main { for (x in List<Int>()) { } try { throw "x"; } catch (e) { } }
+0 admitted|interface D { fun n(); } main { batch (D r) { r.n(); } }
+0 admitted|class C { v: C; fun m(a: Int, b: Int): C { val c = this.v.m(a, List<Int>(1, 2)[0]); return new C(c); } } main { }
+0 admitted|class C { } main { val a = new C(); val b = List<List<Bool>>(); val c = str(1) + ("d"); }
+0 admitted|main { val a = true || false && 1 == 2; val b = "g" != "h"; val c = 1 < 2; val d = 3 >= 4; }
+0 admitted|main { val a = 1 <= 2 == (3 > 4); val b = 1 + 2 - 3 * 4 / 5 % 6; val c = !a; }"#;
 
 #[test]
-fn texts_are_typed_or_refused_at_their_first_fault(rt: HostRuntime) -> Result<(), Fail> {
+fn texts_are_admitted_or_refused_at_their_first_fault(rt: HostRuntime) -> Result<(), Fail> {
     for row in CHECKED.split('\n') {
         let Some((wanted, row)) = row.split_once('|') else {
             return Err(Fail::from("a row lacks its bar"));
@@ -85,7 +85,9 @@ fn lines_and_bytes_count(rt: HostRuntime) -> Result<(), Fail> {
 }
 
 #[test]
-fn programs_that_are_not_read_or_not_typed_are_refused_first(rt: HostRuntime) -> Result<(), Fail> {
+fn programs_that_are_not_read_typed_or_admitted_are_refused_first(
+    rt: HostRuntime,
+) -> Result<(), Fail> {
     for (program, wanted) in [
         (
             "interface D { fun n(): Int; } main { batch (D r) { print(r.n()); } } }",
@@ -107,6 +109,10 @@ fn programs_that_are_not_read_or_not_typed_are_refused_first(rt: HostRuntime) ->
         (
             "interface D { fun n(): Int; } main { batch (D r) { print(r.n()); } return 1; }",
             "4 types 3 WrongType at 1:75\n",
+        ),
+        (
+            "interface D { fun n(): Int; } main { batch (D r) { print(r); } }",
+            "5 refused 4 Escapes 1:58\n",
         ),
     ] {
         assert_eq!(rt; shown(rt.alloc(), Some(program), None)?.as_str(), wanted);

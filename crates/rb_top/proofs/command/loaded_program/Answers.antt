@@ -1,0 +1,32 @@
+use Rattle.std.proofs.Common.{refl, sym, subst}
+use Rattle.std.specs.Prelude.{IsTrue}
+use Rattle.std.specs.Result.{is_ok}
+use Rattle.rb_trees.specs.mirror.Declarations.{mirror_program}
+use Rattle.rb_top.specs.Commands.{Admits}
+use Rattle.rb_top.specs.Loads.{HoldsText}
+use Rattle.rb_top.specs.Scene.{output}
+use Rattle.rb_top.specs.Sources.{text_of, program_of}
+use Rattle.rb_top.proofs.Said.{program_unread, program_not_read, program_not_typed, program_loaded}
+use Rattle.rb_top.proofs.command.loaded_program.Goals as goal
+
+pub returns-in-Err-clause-loads : goal.returns-in-Err-clause-loads
+returns-in-Err-clause-loads g c = λ a n. program_unread a c.args.name.now c.in-Err.stop c.say_unread.result _ _ n c.in-Err.ensures c.say_unread.ensures
+
+pub returns-in-Err-parse_program-clause-loads : goal.returns-in-Err-parse_program-clause-loads
+returns-in-Err-parse_program-clause-loads g c = λ a n.
+    program_not_read a c.args.name.now c.as_slice-source.result.now c.in-Err-parse_program.error c.refuse.result _ _ n
+    (subst (HoldsText _ c.args.name.now) (sym c.as_slice-source.ensures) c.in-Ok.ensures.0) c.in-Err-parse_program.ensures.read c.refuse.ensures c.in-Ok.ensures.1
+
+pub returns-in-Err-check_types-clause-loads : goal.returns-in-Err-check_types-clause-loads
+returns-in-Err-check_types-clause-loads g c = λ a n.
+    program_not_typed a c.args.name.now c.as_slice-source.result.now (mirror_program c.in-Ok-parse_program.program) c.in-Err-check_types.error c.refuse_types.result _ _ n
+    (subst (HoldsText _ c.args.name.now) (sym c.as_slice-source.ensures) c.in-Ok.ensures.0).0 c.in-Ok-parse_program.ensures.read c.in-Err-check_types.ensures.gives c.refuse_types.ensures c.in-Ok.ensures.1
+
+pub returns-in-Ok-check_types-clause-loads : goal.returns-in-Ok-check_types-clause-loads
+returns-in-Ok-check_types-clause-loads g c =
+    program_loaded text_of program_of c.args.name.now c.as_slice-source.result.now (mirror_program c.in-Ok-parse_program.program) c.admitted_program.result _ _
+    (subst (HoldsText _ c.args.name.now) (sym c.as_slice-source.ensures) c.in-Ok.ensures.0).0
+    c.in-Ok-parse_program.ensures.read (subst (λ o. IsTrue (is_ok o)) (sym c.in-Ok-check_types.ensures.gives) refl)
+    (subst (λ t. Admits text_of program_of t (mirror_program c.in-Ok-parse_program.program) c.admitted_program.result (output g.W.Sink c.args.out.now) (output g.W.Sink c.admitted_program.new.out)) (sym c.as_slice-source.ensures)
+    (subst (λ q. Admits text_of program_of c.in-Ok.text.items (mirror_program q) c.admitted_program.result (output g.W.Sink c.args.out.now) (output g.W.Sink c.admitted_program.new.out)) c.in-Ok-check_types.ensures.same c.admitted_program.ensures))
+    c.in-Ok.ensures.1
