@@ -1,11 +1,13 @@
-//! Does to the file that its second argument names what the first one says (lex, parse, print or check), and prints
-//! one line of how it went.
+//! Does to the file that its second argument names what the first one says (lex, parse, print, check or admit), and
+//! prints one line of how it went.
 #![tactic(auto)]
 
 ghost use Rattle.rb_trees.specs.mirror.Declarations.{mirror_program};
 ghost use Rattle.rb_meaning_types.specs.Lawful.{IsLawful};
 
+use rb_flow::admit;
 use rb_lex::lex;
+use rb_marks::mark;
 use rb_parse::parse_program;
 use rb_trees::{Program, print_program};
 use rb_types::{Typed, check};
@@ -17,7 +19,7 @@ fn main(rt: HostRuntime) -> io::Result<()> {
     words.next();
     match (words.next(), words.next()) {
         (Some(what), Some(path)) => report(&rt, what.as_str(), path.as_str()),
-        _ => eprintln!(rt; "usage: bench_read lex|parse|print|check FILE"),
+        _ => eprintln!(rt; "usage: bench_read lex|parse|print|check|admit FILE"),
     }
 }
 
@@ -38,7 +40,8 @@ fn carry_out<R: AllocGlobal + Print + Eprint>(rt: &R, what: &str, source: &[u8])
         "parse" => parsed(rt, source),
         "print" => printed(rt, source),
         "check" => checked(rt, source),
-        _ => eprintln!(rt; "usage: bench_read lex|parse|print|check FILE"),
+        "admit" => admitted(rt, source),
+        _ => eprintln!(rt; "usage: bench_read lex|parse|print|check|admit FILE"),
     }
 }
 
@@ -118,4 +121,37 @@ fn expressions(typed: &Typed, size: u32) -> u32 {
         }
     }
     count
+}
+
+/// Prints whether the source is admitted, or why it isn't a typed program.
+fn admitted<R: AllocGlobal + Print>(rt: &R, source: &[u8]) -> io::Result<()> {
+    match parse_program(rt.alloc(), source) {
+        Ok(program) => checked_and_admitted(rt, program),
+        Err(error) => println!(rt; "{error}"),
+    }
+}
+
+/// Prints whether the program is admitted, or its first violation.
+fn checked_and_admitted<R: AllocGlobal + Print>(rt: &R, program: Program) -> io::Result<()>
+    requires { IsLawful (mirror_program program) }
+{
+    match check(rt.alloc(), program) {
+        Ok(typed) => {
+            let done = answer(rt, &typed);
+            drop(typed);
+            done
+        }
+        Err(error) => println!(rt; "{error}"),
+    }
+}
+
+/// Prints whether the program is admitted.
+fn answer<R: AllocGlobal + Print>(rt: &R, typed: &Typed) -> io::Result<()> {
+    let Ok(marks) = mark(rt.alloc(), typed) else {
+        return println!(rt; "out of memory");
+    };
+    match admit(rt.alloc(), typed, marks) {
+        Ok(_) => println!(rt; "admitted"),
+        Err(error) => println!(rt; "{error}"),
+    }
 }
