@@ -1,4 +1,4 @@
--- The grammar of programs.
+-- The grammar of programs and services.
 pub mod Values
 pub mod Symbols
 pub mod Productions

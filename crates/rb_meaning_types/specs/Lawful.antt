@@ -10,6 +10,8 @@ use Rattle.rb_trees.specs.mirror.Types as type
 use Rattle.rb_trees.specs.mirror.Types.{TypeTree}
 use Rattle.rb_trees.specs.mirror.Code.{Expr, Exprs, Lit, Name, This, Unary, Binary, Field, Call, Index, New, Items, Taken, NoExprs, MoreExprs, Stmt, Stmts, Val, Var, Assign, Run, Print, Throw, If, While, For, Try, Batch, NoStmts, MoreStmts}
 use Rattle.rb_trees.specs.mirror.Declarations.{Param, Signature, Interface, Body, Method, Class, Program}
+use Rattle.rb_trees.specs.mirror.Services as service
+use Rattle.rb_trees.specs.mirror.Services.{ObjectText, ServiceText}
 use Rattle.rb_meaning_types.specs.Values.{IsText}
 
 -- A list that a position can count.
@@ -251,3 +253,33 @@ pub record IsLawfulService (classes : List Class) : Type 0 where
   pub class_count : IsShort classes
   pub depths : All IsShallowClass classes
   pub positions : IsDistinct nat_eq (classes_positions classes)
+
+abbrev pub literal_count : service.Literals → ℕ
+literal_count service.NoLiterals = 0
+literal_count (service.MoreLiterals l ls) = suc (literal_count ls)
+
+-- A literal of a service's text: its texts are such, and its lists are short.
+abbrev mutual
+  pub IsLawfulLiteral : service.Literal → Type 0
+  IsLawfulLiteral (service.Int number) = Unit {0}
+  IsLawfulLiteral (service.Bool truth) = Unit {0}
+  IsLawfulLiteral (service.Text text) = IsText text
+  IsLawfulLiteral (service.Object number) = Unit {0}
+  IsLawfulLiteral (service.Items items) = AreLawfulLiterals items × (literal_count items < 2 ^ 32)
+
+  pub AreLawfulLiterals : service.Literals → Type 0
+  AreLawfulLiterals service.NoLiterals = Unit {0}
+  AreLawfulLiterals (service.MoreLiterals l ls) = IsLawfulLiteral l × AreLawfulLiterals ls
+
+-- A field that an object gives: its name, and what it holds.
+abbrev pub IsLawfulGiven : List ℕ × service.Literal → Type 0
+IsLawfulGiven given = IsName given.0 × IsLawfulLiteral given.1
+
+abbrev pub IsLawfulObject : ObjectText → Type 0
+IsLawfulObject o = IsName o.class × All IsLawfulGiven o.fields × IsShort o.fields
+
+-- The lawful text of a service.
+pub record IsLawfulServiceText (t : ServiceText) : Type 0 where
+  pub classes : IsLawfulService t.classes
+  pub objects : All IsLawfulObject t.objects
+  pub object_count : IsShort t.objects

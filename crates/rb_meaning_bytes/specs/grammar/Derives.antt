@@ -2,7 +2,8 @@
 use Rattle.std.specs.Prelude.{◌≡◌, ℕ, List, [], ◌∷◌, ◌++◌, length}
 use Rattle.rb_trees.specs.declared.tokens.Token.{Token}
 use Rattle.rb_trees.specs.mirror.Declarations.{Program}
-use Rattle.rb_meaning_bytes.specs.grammar.Symbols.{Symbol, Terminal, The, Nonterminal, TheProgram, TreeOf, Trees, Makes, made}
+use Rattle.rb_trees.specs.mirror.Services.{ServiceText}
+use Rattle.rb_meaning_bytes.specs.grammar.Symbols.{Symbol, Terminal, The, Nonterminal, TheProgram, TheService, TreeOf, Trees, Makes, made}
 use Rattle.rb_meaning_bytes.specs.grammar.Productions.{Production}
 
 -- The tokens spell the symbols, one after the other, with these trees.
@@ -25,25 +26,35 @@ pub data IsPrefix (source : List ℕ) : List Symbol → List Token → Type 0 wh
   past : {p : Nonterminal} {m l : List Symbol} {f : Makes m (TreeOf p)} {ts us : List Token} {ys : Trees m}
       → Production source p m f → Spells source m ts ys → IsPrefix source l us → IsPrefix source (The p ∷ l) (ts ++ us)
 
--- The tokens of the source derive the program.
-abbrev pub Derives : List ℕ → List Token → Program → Type 0
-Derives source tokens program = Spells source (The TheProgram ∷ []) tokens (program, tt)
+-- Texts are spellings of a start part: programs or services. What follows is said of any.
 
--- Some program begins with the tokens.
-abbrev pub IsProgramPrefix : List ℕ → List Token → Type 0
-IsProgramPrefix source tokens = IsPrefix source (The TheProgram ∷ []) tokens
+-- The tokens of the source derive the tree.
+abbrev pub DerivesAs : (start : Nonterminal) → List ℕ → List Token → TreeOf start → Type 0
+DerivesAs start source tokens tree = Spells source (The start ∷ []) tokens (tree, tt)
+
+-- Some text begins with the tokens.
+abbrev pub IsTextPrefix : Nonterminal → List ℕ → List Token → Type 0
+IsTextPrefix start source tokens = IsPrefix source (The start ∷ []) tokens
 
 -- No text goes on from the tokens so far and the next one; at the end, the tokens are no text.
-abbrev pub Stuck : List ℕ → List Token → List Token → Type 0
-Stuck source front [] = (program : Program) → ¬ Derives source front program
-Stuck source front (t ∷ ts) = ¬ IsProgramPrefix source (front ++ t ∷ [])
+abbrev pub Stuck : Nonterminal → List ℕ → List Token → List Token → Type 0
+Stuck start source front [] = (tree : TreeOf start) → ¬ DerivesAs start source front tree
+Stuck start source front (t ∷ ts) = ¬ IsTextPrefix start source (front ++ t ∷ [])
 
 -- So many tokens from the end stands the first token with which the tokens so far are a prefix of no text,
 -- or the end, where it is not expected.
-pub record Breaks (source : List ℕ) (tokens : List Token) (left : ℕ) : Type 0 where
+pub record Breaks (start : Nonterminal) (source : List ℕ) (tokens : List Token) (left : ℕ) : Type 0 where
   pub front : List Token
   pub rest : List Token
   pub is : tokens ≡ front ++ rest
   pub left_is : length rest ≡ left
-  pub goes : IsProgramPrefix source front
-  pub stuck : Stuck source front rest
+  pub goes : IsTextPrefix start source front
+  pub stuck : Stuck start source front rest
+
+-- The tokens of the source derive the program.
+abbrev pub Derives : List ℕ → List Token → Program → Type 0
+Derives source tokens program = DerivesAs TheProgram source tokens program
+
+-- The tokens of the source derive the text of a service.
+abbrev pub DerivesService : List ℕ → List Token → ServiceText → Type 0
+DerivesService source tokens service = DerivesAs TheService source tokens service

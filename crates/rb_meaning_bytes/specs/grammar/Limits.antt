@@ -68,10 +68,26 @@ after n kind = record { blocks = blocks_after n kind; types = types_after n kind
 abbrev pub too_deep : Nesting → Bool
 too_deep n = cond (nat_lt most_blocks n.blocks) true (cond (nat_lt most_types n.types) true (nat_lt most_marks n.marks))
 
+-- Behind the word `object`, which stands in services alone, there are no expressions and blocks any more, but literals:
+-- of these only the lists that are open within each other count, at most 64.
+abbrev pub most_lists : ℕ
+most_lists = 64
+
+unfoldable pub lists_after : ℕ → TokenKind → ℕ
+lists_after lists kind = cond (is_kind kind k.sign_open_bracket) (lists + 1) (cond (is_kind kind k.sign_close_bracket) (lists - 1) lists)
+
+-- how many tokens are left where the first bracket stands that opens a list too many
+abbrev pub broken_lists : ℕ → List Token → Option ℕ
+broken_lists lists [] = None
+broken_lists lists (t ∷ ts) = cond (nat_lt most_lists (lists_after lists t.kind)) (Some (length (t ∷ ts))) (broken_lists (lists_after lists t.kind) ts)
+
 -- how many tokens are left where the first token stands with which a limit is broken
 abbrev pub broken : Nesting → List Token → Option ℕ
 broken n [] = None
-broken n (t ∷ ts) = cond (too_deep (after n t.kind)) (Some (length (t ∷ ts))) (broken (after n t.kind) ts)
+broken n (t ∷ ts) =
+    cond (is_kind t.kind k.keyword_object) (broken_lists 0 ts)
+    (cond (too_deep (after n t.kind)) (Some (length (t ∷ ts)))
+    (broken (after n t.kind) ts))
 
 -- nothing is open before the first token
 abbrev pub nothing_open : Nesting

@@ -1,7 +1,7 @@
--- The productions of the grammar of programs, one a line, each with the tree that it makes of its parts' trees.
+-- The productions of the grammar of programs and services, one a line, each with the tree that it makes of its parts' trees.
 -- A node's position is the offset of its defining token: of an operator its sign, of a member its name, of an index
 -- its bracket, of a declaration its name, of a statement its keyword, of an assignment its equals sign, of an
--- expression alone its semicolon, and of a type its first token.
+-- expression alone its semicolon, of a type its first token, and of an object its class's name.
 use Rattle.std.specs.Prelude.{ℕ, List, [], ◌∷◌, true, false, Option, None, Some}
 use Rattle.rb_trees.specs.declared.values.Value as value
 use Rattle.rb_trees.specs.declared.code.UnOp.TheVariants as unary
@@ -10,8 +10,9 @@ use Rattle.rb_trees.specs.declared.tokens.TokenKind.TheVariants as kind
 use Rattle.rb_trees.specs.mirror.Types as type
 use Rattle.rb_trees.specs.mirror.Code as code
 use Rattle.rb_trees.specs.mirror.Code.{Expr, Exprs}
+use Rattle.rb_trees.specs.mirror.Services as literal
 use Rattle.rb_trees.specs.Kinds as k
-use Rattle.rb_meaning_bytes.specs.grammar.Values.{name_of, number_of, text_of}
+use Rattle.rb_meaning_bytes.specs.grammar.Values.{name_of, number_of, minus_of, count_of, text_of}
 use Rattle.rb_meaning_bytes.specs.grammar.Symbols as s
 use Rattle.rb_meaning_bytes.specs.grammar.Symbols.{Symbol, Terminal, The, Nonterminal, Chain, MoreChain, Expression, TreeOf, Makes}
 
@@ -119,3 +120,21 @@ pub data Production (source : List ℕ) : (s : Nonterminal) → (l : List Symbol
   arguments : Production source s.Arguments (The Expression ∷ The s.MoreArguments ∷ []) (λ first rest. code.MoreExprs first rest)
   last_argument : Production source s.MoreArguments [] code.NoExprs
   more_arguments : Production source s.MoreArguments (Terminal k.sign_comma ∷ The Expression ∷ The s.MoreArguments ∷ []) (λ comma first rest. code.MoreExprs first rest)
+  -- services, their objects and literals
+  service : Production source s.TheService (The s.Classes ∷ The s.Objects ∷ Terminal k.keyword_root ∷ Terminal kind.Number ∷ Terminal k.sign_semicolon ∷ []) (λ classes objects word root end. record { classes = classes; objects = objects; root = count_of source root })
+  no_objects : Production source s.Objects [] []
+  more_objects : Production source s.Objects (The s.AnObject ∷ The s.Objects ∷ []) (λ first rest. first ∷ rest)
+  object : Production source s.AnObject (Terminal k.keyword_object ∷ Terminal kind.Number ∷ Terminal k.sign_colon ∷ Terminal kind.Name ∷ Terminal k.sign_open_brace ∷ The s.GivenFields ∷ Terminal k.sign_close_brace ∷ []) (λ word number colon class opens fields closes. record { number = count_of source number; class = name_of source class; at = class.start; fields = fields })
+  no_given_fields : Production source s.GivenFields [] []
+  more_given_fields : Production source s.GivenFields (Terminal kind.Name ∷ Terminal k.sign_assign ∷ The s.ALiteral ∷ Terminal k.sign_semicolon ∷ The s.GivenFields ∷ []) (λ name sign given end rest. (name_of source name, given) ∷ rest)
+  literal_number : Production source s.ALiteral (Terminal kind.Number ∷ []) (λ number. literal.Int (number_of source number))
+  literal_minus : Production source s.ALiteral (Terminal k.sign_minus ∷ Terminal kind.Number ∷ []) (λ sign number. literal.Int (minus_of source number))
+  literal_text : Production source s.ALiteral (Terminal kind.TextLit ∷ []) (λ text. literal.Text (text_of source text))
+  literal_true : Production source s.ALiteral (Terminal k.keyword_true ∷ []) (λ word. literal.Bool true)
+  literal_false : Production source s.ALiteral (Terminal k.keyword_false ∷ []) (λ word. literal.Bool false)
+  literal_object : Production source s.ALiteral (Terminal k.sign_number_sign ∷ Terminal kind.Number ∷ []) (λ sign number. literal.Object (count_of source number))
+  literal_list : Production source s.ALiteral (Terminal k.sign_open_bracket ∷ The s.Literals ∷ Terminal k.sign_close_bracket ∷ []) (λ opens items closes. literal.Items items)
+  no_literals : Production source s.Literals [] literal.NoLiterals
+  literals : Production source s.Literals (The s.ALiteral ∷ The s.MoreLiterals ∷ []) (λ first rest. literal.MoreLiterals first rest)
+  last_literal : Production source s.MoreLiterals [] literal.NoLiterals
+  more_literals : Production source s.MoreLiterals (Terminal k.sign_comma ∷ The s.ALiteral ∷ The s.MoreLiterals ∷ []) (λ comma first rest. literal.MoreLiterals first rest)

@@ -1,10 +1,11 @@
--- The symbols of the grammar of programs, and what tree each has.
+-- The symbols of the grammar of programs and services, and what tree each has.
 use Rattle.std.specs.Prelude.{ℕ, List, [], ◌∷◌, Option}
 use Rattle.rb_trees.specs.declared.tokens.Token.{Token}
 use Rattle.rb_trees.specs.declared.tokens.TokenKind.{TokenKind}
 use Rattle.rb_trees.specs.mirror.Types.{TypeTree}
 use Rattle.rb_trees.specs.mirror.Code.{Expr, Exprs, Stmt, Stmts}
 use Rattle.rb_trees.specs.mirror.Declarations as tree
+use Rattle.rb_trees.specs.mirror.Services as service
 
 -- The levels of binary operators, from those that bind least.
 pub data Level : Type 0 where
@@ -58,6 +59,15 @@ pub data Nonterminal : Type 0 where
   -- expressions with commas between them, or nothing
   Arguments : Nonterminal
   MoreArguments : Nonterminal
+  TheService : Nonterminal
+  Objects : Nonterminal
+  AnObject : Nonterminal
+  -- the fields that an object gives, each with its semicolon
+  GivenFields : Nonterminal
+  ALiteral : Nonterminal
+  -- literals with commas between them, or nothing
+  Literals : Nonterminal
+  MoreLiterals : Nonterminal
 
 -- A symbol of a production: a token of a kind, or a part.
 pub data Symbol : Type 0 where
@@ -101,6 +111,13 @@ TreeOf CallPart = Option Exprs
 TreeOf First = Expr
 TreeOf Arguments = Exprs
 TreeOf MoreArguments = Exprs
+TreeOf TheService = service.ServiceText
+TreeOf Objects = List service.ObjectText
+TreeOf AnObject = service.ObjectText
+TreeOf GivenFields = List (List ℕ × service.Literal)
+TreeOf ALiteral = service.Literal
+TreeOf Literals = service.Literals
+TreeOf MoreLiterals = service.Literals
 
 -- the tree of a symbol
 abbrev pub Tree : Symbol → Type 0
