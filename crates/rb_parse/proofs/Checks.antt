@@ -60,6 +60,10 @@ bars s.Members = begins s.Members ++ begins s.CallPart
 bars s.CallPart = begins s.CallPart
 bars s.Arguments = begins s.Arguments ++ begins s.MoreArguments ++ or_bars
 bars s.MoreArguments = begins s.MoreArguments ++ or_bars
+bars s.Objects = begins s.Objects
+bars s.GivenFields = begins s.GivenFields
+bars s.Literals = begins s.Literals ++ begins s.MoreLiterals
+bars s.MoreLiterals = begins s.MoreLiterals
 bars _ = []
 
 abbrev pub symbol_bars : Symbol → List TokenKind

@@ -98,7 +98,7 @@ pub operator_taken : (o : Option (Token × List Token)) (f : Token × List Token
 operator_taken None f more h other = refl
 operator_taken (Some x) f more h other = refl
 
-pub atom_taken : (o : Option (Token × List Token)) (f : Token × List Token → Expr × List Token) (more : Option (Expr × List Token)) (other : Read Expr) → on_atom (on_taken o (λ x. Some (f x)) more) other ≡ on_taken o (λ x. Ok (f x)) (on_atom more other)
+pub atom_taken : {A : Type 0} (o : Option (Token × List Token)) (f : Token × List Token → A × List Token) (more : Option (A × List Token)) (other : Read A) → on_atom (on_taken o (λ x. Some (f x)) more) other ≡ on_taken o (λ x. Ok (f x)) (on_atom more other)
 atom_taken None f more other = refl
 atom_taken (Some x) f more other = refl
 

@@ -12,6 +12,7 @@ pub mod Lists
 pub mod StatementEquations
 pub mod ItemLists
 pub mod DeclarationEquations
+pub mod ServiceEquations
 pub mod Laws
 pub mod Outcomes
 pub mod readable

@@ -3,15 +3,14 @@ use Rattle.std.proofs.Common.{◌≡◌, ℕ, suc, ◌+◌, ◌*◌, List, [], �
 use Rattle.rb_trees.specs.declared.tokens.Token.{Token}
 use Rattle.rb_trees.specs.declared.tokens.TokenKind.{TokenKind}
 use Rattle.rb_trees.specs.declared.tokens.TokenKind.TheVariants as kind
-use Rattle.rb_trees.specs.mirror.Declarations.{Program}
 use Rattle.rb_trees.specs.Kinds as k
 use Rattle.rb_meaning_bytes.specs.grammar.Symbols as s
-use Rattle.rb_meaning_bytes.specs.grammar.Symbols.{Symbol, Terminal, The, Nonterminal, Chain, MoreChain, Expression, TheProgram, TreeOf, Trees, Makes, made}
+use Rattle.rb_meaning_bytes.specs.grammar.Symbols.{Symbol, Terminal, The, Nonterminal, Chain, MoreChain, Expression, TreeOf, Trees, Makes, made}
 use Rattle.rb_meaning_bytes.specs.grammar.Productions as r
 use Rattle.rb_meaning_bytes.specs.grammar.Productions.{Production}
 use Rattle.rb_meaning_bytes.specs.grammar.Derives as g
-use Rattle.rb_meaning_bytes.specs.grammar.Derives.{Spells, IsPrefix, Derives, IsProgramPrefix, Stuck, Breaks}
-use Rattle.rb_parse.specs.Reading.{Read, ◌>>=◌, alone, read_of, rank, program_of}
+use Rattle.rb_meaning_bytes.specs.grammar.Derives.{Spells, IsPrefix, DerivesAs, Stuck, Breaks}
+use Rattle.rb_parse.specs.Reading.{Read, ◌>>=◌, alone, read_of, rank, whole_of}
 use Rattle.rb_parse.proofs.Takes.{Takes, Stops, done, part, none, within, took, halts, takes_local, stops_local}
 use Rattle.rb_parse.proofs.Complete.{complete}
 use Rattle.rb_parse.proofs.Parted as parts
@@ -22,9 +21,9 @@ abbrev value : {A : Type 0} → A → Result A ℕ → A
 value d (Ok x) = x
 value d (Err e) = d
 
-read_of_read : (source : List ℕ) (r : Read Program) → (r >>= λ a. Ok (a.0, a.1)) ≡ r
-read_of_read source (Ok x) = refl
-read_of_read source (Err e) = refl
+read_again : {A : Type 0} (r : Read A) → (r >>= λ a. Ok (a.0, a.1)) ≡ r
+read_again (Ok x) = refl
+read_again (Err e) = refl
 
 module _ (source : List ℕ) where
   pub record Spelled (l : List Symbol) : Type 0 where
@@ -94,6 +93,13 @@ module _ (source : List ℕ) where
   some_part s.First x = by r.this (a k.keyword_this nil) x
   some_part s.Arguments x = by r.no_arguments nil x
   some_part s.MoreArguments x = by r.last_argument nil x
+  some_part s.TheService x = by r.service (by r.no_classes nil (by r.no_objects nil (a k.keyword_root (a kind.Number (a k.sign_semicolon nil))))) x
+  some_part s.Objects x = by r.no_objects nil x
+  some_part s.AnObject x = by r.object (a k.keyword_object (a kind.Number (a k.sign_colon (a kind.Name (a k.sign_open_brace (by r.no_given_fields nil (a k.sign_close_brace nil))))))) x
+  some_part s.GivenFields x = by r.no_given_fields nil x
+  some_part s.ALiteral x = by r.literal_true (a k.keyword_true nil) x
+  some_part s.Literals x = by r.no_literals nil x
+  some_part s.MoreLiterals x = by r.last_literal nil x
 
   some : (l : List Symbol) → Spelled l
   some [] = nil
@@ -139,99 +145,100 @@ module _ (source : List ℕ) where
   pub shorter_prefix : {l : List Symbol} (a b : List Token) → IsPrefix source l (a ++ b) → IsPrefix source l a
   shorter_prefix a b f = let x = goes_on f in prefix_of x.spells a (b ++ x.rest) (append_assoc a b x.rest)
 
+module _ (start : Nonterminal) (source : List ℕ) where
   -- a text is taken whole
-  text_taken : (ts : List Token) (x : Program) → Derives source ts x → Takes source (The TheProgram ∷ []) ts (x, tt) []
-  text_taken ts x h = subst (λ z. Takes source (The TheProgram ∷ []) z (x, tt) []) (append-nil ts) (complete source h refl [] tt)
+  text_taken : (ts : List Token) (x : TreeOf start) → DerivesAs start source ts x → Takes source (The start ∷ []) ts (x, tt) []
+  text_taken ts x h = subst (λ z. Takes source (The start ∷ []) z (x, tt) []) (append-nil ts) (complete source h refl [] tt)
 
-  not_both : {ts us : List Token} {xs : Trees (The TheProgram ∷ [])} {m : ℕ} → Takes source (The TheProgram ∷ []) ts xs us → Stops source (The TheProgram ∷ []) ts m → ⊥
-  not_both h k = let x = read_takes source h Program (λ p. p) in let y = read_stops source k Program (λ p. p) in cc
+  not_both : {ts us : List Token} {xs : Trees (The start ∷ [])} {m : ℕ} → Takes source (The start ∷ []) ts xs us → Stops source (The start ∷ []) ts m → ⊥
+  not_both h k = let x = read_takes source h (TreeOf start) (λ p. p) in let y = read_stops source k (TreeOf start) (λ p. p) in cc
 
-  one_rest : {ts us vs : List Token} {xs ys : Trees (The TheProgram ∷ [])} → Takes source (The TheProgram ∷ []) ts xs us → Takes source (The TheProgram ∷ []) ts ys vs → (xs.0 ≡ ys.0) × (us ≡ vs)
+  one_rest : {ts us vs : List Token} {xs ys : Trees (The start ∷ [])} → Takes source (The start ∷ []) ts xs us → Takes source (The start ∷ []) ts ys vs → (xs.0 ≡ ys.0) × (us ≡ vs)
   one_rest {ts} {us} {vs} {xs} {ys} h k =
-      let e : ◌≡◌ {A = Read Program} (Ok (xs.0, us)) (Ok (ys.0, vs)) = sym (read_takes source h Program (λ p. p)) ∙ read_takes source k Program (λ p. p) in
-      (ap (λ r. (value {A = Program × List Token} (xs.0, us) r).0) e, ap (λ r. (value {A = Program × List Token} (xs.0, us) r).1) e)
+      let e : ◌≡◌ {A = Read (TreeOf start)} (Ok (xs.0, us)) (Ok (ys.0, vs)) = sym (read_takes source h (TreeOf start) (λ p. p)) ∙ read_takes source k (TreeOf start) (λ p. p) in
+      (ap (λ r. (value {A = TreeOf start × List Token} (xs.0, us) r).0) e, ap (λ r. (value {A = TreeOf start × List Token} (xs.0, us) r).1) e)
 
-  -- A list of tokens derives at most one program.
-  pub one_tree : (ts : List Token) (x y : Program) → Derives source ts x → Derives source ts y → x ≡ y
+  -- A list of tokens derives at most one text.
+  pub one_tree : (ts : List Token) (x y : TreeOf start) → DerivesAs start source ts x → DerivesAs start source ts y → x ≡ y
   one_tree ts x y h k = (one_rest (text_taken ts x h) (text_taken ts y k)).0
 
   -- how a text comes out
-  whole : (ts : List Token) → Came source TheProgram ts
-  whole ts = came source (suc (16 * length ts + rank TheProgram)) TheProgram ts (omega arith)
+  whole : (ts : List Token) → Came source start ts
+  whole ts = came source (suc (16 * length ts + rank start)) start ts (omega arith)
 
-  read_whole : {ts us : List Token} {x : Program} → Takes source (The TheProgram ∷ []) ts (x, tt) us → program_of source ts ≡ alone x us
-  unfolding program_of
+  read_whole : {ts us : List Token} {x : TreeOf start} → Takes source (The start ∷ []) ts (x, tt) us → whole_of start source ts ≡ alone x us
+  unfolding whole_of
   read_whole {ts} {us} {x} h =
-      let e : read_of source TheProgram ts ≡ Ok (x, us) = sym (read_of_read source (read_of source TheProgram ts)) ∙ read_takes source h Program (λ p. p) in
+      let e : read_of source start ts ≡ Ok (x, us) = sym (read_again (read_of source start ts)) ∙ read_takes source h (TreeOf start) (λ p. p) in
       ap (λ r. r >>= λ a. alone a.0 a.1) e
 
   -- What is derived is read.
-  pub whole_complete : (ts : List Token) (x : Program) → Derives source ts x → program_of source ts ≡ Ok x
+  pub whole_complete : (ts : List Token) (x : TreeOf start) → DerivesAs start source ts x → whole_of start source ts ≡ Ok x
   whole_complete ts x h = read_whole (text_taken ts x h)
 
-  read_stopped : {ts : List Token} {m : ℕ} → Stops source (The TheProgram ∷ []) ts m → program_of source ts ≡ Err m
-  unfolding program_of
+  read_stopped : {ts : List Token} {m : ℕ} → Stops source (The start ∷ []) ts m → whole_of start source ts ≡ Err m
+  unfolding whole_of
   read_stopped {ts} {m} h =
-      let e : read_of source TheProgram ts ≡ Err m = sym (read_of_read source (read_of source TheProgram ts)) ∙ read_stops source h Program (λ p. p) in
+      let e : read_of source start ts ≡ Err m = sym (read_again (read_of source start ts)) ∙ read_stops source h (TreeOf start) (λ p. p) in
       ap (λ r. r >>= λ a. alone a.0 a.1) e
 
   -- What is read is derived.
-  pub whole_sound : (ts : List Token) (x : Program) → program_of source ts ≡ Ok x → Derives source ts x
+  pub whole_sound : (ts : List Token) (x : TreeOf start) → whole_of start source ts ≡ Ok x → DerivesAs start source ts x
   whole_sound ts x h = go (whole ts)
     where
-      behind : (y : Program) (us : List Token) → Takes source (The TheProgram ∷ []) ts (y, tt) us → Derives source ts x
+      behind : (y : TreeOf start) (us : List Token) → Takes source (The start ∷ []) ts (y, tt) us → DerivesAs start source ts x
       behind y [] k =
           let w = took source k in
-          let e : ◌≡◌ {A = Result Program ℕ} (Ok y) (Ok x) = sym (read_whole k) ∙ h in
+          let e : ◌≡◌ {A = Result (TreeOf start) ℕ} (Ok y) (Ok x) = sym (read_whole k) ∙ h in
           let same : y ≡ x = cc in
-          subst₂ (λ z v. Derives source z v) (sym (w.is ∙ append-nil w.front)) same w.spells
-      behind y (t ∷ us) k = let e : ◌≡◌ {A = Result Program ℕ} (Err (length (t ∷ us))) (Ok x) = sym (read_whole k) ∙ h in cc
+          subst₂ (λ z v. DerivesAs start source z v) (sym (w.is ∙ append-nil w.front)) same w.spells
+      behind y (t ∷ us) k = let e : ◌≡◌ {A = Result (TreeOf start) ℕ} (Err (length (t ∷ us))) (Ok x) = sym (read_whole k) ∙ h in cc
 
-      stops : (m : ℕ) → Stops source (The TheProgram ∷ []) ts m → Derives source ts x
-      stops m k = let e : ◌≡◌ {A = Result Program ℕ} (Err m) (Ok x) = sym (read_stopped k) ∙ h in cc
+      stops : (m : ℕ) → Stops source (The start ∷ []) ts m → DerivesAs start source ts x
+      stops m k = let e : ◌≡◌ {A = Result (TreeOf start) ℕ} (Err m) (Ok x) = sym (read_stopped k) ∙ h in cc
 
-      go : Came source TheProgram ts → Derives source ts x
-      go (taken c ys us e k) = behind (made c.parts Program c.makes ys) us (part c e k done)
+      go : Came source start ts → DerivesAs start source ts x
+      go (taken c ys us e k) = behind (made c.parts (TreeOf start) c.makes ys) us (part c e k done)
       go (untold e) = stops (length ts) (none ts e)
       go (stopped c m e k) = stops m (within c e k)
 
   -- Where reading stops, there stands the first token that no text has there.
-  pub whole_breaks : (ts : List Token) (left : ℕ) → program_of source ts ≡ Err left → Breaks source ts left
+  pub whole_breaks : (ts : List Token) (left : ℕ) → whole_of start source ts ≡ Err left → Breaks start source ts left
   whole_breaks ts left h = go (whole ts)
     where
-      behind : (y : Program) (us : List Token) → Takes source (The TheProgram ∷ []) ts (y, tt) us → Breaks source ts left
-      behind y [] k = let e : ◌≡◌ {A = Result Program ℕ} (Ok y) (Err left) = sym (read_whole k) ∙ h in cc
+      behind : (y : TreeOf start) (us : List Token) → Takes source (The start ∷ []) ts (y, tt) us → Breaks start source ts left
+      behind y [] k = let e : ◌≡◌ {A = Result (TreeOf start) ℕ} (Ok y) (Err left) = sym (read_whole k) ∙ h in cc
       behind y (t ∷ us) k =
           let w = took source k in
-          let e : ◌≡◌ {A = Result Program ℕ} (Err (length (t ∷ us))) (Err left) = sym (read_whole k) ∙ h in
+          let e : ◌≡◌ {A = Result (TreeOf start) ℕ} (Err (length (t ∷ us))) (Err left) = sym (read_whole k) ∙ h in
           record {
             front = w.front;
             rest = t ∷ us;
             is = w.is;
             left_is = cc;
-            goes = whole_prefix w.spells;
+            goes = whole_prefix source w.spells;
             stuck = λ f.
-                let x = goes_on f in
-                let all : Takes source (The TheProgram ∷ []) (w.front ++ t ∷ x.rest) x.trees [] = subst (λ z. Takes source (The TheProgram ∷ []) z x.trees []) (append_assoc w.front (t ∷ []) x.rest) (text_taken ((w.front ++ t ∷ []) ++ x.rest) x.trees.0 x.spells) in
+                let x = goes_on source f in
+                let all : Takes source (The start ∷ []) (w.front ++ t ∷ x.rest) x.trees [] = subst (λ z. Takes source (The start ∷ []) z x.trees []) (append_assoc w.front (t ∷ []) x.rest) (text_taken ((w.front ++ t ∷ []) ++ x.rest) x.trees.0 x.spells) in
                 let some = takes_local source t us x.rest k w.front [] w.is refl in
                 let rests : [] ≡ t ∷ x.rest = (one_rest all some).1 in
                 cc;
           }
 
-      stuck_at : (m : ℕ) (front rest : List Token) → Stops source (The TheProgram ∷ []) ts m → ts ≡ front ++ rest → length rest ≡ m → Stuck source front rest
-      stuck_at m front [] k e n = λ x f. not_both (text_taken front x f) (subst (λ z. Stops source (The TheProgram ∷ []) z m) (e ∙ append-nil front) k)
+      stuck_at : (m : ℕ) (front rest : List Token) → Stops source (The start ∷ []) ts m → ts ≡ front ++ rest → length rest ≡ m → Stuck start source front rest
+      stuck_at m front [] k e n = λ x f. not_both (text_taken front x f) (subst (λ z. Stops source (The start ∷ []) z m) (e ∙ append-nil front) k)
       stuck_at m front (t ∷ us) k e n = λ f.
-          let x = goes_on f in
-          let all : Takes source (The TheProgram ∷ []) (front ++ t ∷ x.rest) x.trees [] = subst (λ z. Takes source (The TheProgram ∷ []) z x.trees []) (append_assoc front (t ∷ []) x.rest) (text_taken ((front ++ t ∷ []) ++ x.rest) x.trees.0 x.spells) in
+          let x = goes_on source f in
+          let all : Takes source (The start ∷ []) (front ++ t ∷ x.rest) x.trees [] = subst (λ z. Takes source (The start ∷ []) z x.trees []) (append_assoc front (t ∷ []) x.rest) (text_taken ((front ++ t ∷ []) ++ x.rest) x.trees.0 x.spells) in
           not_both all (stops_local source t us x.rest k front e (sym n))
 
-      stops : (m : ℕ) → Stops source (The TheProgram ∷ []) ts m → Breaks source ts left
+      stops : (m : ℕ) → Stops source (The start ∷ []) ts m → Breaks start source ts left
       stops m k =
           let v = halts source k in
-          let e : ◌≡◌ {A = Result Program ℕ} (Err m) (Err left) = sym (read_stopped k) ∙ h in
+          let e : ◌≡◌ {A = Result (TreeOf start) ℕ} (Err m) (Err left) = sym (read_stopped k) ∙ h in
           record { front = v.front; rest = v.rest; is = v.is; left_is = v.left ∙ (cc); goes = v.begins; stuck = stuck_at m v.front v.rest k v.is v.left }
 
-      go : Came source TheProgram ts → Breaks source ts left
-      go (taken c ys us e k) = behind (made c.parts Program c.makes ys) us (part c e k done)
+      go : Came source start ts → Breaks start source ts left
+      go (taken c ys us e k) = behind (made c.parts (TreeOf start) c.makes ys) us (part c e k done)
       go (untold e) = stops (length ts) (none ts e)
       go (stopped c m e k) = stops m (within c e k)

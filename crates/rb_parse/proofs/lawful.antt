@@ -5,3 +5,4 @@ pub mod Forms
 pub mod Positions
 pub mod Apart
 pub mod Whole
+pub mod Services

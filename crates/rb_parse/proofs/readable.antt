@@ -11,4 +11,5 @@ pub mod Types
 pub mod Expressions
 pub mod Statements
 pub mod Programs
+pub mod Codes
 pub mod Whole

@@ -4,6 +4,7 @@ pub mod Readers
 pub mod Parts
 pub mod Blocks
 pub mod Heads
+pub mod Services
 pub mod Nested
 pub mod Told
 pub mod Outcomes

@@ -117,7 +117,7 @@ atom_of source ts =
     (on_taken (taken kind.Name ts) (λ w. Some (code.Name w.0.start (name_of source w.0), w.1))
     None)))))
 
-abbrev pub on_atom : Option (Expr × List Token) → Read Expr → Read Expr
+abbrev pub on_atom : {A : Type 0} → Option (A × List Token) → Read A → Read A
 on_atom None other = other
 on_atom (Some x) other = Ok x
 

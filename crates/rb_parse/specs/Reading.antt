@@ -2,7 +2,6 @@
 use Rattle.std.specs.Prelude.{ℕ, zero, suc, ◌+◌, ◌*◌, List, [], ◌∷◌, length, Bool, false, cond, Option, Some, None, Result, Ok, Err}
 use Rattle.rb_trees.specs.declared.tokens.Token.{Token}
 use Rattle.rb_trees.specs.declared.tokens.TokenKind.{TokenKind}
-use Rattle.rb_trees.specs.mirror.Declarations.{Program}
 use Rattle.rb_trees.specs.Kinds.{is_kind, is_one_of}
 use Rattle.rb_meaning_bytes.specs.grammar.Symbols as s
 use Rattle.rb_meaning_bytes.specs.grammar.Symbols.{Symbol, Terminal, The, Nonterminal, Chain, MoreChain, TreeOf, Tree, Makes}
@@ -55,6 +54,9 @@ rank (Chain s.ProductLevel) = 3
 rank s.Prefix = 2
 rank s.Postfix = 1
 rank s.Arguments = 9
+rank s.TheService = 2
+rank s.Objects = 1
+rank s.Literals = 1
 rank _ = 0
 
 -- reading within so many parts
@@ -71,9 +73,9 @@ abbrev pub alone : {A : Type 0} → A → List Token → Result A ℕ
 alone x [] = Ok x
 alone x (t ∷ ts) = Err (length (t ∷ ts))
 
--- the program that all tokens are
-unfoldable pub program_of : List ℕ → List Token → Result Program ℕ
-program_of source ts = read_of source s.TheProgram ts >>= λ x. alone x.0 x.1
+-- the tree of the start part that all tokens are
+unfoldable pub whole_of : (start : Nonterminal) → List ℕ → List Token → Result (TreeOf start) ℕ
+whole_of start source ts = read_of source start ts >>= λ x. alone x.0 x.1
 
 -- the next token, if it is of the kind, and the tokens behind it
 abbrev pub taken : TokenKind → List Token → Option (Token × List Token)

@@ -31,6 +31,10 @@ expression_kinds = k.sign_not ∷ k.sign_minus ∷ first_kinds
 abbrev pub statement_kinds : List TokenKind
 statement_kinds = k.keyword_val ∷ k.keyword_var ∷ k.keyword_print ∷ k.keyword_throw ∷ k.keyword_if ∷ k.keyword_while ∷ k.keyword_for ∷ k.keyword_try ∷ k.keyword_batch ∷ expression_kinds
 
+-- the kinds that a literal of a service begins with
+abbrev pub literal_kinds : List TokenKind
+literal_kinds = kind.Number ∷ kind.TextLit ∷ k.keyword_true ∷ k.keyword_false ∷ k.sign_minus ∷ k.sign_number_sign ∷ k.sign_open_bracket ∷ []
+
 -- the kinds that a part begins with
 unfoldable pub begins : Nonterminal → List TokenKind
 begins s.TheProgram = k.keyword_interface ∷ k.keyword_class ∷ k.keyword_main ∷ []
@@ -69,6 +73,13 @@ begins s.CallPart = k.sign_open ∷ []
 begins s.First = first_kinds
 begins s.Arguments = expression_kinds
 begins s.MoreArguments = k.sign_comma ∷ []
+begins s.TheService = k.keyword_class ∷ k.keyword_object ∷ k.keyword_root ∷ []
+begins s.Objects = k.keyword_object ∷ []
+begins s.AnObject = k.keyword_object ∷ []
+begins s.GivenFields = kind.Name ∷ []
+begins s.ALiteral = literal_kinds
+begins s.Literals = literal_kinds
+begins s.MoreLiterals = k.sign_comma ∷ []
 
 -- whether no token may be a spelling of the part
 unfoldable pub may_be_empty : Nonterminal → Bool
@@ -88,6 +99,10 @@ may_be_empty s.Members = true
 may_be_empty s.CallPart = true
 may_be_empty s.Arguments = true
 may_be_empty s.MoreArguments = true
+may_be_empty s.Objects = true
+may_be_empty s.GivenFields = true
+may_be_empty s.Literals = true
+may_be_empty s.MoreLiterals = true
 may_be_empty _ = false
 
 abbrev pub symbol_begins : Symbol → List TokenKind
@@ -146,6 +161,13 @@ cases source s.CallPart = choice r.call ∷ []
 cases source s.First = choice r.number ∷ choice r.text ∷ choice r.true_literal ∷ choice r.false_literal ∷ choice r.this ∷ choice r.name ∷ choice r.len ∷ choice r.str ∷ choice r.new ∷ choice r.list ∷ choice r.inside ∷ []
 cases source s.Arguments = choice r.arguments ∷ []
 cases source s.MoreArguments = choice r.more_arguments ∷ []
+cases source s.TheService = []
+cases source s.Objects = choice r.more_objects ∷ []
+cases source s.AnObject = []
+cases source s.GivenFields = choice r.more_given_fields ∷ []
+cases source s.ALiteral = choice r.literal_number ∷ choice r.literal_text ∷ choice r.literal_true ∷ choice r.literal_false ∷ choice r.literal_minus ∷ choice r.literal_object ∷ choice r.literal_list ∷ []
+cases source s.Literals = choice r.literals ∷ []
+cases source s.MoreLiterals = choice r.more_literals ∷ []
 
 -- the production that is taken where none of them is told
 unfoldable pub otherwise : (source : List ℕ) (p : Nonterminal) → Option (Choice source p)
@@ -190,6 +212,13 @@ otherwise source s.CallPart = Some (choice r.no_call)
 otherwise source s.First = None
 otherwise source s.Arguments = Some (choice r.no_arguments)
 otherwise source s.MoreArguments = Some (choice r.last_argument)
+otherwise source s.TheService = Some (choice r.service)
+otherwise source s.Objects = Some (choice r.no_objects)
+otherwise source s.AnObject = Some (choice r.object)
+otherwise source s.GivenFields = Some (choice r.no_given_fields)
+otherwise source s.ALiteral = None
+otherwise source s.Literals = Some (choice r.no_literals)
+otherwise source s.MoreLiterals = Some (choice r.last_literal)
 
 abbrev pub chosen : {source : List ℕ} {p : Nonterminal} → TokenKind → List (Choice source p) → Option (Choice source p) → Option (Choice source p)
 chosen kind [] d = d

@@ -6,7 +6,7 @@ ghost use Rattle.rb_trees.specs.mirror.Types.{mirror_type};
 ghost use Rattle.rb_trees.specs.mirror.Code.{mirror_expr};
 ghost use Rattle.rb_trees.specs.mirror.Declarations.{mirror_param, mirror_signature, mirror_interface, mirror_body, mirror_method, mirror_class, mirror_program};
 ghost use Rattle.rb_meaning_bytes.specs.grammar.Symbols as s;
-ghost use Rattle.rb_parse.specs.Reading.{read_of, program_of};
+ghost use Rattle.rb_parse.specs.Reading.{read_of, whole_of};
 ghost use Rattle.rb_parse.specs.Readers.{left_of, Reads, Shortens, NoLonger};
 ghost use Rattle.rb_parse.specs.Heads as d;
 
@@ -222,7 +222,7 @@ fn fields<'t>(
 
 /// The name of a declaration and the brace behind it.
 #[tactic(auto, unfolding(crate::specs::Heads::headed_of))]
-fn headed(tokens: &[Token]) -> Result<(Token, &[Token]), Stop>
+pub(crate) fn headed(tokens: &[Token]) -> Result<(Token, &[Token]), Stop>
     ensures value { Reads (λ x. x) result (d.headed_of tokens.now) }
     ensures shorter { Shortens tokens.now result }
 {
@@ -375,7 +375,7 @@ fn class<'t>(
 
 /// The classes that come next.
 #[tactic(auto, using(crate::proofs::ItemLists::lists))]
-fn classes<'t>(
+pub(crate) fn classes<'t>(
     alloc: Global,
     source: &[u8],
     tokens: &'t [Token],
@@ -419,9 +419,9 @@ fn program_part<'t>(
 }
 
 /// The program that all tokens are.
-#[tactic(auto, unfolding(crate::specs::Reading::program_of))]
+#[tactic(auto, unfolding(crate::specs::Reading::whole_of))]
 pub(crate) fn program(alloc: Global, source: &[u8], tokens: &[Token]) -> Result<Program, Stop>
-    ensures { Gives mirror_program left_of result (program_of source.now tokens.now) }
+    ensures { Gives mirror_program left_of result (whole_of s.TheProgram source.now tokens.now) }
 {
     let (program, rest) = program_part(alloc, source, tokens)?;
     if rest.is_empty() {

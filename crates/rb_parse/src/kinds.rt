@@ -62,6 +62,10 @@ pub(crate) const TEXT: TokenKind = TokenKind::Keyword(28);
 
 pub(crate) const UNIT: TokenKind = TokenKind::Keyword(29);
 
+pub(crate) const OBJECT: TokenKind = TokenKind::Keyword(30);
+
+pub(crate) const ROOT: TokenKind = TokenKind::Keyword(31);
+
 pub(crate) const EQUAL: TokenKind = TokenKind::Sign(0);
 
 pub(crate) const UNEQUAL: TokenKind = TokenKind::Sign(1);
@@ -111,3 +115,5 @@ pub(crate) const CLOSE_BRACE: TokenKind = TokenKind::Sign(22);
 pub(crate) const OPEN_BRACKET: TokenKind = TokenKind::Sign(23);
 
 pub(crate) const CLOSE_BRACKET: TokenKind = TokenKind::Sign(24);
+
+pub(crate) const NUMBER_SIGN: TokenKind = TokenKind::Sign(25);

@@ -5,8 +5,8 @@ ghost use Rattle.rb_meaning_bytes.specs.grammar.Limits as limits;
 ghost use Rattle.rb_parse.specs.Nested.{nesting_of};
 
 use crate::kinds::{
-    AND, ASSIGN, AT_LEAST, AT_MOST, BATCH, CATCH, CLASS, CLOSE_BRACE, DOT, EQUAL, FOR, FUN,
-    GREATER, IF, IN, INTERFACE, LESS, LIST, MINUS, NOT, OPEN, OPEN_BRACE, OPEN_BRACKET, OR,
+    AND, ASSIGN, AT_LEAST, AT_MOST, BATCH, CATCH, CLASS, CLOSE_BRACE, CLOSE_BRACKET, DOT, EQUAL, FOR, FUN,
+    GREATER, IF, IN, INTERFACE, LESS, LIST, MINUS, NOT, OBJECT, OPEN, OPEN_BRACE, OPEN_BRACKET, OR,
     PERCENT, PLUS, PRINT, ROWS, SEMICOLON, SLASH, STAR, UNEQUAL, WHILE,
 };
 use crate::next::same_kind;
@@ -18,6 +18,8 @@ const MOST_BLOCKS: u32 = 64;
 const MOST_TYPES: u32 = 64;
 /// The greatest number of marks of an outermost expression.
 const MOST_MARKS: u32 = 200;
+/// The greatest number of open lists of a literal.
+const MOST_LISTS: u32 = 64;
 
 /// What is open behind some tokens, and the last two kinds.
 #[derive(Clone, Copy)]
@@ -190,6 +192,38 @@ fn too_deep(n: Nesting) -> bool
     n.blocks > MOST_BLOCKS || n.types > MOST_TYPES || n.marks > MOST_MARKS
 }
 
+/// The lists of literals that are open behind one more token.
+#[tactic(auto, unfolding(rb_meaning_bytes::specs::grammar::Limits::lists_after))]
+fn lists_after(lists: u32, kind: TokenKind) -> u32
+    requires { lists ≤ 64 }
+    ensures { result ≡ limits.lists_after lists kind }
+{
+    if same_kind(kind, OPEN_BRACKET) {
+        lists + 1
+    } else if same_kind(kind, CLOSE_BRACKET) {
+        lists.saturating_sub(1)
+    } else {
+        lists
+    }
+}
+
+/// How many tokens are left where the first bracket of literals stands that opens a list too many.
+fn broken_lists(tokens: &[Token]) -> Option<usize>
+    ensures value { result ≡ limits.broken_lists 0 tokens.now }
+    ensures within { IfSome result (λ left. (0 < left) × (left ≤ length tokens.now)) }
+{
+    let mut lists = 0;
+    let mut rest = tokens;
+    while let [token, behind @ ..] = rest {
+        lists = lists_after(lists, token.kind);
+        if lists > MOST_LISTS {
+            return Some(rest.len());
+        }
+        rest = behind;
+    }
+    None
+}
+
 /// How many tokens are left where the first token stands with which a limit is broken.
 pub(crate) fn broken(tokens: &[Token]) -> Option<usize>
     ensures value { result ≡ limits.broken limits.nothing_open tokens.now }
@@ -198,6 +232,9 @@ pub(crate) fn broken(tokens: &[Token]) -> Option<usize>
     let mut nesting = Nesting::new();
     let mut rest = tokens;
     while let [token, behind @ ..] = rest {
+        if same_kind(token.kind, OBJECT) {
+            return broken_lists(behind);
+        }
         nesting = after(nesting, token.kind);
         if too_deep(nesting) {
             return Some(rest.len());

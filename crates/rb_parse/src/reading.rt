@@ -5,9 +5,9 @@ ghost use Rattle.rb_trees.specs.declared.tokens.Token.{Token as Lexeme};
 ghost use Rattle.rb_trees.specs.mirror.Declarations.{mirror_program};
 ghost use Rattle.rb_trees.specs.Outcome.{Gives, Tells};
 ghost use Rattle.rb_trees.specs.Reading.{read_refusal};
+ghost use Rattle.rb_meaning_bytes.specs.grammar.Symbols.{TheProgram};
 ghost use Rattle.rb_meaning_bytes.specs.grammar.Derives.{Derives};
 ghost use Rattle.rb_meaning_bytes.specs.grammar.Refusals.{Read, place_of};
-ghost use Rattle.rb_parse.specs.Reading.{program_of};
 ghost use Rattle.rb_parse.specs.Nested.{behind, cut_of, limited_of, refusal_told};
 ghost use Rattle.rb_parse.specs.Outcomes.{AtMostOne};
 
@@ -20,7 +20,7 @@ use std::alloc::Global;
 /// The program that the tokens are, within the limits.
 #[tactic(auto, unfolding(crate::specs::Nested::limited_of))]
 fn limited(alloc: Global, source: &[u8], tokens: &[Token]) -> Result<Program, Refusal>
-    ensures { Gives mirror_program refusal_told result (limited_of source.now tokens.now) }
+    ensures { Gives mirror_program refusal_told result (limited_of TheProgram source.now tokens.now) }
 {
     match broken(tokens) {
         None => match program(alloc, source, tokens) {
@@ -37,7 +37,7 @@ fn limited(alloc: Global, source: &[u8], tokens: &[Token]) -> Result<Program, Re
 fn cut(alloc: Global, source: &[u8], tokens: &[Token], left: usize) -> Result<Program, Refusal>
     requires some { 0 < left }
     requires within { left ≤ length tokens.now }
-    ensures { Gives mirror_program refusal_told result (cut_of source.now tokens.now left) }
+    ensures { Gives mirror_program refusal_told result (cut_of TheProgram source.now tokens.now left) }
 {
     let front = &tokens[..tokens.len() - left + 1];
     match program(alloc, source, front) {
@@ -49,7 +49,7 @@ fn cut(alloc: Global, source: &[u8], tokens: &[Token], left: usize) -> Result<Pr
 
 /// Why reading stops, where it stops with so many tokens left up to the one that breaks a limit.
 #[tactic(auto, using(crate::proofs::Laws::behind_some))]
-fn behind(left: usize, more: usize) -> Refusal
+pub(crate) fn behind(left: usize, more: usize) -> Refusal
     requires { left + more ≤ 2 ^ 64 }
     ensures { result ≡ behind left more }
 {
@@ -61,7 +61,7 @@ fn behind(left: usize, more: usize) -> Refusal
 }
 
 /// Where the next token begins with so many tokens left, or the source ends.
-fn place(source: &[u8], tokens: &[Token], left: usize) -> u32
+pub(crate) fn place(source: &[u8], tokens: &[Token], left: usize) -> u32
     requires small { length source.now < 2 ^ 32 }
     requires within { left ≤ length tokens.now }
     ensures { result ≡ place_of source.now (drop (length tokens.now - left) tokens.now) }

@@ -1,7 +1,7 @@
 // The values that tokens stand for.
 
 ghost use Rattle.std.specs.Prelude.{◌≡◌, IfOk};
-ghost use Rattle.rb_meaning_bytes.specs.grammar.Values.{slice, name_of, number_of, text_of};
+ghost use Rattle.rb_meaning_bytes.specs.grammar.Values.{slice, name_of, number_of, minus_of, count_of, text_of};
 
 use rb_lex::{capped_value, text_value};
 use rb_trees::{Memory, Seq, Token, Word};
@@ -27,16 +27,31 @@ pub(crate) fn name(alloc: Global, source: &[u8], token: Token) -> Result<Word, M
 /// One more than the greatest Int, which stands behind a minus.
 const LEAST: u64 = 9_223_372_036_854_775_808;
 
+/// The natural that a token stands for.
+pub(crate) fn count(source: &[u8], token: Token) -> u64
+    ensures { result ≡ count_of source.now token }
+{
+    capped_value(slice(source, token)).min(LEAST)
+}
+
 /// The Int that a token stands for.
 pub(crate) fn number(source: &[u8], token: Token) -> i64
     ensures { result ≡ number_of source.now token }
 {
-    let value = capped_value(slice(source, token)).min(LEAST);
+    let value = count(source, token);
     if value == LEAST {
         i64::MIN
     } else {
         value as i64
     }
+}
+
+/// The Int that a token behind a minus stands for in a literal.
+#[tactic(auto, using(std::proofs::lemmas::Int::wraps))]
+pub(crate) fn minus(source: &[u8], token: Token) -> i64
+    ensures { result ≡ minus_of source.now token }
+{
+    number(source, token).wrapping_neg()
 }
 
 /// The Text that a token stands for.

@@ -53,8 +53,8 @@ pub record Breaks (start : Nonterminal) (source : List ℕ) (tokens : List Token
 
 -- The tokens of the source derive the program.
 abbrev pub Derives : List ℕ → List Token → Program → Type 0
-Derives source tokens program = DerivesAs TheProgram source tokens program
+Derives = DerivesAs TheProgram
 
 -- The tokens of the source derive the text of a service.
 abbrev pub DerivesService : List ℕ → List Token → ServiceText → Type 0
-DerivesService source tokens service = DerivesAs TheService source tokens service
+DerivesService = DerivesAs TheService

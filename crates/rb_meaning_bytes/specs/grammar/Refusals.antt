@@ -46,8 +46,8 @@ ReadAs start source tokens (Err errors.Memory) = ⊥
 
 -- The tokens have this program or refusal.
 abbrev pub Read : List ℕ → List Token → Result Program ReadError → Type 0
-Read source tokens outcome = ReadAs TheProgram source tokens outcome
+Read = ReadAs TheProgram
 
 -- The tokens have this text of a service or refusal.
 abbrev pub ReadServiceTokens : List ℕ → List Token → Result ServiceText ReadError → Type 0
-ReadServiceTokens source tokens outcome = ReadAs TheService source tokens outcome
+ReadServiceTokens = ReadAs TheService

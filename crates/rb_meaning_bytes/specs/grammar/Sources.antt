@@ -24,8 +24,8 @@ ReadSourceAs start source (Err errors.Memory) = ⊥
 
 -- The source has this program or refusal.
 abbrev pub ReadSource : List ℕ → Result Program ReadError → Type 0
-ReadSource source outcome = ReadSourceAs TheProgram source outcome
+ReadSource = ReadSourceAs TheProgram
 
 -- The source has this text of a service or refusal.
 abbrev pub ReadService : List ℕ → Result ServiceText ReadError → Type 0
-ReadService source outcome = ReadSourceAs TheService source outcome
+ReadService = ReadSourceAs TheService

@@ -11,8 +11,6 @@ use Rattle.rb_trees.specs.declared.values.Value.TheViews.{out-roll-Value}
 use Rattle.rb_trees.specs.declared.code.BinOp.TheVariants as binary
 use Rattle.rb_trees.specs.mirror.Code as code
 use Rattle.rb_trees.specs.mirror.Code.{Expr, Exprs, Stmts, NoStmts, MoreStmts}
-use Rattle.rb_meaning_bytes.specs.tokens.Lists.{is_minus}
-use Rattle.rb_meaning_bytes.specs.grammar.Limits.{Nesting, after}
 use Rattle.rb_meaning_bytes.specs.grammar.Values.{name_of, number_of, text_of}
 use Rattle.rb_meaning_bytes.specs.grammar.Symbols as s
 use Rattle.rb_meaning_bytes.specs.grammar.Symbols.{Symbol, Terminal, The, Nonterminal, Chain, MoreChain, TreeOf, Trees, Makes, made}
@@ -21,8 +19,8 @@ use Rattle.rb_meaning_bytes.specs.grammar.Productions.{Production, member}
 use Rattle.rb_meaning_bytes.specs.grammar.Derives as g
 use Rattle.rb_meaning_bytes.specs.grammar.Derives.{Spells}
 use Rattle.rb_meaning_types.specs.Values.{IsText}
-use Rattle.rb_meaning_types.specs.Lawful.{IsShort, IsLiteral, IsLiteralForm, IsLawfulType, IsLawfulExpr, AreLawfulExprs, expr_count, stmt_count, IsLawfulStmt, AreLawfulStmts, IsLawfulBlock, IsLawfulReturn, IsLawfulBody, IsLawfulParam, IsLawfulSignature, IsLawfulMethod, IsLawfulInterface, IsLawfulClass}
-use Rattle.rb_parse.proofs.readable.Tokens.{Tells, tells_behind, AllFit, state_after, fit_front, fit_back}
+use Rattle.rb_meaning_types.specs.Lawful.{IsShort, IsLiteral, IsLiteralForm, IsLawfulType, IsLawfulExpr, AreLawfulExprs, expr_count, stmt_count, IsLawfulStmt, AreLawfulStmts, IsLawfulBlock, IsLawfulReturn, IsLawfulBody, IsLawfulParam, IsLawfulSignature, IsLawfulMethod, IsLawfulInterface, IsLawfulClass, IsLawfulLiteral, AreLawfulLiterals, IsLawfulGiven, IsLawfulObject}
+use Rattle.rb_parse.proofs.readable.Tokens.{Tells, AllTell, tell_front, tell_back}
 use Rattle.rb_parse.proofs.lawful.Sizes.{items, counted}
 
 abbrev pub CallFormed : Option Exprs → Type 0
@@ -62,6 +60,13 @@ Formed s.CallPart x = CallFormed x
 Formed s.First x = IsLawfulExpr x
 Formed s.Arguments x = AreLawfulExprs x
 Formed s.MoreArguments x = AreLawfulExprs x
+Formed s.TheService x = All IsLawfulClass x.classes × IsShort x.classes × All IsLawfulObject x.objects × IsShort x.objects
+Formed s.Objects x = All IsLawfulObject x
+Formed s.AnObject x = IsLawfulObject x
+Formed s.GivenFields x = All IsLawfulGiven x
+Formed s.ALiteral x = IsLawfulLiteral x
+Formed s.Literals x = AreLawfulLiterals x
+Formed s.MoreLiterals x = AreLawfulLiterals x
 
 -- a part's tree, lawful and with few items
 pub record Holds (p : Nonterminal) (x : TreeOf p) : Type 0 where
@@ -187,15 +192,32 @@ module _ (source : List ℕ) where
   of_rule r.arguments xs h = (h.0.formed, h.1.0.formed)
   of_rule r.last_argument xs h = tt
   of_rule r.more_arguments xs h = (h.1.0.formed, h.1.1.0.formed)
+  of_rule r.service xs h = (h.0.formed, h.0.short, h.1.0.formed, h.1.0.short)
+  of_rule r.no_objects xs h = All-nil IsLawfulObject
+  of_rule r.more_objects xs h = All-cons IsLawfulObject xs.0 xs.1.0 h.0.formed h.1.0.formed
+  of_rule r.object xs h = (h.1.1.1.0, h.1.1.1.1.1.0.formed, h.1.1.1.1.1.0.short)
+  of_rule r.no_given_fields xs h = All-nil IsLawfulGiven
+  of_rule r.more_given_fields xs h = All-cons IsLawfulGiven (name_of source xs.0, xs.1.1.0) xs.1.1.1.1.0 (h.0, h.1.1.0.formed) h.1.1.1.1.0.formed
+  of_rule r.literal_number xs h = tt
+  of_rule r.literal_minus xs h = tt
+  of_rule r.literal_text xs h = h.0
+  of_rule r.literal_true xs h = tt
+  of_rule r.literal_false xs h = tt
+  of_rule r.literal_object xs h = tt
+  of_rule r.literal_list xs h = (h.1.0.formed, h.1.0.short)
+  of_rule r.no_literals xs h = tt
+  of_rule r.literals xs h = (h.0.formed, h.1.0.formed)
+  of_rule r.last_literal xs h = tt
+  of_rule r.more_literals xs h = (h.1.0.formed, h.1.1.0.formed)
 
   -- the trees that tokens spell are lawful, where the tokens are few
-  pub forms : {l : List Symbol} {ts : List Token} {xs : Trees l} → Spells source l ts xs → (n : Nesting) → AllFit source n ts → length ts < 2 ^ 32 → AllHold l xs
-  forms g.nothing n k few = tt
-  forms (g.token t d) n k few = (tells_behind source (is_minus n.last) t.kind t k.1, forms d (after n t.kind) k.2 (omega arith))
-  forms (g.production {p} {m} {l} {f} {ts} {us} {ys} {xs} rule d e) n k few =
+  pub forms : {l : List Symbol} {ts : List Token} {xs : Trees l} → Spells source l ts xs → AllTell source ts → length ts < 2 ^ 32 → AllHold l xs
+  forms g.nothing k few = tt
+  forms (g.token t d) k few = (k.0, forms d k.1 (omega arith))
+  forms (g.production {p} {m} {l} {f} {ts} {us} {ys} {xs} rule d e) k few =
       let c : length (ts ++ us) ≡ length ts + length us = length-append ts us in
-      let a = forms d n (fit_front source n ts us k) (omega (arith, c)) in
-      let b = forms e (state_after n ts) (fit_back source n ts us k) (omega (arith, c)) in
+      let a = forms d (tell_front source ts us k) (omega (arith, c)) in
+      let b = forms e (tell_back source ts us k) (omega (arith, c)) in
       let w : items p (made m (TreeOf p) f ys) + 0 ≤ length (ts ++ []) = counted source (g.production {l = []} {xs = tt} rule d g.nothing) in
       let z : length (ts ++ []) ≡ length ts + 0 = length-append ts [] in
       (record { formed = of_rule rule ys a; short = omega (arith, w, z, c) }, b)

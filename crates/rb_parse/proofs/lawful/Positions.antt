@@ -73,6 +73,13 @@ module _ (n : ℕ) where
   Hits s.First x k = times n (expr_positions x) ≤ k
   Hits s.Arguments x k = times n (exprs_positions x) ≤ k
   Hits s.MoreArguments x k = times n (exprs_positions x) ≤ k
+  Hits s.TheService x k = times n (classes_positions x.classes) ≤ k
+  Hits s.Objects x k = Unit {0}
+  Hits s.AnObject x k = Unit {0}
+  Hits s.GivenFields x k = Unit {0}
+  Hits s.ALiteral x k = Unit {0}
+  Hits s.Literals x k = Unit {0}
+  Hits s.MoreLiterals x k = Unit {0}
 
   -- a token takes its start off the number of starts, and others have the rest
   pub record TokenTaken (t : Token) (R : ℕ → Type 0) (k : ℕ) : Type 0 where
@@ -193,6 +200,23 @@ module _ (source : List ℕ) (n : ℕ) where
   of_rule r.arguments xs k h = omega (arith, h.fits, h.hits, h.rest.fits, h.rest.hits, times_append n (expr_positions xs.0) (exprs_positions xs.1.0))
   of_rule r.last_argument xs k h = omega arith
   of_rule r.more_arguments xs k h = omega (arith, h.fits, h.rest.fits, h.rest.hits, h.rest.rest.fits, h.rest.rest.hits, times_append n (expr_positions xs.1.0) (exprs_positions xs.1.1.0))
+  of_rule r.service xs k h = omega (arith, h.fits, h.hits)
+  of_rule r.no_objects xs k h = tt
+  of_rule r.more_objects xs k h = tt
+  of_rule r.object xs k h = tt
+  of_rule r.no_given_fields xs k h = tt
+  of_rule r.more_given_fields xs k h = tt
+  of_rule r.literal_number xs k h = tt
+  of_rule r.literal_minus xs k h = tt
+  of_rule r.literal_text xs k h = tt
+  of_rule r.literal_true xs k h = tt
+  of_rule r.literal_false xs k h = tt
+  of_rule r.literal_object xs k h = tt
+  of_rule r.literal_list xs k h = tt
+  of_rule r.no_literals xs k h = tt
+  of_rule r.literals xs k h = tt
+  of_rule r.last_literal xs k h = tt
+  of_rule r.more_literals xs k h = tt
 
   -- the number stands in the trees that tokens spell no more often than among the starts of the tokens
   pub hits : {l : List Symbol} {ts : List Token} {xs : Trees l} → Spells source l ts xs → AllHit n l xs (starts n ts)

@@ -8,7 +8,7 @@ use Rattle.rb_meaning_bytes.specs.grammar.Productions as r
 use Rattle.rb_meaning_bytes.specs.grammar.Productions.{Production}
 use Rattle.rb_meaning_bytes.specs.grammar.Derives as g
 use Rattle.rb_meaning_bytes.specs.grammar.Derives.{Spells}
-use Rattle.rb_meaning_types.specs.Lawful.{expr_count, stmt_count}
+use Rattle.rb_meaning_types.specs.Lawful.{expr_count, stmt_count, literal_count}
 
 abbrev pub call_items : Option Exprs → ℕ
 call_items None = 0
@@ -47,6 +47,13 @@ items s.CallPart x = call_items x
 items s.First x = 1
 items s.Arguments x = expr_count x
 items s.MoreArguments x = expr_count x
+items s.TheService x = 0
+items s.Objects x = length x
+items s.AnObject x = 1
+items s.GivenFields x = length x
+items s.ALiteral x = 1
+items s.Literals x = literal_count x
+items s.MoreLiterals x = literal_count x
 
 -- the items of all, where a token counts as one
 abbrev pub total : (l : List Symbol) → Trees l → ℕ
@@ -150,6 +157,23 @@ module _ (source : List ℕ) where
   within r.arguments xs = omega arith
   within r.last_argument xs = omega arith
   within r.more_arguments xs = omega arith
+  within r.service xs = omega arith
+  within r.no_objects xs = omega arith
+  within r.more_objects xs = omega arith
+  within r.object xs = omega arith
+  within r.no_given_fields xs = omega arith
+  within r.more_given_fields xs = omega arith
+  within r.literal_number xs = omega arith
+  within r.literal_minus xs = omega arith
+  within r.literal_text xs = omega arith
+  within r.literal_true xs = omega arith
+  within r.literal_false xs = omega arith
+  within r.literal_object xs = omega arith
+  within r.literal_list xs = omega arith
+  within r.no_literals xs = omega arith
+  within r.literals xs = omega arith
+  within r.last_literal xs = omega arith
+  within r.more_literals xs = omega arith
 
   -- no more items than tokens
   pub counted : {l : List Symbol} {ts : List Token} {xs : Trees l} → Spells source l ts xs → total l xs ≤ length ts

@@ -85,6 +85,14 @@ Good s.CallPart n x m = Fit n → Spans n (IsReadCall x) (call_marks x) m
 Good s.First n x m = Fit n → Placed n 8 x m
 Good s.Arguments n x m = Rest n → Spans n (AreReadExprs x) (marks_of_all x) m
 Good s.MoreArguments n x m = Fit n → Spans n (AreReadExprs x) (marks_of_all x) m
+-- of services this says nothing: their classes are read like those of programs, and no more is readable
+Good s.TheService n x m = Unit {0}
+Good s.Objects n x m = Unit {0}
+Good s.AnObject n x m = Unit {0}
+Good s.GivenFields n x m = Unit {0}
+Good s.ALiteral n x m = Unit {0}
+Good s.Literals n x m = Unit {0}
+Good s.MoreLiterals n x m = Unit {0}
 
 -- the states behind symbols, one after the other, and what their tokens tell
 abbrev pub Run : List ℕ → (l : List Symbol) → Nesting → Trees l → Type 0

@@ -2,6 +2,8 @@
 use Rattle.std.proofs.Common.{◌≡◌, ℕ, pos, negsuc, ◌-◌, ◌≤◌, ◌==◌, min, Bool, true, false, cond, List, [], ◌∷◌, ◌++◌, length, refl, ap, sym, subst, ◌∙◌, Some, None, arith, ltb, ltb-true, ltb-false, IsUtf8, eqb-true}
 use Rattle.std.proofs.lemmas.Bool.{eqb-false}
 use Rattle.std.proofs.Math.Nat.{min-eq_left}
+use Rattle.rb_trees.specs.Kinds as k
+use Rattle.rb_trees.specs.Kinds.{is_kind}
 use Rattle.rb_trees.specs.Spelling.{IsName}
 use Rattle.rb_trees.specs.declared.tokens.Token.{Token}
 use Rattle.rb_trees.specs.declared.tokens.TokenKind.{TokenKind}
@@ -15,7 +17,7 @@ use Rattle.rb_meaning_bytes.specs.tokens.Faults.{WithinLimits, greatest_number}
 use Rattle.rb_meaning_bytes.specs.tokens.Values.{number_value, int_of}
 use Rattle.rb_meaning_bytes.specs.tokens.Lists.{TokensBetween, AllWithinLimits, is_minus}
 use Rattle.rb_meaning_bytes.specs.grammar.Values.{slice, name_of, number_of, text_of}
-use Rattle.rb_meaning_bytes.specs.grammar.Limits.{Nesting, after, too_deep, broken}
+use Rattle.rb_meaning_bytes.specs.grammar.Limits.{Nesting, after, too_deep, broken_lists, broken}
 use Rattle.rb_meaning_types.specs.Values.{IsText}
 use Rattle.rb_parse.proofs.readable.Trees.{IsReadInt, IsReadForm, IsReadLiteral}
 use Rattle.rb_parse.proofs.lawful.Utf8.{literal_utf8}
@@ -76,17 +78,23 @@ room_of n h = go (ltb 64 n.blocks) (ltb 64 n.types) (ltb 200 n.marks) refl refl 
     go false false true e f g h = cc
     go false false false e f g h = record { blocks = ltb-false 64 n.blocks e; types = ltb-false 64 n.types f; marks = ltb-false 200 n.marks g }
 
+-- none of the tokens is the word behind which only lists count
+abbrev pub NoObject : List Token → Type 0
+NoObject [] = Unit {0}
+NoObject (t ∷ ts) = (is_kind t.kind k.keyword_object ≡ false) × NoObject ts
+
 -- a token that breaks no limit, and the tokens behind it
 record First (n : Nesting) (t : Token) (ts : List Token) : Type 0 where
   room : Room (after n t.kind)
   more : broken (after n t.kind) ts ≡ None
 
-first_of_all : (n : Nesting) (t : Token) (ts : List Token) → broken n (t ∷ ts) ≡ None → First n t ts
-first_of_all n t ts h = go (too_deep (after n t.kind)) refl h
+first_of_all : (n : Nesting) (t : Token) (ts : List Token) → is_kind t.kind k.keyword_object ≡ false → broken n (t ∷ ts) ≡ None → First n t ts
+first_of_all n t ts other h = go (is_kind t.kind k.keyword_object) (too_deep (after n t.kind)) other refl h
   where
-    go : (e : Bool) → too_deep (after n t.kind) ≡ e → cond e (Some (length (t ∷ ts))) (broken (after n t.kind) ts) ≡ None → First n t ts
-    go true e h = cc
-    go false e h = record { room = room_of (after n t.kind) e; more = h }
+    go : (o e : Bool) → o ≡ false → too_deep (after n t.kind) ≡ e → cond o (broken_lists 0 ts) (cond e (Some (length (t ∷ ts))) (broken (after n t.kind) ts)) ≡ None → First n t ts
+    go true e i j h = cc
+    go false true i j h = cc
+    go false false i j h = record { room = room_of (after n t.kind) j; more = h }
 
 tells_by : (source : List ℕ) (t : Token) (kind : TokenKind) (minus : Bool) → IsUtf8 source → Form kind (slice source t) → WithinLimits minus kind (slice source t) → Tells source minus kind t
 tells_by source t kinds.Name minus u f l = f
@@ -95,11 +103,29 @@ tells_by source t kinds.TextLit minus u f l = (literal_utf8 source t.start (t.en
 tells_by source t (kinds.Keyword place) minus u f l = tt
 tells_by source t (kinds.Sign place) minus u f l = tt
 
-pub all_fit : (source : List ℕ) (n : Nesting) (from to : ℕ) (tokens : List Token) → IsUtf8 source → TokensBetween source from tokens to → AllWithinLimits (is_minus n.last) source tokens → broken n tokens ≡ None → AllFit source n tokens
-all_fit source n from to [] u b l h = tt
-all_fit source n from to (t ∷ ts) u b l h =
-    let a = first_of_all n t ts h in
-    (a.room, tells_by source t t.kind (is_minus n.last) u b.1.begins.formed l.0, all_fit source (after n t.kind) t.end to ts u b.2 l.1 a.more)
+pub all_fit : (source : List ℕ) (n : Nesting) (from to : ℕ) (tokens : List Token) → IsUtf8 source → TokensBetween source from tokens to → AllWithinLimits (is_minus n.last) source tokens → NoObject tokens → broken n tokens ≡ None → AllFit source n tokens
+all_fit source n from to [] u b l o h = tt
+all_fit source n from to (t ∷ ts) u b l o h =
+    let a = first_of_all n t ts o.0 h in
+    (a.room, tells_by source t t.kind (is_minus n.last) u b.1.begins.formed l.0, all_fit source (after n t.kind) t.end to ts u b.2 l.1 o.1 a.more)
+
+-- Each token tells what one of its kind does, be it behind a minus or not.
+abbrev pub AllTell : List ℕ → List Token → Type 0
+AllTell source [] = Unit {0}
+AllTell source (t ∷ ts) = Tells source true t.kind t × AllTell source ts
+
+pub tell_front : (source : List ℕ) (ts us : List Token) → AllTell source (ts ++ us) → AllTell source ts
+tell_front source [] us h = tt
+tell_front source (t ∷ ts) us h = (h.0, tell_front source ts us h.1)
+
+pub tell_back : (source : List ℕ) (ts us : List Token) → AllTell source (ts ++ us) → AllTell source us
+tell_back source [] us h = h
+tell_back source (t ∷ ts) us h = tell_back source ts us h.1
+
+pub all_tell : (source : List ℕ) (minus : Bool) (from to : ℕ) (tokens : List Token) → IsUtf8 source → TokensBetween source from tokens to → AllWithinLimits minus source tokens → AllTell source tokens
+all_tell source minus from to [] u b l = tt
+all_tell source minus from to (t ∷ ts) u b l =
+    (tells_behind source minus t.kind t (tells_by source t t.kind minus u b.1.begins.formed l.0), all_tell source (is_minus t.kind) t.end to ts u b.2 l.1)
 
 large : (v : ℕ) → (v == 9223372036854775808) ≡ false → v ≤ 9223372036854775808 → v ≤ 9223372036854775807
 large v e h = by (ltb 9223372036854775807 v) refl

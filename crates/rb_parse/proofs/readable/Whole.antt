@@ -1,16 +1,21 @@
 -- What the tokens of a source derive within the limits of nesting is readable.
-use Rattle.std.proofs.Common.{◌≡◌, ℕ, List, length, refl, sym, subst, ◌∙◌, arith}
+use Rattle.std.proofs.Common.{◌≡◌, ℕ, true, false, List, [], ◌++◌, length, refl, sym, subst, ◌∙◌, arith, append-nil}
+use Rattle.std.specs.List.{All}
 use Rattle.rb_trees.specs.declared.tokens.Token.{Token}
-use Rattle.rb_trees.specs.mirror.Declarations.{Program}
+use Rattle.rb_trees.specs.mirror.Declarations.{Class, Program}
+use Rattle.rb_meaning_bytes.specs.tokens.Lists.{TokensBetween, AllWithinLimits}
 use Rattle.rb_meaning_bytes.specs.tokens.Texts.{IsTokens}
 use Rattle.rb_meaning_bytes.specs.grammar.Symbols as s
 use Rattle.rb_meaning_bytes.specs.grammar.Symbols.{Symbol, Nonterminal, Chain, MoreChain, TreeOf, Trees, Makes, made}
 use Rattle.rb_meaning_bytes.specs.grammar.Productions.{Production}
 use Rattle.rb_meaning_bytes.specs.grammar.Derives as g
-use Rattle.rb_meaning_bytes.specs.grammar.Derives.{Spells, Derives}
+use Rattle.rb_meaning_bytes.specs.grammar.Derives.{Spells, DerivesAs, Derives}
 use Rattle.rb_meaning_bytes.specs.grammar.Limits.{Nesting, after, nothing_open, Within}
-use Rattle.rb_parse.proofs.readable.States.{Room}
-use Rattle.rb_parse.proofs.readable.Trees.{IsReadable}
+use Rattle.rb_parse.proofs.Laws.{within_prefix}
+use Rattle.rb_parse.proofs.readable.Codes.{all_code, no_object, tokens_front, limits_front}
+use Rattle.rb_parse.proofs.readable.States.{Room, Ready}
+use Rattle.rb_parse.proofs.readable.Steps.{Keeps}
+use Rattle.rb_parse.proofs.readable.Trees.{IsReadClass, IsReadable}
 use Rattle.rb_parse.proofs.readable.Tokens.{AllFit, all_fit, state_after, state_behind, fit_front, fit_back, room_after}
 use Rattle.rb_parse.proofs.readable.Invariants.{Good, Run, end_of, Keeping}
 use Rattle.rb_parse.proofs.readable.Types.{at_type}
@@ -51,6 +56,13 @@ keeps s.CallPart rule = at_call rule
 keeps s.First rule = at_first rule
 keeps s.Arguments rule = at_arguments rule
 keeps s.MoreArguments rule = at_more_arguments rule
+keeps s.TheService rule = λ n ys run. tt
+keeps s.Objects rule = λ n ys run. tt
+keeps s.AnObject rule = λ n ys run. tt
+keeps s.GivenFields rule = λ n ys run. tt
+keeps s.ALiteral rule = λ n ys run. tt
+keeps s.Literals rule = λ n ys run. tt
+keeps s.MoreLiterals rule = λ n ys run. tt
 
 -- The states behind the symbols that tokens spell.
 record Ran (source : List ℕ) (l : List Symbol) (n : Nesting) (ts : List Token) (xs : Trees l) : Type 0 where
@@ -70,8 +82,26 @@ ran source (g.production {p} {m} {l} {f} {ts} {us} {ys} {xs} rule d e) n room h 
     let good : Good p n (made m (TreeOf p) f ys) (state_after n ts) = subst (Good p n (made m (TreeOf p) f ys)) b.ends (keeps p rule n ys b.run) in
     record { run = (state_after n ts, behind, good, c.run); ends = c.ends ∙ sym (state_behind n ts us) }
 
+-- what a part of code is, that the first tokens of a source spell within the limits
+module _ (source : List ℕ) (tokens : List Token) (t : IsTokens source tokens) where
+  ran_front : {l : List Symbol} {xs : Trees l} (front rest : List Token) → tokens ≡ front ++ rest → all_code l ≡ true → Spells source l front xs → Within tokens → Ran source l nothing_open front xs
+  ran_front front rest e c d h =
+      let b = tokens_front source 0 (length source) front rest (subst (λ ts. TokensBetween source 0 ts (length source)) e t.stand) in
+      let l = limits_front source false front rest (subst (AllWithinLimits false source) e t.limits) in
+      let w = within_prefix nothing_open front rest (subst Within e h) in
+      ran source d nothing_open (record { blocks = omega arith; types = omega arith; marks = omega arith }) (all_fit source nothing_open 0 b.0 front t.utf8 b.1 l (no_object source d c) w)
+
+at_first : Ready nothing_open
+at_first = record { no_fun = refl; no_list = refl; no_head = refl; no_head_before = refl; room = omega arith }
+
 pub readable : (source : List ℕ) (tokens : List Token) (program : Program) → IsTokens source tokens → Derives source tokens program → Within tokens → IsReadable program
 readable source tokens program t d h =
-    let fit = all_fit source nothing_open 0 (length source) tokens t.utf8 t.stand t.limits h in
-    let a = ran source d nothing_open (record { blocks = omega arith; types = omega arith; marks = omega arith }) fit in
-    a.run.2 (record { no_fun = refl; no_list = refl; no_head = refl; no_head_before = refl; room = omega arith }) refl refl
+    let a = ran_front source tokens t tokens [] (sym (append-nil tokens)) refl d h in
+    a.run.2 at_first refl refl
+
+-- the classes that the first tokens spell
+pub readable_classes : (source : List ℕ) (tokens front rest : List Token) (classes : List Class) → IsTokens source tokens → tokens ≡ front ++ rest → DerivesAs s.Classes source front classes → Within tokens → All IsReadClass classes
+readable_classes source tokens front rest classes t e d h =
+    let a = ran_front source tokens t front rest e refl d h in
+    let b : Keeps nothing_open (All IsReadClass classes) a.run.0 = a.run.2 at_first refl refl in
+    b.read

@@ -101,6 +101,6 @@ program_goes p h =
 -- The tokens of a printed program break no limit.
 pub within : (p : Program) → IsReadable p → Within (tokens_at 0 (program_pieces p))
 within p h = unbroken 0 ((program_goes p h).goes nothing_open (record {
-  open_is = record { blocks = refl; types = refl; marks = omega arith; few_blocks = omega arith; few_types = omega arith; few_marks = omega arith };
+  open_is = record { no_object = refl; blocks = refl; types = refl; marks = omega arith; few_blocks = omega arith; few_types = omega arith; few_marks = omega arith };
   last = refl;
 }))

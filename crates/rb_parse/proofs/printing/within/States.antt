@@ -7,8 +7,10 @@ use Rattle.rb_trees.specs.Kinds.{is_kind, is_one_of}
 use Rattle.rb_meaning_bytes.specs.grammar.Limits.{Nesting, opens_block, opens_type, opens_mark, is_mark, ends_expression, blocks_after, types_after, marks_after, after, too_deep}
 use Rattle.rb_parse.proofs.KindLists.{not_kind, none_within}
 
--- So many blocks and types are open, and so many marks at most; no limit is broken.
+-- So many blocks and types are open, and so many marks at most; no limit is broken. The last token is no word behind
+-- which only lists count.
 pub record Open (b t m : ℕ) (n : Nesting) : Type 0 where
+  pub no_object : is_kind n.last k.keyword_object ≡ false
   pub blocks : n.blocks ≡ b
   pub types : n.types ≡ t
   pub marks : n.marks ≤ m
@@ -26,7 +28,7 @@ not_deep {b} {t} {m} {n} h = go (nat_lt 64 n.blocks) (nat_lt 64 n.types) (nat_lt
 
 -- more marks may be open
 pub more_marks : {b t m : ℕ} {n : Nesting} (l : ℕ) → m ≤ l → l ≤ 200 → Open b t m n → Open b t l n
-more_marks l e f h = record { blocks = h.blocks; types = h.types; marks = omega (arith, h.marks, e); few_blocks = h.few_blocks; few_types = h.few_types; few_marks = f }
+more_marks l e f h = record { no_object = h.no_object; blocks = h.blocks; types = h.types; marks = omega (arith, h.marks, e); few_blocks = h.few_blocks; few_types = h.few_types; few_marks = f }
 
 -- the kinds behind which a `<` opens a type, and those by which a brace opens no block
 abbrev pub heads : List TokenKind
@@ -36,16 +38,16 @@ heads = k.keyword_List ∷ k.keyword_Rows ∷ k.keyword_interface ∷ k.keyword_
 abbrev pub Plain : TokenKind → Type 0
 Plain kind = is_one_of kind heads ≡ false
 
--- the kinds that open and close blocks and types
+-- the kinds that open and close blocks and types, and the word behind which only lists count
 abbrev pub brackets : List TokenKind
-brackets = k.sign_open_brace ∷ k.sign_close_brace ∷ k.sign_less ∷ k.sign_greater ∷ []
+brackets = k.keyword_object ∷ k.sign_open_brace ∷ k.sign_close_brace ∷ k.sign_less ∷ k.sign_greater ∷ []
 
 abbrev pub marks : List TokenKind
 marks = k.sign_not ∷ k.sign_minus ∷ k.sign_or ∷ k.sign_and ∷ k.sign_equal ∷ k.sign_unequal ∷ k.sign_at_most ∷ k.sign_at_least ∷ k.sign_plus ∷ k.sign_star ∷ k.sign_slash ∷ k.sign_percent ∷ k.sign_dot ∷ k.sign_open_bracket ∷ []
 
 -- the kinds that count for something
 abbrev pub counting : List TokenKind
-counting = k.sign_open_brace ∷ k.sign_close_brace ∷ k.sign_less ∷ k.sign_greater ∷ k.sign_open ∷ k.sign_semicolon ∷ k.sign_assign ∷ k.keyword_in ∷ k.sign_not ∷ k.sign_minus ∷ k.sign_or ∷ k.sign_and ∷ k.sign_equal ∷ k.sign_unequal ∷ k.sign_at_most ∷ k.sign_at_least ∷ k.sign_plus ∷ k.sign_star ∷ k.sign_slash ∷ k.sign_percent ∷ k.sign_dot ∷ k.sign_open_bracket ∷ []
+counting = k.keyword_object ∷ k.sign_open_brace ∷ k.sign_close_brace ∷ k.sign_less ∷ k.sign_greater ∷ k.sign_open ∷ k.sign_semicolon ∷ k.sign_assign ∷ k.keyword_in ∷ k.sign_not ∷ k.sign_minus ∷ k.sign_or ∷ k.sign_and ∷ k.sign_equal ∷ k.sign_unequal ∷ k.sign_at_most ∷ k.sign_at_least ∷ k.sign_plus ∷ k.sign_star ∷ k.sign_slash ∷ k.sign_percent ∷ k.sign_dot ∷ k.sign_open_bracket ∷ []
 
 -- A token that is no bracket of blocks and types leaves those as they are.
 same_blocks : (n : Nesting) (kind : TokenKind) → is_one_of kind brackets ≡ false → blocks_after n kind ≡ n.blocks
@@ -80,15 +82,15 @@ marks_end n kind h = rw h
 pub after_calm : {b t m : ℕ} {n : Nesting} (kind : TokenKind) → is_one_of kind counting ≡ false → Open b t m n → Open b t m (after n kind)
 after_calm {b} {t} {m} {n} kind c h =
     let s = none_within kind brackets counting refl c in
-    record { blocks = same_blocks n kind s ∙ h.blocks; types = same_types n kind s ∙ h.types; marks = omega (arith, same_marks n kind c, h.marks); few_blocks = h.few_blocks; few_types = h.few_types; few_marks = h.few_marks }
+    record { no_object = not_kind kind k.keyword_object counting refl c; blocks = same_blocks n kind s ∙ h.blocks; types = same_types n kind s ∙ h.types; marks = omega (arith, same_marks n kind c, h.marks); few_blocks = h.few_blocks; few_types = h.few_types; few_marks = h.few_marks }
 
 -- Another token that is no bracket of blocks and types is a mark at most.
 pub after_mark : {b t m : ℕ} {n : Nesting} (kind : TokenKind) → is_one_of kind brackets ≡ false → suc m ≤ 200 → Open b t m n → Open b t (suc m) (after n kind)
-after_mark {b} {t} {m} {n} kind s l h = record { blocks = same_blocks n kind s ∙ h.blocks; types = same_types n kind s ∙ h.types; marks = omega (arith, marks_rise n kind, h.marks); few_blocks = h.few_blocks; few_types = h.few_types; few_marks = l }
+after_mark {b} {t} {m} {n} kind s l h = record { no_object = not_kind kind k.keyword_object brackets refl s; blocks = same_blocks n kind s ∙ h.blocks; types = same_types n kind s ∙ h.types; marks = omega (arith, marks_rise n kind, h.marks); few_blocks = h.few_blocks; few_types = h.few_types; few_marks = l }
 
 -- a token that ends an expression and is no brace
 pub after_end : {b t m : ℕ} {n : Nesting} (kind : TokenKind) → is_one_of kind brackets ≡ false → ends_expression kind ≡ true → Open b t m n → Open b t 0 (after n kind)
-after_end {b} {t} {m} {n} kind s e h = record { blocks = same_blocks n kind s ∙ h.blocks; types = same_types n kind s ∙ h.types; marks = omega (arith, marks_end n kind e); few_blocks = h.few_blocks; few_types = h.few_types; few_marks = omega arith }
+after_end {b} {t} {m} {n} kind s e h = record { no_object = not_kind kind k.keyword_object brackets refl s; blocks = same_blocks n kind s ∙ h.blocks; types = same_types n kind s ∙ h.types; marks = omega (arith, marks_end n kind e); few_blocks = h.few_blocks; few_types = h.few_types; few_marks = omega arith }
 
 -- the words behind which a bracket is no mark
 abbrev pub words : List TokenKind
@@ -97,39 +99,39 @@ words = k.keyword_if ∷ k.keyword_while ∷ k.keyword_for ∷ k.keyword_print �
 -- the bracket behind such a word
 pub after_word : {b t m : ℕ} {n : Nesting} → is_one_of n.last words ≡ true → Open b t m n → Open b t m (after n k.sign_open)
 unfolding marks_after is_mark opens_mark ends_expression
-after_word {b} {t} {m} {n} w h = record { blocks = same_blocks n k.sign_open refl ∙ h.blocks; types = same_types n k.sign_open refl ∙ h.types; marks = rw w h.marks; few_blocks = h.few_blocks; few_types = h.few_types; few_marks = h.few_marks }
+after_word {b} {t} {m} {n} w h = record { no_object = refl; blocks = same_blocks n k.sign_open refl ∙ h.blocks; types = same_types n k.sign_open refl ∙ h.types; marks = rw w h.marks; few_blocks = h.few_blocks; few_types = h.few_types; few_marks = h.few_marks }
 
 -- `<` behind `List` or `Rows`
 pub after_opened : {b t m : ℕ} {n : Nesting} → is_one_of n.last (k.keyword_List ∷ k.keyword_Rows ∷ []) ≡ true → suc t ≤ 64 → Open b t m n → Open b (suc t) m (after n k.sign_less)
 unfolding blocks_after opens_block types_after opens_type marks_after is_mark ends_expression
-after_opened {b} {t} {m} {n} w l h = record { blocks = h.blocks; types = rw w (omega (arith, h.types)); marks = rw w h.marks; few_blocks = h.few_blocks; few_types = l; few_marks = h.few_marks }
+after_opened {b} {t} {m} {n} w l h = record { no_object = refl; blocks = h.blocks; types = rw w (omega (arith, h.types)); marks = rw w h.marks; few_blocks = h.few_blocks; few_types = l; few_marks = h.few_marks }
 
 -- `>` where a type is open
 pub after_closed : {b t m : ℕ} {n : Nesting} → Open b (suc t) m n → Open b t m (after n k.sign_greater)
 unfolding blocks_after opens_block types_after opens_type marks_after is_mark ends_expression
-after_closed {b} {t} {m} {n} h = record { blocks = h.blocks; types = omega (arith, h.types); marks = rw (h.types, eqb-suc-zero t) h.marks; few_blocks = h.few_blocks; few_types = omega (arith, h.few_types); few_marks = h.few_marks }
+after_closed {b} {t} {m} {n} h = record { no_object = refl; blocks = h.blocks; types = omega (arith, h.types); marks = rw (h.types, eqb-suc-zero t) h.marks; few_blocks = h.few_blocks; few_types = omega (arith, h.few_types); few_marks = h.few_marks }
 
 -- the operator `<`
 pub after_less : {b t m : ℕ} {n : Nesting} → Plain n.last → suc m ≤ 200 → Open b t m n → Open b t (suc m) (after n k.sign_less)
 unfolding blocks_after opens_block types_after opens_type
-after_less {b} {t} {m} {n} p l h = record { blocks = h.blocks; types = rw (none_within n.last (k.keyword_List ∷ k.keyword_Rows ∷ []) heads refl p) h.types; marks = omega (arith, marks_rise n k.sign_less, h.marks); few_blocks = h.few_blocks; few_types = h.few_types; few_marks = l }
+after_less {b} {t} {m} {n} p l h = record { no_object = refl; blocks = h.blocks; types = rw (none_within n.last (k.keyword_List ∷ k.keyword_Rows ∷ []) heads refl p) h.types; marks = omega (arith, marks_rise n k.sign_less, h.marks); few_blocks = h.few_blocks; few_types = h.few_types; few_marks = l }
 
 -- the operator `>`
 pub after_greater : {b m : ℕ} {n : Nesting} → suc m ≤ 200 → Open b 0 m n → Open b 0 (suc m) (after n k.sign_greater)
 unfolding blocks_after opens_block types_after opens_type
-after_greater {b} {m} {n} l h = record { blocks = h.blocks; types = omega (arith, h.types); marks = omega (arith, marks_rise n k.sign_greater, h.marks); few_blocks = h.few_blocks; few_types = h.few_types; few_marks = l }
+after_greater {b} {m} {n} l h = record { no_object = refl; blocks = h.blocks; types = omega (arith, h.types); marks = omega (arith, marks_rise n k.sign_greater, h.marks); few_blocks = h.few_blocks; few_types = h.few_types; few_marks = l }
 
 -- `{` of a block
 pub after_brace : {b t m : ℕ} {n : Nesting} → Plain n.before → suc b ≤ 64 → Open b t m n → Open (suc b) t 0 (after n k.sign_open_brace)
 unfolding blocks_after opens_block types_after opens_type marks_after ends_expression
-after_brace {b} {t} {m} {n} p l h = record { blocks = rw (none_within n.before (k.keyword_interface ∷ k.keyword_class ∷ []) heads refl p) (omega (arith, h.blocks)); types = h.types; marks = omega arith; few_blocks = l; few_types = h.few_types; few_marks = omega arith }
+after_brace {b} {t} {m} {n} p l h = record { no_object = refl; blocks = rw (none_within n.before (k.keyword_interface ∷ k.keyword_class ∷ []) heads refl p) (omega (arith, h.blocks)); types = h.types; marks = omega arith; few_blocks = l; few_types = h.few_types; few_marks = omega arith }
 
 -- `{` of an interface or class
 pub after_head : {b t m : ℕ} {n : Nesting} → is_one_of n.before (k.keyword_interface ∷ k.keyword_class ∷ []) ≡ true → Open b t m n → Open b t 0 (after n k.sign_open_brace)
 unfolding blocks_after opens_block types_after opens_type marks_after ends_expression
-after_head {b} {t} {m} {n} w h = record { blocks = rw w h.blocks; types = h.types; marks = omega arith; few_blocks = h.few_blocks; few_types = h.few_types; few_marks = omega arith }
+after_head {b} {t} {m} {n} w h = record { no_object = refl; blocks = rw w h.blocks; types = h.types; marks = omega arith; few_blocks = h.few_blocks; few_types = h.few_types; few_marks = omega arith }
 
 -- `}`
 pub after_close : {b t m : ℕ} {n : Nesting} (c : ℕ) → b - 1 ≡ c → Open b t m n → Open c t 0 (after n k.sign_close_brace)
 unfolding blocks_after opens_block types_after opens_type marks_after ends_expression
-after_close {b} {t} {m} {n} c e h = record { blocks = omega (arith, h.blocks, e); types = h.types; marks = omega arith; few_blocks = omega (arith, h.few_blocks, e); few_types = h.few_types; few_marks = omega arith }
+after_close {b} {t} {m} {n} c e h = record { no_object = refl; blocks = omega (arith, h.blocks, e); types = h.types; marks = omega arith; few_blocks = omega (arith, h.few_blocks, e); few_types = h.few_types; few_marks = omega arith }
