@@ -1,5 +1,5 @@
 -- Reading a source is reading its tokens, and what is read is lawful.
-use Rattle.std.proofs.Common.{ℕ, List, Result, Ok, Err, IfOk}
+use Rattle.std.proofs.Common.{◌≡◌, ℕ, ◌≤◌, List, length, subst, Result, Ok, Err, IfOk, length-map}
 use Rattle.rb_trees.specs.declared.tokens.Token.{Token}
 use Rattle.rb_trees.specs.declared.reading.LexError.{LexError}
 use Rattle.rb_trees.specs.declared.reading.LexError.TheVariants as faults
@@ -7,7 +7,8 @@ use Rattle.rb_trees.specs.declared.declarations.Program as code
 use Rattle.rb_trees.specs.declared.services.ServiceText as service
 use Rattle.rb_trees.specs.declared.reading.ReadError.{ReadError}
 use Rattle.rb_trees.specs.mirror.Declarations.{mirror_program}
-use Rattle.rb_trees.specs.mirror.Services.{mirror_service_text}
+use Rattle.rb_trees.specs.mirror.Services.{mirror_object, mirror_service_text}
+use Rattle.rb_trees.specs.Limits.{most_objects}
 use Rattle.rb_trees.specs.Outcome.{Tells, Refused}
 use Rattle.rb_trees.specs.Reading.{lex_refusal, read_refusal}
 use Rattle.rb_trees.proofs.OutcomeWords.{tells_on}
@@ -20,6 +21,7 @@ use Rattle.rb_parse.specs.Told.{refusal_of}
 use Rattle.rb_parse.proofs.Outcomes.{of_tokens}
 use Rattle.rb_parse.proofs.lawful.Whole.{lawful}
 use Rattle.rb_parse.proofs.lawful.Services.{lawful_service}
+use Rattle.rb_parse.proofs.lawful.Objects.{few_objects}
 
 -- a fault is the source's refusal
 pub fault_told : (start : Nonterminal) (source : List ℕ) (fault : LexError) → Tells (λ (ts : List Token). ts) lex_refusal (Err fault) (Lexed source) → Refused (ReadSourceAs start source) (read_refusal (refusal_of fault))
@@ -42,3 +44,8 @@ lawful_answer source tokens (Err error) i told = tt
 pub lawful_service_answer : (source : List ℕ) (tokens : List Token) (answer : Result service.ServiceText ReadError) → IsTokens source tokens → Tells mirror_service_text read_refusal answer (ReadServiceTokens source tokens) → IfOk answer (λ service. IsLawfulServiceText (mirror_service_text service))
 lawful_service_answer source tokens (Ok service) i told = lawful_service source tokens (mirror_service_text service) i told.0 told.1
 lawful_service_answer source tokens (Err error) i told = tt
+
+-- what is answered has no more objects than a heap
+pub room_answer : (source : List ℕ) (tokens : List Token) (answer : Result service.ServiceText ReadError) → IsTokens source tokens → Tells mirror_service_text read_refusal answer (ReadServiceTokens source tokens) → IfOk answer (λ service. length service.objects ≤ most_objects)
+room_answer source tokens (Ok service) i told = subst (λ n. n ≤ most_objects) (length-map service.objects mirror_object) (few_objects source tokens (mirror_service_text service) i told.0)
+room_answer source tokens (Err error) i told = tt

@@ -6,3 +6,4 @@ pub mod Positions
 pub mod Apart
 pub mod Whole
 pub mod Services
+pub mod Objects

@@ -1,6 +1,7 @@
 // Reading a source, as a program or as the text of a service.
 
-ghost use Rattle.std.specs.Prelude.{◌≡◌, IfOk};
+ghost use Rattle.std.specs.Prelude.{◌≡◌, ◌≤◌, length, IfOk};
+ghost use Rattle.rb_trees.specs.Limits.{most_objects};
 ghost use Rattle.rb_trees.specs.mirror.Declarations.{mirror_program};
 ghost use Rattle.rb_trees.specs.mirror.Services.{mirror_service_text};
 ghost use Rattle.rb_trees.specs.Outcome.{Tells};
@@ -40,6 +41,8 @@ pub fn parse_service(alloc: Global, source: &[u8]) -> Result<ServiceText, ReadEr
     ensures read { Tells mirror_service_text read_refusal result (ReadService source.now) }
     // What is read is lawful.
     ensures lawful { IfOk result (λ service. IsLawfulServiceText (mirror_service_text service)) }
+    // A heap has room for the objects that are read.
+    ensures room { IfOk result (λ service. length service.objects ≤ most_objects) }
 {
     match lex(alloc, source) {
         Ok(tokens) => parse_service_tokens(alloc, source, tokens.as_slice()),

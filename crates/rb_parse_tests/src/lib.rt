@@ -1,4 +1,4 @@
-//! Tests of reading programs, and of printing what was read.
+//! Tests of reading programs and services, and of printing what was read.
 #![tactic(auto)]
 
 #[cfg(test)]
@@ -9,5 +9,7 @@ mod nesting;
 mod printing;
 #[cfg(test)]
 mod refusals;
+#[cfg(test)]
+mod services;
 #[cfg(test)]
 mod texts;

@@ -5,7 +5,7 @@ use std::alloc::Global;
 use std::test::Fail;
 
 /// A head, a piece so many times, and a tail.
-fn repeated(
+pub(crate) fn repeated(
     alloc: Global,
     head: &str,
     piece: &str,
