@@ -58,15 +58,15 @@ behind_token count more t ts left same x = record {
 }
 
 -- a count that is over its limit with the first token
-at_token : (count : List Token → Option ℕ) (t : Token) (ts : List Token) (left : ℕ) → length (t ∷ ts) ≡ left → count [] ≡ None → count (t ∷ []) ≡ Some 1 → BrokenAt count (t ∷ ts) left
-at_token count t ts left n none one = record { front = []; token = t; rest = ts; is = refl; left_is = n; within = none; breaks = λ k. cc }
+over_first : (count : List Token → Option ℕ) (t : Token) (ts : List Token) (left : ℕ) → length (t ∷ ts) ≡ left → count [] ≡ None → count (t ∷ []) ≡ Some 1 → BrokenAt count (t ∷ ts) left
+over_first count t ts left n none one = record { front = []; token = t; rest = ts; is = refl; left_is = n; within = none; breaks = λ k. cc }
 
 lists_broken_at : (n : ℕ) (ts : List Token) (left : ℕ) → broken_lists n ts ≡ Some left → BrokenAt (broken_lists n) ts left
 lists_broken_at n [] left h = cc
 lists_broken_at n (t ∷ ts) left h = go (nat_lt most_lists (lists_after n t.kind)) refl h (lists_broken_at (lists_after n t.kind) ts left)
   where
     go : (e : Bool) → nat_lt most_lists (lists_after n t.kind) ≡ e → cond e (Some (length (t ∷ ts))) (broken_lists (lists_after n t.kind) ts) ≡ Some left → (broken_lists (lists_after n t.kind) ts ≡ Some left → BrokenAt (broken_lists (lists_after n t.kind)) ts left) → BrokenAt (broken_lists n) (t ∷ ts) left
-    go true e h f = at_token (broken_lists n) t ts left (cc) refl (ap (λ b. cond b (Some 1) None) e)
+    go true e h f = over_first (broken_lists n) t ts left (cc) refl (ap (λ b. cond b (Some 1) None) e)
     go false e h f = behind_token (broken_lists n) (broken_lists (lists_after n t.kind)) t ts left (λ us. ap (λ b. cond b (Some (length (t ∷ us))) (broken_lists (lists_after n t.kind) us)) e) (f h)
 
 broken_at : (n : Nesting) (ts : List Token) (left : ℕ) → broken n ts ≡ Some left → BrokenAt (broken n) ts left
@@ -79,7 +79,7 @@ broken_at n (t ∷ ts) left h = go (is_kind t.kind k.keyword_object) (too_deep (
     go : (o e : Bool) → is_kind t.kind k.keyword_object ≡ o → too_deep (after n t.kind) ≡ e → cond o (broken_lists 0 ts) (cond e (Some (length (t ∷ ts))) (broken (after n t.kind) ts)) ≡ Some left
         → (broken_lists 0 ts ≡ Some left → BrokenAt (broken_lists 0) ts left) → (broken (after n t.kind) ts ≡ Some left → BrokenAt (broken (after n t.kind)) ts left) → BrokenAt (broken n) (t ∷ ts) left
     go true e i j h f g = behind_token (broken n) (broken_lists 0) t ts left (step true e i j) (f h)
-    go false true i j h f g = at_token (broken n) t ts left (cc) refl (step false true i j [])
+    go false true i j h f g = over_first (broken n) t ts left (cc) refl (step false true i j [])
     go false false i j h f g = behind_token (broken n) (broken (after n t.kind)) t ts left (step false false i j) (g h)
 
 -- a list before a shorter end of another is a front of it
