@@ -91,17 +91,17 @@ module _ (source : List ℕ) (tokens : List Token) (t : IsTokens source tokens) 
       let w = within_prefix nothing_open front rest (subst Within e h) in
       ran source d nothing_open (record { blocks = omega arith; types = omega arith; marks = omega arith }) (all_fit source nothing_open 0 b.0 front t.utf8 b.1 l (no_object source d c) w)
 
-at_first : Ready nothing_open
-at_first = record { no_fun = refl; no_list = refl; no_head = refl; no_head_before = refl; room = omega arith }
+nothing_before : Ready nothing_open
+nothing_before = record { no_fun = refl; no_list = refl; no_head = refl; no_head_before = refl; room = omega arith }
 
 pub readable : (source : List ℕ) (tokens : List Token) (program : Program) → IsTokens source tokens → Derives source tokens program → Within tokens → IsReadable program
 readable source tokens program t d h =
     let a = ran_front source tokens t tokens [] (sym (append-nil tokens)) refl d h in
-    a.run.2 at_first refl refl
+    a.run.2 nothing_before refl refl
 
 -- the classes that the first tokens spell
 pub readable_classes : (source : List ℕ) (tokens front rest : List Token) (classes : List Class) → IsTokens source tokens → tokens ≡ front ++ rest → DerivesAs s.Classes source front classes → Within tokens → All IsReadClass classes
 readable_classes source tokens front rest classes t e d h =
     let a = ran_front source tokens t front rest e refl d h in
-    let b : Keeps nothing_open (All IsReadClass classes) a.run.0 = a.run.2 at_first refl refl in
+    let b : Keeps nothing_open (All IsReadClass classes) a.run.0 = a.run.2 nothing_before refl refl in
     b.read
