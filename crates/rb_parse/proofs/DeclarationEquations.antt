@@ -64,7 +64,7 @@ pub program_is : (source : List ℕ) (ts : List Token) → read_of source s.TheP
 unfolding cases otherwise result_of
 program_is source ts = simp bind_bind (reads_by source s.TheProgram ts)
 
-token_next : {A : Type 0} (kind : TokenKind) (g : Token × List Token → Read A) (other : Read A) (ts : List Token) → on_taken (taken kind ts) g other ≡ cond (next_in (kind ∷ []) ts) (take_kind kind ts >>= g) other
+pub token_next : {A : Type 0} (kind : TokenKind) (g : Token × List Token → Read A) (other : Read A) (ts : List Token) → on_taken (taken kind ts) g other ≡ cond (next_in (kind ∷ []) ts) (take_kind kind ts >>= g) other
 token_next kind g other [] = refl
 token_next kind g other (t ∷ ts) = token_told (is_kind t.kind kind) t ts (length (t ∷ ts)) g other
 
