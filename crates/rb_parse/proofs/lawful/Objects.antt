@@ -45,7 +45,7 @@ weights [] = 0
 weights (t ∷ ts) = weight t.kind + weights ts
 
 weights_append : (ts us : List Token) → weights (ts ++ us) ≡ weights ts + weights us
-weights_append [] us = refl
+weights_append [] us = omega arith
 weights_append (t ∷ ts) us = let h = weights_append ts us in omega (arith, h)
 
 at_service : {source : List ℕ} {m : List Symbol} {f : Makes m (TreeOf s.TheService)} → Production source s.TheService m f → (xs : Trees m) → bytes s.TheService (made m (TreeOf s.TheService) f xs) ≤ total m xs
