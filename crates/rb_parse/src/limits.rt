@@ -5,9 +5,9 @@ ghost use Rattle.rb_meaning_bytes.specs.grammar.Limits as limits;
 ghost use Rattle.rb_parse.specs.Nested.{nesting_of};
 
 use crate::kinds::{
-    AND, ASSIGN, AT_LEAST, AT_MOST, BATCH, CATCH, CLASS, CLOSE_BRACE, CLOSE_BRACKET, DOT, EQUAL, FOR, FUN,
-    GREATER, IF, IN, INTERFACE, LESS, LIST, MINUS, NOT, OBJECT, OPEN, OPEN_BRACE, OPEN_BRACKET, OR,
-    PERCENT, PLUS, PRINT, ROWS, SEMICOLON, SLASH, STAR, UNEQUAL, WHILE,
+    AND, ASSIGN, AT_LEAST, AT_MOST, BATCH, CATCH, CLASS, CLOSE_BRACE, CLOSE_BRACKET, DOT, EQUAL,
+    FOR, FUN, GREATER, IF, IN, INTERFACE, LESS, LIST, MINUS, NOT, OBJECT, OPEN, OPEN_BRACE,
+    OPEN_BRACKET, OR, PERCENT, PLUS, PRINT, ROWS, SEMICOLON, SLASH, STAR, UNEQUAL, WHILE,
 };
 use crate::next::same_kind;
 use rb_trees::{Token, TokenKind};

@@ -28,35 +28,104 @@ static LITERALS: [(&str, &str); 14] = [
 /// Texts that aren't read: each with the first violation, and its place.
 static REFUSED: [(&str, &str); 30] = [
     ("", "the token at offset 0 isn't expected there"),
-    ("object 1: A { }", "the token at offset 15 isn't expected there"),
+    (
+        "object 1: A { }",
+        "the token at offset 15 isn't expected there",
+    ),
     ("root 1", "the token at offset 6 isn't expected there"),
     ("root;", "the token at offset 4 isn't expected there"),
     ("root -1;", "the token at offset 5 isn't expected there"),
     ("root #1;", "the token at offset 5 isn't expected there"),
-    ("root 1; root 1;", "the token at offset 8 isn't expected there"),
+    (
+        "root 1; root 1;",
+        "the token at offset 8 isn't expected there",
+    ),
     ("main { }", "the token at offset 0 isn't expected there"),
-    ("interface I { } root 1;", "the token at offset 0 isn't expected there"),
-    ("object 1: A { } class A { } root 1;", "the token at offset 16 isn't expected there"),
-    ("object A { } root 1;", "the token at offset 7 isn't expected there"),
-    ("object 1 A { } root 1;", "the token at offset 9 isn't expected there"),
-    ("object -1: A { } root 1;", "the token at offset 7 isn't expected there"),
-    ("object 1: A { f = 1 } root 1;", "the token at offset 20 isn't expected there"),
-    ("object 1: A { f 1; } root 1;", "the token at offset 16 isn't expected there"),
-    ("object 1: A { f = ; } root 1;", "the token at offset 18 isn't expected there"),
-    ("object 1: A { f = - true; } root 1;", "the token at offset 20 isn't expected there"),
-    ("object 1: A { f = - -1; } root 1;", "the token at offset 20 isn't expected there"),
-    ("object 1: A { f = 1 + 1; } root 1;", "the token at offset 20 isn't expected there"),
-    ("object 1: A { f = (1); } root 1;", "the token at offset 18 isn't expected there"),
-    ("object 1: A { f = x; } root 1;", "the token at offset 18 isn't expected there"),
-    ("object 1: A { f = # -1; } root 1;", "the token at offset 20 isn't expected there"),
-    ("object 1: A { f = [1, ]; } root 1;", "the token at offset 22 isn't expected there"),
-    ("object 1: A { f = [, 1]; } root 1;", "the token at offset 19 isn't expected there"),
-    ("object 1: A { f = [1 1]; } root 1;", "the token at offset 21 isn't expected there"),
-    ("object 1: A { f = [1 ; } root 1;", "the token at offset 21 isn't expected there"),
-    ("class A { fun f() { object; } } root 1;", "the token at offset 20 isn't expected there"),
+    (
+        "interface I { } root 1;",
+        "the token at offset 0 isn't expected there",
+    ),
+    (
+        "object 1: A { } class A { } root 1;",
+        "the token at offset 16 isn't expected there",
+    ),
+    (
+        "object A { } root 1;",
+        "the token at offset 7 isn't expected there",
+    ),
+    (
+        "object 1 A { } root 1;",
+        "the token at offset 9 isn't expected there",
+    ),
+    (
+        "object -1: A { } root 1;",
+        "the token at offset 7 isn't expected there",
+    ),
+    (
+        "object 1: A { f = 1 } root 1;",
+        "the token at offset 20 isn't expected there",
+    ),
+    (
+        "object 1: A { f 1; } root 1;",
+        "the token at offset 16 isn't expected there",
+    ),
+    (
+        "object 1: A { f = ; } root 1;",
+        "the token at offset 18 isn't expected there",
+    ),
+    (
+        "object 1: A { f = - true; } root 1;",
+        "the token at offset 20 isn't expected there",
+    ),
+    (
+        "object 1: A { f = - -1; } root 1;",
+        "the token at offset 20 isn't expected there",
+    ),
+    (
+        "object 1: A { f = 1 + 1; } root 1;",
+        "the token at offset 20 isn't expected there",
+    ),
+    (
+        "object 1: A { f = (1); } root 1;",
+        "the token at offset 18 isn't expected there",
+    ),
+    (
+        "object 1: A { f = x; } root 1;",
+        "the token at offset 18 isn't expected there",
+    ),
+    (
+        "object 1: A { f = # -1; } root 1;",
+        "the token at offset 20 isn't expected there",
+    ),
+    (
+        "object 1: A { f = [1, ]; } root 1;",
+        "the token at offset 22 isn't expected there",
+    ),
+    (
+        "object 1: A { f = [, 1]; } root 1;",
+        "the token at offset 19 isn't expected there",
+    ),
+    (
+        "object 1: A { f = [1 1]; } root 1;",
+        "the token at offset 21 isn't expected there",
+    ),
+    (
+        "object 1: A { f = [1 ; } root 1;",
+        "the token at offset 21 isn't expected there",
+    ),
+    (
+        "class A { fun f() { object; } } root 1;",
+        "the token at offset 20 isn't expected there",
+    ),
     ("root $;", "no token begins with the byte at offset 5"),
-    ("root 9223372036854775808;", "the number at offset 5 is above 9223372036854775807"),
-    ("root - 9223372036854775808;", "the token at offset 5 isn't expected there"),
+    (
+        "root 9223372036854775808;",
+        "the number at offset 5 is above 9223372036854775807",
+    ),
+    (
+        "root - 9223372036854775808;",
+        "the token at offset 5 isn't expected there",
+    ),
 ];
 
 /// What a literal is, as a text.
@@ -99,7 +168,8 @@ fn each_form_of_a_literal_is_read(rt: HostRuntime) -> Result<(), Fail> {
 
 #[test]
 fn classes_objects_and_the_root_are_read(rt: HostRuntime) -> Result<(), Fail> {
-    let source = "class A { v: Int; remote fun f(): Int { return -this.v; } } class B { } object 7: A { v = 1; } object 2: B { } root 7;";
+    let source =
+        "class A { v: Int; remote fun f(): Int { return -this.v; } } class B { } object 7: A { v = 1; } object 2: B { } root 7;";
     let service = parse_service(rt.alloc(), source.as_bytes())?;
     assert_eq!(rt; service.classes.len(), 2);
     assert_eq!(rt; service.objects.len(), 2);
