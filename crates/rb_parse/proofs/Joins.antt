@@ -1,6 +1,6 @@
 -- Reading a source is reading its tokens, and what is read is lawful.
 use Rattle.std.proofs.lemmas.List.{length-map}
-use Rattle.std.proofs.Common.{◌≡◌, ℕ, ◌≤◌, List, length, subst, Result, Ok, Err, IfOk}
+use Rattle.std.proofs.Common.{ℕ, ◌≤◌, List, length, subst, Result, Ok, Err, IfOk}
 use Rattle.rb_trees.specs.declared.tokens.Token.{Token}
 use Rattle.rb_trees.specs.declared.reading.LexError.{LexError}
 use Rattle.rb_trees.specs.declared.reading.LexError.TheVariants as faults

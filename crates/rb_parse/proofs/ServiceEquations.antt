@@ -1,5 +1,5 @@
 -- What reading services and their literals is.
-use Rattle.std.proofs.Common.{◌≡◌, ℕ, true, false, cond, List, [], ◌∷◌, ◌++◌, length, refl, ap, ◌∙◌, Some, None, Ok, Err}
+use Rattle.std.proofs.Common.{◌≡◌, ℕ, cond, List, [], ◌∷◌, ◌++◌, length, refl, ap, ◌∙◌, Some, None, Ok, Err}
 use Rattle.rb_trees.specs.declared.tokens.Token.{Token}
 use Rattle.rb_trees.specs.declared.tokens.TokenKind.TheVariants as kind
 use Rattle.rb_trees.specs.declared.services.Literal as tree

@@ -1,5 +1,5 @@
 -- An object takes at least eleven bytes, so no text has more objects than a heap.
-use Rattle.std.proofs.Common.{◌≡◌, ℕ, ◌+◌, ◌-◌, ◌*◌, ◌<◌, ◌≤◌, Bool, true, false, cond, List, [], ◌∷◌, ◌++◌, length, take, drop, refl, ap, sym, subst, ◌∙◌, Some, arith, length-append, length-take}
+use Rattle.std.proofs.Common.{◌≡◌, ℕ, ◌+◌, ◌-◌, ◌*◌, ◌≤◌, Bool, true, false, cond, List, [], ◌∷◌, ◌++◌, length, take, drop, refl, ap, sym, subst, Some, arith, length-take}
 use Rattle.std.proofs.lemmas.List.Quantifiers.{position-Some}
 use Rattle.std.proofs.lemmas.Slice.Eq.{bytes_eq-Decides}
 use Rattle.std.specs.Prelude.{codes}
@@ -12,7 +12,6 @@ use Rattle.rb_trees.specs.Kinds as k
 use Rattle.rb_trees.specs.Kinds.{is_kind}
 use Rattle.rb_trees.specs.mirror.Services.{ServiceText}
 use Rattle.rb_meaning_bytes.specs.tokens.Forms.{Form}
-use Rattle.rb_meaning_bytes.specs.tokens.Lists as lists
 use Rattle.rb_meaning_bytes.specs.tokens.Lists.{TokensBetween, Stands}
 use Rattle.rb_meaning_bytes.specs.tokens.Texts.{IsTokens}
 use Rattle.rb_meaning_bytes.specs.grammar.Symbols as s

@@ -1,5 +1,5 @@
 -- What the tokens of a source derive as the text of a service within the limits is lawful.
-use Rattle.std.proofs.Common.{◌≡◌, ℕ, ◌≤◌, List, [], ◌∷◌, ◌++◌, length, sym, subst, ◌∙◌, ap, arith, append-nil, append_assoc}
+use Rattle.std.proofs.Common.{◌≡◌, ℕ, ◌≤◌, List, [], ◌∷◌, ◌++◌, length, sym, ◌∙◌, ap, arith, append-nil, append_assoc}
 use Rattle.rb_trees.specs.declared.tokens.Token.{Token}
 use Rattle.rb_trees.specs.mirror.Declarations.{Class}
 use Rattle.rb_trees.specs.mirror.Services.{ServiceText}

@@ -11,7 +11,7 @@ use Rattle.rb_meaning_bytes.specs.grammar.Symbols.{Symbol, Terminal, The, Nonter
 use Rattle.rb_meaning_bytes.specs.grammar.Productions.{Production}
 use Rattle.rb_meaning_bytes.specs.grammar.Derives as g
 use Rattle.rb_meaning_bytes.specs.grammar.Derives.{Spells}
-use Rattle.rb_parse.specs.Table.{Choice, choice, cases, otherwise}
+use Rattle.rb_parse.specs.Table.{Choice, cases, otherwise}
 use Rattle.rb_parse.proofs.Checks.{implies, implied}
 use Rattle.rb_parse.proofs.Listed.{In, here, there, last, listed}
 use Rattle.rb_parse.proofs.readable.Tokens.{NoObject}

@@ -1,10 +1,10 @@
 -- Going over pieces as the limits count.
-use Rattle.std.proofs.Common.{◌≡◌, ℕ, suc, ◌+◌, false, cond, List, [], ◌∷◌, ◌++◌, refl, ap, ◌∙◌, Some, None, length}
+use Rattle.std.proofs.Common.{◌≡◌, ℕ, ◌+◌, false, List, [], ◌∷◌, ◌++◌, refl, None, length}
 use Rattle.rb_trees.specs.declared.tokens.TokenKind.{TokenKind}
 use Rattle.rb_trees.specs.printing.Pieces.{Piece, Token, Space}
 use Rattle.rb_trees.specs.Kinds as k
 use Rattle.rb_trees.specs.Kinds.{is_kind}
-use Rattle.rb_meaning_bytes.specs.grammar.Limits.{Nesting, after, too_deep, broken_lists, broken}
+use Rattle.rb_meaning_bytes.specs.grammar.Limits.{Nesting, after, too_deep, broken}
 use Rattle.rb_parse.proofs.printing.Spots.{tokens_at}
 use Rattle.rb_parse.proofs.printing.within.States.{Open, not_deep}
 
