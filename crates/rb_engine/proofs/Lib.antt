@@ -7,7 +7,10 @@ pub mod Loops
 pub mod Matched
 pub mod Parts
 pub mod Runs
+pub mod Seen
+pub mod Served
 pub mod Steps
+pub mod Taken
 pub mod Values
 pub mod Weight
 pub mod Wrapped
