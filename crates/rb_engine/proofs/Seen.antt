@@ -1,5 +1,5 @@
 -- Values of the service that the client sees, one by one.
-use Rattle.std.proofs.Common.{◌≡◌, refl, sym, ap, ◌∙◌, ℕ, ◌+◌, ◌<◌, arith, List, [], ◌∷◌, ◌++◌, append_assoc, append-nil, length, drop, get_or}
+use Rattle.std.proofs.Common.{◌≡◌, refl, sym, ap, ◌∙◌, ℕ, ◌+◌, ◌<◌, ◌≤◌, arith, List, [], ◌∷◌, ◌++◌, append_assoc, append-nil, length, drop, get_or}
 use Rattle.std.proofs.lemmas.List.{drop_all}
 use Rattle.std.specs.Prelude.{Bool, true, false, ◌&&◌, Option, None, Some, is_some, option_and_then}
 use Rattle.std.specs.Option.{option_map}
@@ -45,6 +45,9 @@ pub items_more : (item : Item) (os vs : List Value) (i : ℕ) (v w : Value) → 
     → after os (seen_items item (drop i vs)) ≡ after (os ++ w ∷ []) (seen_items item (drop (i + 1) vs))
 items_more item os vs i v w l e is =
     ap (after os) (items_on item vs i v l e ∙ ap (λ o. first_and o (seen_items item (drop (i + 1) vs))) is) ∙ after_one os w (seen_items item (drop (i + 1) vs))
+
+pub items_whole : (item : Item) (os vs : List Value) (i : ℕ) → length vs ≤ i → after os (seen_items item (drop i vs)) ≡ Some os
+items_whole item os vs i l = ap (λ xs. after os (seen_items item xs)) (drop_all i vs l) ∙ ap Some (append-nil os)
 
 pub items_missing : (item : Item) (os vs : List Value) (i : ℕ) (v : Value) → i < length vs → v ≡ get_or vs i v → seen_item item (out-Value v) ≡ None
     → after os (seen_items item (drop i vs)) ≡ None
@@ -98,4 +101,4 @@ unseen (Some ws) is = absurd (cc is)
 pub no_items : (item : Item) (vs : List Value) → is_some (seen_items item vs) ≡ false → seen_items item vs ≡ None
 no_items item vs is = unseen (seen_items item vs) is
 
-pub ruleset seen_so = (after_none, some_more, items_more, items_missing, same_items, no_items, common_steps)
+pub ruleset seen_so = (after_none, some_more, items_more, items_whole, items_missing, same_items, no_items, common_steps)

@@ -1,5 +1,5 @@
 -- Arguments that the service takes, one by one.
-use Rattle.std.proofs.Common.{◌≡◌, refl, sym, ap, ◌∙◌, ℕ, zero, suc, ◌+◌, ◌<◌, arith, List, [], ◌∷◌, ◌++◌, append-nil, length, map, drop, get_or}
+use Rattle.std.proofs.Common.{◌≡◌, refl, sym, ap, ◌∙◌, ℕ, zero, suc, ◌+◌, ◌<◌, ◌≤◌, arith, List, [], ◌∷◌, ◌++◌, append-nil, length, map, drop, get_or}
 use Rattle.std.proofs.lemmas.List.{drop_all}
 use Rattle.std.specs.Prelude.{Option, None, Some, slice_get}
 use Rattle.std.specs.Option.{option_map}
@@ -63,10 +63,11 @@ taken_uneven table (p ∷ ps) (v ∷ vs) h =
     ap (first_and (taken_as table (mirror_type p.kind) (out-Value v))) (taken_uneven table ps vs (λ e. h (ap suc e))) ∙ none_after (taken_as table (mirror_type p.kind) (out-Value v))
 
 -- all are taken
-pub taken_whole : (table : List Object) (os : List Value) (ps : List Param) (vs : List Value) (i : ℕ) → length ps ≡ length vs → i ≡ length ps → after os (taken_from table i ps vs) ≡ Some os
-taken_whole table os ps vs i e is =
-    ap (λ xs. after os (taken_all table (map mirror_param xs) (drop i vs))) (ap (λ n. drop n ps) is ∙ drop_all ps)
-    ∙ ap (λ xs. after os (taken_all table [] xs)) (ap (λ n. drop n vs) (is ∙ e) ∙ drop_all vs)
+pub taken_whole : (table : List Object) (os : List Value) (ps : List Param) (vs : List Value) (i : ℕ) → length ps ≡ length vs → length ps ≤ i → after os (taken_from table i ps vs) ≡ Some os
+taken_whole table os ps vs i e l =
+    let few : length vs ≤ i = omega arith in
+    ap (λ xs. after os (taken_all table (map mirror_param xs) (drop i vs))) (drop_all i ps l)
+    ∙ ap (λ xs. after os (taken_all table [] xs)) (drop_all i vs few)
     ∙ ap Some (append-nil os)
 
 pub ruleset taken_so = (after_none, taken_more, taken_missing, taken_out, taken_uneven, taken_whole, common_steps)
