@@ -17,8 +17,8 @@ use std::alloc::Global;
 fn object_of_class(heap: &Heap, class: &[u8], object: u32) -> Option<Value>
     ensures { result ≡ rules.object_of_class heap.now class.now object }
 {
-    match heap.class_of(object) {
-        Some(found) => if found == class {
+    match heap.get(object) {
+        Some(found) => if found.class.as_slice() == class {
             Some(Value::Ref(object))
         } else {
             None

@@ -1,7 +1,7 @@
 // How expressions and steps end early.
 
 ghost use Rattle.std.specs.Prelude.{◌≡◌};
-ghost use Rattle.rb_exec.specs.Ends.{at_step, at_place};
+ghost use Rattle.rb_exec.specs.Ends as words;
 
 use rb_engine::Refusal;
 use rb_trees::{Fault, Memory, NodeFault};
@@ -45,7 +45,7 @@ impl From<Memory> for Stop {
 
 /// What a rule gives at a position.
 pub fn at_place<T>(at: u32, outcome: Result<T, Refusal>) -> Result<T, Miss>
-    ensures { result ≡ at_place at outcome }
+    ensures { result ≡ words.at_place at outcome }
 {
     match outcome {
         Ok(value) => Ok(value),
@@ -56,7 +56,7 @@ pub fn at_place<T>(at: u32, outcome: Result<T, Refusal>) -> Result<T, Miss>
 
 /// What an expression gives to the step of a number.
 pub fn at_step<T>(id: u32, outcome: Result<T, Miss>) -> Result<T, Stop>
-    ensures { result ≡ at_step id outcome }
+    ensures { result ≡ words.at_step id outcome }
 {
     match outcome {
         Ok(value) => Ok(value),

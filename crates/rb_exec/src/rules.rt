@@ -7,7 +7,7 @@ ghost use Rattle.rb_engine.specs.Ends.{fault_of};
 ghost use Rattle.rb_engine.specs.declared.ends.Refusal.TheVariants as refusal;
 ghost use Rattle.rb_meaning_code.specs.Faults as faults;
 ghost use Rattle.rb_meaning_code.specs.ScriptRun as meant;
-ghost use Rattle.rb_exec.specs.Blocks.{kept_entries, row_entries};
+ghost use Rattle.rb_exec.specs.Blocks as blocks;
 
 use crate::variables::Variables;
 use rb_engine::Refusal;
@@ -95,7 +95,7 @@ pub fn rows_in(alloc: Global, value: &Value) -> Result<Shared<Seq<Value>>, Refus
 /// Adds the entry of a value, where it is kept.
 #[inline(never)]
 pub fn add_kept(entries: &mut Seq<Entry>, keep: bool, value: &Value) -> Result<(), Memory>
-    ensures { OnOk result (entries.new ≡ entries.old ++ kept_entries keep value.now) }
+    ensures { OnOk result (entries.new ≡ entries.old ++ blocks.kept_entries keep value.now) }
 {
     if keep {
         entries.push(Entry::Value(copy_value(value)?))?;
@@ -106,7 +106,7 @@ pub fn add_kept(entries: &mut Seq<Entry>, keep: bool, value: &Value) -> Result<(
 /// The entries that the node of a turn begins with: its row, where it is kept.
 #[inline(never)]
 pub fn row_entries(alloc: Global, keep: bool, row: &Value) -> Result<Seq<Entry>, Refusal>
-    ensures { Gives (λ entries. entries) fault_of result (row_entries keep row.now) }
+    ensures { Gives (λ entries. entries) fault_of result (blocks.row_entries keep row.now) }
 {
     may_keep(alloc, keep, row)?;
     let mut entries = Seq::new(alloc);

@@ -22,25 +22,38 @@ fn burn(alloc: Global, id: u32, count: i64) -> Result<Step, Memory> {
     Ok(step(id, StepForm::Do(burn)))
 }
 
-/// A batch that fits before: nothing of it, then a step that can't be performed, then one that isn't.
+/// Step 1 in several forms, none of which can be performed.
+fn failing(alloc: Global, form: u8) -> Result<Step, Memory> {
+    match form {
+        0 => Ok(keep(1, SExpr::Root)),
+        1 => Ok(bind(1, 0, true, SExpr::Root)),
+        2 => Ok(keep(1, SExpr::Input(0))),
+        3 => Ok(keep(1, SExpr::Var(3))),
+        4 => Ok(keep(1, unary(alloc, UnOp::Not, 5, int(7))?)),
+        5 => Ok(keep(1, binary(alloc, BinOp::Div, 5, int(7), int(0))?)),
+        6 => Ok(keep(1, ask(alloc, 5, 1, b"size", int(7))?)),
+        7 => Ok(each(1, 0, false, int(7), Seq::new(alloc))),
+        _ => Ok(step(1, StepForm::If(int(1), Seq::new(alloc), Seq::new(alloc)))),
+    }
+}
+
 #[test]
-fn a_step_of_a_wrong_kind_ends_the_node(rt: HostRuntime) -> Result<(), Fail> {
+fn a_step_that_cant_be_performed_ends_the_node(rt: HostRuntime) -> Result<(), Fail> {
     let alloc = rt.alloc();
-    let truth = SExpr::Lit(Value::Bool(true));
-    for (failing, fault) in [
-        (keep(1, SExpr::Root), b"7 !12@10#1; 10, 200".as_slice()),
-        (bind(1, 0, true, SExpr::Root), b"7 !12@10#1; 10, 200"),
-        (keep(1, SExpr::Input(0)), b"7 !12@10#1; 10, 200"),
-        (keep(1, SExpr::Var(3)), b"7 !12@10#1; 10, 200"),
-        (keep(1, unary(alloc, UnOp::Not, 5, int(7))?), b"7 !12@5#1; 10, 200"),
-        (keep(1, binary(alloc, BinOp::Div, 5, int(7), int(0))?), b"7 !1@5#1; 10, 200"),
-        (keep(1, ask(alloc, 5, 1, b"size", int(7))?), b"7 !12@5#1; 10, 200"),
-        (each(1, 0, false, truth, Seq::new(alloc)), b"7 !12@10#1; 10, 200"),
-        (step(1, StepForm::If(int(1), Seq::new(alloc), Seq::new(alloc))), b"7 !12@10#1; 10, 200"),
+    for (form, text) in [
+        (0u8, b"7 !12@10#1; 10, 200".as_slice()),
+        (1, b"7 !12@10#1; 10, 200"),
+        (2, b"7 !12@10#1; 10, 200"),
+        (3, b"7 !12@10#1; 10, 200"),
+        (4, b"7 !12@5#1; 10, 200"),
+        (5, b"7 !1@5#1; 10, 200"),
+        (6, b"7 !12@5#1; 10, 200"),
+        (7, b"7 !12@10#1; 10, 200"),
+        (8, b"7 !12@10#1; 10, 200"),
     ] {
-        let steps = and(one(alloc, keep(0, int(7)))?, failing)?;
+        let steps = and(one(alloc, keep(0, int(7)))?, failing(alloc, form)?)?;
         let steps = and(steps, keep(2, int(8)))?;
-        assert_eq!(rt; ran(alloc, steps, &[])?.as_slice(), fault);
+        assert_eq!(rt; ran(alloc, steps, &[])?.as_slice(), text);
     }
     Ok(())
 }
