@@ -39,7 +39,7 @@ fn is_item(item: Item, value: &Value) -> bool
 }
 
 // Whether the client sees each of the values.
-#[tactic(auto, using(crate::proofs::Seen::seen_so))]
+#[tactic(auto, using(crate::proofs::Items::seen_so))]
 fn are_items(item: Item, values: &[Value]) -> bool
     ensures { result ≡ is_some (rules.seen_items (mirror_item item) values.now) }
 {
@@ -52,7 +52,7 @@ fn are_items(item: Item, values: &[Value]) -> bool
 }
 
 // A list whose items the client sees as they are: the rows are that list, which isn't copied.
-#[tactic(auto, using(crate::proofs::Seen::seen_so))]
+#[tactic(auto, using(crate::proofs::Items::seen_so))]
 fn shared_rows(item: Item, items: &Shared<Seq<Value>>) -> Result<Option<Value>, Memory>
     requires { StaysTheSame (mirror_item item) }
     ensures { IfOk result (λ seen. seen ≡ option_map Value.Rows (rules.seen_items (mirror_item item) items.now)) }
@@ -64,7 +64,7 @@ fn shared_rows(item: Item, items: &Shared<Seq<Value>>) -> Result<Option<Value>, 
 }
 
 // Objects of the service as remote ones.
-#[tactic(auto, using(crate::proofs::Seen::seen_so))]
+#[tactic(auto, using(crate::proofs::Items::seen_so))]
 fn remote_objects(alloc: Global, values: &[Value]) -> Result<Option<Seq<Value>>, Memory>
     ensures { IfOk result (λ seen. seen ≡ rules.seen_items rules.AnObject values.now) }
 {

@@ -137,8 +137,8 @@ goes_on None s go = go s
 goes_on (Some f) s go = halted f s
 
 abbrev pub chosen : Bool → Ran → Ran → Ran
-chosen true yes no = yes
-chosen false yes no = no
+chosen true a b = a
+chosen false a b = b
 
 -- the entry of a branch that was taken, and what follows
 abbrev pub branched : Bool → Ran → (Server → Ran) → Ran

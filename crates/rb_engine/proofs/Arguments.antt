@@ -11,7 +11,7 @@ use Rattle.rb_trees.specs.mirror.Types.{mirror_type}
 use Rattle.rb_trees.specs.mirror.Declarations.{mirror_param}
 use Rattle.rb_meaning_code.specs.Remote.{taken_as, taken_all}
 use Rattle.rb_engine.proofs.Loops.{dropped_one}
-use Rattle.rb_engine.proofs.Seen.{first_and, after, after_none, after_one}
+use Rattle.rb_engine.proofs.Items.{first_and, after, after_none, after_one}
 
 -- the arguments from a place on
 abbrev pub taken_from : List Object → ℕ → List Param → List Value → Option (List Value)
