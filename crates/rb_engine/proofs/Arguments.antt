@@ -40,15 +40,17 @@ taken_missing table os ps vs i p v l e is t =
     ap (after os) (taken_on table ps vs i p v l e is ∙ ap (λ o. first_and o (taken_from table (i + 1) ps vs)) t)
 
 -- no argument is left for a parameter
-out_of_arguments : (table : List Object) (ps : List Param) (vs : List Value) (i : ℕ) → i < length ps → slice_get vs i ≡ None → taken_from table i ps vs ≡ None
-out_of_arguments table [] vs i l e = absurd (omega arith)
-out_of_arguments table (p ∷ ps) [] zero l e = refl
-out_of_arguments table (p ∷ ps) [] (suc i) l e = out_of_arguments table ps [] i (omega arith) refl
-out_of_arguments table (p ∷ ps) (v ∷ vs) zero l e = absurd (cc e)
-out_of_arguments table (p ∷ ps) (v ∷ vs) (suc i) l e = out_of_arguments table ps vs i (omega arith) e
+no_argument : (vs : List Value) (i : ℕ) → slice_get vs i ≡ None → drop i vs ≡ []
+no_argument [] zero e = refl
+no_argument [] (suc i) e = refl
+no_argument (v ∷ vs) zero e = absurd (cc e)
+no_argument (v ∷ vs) (suc i) e = no_argument vs i e
 
-pub taken_out : (table : List Object) (os : List Value) (ps : List Param) (vs : List Value) (i : ℕ) → i < length ps → slice_get vs i ≡ None → after os (taken_from table i ps vs) ≡ None
-taken_out table os ps vs i l e = ap (after os) (out_of_arguments table ps vs i l e)
+pub taken_out : (table : List Object) (os : List Value) (ps : List Param) (vs : List Value) (i : ℕ) (p : Param) → i < length ps → p ≡ get_or ps i p → slice_get vs i ≡ None
+    → after os (taken_from table i ps vs) ≡ None
+taken_out table os ps vs i p l e is =
+    ap (λ xs. after os (taken_all table (map mirror_param (drop i ps)) xs)) (no_argument vs i is)
+    ∙ ap (λ xs. after os (taken_all table (map mirror_param xs) [])) (dropped_one ps i p l e)
 
 none_after : (o : Option Value) → first_and o None ≡ None
 none_after None = refl

@@ -61,8 +61,7 @@ pub answered_so : (at : ℕ) (r : Result Value Refusal) (d : Result Value Fault)
     → Gives (λ v. v) fault_of r d → Answers at r answer → RepliesAt at (replies at d s) answer s
 answered_so at (Ok v) d answer s g a = subst (λ x. RepliesAt at (replies at d s) x s) (sym a) (ap (λ x. replies at x s) g)
 answered_so at (Err (refusal.Fault f)) d answer s g a = subst (λ x. RepliesAt at (replies at d s) x s) (sym a) (ap (λ x. replies at x s) g, refl)
-answered_so at (Err refusal.Memory) d (Ok (Ok v)) s g a = absurd (cc a)
-answered_so at (Err refusal.Memory) d (Ok (Err r)) s g a = absurd (cc a)
+answered_so at (Err refusal.Memory) d (Ok given) s g a = absurd (cc a)
 answered_so at (Err refusal.Memory) d (Err want) s g a = tt
 
 pub value_served : (classes : List class.Class) (at kind object : ℕ) (name : List ℕ) (args : List Value) (st st1 : State) (w w1 : ServiceWorld)

@@ -1,5 +1,5 @@
 -- Remote calls, as the code makes them.
-use Rattle.std.specs.Prelude.{◌≡◌, ℕ, Result, Ok, Err}
+use Rattle.std.specs.Prelude.{◌≡◌, ℕ, Result, Ok, Err, IsErr}
 use Rattle.rb_trees.specs.declared.values.Value.{Value}
 use Rattle.rb_trees.specs.declared.outcomes.Raised.{Raised}
 use Rattle.rb_trees.specs.declared.want.Memory.{Memory}
@@ -23,4 +23,4 @@ RepliesAt at meant (Err want) s = Unit {0}
 abbrev pub Answers : ℕ → Result Value Refusal → Result (Result Value Raised) Memory → Type 0
 Answers at (Ok v) answer = answer ≡ Ok (Ok v)
 Answers at (Err (refusal.Fault f)) answer = answer ≡ Ok (Err (raised_remotely f at))
-Answers at (Err refusal.Memory) answer = Unit {0}
+Answers at (Err refusal.Memory) answer = IsErr answer

@@ -115,9 +115,9 @@ added_value {before = before} {vars = vars} {s = s} v e = record {
 
 pub bound_kept : {before after : List entry.Entry} {old new : Vars} {s : Server} (keep : Bool) (variable : ℕ) (v : Value) → after ≡ before ++ kept_entries keep v → new ≡ (variable, v) ∷ old
     → Did (λ go. with_kept keep v (go ((variable, v) ∷ old) s)) before old (Ok tt) after new s
-bound_kept {before = before} {old = old} {s = s} keep variable v e f = record {
+bound_kept {before = before} {after = after} {old = old} {s = s} keep variable v e f = record {
   does = λ go. sym (kept_more before keep v (go ((variable, v) ∷ old) s)) ∙ ap (λ es. with_entries es (go ((variable, v) ∷ old) s)) (sym e)
-      ∙ ap (λ vs. with_entries _ (go vs s)) (sym f);
+      ∙ ap (λ vs. with_entries after (go vs s)) (sym f);
   binds = ((variable, v) ∷ [], f);
 }
 

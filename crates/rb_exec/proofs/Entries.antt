@@ -44,10 +44,7 @@ kept_alone false v r = refl
 -- the node of a run whose own node has a fault alone
 nodes_of : (es : List entry.Entry) (f : Option NodeFault) (r : Ran) → r.node ≡ Holds NoEntries f → (with_entries es r).node ≡ Holds (mirror_entries es) f
 nodes_of [] f r e = e
-nodes_of (x ∷ es) f r e = in_front_so (mirror_entry x) (with_entries es r).node (nodes_of es f r e)
-where
-  in_front_so : (x : Entry) (n : Node) {m : forest.Entries} {f : Option NodeFault} → n ≡ Holds m f → in_front x n ≡ Holds (MoreEntries x m) f
-  in_front_so x n e = ap (in_front x) e
+nodes_of (x ∷ es) f r e = ap (in_front (mirror_entry x)) (nodes_of es f r e)
 
 pub node_so : (es : List entry.Entry) (f : Option NodeFault) (r : Ran) → r.node ≡ Holds NoEntries f
     → mirror_node (record { entries = es; fault = f }) ≡ (with_entries es r).node

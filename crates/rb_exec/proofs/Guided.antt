@@ -51,7 +51,7 @@ at_same : (p : ℕ → Option ℕ) (a b : ℕ) (o : Option ℕ) → nat_eq a b �
 at_same p a b o t e = ap p (sym (same_number a b t)) ∙ e
 
 pub within : (bs : List Binding) (p : ℕ → Option ℕ) (n k : ℕ) → Guides p bs → p n ≡ Some k → k < length bs
-within [] p n k h e = let none = h n in absurd (cc)
+within [] p n k h e = let nowhere : p n ≡ None = h n in absurd (cc (nowhere, e))
 within (b ∷ bs) p n k h e =
     within_step (nat_eq b.number n) 0 (length bs) (p n) k
     (λ t is. within bs _ n k h.1 (ap (λ x. cond x b.before (p n)) t ∙ is))
@@ -103,12 +103,12 @@ placed_at xs k = ap (λ ys. slice_get ys k) (sym (reverse-reverse xs)) ∙ place
 pub reverse_last : (xs : List Binding) (b : Binding) → reverse (xs ++ b ∷ []) ≡ b ∷ reverse xs
 reverse_last xs b = reverse-append xs (b ∷ [])
 
+as_many : (bs : List Binding) → length (as_variables bs) ≡ length bs
+as_many [] = refl
+as_many (b ∷ bs) = ap suc (as_many bs)
+
 pub count_of : (xs : List Binding) → length (as_variables (reverse xs)) ≡ length xs
-count_of xs = length_map (reverse xs) ∙ length-reverse xs
-where
-  length_map : (bs : List Binding) → length (as_variables bs) ≡ length bs
-  length_map [] = refl
-  length_map (b ∷ bs) = ap suc (length_map bs)
+count_of xs = as_many (reverse xs) ∙ length-reverse xs
 
 -- the oldest bindings
 oldest_step : (vs : Vars) (count : ℕ) → count < length vs → oldest count vs ≡ oldest count (without_latest vs)

@@ -1,3 +1,4 @@
+pub mod Answered
 pub mod Done
 pub mod Dropped
 pub mod Entries

@@ -88,10 +88,10 @@ turns_done turn whole ns rows i s l e =
 -- no unit of fuel was there
 pub turns_short : (turn : Value → Server → Ran) (whole : Turned) (ns : List node.Node) (rows : List Value) (i : ℕ) (row : Value) (s s1 : Server) → i < length rows → row ≡ get_or rows i row
     → s.fuel ≡ 0 → s1 ≡ s → after_nodes ns (turns turn (drop i rows) s) ≡ whole → AreTurns whole ns ends.NoUnit s1
-turns_short turn whole ns rows i row s s1 l e none same is =
+turns_short turn whole ns rows i row s s1 l e spent same is =
     turns_so whole ns (record { nodes = NoNodes; why = NoUnit; server = s }) ends.NoUnit s1
     (ap (after_nodes ns) (sym (ap (λ xs. turns turn xs s) (dropped_one rows i row l e)
-    ∙ ap (λ n. with_unit n s (λ x. turned_on (turn row x).node (turn row x).fault (turn row x).server (turns turn (drop (i + 1) rows)))) none)) ∙ is)
+    ∙ ap (λ n. with_unit n s (λ x. turned_on (turn row x).node (turn row x).fault (turn row x).server (turns turn (drop (i + 1) rows)))) spent)) ∙ is)
     refl refl same
 
 why_held : (f : Option Fault) (n : Node) (s : Server) (go : Server → Turned) → true ≡ is_some f

@@ -41,6 +41,10 @@ pub record Did (meaning : Meaning) (before : List entry.Entry) (old : Vars) (res
   pub does : Does meaning before result after new server
   pub binds : Extends old new
 
+-- the same of a step without an entry, whatever the entries so far, that binds nothing
+abbrev pub DidQuietly : Meaning → Vars → Result (Unit {0}) Stop → Server → Type 0
+DidQuietly meaning vars result s = (es : List entry.Entry) → Did meaning es vars result es vars s
+
 -- The bindings that are older than so many are left.
 abbrev pub Closes : ℕ → Vars → Vars → Type 0
 Closes count old new = (more rest : Vars) → old ≡ more ++ rest → count ≡ length rest → new ≡ rest

@@ -1,7 +1,7 @@
 // Performs the steps of a script.
 
 ghost use Rattle.std.specs.Prelude.{◌≡◌, cond};
-ghost use Rattle.rb_exec.specs.Blocks.{Closes, Did, IsRun, with_entries};
+ghost use Rattle.rb_exec.specs.Blocks.{Closes, Did, DidQuietly, IsRun, with_entries};
 ghost use Rattle.rb_exec.specs.Ends.{UnlessMemory};
 ghost use Rattle.rb_exec.specs.Stages.{block_run, do_run, each_run, if_run, keep_run, let_run, step_run, steps_run};
 
@@ -122,7 +122,7 @@ fn run_do(
     at: u32,
     expr: &SExpr,
 ) -> Result<(), Stop>
-    ensures { (entries : _) → Did (do_run stage.now id at expr.now variables.now server.old) entries variables.now result entries variables.now server.new }
+    ensures { DidQuietly (do_run stage.now id at expr.now variables.now server.old) variables.now result server.new }
 {
     let _value = at_step(id, value_of(alloc, stage, server, variables, at, expr))?;
     Ok(())

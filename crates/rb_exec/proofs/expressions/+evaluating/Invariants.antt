@@ -2,7 +2,7 @@ use Rattle.std.proofs.Common.{◌≡◌, ℕ, ◌+◌, max, drop}
 use Rattle.rb_exec.specs.Stages.{values_run}
 use Rattle.rb_exec.proofs.Replies.{after}
 use Rattle.rb_exec.proofs.Weight.{weight_of, weights_of}
-use Rattle.rb_exec.proofs.+evaluating.Given as goal
+use Rattle.rb_exec.proofs.expressions.+evaluating.Given as goal
 
 abbrev pub decreases-value_of : goal.decreases-value_of
 decreases-value_of l = weight_of l.expr.now
