@@ -37,17 +37,17 @@ pub by_result : {m : Meaning} {before after : List entry.Entry} {old new : Vars}
     → r ≡ r1 → Did m before old r1 after new s → Did m before old r after new s
 by_result {m = m} {before = before} {after = after} {old = old} {new = new} {s = s} e d = subst (λ x. Did m before old x after new s) (sym e) d
 
-does_as : (r : Result (Unit {0}) Stop) {m m1 : Meaning} {before before1 after : List entry.Entry} {new : Vars} {s : Server}
+does_as : (r : Result (Unit {0}) Stop) (m m1 : Meaning) (before before1 after : List entry.Entry) (new : Vars) (s : Server)
     → ((go : Rest) → with_entries before (m go) ≡ with_entries before1 (m1 go)) → Does m1 before1 r after new s → Does m before r after new s
-does_as (Ok u) e d = λ go. e go ∙ d go
-does_as (Err (stop.Fault f)) e d = λ go. e go ∙ d go
-does_as (Err stop.Within) e d = (d.0, λ go. e go ∙ d.1 go)
-does_as (Err stop.Memory) e d = tt
+does_as (Ok u) m m1 before before1 after new s e d = λ go. e go ∙ d go
+does_as (Err (stop.Fault f)) m m1 before before1 after new s e d = λ go. e go ∙ d go
+does_as (Err stop.Within) m m1 before before1 after new s e d = (d.0, λ go. e go ∙ d.1 go)
+does_as (Err stop.Memory) m m1 before before1 after new s e d = tt
 
 -- the same whatever follows
 pub as_meant : {m m1 : Meaning} {before before1 after : List entry.Entry} {old new : Vars} {r : Result (Unit {0}) Stop} {s : Server}
     → ((go : Rest) → with_entries before (m go) ≡ with_entries before1 (m1 go)) → Did m1 before1 old r after new s → Did m before old r after new s
-as_meant {r = r} e d = record { does = does_as r e d.does; binds = d.binds }
+as_meant {m = m} {m1 = m1} {before = before} {before1 = before1} {after = after} {new = new} {r = r} {s = s} e d = record { does = does_as r m m1 before before1 after new s e d.does; binds = d.binds }
 
 pub as_step : {m m1 : Meaning} {before after : List entry.Entry} {old new : Vars} {r : Result (Unit {0}) Stop} {s : Server}
     → ((go : Rest) → m go ≡ m1 go) → Did m1 before old r after new s → Did m before old r after new s
@@ -63,7 +63,7 @@ want is e x = by_result (is ∙ ap Err e) (record { does = tt; binds = x })
 
 -- an expression gave its value to the step
 value_at : {A : Type 0} (id : ℕ) (t : Result A Miss) (a : A) → at_step id t ≡ Ok a → t ≡ Ok a
-value_at id (Ok b) a e = e
+value_at id (Ok b) a e = let same : b ≡ a = cc e in ap Ok same
 value_at id (Err (miss.Fault at f)) a e = absurd (cc e)
 value_at id (Err miss.Memory) a e = absurd (cc e)
 
@@ -190,17 +190,17 @@ block_so {m = m} {before = before} {after = after} {s = s} {block = block} (Err 
 block_so (Err stop.Memory) d g is = absurd (cc (g, is))
 
 -- steps gave no block for want of memory
-pub no_block : {es : List entry.Entry} {q : Result Block Stop} {h : Stop} (r : Result (Unit {0}) Stop) → Finished es r q → q ≡ Err h → h ≡ stop.Memory
-no_block (Ok u) f is = absurd (cc (f, is))
-no_block (Err (stop.Fault x)) f is = absurd (cc (f, is))
-no_block (Err stop.Within) f is = absurd (cc (f, is))
-no_block (Err stop.Memory) f is = cc (f, is)
+pub no_block : {q : Result Block Stop} {h : Stop} (es : List entry.Entry) (r : Result (Unit {0}) Stop) → Finished es r q → q ≡ Err h → h ≡ stop.Memory
+no_block es (Ok u) f is = absurd (cc (f, is))
+no_block es (Err (stop.Fault x)) f is = absurd (cc (f, is))
+no_block es (Err stop.Within) f is = absurd (cc (f, is))
+no_block es (Err stop.Memory) f is = cc (f, is)
 
 -- what a stop says, whatever follows the step
-stops : (h : Stop) {m : Meaning} {before after : List entry.Entry} {new : Vars} {s : Server} (f : Rest → Rest) → Does m before (Err h) after new s → Does (λ go. m (f go)) before (Err h) after new s
-stops (stop.Fault x) f d = λ go. d (f go)
-stops stop.Within f d = (d.0, λ go. d.1 (f go))
-stops stop.Memory f d = tt
+stops : (h : Stop) (m : Meaning) (before after : List entry.Entry) (new : Vars) (s : Server) (f : Rest → Rest) → Does m before (Err h) after new s → Does (λ go. m (f go)) before (Err h) after new s
+stops (stop.Fault x) m before after new s f d = λ go. d (f go)
+stops stop.Within m before after new s f d = (d.0, λ go. d.1 (f go))
+stops stop.Memory m before after new s f d = tt
 
 -- steps in order, one by one: those from a place on are what is left of the steps
 pub record LeadsOn (st : Stage) (steps : List Step) (before : List entry.Entry) (old : Vars) (s : Server) (i : ℕ) (after : List entry.Entry) (new : Vars) (s1 : Server) : Type 0 where
@@ -229,10 +229,10 @@ leads_more {st = st} {steps = steps} {es = es} {es1 = es1} {vars = vars} {vars1 
 
 pub leads_cut : {st : Stage} {steps : List Step} {before es es1 : List entry.Entry} {old vars vars1 : Vars} {s s1 s2 : Server} {i : ℕ} {t r : Result (Unit {0}) Stop} {h : Stop} (step : Step) → i < length steps → step ≡ get_or steps i step
     → LeadsOn st steps before old s i es vars s1 → Did (step_run st step vars s1) es vars t es1 vars1 s2 → t ≡ Err h → r ≡ Err h → Did (steps_run st steps old s) before old r es1 vars1 s2
-leads_cut {st = st} {steps = steps} {es = es} {es1 = es1} {vars = vars} {vars1 = vars1} {s1 = s1} {s2 = s2} {i = i} {h = h} step l e on d is so =
+leads_cut {st = st} {steps = steps} {before = before} {es = es} {es1 = es1} {old = old} {vars = vars} {vars1 = vars1} {s = s} {s1 = s1} {s2 = s2} {i = i} {h = h} step l e on d is so =
     by_result so (record {
-      does = does_as (Err h) (λ go. on.leads go ∙ ap (with_entries es) (steps_on st steps i step vars s1 go l e))
-          (stops h (rest_run st steps i) (subst (λ x. Does (step_run st step vars s1) es x es1 vars1 s2) is d.does));
+      does = does_as (Err h) (steps_run st steps old s) (λ go. step_run st step vars s1 (rest_run st steps i go)) before es es1 vars1 s2 (λ go. on.leads go ∙ ap (with_entries es) (steps_on st steps i step vars s1 go l e))
+          (stops h (step_run st step vars s1) es es1 vars1 s2 (rest_run st steps i) (subst (λ x. Does (step_run st step vars s1) es x es1 vars1 s2) is d.does));
       binds = extends_far on.binds d.binds;
     })
 

@@ -83,16 +83,31 @@ found [] p n h = ap (led []) (sym (h n))
 found (b ∷ bs) p n h = find_step (nat_eq b.number n) b bs p n refl h (found bs _ n h.1)
 
 -- bindings in order of binding
+at_end : (xs : List Binding) (b : Binding) → slice_get (xs ++ b ∷ []) (length xs) ≡ Some b
+at_end [] b = refl
+at_end (x ∷ xs) b = at_end xs b
+
+before_end : (xs : List Binding) (b : Binding) (k : ℕ) → (length xs ≡ k → ⊥) → slice_get (xs ++ b ∷ []) k ≡ slice_get xs k
+before_end [] b zero h = absurd (h refl)
+before_end [] b (suc k) h = refl
+before_end (x ∷ xs) b zero h = refl
+before_end (x ∷ xs) b (suc k) h = before_end xs b k (λ e. h (ap suc e))
+
+differ : (a b : ℕ) → nat_eq a b ≡ false → a ≡ b → ⊥
+differ a b e f = let itself : nat_eq a b ≡ true = ap (nat_eq a) (sym f) ∙ eq_itself a in absurd (cc (e, itself))
+
+last_by : (t : Bool) (xs : List Binding) (b : Binding) (k : ℕ) → nat_eq (length xs) k ≡ t → slice_get (xs ++ b ∷ []) k ≡ cond t (Some b) (slice_get xs k)
+last_by true xs b k e = ap (slice_get (xs ++ b ∷ [])) (sym (same_number (length xs) k e)) ∙ at_end xs b
+last_by false xs b k e = before_end xs b k (differ (length xs) k e)
+
 last_at : (xs : List Binding) (b : Binding) (k : ℕ) → slice_get (xs ++ b ∷ []) k ≡ cond (nat_eq (length xs) k) (Some b) (slice_get xs k)
-last_at [] b zero = refl
-last_at [] b (suc k) = refl
-last_at (x ∷ xs) b zero = refl
-last_at (x ∷ xs) b (suc k) = last_at xs b k
+last_at xs b k = last_by (nat_eq (length xs) k) xs b k refl
 
 placed_so : (bs : List Binding) (k : ℕ) → slice_get (reverse bs) k ≡ placed bs k
 placed_so [] k = refl
 placed_so (b ∷ bs) k =
-    last_at (reverse bs) b k
+    ap (λ ys. slice_get ys k) (reverse-append (b ∷ []) bs)
+    ∙ last_at (reverse bs) b k
     ∙ ap (λ n. cond (nat_eq n k) (Some b) (slice_get (reverse bs) k)) (length-reverse bs)
     ∙ ap (λ o. cond (nat_eq (length bs) k) (Some b) o) (placed_so bs k)
 

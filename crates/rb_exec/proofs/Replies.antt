@@ -77,16 +77,16 @@ values_on : (st : Stage) (at : ℕ) (vars : Vars) (es : List SExpr) (i : ℕ) (e
     → values_run st at vars (drop i es) s ≡ and_then (value_run st at vars e s) (λ v s1. and_then (values_run st at vars (drop (i + 1) es) s1) (λ vs s2. Got (v ∷ vs) s2))
 values_on st at vars es i e s l is = ap (λ xs. values_run st at vars xs s) (dropped_one es i e l is)
 
-pub value_more : {t : Result Value Miss} {v : Value} {s s1 : Server} {vs vs1 : List Value} (st : Stage) (at : ℕ) (vars : Vars) (es : List SExpr) (i : ℕ) (e : SExpr) → i < length es → e ≡ get_or es i e
+pub value_more : {t : Result Value Miss} {v : Value} {s1 : Server} {vs1 : List Value} (s : Server) (vs : List Value) (st : Stage) (at : ℕ) (vars : Vars) (es : List SExpr) (i : ℕ) (e : SExpr) → i < length es → e ≡ get_or es i e
     → Replied (value_run st at vars e s) t s1 → t ≡ Ok v → vs1 ≡ vs ++ v ∷ [] → after vs (values_run st at vars (drop i es) s) ≡ after vs1 (values_run st at vars (drop (i + 1) es) s1)
-value_more {v = v} {s = s} {s1 = s1} {vs = vs} st at vars es i e l is h was more =
+value_more {v = v} {s1 = s1} s vs st at vars es i e l is h was more =
     ap (after vs) (values_on st at vars es i e s l is ∙ ap (λ x. and_then x (λ w s2. and_then (values_run st at vars (drop (i + 1) es) s2) (λ ws s3. Got (w ∷ ws) s3))) (got h was))
     ∙ after_one vs v (values_run st at vars (drop (i + 1) es) s1)
     ∙ ap (λ xs. after xs (values_run st at vars (drop (i + 1) es) s1)) (sym more)
 
-pub value_missing : {t : Result Value Miss} {h : Miss} {s s1 : Server} {vs : List Value} {whole : Reply (List Value)} {r : Result (List Value) Miss} (st : Stage) (at : ℕ) (vars : Vars) (es : List SExpr) (i : ℕ) (e : SExpr) → i < length es → e ≡ get_or es i e
+pub value_missing : {t : Result Value Miss} {h : Miss} {s1 : Server} {whole : Reply (List Value)} {r : Result (List Value) Miss} (s : Server) (vs : List Value) (st : Stage) (at : ℕ) (vars : Vars) (es : List SExpr) (i : ℕ) (e : SExpr) → i < length es → e ≡ get_or es i e
     → Replied (value_run st at vars e s) t s1 → t ≡ Err h → r ≡ Err h → after vs (values_run st at vars (drop i es) s) ≡ whole → Replied whole r s1
-value_missing {s = s} {vs = vs} st at vars es i e l is d was so same =
+value_missing s vs st at vars es i e l is d was so same =
     as_meant (sym same ∙ ap (after vs) (values_on st at vars es i e s l is)) (missed_far vs _ d was so)
 
 pub values_done : {s : Server} {vs : List Value} {whole : Reply (List Value)} (st : Stage) (at : ℕ) (vars : Vars) (es : List SExpr) (i : ℕ) → length es ≤ i

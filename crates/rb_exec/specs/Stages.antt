@@ -56,7 +56,7 @@ abbrev pub let_run : Stage → ℕ → ℕ → ℕ → Bool → SExpr → Vars �
 let_run st id at var keep e vars s go = run_step (ground st) (script.Let id at var keep (mirror_sexpr e)) vars s go
 
 abbrev pub if_run : Stage → ℕ → ℕ → SExpr → List Step → List Step → Vars → Server → Meaning
-if_run st id at e yes no vars s go = run_step (ground st) (script.If id at (mirror_sexpr e) (mirror_steps yes) (mirror_steps no)) vars s go
+if_run st id at e a b vars s go = run_step (ground st) (script.If id at (mirror_sexpr e) (mirror_steps a) (mirror_steps b)) vars s go
 
 abbrev pub each_run : Stage → Walk → SExpr → Vars → Server → Meaning
 each_run st w e vars s go =

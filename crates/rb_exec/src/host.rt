@@ -33,9 +33,12 @@ pub struct Host {
 }
 
 impl Model for Host {
-    ghost use Rattle.rb_exec.specs.Hosts.{Hosted};
+    ghost use Rattle.rb_exec.specs.Codes.{host_code};
+    ghost use Rattle.rb_exec.specs.Hosted.{Hosted};
 
     ghost Value = { Hosted };
+
+    ghost coded = { host_code };
 
     ghost view = { λ h. record { service = record { classes = h.code; root = h.root }; table = h.server.table } };
 }

@@ -23,8 +23,11 @@ pub struct Server {
 impl Model for Server {
     ghost use Rattle.std.specs.Prelude.{◌≡◌};
     ghost use Rattle.rb_meaning_code.specs.Remote as meant;
+    ghost use Rattle.rb_exec.specs.Codes.{server_code};
 
     ghost Value = { meant.Server };
+
+    ghost coded = { server_code };
 
     ghost view = { λ s. record { table = s.state.heap; fuel = s.state.fuel } };
 

@@ -17,6 +17,7 @@ use std::alloc::Global;
 
 /// An `Each`, without its rows: the number and position of its step, the variable of its rows, whether they are kept, and
 /// its block.
+#[derive(Clone, Copy)]
 pub struct Walk<'a> {
     pub id: u32,
     pub at: u32,

@@ -31,11 +31,15 @@ pub struct Variables {
 
 impl Model for Variables {
     ghost use Rattle.std.specs.Prelude.{nat_eq, reverse};
+    ghost use Rattle.std.specs.Coded.{coded×, coded_list, coded_ℕ};
     ghost use Rattle.std.specs.HashMap.{get};
+    ghost use Rattle.rb_trees.specs.contracts.values.Value as value_code;
     ghost use Rattle.rb_meaning_code.specs.ScriptRun.{Vars};
     ghost use Rattle.rb_exec.specs.Bindings.{Guides, as_variables};
 
     ghost Value = { Vars };
+
+    ghost coded = { coded_list (coded× coded_ℕ value_code.the_row.coded) };
 
     ghost view = { λ v. as_variables (reverse v.bindings.items) };
 
