@@ -10,3 +10,5 @@ pub mod Bodies
 pub mod Laws
 pub mod Led
 pub mod Leads
+pub mod Remote
+pub mod ScriptRun

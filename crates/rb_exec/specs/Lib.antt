@@ -1,0 +1,8 @@
+pub mod Bindings
+pub mod Blocks
+pub mod Codes
+pub mod Ends
+pub mod Hosted
+pub mod Hosts
+pub mod Servers
+pub mod Stages
