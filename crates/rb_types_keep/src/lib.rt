@@ -1,0 +1,11 @@
+//! Laws that typed code keeps types: it never faults Kind, and what it gives and leaves fits its types.
+//!
+//! What fits is defined in `rb_meaning_types`, what code means in `rb_meaning_code`. There is no code here; the laws are
+//! functions that do nothing.
+#![tactic(auto)]
+
+mod code;
+mod operators;
+
+pub use code::{service_code_ends, service_code_keeps_types, typed_code_keeps_types};
+pub use operators::{conditions_have_truths, operators_keep_types, texts_are_caught};
