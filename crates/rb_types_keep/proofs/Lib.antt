@@ -12,3 +12,4 @@ mod Exprs
 mod Stmts
 mod Bodies
 mod Services
+mod Served

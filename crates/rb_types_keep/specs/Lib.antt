@@ -5,3 +5,4 @@ pub mod Own
 pub mod Ends
 pub mod Operators
 pub mod Code
+pub mod Remote
