@@ -1,15 +1,14 @@
 -- Typed methods keep types, by induction on the gas; and so does all typed code.
-use Rattle.std.proofs.Common.{◌≡◌, refl, sym, ap, ◌∙◌, subst, ℕ, zero, suc, List, [], ◌∷◌, arith, Bool as Truth, true, false, not, ◌&&◌, Option, Some, None, Result, Ok, Err}
+use Rattle.std.proofs.Common.{◌≡◌, refl, sym, ap, ◌∙◌, subst, ℕ, zero, suc, List, arith, true, not, ◌&&◌, Option, Some, None, Ok}
 use Rattle.std.proofs.lemmas.Bool.{and_parts}
-use Rattle.rb_trees.specs.Outcome.{◌>>=◌, ◌>>◌, must}
 use Rattle.rb_trees.specs.declared.values.Value.{Value}
 use Rattle.rb_trees.specs.declared.values.Value.TheVariants as value
 use Rattle.rb_trees.specs.mirror.Code.{Expr, expr_at}
-use Rattle.rb_trees.specs.mirror.Declarations.{Body, Method, Class}
+use Rattle.rb_trees.specs.mirror.Declarations.{Body, Method}
 use Rattle.rb_meaning_types.specs.Kinds as kind
 use Rattle.rb_meaning_types.specs.Kinds.{Kind, kind_of, is_unit, same_kind}
 use Rattle.rb_meaning_types.specs.Names.{interface_named}
-use Rattle.rb_meaning_types.specs.Violations.{Placed, MissingReturn, wrong_type}
+use Rattle.rb_meaning_types.specs.Violations.{MissingReturn}
 use Rattle.rb_meaning_types.specs.Declared.{Declarations, Context, method_context}
 use Rattle.rb_meaning_types.specs.Scopes.{Scope, parameters}
 use Rattle.rb_meaning_types.specs.Expressions.{type_of}
@@ -17,7 +16,7 @@ use Rattle.rb_meaning_types.specs.Statements.{check_stmts}
 use Rattle.rb_meaning_types.specs.Bodies.{check_return}
 use Rattle.rb_meaning_types.specs.Fits.{classes_of}
 use Rattle.rb_meaning_code.specs.State.{Local}
-use Rattle.rb_meaning_code.specs.Faults.{fuel_used, raised}
+use Rattle.rb_meaning_code.specs.Faults.{fuel_used}
 use Rattle.rb_meaning_code.specs.Dialogue.{Outcome, Gave, Faulted, Run}
 use Rattle.rb_meaning_code.specs.Calls.{Bodies}
 use Rattle.rb_meaning_code.specs.Statements.{performs_all}
@@ -25,14 +24,14 @@ use Rattle.rb_meaning_code.specs.Bodies.{returns, runs, body_within, bodies_of}
 use Rattle.rb_types_keep.specs.Formed.{IsFormedReturn}
 use Rattle.rb_types_keep.specs.Own.{IsOwnPlace}
 use Rattle.rb_types_keep.specs.Ends.{LocalFits, Ends, OfKind, Returns, Keeps, place_in}
-use Rattle.rb_types_keep.specs.Code.{AreTyped, Stands, CallFits, HasMethod, OfTypedCode, TypesKeep}
+use Rattle.rb_types_keep.specs.Code.{TypesKeep}
 use Rattle.rb_types_keep.proofs.Checks.{bind_ok, must_ok, placed_ok, same_sound}
 use Rattle.rb_types_keep.proofs.Values.{grown_same, unit_fits}
 use Rattle.rb_types_keep.proofs.Faults.{plain_own, raised_fits}
 use Rattle.rb_types_keep.proofs.Known.{Known, typed_known, IsMethod, class_known, class_apart, method_known}
 use Rattle.rb_types_keep.proofs.OwnKinds.{own_parameters}
 use Rattle.rb_types_keep.proofs.Exprs.{SafeBodies, value_runs, values_run, call_runs}
-use Rattle.rb_types_keep.proofs.Stmts.{Adds, stmt_runs, stmts_run}
+use Rattle.rb_types_keep.proofs.Stmts.{stmt_runs, stmts_run}
 use Rattle.rb_types_keep.proofs.Steps.{keeps_more, Runs, goes, ends, block_runs}
 
 is_the_unit : (k : Kind) → is_unit k ≡ true → kind.Unit ≡ k

@@ -1,5 +1,5 @@
 -- What it tells that a check passed.
-use Rattle.std.proofs.Common.{◌≡◌, refl, sym, ap, ◌∙◌, subst, ℕ, List, [], ◌∷◌, Bool as Truth, true, false, cond, Option, Some, None, Ok, Err, Result}
+use Rattle.std.proofs.Common.{◌≡◌, refl, ap, ℕ, Bool as Truth, true, false, Option, Some, None, Ok, Err}
 use Rattle.std.proofs.lemmas.Slice.Eq.{bytes_eq-Decides}
 use Rattle.rb_meaning_types.specs.Kinds.{Kind, Int, Bool, Text, Unit as UnitKind, Named, ListOf, RowsOf, same_kind}
 use Rattle.rb_meaning_types.specs.Violations.{Violation, Checked, Placed, with_place, wanted, wrong_type}

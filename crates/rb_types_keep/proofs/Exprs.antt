@@ -1,44 +1,41 @@
 -- Typed expressions and calls keep types.
-use Rattle.std.proofs.Common.{◌≡◌, refl, sym, ap, ◌∙◌, subst, ℕ, zero, suc, ◌-◌, List, [], ◌∷◌, ◌++◌, length, arith, Bool as Truth, true, false, cond, nat_lt, All, Option, Some, None, Result, Ok, Err}
+use Rattle.std.proofs.Common.{◌≡◌, refl, sym, ap, subst, ℕ, zero, suc, List, [], ◌∷◌, length, arith, Bool as Truth, true, false, nat_lt, All, Option, Some, None, Ok, Err}
 use Rattle.std.proofs.lemmas.List.Elements.{All-nil, All-cons}
-use Rattle.rb_trees.specs.Outcome.{◌>>=◌, ◌>>◌, known, must}
+use Rattle.rb_trees.specs.Outcome.{known, must}
 use Rattle.rb_trees.specs.declared.values.Value.{Value}
 use Rattle.rb_trees.specs.declared.values.Value.TheOpen.{Value-F}
-use Rattle.rb_trees.specs.declared.values.Value.TheVariants as value
 use Rattle.rb_trees.specs.declared.values.Value.TheViews.{out-Value}
-use Rattle.rb_trees.specs.declared.values.Fault.{Fault}
 use Rattle.rb_trees.specs.mirror.Code.{Expr, Exprs, Lit, Name, This, Unary, Binary, Field, Call, Index, New, Items, Taken, NoExprs, MoreExprs, expr_at}
-use Rattle.rb_trees.specs.mirror.Declarations.{Param, Interface, Body, Method, Class}
+use Rattle.rb_trees.specs.mirror.Declarations.{Interface, Body, Method, Class}
 use Rattle.rb_meaning_types.specs.Kinds as kind
 use Rattle.rb_meaning_types.specs.Kinds.{Kind, kind_of}
 use Rattle.rb_meaning_types.specs.Names.{interface_named, class_named, method_named}
-use Rattle.rb_meaning_types.specs.Violations.{Checked, Placed, UnknownName, wanted, with_place}
+use Rattle.rb_meaning_types.specs.Violations.{Checked, Placed, UnknownName, wanted}
 use Rattle.rb_meaning_types.specs.Declared.{Declarations, Context, method_context}
-use Rattle.rb_meaning_types.specs.Scopes.{Scope, Variable, variable_named, parameters}
+use Rattle.rb_meaning_types.specs.Scopes.{Scope, variable_named, parameters}
 use Rattle.rb_meaning_types.specs.Literals.{literal_form, literal_kind}
-use Rattle.rb_meaning_types.specs.Operators.{unary_kind, binary_kind, index_kind}
-use Rattle.rb_meaning_types.specs.Expressions.{name_kind, this_kind, all_wanted, items_kind, with_first, type_of, types_of}
-use Rattle.rb_meaning_types.specs.Fits.{classes_of, IsIntValue, IsBoolValue, IsTextValue, IsObjectOf, Fits, HeapFits, this_name, frame_scope, NamesFit, StateHolds, StateFits}
+use Rattle.rb_meaning_types.specs.Expressions.{all_wanted, with_first, type_of, types_of}
+use Rattle.rb_meaning_types.specs.Fits.{classes_of, IsIntValue, IsBoolValue, IsTextValue, IsObjectOf, Fits, HeapFits, this_name, frame_scope}
 use Rattle.rb_meaning_code.specs.State.{Local, Names, spent}
-use Rattle.rb_meaning_code.specs.Faults.{fuel_used, too_deep}
+use Rattle.rb_meaning_code.specs.Faults.{too_deep}
 use Rattle.rb_meaning_code.specs.Operators.{on_one, on_two, by_left}
-use Rattle.rb_meaning_code.specs.Dialogue.{Outcome, Gave, Faulted, Dialogue, Done, Ask, AskBatch, Run, seq, on, next, gives, end}
-use Rattle.rb_meaning_code.specs.Objects.{matched, constructed, field_of}
+use Rattle.rb_meaning_code.specs.Dialogue.{Outcome, Gave, Faulted, Run, seq, next, end}
+use Rattle.rb_meaning_code.specs.Objects.{constructed, field_of}
 use Rattle.rb_meaning_code.specs.Calls.{Bodies, called_method, unit_due, call_fits, names_within, entered, left, call, called}
 use Rattle.rb_meaning_code.specs.Faults.{raises}
 use Rattle.rb_meaning_code.specs.Expressions.{value_of, indexed, list_of, decided_or, constructs, evaluates, evaluates_all}
-use Rattle.rb_types_keep.specs.Kept.{IsPrimitiveForm, Fair, FaultFits}
+use Rattle.rb_types_keep.specs.Kept.{IsPrimitiveForm, Fair}
 use Rattle.rb_types_keep.specs.Formed.{IsFormedExpr, AreFormedExprs}
-use Rattle.rb_types_keep.specs.Own.{IsOwnKind, IsOwnPlace}
+use Rattle.rb_types_keep.specs.Own.{IsOwnPlace}
 use Rattle.rb_types_keep.specs.Operators.{IfDecided}
-use Rattle.rb_types_keep.specs.Ends.{Grown, LocalFits, LocalHolds, GaveFit, FellFit, Ends, OfKind, OfKinds, Returned, Returns, Keeps}
+use Rattle.rb_types_keep.specs.Ends.{Grown, LocalFits, Ends, OfKind, OfKinds, Returns, Keeps}
 use Rattle.rb_types_keep.specs.Code.{ArgumentsFit}
 use Rattle.rb_types_keep.proofs.Checks.{bind_ok, then_ok, known_ok, placed_ok, wanted_ok}
-use Rattle.rb_types_keep.proofs.Values.{of_class, grown_same, fits_more, all_more, names_more}
+use Rattle.rb_types_keep.proofs.Values.{of_class, grown_same, fits_more, names_more}
 use Rattle.rb_types_keep.proofs.Faults.{plain_own}
 use Rattle.rb_types_keep.proofs.Results.{one_keeps, two_keep, left_keeps, index_keeps, lists_keep}
-use Rattle.rb_types_keep.proofs.Known.{Known, IsKnown, IsMethod, class_known, class_apart, method_known}
-use Rattle.rb_types_keep.proofs.OwnKinds.{IsField, field_ok, IsCall, call_ok, IsNew, new_ok, IsItems, items_ok, type_own}
+use Rattle.rb_types_keep.proofs.Known.{Known, IsMethod, class_known, class_apart, method_known}
+use Rattle.rb_types_keep.proofs.OwnKinds.{field_ok, call_ok, new_ok, items_ok, type_own}
 use Rattle.rb_types_keep.proofs.Names.{name_fits, this_fits}
 use Rattle.rb_types_keep.proofs.Objects.{arguments_do, arguments_count, matched_names, matched_count, constructed_fits, IsMade, field_fits, called_fits}
 use Rattle.rb_types_keep.proofs.Steps.{keeps_seq, Runs, then_goes, ends, helped, helped_end}

@@ -1,9 +1,7 @@
 -- The faults of typed code, and the texts that stand for them.
-use Rattle.std.proofs.Common.{◌≡◌, refl, sym, ap, ◌∙◌, subst, ℕ, zero, suc, ◌≤◌, ◌<◌, ◌-◌, List, [], ◌∷◌, length, arith, inl, inr, Bool, true, false, cond, ◌==◌, Option, Some, None, slice_get, Result, Ok, Err, codes}
-use Rattle.std.specs.Str.{IsUtf8}
+use Rattle.std.proofs.Common.{◌≡◌, refl, sym, subst, ℕ, zero, suc, ◌≤◌, ◌-◌, List, [], ◌∷◌, arith, inl, inr, Bool, true, false, cond, ◌==◌, Option, Some, None, slice_get, codes}
 use Rattle.rb_trees.specs.declared.values.Fault.{Fault}
-use Rattle.rb_trees.specs.declared.outcomes.Raised.{Raised}
-use Rattle.rb_trees.specs.Outcome.{known, must}
+use Rattle.rb_trees.specs.Outcome.{known}
 use Rattle.rb_meaning_types.specs.Values.{IsText}
 use Rattle.rb_meaning_types.specs.Declared.{Declarations}
 use Rattle.rb_meaning_code.specs.Faults.{plain_fault, thrown, fault_names, name_or_nothing, fault_name, caught_text, raised}

@@ -1,26 +1,25 @@
 -- What is known of typed declarations: the classes, fields and methods that are found by name.
-use Rattle.std.proofs.Common.{◌≡◌, refl, sym, ap, ◌∙◌, subst, ℕ, List, [], ◌∷◌, ◌++◌, map, append_assoc, append-nil, arith, Bool as Truth, true, false, not, ◌&&◌, cond, All, Option, Some, None, Result, Ok, Err}
+use Rattle.std.proofs.Common.{◌≡◌, refl, sym, ap, ◌∙◌, subst, ℕ, List, [], ◌∷◌, ◌++◌, map, append_assoc, append-nil, Bool as Truth, true, false, not, ◌&&◌, cond, All, Option, Some, None, Ok}
 use Rattle.std.specs.Str.{bytes_eq}
 use Rattle.std.specs.Option.{is_some}
 use Rattle.std.proofs.lemmas.Slice.Eq.{bytes_eq-Decides}
-use Rattle.std.proofs.lemmas.List.Elements.{All-nil, All-cons, All-head, All-tail, All-weaker}
+use Rattle.std.proofs.lemmas.List.Elements.{All-nil, All-cons, All-head, All-tail}
 use Rattle.rb_trees.specs.Named.{first_named}
-use Rattle.rb_trees.specs.Outcome.{◌>>=◌, ◌>>◌, known, must}
+use Rattle.rb_trees.specs.Outcome.{◌>>◌, must}
 use Rattle.rb_trees.specs.mirror.Types as tree
 use Rattle.rb_trees.specs.mirror.Types.{TypeTree}
-use Rattle.rb_trees.specs.mirror.Declarations.{Param, Signature, Interface, Method, Class}
-use Rattle.rb_meaning_types.specs.Kinds as kind
-use Rattle.rb_meaning_types.specs.Kinds.{Kind, kind_of}
-use Rattle.rb_meaning_types.specs.Names.{is_new, interface_named, class_named, method_named, field_named}
-use Rattle.rb_meaning_types.specs.Violations.{Violation, TypeNotHere, NotAllowedHere}
-use Rattle.rb_meaning_types.specs.Declared.{Declarations, is_interface, is_class}
-use Rattle.rb_meaning_types.specs.Places.{declared_type, value_type, value_result, item_type, parameter_type, result_type}
+use Rattle.rb_trees.specs.mirror.Declarations.{Param, Interface, Method, Class}
+use Rattle.rb_meaning_types.specs.Kinds.{kind_of}
+use Rattle.rb_meaning_types.specs.Names.{is_new, interface_named, class_named, method_named}
+use Rattle.rb_meaning_types.specs.Violations.{TypeNotHere, NotAllowedHere}
+use Rattle.rb_meaning_types.specs.Declared.{Declarations, is_class}
+use Rattle.rb_meaning_types.specs.Places.{declared_type, value_type, value_result, parameter_type, result_type}
 use Rattle.rb_meaning_types.specs.Bodies.{check_method_body, check_method_bodies, check_class_bodies}
-use Rattle.rb_meaning_types.specs.Declarations.{new_name, check_params, check_signature, check_method, check_methods, check_interfaces, check_class, check_classes, check_declarations}
+use Rattle.rb_meaning_types.specs.Declarations.{new_name, check_params, check_signature, check_method, check_methods, check_interfaces, check_class, check_classes}
 use Rattle.rb_types_keep.specs.Formed.{IsFormedMethod, IsFormedClass, AreFormed}
 use Rattle.rb_types_keep.specs.Own.{IsOwnKind}
 use Rattle.rb_types_keep.specs.Code.{AreTyped}
-use Rattle.rb_types_keep.proofs.Checks.{bind_ok, then_ok, must_ok}
+use Rattle.rb_types_keep.proofs.Checks.{then_ok, must_ok}
 
 -- what is found by name
 

@@ -13,3 +13,5 @@ mod Stmts
 mod Bodies
 mod Services
 mod Served
+mod Far
+mod ScriptRuns

@@ -1,10 +1,8 @@
 -- Look-ups of names and fields where these fit.
-use Rattle.std.proofs.Common.{◌≡◌, refl, sym, ap, ◌∙◌, subst, ℕ, suc, List, [], ◌∷◌, length, arith, Bool as Truth, true, false, cond, option_map, Option, Some, None, Result, Ok, Err}
+use Rattle.std.proofs.Common.{◌≡◌, refl, sym, ap, subst, ℕ, suc, List, [], ◌∷◌, length, Bool as Truth, true, false, cond, option_map, Option, Some, None, Ok}
 use Rattle.std.specs.Str.{bytes_eq}
 use Rattle.rb_trees.specs.Named.{first_named, lookup, replaced}
-use Rattle.rb_trees.specs.Outcome.{◌>>=◌, known}
 use Rattle.rb_trees.specs.declared.values.Value.{Value}
-use Rattle.rb_trees.specs.declared.values.Fault.{Fault}
 use Rattle.rb_trees.specs.mirror.Declarations.{Param, Interface}
 use Rattle.rb_meaning_types.specs.Kinds as kind
 use Rattle.rb_meaning_types.specs.Kinds.{Kind, kind_of}
@@ -12,10 +10,8 @@ use Rattle.rb_meaning_types.specs.Names.{field_named}
 use Rattle.rb_meaning_types.specs.Expressions.{this_kind}
 use Rattle.rb_meaning_types.specs.Scopes.{Scope, Variable, variable_named}
 use Rattle.rb_meaning_types.specs.Fits.{Fits, FieldsFit, Frame, this_name, frame_scope, NamesFit}
-use Rattle.rb_meaning_code.specs.State.{Names}
 use Rattle.rb_meaning_code.specs.Faults.{kind as kind_fault}
 use Rattle.rb_meaning_code.specs.Expressions.{value_of}
-use Rattle.rb_meaning_code.specs.Statements.{assigned}
 use Rattle.rb_types_keep.specs.Kept.{Fair}
 use Rattle.rb_types_keep.proofs.Faults.{SomeIs, known_fair}
 

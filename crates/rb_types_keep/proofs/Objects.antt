@@ -1,36 +1,34 @@
 -- Heaps that fit: their objects, new ones, and fields that are written; and arguments that fit parameters.
-use Rattle.std.proofs.Common.{◌≡◌, refl, sym, ap, ◌∙◌, subst, ℕ, zero, suc, List, [], ◌∷◌, ◌++◌, length, map, arith, Bool as Truth, true, false, cond, nat_eq, nat_lt, All, Option, Some, None, option_and_then, slice_get, slice_set, Result, Ok, Err}
+use Rattle.std.proofs.Common.{◌≡◌, refl, sym, ap, ◌∙◌, subst, ℕ, zero, suc, List, [], ◌∷◌, ◌++◌, length, arith, Bool as Truth, true, false, nat_eq, nat_lt, All, Option, Some, None, option_and_then, slice_get, slice_set, Ok}
 use Rattle.std.proofs.lemmas.Bool.{eqb-true, eq-eqb}
-use Rattle.std.proofs.lemmas.List.Elements.{All-nil, All-cons, All-head, All-tail, All-set, All-push}
+use Rattle.std.proofs.lemmas.List.Elements.{All-head, All-tail, All-set, All-push}
 use Rattle.rb_trees.specs.Limits.{most_objects}
-use Rattle.rb_trees.specs.Named.{lookup, replaced}
+use Rattle.rb_trees.specs.Named.{lookup}
 use Rattle.rb_trees.specs.Classes.{method_of_class}
 use Rattle.rb_trees.specs.Objects.{field_value, with_field, with_object, option_with_field, with_field_value}
 use Rattle.rb_trees.specs.Outcome.{◌>>=◌, ◌>>◌, known, must}
 use Rattle.rb_trees.specs.declared.values.Value.{Value}
 use Rattle.rb_trees.specs.declared.values.Value.TheOpen.{Value-F}
 use Rattle.rb_trees.specs.declared.values.Value.TheVariants as value
-use Rattle.rb_trees.specs.declared.values.Value.TheViews.{out-Value}
-use Rattle.rb_trees.specs.declared.values.Fault.{Fault}
 use Rattle.rb_trees.specs.declared.services.Object.{Object}
 use Rattle.rb_trees.specs.mirror.Declarations.{Param, Interface, Class, Method}
 use Rattle.rb_meaning_types.specs.Kinds as kind
 use Rattle.rb_meaning_types.specs.Kinds.{Kind, kind_of}
 use Rattle.rb_meaning_types.specs.Names.{interface_named, class_named, method_named, field_named}
 use Rattle.rb_meaning_types.specs.Violations.{Placed, WrongCount, wanted}
-use Rattle.rb_meaning_types.specs.Declared.{Declarations, Context}
+use Rattle.rb_meaning_types.specs.Declared.{Context}
 use Rattle.rb_meaning_types.specs.Members.{arguments_wanted, arguments_fit}
-use Rattle.rb_meaning_types.specs.Scopes.{Scope, parameters}
+use Rattle.rb_meaning_types.specs.Scopes.{parameters}
 use Rattle.rb_meaning_types.specs.Fits.{classes_of, IsObjectOf, Fits, FieldsFit, ObjectFits, HeapFits, NamesFit}
 use Rattle.rb_meaning_code.specs.Faults.{kind as kind_fault, heap_full}
-use Rattle.rb_meaning_code.specs.Objects.{matched, object_with, object_of, placed, constructed, field_of, with_own_field, with_field_of}
+use Rattle.rb_meaning_code.specs.Objects.{matched, object_with, placed, constructed, field_of, with_field_of}
 use Rattle.rb_meaning_code.specs.Calls.{method_of, own_method, called_method}
-use Rattle.rb_types_keep.specs.Kept.{IsOwnFault, Fair}
-use Rattle.rb_types_keep.specs.Ends.{Grown, OfKind, OfKinds}
+use Rattle.rb_types_keep.specs.Kept.{Fair}
+use Rattle.rb_types_keep.specs.Ends.{Grown, OfKinds}
 use Rattle.rb_types_keep.specs.Code.{ArgumentsFit}
-use Rattle.rb_types_keep.proofs.Checks.{bind_ok, then_ok, must_ok, wanted_ok}
-use Rattle.rb_types_keep.proofs.Faults.{plain_own, SomeIs, some_is, known_fair}
-use Rattle.rb_types_keep.proofs.Values.{object_fits, fits_more, fields_more, objects_more}
+use Rattle.rb_types_keep.proofs.Checks.{then_ok, must_ok, wanted_ok}
+use Rattle.rb_types_keep.proofs.Faults.{plain_own, SomeIs, known_fair}
+use Rattle.rb_types_keep.proofs.Values.{object_fits, fields_more, objects_more}
 use Rattle.rb_types_keep.proofs.Names.{field_there, field_put}
 
 -- arguments

@@ -1,5 +1,5 @@
 -- At a place of the own side each expression's type is of the own side.
-use Rattle.std.proofs.Common.{◌≡◌, refl, sym, ap, ◌∙◌, subst, ℕ, List, [], ◌∷◌, ◌++◌, map, Bool as Truth, true, false, not, ◌||◌, cond, length, nat_eq, All, Option, Some, None, Result, Ok, Err}
+use Rattle.std.proofs.Common.{◌≡◌, refl, subst, ℕ, List, [], ◌∷◌, ◌++◌, Bool as Truth, true, false, not, ◌||◌, cond, All, Option, Some, None, Ok}
 use Rattle.std.specs.Str.{bytes_eq}
 use Rattle.std.proofs.lemmas.List.Elements.{All-head, All-tail}
 use Rattle.rb_trees.specs.Outcome.{◌>>=◌, ◌>>◌, known, must}
@@ -11,23 +11,23 @@ use Rattle.rb_trees.specs.declared.code.BinOp.TheVariants as bin
 use Rattle.rb_trees.specs.declared.code.UnOp.{UnOp}
 use Rattle.rb_trees.specs.declared.code.UnOp.TheVariants as un
 use Rattle.rb_trees.specs.mirror.Types.{TypeTree}
-use Rattle.rb_trees.specs.mirror.Code.{Expr, Exprs, Lit, Name, This, Unary, Binary, Field, Call, Index, New, Items, Taken, NoExprs, MoreExprs, expr_at}
-use Rattle.rb_trees.specs.mirror.Declarations.{Param, Signature, Interface, Method, Class}
+use Rattle.rb_trees.specs.mirror.Code.{Expr, Lit, Name, This, Unary, Binary, Field, Call, Index, New, Items, Taken, expr_at}
+use Rattle.rb_trees.specs.mirror.Declarations.{Param, Interface, Method, Class}
 use Rattle.rb_meaning_types.specs.Kinds as kind
 use Rattle.rb_meaning_types.specs.Kinds.{Kind, kind_of}
-use Rattle.rb_meaning_types.specs.Names.{interface_named, class_named, method_named, field_named}
-use Rattle.rb_meaning_types.specs.Violations.{Checked, Placed, UnknownName, WrongCount, NotAllowedHere, wanted, wrong_type, with_place}
+use Rattle.rb_meaning_types.specs.Names.{class_named, method_named, field_named}
+use Rattle.rb_meaning_types.specs.Violations.{Placed, UnknownName, NotAllowedHere, wanted, wrong_type}
 use Rattle.rb_meaning_types.specs.Declared.{Declarations, Context}
-use Rattle.rb_meaning_types.specs.Scopes.{Scope, Variable, variable_named, parameter, parameters}
+use Rattle.rb_meaning_types.specs.Scopes.{Scope, Variable, variable_named, parameters}
 use Rattle.rb_meaning_types.specs.Literals.{literal_form, literal_kind}
-use Rattle.rb_meaning_types.specs.Operators.{takes_operand, unary_result, takes_left, binary_result, unary_kind, binary_kind, item_of, index_kind}
-use Rattle.rb_meaning_types.specs.Members.{arguments_wanted, arguments_fit, receiver_class, field_kind, signature_kind, class_call, call_on, receiver_interface, call_kind, new_kind}
+use Rattle.rb_meaning_types.specs.Operators.{takes_operand, unary_result, takes_left, binary_result, item_of}
+use Rattle.rb_meaning_types.specs.Members.{arguments_fit, receiver_class, field_kind, signature_kind, class_call, call_on, receiver_interface, call_kind, new_kind}
 use Rattle.rb_meaning_types.specs.Places.{declared_type, value_type, item_type}
-use Rattle.rb_meaning_types.specs.Expressions.{name_kind, this_kind, all_wanted, items_kind, type_of, types_of}
+use Rattle.rb_meaning_types.specs.Expressions.{this_kind, all_wanted, items_kind, type_of, types_of}
 use Rattle.rb_meaning_types.specs.Fits.{frame_scope}
 use Rattle.rb_types_keep.specs.Own.{IsOwnKind, IsOwnScope, IsOwnPlace}
-use Rattle.rb_types_keep.proofs.Checks.{bind_ok, then_ok, known_ok, must_ok, placed_ok, wanted_ok}
-use Rattle.rb_types_keep.proofs.Known.{Known, IsKnown, IsMethod, IsOwnMethod, IsOwnParam, class_known, class_apart, method_known, found_one, value_own}
+use Rattle.rb_types_keep.proofs.Checks.{bind_ok, then_ok, known_ok, placed_ok}
+use Rattle.rb_types_keep.proofs.Known.{Known, IsOwnParam, class_known, class_apart, method_known, found_one, value_own}
 
 -- what look-ups of members tell
 

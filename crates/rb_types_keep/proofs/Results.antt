@@ -1,7 +1,6 @@
 -- What operators give on values that fit.
-use Rattle.std.proofs.Common.{◌≡◌, refl, sym, ap, ◌∙◌, subst, ℕ, ℤ, pos, negsuc, zero, suc, ◌≤◌, ◌+ℤ◌, ◌-ℤ◌, ◌*ℤ◌, neg_ℤ, int_div, int_rem, int_lt, int_le, List, [], ◌∷◌, ◌++◌, length, arith, Bool as Truth, true, false, not, ◌&&◌, ◌||◌, cond, nat_lt, nat_le, All, Option, Some, None, slice_get, Result, Ok, Err, codes, FitsSigned}
-use Rattle.std.specs.Str.{bytes_eq}
-use Rattle.std.specs.Int.{int_wrap, int_wrapping_div, cast_signed, cast_unsigned, w64}
+use Rattle.std.proofs.Common.{◌≡◌, refl, sym, ap, ◌∙◌, subst, ℕ, ℤ, pos, negsuc, zero, suc, ◌≤◌, ◌+ℤ◌, ◌-ℤ◌, ◌*ℤ◌, neg_ℤ, int_div, int_rem, int_lt, int_le, List, [], ◌∷◌, ◌++◌, length, arith, Bool as Truth, true, false, not, ◌&&◌, ◌||◌, cond, nat_lt, nat_le, All, slice_get, Result, Ok, Err, codes}
+use Rattle.std.specs.Int.{int_wrap, int_wrapping_div, cast_unsigned, w64}
 use Rattle.std.specs.Ordering.{int_eq}
 use Rattle.std.specs.Fmt.{signed_decimal}
 use Rattle.std.proofs.lemmas.Bool.{ltb-false, leb-true}
@@ -25,20 +24,19 @@ use Rattle.rb_trees.specs.declared.values.Fault.{Fault}
 use Rattle.rb_trees.specs.mirror.Declarations.{Interface}
 use Rattle.rb_meaning_types.specs.Kinds as kind
 use Rattle.rb_meaning_types.specs.Kinds.{Kind, is_int, is_bool, is_text, is_list, is_primitive}
-use Rattle.rb_meaning_types.specs.Values.{IsInt, IsText, IsList}
+use Rattle.rb_meaning_types.specs.Values.{IsInt, IsText}
 use Rattle.rb_meaning_types.specs.Violations.{Placed, wanted, wrong_type}
 use Rattle.rb_meaning_types.specs.Operators.{takes_operand, unary_result, takes_left, binary_result, unary_kind, binary_kind, item_of, index_kind}
 use Rattle.rb_meaning_types.specs.Fits.{IsIntValue, IsBoolValue, IsTextValue, AreItems, Fits}
-use Rattle.rb_meaning_code.specs.Faults.{division_by_zero, index_outside, text_too_long, list_too_long, plain_fault}
-use Rattle.rb_meaning_code.specs.Operators as op
-use Rattle.rb_meaning_code.specs.Operators.{bool_text, negation, opposite, count, as_text, on_one, number, truth, joined_text, joined_list, plus, on_numbers, divided, quotient, remainder, equal, truth_by, on_truths, on_two, conjunct, disjunct, by_left}
-use Rattle.rb_meaning_code.specs.Expressions.{item_at, indexed, list_of}
+use Rattle.rb_meaning_code.specs.Faults.{division_by_zero, index_outside, text_too_long, list_too_long}
+use Rattle.rb_meaning_code.specs.Operators.{bool_text, negation, opposite, count, as_text, on_one, joined_text, joined_list, plus, on_numbers, divided, quotient, remainder, equal, truth_by, on_truths, on_two, conjunct, disjunct, by_left}
+use Rattle.rb_meaning_code.specs.Expressions.{item_at, indexed}
 use Rattle.rb_meaning_code.specs.Statements.{truth_of}
-use Rattle.rb_types_keep.specs.Kept.{IsOwnFault, Fair}
+use Rattle.rb_types_keep.specs.Kept.{Fair}
 use Rattle.rb_types_keep.specs.Operators.{IfDecided, OneKeeps, TwoKeep, LeftKeeps, IndexKeeps, ListsKeep, ConditionsHold}
 use Rattle.rb_types_keep.proofs.Checks.{bind_ok, then_ok, must_ok, wanted_ok}
 use Rattle.rb_types_keep.proofs.Values.{int_fits, bool_fits, text_fits, list_fits}
-use Rattle.rb_types_keep.proofs.Faults.{plain_own, known_fair, SomeIs}
+use Rattle.rb_types_keep.proofs.Faults.{plain_own}
 
 -- numbers and texts within their limits
 

@@ -1,5 +1,5 @@
 -- Remote calls keep the table fitting.
-use Rattle.std.proofs.Common.{◌≡◌, refl, sym, ap, ◌∙◌, subst, ℕ, zero, suc, ◌<◌, ◌≤◌, List, [], ◌∷◌, length, arith, inl, inr, Bool as Truth, true, false, cond, All, Option, Some, None, option_and_then, option_map, slice_get, Result, Ok, Err}
+use Rattle.std.proofs.Common.{◌≡◌, refl, sym, ap, ◌∙◌, subst, ℕ, zero, suc, ◌<◌, ◌≤◌, List, [], ◌∷◌, length, arith, inr, Bool as Truth, true, false, cond, All, Option, Some, None, option_and_then, option_map, slice_get, Result, Ok}
 use Rattle.std.specs.Str.{bytes_eq}
 use Rattle.std.proofs.lemmas.Slice.Eq.{bytes_eq-Decides}
 use Rattle.std.proofs.lemmas.List.Elements.{All-nil, All-cons, All-head, All-tail, All-weaker}
@@ -13,25 +13,23 @@ use Rattle.rb_trees.specs.declared.values.Fault.{Fault}
 use Rattle.rb_trees.specs.declared.services.Object.{Object}
 use Rattle.rb_trees.specs.mirror.Types as tree
 use Rattle.rb_trees.specs.mirror.Types.{TypeTree}
-use Rattle.rb_trees.specs.mirror.Declarations.{Param, Class, Method}
+use Rattle.rb_trees.specs.mirror.Declarations.{Param, Class}
 use Rattle.rb_meaning_types.specs.Kinds as type
 use Rattle.rb_meaning_types.specs.Values.{IsInt, IsText, IsList}
 use Rattle.rb_meaning_types.specs.Names.{class_named, method_named}
 use Rattle.rb_meaning_types.specs.Declared.{of_service}
 use Rattle.rb_meaning_types.specs.Programs.{check_service}
-use Rattle.rb_meaning_types.specs.Fits.{classes_of, Fits, IsIntValue, IsBoolValue, IsTextValue, IsUnitValue, IsObjectOf, FitsNamed, AreItems, AreRows, HeapFits, TableFits}
+use Rattle.rb_meaning_types.specs.Fits.{classes_of, Fits, IsIntValue, IsBoolValue, IsTextValue, IsUnitValue, IsObjectOf, AreItems, AreRows, HeapFits, TableFits}
 use Rattle.rb_meaning_code.specs.Faults as faults
 use Rattle.rb_meaning_code.specs.Faults.{no_method, bad_arguments, wrong_kind}
-use Rattle.rb_meaning_code.specs.State.{Local}
 use Rattle.rb_meaning_code.specs.Dialogue.{Outcome, Gave, Faulted}
 use Rattle.rb_meaning_code.specs.Calls.{method_of}
-use Rattle.rb_meaning_code.specs.Remote.{Server, Reply, Got, Stopped, and_then, replies, Item, AnInt, ABool, AText, AnObject, Kind, Nothing, One, Rows, kind_of, seen_item, seen_items, seen_rows, seen_nothing, seen, seen_as, taken_object, taken_as, taken_all, remote_object, checked, begun, server_of, served, returned, invoke}
-use Rattle.rb_types_keep.specs.Kept.{FaultFits}
+use Rattle.rb_meaning_code.specs.Remote.{Server, Reply, and_then, replies, Item, AnInt, ABool, AText, AnObject, Kind, Nothing, One, Rows, kind_of, seen_item, seen_items, seen_rows, seen_nothing, seen, seen_as, taken_object, taken_as, taken_all, remote_object, begun, server_of, served, returned, invoke}
 use Rattle.rb_types_keep.specs.Formed.{AreFormed}
-use Rattle.rb_types_keep.specs.Ends.{Grown, place_in, LocalFits, GaveFit, FellFit, Ends, OfKind}
+use Rattle.rb_types_keep.specs.Ends.{Grown, place_in, Ends, OfKind}
 use Rattle.rb_types_keep.specs.Code.{ArgumentsFit, HasMethod, CallFits, Stands}
-use Rattle.rb_types_keep.specs.Remote.{IsBoundedForm, IsBounded, IsItemForm, AreRowsForm, IsNothingForm, IsKindForm, IsOfKind, IsFault, IsCallFault, TableKeeps, ReplyKeeps, CallsKeep}
-use Rattle.rb_types_keep.proofs.Faults.{plain_own, empty_text}
+use Rattle.rb_types_keep.specs.Remote.{IsBoundedForm, IsBounded, IsItemForm, AreRowsForm, IsNothingForm, IsKindForm, IsOfKind, IsCallFault, TableKeeps, ReplyKeeps, CallsKeep}
+use Rattle.rb_types_keep.proofs.Faults.{empty_text}
 use Rattle.rb_types_keep.proofs.Values.{unit_out, int_out, bool_out, text_out, grown_same, int_fits, bool_fits, text_fits, object_fits}
 use Rattle.rb_types_keep.proofs.Services.{services_end}
 
@@ -269,9 +267,10 @@ module _ (classes : List Class) (typed : check_service classes ≡ Ok tt) (forme
   returned_keeps k before (Gave v l) h e =
       seen_keeps before (out-Value v) (server_of l) (seen_as kind (out-Value v)) refl (subst (λ n. IsWholeForm n (out-Value v)) (classes_count l.heap) (whole (classes_of l.heap) k v e.gives))
       (table_after classes root before l.heap h e.state.holds.heap_fits e.grown)
-  returned_keeps k before (Faulted r l) h e =
-      (record { here = refl; fault = record { least = e.fault.least; most = e.fault.most; text = e.fault.text; plain = e.fault.plain }; kind = λ c. absurd (cc ((e.fault.kind c).1)) },
-      table_after classes root before l.heap h e.state.heap_fits e.grown)
+  returned_keeps k before (Faulted r l) h e = (
+    record { here = refl; fault = record { least = e.fault.least; most = e.fault.most; text = e.fault.text; plain = e.fault.plain }; kind = λ c. absurd (cc ((e.fault.kind c).1)) },
+    table_after classes root before l.heap h e.state.heap_fits e.grown,
+  )
 
   pub invoke_keeps : (method : List ℕ) (args : List Value) (s : Server) → TableFits classes root s.table → All IsBounded args
       → ReplyKeeps classes root s.table (IsOfKind kind) (IsCallFault at target) (invoke classes at kind target method args s)

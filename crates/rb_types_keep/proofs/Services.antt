@@ -1,14 +1,12 @@
 -- The code of a typed service asks nothing but whether turns over lists go on.
-use Rattle.std.proofs.Common.{◌≡◌, refl, sym, ap, ◌∙◌, subst, ℕ, List, Bool, true, false, Option, Some, None, Result, Ok, Err}
-use Rattle.rb_trees.specs.Outcome.{◌>>◌}
-use Rattle.rb_trees.specs.declared.values.Value.{Value}
+use Rattle.std.proofs.Common.{◌≡◌, refl, List, Ok}
 use Rattle.rb_trees.specs.declared.values.Value.TheVariants as value
 use Rattle.rb_trees.specs.mirror.Declarations.{Class}
 use Rattle.rb_meaning_types.specs.Declared.{Declarations, of_service}
 use Rattle.rb_meaning_types.specs.Bodies.{check_class_bodies}
 use Rattle.rb_meaning_types.specs.Declarations.{check_declarations}
 use Rattle.rb_meaning_types.specs.Programs.{check_service}
-use Rattle.rb_meaning_code.specs.Dialogue.{Question, Line, Taken, Invoke, Turn, ListTurn, Outcome, Dialogue, Done, Ask, AskBatch, handle}
+use Rattle.rb_meaning_code.specs.Dialogue.{Line, Taken, Invoke, Turn, ListTurn, Dialogue, Done, Ask, AskBatch, handle}
 use Rattle.rb_meaning_code.specs.Bodies.{in_service}
 use Rattle.rb_types_keep.specs.Formed.{AreFormed}
 use Rattle.rb_types_keep.specs.Ends.{Keeps, KeepsAlone}

@@ -1,17 +1,16 @@
 -- How runs that keep types follow one another.
-use Rattle.std.proofs.Common.{◌≡◌, refl, sym, ap, ◌∙◌, subst, ℕ, zero, suc, List, [], ◌∷◌, ◌++◌, length, take, arith, Bool, true, false, Option, Some, None, Result, Ok, Err}
-use Rattle.rb_trees.specs.declared.values.Value.{Value}
+use Rattle.std.proofs.Common.{◌≡◌, subst, ℕ, List, length, take, Result, Ok, Err}
 use Rattle.rb_trees.specs.declared.values.Fault.{Fault}
 use Rattle.rb_trees.specs.declared.outcomes.Raised.{Raised}
 use Rattle.rb_meaning_types.specs.Scopes.{Scope}
 use Rattle.rb_meaning_types.specs.Declared.{Declarations, Context}
-use Rattle.rb_meaning_types.specs.Fits.{classes_of, Frame, frame_scope, NamesFit, StateHolds, StateFits}
+use Rattle.rb_meaning_types.specs.Fits.{classes_of, Frame, frame_scope, NamesFit}
 use Rattle.rb_meaning_code.specs.State.{Local, closed}
 use Rattle.rb_meaning_code.specs.Faults.{raised, raises}
 use Rattle.rb_meaning_code.specs.Dialogue.{Outcome, Gave, Faulted, Dialogue, Done, Ask, AskBatch, Run, seq, on, next, gives, end}
 use Rattle.rb_meaning_code.specs.Statements.{Effect, closes, block}
 use Rattle.rb_types_keep.specs.Kept.{FaultFits, Fair}
-use Rattle.rb_types_keep.specs.Ends.{Grown, LocalFits, LocalHolds, GaveFit, FellFit, Ends, Nothing, IsAnswer, Keeps}
+use Rattle.rb_types_keep.specs.Ends.{Grown, LocalFits, LocalHolds, Ends, Nothing, Keeps}
 use Rattle.rb_types_keep.proofs.Faults.{raised_fits}
 use Rattle.rb_types_keep.proofs.Values.{grown_same, grown_on, names_take, names_count}
 

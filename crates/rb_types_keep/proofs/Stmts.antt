@@ -1,5 +1,5 @@
 -- Typed statements keep types.
-use Rattle.std.proofs.Common.{◌≡◌, refl, sym, ap, ◌∙◌, subst, ℕ, zero, suc, List, [], ◌∷◌, ◌++◌, length, arith, Bool as Truth, true, false, not, cond, All, Option, Some, None, is_some, Result, Ok, Err}
+use Rattle.std.proofs.Common.{◌≡◌, refl, sym, ap, ◌∙◌, subst, ℕ, zero, suc, List, [], ◌∷◌, length, arith, Bool as Truth, true, false, not, cond, All, Option, Some, None, is_some, Result, Ok, Err}
 use Rattle.std.proofs.lemmas.Bool.{not-true}
 use Rattle.std.proofs.lemmas.List.Elements.{All-head, All-tail}
 use Rattle.std.specs.Str.{bytes_eq}
@@ -12,32 +12,31 @@ use Rattle.rb_trees.specs.declared.values.Value.TheViews.{out-Value}
 use Rattle.rb_trees.specs.declared.values.Fault.{Fault}
 use Rattle.rb_trees.specs.declared.outcomes.Raised.{Raised}
 use Rattle.rb_trees.specs.declared.services.Object.{Object}
-use Rattle.rb_trees.specs.mirror.Code.{Expr, Exprs, Stmt, Stmts, Lit, Name, This, Unary, Binary, Field, Call, Index, New, Items, Taken, Val, Var, Assign, Run, Print, Throw, If, While, For, Try, Batch, NoStmts, MoreStmts, expr_at}
-use Rattle.rb_trees.specs.mirror.Declarations.{Param, Interface, Body, Method, Class}
+use Rattle.rb_trees.specs.mirror.Code.{Expr, Stmt, Stmts, Name, This, Field, Val, Var, Assign, Run, Print, Throw, If, While, For, Try, Batch, NoStmts, MoreStmts, expr_at}
+use Rattle.rb_trees.specs.mirror.Declarations.{Interface, Body}
 use Rattle.rb_meaning_types.specs.Kinds as kind
 use Rattle.rb_meaning_types.specs.Kinds.{Kind, kind_of, is_unit}
-use Rattle.rb_meaning_types.specs.Names.{interface_named, class_named}
-use Rattle.rb_meaning_types.specs.Values.{IsText}
-use Rattle.rb_meaning_types.specs.Violations.{Checked, Placed, UnknownName, NameTaken, NotAssignable, NotAllowedHere, wanted, wrong_type, with_place}
+use Rattle.rb_meaning_types.specs.Names.{interface_named}
+use Rattle.rb_meaning_types.specs.Violations.{Checked, Placed, UnknownName, NameTaken, NotAssignable, NotAllowedHere, wanted, wrong_type}
 use Rattle.rb_meaning_types.specs.Declared.{Declarations, Context, is_interface}
 use Rattle.rb_meaning_types.specs.Scopes.{Scope, Variable, variable_named, is_free, with_variable}
 use Rattle.rb_meaning_types.specs.Expressions.{type_of}
 use Rattle.rb_meaning_types.specs.Members.{field_kind}
-use Rattle.rb_meaning_types.specs.Statements.{placed, condition, declare, is_assignable, assign, is_printable, print, turn_kind, loop_scope, catch_scope, batch_scope, closed, check_stmt, check_stmts}
-use Rattle.rb_meaning_types.specs.Fits.{classes_of, IsIntValue, IsBoolValue, IsTextValue, AreItems, Fits, HeapFits, ObjectFits, this_name, frame_scope, Frame, NamesFit, StateHolds, StateFits}
-use Rattle.rb_meaning_code.specs.State.{Local, Names, bound, spent}
-use Rattle.rb_meaning_code.specs.Faults.{raised, raises, fuel_used, thrown, caught_text, is_caught}
+use Rattle.rb_meaning_types.specs.Statements.{placed, condition, declare, is_assignable, assign, is_printable, turn_kind, loop_scope, catch_scope, batch_scope, closed, check_stmt, check_stmts}
+use Rattle.rb_meaning_types.specs.Fits.{classes_of, IsIntValue, IsBoolValue, IsTextValue, AreItems, Fits, this_name, frame_scope, NamesFit}
+use Rattle.rb_meaning_code.specs.State.{Local, bound, spent}
+use Rattle.rb_meaning_code.specs.Faults.{raised, fuel_used, caught_text, is_caught}
 use Rattle.rb_meaning_code.specs.Operators.{shown_value}
 use Rattle.rb_meaning_code.specs.Dialogue.{Question, Line, ListTurn, Outcome, Gave, Faulted, Dialogue, Done, Ask, AskBatch, seq, on, next, gives, end, told}
 use Rattle.rb_meaning_code.specs.Dialogue as dialogue
 use Rattle.rb_meaning_code.specs.Objects.{with_field_of}
 use Rattle.rb_meaning_code.specs.Calls.{Bodies, unit_due}
 use Rattle.rb_meaning_code.specs.Expressions.{value_of, evaluates}
-use Rattle.rb_meaning_code.specs.Statements.{Effect, nothing, closes, block, truth_of, either, by_truth, after_unit, while_turns, turns_over, list_turn, turns, prints, throws, handles, assigned, assigns, writes, assignment, performs, performs_all}
-use Rattle.rb_types_keep.specs.Kept.{IsOwnFault, Fair, FaultFits}
+use Rattle.rb_meaning_code.specs.Statements.{Effect, nothing, block, truth_of, either, by_truth, after_unit, while_turns, turns_over, list_turn, turns, prints, throws, handles, assigned, assigns, writes, assignment, performs, performs_all}
+use Rattle.rb_types_keep.specs.Kept.{IsOwnFault, Fair}
 use Rattle.rb_types_keep.specs.Formed.{IsFormedExpr, IsFormedStmt, AreFormedStmts}
 use Rattle.rb_types_keep.specs.Own.{IsOwnKind, IsOwnPlace}
-use Rattle.rb_types_keep.specs.Ends.{Grown, LocalFits, LocalHolds, GaveFit, FellFit, Ends, OfKind, Nothing, IsAnswer, BatchKeeps, Keeps}
+use Rattle.rb_types_keep.specs.Ends.{Grown, LocalFits, Ends, OfKind, Nothing, IsAnswer, Keeps}
 use Rattle.rb_types_keep.proofs.Checks.{bind_ok, then_ok, known_ok, must_ok, placed_ok, wanted_ok}
 use Rattle.rb_types_keep.proofs.Values.{of_class, grown_same, grown_on, fits_more, all_more, names_less, names_added, frame_longer, text_fits}
 use Rattle.rb_types_keep.proofs.Faults.{plain_own, thrown_own, raised_fits, caught_is_text, SomeIs}
@@ -47,7 +46,7 @@ use Rattle.rb_types_keep.proofs.OwnKinds.{field_ok, type_own, place_added}
 use Rattle.rb_types_keep.proofs.Names.{name_fits, frame_put, put_count}
 use Rattle.rb_types_keep.proofs.Objects.{IsWritten, write_fits}
 use Rattle.rb_types_keep.proofs.Exprs.{SafeBodies, unit_fair, value_runs}
-use Rattle.rb_types_keep.proofs.Steps.{keeps_seq, keeps_more, Within, within_same, Runs, goes, then_goes, ends, falls, helped, helped_end, Left, Closes, block_closes, block_runs}
+use Rattle.rb_types_keep.proofs.Steps.{keeps_seq, keeps_more, Within, within_same, Runs, goes, then_goes, ends, falls, helped, Closes, block_closes, block_runs}
 
 -- what checks of statements tell
 

@@ -1,6 +1,6 @@
 -- How values, fields and names fit: what they open to, and that they fit grown heaps.
-use Rattle.std.proofs.Common.{◌≡◌, refl, sym, ap, ◌∙◌, subst, ℕ, ℤ, zero, suc, List, [], ◌∷◌, ◌++◌, length, map, take, arith, Bool, All, Option, Some, None, slice_get}
-use Rattle.std.proofs.lemmas.List.Elements.{All-nil, All-cons, All-head, All-tail, All-weaker}
+use Rattle.std.proofs.Common.{◌≡◌, refl, sym, ap, ◌∙◌, subst, ℕ, ℤ, suc, List, [], ◌∷◌, ◌++◌, length, take, arith, Bool, All, Option, Some, None, slice_get}
+use Rattle.std.proofs.lemmas.List.Elements.{All-weaker}
 use Rattle.rb_trees.specs.declared.values.Value.{Value}
 use Rattle.rb_trees.specs.declared.values.Value.TheOpen.{Value-F}
 use Rattle.rb_trees.specs.declared.values.Value.TheVariants as value
@@ -12,8 +12,7 @@ use Rattle.rb_meaning_types.specs.Kinds.{Kind, kind_of}
 use Rattle.rb_meaning_types.specs.Names.{interface_named}
 use Rattle.rb_meaning_types.specs.Values.{IsInt, IsText, IsList}
 use Rattle.rb_meaning_types.specs.Scopes.{Scope, Variable}
-use Rattle.rb_meaning_types.specs.Fits.{classes_of, IsIntValue, IsBoolValue, IsTextValue, IsUnitValue, IsObjectOf, IsRemoteValue, AreItems, AreRows, FitsNamed, Fits, FieldsFit, ObjectFits, HeapFits, Frame, frame_scope, NamesFit}
-use Rattle.rb_types_keep.specs.Kept.{IsPrimitiveForm, IsPrimitive}
+use Rattle.rb_meaning_types.specs.Fits.{IsIntValue, IsBoolValue, IsTextValue, IsUnitValue, IsObjectOf, AreItems, AreRows, FitsNamed, Fits, FieldsFit, ObjectFits, Frame, frame_scope, NamesFit}
 use Rattle.rb_types_keep.specs.Ends.{Grown}
 
 -- values, opened

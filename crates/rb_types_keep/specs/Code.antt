@@ -1,5 +1,5 @@
 -- Laws of typed code: whatever it is, it ends as its types say.
-use Rattle.std.specs.Prelude.{◌≡◌, ℕ, List, [], ◌∷◌, Bool, true, Option, Some, Result, Ok, Err}
+use Rattle.std.specs.Prelude.{◌≡◌, ℕ, List, [], ◌∷◌, Bool, true, Option, Some, Ok}
 use Rattle.rb_trees.specs.declared.values.Value.{Value}
 use Rattle.rb_trees.specs.mirror.Code.{Expr, Exprs, Stmt, Stmts}
 use Rattle.rb_trees.specs.mirror.Declarations.{Param, Interface, Class, Method}
@@ -10,7 +10,7 @@ use Rattle.rb_meaning_types.specs.Declared.{Declarations, Context, of_service, m
 use Rattle.rb_meaning_types.specs.Scopes.{Scope, parameters}
 use Rattle.rb_meaning_types.specs.Expressions.{type_of, types_of}
 use Rattle.rb_meaning_types.specs.Statements.{check_stmt, check_stmts}
-use Rattle.rb_meaning_types.specs.Bodies.{check_method_body, check_class_bodies}
+use Rattle.rb_meaning_types.specs.Bodies.{check_class_bodies}
 use Rattle.rb_meaning_types.specs.Declarations.{check_declarations}
 use Rattle.rb_meaning_types.specs.Programs.{check_service}
 use Rattle.rb_meaning_types.specs.Fits.{classes_of, Fits}
@@ -20,7 +20,7 @@ use Rattle.rb_meaning_code.specs.Calls.{call}
 use Rattle.rb_meaning_code.specs.Expressions.{evaluates, evaluates_all}
 use Rattle.rb_meaning_code.specs.Statements.{performs, performs_all, block}
 use Rattle.rb_meaning_code.specs.Bodies.{bodies_of, runs, in_service}
-use Rattle.rb_types_keep.specs.Formed.{IsFormedExpr, AreFormedExprs, IsFormedStmt, AreFormedStmts, IsFormedMethod, AreFormed}
+use Rattle.rb_types_keep.specs.Formed.{IsFormedExpr, AreFormedExprs, IsFormedStmt, AreFormedStmts, AreFormed}
 use Rattle.rb_types_keep.specs.Own.{IsOwnPlace}
 use Rattle.rb_types_keep.specs.Ends.{place_in, LocalFits, Ends, OfKind, OfKinds, Nothing, Returns, Keeps, KeepsAlone}
 

@@ -1,5 +1,5 @@
 -- How typed code ends, whatever its surroundings answer, as long as their answers fit.
-use Rattle.std.specs.Prelude.{◌≡◌, ℕ, List, [], ◌∷◌, Bool, true, false, Option, Some, Result, Ok, Err, slice_get}
+use Rattle.std.specs.Prelude.{◌≡◌, ℕ, List, [], ◌∷◌, Bool, false, Option, Some, Result, Ok, Err, slice_get}
 use Rattle.rb_trees.specs.declared.values.Value.{Value}
 use Rattle.rb_trees.specs.declared.values.Value.TheVariants as value
 use Rattle.rb_trees.specs.declared.outcomes.Raised.{Raised}

@@ -6,3 +6,4 @@ pub mod Ends
 pub mod Operators
 pub mod Code
 pub mod Remote
+pub mod Scripts

@@ -1,5 +1,5 @@
 -- Laws of operators on values that fit: each gives a value that fits, or a fault that typed code gives by itself.
-use Rattle.std.specs.Prelude.{◌≡◌, ℕ, List, Bool, Option, Some, None, Ok, Err}
+use Rattle.std.specs.Prelude.{◌≡◌, ℕ, List, Bool, Option, Some, None, Ok}
 use Rattle.std.specs.List.{All}
 use Rattle.rb_trees.specs.declared.values.Value.{Value}
 use Rattle.rb_trees.specs.declared.values.Value.TheViews.{out-Value}

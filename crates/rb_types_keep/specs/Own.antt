@@ -1,5 +1,5 @@
 -- Types of values of the own side, and scopes of such: no interface and no Rows.
-use Rattle.std.specs.Prelude.{◌≡◌, List, [], ◌∷◌, Option, None}
+use Rattle.std.specs.Prelude.{◌≡◌, List, [], ◌∷◌, None}
 use Rattle.rb_trees.specs.mirror.Declarations.{Interface}
 use Rattle.rb_meaning_types.specs.Kinds as kind
 use Rattle.rb_meaning_types.specs.Kinds.{Kind}
