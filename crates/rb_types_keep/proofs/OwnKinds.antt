@@ -1,5 +1,5 @@
 -- At a place of the own side each expression's type is of the own side.
-use Rattle.std.proofs.Common.{◌≡◌, refl, subst, ℕ, List, [], ◌∷◌, ◌++◌, Bool as Truth, true, false, not, ◌||◌, cond, All, Option, Some, None, Ok}
+use Rattle.std.proofs.Common.{◌≡◌, ◌⊎◌, inl, inr, refl, subst, ℕ, List, [], ◌∷◌, ◌++◌, Bool as Truth, true, false, not, ◌||◌, cond, All, Option, Some, None, Ok}
 use Rattle.std.specs.Str.{bytes_eq}
 use Rattle.std.proofs.lemmas.List.Elements.{All-head, All-tail}
 use Rattle.rb_trees.specs.Outcome.{◌>>=◌, ◌>>◌, known, must}
@@ -15,7 +15,7 @@ use Rattle.rb_trees.specs.mirror.Code.{Expr, Lit, Name, This, Unary, Binary, Fie
 use Rattle.rb_trees.specs.mirror.Declarations.{Param, Interface, Method, Class}
 use Rattle.rb_meaning_types.specs.Kinds as kind
 use Rattle.rb_meaning_types.specs.Kinds.{Kind, kind_of}
-use Rattle.rb_meaning_types.specs.Names.{class_named, method_named, field_named}
+use Rattle.rb_meaning_types.specs.Names.{interface_named, class_named, method_named, field_named}
 use Rattle.rb_meaning_types.specs.Violations.{Placed, UnknownName, NotAllowedHere, wanted, wrong_type}
 use Rattle.rb_meaning_types.specs.Declared.{Declarations, Context}
 use Rattle.rb_meaning_types.specs.Scopes.{Scope, Variable, variable_named, parameters}
@@ -86,6 +86,29 @@ no_receiver d (kind.RowsOf row) h = absurd h
 
 pub call_ok : (x : Context) (at : ℕ) (name : List ℕ) (p : Placed) (args : List Placed) (k : Kind) → IsOwnKind x.declared.interfaces p.kind → call_kind x at name p args ≡ Ok k → IsCall x.declared at name p args k
 call_ok x at name p args k own h = class_call_ok x at name p args k (subst (λ o. call_on x at name p args o ≡ Ok k) (no_receiver x.declared p.kind own) h)
+
+-- a call on an object of the service
+pub record IsFarCall (d : Declarations) (k : Kind) : Type 0 where
+  pub name : List ℕ
+  pub interface : Interface
+  pub receiver : k ≡ kind.Named name
+  pub found : interface_named d.interfaces name ≡ Some interface
+
+receiver_far : (d : Declarations) (k : Kind) (i : Interface) → receiver_interface d k ≡ Some i → IsFarCall d k
+receiver_far d (kind.Named name) i e = record { name = name; interface = i; receiver = refl; found = e }
+receiver_far d kind.Int i e = absurd (cc (e))
+receiver_far d _ i e = absurd (cc (e))
+
+-- a call is on an own object or on a remote one
+pub call_how : (x : Context) (at : ℕ) (name : List ℕ) (p : Placed) (args : List Placed) (k : Kind) → call_kind x at name p args ≡ Ok k → IsCall x.declared at name p args k ⊎ IsFarCall x.declared p.kind
+call_how x at name p args k h = by (receiver_interface x.declared p.kind) refl h
+  where
+    by : (o : Option Interface) → receiver_interface x.declared p.kind ≡ o → call_on x at name p args o ≡ Ok k → IsCall x.declared at name p args k ⊎ IsFarCall x.declared p.kind
+    by None e h' = inl (class_call_ok x at name p args k h')
+    by (Some i) e h' = inr (receiver_far x.declared p.kind i e)
+
+pub not_far : (d : Declarations) (k : Kind) → IsOwnKind d.interfaces k → IsFarCall d k → ⊥
+not_far d k own far = let none : interface_named d.interfaces far.name ≡ None = subst (IsOwnKind d.interfaces) far.receiver own in absurd (cc (none, far.found))
 
 -- a new object
 pub record IsNew (d : Declarations) (at : ℕ) (name : List ℕ) (args : List Placed) (k : Kind) : Type 0 where

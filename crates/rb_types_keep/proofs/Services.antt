@@ -9,7 +9,7 @@ use Rattle.rb_meaning_types.specs.Programs.{check_service}
 use Rattle.rb_meaning_code.specs.Dialogue.{Line, Taken, Invoke, Turn, ListTurn, Dialogue, Done, Ask, AskBatch, handle}
 use Rattle.rb_meaning_code.specs.Bodies.{in_service}
 use Rattle.rb_types_keep.specs.Formed.{AreFormed}
-use Rattle.rb_types_keep.specs.Ends.{Keeps, KeepsAlone}
+use Rattle.rb_types_keep.specs.Ends.{Own, Keeps, KeepsAlone}
 use Rattle.rb_types_keep.specs.Code.{AreTyped, OfTypedCode, ServicesKeep, ServicesEnd}
 use Rattle.rb_types_keep.proofs.Checks.{then_ok}
 use Rattle.rb_types_keep.proofs.Bodies.{types_keep}
@@ -26,12 +26,12 @@ so f all = record {
   methods = λ class name m gas l has fits. f _ _ _ (all.methods class name m gas l has fits);
 }
 
-alone : {A : Type 0} (classes : List Class) (P : A → Type 0) (run : Dialogue A) → Keeps (of_service classes) P run → KeepsAlone P run
+alone : {A : Type 0} (classes : List Class) (P : A → Type 0) (run : Dialogue A) → Keeps (of_service classes) Own P run → KeepsAlone P run
 alone classes P (Done a) h = h
 alone classes P (Ask (ListTurn at) go) h = alone classes P (go (Ok value.Unit)) (h.1 (Ok value.Unit) tt)
 alone classes P (Ask (Line at bytes) go) h = absurd (cc (h.0))
 alone classes P (Ask (Taken step) go) h = absurd h.0
-alone classes P (Ask (Invoke at target method args) go) h = absurd h.0
+alone classes P (Ask (Invoke at target method args) go) h = absurd h.0.0
 alone classes P (Ask (Turn at) go) h = absurd h.0
 alone classes P (AskBatch at l go) h = absurd (cc (h.0))
 

@@ -22,7 +22,8 @@ use Rattle.rb_meaning_code.specs.Statements.{performs, performs_all, block}
 use Rattle.rb_meaning_code.specs.Bodies.{bodies_of, runs, in_service}
 use Rattle.rb_types_keep.specs.Formed.{IsFormedExpr, AreFormedExprs, IsFormedStmt, AreFormedStmts, AreFormed}
 use Rattle.rb_types_keep.specs.Own.{IsOwnPlace}
-use Rattle.rb_types_keep.specs.Ends.{place_in, LocalFits, Ends, OfKind, OfKinds, Nothing, Returns, Keeps, KeepsAlone}
+use Rattle.rb_types_keep.specs.Ends.{place_in, LocalFits, Ends, OfKind, OfKinds, Nothing, Returns, Own, InBatch, Keeps, KeepsAlone}
+use Rattle.rb_types_keep.specs.Noted.{IsNotedExpr, AreNotedExprs, IsNotedStmt, AreNotedStmts}
 
 -- Typed declarations, whose code is formed. A service has no interfaces.
 pub record AreTyped (d : Declarations) : Type 0 where
@@ -78,9 +79,32 @@ pub record OfTypedCode (d : Declarations) (Leads : (A : Type 0) → (A → Type 
   pub methods : (class name : List ℕ) (m : Method) (gas : ℕ) (l : Local) → HasMethod d class name m → LocalFits (method_context d class m.remote) (parameters m.signature.params) l
       → Leads (Outcome Value) (Returns d (kind_of m.signature.result) (classes_of l.heap)) (runs (bodies_of d.classes gas) gas m.body l)
 
+-- Of all code that stands in the batches of a program: the same, with the types of remote calls noted by their positions.
+-- The scope has remote objects and rows too.
+pub record OfBatchCode (d : Declarations) (kinds : ℕ → Option Kind) (Leads : (A : Type 0) → (A → Type 0) → Dialogue A → Type 0) : Type 0 where
+  pub values : (this : Option (List ℕ)) (remote : Bool) (scope : Scope) (e : Expr) (kind : Kind) (gas : ℕ) (l : Local)
+      → type_of (place_in d this remote) scope e ≡ Ok kind → IsFormedExpr e → IsNotedExpr kinds (place_in d this remote) scope e → LocalFits (place_in d this remote) scope l
+      → Leads (Outcome Value) (Ends (place_in d this remote) scope scope (OfKind (place_in d this remote) kind) (classes_of l.heap)) (evaluates (bodies_of d.classes gas) e l)
+  pub lists : (this : Option (List ℕ)) (remote : Bool) (scope : Scope) (es : Exprs) (types : List Placed) (gas : ℕ) (l : Local)
+      → types_of (place_in d this remote) scope es ≡ Ok types → AreFormedExprs es → AreNotedExprs kinds (place_in d this remote) scope es → LocalFits (place_in d this remote) scope l
+      → Leads (Outcome (List Value)) (Ends (place_in d this remote) scope scope (OfKinds (place_in d this remote) types) (classes_of l.heap)) (evaluates_all (bodies_of d.classes gas) es l)
+  pub statements : (this : Option (List ℕ)) (remote : Bool) (scope after : Scope) (s : Stmt) (gas : ℕ) (l : Local)
+      → check_stmt (place_in d this remote) scope s ≡ Ok after → IsFormedStmt s → IsNotedStmt kinds (place_in d this remote) scope s → LocalFits (place_in d this remote) scope l
+      → Leads (Outcome (Unit {0})) (Ends (place_in d this remote) scope after Nothing (classes_of l.heap)) (performs (bodies_of d.classes gas) gas s l)
+  pub sequences : (this : Option (List ℕ)) (remote : Bool) (scope after : Scope) (ss : Stmts) (gas : ℕ) (l : Local)
+      → check_stmts (place_in d this remote) scope ss ≡ Ok after → AreFormedStmts ss → AreNotedStmts kinds (place_in d this remote) scope ss → LocalFits (place_in d this remote) scope l
+      → Leads (Outcome (Unit {0})) (Ends (place_in d this remote) scope after Nothing (classes_of l.heap)) (performs_all (bodies_of d.classes gas) gas ss l)
+  pub blocks : (this : Option (List ℕ)) (remote : Bool) (scope after : Scope) (ss : Stmts) (gas : ℕ) (l : Local)
+      → check_stmts (place_in d this remote) scope ss ≡ Ok after → AreFormedStmts ss → AreNotedStmts kinds (place_in d this remote) scope ss → LocalFits (place_in d this remote) scope l
+      → Leads (Outcome (Unit {0})) (Ends (place_in d this remote) scope scope Nothing (classes_of l.heap)) (block (performs_all (bodies_of d.classes gas) gas ss) l)
+
 -- Typed code keeps what fits, at each place of the own side and in whatever surroundings, as long as their answers fit.
 abbrev pub TypesKeep : Type 0
-TypesKeep = (d : Declarations) → AreTyped d → OfTypedCode d (λ A P run. Keeps d P run)
+TypesKeep = (d : Declarations) → AreTyped d → OfTypedCode d (λ A P run. Keeps d Own P run)
+
+-- So does the code of batches, as long as remote calls give values of their types too.
+abbrev pub BatchesKeep : Type 0
+BatchesKeep = (d : Declarations) → AreTyped d → (kinds : ℕ → Option Kind) → OfBatchCode d kinds (λ A P run. Keeps d (InBatch kinds) P run)
 
 -- The code of a typed service asks nothing, and keeps what fits.
 abbrev pub ServicesKeep : Type 0

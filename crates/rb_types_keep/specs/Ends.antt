@@ -2,12 +2,13 @@
 use Rattle.std.specs.Prelude.{◌≡◌, ℕ, List, [], ◌∷◌, Bool, false, Option, Some, Result, Ok, Err, slice_get}
 use Rattle.rb_trees.specs.declared.values.Value.{Value}
 use Rattle.rb_trees.specs.declared.values.Value.TheVariants as value
+use Rattle.rb_trees.specs.declared.values.Value.TheViews.{out-Value}
 use Rattle.rb_trees.specs.declared.outcomes.Raised.{Raised}
 use Rattle.rb_meaning_types.specs.Kinds.{Kind}
 use Rattle.rb_meaning_types.specs.Violations.{Placed}
 use Rattle.rb_meaning_types.specs.Scopes.{Scope}
 use Rattle.rb_meaning_types.specs.Declared.{Declarations, Context}
-use Rattle.rb_meaning_types.specs.Fits.{classes_of, Fits, HeapFits, StateHolds, StateFits}
+use Rattle.rb_meaning_types.specs.Fits.{classes_of, IsRemoteValue, Fits, HeapFits, StateHolds, StateFits}
 use Rattle.rb_meaning_code.specs.State.{Local}
 use Rattle.rb_meaning_code.specs.Dialogue.{Question, Line, Taken, Invoke, Turn, ListTurn, Outcome, Gave, Faulted, Dialogue, Done, Ask, AskBatch}
 use Rattle.rb_types_keep.specs.Kept.{FaultFits}
@@ -62,19 +63,40 @@ abbrev pub Returns : Declarations → Kind → List (List ℕ) → Outcome Value
 Returns d kind before (Gave v l) = Fits d.interfaces (classes_of l.heap) kind v × Returned d before l
 Returns d kind before (Faulted r l) = FaultFits d r × Returned d before l
 
--- What code asks where no remote value stands: a line, and whether the turn of a loop over a list goes on. A service
--- prints no line.
-abbrev pub IsAsked : Declarations → Question → Type 0
-IsAsked d (Line at bytes) = d.service ≡ false
-IsAsked d (ListTurn at) = Unit {0}
-IsAsked d (Taken step) = ⊥
-IsAsked d (Invoke at target method args) = ⊥
-IsAsked d (Turn at) = ⊥
+-- Where code stands: where no remote value is in scope, or in a batch, whose calls have these types by their positions.
+pub data Side : Type 0 where
+  Own : Side
+  InBatch : (kinds : ℕ → Option Kind) → Side
 
--- an answer that fits: what it gives is not looked at
-abbrev pub IsAnswer : Declarations → Result Value Raised → Type 0
-IsAnswer d (Ok v) = Unit {0}
-IsAnswer d (Err r) = FaultFits d r
+-- what only code in a batch asks
+abbrev pub IsFar : Side → Type 0
+IsFar Own = ⊥
+IsFar (InBatch kinds) = Unit {0}
+
+-- What code asks: a line, unless it is a service's; whether a turn goes on; and in a batch a call on a remote object.
+abbrev pub IsAsked : Declarations → Side → Question → Type 0
+IsAsked d side (Line at bytes) = d.service ≡ false
+IsAsked d side (ListTurn at) = Unit {0}
+IsAsked d side (Taken step) = ⊥
+IsAsked d side (Invoke at target method args) = IsFar side × IsRemoteValue (out-Value target)
+IsAsked d side (Turn at) = IsFar side
+
+-- A value that a call gives is of the call's type, and holds no object of the own side.
+abbrev pub CallGives : Declarations → Side → ℕ → Value → Type 0
+CallGives d Own at v = Unit {0}
+CallGives d (InBatch kinds) at v = (kind : Kind) → kinds at ≡ Some kind → Fits d.interfaces [] kind v
+
+abbrev pub AnswerGives : Declarations → Side → Question → Value → Type 0
+AnswerGives d side (Invoke at target method args) v = CallGives d side at v
+AnswerGives d side (Line at bytes) v = Unit {0}
+AnswerGives d side (ListTurn at) v = Unit {0}
+AnswerGives d side (Taken step) v = Unit {0}
+AnswerGives d side (Turn at) v = Unit {0}
+
+-- an answer that fits what is asked
+abbrev pub IsAnswer : Declarations → Side → Question → Result Value Raised → Type 0
+IsAnswer d side q (Ok v) = AnswerGives d side q v
+IsAnswer d side q (Err r) = FaultFits d r
 
 -- where code of these declarations stands
 abbrev pub place_in : Declarations → Option (List ℕ) → Bool → Context
@@ -86,10 +108,10 @@ BatchKeeps d l o = (this : Option (List ℕ)) (remote : Bool) (scope : Scope) �
     → Ends (place_in d this remote) scope scope Nothing (classes_of l.heap) o
 
 -- The run asks only what it may, and with answers that fit it ends by what P says.
-abbrev pub Keeps : {A : Type 0} → Declarations → (A → Type 0) → Dialogue A → Type 0
-Keeps d P (Done a) = P a
-Keeps d P (Ask q go) = IsAsked d q × ((a : Result Value Raised) → IsAnswer d a → Keeps d P (go a))
-Keeps d P (AskBatch at l go) = (d.service ≡ false) × ((o : Outcome (Unit {0})) → BatchKeeps d l o → Keeps d P (go o))
+abbrev pub Keeps : {A : Type 0} → Declarations → Side → (A → Type 0) → Dialogue A → Type 0
+Keeps d side P (Done a) = P a
+Keeps d side P (Ask q go) = IsAsked d side q × ((a : Result Value Raised) → IsAnswer d side q a → Keeps d side P (go a))
+Keeps d side P (AskBatch at l go) = (d.service ≡ false) × ((o : Outcome (Unit {0})) → BatchKeeps d l o → Keeps d side P (go o))
 
 -- The run asks nothing but whether turns over lists go on, and where each does, it ends by what P says.
 abbrev pub KeepsAlone : {A : Type 0} → (A → Type 0) → Dialogue A → Type 0

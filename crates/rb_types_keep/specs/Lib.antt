@@ -3,6 +3,7 @@ pub mod Kept
 pub mod Formed
 pub mod Own
 pub mod Ends
+pub mod Noted
 pub mod Operators
 pub mod Code
 pub mod Remote
