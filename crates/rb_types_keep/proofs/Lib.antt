@@ -12,6 +12,7 @@ mod Exprs
 mod Stmts
 mod Bodies
 mod Services
+mod InSurroundings
 mod Served
 mod Far
 mod ScriptRuns

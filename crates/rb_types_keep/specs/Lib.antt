@@ -6,5 +6,6 @@ pub mod Ends
 pub mod Noted
 pub mod Operators
 pub mod Code
+pub mod Around
 pub mod Remote
 pub mod Scripts
