@@ -1,12 +1,15 @@
+pub mod Arguments
 pub mod Blocks
 pub mod BothNumbers
 pub mod Exprs
 pub mod Forms
+pub mod Items
 pub mod Known
 pub mod Loops
 pub mod Matched
 pub mod Parts
 pub mod Runs
+pub mod Served
 pub mod Steps
 pub mod Values
 pub mod Weight

@@ -1,9 +1,11 @@
 pub mod Answers
 pub mod Code
 pub mod Ends
+pub mod Kinds
 pub mod Locals
 pub mod Meets
 pub mod Numbers
+pub mod Remote
 pub mod Service
 pub mod Shown
 pub mod Targets

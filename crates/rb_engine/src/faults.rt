@@ -68,6 +68,27 @@ pub fn fuel_used(alloc: Global) -> Refusal
     refuse(alloc, 7)
 }
 
+/// A remote call that finds no object, or no method of its name there.
+pub fn no_method(alloc: Global) -> Refusal
+    ensures { result ≡ refusal.Fault faults.no_method }
+{
+    refuse(alloc, 9)
+}
+
+/// A remote call whose arguments don't fit the parameters.
+pub fn bad_arguments(alloc: Global) -> Refusal
+    ensures { result ≡ refusal.Fault faults.bad_arguments }
+{
+    refuse(alloc, 10)
+}
+
+/// A remote call whose result isn't of the kind that is promised.
+pub fn wrong_kind(alloc: Global) -> Refusal
+    ensures { result ≡ refusal.Fault faults.wrong_kind }
+{
+    refuse(alloc, 11)
+}
+
 /// Something of a wrong kind, or that isn't there.
 pub fn kind(alloc: Global) -> Refusal
     ensures { result ≡ refusal.Fault faults.kind }

@@ -1,6 +1,8 @@
 //! Runs class code of both sides: expressions, statements and calls of methods, over a [`World`] that answers what the
 //! code asks of its surroundings.
 //!
+//! [`invoke`] performs a remote call on a service. What operators give is offered to whoever evaluates by them.
+//!
 //! What code means stands in `specs/` of `rb_meaning_code`; what is run is proved to be that.
 #![tactic(auto)]
 
@@ -13,21 +15,30 @@ mod engine;
 mod expressions;
 mod faults;
 mod frame;
+mod kinds;
 mod names;
 mod numbers;
 mod objects;
 mod operators;
 mod pairs;
+mod remote;
+mod seen;
 mod service;
 mod state;
 mod statements;
+mod taken;
 mod targets;
 mod units;
 mod world;
 
+pub use conditions::truth_of;
+pub use ends::Refusal;
 pub use engine::{call, eval, exec};
 pub use frame::Frame;
+pub use operators::unary;
+pub use pairs::{binary, by_left};
 pub use rb_code::Code;
+pub use remote::invoke;
 pub use service::ServiceWorld;
 pub use state::State;
 pub use world::{Halt, Step, World};

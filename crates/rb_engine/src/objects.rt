@@ -2,9 +2,11 @@
 #![tactic(auto, using(crate::proofs::Values::values))]
 
 ghost use Rattle.std.specs.Prelude.{◌≡◌, ◌++◌, map, IfOk, OnOk, OnErr};
+ghost use Rattle.std.specs.Option.{option_copied, option_map};
 ghost use Rattle.rb_trees.specs.Outcome.{Gives};
 ghost use Rattle.rb_trees.specs.declared.values.Value.{out-Value};
 ghost use Rattle.rb_trees.specs.mirror.Declarations.{mirror_param, mirror_class, mirror_method};
+ghost use Rattle.rb_meaning_code.specs.Calls as calls;
 ghost use Rattle.rb_meaning_code.specs.Calls.{names_within};
 ghost use Rattle.rb_meaning_code.specs.Objects as objects;
 ghost use Rattle.rb_meaning_code.specs.Objects.{matched, with_field_of};
@@ -163,6 +165,22 @@ pub fn write_field(
     write_into(alloc, heap, &object, name, value)
 }
 
+/// The method of an object, by its name: `method_of`.
+#[inline(never)]
+pub fn method_of<'a>(
+    code: &'a Code,
+    heap: &Heap,
+    object: u32,
+    name: &[u8],
+) -> Option<&'a Method>
+    ensures { option_map mirror_method (option_copied result) ≡ calls.method_of (map mirror_class code.now) heap.now object name.now }
+{
+    match heap.get(object) {
+        Some(found) => code.find_method(found.class.as_slice(), name),
+        None => None,
+    }
+}
+
 /// The method that is called: `called_method`.
 #[inline(never)]
 pub fn called_method<'a>(
@@ -191,11 +209,7 @@ fn own_method<'a>(
 ) -> Result<&'a Method, Refusal>
     ensures { Gives (λ m. mirror_method m.now) fault_of result (own_method_called code.now heap.now object name.now count) }
 {
-    let found = match heap.get(object) {
-        Some(found) => code.find_method(found.class.as_slice(), name),
-        None => None,
-    };
-    match found {
+    match method_of(code, heap, object, name) {
         Some(method) => if method.signature.params.len() == count {
             Ok(method)
         } else {

@@ -8,4 +8,8 @@ mod programs;
 #[cfg(test)]
 mod record;
 #[cfg(test)]
+mod remote;
+#[cfg(test)]
 mod runs;
+#[cfg(test)]
+mod service;

@@ -91,10 +91,14 @@ seen (Rows item) v = seen_rows item v
 abbrev pub seen_as : ℕ → Value-F Value → Option Value
 seen_as number v = option_and_then (λ kind. seen kind v) (kind_of number)
 
+-- an object of the table, where it is one of the class
+abbrev pub object_of_class : List Object → List ℕ → ℕ → Option Value
+object_of_class table class object =
+    option_and_then (λ o. cond (bytes_eq o.class class) (Some (value.Ref object)) None) (slice_get table object)
+
 -- a remote object as an object of the service, where it is one of the class
 abbrev pub taken_object : List Object → List ℕ → Value-F Value → Option Value
-taken_object table class (Value-F.Remote object) =
-    option_and_then (λ o. cond (bytes_eq o.class class) (Some (value.Ref object)) None) (slice_get table object)
+taken_object table class (Value-F.Remote object) = object_of_class table class object
 taken_object table class _ = None
 
 -- An argument of the client as the service sees it, where it is of the parameter's type. No argument is of another type

@@ -105,13 +105,14 @@ is_primitive (Value-F.Bool b) = true
 is_primitive (Value-F.Text text) = true
 is_primitive _ = false
 
--- a value that is kept at a step, which has to be primitive
-abbrev pub kept : ℕ → Value → Server → Reply Value
-kept at v s = replies at (must (is_primitive (out-Value v)) kind >> Ok v) s
+-- what is asked of a value that is kept
+abbrev pub may_keep : Bool → Value → Result (Unit {0}) Fault
+may_keep true v = must (is_primitive (out-Value v)) kind
+may_keep false v = Ok tt
 
-abbrev pub kept_where : Bool → ℕ → Value → Server → Reply Value
-kept_where true at v s = kept at v s
-kept_where false at v s = Got v s
+-- a step's value, which has to be primitive where it is kept
+abbrev pub kept : Bool → ℕ → Value → Server → Reply Value
+kept keep at v s = replies at (may_keep keep v >> Ok v) s
 
 -- with the entry of a value, where it is kept
 abbrev pub with_kept : Bool → Value → Ran → Ran
@@ -136,8 +137,8 @@ goes_on None s go = go s
 goes_on (Some f) s go = halted f s
 
 abbrev pub chosen : Bool → Ran → Ran → Ran
-chosen true yes no = yes
-chosen false yes no = no
+chosen true a b = a
+chosen false a b = b
 
 -- the entry of a branch that was taken, and what follows
 abbrev pub branched : Bool → Ran → (Server → Ran) → Ran
@@ -175,7 +176,7 @@ turns turn (row ∷ rows) s = with_unit s.fuel s (λ s1. let r = turn row s1 in 
 
 -- A turn over a row. Where the row is kept it has to be primitive, and its value is the first entry.
 abbrev pub turn_over : ℕ → ℕ → Bool → (Server → Ran) → Value → Server → Ran
-turn_over id at keep block row s = on_reply id (kept_where keep at row s) (λ v s1. with_kept keep v (block s1))
+turn_over id at keep block row s = on_reply id (kept keep at row s) (λ v s1. with_kept keep v (block s1))
 
 abbrev pub after_turns : ℕ → ℕ → Why → Server → (Server → Ran) → Ran
 after_turns id at AllDone s go = go s
@@ -191,9 +192,9 @@ abbrev mutual
   pub run_step : Ground → Step → Vars → Server → (Vars → Server → Ran) → Ran
   run_step g (script.Do id at e) vars s go = on_reply id (value_of g at vars e s) (λ v s1. go vars s1)
   run_step g (script.Keep id at e) vars s go =
-      on_reply id (and_then (value_of g at vars e s) (kept at)) (λ v s1. with_entry (forest.Value v) (go vars s1))
+      on_reply id (and_then (value_of g at vars e s) (kept true at)) (λ v s1. with_entry (forest.Value v) (go vars s1))
   run_step g (script.Let id at var keep e) vars s go =
-      on_reply id (and_then (value_of g at vars e s) (kept_where keep at)) (λ v s1. with_kept keep v (go ((var, v) ∷ vars) s1))
+      on_reply id (and_then (value_of g at vars e s) (kept keep at)) (λ v s1. with_kept keep v (go ((var, v) ∷ vars) s1))
   run_step g (script.If id at e a b) vars s go =
       on_reply id (and_then (value_of g at vars e s) (condition at)) (λ holds s1.
       branched holds (chosen holds (run_steps g a vars s1 ended) (run_steps g b vars s1 ended)) (λ s2. go vars s2))

@@ -1,0 +1,175 @@
+// Remote calls on a service.
+
+ghost use Rattle.std.specs.Prelude.{◌≡◌, map};
+ghost use Rattle.rb_trees.specs.Outcome.{Gives, known};
+ghost use Rattle.rb_trees.specs.declared.values.Value.{out-Value};
+ghost use Rattle.rb_trees.specs.mirror.Declarations.{mirror_class, mirror_method, mirror_param};
+ghost use Rattle.rb_meaning_code.specs.Faults as faults;
+ghost use Rattle.rb_meaning_code.specs.Faults.{raised_remotely};
+ghost use Rattle.rb_meaning_code.specs.Calls.{method_of as method_of_object};
+ghost use Rattle.rb_meaning_code.specs.Remote as rules;
+ghost use Rattle.rb_engine.specs.Ends.{fault_of};
+ghost use Rattle.rb_engine.specs.Remote.{Answers, RepliesAt, server};
+
+use crate::ends::Refusal;
+use crate::engine::call;
+use crate::faults::{bad_arguments, kind, no_method, wrong_kind};
+use crate::objects::method_of;
+use crate::seen::seen_as;
+use crate::service::ServiceWorld;
+use crate::state::State;
+use crate::taken::taken_all;
+use crate::world::Halt;
+use rb_code::Code;
+use rb_heap::Heap;
+use rb_trees::{Fault, Memory, Method, Param, Raised, Seq, Value};
+use std::alloc::Global;
+
+// The receiver's number, which has to be a remote object's.
+#[tactic(auto, using(crate::proofs::Values::values))]
+fn remote_object(alloc: Global, target: &Value) -> Result<u32, Refusal>
+    ensures { Gives (λ object. object) fault_of result (known faults.kind (rules.remote_object (out-Value target.now))) }
+{
+    match target {
+        Value::Remote(object) => Ok(*object),
+        _ => Err(kind(alloc)),
+    }
+}
+
+// The method of an object, which has to be there.
+fn found_method<'a>(
+    alloc: Global,
+    code: &'a Code,
+    heap: &Heap,
+    object: u32,
+    name: &[u8],
+) -> Result<&'a Method, Refusal>
+    ensures { Gives (λ m. mirror_method m.now) fault_of result (known faults.no_method (method_of_object (map mirror_class code.now) heap.now object name.now)) }
+{
+    match method_of(code, heap, object, name) {
+        Some(method) => Ok(method),
+        None => Err(no_method(alloc)),
+    }
+}
+
+// The arguments as the service sees them, which have to fit.
+fn fitting(
+    alloc: Global,
+    heap: &Heap,
+    params: &[Param],
+    args: &[Value],
+) -> Result<Seq<Value>, Refusal>
+    ensures { Gives (λ values. values) fault_of result (known faults.bad_arguments (rules.taken_all heap.now (map mirror_param params.now) args.now)) }
+{
+    match taken_all(alloc, heap, params, args)? {
+        Some(values) => Ok(values),
+        None => Err(bad_arguments(alloc)),
+    }
+}
+
+// What is checked before a call: `checked`.
+#[inline(never)]
+fn check(
+    alloc: Global,
+    code: &Code,
+    heap: &Heap,
+    target: &Value,
+    name: &[u8],
+    args: &[Value],
+) -> Result<(u32, Seq<Value>), Refusal>
+    ensures { Gives (λ c. c) fault_of result (rules.checked (map mirror_class code.now) heap.now (out-Value target.now) name.now args.now) }
+{
+    let object = remote_object(alloc, target)?;
+    let method = found_method(alloc, code, heap, object, name)?;
+    let values = fitting(alloc, heap, method.signature.params.as_slice(), args)?;
+    Ok((object, values))
+}
+
+// A fault of a remote operation at a position.
+fn remotely(at: u32, fault: Fault) -> Raised
+    ensures { result ≡ raised_remotely fault at }
+{
+    Raised {
+        fault,
+        at,
+        remote: true,
+    }
+}
+
+// What a rule gives, as the answer of a remote call.
+fn answered(
+    at: u32,
+    outcome: Result<Value, Refusal>,
+) -> Result<Result<Value, Raised>, Memory>
+    ensures { Answers at outcome result }
+{
+    match outcome {
+        Ok(value) => Ok(Ok(value)),
+        Err(Refusal::Fault(fault)) => Ok(Err(remotely(at, fault))),
+        Err(Refusal::Memory) => Err(Memory),
+    }
+}
+
+// The result of a body at the client, which has to be of the kind.
+fn at_client(alloc: Global, kind: u8, value: &Value) -> Result<Value, Refusal>
+    ensures { Gives (λ v. v) fault_of result (known faults.wrong_kind (rules.seen_as kind (out-Value value.now))) }
+{
+    match seen_as(alloc, kind, value)? {
+        Some(seen) => Ok(seen),
+        None => Err(wrong_kind(alloc)),
+    }
+}
+
+// A call that passed its checks, and its result at the client: `served` and `returned`.
+#[inline(never)]
+fn serve(
+    alloc: Global,
+    code: &Code,
+    state: &mut State,
+    at: u32,
+    kind: u8,
+    object: u32,
+    name: &[u8],
+    args: Seq<Value>,
+) -> Result<Result<Value, Raised>, Memory>
+    requires { state.old.depth ≡ 0 }
+    ensures replies { RepliesAt at (rules.returned at kind (rules.served (map mirror_class code.now) at object name.now args (server state.old))) result (server state.new) }
+    ensures depth { state.new.depth ≡ 0 }
+{
+    let mut world = ServiceWorld::new(alloc);
+    match call(alloc, code, state, &mut world, at, object, name, args) {
+        Ok(Ok(value)) => answered(at, at_client(alloc, kind, &value)),
+        Ok(Err(raised)) => Ok(Err(remotely(at, raised.fault))),
+        Err(Halt::Memory) => Err(Memory),
+        Err(Halt::World(stop)) => Err(stop),
+    }
+}
+
+/// A remote call on a service, at a position: `invoke`.
+///
+/// The receiver, the arguments and the answer are values as the client sees them; the state has the service's table and
+/// the fuel, and no call is active in it, before and after. It goes on in this order: the receiver is remote (Kind), the
+/// object is there and has the method (NoMethod), the arguments fit (BadArguments), a unit of fuel, the body, the result is
+/// of the kind of this number (WrongKind). Each fault stands at the position, and is remote; what was done before it stays.
+/// The error is want of memory, after which nothing is said of the table and the fuel.
+pub fn invoke(
+    alloc: Global,
+    code: &Code,
+    state: &mut State,
+    at: u32,
+    kind: u8,
+    target: Value,
+    method: &[u8],
+    args: Seq<Value>,
+) -> Result<Result<Value, Raised>, Memory>
+    requires { state.old.depth ≡ 0 }
+    ensures replies { RepliesAt at (rules.invoke (map mirror_class code.now) at kind (out-Value target) method.now args (server state.old)) result (server state.new) }
+    ensures depth { state.new.depth ≡ 0 }
+{
+    let checked = check(alloc, code, &state.heap, &target, method, args.as_slice());
+    match checked {
+        Ok((object, values)) => serve(alloc, code, state, at, kind, object, method, values),
+        Err(Refusal::Fault(fault)) => Ok(Err(remotely(at, fault))),
+        Err(Refusal::Memory) => Err(Memory),
+    }
+}

@@ -1,0 +1,249 @@
+-- What steps did, where the code does their parts one by one.
+use Rattle.std.proofs.Common.{◌≡◌, refl, sym, ap, ◌∙◌, subst, ℕ, ◌+◌, ◌<◌, ◌≤◌, List, [], ◌∷◌, ◌++◌, append_assoc, length, drop, get_or}
+use Rattle.std.proofs.lemmas.List.{drop_all}
+use Rattle.std.specs.Prelude.{Bool, true, false, cond, is_some, Option, None, Some, Result, Ok, Err}
+use Rattle.rb_trees.specs.Outcome.{Gives, must, ◌>>◌}
+use Rattle.rb_trees.specs.declared.values.Value.{Value, out-Value}
+use Rattle.rb_trees.specs.declared.values.Fault.{Fault}
+use Rattle.rb_trees.specs.declared.forests.Entry as entry
+use Rattle.rb_trees.specs.declared.forests.Entry.TheVariants as entries
+use Rattle.rb_trees.specs.declared.scripts.Step.{Step}
+use Rattle.rb_trees.specs.mirror.Forests as forest
+use Rattle.rb_trees.specs.mirror.Forests.{mirror_node}
+use Rattle.rb_trees.specs.mirror.Scripts.{Steps}
+use Rattle.rb_meaning_code.specs.Remote.{Server, Reply, Got, Stopped, and_then, replies}
+use Rattle.rb_meaning_code.specs.ScriptRun.{Ground, Vars, Ran, ended, stopped, halted, with_entry, with_kept, on_reply, may_keep, kept, goes_on, chosen, branched, run_steps}
+use Rattle.rb_exec.specs.Blocks.{with_entries, Does, Extends, Did, Closes, IsRun, Finished, kept_entries}
+use Rattle.rb_exec.specs.Ends.{at_step, Means, Replied}
+use Rattle.rb_exec.specs.Stages.{Rest, Meaning, step_run, steps_run}
+use Rattle.rb_exec.specs.Bindings.{oldest}
+use Rattle.rb_exec.specs.declared.stage.Stage.{Stage}
+use Rattle.rb_exec.specs.declared.blocks.Block.{Block}
+use Rattle.rb_exec.specs.declared.ends.Miss.{Miss}
+use Rattle.rb_exec.specs.declared.ends.Miss.TheVariants as miss
+use Rattle.rb_exec.specs.declared.ends.Stop.{Stop}
+use Rattle.rb_exec.specs.declared.ends.Stop.TheVariants as stop
+use Rattle.rb_exec.proofs.Dropped.{dropped_one}
+use Rattle.rb_exec.proofs.Guided.{oldest_of}
+use Rattle.rb_exec.proofs.Entries.{value_more, branch_more, kept_more, node_so, fault_of, server_of}
+
+pub extends_itself : {vars : Vars} → Extends vars vars
+extends_itself = ([], refl)
+
+pub extends_far : {a b c : Vars} → Extends a b → Extends b c → Extends a c
+extends_far {a = a} (more, e) (further, f) = (further ++ more, f ∙ ap (λ vs. further ++ vs) e ∙ sym (append_assoc further more a))
+
+pub by_result : {m : Meaning} {before after : List entry.Entry} {old new : Vars} {r r1 : Result (Unit {0}) Stop} {s : Server}
+    → r ≡ r1 → Did m before old r1 after new s → Did m before old r after new s
+by_result {m = m} {before = before} {after = after} {old = old} {new = new} {s = s} e d = subst (λ x. Did m before old x after new s) (sym e) d
+
+does_as : (r : Result (Unit {0}) Stop) {m m1 : Meaning} {before before1 after : List entry.Entry} {new : Vars} {s : Server}
+    → ((go : Rest) → with_entries before (m go) ≡ with_entries before1 (m1 go)) → Does m1 before1 r after new s → Does m before r after new s
+does_as (Ok u) e d = λ go. e go ∙ d go
+does_as (Err (stop.Fault f)) e d = λ go. e go ∙ d go
+does_as (Err stop.Within) e d = (d.0, λ go. e go ∙ d.1 go)
+does_as (Err stop.Memory) e d = tt
+
+-- the same whatever follows
+pub as_meant : {m m1 : Meaning} {before before1 after : List entry.Entry} {old new : Vars} {r : Result (Unit {0}) Stop} {s : Server}
+    → ((go : Rest) → with_entries before (m go) ≡ with_entries before1 (m1 go)) → Did m1 before1 old r after new s → Did m before old r after new s
+as_meant {r = r} e d = record { does = does_as r e d.does; binds = d.binds }
+
+pub as_step : {m m1 : Meaning} {before after : List entry.Entry} {old new : Vars} {r : Result (Unit {0}) Stop} {s : Server}
+    → ((go : Rest) → m go ≡ m1 go) → Did m1 before old r after new s → Did m before old r after new s
+as_step {before = before} e d = as_meant (λ go. ap (with_entries before) (e go)) d
+
+pub went_on : {before : List entry.Entry} {vars : Vars} {s : Server} → Did (λ go. go vars s) before vars (Ok tt) before vars s
+went_on = record { does = λ go. refl; binds = extends_itself }
+
+-- for want of memory nothing is said
+pub want : {m : Meaning} {before after : List entry.Entry} {old new : Vars} {r : Result (Unit {0}) Stop} {h : Stop} {s : Server}
+    → r ≡ Err h → h ≡ stop.Memory → Extends old new → Did m before old r after new s
+want is e x = by_result (is ∙ ap Err e) (record { does = tt; binds = x })
+
+-- an expression gave its value to the step
+value_at : {A : Type 0} (id : ℕ) (t : Result A Miss) (a : A) → at_step id t ≡ Ok a → t ≡ Ok a
+value_at id (Ok b) a e = e
+value_at id (Err (miss.Fault at f)) a e = absurd (cc e)
+value_at id (Err miss.Memory) a e = absurd (cc e)
+
+pub on_value : {A : Type 0} {m : Reply A} {t : Result A Miss} {t1 : Result A Stop} {a : A} {s1 s2 : Server} {before after : List entry.Entry} {old new : Vars} {r : Result (Unit {0}) Stop} (id : ℕ) (k : A → Server → Meaning)
+    → Replied m t s1 → t1 ≡ at_step id t → t1 ≡ Ok a → Did (k a s1) before old r after new s2 → Did (λ go. on_reply id m (λ b s. k b s go)) before old r after new s2
+on_value {m = m} {t = t} {a = a} {s1 = s1} id k h is was d =
+    let gave : m ≡ Got a s1 = subst (λ x. Means m x s1) (value_at id t a (sym is ∙ was)) h.means in
+    as_step (λ go. ap (λ x. on_reply id x (λ b s. k b s go)) gave) d
+
+-- it gave none, and the steps are over
+faulted : {A : Type 0} (m : Reply A) (t : Result A Miss) (h : Stop) (s : Server) (before : List entry.Entry) (vars : Vars) (id : ℕ) (k : A → Server → Meaning)
+    → Means m t s → at_step id t ≡ Err h → Did (λ go. on_reply id m (λ b s1. k b s1 go)) before vars (Err h) before vars s
+faulted m (Ok a) h s before vars id k d e = absurd (cc e)
+faulted m (Err (miss.Fault at f)) h s before vars id k d e =
+    let same : stop.Fault (record { step = id; at = at; fault = f }) ≡ h = cc e in
+    by_result (ap Err (sym same)) (record { does = λ go. ap (λ x. with_entries before (on_reply id x (λ b s1. k b s1 go))) d; binds = extends_itself })
+faulted m (Err miss.Memory) h s before vars id k d e =
+    let same : stop.Memory ≡ h = cc e in
+    by_result (ap Err (sym same)) (record { does = tt; binds = extends_itself })
+
+pub on_fault : {A : Type 0} {m : Reply A} {t : Result A Miss} {t1 : Result A Stop} {h : Stop} {s : Server} {before : List entry.Entry} {vars : Vars} {r : Result (Unit {0}) Stop} (id : ℕ) (k : A → Server → Meaning)
+    → Replied m t s → t1 ≡ at_step id t → t1 ≡ Err h → r ≡ Err h → Did (λ go. on_reply id m (λ b s1. k b s1 go)) before vars r before vars s
+on_fault {m = m} {t = t} {h = h} {s = s} {before = before} {vars = vars} id k d is was e =
+    by_result e (faulted m t h s before vars id k d.means (sym is ∙ was))
+
+-- two replies in a step, one after the other
+pub both_replies : {A B : Type 0} (id : ℕ) (m : Reply A) (n : A → Server → Reply B) (k : B → Server → Ran)
+    → on_reply id (and_then m n) k ≡ on_reply id m (λ a s. on_reply id (n a s) k)
+both_replies id (Got a s) n k = refl
+both_replies id (Stopped at f s) n k = refl
+
+kept_by : (id at : ℕ) (c : Result (Unit {0}) Fault) (v : Value) (s : Server) (k : Value → Server → Ran)
+    → on_reply id (replies at (c >> Ok v) s) k ≡ on_reply id (replies at c s) (λ u s1. k v s1)
+kept_by id at (Ok u) v s k = refl
+kept_by id at (Err f) v s k = refl
+
+-- a value, and what is asked of it where it is kept
+pub kept_value : (id at : ℕ) (keep : Bool) (m : Reply Value) (k : Value → Server → Ran)
+    → on_reply id (and_then m (kept keep at)) k ≡ on_reply id m (λ v s. on_reply id (replies at (may_keep keep v) s) (λ u s1. k v s1))
+kept_value id at keep (Got v s) k = kept_by id at (may_keep keep v) v s k
+kept_value id at keep (Stopped place f s) k = refl
+
+pub added_value : {before after : List entry.Entry} {vars : Vars} {s : Server} (v : Value) → after ≡ before ++ entries.Value v ∷ []
+    → Did (λ go. with_entry (forest.Value v) (go vars s)) before vars (Ok tt) after vars s
+added_value {before = before} {vars = vars} {s = s} v e = record {
+  does = λ go. sym (value_more before v (go vars s)) ∙ ap (λ es. with_entries es (go vars s)) (sym e);
+  binds = extends_itself;
+}
+
+pub bound_kept : {before after : List entry.Entry} {old new : Vars} {s : Server} (keep : Bool) (variable : ℕ) (v : Value) → after ≡ before ++ kept_entries keep v → new ≡ (variable, v) ∷ old
+    → Did (λ go. with_kept keep v (go ((variable, v) ∷ old) s)) before old (Ok tt) after new s
+bound_kept {before = before} {after = after} {old = old} {s = s} keep variable v e f = record {
+  does = λ go. sym (kept_more before keep v (go ((variable, v) ∷ old) s)) ∙ ap (λ es. with_entries es (go ((variable, v) ∷ old) s)) (sym e)
+      ∙ ap (λ vs. with_entries after (go vs s)) (sym f);
+  binds = ((variable, v) ∷ [], f);
+}
+
+-- branches
+
+pub choice : (g : Ground) (holds : Bool) (a b : Steps) (vars : Vars) (s : Server)
+    → chosen holds (run_steps g a vars s ended) (run_steps g b vars s ended) ≡ run_steps g (cond holds a b) vars s ended
+choice g true a b vars s = refl
+choice g false a b vars s = refl
+
+free : (f : Option Fault) (s : Server) (go : Server → Ran) → false ≡ is_some f → goes_on f s go ≡ go s
+free None s go e = refl
+free (Some f) s go e = absurd (cc e)
+
+held : (f : Option Fault) (s : Server) → true ≡ is_some f → (x : Fault) × ((go : Server → Ran) → goes_on f s go ≡ halted x s)
+held None s e = absurd (cc e)
+held (Some f) s e = (f, λ go. refl)
+
+pub branch_went : {before after : List entry.Entry} {vars : Vars} {s : Server} (holds : Bool) (r : Ran) (block : Block) → IsRun r block s → block.stopped ≡ false
+    → after ≡ before ++ entries.Branch holds block.node ∷ [] → Did (λ go. branched holds r (λ s1. go vars s1)) before vars (Ok tt) after vars s
+branch_went {before = before} {after = after} {vars = vars} {s = s} holds r block run off e = record {
+  does = λ go.
+      ap (λ x. with_entries before (with_entry (forest.Branch holds r.node) x)) (free r.fault r.server (λ s1. go vars s1) (sym off ∙ run.stopped_so))
+      ∙ ap (λ n. with_entries before (with_entry (forest.Branch holds n) (go vars r.server))) (sym run.node_so)
+      ∙ sym (branch_more before holds block.node (go vars r.server))
+      ∙ ap (λ es. with_entries es (go vars r.server)) (sym e)
+      ∙ ap (λ x. with_entries after (go vars x)) (sym run.server_so);
+  binds = extends_itself;
+}
+
+pub branch_stopped : {before after : List entry.Entry} {vars : Vars} {s : Server} (holds : Bool) (r : Ran) (block : Block) → IsRun r block s → block.stopped ≡ true
+    → after ≡ before ++ entries.Branch holds block.node ∷ [] → Did (λ go. branched holds r (λ s1. go vars s1)) before vars (Err stop.Within) after vars s
+branch_stopped {before = before} {after = after} {vars = vars} {s = s} holds r block run on e =
+    let h = held r.fault r.server (sym on ∙ run.stopped_so) in
+    record {
+      does = (h.0, λ go.
+          ap (λ x. with_entries before (with_entry (forest.Branch holds r.node) x)) (h.1 (λ s1. go vars s1))
+          ∙ ap (λ n. with_entries before (with_entry (forest.Branch holds n) (halted h.0 r.server))) (sym run.node_so)
+          ∙ sym (branch_more before holds block.node (halted h.0 r.server))
+          ∙ ap (λ es. with_entries es (halted h.0 r.server)) (sym e)
+          ∙ ap (λ x. with_entries after (halted h.0 x)) (sym run.server_so));
+      binds = extends_itself;
+    }
+
+-- blocks
+
+run_of : (es : List entry.Entry) (block : Block) (meant r : Ran) (s : Server) → meant ≡ with_entries es r → mirror_node block.node ≡ (with_entries es r).node
+    → block.stopped ≡ is_some r.fault → s ≡ r.server → IsRun meant block s
+run_of es block meant r s e n f v = record {
+  node_so = n ∙ ap (λ x. x.node) (sym e);
+  stopped_so = f ∙ ap is_some (sym (fault_of es r) ∙ ap (λ x. x.fault) (sym e));
+  server_so = v ∙ sym (server_of es r) ∙ ap (λ x. x.server) (sym e);
+}
+
+-- the block that its steps made
+pub block_so : {m : Meaning} {before after : List entry.Entry} {old new : Vars} {s : Server} {q : Result Block Stop} {block : Block} (r : Result (Unit {0}) Stop)
+    → Did m before old r after new s → Finished after r q → q ≡ Ok block → IsRun (with_entries before (m ended)) block s
+block_so {m = m} {before = before} {after = after} {new = new} {s = s} {block = block} (Ok u) d f is =
+    let same : record { node = record { entries = after; fault = None }; stopped = false } ≡ block = cc (f, is) in
+    subst (λ b. IsRun (with_entries before (m ended)) b s) same
+    (run_of after _ _ (ended new s) s (d.does ended) (node_so after None (ended new s) refl) refl refl)
+block_so {m = m} {before = before} {after = after} {s = s} {block = block} (Err (stop.Fault f)) d g is =
+    let same : record { node = record { entries = after; fault = Some f }; stopped = true } ≡ block = cc (g, is) in
+    subst (λ b. IsRun (with_entries before (m ended)) b s) same
+    (run_of after _ _ (stopped f.step f.at f.fault s) s (d.does ended) (node_so after (Some f) (stopped f.step f.at f.fault s) refl) refl refl)
+block_so {m = m} {before = before} {after = after} {s = s} {block = block} (Err stop.Within) d g is =
+    let same : record { node = record { entries = after; fault = None }; stopped = true } ≡ block = cc (g, is) in
+    subst (λ b. IsRun (with_entries before (m ended)) b s) same
+    (run_of after _ _ (halted d.does.0 s) s (d.does.1 ended) (node_so after None (halted d.does.0 s) refl) refl refl)
+block_so (Err stop.Memory) d g is = absurd (cc (g, is))
+
+-- steps gave no block for want of memory
+pub no_block : {es : List entry.Entry} {q : Result Block Stop} {h : Stop} (r : Result (Unit {0}) Stop) → Finished es r q → q ≡ Err h → h ≡ stop.Memory
+no_block (Ok u) f is = absurd (cc (f, is))
+no_block (Err (stop.Fault x)) f is = absurd (cc (f, is))
+no_block (Err stop.Within) f is = absurd (cc (f, is))
+no_block (Err stop.Memory) f is = cc (f, is)
+
+-- what a stop says, whatever follows the step
+stops : (h : Stop) {m : Meaning} {before after : List entry.Entry} {new : Vars} {s : Server} (f : Rest → Rest) → Does m before (Err h) after new s → Does (λ go. m (f go)) before (Err h) after new s
+stops (stop.Fault x) f d = λ go. d (f go)
+stops stop.Within f d = (d.0, λ go. d.1 (f go))
+stops stop.Memory f d = tt
+
+-- steps in order, one by one: those from a place on are what is left of the steps
+pub record LeadsOn (st : Stage) (steps : List Step) (before : List entry.Entry) (old : Vars) (s : Server) (i : ℕ) (after : List entry.Entry) (new : Vars) (s1 : Server) : Type 0 where
+  pub leads : (go : Rest) → with_entries before (steps_run st steps old s go) ≡ with_entries after (steps_run st (drop i steps) new s1 go)
+  pub binds : Extends old new
+
+pub leads_begin : {st : Stage} {steps : List Step} {es : List entry.Entry} {vars : Vars} {s : Server} → LeadsOn st steps es vars s 0 es vars s
+leads_begin = record { leads = λ go. refl; binds = extends_itself }
+
+-- the meaning of a step with those behind it
+abbrev pub rest_run : Stage → List Step → ℕ → Rest → Rest
+rest_run st steps i go vars s = steps_run st (drop (i + 1) steps) vars s go
+
+steps_on : (st : Stage) (steps : List Step) (i : ℕ) (step : Step) (vars : Vars) (s : Server) (go : Rest) → i < length steps → step ≡ get_or steps i step
+    → steps_run st (drop i steps) vars s go ≡ step_run st step vars s (rest_run st steps i go)
+steps_on st steps i step vars s go l e = ap (λ xs. steps_run st xs vars s go) (dropped_one steps i step l e)
+
+pub leads_more : {st : Stage} {steps : List Step} {before es es1 : List entry.Entry} {old vars vars1 : Vars} {s s1 s2 : Server} {i : ℕ} {r : Result (Unit {0}) Stop} {u : Unit {0}} (step : Step) → i < length steps → step ≡ get_or steps i step
+    → LeadsOn st steps before old s i es vars s1 → Did (step_run st step vars s1) es vars r es1 vars1 s2 → r ≡ Ok u → LeadsOn st steps before old s (i + 1) es1 vars1 s2
+leads_more {st = st} {steps = steps} {es = es} {es1 = es1} {vars = vars} {vars1 = vars1} {s1 = s1} {s2 = s2} {i = i} step l e h d is =
+    let did = subst (λ x. Does (step_run st step vars s1) es x es1 vars1 s2) is d.does in
+    record {
+      leads = λ go. h.leads go ∙ ap (with_entries es) (steps_on st steps i step vars s1 go l e) ∙ did (rest_run st steps i go);
+      binds = extends_far h.binds d.binds;
+    }
+
+pub leads_cut : {st : Stage} {steps : List Step} {before es es1 : List entry.Entry} {old vars vars1 : Vars} {s s1 s2 : Server} {i : ℕ} {t r : Result (Unit {0}) Stop} {h : Stop} (step : Step) → i < length steps → step ≡ get_or steps i step
+    → LeadsOn st steps before old s i es vars s1 → Did (step_run st step vars s1) es vars t es1 vars1 s2 → t ≡ Err h → r ≡ Err h → Did (steps_run st steps old s) before old r es1 vars1 s2
+leads_cut {st = st} {steps = steps} {es = es} {es1 = es1} {vars = vars} {vars1 = vars1} {s1 = s1} {s2 = s2} {i = i} {h = h} step l e on d is so =
+    by_result so (record {
+      does = does_as (Err h) (λ go. on.leads go ∙ ap (with_entries es) (steps_on st steps i step vars s1 go l e))
+          (stops h (rest_run st steps i) (subst (λ x. Does (step_run st step vars s1) es x es1 vars1 s2) is d.does));
+      binds = extends_far on.binds d.binds;
+    })
+
+pub leads_end : {st : Stage} {steps : List Step} {before es : List entry.Entry} {old vars : Vars} {s s1 : Server} {i : ℕ} → length steps ≤ i
+    → LeadsOn st steps before old s i es vars s1 → Did (steps_run st steps old s) before old (Ok tt) es vars s1
+leads_end {st = st} {steps = steps} {es = es} {vars = vars} {s1 = s1} {i = i} l h = record {
+  does = λ go. h.leads go ∙ ap (λ xs. with_entries es (steps_run st xs vars s1 go)) (drop_all i steps l);
+  binds = h.binds;
+}
+
+-- the bindings of a block go at its end
+pub closes_so : {count : ℕ} {old mid new : Vars} → Extends old mid → new ≡ oldest count mid → Closes count old new
+closes_so {count = count} (added, a) e more rest was is =
+    e ∙ ap (oldest count) (a ∙ ap (λ vs. added ++ vs) was ∙ sym (append_assoc added more rest)) ∙ ap (λ n. oldest n ((added ++ more) ++ rest)) is ∙ oldest_of (added ++ more) rest

@@ -1,0 +1,70 @@
+// How expressions and steps end early.
+
+ghost use Rattle.std.specs.Prelude.{◌≡◌};
+ghost use Rattle.rb_exec.specs.Ends as words;
+
+use rb_engine::Refusal;
+use rb_trees::{Fault, Memory, NodeFault};
+
+/// Why an expression gives no value: by a fault at a position, or for want of memory.
+#[derive(Drop)]
+pub enum Miss {
+    Fault(u32, Fault),
+    Memory,
+}
+
+/// Why steps end early: by a fault of their node, by one that stands within its last entry, or for want of memory.
+#[derive(Drop)]
+pub enum Stop {
+    Fault(NodeFault),
+    Within,
+    Memory,
+}
+
+impl From<Memory> for Miss {
+    ghost use Rattle.std.specs.Prelude.{◌≡◌};
+    ghost use Rattle.rb_exec.specs.declared.ends.Miss.TheVariants as miss;
+
+    ghost from_gives = { λ _ e. e ≡ miss.Memory };
+
+    fn from(_want: Memory) -> Miss {
+        Miss::Memory
+    }
+}
+
+impl From<Memory> for Stop {
+    ghost use Rattle.std.specs.Prelude.{◌≡◌};
+    ghost use Rattle.rb_exec.specs.declared.ends.Stop.TheVariants as stop;
+
+    ghost from_gives = { λ _ e. e ≡ stop.Memory };
+
+    fn from(_want: Memory) -> Stop {
+        Stop::Memory
+    }
+}
+
+/// What a rule gives at a position.
+pub fn at_place<T>(at: u32, outcome: Result<T, Refusal>) -> Result<T, Miss>
+    ensures { result ≡ words.at_place at outcome }
+{
+    match outcome {
+        Ok(value) => Ok(value),
+        Err(Refusal::Fault(fault)) => Err(Miss::Fault(at, fault)),
+        Err(Refusal::Memory) => Err(Miss::Memory),
+    }
+}
+
+/// What an expression gives to the step of a number.
+pub fn at_step<T>(id: u32, outcome: Result<T, Miss>) -> Result<T, Stop>
+    ensures { result ≡ words.at_step id outcome }
+{
+    match outcome {
+        Ok(value) => Ok(value),
+        Err(Miss::Fault(at, fault)) => Err(Stop::Fault(NodeFault {
+            step: id,
+            at,
+            fault,
+        })),
+        Err(Miss::Memory) => Err(Stop::Memory),
+    }
+}

@@ -1,0 +1,115 @@
+// The rules of steps and of what they look up: a value or the fault that a rule says.
+
+ghost use Rattle.std.specs.Prelude.{◌≡◌, ◌++◌, slice_get, OnOk};
+ghost use Rattle.rb_trees.specs.Outcome.{Gives, known};
+ghost use Rattle.rb_trees.specs.declared.values.Value.{out-Value};
+ghost use Rattle.rb_engine.specs.Ends.{fault_of};
+ghost use Rattle.rb_engine.specs.declared.ends.Refusal.TheVariants as refusal;
+ghost use Rattle.rb_meaning_code.specs.Faults as faults;
+ghost use Rattle.rb_meaning_code.specs.ScriptRun as meant;
+ghost use Rattle.rb_exec.specs.Blocks as blocks;
+
+use crate::variables::Variables;
+use rb_engine::Refusal;
+use rb_trees::{Entry, Fault, Memory, Seq, Shared, Value, copy_value};
+use std::alloc::Global;
+
+// The fault Kind.
+fn kind(alloc: Global) -> Refusal
+    ensures { result ≡ refusal.Fault faults.kind }
+{
+    Refusal::Fault(Fault {
+        code: 12,
+        text: Seq::new(alloc),
+    })
+}
+
+/// The fault of a turn that finds no unit of fuel.
+pub fn fuel_used(alloc: Global) -> Fault
+    ensures { result ≡ faults.fuel_used }
+{
+    Fault {
+        code: 7,
+        text: Seq::new(alloc),
+    }
+}
+
+/// The value of an input, which has to be there.
+#[inline(never)]
+pub fn input(alloc: Global, inputs: &[Value], number: u8) -> Result<Value, Refusal>
+    ensures { Gives (λ v. v) fault_of result (known faults.kind (slice_get inputs.now number)) }
+{
+    match inputs.get(number as usize) {
+        Some(value) => Ok(copy_value(value)?),
+        None => Err(kind(alloc)),
+    }
+}
+
+/// The latest value of a variable, which has to be bound.
+#[inline(never)]
+pub fn variable(alloc: Global, variables: &Variables, number: u32) -> Result<Value, Refusal>
+    ensures { Gives (λ v. v) fault_of result (known faults.kind (meant.latest variables.now number)) }
+{
+    match variables.find(number) {
+        Some(value) => Ok(copy_value(value)?),
+        None => Err(kind(alloc)),
+    }
+}
+
+// Whether a value is primitive: `is_primitive`.
+#[tactic(auto, using(rb_engine::proofs::Values::values))]
+fn is_primitive(value: &Value) -> bool
+    ensures { result ≡ meant.is_primitive (out-Value value.now) }
+{
+    match value {
+        Value::Int(_) => true,
+        Value::Bool(_) => true,
+        Value::Text(_) => true,
+        _ => false,
+    }
+}
+
+/// A value that is kept has to be primitive: `may_keep`.
+#[inline(never)]
+pub fn may_keep(alloc: Global, keep: bool, value: &Value) -> Result<(), Refusal>
+    ensures { Gives (λ u. u) fault_of result (meant.may_keep keep value.now) }
+{
+    if keep && !is_primitive(value) {
+        return Err(kind(alloc));
+    }
+    Ok(())
+}
+
+/// The rows of a value: `rows_in`.
+#[inline(never)]
+#[tactic(auto, using(rb_engine::proofs::Values::values))]
+pub fn rows_in(alloc: Global, value: &Value) -> Result<Shared<Seq<Value>>, Refusal>
+    ensures { Gives (λ rows. rows) fault_of result (meant.rows_in (out-Value value.now)) }
+{
+    match value {
+        Value::Rows(rows) => Ok(rows.share()?),
+        _ => Err(kind(alloc)),
+    }
+}
+
+/// Adds the entry of a value, where it is kept.
+#[inline(never)]
+pub fn add_kept(entries: &mut Seq<Entry>, keep: bool, value: &Value) -> Result<(), Memory>
+    ensures { OnOk result (entries.new ≡ entries.old ++ blocks.kept_entries keep value.now) }
+{
+    if keep {
+        entries.push(Entry::Value(copy_value(value)?))?;
+    }
+    Ok(())
+}
+
+/// The entries that the node of a turn begins with: its row, where it is kept.
+#[inline(never)]
+pub fn row_entries(alloc: Global, keep: bool, row: &Value) -> Result<Seq<Entry>, Refusal>
+    ensures { Gives (λ entries. entries) fault_of result (blocks.row_entries keep row.now) }
+{
+    may_keep(alloc, keep, row)?;
+    let mut entries = Seq::new(alloc);
+    add_kept(&mut entries, keep, row)?;
+    Ok(entries)
+}

@@ -1,0 +1,102 @@
+// The service while a script runs.
+
+ghost use Rattle.std.specs.Prelude.{◌≡◌, map};
+ghost use Rattle.rb_trees.specs.declared.values.Value.{out-Value};
+ghost use Rattle.rb_trees.specs.mirror.Declarations.{mirror_class};
+ghost use Rattle.rb_meaning_code.specs.Remote as rules;
+ghost use Rattle.rb_exec.specs.Ends.{Replied};
+ghost use Rattle.rb_exec.specs.Servers.{TakesUnit};
+
+use crate::ends::Miss;
+use rb_engine::{Code, State, invoke};
+use rb_heap::Heap;
+use rb_trees::{Seq, Value};
+use std::alloc::Global;
+use std::marker::Model;
+
+/// The service's table and the units of fuel that are left. Between calls of a script no call of the service is active.
+#[derive(Drop)]
+pub struct Server {
+    state: State,
+}
+
+impl Model for Server {
+    ghost use Rattle.std.specs.Prelude.{◌≡◌};
+    ghost use Rattle.rb_meaning_code.specs.Remote as meant;
+
+    ghost Value = { meant.Server };
+
+    ghost view = { λ s. record { table = s.state.heap; fuel = s.state.fuel } };
+
+    ghost invariant = { λ s. s.state.depth ≡ 0 };
+}
+
+impl Server {
+    /// The server of a table, without fuel.
+    pub fn new(table: Heap) -> Server
+        ensures { result ≡ record { table = table; fuel = 0 } }
+    {
+        Server {
+            state: State {
+                heap: table,
+                fuel: 0,
+                depth: 0,
+            },
+        }
+    }
+
+    /// The table.
+    pub fn table(&self) -> &Heap
+        ensures { result.now ≡ self.now.table }
+    {
+        &self.state.heap
+    }
+
+    /// Gives it so much fuel.
+    pub fn refuel(&mut self, fuel: u64)
+        ensures { self.new ≡ record { table = self.old.table; fuel = fuel } }
+    {
+        self.state.fuel = fuel;
+    }
+
+    /// Takes a unit of fuel, or answers that none is left.
+    pub fn take_unit(&mut self) -> bool
+        ensures { TakesUnit self.old result self.new }
+    {
+        if self.state.fuel == 0 {
+            return false;
+        }
+        self.state.fuel -= 1;
+        true
+    }
+
+    /// A remote call: `invoke`.
+    #[inline(never)]
+    pub fn invoke(
+        &mut self,
+        alloc: Global,
+        code: &Code,
+        at: u32,
+        kind: u8,
+        target: Value,
+        method: &[u8],
+        args: Seq<Value>,
+    ) -> Result<Value, Miss>
+        ensures { Replied (rules.invoke (map mirror_class code.now) at kind (out-Value target) method.now args self.old) result self.new }
+    {
+        match invoke(
+            alloc,
+            code,
+            &mut self.state,
+            at,
+            kind,
+            target,
+            method,
+            args,
+        ) {
+            Ok(Ok(value)) => Ok(value),
+            Ok(Err(raised)) => Err(Miss::Fault(at, raised.fault)),
+            Err(_) => Err(Miss::Memory),
+        }
+    }
+}

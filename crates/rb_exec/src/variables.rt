@@ -1,0 +1,157 @@
+// The variables of a script.
+
+ghost use Rattle.std.specs.Prelude.{◌≡◌, ℕ, nat_eq, cond, [], ◌∷◌, length, reverse, OnOk, OnErr};
+ghost use Rattle.std.specs.Option.{option_copied};
+ghost use Rattle.std.specs.HashMap.{get};
+ghost use Rattle.rb_meaning_code.specs.ScriptRun.{latest};
+ghost use Rattle.rb_exec.specs.Bindings.{latest_binding, oldest, without_latest};
+
+use rb_trees::{Memory, Value};
+use std::alloc::Global;
+use std::collections::HashMap;
+use std::marker::Model;
+
+/// A variable that was bound to a value, and the place of its binding before.
+#[derive(Drop)]
+struct Binding {
+    number: u32,
+    value: Value,
+    before: Option<usize>,
+}
+
+/// The variables of a script with their values, each found by its number without walking the others. Contracts see the
+/// list of bindings, the latest first.
+#[derive(Drop)]
+pub struct Variables {
+    // in order of binding
+    bindings: Vec<Binding>,
+    // the place of each variable's latest binding
+    places: HashMap<u32, usize>,
+}
+
+impl Model for Variables {
+    ghost use Rattle.std.specs.Prelude.{nat_eq, reverse};
+    ghost use Rattle.std.specs.HashMap.{get};
+    ghost use Rattle.rb_meaning_code.specs.ScriptRun.{Vars};
+    ghost use Rattle.rb_exec.specs.Bindings.{Guides, as_variables};
+
+    ghost Value = { Vars };
+
+    ghost view = { λ v. as_variables (reverse v.bindings.items) };
+
+    ghost invariant = { λ v. Guides (get nat_eq v.places) (reverse v.bindings.items) };
+}
+
+impl Variables {
+    /// No variables.
+    pub fn new(alloc: Global) -> Variables
+        ensures { result ≡ [] }
+    {
+        Variables {
+            bindings: Vec::new(alloc),
+            places: HashMap::new(alloc),
+        }
+    }
+
+    /// How many bindings there are.
+    pub fn count(&self) -> usize
+        ensures { result ≡ length self.now }
+    {
+        self.bindings.len()
+    }
+
+    /// The latest value of a variable: `latest`.
+    pub fn find(&self, number: u32) -> Option<&Value>
+        ensures { option_copied result ≡ latest self.now number }
+    {
+        match self.places.get(&number) {
+            Some(place) => match self.bindings.get(*place) {
+                Some(binding) => Some(&binding.value),
+                None => None,
+            },
+            None => None,
+        }
+    }
+
+    /// Binds a variable to a value. After an error nothing changed.
+    pub fn bind(&mut self, number: u32, value: Value) -> Result<(), Memory>
+        ensures bound { OnOk result (self.new ≡ (number, value) ∷ self.old) }
+        ensures kept { OnErr result (self.new ≡ self.old) }
+    {
+        let before = place_of(&self.places, number);
+        let place = self.bindings.len();
+        self.bindings.push(Binding {
+            number,
+            value,
+            before,
+        })?;
+        match set_place(&mut self.places, number, Some(place)) {
+            Ok(()) => Ok(()),
+            Err(_) => {
+                self.bindings.truncate(place);
+                Err(Memory)
+            }
+        }
+    }
+
+    /// Lets the later bindings go, so that the oldest so many stay: `oldest`.
+    pub fn close(&mut self, count: usize) -> Result<(), Memory>
+        ensures { OnOk result (self.new ≡ oldest count self.old) }
+    {
+        'later: while self.bindings.len() > count {
+            self.forget()?;
+        }
+        Ok(())
+    }
+
+    // Lets the latest binding go, so that its variable has the value of before. After an error nothing changed.
+    fn forget(&mut self) -> Result<(), Memory>
+        ensures { OnOk result (self.new ≡ without_latest self.old) }
+    {
+        if let Some((number, before)) = latest_of(self.bindings.as_slice()) {
+            set_place(&mut self.places, number, before)?;
+            let _latest = self.bindings.pop();
+        }
+        Ok(())
+    }
+}
+
+// The place that is kept of a variable.
+fn place_of(places: &HashMap<u32, usize>, number: u32) -> Option<usize>
+    ensures { result ≡ get nat_eq places.now number }
+{
+    match places.get(&number) {
+        Some(place) => Some(*place),
+        None => None,
+    }
+}
+
+// Keeps another place of a variable, or none. After an error the places are as they were.
+fn set_place(
+    places: &mut HashMap<u32, usize>,
+    number: u32,
+    place: Option<usize>,
+) -> Result<(), Memory>
+    ensures set { OnOk result ((n : ℕ) → get nat_eq places.new n ≡ cond (nat_eq number n) place (get nat_eq places.old n)) }
+    ensures kept { OnErr result ((n : ℕ) → get nat_eq places.new n ≡ get nat_eq places.old n) }
+{
+    match place {
+        Some(place) => {
+            let _before = places.insert(number, place)?;
+        }
+        None => {
+            let _before = places.remove(&number);
+        }
+    }
+    Ok(())
+}
+
+// The variable of the last binding, and the place of its binding before.
+fn latest_of(bindings: &[Binding]) -> Option<(u32, Option<usize>)>
+    ensures { result ≡ latest_binding (reverse bindings.now) }
+{
+    match bindings.last() {
+        Some(binding) => Some((binding.number, binding.before)),
+        None => None,
+    }
+}
