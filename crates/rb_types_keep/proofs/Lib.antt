@@ -16,3 +16,4 @@ mod InSurroundings
 mod Served
 mod Far
 mod ScriptRuns
+mod NodeSizes

@@ -9,3 +9,4 @@ pub mod Code
 pub mod Around
 pub mod Remote
 pub mod Scripts
+pub mod Nodes
