@@ -26,7 +26,7 @@ use Rattle.rb_types_keep.specs.Formed.{IsFormedReturn}
 use Rattle.rb_types_keep.specs.Own.{IsOwnPlace}
 use Rattle.rb_types_keep.specs.Ends.{LocalFits, Ends, OfKind, Returns, Side, Own, InBatch, IsAsked, IsAnswer, Keeps, place_in}
 use Rattle.rb_types_keep.specs.Noted.{IsNotedExpr, AreNotedExprs, IsNotedStmt, AreNotedStmts}
-use Rattle.rb_types_keep.specs.Code.{AreTyped, TypesKeep, BatchesKeep}
+use Rattle.rb_types_keep.specs.Code.{TypesKeep, BatchesKeep}
 use Rattle.rb_types_keep.proofs.Checks.{bind_ok, must_ok, placed_ok, same_sound}
 use Rattle.rb_types_keep.proofs.Values.{grown_same, unit_fits}
 use Rattle.rb_types_keep.proofs.Faults.{plain_own, raised_fits}
@@ -77,7 +77,7 @@ method_keeps d known' run run_ok gas class m l apart method state =
     let s = bind_ok (check_stmts x scope m.body.statements) _ tt method.body in
     let r = stmts_run Own x known' run run_ok m.body.statements gas scope s.0 (λ e. own) s.1 method.formed.0 (λ kinds e. absurd (cc (e))) in
     let whole : Runs Own x scope s.0 (OfKind x k) (classes_of l.heap) (runs (record { classes = d.classes; run = run }) gas m.body l) =
-        goes _ r.sub (r.runs l state) (λ u l1 f1 state1 g1. return_runs Own x known' run run_ok s.0 r.own m.signature.at k m.body.result l1 s.2 method.formed.1 (no_return x s.0 m.body.result) state1) in
+    goes _ r.sub (r.runs l state) (λ u l1 f1 state1 g1. return_runs Own x known' run run_ok s.0 r.own m.signature.at k m.body.result l1 s.2 method.formed.1 (no_return x s.0 m.body.result) state1) in
     keeps_more d Own (Ends x scope s.0 (OfKind x k) (classes_of l.heap)) (Returns d k (classes_of l.heap)) (runs (record { classes = d.classes; run = run }) gas m.body l) (returned x scope s.0 k (classes_of l.heap)) whole.keeps
   where
     returned : (x : Context) (scope after : Scope) (k : Kind) (cs : List (List ℕ)) (o : Outcome Value) → Ends x scope after (OfKind x k) cs o → Returns x.declared k cs o

@@ -1,8 +1,8 @@
 -- Typed code in surroundings whose answers fit.
-use Rattle.std.proofs.Common.{◌≡◌, sym, subst, inl, inr, ℕ, Option, Result, Ok, Err}
+use Rattle.std.proofs.Common.{◌≡◌, sym, subst, inl, inr, ℕ, Option}
 use Rattle.rb_meaning_types.specs.Kinds.{Kind}
 use Rattle.rb_meaning_types.specs.Declared.{Declarations}
-use Rattle.rb_meaning_code.specs.Dialogue.{Dialogue, Done, Ask, AskBatch, Surroundings, Follows, Handler, handle}
+use Rattle.rb_meaning_code.specs.Dialogue.{Dialogue, Done, Ask, AskBatch, Surroundings, Handler}
 use Rattle.rb_types_keep.specs.Ends.{Side, Keeps}
 use Rattle.rb_types_keep.specs.Code.{OfBatchCode}
 use Rattle.rb_types_keep.specs.Around.{HandlerFits, SurroundingsFit, EndsHandled, EndsLed, TypesKeepHandled, BatchesKeepHandled, TypesKeepLed, BatchesKeepLed}

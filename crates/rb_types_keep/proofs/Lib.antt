@@ -17,3 +17,4 @@ mod Served
 mod Far
 mod ScriptRuns
 mod NodeSizes
+mod FormedCode

@@ -1,5 +1,5 @@
 -- Nodes of steps are as deep as their blocks, and have as many entries as these have steps.
-use Rattle.std.proofs.Common.{◌≡◌, ℕ, zero, suc, ◌+◌, ◌≤◌, max, arith, Bool as Truth, true, false}
+use Rattle.std.proofs.Common.{ℕ, zero, suc, ◌+◌, ◌≤◌, arith, Bool as Truth, true, false}
 use Rattle.rb_trees.specs.mirror.Scripts.{Step, Steps, Do, Keep, Let, If, Each, NoSteps, MoreSteps}
 use Rattle.rb_trees.specs.mirror.Forests.{Node, Nodes, Entry, Entries, Holds, Value, Branch, Rows, NoEntries, MoreEntries, NoNodes, MoreNodes}
 use Rattle.rb_types_keep.specs.Scripts.{IsKept, IsNode, IsBranch, AreNodes, AreTurns, Then, AreNone, KeptFirst, StepGives, StepsGive}

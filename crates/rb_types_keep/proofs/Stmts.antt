@@ -36,7 +36,7 @@ use Rattle.rb_meaning_code.specs.Statements.{Effect, nothing, block, truth_of, e
 use Rattle.rb_types_keep.specs.Kept.{IsOwnFault, Fair}
 use Rattle.rb_types_keep.specs.Formed.{IsFormedExpr, IsFormedStmt, AreFormedStmts}
 use Rattle.rb_types_keep.specs.Own.{IsOwnKind, IsOwnPlace}
-use Rattle.rb_types_keep.specs.Ends.{Grown, LocalFits, LocalHolds, Ends, OfKind, Nothing, Side, Own, InBatch, IsFar, IsAnswer, Keeps}
+use Rattle.rb_types_keep.specs.Ends.{Grown, LocalFits, Ends, OfKind, Nothing, Side, Own, InBatch, IsFar, IsAnswer, Keeps}
 use Rattle.rb_types_keep.specs.Noted.{IsNotedExpr, IsNotedStmt, AreNotedStmts}
 use Rattle.rb_types_keep.proofs.Checks.{bind_ok, then_ok, known_ok, must_ok, placed_ok, wanted_ok}
 use Rattle.rb_types_keep.proofs.Values.{of_class, grown_same, grown_on, fits_more, all_more, names_less, names_added, frame_longer, text_fits}
@@ -409,7 +409,7 @@ module _ (side : Side) (x : Context) (known' : Known x.declared) (run : Body →
         let ca = closed_ok scope (check_stmts x t.0 a) after t.2 in
         let own_inner = λ (own_side : side ≡ Own). place_added x scope (record { name = name; kind = u.0; fixed = true }) (own own_side) (turn_own is s.0 u.0 over (own_list own_side)) in
         let ra = stmts_run a gas (with_variable scope name u.0 true) ca.0 own_inner (subst (λ inner. check_stmts x inner a ≡ Ok ca.0) (sym same) ca.1) f.1
-            (λ kinds is_batch. subst (λ inner. AreNotedStmts kinds x inner a) (sym same) ((n kinds is_batch).1 p t.0 (ap (with_place (expr_at e)) s.1) t.1)) in
+        (λ kinds is_batch. subst (λ inner. AreNotedStmts kinds x inner a) (sym same) ((n kinds is_batch).1 p t.0 (ap (with_place (expr_at e)) s.1) t.1)) in
         adds_none _ ca.2 own (λ l state. then_goes _ (here scope own e l s.0 s.1 f.0 (λ kinds is_batch. (n kinds is_batch).0) state) (λ v l1 fv state1 g1.
         turns_run side x scope ca.0 at name s.0 u.0 (performs_all bodies gas a) own_list over ra v l1 fv state1))
     stmt_runs (Try at a name b) gas scope after own h f n =
@@ -422,7 +422,7 @@ module _ (side : Side) (x : Context) (known' : Known x.declared) (run : Body →
         let ra = stmts_run a gas scope ca.0 own ca.1 f.0 (λ kinds is_batch. (n kinds is_batch).0) in
         let own_inner = λ (own_side : side ≡ Own). place_added x scope (record { name = name; kind = kind.Text; fixed = true }) (own own_side) tt in
         let rb = stmts_run b gas (with_variable scope name kind.Text true) cb.0 own_inner (subst (λ inner. check_stmts x inner b ≡ Ok cb.0) (sym same) cb.1) f.1
-            (λ kinds is_batch. subst (λ inner. AreNotedStmts kinds x inner b) (sym same) ((n kinds is_batch).1 u.0 u.1)) in
+        (λ kinds is_batch. subst (λ inner. AreNotedStmts kinds x inner b) (sym same) ((n kinds is_batch).1 u.0 u.1)) in
         adds_none _ cb.2 own (λ l state. record {
           keeps = keeps_seq x.declared side (Closes x scope (classes_of l.heap)) _ (block (performs_all bodies gas a) l) (handles name (performs_all bodies gas b))
               (block_closes (performs_all bodies gas a) state ra.sub (ra.runs l state))

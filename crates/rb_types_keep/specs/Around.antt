@@ -1,6 +1,6 @@
 -- Laws of typed code in its surroundings: a handler, or surroundings that may choose, whose answers fit as long as a fact
 -- of them holds.
-use Rattle.std.specs.Prelude.{◌≡◌, ℕ, Option, Result, Ok, Err}
+use Rattle.std.specs.Prelude.{ℕ, Option, Result, Ok}
 use Rattle.rb_trees.specs.declared.values.Value.{Value}
 use Rattle.rb_trees.specs.declared.outcomes.Raised.{Raised}
 use Rattle.rb_meaning_types.specs.Kinds.{Kind}

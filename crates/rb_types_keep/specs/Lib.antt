@@ -1,6 +1,7 @@
 -- What typed code keeps, and the laws of it.
 pub mod Kept
 pub mod Formed
+pub mod Numbers
 pub mod Own
 pub mod Ends
 pub mod Noted
