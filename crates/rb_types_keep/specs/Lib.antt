@@ -1,0 +1,13 @@
+-- What typed code keeps, and the laws of it.
+pub mod Kept
+pub mod Formed
+pub mod Numbers
+pub mod Own
+pub mod Ends
+pub mod Noted
+pub mod Operators
+pub mod Code
+pub mod Around
+pub mod Remote
+pub mod Scripts
+pub mod Nodes
