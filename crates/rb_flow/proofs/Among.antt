@@ -144,7 +144,7 @@ among_totals q x (c ∷ bs) b h = elim (contained_cases c bs b h) [
   | inr m ↦ (let more = among_totals q x bs b m in omega arith)
 ]
 
-batch_once : (x : Facts) (p : Program) → IsLawful p → (b : Outermost) → Contains (program_batches x p) b → Once (batch_sites x b)
+pub batch_once : (x : Facts) (p : Program) → IsLawful p → (b : Outermost) → Contains (program_batches x p) b → Once (batch_sites x b)
 batch_once x p lawful b h q =
     let few = at_most_once q (classes_positions p.classes ++ body_positions p.body) lawful.positions in
     let all = program_stands q x p in

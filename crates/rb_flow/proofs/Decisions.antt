@@ -100,7 +100,7 @@ rows x ss (TooManyInputs batch count) h = absurd h
 rows x ss (ScriptTooLarge batch bytes) h = absurd h
 
 -- the refusal of a bad part of the batch is one of the table, at the part's position
-part_refused : (x : Facts) (ss : List StmtSite) (u : BadPart) (r : Refusal) → Contains (bad_parts x ss) u → IsFlowRefusal (writers x ss) u r → IsRefusal x ss r × (place r ≡ u.at) × (number r ≤ 2)
+pub part_refused : (x : Facts) (ss : List StmtSite) (u : BadPart) (r : Refusal) → Contains (bad_parts x ss) u → IsFlowRefusal (writers x ss) u r → IsRefusal x ss r × (place r ≡ u.at) × (number r ≤ 2)
 part_refused x ss u (Flow chain) h f = ((u, h, f), chain_ends (writers x ss) u chain f.0, omega arith)
 part_refused x ss u (NotConstant at) h f = ((u, h, f.0, f.1), sym f.0, omega arith)
 part_refused x ss u (UnderLocalCondition condition operation) h f = absurd f

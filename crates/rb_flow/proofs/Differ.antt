@@ -254,6 +254,11 @@ batch_holds (s ∷ ss) t h = elim (Contains-append_cases (all_sites s (own s.stm
   | inr r ↦ right_holds (all_sites s (own s.stmt)) (exprs_of ss) t (batch_holds ss t r)
 ]
 
+-- the parts of an expression of a batch are expressions of it
+pub parts_stand : (ss : List StmtSite) (s : ExprSite) → Contains (exprs_of ss) s → (t : ExprSite) → Contains (expr_sites s.stands s.above s.expr) t → Contains (exprs_of ss) t
+unfolding Holds
+parts_stand ss s h = batch_holds ss s h
+
 -- a bad part of an expression has a site among its sites
 record SiteIn (s : StmtSite) (es : List ExprSite) (e : Expr) : Type 0 where
   pub above : List Over

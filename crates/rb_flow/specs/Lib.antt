@@ -13,3 +13,4 @@ pub mod Answers
 pub mod Begun
 pub mod Program
 pub mod Admission
+pub mod Laws

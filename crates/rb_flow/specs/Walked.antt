@@ -261,6 +261,13 @@ turns_walked x standing scope f c = expr_walked x scope (more_around x scope sta
 abbrev pub list_walked : Facts → Standing → Scope → Findings → Expr → Findings
 list_walked x standing scope f e = expr_walked x scope (more_around x scope standing e) (whole_inside standing (over_rows x e)) f e
 
+-- what is found once an outermost expression is seen, where a remote object may stand or not, and both sides of an assignment
+abbrev pub own_walked : Facts → Standing → Scope → Bool → Findings → Expr → Findings
+own_walked x standing scope may f e = expr_walked x scope standing.around (whole_inside standing may) f e
+
+abbrev pub sides_walked : Facts → Standing → Scope → Findings → Expr → Expr → Findings
+sides_walked x standing scope f a b = own_walked x standing scope false (own_walked x standing scope false f a) b
+
 -- what is found once a statement, its expressions and its blocks are seen
 abbrev mutual
   pub stmt_walked : Facts → Standing → Scope → Findings → Stmt → Findings

@@ -125,16 +125,16 @@ pub fn try_standing(
     scope: &mut Scope,
     standing: &Standing,
     at: u32,
-    a: &[Stmt],
+    a: &Seq<Stmt>,
     name: &Word,
-    b: &[Stmt],
+    b: &Seq<Stmt>,
 ) -> Result<Standing, Memory>
     ensures standing { IfOk result (λ s. s ≡ words.try_standing (facts x.now) scope.old standing.now at (mirror_stmts a.now) name.now (mirror_stmts b.now)) }
     ensures scope { OnOk result (scope.new ≡ scope.old) }
 {
     let mut around = Reading::new(alloc);
-    read_block(alloc, x, scope, &mut around, a)?;
-    read_opened(alloc, x, scope, &mut around, name, at, b)?;
+    read_block(alloc, x, scope, &mut around, a.as_slice())?;
+    read_opened(alloc, x, scope, &mut around, name, at, b.as_slice())?;
     around.add(&standing.around)?;
     Ok(Standing {
         script: false,

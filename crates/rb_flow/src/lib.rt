@@ -8,6 +8,7 @@ mod earliest;
 mod facts;
 mod findings;
 mod frames;
+mod laws;
 mod levels;
 mod origins;
 mod outermost;
@@ -25,3 +26,4 @@ mod writers;
 
 pub use admission::{AdmitStop, Admitted, admit};
 pub use chain::{Reach, chain_to, least_chain, search_levels};
+pub use laws::{admitted_programs_send_only_portable_parts, each_bad_part_has_a_refusal};

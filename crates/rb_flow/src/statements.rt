@@ -2,7 +2,7 @@
 
 #![tactic(auto, using(crate::proofs::WalkRules::walk_stmt_rules))]
 
-ghost use Rattle.std.specs.Prelude.{◌≡◌, take, length, IfOk, OnOk};
+ghost use Rattle.std.specs.Prelude.{◌≡◌, true, take, length, IfOk, OnOk};
 ghost use Rattle.rb_trees.specs.mirror.Code.{mirror_expr, mirror_stmt, mirror_stmts};
 ghost use Rattle.rb_meaning_flow.specs.declared.scopes.Role.{Role};
 ghost use Rattle.rb_meaning_flow.specs.Scopes.{with_variable};
@@ -53,6 +53,59 @@ fn walk_whole(
     walk_expr(alloc, x, scope, &standing.around, &inside, found, e)
 }
 
+// What a `val` binds, and the variable.
+fn walk_val(
+    alloc: Global,
+    x: &Typed,
+    standing: &Standing,
+    scope: &mut Scope,
+    found: &mut Findings,
+    name: &Word,
+    at: u32,
+    e: &Expr,
+) -> Result<(), Memory>
+    ensures found { OnOk result (found.new ≡ words.own_walked (facts x.now) standing.now scope.old standing.now.script found.old (mirror_expr e.now)) }
+    ensures scope { OnOk result (scope.new ≡ with_variable scope.old name.now (words.val_role_in (facts x.now) standing.now scope.old (mirror_expr e.now)) at) }
+{
+    walk_whole(alloc, x, standing, scope, found, standing.script, e)?;
+    let role = val_role(x, standing, scope, e);
+    bind(alloc, scope, name, role, at)
+}
+
+// The same of a `var`.
+fn walk_var(
+    alloc: Global,
+    x: &Typed,
+    standing: &Standing,
+    scope: &mut Scope,
+    found: &mut Findings,
+    name: &Word,
+    at: u32,
+    e: &Expr,
+) -> Result<(), Memory>
+    ensures found { OnOk result (found.new ≡ words.own_walked (facts x.now) standing.now scope.old true found.old (mirror_expr e.now)) }
+    ensures scope { OnOk result (scope.new ≡ with_variable scope.old name.now Role.Plain at) }
+{
+    walk_whole(alloc, x, standing, scope, found, true, e)?;
+    bind(alloc, scope, name, Role::Plain, at)
+}
+
+// Both sides of an assignment.
+fn walk_sides(
+    alloc: Global,
+    x: &Typed,
+    standing: &Standing,
+    scope: &Scope,
+    found: &mut Findings,
+    a: &Expr,
+    b: &Expr,
+) -> Result<(), Memory>
+    ensures { OnOk result (found.new ≡ words.sides_walked (facts x.now) standing.now scope.now found.old (mirror_expr a.now) (mirror_expr b.now)) }
+{
+    walk_whole(alloc, x, standing, scope, found, false, a)?;
+    walk_whole(alloc, x, standing, scope, found, false, b)
+}
+
 // The condition of an `if`, and what stands around its branches.
 fn enter_if(
     alloc: Global,
@@ -61,13 +114,13 @@ fn enter_if(
     scope: &Scope,
     found: &mut Findings,
     c: &Expr,
-    a: &[Stmt],
-    b: &[Stmt],
+    a: &Seq<Stmt>,
+    b: &Seq<Stmt>,
 ) -> Result<Standing, Memory>
     ensures found { OnOk result (found.new ≡ words.condition_walked (facts x.now) standing.now scope.now found.old (mirror_expr c.now)) }
     ensures within { IfOk result (λ s. s ≡ words.branch_standing (facts x.now) scope.now standing.now (mirror_expr c.now) (mirror_stmts a.now) (mirror_stmts b.now)) }
 {
-    let within = branch_standing(alloc, x, scope, standing, c, a, b)?;
+    let within = branch_standing(alloc, x, scope, standing, c, a.as_slice(), b.as_slice())?;
     let inside = whole_inside(standing, false);
     walk_expr(alloc, x, scope, &within.around, &inside, found, c)?;
     Ok(within)
@@ -140,34 +193,15 @@ fn walk_within(
     ensures scope { OnOk result (scope.new ≡ words.scope_then (facts x.now) standing.now scope.old (mirror_stmt s.now)) }
 {
     match &s.form {
-        StmtForm::Val(name, e) => {
-            walk_whole(alloc, x, standing, scope, found, standing.script, e)?;
-            let role = val_role(x, standing, scope, e);
-            bind(alloc, scope, name, role, s.at)
-        }
-        StmtForm::Var(name, e) => {
-            walk_whole(alloc, x, standing, scope, found, true, e)?;
-            bind(alloc, scope, name, Role::Plain, s.at)
-        }
-        StmtForm::Assign(a, b) => {
-            walk_whole(alloc, x, standing, scope, found, false, a)?;
-            walk_whole(alloc, x, standing, scope, found, false, b)
-        }
+        StmtForm::Val(name, e) => walk_val(alloc, x, standing, scope, found, name, s.at, e),
+        StmtForm::Var(name, e) => walk_var(alloc, x, standing, scope, found, name, s.at, e),
+        StmtForm::Assign(a, b) => walk_sides(alloc, x, standing, scope, found, a, b),
         StmtForm::Run(e) => walk_whole(alloc, x, standing, scope, found, has_call(e), e),
         StmtForm::Print(e) | StmtForm::Throw(e) => {
             walk_whole(alloc, x, standing, scope, found, false, e)
         }
         StmtForm::If(c, a, b) => {
-            let within = enter_if(
-                alloc,
-                x,
-                standing,
-                scope,
-                found,
-                c,
-                a.as_slice(),
-                b.as_slice(),
-            )?;
+            let within = enter_if(alloc, x, standing, scope, found, c, a, b)?;
             walk_block(alloc, x, &within, scope, found, a.as_slice())?;
             walk_block(alloc, x, &within, scope, found, b.as_slice())
         }
@@ -178,55 +212,16 @@ fn walk_within(
         StmtForm::For(name, e, a) => {
             let within = enter_for(alloc, x, standing, scope, found, e)?;
             let role = turn_role(x, e);
-            walk_opened(
-                alloc,
-                x,
-                &within,
-                scope,
-                found,
-                name,
-                role,
-                s.at,
-                a.as_slice(),
-            )
+            walk_opened(alloc, x, &within, scope, found, name, role, s.at, a)
         }
         StmtForm::Try(a, name, b) => {
-            let within = try_standing(
-                alloc,
-                x,
-                scope,
-                standing,
-                s.at,
-                a.as_slice(),
-                name,
-                b.as_slice(),
-            )?;
+            let within = try_standing(alloc, x, scope, standing, s.at, a, name, b)?;
             walk_block(alloc, x, &within, scope, found, a.as_slice())?;
-            walk_opened(
-                alloc,
-                x,
-                &within,
-                scope,
-                found,
-                name,
-                Role::Plain,
-                s.at,
-                b.as_slice(),
-            )
+            walk_opened(alloc, x, &within, scope, found, name, Role::Plain, s.at, b)
         }
         StmtForm::Batch(_, root, a) => {
             let within = batch_standing(alloc, standing)?;
-            walk_opened(
-                alloc,
-                x,
-                &within,
-                scope,
-                found,
-                root,
-                Role::Plain,
-                s.at,
-                a.as_slice(),
-            )
+            walk_opened(alloc, x, &within, scope, found, root, Role::Plain, s.at, a)
         }
     }
 }
@@ -261,14 +256,14 @@ fn walk_opened(
     name: &Word,
     role: Role,
     node: u32,
-    ss: &[Stmt],
+    ss: &Seq<Stmt>,
 ) -> Result<(), Memory>
     ensures found { OnOk result (found.new ≡ words.block_walked (facts x.now) standing.now (with_variable scope.old name.now role node) found.old (mirror_stmts ss.now)) }
     ensures scope { OnOk result (scope.new ≡ scope.old) }
 {
     let count = scope.len();
     bind(alloc, scope, name, role, node)?;
-    walk_stmts(alloc, x, standing, scope, found, ss)?;
+    walk_stmts(alloc, x, standing, scope, found, ss.as_slice())?;
     scope.truncate(count);
     Ok(())
 }
