@@ -4,7 +4,7 @@ use Rattle.std.proofs.lemmas.Bool.{and_parts}
 use Rattle.rb_trees.specs.declared.values.Value.{Value}
 use Rattle.rb_trees.specs.declared.values.Value.TheVariants as value
 use Rattle.rb_trees.specs.declared.outcomes.Raised.{Raised}
-use Rattle.rb_trees.specs.mirror.Code.{Expr, expr_at}
+use Rattle.rb_trees.specs.mirror.Code.{Stmts, Expr, expr_at}
 use Rattle.rb_trees.specs.mirror.Declarations.{Body, Method}
 use Rattle.rb_meaning_types.specs.Kinds as kind
 use Rattle.rb_meaning_types.specs.Kinds.{Kind, kind_of, is_unit, same_kind}
@@ -21,19 +21,19 @@ use Rattle.rb_meaning_code.specs.Faults.{fuel_used}
 use Rattle.rb_meaning_code.specs.Dialogue.{Question, Line, Taken, Invoke, Turn, ListTurn, Outcome, Gave, Faulted, Dialogue, Done, Ask, AskBatch, Run}
 use Rattle.rb_meaning_code.specs.Calls.{Bodies}
 use Rattle.rb_meaning_code.specs.Statements.{performs_all}
-use Rattle.rb_meaning_code.specs.Bodies.{returns, runs, body_within, bodies_of}
+use Rattle.rb_meaning_code.specs.Bodies.{returns, runs, body_within}
 use Rattle.rb_types_keep.specs.Formed.{IsFormedReturn}
 use Rattle.rb_types_keep.specs.Own.{IsOwnPlace}
-use Rattle.rb_types_keep.specs.Ends.{LocalFits, Ends, OfKind, Returns, Side, Own, InBatch, IsAsked, IsAnswer, Keeps, place_in}
+use Rattle.rb_types_keep.specs.Ends.{LocalFits, Ends, OfKind, Returns, Side, Own, InBatch, IsAsked, IsAnswer, Keeps}
 use Rattle.rb_types_keep.specs.Noted.{IsNotedExpr, AreNotedExprs, IsNotedStmt, AreNotedStmts}
-use Rattle.rb_types_keep.specs.Code.{TypesKeep, BatchesKeep}
+use Rattle.rb_types_keep.specs.Code.{AreTyped, Place, context, LeadTo, bodies, TypesKeep, BatchesKeep}
 use Rattle.rb_types_keep.proofs.Checks.{bind_ok, must_ok, placed_ok, same_sound}
 use Rattle.rb_types_keep.proofs.Values.{grown_same, unit_fits}
 use Rattle.rb_types_keep.proofs.Faults.{plain_own, raised_fits}
 use Rattle.rb_types_keep.proofs.Known.{Known, typed_known, IsMethod, class_known, class_apart, method_known}
 use Rattle.rb_types_keep.proofs.OwnKinds.{own_parameters}
 use Rattle.rb_types_keep.proofs.Exprs.{NotedExpr, SafeBodies, value_runs, values_run, call_runs}
-use Rattle.rb_types_keep.proofs.Stmts.{stmt_runs, stmts_run}
+use Rattle.rb_types_keep.proofs.Stmts.{Adds, stmt_runs, stmts_run}
 use Rattle.rb_types_keep.proofs.Steps.{keeps_more, Runs, goes, ends, block_runs}
 
 is_the_unit : (k : Kind) → is_unit k ≡ true → kind.Unit ≡ k
@@ -47,15 +47,15 @@ NotedReturn side x scope None = Unit {0}
 NotedReturn side x scope (Some e) = NotedExpr side x scope e
 
 module _ (side : Side) (x : Context) (known' : Known x.declared) (run : Body → Local → Run Value) (run_ok : SafeBodies x.declared side run) where
-  abbrev bodies : Bodies
-  bodies = record { classes = x.declared.classes; run = run }
+  abbrev all_bodies : Bodies
+  all_bodies = record { classes = x.declared.classes; run = run }
 
   -- the value of a `return`
   return_runs : (scope : Scope) → (side ≡ Own → IsOwnPlace x scope) → (at : ℕ) (k : Kind) (result : Option Expr) (l : Local) → check_return x scope at k result ≡ Ok tt → IsFormedReturn result → NotedReturn side x scope result → LocalFits x scope l
-      → Runs side x scope scope (OfKind x k) (classes_of l.heap) (returns bodies result l)
+      → Runs side x scope scope (OfKind x k) (classes_of l.heap) (returns all_bodies result l)
   return_runs scope own at k None l h f n state =
       let same = is_the_unit k (must_ok (is_unit k) (MissingReturn at) h) in
-      subst (λ m. Runs side x scope scope (OfKind x m) (classes_of l.heap) (returns bodies None l)) same (ends value.Unit (unit_fits x.declared.interfaces (classes_of l.heap)) state (grown_same (classes_of l.heap)))
+      subst (λ m. Runs side x scope scope (OfKind x m) (classes_of l.heap) (returns all_bodies None l)) same (ends value.Unit (unit_fits x.declared.interfaces (classes_of l.heap)) state (grown_same (classes_of l.heap)))
   return_runs scope own at k (Some e) l h f n state =
       let s = placed_ok (expr_at e) (type_of x scope e) _ tt h in
       let both = and_parts (not (is_unit k)) (same_kind k s.0) (must_ok (not (is_unit k) && same_kind k s.0) _ s.2) in
@@ -113,41 +113,58 @@ keeps_far d kinds P (AskBatch at l go) h = (h.0, λ o kept. keeps_far d kinds P 
 bodies_at : (d : Declarations) → Known d → (kinds : ℕ → Option Kind) (gas : ℕ) → SafeBodies d (InBatch kinds) (body_within d.classes gas)
 bodies_at d known' kinds gas class m l apart method state = keeps_far d kinds _ (body_within d.classes gas m.body l) (bodies_keep d known' gas class m l apart method state)
 
+-- what bodies do, by the place from which they are called
+own_bodies : (d : Declarations) → AreTyped d → (gas : ℕ) → SafeBodies d Own (body_within d.classes gas)
+own_bodies d typed gas = bodies_keep d (typed_known d typed) gas
+
+far_bodies : (d : Declarations) → AreTyped d → (kinds : ℕ → Option Kind) (gas : ℕ) → SafeBodies d (InBatch kinds) (body_within d.classes gas)
+far_bodies d typed kinds gas = bodies_at d (typed_known d typed) kinds gas
+
+module _ (d : Declarations) (typed : AreTyped d) (p : Place) (gas : ℕ) where
+  abbrev known_here : Known (context d p).declared
+  known_here = typed_known d typed
+
+  own_stmts : IsOwnPlace (context d p) p.scope → (ss : Stmts) (after : Scope) → LeadTo d p ss after → Adds Own (context d p) p.scope after (performs_all (bodies d gas) gas ss)
+  own_stmts own ss after t = stmts_run Own (context d p) known_here (body_within d.classes gas) (own_bodies d typed gas) ss gas p.scope after (λ o. own) t.0 t.1 (λ kinds o. absurd (cc (o)))
+
 pub types_keep : TypesKeep
 types_keep d typed = record {
-  values = λ this remote scope e k gas l t f stands.
-      (value_runs Own (place_in d this remote) (typed_known d typed) (body_within d.classes gas) (bodies_keep d (typed_known d typed) gas) scope (λ o. stands.own) e l k t f (λ kinds o. absurd (cc (o))) stands.fits).keeps;
-  lists = λ this remote scope es ks gas l t f stands.
-      (values_run Own (place_in d this remote) (typed_known d typed) (body_within d.classes gas) (bodies_keep d (typed_known d typed) gas) scope (λ o. stands.own) es l ks t f (λ kinds o. absurd (cc (o))) stands.fits).keeps;
-  statements = λ this remote scope after s gas l t f stands.
-      ((stmt_runs Own (place_in d this remote) (typed_known d typed) (body_within d.classes gas) (bodies_keep d (typed_known d typed) gas) s gas scope after (λ o. stands.own) t f (λ kinds o. absurd (cc (o)))).runs l stands.fits).keeps;
-  sequences = λ this remote scope after ss gas l t f stands.
-      ((stmts_run Own (place_in d this remote) (typed_known d typed) (body_within d.classes gas) (bodies_keep d (typed_known d typed) gas) ss gas scope after (λ o. stands.own) t f (λ kinds o. absurd (cc (o)))).runs l stands.fits).keeps;
-  blocks = λ this remote scope after ss gas l t f stands.
-      let r = stmts_run Own (place_in d this remote) (typed_known d typed) (body_within d.classes gas) (bodies_keep d (typed_known d typed) gas) ss gas scope after (λ o. stands.own) t f (λ kinds o. absurd (cc (o))) in
-      (block_runs {l = l} (performs_all (bodies_of d.classes gas) gas ss) stands.fits r.sub (r.runs l stands.fits)).keeps;
-  calls = λ this remote scope class name m receiver args at gas l c stands.
-      (call_runs Own (place_in d this remote) (typed_known d typed) (body_within d.classes gas) (bodies_keep d (typed_known d typed) gas) scope l at class name c.has.of_class m receiver args c.has.found c.has.method stands.fits c.on c.args_fit).keeps;
+  values = λ p e k gas l t stands.
+      (value_runs Own (context d p) (typed_known d typed) (body_within d.classes gas) (own_bodies d typed gas) p.scope (λ o. stands.own) e l k t.0 t.1 (λ kinds o. absurd (cc (o))) stands.fits).keeps;
+  lists = λ p es ks gas l t stands.
+      (values_run Own (context d p) (typed_known d typed) (body_within d.classes gas) (own_bodies d typed gas) p.scope (λ o. stands.own) es l ks t.0 t.1 (λ kinds o. absurd (cc (o))) stands.fits).keeps;
+  statements = λ p s after gas l t stands.
+      ((stmt_runs Own (context d p) (typed_known d typed) (body_within d.classes gas) (own_bodies d typed gas) s gas p.scope after (λ o. stands.own) t.0 t.1 (λ kinds o. absurd (cc (o)))).runs l stands.fits).keeps;
+  sequences = λ p ss after gas l t stands. ((own_stmts d typed p gas stands.own ss after t).runs l stands.fits).keeps;
+  blocks = λ p ss after gas l t stands.
+      let r = own_stmts d typed p gas stands.own ss after t in
+      (block_runs {l = l} (performs_all (bodies d gas) gas ss) stands.fits r.sub (r.runs l stands.fits)).keeps;
+  calls = λ p class name m receiver args at gas l c stands.
+      (call_runs Own (context d p) (typed_known d typed) (body_within d.classes gas) (own_bodies d typed gas) p.scope l at class name c.has.of_class m receiver args c.has.found c.has.method stands.fits c.on c.args_fit).keeps;
   methods = λ class name m gas l has fits.
       let known' = typed_known d typed in
       method_keeps d known' (body_within d.classes gas) (bodies_keep d known' gas) gas class m l (class_apart d known' class has.of_class has.found)
       (method_known d class has.of_class (class_known d known' class has.of_class has.found) name m has.method) fits;
 }
 
+noted_in : {kinds : ℕ → Option Kind} (P : (ℕ → Option Kind) → Type 0) → P kinds → (ks : ℕ → Option Kind) → InBatch kinds ≡ InBatch ks → P ks
+noted_in {kinds = kinds} P n ks e = let same : kinds ≡ ks = cc (e) in subst P same n
+
+far_stmts : (d : Declarations) (typed : AreTyped d) (kinds : ℕ → Option Kind) (p : Place) (gas : ℕ) (ss : Stmts) (after : Scope) → LeadTo d p ss after → AreNotedStmts kinds (context d p) p.scope ss
+    → Adds (InBatch kinds) (context d p) p.scope after (performs_all (bodies d gas) gas ss)
+far_stmts d typed kinds p gas ss after t n =
+    stmts_run (InBatch kinds) (context d p) (typed_known d typed) (body_within d.classes gas) (far_bodies d typed kinds gas) ss gas p.scope after (λ o. absurd (cc (o))) t.0 t.1 (noted_in (λ ks. AreNotedStmts ks (context d p) p.scope ss) n)
+
 pub batches_keep : BatchesKeep
 batches_keep d typed kinds = record {
-  values = λ this remote scope e k gas l t f n fits.
-      (value_runs (InBatch kinds) (place_in d this remote) (typed_known d typed) (body_within d.classes gas) (bodies_at d (typed_known d typed) kinds gas) scope (λ o. absurd (cc (o))) e l k t f (noted_in (λ ks. IsNotedExpr ks (place_in d this remote) scope e) n) fits).keeps;
-  lists = λ this remote scope es ks gas l t f n fits.
-      (values_run (InBatch kinds) (place_in d this remote) (typed_known d typed) (body_within d.classes gas) (bodies_at d (typed_known d typed) kinds gas) scope (λ o. absurd (cc (o))) es l ks t f (noted_in (λ ks'. AreNotedExprs ks' (place_in d this remote) scope es) n) fits).keeps;
-  statements = λ this remote scope after s gas l t f n fits.
-      ((stmt_runs (InBatch kinds) (place_in d this remote) (typed_known d typed) (body_within d.classes gas) (bodies_at d (typed_known d typed) kinds gas) s gas scope after (λ o. absurd (cc (o))) t f (noted_in (λ ks. IsNotedStmt ks (place_in d this remote) scope s) n)).runs l fits).keeps;
-  sequences = λ this remote scope after ss gas l t f n fits.
-      ((stmts_run (InBatch kinds) (place_in d this remote) (typed_known d typed) (body_within d.classes gas) (bodies_at d (typed_known d typed) kinds gas) ss gas scope after (λ o. absurd (cc (o))) t f (noted_in (λ ks. AreNotedStmts ks (place_in d this remote) scope ss) n)).runs l fits).keeps;
-  blocks = λ this remote scope after ss gas l t f n fits.
-      let r = stmts_run (InBatch kinds) (place_in d this remote) (typed_known d typed) (body_within d.classes gas) (bodies_at d (typed_known d typed) kinds gas) ss gas scope after (λ o. absurd (cc (o))) t f (noted_in (λ ks. AreNotedStmts ks (place_in d this remote) scope ss) n) in
-      (block_runs {l = l} (performs_all (bodies_of d.classes gas) gas ss) fits r.sub (r.runs l fits)).keeps;
+  values = λ p e k gas l t n fits.
+      (value_runs (InBatch kinds) (context d p) (typed_known d typed) (body_within d.classes gas) (far_bodies d typed kinds gas) p.scope (λ o. absurd (cc (o))) e l k t.0 t.1 (noted_in (λ ks. IsNotedExpr ks (context d p) p.scope e) n) fits).keeps;
+  lists = λ p es types gas l t n fits.
+      (values_run (InBatch kinds) (context d p) (typed_known d typed) (body_within d.classes gas) (far_bodies d typed kinds gas) p.scope (λ o. absurd (cc (o))) es l types t.0 t.1 (noted_in (λ ks. AreNotedExprs ks (context d p) p.scope es) n) fits).keeps;
+  statements = λ p s after gas l t n fits.
+      ((stmt_runs (InBatch kinds) (context d p) (typed_known d typed) (body_within d.classes gas) (far_bodies d typed kinds gas) s gas p.scope after (λ o. absurd (cc (o))) t.0 t.1 (noted_in (λ ks. IsNotedStmt ks (context d p) p.scope s) n)).runs l fits).keeps;
+  sequences = λ p ss after gas l t n fits. ((far_stmts d typed kinds p gas ss after t n).runs l fits).keeps;
+  blocks = λ p ss after gas l t n fits.
+      let r = far_stmts d typed kinds p gas ss after t n in
+      (block_runs {l = l} (performs_all (bodies d gas) gas ss) fits r.sub (r.runs l fits)).keeps;
 }
-  where
-    noted_in : (P : (ℕ → Option Kind) → Type 0) → P kinds → (ks : ℕ → Option Kind) → InBatch kinds ≡ InBatch ks → P ks
-    noted_in P n ks e = let same : kinds ≡ ks = cc (e) in subst P same n

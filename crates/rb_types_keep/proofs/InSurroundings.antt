@@ -28,11 +28,11 @@ led d side Holds R fits P (AskBatch at l go) k w w' a holds (inr (x, e, is)) = a
 so_in_batches : {d : Declarations} {kinds : ℕ → Option Kind} {Leads Other : (A : Type 0) → (A → Type 0) → Dialogue A → Type 0} → ((A : Type 0) (P : A → Type 0) (run : Dialogue A) → Leads A P run → Other A P run)
     → OfBatchCode d kinds Leads → OfBatchCode d kinds Other
 so_in_batches f all = record {
-  values = λ this remote scope e k gas l t g n fits. f _ _ _ (all.values this remote scope e k gas l t g n fits);
-  lists = λ this remote scope es ks gas l t g n fits. f _ _ _ (all.lists this remote scope es ks gas l t g n fits);
-  statements = λ this remote scope after s gas l t g n fits. f _ _ _ (all.statements this remote scope after s gas l t g n fits);
-  sequences = λ this remote scope after ss gas l t g n fits. f _ _ _ (all.sequences this remote scope after ss gas l t g n fits);
-  blocks = λ this remote scope after ss gas l t g n fits. f _ _ _ (all.blocks this remote scope after ss gas l t g n fits);
+  values = λ p e k gas l t n fits. f _ _ _ (all.values p e k gas l t n fits);
+  lists = λ p es ks gas l t n fits. f _ _ _ (all.lists p es ks gas l t n fits);
+  statements = λ p s after gas l t n fits. f _ _ _ (all.statements p s after gas l t n fits);
+  sequences = λ p ss after gas l t n fits. f _ _ _ (all.sequences p ss after gas l t n fits);
+  blocks = λ p ss after gas l t n fits. f _ _ _ (all.blocks p ss after gas l t n fits);
 }
 
 pub types_keep_handled : {S : Type 0} (Holds : S → Type 0) → TypesKeepHandled Holds

@@ -27,7 +27,7 @@ use Rattle.rb_meaning_code.specs.Calls.{method_of}
 use Rattle.rb_meaning_code.specs.Remote.{Server, Reply, and_then, replies, Item, AnInt, ABool, AText, AnObject, Kind, Nothing, One, Rows, kind_of, seen_item, seen_items, seen_rows, seen_nothing, seen, seen_as, taken_object, taken_as, taken_all, remote_object, begun, server_of, served, returned, invoke}
 use Rattle.rb_types_keep.specs.Formed.{AreFormed}
 use Rattle.rb_types_keep.specs.Ends.{Grown, place_in, Ends, OfKind}
-use Rattle.rb_types_keep.specs.Code.{ArgumentsFit, HasMethod, CallFits, Stands}
+use Rattle.rb_types_keep.specs.Code.{ArgumentsFit, HasMethod, CallFits, Place, Stands}
 use Rattle.rb_types_keep.specs.Remote.{IsBoundedForm, IsBounded, IsItemForm, AreRowsForm, IsNothingForm, IsKindForm, IsOfKind, IsCallFault, TableKeeps, ReplyKeeps, CallsKeep}
 use Rattle.rb_types_keep.proofs.Faults.{empty_text}
 use Rattle.rb_types_keep.proofs.Values.{unit_out, int_out, bool_out, text_out, grown_same, int_fits, bool_fits, text_fits, object_fits}
@@ -291,9 +291,10 @@ module _ (classes : List Class) (typed : check_service classes ≡ Ok tt) (forme
         on = object_fits [] (classes_of s.table) (o.0).class object refl (class_at s.table object o.0 o.1);
         args_fit = values_taken s.table m.signature.params args values bounded taken;
       } in
-      let stands : Stands (place_in (of_service classes) None true) [] (begun s) = record { own = tt; fits = record { holds = record { names_fit = tt; heap_fits = fits.heap_fits }; count = refl } } in
+      let outside : Place = record { this = None; remote = true; scope = [] } in
+      let stands : Stands (of_service classes) outside (begun s) = record { own = tt; fits = record { holds = record { names_fit = tt; heap_fits = fits.heap_fits }; count = refl } } in
       returned_keeps (type.kind_of m.signature.result) s.table (served classes at object method values s) fits
-      ((services_end classes typed formed).calls None true [] (o.0).class method m (value.Ref object) values at s.fuel (begun s) call_fits stands))))
+      ((services_end classes typed formed).calls outside (o.0).class method m (value.Ref object) values at s.fuel (begun s) call_fits stands))))
 
 pub calls_keep : CallsKeep
 calls_keep classes typed formed root at kind target method args s fits bounded = invoke_keeps classes typed formed root at kind target method args s fits bounded

@@ -17,12 +17,12 @@ use Rattle.rb_types_keep.proofs.Bodies.{types_keep}
 -- what follows from a fact of all typed code
 pub so : {d : Declarations} {Leads Other : (A : Type 0) → (A → Type 0) → Dialogue A → Type 0} → ((A : Type 0) (P : A → Type 0) (run : Dialogue A) → Leads A P run → Other A P run) → OfTypedCode d Leads → OfTypedCode d Other
 so f all = record {
-  values = λ this remote scope e k gas l t g stands. f _ _ _ (all.values this remote scope e k gas l t g stands);
-  lists = λ this remote scope es ks gas l t g stands. f _ _ _ (all.lists this remote scope es ks gas l t g stands);
-  statements = λ this remote scope after s gas l t g stands. f _ _ _ (all.statements this remote scope after s gas l t g stands);
-  sequences = λ this remote scope after ss gas l t g stands. f _ _ _ (all.sequences this remote scope after ss gas l t g stands);
-  blocks = λ this remote scope after ss gas l t g stands. f _ _ _ (all.blocks this remote scope after ss gas l t g stands);
-  calls = λ this remote scope class name m receiver args at gas l c stands. f _ _ _ (all.calls this remote scope class name m receiver args at gas l c stands);
+  values = λ p e k gas l t stands. f _ _ _ (all.values p e k gas l t stands);
+  lists = λ p es ks gas l t stands. f _ _ _ (all.lists p es ks gas l t stands);
+  statements = λ p s after gas l t stands. f _ _ _ (all.statements p s after gas l t stands);
+  sequences = λ p ss after gas l t stands. f _ _ _ (all.sequences p ss after gas l t stands);
+  blocks = λ p ss after gas l t stands. f _ _ _ (all.blocks p ss after gas l t stands);
+  calls = λ p class name m receiver args at gas l c stands. f _ _ _ (all.calls p class name m receiver args at gas l c stands);
   methods = λ class name m gas l has fits. f _ _ _ (all.methods class name m gas l has fits);
 }
 

@@ -6,7 +6,7 @@ use Rattle.rb_trees.specs.mirror.Declarations.{Param, Interface, Class, Method}
 use Rattle.rb_meaning_types.specs.Kinds.{Kind, Named, kind_of}
 use Rattle.rb_meaning_types.specs.Violations.{Placed}
 use Rattle.rb_meaning_types.specs.Names.{class_named, method_named}
-use Rattle.rb_meaning_types.specs.Declared.{Declarations, Context, of_service, method_context}
+use Rattle.rb_meaning_types.specs.Declared.{Declarations, Context, of_service}
 use Rattle.rb_meaning_types.specs.Scopes.{Scope, parameters}
 use Rattle.rb_meaning_types.specs.Expressions.{type_of, types_of}
 use Rattle.rb_meaning_types.specs.Statements.{check_stmt, check_stmts}
@@ -16,7 +16,7 @@ use Rattle.rb_meaning_types.specs.Programs.{check_service}
 use Rattle.rb_meaning_types.specs.Fits.{classes_of, Fits}
 use Rattle.rb_meaning_code.specs.State.{Local}
 use Rattle.rb_meaning_code.specs.Dialogue.{Dialogue, Outcome, handle}
-use Rattle.rb_meaning_code.specs.Calls.{call}
+use Rattle.rb_meaning_code.specs.Calls.{Bodies, call}
 use Rattle.rb_meaning_code.specs.Expressions.{evaluates, evaluates_all}
 use Rattle.rb_meaning_code.specs.Statements.{performs, performs_all, block}
 use Rattle.rb_meaning_code.specs.Bodies.{bodies_of, runs, in_service}
@@ -32,10 +32,46 @@ pub record AreTyped (d : Declarations) : Type 0 where
   pub formed : AreFormed d.classes
   pub alone : d.service ≡ true → d.interfaces ≡ []
 
+-- Where code stands: the class of `this` in a method, whether it may be remote, and what is in scope.
+pub record Place : Type 0 where
+  pub this : Option (List ℕ)
+  pub remote : Bool
+  pub scope : Scope
+
+abbrev pub context : Declarations → Place → Context
+context d p = place_in d p.this p.remote
+
+-- A local state fits the scope of a place.
+abbrev pub FitsPlace : Declarations → Place → Local → Type 0
+FitsPlace d p l = LocalFits (context d p) p.scope l
+
 -- Code stands at a place of the own side, and its local state fits the scope there.
-pub record Stands (x : Context) (scope : Scope) (l : Local) : Type 0 where
-  pub own : IsOwnPlace x scope
-  pub fits : LocalFits x scope l
+pub record Stands (d : Declarations) (p : Place) (l : Local) : Type 0 where
+  pub own : IsOwnPlace (context d p) p.scope
+  pub fits : FitsPlace d p l
+
+-- typed and formed code of a place: an expression of a type, expressions of types, statements that lead to a scope
+abbrev pub HasKind : Declarations → Place → Expr → Kind → Type 0
+HasKind d p e kind = (type_of (context d p) p.scope e ≡ Ok kind) × IsFormedExpr e
+
+abbrev pub HaveKinds : Declarations → Place → Exprs → List Placed → Type 0
+HaveKinds d p es kinds = (types_of (context d p) p.scope es ≡ Ok kinds) × AreFormedExprs es
+
+abbrev pub LeadsTo : Declarations → Place → Stmt → Scope → Type 0
+LeadsTo d p s after = (check_stmt (context d p) p.scope s ≡ Ok after) × IsFormedStmt s
+
+abbrev pub LeadTo : Declarations → Place → Stmts → Scope → Type 0
+LeadTo d p ss after = (check_stmts (context d p) p.scope ss ≡ Ok after) × AreFormedStmts ss
+
+-- how it ends that begins there in a local state: by a value of a type, by values of types, in a scope
+abbrev pub EndsIn : Declarations → Place → Local → Kind → Outcome Value → Type 0
+EndsIn d p l kind o = Ends (context d p) p.scope p.scope (OfKind (context d p) kind) (classes_of l.heap) o
+
+abbrev pub EndsInAll : Declarations → Place → Local → List Placed → Outcome (List Value) → Type 0
+EndsInAll d p l kinds o = Ends (context d p) p.scope p.scope (OfKinds (context d p) kinds) (classes_of l.heap) o
+
+abbrev pub EndsAt : Declarations → Place → Local → Scope → Outcome (Unit {0}) → Type 0
+EndsAt d p l after o = Ends (context d p) p.scope after Nothing (classes_of l.heap) o
 
 -- as many arguments as parameters, each of its type
 abbrev pub ArgumentsFit : List Interface → List (List ℕ) → List Param → List Value → Type 0
@@ -56,47 +92,45 @@ pub record CallFits (d : Declarations) (class name : List ℕ) (m : Method) (cla
   pub on : Fits d.interfaces classes (Named class) receiver
   pub args_fit : ArgumentsFit d.interfaces classes m.signature.params args
 
--- Of all typed code: each run of it leads to such an end as its types say.
-pub record OfTypedCode (d : Declarations) (Leads : (A : Type 0) → (A → Type 0) → Dialogue A → Type 0) : Type 0 where
-  pub values : (this : Option (List ℕ)) (remote : Bool) (scope : Scope) (e : Expr) (kind : Kind) (gas : ℕ) (l : Local)
-      → type_of (place_in d this remote) scope e ≡ Ok kind → IsFormedExpr e → Stands (place_in d this remote) scope l
-      → Leads (Outcome Value) (Ends (place_in d this remote) scope scope (OfKind (place_in d this remote) kind) (classes_of l.heap)) (evaluates (bodies_of d.classes gas) e l)
-  pub lists : (this : Option (List ℕ)) (remote : Bool) (scope : Scope) (es : Exprs) (kinds : List Placed) (gas : ℕ) (l : Local)
-      → types_of (place_in d this remote) scope es ≡ Ok kinds → AreFormedExprs es → Stands (place_in d this remote) scope l
-      → Leads (Outcome (List Value)) (Ends (place_in d this remote) scope scope (OfKinds (place_in d this remote) kinds) (classes_of l.heap)) (evaluates_all (bodies_of d.classes gas) es l)
-  pub statements : (this : Option (List ℕ)) (remote : Bool) (scope after : Scope) (s : Stmt) (gas : ℕ) (l : Local)
-      → check_stmt (place_in d this remote) scope s ≡ Ok after → IsFormedStmt s → Stands (place_in d this remote) scope l
-      → Leads (Outcome (Unit {0})) (Ends (place_in d this remote) scope after Nothing (classes_of l.heap)) (performs (bodies_of d.classes gas) gas s l)
-  pub sequences : (this : Option (List ℕ)) (remote : Bool) (scope after : Scope) (ss : Stmts) (gas : ℕ) (l : Local)
-      → check_stmts (place_in d this remote) scope ss ≡ Ok after → AreFormedStmts ss → Stands (place_in d this remote) scope l
-      → Leads (Outcome (Unit {0})) (Ends (place_in d this remote) scope after Nothing (classes_of l.heap)) (performs_all (bodies_of d.classes gas) gas ss l)
-  pub blocks : (this : Option (List ℕ)) (remote : Bool) (scope after : Scope) (ss : Stmts) (gas : ℕ) (l : Local)
-      → check_stmts (place_in d this remote) scope ss ≡ Ok after → AreFormedStmts ss → Stands (place_in d this remote) scope l
-      → Leads (Outcome (Unit {0})) (Ends (place_in d this remote) scope scope Nothing (classes_of l.heap)) (block (performs_all (bodies_of d.classes gas) gas ss) l)
-  pub calls : (this : Option (List ℕ)) (remote : Bool) (scope : Scope) (class name : List ℕ) (m : Method) (receiver : Value) (args : List Value) (at gas : ℕ) (l : Local)
-      → CallFits d class name m (classes_of l.heap) receiver args → Stands (place_in d this remote) scope l
-      → Leads (Outcome Value) (Ends (place_in d this remote) scope scope (OfKind (place_in d this remote) (kind_of m.signature.result)) (classes_of l.heap)) (call (bodies_of d.classes gas) at receiver name args l)
-  pub methods : (class name : List ℕ) (m : Method) (gas : ℕ) (l : Local) → HasMethod d class name m → LocalFits (method_context d class m.remote) (parameters m.signature.params) l
-      → Leads (Outcome Value) (Returns d (kind_of m.signature.result) (classes_of l.heap)) (runs (bodies_of d.classes gas) gas m.body l)
+-- where a method's body begins
+abbrev pub body_of : List ℕ → Method → Place
+body_of class m = record { this = Some class; remote = m.remote; scope = parameters m.signature.params }
 
--- Of all code that stands in the batches of a program: the same, with the types of remote calls noted by their positions.
--- The scope has remote objects and rows too.
+-- the bodies of the methods of declarations, within so much gas
+abbrev pub bodies : Declarations → ℕ → Bodies
+bodies d gas = bodies_of d.classes gas
+
+-- Of all typed code of the own side: each run of it leads to such an end as its types say.
+pub record OfTypedCode (d : Declarations) (Leads : (A : Type 0) → (A → Type 0) → Dialogue A → Type 0) : Type 0 where
+  pub values : (p : Place) (e : Expr) (kind : Kind) (gas : ℕ) (l : Local) → HasKind d p e kind → Stands d p l
+      → Leads (Outcome Value) (EndsIn d p l kind) (evaluates (bodies d gas) e l)
+  pub lists : (p : Place) (es : Exprs) (kinds : List Placed) (gas : ℕ) (l : Local) → HaveKinds d p es kinds → Stands d p l
+      → Leads (Outcome (List Value)) (EndsInAll d p l kinds) (evaluates_all (bodies d gas) es l)
+  pub statements : (p : Place) (s : Stmt) (after : Scope) (gas : ℕ) (l : Local) → LeadsTo d p s after → Stands d p l
+      → Leads (Outcome (Unit {0})) (EndsAt d p l after) (performs (bodies d gas) gas s l)
+  pub sequences : (p : Place) (ss : Stmts) (after : Scope) (gas : ℕ) (l : Local) → LeadTo d p ss after → Stands d p l
+      → Leads (Outcome (Unit {0})) (EndsAt d p l after) (performs_all (bodies d gas) gas ss l)
+  pub blocks : (p : Place) (ss : Stmts) (after : Scope) (gas : ℕ) (l : Local) → LeadTo d p ss after → Stands d p l
+      → Leads (Outcome (Unit {0})) (EndsAt d p l p.scope) (block (performs_all (bodies d gas) gas ss) l)
+  pub calls : (p : Place) (class name : List ℕ) (m : Method) (receiver : Value) (args : List Value) (at gas : ℕ) (l : Local)
+      → CallFits d class name m (classes_of l.heap) receiver args → Stands d p l
+      → Leads (Outcome Value) (EndsIn d p l (kind_of m.signature.result)) (call (bodies d gas) at receiver name args l)
+  pub methods : (class name : List ℕ) (m : Method) (gas : ℕ) (l : Local) → HasMethod d class name m → FitsPlace d (body_of class m) l
+      → Leads (Outcome Value) (Returns d (kind_of m.signature.result) (classes_of l.heap)) (runs (bodies d gas) gas m.body l)
+
+-- Of all code in the batches of a program: the same, with the types of remote calls noted by their positions. Remote objects
+-- and rows are in scope, too.
 pub record OfBatchCode (d : Declarations) (kinds : ℕ → Option Kind) (Leads : (A : Type 0) → (A → Type 0) → Dialogue A → Type 0) : Type 0 where
-  pub values : (this : Option (List ℕ)) (remote : Bool) (scope : Scope) (e : Expr) (kind : Kind) (gas : ℕ) (l : Local)
-      → type_of (place_in d this remote) scope e ≡ Ok kind → IsFormedExpr e → IsNotedExpr kinds (place_in d this remote) scope e → LocalFits (place_in d this remote) scope l
-      → Leads (Outcome Value) (Ends (place_in d this remote) scope scope (OfKind (place_in d this remote) kind) (classes_of l.heap)) (evaluates (bodies_of d.classes gas) e l)
-  pub lists : (this : Option (List ℕ)) (remote : Bool) (scope : Scope) (es : Exprs) (types : List Placed) (gas : ℕ) (l : Local)
-      → types_of (place_in d this remote) scope es ≡ Ok types → AreFormedExprs es → AreNotedExprs kinds (place_in d this remote) scope es → LocalFits (place_in d this remote) scope l
-      → Leads (Outcome (List Value)) (Ends (place_in d this remote) scope scope (OfKinds (place_in d this remote) types) (classes_of l.heap)) (evaluates_all (bodies_of d.classes gas) es l)
-  pub statements : (this : Option (List ℕ)) (remote : Bool) (scope after : Scope) (s : Stmt) (gas : ℕ) (l : Local)
-      → check_stmt (place_in d this remote) scope s ≡ Ok after → IsFormedStmt s → IsNotedStmt kinds (place_in d this remote) scope s → LocalFits (place_in d this remote) scope l
-      → Leads (Outcome (Unit {0})) (Ends (place_in d this remote) scope after Nothing (classes_of l.heap)) (performs (bodies_of d.classes gas) gas s l)
-  pub sequences : (this : Option (List ℕ)) (remote : Bool) (scope after : Scope) (ss : Stmts) (gas : ℕ) (l : Local)
-      → check_stmts (place_in d this remote) scope ss ≡ Ok after → AreFormedStmts ss → AreNotedStmts kinds (place_in d this remote) scope ss → LocalFits (place_in d this remote) scope l
-      → Leads (Outcome (Unit {0})) (Ends (place_in d this remote) scope after Nothing (classes_of l.heap)) (performs_all (bodies_of d.classes gas) gas ss l)
-  pub blocks : (this : Option (List ℕ)) (remote : Bool) (scope after : Scope) (ss : Stmts) (gas : ℕ) (l : Local)
-      → check_stmts (place_in d this remote) scope ss ≡ Ok after → AreFormedStmts ss → AreNotedStmts kinds (place_in d this remote) scope ss → LocalFits (place_in d this remote) scope l
-      → Leads (Outcome (Unit {0})) (Ends (place_in d this remote) scope scope Nothing (classes_of l.heap)) (block (performs_all (bodies_of d.classes gas) gas ss) l)
+  pub values : (p : Place) (e : Expr) (kind : Kind) (gas : ℕ) (l : Local) → HasKind d p e kind → IsNotedExpr kinds (context d p) p.scope e → FitsPlace d p l
+      → Leads (Outcome Value) (EndsIn d p l kind) (evaluates (bodies d gas) e l)
+  pub lists : (p : Place) (es : Exprs) (types : List Placed) (gas : ℕ) (l : Local) → HaveKinds d p es types → AreNotedExprs kinds (context d p) p.scope es → FitsPlace d p l
+      → Leads (Outcome (List Value)) (EndsInAll d p l types) (evaluates_all (bodies d gas) es l)
+  pub statements : (p : Place) (s : Stmt) (after : Scope) (gas : ℕ) (l : Local) → LeadsTo d p s after → IsNotedStmt kinds (context d p) p.scope s → FitsPlace d p l
+      → Leads (Outcome (Unit {0})) (EndsAt d p l after) (performs (bodies d gas) gas s l)
+  pub sequences : (p : Place) (ss : Stmts) (after : Scope) (gas : ℕ) (l : Local) → LeadTo d p ss after → AreNotedStmts kinds (context d p) p.scope ss → FitsPlace d p l
+      → Leads (Outcome (Unit {0})) (EndsAt d p l after) (performs_all (bodies d gas) gas ss l)
+  pub blocks : (p : Place) (ss : Stmts) (after : Scope) (gas : ℕ) (l : Local) → LeadTo d p ss after → AreNotedStmts kinds (context d p) p.scope ss → FitsPlace d p l
+      → Leads (Outcome (Unit {0})) (EndsAt d p l p.scope) (block (performs_all (bodies d gas) gas ss) l)
 
 -- Typed code keeps what fits, at each place of the own side and in whatever surroundings, as long as their answers fit.
 abbrev pub TypesKeep : Type 0
@@ -106,7 +140,7 @@ TypesKeep = (d : Declarations) → AreTyped d → OfTypedCode d (λ A P run. Kee
 abbrev pub BatchesKeep : Type 0
 BatchesKeep = (d : Declarations) → AreTyped d → (kinds : ℕ → Option Kind) → OfBatchCode d kinds (λ A P run. Keeps d (InBatch kinds) P run)
 
--- The code of a typed service asks nothing, and keeps what fits.
+-- The code of a typed service asks nothing but whether turns over lists go on, and keeps what fits.
 abbrev pub ServicesKeep : Type 0
 ServicesKeep = (classes : List Class) → check_service classes ≡ Ok tt → AreFormed classes → OfTypedCode (of_service classes) (λ A P run. KeepsAlone P run)
 
