@@ -1,7 +1,8 @@
 -- What the places of variables lead to.
 use Rattle.std.proofs.Common.{◌≡◌, ℕ, suc, zero, ◌<◌, ◌≤◌, ◌+◌, List, [], ◌∷◌, ◌++◌, map, length, reverse, Bool, true, false, cond, nat_eq, nat_lt, Option, Some, None, slice_get, refl, sym, ap, ◌∙◌, subst, arith}
-use Rattle.std.specs.Prelude.{option_and_then}
-use Rattle.std.specs.Option.{option_map}
+use Rattle.std.specs.Prelude.{MatchOption}
+use Rattle.std.specs.Option.{option_map, option_to_list}
+use Rattle.std.proofs.lemmas.Grind.{common_steps}
 use Rattle.std.proofs.lemmas.Bool.Decides.{nat_tests}
 use Rattle.std.proofs.lemmas.List.{reverse-append, reverse-reverse, length-reverse}
 use Rattle.rb_trees.specs.declared.values.Value.{Value}
@@ -151,3 +152,34 @@ oldest_of (v ∷ more) rest =
     let h = length_more more rest in
     let low : nat_lt (length (more ++ rest)) (length rest) ≡ false = grind (arith, nat_tests) in
     ap (λ t. cond t (v ∷ more ++ rest) (oldest (length rest) (more ++ rest))) low ∙ oldest_of more rest
+
+-- what a look-up finds, by what the places and the bindings say
+pub find_nothing : (xs : List Binding) (p : ℕ → Option ℕ) (n : ℕ) → Guides p (reverse xs) → p n ≡ None → latest (as_variables (reverse xs)) n ≡ None
+find_nothing xs p n h e = found (reverse xs) p n h ∙ ap (led (reverse xs)) e
+
+pub find_placed : (xs : List Binding) (p : ℕ → Option ℕ) (n k : ℕ) → Guides p (reverse xs) → p n ≡ Some k → latest (as_variables (reverse xs)) n ≡ option_map (λ b. b.value) (slice_get xs k)
+find_placed xs p n k h e = found (reverse xs) p n h ∙ ap (led (reverse xs)) e ∙ ap (option_map (λ b. b.value)) (sym (placed_at xs k))
+
+pub ruleset finds = (find_nothing, find_placed, common_steps)
+
+pub ruleset closings = (oldest_all, oldest_less, common_steps)
+
+-- a binding more at the end
+pub bound_more : (xs ys : List Binding) (b : Binding) (p q : ℕ → Option ℕ) (place : ℕ) → ys ≡ xs ++ b ∷ [] → place ≡ length xs → b.before ≡ p b.number → Guides p (reverse xs)
+    → ((n : ℕ) → q n ≡ cond (nat_eq b.number n) (Some place) (p n)) → Guides q (reverse ys)
+bound_more xs ys b p q place e l f h u =
+    subst (λ zs. Guides q zs) (sym (ap reverse e ∙ reverse_last xs b))
+    (guides_more b (reverse xs) p q f (λ n. u n ∙ ap (λ k. cond (nat_eq b.number n) (Some k) (p n)) (l ∙ sym (length-reverse xs))) h)
+
+-- a binding less at the end
+pub bound_less : (xs ys : List Binding) (r : Option Binding) (number : ℕ) (before : Option ℕ) (p q : ℕ → Option ℕ) (A B : Type 0) → xs ≡ ys ++ option_to_list r → MatchOption r ((length xs ≡ 0) × A) (λ x. B)
+    → Some (number, before) ≡ latest_binding (reverse xs) → Guides p (reverse xs) → ((n : ℕ) → q n ≡ cond (nat_eq number n) before (p n)) → Guides q (reverse ys)
+bound_less [] ys None number before p q A B e m f h u = absurd (cc f)
+bound_less (x ∷ xs) ys None number before p q A B e m f h u = absurd (cc (m.0))
+bound_less xs ys (Some b) number before p q A B e m f h u =
+    let whole : reverse xs ≡ b ∷ reverse ys = ap reverse e ∙ reverse_last ys b in
+    let first : Some (number, before) ≡ Some (b.number, b.before) = f ∙ ap latest_binding whole in
+    let same : number ≡ b.number = cc first in
+    let too : before ≡ b.before = cc first in
+    guides_less b (reverse ys) p q (λ n. u n ∙ ap (λ k. cond (nat_eq k n) before (p n)) same ∙ ap (λ o. cond (nat_eq b.number n) o (p n)) too)
+    (subst (λ zs. Guides p zs) whole h)

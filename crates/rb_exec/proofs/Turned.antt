@@ -14,6 +14,7 @@ use Rattle.rb_meaning_code.specs.Remote.{Server, Reply, replies}
 use Rattle.rb_meaning_code.specs.ScriptRun.{Vars, Ran, Turned, Why, AllDone, InTurn, NoUnit, with_entry, halted, stopped, on_reply, may_keep, kept, with_kept, with_unit, before_turns, turned_on, turns, turn_over, after_turns, walked}
 use Rattle.rb_exec.specs.Blocks.{with_entries, Did, IsRun, AreTurns, EndsTurns, end_of, kept_entries, row_entries}
 use Rattle.rb_exec.specs.Ends.{at_place}
+use Rattle.rb_exec.specs.Servers.{TakesUnit}
 use Rattle.rb_exec.specs.declared.blocks.Block.{Block}
 use Rattle.rb_engine.specs.Ends.{fault_of}
 use Rattle.rb_engine.specs.declared.ends.Refusal.{Refusal}
@@ -175,3 +176,12 @@ turn_faulted id at place keep row f block s made (Err (refusal.Fault x)) t g is 
       server_so = ap (λ r. r.server) (sym meant);
     }
 turn_faulted id at place keep row f block s made (Err refusal.Memory) t g is was e = absurd (cc (is, was))
+
+-- units of fuel
+pub unit_missing : (s s1 : Server) (b : Bool) → TakesUnit s b s1 → b ≡ false → (s.fuel ≡ 0) × (s1 ≡ s)
+unit_missing s s1 true h e = absurd (cc e)
+unit_missing s s1 false h e = h
+
+pub unit_taken : (s s1 : Server) (b : Bool) → TakesUnit s b s1 → b ≡ true → s ≡ record s1 { fuel = suc s1.fuel }
+unit_taken s s1 true h e = h
+unit_taken s s1 false h e = absurd (cc e)

@@ -65,11 +65,12 @@ impl Variables {
     }
 
     /// The latest value of a variable: `latest`.
+    #[tactic(auto, using(crate::proofs::Guided::finds))]
     pub fn find(&self, number: u32) -> Option<&Value>
         ensures { option_copied result ≡ latest self.now number }
     {
-        match self.places.get(&number) {
-            Some(place) => match self.bindings.get(*place) {
+        match place_of(&self.places, number) {
+            Some(place) => match self.bindings.get(place) {
                 Some(binding) => Some(&binding.value),
                 None => None,
             },
@@ -99,6 +100,7 @@ impl Variables {
     }
 
     /// Lets the later bindings go, so that the oldest so many stay: `oldest`.
+    #[tactic(auto, using(crate::proofs::Guided::closings))]
     pub fn close(&mut self, count: usize) -> Result<(), Memory>
         ensures { OnOk result (self.new ≡ oldest count self.old) }
     {
