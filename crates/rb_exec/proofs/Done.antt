@@ -13,12 +13,14 @@ use Rattle.rb_trees.specs.mirror.Forests.{mirror_node}
 use Rattle.rb_trees.specs.mirror.Scripts as script
 use Rattle.rb_trees.specs.mirror.Scripts.{Steps, mirror_step, mirror_steps}
 use Rattle.rb_meaning_code.specs.Remote.{Server, Reply, Got, Stopped, and_then, replies}
-use Rattle.rb_meaning_code.specs.ScriptRun.{Ground, Vars, Ran, ended, stopped, halted, with_entry, with_kept, on_reply, may_keep, kept, goes_on, chosen, branched, run_step, run_steps}
+use Rattle.rb_meaning_code.specs.ScriptRun.{Ground, Vars, Ran, ended, stopped, halted, with_entry, with_kept, on_reply, may_keep, kept, goes_on, chosen, branched, condition, rows_of, walked, run_step, run_steps}
 use Rattle.rb_exec.specs.Blocks.{with_entries, Does, Extends, Binds, Did, Closes, IsRun, Finished, kept_entries}
 use Rattle.rb_exec.specs.Ends.{at_step, Means, Replied, UnlessMemory}
-use Rattle.rb_exec.specs.Stages.{Rest, Meaning, ground, block_run, step_run, steps_run}
+use Rattle.rb_exec.specs.Stages.{Rest, Meaning, ground, value_run, block_run, step_run, steps_run, if_run, each_run, turns_run}
 use Rattle.rb_exec.specs.Bindings.{oldest}
 use Rattle.rb_exec.specs.declared.stage.Stage.{Stage}
+use Rattle.rb_exec.specs.declared.turns.Walk.{Walk}
+use Rattle.rb_trees.specs.declared.scripts.SExpr.{SExpr}
 use Rattle.rb_exec.specs.declared.blocks.Block.{Block}
 use Rattle.rb_exec.specs.declared.ends.Miss.{Miss}
 use Rattle.rb_exec.specs.declared.ends.Miss.TheVariants as miss
@@ -197,10 +199,10 @@ no_block es (Err (stop.Fault x)) f is = absurd (cc (f, is))
 no_block es (Err stop.Within) f is = absurd (cc (f, is))
 no_block es (Err stop.Memory) f is = cc (f, is)
 
-binds_far : {a b c : Vars} (h : Stop) → Extends a b → Binds (Err h) b c → Binds (Err h) a c
-binds_far (stop.Fault f) e x = extends_far e x
-binds_far stop.Within e x = extends_far e x
-binds_far stop.Memory e x = tt
+binds_far : (h : Stop) (a b c : Vars) → Extends a b → Binds (Err h) b c → Binds (Err h) a c
+binds_far (stop.Fault f) a b c e x = extends_far e x
+binds_far stop.Within a b c e x = extends_far e x
+binds_far stop.Memory a b c e x = tt
 
 -- what a stop says, whatever follows the step
 stops : (h : Stop) (m : Meaning) (before after : List entry.Entry) (new : Vars) (s : Server) (f : Rest → Rest) → Does m before (Err h) after new s → Does (λ go. m (f go)) before (Err h) after new s
@@ -239,7 +241,7 @@ leads_cut {st = st} {steps = steps} {before = before} {es = es} {es1 = es1} {old
     by_result so (record {
       does = does_as (Err h) (steps_run st steps old s) (λ go. step_run st step vars s1 (rest_run st steps i go)) before es es1 vars1 s2 (λ go. on.leads go ∙ ap (with_entries es) (steps_on st steps i step vars s1 go l e))
           (stops h (step_run st step vars s1) es es1 vars1 s2 (rest_run st steps i) (subst (λ x. Does (step_run st step vars s1) es x es1 vars1 s2) is d.does));
-      binds = binds_far h on.binds (subst (λ x. Binds x vars vars1) is d.binds);
+      binds = binds_far h old vars vars1 on.binds (subst (λ x. Binds x vars vars1) is d.binds);
     })
 
 pub leads_end : {st : Stage} {steps : List Step} {before es : List entry.Entry} {old vars : Vars} {s s1 : Server} {i : ℕ} → length steps ≤ i
@@ -254,15 +256,15 @@ closes_by : {count : ℕ} {old mid new : Vars} → Extends old mid → new ≡ o
 closes_by {count = count} (added, a) e more rest was is =
     e ∙ ap (oldest count) (a ∙ ap (λ vs. added ++ vs) was ∙ sym (append_assoc added more rest)) ∙ ap (λ n. oldest n ((added ++ more) ++ rest)) is ∙ oldest_of (added ++ more) rest
 
-extends_so : {old mid : Vars} {es : List entry.Entry} {q : Result Block Stop} {block : Block} (r : Result (Unit {0}) Stop) → Binds r old mid → Finished es r q → q ≡ Ok block → Extends old mid
-extends_so (Ok u) b f is = b
-extends_so (Err (stop.Fault x)) b f is = b
-extends_so (Err stop.Within) b f is = b
-extends_so (Err stop.Memory) b f is = absurd (cc (f, is))
+extends_so : (old mid : Vars) (es : List entry.Entry) (q : Result Block Stop) (block : Block) (r : Result (Unit {0}) Stop) → Binds r old mid → Finished es r q → q ≡ Ok block → Extends old mid
+extends_so old mid es q block (Ok u) b f is = b
+extends_so old mid es q block (Err (stop.Fault x)) b f is = b
+extends_so old mid es q block (Err stop.Within) b f is = b
+extends_so old mid es q block (Err stop.Memory) b f is = absurd (cc (f, is))
 
 pub closes_so : {count : ℕ} {m : Meaning} {before after : List entry.Entry} {old mid new : Vars} {s : Server} {q : Result Block Stop} {block : Block} (r : Result (Unit {0}) Stop)
     → Did m before old r after mid s → Finished after r q → q ≡ Ok block → new ≡ oldest count mid → Closes count old new
-closes_so r d f is e = closes_by (extends_so r d.binds f is) e
+closes_so {after = after} {old = old} {mid = mid} {q = q} {block = block} r d f is e = closes_by (extends_so old mid after q block r d.binds f is) e
 
 -- the same variables are left
 pub back_to : {m : Meaning} {before after : List entry.Entry} {old new : Vars} {r : Result (Unit {0}) Stop} {s : Server} → new ≡ old → Did m before old r after old s → Did m before old r after new s
@@ -283,9 +285,23 @@ branch_run st false a b steps es vars s s1 block e n run =
     subst (λ xs. IsRun (block_run st xs vars s) block s1) e (subst (λ xs. IsRun (with_entries xs (block_run st steps vars s)) block s1) n run)
 
 -- what holds of a block unless memory ran out
-pub unless_run : {q : Result Block Stop} {m m1 : Ran} {s : Server} → m1 ≡ m → UnlessMemory q (λ b. IsRun m b s) → UnlessMemory q (λ b. IsRun m1 b s)
-unless_run {q = q} {s = s} e h = subst (λ x. UnlessMemory q (λ b. IsRun x b s)) (sym e) h
+pub unless_run : {m m1 : Ran} (q : Result Block Stop) (s : Server) → m1 ≡ m → UnlessMemory q (λ b. IsRun m b s) → UnlessMemory q (λ b. IsRun m1 b s)
+unless_run q s e h = subst (λ x. UnlessMemory q (λ b. IsRun x b s)) (sym e) h
 
-pub unless_closes : {count variable : ℕ} {v : Value} {old mid new : Vars} (q : Result Block Stop) → UnlessMemory q (λ b. Closes count mid new) → mid ≡ (variable, v) ∷ old → count ≡ length old → UnlessMemory q (λ b. new ≡ old)
-unless_closes {variable = variable} {v = v} {old = old} (Ok b) h e n = h ((variable, v) ∷ []) old e n
-unless_closes (Err x) h e n = h
+pub unless_closes : {count variable : ℕ} {v : Value} {old mid : Vars} (new : Vars) (q : Result Block Stop) → UnlessMemory q (λ b. Closes count mid new) → mid ≡ (variable, v) ∷ old → count ≡ length old → UnlessMemory q (λ b. new ≡ old)
+unless_closes {variable = variable} {v = v} {old = old} new (Ok b) h e n = h ((variable, v) ∷ []) old e n
+unless_closes new (Err x) h e n = h
+
+-- an `If`: its condition, and then the branch
+pub if_so : {before after : List entry.Entry} {old new : Vars} {r : Result (Unit {0}) Stop} {s1 : Server} (st : Stage) (id at : ℕ) (e : SExpr) (a b : List Step) (vars : Vars) (s : Server)
+    → Did (λ go. on_reply id (value_run st at vars e s) (λ v s2. on_reply id (condition at v s2) (λ holds s3. branched holds (chosen holds (run_steps (ground st) (mirror_steps a) vars s3 ended) (run_steps (ground st) (mirror_steps b) vars s3 ended)) (λ s4. go vars s4)))) before old r after new s1
+    → Did (if_run st id at e a b vars s) before old r after new s1
+if_so st id at e a b vars s d =
+    as_step (λ go. both_replies id (value_run st at vars e s) (condition at) (λ holds s3. branched holds (chosen holds (run_steps (ground st) (mirror_steps a) vars s3 ended) (run_steps (ground st) (mirror_steps b) vars s3 ended)) (λ s4. go vars s4))) d
+
+-- an `Each`: its rows, and then the turns
+pub each_so : {before after : List entry.Entry} {old new : Vars} {r : Result (Unit {0}) Stop} {s1 : Server} (st : Stage) (w : Walk) (e : SExpr) (vars : Vars) (s : Server)
+    → Did (λ go. on_reply w.id (value_run st w.at vars e s) (λ v s2. on_reply w.id (rows_of w.at v s2) (λ rows s3. walked w.id w.at (turns_run st w vars rows s3) (λ s4. go vars s4)))) before old r after new s1
+    → Did (each_run st w e vars s) before old r after new s1
+each_so st w e vars s d =
+    as_step (λ go. both_replies w.id (value_run st w.at vars e s) (rows_of w.at) (λ rows s3. walked w.id w.at (turns_run st w vars rows s3) (λ s4. go vars s4))) d

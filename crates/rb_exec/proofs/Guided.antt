@@ -179,7 +179,8 @@ bound_less (x ∷ xs) ys None number before p q A B e m f h u = absurd (cc (m.0)
 bound_less xs ys (Some b) number before p q A B e m f h u =
     let whole : reverse xs ≡ b ∷ reverse ys = ap reverse e ∙ reverse_last ys b in
     let first : Some (number, before) ≡ Some (b.number, b.before) = f ∙ ap latest_binding whole in
-    let same : number ≡ b.number = cc first in
-    let too : before ≡ b.before = cc first in
+    let pair : (number, before) ≡ (b.number, b.before) = cc first in
+    let same : number ≡ b.number = ap (λ x. x.0) pair in
+    let too : before ≡ b.before = ap (λ x. x.1) pair in
     guides_less b (reverse ys) p q (λ n. u n ∙ ap (λ k. cond (nat_eq k n) before (p n)) same ∙ ap (λ o. cond (nat_eq b.number n) o (p n)) too)
     (subst (λ zs. Guides p zs) whole h)
