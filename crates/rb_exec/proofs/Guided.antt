@@ -1,7 +1,6 @@
 -- What the places of variables lead to.
 use Rattle.std.proofs.Common.{◌≡◌, ℕ, suc, zero, ◌<◌, ◌≤◌, ◌+◌, List, [], ◌∷◌, ◌++◌, map, length, reverse, Bool, true, false, cond, nat_eq, nat_lt, Option, Some, None, slice_get, refl, sym, ap, ◌∙◌, subst, arith}
-use Rattle.std.specs.Prelude.{MatchOption}
-use Rattle.std.specs.Option.{option_map, option_to_list}
+use Rattle.std.specs.Option.{option_map}
 use Rattle.std.proofs.lemmas.Grind.{common_steps}
 use Rattle.std.proofs.lemmas.Bool.Decides.{nat_tests}
 use Rattle.std.proofs.lemmas.List.{reverse-append, reverse-reverse, length-reverse}
@@ -170,17 +169,3 @@ pub bound_more : (xs ys : List Binding) (b : Binding) (p q : ℕ → Option ℕ)
 bound_more xs ys b p q place e l f h u =
     subst (λ zs. Guides q zs) (sym (ap reverse e ∙ reverse_last xs b))
     (guides_more b (reverse xs) p q f (λ n. u n ∙ ap (λ k. cond (nat_eq b.number n) (Some k) (p n)) (l ∙ sym (length-reverse xs))) h)
-
--- a binding less at the end
-pub bound_less : (xs ys : List Binding) (r : Option Binding) (number : ℕ) (before : Option ℕ) (p q : ℕ → Option ℕ) (A B : Type 0) → xs ≡ ys ++ option_to_list r → MatchOption r ((length xs ≡ 0) × A) (λ x. B)
-    → Some (number, before) ≡ latest_binding (reverse xs) → Guides p (reverse xs) → ((n : ℕ) → q n ≡ cond (nat_eq number n) before (p n)) → Guides q (reverse ys)
-bound_less [] ys None number before p q A B e m f h u = absurd (cc f)
-bound_less (x ∷ xs) ys None number before p q A B e m f h u = absurd (cc (m.0))
-bound_less xs ys (Some b) number before p q A B e m f h u =
-    let whole : reverse xs ≡ b ∷ reverse ys = ap reverse e ∙ reverse_last ys b in
-    let first : Some (number, before) ≡ Some (b.number, b.before) = f ∙ ap latest_binding whole in
-    let pair : (number, before) ≡ (b.number, b.before) = cc first in
-    let same : number ≡ b.number = ap (λ x. x.0) pair in
-    let too : before ≡ b.before = ap (λ x. x.1) pair in
-    guides_less b (reverse ys) p q (λ n. u n ∙ ap (λ k. cond (nat_eq k n) before (p n)) same ∙ ap (λ o. cond (nat_eq b.number n) o (p n)) too)
-    (subst (λ zs. Guides p zs) whole h)
