@@ -156,12 +156,15 @@ pub branch_stopped : {before after : List entry.Entry} {vars : Vars} {s : Server
 branch_stopped {before = before} {after = after} {vars = vars} {s = s} holds r block run on e =
     let h = held r.fault r.server (sym on ∙ run.stopped_so) in
     record {
-      does = (h.0, λ go.
-          ap (λ x. with_entries before (with_entry (forest.Branch holds r.node) x)) (h.1 (λ s1. go vars s1))
-          ∙ ap (λ n. with_entries before (with_entry (forest.Branch holds n) (halted h.0 r.server))) (sym run.node_so)
-          ∙ sym (branch_more before holds block.node (halted h.0 r.server))
-          ∙ ap (λ es. with_entries es (halted h.0 r.server)) (sym e)
-          ∙ ap (λ x. with_entries after (halted h.0 x)) (sym run.server_so));
+      does = (
+        h.0,
+        λ go.
+            ap (λ x. with_entries before (with_entry (forest.Branch holds r.node) x)) (h.1 (λ s1. go vars s1))
+            ∙ ap (λ n. with_entries before (with_entry (forest.Branch holds n) (halted h.0 r.server))) (sym run.node_so)
+            ∙ sym (branch_more before holds block.node (halted h.0 r.server))
+            ∙ ap (λ es. with_entries es (halted h.0 r.server)) (sym e)
+            ∙ ap (λ x. with_entries after (halted h.0 x)) (sym run.server_so),
+      );
       binds = extends_itself;
     }
 

@@ -29,9 +29,10 @@ back false number n p q place before t e u = u
 
 pub guides_more : (b : Binding) (bs : List Binding) (p q : ℕ → Option ℕ) → b.before ≡ p b.number → ((n : ℕ) → q n ≡ cond (nat_eq b.number n) (Some (length bs)) (p n))
     → Guides p bs → Guides q (b ∷ bs)
-guides_more b bs p q e u h =
-    (u b.number ∙ ap (λ t. cond t (Some (length bs)) (p b.number)) (eq_itself b.number),
-    guides_alike bs p _ (λ n. back (nat_eq b.number n) b.number n p q (Some (length bs)) b.before refl e (u n)) h)
+guides_more b bs p q e u h = (
+  u b.number ∙ ap (λ t. cond t (Some (length bs)) (p b.number)) (eq_itself b.number),
+  guides_alike bs p _ (λ n. back (nat_eq b.number n) b.number n p q (Some (length bs)) b.before refl e (u n)) h,
+)
 
 -- a binding less
 pub guides_less : (b : Binding) (bs : List Binding) (p q : ℕ → Option ℕ) → ((n : ℕ) → q n ≡ cond (nat_eq b.number n) b.before (p n)) → Guides p (b ∷ bs) → Guides q bs
