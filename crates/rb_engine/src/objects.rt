@@ -167,12 +167,7 @@ pub fn write_field(
 
 /// The method of an object, by its name: `method_of`.
 #[inline(never)]
-pub fn method_of<'a>(
-    code: &'a Code,
-    heap: &Heap,
-    object: u32,
-    name: &[u8],
-) -> Option<&'a Method>
+pub fn method_of<'a>(code: &'a Code, heap: &Heap, object: u32, name: &[u8]) -> Option<&'a Method>
     ensures { option_map mirror_method (option_copied result) ≡ calls.method_of (map mirror_class code.now) heap.now object name.now }
 {
     match heap.get(object) {

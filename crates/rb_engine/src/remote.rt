@@ -97,10 +97,7 @@ fn remotely(at: u32, fault: Fault) -> Raised
 }
 
 // What a rule gives, as the answer of a remote call.
-fn answered(
-    at: u32,
-    outcome: Result<Value, Refusal>,
-) -> Result<Result<Value, Raised>, Memory>
+fn answered(at: u32, outcome: Result<Value, Refusal>) -> Result<Result<Value, Raised>, Memory>
     ensures { Answers at outcome result }
 {
     match outcome {

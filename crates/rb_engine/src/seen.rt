@@ -89,11 +89,7 @@ fn object_rows(alloc: Global, values: &[Value]) -> Result<Option<Value>, Memory>
 }
 
 // The rows of a list.
-fn rows_of(
-    alloc: Global,
-    item: Item,
-    items: &Shared<Seq<Value>>,
-) -> Result<Option<Value>, Memory>
+fn rows_of(alloc: Global, item: Item, items: &Shared<Seq<Value>>) -> Result<Option<Value>, Memory>
     ensures { IfOk result (λ seen. seen ≡ option_map Value.Rows (rules.seen_items (mirror_item item) items.now)) }
 {
     match item {

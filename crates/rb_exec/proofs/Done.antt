@@ -10,14 +10,17 @@ use Rattle.rb_trees.specs.declared.forests.Entry.TheVariants as entries
 use Rattle.rb_trees.specs.declared.scripts.Step.{Step}
 use Rattle.rb_trees.specs.mirror.Forests as forest
 use Rattle.rb_trees.specs.mirror.Forests.{mirror_node}
-use Rattle.rb_trees.specs.mirror.Scripts.{Steps}
+use Rattle.rb_trees.specs.mirror.Scripts as script
+use Rattle.rb_trees.specs.mirror.Scripts.{Steps, mirror_step, mirror_steps}
 use Rattle.rb_meaning_code.specs.Remote.{Server, Reply, Got, Stopped, and_then, replies}
-use Rattle.rb_meaning_code.specs.ScriptRun.{Ground, Vars, Ran, ended, stopped, halted, with_entry, with_kept, on_reply, may_keep, kept, goes_on, chosen, branched, run_steps}
-use Rattle.rb_exec.specs.Blocks.{with_entries, Does, Extends, Did, Closes, IsRun, Finished, kept_entries}
-use Rattle.rb_exec.specs.Ends.{at_step, Means, Replied}
-use Rattle.rb_exec.specs.Stages.{Rest, Meaning, step_run, steps_run}
+use Rattle.rb_meaning_code.specs.ScriptRun.{Ground, Vars, Ran, ended, stopped, halted, with_entry, with_kept, on_reply, may_keep, kept, goes_on, chosen, branched, condition, rows_of, walked, run_step, run_steps}
+use Rattle.rb_exec.specs.Blocks.{with_entries, Does, Extends, Binds, Did, Closes, IsRun, Finished, kept_entries}
+use Rattle.rb_exec.specs.Ends.{at_step, Means, Replied, UnlessMemory}
+use Rattle.rb_exec.specs.Stages.{Rest, Meaning, ground, value_run, block_run, step_run, steps_run, if_run, each_run, turns_run}
 use Rattle.rb_exec.specs.Bindings.{oldest}
 use Rattle.rb_exec.specs.declared.stage.Stage.{Stage}
+use Rattle.rb_exec.specs.declared.turns.Walk.{Walk}
+use Rattle.rb_trees.specs.declared.scripts.SExpr.{SExpr}
 use Rattle.rb_exec.specs.declared.blocks.Block.{Block}
 use Rattle.rb_exec.specs.declared.ends.Miss.{Miss}
 use Rattle.rb_exec.specs.declared.ends.Miss.TheVariants as miss
@@ -58,8 +61,8 @@ went_on = record { does = λ go. refl; binds = extends_itself }
 
 -- for want of memory nothing is said
 pub want : {m : Meaning} {before after : List entry.Entry} {old new : Vars} {r : Result (Unit {0}) Stop} {h : Stop} {s : Server}
-    → r ≡ Err h → h ≡ stop.Memory → Extends old new → Did m before old r after new s
-want is e x = by_result (is ∙ ap Err e) (record { does = tt; binds = x })
+    → r ≡ Err h → h ≡ stop.Memory → Did m before old r after new s
+want is e = by_result (is ∙ ap Err e) (record { does = tt; binds = tt })
 
 -- an expression gave its value to the step
 value_at : {A : Type 0} (id : ℕ) (t : Result A Miss) (a : A) → at_step id t ≡ Ok a → t ≡ Ok a
@@ -82,7 +85,7 @@ faulted m (Err (miss.Fault at f)) h s before vars id k d e =
     by_result (ap Err (sym same)) (record { does = λ go. ap (λ x. with_entries before (on_reply id x (λ b s1. k b s1 go))) d; binds = extends_itself })
 faulted m (Err miss.Memory) h s before vars id k d e =
     let same : stop.Memory ≡ h = cc e in
-    by_result (ap Err (sym same)) (record { does = tt; binds = extends_itself })
+    by_result (ap Err (sym same)) (record { does = tt; binds = tt })
 
 pub on_fault : {A : Type 0} {m : Reply A} {t : Result A Miss} {t1 : Result A Stop} {h : Stop} {s : Server} {before : List entry.Entry} {vars : Vars} {r : Result (Unit {0}) Stop} (id : ℕ) (k : A → Server → Meaning)
     → Replied m t s → t1 ≡ at_step id t → t1 ≡ Err h → r ≡ Err h → Did (λ go. on_reply id m (λ b s1. k b s1 go)) before vars r before vars s
@@ -153,12 +156,15 @@ pub branch_stopped : {before after : List entry.Entry} {vars : Vars} {s : Server
 branch_stopped {before = before} {after = after} {vars = vars} {s = s} holds r block run on e =
     let h = held r.fault r.server (sym on ∙ run.stopped_so) in
     record {
-      does = (h.0, λ go.
-          ap (λ x. with_entries before (with_entry (forest.Branch holds r.node) x)) (h.1 (λ s1. go vars s1))
-          ∙ ap (λ n. with_entries before (with_entry (forest.Branch holds n) (halted h.0 r.server))) (sym run.node_so)
-          ∙ sym (branch_more before holds block.node (halted h.0 r.server))
-          ∙ ap (λ es. with_entries es (halted h.0 r.server)) (sym e)
-          ∙ ap (λ x. with_entries after (halted h.0 x)) (sym run.server_so));
+      does = (
+        h.0,
+        λ go.
+            ap (λ x. with_entries before (with_entry (forest.Branch holds r.node) x)) (h.1 (λ s1. go vars s1))
+            ∙ ap (λ n. with_entries before (with_entry (forest.Branch holds n) (halted h.0 r.server))) (sym run.node_so)
+            ∙ sym (branch_more before holds block.node (halted h.0 r.server))
+            ∙ ap (λ es. with_entries es (halted h.0 r.server)) (sym e)
+            ∙ ap (λ x. with_entries after (halted h.0 x)) (sym run.server_so),
+      );
       binds = extends_itself;
     }
 
@@ -196,6 +202,11 @@ no_block es (Err (stop.Fault x)) f is = absurd (cc (f, is))
 no_block es (Err stop.Within) f is = absurd (cc (f, is))
 no_block es (Err stop.Memory) f is = cc (f, is)
 
+binds_far : (h : Stop) (a b c : Vars) → Extends a b → Binds (Err h) b c → Binds (Err h) a c
+binds_far (stop.Fault f) a b c e x = extends_far e x
+binds_far stop.Within a b c e x = extends_far e x
+binds_far stop.Memory a b c e x = tt
+
 -- what a stop says, whatever follows the step
 stops : (h : Stop) (m : Meaning) (before after : List entry.Entry) (new : Vars) (s : Server) (f : Rest → Rest) → Does m before (Err h) after new s → Does (λ go. m (f go)) before (Err h) after new s
 stops (stop.Fault x) m before after new s f d = λ go. d (f go)
@@ -224,7 +235,7 @@ leads_more {st = st} {steps = steps} {es = es} {es1 = es1} {vars = vars} {vars1 
     let did = subst (λ x. Does (step_run st step vars s1) es x es1 vars1 s2) is d.does in
     record {
       leads = λ go. h.leads go ∙ ap (with_entries es) (steps_on st steps i step vars s1 go l e) ∙ did (rest_run st steps i go);
-      binds = extends_far h.binds d.binds;
+      binds = extends_far h.binds (subst (λ x. Binds x vars vars1) is d.binds);
     }
 
 pub leads_cut : {st : Stage} {steps : List Step} {before es es1 : List entry.Entry} {old vars vars1 : Vars} {s s1 s2 : Server} {i : ℕ} {t r : Result (Unit {0}) Stop} {h : Stop} (step : Step) → i < length steps → step ≡ get_or steps i step
@@ -233,7 +244,7 @@ leads_cut {st = st} {steps = steps} {before = before} {es = es} {es1 = es1} {old
     by_result so (record {
       does = does_as (Err h) (steps_run st steps old s) (λ go. step_run st step vars s1 (rest_run st steps i go)) before es es1 vars1 s2 (λ go. on.leads go ∙ ap (with_entries es) (steps_on st steps i step vars s1 go l e))
           (stops h (step_run st step vars s1) es es1 vars1 s2 (rest_run st steps i) (subst (λ x. Does (step_run st step vars s1) es x es1 vars1 s2) is d.does));
-      binds = extends_far on.binds d.binds;
+      binds = binds_far h old vars vars1 on.binds (subst (λ x. Binds x vars vars1) is d.binds);
     })
 
 pub leads_end : {st : Stage} {steps : List Step} {before es : List entry.Entry} {old vars : Vars} {s s1 : Server} {i : ℕ} → length steps ≤ i
@@ -244,6 +255,56 @@ leads_end {st = st} {steps = steps} {es = es} {vars = vars} {s1 = s1} {i = i} l 
 }
 
 -- the bindings of a block go at its end
-pub closes_so : {count : ℕ} {old mid new : Vars} → Extends old mid → new ≡ oldest count mid → Closes count old new
-closes_so {count = count} (added, a) e more rest was is =
+closes_by : {count : ℕ} {old mid new : Vars} → Extends old mid → new ≡ oldest count mid → Closes count old new
+closes_by {count = count} (added, a) e more rest was is =
     e ∙ ap (oldest count) (a ∙ ap (λ vs. added ++ vs) was ∙ sym (append_assoc added more rest)) ∙ ap (λ n. oldest n ((added ++ more) ++ rest)) is ∙ oldest_of (added ++ more) rest
+
+extends_so : (old mid : Vars) (es : List entry.Entry) (q : Result Block Stop) (block : Block) (r : Result (Unit {0}) Stop) → Binds r old mid → Finished es r q → q ≡ Ok block → Extends old mid
+extends_so old mid es q block (Ok u) b f is = b
+extends_so old mid es q block (Err (stop.Fault x)) b f is = b
+extends_so old mid es q block (Err stop.Within) b f is = b
+extends_so old mid es q block (Err stop.Memory) b f is = absurd (cc (f, is))
+
+pub closes_so : {count : ℕ} {m : Meaning} {before after : List entry.Entry} {old mid new : Vars} {s : Server} {q : Result Block Stop} {block : Block} (r : Result (Unit {0}) Stop)
+    → Did m before old r after mid s → Finished after r q → q ≡ Ok block → new ≡ oldest count mid → Closes count old new
+closes_so {after = after} {old = old} {mid = mid} {q = q} {block = block} r d f is e = closes_by (extends_so old mid after q block r d.binds f is) e
+
+-- the same variables are left
+pub back_to : {m : Meaning} {before after : List entry.Entry} {old new : Vars} {r : Result (Unit {0}) Stop} {s : Server} → new ≡ old → Did m before old r after old s → Did m before old r after new s
+back_to {m = m} {before = before} {after = after} {old = old} {r = r} {s = s} e d = subst (λ vs. Did m before old r after vs s) (sym e) d
+
+-- a step of a known form
+pub of_step : {before after : List entry.Entry} {old new : Vars} {r : Result (Unit {0}) Stop} {s1 : Server} {m : script.Step} (st : Stage) (step : Step) (vars : Vars) (s : Server) → mirror_step step ≡ m
+    → Did (λ go. run_step (ground st) m vars s go) before old r after new s1 → Did (step_run st step vars s) before old r after new s1
+of_step st step vars s is d = as_step (λ go. ap (λ x. run_step (ground st) x vars s go) is) d
+
+-- the block that a condition chose
+pub branch_run : (st : Stage) (holds : Bool) (a b steps : List Step) (es : List entry.Entry) (vars : Vars) (s s1 : Server) (block : Block) → steps ≡ cond holds a b → es ≡ []
+    → IsRun (with_entries es (block_run st steps vars s)) block s1
+    → IsRun (chosen holds (run_steps (ground st) (mirror_steps a) vars s ended) (run_steps (ground st) (mirror_steps b) vars s ended)) block s1
+branch_run st true a b steps es vars s s1 block e n run =
+    subst (λ xs. IsRun (block_run st xs vars s) block s1) e (subst (λ xs. IsRun (with_entries xs (block_run st steps vars s)) block s1) n run)
+branch_run st false a b steps es vars s s1 block e n run =
+    subst (λ xs. IsRun (block_run st xs vars s) block s1) e (subst (λ xs. IsRun (with_entries xs (block_run st steps vars s)) block s1) n run)
+
+-- what holds of a block unless memory ran out
+pub unless_run : {m m1 : Ran} (q : Result Block Stop) (s : Server) → m1 ≡ m → UnlessMemory q (λ b. IsRun m b s) → UnlessMemory q (λ b. IsRun m1 b s)
+unless_run q s e h = subst (λ x. UnlessMemory q (λ b. IsRun x b s)) (sym e) h
+
+pub unless_closes : {count variable : ℕ} {v : Value} {old mid : Vars} (new : Vars) (q : Result Block Stop) → UnlessMemory q (λ b. Closes count mid new) → mid ≡ (variable, v) ∷ old → count ≡ length old → UnlessMemory q (λ b. new ≡ old)
+unless_closes {variable = variable} {v = v} {old = old} new (Ok b) h e n = h ((variable, v) ∷ []) old e n
+unless_closes new (Err x) h e n = h
+
+-- an `If`: its condition, and then the branch
+pub if_so : {before after : List entry.Entry} {old new : Vars} {r : Result (Unit {0}) Stop} {s1 : Server} (st : Stage) (id at : ℕ) (e : SExpr) (a b : List Step) (vars : Vars) (s : Server)
+    → Did (λ go. on_reply id (value_run st at vars e s) (λ v s2. on_reply id (condition at v s2) (λ holds s3. branched holds (chosen holds (run_steps (ground st) (mirror_steps a) vars s3 ended) (run_steps (ground st) (mirror_steps b) vars s3 ended)) (λ s4. go vars s4)))) before old r after new s1
+    → Did (if_run st id at e a b vars s) before old r after new s1
+if_so st id at e a b vars s d =
+    as_step (λ go. both_replies id (value_run st at vars e s) (condition at) (λ holds s3. branched holds (chosen holds (run_steps (ground st) (mirror_steps a) vars s3 ended) (run_steps (ground st) (mirror_steps b) vars s3 ended)) (λ s4. go vars s4))) d
+
+-- an `Each`: its rows, and then the turns
+pub each_so : {before after : List entry.Entry} {old new : Vars} {r : Result (Unit {0}) Stop} {s1 : Server} (st : Stage) (w : Walk) (e : SExpr) (vars : Vars) (s : Server)
+    → Did (λ go. on_reply w.id (value_run st w.at vars e s) (λ v s2. on_reply w.id (rows_of w.at v s2) (λ rows s3. walked w.id w.at (turns_run st w vars rows s3) (λ s4. go vars s4)))) before old r after new s1
+    → Did (each_run st w e vars s) before old r after new s1
+each_so st w e vars s d =
+    as_step (λ go. both_replies w.id (value_run st w.at vars e s) (rows_of w.at) (λ rows s3. walked w.id w.at (turns_run st w vars rows s3) (λ s4. go vars s4))) d

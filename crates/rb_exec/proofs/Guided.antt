@@ -1,7 +1,7 @@
 -- What the places of variables lead to.
 use Rattle.std.proofs.Common.{◌≡◌, ℕ, suc, zero, ◌<◌, ◌≤◌, ◌+◌, List, [], ◌∷◌, ◌++◌, map, length, reverse, Bool, true, false, cond, nat_eq, nat_lt, Option, Some, None, slice_get, refl, sym, ap, ◌∙◌, subst, arith}
-use Rattle.std.specs.Prelude.{option_and_then}
 use Rattle.std.specs.Option.{option_map}
+use Rattle.std.proofs.lemmas.Grind.{common_steps}
 use Rattle.std.proofs.lemmas.Bool.Decides.{nat_tests}
 use Rattle.std.proofs.lemmas.List.{reverse-append, reverse-reverse, length-reverse}
 use Rattle.rb_trees.specs.declared.values.Value.{Value}
@@ -29,9 +29,10 @@ back false number n p q place before t e u = u
 
 pub guides_more : (b : Binding) (bs : List Binding) (p q : ℕ → Option ℕ) → b.before ≡ p b.number → ((n : ℕ) → q n ≡ cond (nat_eq b.number n) (Some (length bs)) (p n))
     → Guides p bs → Guides q (b ∷ bs)
-guides_more b bs p q e u h =
-    (u b.number ∙ ap (λ t. cond t (Some (length bs)) (p b.number)) (eq_itself b.number),
-    guides_alike bs p _ (λ n. back (nat_eq b.number n) b.number n p q (Some (length bs)) b.before refl e (u n)) h)
+guides_more b bs p q e u h = (
+  u b.number ∙ ap (λ t. cond t (Some (length bs)) (p b.number)) (eq_itself b.number),
+  guides_alike bs p _ (λ n. back (nat_eq b.number n) b.number n p q (Some (length bs)) b.before refl e (u n)) h,
+)
 
 -- a binding less
 pub guides_less : (b : Binding) (bs : List Binding) (p q : ℕ → Option ℕ) → ((n : ℕ) → q n ≡ cond (nat_eq b.number n) b.before (p n)) → Guides p (b ∷ bs) → Guides q bs
@@ -151,3 +152,21 @@ oldest_of (v ∷ more) rest =
     let h = length_more more rest in
     let low : nat_lt (length (more ++ rest)) (length rest) ≡ false = grind (arith, nat_tests) in
     ap (λ t. cond t (v ∷ more ++ rest) (oldest (length rest) (more ++ rest))) low ∙ oldest_of more rest
+
+-- what a look-up finds, by what the places and the bindings say
+pub find_nothing : (xs : List Binding) (p : ℕ → Option ℕ) (n : ℕ) → Guides p (reverse xs) → p n ≡ None → latest (as_variables (reverse xs)) n ≡ None
+find_nothing xs p n h e = found (reverse xs) p n h ∙ ap (led (reverse xs)) e
+
+pub find_placed : (xs : List Binding) (p : ℕ → Option ℕ) (n k : ℕ) → Guides p (reverse xs) → p n ≡ Some k → latest (as_variables (reverse xs)) n ≡ option_map (λ b. b.value) (slice_get xs k)
+find_placed xs p n k h e = found (reverse xs) p n h ∙ ap (led (reverse xs)) e ∙ ap (option_map (λ b. b.value)) (sym (placed_at xs k))
+
+pub ruleset finds = (find_nothing, find_placed, common_steps)
+
+pub ruleset closings = (oldest_all, oldest_less, common_steps)
+
+-- a binding more at the end
+pub bound_more : (xs ys : List Binding) (b : Binding) (p q : ℕ → Option ℕ) (place : ℕ) → ys ≡ xs ++ b ∷ [] → place ≡ length xs → b.before ≡ p b.number → Guides p (reverse xs)
+    → ((n : ℕ) → q n ≡ cond (nat_eq b.number n) (Some place) (p n)) → Guides q (reverse ys)
+bound_more xs ys b p q place e l f h u =
+    subst (λ zs. Guides q zs) (sym (ap reverse e ∙ reverse_last xs b))
+    (guides_more b (reverse xs) p q f (λ n. u n ∙ ap (λ k. cond (nat_eq b.number n) (Some k) (p n)) (l ∙ sym (length-reverse xs))) h)

@@ -11,8 +11,10 @@ use Rattle.rb_engine.specs.declared.ends.Refusal.TheVariants as refusal
 use Rattle.rb_meaning_code.specs.Remote.{Server, Reply, Got, Stopped, and_then, replies}
 use Rattle.rb_exec.specs.Ends.{at_place, Means, Replied}
 use Rattle.rb_trees.specs.declared.scripts.SExpr.{SExpr}
-use Rattle.rb_meaning_code.specs.ScriptRun.{Vars}
-use Rattle.rb_exec.specs.Stages.{value_run, values_run}
+use Rattle.rb_trees.specs.mirror.Scripts as script
+use Rattle.rb_trees.specs.mirror.Scripts.{mirror_sexpr}
+use Rattle.rb_meaning_code.specs.ScriptRun.{Vars, value_of}
+use Rattle.rb_exec.specs.Stages.{ground, value_run, values_run}
 use Rattle.rb_exec.specs.declared.stage.Stage.{Stage}
 use Rattle.rb_exec.proofs.Dropped.{dropped_one}
 use Rattle.rb_exec.specs.declared.ends.Miss.{Miss}
@@ -93,3 +95,8 @@ pub values_done : {s : Server} {vs : List Value} {whole : Reply (List Value)} (s
     → after vs (values_run st at vars (drop i es) s) ≡ whole → Replied whole (Ok vs) s
 values_done {s = s} {vs = vs} st at vars es i l same =
     given (sym same ∙ ap (λ xs. after vs (values_run st at vars xs s)) (drop_all i es l) ∙ ap (λ xs. Got xs s) (append-nil vs))
+
+-- an expression of a known form
+pub of_form : {r : Result Value Miss} {s1 : Server} {m : script.SExpr} (st : Stage) (at : ℕ) (vars : Vars) (s : Server) (e : SExpr) → mirror_sexpr e ≡ m → Replied (value_of (ground st) at vars m s) r s1
+    → Replied (value_run st at vars e s) r s1
+of_form st at vars s e is h = as_meant (ap (λ x. value_of (ground st) at vars x s) is) h

@@ -14,6 +14,7 @@ use Rattle.rb_meaning_code.specs.Remote.{Server, Reply, replies}
 use Rattle.rb_meaning_code.specs.ScriptRun.{Vars, Ran, Turned, Why, AllDone, InTurn, NoUnit, with_entry, halted, stopped, on_reply, may_keep, kept, with_kept, with_unit, before_turns, turned_on, turns, turn_over, after_turns, walked}
 use Rattle.rb_exec.specs.Blocks.{with_entries, Did, IsRun, AreTurns, EndsTurns, end_of, kept_entries, row_entries}
 use Rattle.rb_exec.specs.Ends.{at_place}
+use Rattle.rb_exec.specs.Servers.{TakesUnit}
 use Rattle.rb_exec.specs.declared.blocks.Block.{Block}
 use Rattle.rb_engine.specs.Ends.{fault_of}
 use Rattle.rb_engine.specs.declared.ends.Refusal.{Refusal}
@@ -125,9 +126,9 @@ pub turns_walked : {before after : List entry.Entry} {vars : Vars} {s : Server} 
     → after ≡ before ++ entries.Rows ns ∷ [] → EndsTurns id at end r → Did (λ go. walked id at t (λ s1. go vars s1)) before vars r after vars s
 turns_walked {before = before} {after = after} {vars = vars} {s = s} {r = r} id at t ns end are more e =
     as_meant (λ go.
-        ap (λ n. with_entries before (with_entry (forest.Rows n) (after_turns id at t.why t.server (λ s1. go vars s1)))) (sym are.nodes_so)
-        ∙ sym (rows_more before ns (after_turns id at t.why t.server (λ s1. go vars s1)))
-        ∙ ap (λ es. with_entries es (after_turns id at t.why t.server (λ s1. go vars s1))) (sym more))
+    ap (λ n. with_entries before (with_entry (forest.Rows n) (after_turns id at t.why t.server (λ s1. go vars s1)))) (sym are.nodes_so)
+    ∙ sym (rows_more before ns (after_turns id at t.why t.server (λ s1. go vars s1)))
+    ∙ ap (λ es. with_entries es (after_turns id at t.why t.server (λ s1. go vars s1))) (sym more))
     (subst (λ x. Did (λ go. after_turns id at t.why x (λ s1. go vars s1)) after vars r after vars s) are.server_so (after_so id at t.why s end vars after r are.end_so e))
 
 -- What a turn begins with.
@@ -168,10 +169,19 @@ turn_faulted id at place keep row f block s made (Err (refusal.Fault x)) t g is 
     let same : x ≡ f = cc (is, was) in
     let there : at ≡ place = cc (is, was) in
     let meant : turn_over id at keep block row s ≡ stopped id place f s =
-        turn_faults id at keep row x block s g ∙ ap (λ y. stopped id at y s) same ∙ ap (λ y. stopped id y f s) there in
+    turn_faults id at keep row x block s g ∙ ap (λ y. stopped id at y s) same ∙ ap (λ y. stopped id y f s) there in
     record {
       node_so = ap (λ b. mirror_node b.node) e ∙ at_Node (record { entries = []; fault = Some (record { step = id; at = place; fault = f }) }) ∙ ap (λ r. r.node) (sym meant);
       stopped_so = ap (λ b. b.stopped) e ∙ ap (λ r. is_some r.fault) (sym meant);
       server_so = ap (λ r. r.server) (sym meant);
     }
 turn_faulted id at place keep row f block s made (Err refusal.Memory) t g is was e = absurd (cc (is, was))
+
+-- units of fuel
+pub unit_missing : (s s1 : Server) (b : Bool) → TakesUnit s b s1 → b ≡ false → (s.fuel ≡ 0) × (s1 ≡ s)
+unit_missing s s1 true h e = absurd (cc e)
+unit_missing s s1 false h e = h
+
+pub unit_taken : (s s1 : Server) (b : Bool) → TakesUnit s b s1 → b ≡ true → s ≡ record s1 { fuel = suc s1.fuel }
+unit_taken s s1 true h e = h
+unit_taken s s1 false h e = absurd (cc e)

@@ -36,10 +36,17 @@ Does meaning before (Err stop.Memory) after vars s = Unit {0}
 abbrev pub Extends : Vars → Vars → Type 0
 Extends before after = (more : Vars) × (after ≡ more ++ before)
 
+-- unless memory ran out
+abbrev pub Binds : Result (Unit {0}) Stop → Vars → Vars → Type 0
+Binds (Ok u) before after = Extends before after
+Binds (Err (stop.Fault f)) before after = Extends before after
+Binds (Err stop.Within) before after = Extends before after
+Binds (Err stop.Memory) before after = Unit {0}
+
 -- what running steps ensures: what they did, and that they only bound variables
 pub record Did (meaning : Meaning) (before : List entry.Entry) (old : Vars) (result : Result (Unit {0}) Stop) (after : List entry.Entry) (new : Vars) (server : Server) : Type 0 where
   pub does : Does meaning before result after new server
-  pub binds : Extends old new
+  pub binds : Binds result old new
 
 -- the same of a step without an entry, whatever the entries so far, that binds nothing
 abbrev pub DidQuietly : Meaning → Vars → Result (Unit {0}) Stop → Server → Type 0

@@ -87,16 +87,7 @@ impl Server {
     ) -> Result<Value, Miss>
         ensures { Replied (rules.invoke (map mirror_class code.now) at kind (out-Value target) method.now args self.old) result self.new }
     {
-        match invoke(
-            alloc,
-            code,
-            &mut self.state,
-            at,
-            kind,
-            target,
-            method,
-            args,
-        ) {
+        match invoke(alloc, code, &mut self.state, at, kind, target, method, args) {
             Ok(Ok(value)) => Ok(value),
             Ok(Err(raised)) => Err(Miss::Fault(at, raised.fault)),
             Err(_) => Err(Miss::Memory),

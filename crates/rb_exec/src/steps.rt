@@ -175,11 +175,7 @@ fn run_let(
 fn chosen<'a>(holds: bool, yes: &'a Seq<Step>, no: &'a Seq<Step>) -> &'a Seq<Step>
     ensures { result.now ≡ cond holds yes.now no.now }
 {
-    if holds {
-        yes
-    } else {
-        no
-    }
+    if holds { yes } else { no }
 }
 
 // An `If`: the entry of the branch that was taken. A fault within it ends the steps.
@@ -199,10 +195,7 @@ fn run_if(
 ) -> Result<(), Stop>
     ensures { Did (if_run stage.now id at condition.now yes.now no.now variables.old server.old) entries.old variables.old result entries.new variables.new server.new }
 {
-    let value = at_step(
-        id,
-        value_of(alloc, stage, server, variables, at, condition),
-    )?;
+    let value = at_step(id, value_of(alloc, stage, server, variables, at, condition))?;
     let holds = at_step(id, at_place(at, truth_of(alloc, value)))?;
     let steps = chosen(holds, yes, no);
     let count = variables.count();

@@ -100,9 +100,7 @@ fn run_row(
 {
     let count = variables.count();
     variables.bind(walk.variable, copy_value(row)?)?;
-    run_block(
-        alloc, stage, server, variables, count, entries, walk.body,
-    )
+    run_block(alloc, stage, server, variables, count, entries, walk.body)
 }
 
 /// How the steps go on after the turns.

@@ -1,7 +1,7 @@
 // The variables of a script.
 
-ghost use Rattle.std.specs.Prelude.{◌≡◌, ℕ, nat_eq, cond, [], ◌∷◌, length, reverse, OnOk, OnErr};
-ghost use Rattle.std.specs.Option.{option_copied};
+ghost use Rattle.std.specs.Prelude.{◌≡◌, ℕ, nat_eq, cond, [], ◌∷◌, length, reverse, slice_get, OnOk, OnErr};
+ghost use Rattle.std.specs.Option.{option_copied, option_map};
 ghost use Rattle.std.specs.HashMap.{get};
 ghost use Rattle.rb_meaning_code.specs.ScriptRun.{latest};
 ghost use Rattle.rb_exec.specs.Bindings.{latest_binding, oldest, without_latest};
@@ -65,14 +65,12 @@ impl Variables {
     }
 
     /// The latest value of a variable: `latest`.
+    #[tactic(auto, using(crate::proofs::Guided::finds))]
     pub fn find(&self, number: u32) -> Option<&Value>
         ensures { option_copied result ≡ latest self.now number }
     {
-        match self.places.get(&number) {
-            Some(place) => match self.bindings.get(*place) {
-                Some(binding) => Some(&binding.value),
-                None => None,
-            },
+        match place_of(&self.places, number) {
+            Some(place) => value_at(self.bindings.as_slice(), place),
             None => None,
         }
     }
@@ -99,6 +97,7 @@ impl Variables {
     }
 
     /// Lets the later bindings go, so that the oldest so many stay: `oldest`.
+    #[tactic(auto, using(crate::proofs::Guided::closings))]
     pub fn close(&mut self, count: usize) -> Result<(), Memory>
         ensures { OnOk result (self.new ≡ oldest count self.old) }
     {
@@ -117,6 +116,16 @@ impl Variables {
             let _latest = self.bindings.pop();
         }
         Ok(())
+    }
+}
+
+// The value of the binding at a place.
+fn value_at(bindings: &[Binding], place: usize) -> Option<&Value>
+    ensures { option_copied result ≡ option_map (λ b. b.value) (slice_get bindings.now place) }
+{
+    match bindings.get(place) {
+        Some(binding) => Some(&binding.value),
+        None => None,
     }
 }
 

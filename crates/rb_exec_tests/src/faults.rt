@@ -1,6 +1,6 @@
 // Where faults stand, and what was done before them.
 
-use crate::build::{and, ask, bind, binary, each, int, one, step, tell, unary};
+use crate::build::{and, ask, binary, bind, each, int, one, step, tell, unary};
 use crate::files::ran;
 use rb_trees::{BinOp, Memory, SExpr, Seq, Step, StepForm, UnOp, Value};
 use std::alloc::Global;
@@ -62,11 +62,23 @@ fn a_step_that_cant_be_performed_ends_the_node(rt: HostRuntime) -> Result<(), Fa
 fn a_fault_in_a_turn_ends_everything(rt: HostRuntime) -> Result<(), Fail> {
     let alloc = rt.alloc();
     let name = keep(1, ask(alloc, 2, 3, b"name", SExpr::Var(0))?);
-    let check = step(2, StepForm::Do(tell(alloc, 4, 0, b"check", SExpr::Var(0), int(100))?));
-    let grow = step(3, StepForm::Do(tell(alloc, 5, 0, b"grow", SExpr::Var(0), int(1))?));
+    let check = step(
+        2,
+        StepForm::Do(tell(alloc, 4, 0, b"check", SExpr::Var(0), int(100))?),
+    );
+    let grow = step(
+        3,
+        StepForm::Do(tell(alloc, 5, 0, b"grow", SExpr::Var(0), int(1))?),
+    );
     let body = and(and(one(alloc, name)?, check)?, grow)?;
-    let steps = and(one(alloc, each(0, 0, false, files(alloc)?, body))?, keep(4, int(1)))?;
-    assert_eq!(rt; ran(alloc, steps, &[])?.as_slice(), b"[(a )(bb !8@4#2)] ; 11, 200".as_slice());
+    let steps = and(
+        one(alloc, each(0, 0, false, files(alloc)?, body))?,
+        keep(4, int(1)),
+    )?;
+    assert_eq!(rt;
+        ran(alloc, steps, &[])?.as_slice(),
+        b"[(a )(bb !8@4#2)] ; 11, 200".as_slice()
+    );
     Ok(())
 }
 
@@ -74,15 +86,27 @@ fn a_fault_in_a_turn_ends_everything(rt: HostRuntime) -> Result<(), Fail> {
 fn a_row_that_may_not_be_kept_is_its_turns_fault(rt: HostRuntime) -> Result<(), Fail> {
     let alloc = rt.alloc();
     let body = one(alloc, keep(1, int(1)))?;
-    let steps = and(one(alloc, each(0, 0, true, files(alloc)?, body))?, keep(2, int(1)))?;
-    assert_eq!(rt; ran(alloc, steps, &[])?.as_slice(), b"[(!12@0#0)] ; 10, 200".as_slice());
+    let steps = and(
+        one(alloc, each(0, 0, true, files(alloc)?, body))?,
+        keep(2, int(1)),
+    )?;
+    assert_eq!(rt;
+        ran(alloc, steps, &[])?.as_slice(),
+        b"[(!12@0#0)] ; 10, 200".as_slice()
+    );
     Ok(())
 }
 
 /// The files are bound, so many units are taken, and the files are walked, each grown by one.
 fn short(alloc: Global, units: i64) -> Result<Seq<Step>, Memory> {
-    let grow = step(3, StepForm::Do(tell(alloc, 5, 0, b"grow", SExpr::Var(1), int(1))?));
-    let steps = and(one(alloc, bind(0, 0, false, files(alloc)?))?, burn(alloc, 1, units)?)?;
+    let grow = step(
+        3,
+        StepForm::Do(tell(alloc, 5, 0, b"grow", SExpr::Var(1), int(1))?),
+    );
+    let steps = and(
+        one(alloc, bind(0, 0, false, files(alloc)?))?,
+        burn(alloc, 1, units)?,
+    )?;
     and(steps, each(2, 1, false, SExpr::Var(0), one(alloc, grow)?))
 }
 

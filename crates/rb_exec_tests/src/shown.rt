@@ -47,11 +47,7 @@ fn add_entry(alloc: Global, entry: &Entry, into: &mut Word) -> Result<(), Memory
     match entry {
         Entry::Value(value) => add_value(alloc, value, into),
         Entry::Branch(taken, node) => {
-            let word: &[u8] = if *taken {
-                b"yes("
-            } else {
-                b"no("
-            };
+            let word: &[u8] = if *taken { b"yes(" } else { b"no(" };
             into.extend_from_slice(word)?;
             add_node(alloc, node, into)?;
             into.push(b')')

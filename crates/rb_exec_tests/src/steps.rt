@@ -1,6 +1,6 @@
 // What each step gives.
 
-use crate::build::{and, ask, bind, binary, each, int, one, step, tell, text};
+use crate::build::{and, ask, binary, bind, each, int, one, step, tell, text};
 use crate::files::ran;
 use rb_trees::{BinOp, Memory, SExpr, Seq, Step, StepForm, Value};
 use std::alloc::Global;
@@ -28,7 +28,10 @@ fn a_loop_gives_a_node_for_each_file(rt: HostRuntime) -> Result<(), Fail> {
     let alloc = rt.alloc();
     let body = and(one(alloc, size(alloc, 1, 0)?)?, grow(alloc, 2, 0, int(1))?)?;
     let steps = one(alloc, each(0, 0, false, files(alloc)?, body))?;
-    assert_eq!(rt; ran(alloc, steps, &[])?.as_slice(), b"[(10 )(200 )] ; 11, 201".as_slice());
+    assert_eq!(rt;
+        ran(alloc, steps, &[])?.as_slice(),
+        b"[(10 )(200 )] ; 11, 201".as_slice()
+    );
     Ok(())
 }
 
@@ -40,7 +43,10 @@ fn a_branch_gives_the_node_of_its_block(rt: HostRuntime) -> Result<(), Fail> {
     let yes = and(one(alloc, size(alloc, 2, 0)?)?, grow(alloc, 3, 0, int(5))?)?;
     let choice = step(1, StepForm::If(large, yes, Seq::new(alloc)));
     let steps = one(alloc, each(0, 0, false, files(alloc)?, one(alloc, choice)?))?;
-    assert_eq!(rt; ran(alloc, steps, &[])?.as_slice(), b"[(no() )(yes(200 ) )] ; 10, 205".as_slice());
+    assert_eq!(rt;
+        ran(alloc, steps, &[])?.as_slice(),
+        b"[(no() )(yes(200 ) )] ; 10, 205".as_slice()
+    );
     Ok(())
 }
 
@@ -59,7 +65,10 @@ fn rebound(alloc: Global) -> Result<Seq<Step>, Memory> {
 fn after_a_block_a_variable_has_its_value_of_before(rt: HostRuntime) -> Result<(), Fail> {
     let alloc = rt.alloc();
     let steps = rebound(alloc)?;
-    assert_eq!(rt; ran(alloc, steps, &[])?.as_slice(), b"4 yes(5 5 ) 4 ; 10, 200".as_slice());
+    assert_eq!(rt;
+        ran(alloc, steps, &[])?.as_slice(),
+        b"4 yes(5 5 ) 4 ; 10, 200".as_slice()
+    );
     Ok(())
 }
 
@@ -71,7 +80,10 @@ fn rows_that_are_kept_come_first_in_their_turns(rt: HostRuntime) -> Result<(), F
     let body = one(alloc, step(1, StepForm::Keep(more)))?;
     let steps = one(alloc, each(0, 3, true, sizes, body))?;
     let text = ran(alloc, steps, &[Value::Int(10)])?;
-    assert_eq!(rt; text.as_slice(), b"[(1 11 )(2 12 )(3 13 )] ; 10, 200".as_slice());
+    assert_eq!(rt;
+        text.as_slice(),
+        b"[(1 11 )(2 12 )(3 13 )] ; 10, 200".as_slice()
+    );
     Ok(())
 }
 
@@ -82,7 +94,10 @@ fn loops_stand_within_loops(rt: HostRuntime) -> Result<(), Fail> {
     let body = and(one(alloc, inner)?, size(alloc, 3, 0)?)?;
     let steps = one(alloc, each(0, 0, false, files(alloc)?, body))?;
     let text = ran(alloc, steps, &[])?;
-    assert_eq!(rt; text.as_slice(), b"[([(10 )(10 )] 10 )([(200 )(200 )] 200 )] ; 10, 200".as_slice());
+    assert_eq!(rt;
+        text.as_slice(),
+        b"[([(10 )(10 )] 10 )([(200 )(200 )] 200 )] ; 10, 200".as_slice()
+    );
     Ok(())
 }
 
@@ -91,8 +106,14 @@ fn values_are_kept_of_each_primitive_type(rt: HostRuntime) -> Result<(), Fail> {
     let alloc = rt.alloc();
     let name = text(alloc, b"name")?;
     let either = binary(alloc, BinOp::Or, 1, SExpr::Lit(Value::Bool(true)), int(1))?;
-    let steps = and(one(alloc, bind(0, 0, true, name))?, bind(1, 1, true, either))?;
+    let steps = and(
+        one(alloc, bind(0, 0, true, name))?,
+        bind(1, 1, true, either),
+    )?;
     let steps = and(steps, bind(2, 2, false, SExpr::Root))?;
-    assert_eq!(rt; ran(alloc, steps, &[])?.as_slice(), b"name t ; 10, 200".as_slice());
+    assert_eq!(rt;
+        ran(alloc, steps, &[])?.as_slice(),
+        b"name t ; 10, 200".as_slice()
+    );
     Ok(())
 }

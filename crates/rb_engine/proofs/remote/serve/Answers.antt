@@ -16,11 +16,12 @@ pub returns-in-Ok-Ok-clause-depth : goal.returns-in-Ok-Ok-clause-depth
 returns-in-Ok-Ok-clause-depth c = (c.call.ensures []).depth ∙ c.requires
 
 pub returns-in-Ok-Err-clause-replies : goal.returns-in-Ok-Err-clause-replies
-returns-in-Ok-Err-clause-replies c =
-    (fault_served c.args.code.now c.args.at c.args.kind c.args.object c.args.name.now c.args.args c.args.state.now c.call.new.state c.new-world.result c.call.new.world
-    c.call.result c.in-Ok-Err.raised c.requires (c.in-Ok-Err.is ∙ ap Ok c.in-Ok-Err.field-0-is) ((c.call.ensures []).led c.args.state.now.fuel (omega arith))
-    ∙ ap (λ r. Stopped c.args.at r.fault (server c.call.new.state)) (sym c.remotely.ensures),
-    c.remotely.ensures ∙ ap (λ r. raised_remotely r.fault c.args.at) (sym c.remotely.ensures))
+returns-in-Ok-Err-clause-replies c = (
+  fault_served c.args.code.now c.args.at c.args.kind c.args.object c.args.name.now c.args.args c.args.state.now c.call.new.state c.new-world.result c.call.new.world
+      c.call.result c.in-Ok-Err.raised c.requires (c.in-Ok-Err.is ∙ ap Ok c.in-Ok-Err.field-0-is) ((c.call.ensures []).led c.args.state.now.fuel (omega arith))
+      ∙ ap (λ r. Stopped c.args.at r.fault (server c.call.new.state)) (sym c.remotely.ensures),
+  c.remotely.ensures ∙ ap (λ r. raised_remotely r.fault c.args.at) (sym c.remotely.ensures),
+)
 
 pub returns-in-Ok-Err-clause-depth : goal.returns-in-Ok-Err-clause-depth
 returns-in-Ok-Err-clause-depth c = (c.call.ensures []).depth ∙ c.requires

@@ -1,0 +1,20 @@
+-- A script on a host is its body, run with the fuel of a batch.
+use Rattle.std.proofs.Common.{◌≡◌, sym, subst, ℕ, List}
+use Rattle.rb_trees.specs.declared.values.Value.{Value}
+use Rattle.rb_trees.specs.declared.declarations.Class.{Class}
+use Rattle.rb_trees.specs.declared.scripts.Script.{Script}
+use Rattle.rb_trees.specs.declared.services.Object.{Object}
+use Rattle.rb_meaning_code.specs.Remote.{Server}
+use Rattle.rb_meaning_code.specs.ScriptRun.{batch_fuel}
+use Rattle.rb_exec.specs.Blocks.{IsRun}
+use Rattle.rb_exec.specs.Hosted.{Hosted}
+use Rattle.rb_exec.specs.Hosts.{script_run}
+use Rattle.rb_exec.specs.Stages.{body_run}
+use Rattle.rb_exec.specs.declared.blocks.Block.{Block}
+
+pub host_run : (h : Hosted) (script : Script) (inputs : List Value) (code : List Class) (root : ℕ) (table : List Object) (before after : Server) (block : Block)
+    → h ≡ record { service = record { classes = code; root = root }; table = table } → before ≡ record { table = table; fuel = 1000000 }
+    → IsRun (body_run code root inputs script.body before) block after → IsRun (script_run h script inputs) block after
+unfolding batch_fuel
+host_run h script inputs code root table before after block e f run =
+    subst (λ x. IsRun (script_run x script inputs) block after) (sym e) (subst (λ x. IsRun (body_run code root inputs script.body x) block after) f run)
