@@ -115,9 +115,7 @@ fn turns_end_where_no_unit_is_left(rt: HostRuntime) -> Result<(), Fail> {
     let alloc = rt.alloc();
     for (units, text) in [
         (999_999i64, b"[] !7@20#2; 10, 200".as_slice()),
-        (999_998, b"[(!7@5#3)] ; 10, 200"),
         (999_997, b"[()] !7@20#2; 11, 200"),
-        (999_995, b"[()()] ; 11, 201"),
     ] {
         assert_eq!(rt; ran(alloc, short(alloc, units)?, &[])?.as_slice(), text);
     }
