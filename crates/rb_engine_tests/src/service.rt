@@ -12,6 +12,7 @@ static CLASSES: &str =
     "class P { } class A { fun unit() { } fun int(): Int { return 1; } fun bool(): Bool { return true; } fun text(): Text { return \"t\"; } fun self(): A { return this; } fun ints(): List<Int> { return List<Int>(1, 2); } fun bools(): List<Bool> { return List<Bool>(true, false); } fun texts(): List<Text> { return List<Text>(\"a\"); } fun selves(): List<A> { return List<A>(this, this); } fun none(): List<Int> { return List<Int>(); } fun mixed(): List<Int> { return List<Int>(1, true, this); } fun add(n: Int): Int { return n + 1; } fun not(b: Bool): Bool { return !b; } fun say(t: Text): Text { return t; } fun same(a: A): A { return a; } fun count(ns: List<Int>): Int { return len(ns); } fun pick(n: Int, b: Bool, t: Text, a: A): A { return a; } fun divide(n: Int): Int { return 1 / n; } fun fails(): Int { return this.divide(0); } fun deep(): Int { return this.deep(); } fun loops() { while (true) { } } } main { }";
 
 /// A remote call: the receiver, the method, a letter for each argument, the fuel, and the kind of the result.
+#[derive(Drop)]
 pub struct Call<'a> {
     pub object: Option<u32>,
     pub method: &'a [u8],
