@@ -2,3 +2,4 @@ pub mod Counts
 pub mod Devices
 pub mod Sinks
 pub mod Directories
+pub mod Links

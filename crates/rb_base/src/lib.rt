@@ -6,6 +6,7 @@
 
 mod contents;
 mod files;
+mod links;
 mod memory_files;
 mod memory_sink;
 mod null_sink;
@@ -14,6 +15,7 @@ mod same_files;
 mod sinks;
 
 pub use files::{Files, FilesStop};
+pub use links::{Link, LinkStop, Reply};
 pub use memory_files::MemoryFiles;
 pub use memory_sink::MemorySink;
 pub use null_sink::NullSink;

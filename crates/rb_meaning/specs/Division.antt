@@ -5,12 +5,15 @@ use Rattle.rb_trees.specs.mirror.Code.{Stmt, Stmts}
 use Rattle.rb_trees.specs.mirror.Scripts as script
 use Rattle.rb_trees.specs.mirror.Scripts.{SExpr, Step, Steps, Script}
 use Rattle.rb_trees.specs.mirror.Declarations.{Program}
-use Rattle.rb_meaning.specs.Remote.{int_kind}
 
 -- the position and the method of a call that a statement prints
 abbrev pub printed_call : Stmt → Option (ℕ × List ℕ)
 printed_call (code.Print place (code.Call at receiver method args)) = Some (at, method)
 printed_call _ = None
+
+-- the number of the kind of an Int, the only one that results have yet
+abbrev pub int_kind : ℕ
+int_kind = 1
 
 -- a call of a method of the root that gives an Int
 abbrev pub call_on_root : ℕ → List ℕ → SExpr

@@ -1,8 +1,10 @@
 pub mod Place
 pub mod State
-pub mod Remote
+pub mod Division
 pub mod Unsplit
 pub mod Meaning
 pub mod Shown
-pub mod ScriptRun
-pub mod Division
+pub mod ServiceSources
+pub mod Answers
+pub mod Replies
+pub mod Links

@@ -1,17 +1,12 @@
 -- What surrounds the code of a program: what it shows, and the server. Together with the local state of the code this is
 -- the one state of the unsplit meaning.
 use Rattle.std.specs.Prelude.{ℕ, List, [], ◌∷◌, ◌++◌}
-use Rattle.rb_trees.specs.declared.services.Object.{Object}
+use Rattle.rb_meaning_code.specs.Remote.{Server}
 
 -- what a run shows in order: a printed line, or that a batch was begun
 pub data Event : Type 0 where
   Line : (bytes : List ℕ) → Event
   Batch : Event
-
--- the server: its table, and the fuel of the batch
-pub record Server : Type 0 where
-  pub table : List Object
-  pub fuel : ℕ
 
 -- what is around client code: the events so far, and the server
 pub record Outside : Type 0 where

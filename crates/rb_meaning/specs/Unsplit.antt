@@ -15,12 +15,14 @@ use Rattle.rb_meaning_code.specs.Faults.{kind, raised, raises, raised_remotely}
 use Rattle.rb_meaning_code.specs.State.{Names, Local, bound, closed}
 use Rattle.rb_meaning_code.specs.Dialogue as ask
 use Rattle.rb_meaning_code.specs.Dialogue.{Question, Outcome, Gave, Faulted, Handler, handle}
+use Rattle.rb_meaning_code.specs.Remote.{Server, Reply, Got, Stopped, and_then, invoke}
+use Rattle.rb_meaning_code.specs.ScriptRun.{batch_fuel}
 use Rattle.rb_meaning_code.specs.Expressions.{value_of}
 use Rattle.rb_meaning_code.specs.Statements.{performs_all}
 use Rattle.rb_meaning_code.specs.Bodies.{bodies_of}
 use Rattle.rb_meaning.specs.State as state
-use Rattle.rb_meaning.specs.State.{Server, Outside, shows}
-use Rattle.rb_meaning.specs.Remote.{Reply, Got, Stopped, and_then, int_kind, invoke, batch_fuel}
+use Rattle.rb_meaning.specs.State.{Outside, shows}
+use Rattle.rb_meaning.specs.Division.{int_kind}
 
 -- the kind that an interface's result type demands; only Int has one yet
 abbrev pub kind_of_type : TypeTree → ℕ
@@ -56,7 +58,7 @@ abbrev pub answers_in_batch : Service → Kinds → Outside → Question → Res
 answers_in_batch service kinds s (ask.Line at bytes) = (Ok value.Unit, shows (state.Line bytes) s)
 answers_in_batch service kinds s (ask.Taken step) = (Err (raised kind 0), s)
 answers_in_batch service kinds s (ask.Invoke at target method args) =
-    performed s (invoke service at (kinds at method) (out-Value target) method args s.server)
+    performed s (invoke service.classes at (kinds at method) (out-Value target) method args s.server)
 answers_in_batch service kinds s (ask.Turn at) = (Err (raised_remotely kind at), s)
 answers_in_batch service kinds s (ask.ListTurn at) = (Ok value.Unit, s)
 
@@ -77,7 +79,7 @@ abbrev mutual
   remotely service kinds names (code.Name at name) s = given (raises at (value_of names name)) s
   remotely service kinds names (code.Call at receiver method args) s =
       and_then (remotely service kinds names receiver s) (λ target s1.
-      and_then (remotely_all service kinds names args s1) (λ vs s2. invoke service at (kinds at method) (out-Value target) method vs s2))
+      and_then (remotely_all service kinds names args s1) (λ vs s2. invoke service.classes at (kinds at method) (out-Value target) method vs s2))
   remotely service kinds names e s = Stopped (expr_at e) kind s
 
   pub remotely_all : Service → Kinds → Names → Exprs → Server → Reply (List Value)

@@ -1,3 +1,5 @@
+pub mod Fits
+pub mod formats
 pub mod grammar
 pub mod tokens
 pub mod wire

@@ -19,3 +19,4 @@ pub mod Stands
 pub mod Batches
 pub mod Lawful
 pub mod Fits
+pub mod Stores

@@ -2,7 +2,6 @@
 use Rattle.std.proofs.Common.{◌≡◌, ℕ, List, true, false, Option, None, Some, Result, Ok, Err, ap, sym, ◌∙◌, refl, subst, inl, inr}
 use Rattle.std.specs.Option.{is_none}
 use Rattle.rb_trees.specs.mirror.Declarations.{Program}
-use Rattle.rb_trees.specs.mirror.Services.{Service}
 use Rattle.rb_base.specs.Devices.{Device}
 use Rattle.rb_top.specs.declared.loading.TextStop.{TextStop}
 use Rattle.rb_top.specs.declared.loading.TextStop.TheVariants as stops
@@ -10,44 +9,38 @@ use Rattle.rb_top.specs.declared.printing.PrintStop.{PrintStop}
 use Rattle.rb_top.specs.declared.printing.PrintStop.TheVariants as print
 use Rattle.rb_top.specs.declared.status.Status.{Status}
 use Rattle.rb_top.specs.declared.status.Status.TheVariants.{Done, Memory}
-use Rattle.rb_top.specs.FirstForm.{FirstProgram, FirstService, Offers}
+use Rattle.rb_top.specs.FirstForm.{FirstProgram}
 use Rattle.rb_top.specs.Local.{PrintsLocal}
-use Rattle.rb_top.specs.Printing.{Prints, PrintsRun}
-use Rattle.rb_top.specs.Runs.{ended_status, run_text}
-use Rattle.rb_top.specs.Texts.{HasNoBatch, IsBuilt, Serves}
+use Rattle.rb_top.specs.Printing.{Prints, PrintsAnswering}
+use Rattle.rb_top.specs.Replay.{PrintsBatch}
+use Rattle.rb_top.specs.Runs.{Served, run_status, run_text}
+use Rattle.rb_top.specs.Texts.{HasNoBatch, IsBuilt}
 use Rattle.rb_top.specs.Answers.{Ends, whole, cut, starved, fault_line, too_long_line}
-use Rattle.rb_top.specs.Commands.{status_after, stopped_status, EndsUnread, EndsWith, EndsRun}
+use Rattle.rb_top.specs.Commands.{run_answer, status_after, stopped_status, EndsUnread, EndsWith, EndsRun}
 use Rattle.rb_top.proofs.Printed.{wrote_none}
-use Rattle.rb_top.proofs.Whole.{means}
 
 pub ends_by : {A : Type 0} (status : Status) (text : List ℕ) (before after : Device (List ℕ)) (r : Result A PrintStop) (result : Status) → result ≡ status_after status r → Prints text r before after → Ends status text result before after
 ends_by status text before after (Ok done) result e p = whole e p
 ends_by status text before after (Err print.WriteFault) result e p = cut e p
 ends_by status text before after (Err print.Memory) result e p = starved e p
 
--- the status that a run answered, or that of its stop
-abbrev pub run_answer : Result Status PrintStop → Status
-run_answer (Ok status) = status
-run_answer (Err stop) = stopped_status stop
+pub local_ended : (text : List ℕ) (fuel : ℕ) (p : Program) (served : Served) (r : Result Status PrintStop) (result : Status) (before after : Device (List ℕ)) → HasNoBatch p → result ≡ run_answer r → PrintsLocal text fuel p served r before after → EndsRun text fuel p served result before after
+local_ended text fuel p served (Ok status) result before after h e printed = inl (whole (e ∙ printed.0) printed.1)
+local_ended text fuel p served (Err print.WriteFault) result before after h e printed = inl (cut e printed)
+local_ended text fuel p served (Err print.Memory) result before after h e printed = inr (h, e)
 
-pub local_ended : (text : List ℕ) (fuel : ℕ) (p : Program) (s : Service) (r : Result Status PrintStop) (result : Status) (before after : Device (List ℕ)) → HasNoBatch p → result ≡ run_answer r → PrintsLocal text fuel p s r before after → EndsRun text fuel p s result before after
-local_ended text fuel p s (Ok status) result before after h e printed = inl (whole (e ∙ printed.0) printed.1)
-local_ended text fuel p s (Err print.WriteFault) result before after h e printed = inl (cut e printed)
-local_ended text fuel p s (Err print.Memory) result before after h e printed = inr (h, e)
+pub batch_ended : (text : List ℕ) (fuel : ℕ) (p : Program) (served : Served) (r : Result Status PrintStop) (result : Status) (before after : Device (List ℕ)) → result ≡ run_answer r → PrintsBatch text p served r before after → EndsRun text fuel p served result before after
+batch_ended text fuel p served r result before after e printed = inl (by_result r e (printed fuel))
+  where
+    by_result : (r : Result Status PrintStop) → result ≡ run_answer r → PrintsAnswering (run_status fuel p served) (run_text text fuel p served) r before after → Ends (run_status fuel p served) (run_text text fuel p served) result before after
+    by_result (Ok status) e h = whole (e ∙ h.0) h.1
+    by_result (Err print.WriteFault) e h = cut e h
+    by_result (Err print.Memory) e h = starved e h
 
-pub first_ended : {A : Type 0} (text : List ℕ) (fuel : ℕ) (p : Program) (s : Service) (r : Result A PrintStop) (result : Status) (before after : Device (List ℕ)) → FirstProgram p → FirstService s → Offers p s → result ≡ status_after Done r → PrintsRun p s r before after → EndsRun text fuel p s result before after
-first_ended text fuel p s r result before after f g o e printed =
-    inl (subst (λ status. Ends status (run_text text fuel p s) result before after) (sym (ap (λ m. ended_status m.ending) (means p f s g o fuel)))
-    (ends_by Done (run_text text fuel p s) before after r result e (printed text fuel)))
-
--- a program that is built and has a batch is of the first form, and its service has its methods
+-- a program that is built and has a batch is of the first form
 pub is_first : (p : Program) → ¬ HasNoBatch p → IsBuilt p → FirstProgram p
 is_first p n (inl h) = absurd (n h)
 is_first p n (inr f) = f
-
-pub offers_first : (p : Program) (s : Service) → ¬ HasNoBatch p → Serves p s → Offers p s
-offers_first p s n (inl h) = absurd (n h)
-offers_first p s n (inr o) = o
 
 -- without memory nothing is printed
 pub starved_at_once : (status : Status) (text : List ℕ) (before : Device (List ℕ)) → Ends status text Memory before before

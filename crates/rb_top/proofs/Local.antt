@@ -25,7 +25,6 @@ use Rattle.rb_meaning.specs.State.{Event, Outside}
 use Rattle.rb_meaning.specs.Shown.{line, exchanges, shown, shown_ending, shown_events, shown_table}
 use Rattle.rb_meaning.specs.Meaning.{meaning, meant, in_main, performs_found, runs_main, at_start, outside_of, ending_of, local_answer, shown_by, gives_some}
 use Rattle.rb_meaning.specs.Unsplit.{batch_at}
-use Rattle.rb_top.specs.FirstForm.{FirstService, class_name_of, first_table, objects_of}
 use Rattle.rb_base.specs.Devices.{Device, failed}
 use Rattle.rb_base.specs.Sinks.{with_bytes, WrotePrefix}
 use Rattle.rb_base.specs.declared.sinks.Sink as sinks
@@ -35,14 +34,14 @@ use Rattle.rb_engine.specs.Meets.{Led}
 use Rattle.rb_engine.specs.declared.world.Halt.{Halt}
 use Rattle.rb_engine.specs.declared.world.Halt.TheVariants.{Memory, World}
 use Rattle.rb_top.specs.Console.{behind, surrounds, Leads, SameOutput}
-use Rattle.rb_top.specs.Local.{without_batches, main_alone, local_end, result_run, PrintsUnlessStarved, Performs, PrintsLocal}
+use Rattle.rb_top.specs.Local.{without_batches, main_alone, result_run, Performs, PrintsLocal}
 use Rattle.rb_top.specs.declared.console.Console.{Console}
 use Rattle.rb_top.specs.declared.status.Status.{Status}
 use Rattle.rb_top.specs.declared.printing.PrintStop.{PrintStop}
 use Rattle.rb_top.specs.declared.printing.PrintStop.TheVariants as print
 use Rattle.rb_top.proofs.ConsoleRuns.{Printed, led}
 use Rattle.rb_top.proofs.Printed.{both_whole, bytes_none, stops_first, stops_next}
-use Rattle.rb_top.specs.Printing.{alone, stopped}
+use Rattle.rb_top.specs.Printing.{stopped, end_text, PrintsUnlessStarved}
 use Rattle.rb_top.specs.Runs.{ended_status, run_text}
 use Rattle.rb_top.specs.Scene.{output}
 use Rattle.rb_top.specs.Texts.{HasNoBatch}
@@ -132,25 +131,20 @@ pub means_alone : (p : Program) (s : Service) (table : List Object) (fuel : ℕ)
 means_alone p s table fuel h =
     ap meant (in_main_alone p s (runs_main p.classes fuel p.body (at_start fuel)) (outside_of table) (λ at. none_at p.body.statements at (no_batch_in_main p h)))
 
--- the table of the service is that of one object
-one_object : (s : Service) → FirstService s → first_table s ≡ alone (class_name_of s.classes)
-one_object s f = ap objects_of f.classes_are ∙ sym (ap (λ cs. alone (class_name_of cs)) f.classes_are)
-
 -- what it shows: its lines, and what follows them
-pub shows_alone : (text : List ℕ) (p : Program) (s : Service) (fuel : ℕ) → HasNoBatch p → FirstService s
-    → run_text text fuel p s ≡ shown_events (main_alone p.classes p.body fuel (first_table s)).events ++ local_end text (main_alone p.classes p.body fuel (first_table s)).ending (class_name_of s.classes)
-shows_alone text p s fuel h f =
+pub shows_alone : (text : List ℕ) (p : Program) (s : Service) (table : List Object) (fuel : ℕ) → HasNoBatch p
+    → run_text text fuel p (s, table) ≡ shown_events (main_alone p.classes p.body fuel table).events ++ end_text text (main_alone p.classes p.body fuel table).ending 0 table
+shows_alone text p s table fuel h =
     let d = runs_main p.classes fuel p.body (at_start fuel) in
-    let m = main_alone p.classes p.body fuel (first_table s) in
+    let m = main_alone p.classes p.body fuel table in
     let lines = shown_events m.events in
     let ended = line (shown_ending text m.ending) in
     let none = line (codes "exchanges " ++ decimal 0) in
-    let left = shown_table 0 (alone (class_name_of s.classes)) in
+    let left = shown_table 0 table in
     let rest : ℕ → List Object → List ℕ = λ n t. shown_events m.events ++ line (shown_ending text m.ending) ++ line (codes "exchanges " ++ decimal n) ++ shown_table 0 t in
-    ap (shown text) (means_alone p s (first_table s) fuel h)
-    ∙ ap (λ n. rest n m.table) (no_exchange d (outside_of (first_table s)))
-    ∙ ap (λ v. rest 0 v.table) (server_stays d (outside_of (first_table s)))
-    ∙ ap (rest 0) (one_object s f)
+    ap (shown text) (means_alone p s table fuel h)
+    ∙ ap (λ n. rest n m.table) (no_exchange d (outside_of table))
+    ∙ ap (λ v. rest 0 v.table) (server_stays d (outside_of table))
     ∙ ap (λ t. t ++ left) (append_assoc lines ended none)
     ∙ append_assoc lines (ended ++ none) left
 
@@ -273,35 +267,31 @@ as_loaded q typed classes fuel r before after e f h =
     subst (λ x. Performed x fuel r before after) f (subst (λ cs. Performs (map mirror_class cs) (mirror_body q.body) fuel r before after) e h)
 
 -- a run whose code stopped
-pub local_stopped : (text : List ℕ) (fuel : ℕ) (q : program.Program) (s : Service) (stop : PrintStop) (before after : Device (List ℕ)) → HasNoBatch (mirror_program q) → FirstService s → Performed q fuel (Err stop) before after → PrintsLocal text fuel (mirror_program q) s (Err stop) before after
-local_stopped text fuel q s print.Memory before after h f p = tt
-local_stopped text fuel q s print.WriteFault before after h f p =
-    let m = main_alone (mirror_program q).classes (mirror_program q).body fuel (first_table s) in
-    subst (λ t. WrotePrefix (failed before) after t) (sym (shows_alone text (mirror_program q) s fuel h f))
-    (stops_first print.WriteFault before after (shown_events m.events) (local_end text m.ending (class_name_of s.classes)) (p (first_table s)))
-
--- what follows the lines, for the ending and the class that are meant
-end_meant : (text : List ℕ) (ending meant : Ending) (class : List ℕ) (s : Service) → ending ≡ meant → class ≡ class_name_of s.classes → local_end text ending class ≡ local_end text meant (class_name_of s.classes)
-end_meant text ending meant class s e c = ap (λ x. local_end text x class) e ∙ ap (local_end text meant) c
+pub local_stopped : (text : List ℕ) (fuel : ℕ) (q : program.Program) (s : Service) (table : List Object) (stop : PrintStop) (before after : Device (List ℕ)) → HasNoBatch (mirror_program q) → Performed q fuel (Err stop) before after → PrintsLocal text fuel (mirror_program q) (s, table) (Err stop) before after
+local_stopped text fuel q s table print.Memory before after h p = tt
+local_stopped text fuel q s table print.WriteFault before after h p =
+    let m = main_alone (mirror_program q).classes (mirror_program q).body fuel table in
+    subst (λ t. WrotePrefix (failed before) after t) (sym (shows_alone text (mirror_program q) s table fuel h))
+    (stops_first print.WriteFault before after (shown_events m.events) (end_text text m.ending 0 table) (p table))
 
 -- a run that stopped in what follows its lines
-pub end_stopped : (text : List ℕ) (fuel : ℕ) (q : program.Program) (s : Service) (ending : Ending) (class : List ℕ) (stop : PrintStop) (before mid after : Device (List ℕ)) → HasNoBatch (mirror_program q) → FirstService s → class ≡ class_name_of s.classes → Performed q fuel (Ok ending) before mid
-    → WrotePrefix (stopped stop mid) after (local_end text ending class) → PrintsLocal text fuel (mirror_program q) s (Err stop) before after
-end_stopped text fuel q s ending class print.Memory before mid after h f c p w = tt
-end_stopped text fuel q s ending class print.WriteFault before mid after h f c p w =
-    let m = main_alone (mirror_program q).classes (mirror_program q).body fuel (first_table s) in
-    let done = p (first_table s) in
-    subst (λ t. WrotePrefix (failed before) after t) (sym (shows_alone text (mirror_program q) s fuel h f))
-    (stops_next print.WriteFault before mid after (shown_events m.events) (local_end text m.ending (class_name_of s.classes)) done.1
-    (subst (λ t. WrotePrefix (failed mid) after t) (end_meant text ending m.ending class s done.0 c) w))
+pub end_stopped : (text : List ℕ) (fuel : ℕ) (q : program.Program) (s : Service) (table : List Object) (ending : Ending) (stop : PrintStop) (before mid after : Device (List ℕ)) → HasNoBatch (mirror_program q) → Performed q fuel (Ok ending) before mid
+    → WrotePrefix (stopped stop mid) after (end_text text ending 0 table) → PrintsLocal text fuel (mirror_program q) (s, table) (Err stop) before after
+end_stopped text fuel q s table ending print.Memory before mid after h p w = tt
+end_stopped text fuel q s table ending print.WriteFault before mid after h p w =
+    let m = main_alone (mirror_program q).classes (mirror_program q).body fuel table in
+    let done = p table in
+    subst (λ t. WrotePrefix (failed before) after t) (sym (shows_alone text (mirror_program q) s table fuel h))
+    (stops_next print.WriteFault before mid after (shown_events m.events) (end_text text m.ending 0 table) done.1
+    (subst (λ x. WrotePrefix (failed mid) after (end_text text x 0 table)) done.0 w))
 
 -- a run that was printed whole
-pub local_whole : (text : List ℕ) (fuel : ℕ) (q : program.Program) (s : Service) (ending : Ending) (class : List ℕ) (status : Status) (before mid after : Device (List ℕ)) → HasNoBatch (mirror_program q) → FirstService s → class ≡ class_name_of s.classes → Performed q fuel (Ok ending) before mid
-    → after ≡ with_bytes mid (local_end text ending class) → status ≡ ended_status ending → PrintsLocal text fuel (mirror_program q) s (Ok status) before after
-local_whole text fuel q s ending class status before mid after h f c p w e =
-    let m = main_alone (mirror_program q).classes (mirror_program q).body fuel (first_table s) in
-    let done = p (first_table s) in (
-      e ∙ ap ended_status done.0 ∙ sym (ap (λ x. ended_status x.ending) (means_alone (mirror_program q) s (first_table s) fuel h)),
-      both_whole before mid after (shown_events m.events) (local_end text m.ending (class_name_of s.classes)) done.1 (w ∙ ap (with_bytes mid) (end_meant text ending m.ending class s done.0 c))
-          ∙ ap (with_bytes before) (sym (shows_alone text (mirror_program q) s fuel h f)),
+pub local_whole : (text : List ℕ) (fuel : ℕ) (q : program.Program) (s : Service) (table : List Object) (ending : Ending) (status : Status) (before mid after : Device (List ℕ)) → HasNoBatch (mirror_program q) → Performed q fuel (Ok ending) before mid
+    → after ≡ with_bytes mid (end_text text ending 0 table) → status ≡ ended_status ending → PrintsLocal text fuel (mirror_program q) (s, table) (Ok status) before after
+local_whole text fuel q s table ending status before mid after h p w e =
+    let m = main_alone (mirror_program q).classes (mirror_program q).body fuel table in
+    let done = p table in (
+      e ∙ ap ended_status done.0 ∙ sym (ap (λ x. ended_status x.ending) (means_alone (mirror_program q) s table fuel h)),
+      both_whole before mid after (shown_events m.events) (end_text text m.ending 0 table) done.1 (w ∙ ap (λ x. with_bytes mid (end_text text x 0 table)) done.0)
+          ∙ ap (with_bytes before) (sym (shows_alone text (mirror_program q) s table fuel h)),
     )

@@ -7,24 +7,26 @@ use Rattle.rb_trees.specs.declared.refusals.Refusal.{Refusal}
 use Rattle.rb_trees.specs.declared.typing.TypeError.{TypeError}
 use Rattle.rb_trees.specs.mirror.Declarations.{Program}
 use Rattle.rb_trees.specs.mirror.Services.{Service}
+use Rattle.rb_trees.specs.declared.services.Object.{Object}
 use Rattle.rb_meaning.specs.Shown.{line}
 use Rattle.rb_base.specs.Devices.{Device}
 use Rattle.rb_base.specs.Directories.{Directory, told_after, Finds, FailsNext}
 use Rattle.rb_meaning_bytes.specs.grammar.Sources.{ReadSource}
 use Rattle.rb_meaning_types.specs.Violations.{Checked, Violation}
 use Rattle.rb_meaning_types.specs.Programs.{check_program, is_typed}
+use Rattle.rb_meaning_types.specs.Stores.{StoreRefusal, Stored}
+use Rattle.rb_meaning.specs.ServiceSources.{ReadsAsService, unread, of_text}
 use Rattle.rb_flow.specs.Program.{HasNoRefusal}
 use Rattle.rb_parse.specs.Outcomes.{AtMostOne}
 use Rattle.rb_top.specs.Loads.{FindsTooLong}
-use Rattle.rb_top.specs.Runs.{run_status, run_text}
+use Rattle.rb_top.specs.Runs.{Served, run_status, run_text}
 use Rattle.rb_top.specs.Scene.{Scene}
-use Rattle.rb_top.specs.Texts.{WithinLength, TooLong, IsUntyped, IsRefused, IsProgram, IsBuilt, IsService, Serves}
+use Rattle.rb_top.specs.Texts.{WithinLength, TooLong, IsUntyped, IsRefused, IsProgram, IsBuilt, IsService}
 use Rattle.rb_top.specs.Words.{Asked, Check, Both, program_name}
 use Rattle.rb_top.specs.declared.status.Status.{Status}
 use Rattle.rb_top.specs.declared.status.Status.TheVariants.{Done, Memory}
-use Rattle.rb_top.specs.Answers.{Answers, words, program_fault, program_too_long, program_refused, program_untyped, program_not_admitted, program_admitted, program_form, service_fault, service_too_long, service_form, run, Ends, Says, answered, starved_first, starved_running, read_times, IsTold, ToldAdmitted, ToldBoth, ChecksTold, RunsTold}
+use Rattle.rb_top.specs.Answers.{Answers, words, program_fault, program_too_long, program_refused, program_untyped, program_not_admitted, program_admitted, program_form, service_fault, service_too_long, service_refused, run, Ends, Says, answered, starved_first, starved_running, read_times, IsTold, ToldAdmitted, ToldBoth, ChecksTold, RunsTold}
 use Rattle.rb_top.proofs.Ended.{starved_at_once}
-use Rattle.rb_top.proofs.Texts.{OneLexed, service_once}
 
 abbrev found_or_none : Option (List ℕ) → List ℕ
 found_or_none None = []
@@ -129,47 +131,68 @@ checked_once one files left asked p text program status shown w t (program_admit
 checked_once one files left asked p text program status shown w t (program_form p' s' found fuel' other h n) = no_check p p' s' fuel' w
 checked_once one files left asked p text program status shown w t (service_fault p' s' found fuel' other h b g) = no_check p p' s' fuel' w
 checked_once one files left asked p text program status shown w t (service_too_long p' s' found fuel' other h b l) = no_check p p' s' fuel' w
-checked_once one files left asked p text program status shown w t (service_form p' s' found next fuel' other h b g n) = no_check p p' s' fuel' w
-checked_once one files left asked p text program status shown w t (run p' s' found next fuel' other service h b g j o) = no_check p p' s' fuel' w
+checked_once one files left asked p text program status shown w t (service_refused p' s' found next fuel' other error h b g n) = no_check p p' s' fuel' w
+checked_once one files left asked p text program status shown w t (run p' s' found next fuel' other served h b g j) = no_check p p' s' fuel' w
+
+-- no source is two services, or one and none
+abbrev OneService : Type 0
+OneService = (source : List ℕ) → AtMostOne (ReadsAsService source)
+
+never_a_service : OneService → (text : List ℕ) (served : Served) (refusal : StoreRefusal) → IsService text served → ReadsAsService text (Err refusal) → ⊥
+never_a_service services text served refusal i n =
+    let e = services text (Ok served) (Err refusal) i n in
+    absurd (cc)
+
+service_once : OneService → (text : List ℕ) (one other : Served) → IsService text one → IsService text other → one ≡ other
+service_once services text one other i j =
+    let e = services text (Ok one) (Ok other) i j in
+    cc
+
+-- a service's text isn't too long
+text_short : (text : List ℕ) (outcome : Stored (Service × List Object)) → ReadsAsService text outcome → is_ok outcome ≡ true → WithinLength text
+text_short text outcome (unread r) h = absurd (cc h)
+text_short text outcome (of_text r) h = r.1.short
+
+service_short : (text : List ℕ) (served : Served) → IsService text served → WithinLength text
+service_short text served i = text_short text (Ok served) i refl
 
 -- `both P S FUEL`, where the files tell a program and a service for it
-run_once : OneSource → OneLexed → (files left : Device Directory) (asked : Option Asked) (p s text other : List ℕ) (fuel : ℕ) (program : Program) (service : Service) (status : Status) (shown : List ℕ) → asked ≡ Some (Both p s fuel) → ToldBoth files.told p s text other program service → Answers files asked status shown left → Is (run_status fuel program service) (run_text text fuel program service) status shown
-run_once one lexed files left asked p s text other fuel program service status shown w t words = absurd (cc w)
-run_once one lexed files left asked p s text other fuel program service status shown w t (program_fault a f) =
+run_once : OneSource → OneService → (files left : Device Directory) (asked : Option Asked) (p s text other : List ℕ) (fuel : ℕ) (program : Program) (served : Served) (status : Status) (shown : List ℕ) → asked ≡ Some (Both p s fuel) → ToldBoth files.told p s text other program served → Answers files asked status shown left → Is (run_status fuel program served) (run_text text fuel program served) status shown
+run_once one services files left asked p s text other fuel program served status shown w t words = absurd (cc w)
+run_once one services files left asked p s text other fuel program served status shown w t (program_fault a f) =
     absurd (never_fails files.told p text t.finds (subst (FailsNext files.told) (named a (Both p s fuel) w) f))
-run_once one lexed files left asked p s text other fuel program service status shown w t (program_too_long a l) =
+run_once one services files left asked p s text other fuel program served status shown w t (program_too_long a l) =
     absurd (never_too_long files.told p text t.finds (program_short text program t.is.read) (subst (FindsTooLong files.told) (named a (Both p s fuel) w) l))
-run_once one lexed files left asked p s text other fuel program service status shown w t (program_refused a found error f x) =
+run_once one services files left asked p s text other fuel program served status shown w t (program_refused a found error f x) =
     absurd (never_refused one files.told p text found program error t.finds t.is.read (subst (λ m. Finds files.told m found) (named a (Both p s fuel) w) f.0) x)
-run_once one lexed files left asked p s text other fuel program service status shown w t (program_untyped a found program' error f x) =
+run_once one services files left asked p s text other fuel program served status shown w t (program_untyped a found program' error f x) =
     absurd (never_ill_typed one files.told p text found program program' error t.finds t.is.read t.is.typed (subst (λ m. Finds files.told m found) (named a (Both p s fuel) w) f) x)
-run_once one lexed files left asked p s text other fuel program service status shown w t (program_not_admitted a found program' refusal f x) =
+run_once one services files left asked p s text other fuel program served status shown w t (program_not_admitted a found program' refusal f x) =
     absurd (never_unadmitted one files.told p text found program program' refusal t.finds t.is (subst (λ m. Finds files.told m found) (named a (Both p s fuel) w) f) x)
-run_once one lexed files left asked p s text other fuel program service status shown w t (program_admitted p' found program' h) = no_both p s p' fuel w
-run_once one lexed files left asked p s text other fuel program service status shown w t (program_form p' s' found fuel' program' h n) =
+run_once one services files left asked p s text other fuel program served status shown w t (program_admitted p' found program' h) = no_both p s p' fuel w
+run_once one services files left asked p s text other fuel program served status shown w t (program_form p' s' found fuel' program' h n) =
     let e = same_both p' s' fuel' p s fuel w in
     let same_program = one_program one files.told p text found program program' t.finds t.is.read (subst (λ m. Finds files.told m found) (ap program_name e) h.finds) h.is.read in
     absurd (n (subst IsBuilt (sym same_program) t.built))
-run_once one lexed files left asked p s text other fuel program service status shown w t (service_fault p' s' found fuel' program' h b g) =
+run_once one services files left asked p s text other fuel program served status shown w t (service_fault p' s' found fuel' program' h b g) =
     let e = same_both p' s' fuel' p s fuel w in
     absurd (never_fails (told_after files.told) s other t.finds_next (subst (FailsNext (told_after files.told)) (ap service_name e) g))
-run_once one lexed files left asked p s text other fuel program service status shown w t (service_too_long p' s' found fuel' program' h b l) =
+run_once one services files left asked p s text other fuel program served status shown w t (service_too_long p' s' found fuel' program' h b l) =
     let e = same_both p' s' fuel' p s fuel w in
-    absurd (never_too_long (told_after files.told) s other t.finds_next t.is_service.lexed.short (subst (FindsTooLong (told_after files.told)) (ap service_name e) l))
-run_once one lexed files left asked p s text other fuel program service status shown w t (service_form p' s' found next fuel' program' h b g n) =
+    absurd (never_too_long (told_after files.told) s other t.finds_next (service_short other served t.is_service) (subst (FindsTooLong (told_after files.told)) (ap service_name e) l))
+run_once one services files left asked p s text other fuel program served status shown w t (service_refused p' s' found next fuel' program' error h b g n) =
     let e = same_both p' s' fuel' p s fuel w in
-    let same_program = one_program one files.told p text found program program' t.finds t.is.read (subst (λ m. Finds files.told m found) (ap program_name e) h.finds) h.is.read in
     let same = found_once (told_after files.told) s other next t.finds_next (subst (λ m. Finds (told_after files.told) m next) (ap service_name e) g.0) in
-    absurd (n service (subst (λ x. IsService x service) (sym same) t.is_service) (subst (λ x. Serves x service) (sym same_program) t.serves))
-run_once one lexed files left asked p s text other fuel program service status shown w t (run p' s' found next fuel' program' service' h b g j o) =
+    absurd (never_a_service services other served n.refusal t.is_service (subst (λ x. ReadsAsService x (Err n.refusal)) same n.is))
+run_once one services files left asked p s text other fuel program served status shown w t (run p' s' found next fuel' program' served' h b g j) =
     let e = same_both p' s' fuel' p s fuel w in
     let here = subst (λ m. Finds files.told m found) (ap program_name e) h.finds in
     let same = found_once files.told p text found t.finds here in
     let same_program = one_program one files.told p text found program program' t.finds t.is.read here h.is.read in
     let then = found_once (told_after files.told) s other next t.finds_next (subst (λ m. Finds (told_after files.told) m next) (ap service_name e) g) in
-    let it = service_once lexed other service' service (subst (λ x. IsService x service') then j) t.is_service in (
-      ap (λ n. run_status n program' service') (ap fuel_asked e) ∙ ap (λ x. run_status fuel x service') same_program ∙ ap (λ x. run_status fuel program x) it,
-      ap (λ n. run_text found n program' service') (ap fuel_asked e) ∙ ap (λ x. run_text x fuel program' service') same ∙ ap (λ x. run_text text fuel x service') same_program ∙ ap (λ x. run_text text fuel program x) it,
+    let it = service_once services other served' served (subst (λ x. IsService x served') then j) t.is_service in (
+      ap (λ n. run_status n program' served') (ap fuel_asked e) ∙ ap (λ x. run_status fuel x served') same_program ∙ ap (λ x. run_status fuel program x) it,
+      ap (λ n. run_text found n program' served') (ap fuel_asked e) ∙ ap (λ x. run_text x fuel program' served') same ∙ ap (λ x. run_text text fuel x served') same_program ∙ ap (λ x. run_text text fuel program x) it,
     )
 
 -- where memory was wanting before anything was said, the call ends so
@@ -191,13 +214,13 @@ checks_by one asked p text program result before after w t (starved_running p' s
 pub checks_told : OneSource → (asked : Option Asked) (result : Status) (before after : Scene) → Says asked result before after → ChecksTold asked result before after
 checks_told one asked result before after h = λ p text program w t. checks_by one asked p text program result before after w t h
 
-runs_by : OneSource → OneLexed → (asked : Option Asked) (p s text other : List ℕ) (fuel : ℕ) (program : Program) (service : Service) (result : Status) (before after : Scene) → asked ≡ Some (Both p s fuel) → ToldBoth before.files.told p s text other program service → Says asked result before after
-    → Ends (run_status fuel program service) (run_text text fuel program service) result before.out after.out ⊎ (result ≡ Memory)
-runs_by one lexed asked p s text other fuel program service result before after w t (answered status shown a e) =
-    inl (ends_so (run_status fuel program service) (run_text text fuel program service) result before after status shown (run_once one lexed before.files after.files asked p s text other fuel program service status shown w t a) e)
-runs_by one lexed asked p s text other fuel program service result before after w t (starved_first count r f) =
-    inl (ends_starved (run_status fuel program service) (run_text text fuel program service) result count before after r f)
-runs_by one lexed asked p s text other fuel program service result before after w t (starved_running p' s' found fuel' program' e h b r f) = inr r
+runs_by : OneSource → OneService → (asked : Option Asked) (p s text other : List ℕ) (fuel : ℕ) (program : Program) (served : Served) (result : Status) (before after : Scene) → asked ≡ Some (Both p s fuel) → ToldBoth before.files.told p s text other program served → Says asked result before after
+    → Ends (run_status fuel program served) (run_text text fuel program served) result before.out after.out ⊎ (result ≡ Memory)
+runs_by one services asked p s text other fuel program served result before after w t (answered status shown a e) =
+    inl (ends_so (run_status fuel program served) (run_text text fuel program served) result before after status shown (run_once one services before.files after.files asked p s text other fuel program served status shown w t a) e)
+runs_by one services asked p s text other fuel program served result before after w t (starved_first count r f) =
+    inl (ends_starved (run_status fuel program served) (run_text text fuel program served) result count before after r f)
+runs_by one services asked p s text other fuel program served result before after w t (starved_running p' s' found fuel' program' e h b r f) = inr r
 
-pub runs_told : OneSource → OneLexed → (asked : Option Asked) (result : Status) (before after : Scene) → Says asked result before after → RunsTold asked result before after
-runs_told one lexed asked result before after h = λ p s text other fuel program service w t. runs_by one lexed asked p s text other fuel program service result before after w t h
+pub runs_told : OneSource → OneService → (asked : Option Asked) (result : Status) (before after : Scene) → Says asked result before after → RunsTold asked result before after
+runs_told one services asked result before after h = λ p s text other fuel program served w t. runs_by one services asked p s text other fuel program served result before after w t h

@@ -4,11 +4,9 @@ use Rattle.std.proofs.Math.Seq.{take-append-add}
 use Rattle.std.proofs.lemmas.List.{take-append-le}
 use Rattle.std.proofs.lemmas.Grind.{common_steps}
 use Rattle.std.specs.Prelude.{codes, Result, Ok, Err}
-use Rattle.std.specs.Fmt.{decimal}
 use Rattle.rb_base.specs.Devices.{Device}
 use Rattle.rb_base.specs.Sinks.{told_more, with_bytes, WrotePrefix}
-use Rattle.rb_meaning.specs.Shown.{shown_table}
-use Rattle.rb_top.specs.Printing.{alone, stopped, Prints}
+use Rattle.rb_top.specs.Printing.{stopped, Prints}
 use Rattle.rb_top.specs.declared.printing.PrintStop.{PrintStop}
 use Rattle.rb_top.specs.declared.printing.PrintStop.TheVariants as print
 
@@ -90,16 +88,3 @@ printed_all old new whole rest p e = p.written ∙ ap (with_bytes old) (sym (p.i
 pub printed_stop : (stop : PrintStop) (old new newer : Device (List ℕ)) (whole rest a more : List ℕ) → Printed old new whole rest → rest ≡ a ++ more → WrotePrefix (stopped stop new) newer a → WrotePrefix (stopped stop old) newer whole
 printed_stop stop old new newer whole rest a more p e w =
     subst (WrotePrefix (stopped stop old) newer) (sym (p.is ∙ ap (λ l. p.front ++ l) e)) (stops_next stop old new newer p.front (a ++ more) p.written (stops_first stop new newer a more w))
-
-inner_object : (class a b c : List ℕ) → ((((class ++ a) ++ []) ++ b) ++ c) ++ [] ≡ class ++ (a ++ (b ++ c))
-inner_object class a b c = simp (append-nil, append_assoc)
-
--- the line of the first object, piece by piece
-pub object_text : (class : List ℕ) → shown_table 0 (alone class) ≡ ((codes "object " ++ decimal 0 ++ codes ": ") ++ class) ++ codes " { }\n"
-object_text class = inner_object ((codes "object " ++ decimal 0 ++ codes ": ") ++ class) (codes " { ") (codes "}") (10 ∷ [])
-
-pub ruleset objects = (object_text, common_steps)
-
--- the same text, said otherwise
-pub prints_said : {A : Type 0} (r : Result A PrintStop) (old new : Device (List ℕ)) (text : List ℕ) (said : List ℕ → ℕ → List ℕ) → ((source : List ℕ) (fuel : ℕ) → text ≡ said source fuel) → Prints text r old new → (source : List ℕ) (fuel : ℕ) → Prints (said source fuel) r old new
-prints_said r old new text said e h = λ source fuel. subst (λ t. Prints t r old new) (e source fuel) h

@@ -4,14 +4,16 @@ use Rattle.std.specs.Prelude.{IsTrue, IfOk}
 use Rattle.rb_trees.specs.declared.reading.ReadError.{ReadError}
 use Rattle.rb_trees.specs.declared.reading.ReadError.TheVariants as errors
 use Rattle.rb_trees.specs.declared.refusals.Refusal.{Refusal}
+use Rattle.rb_trees.specs.declared.stores.StoreError.{StoreError}
 use Rattle.rb_trees.specs.declared.typing.TypeError.{TypeError}
 use Rattle.rb_trees.specs.mirror.Declarations.{Program}
-use Rattle.rb_trees.specs.mirror.Services.{Service}
 use Rattle.rb_trees.specs.Outcome.{Refused, Refuses}
 use Rattle.rb_trees.specs.Reading.{read_refusal}
 use Rattle.rb_meaning.specs.Shown.{line}
 use Rattle.rb_meaning_bytes.specs.grammar.Sources.{ReadSource}
+use Rattle.rb_meaning_types.specs.Stores.{StoreRefusal, store_refusal}
 use Rattle.rb_meaning_types.specs.Violations.{violation_of}
+use Rattle.rb_meaning.specs.ServiceSources.{ReadsAsService}
 use Rattle.rb_meaning_types.specs.Programs.{check_program, is_typed}
 use Rattle.rb_meaning_flow.specs.Programs.{IsAnswerOf}
 use Rattle.rb_base.specs.Devices.{Device, failed}
@@ -19,17 +21,17 @@ use Rattle.rb_base.specs.Directories.{Directory, read_once, Finds}
 use Rattle.rb_top.specs.declared.loading.TextStop.{TextStop}
 use Rattle.rb_top.specs.declared.loading.TextStop.TheVariants as stops
 use Rattle.rb_top.specs.declared.status.SourceError.TheVariants as sources
-use Rattle.rb_top.specs.declared.status.StoreError.TheVariants as stores
 use Rattle.rb_top.specs.declared.status.Status.{Status}
 use Rattle.rb_top.specs.declared.status.Status.TheVariants.{Done, Words, FileFault, SourceRefused, BatchRefused, ServiceRefused, Memory, FileTooLong}
-use Rattle.rb_top.specs.Answers.{Answers, words, program_fault, program_too_long, program_refused, program_untyped, program_not_admitted, program_admitted, program_form, service_fault, service_too_long, service_form, run, Ends, Says, answered, starved_first, starved_running, read_times, fault_line, too_long_line}
+use Rattle.rb_top.specs.Answers.{Answers, words, program_fault, program_too_long, program_refused, program_untyped, program_not_admitted, program_admitted, program_form, service_fault, service_too_long, service_refused, run, Ends, Says, answered, starved_first, starved_running, read_times, fault_line, too_long_line}
 use Rattle.rb_top.specs.BatchRefusals.{shown_batch_refusal}
-use Rattle.rb_top.specs.Commands.{Starves, EndsUnread, EndsWith, EndsRefused, EndsUntyped, EndsUnadmitted, EndsRun, Admits, LoadsProgram, GoesOn, RunsOn}
+use Rattle.rb_top.specs.Commands.{Starves, EndsUnread, EndsWith, EndsRefused, EndsRefusedService, EndsUntyped, EndsUnadmitted, EndsRun, Admits, LoadsProgram, GoesOn, RunsOn}
 use Rattle.rb_top.specs.Loads.{Unread, HoldsText, HoldsProgram}
 use Rattle.rb_top.specs.Refusals.{shown_refusal, shown_violation}
-use Rattle.rb_top.specs.Runs.{run_status, run_text}
+use Rattle.rb_top.specs.Runs.{Served, run_status, run_text}
 use Rattle.rb_top.specs.Scene.{Scene}
-use Rattle.rb_top.specs.Texts.{WithinLength, IsBuilt, IsService, Serves, NoServiceFor}
+use Rattle.rb_top.specs.ServiceRefusals.{shown_service_refusal}
+use Rattle.rb_top.specs.Texts.{WithinLength, IsBuilt, IsService}
 use Rattle.rb_top.specs.Words.{Asked, Check, Both, program_name}
 
 -- an answer, said over a scene whose files were left so
@@ -129,20 +131,23 @@ service_unread text s fuel program stop result before after i u e = λ p first b
     unread p first h twice stops.TooLong u e = says (Some (Both p s fuel)) (FileTooLong s) result (too_long_line s) (read_once (read_once first)) (at_first before first) after (service_too_long p s text fuel program h i u.0) u.1 e
     unread p first h twice stops.Memory u e = starves (Some (Both p s fuel)) result (at_first before first) after 2 e u
 
-pub service_starved : (text s : List ℕ) (fuel : ℕ) (program : Program) (before after : Scene) → after.files ≡ read_once before.files → after.out ≡ before.out → RunsOn text program s fuel Memory before after
-service_starved text s fuel program before after a o = λ p first b h. starves (Some (Both p s fuel)) Memory (at_first before first) after 2 (refl, o) (again first before.files after.files b a)
+pub no_service : (text s other : List ℕ) (fuel : ℕ) (program : Program) (error : StoreError) (result : Status) (before after : Scene) → IsBuilt program → HoldsText before.files.told s other → after.files ≡ read_once before.files → Refused (ReadsAsService other) (store_refusal error) → EndsRefusedService other error result before.out after.out → RunsOn text program s fuel result before after
+no_service text s other fuel program error result before after i t a n e = λ p first b h.
+    by_refusal p first b h (store_refusal error) refl n e
+  where
+    by_refusal : (p : List ℕ) (first : Device Directory) → before.files ≡ read_once first → HoldsProgram first.told p text program → (o : Option StoreRefusal) → store_refusal error ≡ o → Refused (ReadsAsService other) o
+        → EndsWith o (ServiceRefused error) (line (shown_service_refusal other error)) result before.out after.out → Says (Some (Both p s fuel)) result (at_first before first) after
+    by_refusal p first b h None told n e = starves (Some (Both p s fuel)) result (at_first before first) after 2 e (again first before.files after.files b a)
+    by_refusal p first b h (Some refusal) told n e =
+        says (Some (Both p s fuel)) (ServiceRefused error) result (line (shown_service_refusal other error)) (read_once (read_once first)) (at_first before first) after
+        (service_refused p s text other fuel program error h i (subst (λ d. HoldsText d.told s other) b t) (record { refusal = refusal; told = told; is = n })) (again first before.files after.files b a) e
 
-pub no_service : (text s other : List ℕ) (fuel : ℕ) (program : Program) (result : Status) (before after : Scene) → IsBuilt program → HoldsText before.files.told s other → after.files ≡ read_once before.files → NoServiceFor program other → Ends (ServiceRefused stores.NotBuilt) (line (codes "service not built")) result before.out after.out → RunsOn text program s fuel result before after
-no_service text s other fuel program result before after i t a n e = λ p first b h.
-    says (Some (Both p s fuel)) (ServiceRefused stores.NotBuilt) result (line (codes "service not built")) (read_once (read_once first)) (at_first before first) after
-    (service_form p s text other fuel program h i (subst (λ d. HoldsText d.told s other) b t) n) (again first before.files after.files b a) e
-
-pub run_ended : (text s other : List ℕ) (fuel : ℕ) (program : Program) (service : Service) (result : Status) (before after : Scene) → IsBuilt program → HoldsText before.files.told s other → after.files ≡ read_once before.files → IsService other service → Serves program service
-    → EndsRun text fuel program service result before.out after.out → RunsOn text program s fuel result before after
-run_ended text s other fuel program service result before after i t a is o (inl e) = λ p first b h.
-    says (Some (Both p s fuel)) (run_status fuel program service) result (run_text text fuel program service) (read_once (read_once first)) (at_first before first) after
-    (run p s text other fuel program service h i (subst (λ d. HoldsText d.told s other) b t).0 is o) (again first before.files after.files b a) e
-run_ended text s other fuel program service result before after i t a is o (inr e) = λ p first b h.
+pub run_ended : (text s other : List ℕ) (fuel : ℕ) (program : Program) (served : Served) (result : Status) (before after : Scene) → IsBuilt program → HoldsText before.files.told s other → after.files ≡ read_once before.files → IsService other served
+    → EndsRun text fuel program served result before.out after.out → RunsOn text program s fuel result before after
+run_ended text s other fuel program served result before after i t a is (inl e) = λ p first b h.
+    says (Some (Both p s fuel)) (run_status fuel program served) result (run_text text fuel program served) (read_once (read_once first)) (at_first before first) after
+    (run p s text other fuel program served h i (subst (λ d. HoldsText d.told s other) b t).0 is) (again first before.files after.files b a) e
+run_ended text s other fuel program served result before after i t a is (inr e) = λ p first b h.
     starved_running p s text fuel program refl h e.0 e.1 (again first before.files after.files b a)
 
 pub not_understood : (asked : Option Asked) (result : Status) (before after : Scene) → None ≡ asked → Ends Words (line (codes "words not understood")) result before.out after.out → after.files ≡ before.files → Says asked result before after

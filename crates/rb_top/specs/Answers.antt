@@ -4,7 +4,7 @@ use Rattle.rb_trees.specs.declared.reading.ReadError.{ReadError}
 use Rattle.rb_trees.specs.declared.refusals.Refusal.{Refusal}
 use Rattle.rb_trees.specs.declared.typing.TypeError.{TypeError}
 use Rattle.rb_trees.specs.mirror.Declarations.{Program}
-use Rattle.rb_trees.specs.mirror.Services.{Service}
+use Rattle.rb_trees.specs.declared.stores.StoreError.{StoreError}
 use Rattle.rb_meaning.specs.Shown.{line}
 use Rattle.rb_meaning_bytes.specs.grammar.Sources.{ReadSource}
 use Rattle.rb_base.specs.Devices.{Device, failed}
@@ -13,12 +13,12 @@ use Rattle.rb_base.specs.Sinks.{with_bytes, WrotePrefix}
 use Rattle.rb_top.specs.BatchRefusals.{shown_batch_refusal}
 use Rattle.rb_top.specs.Loads.{HoldsText, FindsTooLong, HoldsProgram}
 use Rattle.rb_top.specs.Refusals.{shown_refusal, shown_violation}
-use Rattle.rb_top.specs.Runs.{run_status, run_text}
+use Rattle.rb_top.specs.Runs.{Served, run_status, run_text}
 use Rattle.rb_top.specs.Scene.{Scene}
-use Rattle.rb_top.specs.Texts.{IsUntyped, IsRefused, IsProgram, HasNoBatch, IsBuilt, IsService, Serves, NoServiceFor}
+use Rattle.rb_top.specs.ServiceRefusals.{shown_service_refusal}
+use Rattle.rb_top.specs.Texts.{IsUntyped, IsRefused, IsProgram, HasNoBatch, IsBuilt, IsService, IsNoService}
 use Rattle.rb_top.specs.Words.{Asked, Check, Both, program_name}
 use Rattle.rb_top.specs.declared.status.SourceError.TheVariants as sources
-use Rattle.rb_top.specs.declared.status.StoreError.TheVariants as stores
 use Rattle.rb_top.specs.declared.status.Status.{Status}
 use Rattle.rb_top.specs.declared.status.Status.TheVariants.{Done, Words, FileFault, SourceRefused, BatchRefused, ServiceRefused, WriteFault, Memory, FileTooLong}
 
@@ -56,12 +56,12 @@ pub data Answers (files : Device Directory) : Option Asked → Status → List �
   service_too_long : (p s text : List ℕ) (fuel : ℕ) (program : Program) → HoldsProgram files.told p text program → IsBuilt program
       → FindsTooLong (told_after files.told) s
       → Answers files (Some (Both p s fuel)) (FileTooLong s) (too_long_line s) (read_once (read_once files))
-  service_form : (p s text other : List ℕ) (fuel : ℕ) (program : Program) → HoldsProgram files.told p text program → IsBuilt program
-      → HoldsText (told_after files.told) s other → NoServiceFor program other
-      → Answers files (Some (Both p s fuel)) (ServiceRefused stores.NotBuilt) (line (codes "service not built")) (read_once (read_once files))
-  run : (p s text other : List ℕ) (fuel : ℕ) (program : Program) (service : Service) → HoldsProgram files.told p text program → IsBuilt program
-      → Finds (told_after files.told) s other → IsService other service → Serves program service
-      → Answers files (Some (Both p s fuel)) (run_status fuel program service) (run_text text fuel program service) (read_once (read_once files))
+  service_refused : (p s text other : List ℕ) (fuel : ℕ) (program : Program) (error : StoreError) → HoldsProgram files.told p text program
+      → IsBuilt program → HoldsText (told_after files.told) s other → IsNoService other error
+      → Answers files (Some (Both p s fuel)) (ServiceRefused error) (line (shown_service_refusal other error)) (read_once (read_once files))
+  run : (p s text other : List ℕ) (fuel : ℕ) (program : Program) (served : Served) → HoldsProgram files.told p text program → IsBuilt program
+      → Finds (told_after files.told) s other → IsService other served
+      → Answers files (Some (Both p s fuel)) (run_status fuel program served) (run_text text fuel program served) (read_once (read_once files))
 
 -- The call was to print this text and to answer this status. It did, and no write failed; or a front of the text was
 -- printed, and then a write failed, which is one fault more, or no memory was left.
@@ -96,14 +96,13 @@ pub record ToldAdmitted (told : Option Directory) (p text : List ℕ) (program :
   pub finds : IsTold told p text
   pub is : IsProgram text program
 
--- The files tell a program of a form that is built and a service for it, under these names, read one after the other.
-pub record ToldBoth (told : Option Directory) (p s text other : List ℕ) (program : Program) (service : Service) : Type 0 where
+-- The files tell a program of a form that is built and a service with its table, under these names, read one after the other.
+pub record ToldBoth (told : Option Directory) (p s text other : List ℕ) (program : Program) (served : Served) : Type 0 where
   pub finds : IsTold told p text
   pub is : IsProgram text program
   pub built : IsBuilt program
   pub finds_next : IsTold (told_after told) s other
-  pub is_service : IsService other service
-  pub serves : Serves program service
+  pub is_service : IsService other served
 
 -- Where `check P` is asked, and the files tell an admitted program under this name, `admitted` is printed and the answer is Done,
 -- unless the output fails or memory is wanting.
@@ -111,9 +110,9 @@ abbrev pub ChecksTold : Option Asked → Status → Scene → Scene → Type 0
 ChecksTold asked result before after = (p text : List ℕ) (program : Program) → asked ≡ Some (Check p) → ToldAdmitted before.files.told p text program
     → Ends Done (line (codes "admitted")) result before.out after.out
 
--- Where `both P S FUEL` is asked, and the files tell a program and a service for it under these names, its run is printed and
--- the answer is how it ends, unless the output fails or memory is wanting.
+-- Where `both P S FUEL` is asked, and the files tell a program and a service under these names, its run is printed and the
+-- answer is how it ends, unless the output fails or memory is wanting.
 abbrev pub RunsTold : Option Asked → Status → Scene → Scene → Type 0
-RunsTold asked result before after = (p s text other : List ℕ) (fuel : ℕ) (program : Program) (service : Service) → asked ≡ Some (Both p s fuel)
-    → ToldBoth before.files.told p s text other program service
-    → Ends (run_status fuel program service) (run_text text fuel program service) result before.out after.out ⊎ (result ≡ Memory)
+RunsTold asked result before after = (p s text other : List ℕ) (fuel : ℕ) (program : Program) (served : Served) → asked ≡ Some (Both p s fuel)
+    → ToldBoth before.files.told p s text other program served
+    → Ends (run_status fuel program served) (run_text text fuel program served) result before.out after.out ⊎ (result ≡ Memory)

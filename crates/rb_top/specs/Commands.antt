@@ -2,11 +2,12 @@
 use Rattle.std.specs.Prelude.{◌≡◌, ◌⊎◌, ℕ, List, Option, None, Some, Result, Ok, Err}
 use Rattle.rb_trees.specs.declared.reading.ReadError.{ReadError}
 use Rattle.rb_trees.specs.declared.refusals.Refusal.{Refusal}
+use Rattle.rb_trees.specs.declared.stores.StoreError.{StoreError}
 use Rattle.rb_trees.specs.declared.typing.TypeError.{TypeError}
 use Rattle.rb_trees.specs.mirror.Declarations.{Program}
-use Rattle.rb_trees.specs.mirror.Services.{Service}
 use Rattle.rb_trees.specs.Reading.{read_refusal}
 use Rattle.rb_meaning.specs.Shown.{line}
+use Rattle.rb_meaning_types.specs.Stores.{store_refusal}
 use Rattle.rb_meaning_types.specs.Violations.{violation_of}
 use Rattle.rb_meaning_flow.specs.Programs.{IsAnswerOf}
 use Rattle.rb_flow.specs.Program.{HasNoRefusal}
@@ -16,8 +17,9 @@ use Rattle.rb_top.specs.Answers.{Ends, Says, fault_line, too_long_line}
 use Rattle.rb_top.specs.BatchRefusals.{shown_batch_refusal}
 use Rattle.rb_top.specs.Loads.{HoldsProgram}
 use Rattle.rb_top.specs.Refusals.{shown_refusal, shown_violation}
-use Rattle.rb_top.specs.Runs.{run_status, run_text}
+use Rattle.rb_top.specs.Runs.{Served, run_status, run_text}
 use Rattle.rb_top.specs.Scene.{Scene}
+use Rattle.rb_top.specs.ServiceRefusals.{shown_service_refusal}
 use Rattle.rb_top.specs.Texts.{HasNoBatch}
 use Rattle.rb_top.specs.Words.{Asked, Both, program_name}
 use Rattle.rb_top.specs.declared.loading.TextStop.{TextStop}
@@ -26,7 +28,7 @@ use Rattle.rb_top.specs.declared.printing.PrintStop.{PrintStop}
 use Rattle.rb_top.specs.declared.printing.PrintStop.TheVariants as print
 use Rattle.rb_top.specs.declared.status.SourceError.TheVariants as sources
 use Rattle.rb_top.specs.declared.status.Status.{Status}
-use Rattle.rb_top.specs.declared.status.Status.TheVariants.{FileFault, SourceRefused, BatchRefused, WriteFault, Memory, FileTooLong}
+use Rattle.rb_top.specs.declared.status.Status.TheVariants.{FileFault, SourceRefused, BatchRefused, ServiceRefused, WriteFault, Memory, FileTooLong}
 
 -- the status where not all was printed
 abbrev pub stopped_status : PrintStop → Status
@@ -48,6 +50,11 @@ EndsUnread stops.FileFault name result before after = Ends (FileFault name) (fau
 EndsUnread stops.TooLong name result before after = Ends (FileTooLong name) (too_long_line name) result before after
 EndsUnread stops.Memory name result before after = Starves result before after
 
+-- the status that a run answered, or that of its stop
+abbrev pub run_answer : Result Status PrintStop → Status
+run_answer (Ok status) = status
+run_answer (Err stop) = stopped_status stop
+
 -- There was a refusal, and this was to be printed and answered; or memory was wanting.
 abbrev pub EndsWith : {D : Type 0} → Option D → Status → List ℕ → Status → Device (List ℕ) → Device (List ℕ) → Type 0
 EndsWith None status text result before after = Starves result before after
@@ -60,6 +67,10 @@ EndsRefused text error = EndsWith (read_refusal error) (SourceRefused (sources.R
 -- The program in the text has this violation, and that was said, unless memory was wanting.
 abbrev pub EndsUntyped : List ℕ → TypeError → Status → Device (List ℕ) → Device (List ℕ) → Type 0
 EndsUntyped text error = EndsWith (violation_of error) (SourceRefused (sources.Types error)) (line (shown_violation text error))
+
+-- The text is no service for this cause, and that was said, unless memory was wanting.
+abbrev pub EndsRefusedService : List ℕ → StoreError → Status → Device (List ℕ) → Device (List ℕ) → Type 0
+EndsRefusedService text error = EndsWith (store_refusal error) (ServiceRefused error) (line (shown_service_refusal text error))
 
 -- The program in the text isn't admitted, and that was said; or memory was wanting before anything was.
 abbrev pub EndsUnadmitted : List ℕ → Program → Status → Device (List ℕ) → Device (List ℕ) → Type 0
@@ -94,6 +105,6 @@ abbrev pub RunsOn : List ℕ → Program → List ℕ → ℕ → Status → Sce
 RunsOn text program s fuel result before after = (p : List ℕ) → GoesOn text program (Both p s fuel) result before after
 
 -- The run was printed, and its status answered; or its code was wanting memory, where it has no batch.
-abbrev pub EndsRun : List ℕ → ℕ → Program → Service → Status → Device (List ℕ) → Device (List ℕ) → Type 0
-EndsRun text fuel p s result before after =
-    Ends (run_status fuel p s) (run_text text fuel p s) result before after ⊎ (HasNoBatch p × (result ≡ Memory))
+abbrev pub EndsRun : List ℕ → ℕ → Program → Served → Status → Device (List ℕ) → Device (List ℕ) → Type 0
+EndsRun text fuel p served result before after =
+    Ends (run_status fuel p served) (run_text text fuel p served) result before after ⊎ (HasNoBatch p × (result ≡ Memory))

@@ -18,8 +18,8 @@ use Rattle.rb_meaning.specs.Meaning.{Meaning, answers_outside, at_start, outside
 use Rattle.rb_meaning.specs.Shown.{line, shown_ending, shown_events, shown_table}
 use Rattle.rb_base.specs.Devices.{Device, failed}
 use Rattle.rb_base.specs.Sinks.{with_bytes, WrotePrefix}
-use Rattle.rb_top.specs.Printing.{alone}
-use Rattle.rb_top.specs.Runs.{run_status, run_text}
+use Rattle.rb_top.specs.Printing.{PrintsUnlessStarved}
+use Rattle.rb_top.specs.Runs.{Served, run_status, run_text}
 use Rattle.rb_top.specs.declared.printing.PrintStop.{PrintStop}
 use Rattle.rb_top.specs.declared.printing.PrintStop.TheVariants.{WriteFault, Memory}
 use Rattle.rb_top.specs.declared.status.Status.{Status}
@@ -36,22 +36,11 @@ main_alone classes body fuel table = meant (handle without_batches (runs_main cl
 abbrev pub result_run : List class.Class → Option expr.Expr → ℕ → Local → Run (Option Value)
 result_run classes value gas l = main_result (bodies_of (map mirror_class classes) gas) (option_map mirror_expr value) l
 
--- The whole text was printed, with this result; or a front of it, and a write failed. Of want of memory nothing is said.
-abbrev pub PrintsUnlessStarved : {A : Type 0} → A → List ℕ → Result A PrintStop → Device (List ℕ) → Device (List ℕ) → Type 0
-PrintsUnlessStarved wanted text (Ok a) before after = (a ≡ wanted) × (after ≡ with_bytes before text)
-PrintsUnlessStarved wanted text (Err WriteFault) before after = WrotePrefix (failed before) after text
-PrintsUnlessStarved wanted text (Err Memory) before after = Unit {0}
-
 -- `main` ended as it means, and its lines were printed.
 abbrev pub Performs : List Class → Body → ℕ → Result Ending PrintStop → Device (List ℕ) → Device (List ℕ) → Type 0
 Performs classes body fuel result before after = (table : List Object) →
     PrintsUnlessStarved (main_alone classes body fuel table).ending (shown_events (main_alone classes body fuel table).events) result before after
 
--- what follows the lines of a run without a batch
-abbrev pub local_end : List ℕ → Ending → List ℕ → List ℕ
-local_end source ending class =
-    line (shown_ending source ending) ++ line (codes "exchanges " ++ decimal 0) ++ shown_table 0 (alone class)
-
 -- What the program shows on the service was printed, and how it ended was answered.
-abbrev pub PrintsLocal : List ℕ → ℕ → Program → Service → Result Status PrintStop → Device (List ℕ) → Device (List ℕ) → Type 0
-PrintsLocal text fuel p s = PrintsUnlessStarved (run_status fuel p s) (run_text text fuel p s)
+abbrev pub PrintsLocal : List ℕ → ℕ → Program → Served → Result Status PrintStop → Device (List ℕ) → Device (List ℕ) → Type 0
+PrintsLocal text fuel p served = PrintsUnlessStarved (run_status fuel p served) (run_text text fuel p served)

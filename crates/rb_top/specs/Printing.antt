@@ -1,13 +1,11 @@
 -- What a call that prints leaves of the output.
-use Rattle.std.specs.Prelude.{◌≡◌, ℕ, List, [], ◌∷◌, ◌++◌, Result, Ok, Err, codes}
+use Rattle.std.specs.Prelude.{◌≡◌, ℕ, List, [], ◌++◌, Option, None, Some, Result, Ok, Err, codes, slice_get}
 use Rattle.std.specs.Fmt.{decimal}
 use Rattle.rb_trees.specs.declared.services.Object.{Object}
-use Rattle.rb_trees.specs.mirror.Declarations.{Program}
-use Rattle.rb_trees.specs.mirror.Services.{Service}
-use Rattle.rb_meaning.specs.Shown.{line, shown_table}
+use Rattle.rb_trees.specs.declared.outcomes.Ending.{Ending}
+use Rattle.rb_meaning.specs.Shown.{line, shown_ending, shown_object, shown_table}
 use Rattle.rb_base.specs.Devices.{Device, failed}
 use Rattle.rb_base.specs.Sinks.{with_bytes, WrotePrefix}
-use Rattle.rb_top.specs.Runs.{run_text}
 use Rattle.rb_top.specs.declared.printing.PrintStop.{PrintStop}
 use Rattle.rb_top.specs.declared.printing.PrintStop.TheVariants.{WriteFault, Memory}
 
@@ -21,14 +19,26 @@ abbrev pub Prints : {A : Type 0} → List ℕ → Result A PrintStop → Device 
 Prints text (Ok a) before after = after ≡ with_bytes before text
 Prints text (Err stop) before after = WrotePrefix (stopped stop before) after text
 
--- What the program shows on the service was printed so, whatever its source and its fuel.
-abbrev pub PrintsRun : {A : Type 0} → Program → Service → Result A PrintStop → Device (List ℕ) → Device (List ℕ) → Type 0
-PrintsRun program service result before after = (source : List ℕ) (fuel : ℕ) → Prints (run_text source fuel program service) result before after
+-- The same, and what is answered is what is wanted.
+abbrev pub PrintsAnswering : {A : Type 0} → A → List ℕ → Result A PrintStop → Device (List ℕ) → Device (List ℕ) → Type 0
+PrintsAnswering wanted text (Ok a) before after = (a ≡ wanted) × (after ≡ with_bytes before text)
+PrintsAnswering wanted text (Err stop) before after = WrotePrefix (stopped stop before) after text
 
--- a table of one object of a class, without fields
-abbrev pub alone : List ℕ → List Object
-alone class = record { class = class; fields = [] } ∷ []
+-- The whole text was printed, with this result; or a front of it, and a write failed. Of want of memory nothing is said.
+abbrev pub PrintsUnlessStarved : {A : Type 0} → A → List ℕ → Result A PrintStop → Device (List ℕ) → Device (List ℕ) → Type 0
+PrintsUnlessStarved wanted text (Ok a) before after = (a ≡ wanted) × (after ≡ with_bytes before text)
+PrintsUnlessStarved wanted text (Err WriteFault) before after = WrotePrefix (failed before) after text
+PrintsUnlessStarved wanted text (Err Memory) before after = Unit {0}
 
--- what follows the lines of a run that ends well after one exchange
-abbrev pub end_of : List Object → List ℕ
-end_of table = line (codes "done") ++ line (codes "exchanges " ++ decimal 1) ++ shown_table 0 table
+-- what follows the lines of a run: how it ended, how often it exchanged, and the table
+abbrev pub end_text : List ℕ → Ending → ℕ → List Object → List ℕ
+end_text source ending count table =
+    line (shown_ending source ending) ++ line (codes "exchanges " ++ decimal count) ++ shown_table 0 table
+
+-- the line of an object of this number, where there is one
+abbrev pub line_of_object : ℕ → Option Object → List ℕ
+line_of_object number None = []
+line_of_object number (Some o) = line (shown_object number o)
+
+abbrev pub line_at : List Object → ℕ → List ℕ
+line_at table number = line_of_object number (slice_get table number)

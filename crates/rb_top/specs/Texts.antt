@@ -2,6 +2,7 @@
 use Rattle.std.specs.Prelude.{◌≡◌, ◌⊎◌, ◌==◌, ℕ, ◌<◌, ◌≤◌, List, Bool, false, Option, None, Some, Ok, Err, length, IsTrue}
 use Rattle.std.specs.List.{list_any}
 use Rattle.rb_trees.specs.declared.refusals.Refusal.{Refusal}
+use Rattle.rb_trees.specs.declared.stores.StoreError.{StoreError}
 use Rattle.rb_trees.specs.declared.tokens.Token.{Token}
 use Rattle.rb_trees.specs.declared.typing.TypeError.{TypeError}
 use Rattle.rb_trees.specs.mirror.Declarations.{Program}
@@ -10,11 +11,13 @@ use Rattle.rb_meaning_bytes.specs.tokens.Texts.{IsTokens, longest_text}
 use Rattle.rb_meaning_bytes.specs.grammar.Sources.{ReadSource}
 use Rattle.rb_meaning_types.specs.Violations.{Violation, violation_of}
 use Rattle.rb_meaning_types.specs.Batches.{batch_count}
+use Rattle.rb_meaning_types.specs.Stores.{StoreRefusal, store_refusal}
 use Rattle.rb_meaning_types.specs.Programs.{check_program, is_typed}
 use Rattle.rb_meaning_flow.specs.Programs.{IsAnswerOf}
+use Rattle.rb_meaning.specs.ServiceSources.{ReadsAsService}
 use Rattle.rb_flow.specs.Program.{HasNoRefusal}
-use Rattle.rb_top.specs.FirstForm.{FirstProgram, Offers}
-use Rattle.rb_top.specs.FirstTexts.{service_at}
+use Rattle.rb_top.specs.FirstForm.{FirstProgram}
+use Rattle.rb_top.specs.Runs.{Served}
 
 -- The text has at most as many bytes as a text may have.
 abbrev pub WithinLength : List ℕ → Type 0
@@ -51,34 +54,12 @@ HasNoBatch p = batch_count p ≡ 0
 abbrev pub IsBuilt : Program → Type 0
 IsBuilt p = HasNoBatch p ⊎ FirstProgram p
 
--- whether a text has a `/`, with which comments begin, and in a service of the form that is built nothing else
-abbrev pub has_slash : List ℕ → Bool
-has_slash text = list_any (λ byte. byte == 47) text
+-- The text is this service with this table.
+abbrev pub IsService : List ℕ → Served → Type 0
+IsService text served = ReadsAsService text (Ok served)
 
--- The text is this service, of the form that is built.
-pub record IsService (text : List ℕ) (s : Service) : Type 0 where
-  pub tokens : List Token
-  pub no_comment : has_slash text ≡ false
-  pub lexed : IsTokens text tokens
-  pub is : service_at text tokens ≡ Some s
-
-abbrev pub NoService : List ℕ → Type 0
-NoService text = (s : Service) → IsService text s → ⊥
-
--- The service has what the program asks of one: without a batch nothing, else the methods that the interface declares.
-abbrev pub Serves : Program → Service → Type 0
-Serves p s = HasNoBatch p ⊎ Offers p s
-
--- The text is no service that has what the program asks of one.
-abbrev pub NoServiceFor : Program → List ℕ → Type 0
-NoServiceFor p text = (s : Service) → IsService text s → Serves p s → ⊥
-
--- The text is this service, or none.
-abbrev pub TellsService : List ℕ → Option Service → Type 0
-TellsService text None = NoService text
-TellsService text (Some s) = IsService text s
-
--- The text is this service, and it has what the program asks; or it is none that has.
-abbrev pub TellsServiceFor : Program → List ℕ → Option Service → Type 0
-TellsServiceFor p text None = NoServiceFor p text
-TellsServiceFor p text (Some s) = IsService text s × Serves p s
+-- The text is no service, and this error tells why: its first refusal.
+pub record IsNoService (text : List ℕ) (error : StoreError) : Type 0 where
+  pub refusal : StoreRefusal
+  pub told : store_refusal error ≡ Some refusal
+  pub is : ReadsAsService text (Err refusal)

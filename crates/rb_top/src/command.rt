@@ -1,34 +1,38 @@
 // The commands, from their words to what they print.
 
-ghost use Rattle.std.specs.Prelude.{◌≡◌, ◌++◌, Some, IfOk};
+ghost use Rattle.std.specs.Prelude.{◌≡◌, ◌++◌, map, Some, IfOk};
 ghost use Rattle.rb_meaning.specs.Shown.{line};
 ghost use Rattle.rb_top.specs.BatchRefusals.{shown_batch_refusal};
 ghost use Rattle.rb_top.specs.Answers.{Ends, Says, ChecksTold, RunsTold};
-ghost use Rattle.rb_trees.specs.mirror.Declarations.{mirror_program};
+ghost use Rattle.rb_trees.specs.mirror.Declarations.{mirror_class, mirror_program};
+ghost use Rattle.rb_code.specs.Differ.{ClassesDiffer};
 ghost use Rattle.rb_trees.specs.mirror.Services.{mirror_service};
-ghost use Rattle.rb_top.specs.Commands.{Admits, EndsRefused, EndsRun, EndsUntyped, EndsUnread, LoadsProgram, GoesOn, RunsOn, status_after, stopped_status};
-ghost use Rattle.rb_top.specs.FirstForm.{FirstService};
+ghost use Rattle.rb_top.specs.Commands.{Admits, EndsRefused, EndsRefusedService, EndsRun, EndsUntyped, EndsUnread, LoadsProgram, GoesOn, RunsOn, run_answer, status_after, stopped_status};
+ghost use Rattle.rb_top.specs.FirstForm.{FirstProgram};
 ghost use Rattle.rb_top.specs.Scene.{output, outside};
 ghost use Rattle.rb_top.specs.Sources.{text_of, program_of};
-ghost use Rattle.rb_top.specs.Texts.{WithinLength, IsBuilt, Serves};
+ghost use Rattle.rb_top.specs.Texts.{WithinLength, IsBuilt};
 ghost use Rattle.rb_top.specs.declared.status.Status.TheVariants.{BatchRefused};
 ghost use Rattle.rb_top.specs.Words.{texts, asked, asked_by};
 
 use crate::admission::first_refusal;
 use crate::batch_refusals::batch_refusal_line;
-use crate::loading::{TextStop, load_text, service_for};
+use crate::batch_run::run_batch;
+use crate::loading::{TextStop, load_text};
 use crate::local_run::run_local;
 use crate::printing::{PrintStop, print_text};
 use crate::refusals::{is_memory, is_no_violation, refusal_line, violation_line};
-use crate::run::run_both;
+use crate::service_refusals::{is_no_store_refusal, service_refusal_line};
 use crate::source::{Source, has_no_batch, is_built};
-use crate::status::{SourceError, Status, StoreError};
+use crate::status::{SourceError, Status};
 use crate::words::{Command, command_of};
 use bytes::BytesMut;
 use rb_base::{Files, Sink};
-use rb_lex::texts_have_one_outcome;
+use rb_exec::Host;
+use rb_heap::Heap;
 use rb_parse::{parse_program, sources_have_one_outcome};
-use rb_trees::{Memory, ReadError, Refusal, Seq, Service, TypeError};
+use rb_store::{read_service, sources_have_one_outcome_as_services};
+use rb_trees::{Memory, ReadError, Refusal, Seq, Service, StoreError, TypeError};
 use rb_types::{Typed, check as check_types};
 use std::alloc::{AllocError, Global};
 
@@ -196,28 +200,67 @@ fn loaded_program<F: Files, W: Sink>(
     }
 }
 
-/// Runs a program on a service with so much fuel, and prints what it means there.
+/// Says why a service's text is refused.
+fn refuse_service<W: Sink>(alloc: Global, text: &[u8], error: StoreError, out: &mut W) -> Status
+    requires { WithinLength text.now }
+    ensures { EndsRefusedService text.now error result (output W.Sink out.old) (output W.Sink out.new) }
+{
+    if is_no_store_refusal(&error) {
+        return Status::Memory;
+    }
+    match service_refusal_line(alloc, text, &error) {
+        Ok(line) => say(Status::ServiceRefused(error), line.as_slice(), out),
+        Err(_) => Status::Memory,
+    }
+}
+
+/// The status that a run answered, or that of its stop.
+fn run_answer(answered: Result<Status, PrintStop>) -> Status
+    ensures { result ≡ run_answer answered }
+{
+    match answered {
+        Ok(status) => status,
+        Err(stop) => stopped(stop),
+    }
+}
+
+/// Runs a program of the first form on a service with its table.
+fn run_there<W: Sink>(
+    alloc: Global,
+    source: &Source,
+    service: Service,
+    table: Heap,
+    out: &mut W,
+) -> Status
+    requires first { FirstProgram (program_of source.now) }
+    requires service { ClassesDiffer (map mirror_class service.now.classes) }
+    requires short { WithinLength (text_of source.now) }
+    ensures { (fuel : ℕ) → EndsRun (text_of source.now) fuel (program_of source.now) (mirror_service service.now, table.now) result (output W.Sink out.old) (output W.Sink out.new) }
+{
+    match Host::make(alloc, service, table) {
+        Ok(mut host) => run_answer(run_batch(alloc, source, &mut host, out)),
+        Err(Memory) => Status::Memory,
+    }
+}
+
+/// Runs a program on a service and its table with so much fuel, and prints what it means there.
 fn run_program<W: Sink>(
     alloc: Global,
     source: &Source,
-    service: &Service,
+    service: Service,
+    table: Heap,
     fuel: u64,
     out: &mut W,
 ) -> Status
     requires built { IsBuilt (program_of source.now) }
-    requires service { FirstService (mirror_service service.now) }
-    requires serves { Serves (program_of source.now) (mirror_service service.now) }
+    requires service { ClassesDiffer (map mirror_class service.now.classes) }
     requires short { WithinLength (text_of source.now) }
-    ensures { EndsRun (text_of source.now) fuel (program_of source.now) (mirror_service service.now) result (output W.Sink out.old) (output W.Sink out.new) }
+    ensures { EndsRun (text_of source.now) fuel (program_of source.now) (mirror_service service.now, table.now) result (output W.Sink out.old) (output W.Sink out.new) }
 {
     if has_no_batch(&source.typed) {
-        match run_local(alloc, source, service, fuel, out) {
-            Ok(status) => status,
-            Err(stop) => stopped(stop),
-        }
+        run_answer(run_local(alloc, source, &table, fuel, out))
     } else {
-        let printed = run_both(alloc, source.typed.program(), service, out);
-        ended(Status::Done, printed)
+        run_there(alloc, source, service, table, out)
     }
 }
 
@@ -236,14 +279,9 @@ fn run_on<F: Files, W: Sink>(
 {
     match load_text(alloc, name, files) {
         Err(stop) => say_unread(alloc, stop, name, out),
-        Ok(text) => match service_for(alloc, &source.typed, text.as_slice()) {
-            Err(Memory) => Status::Memory,
-            Ok(None) => say(
-                Status::ServiceRefused(StoreError::NotBuilt),
-                b"service not built\n",
-                out,
-            ),
-            Ok(Some(service)) => run_program(alloc, source, &service, fuel, out),
+        Ok(text) => match read_service(alloc, text.as_slice()) {
+            Err(error) => refuse_service(alloc, text.as_slice(), error, out),
+            Ok((service, table)) => run_program(alloc, source, service, table, fuel, out),
         },
     }
 }
@@ -305,11 +343,11 @@ pub fn top<F: Files, W: Sink>(alloc: Global, words: &[String], files: &mut F, ou
     ensures answer { Says (asked (texts words.now)) result (outside F.Files W.Sink files.old out.old) (outside F.Files W.Sink files.new out.new) }
     // An admitted program that the files tell is checked, unless the output fails or memory is wanting.
     ensures checks { ChecksTold (asked (texts words.now)) result (outside F.Files W.Sink files.old out.old) (outside F.Files W.Sink files.new out.new) }
-    // A program that the files tell is run on a service for it that they tell, unless the output fails or memory is wanting.
+    // A program that the files tell is run on a service that they tell, unless the output fails or memory is wanting.
     ensures runs { RunsTold (asked (texts words.now)) result (outside F.Files W.Sink files.old out.old) (outside F.Files W.Sink files.new out.new) }
 {
-    texts_have_one_outcome();
     sources_have_one_outcome();
+    sources_have_one_outcome_as_services();
     match command_of(words) {
         Some(command) => carry_out(alloc, &command, files, out),
         None => say(Status::Words, b"words not understood\n", out),

@@ -2,29 +2,25 @@
 
 ghost use Rattle.std.specs.Prelude.{◌≡◌, [], map};
 ghost use Rattle.rb_trees.specs.mirror.Declarations.{mirror_body, mirror_class};
-ghost use Rattle.rb_trees.specs.mirror.Services.{mirror_service};
+ghost use Rattle.rb_trees.specs.mirror.Services.{Service};
 ghost use Rattle.rb_meaning.specs.Meaning.{runs_main};
 ghost use Rattle.rb_engine.specs.Locals.{local};
 ghost use Rattle.rb_top.specs.Console.{Leads, LeadsWithin};
-ghost use Rattle.rb_top.specs.FirstForm.{FirstService};
-ghost use Rattle.rb_top.specs.Local.{Performs, PrintsLocal, local_end, result_run};
-ghost use Rattle.rb_top.specs.Printing.{Prints};
+ghost use Rattle.rb_top.specs.Local.{Performs, PrintsLocal, result_run};
 ghost use Rattle.rb_top.specs.Runs.{ended_status};
 ghost use Rattle.rb_top.specs.Scene.{output};
 ghost use Rattle.rb_top.specs.Sources.{text_of, program_of};
 ghost use Rattle.rb_top.specs.Texts.{HasNoBatch, WithinLength};
 
 use crate::console::Console;
-use crate::printing::{PrintStop, print_object, print_text};
-use crate::run::class_name;
+use crate::printing::{PrintStop, print_end};
 use crate::source::Source;
 use crate::status::Status;
 use rb_base::Sink;
 use rb_code::Code;
 use rb_engine::{Frame, Halt, State, Step, eval, exec};
 use rb_heap::Heap;
-use rb_shown::{ending_line, exchanges_line};
-use rb_trees::{Body, Ending, Expr, Service, Value};
+use rb_trees::{Body, Ending, Expr, Value};
 use std::alloc::Global;
 
 /// The value of `main`, if it has one.
@@ -90,26 +86,8 @@ fn perform_main<W: Sink>(
     }
 }
 
-/// Prints what follows the lines of a run without a batch: how it ended, that nothing was exchanged, and the table.
-fn print_local_end<W: Sink>(
-    alloc: Global,
-    source: &[u8],
-    ending: &Ending,
-    class: &[u8],
-    out: &mut W,
-) -> Result<(), PrintStop>
-    requires { WithinLength source.now }
-    ensures { Prints (local_end source.now ending.now class.now) result (output W.Sink out.old) (output W.Sink out.new) }
-{
-    let ending = ending_line(alloc, source, ending)?;
-    print_text(ending.as_slice(), out)?;
-    let exchanges = exchanges_line(alloc, 0)?;
-    print_text(exchanges.as_slice(), out)?;
-    print_object(alloc, class, out)
-}
-
 /// The status of how a program ended.
-fn status_of(ending: Ending) -> Status
+pub fn status_of(ending: Ending) -> Status
     ensures { result ≡ ended_status ending }
 {
     match ending {
@@ -118,28 +96,22 @@ fn status_of(ending: Ending) -> Status
     }
 }
 
-/// Runs a program without a batch with so much fuel, prints what it means on the service, and answers how it ended.
+/// Runs a program without a batch with so much fuel, prints what it means on any service with this table, and answers how
+/// it ended.
 pub fn run_local<W: Sink>(
     alloc: Global,
     source: &Source,
-    service: &Service,
+    table: &Heap,
     fuel: u64,
     out: &mut W,
 ) -> Result<Status, PrintStop>
     requires no_batch { HasNoBatch (program_of source.now) }
-    requires service { FirstService (mirror_service service.now) }
     requires short { WithinLength (text_of source.now) }
-    ensures { PrintsLocal (text_of source.now) fuel (program_of source.now) (mirror_service service.now) result (output W.Sink out.old) (output W.Sink out.new) }
+    ensures { (service : Service) → PrintsLocal (text_of source.now) fuel (program_of source.now) (service, table.now) result (output W.Sink out.old) (output W.Sink out.new) }
 {
     let program = source.typed.program();
     let code = Code::make(alloc, &program.classes)?;
     let ending = perform_main(alloc, &code, &program.body, fuel, out)?;
-    print_local_end(
-        alloc,
-        source.text.as_slice(),
-        &ending,
-        class_name(service),
-        out,
-    )?;
+    print_end(alloc, source.text.as_slice(), &ending, 0, table, out)?;
     Ok(status_of(ending))
 }

@@ -1,14 +1,11 @@
 // Admitted programs, and whether they are run.
 
 ghost use Rattle.rb_trees.specs.mirror.Declarations.{mirror_program};
-ghost use Rattle.rb_trees.specs.mirror.Services.{mirror_service};
 ghost use Rattle.std.specs.Prelude.{Decides};
-ghost use Rattle.rb_top.specs.Texts.{HasNoBatch, IsBuilt, Serves};
+ghost use Rattle.rb_top.specs.Texts.{HasNoBatch, IsBuilt};
 
 use crate::first_form::is_first_program;
-use crate::offering::offers;
 use bytes::BytesMut;
-use rb_trees::Service;
 use rb_types::Typed;
 
 /// A typed program that is admitted, with the text that it was read from.
@@ -30,12 +27,4 @@ pub fn is_built(typed: &Typed) -> bool
     ensures { Decides result (IsBuilt (mirror_program typed.now)) }
 {
     has_no_batch(typed) || is_first_program(typed.program())
-}
-
-/// Whether a service has what the program asks of one: without a batch nothing, else the methods that its interface
-/// declares.
-pub fn serves(service: &Service, typed: &Typed) -> bool
-    ensures { Decides result (Serves (mirror_program typed.now) (mirror_service service.now)) }
-{
-    has_no_batch(typed) || offers(typed.program(), service)
 }

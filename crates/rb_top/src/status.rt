@@ -3,7 +3,7 @@
 ghost use Rattle.std.specs.Prelude.{◌≡◌};
 ghost use Rattle.rb_top.specs.Codes.{code_of};
 
-use rb_trees::{Fault, ReadError, Refusal, TypeError, Word};
+use rb_trees::{Fault, ReadError, Refusal, StoreError, TypeError, Word};
 use thiserror::Error;
 
 /// Why a program's text is refused.
@@ -20,14 +20,6 @@ pub enum SourceError {
     Types(TypeError),
 }
 
-/// Why a service's text is refused.
-#[derive(Debug, Drop, Error)]
-pub enum StoreError {
-    /// The text is not of the form that is built, or lacks a method that the interface declares.
-    #[error("service not built")]
-    NotBuilt,
-}
-
 /// How a command ended.
 #[derive(Drop)]
 pub enum Status {
@@ -41,6 +33,7 @@ pub enum Status {
     SourceRefused(SourceError),
     /// A batch of the program isn't admitted.
     BatchRefused(Refusal),
+    /// The service's text is refused. This holds no Memory.
     ServiceRefused(StoreError),
     /// The output failed.
     WriteFault,

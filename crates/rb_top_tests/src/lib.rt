@@ -16,8 +16,6 @@ mod local_faults;
 #[cfg(test)]
 mod local_runs;
 #[cfg(test)]
-mod payloads;
-#[cfg(test)]
 mod runs;
 #[cfg(test)]
 mod service_classes;

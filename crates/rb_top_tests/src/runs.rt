@@ -55,22 +55,93 @@ fn programs_of_other_forms_are_not_built(rt: HostRuntime) -> Result<(), Fail> {
     Ok(())
 }
 
-#[test]
-fn services_of_other_forms_are_refused(rt: HostRuntime) -> Result<(), Fail> {
-    for service in [
+/// Services that `PROGRAM` runs on, each with its answer.
+static SERVICES: [(&str, &str); 10] = [
+    (
         "class D { fun m(): Int { return 7; } } object 0: D { } root 0;",
-        "class D { fun n(): Int { return 7; } fun n(): Int { return 8; } } object 0: D { } root 0;",
-        "class D { fun n(): Int { return 9223372036854775808; } } object 0: D { } root 0;",
-        "class D { fun n(): Int { return 7; } } object 0: E { } root 0;",
-        "class D { fun n(): Int { return 7; } } object 0: D { } root 1;",
-        "class D { fun n(): Int { return 7; } } object 0: D { } root 0; // end",
-        "",
-    ] {
-        assert_eq!(rt;
-            shown(rt.alloc(), Some(PROGRAM), Some(service))?.as_str(),
-            "6 service not built\n",
-            "{service}"
-        );
+        "1 fault 9 NoMethod at 1:60\nexchanges 1\nobject 0: D { }\n",
+    ),
+    (
+        "class D { k: Int; fun n(): Int { this.k = this.k + 1; return this.k; } } object 0: D { k = 4; } root 0; // end",
+        "0 5\ndone\nexchanges 1\nobject 0: D { k = 5; }\n",
+    ),
+    (
+        "class D { fun n(): Text { return \"x\"; } } object 0: D { } root 0;",
+        "1 fault 11 WrongKind at 1:60\nexchanges 1\nobject 0: D { }\n",
+    ),
+    (
+        "class D { fun n(a: Int): Int { return a; } } object 0: D { } root 0;",
+        "1 fault 10 BadArguments at 1:60\nexchanges 1\nobject 0: D { }\n",
+    ),
+    (
+        "class D { v: Text; fun n(): Int { this.v = \"b\"; throw \"no \\\"n\\\"\"; return 1; } } object 0: D { v = \"a\"; } root 0;",
+        "1 fault 8 Thrown \"no \\\"n\\\"\" at 1:60\nexchanges 1\nobject 0: D { v = \"b\"; }\n",
+    ),
+    (
+        "class D { fun n(): Int { var i = 0; while (true) { i = i + 1; } return i; } } object 0: D { } root 0;",
+        "1 fault 7 FuelUsed at 1:60\nexchanges 1\nobject 0: D { }\n",
+    ),
+    (
+        "class D { fun n(): Int { return this.n(); } } object 0: D { } root 0;",
+        "1 fault 6 TooDeep at 1:60\nexchanges 1\nobject 0: D { }\n",
+    ),
+    (
+        "class E { b: Bool; } class D { es: List<E>; fun n(): Int { return len(this.es); } } object 0: E { b = true; } object 1: D { es = [#0, #0]; } root 1;",
+        "0 2\ndone\nexchanges 1\nobject 0: E { b = true; }\nobject 1: D { es = [#0, #0]; }\n",
+    ),
+    (
+        "class D { fun n(): Int { new D(); return 3; } } object 0: D { } root 0;",
+        "0 3\ndone\nexchanges 1\nobject 0: D { }\nobject 1: D { }\n",
+    ),
+    (
+        "class D { fun n(): Int { return 1 / 0; } } object 0: D { } root 0;",
+        "1 fault 1 DivZero at 1:60\nexchanges 1\nobject 0: D { }\n",
+    ),
+];
+
+#[test]
+fn a_batch_runs_on_any_service(rt: HostRuntime) -> Result<(), Fail> {
+    for (service, wanted) in SERVICES {
+        assert_eq!(rt; shown(rt.alloc(), Some(PROGRAM), Some(service))?.as_str(), wanted, "{service}");
+    }
+    Ok(())
+}
+
+#[test]
+fn a_fault_stands_behind_the_lines_before_it(rt: HostRuntime) -> Result<(), Fail> {
+    let program =
+        "interface D { fun n(): Int; } main { batch (D r) { print(r.n()); print(r.n()); print(r.n()); } }";
+    let service =
+        "class D { k: Int; fun n(): Int { this.k = this.k - 1; return 6 / this.k; } } object 0: D { k = 2; } root 0;";
+    assert_eq!(rt;
+        shown(rt.alloc(), Some(program), Some(service))?.as_str(),
+        "1 6\nfault 1 DivZero at 1:74\nexchanges 1\nobject 0: D { k = 0; }\n"
+    );
+    Ok(())
+}
+
+/// Texts that are no service, each with its line.
+static REFUSED: [(&str, &str); 12] = [
+    ("class D { } $", "6 service lex 1 BadByte at 1:13\n"),
+    ("", "6 service parse 6 Unexpected at 1:1\n"),
+    ("class D { } root 0", "6 service parse 6 Unexpected at 1:19\n"),
+    ("class D { v: E; } object 0: D { v = #0; } root 0;", "6 service types 1 UnknownName at 1:14\n"),
+    ("class D { fun f() {\n  print(1); } } object 0: D { } root 0;", "6 service types 8 NotAllowedHere at 2:3\n"),
+    ("class D { } object 1: D { } root 0;", "6 service 24 ObjectNumber object 0\n"),
+    ("class D { } object 0: E { } root 0;", "6 service types 1 UnknownName at 1:23\n"),
+    ("class D { v: Int; } object 0: D { } root 0;", "6 service 22 FieldMissing object 0\n"),
+    ("class D { v: Int; } object 0: D { v = 1; } object 1: D { v = \"x\"; } root 0;", "6 service 23 FieldKind object 1\n"),
+    ("class D { v: List<D>; } object 0: D { v = [#0, #7]; } root 0;", "6 service 21 BadReference object 0\n"),
+    ("class D { } object 0: D { } root 9;", "6 service 20 NoRoot\n"),
+    ("class D { } root 0;", "6 service 20 NoRoot\n"),
+];
+
+#[test]
+fn texts_that_are_no_service_are_refused(rt: HostRuntime) -> Result<(), Fail> {
+    for (service, wanted) in REFUSED {
+        for program in [PROGRAM, "main { }"] {
+            assert_eq!(rt; shown(rt.alloc(), Some(program), Some(service))?.as_str(), wanted, "{service}");
+        }
     }
     Ok(())
 }

@@ -2,3 +2,4 @@
 pub mod mirror
 pub mod printed
 pub mod OutcomeWords
+pub mod rules

@@ -12,7 +12,7 @@ pub returns-in-Some-clause-checks : goal.returns-in-Some-clause-checks
 returns-in-Some-clause-checks g c = checks_told c.sources_have_one_outcome.ensures _ _ _ _ (said_of _ _ _ _ _ c.in-Some.ensures c.carry_out.ensures)
 
 pub returns-in-Some-clause-runs : goal.returns-in-Some-clause-runs
-returns-in-Some-clause-runs g c = runs_told c.sources_have_one_outcome.ensures c.texts_have_one_outcome.ensures _ _ _ _ (said_of _ _ _ _ _ c.in-Some.ensures c.carry_out.ensures)
+returns-in-Some-clause-runs g c = runs_told c.sources_have_one_outcome.ensures c.sources_have_one_outcome_as_services.ensures _ _ _ _ (said_of _ _ _ _ _ c.in-Some.ensures c.carry_out.ensures)
 
 pub returns-in-None-clause-answer : goal.returns-in-None-clause-answer
 returns-in-None-clause-answer g c = not_understood (asked (texts c.args.words.now)) c.say.result _ _ c.in-None.ensures c.say.ensures refl
@@ -24,5 +24,5 @@ returns-in-None-clause-checks g c =
 
 pub returns-in-None-clause-runs : goal.returns-in-None-clause-runs
 returns-in-None-clause-runs g c =
-    runs_told c.sources_have_one_outcome.ensures c.texts_have_one_outcome.ensures (asked (texts c.args.words.now)) c.say.result (outside g.F.Files g.W.Sink c.args.files.now c.args.out.now) (outside g.F.Files g.W.Sink c.args.files.now c.say.new.out)
+    runs_told c.sources_have_one_outcome.ensures c.sources_have_one_outcome_as_services.ensures (asked (texts c.args.words.now)) c.say.result (outside g.F.Files g.W.Sink c.args.files.now c.args.out.now) (outside g.F.Files g.W.Sink c.args.files.now c.say.new.out)
     (not_understood (asked (texts c.args.words.now)) c.say.result _ _ c.in-None.ensures c.say.ensures refl)

@@ -1,0 +1,2 @@
+-- The lemmas on the definitions of bytes.
+pub mod formats

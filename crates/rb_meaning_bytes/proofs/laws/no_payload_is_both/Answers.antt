@@ -1,0 +1,14 @@
+use Rattle.rb_meaning_bytes.specs.formats.Scripts.{script_message}
+use Rattle.rb_meaning_bytes.specs.formats.Forests.{forest_message}
+use Rattle.rb_meaning_bytes.specs.formats.Refusals.{refusal_message}
+use Rattle.rb_meaning_bytes.proofs.formats.Payloads.{is_either}
+use Rattle.rb_meaning_bytes.proofs.laws.no_payload_is_both.Goals as goal
+
+pub returns-clause-scripts : goal.returns-clause-scripts
+returns-clause-scripts c = is_either script_message
+
+pub returns-clause-forests : goal.returns-clause-forests
+returns-clause-forests c = is_either forest_message
+
+pub returns-clause-refusals : goal.returns-clause-refusals
+returns-clause-refusals c = is_either refusal_message

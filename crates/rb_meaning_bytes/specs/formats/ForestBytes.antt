@@ -1,0 +1,91 @@
+-- The bytes of a forest and of a refusal, and which forests have a spelling.
+use Rattle.std.specs.Prelude.{◌≡◌, ◌<◌, ◌^◌, ℕ, zero, suc, nat_eq, List, [], ◌∷◌, ◌++◌, cond, Bool, true, false, Option, None, Some}
+use Rattle.rb_trees.specs.declared.forests.NodeFault.{NodeFault}
+use Rattle.rb_trees.specs.mirror.Forests as tree
+use Rattle.rb_trees.specs.mirror.Forests.{Node, Entry, Entries, Nodes}
+use Rattle.rb_meaning_bytes.specs.formats.Fields.{Text, Fits, number, text, truth}
+use Rattle.rb_meaning_bytes.specs.formats.Forests.{thrown, is_fault_code, most_nodes}
+use Rattle.rb_meaning_bytes.specs.formats.Refusals.{is_refusal_number}
+use Rattle.rb_meaning_bytes.specs.formats.ScriptBytes.{value_bytes}
+use Rattle.rb_meaning_bytes.specs.formats.FormedScripts.{IsPrimitive}
+
+-- the bytes of a fault's text
+abbrev pub words_bytes : ℕ → List ℕ → List ℕ
+words_bytes code words = cond (nat_eq code thrown) (text words) []
+
+abbrev pub end_bytes : Option NodeFault → List ℕ
+end_bytes None = 0x00 ∷ []
+end_bytes (Some f) = 0x01 ∷ number f.step ++ number f.at ++ f.fault.code ∷ words_bytes f.fault.code f.fault.text
+
+abbrev pub count_entries : Entries → ℕ
+count_entries tree.NoEntries = 0
+count_entries (tree.MoreEntries e es) = suc (count_entries es)
+
+abbrev pub count_nodes : Nodes → ℕ
+count_nodes tree.NoNodes = 0
+count_nodes (tree.MoreNodes n ns) = suc (count_nodes ns)
+
+abbrev mutual
+  pub node_bytes : Node → List ℕ
+  node_bytes (tree.Holds es f) = number (count_entries es) ++ entries_bytes es ++ end_bytes f
+
+  pub entry_bytes : Entry → List ℕ
+  entry_bytes (tree.Value v) = 0x31 ∷ value_bytes v
+  entry_bytes (tree.Branch taken n) = 0x32 ∷ truth taken ++ node_bytes n
+  entry_bytes (tree.Rows ns) = 0x33 ∷ number (count_nodes ns) ++ nodes_bytes ns
+
+  pub entries_bytes : Entries → List ℕ
+  entries_bytes tree.NoEntries = []
+  entries_bytes (tree.MoreEntries e es) = entry_bytes e ++ entries_bytes es
+
+  pub nodes_bytes : Nodes → List ℕ
+  nodes_bytes tree.NoNodes = []
+  nodes_bytes (tree.MoreNodes n ns) = node_bytes n ++ nodes_bytes ns
+
+-- a forest, which is its root
+abbrev pub forest_bytes : Node → List ℕ
+forest_bytes n = 0x01 ∷ node_bytes n
+
+-- the number of what is refused, and its place
+abbrev pub refusal_bytes : ℕ × ℕ → List ℕ
+refusal_bytes r = 0x01 ∷ r.0 ∷ number r.1
+
+-- ---- which forests have one
+
+-- A text stands with the fault Thrown alone.
+abbrev pub formed_text : Bool → List ℕ → Type 0
+formed_text true words = Fits Text words
+formed_text false words = words ≡ []
+
+abbrev pub FormedText : ℕ → List ℕ → Type 0
+FormedText code words = formed_text (nat_eq code thrown) words
+
+abbrev pub FormedEnd : Option NodeFault → Type 0
+FormedEnd None = Unit {0}
+FormedEnd (Some f) = (f.step < 2 ^ 32) × (f.at < 2 ^ 32) × (is_fault_code f.fault.code ≡ true) × FormedText f.fault.code f.fault.text
+
+-- nodes with at most so many within each other
+abbrev mutual
+  pub FormedNode : ℕ → Node → Type 0
+  FormedNode zero node = ⊥
+  FormedNode (suc n) (tree.Holds es f) = (count_entries es < 2 ^ 32) × FormedEntries n es × FormedEnd f
+
+  pub FormedEntry : ℕ → Entry → Type 0
+  FormedEntry n (tree.Value v) = IsPrimitive v
+  FormedEntry n (tree.Branch taken node) = FormedNode n node
+  FormedEntry n (tree.Rows ns) = (count_nodes ns < 2 ^ 32) × FormedNodes n ns
+
+  pub FormedEntries : ℕ → Entries → Type 0
+  FormedEntries n tree.NoEntries = Unit {0}
+  FormedEntries n (tree.MoreEntries e es) = FormedEntry n e × FormedEntries n es
+
+  pub FormedNodes : ℕ → Nodes → Type 0
+  FormedNodes n tree.NoNodes = Unit {0}
+  FormedNodes n (tree.MoreNodes m ms) = FormedNode n m × FormedNodes n ms
+
+unfoldable pub FormedForest : Node → Type 0
+FormedForest n = FormedNode most_nodes n
+
+-- a refusal that has a spelling
+abbrev pub FormedRefusal : ℕ × ℕ → Type 0
+FormedRefusal r = (is_refusal_number r.0 ≡ true) × (r.1 < 2 ^ 32)

@@ -1,0 +1,8 @@
+-- Lemmas on answers and links.
+pub mod Once
+pub mod ReplyKinds
+pub mod Joined
+pub mod Nodes
+pub mod Bounded
+pub mod NotDeep
+pub mod Sent

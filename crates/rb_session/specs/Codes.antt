@@ -1,0 +1,26 @@
+-- The code of what a link in memory is seen as.
+use Rattle.std.specs.Prelude.{ℕ, Bool, List}
+use Rattle.std.specs.Coded.{Coded, code_by, coded×, coded_list, coded_ℕ, coded_bool}
+use mathlib.Core.Path.{refl}
+use Rattle.rb_trees.specs.contracts.services.Object as object_code
+use Rattle.rb_trees.specs.declared.services.Object.{Object}
+use Rattle.rb_meaning.specs.Links.{Pair}
+use Rattle.rb_exec.specs.Hosted.{Hosted}
+use Rattle.rb_exec.specs.Codes.{host_code}
+use Rattle.rb_session.specs.MemoryLinks.{LinkInMemory}
+
+abbrev pub pair_code : Coded Pair
+pair_code =
+    code_by (List ℕ × (ℕ × List ℕ)) (coded× (coded_list coded_ℕ) (coded× coded_ℕ (coded_list coded_ℕ)))
+    (λ p. (p.request, (p.kind, p.reply))) (λ q. record { request = q.0; kind = q.1.0; reply = q.1.1 }) (λ _. refl)
+
+-- what a link keeps beside its host and its first table
+abbrev pub Rest : Type 0
+Rest = List Pair × (ℕ × Bool)
+
+abbrev pub link_code : Coded LinkInMemory
+link_code =
+    code_by (Hosted × (List Object × Rest))
+    (coded× host_code (coded× (coded_list object_code.the_row.coded) (coded× (coded_list pair_code) (coded× coded_ℕ coded_bool))))
+    (λ l. (l.host, (l.first, (l.pairs, (l.made, l.spent)))))
+    (λ q. record { host = q.0; first = q.1.0; pairs = q.1.1.0; made = q.1.1.1.0; spent = q.1.1.1.1 }) (λ _. refl)

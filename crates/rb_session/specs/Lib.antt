@@ -1,0 +1,4 @@
+pub mod Answering
+pub mod Exchanges
+pub mod MemoryLinks
+pub mod Codes

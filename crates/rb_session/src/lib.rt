@@ -1,0 +1,14 @@
+//! The server's side of an exchange: the answer to a request, and a link whose server is in the same process.
+//!
+//! What an answer is stands in `specs/Answers` of `rb_meaning`, and what a link tells in `specs/Links` there.
+#![tactic(auto)]
+
+mod answers;
+mod exchanges;
+mod laws;
+mod memory_link;
+
+pub use answers::answer;
+pub use exchanges::Exchange;
+pub use laws::each_payload_has_one_answer;
+pub use memory_link::MemoryLink;

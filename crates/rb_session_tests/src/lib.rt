@@ -1,0 +1,9 @@
+//! Tests of answers and of the link in memory.
+#![tactic(auto)]
+
+#[cfg(test)]
+mod answers;
+#[cfg(test)]
+mod hosts;
+#[cfg(test)]
+mod links;

@@ -1,0 +1,10 @@
+use Rattle.std.proofs.Common.{◌≡◌, map, drop}
+use Rattle.rb_trees.specs.mirror.Declarations.{mirror_param}
+use Rattle.rb_meaning_types.specs.Stores.{check_literals}
+use Rattle.rb_store.specs.Views.{objects_of, written_fields}
+use Rattle.rb_store.proofs.checks.check_literals.Given as goal
+
+-- with the fields that are left it is as with all fields
+abbrev pub invariant-loop-param : goal.invariant-loop-param
+invariant-loop-param l =
+    check_literals (objects_of l.text) l.place (map mirror_param (drop l.param-index l.params)) (written_fields l.rest) ≡ check_literals (objects_of l.text) l.place (map mirror_param l.params) (written_fields l.fields)

@@ -1,0 +1,287 @@
+-- What a program of the first form means is what its script gives: a line for each number that is kept, and the fault that
+-- ends it.
+use Rattle.std.proofs.Common.{◌≡◌, ℕ, ℤ, suc, ◌+◌, List, [], ◌∷◌, ◌++◌, Bool, true, false, Option, None, Some, Result, Ok, Err, option_map, cond, ap, sym, ◌∙◌, refl, arith, append_assoc, append-nil}
+use Rattle.std.specs.Prelude.{◌||◌, nat_eq, codes}
+use Rattle.std.proofs.lemmas.Bool.Decides.{nat_tests}
+use Rattle.std.specs.Str.{bytes_eq}
+use Rattle.std.specs.Fmt.{decimal, signed_decimal}
+use Rattle.rb_trees.specs.Named.{lookup}
+use Rattle.rb_trees.specs.Outcome.{known, must, ◌>>◌}
+use Rattle.rb_trees.specs.declared.values.Value.{Value, out-Value}
+use Rattle.rb_trees.specs.declared.values.Value.TheOpen.{Value-F}
+use Rattle.rb_trees.specs.declared.values.Value.TheVariants as value
+use Rattle.rb_trees.specs.declared.values.Fault.{Fault}
+use Rattle.rb_trees.specs.declared.forests.NodeFault.{NodeFault}
+use Rattle.rb_trees.specs.declared.services.Object.{Object}
+use Rattle.rb_trees.specs.declared.outcomes.Ending.TheVariants as endings
+use Rattle.rb_trees.specs.mirror.Types as types
+use Rattle.rb_trees.specs.mirror.Types.{TypeTree}
+use Rattle.rb_trees.specs.mirror.Code as code
+use Rattle.rb_trees.specs.mirror.Code.{Stmts}
+use Rattle.rb_trees.specs.mirror.Declarations.{Signature, Class, Program}
+use Rattle.rb_trees.specs.mirror.Services.{Service}
+use Rattle.rb_trees.specs.mirror.Scripts as script
+use Rattle.rb_trees.specs.mirror.Forests as forest
+use Rattle.rb_trees.specs.mirror.Forests.{Node, Holds, Entry, Entries}
+use Rattle.rb_meaning_code.specs.Faults.{wrong_kind, kind, raises, raised_remotely}
+use Rattle.rb_meaning_code.specs.Operators.{shown_value}
+use Rattle.rb_meaning_code.specs.State.{Local, bound}
+use Rattle.rb_meaning_code.specs.Dialogue.{Outcome, Gave, Faulted, Done, Run, next, end, handle}
+use Rattle.rb_meaning_code.specs.Calls.{Bodies, called}
+use Rattle.rb_meaning_code.specs.Expressions.{evaluates_all}
+use Rattle.rb_meaning_code.specs.Statements.{prints, performs_all}
+use Rattle.rb_meaning_code.specs.Bodies.{bodies_of}
+use Rattle.rb_meaning_code.specs.Remote.{Server, Reply, Got, Stopped, and_then, replies, seen_as, checked, served, returned, server_of, invoke}
+use Rattle.rb_meaning_code.specs.ScriptRun.{Ground, Ran, ended, in_front, with_entry, on_reply, is_primitive, kept, run_steps, run_script, batch_fuel}
+use Rattle.rb_meaning.specs.State as state
+use Rattle.rb_meaning.specs.State.{Event, Outside}
+use Rattle.rb_meaning.specs.Meaning.{Meaning, meaning, meant, in_main, at_start, outside_of, main_result, performs_found}
+use Rattle.rb_meaning.specs.Division.{int_kind, steps_of, first_block, first_script}
+use Rattle.rb_meaning.specs.Unsplit.{Kinds, in_batch, performed, kind_of_type, result_kind, methods_of, call_kinds, batch_at, begun, settles, table_left, remote_only}
+use Rattle.rb_meaning.specs.Shown.{line, shown, shown_events, shown_ending, shown_table, exchanges}
+use Rattle.rb_top.specs.FirstForm.{FirstProgram, PrintsCalls, PlainSignatures, GivesInt, is_among, signature_names}
+use Rattle.rb_top.specs.Printing.{end_text}
+use Rattle.rb_top.specs.Replay.{number_line, entry_line, entry_lines, ending_by, ending_of_node, replayed}
+use Rattle.rb_top.specs.Runs.{Served, run_text, run_status, ended_status}
+use Rattle.rb_top.proofs.Names.{int_out, remote_out, same_bytes}
+use Rattle.rb_top.proofs.Forms.{block_is}
+
+-- the lines of a node, before others
+abbrev number_before : Value-F Value → List Event → List Event
+number_before (Value-F.Int n) es = state.Line (signed_decimal n) ∷ es
+number_before _ es = es
+
+abbrev entry_before : Entry → List Event → List Event
+entry_before (forest.Value v) es = number_before (out-Value v) es
+entry_before _ es = es
+
+abbrev entry_events : Entries → List Event
+entry_events forest.NoEntries = []
+entry_events (forest.MoreEntries e es) = entry_before e (entry_events es)
+
+abbrev node_events : Node → List Event
+node_events (Holds es f) = entry_events es
+
+-- how a body ends by the fault of a node
+abbrev ended_by : Local → Option NodeFault → Outcome (Unit {0})
+ended_by l None = Gave tt l
+ended_by l (Some f) = Faulted (raised_remotely f.fault f.at) l
+
+abbrev node_ended : Local → Node → Outcome (Unit {0})
+node_ended l (Holds es f) = ended_by l f
+
+-- what a body does by the run of its steps
+abbrev after_run : Local → List Event → Ran → Outcome (Unit {0}) × Outside
+after_run l events r = (node_ended l r.node, record { events = events ++ node_events r.node; server = r.server })
+
+-- a reply that gives a number, or a fault
+abbrev IsIntReply : Reply Value → Type 0
+IsIntReply (Got v s) = (n : ℤ) × (v ≡ value.Int n)
+IsIntReply (Stopped at f s) = Unit {0}
+
+int_seen : (at : ℕ) (x : Value-F Value) (s : Server) → IsIntReply (replies at (known wrong_kind (seen_as int_kind x)) s)
+int_seen at (Value-F.Int n) s = (n, refl)
+int_seen at _ s = tt
+
+int_returned : (at : ℕ) (o : Outcome Value) → IsIntReply (returned at int_kind o)
+int_returned at (Gave v l) = int_seen at (out-Value v) (server_of l)
+int_returned at (Faulted r l) = tt
+
+-- a remote call of a method that gives an Int
+int_reply : (classes : List Class) (at : ℕ) (target : Value-F Value) (method : List ℕ) (args : List Value) (s : Server) → IsIntReply (invoke classes at int_kind target method args s)
+int_reply classes at target method args s = by_checks (checked classes s.table target method args)
+  where
+    by_checks : (c : Result (ℕ × List Value) Fault) → IsIntReply (and_then (replies at c s) (λ c s1. returned at int_kind (served classes at c.0 method c.1 s1)))
+    by_checks (Ok c) = int_returned at (served classes at c.0 method c.1 s)
+    by_checks (Err f) = tt
+
+-- a number in front of a node: its line comes first
+with_number : (l : Local) (events : List Event) (n : ℤ) (r : Ran) → after_run l (events ++ state.Line (signed_decimal n) ∷ []) r ≡ after_run l events (with_entry (forest.Value (value.Int n)) r)
+with_number l events n r = by_node r.node
+  where
+    by_node : (node : Node) → after_run l (events ++ state.Line (signed_decimal n) ∷ []) (record r { node = node }) ≡ after_run l events (with_entry (forest.Value (value.Int n)) (record r { node = node }))
+    by_node (Holds es f) =
+        ap (λ e. (ended_by l f, record { events = e; server = r.server })) (append_assoc events (state.Line (signed_decimal n) ∷ []) (entry_events es))
+        ∙ ap (λ x. (ended_by l f, record { events = events ++ number_before x (entry_events es); server = r.server })) (sym (int_out n))
+
+-- what a script of a program of the first form runs on
+abbrev ground : Service → Ground
+ground s = record { classes = s.classes; root = s.root; inputs = [] }
+
+abbrev outside : List Event → Server → Outside
+outside events server = record { events = events; server = server }
+
+-- A body of prints does what its steps do.
+body_runs : (s : Service) (kinds : Kinds) (root : List ℕ) (names : List (List ℕ)) (bodies : Bodies) (gas : ℕ) (block : Stmts) (id : ℕ) (l : Local) (events : List Event) (server : Server)
+    → ((at : ℕ) (method : List ℕ) → is_among names method ≡ true → kinds at method ≡ int_kind)
+    → lookup l.names root ≡ Some (value.Remote s.root)
+    → PrintsCalls root names block
+    → handle (in_batch s kinds) (performs_all bodies gas block l) (outside events server) ≡ after_run l events (run_steps (ground s) (steps_of id block) [] server ended)
+body_runs s kinds root names bodies gas code.NoStmts id l events server ints found h =
+    ap (λ es. (Gave tt l, outside es server)) (sym (append-nil events))
+body_runs s kinds root names bodies gas (code.MoreStmts (code.Print place (code.Call at (code.Name here name) method code.NoExprs)) ss) id l events server ints found h =
+    ap (λ x. handle w (next (next (next (found_as (lookup l.names x)) target) shown) rest) start) h.0
+    ∙ ap (λ o. handle w (next (next (next (found_as o) target) shown) rest) start) found
+    ∙ ap (λ t. handle w (next (next (called bodies at root_value t method [] l) shown) rest) start) (remote_out s.root)
+    ∙ ap (λ k. let r = performed start (invoke s.classes at k (out-Value root_value) method [] server) in handle w (next (next (end l r.0) shown) rest) r.1) (ints at method h.1)
+    ∙ by_reply (invoke s.classes at int_kind (out-Value root_value) method [] server) (int_reply s.classes at (out-Value root_value) method [] server)
+    (λ n s1. body_runs s kinds root names bodies gas ss (suc id) l (events ++ state.Line (signed_decimal n) ∷ []) s1 ints found h.3)
+  where
+    w : Rattle.rb_meaning_code.specs.Dialogue.Handler Outside
+    w = in_batch s kinds
+
+    start : Outside
+    start = outside events server
+
+    root_value : Value
+    root_value = value.Remote s.root
+
+    rest : Unit {0} → Local → Run (Unit {0})
+    rest u l1 = performs_all bodies gas ss l1
+
+    shown : Value → Local → Run (Unit {0})
+    shown v l1 = prints place (shown_value (out-Value v)) l1
+
+    found_as : Option Value → Run Value
+    found_as o = end l (raises here (known kind o))
+
+    target : Value → Local → Run Value
+    target t l1 = next (evaluates_all bodies code.NoExprs l1) (λ vs l2. called bodies at t (out-Value t) method vs l2)
+
+    after : Server → Ran
+    after s1 = run_steps (ground s) (steps_of (suc id) ss) [] s1 ended
+
+    by_reply : (r : Reply Value) → IsIntReply r
+        → ((n : ℤ) (s1 : Server) → handle w (performs_all bodies gas ss l) (outside (events ++ state.Line (signed_decimal n) ∷ []) s1) ≡ after_run l (events ++ state.Line (signed_decimal n) ∷ []) (after s1))
+        → handle w (next (next (end l (performed start r).0) shown) rest) (performed start r).1 ≡ after_run l events (on_reply id (and_then r (kept true at)) (λ v s1. with_entry (forest.Value v) (after s1)))
+    by_reply (Stopped p f s1) is more = ap (λ es. (Faulted (raised_remotely f p) l, outside es s1)) (sym (append-nil events))
+    by_reply (Got v s1) is more =
+        ap (λ v. handle w (next (shown v l) rest) (outside events s1)) is.1
+        ∙ ap (λ x. handle w (next (prints place (shown_value x) l) rest) (outside events s1)) (int_out is.0)
+        ∙ more is.0 s1
+        ∙ with_number l events is.0 (after s1)
+        ∙ ap (λ x. after_run l events (on_reply id (replies at (must (is_primitive x) kind >> Ok (value.Int is.0)) s1) (λ v s1. with_entry (forest.Value v) (after s1)))) (sym (int_out is.0))
+        ∙ ap (λ v. after_run l events (on_reply id (kept true at v s1) (λ v s1. with_entry (forest.Value v) (after s1)))) (sym is.1)
+body_runs s kinds root names bodies gas (code.MoreStmts stmt ss) id l events server ints found h = absurd h
+
+-- a declared method gives an Int
+kind_of_int : (t : TypeTree) → GivesInt t → kind_of_type t ≡ int_kind
+kind_of_int (types.Int at) h = refl
+kind_of_int _ h = absurd h
+
+int_result : (ss : List Signature) (method : List ℕ) → PlainSignatures ss → is_among (signature_names ss) method ≡ true → result_kind ss method ≡ int_kind
+int_result [] method plain h = absurd (cc)
+int_result (s ∷ ss) method plain h = by_name (bytes_eq s.name method) refl (int_result ss method plain.2)
+  where
+    by_name : (b : Bool) → bytes_eq s.name method ≡ b → (is_among (signature_names ss) method ≡ true → result_kind ss method ≡ int_kind) → result_kind (s ∷ ss) method ≡ int_kind
+    by_name true e rest = ap (λ b. cond b (kind_of_type s.result) (result_kind ss method)) e ∙ kind_of_int s.result plain.1
+    by_name false e rest = ap (λ b. cond b (kind_of_type s.result) (result_kind ss method)) e ∙ rest (sym (ap (λ b. b || is_among (signature_names ss) method) e) ∙ h)
+
+-- each call of the batch gives an Int
+int_calls : (p : Program) (f : FirstProgram p) (at : ℕ) (method : List ℕ) → is_among (signature_names f.interface.methods) method ≡ true → call_kinds p f.interface.name at method ≡ int_kind
+int_calls p f at method h =
+    ap (λ is. result_kind (methods_of is f.interface.name) method) f.interfaces_are
+    ∙ ap (λ b. result_kind (cond b f.interface.methods []) method) (same_bytes f.interface.name)
+    ∙ int_result f.interface.methods method f.signatures h
+
+-- the batch is found at its place
+found_at : (place : ℕ) (interface root : List ℕ) (block : Stmts) → batch_at (code.MoreStmts (code.Batch place interface root block) code.NoStmts) place ≡ Some (record { interface = interface; root = root; block = block })
+found_at place interface root block =
+    let e : nat_eq place place ≡ true = grind (arith, nat_tests) in
+    ap (λ b. cond b (Some (record { interface = interface; root = root; block = block })) None) e
+
+found_root : (root : List ℕ) (v : Value) → lookup ((root, v) ∷ []) root ≡ Some v
+found_root root v = ap (λ b. option_map (λ (n : List ℕ × Value). n.1) (cond b (Some (root, v)) None)) (same_bytes root)
+
+-- what a program of the first form means by what its script gives
+abbrev meant_by : Ran → Meaning
+meant_by r = record { ending = ending_of_node r.node; events = state.Batch ∷ node_events r.node; table = r.server.table }
+
+-- the batch ends `main`
+settled : (p : Program) (s : Service) (fuel : ℕ) (whole : List Object) (l : Local) (r : Ran) →
+    (let bodies = bodies_of p.classes fuel in
+    let ended' : Unit {0} → Local → Run (Option Value) = λ u l1. main_result bodies None l1 in
+    let last : Unit {0} → Local → Run (Unit {0}) = λ u l1. performs_all bodies fuel code.NoStmts l1 in
+    let b = settles 0 whole (after_run l (state.Batch ∷ []) r) in
+    meant (handle (in_main p s) (next (next (Done b.0) last) ended') b.1)) ≡ meant_by r
+settled p s fuel whole l r = by_node r.node
+  where
+    by_node : (node : Node) →
+        (let bodies = bodies_of p.classes fuel in
+        let ended' : Unit {0} → Local → Run (Option Value) = λ u l1. main_result bodies None l1 in
+        let last : Unit {0} → Local → Run (Unit {0}) = λ u l1. performs_all bodies fuel code.NoStmts l1 in
+        let b = settles 0 whole (after_run l (state.Batch ∷ []) (record r { node = node })) in
+        meant (handle (in_main p s) (next (next (Done b.0) last) ended') b.1)) ≡ meant_by (record r { node = node })
+    by_node (Holds es None) = refl
+    by_node (Holds es (Some f)) = refl
+
+-- What the program means: its batch, then a line for each number that its script keeps, and its end.
+pub means : (p : Program) (f : FirstProgram p) (s : Service) (table : List Object) (fuel : ℕ) → meaning p s table fuel ≡ meant_by (run_script (first_script p) [] s.classes s.root table)
+means p f s table fuel =
+    let bodies = bodies_of p.classes fuel in
+    let l : Local = at_start fuel in
+    let o : Outside = outside_of table in
+    let w = in_main p s in
+    let start : Local = bound f.root (value.Remote s.root) l in
+    let ended' : Unit {0} → Local → Run (Option Value) = λ u l1. main_result bodies None l1 in
+    let last : Unit {0} → Local → Run (Unit {0}) = λ u l1. performs_all bodies fuel code.NoStmts l1 in
+    let kinds = call_kinds p f.interface.name in
+    let server : Server = record { table = table; fuel = batch_fuel } in
+    let whole = table_left (remote_only s kinds f.block start.names server) in
+    let goes : Outcome (Unit {0}) × Outside → Meaning = λ r. meant (handle w (next (next (Done r.0) last) ended') r.1) in
+    ap (λ ss. meant (handle w (next (performs_all bodies fuel ss l) (λ u l1. main_result bodies p.body.result l1)) o)) f.statements_are
+    ∙ ap (λ r. meant (handle w (next (performs_all bodies fuel (code.MoreStmts (code.Batch f.place f.interface.name f.root f.block) code.NoStmts) l) (λ u l1. main_result bodies r l1)) o)) f.result_is
+    ∙ ap (λ ss. goes (performs_found p s (batch_at ss f.place) f.place l o)) f.statements_are
+    ∙ ap (λ b. goes (performs_found p s b f.place l o)) (found_at f.place f.interface.name f.root f.block)
+    ∙ ap (λ r. goes (settles 0 whole r))
+    (body_runs s kinds f.root (signature_names f.interface.methods) bodies fuel f.block 0 start (state.Batch ∷ []) server
+    (int_calls p f) (found_root f.root (value.Remote s.root)) f.prints)
+    ∙ settled p s fuel whole start (run_steps (ground s) (steps_of 0 f.block) [] server ended)
+    ∙ ap (λ b. meant_by (run_steps (ground s) (steps_of 0 b) [] server ended)) (sym (block_is p f))
+
+-- the lines of entries, and no exchange among them
+number_shown : (x : Value-F Value) (es : List Event) → shown_events (number_before x es) ≡ number_line x ++ shown_events es
+number_shown (Value-F.Int n) es = refl
+number_shown _ es = refl
+
+entry_shown : (e : Entry) (es : List Event) → shown_events (entry_before e es) ≡ entry_line e ++ shown_events es
+entry_shown (forest.Value v) es = number_shown (out-Value v) es
+entry_shown _ es = refl
+
+entries_shown : (es : Entries) → shown_events (entry_events es) ≡ entry_lines es
+entries_shown forest.NoEntries = refl
+entries_shown (forest.MoreEntries e es) = entry_shown e (entry_events es) ∙ ap (λ t. entry_line e ++ t) (entries_shown es)
+
+number_quiet : (x : Value-F Value) (es : List Event) → exchanges (number_before x es) ≡ exchanges es
+number_quiet (Value-F.Int n) es = refl
+number_quiet _ es = refl
+
+entry_quiet : (e : Entry) (es : List Event) → exchanges (entry_before e es) ≡ exchanges es
+entry_quiet (forest.Value v) es = number_quiet (out-Value v) es
+entry_quiet _ es = refl
+
+entries_quiet : (es : Entries) → exchanges (entry_events es) ≡ 0
+entries_quiet forest.NoEntries = refl
+entries_quiet (forest.MoreEntries e es) = entry_quiet e (entry_events es) ∙ entries_quiet es
+
+-- what such a meaning shows
+shown_by_node : (source : List ℕ) (node : Node) (server : Server) (fault : Option Fault) → shown source (meant_by (record { node = node; fault = fault; server = server })) ≡ replayed source node server.table
+shown_by_node source (Holds es f) server fault =
+    let ended' = line (shown_ending source (ending_by f)) in
+    let count : ℕ → List ℕ = λ n. line (codes "exchanges " ++ decimal n) in
+    let left = shown_table 0 server.table in
+    ap (λ t. t ++ ended' ++ count (exchanges (entry_events es) + 1) ++ left) (entries_shown es)
+    ∙ ap (λ n. entry_lines es ++ ended' ++ count (n + 1) ++ left) (entries_quiet es)
+    ∙ ap (λ t. t ++ left) (append_assoc (entry_lines es) ended' (count 1))
+    ∙ append_assoc (entry_lines es) (ended' ++ count 1) left
+
+-- what the program shows, and its status, by the node of its script
+pub run_shown : (source : List ℕ) (fuel : ℕ) (p : Program) (served : Served) → FirstProgram p
+    → (let r = run_script (first_script p) [] served.0.classes served.0.root served.1 in run_text source fuel p served ≡ replayed source r.node r.server.table)
+run_shown source fuel p served f =
+    let r = run_script (first_script p) [] served.0.classes served.0.root served.1 in
+    ap (shown source) (means p f served.0 served.1 fuel) ∙ shown_by_node source r.node r.server r.fault
+
+pub run_ended : (fuel : ℕ) (p : Program) (served : Served) → FirstProgram p
+    → run_status fuel p served ≡ ended_status (ending_of_node (run_script (first_script p) [] served.0.classes served.0.root served.1).node)
+run_ended fuel p served f = ap (λ m. ended_status m.ending) (means p f served.0 served.1 fuel)

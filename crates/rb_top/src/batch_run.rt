@@ -1,0 +1,87 @@
+// A run of the batch that is all of a program of the first form: its script goes to the server, and the lines and the
+// ending come from the forest.
+
+ghost use Rattle.std.specs.Prelude.{◌≡◌};
+ghost use Rattle.rb_trees.specs.mirror.Forests.{mirror_entry, mirror_entries};
+ghost use Rattle.rb_trees.specs.declared.values.Value.{out-Value};
+ghost use Rattle.rb_top.specs.FirstForm.{FirstProgram};
+ghost use Rattle.rb_top.specs.Printing.{Prints};
+ghost use Rattle.rb_top.specs.Replay.{number_line, entry_line, entry_lines, ending_by, PrintsBatch};
+ghost use Rattle.rb_top.specs.Scene.{output};
+ghost use Rattle.rb_top.specs.Sources.{text_of, program_of};
+ghost use Rattle.rb_top.specs.Texts.{WithinLength};
+ghost use Rattle.rb_store.specs.Views.{stored};
+
+use crate::first_script::first_script;
+use crate::local_run::status_of;
+use crate::printing::{PrintStop, print_end, print_number};
+use crate::source::Source;
+use crate::status::Status;
+use rb_base::Sink;
+use rb_exec::{Host, run_script};
+use rb_trees::{Ending, Entry, Node, NodeFault, Value};
+use std::alloc::Global;
+
+/// Prints the line of a number.
+#[tactic(auto, using(crate::proofs::Literals::values))]
+fn print_kept<W: Sink>(alloc: Global, value: &Value, out: &mut W) -> Result<(), PrintStop>
+    ensures { Prints (number_line (out-Value value.now)) result (output W.Sink out.old) (output W.Sink out.new) }
+{
+    match value {
+        Value::Int(n) => print_number(alloc, *n, out),
+        _ => Ok(()),
+    }
+}
+
+/// Prints the line of what a step kept.
+#[tactic(auto, using(rb_trees::proofs::mirror::Nodes::nodes))]
+fn print_entry<W: Sink>(alloc: Global, entry: &Entry, out: &mut W) -> Result<(), PrintStop>
+    ensures { Prints (entry_line (mirror_entry entry.now)) result (output W.Sink out.old) (output W.Sink out.new) }
+{
+    match entry {
+        Entry::Value(value) => print_kept(alloc, value, out),
+        Entry::Branch(_, _) | Entry::Rows(_) => Ok(()),
+    }
+}
+
+/// Prints a line for each number that was kept.
+#[tactic(auto, using(crate::proofs::Lines::lines))]
+fn print_entries<W: Sink>(alloc: Global, entries: &[Entry], out: &mut W) -> Result<(), PrintStop>
+    ensures { Prints (entry_lines (mirror_entries entries.now)) result (output W.Sink out.old) (output W.Sink out.new) }
+{
+    for entry in entries {
+        print_entry(alloc, entry, out)?;
+    }
+    Ok(())
+}
+
+/// How a batch ended: well, or by the fault of its node.
+fn ending_by(fault: Option<NodeFault>) -> Ending
+    ensures { result ≡ ending_by fault }
+{
+    match fault {
+        None => Ending::Done(None),
+        Some(found) => Ending::Faulted(found.fault, found.at),
+    }
+}
+
+/// Runs the program's batch on the server, prints what the program means there, and answers how it ended.
+///
+/// The lines and the ending come from the node that the server gives.
+pub fn run_batch<W: Sink>(
+    alloc: Global,
+    source: &Source,
+    host: &mut Host,
+    out: &mut W,
+) -> Result<Status, PrintStop>
+    requires first { FirstProgram (program_of source.now) }
+    requires short { WithinLength (text_of source.now) }
+    ensures { PrintsBatch (text_of source.now) (program_of source.now) (served_of host.old) result (output W.Sink out.old) (output W.Sink out.new) }
+{
+    let script = first_script(alloc, source.typed.program())?;
+    let Node { entries, fault } = run_script(alloc, host, &script, &[])?;
+    print_entries(alloc, entries.as_slice(), out)?;
+    let ending = ending_by(fault);
+    print_end(alloc, source.text.as_slice(), &ending, 1, host.table(), out)?;
+    Ok(status_of(ending))
+}

@@ -1,0 +1,282 @@
+// Which scripts are valid.
+
+ghost use Rattle.std.specs.Prelude.{◌≡◌, ◌+◌, ◌<◌, false, OnOk};
+ghost use Rattle.rb_trees.specs.mirror.Scripts.{mirror_sexpr, mirror_sexprs, mirror_step, mirror_steps, mirror_script};
+ghost use Rattle.rb_trees.specs.Validity.{has, first, nested_blocks, expr_refusals, exprs_refusals, whole_refusals, step_numbers, steps_numbers, step_lets, steps_lets, step_refusals, steps_refusals, verdict};
+ghost use Rattle.rb_trees.specs.Scopes.{seen, bound};
+
+use crate::scripts::{SExpr, Script, Step, StepForm};
+use thiserror::Error;
+
+/// The greatest number of blocks within each other.
+const MOST_BLOCKS: u32 = 64;
+
+/// The greatest number of expressions within each other.
+const MOST_EXPRS: u32 = 256;
+
+/// Why a script isn't valid: its first refusal, at a step's number.
+#[derive(Clone, Copy, Debug, PartialEq, Eq, Error)]
+pub enum ScriptRefusal {
+    /// The variable is bound neither by an earlier Let of the same or an enclosing block, nor by an enclosing Each.
+    #[error("step {0} has a variable that nothing binds")]
+    UnknownVariable(u32),
+    /// The script has fewer inputs.
+    #[error("step {0} has an input that isn't there")]
+    UnknownInput(u32),
+    /// An earlier step has this number.
+    #[error("the number {0} stands for two steps")]
+    StepRepeated(u32),
+    /// More than 64 blocks or more than 256 expressions stand within each other.
+    #[error("step {0} nests too deep")]
+    TooDeep(u32),
+}
+
+/// Whether one of these steps, or one in their blocks, has this number.
+#[cycle(numbers)]
+#[tactic(auto, using(crate::proofs::rules::Scopes::members))]
+fn any_numbered(steps: &[Step], id: u32) -> bool
+    ensures { result ≡ has id (steps_numbers (mirror_steps steps.now)) }
+{
+    for step in steps {
+        if is_numbered(step, id) {
+            return true;
+        }
+    }
+    false
+}
+
+#[cycle(numbers)]
+#[tactic(auto, using(crate::proofs::rules::Scopes::members))]
+fn is_numbered(step: &Step, id: u32) -> bool
+    ensures { result ≡ has id (step_numbers (mirror_step step.now)) }
+{
+    match &step.form {
+        StepForm::Do(_) | StepForm::Keep(_) | StepForm::Let { .. } => id == step.id,
+        StepForm::If(_, then_block, else_block) => id == step.id
+            || any_numbered(then_block.as_slice(), id)
+            || any_numbered(else_block.as_slice(), id),
+        StepForm::Each { body, .. } => id == step.id || any_numbered(body.as_slice(), id),
+    }
+}
+
+/// Whether the step is a Let of this variable.
+#[tactic(auto, using(crate::proofs::rules::Scopes::members))]
+fn binds(step: &Step, var: u32) -> bool
+    ensures { result ≡ has var (step_lets (mirror_step step.now)) }
+{
+    match &step.form {
+        StepForm::Let { var: own, .. } => var == *own,
+        StepForm::Do(_) | StepForm::Keep(_) | StepForm::If(..) | StepForm::Each { .. } => false,
+    }
+}
+
+/// Whether a Let of these steps binds the variable.
+#[tactic(auto, using(crate::proofs::rules::Scopes::members))]
+fn any_binds(steps: &[Step], var: u32) -> bool
+    ensures { result ≡ has var (steps_lets (mirror_steps steps.now)) }
+{
+    for step in steps {
+        if binds(step, var) {
+            return true;
+        }
+    }
+    false
+}
+
+/// What stands around a step: which steps were read before, and which variables are bound.
+#[derive(Drop)]
+enum Scope<'a> {
+    Root,
+    /// The variable of an Each whose block is read.
+    Row(u32, &'a Scope<'a>),
+    /// The number of a step that is read.
+    Step(u32, &'a Scope<'a>),
+    /// The earlier steps of a block that is read.
+    Block(&'a [Step], &'a Scope<'a>),
+    /// A block that was read whole.
+    Closed(&'a [Step], &'a Scope<'a>),
+}
+
+#[tactic(auto, using(crate::proofs::rules::Scopes::scopes))]
+fn is_seen(scope: &Scope, id: u32) -> bool
+    ensures { result ≡ has id (seen scope.now) }
+{
+    match scope {
+        Scope::Root => false,
+        Scope::Row(_, outer) => is_seen(outer, id),
+        Scope::Step(own, outer) => is_seen(outer, id) || id == *own,
+        Scope::Block(steps, outer) | Scope::Closed(steps, outer) => is_seen(outer, id)
+            || any_numbered(steps, id),
+    }
+}
+
+#[tactic(auto, using(crate::proofs::rules::Scopes::scopes))]
+fn is_bound(scope: &Scope, var: u32) -> bool
+    ensures { result ≡ has var (bound scope.now) }
+{
+    match scope {
+        Scope::Root => false,
+        Scope::Row(own, outer) => is_bound(outer, var) || var == *own,
+        Scope::Step(_, outer) | Scope::Closed(_, outer) => is_bound(outer, var),
+        Scope::Block(steps, outer) => is_bound(outer, var) || any_binds(steps, var),
+    }
+}
+
+#[cycle(check_exprs)]
+#[tactic(auto, using(crate::proofs::rules::Refusals::exprs))]
+fn check_expr(
+    expr: &SExpr,
+    inputs: u8,
+    scope: &Scope,
+    step: u32,
+    depth: u32,
+) -> Result<(), ScriptRefusal>
+    ensures { result ≡ first (expr_refusals inputs (bound scope.now) step depth (mirror_sexpr expr.now)) }
+{
+    if depth > MOST_EXPRS {
+        return Err(ScriptRefusal::TooDeep(step));
+    }
+    match expr {
+        SExpr::Lit(_) | SExpr::Root => Ok(()),
+        SExpr::Input(number) => {
+            if *number < inputs {
+                Ok(())
+            } else {
+                Err(ScriptRefusal::UnknownInput(step))
+            }
+        }
+        SExpr::Var(var) => {
+            if is_bound(scope, *var) {
+                Ok(())
+            } else {
+                Err(ScriptRefusal::UnknownVariable(step))
+            }
+        }
+        SExpr::Unary(_, _, operand) => check_expr(operand.get(), inputs, scope, step, depth + 1),
+        SExpr::Binary(_, _, left, right) => {
+            check_expr(left.get(), inputs, scope, step, depth + 1)?;
+            check_expr(right.get(), inputs, scope, step, depth + 1)
+        }
+        SExpr::Call { target, args, .. } => {
+            check_expr(target.get(), inputs, scope, step, depth + 1)?;
+            check_exprs(args.as_slice(), inputs, scope, step, depth + 1)
+        }
+    }
+}
+
+#[cycle(check_exprs)]
+#[tactic(auto, using(crate::proofs::rules::Refusals::exprs))]
+fn check_exprs(
+    exprs: &[SExpr],
+    inputs: u8,
+    scope: &Scope,
+    step: u32,
+    depth: u32,
+) -> Result<(), ScriptRefusal>
+    ensures { result ≡ first (exprs_refusals inputs (bound scope.now) step depth (mirror_sexprs exprs.now)) }
+{
+    for expr in exprs {
+        check_expr(expr, inputs, scope, step, depth)?;
+    }
+    Ok(())
+}
+
+/// An expression that stands in a step.
+#[tactic(auto, unfolding(crate::specs::Validity::whole_refusals))]
+fn check_whole(expr: &SExpr, inputs: u8, scope: &Scope, step: u32) -> Result<(), ScriptRefusal>
+    ensures { result ≡ first (whole_refusals inputs (bound scope.now) step (mirror_sexpr expr.now)) }
+{
+    check_expr(expr, inputs, scope, step, 1)
+}
+
+/// Whether a step in the so-manieth block may have blocks.
+fn check_depth(step: u32, depth: u32) -> Result<(), ScriptRefusal>
+    ensures value { result ≡ first (nested_blocks step depth) }
+    ensures within { OnOk result (depth < 64) }
+{
+    if depth < MOST_BLOCKS {
+        Ok(())
+    } else {
+        Err(ScriptRefusal::TooDeep(step))
+    }
+}
+
+#[cycle(check_steps)]
+#[tactic(auto, using(crate::proofs::rules::Refusals::steps))]
+fn check_block<'x>(
+    steps: &'x [Step],
+    inputs: u8,
+    depth: u32,
+    scope: &'x Scope<'x>,
+) -> Result<(), ScriptRefusal>
+    ensures { result ≡ first (steps_refusals inputs depth (seen scope.now) (bound scope.now) (mirror_steps steps.now)) }
+{
+    for i in 0..steps.len() {
+        let here = Scope::Block(&steps[..i], scope);
+        check_step(&steps[i], inputs, depth, &here)?;
+    }
+    Ok(())
+}
+
+#[cycle(check_steps)]
+#[tactic(auto, using(crate::proofs::rules::Refusals::numbered))]
+fn check_step<'x>(
+    step: &'x Step,
+    inputs: u8,
+    depth: u32,
+    scope: &'x Scope<'x>,
+) -> Result<(), ScriptRefusal>
+    ensures { result ≡ first (step_refusals inputs depth (seen scope.now) (bound scope.now) (mirror_step step.now)) }
+{
+    if is_seen(scope, step.id) {
+        return Err(ScriptRefusal::StepRepeated(step.id));
+    }
+    check_form(step, inputs, depth, scope)
+}
+
+/// A step whose number is new.
+#[cycle(check_steps)]
+#[tactic(auto, using(crate::proofs::rules::Refusals::steps))]
+fn check_form<'x>(
+    step: &'x Step,
+    inputs: u8,
+    depth: u32,
+    scope: &'x Scope<'x>,
+) -> Result<(), ScriptRefusal>
+    requires { has step.now.id (seen scope.now) ≡ false }
+    ensures { result ≡ first (step_refusals inputs depth (seen scope.now) (bound scope.now) (mirror_step step.now)) }
+{
+    match &step.form {
+        StepForm::Do(expr) | StepForm::Keep(expr) => check_whole(expr, inputs, scope, step.id),
+        StepForm::Let { value, .. } => check_whole(value, inputs, scope, step.id),
+        StepForm::If(condition, then_block, else_block) => {
+            check_depth(step.id, depth)?;
+            check_whole(condition, inputs, scope, step.id)?;
+            let own = Scope::Step(step.id, scope);
+            check_block(then_block.as_slice(), inputs, depth + 1, &own)?;
+            let after = Scope::Closed(then_block.as_slice(), &own);
+            check_block(else_block.as_slice(), inputs, depth + 1, &after)
+        }
+        StepForm::Each {
+            var,
+            rows,
+            body,
+            ..
+        } => {
+            check_depth(step.id, depth)?;
+            check_whole(rows, inputs, scope, step.id)?;
+            let own = Scope::Step(step.id, scope);
+            let row = Scope::Row(*var, &own);
+            check_block(body.as_slice(), inputs, depth + 1, &row)
+        }
+    }
+}
+
+/// Whether the script is valid, else its first refusal in reading order: at each step first its number, then how deep its
+/// blocks stand, then its expression from above, then its blocks. It takes no memory; it looks back for what was seen, so
+/// its time is at most that of the square of the script's size.
+pub fn valid(script: &Script) -> Result<(), ScriptRefusal>
+    ensures { result ≡ verdict (mirror_script script.now) }
+{
+    check_block(script.body.as_slice(), script.inputs, 1, &Scope::Root)
+}

@@ -1,0 +1,28 @@
+-- Walks of the code as walks of the definition.
+use Rattle.std.specs.Prelude.{ℕ, Bool, List, Option, Some, Result}
+use Rattle.std.specs.Borrow.{Bor}
+use Rattle.rb_trees.specs.declared.forests.Entry as entry
+use Rattle.rb_trees.specs.declared.forests.Node as node
+use Rattle.rb_trees.specs.mirror.Forests.{Node, Nodes, Entries, mirror_node, mirror_nodes, mirror_entries}
+use Rattle.rb_trees.specs.declared.remainders.Part as part
+use Rattle.rb_trees.specs.mirror.Remainders.{mirror_parts}
+use Rattle.rb_trees.specs.Outcome.{◌>>=◌}
+use Rattle.rb_meaning_bytes.specs.Fits.{Walk, parts_read, turns_read, turns_done}
+use Rattle.rb_wire_forest.specs.declared.walk.Walk as code
+
+abbrev pub seen : code.Walk → Walk
+seen w = record { left = mirror_entries w.left.now; fault = w.fault; stopped = w.stopped; spare = w.spare }
+
+-- An error is the step that doesn't fit.
+abbrev pub step_told : ℕ → Option ℕ
+step_told step = Some step
+
+abbrev pub seen_branch : Bool × Bor node.Node × Bor (List entry.Entry) → Bool × Node × Entries
+seen_branch x = (x.0, mirror_node x.1.now, mirror_entries x.2.now)
+
+abbrev pub seen_rows : Bor (List node.Node) × Bor (List entry.Entry) → Nodes × Entries
+seen_rows x = (mirror_nodes x.0.now, mirror_entries x.1.now)
+
+-- a loop with this body and these turns
+abbrev pub turns_walked : (step kind : ℕ) → List part.Part → List node.Node → Walk → Result Walk ℕ
+turns_walked step kind body turns w = turns_read step kind (λ row. parts_read (mirror_parts body) row) (mirror_nodes turns) w >>= λ after. turns_done step after

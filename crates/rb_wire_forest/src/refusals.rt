@@ -1,0 +1,63 @@
+// Refusals as bytes, both ways.
+
+ghost use Rattle.std.specs.Prelude.{◌≡◌, ◌++◌, ℕ, true, IfSome, OnOk, OnErr};
+ghost use Rattle.rb_meaning_bytes.specs.formats.Formats.{Spells};
+ghost use Rattle.rb_meaning_bytes.specs.formats.Refusals.{is_refusal_number, refusal_message};
+ghost use Rattle.rb_meaning_bytes.specs.formats.ForestBytes.{refusal_bytes};
+ghost use Rattle.rb_wire_forest.specs.Buffers.{Keeps, Appends};
+
+use crate::writing::put_number;
+use bytes::{BufMut, BytesMut};
+use rb_trees::Memory;
+
+#[tactic(auto, using(crate::proofs::Kept::kept))]
+fn put_refusal(number: u8, at: u32, into: &mut BytesMut) -> Result<(), Memory>
+    ensures ok { OnOk result (into.new.items ≡ into.old.items ++ refusal_bytes (number, at)) }
+    ensures err { OnErr result (Keeps into.old.items into.new.items) }
+{
+    into.put_u8(0x01)?;
+    into.put_u8(number)?;
+    put_number(at, into)?;
+    Ok(())
+}
+
+/// Appends the spelling of a refusal: its number, from 1 to 6 or 11 to 13, and its place. After
+/// Memory the buffer is unchanged.
+#[tactic(auto, using(crate::proofs::Kept::kept, crate::proofs::Appended::appends_refusal))]
+pub fn encode_refusal(number: u8, at: u32, into: &mut BytesMut) -> Result<(), Memory>
+    requires { is_refusal_number number ≡ true }
+    ensures ok { OnOk result (Appends refusal_message into.old.items into.new.items (number, at)) }
+    ensures err { OnErr result (into.new.items ≡ into.old.items) }
+{
+    let len = into.len();
+    match put_refusal(number, at, into) {
+        Ok(()) => Ok(()),
+        Err(error) => {
+            into.truncate(len);
+            Err(error)
+        }
+    }
+}
+
+/// Whether there is a refusal of this number.
+fn is_refusal(number: u8) -> bool
+    ensures { result ≡ is_refusal_number number }
+{
+    (number >= 1 && number <= 6) || (number >= 11 && number <= 13)
+}
+
+/// The number and the place of the refusal that a payload spells, or None where it spells none.
+pub fn decode_refusal(payload: &[u8]) -> Option<(u8, u32)>
+    ensures told { IfSome result (λ x. Spells refusal_message payload.now x) }
+    ensures only { (x : ℕ × ℕ) → Spells refusal_message payload.now x → result ≡ Some x }
+{
+    if payload.len() != 6 {
+        return None;
+    }
+    let (version, number) = (payload[0], payload[1]);
+    if version != 0x01 || !is_refusal(number) {
+        return None;
+    }
+    let at = u32::from_be_bytes([payload[2], payload[3], payload[4], payload[5]]);
+    Some((number, at))
+}

@@ -1,0 +1,93 @@
+// Texts and values, read at the front of the bytes.
+
+ghost use Rattle.std.specs.Prelude.{◌≡◌, ◌+◌, ◌≤◌, length, drop};
+ghost use Rattle.std.specs.Str.{is_utf8};
+ghost use Rattle.rb_meaning_bytes.specs.formats.Fields.{Text, announced, content};
+ghost use Rattle.rb_meaning_bytes.specs.formats.Reading.{look, read};
+ghost use Rattle.rb_meaning_bytes.specs.formats.Values as format;
+ghost use Rattle.rb_trees.specs.Outcome.{Gives};
+ghost use Rattle.rb_wire_forest.specs.Stops.{fault_of};
+
+use crate::fields::{bad_tag, byte, cut, refused, truth, wide};
+use crate::stop::{BAD_TEXT, Stop};
+use rb_trees::{Seq, Shared, Value, Word};
+use std::alloc::Global;
+
+/// The most bytes of a text.
+const LONGEST_TEXT: usize = 4096;
+
+/// Whether the bytes are UTF-8.
+#[tactic(auto, using(crate::proofs::Utf8::not_utf8, crate::proofs::Utf8::utf8))]
+fn is_text(bytes: &[u8]) -> bool
+    ensures { result ≡ is_utf8 bytes.now }
+{
+    match str::from_utf8(bytes) {
+        Ok(_) => true,
+        Err(_) => false,
+    }
+}
+
+/// The length that stands before a text.
+#[tactic(auto, unfolding(rb_meaning_bytes::specs::formats::Fields::announced))]
+fn length_of(bytes: &[u8]) -> u32
+    ensures { result ≡ announced bytes.now }
+{
+    if bytes.len() < 4 {
+        return 0;
+    }
+    u32::from_be_bytes([bytes[0], bytes[1], bytes[2], bytes[3]])
+}
+
+/// The bytes of a text behind its length, and the bytes behind them.
+#[tactic(auto, using(crate::proofs::Utf8::behind), unfolding(rb_meaning_bytes::specs::formats::Fields::content))]
+fn behind(bytes: &[u8], count: usize) -> (&[u8], &[u8])
+    requires is { count ≡ announced bytes.now }
+    requires whole { 4 + count ≤ length bytes.now }
+    ensures content { result.0.now ≡ content bytes.now }
+    ensures rest { result.1.now ≡ drop (4 + announced bytes.now) bytes.now }
+{
+    let (_, tail) = bytes.split_at(4);
+    tail.split_at(count)
+}
+
+/// A text.
+#[tactic(auto, unfolding(rb_meaning_bytes::specs::formats::Reading::look))]
+pub(crate) fn text(alloc: Global, bytes: &[u8]) -> Result<(Word, &[u8]), Stop>
+    ensures { Gives (λ x. (x.0, x.1.now)) fault_of result (look Text bytes.now) }
+{
+    let count = length_of(bytes) as usize;
+    if count > LONGEST_TEXT {
+        return Err(refused(BAD_TEXT, bytes));
+    }
+    if bytes.len() < 4 + count {
+        return Err(cut());
+    }
+    let (text, rest) = behind(bytes, count);
+    if !is_text(text) {
+        return Err(refused(BAD_TEXT, bytes));
+    }
+    Ok((Seq::from_slice(alloc, text)?, rest))
+}
+
+/// A primitive value.
+#[tactic(auto, using(crate::proofs::Equations::value_read), unfolding(rb_meaning_bytes::specs::formats::Reading::read))]
+pub(crate) fn value(alloc: Global, bytes: &[u8]) -> Result<(Value, &[u8]), Stop>
+    ensures { Gives (λ x. (x.0, x.1.now)) fault_of result (read format.value bytes.now) }
+{
+    let (tag, rest) = byte(bytes)?;
+    match tag {
+        0x01 => {
+            let (number, rest) = wide(rest)?;
+            Ok((Value::Int(number), rest))
+        }
+        0x02 => {
+            let (truth, rest) = truth(rest)?;
+            Ok((Value::Bool(truth), rest))
+        }
+        0x03 => {
+            let (text, rest) = text(alloc, rest)?;
+            Ok((Value::Text(Shared::new(alloc, text)?), rest))
+        }
+        _ => Err(bad_tag(rest)),
+    }
+}

@@ -1,0 +1,16 @@
+use Rattle.std.proofs.Common.{◌≡◌, ◌+◌, ◌*◌, ◌-◌, map}
+use Rattle.rb_trees.specs.mirror.Scripts.{mirror_sexpr}
+use Rattle.rb_meaning_bytes.specs.formats.Formats.{times}
+use Rattle.rb_meaning_bytes.specs.formats.Reading.{read}
+use Rattle.rb_meaning_bytes.specs.formats.Scripts.{expr}
+use Rattle.rb_meaning_bytes.proofs.formats.Steps.{with_front}
+use Rattle.rb_wire_script.proofs.exprs.+exprs.Given as goal
+
+abbrev pub decreases-expr : goal.decreases-expr
+decreases-expr l = 2 * l.left
+
+abbrev pub decreases-exprs : goal.decreases-exprs
+decreases-exprs l = 2 * l.left + 1
+
+abbrev pub invariant-exprs-loop : goal.invariant-exprs-loop
+invariant-exprs-loop l = with_front (map mirror_sexpr l.items) (read (times (l.count - l.counter) (expr l.left)) l.rest) ≡ read (times l.count (expr l.left)) l.bytes

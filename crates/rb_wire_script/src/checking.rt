@@ -1,0 +1,271 @@
+// Which scripts are valid, found with an index of the numbers of steps and of the variables that are bound, so that nothing
+// is walked twice.
+
+ghost use Rattle.std.specs.Prelude.{◌≡◌, [], ◌∷◌, ◌<◌, ◌++◌, false, OnOk};
+ghost use Rattle.rb_trees.specs.Outcome.{Gives};
+ghost use Rattle.rb_trees.specs.mirror.Scripts.{mirror_sexpr, mirror_sexprs, mirror_step, mirror_steps, mirror_script};
+ghost use Rattle.rb_trees.specs.Validity.{has, first, nested_blocks, expr_refusals, exprs_refusals, whole_refusals, step_numbers, steps_numbers, step_lets, steps_lets, step_refusals, steps_refusals, verdict};
+ghost use Rattle.rb_wire_script.specs.Stops.{rule_of};
+
+use crate::numbers::Numbers;
+use rb_trees::{Memory, SExpr, Script, ScriptRefusal, Step, StepForm};
+use std::alloc::Global;
+
+/// The greatest number of blocks within each other.
+const MOST_BLOCKS: u32 = 64;
+
+/// The greatest number of expressions within each other.
+const MOST_EXPRS: u32 = 256;
+
+/// Why a script isn't taken.
+#[derive(Drop)]
+pub(crate) enum RuleStop {
+    /// Its first refusal.
+    Refused(ScriptRefusal),
+    Memory,
+}
+
+impl From<Memory> for RuleStop {
+    ghost use Rattle.std.specs.Prelude.{◌≡◌};
+    ghost use Rattle.rb_wire_script.specs.declared.checking.RuleStop.TheVariants as stops;
+
+    ghost from_gives = { λ _ e. e ≡ stops.Memory };
+
+    fn from(_want: Memory) -> RuleStop {
+        RuleStop::Memory
+    }
+}
+
+impl From<ScriptRefusal> for RuleStop {
+    ghost use Rattle.std.specs.Prelude.{◌≡◌};
+    ghost use Rattle.rb_wire_script.specs.declared.checking.RuleStop.TheVariants as stops;
+
+    ghost from_gives = { λ r e. e ≡ stops.Refused r };
+
+    fn from(refusal: ScriptRefusal) -> RuleStop {
+        RuleStop::Refused(refusal)
+    }
+}
+
+/// An expression that stands within so many, itself among them.
+#[cycle(check_exprs)]
+#[tactic(auto, using(rb_trees::proofs::rules::Refusals::exprs))]
+fn check_expr(
+    expr: &SExpr,
+    inputs: u8,
+    bound: &Numbers,
+    step: u32,
+    depth: u32,
+) -> Result<(), ScriptRefusal>
+    ensures { result ≡ first (expr_refusals inputs bound.now step depth (mirror_sexpr expr.now)) }
+{
+    if depth > MOST_EXPRS {
+        return Err(ScriptRefusal::TooDeep(step));
+    }
+    match expr {
+        SExpr::Lit(_) | SExpr::Root => Ok(()),
+        SExpr::Input(number) => {
+            if *number < inputs {
+                Ok(())
+            } else {
+                Err(ScriptRefusal::UnknownInput(step))
+            }
+        }
+        SExpr::Var(var) => {
+            if bound.has(*var) {
+                Ok(())
+            } else {
+                Err(ScriptRefusal::UnknownVariable(step))
+            }
+        }
+        SExpr::Unary(_, _, operand) => check_expr(operand.get(), inputs, bound, step, depth + 1),
+        SExpr::Binary(_, _, left, right) => {
+            check_expr(left.get(), inputs, bound, step, depth + 1)?;
+            check_expr(right.get(), inputs, bound, step, depth + 1)
+        }
+        SExpr::Call { target, args, .. } => {
+            check_expr(target.get(), inputs, bound, step, depth + 1)?;
+            check_exprs(args.as_slice(), inputs, bound, step, depth + 1)
+        }
+    }
+}
+
+#[cycle(check_exprs)]
+#[tactic(auto, using(rb_trees::proofs::rules::Refusals::exprs))]
+fn check_exprs(
+    exprs: &[SExpr],
+    inputs: u8,
+    bound: &Numbers,
+    step: u32,
+    depth: u32,
+) -> Result<(), ScriptRefusal>
+    ensures { result ≡ first (exprs_refusals inputs bound.now step depth (mirror_sexprs exprs.now)) }
+{
+    for expr in exprs {
+        check_expr(expr, inputs, bound, step, depth)?;
+    }
+    Ok(())
+}
+
+/// An expression that stands in a step.
+#[tactic(auto, unfolding(rb_trees::specs::Validity::whole_refusals))]
+fn check_whole(expr: &SExpr, inputs: u8, bound: &Numbers, step: u32) -> Result<(), ScriptRefusal>
+    ensures { result ≡ first (whole_refusals inputs bound.now step (mirror_sexpr expr.now)) }
+{
+    check_expr(expr, inputs, bound, step, 1)
+}
+
+/// Whether a step in the so-manieth block may have blocks.
+fn check_depth(step: u32, depth: u32) -> Result<(), ScriptRefusal>
+    ensures value { result ≡ first (nested_blocks step depth) }
+    ensures within { OnOk result (depth < 64) }
+{
+    if depth < MOST_BLOCKS {
+        Ok(())
+    } else {
+        Err(ScriptRefusal::TooDeep(step))
+    }
+}
+
+/// Steps of a block, in order. What they bind stays bound.
+#[cycle(check_steps)]
+#[tactic(auto, using(crate::proofs::Rules::steps))]
+fn check_steps(
+    steps: &[Step],
+    inputs: u8,
+    depth: u32,
+    seen: &mut Numbers,
+    bound: &mut Numbers,
+) -> Result<(), RuleStop>
+    ensures gives { Gives (λ x. x) rule_of result (first (steps_refusals inputs depth seen.old bound.old (mirror_steps steps.now))) }
+    ensures seen { OnOk result (seen.new ≡ seen.old ++ steps_numbers (mirror_steps steps.now)) }
+    ensures bound { OnOk result (bound.new ≡ bound.old ++ steps_lets (mirror_steps steps.now)) }
+{
+    for step in steps {
+        check_step(step, inputs, depth, seen, bound)?;
+    }
+    Ok(())
+}
+
+/// A block within a step. What it binds ends with it.
+#[cycle(check_steps)]
+#[tactic(auto, using(crate::proofs::Rules::steps))]
+fn check_block(
+    steps: &[Step],
+    inputs: u8,
+    depth: u32,
+    seen: &mut Numbers,
+    bound: &mut Numbers,
+) -> Result<(), RuleStop>
+    ensures gives { Gives (λ x. x) rule_of result (first (steps_refusals inputs depth seen.old bound.old (mirror_steps steps.now))) }
+    ensures seen { OnOk result (seen.new ≡ seen.old ++ steps_numbers (mirror_steps steps.now)) }
+    ensures bound { OnOk result (bound.new ≡ bound.old) }
+{
+    let outer = bound.len();
+    check_steps(steps, inputs, depth, seen, bound)?;
+    bound.truncate(outer);
+    Ok(())
+}
+
+/// A block whose rows are bound to a variable.
+#[cycle(check_steps)]
+#[tactic(auto, using(crate::proofs::Rules::steps))]
+fn check_turns(
+    var: u32,
+    steps: &[Step],
+    inputs: u8,
+    depth: u32,
+    seen: &mut Numbers,
+    bound: &mut Numbers,
+) -> Result<(), RuleStop>
+    ensures gives { Gives (λ x. x) rule_of result (first (steps_refusals inputs depth seen.old (bound.old ++ var ∷ []) (mirror_steps steps.now))) }
+    ensures seen { OnOk result (seen.new ≡ seen.old ++ steps_numbers (mirror_steps steps.now)) }
+    ensures bound { OnOk result (bound.new ≡ bound.old) }
+{
+    let outer = bound.len();
+    bound.push(var)?;
+    check_steps(steps, inputs, depth, seen, bound)?;
+    bound.truncate(outer);
+    Ok(())
+}
+
+#[cycle(check_steps)]
+#[tactic(auto, using(crate::proofs::Rules::steps))]
+fn check_step(
+    step: &Step,
+    inputs: u8,
+    depth: u32,
+    seen: &mut Numbers,
+    bound: &mut Numbers,
+) -> Result<(), RuleStop>
+    ensures gives { Gives (λ x. x) rule_of result (first (step_refusals inputs depth seen.old bound.old (mirror_step step.now))) }
+    ensures seen { OnOk result (seen.new ≡ seen.old ++ step_numbers (mirror_step step.now)) }
+    ensures bound { OnOk result (bound.new ≡ bound.old ++ step_lets (mirror_step step.now)) }
+{
+    if seen.has(step.id) {
+        return Err(RuleStop::Refused(ScriptRefusal::StepRepeated(step.id)));
+    }
+    check_form(step, inputs, depth, seen, bound)
+}
+
+/// A step whose number is new.
+#[cycle(check_steps)]
+#[tactic(auto, using(crate::proofs::Rules::steps))]
+fn check_form(
+    step: &Step,
+    inputs: u8,
+    depth: u32,
+    seen: &mut Numbers,
+    bound: &mut Numbers,
+) -> Result<(), RuleStop>
+    requires { has step.now.id seen.old ≡ false }
+    ensures gives { Gives (λ x. x) rule_of result (first (step_refusals inputs depth seen.old bound.old (mirror_step step.now))) }
+    ensures seen { OnOk result (seen.new ≡ seen.old ++ step_numbers (mirror_step step.now)) }
+    ensures bound { OnOk result (bound.new ≡ bound.old ++ step_lets (mirror_step step.now)) }
+{
+    seen.push(step.id)?;
+    match &step.form {
+        StepForm::Do(expr) | StepForm::Keep(expr) => {
+            check_whole(expr, inputs, bound, step.id)?;
+            Ok(())
+        }
+        StepForm::Let { var, value, .. } => {
+            check_whole(value, inputs, bound, step.id)?;
+            bound.push(*var)?;
+            Ok(())
+        }
+        StepForm::If(condition, then_block, else_block) => {
+            check_depth(step.id, depth)?;
+            check_whole(condition, inputs, bound, step.id)?;
+            check_block(then_block.as_slice(), inputs, depth + 1, seen, bound)?;
+            check_block(else_block.as_slice(), inputs, depth + 1, seen, bound)?;
+            Ok(())
+        }
+        StepForm::Each {
+            var,
+            rows,
+            body,
+            ..
+        } => {
+            check_depth(step.id, depth)?;
+            check_whole(rows, inputs, bound, step.id)?;
+            check_turns(*var, body.as_slice(), inputs, depth + 1, seen, bound)?;
+            Ok(())
+        }
+    }
+}
+
+/// What `valid` answers, in time that grows as the script does.
+pub(crate) fn check(alloc: Global, script: &Script) -> Result<(), RuleStop>
+    ensures { Gives (λ x. x) rule_of result (verdict (mirror_script script.now)) }
+{
+    let mut seen = Numbers::new(alloc);
+    let mut bound = Numbers::new(alloc);
+    check_steps(
+        script.body.as_slice(),
+        script.inputs,
+        1,
+        &mut seen,
+        &mut bound,
+    )
+}

@@ -1,0 +1,92 @@
+// Expressions.
+
+ghost use Rattle.std.specs.Prelude.{◌≡◌, ◌<◌, ◌^◌, map};
+ghost use Rattle.rb_trees.specs.mirror.Scripts.{mirror_sexpr};
+ghost use Rattle.rb_meaning_bytes.specs.formats.Reading.{read};
+ghost use Rattle.rb_meaning_bytes.specs.formats.Formats.{times};
+ghost use Rattle.rb_meaning_bytes.specs.formats.Scripts.{expr};
+ghost use Rattle.rb_trees.specs.Outcome.{Gives};
+ghost use Rattle.rb_wire_script.specs.Stops.{fault_of};
+
+use crate::fields::{bad_tag, byte, number, too_deep};
+use crate::stop::Stop;
+use crate::texts::name;
+use crate::values::{binary_op, kind, unary_op, value};
+use rb_trees::{Boxed, SExpr, Seq};
+use std::alloc::Global;
+
+/// An expression, with at most so many within each other.
+#[cycle(exprs)]
+#[tactic(auto, using(crate::proofs::Equations::exprs), unfolding(rb_meaning_bytes::specs::formats::Reading::read))]
+pub(crate) fn expr(alloc: Global, left: usize, bytes: &[u8]) -> Result<(SExpr, &[u8]), Stop>
+    requires { left < 2 ^ 32 }
+    ensures { Gives (λ x. (mirror_sexpr x.0, x.1.now)) fault_of result (read (expr left) bytes.now) }
+{
+    if left == 0 {
+        return Err(too_deep(bytes));
+    }
+    let (tag, rest) = byte(bytes)?;
+    match tag {
+        0x20 => {
+            let (value, rest) = value(alloc, rest)?;
+            Ok((SExpr::Lit(value), rest))
+        }
+        0x21 => {
+            let (input, rest) = byte(rest)?;
+            Ok((SExpr::Input(input), rest))
+        }
+        0x22 => {
+            let (var, rest) = number(rest)?;
+            Ok((SExpr::Var(var), rest))
+        }
+        0x23 => Ok((SExpr::Root, rest)),
+        0x24 => {
+            let (op, rest) = unary_op(rest)?;
+            let (at, rest) = number(rest)?;
+            let (operand, rest) = expr(alloc, left - 1, rest)?;
+            Ok((SExpr::Unary(op, at, Boxed::new(alloc, operand)?), rest))
+        }
+        0x25 => {
+            let (op, rest) = binary_op(rest)?;
+            let (at, rest) = number(rest)?;
+            let (a, rest) = expr(alloc, left - 1, rest)?;
+            let (b, rest) = expr(alloc, left - 1, rest)?;
+            let (a, b) = (Boxed::new(alloc, a)?, Boxed::new(alloc, b)?);
+            Ok((SExpr::Binary(op, at, a, b), rest))
+        }
+        0x26 => {
+            let (at, rest) = number(rest)?;
+            let (kind, rest) = kind(rest)?;
+            let (method, rest) = name(alloc, rest)?;
+            let (target, rest) = expr(alloc, left - 1, rest)?;
+            let (count, rest) = number(rest)?;
+            let (args, rest) = exprs(alloc, left - 1, count, rest)?;
+            let call = SExpr::Call {
+                at,
+                kind,
+                method,
+                target: Boxed::new(alloc, target)?,
+                args,
+            };
+            Ok((call, rest))
+        }
+        _ => Err(bad_tag(rest)),
+    }
+}
+
+/// So many expressions.
+#[cycle(exprs)]
+#[tactic(auto, using(crate::proofs::Equations::lists))]
+fn exprs(alloc: Global, left: usize, count: u32, bytes: &[u8]) -> Result<(Seq<SExpr>, &[u8]), Stop>
+    requires { left < 2 ^ 32 }
+    ensures { Gives (λ x. (map mirror_sexpr x.0, x.1.now)) fault_of result (read (times count (expr left)) bytes.now) }
+{
+    let mut items = Seq::new(alloc);
+    let mut rest = bytes;
+    for _ in 0..count {
+        let (item, behind) = expr(alloc, left, rest)?;
+        items.push(item)?;
+        rest = behind;
+    }
+    Ok((items, rest))
+}
