@@ -12,15 +12,15 @@ use Rattle.rb_trees.specs.mirror.Code.{Expr, Exprs, Lit, Name, This, Unary, Bina
 use Rattle.rb_trees.specs.mirror.Declarations.{Param, Signature, Interface, Body, Method, Class, Program}
 use Rattle.rb_trees.specs.mirror.Services as service
 use Rattle.rb_trees.specs.mirror.Services.{ObjectText, ServiceText}
-use Rattle.rb_meaning_types.specs.Values.{IsText}
+use Rattle.rb_meaning_types.specs.Values.{IsInt, IsText}
 
 -- A list that a position can count.
 abbrev pub IsShort : {A : Type 0} → List A → Type 0
 IsShort xs = length xs < 2 ^ 32
 
--- A literal is an Int, a Bool or a Text.
+-- A literal is an Int, a Bool or a Text, within its limits.
 abbrev pub IsLiteralForm : Value-F Value → Type 0
-IsLiteralForm (Value-F.Int number) = Unit {0}
+IsLiteralForm (Value-F.Int number) = IsInt number
 IsLiteralForm (Value-F.Bool truth) = Unit {0}
 IsLiteralForm (Value-F.Text text) = IsText text
 IsLiteralForm _ = ⊥
@@ -261,7 +261,7 @@ literal_count (service.MoreLiterals l ls) = suc (literal_count ls)
 -- A literal of a service's text: its texts are such, and its lists are short.
 abbrev mutual
   pub IsLawfulLiteral : service.Literal → Type 0
-  IsLawfulLiteral (service.Int number) = Unit {0}
+  IsLawfulLiteral (service.Int number) = IsInt number
   IsLawfulLiteral (service.Bool truth) = Unit {0}
   IsLawfulLiteral (service.Text text) = IsText text
   IsLawfulLiteral (service.Object number) = Unit {0}

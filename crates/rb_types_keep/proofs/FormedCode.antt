@@ -11,15 +11,14 @@ use Rattle.rb_trees.specs.mirror.Declarations.{Method}
 use Rattle.rb_meaning_types.specs.Fits.{this_name}
 use Rattle.rb_meaning_types.specs.Lawful.{IsLiteralForm, IsLawfulExpr, AreLawfulExprs, IsLawfulStmt, AreLawfulStmts, IsLawfulBlock, IsLawfulReturn, IsLawfulMethod, IsLawfulClass}
 use Rattle.rb_types_keep.specs.Kept.{IsPrimitiveForm}
-use Rattle.rb_types_keep.specs.Formed.{IsFormedExpr, AreFormedExprs, IsFormedStmt, AreFormedStmts, IsFormedReturn, IsFormedMethod, IsFormedClass}
-use Rattle.rb_types_keep.specs.Numbers.{IsNumberForm, HasNumbers, HaveNumbers, StmtHasNumbers, StmtsHaveNumbers, ReturnHasNumbers, MethodHasNumbers, ClassHasNumbers, LawfulClassesAreFormed}
+use Rattle.rb_types_keep.specs.Formed.{IsFormedExpr, AreFormedExprs, IsFormedStmt, AreFormedStmts, IsFormedReturn, IsFormedMethod, IsFormedClass, LawfulClassesAreFormed}
 
-literal_formed : (w : Value-F Value) → IsLiteralForm w → IsNumberForm w → IsPrimitiveForm w
-literal_formed (Value-F.Int n) h k = k
-literal_formed (Value-F.Bool b) h k = tt
-literal_formed (Value-F.Text t) h k = h
-literal_formed Value-F.Unit h k = absurd h
-literal_formed _ h k = absurd h
+literal_formed : (w : Value-F Value) → IsLiteralForm w → IsPrimitiveForm w
+literal_formed (Value-F.Int n) h = h
+literal_formed (Value-F.Bool b) h = tt
+literal_formed (Value-F.Text t) h = h
+literal_formed Value-F.Unit h = absurd h
+literal_formed _ h = absurd h
 
 -- `this` is a keyword, and no name
 this_is_no_name : number_in keywords this_name ≡ None → ⊥
@@ -34,59 +33,58 @@ name_formed name h = by (bytes_eq this_name name) refl
     by true e = absurd (this_is_no_name (subst (λ n. number_in keywords n ≡ None) (sym ((bytes_eq-Decides this_name name).0 e)) h.1))
 
 mutual
-  pub expr_formed : (e : Expr) → IsLawfulExpr e → HasNumbers e → IsFormedExpr e
-  expr_formed (Lit at value) h k = literal_formed _ h k
-  expr_formed (Name at name) h k = name_formed name h
-  expr_formed (This at) h k = tt
-  expr_formed (Unary at op a) h k = expr_formed a h k
-  expr_formed (Binary at op a b) h k = (expr_formed a h.0 k.0, expr_formed b h.1 k.1)
-  expr_formed (Field at a name) h k = expr_formed a h.0 k
-  expr_formed (Call at a method args) h k = (expr_formed a h.0 k.0, exprs_formed args h.2 k.1)
-  expr_formed (Index at a b) h k = (expr_formed a h.0 k.0, expr_formed b h.1 k.1)
-  expr_formed (New at class args) h k = exprs_formed args h.1 k
-  expr_formed (Items at item items) h k = exprs_formed items h.1 k
-  expr_formed (Taken at step) h k = tt
+  pub expr_formed : (e : Expr) → IsLawfulExpr e → IsFormedExpr e
+  expr_formed (Lit at value) h = literal_formed _ h
+  expr_formed (Name at name) h = name_formed name h
+  expr_formed (This at) h = tt
+  expr_formed (Unary at op a) h = expr_formed a h
+  expr_formed (Binary at op a b) h = (expr_formed a h.0, expr_formed b h.1)
+  expr_formed (Field at a name) h = expr_formed a h.0
+  expr_formed (Call at a method args) h = (expr_formed a h.0, exprs_formed args h.2)
+  expr_formed (Index at a b) h = (expr_formed a h.0, expr_formed b h.1)
+  expr_formed (New at class args) h = exprs_formed args h.1
+  expr_formed (Items at item items) h = exprs_formed items h.1
+  expr_formed (Taken at step) h = tt
 
-  exprs_formed : (es : Exprs) → AreLawfulExprs es → HaveNumbers es → AreFormedExprs es
-  exprs_formed NoExprs h k = tt
-  exprs_formed (MoreExprs e es) h k = (expr_formed e h.0 k.0, exprs_formed es h.1 k.1)
+  exprs_formed : (es : Exprs) → AreLawfulExprs es → AreFormedExprs es
+  exprs_formed NoExprs h = tt
+  exprs_formed (MoreExprs e es) h = (expr_formed e h.0, exprs_formed es h.1)
 
 block_lawful : (ss : Stmts) → IsLawfulBlock ss → AreLawfulStmts ss
 block_lawful NoStmts h = tt
 block_lawful (MoreStmts s ss) h = (h.0, h.1)
 
 mutual
-  stmt_formed : (s : Stmt) → IsLawfulStmt s → StmtHasNumbers s → IsFormedStmt s
-  stmt_formed (Val at name e) h k = expr_formed e h.1 k
-  stmt_formed (Var at name e) h k = expr_formed e h.1 k
-  stmt_formed (Assign at a b) h k = (expr_formed a h.0 k.0, expr_formed b h.1 k.1)
-  stmt_formed (Run at e) h k = expr_formed e h k
-  stmt_formed (Print at e) h k = expr_formed e h k
-  stmt_formed (Throw at e) h k = expr_formed e h k
-  stmt_formed (If at c a b) h k = (expr_formed c h.0 k.0, stmts_formed a (block_lawful a h.1) k.1, stmts_formed b (block_lawful b h.2) k.2)
-  stmt_formed (While at c a) h k = (expr_formed c h.0 k.0, stmts_formed a (block_lawful a h.1) k.1)
-  stmt_formed (For at name e a) h k = (expr_formed e h.1 k.0, stmts_formed a (block_lawful a h.2) k.1)
-  stmt_formed (Try at a name b) h k = (stmts_formed a (block_lawful a h.0) k.0, stmts_formed b (block_lawful b h.2) k.1)
-  stmt_formed (Batch at interface root a) h k = tt
+  stmt_formed : (s : Stmt) → IsLawfulStmt s → IsFormedStmt s
+  stmt_formed (Val at name e) h = expr_formed e h.1
+  stmt_formed (Var at name e) h = expr_formed e h.1
+  stmt_formed (Assign at a b) h = (expr_formed a h.0, expr_formed b h.1)
+  stmt_formed (Run at e) h = expr_formed e h
+  stmt_formed (Print at e) h = expr_formed e h
+  stmt_formed (Throw at e) h = expr_formed e h
+  stmt_formed (If at c a b) h = (expr_formed c h.0, stmts_formed a (block_lawful a h.1), stmts_formed b (block_lawful b h.2))
+  stmt_formed (While at c a) h = (expr_formed c h.0, stmts_formed a (block_lawful a h.1))
+  stmt_formed (For at name e a) h = (expr_formed e h.1, stmts_formed a (block_lawful a h.2))
+  stmt_formed (Try at a name b) h = (stmts_formed a (block_lawful a h.0), stmts_formed b (block_lawful b h.2))
+  stmt_formed (Batch at interface root a) h = tt
 
-  pub stmts_formed : (ss : Stmts) → AreLawfulStmts ss → StmtsHaveNumbers ss → AreFormedStmts ss
-  stmts_formed NoStmts h k = tt
-  stmts_formed (MoreStmts s ss) h k = (stmt_formed s h.0 k.0, stmts_formed ss h.1 k.1)
+  pub stmts_formed : (ss : Stmts) → AreLawfulStmts ss → AreFormedStmts ss
+  stmts_formed NoStmts h = tt
+  stmts_formed (MoreStmts s ss) h = (stmt_formed s h.0, stmts_formed ss h.1)
 
-return_formed : (result : Option Expr) → IsLawfulReturn result → ReturnHasNumbers result → IsFormedReturn result
-return_formed None h k = tt
-return_formed (Some e) h k = expr_formed e h k
+return_formed : (result : Option Expr) → IsLawfulReturn result → IsFormedReturn result
+return_formed None h = tt
+return_formed (Some e) h = expr_formed e h
 
-methods_formed : (ms : List Method) → All IsLawfulMethod ms → All MethodHasNumbers ms → All IsFormedMethod ms
-methods_formed [] h k = All-nil IsFormedMethod
-methods_formed (m ∷ ms) h k =
+methods_formed : (ms : List Method) → All IsLawfulMethod ms → All IsFormedMethod ms
+methods_formed [] h = All-nil IsFormedMethod
+methods_formed (m ∷ ms) h =
     let lawful = All-head IsLawfulMethod m ms h in
-    let numbers = All-head MethodHasNumbers m ms k in
-    All-cons IsFormedMethod m ms (stmts_formed m.body.statements (block_lawful m.body.statements lawful.1.0) numbers.0, return_formed m.body.result lawful.1.1 numbers.1)
-    (methods_formed ms (All-tail IsLawfulMethod m ms h) (All-tail MethodHasNumbers m ms k))
+    All-cons IsFormedMethod m ms (stmts_formed m.body.statements (block_lawful m.body.statements lawful.1.0), return_formed m.body.result lawful.1.1)
+    (methods_formed ms (All-tail IsLawfulMethod m ms h))
 
 pub classes_formed : LawfulClassesAreFormed
-classes_formed [] h k = All-nil IsFormedClass
-classes_formed (c ∷ cs) h k =
-    All-cons IsFormedClass c cs (methods_formed c.methods (All-head IsLawfulClass c cs h).3 (All-head ClassHasNumbers c cs k))
-    (classes_formed cs (All-tail IsLawfulClass c cs h) (All-tail ClassHasNumbers c cs k))
+classes_formed [] h = All-nil IsFormedClass
+classes_formed (c ∷ cs) h =
+    All-cons IsFormedClass c cs (methods_formed c.methods (All-head IsLawfulClass c cs h).3)
+    (classes_formed cs (All-tail IsLawfulClass c cs h))

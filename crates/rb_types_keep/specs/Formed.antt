@@ -5,6 +5,7 @@ use Rattle.std.specs.Str.{bytes_eq}
 use Rattle.rb_trees.specs.mirror.Code.{Expr, Exprs, Lit, Name, This, Unary, Binary, Field, Call, Index, New, Items, Taken, NoExprs, MoreExprs, Stmt, Stmts, Val, Var, Assign, Run, Print, Throw, If, While, For, Try, Batch, NoStmts, MoreStmts}
 use Rattle.rb_trees.specs.mirror.Declarations.{Body, Method, Class}
 use Rattle.rb_meaning_types.specs.Fits.{this_name}
+use Rattle.rb_meaning_types.specs.Lawful.{IsLawfulExpr, AreLawfulStmts, IsLawfulClass}
 use Rattle.rb_types_keep.specs.Kept.{IsPrimitive}
 
 abbrev mutual
@@ -60,3 +61,13 @@ IsFormedClass c = All IsFormedMethod c.methods
 -- so are the bodies of all methods of classes
 abbrev pub AreFormed : List Class → Type 0
 AreFormed classes = All IsFormedClass classes
+
+-- Lawful code is formed.
+abbrev pub LawfulExprsAreFormed : Type 0
+LawfulExprsAreFormed = (e : Expr) → IsLawfulExpr e → IsFormedExpr e
+
+abbrev pub LawfulStmtsAreFormed : Type 0
+LawfulStmtsAreFormed = (ss : Stmts) → AreLawfulStmts ss → AreFormedStmts ss
+
+abbrev pub LawfulClassesAreFormed : Type 0
+LawfulClassesAreFormed = (classes : List Class) → All IsLawfulClass classes → AreFormed classes

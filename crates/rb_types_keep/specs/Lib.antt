@@ -1,7 +1,6 @@
 -- What typed code keeps, and the laws of it.
 pub mod Kept
 pub mod Formed
-pub mod Numbers
 pub mod Own
 pub mod Ends
 pub mod Noted

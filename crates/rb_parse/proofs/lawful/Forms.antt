@@ -18,9 +18,10 @@ use Rattle.rb_meaning_bytes.specs.grammar.Productions as r
 use Rattle.rb_meaning_bytes.specs.grammar.Productions.{Production, member}
 use Rattle.rb_meaning_bytes.specs.grammar.Derives as g
 use Rattle.rb_meaning_bytes.specs.grammar.Derives.{Spells}
-use Rattle.rb_meaning_types.specs.Values.{IsText}
+use Rattle.rb_meaning_types.specs.Values.{IsInt, IsText}
 use Rattle.rb_meaning_types.specs.Lawful.{IsShort, IsLiteral, IsLiteralForm, IsLawfulType, IsLawfulExpr, AreLawfulExprs, expr_count, stmt_count, IsLawfulStmt, AreLawfulStmts, IsLawfulBlock, IsLawfulReturn, IsLawfulBody, IsLawfulParam, IsLawfulSignature, IsLawfulMethod, IsLawfulInterface, IsLawfulClass, IsLawfulLiteral, AreLawfulLiterals, IsLawfulGiven, IsLawfulObject}
 use Rattle.rb_parse.proofs.readable.Tokens.{Tells, AllTell, tell_front, tell_back}
+use Rattle.rb_parse.proofs.lawful.Numbers.{number_is_int, minus_is_int}
 use Rattle.rb_parse.proofs.lawful.Sizes.{items, counted}
 
 abbrev pub CallFormed : Option Exprs → Type 0
@@ -82,8 +83,8 @@ member_formed : (at : ℕ) (name : List ℕ) (args : Option Exprs) (e : Expr) �
 member_formed at name None e n a h = (h, n)
 member_formed at name (Some args) e n a h = (h, n, a.0, a.1)
 
-literal_int : (number : ℤ) → IsLiteral (value.Int number)
-literal_int number = subst IsLiteralForm (sym (ap out-Value (sym (value.rolls-Int number)) ∙ out-roll-Value (Value-F.Int number))) tt
+literal_int : (number : ℤ) → IsInt number → IsLiteral (value.Int number)
+literal_int number h = subst IsLiteralForm (sym (ap out-Value (sym (value.rolls-Int number)) ∙ out-roll-Value (Value-F.Int number))) h
 
 literal_bool : (truth : Bool) → IsLiteral (value.Bool truth)
 literal_bool truth = subst IsLiteralForm (sym (ap out-Value (sym (value.rolls-Bool truth)) ∙ out-roll-Value (Value-F.Bool truth))) tt
@@ -177,7 +178,7 @@ module _ (source : List ℕ) where
   of_rule r.index xs h = λ e k. h.1.1.1.0.formed (code.Index xs.0.start e xs.1.0) (k, h.1.0.formed)
   of_rule r.no_call xs h = tt
   of_rule r.call xs h = (h.1.0.formed, h.1.0.short)
-  of_rule r.number xs h = literal_int (number_of source xs.0)
+  of_rule r.number xs h = literal_int (number_of source xs.0) (number_is_int source xs.0)
   of_rule r.text xs h = literal_text (text_of source xs.0) h.0
   of_rule r.true_literal xs h = literal_bool true
   of_rule r.false_literal xs h = literal_bool false
@@ -198,8 +199,8 @@ module _ (source : List ℕ) where
   of_rule r.object xs h = (h.1.1.1.0, h.1.1.1.1.1.0.formed, h.1.1.1.1.1.0.short)
   of_rule r.no_given_fields xs h = All-nil IsLawfulGiven
   of_rule r.more_given_fields xs h = All-cons IsLawfulGiven (name_of source xs.0, xs.1.1.0) xs.1.1.1.1.0 (h.0, h.1.1.0.formed) h.1.1.1.1.0.formed
-  of_rule r.literal_number xs h = tt
-  of_rule r.literal_minus xs h = tt
+  of_rule r.literal_number xs h = number_is_int source xs.0
+  of_rule r.literal_minus xs h = minus_is_int source xs.1.0
   of_rule r.literal_text xs h = h.0
   of_rule r.literal_true xs h = tt
   of_rule r.literal_false xs h = tt
