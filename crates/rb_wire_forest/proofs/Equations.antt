@@ -1,25 +1,18 @@
 -- What reading the parts of a forest is, a step at a time.
-use Rattle.std.proofs.Common.{◌≡◌, ◌+◌, ◌-◌, ◌<◌, ℕ, zero, suc, List, [], ◌∷◌, ◌++◌, map, refl, ap, sym, ◌∙◌, arith, Ok, Err, Bool, true, false, cond, length, Option}
-use Rattle.std.proofs.lemmas.List.{map-append}
+use Rattle.std.proofs.Common.{◌≡◌, ◌+◌, ◌-◌, ◌<◌, ℕ, zero, suc, List, [], ◌∷◌, map, refl, ap, sym, ◌∙◌, arith, Ok, Err, Bool, cond, length}
 use Rattle.std.proofs.lemmas.Bool.Decides.{nat_tests}
 use Rattle.std.proofs.lemmas.Grind.{common_steps}
 use Rattle.rb_trees.specs.declared.forests.Node as rust_node
 use Rattle.rb_trees.specs.declared.forests.Entry as rust_entry
-use Rattle.rb_trees.specs.declared.forests.NodeFault.{NodeFault}
 use Rattle.rb_trees.specs.mirror.Forests.{Node, Holds, Entry, MoreEntries, MoreNodes, entries_from, nodes_from, mirror_node, mirror_entry, mirror_entries, mirror_nodes}
 use Rattle.rb_trees.proofs.mirror.Nodes.{nodes as mirrored}
 use Rattle.rb_meaning_bytes.specs.formats.Fields.{Byte, Number, Tag, bad_tag}
 use Rattle.rb_meaning_bytes.specs.formats.Formats.{Format, Done, ◌>>=◌, times}
 use Rattle.rb_meaning_bytes.specs.formats.Reading.{Read, read, look, on, deep}
-use Rattle.rb_meaning_bytes.specs.formats.Values.{value, value_forms}
 use Rattle.rb_meaning_bytes.specs.formats.Forests as format
 use Rattle.rb_meaning_bytes.specs.formats.Forests.{entry, entry_forms, end, node, forest_message, most_nodes}
 use Rattle.rb_meaning_bytes.proofs.formats.Exact.{bound}
-use Rattle.rb_meaning_bytes.proofs.formats.Steps.{chosen, too_far, by_tag, goes_on, ends, is_done}
-
-pub value_read : (bytes : List ℕ) → read value bytes ≡ on (look Byte bytes) (λ b rest. by_tag value_forms b rest)
-unfolding value
-value_read bytes = chosen value_forms bytes
+use Rattle.rb_meaning_bytes.proofs.formats.Steps.{chosen, too_far, by_tag}
 
 -- a byte that passes a test
 pub tag_looked : (test : ℕ → Bool) (bytes : List ℕ) → look (Tag test) bytes ≡ on (look Byte bytes) (λ b rest. cond (test b) (Ok (b, rest)) (Err (bad_tag, length rest + 1)))
@@ -73,13 +66,8 @@ pub listed_nodes : (ns : List rust_node.Node) → nodes_from (map mirror_node ns
 listed_nodes [] = refl
 listed_nodes (n ∷ ns) = ap (MoreNodes (mirror_node n)) (listed_nodes ns)
 
-pub map_more : {A B : Type 0} (f : A → B) (xs : List A) (x : A) → map f (xs ++ x ∷ []) ≡ map f xs ++ f x ∷ []
-map_more f xs x = map-append f xs (x ∷ [])
-
 pub ruleset tags = (tag_looked, nat_tests, common_steps)
 
 pub ruleset entries = (entry_read, bound, mirrored, listed_nodes)
 
 pub ruleset nodes = (node_read, node_deep, mirrored, listed_entries)
-
-pub ruleset lists = (goes_on, ends, is_done, map_more)

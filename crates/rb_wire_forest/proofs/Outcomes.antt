@@ -1,5 +1,5 @@
 -- What reading a payload as a whole gives is what the payload means, and nothing else is.
-use Rattle.std.proofs.Common.{◌≡◌, ◌-◌, ◌+◌, ◌≤◌, ℕ, List, length, Result, Ok, Err, ap, sym, ◌∙◌, arith, subst}
+use Rattle.std.proofs.Common.{◌≡◌, ◌-◌, ℕ, List, length, Result, Ok, Err, ap, sym, ◌∙◌, arith}
 use Rattle.rb_meaning_bytes.specs.formats.Fields.{IsBytes}
 use Rattle.rb_meaning_bytes.specs.formats.Formats.{Format}
 use Rattle.rb_meaning_bytes.specs.formats.Reading.{read_all}

@@ -2,11 +2,6 @@
 use Rattle.std.specs.Prelude.{◌≡◌, ℕ, List, ◌++◌}
 use Rattle.rb_meaning_bytes.specs.formats.Formats.{Format, Spells}
 
--- The buffer keeps its bytes, and may have gained others.
-pub record Keeps (old new : List ℕ) : Type 0 where
-  pub more : List ℕ
-  pub is : new ≡ old ++ more
-
 -- The buffer keeps its bytes, and has gained the value's spelling.
 pub record Appends {A : Type 0} (F : Format A) (old new : List ℕ) (x : A) : Type 0 where
   pub bytes : List ℕ

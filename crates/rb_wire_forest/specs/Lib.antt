@@ -1,5 +1,4 @@
 -- How answers stand to the formats.
-pub mod Stops
 pub mod Payloads
 pub mod Buffers
 pub mod Walks

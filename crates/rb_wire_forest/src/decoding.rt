@@ -6,13 +6,13 @@ ghost use Rattle.rb_meaning_bytes.specs.formats.Reading.{read, read_all};
 ghost use Rattle.rb_meaning_bytes.specs.formats.Forests.{forest_message};
 ghost use Rattle.rb_meaning_bytes.specs.formats.ForestBytes.{FormedForest};
 ghost use Rattle.rb_trees.specs.Outcome.{Gives, Tells};
-ghost use Rattle.rb_wire_forest.specs.Stops.{fault_of};
+ghost use Rattle.rb_wire_fields.specs.Stops.{fault_of};
 ghost use Rattle.rb_wire_forest.specs.Payloads.{Means, Violation, violation};
 
-use crate::fields::{bad_tag, byte};
 use crate::nodes::node;
-use crate::stop::{Stop, TRAILING};
 use rb_trees::Node;
+use rb_wire_fields::fields::{bad_tag, byte};
+use rb_wire_fields::stop::{Stop, TRAILING};
 use std::alloc::Global;
 
 /// The most nodes within each other.

@@ -4,13 +4,14 @@ ghost use Rattle.std.specs.Prelude.{◌≡◌, ◌++◌, OnOk, OnErr};
 ghost use Rattle.rb_trees.specs.mirror.Forests.{mirror_node};
 ghost use Rattle.rb_meaning_bytes.specs.formats.Forests.{forest_message};
 ghost use Rattle.rb_meaning_bytes.specs.formats.ForestBytes.{forest_bytes, FormedForest};
-ghost use Rattle.rb_wire_forest.specs.Buffers.{Keeps, Appends};
+ghost use Rattle.rb_wire_fields.specs.Buffers.{Keeps};
+ghost use Rattle.rb_wire_forest.specs.Buffers.{Appends};
 
 use crate::writing::put_node;
 use bytes::{BufMut, BytesMut};
 use rb_trees::{Memory, Node};
 
-#[tactic(auto, using(crate::proofs::Kept::kept))]
+#[tactic(auto, using(rb_wire_fields::proofs::Kept::kept))]
 fn put_forest(root: &Node, into: &mut BytesMut) -> Result<(), Memory>
     ensures ok { OnOk result (into.new.items ≡ into.old.items ++ forest_bytes (mirror_node root.now)) }
     ensures err { OnErr result (Keeps into.old.items into.new.items) }
@@ -25,7 +26,7 @@ fn put_forest(root: &Node, into: &mut BytesMut) -> Result<(), Memory>
 /// The forest is formed: at most 64 nodes are within each other, each with fewer than 2^32 entries
 /// and turns; its values are primitive, with texts of at most 4,096 bytes of UTF-8; its faults have
 /// a code from 1 to 12, and a text for code 8 alone.
-#[tactic(auto, using(crate::proofs::Kept::kept, crate::proofs::Appended::appends))]
+#[tactic(auto, using(rb_wire_fields::proofs::Kept::kept, crate::proofs::Appended::appends))]
 pub fn encode_forest(root: &Node, into: &mut BytesMut) -> Result<(), Memory>
     requires { FormedForest (mirror_node root.now) }
     ensures ok { OnOk result (Appends forest_message into.old.items into.new.items (mirror_node root.now)) }

@@ -7,12 +7,9 @@
 
 mod decoding;
 mod encoding;
-mod fields;
 mod fitting;
 mod nodes;
 mod refusals;
-mod stop;
-mod texts;
 mod walk;
 mod writing;
 

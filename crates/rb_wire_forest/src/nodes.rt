@@ -7,12 +7,12 @@ ghost use Rattle.rb_meaning_bytes.specs.formats.Formats.{times};
 ghost use Rattle.rb_meaning_bytes.specs.formats.Fields.{Tag};
 ghost use Rattle.rb_meaning_bytes.specs.formats.Forests as format;
 ghost use Rattle.rb_trees.specs.Outcome.{Gives};
-ghost use Rattle.rb_wire_forest.specs.Stops.{fault_of};
+ghost use Rattle.rb_wire_fields.specs.Stops.{fault_of};
 
-use crate::fields::{bad_tag, byte, number, too_deep, truth};
-use crate::stop::Stop;
-use crate::texts::{text, value};
 use rb_trees::{Entry, Fault, Node, NodeFault, Seq, Word};
+use rb_wire_fields::fields::{bad_tag, byte, number, too_deep, truth};
+use rb_wire_fields::stop::Stop;
+use rb_wire_fields::texts::{text, value};
 use std::alloc::Global;
 
 /// The greatest code of a fault.
@@ -89,7 +89,7 @@ pub(crate) fn node(alloc: Global, left: usize, bytes: &[u8]) -> Result<(Node, &[
 
 /// So many entries, in which at most so many nodes are within each other.
 #[cycle(nodes)]
-#[tactic(auto, using(crate::proofs::Equations::lists))]
+#[tactic(auto, using(rb_wire_fields::proofs::Equations::lists))]
 fn entries(
     alloc: Global,
     left: usize,
@@ -138,7 +138,7 @@ fn entry(alloc: Global, left: usize, bytes: &[u8]) -> Result<(Entry, &[u8]), Sto
 
 /// So many nodes of turns, with at most so many within each other.
 #[cycle(nodes)]
-#[tactic(auto, using(crate::proofs::Equations::lists))]
+#[tactic(auto, using(rb_wire_fields::proofs::Equations::lists))]
 fn turns(alloc: Global, left: usize, count: u32, bytes: &[u8]) -> Result<(Seq<Node>, &[u8]), Stop>
     requires { left < 2 ^ 32 }
     ensures { Gives (λ x. (map mirror_node x.0, x.1.now)) fault_of result (read (times count (format.node left)) bytes.now) }

@@ -4,13 +4,14 @@ ghost use Rattle.std.specs.Prelude.{◌≡◌, ◌++◌, ℕ, true, IfSome, OnOk
 ghost use Rattle.rb_meaning_bytes.specs.formats.Formats.{Spells};
 ghost use Rattle.rb_meaning_bytes.specs.formats.Refusals.{is_refusal_number, refusal_message};
 ghost use Rattle.rb_meaning_bytes.specs.formats.ForestBytes.{refusal_bytes};
-ghost use Rattle.rb_wire_forest.specs.Buffers.{Keeps, Appends};
+ghost use Rattle.rb_wire_fields.specs.Buffers.{Keeps};
+ghost use Rattle.rb_wire_forest.specs.Buffers.{Appends};
 
-use crate::writing::put_number;
 use bytes::{BufMut, BytesMut};
 use rb_trees::Memory;
+use rb_wire_fields::puts::put_number;
 
-#[tactic(auto, using(crate::proofs::Kept::kept))]
+#[tactic(auto, using(rb_wire_fields::proofs::Kept::kept))]
 fn put_refusal(number: u8, at: u32, into: &mut BytesMut) -> Result<(), Memory>
     ensures ok { OnOk result (into.new.items ≡ into.old.items ++ refusal_bytes (number, at)) }
     ensures err { OnErr result (Keeps into.old.items into.new.items) }
@@ -23,7 +24,7 @@ fn put_refusal(number: u8, at: u32, into: &mut BytesMut) -> Result<(), Memory>
 
 /// Appends the spelling of a refusal: its number, from 1 to 6 or 11 to 13, and its place. After
 /// Memory the buffer is unchanged.
-#[tactic(auto, using(crate::proofs::Kept::kept, crate::proofs::Appended::appends_refusal))]
+#[tactic(auto, using(rb_wire_fields::proofs::Kept::kept, crate::proofs::Appended::appends_refusal))]
 pub fn encode_refusal(number: u8, at: u32, into: &mut BytesMut) -> Result<(), Memory>
     requires { is_refusal_number number ≡ true }
     ensures ok { OnOk result (Appends refusal_message into.old.items into.new.items (number, at)) }

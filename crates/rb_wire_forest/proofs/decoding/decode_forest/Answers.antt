@@ -1,6 +1,4 @@
-use Rattle.std.proofs.Common.{◌≡◌, ℕ, List, get_or, arith}
 use mir.Facts.{Fits-lt-pow}
-use Rattle.rb_meaning_bytes.specs.formats.Fields.{IsBytes}
 use Rattle.rb_meaning_bytes.specs.formats.Forests.{forest_message}
 use Rattle.rb_meaning_bytes.proofs.formats.Exact.{left_within, all_spells}
 use Rattle.rb_meaning_bytes.proofs.formats.OnlyForests.{forest_only}

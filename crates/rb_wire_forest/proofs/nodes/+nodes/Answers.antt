@@ -2,7 +2,7 @@ use Rattle.std.proofs.Common.{arith}
 use Rattle.std.proofs.lemmas.Bool.Decides.{nat_tests}
 use Rattle.rb_meaning_bytes.specs.formats.Forests.{node, entry, entry_forms}
 use Rattle.rb_wire_forest.proofs.Equations.{entry_read}
-use Rattle.rb_wire_forest.proofs.Tags.{no_tag}
+use Rattle.rb_wire_fields.proofs.Tags.{no_tag}
 use Rattle.rb_wire_forest.proofs.nodes.+nodes.Goals as goal
 
 pub entry-returns-in_default : goal.entry-returns-in_default

@@ -1,4 +1,4 @@
-use Rattle.std.proofs.Common.{◌≡◌, ℕ, ap, sym, ◌∙◌, subst, get_or, Some}
+use Rattle.std.proofs.Common.{ap, sym, ◌∙◌, subst, get_or, Some}
 use mir.Facts.{Fits-lt-pow}
 use Rattle.rb_meaning_bytes.specs.formats.Formats.{Spells}
 use Rattle.rb_meaning_bytes.specs.formats.Refusals.{refusal_message}

@@ -1,7 +1,7 @@
 use Rattle.std.proofs.Common.{◌≡◌, ◌++◌, drop}
 use Rattle.rb_trees.specs.mirror.Forests.{mirror_entries, mirror_nodes}
 use Rattle.rb_meaning_bytes.specs.formats.ForestBytes.{entries_bytes, nodes_bytes}
-use Rattle.rb_wire_forest.specs.Buffers.{Keeps}
+use Rattle.rb_wire_fields.specs.Buffers.{Keeps}
 use Rattle.rb_wire_forest.proofs.writing.+put_nodes.Given as goal
 
 abbrev pub invariant-put_entries-loop-entry : goal.invariant-put_entries-loop-entry

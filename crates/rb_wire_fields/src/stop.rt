@@ -1,10 +1,10 @@
-// Why reading stops.
+// Why reading stops, and the numbers of violations.
 
 use rb_trees::Memory;
 
 /// Why reading stops.
 #[derive(Drop)]
-pub(crate) enum Stop {
+pub enum Stop {
     /// The number of the first violation, and how many bytes are left at its place.
     Refused { number: u8, left: usize },
     Memory,
@@ -12,7 +12,7 @@ pub(crate) enum Stop {
 
 impl From<Memory> for Stop {
     ghost use Rattle.std.specs.Prelude.{◌≡◌};
-    ghost use Rattle.rb_wire_forest.specs.declared.stop.Stop.TheVariants as stops;
+    ghost use Rattle.rb_wire_fields.specs.declared.stop.Stop.TheVariants as stops;
 
     ghost from_gives = { λ _ e. e ≡ stops.Memory };
 
@@ -22,19 +22,19 @@ impl From<Memory> for Stop {
 }
 
 /// A field lacks bytes.
-pub(crate) const TRUNCATED: u8 = 1;
+pub const TRUNCATED: u8 = 1;
 
 /// A version, a tag or a code that isn't in its table.
-pub(crate) const BAD_TAG: u8 = 2;
+pub const BAD_TAG: u8 = 2;
 
-/// A text that is too long, or no UTF-8.
-pub(crate) const BAD_TEXT: u8 = 3;
+/// A text that is too long or no UTF-8, or a name that is none.
+pub const BAD_TEXT: u8 = 3;
 
 /// A truth value above 1.
-pub(crate) const NOT_CANONICAL: u8 = 4;
+pub const NOT_CANONICAL: u8 = 4;
 
-/// A node within too many others.
-pub(crate) const TOO_DEEP: u8 = 5;
+/// A part of the message within too many others.
+pub const TOO_DEEP: u8 = 5;
 
 /// Bytes behind the message.
-pub(crate) const TRAILING: u8 = 6;
+pub const TRAILING: u8 = 6;

@@ -4,12 +4,12 @@ ghost use Rattle.std.specs.Prelude.{◌≡◌, ◌+◌, length};
 ghost use Rattle.rb_meaning_bytes.specs.formats.Fields.{Byte, Number, Wide, Truth};
 ghost use Rattle.rb_meaning_bytes.specs.formats.Reading.{look, deep};
 ghost use Rattle.rb_trees.specs.Outcome.{Gives};
-ghost use Rattle.rb_wire_forest.specs.Stops.{fault_of};
+ghost use Rattle.rb_wire_fields.specs.Stops.{fault_of};
 
 use crate::stop::{BAD_TAG, NOT_CANONICAL, Stop, TOO_DEEP, TRUNCATED};
 
 /// The stop where a field lacks bytes.
-pub(crate) fn cut() -> Stop
+pub fn cut() -> Stop
     ensures { result ≡ Stop.Refused 1 0 }
 {
     Stop::Refused {
@@ -19,7 +19,7 @@ pub(crate) fn cut() -> Stop
 }
 
 /// The stop at the first of the bytes.
-pub(crate) fn refused(number: u8, bytes: &[u8]) -> Stop
+pub fn refused(number: u8, bytes: &[u8]) -> Stop
     ensures { result ≡ Stop.Refused number (length bytes.now) }
 {
     Stop::Refused {
@@ -29,7 +29,7 @@ pub(crate) fn refused(number: u8, bytes: &[u8]) -> Stop
 }
 
 /// The stop at a tag that stands for nothing, with these bytes behind it.
-pub(crate) fn bad_tag(rest: &[u8]) -> Stop
+pub fn bad_tag(rest: &[u8]) -> Stop
     ensures { result ≡ Stop.Refused 2 (length rest.now + 1) }
 {
     Stop::Refused {
@@ -39,7 +39,7 @@ pub(crate) fn bad_tag(rest: &[u8]) -> Stop
 }
 
 /// The stop where something would be within too much.
-pub(crate) fn too_deep(bytes: &[u8]) -> Stop
+pub fn too_deep(bytes: &[u8]) -> Stop
     ensures { result ≡ Stop.Refused (deep bytes.now).0 (deep bytes.now).1 }
 {
     match bytes {
@@ -50,7 +50,7 @@ pub(crate) fn too_deep(bytes: &[u8]) -> Stop
 
 /// A byte.
 #[tactic(auto, unfolding(rb_meaning_bytes::specs::formats::Reading::look))]
-pub(crate) fn byte(bytes: &[u8]) -> Result<(u8, &[u8]), Stop>
+pub fn byte(bytes: &[u8]) -> Result<(u8, &[u8]), Stop>
     ensures { Gives (λ x. (x.0, x.1.now)) fault_of result (look Byte bytes.now) }
 {
     match bytes {
@@ -61,7 +61,7 @@ pub(crate) fn byte(bytes: &[u8]) -> Result<(u8, &[u8]), Stop>
 
 /// A number of 32 bits.
 #[tactic(auto, unfolding(rb_meaning_bytes::specs::formats::Reading::look))]
-pub(crate) fn number(bytes: &[u8]) -> Result<(u32, &[u8]), Stop>
+pub fn number(bytes: &[u8]) -> Result<(u32, &[u8]), Stop>
     ensures { Gives (λ x. (x.0, x.1.now)) fault_of result (look Number bytes.now) }
 {
     if bytes.len() < 4 {
@@ -74,7 +74,7 @@ pub(crate) fn number(bytes: &[u8]) -> Result<(u32, &[u8]), Stop>
 
 /// A signed number of 64 bits.
 #[tactic(auto, unfolding(rb_meaning_bytes::specs::formats::Reading::look))]
-pub(crate) fn wide(bytes: &[u8]) -> Result<(i64, &[u8]), Stop>
+pub fn wide(bytes: &[u8]) -> Result<(i64, &[u8]), Stop>
     ensures { Gives (λ x. (x.0, x.1.now)) fault_of result (look Wide bytes.now) }
 {
     if bytes.len() < 8 {
@@ -89,7 +89,7 @@ pub(crate) fn wide(bytes: &[u8]) -> Result<(i64, &[u8]), Stop>
 
 /// A truth value.
 #[tactic(auto, unfolding(rb_meaning_bytes::specs::formats::Reading::look))]
-pub(crate) fn truth(bytes: &[u8]) -> Result<(bool, &[u8]), Stop>
+pub fn truth(bytes: &[u8]) -> Result<(bool, &[u8]), Stop>
     ensures { Gives (λ x. (x.0, x.1.now)) fault_of result (look Truth bytes.now) }
 {
     match bytes {

@@ -6,7 +6,7 @@ ghost use Rattle.rb_meaning_bytes.specs.formats.Fields.{Text, announced, content
 ghost use Rattle.rb_meaning_bytes.specs.formats.Reading.{look, read};
 ghost use Rattle.rb_meaning_bytes.specs.formats.Values as format;
 ghost use Rattle.rb_trees.specs.Outcome.{Gives};
-ghost use Rattle.rb_wire_forest.specs.Stops.{fault_of};
+ghost use Rattle.rb_wire_fields.specs.Stops.{fault_of};
 
 use crate::fields::{bad_tag, byte, cut, refused, truth, wide};
 use crate::stop::{BAD_TEXT, Stop};
@@ -29,7 +29,7 @@ fn is_text(bytes: &[u8]) -> bool
 
 /// The length that stands before a text.
 #[tactic(auto, unfolding(rb_meaning_bytes::specs::formats::Fields::announced))]
-fn length_of(bytes: &[u8]) -> u32
+pub fn length_of(bytes: &[u8]) -> u32
     ensures { result ≡ announced bytes.now }
 {
     if bytes.len() < 4 {
@@ -40,7 +40,7 @@ fn length_of(bytes: &[u8]) -> u32
 
 /// The bytes of a text behind its length, and the bytes behind them.
 #[tactic(auto, using(crate::proofs::Utf8::behind), unfolding(rb_meaning_bytes::specs::formats::Fields::content))]
-fn behind(bytes: &[u8], count: usize) -> (&[u8], &[u8])
+pub fn behind(bytes: &[u8], count: usize) -> (&[u8], &[u8])
     requires is { count ≡ announced bytes.now }
     requires whole { 4 + count ≤ length bytes.now }
     ensures content { result.0.now ≡ content bytes.now }
@@ -52,7 +52,7 @@ fn behind(bytes: &[u8], count: usize) -> (&[u8], &[u8])
 
 /// A text.
 #[tactic(auto, unfolding(rb_meaning_bytes::specs::formats::Reading::look))]
-pub(crate) fn text(alloc: Global, bytes: &[u8]) -> Result<(Word, &[u8]), Stop>
+pub fn text(alloc: Global, bytes: &[u8]) -> Result<(Word, &[u8]), Stop>
     ensures { Gives (λ x. (x.0, x.1.now)) fault_of result (look Text bytes.now) }
 {
     let count = length_of(bytes) as usize;
@@ -71,7 +71,7 @@ pub(crate) fn text(alloc: Global, bytes: &[u8]) -> Result<(Word, &[u8]), Stop>
 
 /// A primitive value.
 #[tactic(auto, using(crate::proofs::Equations::value_read), unfolding(rb_meaning_bytes::specs::formats::Reading::read))]
-pub(crate) fn value(alloc: Global, bytes: &[u8]) -> Result<(Value, &[u8]), Stop>
+pub fn value(alloc: Global, bytes: &[u8]) -> Result<(Value, &[u8]), Stop>
     ensures { Gives (λ x. (x.0, x.1.now)) fault_of result (read format.value bytes.now) }
 {
     let (tag, rest) = byte(bytes)?;

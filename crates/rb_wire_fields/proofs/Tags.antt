@@ -4,10 +4,10 @@ use Rattle.rb_meaning_bytes.specs.formats.Fields.{Byte, bad_tag}
 use Rattle.rb_meaning_bytes.specs.formats.Formats.{Format, is_tag}
 use Rattle.rb_meaning_bytes.specs.formats.Reading.{read, look, on}
 use Rattle.rb_meaning_bytes.proofs.formats.Steps.{by_tag}
-use Rattle.rb_wire_forest.specs.declared.stop.Stop.{Stop}
-use Rattle.rb_wire_forest.specs.declared.stop.Stop.TheVariants as stops
+use Rattle.rb_wire_fields.specs.declared.stop.Stop.{Stop}
+use Rattle.rb_wire_fields.specs.declared.stop.Stop.TheVariants as stops
 use Rattle.rb_trees.specs.Outcome.{Refuses}
-use Rattle.rb_wire_forest.specs.Stops.{fault_of}
+use Rattle.rb_wire_fields.specs.Stops.{fault_of}
 
 nothing : {A : Type 0} (forms : List (ℕ × Format A)) (b : ℕ) (rest : List ℕ) → is_tag forms b ≡ false → by_tag forms b rest ≡ Err (bad_tag, length rest + 1)
 nothing [] b rest h = refl

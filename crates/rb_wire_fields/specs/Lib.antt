@@ -1,0 +1,3 @@
+-- How answers and buffers stand to the fields.
+pub mod Stops
+pub mod Buffers
