@@ -14,10 +14,6 @@ use Rattle.rb_meaning_bytes.specs.formats.Scripts.{unary_op, unary_ops, binary_o
 use Rattle.rb_meaning_bytes.proofs.formats.Exact.{bound}
 use Rattle.rb_meaning_bytes.proofs.formats.Steps.{chosen, tested, too_far, by_tag, goes_on, ends, is_done}
 
-pub value_read : (bytes : List ℕ) → read value bytes ≡ on (look Byte bytes) (λ b rest. by_tag value_forms b rest)
-unfolding value
-value_read bytes = chosen value_forms bytes
-
 pub unary_read : (bytes : List ℕ) → read unary_op bytes ≡ on (look Byte bytes) (λ b rest. by_tag unary_ops b rest)
 unfolding unary_op
 unary_read bytes = chosen unary_ops bytes
@@ -74,11 +70,7 @@ pub message_read : (bytes : List ℕ) → read script_message bytes ≡ on (look
 unfolding script_message
 message_read bytes = chosen ((0x01, script_1) ∷ []) bytes
 
--- one more item, in the mirror
-pub map_more : {A B : Type 0} (f : A → B) (xs : List A) (x : A) → map f (xs ++ x ∷ []) ≡ map f xs ++ f x ∷ []
-map_more f xs x = map-append f xs (x ∷ [])
-
-pub ruleset equations = (value_read, unary_read, binary_read)
+pub ruleset operators = (unary_read, binary_read)
 
 pub ruleset messages = (message_read, bound)
 
@@ -87,5 +79,3 @@ pub ruleset steps = (step_read, bound, mirrored_steps)
 pub ruleset blocks = (block_read, block_deep, listed_steps)
 
 pub ruleset exprs = (expr_read, expr_deep, listed_exprs, bound, sexprs)
-
-pub ruleset lists = (goes_on, ends, is_done, map_more)

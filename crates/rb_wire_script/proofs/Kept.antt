@@ -1,32 +1,13 @@
--- What a buffer holds while bytes are put behind it.
-use Rattle.std.proofs.Common.{◌≡◌, ◌+◌, ◌<◌, ◌^◌, ◌%◌, ◌/◌, ℕ, zero, suc, List, [], ◌∷◌, ◌++◌, length, take, refl, ap, sym, ◌∙◌, arith, append_assoc, append-nil, IsTrue}
-use Rattle.std.proofs.Math.Seq.{take-append_seam}
+-- What a buffer holds while the parts of a script are put behind it.
+use Rattle.std.proofs.Common.{◌≡◌, suc, List, [], ◌∷◌, length, refl, ap, append_assoc}
 use Rattle.std.proofs.lemmas.Grind.{common_steps}
 use Rattle.rb_trees.specs.declared.scripts.SExpr as rust
 use Rattle.rb_trees.specs.declared.scripts.Step as rust_step
-use Rattle.rb_trees.specs.declared.values.Value.TheViews.{the_lemmas}
 use Rattle.rb_trees.specs.mirror.Scripts.{mirror_sexprs, mirror_steps}
 use Rattle.rb_trees.proofs.mirror.SExprs.{sexprs}
 use Rattle.rb_trees.proofs.mirror.Steps.{steps as mirrored_steps}
 use Rattle.rb_meaning_bytes.specs.formats.ScriptBytes.{count_exprs, count_steps}
-use Rattle.std.specs.Int.{w32, to_be_bytes}
-use Rattle.rb_meaning_bytes.specs.formats.Fields.{number}
-use Rattle.rb_wire_script.specs.Buffers.{Keeps}
-
-pub keeps_same : (old new : List ℕ) → new ≡ old → Keeps old new
-keeps_same old new h = record { more = []; is = h ∙ sym (append-nil old) }
-
-pub keeps_more : (old new xs : List ℕ) → new ≡ old ++ xs → Keeps old new
-keeps_more old new xs h = record { more = xs; is = h }
-
-pub keeps_after : (old mid new xs : List ℕ) → mid ≡ old ++ xs → Keeps mid new → Keeps old new
-keeps_after old mid new xs h k = record { more = xs ++ k.more; is = k.is ∙ ap (λ l. l ++ k.more) h ∙ append_assoc old xs k.more }
-
-pub keeps_through : (old mid new : List ℕ) → Keeps old mid → Keeps mid new → Keeps old new
-keeps_through old mid new h k = record { more = h.more ++ k.more; is = k.is ∙ ap (λ l. l ++ k.more) h.is ∙ append_assoc old h.more k.more }
-
-pub take_kept : (old new : List ℕ) → Keeps old new → take (length old) new ≡ old
-take_kept old new k = ap (take (length old)) k.is ∙ take-append_seam old k.more
+use Rattle.rb_wire_fields.proofs.Kept.{keeps_same, keeps_after}
 
 pub counted_exprs : (es : List rust.SExpr) → count_exprs (mirror_sexprs es) ≡ length es
 counted_exprs [] = refl
@@ -35,22 +16,6 @@ counted_exprs (e ∷ es) = ap suc (counted_exprs es)
 pub counted_steps : (ss : List rust_step.Step) → count_steps (mirror_steps ss) ≡ length ss
 counted_steps [] = refl
 counted_steps (s ∷ ss) = ap suc (counted_steps ss)
-
--- the same bytes of a number
-pub same_bits : (n : ℕ) → number (n % 4294967296) ≡ number n
-unfolding number
-same_bits n =
-    let a : n % 4294967296 / 16777216 % 256 ≡ n / 16777216 % 256 = omega arith in
-    let b : n % 4294967296 / 65536 % 256 ≡ n / 65536 % 256 = omega arith in
-    let c : n % 4294967296 / 256 % 256 ≡ n / 256 % 256 = omega arith in
-    let d : n % 4294967296 % 256 ≡ n % 256 = omega arith in
-    cc
-
-pub ruleset low_bits = (keeps_same, keeps_after, same_bits, common_steps)
-
-pub ruleset kept = (keeps_same, keeps_after, keeps_through, take_kept, append_assoc, common_steps)
-
-pub ruleset values = (keeps_same, keeps_after, the_lemmas, append_assoc, common_steps)
 
 pub ruleset exprs = (keeps_same, keeps_after, sexprs, counted_exprs, append_assoc, common_steps)
 

@@ -1,3 +1,3 @@
+-- What is stated of scripts as bytes.
 pub mod Stops
-pub mod Buffers
 pub mod Guesses

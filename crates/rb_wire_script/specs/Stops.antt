@@ -3,20 +3,12 @@ use Rattle.std.specs.Prelude.{ℕ, List, Option, None, Some}
 use Rattle.rb_trees.specs.declared.values.Value.{Value}
 use Rattle.rb_trees.specs.declared.scripts.Script as script
 use Rattle.rb_trees.specs.mirror.Scripts.{mirror_script}
-use Rattle.rb_meaning_bytes.specs.formats.Reading.{Fault}
 use Rattle.rb_meaning_bytes.specs.formats.ScriptPayloads.{Sent, Refused}
 use Rattle.rb_trees.specs.declared.validity.ScriptRefusal.{ScriptRefusal}
 use Rattle.rb_wire_script.specs.declared.checking.RuleStop.{RuleStop}
 use Rattle.rb_wire_script.specs.declared.checking.RuleStop.TheVariants as rules
-use Rattle.rb_wire_script.specs.declared.stop.Stop.{Stop}
-use Rattle.rb_wire_script.specs.declared.stop.Stop.TheVariants as stops
 use Rattle.rb_wire_script.specs.declared.decoding.ScriptStop.{ScriptStop}
 use Rattle.rb_wire_script.specs.declared.decoding.ScriptStop.TheVariants as answers
-
--- A violation, by how many bytes are left at its place. Want of memory tells none.
-abbrev pub fault_of : Stop → Option Fault
-fault_of (stops.Refused number left) = Some (number, left)
-fault_of stops.Memory = None
 
 -- A refusal, by its place in the payload.
 abbrev pub refusal_of : ScriptStop → Option Refused

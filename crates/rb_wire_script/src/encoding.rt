@@ -7,9 +7,9 @@ ghost use Rattle.rb_meaning_bytes.specs.formats.Formats.{Spells};
 ghost use Rattle.rb_meaning_bytes.specs.formats.Scripts.{script_message};
 ghost use Rattle.rb_meaning_bytes.specs.formats.ScriptBytes.{script_bytes};
 ghost use Rattle.rb_meaning_bytes.specs.formats.FormedScripts.{FormedScript, AreInputs};
-ghost use Rattle.rb_wire_script.specs.Buffers.{Keeps};
+ghost use Rattle.rb_wire_fields.specs.Buffers.{Keeps};
 
-use crate::puts::put_values;
+use rb_wire_fields::puts::put_values;
 use crate::writing::put_block;
 use bytes::{BufMut, BytesMut};
 use rb_trees::{Memory, Script, Value};
@@ -17,7 +17,7 @@ use rb_trees::{Memory, Script, Value};
 /// The version of the format.
 const VERSION: u8 = 0x01;
 
-#[tactic(auto, using(crate::proofs::Kept::kept))]
+#[tactic(auto, using(rb_wire_fields::proofs::Kept::kept))]
 fn put_script(script: &Script, values: &[Value], into: &mut BytesMut) -> Result<(), Memory>
     ensures ok { OnOk result (into.new.items ≡ into.old.items ++ script_bytes (mirror_script script.now) values.now) }
     ensures err { OnErr result (Keeps into.old.items into.new.items) }
@@ -31,7 +31,7 @@ fn put_script(script: &Script, values: &[Value], into: &mut BytesMut) -> Result<
 
 /// Appends the spelling of a script with the values of its inputs: a valid script, and as many primitive values as it has
 /// inputs. After Memory `into` is unchanged. The format is that of `specs/formats/Scripts.antt` in rb_meaning_bytes.
-#[tactic(auto, using(crate::proofs::Kept::kept))]
+#[tactic(auto, using(rb_wire_fields::proofs::Kept::kept))]
 pub fn encode_script(script: &Script, values: &[Value], into: &mut BytesMut) -> Result<(), Memory>
     requires formed { FormedScript (mirror_script script.now) }
     requires valid { verdict (mirror_script script.now) ≡ Ok tt }

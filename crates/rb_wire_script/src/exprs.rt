@@ -6,12 +6,13 @@ ghost use Rattle.rb_meaning_bytes.specs.formats.Reading.{read};
 ghost use Rattle.rb_meaning_bytes.specs.formats.Formats.{times};
 ghost use Rattle.rb_meaning_bytes.specs.formats.Scripts.{expr};
 ghost use Rattle.rb_trees.specs.Outcome.{Gives};
-ghost use Rattle.rb_wire_script.specs.Stops.{fault_of};
+ghost use Rattle.rb_wire_fields.specs.Stops.{fault_of};
 
-use crate::fields::{bad_tag, byte, number, too_deep};
-use crate::stop::Stop;
-use crate::texts::name;
-use crate::values::{binary_op, kind, unary_op, value};
+use rb_wire_fields::fields::{bad_tag, byte, number, too_deep};
+use rb_wire_fields::stop::Stop;
+use crate::names::name;
+use crate::operators::{binary_op, kind, unary_op};
+use rb_wire_fields::texts::value;
 use rb_trees::{Boxed, SExpr, Seq};
 use std::alloc::Global;
 
@@ -76,7 +77,7 @@ pub(crate) fn expr(alloc: Global, left: usize, bytes: &[u8]) -> Result<(SExpr, &
 
 /// So many expressions.
 #[cycle(exprs)]
-#[tactic(auto, using(crate::proofs::Equations::lists))]
+#[tactic(auto, using(rb_wire_fields::proofs::Equations::lists))]
 fn exprs(alloc: Global, left: usize, count: u32, bytes: &[u8]) -> Result<(Seq<SExpr>, &[u8]), Stop>
     requires { left < 2 ^ 32 }
     ensures { Gives (λ x. (map mirror_sexpr x.0, x.1.now)) fault_of result (read (times count (expr left)) bytes.now) }

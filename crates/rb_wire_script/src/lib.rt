@@ -6,17 +6,15 @@
 #![tactic(auto)]
 
 mod checking;
+mod codes;
 mod decoding;
 mod encoding;
 mod exprs;
-mod fields;
 mod message;
+mod names;
 mod numbers;
-mod puts;
+mod operators;
 mod steps;
-mod stop;
-mod texts;
-mod values;
 mod writing;
 
 pub use decoding::{ScriptStop, decode_script};

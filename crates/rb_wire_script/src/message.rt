@@ -7,12 +7,13 @@ ghost use Rattle.rb_meaning_bytes.specs.formats.Reading.{read, read_all};
 ghost use Rattle.rb_meaning_bytes.specs.formats.Formats.{times};
 ghost use Rattle.rb_meaning_bytes.specs.formats.Values as format;
 ghost use Rattle.rb_meaning_bytes.specs.formats.Scripts.{script_message};
-ghost use Rattle.rb_wire_script.specs.Stops.{fault_of, seen};
+ghost use Rattle.rb_wire_fields.specs.Stops.{fault_of};
+ghost use Rattle.rb_wire_script.specs.Stops.{seen};
 
-use crate::fields::{bad_tag, byte};
+use rb_wire_fields::fields::{bad_tag, byte};
 use crate::steps::block;
-use crate::stop::{Stop, TRAILING};
-use crate::values::value;
+use rb_wire_fields::stop::{Stop, TRAILING};
+use rb_wire_fields::texts::value;
 use rb_trees::{Script, Seq, Value};
 use std::alloc::Global;
 
@@ -23,7 +24,7 @@ const MOST_BLOCKS: usize = 64;
 const VERSION: u8 = 0x01;
 
 /// So many values.
-#[tactic(auto, using(crate::proofs::Equations::lists))]
+#[tactic(auto, using(rb_wire_fields::proofs::Equations::lists))]
 fn values(alloc: Global, count: u8, bytes: &[u8]) -> Result<(Seq<Value>, &[u8]), Stop>
     ensures { Gives (λ x. (x.0, x.1.now)) fault_of result (read (times count format.value) bytes.now) }
 {

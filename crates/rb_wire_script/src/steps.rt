@@ -6,11 +6,11 @@ ghost use Rattle.rb_meaning_bytes.specs.formats.Reading.{read};
 ghost use Rattle.rb_meaning_bytes.specs.formats.Formats.{times};
 ghost use Rattle.rb_meaning_bytes.specs.formats.Scripts as format;
 ghost use Rattle.rb_trees.specs.Outcome.{Gives};
-ghost use Rattle.rb_wire_script.specs.Stops.{fault_of};
+ghost use Rattle.rb_wire_fields.specs.Stops.{fault_of};
 
 use crate::exprs::expr;
-use crate::fields::{bad_tag, byte, number, too_deep, truth};
-use crate::stop::Stop;
+use rb_wire_fields::fields::{bad_tag, byte, number, too_deep, truth};
+use rb_wire_fields::stop::Stop;
 use rb_trees::{SExpr, Seq, Step, StepForm};
 use std::alloc::Global;
 
@@ -42,7 +42,7 @@ pub(crate) fn block(alloc: Global, left: usize, bytes: &[u8]) -> Result<(Seq<Ste
 
 /// So many steps, whose blocks have at most so many within each other.
 #[cycle(steps)]
-#[tactic(auto, using(crate::proofs::Equations::lists))]
+#[tactic(auto, using(rb_wire_fields::proofs::Equations::lists))]
 fn steps(alloc: Global, left: usize, count: u32, bytes: &[u8]) -> Result<(Seq<Step>, &[u8]), Stop>
     requires { left < 2 ^ 32 }
     ensures { Gives (λ x. (map mirror_step x.0, x.1.now)) fault_of result (read (times count (format.step (format.block left))) bytes.now) }

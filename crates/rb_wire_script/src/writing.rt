@@ -4,11 +4,10 @@ ghost use Rattle.std.specs.Prelude.{◌≡◌, ◌++◌, ◌∷◌, OnOk, OnErr}
 ghost use Rattle.rb_trees.specs.mirror.Scripts.{mirror_sexpr, mirror_sexprs, mirror_step, mirror_step_form, mirror_steps};
 ghost use Rattle.rb_meaning_bytes.specs.formats.Fields as field;
 ghost use Rattle.rb_meaning_bytes.specs.formats.ScriptBytes.{expr_bytes, exprs_bytes, step_bytes, block_bytes};
-ghost use Rattle.rb_wire_script.specs.Buffers.{Keeps};
+ghost use Rattle.rb_wire_fields.specs.Buffers.{Keeps};
 
-use crate::puts::{
-    code_of_binary, code_of_unary, put_count, put_number, put_text, put_truth, put_value,
-};
+use crate::codes::{code_of_binary, code_of_unary};
+use rb_wire_fields::puts::{put_count, put_number, put_text, put_truth, put_value};
 use bytes::{BufMut, BytesMut};
 use rb_trees::{Memory, SExpr, Step, StepForm};
 
@@ -75,7 +74,7 @@ fn put_expr(e: &SExpr, into: &mut BytesMut) -> Result<(), Memory>
 
 /// Expressions in order.
 #[cycle(put_exprs)]
-#[tactic(auto, using(crate::proofs::Kept::kept))]
+#[tactic(auto, using(rb_wire_fields::proofs::Kept::kept))]
 fn put_exprs(es: &[SExpr], into: &mut BytesMut) -> Result<(), Memory>
     ensures ok { OnOk result (into.new.items ≡ into.old.items ++ exprs_bytes (mirror_sexprs es.now)) }
     ensures err { OnErr result (Keeps into.old.items into.new.items) }
@@ -87,7 +86,7 @@ fn put_exprs(es: &[SExpr], into: &mut BytesMut) -> Result<(), Memory>
 }
 
 /// What each step begins with.
-#[tactic(auto, using(crate::proofs::Kept::kept))]
+#[tactic(auto, using(rb_wire_fields::proofs::Kept::kept))]
 fn put_head(tag: u8, id: u32, at: u32, into: &mut BytesMut) -> Result<(), Memory>
     ensures ok { OnOk result (into.new.items ≡ into.old.items ++ tag ∷ field.number id ++ field.number at) }
     ensures err { OnErr result (Keeps into.old.items into.new.items) }

@@ -2,7 +2,7 @@ use Rattle.std.proofs.Common.{arith, ◌-◌}
 use Rattle.std.proofs.lemmas.Bool.Decides.{nat_tests}
 use Rattle.rb_meaning_bytes.specs.formats.Scripts.{expr, expr_forms}
 use Rattle.rb_wire_script.proofs.Equations.{expr_read}
-use Rattle.rb_wire_script.proofs.Tags.{no_tag}
+use Rattle.rb_wire_fields.proofs.Tags.{no_tag}
 use Rattle.rb_wire_script.proofs.exprs.+exprs.Goals as goal
 
 pub expr-returns-in_default : goal.expr-returns-in_default

@@ -2,7 +2,7 @@ use Rattle.std.proofs.Common.{arith}
 use Rattle.std.proofs.lemmas.Bool.Decides.{nat_tests}
 use Rattle.rb_meaning_bytes.specs.formats.Scripts.{block, step, step_forms}
 use Rattle.rb_wire_script.proofs.Equations.{step_read}
-use Rattle.rb_wire_script.proofs.Tags.{no_tag}
+use Rattle.rb_wire_fields.proofs.Tags.{no_tag}
 use Rattle.rb_wire_script.proofs.steps.+steps.Goals as goal
 
 pub step-returns-in_default : goal.step-returns-in_default

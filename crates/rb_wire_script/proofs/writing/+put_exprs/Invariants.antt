@@ -1,7 +1,7 @@
 use Rattle.std.proofs.Common.{◌≡◌, ◌++◌, drop}
 use Rattle.rb_trees.specs.mirror.Scripts.{mirror_sexprs}
 use Rattle.rb_meaning_bytes.specs.formats.ScriptBytes.{exprs_bytes}
-use Rattle.rb_wire_script.specs.Buffers.{Keeps}
+use Rattle.rb_wire_fields.specs.Buffers.{Keeps}
 use Rattle.rb_wire_script.proofs.writing.+put_exprs.Given as goal
 
 abbrev pub invariant-put_exprs-loop-e : goal.invariant-put_exprs-loop-e

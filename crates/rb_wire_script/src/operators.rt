@@ -1,43 +1,17 @@
-// Values, operators and kinds.
+// Operators and kinds.
 
 ghost use Rattle.std.specs.Prelude.{◌≡◌};
 ghost use Rattle.rb_meaning_bytes.specs.formats.Reading.{read};
-ghost use Rattle.rb_meaning_bytes.specs.formats.Values.{value};
 ghost use Rattle.rb_meaning_bytes.specs.formats.Scripts.{unary_op, binary_op, kind};
 ghost use Rattle.rb_trees.specs.Outcome.{Gives};
-ghost use Rattle.rb_wire_script.specs.Stops.{fault_of};
+ghost use Rattle.rb_wire_fields.specs.Stops.{fault_of};
 
-use crate::fields::{bad_tag, byte, truth, wide};
-use crate::stop::Stop;
-use crate::texts::text;
-use rb_trees::{BinOp, Shared, UnOp, Value};
-use std::alloc::Global;
-
-/// A primitive value.
-#[tactic(auto, using(crate::proofs::Equations::equations), unfolding(rb_meaning_bytes::specs::formats::Reading::read))]
-pub(crate) fn value(alloc: Global, bytes: &[u8]) -> Result<(Value, &[u8]), Stop>
-    ensures { Gives (λ x. (x.0, x.1.now)) fault_of result (read value bytes.now) }
-{
-    let (tag, rest) = byte(bytes)?;
-    match tag {
-        0x01 => {
-            let (number, rest) = wide(rest)?;
-            Ok((Value::Int(number), rest))
-        }
-        0x02 => {
-            let (truth, rest) = truth(rest)?;
-            Ok((Value::Bool(truth), rest))
-        }
-        0x03 => {
-            let (text, rest) = text(alloc, rest)?;
-            Ok((Value::Text(Shared::new(alloc, text)?), rest))
-        }
-        _ => Err(bad_tag(rest)),
-    }
-}
+use rb_wire_fields::fields::{bad_tag, byte};
+use rb_wire_fields::stop::Stop;
+use rb_trees::{BinOp, UnOp};
 
 /// An operator with one operand.
-#[tactic(auto, using(crate::proofs::Equations::equations), unfolding(rb_meaning_bytes::specs::formats::Reading::read))]
+#[tactic(auto, using(crate::proofs::Equations::operators), unfolding(rb_meaning_bytes::specs::formats::Reading::read))]
 pub(crate) fn unary_op(bytes: &[u8]) -> Result<(UnOp, &[u8]), Stop>
     ensures { Gives (λ x. (x.0, x.1.now)) fault_of result (read unary_op bytes.now) }
 {
@@ -52,7 +26,7 @@ pub(crate) fn unary_op(bytes: &[u8]) -> Result<(UnOp, &[u8]), Stop>
 }
 
 /// An operator with two operands.
-#[tactic(auto, using(crate::proofs::Equations::equations), unfolding(rb_meaning_bytes::specs::formats::Reading::read))]
+#[tactic(auto, using(crate::proofs::Equations::operators), unfolding(rb_meaning_bytes::specs::formats::Reading::read))]
 pub(crate) fn binary_op(bytes: &[u8]) -> Result<(BinOp, &[u8]), Stop>
     ensures { Gives (λ x. (x.0, x.1.now)) fault_of result (read binary_op bytes.now) }
 {
