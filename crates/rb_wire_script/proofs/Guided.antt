@@ -77,6 +77,9 @@ pub tried_past : (ws : List ℕ) (wanted : ℕ) (guess : ℕ → Option ℕ) →
     → guess wanted ≡ Some place → slice_get ws place ≡ None → first_place wanted ws ≡ None
 tried_past ws wanted guess h place told there = sym (tried_right ws wanted guess h) ∙ ap (tried ws wanted) told ∙ ap (confirmed wanted place) there
 
+pub untried : (ws : List ℕ) (wanted : ℕ) (guess : ℕ → Option ℕ) → Guides guess ws → guess wanted ≡ None → first_place wanted ws ≡ None
+untried ws wanted guess h told = sym (tried_right ws wanted guess h) ∙ ap (tried ws wanted) told
+
 abbrev pub or_else : Option ℕ → Option ℕ → Option ℕ
 or_else None other = other
 or_else (Some p) other = Some p
