@@ -1,4 +1,4 @@
-use Rattle.std.proofs.Common.{◌≡◌, ℕ, List, length, nat_eq, cond, Option, None, Some, sym, subst, ap, ◌∙◌}
+use Rattle.std.proofs.Common.{◌≡◌, ℕ, length, nat_eq, cond, Option, None, Some, sym, subst, ap, ◌∙◌}
 use Rattle.std.specs.HashMap.{get}
 use Rattle.rb_wire_script.specs.Guesses.{Guides, first_place}
 use Rattle.rb_wire_script.proofs.Guided.{guides_known, guides_noted, guides_added}
