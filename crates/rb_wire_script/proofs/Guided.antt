@@ -2,6 +2,12 @@
 use Rattle.std.proofs.Common.{◌≡◌, ℕ, suc, zero, List, [], ◌∷◌, ◌++◌, take, length, Bool, true, false, cond, nat_eq, Option, Some, None, slice_get, IsTrue, refl, sym, ap, ◌∙◌, subst, arith}
 use Rattle.std.specs.Prelude.{◌==◌, ◌||◌}
 use Rattle.std.specs.Option.{option_map, is_some}
+use Rattle.std.specs.Ordering.{nat_cmp, is_eq}
+use Rattle.std.specs.BTreeMap as tree
+use Rattle.std.specs.Cmp.{nat_cmp_total, eq_by_cmp_equiv}
+use Rattle.std.specs.declared.cmp.Ordering.{Ordering}
+use Rattle.std.specs.declared.cmp.Ordering.TheVariants.{Less, Equal, Greater}
+use Rattle.std.proofs.lemmas.Map.Lookups.{exact_unsigned}
 use Rattle.std.proofs.lemmas.Bool.{eqb-true, eq-eqb}
 use Rattle.std.proofs.lemmas.Bool.Decides.{nat_tests}
 use Rattle.rb_trees.specs.Validity.{has}
@@ -76,6 +82,30 @@ tried_no ws wanted guess h place word told there so = sym (tried_right ws wanted
 pub tried_past : (ws : List ℕ) (wanted : ℕ) (guess : ℕ → Option ℕ) → Guides guess ws → (place : ℕ)
     → guess wanted ≡ Some place → slice_get ws place ≡ None → first_place wanted ws ≡ None
 tried_past ws wanted guess h place told there = sym (tried_right ws wanted guess h) ∙ ap (tried ws wanted) told ∙ ap (confirmed wanted place) there
+
+pub untried : (ws : List ℕ) (wanted : ℕ) (guess : ℕ → Option ℕ) → Guides guess ws → guess wanted ≡ None → first_place wanted ws ≡ None
+untried ws wanted guess h told = sym (tried_right ws wanted guess h) ∙ ap (tried ws wanted) told
+
+-- a map's own test of its keys is that of numbers
+is_equal : (r : Ordering) → is_eq r ≡ true → r ≡ Equal
+is_equal Less e = cc
+is_equal Equal e = refl
+is_equal Greater e = cc
+
+same_tests : (b c : Bool) → (b ≡ true → c ≡ true) → (c ≡ true → b ≡ true) → b ≡ c
+same_tests true c there back = sym (there refl)
+same_tests false true there back = back refl
+same_tests false false there back = refl
+
+same_key : (a b : ℕ) → tree.is_at (nat_cmp a) b ≡ nat_eq a b
+same_key a b = same_tests _ _
+    (λ e. eq-eqb a b (exact_unsigned a b (is_equal (nat_cmp a b) e)))
+    (λ e. ap (λ q. tree.is_at (nat_cmp a) q) (sym (eqb-true a b e)) ∙ (eq_by_cmp_equiv nat_cmp_total).refl a)
+
+-- what a map says after it was told one thing
+pub told_one : (key place : ℕ) (before after : ℕ → Option ℕ) → ((q : ℕ) → after q ≡ cond (tree.is_at (nat_cmp key) q) (Some place) (before q))
+    → (q : ℕ) → after q ≡ cond (nat_eq key q) (Some place) (before q)
+told_one key place before after is q = is q ∙ ap (λ b. cond b (Some place) (before q)) (same_key key q)
 
 abbrev pub or_else : Option ℕ → Option ℕ → Option ℕ
 or_else None other = other

@@ -6,7 +6,7 @@ ghost use Rattle.rb_wire_script.specs.Guesses.{first_place};
 
 use rb_trees::{Memory, Seq};
 use std::alloc::Global;
-use std::collections::HashMap;
+use std::collections::BTreeMap;
 use std::marker::Model;
 
 /// Whether two numbers are the same.
@@ -22,19 +22,20 @@ fn same_number(a: u32, b: u32) -> bool
 pub(crate) struct Numbers {
     numbers: Seq<u32>,
     // wherever the list has a number, its first place; of other numbers it may say anything
-    places: HashMap<u32, usize>,
+    places: BTreeMap<u32, usize>,
 }
 
 impl Model for Numbers {
-    ghost use Rattle.std.specs.Prelude.{ℕ, List, nat_eq};
-    ghost use Rattle.std.specs.HashMap.{get};
+    ghost use Rattle.std.specs.Prelude.{ℕ, List};
+    ghost use Rattle.std.specs.Ordering.{nat_cmp};
+    ghost use Rattle.std.specs.BTreeMap.{get};
     ghost use Rattle.rb_wire_script.specs.Guesses.{Guides};
 
     ghost Value = { List ℕ };
 
     ghost view = { λ w. w.numbers };
 
-    ghost invariant = { λ w. Guides (get nat_eq w.places) w.numbers };
+    ghost invariant = { λ w. Guides (get nat_cmp w.places) w.numbers };
 }
 
 impl Numbers {
@@ -44,7 +45,7 @@ impl Numbers {
     {
         Numbers {
             numbers: Seq::new(alloc),
-            places: HashMap::new(alloc),
+            places: BTreeMap::new(alloc),
         }
     }
 
