@@ -1,7 +1,7 @@
 -- How steps and blocks, as the code runs them, stand to what they mean.
-use Rattle.std.specs.Prelude.{◌≡◌, ℕ, List, [], ◌∷◌, ◌++◌, length, Bool, true, false, is_some, Option, None, Some, Result, Ok, Err}
-use Rattle.rb_trees.specs.Outcome.{must, ◌>>◌}
-use Rattle.rb_trees.specs.declared.values.Value.{Value, out-Value}
+use Rattle.std.specs.Prelude.{◌≡◌, ℕ, List, [], ◌∷◌, ◌++◌, length, Bool, true, false, is_some, None, Some, Result, Ok, Err}
+use Rattle.rb_trees.specs.Outcome.{◌>>◌}
+use Rattle.rb_trees.specs.declared.values.Value.{Value}
 use Rattle.rb_trees.specs.declared.values.Fault.{Fault}
 use Rattle.rb_trees.specs.declared.forests.Node as node
 use Rattle.rb_trees.specs.declared.forests.Entry as entry

@@ -129,11 +129,7 @@ fn expr(alloc: Global, words: &mut SplitWhitespace<'_>, depth: u32) -> Result<SE
 
 /// A block between braces.
 #[cycle(steps)]
-fn block(
-    alloc: Global,
-    words: &mut SplitWhitespace<'_>,
-    depth: u32,
-) -> Result<Seq<Step>, Memory> {
+fn block(alloc: Global, words: &mut SplitWhitespace<'_>, depth: u32) -> Result<Seq<Step>, Memory> {
     let _open = word(words);
     steps(alloc, words, depth)
 }
@@ -164,11 +160,7 @@ fn walk(
     })
 }
 
-fn binding(
-    alloc: Global,
-    words: &mut SplitWhitespace<'_>,
-    keep: bool,
-) -> Result<StepForm, Memory> {
+fn binding(alloc: Global, words: &mut SplitWhitespace<'_>, keep: bool) -> Result<StepForm, Memory> {
     let var = number(words);
     let value = expr(alloc, words, DEPTH)?;
     Ok(StepForm::Let { var, keep, value })
@@ -208,11 +200,7 @@ fn step(
 
 /// Steps up to the brace that ends their block, or to the end.
 #[cycle(steps)]
-fn steps(
-    alloc: Global,
-    words: &mut SplitWhitespace<'_>,
-    depth: u32,
-) -> Result<Seq<Step>, Memory> {
+fn steps(alloc: Global, words: &mut SplitWhitespace<'_>, depth: u32) -> Result<Seq<Step>, Memory> {
     let mut steps = Seq::new(alloc);
     if depth == 0 {
         return Ok(steps);

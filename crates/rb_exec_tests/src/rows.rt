@@ -25,7 +25,10 @@ static STEPS: [(&str, &[u8]); 14] = [
         "all 0 3 call 0 5 sizes root { keep 1 + $3 %0 }",
         b"[(1 11 )(2 12 )(3 13 )] ; 10, 200",
     ),
-    ("each 0 3 call 0 5 empty root { keep 1 $3 }", b"[] ; 10, 200"),
+    (
+        "each 0 3 call 0 5 empty root { keep 1 $3 }",
+        b"[] ; 10, 200",
+    ),
     (
         "each 0 0 call 0 8 files root { each 1 1 call 0 8 files root { keep 2 call 0 1 size $0 } keep 3 $5 }",
         b"[([(10 )(10 )] !12@30#3)] ; 10, 200",
@@ -98,7 +101,10 @@ static UNITS: [(&str, &[u8]); 3] = [
         "let 0 0 call 0 8 files root do 1 call 1 0 burn root 999996 each 2 1 $0 { do 3 call 1 0 grow $1 1 }",
         b"[()] !7@20#2; 11, 200",
     ),
-    ("do 0 call 1 0 burn root 1000000 keep 1 1", b"!7@6#0; 10, 200"),
+    (
+        "do 0 call 1 0 burn root 1000000 keep 1 1",
+        b"!7@6#0; 10, 200",
+    ),
 ];
 
 fn give(rt: HostRuntime, rows: &[(&str, &[u8])]) -> Result<(), Fail> {
