@@ -1,5 +1,5 @@
 -- How a call on a service is led to its end by the World of its code, and what the client gets of it.
-use Rattle.std.proofs.Common.{◌≡◌, inl, inr, refl, sym, ap, ◌∙◌, subst, ℕ, ◌≤◌, arith, List, [], map}
+use Rattle.std.proofs.Common.{◌≡◌, inl, inr, refl, sym, ap, ◌∙◌, subst, ℕ, List, [], map}
 use Rattle.std.specs.Prelude.{Result, Ok, Err}
 use Rattle.rb_trees.specs.Outcome.{Gives, known}
 use Rattle.rb_trees.specs.declared.values.Value.{Value, out-Value}
@@ -9,16 +9,14 @@ use Rattle.rb_trees.specs.declared.outcomes.Raised.{Raised}
 use Rattle.rb_trees.specs.declared.want.Memory.{Memory}
 use Rattle.rb_trees.specs.declared.declarations.Class as class
 use Rattle.rb_trees.specs.mirror.Declarations.{mirror_class}
-use Rattle.rb_meaning_code.specs.Faults.{wrong_kind, raised_remotely}
-use Rattle.rb_meaning_code.specs.State.{Local}
-use Rattle.rb_meaning_code.specs.Dialogue.{Outcome, Gave, Faulted, Dialogue, Done, Ask, AskBatch, Run, Surroundings, Follows, handle}
-use Rattle.rb_meaning_code.specs.Calls.{call}
-use Rattle.rb_meaning_code.specs.Bodies.{bodies_of, in_service}
-use Rattle.rb_meaning_code.specs.Remote.{Server, Reply, Got, Stopped, and_then, replies, begun, server_of, seen_as, checked, served, returned, invoke}
+use Rattle.rb_meaning_code.specs.Faults.{wrong_kind}
+use Rattle.rb_meaning_code.specs.Dialogue.{Outcome, Gave, Faulted, Dialogue, Done, Ask, AskBatch, Surroundings, Follows, handle}
+use Rattle.rb_meaning_code.specs.Bodies.{in_service}
+use Rattle.rb_meaning_code.specs.Remote.{Server, Stopped, replies, begun, seen_as, served, returned}
 use Rattle.rb_engine.specs.Code.{call_run}
 use Rattle.rb_engine.specs.Ends.{fault_of, flattened}
 use Rattle.rb_engine.specs.Locals.{local}
-use Rattle.rb_engine.specs.Meets.{Led, Meets, scene}
+use Rattle.rb_engine.specs.Meets.{Led}
 use Rattle.rb_engine.specs.Remote.{Answers, RepliesAt, server}
 use Rattle.rb_engine.specs.Service.{service_answers, service_performs}
 use Rattle.rb_engine.specs.declared.ends.Refusal.{Refusal}

@@ -1,9 +1,17 @@
 -- Remote calls, as the code makes them.
-use Rattle.std.specs.Prelude.{◌≡◌, ℕ, Result, Ok, Err, IsErr}
-use Rattle.rb_trees.specs.declared.values.Value.{Value}
+use Rattle.std.specs.Prelude.{◌≡◌, ℕ, List, map, Result, Ok, Err, IsErr}
+use Rattle.rb_trees.specs.Outcome.{known}
+use Rattle.rb_trees.specs.declared.values.Value.{Value, out-Value}
+use Rattle.rb_trees.specs.declared.values.Fault.{Fault}
+use Rattle.rb_trees.specs.declared.services.Object.{Object}
+use Rattle.rb_trees.specs.declared.declarations.Class as class
+use Rattle.rb_trees.specs.declared.declarations.Param as param
+use Rattle.rb_trees.specs.mirror.Declarations.{Method, mirror_class, mirror_param}
 use Rattle.rb_trees.specs.declared.outcomes.Raised.{Raised}
 use Rattle.rb_trees.specs.declared.want.Memory.{Memory}
-use Rattle.rb_meaning_code.specs.Faults.{raised_remotely}
+use Rattle.rb_meaning_code.specs.Faults.{raised_remotely, no_method, bad_arguments}
+use Rattle.rb_meaning_code.specs.Calls.{method_of}
+use Rattle.rb_meaning_code.specs.Remote as rules
 use Rattle.rb_meaning_code.specs.Remote.{Server, Reply, Got, Stopped}
 use Rattle.rb_engine.specs.declared.ends.Refusal.{Refusal}
 use Rattle.rb_engine.specs.declared.ends.Refusal.TheVariants as refusal
@@ -24,3 +32,23 @@ abbrev pub Answers : ℕ → Result Value Refusal → Result (Result Value Raise
 Answers at (Ok v) answer = answer ≡ Ok (Ok v)
 Answers at (Err (refusal.Fault f)) answer = answer ≡ Ok (Err (raised_remotely f at))
 Answers at (Err refusal.Memory) answer = IsErr answer
+
+-- the method of an object
+abbrev pub method_found : List class.Class → List Object → ℕ → List ℕ → Result Method Fault
+method_found classes table object name = known no_method (method_of (map mirror_class classes) table object name)
+
+-- the arguments as the service sees them
+abbrev pub arguments_taken : List Object → List param.Param → List Value → Result (List Value) Fault
+arguments_taken table params args = known bad_arguments (rules.taken_all table (map mirror_param params) args)
+
+-- what is checked before a call
+abbrev pub call_checked : List class.Class → List Object → Value → List ℕ → List Value → Result (ℕ × List Value) Fault
+call_checked classes table target name args = rules.checked (map mirror_class classes) table (out-Value target) name args
+
+-- a call that passed its checks, and its result at the client
+abbrev pub call_served : List class.Class → ℕ → ℕ → ℕ → List ℕ → List Value → Server → Reply Value
+call_served classes at kind object name args s = rules.returned at kind (rules.served (map mirror_class classes) at object name args s)
+
+-- a remote call
+abbrev pub call_invoked : List class.Class → ℕ → ℕ → Value → List ℕ → List Value → Server → Reply Value
+call_invoked classes at kind target name args s = rules.invoke (map mirror_class classes) at kind (out-Value target) name args s

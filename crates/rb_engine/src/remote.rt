@@ -9,7 +9,7 @@ ghost use Rattle.rb_meaning_code.specs.Faults.{raised_remotely};
 ghost use Rattle.rb_meaning_code.specs.Calls.{method_of as method_of_object};
 ghost use Rattle.rb_meaning_code.specs.Remote as rules;
 ghost use Rattle.rb_engine.specs.Ends.{fault_of};
-ghost use Rattle.rb_engine.specs.Remote.{Answers, RepliesAt, server};
+ghost use Rattle.rb_engine.specs.Remote.{Answers, RepliesAt, server, method_found, arguments_taken, call_checked, call_served, call_invoked};
 
 use crate::ends::Refusal;
 use crate::engine::call;
@@ -44,7 +44,7 @@ fn found_method<'a>(
     object: u32,
     name: &[u8],
 ) -> Result<&'a Method, Refusal>
-    ensures { Gives (λ m. mirror_method m.now) fault_of result (known faults.no_method (method_of_object (map mirror_class code.now) heap.now object name.now)) }
+    ensures { Gives (λ m. mirror_method m.now) fault_of result (method_found code.now heap.now object name.now) }
 {
     match method_of(code, heap, object, name) {
         Some(method) => Ok(method),
@@ -59,7 +59,7 @@ fn fitting(
     params: &[Param],
     args: &[Value],
 ) -> Result<Seq<Value>, Refusal>
-    ensures { Gives (λ values. values) fault_of result (known faults.bad_arguments (rules.taken_all heap.now (map mirror_param params.now) args.now)) }
+    ensures { Gives (λ values. values) fault_of result (arguments_taken heap.now params.now args.now) }
 {
     match taken_all(alloc, heap, params, args)? {
         Some(values) => Ok(values),
@@ -77,7 +77,7 @@ fn check(
     name: &[u8],
     args: &[Value],
 ) -> Result<(u32, Seq<Value>), Refusal>
-    ensures { Gives (λ c. c) fault_of result (rules.checked (map mirror_class code.now) heap.now (out-Value target.now) name.now args.now) }
+    ensures { Gives (λ c. c) fault_of result (call_checked code.now heap.now target.now name.now args.now) }
 {
     let object = remote_object(alloc, target)?;
     let method = found_method(alloc, code, heap, object, name)?;
@@ -130,7 +130,7 @@ fn serve(
     args: Seq<Value>,
 ) -> Result<Result<Value, Raised>, Memory>
     requires { state.old.depth ≡ 0 }
-    ensures replies { RepliesAt at (rules.returned at kind (rules.served (map mirror_class code.now) at object name.now args (server state.old))) result (server state.new) }
+    ensures replies { RepliesAt at (call_served code.now at kind object name.now args (server state.old)) result (server state.new) }
     ensures depth { state.new.depth ≡ 0 }
 {
     let mut world = ServiceWorld::new(alloc);
@@ -160,7 +160,7 @@ pub fn invoke(
     args: Seq<Value>,
 ) -> Result<Result<Value, Raised>, Memory>
     requires { state.old.depth ≡ 0 }
-    ensures replies { RepliesAt at (rules.invoke (map mirror_class code.now) at kind (out-Value target) method.now args (server state.old)) result (server state.new) }
+    ensures replies { RepliesAt at (call_invoked code.now at kind target method.now args (server state.old)) result (server state.new) }
     ensures depth { state.new.depth ≡ 0 }
 {
     let checked = check(alloc, code, &state.heap, &target, method, args.as_slice());

@@ -1,6 +1,6 @@
 -- Entries so far, and the nodes that they make.
 use Rattle.std.proofs.Common.{◌≡◌, refl, sym, ap, ◌∙◌, List, [], ◌∷◌, ◌++◌}
-use Rattle.std.specs.Prelude.{Bool, true, false, Option, None, Some}
+use Rattle.std.specs.Prelude.{Bool, true, false, Option}
 use Rattle.rb_trees.specs.declared.values.Value.{Value}
 use Rattle.rb_trees.specs.declared.forests.Node as node
 use Rattle.rb_trees.specs.declared.forests.NodeFault.{NodeFault}
@@ -9,7 +9,6 @@ use Rattle.rb_trees.specs.declared.forests.Entry.TheVariants as entries
 use Rattle.rb_trees.specs.mirror.Forests as forest
 use Rattle.rb_trees.specs.mirror.Forests.{Node, Nodes, Holds, Entry, NoEntries, MoreEntries, NoNodes, MoreNodes, mirror_node, mirror_entry, mirror_entries, mirror_nodes}
 use Rattle.rb_trees.proofs.mirror.Nodes.{at_Node, form_Value, form_Branch, form_Rows}
-use Rattle.rb_meaning_code.specs.Remote.{Server}
 use Rattle.rb_meaning_code.specs.ScriptRun.{Ran, in_front, with_entry, with_kept}
 use Rattle.rb_exec.specs.Blocks.{with_entries, kept_entries}
 

@@ -1,12 +1,12 @@
 -- What the places of variables lead to.
-use Rattle.std.proofs.Common.{◌≡◌, ℕ, suc, zero, ◌<◌, ◌≤◌, ◌+◌, List, [], ◌∷◌, ◌++◌, map, length, reverse, Bool, true, false, cond, nat_eq, nat_lt, Option, Some, None, slice_get, refl, sym, ap, ◌∙◌, subst, arith}
+use Rattle.std.proofs.Common.{◌≡◌, ℕ, suc, zero, ◌<◌, ◌≤◌, List, [], ◌∷◌, ◌++◌, length, reverse, Bool, true, false, cond, nat_eq, nat_lt, Option, Some, None, slice_get, refl, sym, ap, ◌∙◌, subst, arith}
 use Rattle.std.specs.Option.{option_map}
 use Rattle.std.proofs.lemmas.Grind.{common_steps}
 use Rattle.std.proofs.lemmas.Bool.Decides.{nat_tests}
 use Rattle.std.proofs.lemmas.List.{reverse-append, reverse-reverse, length-reverse}
 use Rattle.rb_trees.specs.declared.values.Value.{Value}
 use Rattle.rb_meaning_code.specs.ScriptRun.{Vars, latest}
-use Rattle.rb_exec.specs.Bindings.{as_variables, Guides, latest_binding, oldest, without_latest}
+use Rattle.rb_exec.specs.Bindings.{as_variables, Guides, oldest, without_latest}
 use Rattle.rb_exec.specs.declared.variables.Binding.{Binding}
 
 same_number : (a b : ℕ) → nat_eq a b ≡ true → a ≡ b

@@ -1,5 +1,5 @@
 -- Turns over rows, one by one.
-use Rattle.std.proofs.Common.{◌≡◌, refl, sym, ap, ◌∙◌, subst, ℕ, zero, suc, ◌+◌, ◌<◌, ◌≤◌, arith, List, [], ◌∷◌, ◌++◌, length, drop, get_or}
+use Rattle.std.proofs.Common.{◌≡◌, refl, sym, ap, ◌∙◌, subst, ℕ, suc, ◌+◌, ◌<◌, ◌≤◌, List, [], ◌∷◌, ◌++◌, length, drop, get_or}
 use Rattle.std.proofs.lemmas.List.{drop_all}
 use Rattle.std.specs.Prelude.{Bool, true, false, is_some, Option, None, Some, Result, Ok, Err}
 use Rattle.rb_trees.specs.Outcome.{Gives, ◌>>◌}
@@ -10,8 +10,8 @@ use Rattle.rb_trees.specs.declared.forests.Entry as entry
 use Rattle.rb_trees.specs.declared.forests.Entry.TheVariants as entries
 use Rattle.rb_trees.specs.mirror.Forests as forest
 use Rattle.rb_trees.specs.mirror.Forests.{Node, NoNodes, MoreNodes, mirror_node, mirror_nodes}
-use Rattle.rb_meaning_code.specs.Remote.{Server, Reply, replies}
-use Rattle.rb_meaning_code.specs.ScriptRun.{Vars, Ran, Turned, Why, AllDone, InTurn, NoUnit, with_entry, halted, stopped, on_reply, may_keep, kept, with_kept, with_unit, before_turns, turned_on, turns, turn_over, after_turns, walked}
+use Rattle.rb_meaning_code.specs.Remote.{Server, replies}
+use Rattle.rb_meaning_code.specs.ScriptRun.{Vars, Ran, Turned, Why, AllDone, InTurn, NoUnit, with_entry, stopped, on_reply, may_keep, with_kept, with_unit, before_turns, turned_on, turns, turn_over, after_turns, walked}
 use Rattle.rb_exec.specs.Blocks.{with_entries, Did, IsRun, AreTurns, EndsTurns, end_of, kept_entries, row_entries}
 use Rattle.rb_exec.specs.Ends.{at_place}
 use Rattle.rb_exec.specs.Servers.{TakesUnit}
@@ -23,7 +23,6 @@ use Rattle.rb_trees.proofs.mirror.Nodes.{at_Node}
 use Rattle.rb_exec.specs.declared.ends.Miss.{Miss}
 use Rattle.rb_exec.specs.declared.ends.Miss.TheVariants as miss
 use Rattle.rb_exec.specs.declared.ends.Stop.{Stop}
-use Rattle.rb_exec.specs.declared.ends.Stop.TheVariants as stop
 use Rattle.rb_exec.specs.declared.turns.TurnsEnd.{TurnsEnd}
 use Rattle.rb_exec.specs.declared.turns.TurnsEnd.TheVariants as ends
 use Rattle.rb_exec.proofs.Dropped.{dropped_one}

@@ -1,5 +1,5 @@
 -- A weight of scripts, which falls at each step into them.
-use Rattle.std.proofs.Common.{◌≡◌, ℕ, zero, suc, ◌+◌, ◌<◌, ◌≤◌, max, arith, List, [], ◌∷◌, length, get_or, ap}
+use Rattle.std.proofs.Common.{ℕ, zero, suc, ◌+◌, ◌<◌, ◌≤◌, max, arith, List, [], ◌∷◌, length, get_or}
 use Rattle.rb_trees.specs.declared.scripts.SExpr as sexpr
 use Rattle.rb_trees.specs.declared.scripts.Step as step
 use Rattle.rb_trees.specs.mirror.Scripts as script

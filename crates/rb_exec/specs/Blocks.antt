@@ -1,7 +1,7 @@
 -- How steps and blocks, as the code runs them, stand to what they mean.
-use Rattle.std.specs.Prelude.{◌≡◌, ℕ, List, [], ◌∷◌, ◌++◌, length, Bool, true, false, is_some, Option, None, Some, Result, Ok, Err}
-use Rattle.rb_trees.specs.Outcome.{must, ◌>>◌}
-use Rattle.rb_trees.specs.declared.values.Value.{Value, out-Value}
+use Rattle.std.specs.Prelude.{◌≡◌, ℕ, List, [], ◌∷◌, ◌++◌, length, Bool, true, false, is_some, None, Some, Result, Ok, Err}
+use Rattle.rb_trees.specs.Outcome.{◌>>◌}
+use Rattle.rb_trees.specs.declared.values.Value.{Value}
 use Rattle.rb_trees.specs.declared.values.Fault.{Fault}
 use Rattle.rb_trees.specs.declared.forests.Node as node
 use Rattle.rb_trees.specs.declared.forests.Entry as entry
@@ -11,6 +11,7 @@ use Rattle.rb_meaning_code.specs.Faults.{fuel_used}
 use Rattle.rb_meaning_code.specs.Remote.{Server}
 use Rattle.rb_meaning_code.specs.ScriptRun.{Vars, Ran, Turned, Why, AllDone, InTurn, NoUnit, with_entry, stopped, halted, may_keep}
 use Rattle.rb_exec.specs.Stages.{Rest, Meaning}
+use Rattle.rb_exec.specs.Ends.{UnlessMemory}
 use Rattle.rb_exec.specs.declared.blocks.Block.{Block}
 use Rattle.rb_exec.specs.declared.ends.Stop.{Stop}
 use Rattle.rb_exec.specs.declared.ends.Stop.TheVariants as stop
@@ -72,6 +73,18 @@ pub record AreTurns (meant : Turned) (nodes : List node.Node) (end : TurnsEnd) (
   pub nodes_so : mirror_nodes nodes ≡ meant.nodes
   pub end_so : end ≡ end_of meant.why
   pub server_so : server ≡ meant.server
+
+-- what a call ensures that runs a block behind entries
+abbrev pub RunsBlock : List entry.Entry → Ran → Result Block Stop → Server → Type 0
+RunsBlock es meant result s = UnlessMemory result (λ block. IsRun (with_entries es meant) block s)
+
+-- what a call ensures that runs turns
+abbrev pub RunsTurns : Turned → Result (List node.Node × TurnsEnd) Stop → Server → Type 0
+RunsTurns meant result s = UnlessMemory result (λ t. AreTurns meant t.0 t.1 s)
+
+-- the block that has a fault as its only content
+abbrev pub faulted_block : ℕ → ℕ → Fault → Block
+faulted_block step at fault = record { node = record { entries = []; fault = Some (record { step = step; at = at; fault = fault }) }; stopped = true }
 
 -- the entry of a value that is kept
 abbrev pub kept_entries : Bool → Value → List entry.Entry

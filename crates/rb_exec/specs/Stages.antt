@@ -71,9 +71,13 @@ abbrev pub body_run : List class.Class → ℕ → List Value → List Step → 
 body_run classes root inputs steps s =
     run_steps (record { classes = map mirror_class classes; root = root; inputs = inputs }) (mirror_steps steps) [] s ended
 
+-- the block of a turn, with its row bound
+abbrev pub row_run : Stage → Walk → Vars → Value → Server → Ran
+row_run st w vars row s = block_run st w.body.now ((w.variable, row) ∷ vars) s
+
 -- a turn over a row
 abbrev pub turn_run : Stage → Walk → Vars → Value → Server → Ran
-turn_run st w vars row s = turn_over w.id w.at w.keep (λ s1. block_run st w.body.now ((w.variable, row) ∷ vars) s1) row s
+turn_run st w vars row s = turn_over w.id w.at w.keep (row_run st w vars row) row s
 
 abbrev pub turns_run : Stage → Walk → Vars → List Value → Server → Turned
 turns_run st w vars rows s = turns (turn_run st w vars) rows s

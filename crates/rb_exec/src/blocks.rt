@@ -1,7 +1,7 @@
 // Blocks that were run.
 
 ghost use Rattle.std.specs.Prelude.{◌≡◌, [], true, Some};
-ghost use Rattle.rb_exec.specs.Blocks.{Finished};
+ghost use Rattle.rb_exec.specs.Blocks.{Finished, faulted_block};
 
 use crate::ends::Stop;
 use rb_trees::{Entry, Fault, Node, NodeFault, Seq};
@@ -48,7 +48,7 @@ pub fn finish(entries: Seq<Entry>, end: Result<(), Stop>) -> Result<Block, Stop>
 /// The block that has a fault as its only content.
 #[inline(never)]
 pub fn faulted(alloc: Global, step: u32, at: u32, fault: Fault) -> Block
-    ensures { result ≡ record { node = record { entries = []; fault = Some (record { step = step; at = at; fault = fault }) }; stopped = true } }
+    ensures { result ≡ faulted_block step at fault }
 {
     Block {
         node: Node {

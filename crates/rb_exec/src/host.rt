@@ -1,10 +1,10 @@
 // A service with its table, and the run of a script on it.
 
-ghost use Rattle.std.specs.Prelude.{◌≡◌, map, IfOk, OnOk};
+ghost use Rattle.std.specs.Prelude.{◌≡◌, [], map, IfOk, OnOk};
 ghost use Rattle.rb_trees.specs.mirror.Declarations.{mirror_class};
 ghost use Rattle.rb_trees.specs.mirror.Forests.{mirror_node};
 ghost use Rattle.rb_code.specs.Differ.{ClassesDiffer};
-ghost use Rattle.rb_exec.specs.Blocks.{IsRun};
+ghost use Rattle.rb_exec.specs.Blocks.{RunsBlock};
 ghost use Rattle.rb_exec.specs.Ends.{UnlessMemory};
 ghost use Rattle.rb_exec.specs.Hosts.{script_run};
 ghost use Rattle.rb_exec.specs.Stages.{body_run};
@@ -113,7 +113,7 @@ fn run_body(
     inputs: &[Value],
     body: &Seq<Step>,
 ) -> Result<Block, Stop>
-    ensures { UnlessMemory result (λ block. IsRun (body_run code.now root inputs.now body.now server.old) block server.new) }
+    ensures { RunsBlock [] (body_run code.now root inputs.now body.now server.old) result server.new }
 {
     let stage = Stage { code, root, inputs };
     let mut variables = Variables::new(alloc);

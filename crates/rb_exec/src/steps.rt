@@ -1,7 +1,7 @@
 // Performs the steps of a script.
 
 ghost use Rattle.std.specs.Prelude.{◌≡◌, cond};
-ghost use Rattle.rb_exec.specs.Blocks.{Closes, Did, DidQuietly, IsRun, with_entries};
+ghost use Rattle.rb_exec.specs.Blocks.{Closes, Did, DidQuietly, RunsBlock};
 ghost use Rattle.rb_exec.specs.Ends.{UnlessMemory};
 ghost use Rattle.rb_exec.specs.Stages.{block_run, do_run, each_run, if_run, keep_run, let_run, step_run, steps_run};
 
@@ -29,7 +29,7 @@ pub fn run_block(
     entries: Seq<Entry>,
     steps: &Seq<Step>,
 ) -> Result<Block, Stop>
-    ensures runs { UnlessMemory result (λ block. IsRun (with_entries entries (block_run stage.now steps.now variables.old server.old)) block server.new) }
+    ensures runs { RunsBlock entries (block_run stage.now steps.now variables.old server.old) result server.new }
     ensures closes { UnlessMemory result (λ block. Closes count variables.old variables.new) }
 {
     let mut entries = entries;

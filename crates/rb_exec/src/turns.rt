@@ -1,9 +1,9 @@
 // Performs the turns of an `Each`.
 
-ghost use Rattle.std.specs.Prelude.{◌≡◌, ◌∷◌};
-ghost use Rattle.rb_exec.specs.Blocks.{AreTurns, EndsTurns, IsRun, with_entries};
+ghost use Rattle.std.specs.Prelude.{◌≡◌, []};
+ghost use Rattle.rb_exec.specs.Blocks.{EndsTurns, RunsBlock, RunsTurns};
 ghost use Rattle.rb_exec.specs.Ends.{UnlessMemory};
-ghost use Rattle.rb_exec.specs.Stages.{block_run, turn_run, turns_run};
+ghost use Rattle.rb_exec.specs.Stages.{row_run, turn_run, turns_run};
 
 use crate::blocks::{Block, faulted};
 use crate::ends::{Miss, Stop, at_place};
@@ -45,7 +45,7 @@ pub fn run_turns(
     walk: &Walk<'_>,
     rows: &[Value],
 ) -> Result<(Seq<Node>, TurnsEnd), Stop>
-    ensures turns { UnlessMemory result (λ t. AreTurns (turns_run stage.now walk.now variables.old rows.now server.old) t.0 t.1 server.new) }
+    ensures turns { RunsTurns (turns_run stage.now walk.now variables.old rows.now server.old) result server.new }
     ensures closes { UnlessMemory result (λ t. variables.new ≡ variables.old) }
 {
     let mut nodes = Seq::new(alloc);
@@ -73,7 +73,7 @@ fn run_turn(
     walk: &Walk<'_>,
     row: &Value,
 ) -> Result<Block, Stop>
-    ensures turn { UnlessMemory result (λ block. IsRun (turn_run stage.now walk.now variables.old row.now server.old) block server.new) }
+    ensures turn { RunsBlock [] (turn_run stage.now walk.now variables.old row.now server.old) result server.new }
     ensures closes { UnlessMemory result (λ block. variables.new ≡ variables.old) }
 {
     match at_place(walk.at, row_entries(alloc, walk.keep, row)) {
@@ -95,7 +95,7 @@ fn run_row(
     row: &Value,
     entries: Seq<Entry>,
 ) -> Result<Block, Stop>
-    ensures turn { UnlessMemory result (λ block. IsRun (with_entries entries (block_run stage.now walk.now.body.now ((walk.now.variable, row.now) ∷ variables.old) server.old)) block server.new) }
+    ensures turn { RunsBlock entries (row_run stage.now walk.now variables.old row.now server.old) result server.new }
     ensures closes { UnlessMemory result (λ block. variables.new ≡ variables.old) }
 {
     let count = variables.count();

@@ -2,13 +2,14 @@
 
 ghost use Rattle.std.specs.Prelude.{◌≡◌, ℕ, nat_eq, cond, [], ◌∷◌, length, reverse, slice_get, OnOk, OnErr};
 ghost use Rattle.std.specs.Option.{option_copied, option_map};
-ghost use Rattle.std.specs.HashMap.{get};
+ghost use Rattle.std.specs.Ordering.{nat_cmp};
+ghost use Rattle.std.specs.BTreeMap.{get};
 ghost use Rattle.rb_meaning_code.specs.ScriptRun.{latest};
 ghost use Rattle.rb_exec.specs.Bindings.{latest_binding, oldest, without_latest};
 
 use rb_trees::{Memory, Value};
 use std::alloc::Global;
-use std::collections::HashMap;
+use std::collections::BTreeMap;
 use std::marker::Model;
 
 /// A variable that was bound to a value, and the place of its binding before.
@@ -26,13 +27,14 @@ pub struct Variables {
     // in order of binding
     bindings: Vec<Binding>,
     // the place of each variable's latest binding
-    places: HashMap<u32, usize>,
+    places: BTreeMap<u32, usize>,
 }
 
 impl Model for Variables {
-    ghost use Rattle.std.specs.Prelude.{nat_eq, reverse};
+    ghost use Rattle.std.specs.Prelude.{reverse};
     ghost use Rattle.std.specs.Coded.{coded×, coded_list, coded_ℕ};
-    ghost use Rattle.std.specs.HashMap.{get};
+    ghost use Rattle.std.specs.Ordering.{nat_cmp};
+    ghost use Rattle.std.specs.BTreeMap.{get};
     ghost use Rattle.rb_trees.specs.contracts.values.Value as value_code;
     ghost use Rattle.rb_meaning_code.specs.ScriptRun.{Vars};
     ghost use Rattle.rb_exec.specs.Bindings.{Guides, as_variables};
@@ -43,7 +45,7 @@ impl Model for Variables {
 
     ghost view = { λ v. as_variables (reverse v.bindings.items) };
 
-    ghost invariant = { λ v. Guides (get nat_eq v.places) (reverse v.bindings.items) };
+    ghost invariant = { λ v. Guides (get nat_cmp v.places) (reverse v.bindings.items) };
 }
 
 impl Variables {
@@ -53,7 +55,7 @@ impl Variables {
     {
         Variables {
             bindings: Vec::new(alloc),
-            places: HashMap::new(alloc),
+            places: BTreeMap::new(alloc),
         }
     }
 
@@ -130,8 +132,8 @@ fn value_at(bindings: &[Binding], place: usize) -> Option<&Value>
 }
 
 // The place that is kept of a variable.
-fn place_of(places: &HashMap<u32, usize>, number: u32) -> Option<usize>
-    ensures { result ≡ get nat_eq places.now number }
+fn place_of(places: &BTreeMap<u32, usize>, number: u32) -> Option<usize>
+    ensures { result ≡ get nat_cmp places.now number }
 {
     match places.get(&number) {
         Some(place) => Some(*place),
@@ -141,12 +143,12 @@ fn place_of(places: &HashMap<u32, usize>, number: u32) -> Option<usize>
 
 // Keeps another place of a variable, or none. After an error the places are as they were.
 fn set_place(
-    places: &mut HashMap<u32, usize>,
+    places: &mut BTreeMap<u32, usize>,
     number: u32,
     place: Option<usize>,
 ) -> Result<(), Memory>
-    ensures set { OnOk result ((n : ℕ) → get nat_eq places.new n ≡ cond (nat_eq number n) place (get nat_eq places.old n)) }
-    ensures kept { OnErr result ((n : ℕ) → get nat_eq places.new n ≡ get nat_eq places.old n) }
+    ensures set { OnOk result ((n : ℕ) → get nat_cmp places.new n ≡ cond (nat_eq number n) place (get nat_cmp places.old n)) }
+    ensures kept { OnErr result ((n : ℕ) → get nat_cmp places.new n ≡ get nat_cmp places.old n) }
 {
     match place {
         Some(place) => {

@@ -1,13 +1,11 @@
-//! Tests of scripts on a host: scripts as trees, and the nodes that they give, as texts.
+//! Tests of scripts on a host: scripts and the nodes that they give, both as texts.
 #![tactic(auto)]
 
 #[cfg(test)]
-mod build;
-#[cfg(test)]
-mod faults;
-#[cfg(test)]
 mod files;
 #[cfg(test)]
-mod shown;
+mod notation;
 #[cfg(test)]
-mod steps;
+mod rows;
+#[cfg(test)]
+mod shown;

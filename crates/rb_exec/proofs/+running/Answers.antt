@@ -1,6 +1,6 @@
 -- How each step of a script does what it means.
-use Rattle.std.proofs.Common.{rules, arith, refl, sym, ap, ◌∙◌, Ok, Err, []}
-use Rattle.rb_exec.specs.Stages.{turn_run, turns_run}
+use Rattle.std.proofs.Common.{rules, arith, refl, sym, ap, ◌∙◌, Err, []}
+use Rattle.rb_exec.specs.Stages.{turn_run}
 use Rattle.rb_exec.proofs.Done.{on_value, if_so, each_so, want, leads_more, leads_cut, block_so, closes_so, back_to, of_step, branch_run, branch_went, branch_stopped, unless_run, unless_closes}
 use Rattle.rb_exec.proofs.Forms.{do_form, keep_form, let_form, if_form, each_form}
 use Rattle.rb_exec.proofs.Replies.{ruled}

@@ -1,5 +1,5 @@
-use Rattle.std.proofs.Common.{◌≡◌, ℕ, ◌+◌, max, drop}
-use Rattle.rb_exec.specs.Stages.{turn_run, turns_run}
+use Rattle.std.proofs.Common.{◌≡◌, ◌+◌, max, drop}
+use Rattle.rb_exec.specs.Stages.{turns_run}
 use Rattle.rb_exec.proofs.Done.{LeadsOn}
 use Rattle.rb_exec.proofs.Turned.{after_nodes}
 use Rattle.rb_exec.proofs.Weight.{step_of, steps_of}

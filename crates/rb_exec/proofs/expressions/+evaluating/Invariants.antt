@@ -1,4 +1,4 @@
-use Rattle.std.proofs.Common.{◌≡◌, ℕ, ◌+◌, max, drop}
+use Rattle.std.proofs.Common.{◌≡◌, ◌+◌, max, drop}
 use Rattle.rb_exec.specs.Stages.{values_run}
 use Rattle.rb_exec.proofs.Replies.{after}
 use Rattle.rb_exec.proofs.Weight.{weight_of, weights_of}
