@@ -4,5 +4,4 @@ pub mod ReplyKinds
 pub mod Joined
 pub mod Nodes
 pub mod Bounded
-pub mod NotDeep
 pub mod Sent

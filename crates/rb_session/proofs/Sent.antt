@@ -15,6 +15,7 @@ use Rattle.rb_meaning_bytes.specs.formats.ForestBytes.{FormedForest, FormedNode}
 use Rattle.rb_meaning_bytes.specs.formats.ScriptPayloads.{Sent, Means, taken, sent_bytes, CanBeSent}
 use Rattle.rb_meaning.specs.Answers.{longest_request}
 use Rattle.rb_types_keep.specs.Scripts.{ScriptsKeep}
+use Rattle.rb_types_keep.specs.Formed.{LawfulClassesAreFormed}
 use Rattle.rb_exec.specs.Hosted.{Hosted}
 use Rattle.rb_session.specs.Answering.{IsTypedHost, IsSent, performed_on}
 use Rattle.rb_session.proofs.Nodes.{root_formed}
@@ -46,21 +47,18 @@ unfolding FormedForest
 as_forest node h = h
 
 -- its node
-pub node_spelled : ScriptsKeep → (host : Hosted) (x : Sent) → IsTypedHost host → IsSent x → FormedForest (performed_on host x).node
-node_spelled law host x typed sent =
+pub node_spelled : ScriptsKeep → LawfulClassesAreFormed → (host : Hosted) (x : Sent) → IsTypedHost host → IsSent x → FormedForest (performed_on host x).node
+node_spelled law formed host x typed sent =
     let service = mirror_service host.service in
-    let ran = law service.classes typed.typed.typed typed.formed service.root host.table typed.typed.fits x.0 x.1 (steps_bounded x.0.body sent.formed.formed.body) (inputs_bounded x.1 sent.formed.values.primitive) in
+    let ran = law service.classes typed.typed (formed service.classes typed.lawful.each) service.root host.table typed.fits x.0 x.1 (steps_bounded x.0.body sent.formed.formed.body) (inputs_bounded x.1 sent.formed.values.primitive) in
     let size = sent.size in
     as_forest (performed_on host x).node (root_formed x.0.body (limits_within x sent.formed.within) (omega arith) (performed_on host x).node ran.node)
 
 -- the host after it
-pub stays_typed : ScriptsKeep → (host after : Hosted) (x : Sent) → IsTypedHost host → IsSent x → after.service ≡ host.service
+pub stays_typed : ScriptsKeep → LawfulClassesAreFormed → (host after : Hosted) (x : Sent) → IsTypedHost host → IsSent x → after.service ≡ host.service
     → after.table ≡ (performed_on host x).server.table → IsTypedHost after
-stays_typed law host after x typed sent same is =
+stays_typed law formed host after x typed sent same is =
     let service = mirror_service host.service in
-    let ran = law service.classes typed.typed.typed typed.formed service.root host.table typed.typed.fits x.0 x.1 (steps_bounded x.0.body sent.formed.formed.body) (inputs_bounded x.1 sent.formed.values.primitive) in
+    let ran = law service.classes typed.typed (formed service.classes typed.lawful.each) service.root host.table typed.fits x.0 x.1 (steps_bounded x.0.body sent.formed.formed.body) (inputs_bounded x.1 sent.formed.values.primitive) in
     let moved : after ≡ record { service = host.service; table = (performed_on host x).server.table } = ap (λ s. record { service = s; table = after.table }) same ∙ ap (λ t. record { service = host.service; table = t }) is in
-    subst IsTypedHost (sym moved) (record {
-      typed = record { lawful = typed.typed.lawful; typed = typed.typed.typed; fits = ran.table.fits };
-      formed = typed.formed;
-    })
+    subst IsTypedHost (sym moved) (record { lawful = typed.lawful; typed = typed.typed; fits = ran.table.fits })

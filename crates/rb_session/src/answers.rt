@@ -8,9 +8,9 @@ ghost use Rattle.rb_session.specs.Answering.{IsTypedHost, IsSent, Replies, Perfo
 
 use bytes::BytesMut;
 use rb_exec::{Host, run_script};
-use rb_meaning_bytes::{each_script_has_one_spelling, the_code_has_its_size};
+use rb_meaning_bytes::{each_script_has_one_spelling, refusals_have_numbers, the_code_has_its_size};
 use rb_trees::{Memory, Script, Value};
-use rb_types_keep::scripts_keep_tables;
+use rb_types_keep::{lawful_code_is_formed, scripts_keep_tables};
 use rb_wire_forest::{encode_forest, encode_refusal};
 use rb_wire_script::{ScriptStop, decode_script};
 use std::alloc::Global;
@@ -31,12 +31,13 @@ fn perform(
 ) -> Result<u8, Memory>
     requires typed { IsTypedHost host.old }
     requires sent { IsSent (mirror_script script.now, inputs.now) }
-    ensures performs { IfOk result (λ kind. Performs host.old host.new (mirror_script script.now, inputs.now) kind reply.old.items reply.new.items) }
+    ensures performs { IfOk result (Performs host.old host.new script.now inputs.now reply.old.items reply.new.items) }
     ensures typed { OnOk result (IsTypedHost host.new) }
     ensures service { host.new.service ≡ host.old.service }
     ensures unchanged { OnErr result (reply.new.items ≡ reply.old.items) }
 {
     scripts_keep_tables();
+    lawful_code_is_formed();
     let node = run_script(alloc, host, script, inputs)?;
     encode_forest(&node, reply)?;
     Ok(FOREST)
@@ -45,7 +46,7 @@ fn perform(
 // Appends the refusal of what isn't a valid script.
 fn refuse(number: u8, at: u32, reply: &mut BytesMut) -> Result<u8, Memory>
     requires { is_refusal_number number ≡ true }
-    ensures refuses { IfOk result (λ kind. Refuses (number, at) kind reply.old.items reply.new.items) }
+    ensures refuses { IfOk result (Refuses (number, at) reply.old.items reply.new.items) }
     ensures unchanged { OnErr result (reply.new.items ≡ reply.old.items) }
 {
     encode_refusal(number, at, reply)?;
@@ -64,7 +65,7 @@ pub fn answer(
 ) -> Result<u8, Memory>
     requires size { length payload.now ≤ longest_request }
     requires typed { IsTypedHost host.old }
-    ensures replies { IfOk result (λ kind. Replies host.old host.new payload.now kind reply.old.items reply.new.items) }
+    ensures replies { IfOk result (Replies host.old host.new payload.now reply.old.items reply.new.items) }
     // A payload that is refused leaves the table as it was.
     ensures refused { result ≡ Ok 3 → host.new ≡ host.old }
     ensures typed { OnOk result (IsTypedHost host.new) }
@@ -73,6 +74,7 @@ pub fn answer(
 {
     each_script_has_one_spelling();
     the_code_has_its_size();
+    refusals_have_numbers();
     match decode_script(alloc, payload) {
         Ok((script, inputs)) => perform(alloc, host, &script, inputs.as_slice(), reply),
         Err(ScriptStop::Refused { number, at }) => refuse(number, at, reply),

@@ -1,9 +1,9 @@
 // A link to a server in the same process.
 
-ghost use Rattle.std.specs.Prelude.{◌≡◌, ◌≤◌, [], ◌∷◌, ◌++◌, true, length, IfOk, OnOk, OnErr};
+ghost use Rattle.std.specs.Prelude.{◌≡◌, ◌≤◌, length, IfOk, OnOk, OnErr};
 ghost use Rattle.rb_meaning.specs.Answers.{longest_request};
 ghost use Rattle.rb_session.specs.Answering.{IsTypedHost, AnswersOn};
-ghost use Rattle.rb_session.specs.Exchanges.{pair_told, all_told};
+ghost use Rattle.rb_session.specs.Exchanges.{pair_told, all_told, OneMore};
 ghost use Rattle.rb_session.specs.MemoryLinks.{new_link, Exchanges};
 
 use crate::answers::answer;
@@ -111,7 +111,7 @@ fn carry(
     requires size { length request.now ≤ longest_request }
     requires typed { IsTypedHost host.old }
     ensures answers { IfOk result (λ reply. AnswersOn host.old request.now reply.kind reply.payload.items host.new) }
-    ensures pair { IfOk result (λ reply. all_told pairs.new.items ≡ all_told pairs.old.items ++ record { request = request.now; kind = reply.kind; reply = reply.payload.items } ∷ []) }
+    ensures pair { IfOk result (OneMore request.now pairs.old.items pairs.new.items) }
     ensures typed { OnOk result (IsTypedHost host.new) }
     ensures service { host.new.service ≡ host.old.service }
     ensures unchanged { OnErr result (pairs.new.items ≡ pairs.old.items) }
