@@ -1,6 +1,6 @@
 -- The node that a script gives has a spelling, where the script was sent: its nodes are within each other as the blocks
 -- of the script, and no node has more entries than its block has steps, and one for a kept row.
-use Rattle.std.proofs.Common.{◌≡◌, refl, ap, sym, ◌∙◌, subst, ℕ, zero, suc, ◌+◌, ◌<◌, ◌≤◌, ◌^◌, arith, List, [], ◌∷◌, eq-eqb, inl, inr}
+use Rattle.std.proofs.Common.{◌≡◌, refl, ap, ℕ, zero, suc, ◌+◌, ◌<◌, ◌≤◌, ◌^◌, arith, List, [], eq-eqb, inl, inr}
 use Rattle.std.proofs.lemmas.Bool.Decides.{nat_tests}
 use Rattle.std.proofs.lemmas.Str.{IsUtf8-from_is_utf8, is_utf8-from_IsUtf8}
 use Rattle.std.specs.Prelude.{Bool, true, false, nat_eq, Option, None, Some, ◌⊎◌}
@@ -57,9 +57,12 @@ only_thrown code text (inr is) other = is
 end_formed : (f : Option NodeFault) → IsEnd f → FormedEnd f
 end_formed None h = tt
 end_formed (Some f) h =
-    let is : IsFault f.fault = h.2 in
-    (h.0, h.1, code_is_one f.fault.code is.least is.most,
-    where_thrown (nat_eq f.fault.code thrown) f.fault.text (text_fits f.fault.text is.text) (only_thrown f.fault.code f.fault.text is.plain))
+    let is : IsFault f.fault = h.2 in (
+      h.0,
+      h.1,
+      code_is_one f.fault.code is.least is.most,
+      where_thrown (nat_eq f.fault.code thrown) f.fault.text (text_fits f.fault.text is.text) (only_thrown f.fault.code f.fault.text is.plain),
+    )
 
 -- entries
 

@@ -1,12 +1,10 @@
 -- A script that a payload means was sent, and its node has a spelling.
-use Rattle.std.proofs.Common.{◌≡◌, ap, sym, ◌∙◌, subst, ℕ, ◌+◌, ◌≤◌, arith, List, [], ◌∷◌, length, length-append}
-use Rattle.std.specs.Prelude.{◌++◌, map, Ok}
-use Rattle.rb_trees.specs.CodeSize.{block_size, steps_size}
-use Rattle.rb_trees.specs.declared.services.Object.{Object}
+use Rattle.std.proofs.Common.{◌≡◌, ap, sym, ◌∙◌, subst, ℕ, ◌≤◌, arith, List, ◌∷◌, length, length-append}
+use Rattle.std.specs.Prelude.{Ok}
+use Rattle.rb_trees.specs.CodeSize.{block_size}
 use Rattle.rb_trees.specs.mirror.Scripts.{Steps}
 use Rattle.rb_trees.specs.mirror.Forests.{Node}
 use Rattle.rb_trees.specs.mirror.Services.{mirror_service}
-use Rattle.rb_meaning_bytes.specs.formats.Formats.{Spells}
 use Rattle.rb_meaning_bytes.specs.formats.Laws.{IsSpelling}
 use Rattle.rb_meaning_bytes.specs.formats.Scripts.{script_message}
 use Rattle.rb_meaning_bytes.specs.formats.ScriptBytes.{block_bytes, values_bytes}

@@ -103,11 +103,7 @@ fn pair_of(alloc: Global, request: &[u8], kind: u8, reply: &[u8]) -> Result<Exch
 }
 
 // Has the host answer a request, and keeps a copy of both.
-fn carry(
-    host: &mut Host,
-    pairs: &mut Vec<Exchange>,
-    request: &[u8],
-) -> Result<Reply, Memory>
+fn carry(host: &mut Host, pairs: &mut Vec<Exchange>, request: &[u8]) -> Result<Reply, Memory>
     requires size { length request.now ≤ longest_request }
     requires typed { IsTypedHost host.old }
     ensures answers { IfOk result (λ reply. AnswersOn host.old request.now reply.kind reply.payload.items host.new) }
