@@ -1,8 +1,9 @@
 // Hosts that are read from texts.
 
 ghost use Rattle.std.specs.Prelude.{IfOk};
-ghost use Rattle.rb_meaning.specs.Links.{IsTyped};
+ghost use Rattle.rb_session.specs.Answering.{IsTypedHost};
 
+use rb_differ::classes_differ;
 use rb_exec::Host;
 use rb_store::{print_table, read_service};
 use rb_trees::Word;
@@ -13,7 +14,8 @@ use std::test::Fail;
 pub const NUMBER: &[u8] = b"class D { fun n(): Int { return 7; } } object 0: D { } root 0;";
 
 /// A directory with two files, which can grow.
-pub const FILES: &[u8] = b"class File { name: Text; size: Int; fun name(): Text { return this.name; } fun size(): Int { return this.size; } fun grow(by: Int) { this.size = this.size + by; } }
+pub const FILES: &[u8] =
+    b"class File { name: Text; size: Int; fun name(): Text { return this.name; } fun size(): Int { return this.size; } fun grow(by: Int) { this.size = this.size + by; } }
 class Dir { list: List<File>; fun files(): List<File> { return this.list; } fun file(i: Int): File { return this.list[i]; } }
 object 0: Dir { list = [#1, #2]; }
 object 1: File { name = \"a\"; size = 10; }
@@ -22,10 +24,13 @@ root 0;";
 
 /// The host of a service's text.
 pub fn host_of(alloc: Global, source: &[u8]) -> Result<Host, Fail>
-    ensures { IfOk result (λ host. IsTyped host.service host.table) }
+    ensures { IfOk result IsTypedHost }
 {
     let (service, table) = read_service(alloc, source)?;
-    Ok(Host::make(alloc, service, table)?)
+    if classes_differ(service.classes.as_slice()) {
+        return Ok(Host::make(alloc, service, table)?);
+    }
+    Err(Fail::new("two classes or methods have one name"))
 }
 
 /// The lines of a host's table.
