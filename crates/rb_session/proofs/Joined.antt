@@ -1,18 +1,13 @@
 -- What was appended is the server's reply.
-use Rattle.std.proofs.Common.{◌≡◌, refl, sym, subst, ℕ, List}
+use Rattle.std.proofs.Common.{sym, subst, ℕ, List}
 use Rattle.std.specs.Prelude.{Result, Ok, Err, IfOk}
 use Rattle.rb_trees.specs.declared.values.Value.{Value}
 use Rattle.rb_trees.specs.declared.scripts.Script as scripts
-use Rattle.rb_trees.specs.declared.forests.Node as nodes
 use Rattle.rb_trees.specs.mirror.Scripts.{mirror_script}
-use Rattle.rb_trees.specs.mirror.Forests.{mirror_node}
 use Rattle.rb_trees.specs.mirror.Services.{mirror_service}
-use Rattle.rb_meaning_bytes.specs.formats.Forests.{forest_message}
 use Rattle.rb_meaning_bytes.specs.formats.ScriptPayloads.{Refused, Means}
 use Rattle.rb_meaning.specs.Answers.{forest_kind, Answers, performs, refuses}
-use Rattle.rb_exec.specs.Hosts.{script_run}
 use Rattle.rb_exec.specs.Hosted.{Hosted}
-use Rattle.rb_wire_forest.specs.Buffers.{Appends}
 use Rattle.rb_session.specs.Answering.{Performs, Refuses, Replies}
 
 -- of a script that was performed
@@ -37,15 +32,6 @@ refused_replies host payload wrong old new means kind done =
       answers = subst (λ k. Answers (mirror_service host.service) host.table payload k bytes host.table) (sym done.kind_is) (refuses wrong bytes means done.gains.spells);
       is = done.gains.is;
     }
-
--- a node that was appended after a script was run
-pub did_perform : (before after : Hosted) (s : scripts.Script) (inputs : List Value) (node : nodes.Node) (old new : List ℕ) → mirror_node node ≡ (script_run before s inputs).node
-    → after.table ≡ (script_run before s inputs).server.table → Appends forest_message old new (mirror_node node) → Performs before after s inputs old new forest_kind
-did_perform before after s inputs node old new same table gains = record {
-  kind_is = refl;
-  gains = subst (λ n. Appends forest_message old new n) same gains;
-  table = table;
-}
 
 -- a fact of what is answered, by another of it
 pub if_ok : {A E : Type 0} (r : Result A E) (P Q : A → Type 0) → ((x : A) → P x → Q x) → IfOk r P → IfOk r Q

@@ -1,6 +1,5 @@
 -- Lemmas on answers and links.
 pub mod Once
-pub mod ReplyKinds
 pub mod Joined
 pub mod Nodes
 pub mod Bounded
