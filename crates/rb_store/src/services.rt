@@ -4,12 +4,12 @@ ghost use Rattle.std.specs.Prelude.{◌≡◌, ◌<◌, ◌≤◌, ◌^◌, map,
 ghost use Rattle.rb_trees.specs.Limits.{most_objects};
 ghost use Rattle.rb_trees.specs.Outcome.{Gives, refused_as};
 ghost use Rattle.rb_trees.specs.mirror.Declarations.{mirror_class};
-ghost use Rattle.rb_trees.specs.mirror.Services.{mirror_service_text};
-ghost use Rattle.rb_meaning_types.specs.Fits.{TableFits};
+ghost use Rattle.rb_trees.specs.mirror.Services.{mirror_service, mirror_service_text};
 ghost use Rattle.rb_meaning_types.specs.Lawful.{IsLawfulService, IsLawfulServiceText};
 ghost use Rattle.rb_meaning_types.specs.Programs as judged;
 ghost use Rattle.rb_meaning_types.specs.Stores as stores;
 ghost use Rattle.rb_meaning_types.specs.Stores.{Types, store_refusal};
+ghost use Rattle.rb_meaning.specs.Links.{IsTyped};
 ghost use Rattle.rb_store.specs.Views.{HoldsNoMemory, Passes, stored};
 
 use crate::checks::check_table;
@@ -67,7 +67,7 @@ pub fn make_service(alloc: Global, text: ServiceText) -> Result<(Service, Heap),
     requires room { length text.objects ≤ most_objects }
     ensures gives { Gives stored store_refusal result (stores.service_of (mirror_service_text text)) }
     ensures apart { IfErr result HoldsNoMemory }
-    ensures fits { IfOk result (λ s. TableFits (map mirror_class s.0.classes) s.0.root s.1) }
+    ensures typed { IfOk result (λ s. IsTyped (mirror_service s.0) s.1) }
 {
     check_text(alloc, &text)?;
     let table = make_table(alloc, text.objects.as_slice())?;

@@ -1,13 +1,12 @@
 // The service of a source.
 
-ghost use Rattle.std.specs.Prelude.{◌≤◌, map, length, IfOk, IfErr};
+ghost use Rattle.std.specs.Prelude.{◌≤◌, length, IfOk, IfErr};
 ghost use Rattle.rb_trees.specs.Limits.{most_objects};
 ghost use Rattle.rb_trees.specs.Outcome.{Tells};
-ghost use Rattle.rb_trees.specs.mirror.Declarations.{mirror_class};
-ghost use Rattle.rb_trees.specs.mirror.Services.{mirror_service_text};
-ghost use Rattle.rb_meaning_types.specs.Fits.{TableFits};
+ghost use Rattle.rb_trees.specs.mirror.Services.{mirror_service, mirror_service_text};
 ghost use Rattle.rb_meaning_types.specs.Lawful.{IsLawfulServiceText};
 ghost use Rattle.rb_meaning_types.specs.Stores.{store_refusal};
+ghost use Rattle.rb_meaning.specs.Links.{IsTyped};
 ghost use Rattle.rb_meaning.specs.ServiceSources.{ReadsAsService};
 ghost use Rattle.rb_store.specs.Outcomes.{TellsText};
 ghost use Rattle.rb_store.specs.Views.{HoldsNoMemory, stored};
@@ -43,8 +42,8 @@ pub fn read_service(alloc: Global, source: &[u8]) -> Result<(Service, Heap), Sto
     ensures read { Tells stored store_refusal result (ReadsAsService source.now) }
     // Want of memory is told as such.
     ensures apart { IfErr result HoldsNoMemory }
-    // Each object fits its class, and the root is one of them.
-    ensures fits { IfOk result (λ s. TableFits (map mirror_class s.0.classes) s.0.root s.1) }
+    // Its classes are lawful and typed, each object fits its class, and the root is one of them.
+    ensures typed { IfOk result (λ s. IsTyped (mirror_service s.0) s.1) }
 {
     let text = read_text(alloc, source)?;
     make_service(alloc, text)

@@ -5,7 +5,7 @@ ghost use Rattle.std.specs.Prelude.{◌≡◌, [], ◌∷◌, ◌++◌, ◌<◌,
 ghost use Rattle.rb_trees.specs.Limits.{most_objects};
 ghost use Rattle.rb_trees.specs.mirror.Services.{mirror_literal, mirror_object};
 ghost use Rattle.rb_meaning_types.specs.Stores as stores;
-ghost use Rattle.rb_store.specs.Referred.{is_below, FieldsBelow, ObjectsBelow, HasInts, FieldsHaveInts, ObjectsHaveInts};
+ghost use Rattle.rb_store.specs.Referred.{is_below, FieldsBelow, ObjectsBelow};
 ghost use Rattle.rb_store.specs.Views.{written_fields};
 
 use crate::values::value_of;
@@ -15,8 +15,7 @@ use std::alloc::Global;
 
 fn field_of(alloc: Global, field: &(Word, Literal)) -> Result<(Word, Value), Memory>
     requires { is_below (2 ^ 32) (mirror_literal field.now.1) ≡ true }
-    ensures value { IfOk result (λ f. f ≡ (field.now.0, stores.value_of (mirror_literal field.now.1))) }
-    ensures ints { OnOk result (HasInts (mirror_literal field.now.1)) }
+    ensures { IfOk result (λ f. f ≡ (field.now.0, stores.value_of (mirror_literal field.now.1))) }
 {
     let name = copy_word(alloc, &field.0)?;
     let value = value_of(alloc, &field.1)?;
@@ -25,8 +24,7 @@ fn field_of(alloc: Global, field: &(Word, Literal)) -> Result<(Word, Value), Mem
 
 fn fields_of(alloc: Global, fields: &[(Word, Literal)]) -> Result<Seq<(Word, Value)>, Memory>
     requires { FieldsBelow (2 ^ 32) (written_fields fields.now) }
-    ensures values { IfOk result (λ fs. fs ≡ stores.fields_of (written_fields fields.now)) }
-    ensures ints { OnOk result (FieldsHaveInts (written_fields fields.now)) }
+    ensures { IfOk result (λ fs. fs ≡ stores.fields_of (written_fields fields.now)) }
 {
     let mut values = Seq::new(alloc);
     for field in fields {
@@ -37,8 +35,7 @@ fn fields_of(alloc: Global, fields: &[(Word, Literal)]) -> Result<Seq<(Word, Val
 
 fn object_of(alloc: Global, object: &ObjectText) -> Result<Object, Memory>
     requires { FieldsBelow (2 ^ 32) (written_fields object.now.fields) }
-    ensures value { IfOk result (λ o. o ≡ stores.object_of (mirror_object object.now)) }
-    ensures ints { OnOk result (FieldsHaveInts (written_fields object.now.fields)) }
+    ensures { IfOk result (λ o. o ≡ stores.object_of (mirror_object object.now)) }
 {
     let class = copy_word(alloc, &object.class)?;
     let fields = fields_of(alloc, object.fields.as_slice())?;
@@ -60,8 +57,7 @@ fn add(table: &mut Heap, object: Object) -> Result<(), Memory>
 pub fn make_table(alloc: Global, objects: &[ObjectText]) -> Result<Heap, Memory>
     requires room { length objects.now ≤ most_objects }
     requires below { ObjectsBelow (2 ^ 32) (map mirror_object objects.now) }
-    ensures table { IfOk result (λ t. t ≡ stores.table_of (map mirror_object objects.now)) }
-    ensures ints { OnOk result (ObjectsHaveInts (map mirror_object objects.now)) }
+    ensures { IfOk result (λ t. t ≡ stores.table_of (map mirror_object objects.now)) }
 {
     let mut table = Heap::make(alloc);
     for object in objects {

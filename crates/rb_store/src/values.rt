@@ -1,11 +1,11 @@
 // The values that literals stand for.
 #![tactic(auto, using(crate::proofs::Rules::small_rules))]
 
-ghost use Rattle.std.specs.Prelude.{◌≡◌, ◌^◌, true, IfOk, OnOk};
+ghost use Rattle.std.specs.Prelude.{◌≡◌, ◌^◌, true, IfOk};
 ghost use Rattle.rb_trees.specs.mirror.Services.{mirror_literal, mirror_literals};
 ghost use Rattle.rb_trees.specs.declared.values.Value.TheVariants as values;
 ghost use Rattle.rb_meaning_types.specs.Stores as stores;
-ghost use Rattle.rb_store.specs.Referred.{is_below, are_below, HasInts, HaveInts};
+ghost use Rattle.rb_store.specs.Referred.{is_below, are_below};
 
 use rb_trees::{Literal, Memory, Seq, Shared, Value, Word, copy_word};
 use std::alloc::Global;
@@ -36,8 +36,7 @@ fn small_items(items: &Seq<Literal>) -> &[Literal]
 #[cycle(literal_values)]
 pub fn value_of(alloc: Global, literal: &Literal) -> Result<Value, Memory>
     requires { is_below (2 ^ 32) (mirror_literal literal.now) ≡ true }
-    ensures value { IfOk result (λ v. v ≡ stores.value_of (mirror_literal literal.now)) }
-    ensures ints { OnOk result (HasInts (mirror_literal literal.now)) }
+    ensures { IfOk result (λ v. v ≡ stores.value_of (mirror_literal literal.now)) }
 {
     match literal {
         Literal::Int(number) => Ok(Value::Int(*number)),
@@ -51,8 +50,7 @@ pub fn value_of(alloc: Global, literal: &Literal) -> Result<Value, Memory>
 #[cycle(literal_values)]
 fn values_of(alloc: Global, literals: &[Literal]) -> Result<Seq<Value>, Memory>
     requires { are_below (2 ^ 32) (mirror_literals literals.now) ≡ true }
-    ensures values { IfOk result (λ vs. vs ≡ stores.values_of (mirror_literals literals.now)) }
-    ensures ints { OnOk result (HaveInts (mirror_literals literals.now)) }
+    ensures { IfOk result (λ vs. vs ≡ stores.values_of (mirror_literals literals.now)) }
 {
     let mut values = Seq::new(alloc);
     for literal in literals {
