@@ -8,12 +8,12 @@ ghost use Rattle.rb_meaning_bytes.specs.formats.Scripts as format;
 ghost use Rattle.rb_trees.specs.Outcome.{Gives};
 ghost use Rattle.rb_wire_fields.specs.Stops.{fault_of};
 
-use rb_wire_fields::fields::{bad_tag, byte, number, too_deep};
-use rb_wire_fields::stop::Stop;
 use crate::names::name;
 use crate::operators::{binary_op, kind, unary_op};
-use rb_wire_fields::texts::value;
 use rb_trees::{Boxed, SExpr, Seq};
+use rb_wire_fields::fields::{bad_tag, byte, number, too_deep};
+use rb_wire_fields::stop::Stop;
+use rb_wire_fields::texts::value;
 use std::alloc::Global;
 
 /// An expression, with at most so many within each other.

@@ -9,9 +9,9 @@ ghost use Rattle.rb_trees.specs.Outcome.{Gives};
 ghost use Rattle.rb_wire_fields.specs.Stops.{fault_of};
 
 use crate::exprs::expr;
+use rb_trees::{SExpr, Seq, Step, StepForm};
 use rb_wire_fields::fields::{bad_tag, byte, number, too_deep, truth};
 use rb_wire_fields::stop::Stop;
-use rb_trees::{SExpr, Seq, Step, StepForm};
 use std::alloc::Global;
 
 /// The greatest number of expressions within each other.

@@ -7,9 +7,9 @@ ghost use Rattle.rb_meaning_bytes.specs.formats.ScriptBytes.{expr_bytes, exprs_b
 ghost use Rattle.rb_wire_fields.specs.Buffers.{Keeps};
 
 use crate::codes::{code_of_binary, code_of_unary};
-use rb_wire_fields::puts::{put_count, put_number, put_text, put_truth, put_value};
 use bytes::{BufMut, BytesMut};
 use rb_trees::{Memory, SExpr, Step, StepForm};
+use rb_wire_fields::puts::{put_count, put_number, put_text, put_truth, put_value};
 
 /// What an operation begins with: its tag, the code of its operator and its position.
 #[tactic(auto, using(rb_wire_fields::proofs::Kept::kept))]
