@@ -78,4 +78,6 @@ pub ruleset steps = (step_read, bound, mirrored_steps)
 
 pub ruleset blocks = (block_read, block_deep, listed_steps)
 
-pub ruleset exprs = (expr_read, expr_deep, listed_exprs, bound, sexprs)
+pub ruleset exprs = (expr_read, expr_deep, bound, sexprs)
+
+pub ruleset parts = (listed_exprs, bound, sexprs)

@@ -25,15 +25,15 @@ pub accepted : (payload : List ℕ) (x : Sent) → Spells script_message payload
 accepted payload x s h = go (verdict x.0) refl h
   where
     go : (v : Result (Unit {0}) ScriptRefusal) → verdict x.0 ≡ v → refused_as refused v ≡ Ok tt → Means payload (Ok x)
-    go (Ok tt) i k = taken x s i
+    go (Ok u) i k = taken x s i
     go (Err r) i k = absurd cc
 
-pub denied : (payload : List ℕ) (x : Sent) (told : Option Refused) → Spells script_message payload x → Refuses told (refused_as refused (verdict x.0)) → outcome.Refused told (Means payload)
+pub denied : (payload : List ℕ) (x : Sent) (told : Option Refused) → Spells script_message payload x → Refuses told (refused_as refused (verdict x.0)) → outcome.Refused (Means payload) told
 denied payload x None s h = tt
 denied payload x (Some d) s h = go (verdict x.0) refl h
   where
     go : (v : Result (Unit {0}) ScriptRefusal) → verdict x.0 ≡ v → refused_as refused v ≡ Err d → Means payload (Err d)
-    go (Ok tt) i k = absurd cc
+    go (Ok u) i k = absurd cc
     go (Err r) i k = let e : refused r ≡ d = cc in subst (λ z. Means payload (Err z)) e (not_valid x r s i)
 
 abbrev place : ℕ → ℕ → Refused
@@ -51,7 +51,7 @@ pub told_alone : (payload : List ℕ) (result : Result (script.Script × List Va
 told_alone payload (Ok x) b told meant m = means_once payload meant (Ok (seen x)) b m told
 told_alone payload (Err e) b told meant m = go (refusal_of e) told
   where
-    go : (r : Option Refused) → outcome.Refused r (Means payload) → Refuses r meant
+    go : (r : Option Refused) → outcome.Refused (Means payload) r → Refuses r meant
     go None told = tt
     go (Some d) told = means_once payload meant (Err d) b m told
 

@@ -10,8 +10,8 @@ ghost use Rattle.rb_wire_script.specs.Stops.{refusal_of, seen};
 
 use crate::checking::{RuleStop, check};
 use crate::message::whole;
-use rb_wire_fields::stop::Stop;
 use rb_trees::{Script, ScriptRefusal, Seq, Value};
+use rb_wire_fields::stop::Stop;
 use std::alloc::Global;
 use thiserror::Error;
 

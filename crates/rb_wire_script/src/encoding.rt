@@ -9,10 +9,10 @@ ghost use Rattle.rb_meaning_bytes.specs.formats.ScriptBytes.{script_bytes};
 ghost use Rattle.rb_meaning_bytes.specs.formats.FormedScripts.{FormedScript, AreInputs};
 ghost use Rattle.rb_wire_fields.specs.Buffers.{Keeps};
 
-use rb_wire_fields::puts::put_values;
 use crate::writing::put_block;
 use bytes::{BufMut, BytesMut};
 use rb_trees::{Memory, Script, Value};
+use rb_wire_fields::puts::put_values;
 
 /// The version of the format.
 const VERSION: u8 = 0x01;

@@ -4,16 +4,16 @@ ghost use Rattle.std.specs.Prelude.{◌≡◌, ◌<◌, ◌^◌, map};
 ghost use Rattle.rb_trees.specs.mirror.Scripts.{mirror_sexpr};
 ghost use Rattle.rb_meaning_bytes.specs.formats.Reading.{read};
 ghost use Rattle.rb_meaning_bytes.specs.formats.Formats.{times};
-ghost use Rattle.rb_meaning_bytes.specs.formats.Scripts.{expr};
+ghost use Rattle.rb_meaning_bytes.specs.formats.Scripts as format;
 ghost use Rattle.rb_trees.specs.Outcome.{Gives};
 ghost use Rattle.rb_wire_fields.specs.Stops.{fault_of};
 
-use rb_wire_fields::fields::{bad_tag, byte, number, too_deep};
-use rb_wire_fields::stop::Stop;
 use crate::names::name;
 use crate::operators::{binary_op, kind, unary_op};
-use rb_wire_fields::texts::value;
 use rb_trees::{Boxed, SExpr, Seq};
+use rb_wire_fields::fields::{bad_tag, byte, number, too_deep};
+use rb_wire_fields::stop::Stop;
+use rb_wire_fields::texts::value;
 use std::alloc::Global;
 
 /// An expression, with at most so many within each other.
@@ -21,7 +21,7 @@ use std::alloc::Global;
 #[tactic(auto, using(crate::proofs::Equations::exprs), unfolding(rb_meaning_bytes::specs::formats::Reading::read))]
 pub(crate) fn expr(alloc: Global, left: usize, bytes: &[u8]) -> Result<(SExpr, &[u8]), Stop>
     requires { left < 2 ^ 32 }
-    ensures { Gives (λ x. (mirror_sexpr x.0, x.1.now)) fault_of result (read (expr left) bytes.now) }
+    ensures { Gives (λ x. (mirror_sexpr x.0, x.1.now)) fault_of result (read (format.expr left) bytes.now) }
 {
     if left == 0 {
         return Err(too_deep(bytes));
@@ -41,38 +41,62 @@ pub(crate) fn expr(alloc: Global, left: usize, bytes: &[u8]) -> Result<(SExpr, &
             Ok((SExpr::Var(var), rest))
         }
         0x23 => Ok((SExpr::Root, rest)),
-        0x24 => {
-            let (op, rest) = unary_op(rest)?;
-            let (at, rest) = number(rest)?;
-            let (operand, rest) = expr(alloc, left - 1, rest)?;
-            Ok((SExpr::Unary(op, at, Boxed::new(alloc, operand)?), rest))
-        }
-        0x25 => {
-            let (op, rest) = binary_op(rest)?;
-            let (at, rest) = number(rest)?;
-            let (a, rest) = expr(alloc, left - 1, rest)?;
-            let (b, rest) = expr(alloc, left - 1, rest)?;
-            let (a, b) = (Boxed::new(alloc, a)?, Boxed::new(alloc, b)?);
-            Ok((SExpr::Binary(op, at, a, b), rest))
-        }
-        0x26 => {
-            let (at, rest) = number(rest)?;
-            let (kind, rest) = kind(rest)?;
-            let (method, rest) = name(alloc, rest)?;
-            let (target, rest) = expr(alloc, left - 1, rest)?;
-            let (count, rest) = number(rest)?;
-            let (args, rest) = exprs(alloc, left - 1, count, rest)?;
-            let call = SExpr::Call {
-                at,
-                kind,
-                method,
-                target: Boxed::new(alloc, target)?,
-                args,
-            };
-            Ok((call, rest))
-        }
+        0x24 => unary(alloc, left - 1, rest),
+        0x25 => binary(alloc, left - 1, rest),
+        0x26 => call(alloc, left - 1, rest),
         _ => Err(bad_tag(rest)),
     }
+}
+
+/// An operator and its operand, in which at most so many are within each other.
+#[cycle(exprs)]
+#[tactic(auto, using(crate::proofs::Equations::parts), unfolding(rb_meaning_bytes::specs::formats::Reading::read))]
+fn unary(alloc: Global, left: usize, bytes: &[u8]) -> Result<(SExpr, &[u8]), Stop>
+    requires { left < 2 ^ 32 }
+    ensures { Gives (λ x. (mirror_sexpr x.0, x.1.now)) fault_of result (read (format.unary_expr (format.expr left)) bytes.now) }
+{
+    let (op, rest) = unary_op(bytes)?;
+    let (at, rest) = number(rest)?;
+    let (operand, rest) = expr(alloc, left, rest)?;
+    Ok((SExpr::Unary(op, at, Boxed::new(alloc, operand)?), rest))
+}
+
+/// An operator and its two operands, in which at most so many are within each other.
+#[cycle(exprs)]
+#[tactic(auto, using(crate::proofs::Equations::parts), unfolding(rb_meaning_bytes::specs::formats::Reading::read))]
+fn binary(alloc: Global, left: usize, bytes: &[u8]) -> Result<(SExpr, &[u8]), Stop>
+    requires { left < 2 ^ 32 }
+    ensures { Gives (λ x. (mirror_sexpr x.0, x.1.now)) fault_of result (read (format.binary_expr (format.expr left)) bytes.now) }
+{
+    let (op, rest) = binary_op(bytes)?;
+    let (at, rest) = number(rest)?;
+    let (a, rest) = expr(alloc, left, rest)?;
+    let (b, rest) = expr(alloc, left, rest)?;
+    let (a, b) = (Boxed::new(alloc, a)?, Boxed::new(alloc, b)?);
+    Ok((SExpr::Binary(op, at, a, b), rest))
+}
+
+/// A call, in whose target and arguments at most so many are within each other.
+#[cycle(exprs)]
+#[tactic(auto, using(crate::proofs::Equations::parts), unfolding(rb_meaning_bytes::specs::formats::Reading::read))]
+fn call(alloc: Global, left: usize, bytes: &[u8]) -> Result<(SExpr, &[u8]), Stop>
+    requires { left < 2 ^ 32 }
+    ensures { Gives (λ x. (mirror_sexpr x.0, x.1.now)) fault_of result (read (format.call (format.expr left)) bytes.now) }
+{
+    let (at, rest) = number(bytes)?;
+    let (kind, rest) = kind(rest)?;
+    let (method, rest) = name(alloc, rest)?;
+    let (target, rest) = expr(alloc, left, rest)?;
+    let (count, rest) = number(rest)?;
+    let (args, rest) = exprs(alloc, left, count, rest)?;
+    let call = SExpr::Call {
+        at,
+        kind,
+        method,
+        target: Boxed::new(alloc, target)?,
+        args,
+    };
+    Ok((call, rest))
 }
 
 /// So many expressions.
@@ -80,7 +104,7 @@ pub(crate) fn expr(alloc: Global, left: usize, bytes: &[u8]) -> Result<(SExpr, &
 #[tactic(auto, using(rb_wire_fields::proofs::Equations::lists))]
 fn exprs(alloc: Global, left: usize, count: u32, bytes: &[u8]) -> Result<(Seq<SExpr>, &[u8]), Stop>
     requires { left < 2 ^ 32 }
-    ensures { Gives (λ x. (map mirror_sexpr x.0, x.1.now)) fault_of result (read (times count (expr left)) bytes.now) }
+    ensures { Gives (λ x. (map mirror_sexpr x.0, x.1.now)) fault_of result (read (times count (format.expr left)) bytes.now) }
 {
     let mut items = Seq::new(alloc);
     let mut rest = bytes;

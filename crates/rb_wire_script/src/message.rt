@@ -10,11 +10,11 @@ ghost use Rattle.rb_meaning_bytes.specs.formats.Scripts.{script_message};
 ghost use Rattle.rb_wire_fields.specs.Stops.{fault_of};
 ghost use Rattle.rb_wire_script.specs.Stops.{seen};
 
-use rb_wire_fields::fields::{bad_tag, byte};
 use crate::steps::block;
+use rb_trees::{Script, Seq, Value};
+use rb_wire_fields::fields::{bad_tag, byte};
 use rb_wire_fields::stop::{Stop, TRAILING};
 use rb_wire_fields::texts::value;
-use rb_trees::{Script, Seq, Value};
 use std::alloc::Global;
 
 /// The greatest number of blocks within each other.

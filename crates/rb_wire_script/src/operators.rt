@@ -6,9 +6,9 @@ ghost use Rattle.rb_meaning_bytes.specs.formats.Scripts.{unary_op, binary_op, ki
 ghost use Rattle.rb_trees.specs.Outcome.{Gives};
 ghost use Rattle.rb_wire_fields.specs.Stops.{fault_of};
 
+use rb_trees::{BinOp, UnOp};
 use rb_wire_fields::fields::{bad_tag, byte};
 use rb_wire_fields::stop::Stop;
-use rb_trees::{BinOp, UnOp};
 
 /// An operator with one operand.
 #[tactic(auto, using(crate::proofs::Equations::operators), unfolding(rb_meaning_bytes::specs::formats::Reading::read))]

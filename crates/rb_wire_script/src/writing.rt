@@ -7,9 +7,34 @@ ghost use Rattle.rb_meaning_bytes.specs.formats.ScriptBytes.{expr_bytes, exprs_b
 ghost use Rattle.rb_wire_fields.specs.Buffers.{Keeps};
 
 use crate::codes::{code_of_binary, code_of_unary};
-use rb_wire_fields::puts::{put_count, put_number, put_text, put_truth, put_value};
 use bytes::{BufMut, BytesMut};
 use rb_trees::{Memory, SExpr, Step, StepForm};
+use rb_wire_fields::puts::{put_count, put_number, put_text, put_truth, put_value};
+
+/// What an operation begins with: its tag, the code of its operator and its position.
+#[tactic(auto, using(rb_wire_fields::proofs::Kept::kept))]
+fn put_operator(tag: u8, code: u8, at: u32, into: &mut BytesMut) -> Result<(), Memory>
+    ensures ok { OnOk result (into.new.items ≡ into.old.items ++ tag ∷ code ∷ field.number at) }
+    ensures err { OnErr result (Keeps into.old.items into.new.items) }
+{
+    into.put_u8(tag)?;
+    into.put_u8(code)?;
+    put_number(at, into)?;
+    Ok(())
+}
+
+/// What a call begins with: its tag, its position, the kind of its result and the method's name.
+#[tactic(auto, using(rb_wire_fields::proofs::Kept::kept))]
+fn put_method(at: u32, kind: u8, method: &[u8], into: &mut BytesMut) -> Result<(), Memory>
+    ensures ok { OnOk result (into.new.items ≡ into.old.items ++ 0x26 ∷ field.number at ++ kind ∷ field.text method.now) }
+    ensures err { OnErr result (Keeps into.old.items into.new.items) }
+{
+    into.put_u8(0x26)?;
+    put_number(at, into)?;
+    into.put_u8(kind)?;
+    put_text(method, into)?;
+    Ok(())
+}
 
 /// An expression.
 #[cycle(put_exprs)]
@@ -39,16 +64,12 @@ fn put_expr(e: &SExpr, into: &mut BytesMut) -> Result<(), Memory>
             Ok(())
         }
         SExpr::Unary(op, at, a) => {
-            into.put_u8(0x24)?;
-            into.put_u8(code_of_unary(*op))?;
-            put_number(*at, into)?;
+            put_operator(0x24, code_of_unary(*op), *at, into)?;
             put_expr(a.get(), into)?;
             Ok(())
         }
         SExpr::Binary(op, at, a, b) => {
-            into.put_u8(0x25)?;
-            into.put_u8(code_of_binary(*op))?;
-            put_number(*at, into)?;
+            put_operator(0x25, code_of_binary(*op), *at, into)?;
             put_expr(a.get(), into)?;
             put_expr(b.get(), into)?;
             Ok(())
@@ -60,10 +81,7 @@ fn put_expr(e: &SExpr, into: &mut BytesMut) -> Result<(), Memory>
             target,
             args,
         } => {
-            into.put_u8(0x26)?;
-            put_number(*at, into)?;
-            into.put_u8(*kind)?;
-            put_text(method.as_slice(), into)?;
+            put_method(*at, *kind, method.as_slice(), into)?;
             put_expr(target.get(), into)?;
             put_count(args.len(), into)?;
             put_exprs(args.as_slice(), into)?;

@@ -7,10 +7,19 @@ use Rattle.rb_meaning_bytes.proofs.formats.Steps.{with_front}
 use Rattle.rb_wire_script.proofs.exprs.+exprs.Given as goal
 
 abbrev pub decreases-expr : goal.decreases-expr
-decreases-expr l = 2 * l.left
+decreases-expr l = 3 * l.left
 
 abbrev pub decreases-exprs : goal.decreases-exprs
-decreases-exprs l = 2 * l.left + 1
+decreases-exprs l = 3 * l.left + 1
+
+abbrev pub decreases-unary : goal.decreases-unary
+decreases-unary l = 3 * l.left + 2
+
+abbrev pub decreases-binary : goal.decreases-binary
+decreases-binary l = 3 * l.left + 2
+
+abbrev pub decreases-call : goal.decreases-call
+decreases-call l = 3 * l.left + 2
 
 abbrev pub invariant-exprs-loop : goal.invariant-exprs-loop
 invariant-exprs-loop l = with_front (map mirror_sexpr l.items) (read (times (l.count - l.counter) (expr l.left)) l.rest) ≡ read (times l.count (expr l.left)) l.bytes

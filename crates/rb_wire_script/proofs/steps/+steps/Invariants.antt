@@ -7,13 +7,19 @@ use Rattle.rb_meaning_bytes.proofs.formats.Steps.{with_front}
 use Rattle.rb_wire_script.proofs.steps.+steps.Given as goal
 
 abbrev pub decreases-block : goal.decreases-block
-decreases-block l = 3 * l.left
+decreases-block l = 4 * l.left
+
+abbrev pub decreases-if_step : goal.decreases-if_step
+decreases-if_step l = 4 * l.left + 1
+
+abbrev pub decreases-each_step : goal.decreases-each_step
+decreases-each_step l = 4 * l.left + 1
 
 abbrev pub decreases-step : goal.decreases-step
-decreases-step l = 3 * l.left + 1
+decreases-step l = 4 * l.left + 2
 
 abbrev pub decreases-steps : goal.decreases-steps
-decreases-steps l = 3 * l.left + 2
+decreases-steps l = 4 * l.left + 3
 
 abbrev pub invariant-steps-loop : goal.invariant-steps-loop
 invariant-steps-loop l = with_front (map mirror_step l.items) (read (times (l.count - l.counter) (step (block l.left))) l.rest) ≡ read (times l.count (step (block l.left))) l.bytes
