@@ -1,6 +1,5 @@
 -- What reading the parts of a script is, a step at a time.
-use Rattle.std.proofs.Common.{◌≡◌, ◌+◌, ◌-◌, ◌<◌, ℕ, zero, suc, List, [], ◌∷◌, ◌++◌, map, refl, ap, sym, ◌∙◌, arith, Ok, Err, Bool, true, false, cond, nat_le, length}
-use Rattle.std.proofs.lemmas.List.{map-append}
+use Rattle.std.proofs.Common.{◌≡◌, ◌+◌, ◌-◌, ◌<◌, ℕ, zero, suc, List, [], ◌∷◌, map, refl, ap, sym, ◌∙◌, arith, Ok, Err, cond, nat_le, length}
 use Rattle.rb_trees.specs.declared.scripts.SExpr as rust
 use Rattle.rb_trees.specs.declared.scripts.Step as rust_step
 use Rattle.rb_trees.specs.mirror.Scripts.{SExpr, MoreSExprs, sexprs_from, mirror_sexpr, mirror_sexprs, Steps, MoreSteps, steps_from, mirror_step, mirror_steps}
@@ -9,10 +8,9 @@ use Rattle.rb_meaning_bytes.specs.formats.Formats.{Format, Done, ◌>>=◌, time
 use Rattle.rb_trees.proofs.mirror.SExprs.{sexprs}
 use Rattle.rb_meaning_bytes.specs.formats.Fields.{Byte, Number, bad_tag}
 use Rattle.rb_meaning_bytes.specs.formats.Reading.{Read, read, look, on, deep}
-use Rattle.rb_meaning_bytes.specs.formats.Values.{value, value_forms}
 use Rattle.rb_meaning_bytes.specs.formats.Scripts.{unary_op, unary_ops, binary_op, binary_ops, kind, expr, expr_forms, step, step_forms, block, script_message, script_1}
 use Rattle.rb_meaning_bytes.proofs.formats.Exact.{bound}
-use Rattle.rb_meaning_bytes.proofs.formats.Steps.{chosen, tested, too_far, by_tag, goes_on, ends, is_done}
+use Rattle.rb_meaning_bytes.proofs.formats.Steps.{chosen, tested, too_far, by_tag}
 
 pub unary_read : (bytes : List ℕ) → read unary_op bytes ≡ on (look Byte bytes) (λ b rest. by_tag unary_ops b rest)
 unfolding unary_op

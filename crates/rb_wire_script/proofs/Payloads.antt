@@ -1,6 +1,6 @@
 -- What an answer tells of a payload.
 use Rattle.std.specs.Prelude.{IfOk}
-use Rattle.std.proofs.Common.{◌≡◌, ◌-◌, ◌+◌, ℕ, List, length, arith, Option, None, Some, Result, Ok, Err, refl, ap, sym, ◌∙◌, subst}
+use Rattle.std.proofs.Common.{◌≡◌, ◌-◌, ℕ, List, length, arith, Option, None, Some, Result, Ok, Err, refl, subst}
 use Rattle.rb_trees.specs.declared.values.Value.{Value}
 use Rattle.rb_trees.specs.declared.scripts.Script as script
 use Rattle.rb_trees.specs.declared.validity.ScriptRefusal.{ScriptRefusal}

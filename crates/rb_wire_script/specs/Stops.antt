@@ -1,5 +1,5 @@
 -- What the stops of reading tell.
-use Rattle.std.specs.Prelude.{ℕ, List, Option, None, Some}
+use Rattle.std.specs.Prelude.{List, Option, None, Some}
 use Rattle.rb_trees.specs.declared.values.Value.{Value}
 use Rattle.rb_trees.specs.declared.scripts.Script as script
 use Rattle.rb_trees.specs.mirror.Scripts.{mirror_script}

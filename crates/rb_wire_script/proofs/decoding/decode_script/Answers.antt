@@ -1,4 +1,3 @@
-use Rattle.std.proofs.Common.{◌≡◌}
 use mir.Facts.{Fits-lt-pow}
 use Rattle.rb_wire_script.proofs.Payloads.{told_alone, told_formed, told_inputs, told_valid}
 use Rattle.rb_wire_script.proofs.decoding.decode_script.Goals as goal

@@ -1,4 +1,3 @@
-use Rattle.std.proofs.Common.{◌≡◌, ◌-◌, ◌+◌, ◌<◌, ◌^◌, length, arith}
 use mir.Facts.{Fits-lt-pow}
 use Rattle.rb_meaning_bytes.specs.formats.Fields.{IsBytes}
 use Rattle.rb_meaning_bytes.specs.formats.Scripts.{script_message}
