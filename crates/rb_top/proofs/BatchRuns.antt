@@ -24,6 +24,8 @@ use Rattle.rb_trees.specs.mirror.Scripts as script
 use Rattle.rb_trees.specs.mirror.Forests as forest
 use Rattle.rb_trees.specs.mirror.Forests.{Node, Holds, Entry, Entries, mirror_entries, mirror_node}
 use Rattle.rb_trees.specs.declared.forests.Node as tree_node
+use Rattle.rb_trees.specs.declared.forests.Entry as tree_entry
+use Rattle.rb_trees.specs.declared.outcomes.Ending.{Ending}
 use Rattle.rb_trees.proofs.mirror.Nodes.{at_Node}
 use Rattle.rb_base.specs.Devices.{Device}
 use Rattle.rb_meaning_code.specs.Faults.{wrong_kind, kind, raises, raised_remotely}
@@ -309,10 +311,18 @@ batch_printed text p served node table r before after f l h = λ fuel.
     (subst (λ t. PrintsAnswering (ended_status (ending_of_node node)) t r before after) shown' h)
 
 -- a node that was printed, by its entries and its fault
-pub node_printed : (text : List ℕ) (n : tree_node.Node) (table : List Object) (s : Status) (r : Result (Unit {0}) PrintStop) (before after : Device (List ℕ)) → s ≡ ended_status (ending_by n.fault)
-    → Prints (entry_lines (mirror_entries n.entries) ++ end_text text (ending_by n.fault) 1 table) r before after → PrintsNode text (mirror_node n) table (answered s r) before after
-node_printed text n table s r before after e h = subst (λ m. PrintsNode text m table (answered s r) before after) (sym (at_Node n)) (by_result r h)
+pub node_printed : (text : List ℕ) (n : tree_node.Node) (table : List Object) (s : Status) (r : Result (Unit {0}) PrintStop) (before after : Device (List ℕ)) (source : List ℕ) (entries : List tree_entry.Entry) (ending : Ending)
+    → s ≡ ended_status (ending_by n.fault) → source ≡ text → entries ≡ n.entries → ending ≡ ending_by n.fault
+    → Prints (entry_lines (mirror_entries entries) ++ end_text source ending 1 table) r before after → PrintsNode text (mirror_node n) table (answered s r) before after
+node_printed text n table s r before after source entries ending e is_text is_entries is_ending h =
+    subst (λ m. PrintsNode text m table (answered s r) before after) (sym (at_Node n)) (by_result r (subst (λ t. Prints t r before after) same h))
   where
+    same : entry_lines (mirror_entries entries) ++ end_text source ending 1 table ≡ entry_lines (mirror_entries n.entries) ++ end_text text (ending_by n.fault) 1 table
+    same =
+        ap (λ es. entry_lines (mirror_entries es) ++ end_text source ending 1 table) is_entries
+        ∙ ap (λ t. entry_lines (mirror_entries n.entries) ++ end_text t ending 1 table) is_text
+        ∙ ap (λ x. entry_lines (mirror_entries n.entries) ++ end_text text x 1 table) is_ending
+
     by_result : (t : Result (Unit {0}) PrintStop) → Prints (entry_lines (mirror_entries n.entries) ++ end_text text (ending_by n.fault) 1 table) t before after
         → PrintsNode text (Holds (mirror_entries n.entries) n.fault) table (answered s t) before after
     by_result (Ok u) i = (e, i)

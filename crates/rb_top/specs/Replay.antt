@@ -42,7 +42,7 @@ ending_by None = endings.Done None
 ending_by (Some f) = endings.Faulted f.fault f.at
 
 abbrev pub ending_of_node : Node → Ending
-ending_of_node (forest.Holds entries fault) = ending_by fault
+ending_of_node (forest.Holds _ fault) = ending_by fault
 
 -- what is printed of a node, and of the table that the script leaves
 abbrev pub replayed : List ℕ → Node → List Object → List ℕ

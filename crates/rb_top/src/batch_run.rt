@@ -41,7 +41,8 @@ fn print_entry<W: Sink>(alloc: Global, entry: &Entry, out: &mut W) -> Result<(),
 {
     match entry {
         Entry::Value(value) => print_kept(alloc, value, out),
-        Entry::Branch(_, _) | Entry::Rows(_) => Ok(()),
+        Entry::Branch(_, _) => Ok(()),
+        Entry::Rows(_) => Ok(()),
     }
 }
 
