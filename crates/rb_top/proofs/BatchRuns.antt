@@ -1,6 +1,6 @@
 -- What a program of the first form means is what its script gives: a line for each number that is kept, and the fault that
 -- ends it.
-use Rattle.std.proofs.Common.{◌≡◌, ℕ, ℤ, suc, ◌+◌, List, [], ◌∷◌, ◌++◌, Bool, true, false, Option, None, Some, Result, Ok, Err, option_map, cond, ap, sym, ◌∙◌, refl, arith, append_assoc, append-nil}
+use Rattle.std.proofs.Common.{◌≡◌, ℕ, ℤ, suc, ◌+◌, List, [], ◌∷◌, ◌++◌, Bool, true, false, Option, None, Some, Result, Ok, Err, option_map, cond, ap, sym, ◌∙◌, refl, subst, arith, append_assoc, append-nil}
 use Rattle.std.specs.Prelude.{◌||◌, nat_eq, codes}
 use Rattle.std.proofs.lemmas.Bool.Decides.{nat_tests}
 use Rattle.std.specs.Str.{bytes_eq}
@@ -22,7 +22,12 @@ use Rattle.rb_trees.specs.mirror.Declarations.{Signature, Class, Program}
 use Rattle.rb_trees.specs.mirror.Services.{Service}
 use Rattle.rb_trees.specs.mirror.Scripts as script
 use Rattle.rb_trees.specs.mirror.Forests as forest
-use Rattle.rb_trees.specs.mirror.Forests.{Node, Holds, Entry, Entries}
+use Rattle.rb_trees.specs.mirror.Forests.{Node, Holds, Entry, Entries, mirror_entries, mirror_node}
+use Rattle.rb_trees.specs.declared.forests.Node as tree_node
+use Rattle.rb_trees.specs.declared.forests.Entry as tree_entry
+use Rattle.rb_trees.specs.declared.outcomes.Ending.{Ending}
+use Rattle.rb_trees.proofs.mirror.Nodes.{at_Node}
+use Rattle.rb_base.specs.Devices.{Device}
 use Rattle.rb_meaning_code.specs.Faults.{wrong_kind, kind, raises, raised_remotely}
 use Rattle.rb_meaning_code.specs.Operators.{shown_value}
 use Rattle.rb_meaning_code.specs.State.{Local, bound}
@@ -40,9 +45,11 @@ use Rattle.rb_meaning.specs.Division.{int_kind, steps_of, first_block, first_scr
 use Rattle.rb_meaning.specs.Unsplit.{Kinds, in_batch, performed, kind_of_type, result_kind, methods_of, call_kinds, batch_at, begun, settles, table_left, remote_only}
 use Rattle.rb_meaning.specs.Shown.{line, shown, shown_events, shown_ending, shown_table, exchanges}
 use Rattle.rb_top.specs.FirstForm.{FirstProgram, PrintsCalls, PlainSignatures, GivesInt, is_among, signature_names}
-use Rattle.rb_top.specs.Printing.{end_text}
-use Rattle.rb_top.specs.Replay.{number_line, entry_line, entry_lines, ending_by, ending_of_node, replayed}
+use Rattle.rb_top.specs.Printing.{Prints, PrintsAnswering, end_text}
+use Rattle.rb_top.specs.Replay.{number_line, entry_line, entry_lines, ending_by, ending_of_node, replayed, first_run, Leaves, PrintsNode, PrintsBatch}
 use Rattle.rb_top.specs.Runs.{Served, run_text, run_status, ended_status}
+use Rattle.rb_top.specs.declared.printing.PrintStop.{PrintStop}
+use Rattle.rb_top.specs.declared.status.Status.{Status}
 use Rattle.rb_top.proofs.Names.{int_out, remote_out, same_bytes}
 use Rattle.rb_top.proofs.Forms.{block_is}
 
@@ -73,6 +80,11 @@ node_ended l (Holds es f) = ended_by l f
 -- what a body does by the run of its steps
 abbrev after_run : Local → List Event → Ran → Outcome (Unit {0}) × Outside
 after_run l events r = (node_ended l r.node, record { events = events ++ node_events r.node; server = r.server })
+
+-- a status that is answered where all was printed
+abbrev pub answered : Status → Result (Unit {0}) PrintStop → Result Status PrintStop
+answered s (Ok u) = Ok s
+answered s (Err stop) = Err stop
 
 -- a reply that gives a number, or a fault
 abbrev IsIntReply : Reply Value → Type 0
@@ -285,3 +297,33 @@ run_shown source fuel p served f =
 pub run_ended : (fuel : ℕ) (p : Program) (served : Served) → FirstProgram p
     → run_status fuel p served ≡ ended_status (ending_of_node (run_script (first_script p) [] served.0.classes served.0.root served.1).node)
 run_ended fuel p served f = ap (λ m. ended_status m.ending) (means p f served.0 served.1 fuel)
+
+-- What was printed of the node that the script gives is what the program shows, whatever its fuel.
+pub batch_printed : (text : List ℕ) (p : Program) (served : Served) (node : Node) (table : List Object) (r : Result Status PrintStop) (before after : Device (List ℕ))
+    → FirstProgram p → Leaves p served node table → PrintsNode text node table r before after → PrintsBatch text p served r before after
+batch_printed text p served node table r before after f l h = λ fuel.
+    let run = first_run p served in
+    let shown' : replayed text node table ≡ run_text text fuel p served =
+    ap (λ n. replayed text n table) l.0 ∙ ap (λ t. replayed text run.node t) l.1 ∙ sym (run_shown text fuel p served f) in
+    let ended' : ended_status (ending_of_node node) ≡ run_status fuel p served =
+    ap (λ n. ended_status (ending_of_node n)) l.0 ∙ sym (run_ended fuel p served f) in
+    subst (λ s. PrintsAnswering s (run_text text fuel p served) r before after) ended'
+    (subst (λ t. PrintsAnswering (ended_status (ending_of_node node)) t r before after) shown' h)
+
+-- a node that was printed, by its entries and its fault
+pub node_printed : (text : List ℕ) (n : tree_node.Node) (table : List Object) (s : Status) (r : Result (Unit {0}) PrintStop) (before after : Device (List ℕ)) (source : List ℕ) (entries : List tree_entry.Entry) (ending : Ending)
+    → s ≡ ended_status (ending_by n.fault) → source ≡ text → entries ≡ n.entries → ending ≡ ending_by n.fault
+    → Prints (entry_lines (mirror_entries entries) ++ end_text source ending 1 table) r before after → PrintsNode text (mirror_node n) table (answered s r) before after
+node_printed text n table s r before after source entries ending e is_text is_entries is_ending h =
+    subst (λ m. PrintsNode text m table (answered s r) before after) (sym (at_Node n)) (by_result r (subst (λ t. Prints t r before after) same h))
+  where
+    same : entry_lines (mirror_entries entries) ++ end_text source ending 1 table ≡ entry_lines (mirror_entries n.entries) ++ end_text text (ending_by n.fault) 1 table
+    same =
+        ap (λ es. entry_lines (mirror_entries es) ++ end_text source ending 1 table) is_entries
+        ∙ ap (λ t. entry_lines (mirror_entries n.entries) ++ end_text t ending 1 table) is_text
+        ∙ ap (λ x. entry_lines (mirror_entries n.entries) ++ end_text text x 1 table) is_ending
+
+    by_result : (t : Result (Unit {0}) PrintStop) → Prints (entry_lines (mirror_entries n.entries) ++ end_text text (ending_by n.fault) 1 table) t before after
+        → PrintsNode text (Holds (mirror_entries n.entries) n.fault) table (answered s t) before after
+    by_result (Ok u) i = (e, i)
+    by_result (Err stop) i = i

@@ -1,9 +1,9 @@
 -- What a call that prints leaves of the output.
-use Rattle.std.specs.Prelude.{◌≡◌, ℕ, List, [], ◌++◌, Option, None, Some, Result, Ok, Err, codes, slice_get}
+use Rattle.std.specs.Prelude.{◌≡◌, ℕ, List, ◌++◌, Result, Ok, Err, codes}
 use Rattle.std.specs.Fmt.{decimal}
 use Rattle.rb_trees.specs.declared.services.Object.{Object}
 use Rattle.rb_trees.specs.declared.outcomes.Ending.{Ending}
-use Rattle.rb_meaning.specs.Shown.{line, shown_ending, shown_object, shown_table}
+use Rattle.rb_meaning.specs.Shown.{line, shown_ending, shown_table}
 use Rattle.rb_base.specs.Devices.{Device, failed}
 use Rattle.rb_base.specs.Sinks.{with_bytes, WrotePrefix}
 use Rattle.rb_top.specs.declared.printing.PrintStop.{PrintStop}
@@ -34,11 +34,3 @@ PrintsUnlessStarved wanted text (Err Memory) before after = Unit {0}
 abbrev pub end_text : List ℕ → Ending → ℕ → List Object → List ℕ
 end_text source ending count table =
     line (shown_ending source ending) ++ line (codes "exchanges " ++ decimal count) ++ shown_table 0 table
-
--- the line of an object of this number, where there is one
-abbrev pub line_of_object : ℕ → Option Object → List ℕ
-line_of_object number None = []
-line_of_object number (Some o) = line (shown_object number o)
-
-abbrev pub line_at : List Object → ℕ → List ℕ
-line_at table number = line_of_object number (slice_get table number)

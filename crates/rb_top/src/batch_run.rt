@@ -1,16 +1,16 @@
-// A run of the batch that is all of a program of the first form: its script goes to the server, and the lines and the
-// ending come from the forest.
+// A run of the batch that is all of a program of the first form: its script runs on the host, and the lines and the
+// ending come from the node that it gives.
 
-ghost use Rattle.std.specs.Prelude.{◌≡◌};
-ghost use Rattle.rb_trees.specs.mirror.Forests.{mirror_entry, mirror_entries};
+ghost use Rattle.std.specs.Prelude.{◌≡◌, ◌++◌, IfOk};
+ghost use Rattle.rb_trees.specs.mirror.Declarations.{mirror_program};
+ghost use Rattle.rb_trees.specs.mirror.Forests.{mirror_entry, mirror_entries, mirror_node};
 ghost use Rattle.rb_trees.specs.declared.values.Value.{out-Value};
 ghost use Rattle.rb_top.specs.FirstForm.{FirstProgram};
-ghost use Rattle.rb_top.specs.Printing.{Prints};
-ghost use Rattle.rb_top.specs.Replay.{number_line, entry_line, entry_lines, ending_by, PrintsBatch};
+ghost use Rattle.rb_top.specs.Printing.{Prints, end_text};
+ghost use Rattle.rb_top.specs.Replay.{number_line, entry_line, entry_lines, ending_by, served_of, Leaves, PrintsNode, PrintsBatch};
 ghost use Rattle.rb_top.specs.Scene.{output};
 ghost use Rattle.rb_top.specs.Sources.{text_of, program_of};
 ghost use Rattle.rb_top.specs.Texts.{WithinLength};
-ghost use Rattle.rb_store.specs.Views.{stored};
 
 use crate::first_script::first_script;
 use crate::local_run::status_of;
@@ -19,7 +19,8 @@ use crate::source::Source;
 use crate::status::Status;
 use rb_base::Sink;
 use rb_exec::{Host, run_script};
-use rb_trees::{Ending, Entry, Node, NodeFault, Value};
+use rb_heap::Heap;
+use rb_trees::{Ending, Entry, Memory, Node, NodeFault, Program, Value};
 use std::alloc::Global;
 
 /// Prints the line of a number.
@@ -40,7 +41,8 @@ fn print_entry<W: Sink>(alloc: Global, entry: &Entry, out: &mut W) -> Result<(),
 {
     match entry {
         Entry::Value(value) => print_kept(alloc, value, out),
-        Entry::Branch(_, _) | Entry::Rows(_) => Ok(()),
+        Entry::Branch(_, _) => Ok(()),
+        Entry::Rows(_) => Ok(()),
     }
 }
 
@@ -65,6 +67,57 @@ fn ending_by(fault: Option<NodeFault>) -> Ending
     }
 }
 
+/// Prints a line for each number that was kept, and what follows the lines.
+fn print_shown<W: Sink>(
+    alloc: Global,
+    source: &[u8],
+    entries: &[Entry],
+    ending: &Ending,
+    table: &Heap,
+    out: &mut W,
+) -> Result<(), PrintStop>
+    requires { WithinLength source.now }
+    ensures { Prints (entry_lines (mirror_entries entries.now) ++ end_text source.now ending.now 1 table.now) result (output W.Sink out.old) (output W.Sink out.new) }
+{
+    print_entries(alloc, entries, out)?;
+    print_end(alloc, source, ending, 1, table, out)
+}
+
+/// Prints what is shown of a node and of the table that its script left, and answers how it ended.
+fn print_node<W: Sink>(
+    alloc: Global,
+    source: &Source,
+    node: Node,
+    table: &Heap,
+    out: &mut W,
+) -> Result<Status, PrintStop>
+    requires { WithinLength (text_of source.now) }
+    ensures { PrintsNode (text_of source.now) (mirror_node node) table.now result (output W.Sink out.old) (output W.Sink out.new) }
+{
+    let Node { entries, fault } = node;
+    let ending = ending_by(fault);
+    match print_shown(
+        alloc,
+        source.text.as_slice(),
+        entries.as_slice(),
+        &ending,
+        table,
+        out,
+    ) {
+        Ok(()) => Ok(status_of(ending)),
+        Err(stop) => Err(stop),
+    }
+}
+
+/// The node that the program's script gives on the host.
+fn perform(alloc: Global, program: &Program, host: &mut Host) -> Result<Node, Memory>
+    requires { FirstProgram (mirror_program program.now) }
+    ensures { IfOk result (λ node. Leaves (mirror_program program.now) (served_of host.old) (mirror_node node) host.new.table) }
+{
+    let script = first_script(alloc, program)?;
+    run_script(alloc, host, &script, &[])
+}
+
 /// Runs the program's batch on the server, prints what the program means there, and answers how it ended.
 ///
 /// The lines and the ending come from the node that the server gives.
@@ -78,10 +131,8 @@ pub fn run_batch<W: Sink>(
     requires short { WithinLength (text_of source.now) }
     ensures { PrintsBatch (text_of source.now) (program_of source.now) (served_of host.old) result (output W.Sink out.old) (output W.Sink out.new) }
 {
-    let script = first_script(alloc, source.typed.program())?;
-    let Node { entries, fault } = run_script(alloc, host, &script, &[])?;
-    print_entries(alloc, entries.as_slice(), out)?;
-    let ending = ending_by(fault);
-    print_end(alloc, source.text.as_slice(), &ending, 1, host.table(), out)?;
-    Ok(status_of(ending))
+    match perform(alloc, source.typed.program(), host) {
+        Ok(node) => print_node(alloc, source, node, host.table(), out),
+        Err(Memory) => Err(PrintStop::Memory),
+    }
 }

@@ -233,9 +233,9 @@ fn run_there<W: Sink>(
     out: &mut W,
 ) -> Status
     requires first { FirstProgram (program_of source.now) }
-    requires service { ClassesDiffer (map mirror_class service.now.classes) }
+    requires service { ClassesDiffer (map mirror_class service.classes) }
     requires short { WithinLength (text_of source.now) }
-    ensures { (fuel : ℕ) → EndsRun (text_of source.now) fuel (program_of source.now) (mirror_service service.now, table.now) result (output W.Sink out.old) (output W.Sink out.new) }
+    ensures { (fuel : ℕ) → EndsRun (text_of source.now) fuel (program_of source.now) (mirror_service service, table) result (output W.Sink out.old) (output W.Sink out.new) }
 {
     match Host::make(alloc, service, table) {
         Ok(mut host) => run_answer(run_batch(alloc, source, &mut host, out)),
@@ -253,9 +253,9 @@ fn run_program<W: Sink>(
     out: &mut W,
 ) -> Status
     requires built { IsBuilt (program_of source.now) }
-    requires service { ClassesDiffer (map mirror_class service.now.classes) }
+    requires service { ClassesDiffer (map mirror_class service.classes) }
     requires short { WithinLength (text_of source.now) }
-    ensures { EndsRun (text_of source.now) fuel (program_of source.now) (mirror_service service.now, table.now) result (output W.Sink out.old) (output W.Sink out.new) }
+    ensures { EndsRun (text_of source.now) fuel (program_of source.now) (mirror_service service, table) result (output W.Sink out.old) (output W.Sink out.new) }
 {
     if has_no_batch(&source.typed) {
         run_answer(run_local(alloc, source, &table, fuel, out))
@@ -279,10 +279,13 @@ fn run_on<F: Files, W: Sink>(
 {
     match load_text(alloc, name, files) {
         Err(stop) => say_unread(alloc, stop, name, out),
-        Ok(text) => match read_service(alloc, text.as_slice()) {
-            Err(error) => refuse_service(alloc, text.as_slice(), error, out),
-            Ok((service, table)) => run_program(alloc, source, service, table, fuel, out),
-        },
+        Ok(text) => {
+            let other = text.as_slice();
+            match read_service(alloc, other) {
+                Err(error) => refuse_service(alloc, other, error, out),
+                Ok((service, table)) => run_program(alloc, source, service, table, fuel, out),
+            }
+        }
     }
 }
 

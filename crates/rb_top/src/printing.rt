@@ -1,16 +1,17 @@
-// Lines on the output, each handed over whole with its line feed.
+// Lines on the output, each handed over whole with its line feed, and those of a table in one piece.
 
-ghost use Rattle.std.specs.Prelude.{◌≡◌, IfOk};
+ghost use Rattle.std.specs.Prelude.{◌≡◌, ◌++◌, codes, IfOk};
 ghost use Rattle.std.specs.String.{string_bytes};
-ghost use Rattle.std.specs.Fmt.{signed_decimal};
-ghost use Rattle.rb_meaning.specs.Shown.{line, shown_table};
-ghost use Rattle.rb_top.specs.Printing.{Prints, end_text, line_at};
+ghost use Rattle.std.specs.Fmt.{decimal, signed_decimal};
+ghost use Rattle.rb_meaning.specs.Shown.{line, shown_ending, shown_table};
+ghost use Rattle.rb_top.specs.Printing.{Prints, end_text};
 ghost use Rattle.rb_top.specs.Scene.{output};
 ghost use Rattle.rb_top.specs.Texts.{WithinLength};
 
 use rb_base::{Failed, Sink, write_whole};
 use rb_heap::Heap;
-use rb_shown::{ending_line, exchanges_line, object_line};
+use rb_shown::{ending_line, exchanges_line};
+use rb_store::print_table;
 use rb_trees::{Ending, Memory};
 use std::alloc::{AllocError, Global};
 
@@ -81,32 +82,40 @@ pub fn print_number<W: Sink>(alloc: Global, n: i64, out: &mut W) -> Result<(), P
     }
 }
 
-/// Prints the line of the object of a number, where there is one.
-fn print_object<W: Sink>(
+/// Prints the line that tells how a run ended.
+fn print_ending<W: Sink>(
     alloc: Global,
-    table: &Heap,
-    number: u32,
+    source: &[u8],
+    ending: &Ending,
     out: &mut W,
 ) -> Result<(), PrintStop>
-    ensures { Prints (line_at table.now number) result (output W.Sink out.old) (output W.Sink out.new) }
+    requires { WithinLength source.now }
+    ensures { Prints (line (shown_ending source.now ending.now)) result (output W.Sink out.old) (output W.Sink out.new) }
 {
-    match table.get(number) {
-        Some(object) => {
-            let line = object_line(alloc, u64::from(number), object)?;
-            print_text(line.as_slice(), out)
-        }
-        None => Ok(()),
+    match ending_line(alloc, source, ending) {
+        Ok(text) => print_text(text.as_slice(), out),
+        Err(Memory) => Err(PrintStop::Memory),
     }
 }
 
-/// Prints the lines of the objects of a table, each as one piece.
-fn print_table<W: Sink>(alloc: Global, table: &Heap, out: &mut W) -> Result<(), PrintStop>
+/// Prints the line of the number of exchanges.
+fn print_exchanges<W: Sink>(alloc: Global, count: u64, out: &mut W) -> Result<(), PrintStop>
+    ensures { Prints (line (codes "exchanges " ++ decimal count)) result (output W.Sink out.old) (output W.Sink out.new) }
+{
+    match exchanges_line(alloc, count) {
+        Ok(text) => print_text(text.as_slice(), out),
+        Err(Memory) => Err(PrintStop::Memory),
+    }
+}
+
+/// Prints the lines of the objects of a table as one piece.
+fn print_objects<W: Sink>(alloc: Global, table: &Heap, out: &mut W) -> Result<(), PrintStop>
     ensures { Prints (shown_table 0 table.now) result (output W.Sink out.old) (output W.Sink out.new) }
 {
-    for number in 0..table.len() {
-        print_object(alloc, table, number, out)?;
+    match print_table(alloc, table) {
+        Ok(text) => print_text(text.as_slice(), out),
+        Err(Memory) => Err(PrintStop::Memory),
     }
-    Ok(())
 }
 
 /// Prints what follows the lines of a run: how it ended, how often it exchanged, and the table.
@@ -121,9 +130,7 @@ pub fn print_end<W: Sink>(
     requires { WithinLength source.now }
     ensures { Prints (end_text source.now ending.now exchanges table.now) result (output W.Sink out.old) (output W.Sink out.new) }
 {
-    let ending = ending_line(alloc, source, ending)?;
-    print_text(ending.as_slice(), out)?;
-    let exchanges = exchanges_line(alloc, exchanges)?;
-    print_text(exchanges.as_slice(), out)?;
-    print_table(alloc, table, out)
+    print_ending(alloc, source, ending, out)?;
+    print_exchanges(alloc, exchanges, out)?;
+    print_objects(alloc, table, out)
 }

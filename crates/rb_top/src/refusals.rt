@@ -130,7 +130,7 @@ fn violation_offset(error: &TypeError) -> u32
 }
 
 /// A number's digits.
-fn digits_of(alloc: Global, n: u32) -> Result<String, AllocError>
+pub fn digits_of(alloc: Global, n: u32) -> Result<String, AllocError>
     ensures { IfOk result (λ text. string_bytes text ≡ decimal n) }
 {
     format!(in alloc; "{n}")

@@ -3,13 +3,12 @@
 
 ghost use Rattle.std.specs.Prelude.{◌≡◌, ◌++◌, IfOk, codes};
 ghost use Rattle.std.specs.Option.{is_none};
-ghost use Rattle.std.specs.String.{string_bytes};
 ghost use Rattle.rb_meaning.specs.Shown.{line};
 ghost use Rattle.rb_meaning_types.specs.Stores.{store_refusal};
 ghost use Rattle.rb_top.specs.ServiceRefusals.{with_object, shown_service_refusal};
 ghost use Rattle.rb_top.specs.Texts.{WithinLength};
 
-use crate::refusals::{is_no_violation, refusal_line, violation_line};
+use crate::refusals::{digits_of, is_no_violation, refusal_line, violation_line};
 use rb_trees::StoreError;
 use std::alloc::{AllocError, Global};
 
@@ -39,18 +38,15 @@ fn of_service(alloc: Global, shown: &[u8]) -> Result<Vec<u8>, AllocError>
 }
 
 /// The line of what is wrong with the object of a number.
-fn object_line(alloc: Global, heading: &str, object: u32) -> Result<String, AllocError>
-    ensures { IfOk result (λ text. string_bytes text ≡ line (with_object heading.now object)) }
-{
-    format!(in alloc; "{heading} object {object}\n")
-}
-
-/// The same as bytes.
 fn refused_object(alloc: Global, heading: &str, object: u32) -> Result<Vec<u8>, AllocError>
     ensures { IfOk result (λ text. text.items ≡ line (with_object heading.now object)) }
 {
-    let line = object_line(alloc, heading, object)?;
-    Vec::from_slice(alloc, line.as_bytes())
+    let number = digits_of(alloc, object)?;
+    let mut text = Vec::from_slice(alloc, heading.as_bytes())?;
+    text.extend_from_slice(b" object ")?;
+    text.extend_from_slice(number.as_bytes())?;
+    text.extend_from_slice(b"\n")?;
+    Ok(text)
 }
 
 /// The line that shows the refusal of a service's text.

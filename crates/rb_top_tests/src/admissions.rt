@@ -70,6 +70,19 @@ fn the_first_place_counts(rt: HostRuntime) -> Result<(), Fail> {
             "main { batch (Dir r) { var n = 1; r.file(0).grow(n); var s = r.file(0).size(); r.file(1).grow(s); } }",
             "5 refused 2 NotConstant 3:50",
         ),
+    ] {
+        assert_eq!(rt;
+            admission(rt.alloc(), program)?.as_str().trim_end(),
+            wanted,
+            "{program}"
+        );
+    }
+    Ok(())
+}
+
+#[test]
+fn the_first_place_counts_for_tries_and_conditions(rt: HostRuntime) -> Result<(), Fail> {
+    for (program, wanted) in [
         (
             "main { batch (Dir r) { try { r.burn(1); } catch (e) { } var f = r.file(0); } }",
             "5 refused 6 InTry 3:32",

@@ -62,6 +62,19 @@ fn each_writer_is_a_link(rt: HostRuntime) -> Result<(), Fail> {
             "class Box { v: Int; fun set(n: Int) { this.v = n; } fun get(): Int { return this.v; } }\nmain { val o = new Box(0); batch (Dir r) { o.set(r.file(0).size()); r.burn(o.v); } }",
             "5 refused 1 Flow 4:60 4:46 4:78",
         ),
+    ] {
+        assert_eq!(rt;
+            admission(rt.alloc(), program)?.as_str().trim_end(),
+            wanted,
+            "{program}"
+        );
+    }
+    Ok(())
+}
+
+#[test]
+fn each_writer_of_objects_and_loops_is_a_link(rt: HostRuntime) -> Result<(), Fail> {
+    for (program, wanted) in [
         (
             "class Box { v: Int; fun set(n: Int) { this.v = n; } fun get(): Int { return this.v; } }\nmain { batch (Dir r) { val o = new Box(r.file(0).size()); r.burn(o.v); } }",
             "5 refused 1 Flow 4:50 4:24 4:68",
@@ -292,6 +305,19 @@ fn what_looks_like_a_flow_is_admitted(rt: HostRuntime) -> Result<(), Fail> {
             "main { batch (Dir r) { for (a in r.files()) { for (f in r.files()) { f.grow(a.size()); } } } }",
             "0 admitted",
         ),
+    ] {
+        assert_eq!(rt;
+            admission(rt.alloc(), program)?.as_str().trim_end(),
+            wanted,
+            "{program}"
+        );
+    }
+    Ok(())
+}
+
+#[test]
+fn what_stays_remote_or_local_is_admitted(rt: HostRuntime) -> Result<(), Fail> {
+    for (program, wanted) in [
         (
             "main { batch (Dir r) { var sum = 0; for (f in r.files()) { sum = sum + f.size(); } print(sum); r.burn(1); } }",
             "0 admitted",

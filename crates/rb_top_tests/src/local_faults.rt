@@ -25,6 +25,19 @@ fn each_fault_stands_at_its_node(rt: HostRuntime) -> Result<(), Fail> {
             "main { val l = List<Int>(1, 2); print(l[0 - 1]); }",
             "1 fault 2 Index at 1:40\n",
         ),
+    ] {
+        assert_eq!(rt;
+            ran(rt.alloc(), words, program)?.as_str(),
+            ended(rt.alloc(), wanted)?.as_str(),
+            "{program}"
+        );
+    }
+    Ok(())
+}
+
+#[test]
+fn each_limit_and_throw_stands_at_its_node(rt: HostRuntime) -> Result<(), Fail> {
+    for (words, program, wanted) in [
         (
             "both p s",
             "main { var l = List<Int>(1, 2, 3, 4, 5); var i = 0; while (i < 11) { l = l + l; i = i + 1; } }",

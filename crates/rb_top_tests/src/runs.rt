@@ -56,7 +56,7 @@ fn programs_of_other_forms_are_not_built(rt: HostRuntime) -> Result<(), Fail> {
 }
 
 /// Services that `PROGRAM` runs on, each with its answer.
-static SERVICES: [(&str, &str); 10] = [
+static SERVICES: [(&str, &str); 9] = [
     (
         "class D { fun m(): Int { return 7; } } object 0: D { } root 0;",
         "1 fault 9 NoMethod at 1:60\nexchanges 1\nobject 0: D { }\n",
@@ -76,10 +76,6 @@ static SERVICES: [(&str, &str); 10] = [
     (
         "class D { v: Text; fun n(): Int { this.v = \"b\"; throw \"no \\\"n\\\"\"; return 1; } } object 0: D { v = \"a\"; } root 0;",
         "1 fault 8 Thrown \"no \\\"n\\\"\" at 1:60\nexchanges 1\nobject 0: D { v = \"b\"; }\n",
-    ),
-    (
-        "class D { fun n(): Int { var i = 0; while (true) { i = i + 1; } return i; } } object 0: D { } root 0;",
-        "1 fault 7 FuelUsed at 1:60\nexchanges 1\nobject 0: D { }\n",
     ),
     (
         "class D { fun n(): Int { return this.n(); } } object 0: D { } root 0;",
@@ -104,6 +100,17 @@ fn a_batch_runs_on_any_service(rt: HostRuntime) -> Result<(), Fail> {
     for (service, wanted) in SERVICES {
         assert_eq!(rt; shown(rt.alloc(), Some(PROGRAM), Some(service))?.as_str(), wanted, "{service}");
     }
+    Ok(())
+}
+
+#[test]
+fn a_batch_has_its_own_fuel(rt: HostRuntime) -> Result<(), Fail> {
+    let service =
+        "class D { fun n(): Int { var i = 0; while (true) { i = i + 1; } return i; } } object 0: D { } root 0;";
+    assert_eq!(rt;
+        shown(rt.alloc(), Some(PROGRAM), Some(service))?.as_str(),
+        "1 fault 7 FuelUsed at 1:60\nexchanges 1\nobject 0: D { }\n"
+    );
     Ok(())
 }
 

@@ -1,5 +1,4 @@
-// Which classes may be those of a service, by rows of texts. No command reads the classes of a service by the parser
-// yet, so the rows hand in the classes of a program.
+// Which classes may be those of a service, by rows of texts. The rows hand in the classes of a program.
 use rb_parse::parse_program;
 use rb_trees::TypeError;
 use rb_types::check_service;

@@ -1,4 +1,3 @@
-use Rattle.std.proofs.Common.{ap}
 use Rattle.rb_trees.specs.mirror.Services.{mirror_service}
 use Rattle.rb_top.specs.Sources.{text_of, program_of}
 use Rattle.rb_top.specs.Texts.{HasNoBatch}
@@ -15,5 +14,8 @@ run_there-requires-clause-first g c =
 
 pub returns-then-has_no_batch : goal.returns-then-has_no_batch
 returns-then-has_no_batch g c =
-    local_ended (text_of c.args.source.now) c.args.fuel (program_of c.args.source.now) (mirror_service c.args.service.now, c.args.table.now) c.run_local.result c.run_answer.result _ _
-    (c.has_no_batch.ensures.0 c.if-has_no_batch.true) c.run_answer.ensures (c.run_local.ensures (mirror_service c.args.service.now))
+    local_ended (text_of c.args.source.now) c.args.fuel (program_of c.args.source.now) (mirror_service c.args.service, c.args.table) c.run_local.result c.run_answer.result _ _
+    (c.has_no_batch.ensures.0 c.if-has_no_batch.true) c.run_answer.ensures (c.run_local.ensures (mirror_service c.args.service))
+
+pub returns-else-has_no_batch : goal.returns-else-has_no_batch
+returns-else-has_no_batch g c = c.run_there.ensures c.args.fuel
