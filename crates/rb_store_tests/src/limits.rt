@@ -10,7 +10,7 @@ fn list_refusal(alloc: Global, count: usize) -> Result<String, Fail> {
         alloc,
         "object 0: Plan { rows = [[",
         "7, ",
-        count - 1,
+        count.saturating_sub(1),
         "7]]; } root 0;",
     )?;
     let found = library(alloc, text.as_str())?;
