@@ -113,7 +113,7 @@ service_classes_differ cs h =
     let declarations = first_passed (check_declarations d) (check_class_bodies d cs) h in
     classes_differ d (map (λ i. i.name) d.interfaces) cs (then_passed (check_interfaces d [] d.interfaces) (check_classes d (map (λ i. i.name) d.interfaces) d.classes) declarations)
 
-passed_with : {A B D : Type 0} (a : Result A D) (x s : B) → (a >> Ok x) ≡ Ok s → (is_ok a ≡ true) × (x ≡ s)
+passed_with : {B D : Type 0} (a : Result (Unit {0}) D) (x s : B) → (a >> Ok x) ≡ Ok s → (is_ok a ≡ true) × (x ≡ s)
 passed_with (Ok u) x s e = (refl, cc e)
 passed_with (Err d) x s e = absurd (cc e)
 
