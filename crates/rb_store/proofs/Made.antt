@@ -35,16 +35,16 @@ below t e room = let all = few t room in all_small (mirror_service_text t) (2 ^ 
 pub root_below : (t : text.ServiceText) → check_text (mirror_service_text t) ≡ Ok tt → length t.objects ≤ most_objects → t.root < 2 ^ 32
 root_below t e room = let all = few t room in let at = root_within (mirror_service_text t) (table_passes (mirror_service_text t) e) in omega arith
 
-accepted : {A R S : Type 0} (f : R → S) (x : Result A R) (a : A) → refused_as f x ≡ Ok a → x ≡ Ok a
-accepted f (Ok b) a e = e
-accepted f (Err r) a e = cc
+accepted : {R S : Type 0} (f : R → S) (x : Result (Unit {0}) R) → refused_as f x ≡ Ok tt → x ≡ Ok tt
+accepted f (Ok u) e = refl
+accepted f (Err r) e = cc
 
 module _ (t : text.ServiceText) (s : service.Service) (table : List Object) (classes : s.classes ≡ t.classes) (root : s.root ≡ t.root) (made : table ≡ table_of (objects_of t)) where
   pub typed : IsLawfulServiceText (mirror_service_text t) → check_text (mirror_service_text t) ≡ Ok tt → IsTyped (mirror_service s) table
   typed lawful e =
       let those : IsTyped (record { classes = map mirror_class t.classes; root = t.root }) (table_of (objects_of t)) = record {
         lawful = lawful.classes;
-        typed = accepted Types (check_service (map mirror_class t.classes)) tt (classes_pass (mirror_service_text t) e);
+        typed = accepted Types (check_service (map mirror_class t.classes)) (classes_pass (mirror_service_text t) e);
         fits = table_fits (mirror_service_text t) lawful (table_passes (mirror_service_text t) e);
       } in
       subst (λ cs. IsTyped (record { classes = map mirror_class cs; root = s.root }) table) (sym classes)
