@@ -19,6 +19,7 @@ use Rattle.rb_top.specs.Loads.{HoldsProgram}
 use Rattle.rb_top.specs.Refusals.{shown_refusal, shown_violation}
 use Rattle.rb_top.specs.Runs.{Served, run_status, run_text}
 use Rattle.rb_top.specs.Scene.{Scene}
+use Rattle.rb_top.specs.Sources.{text_of, program_of}
 use Rattle.rb_top.specs.ServiceRefusals.{shown_service_refusal}
 use Rattle.rb_top.specs.Texts.{HasNoBatch}
 use Rattle.rb_top.specs.Words.{Asked, Both, program_name}
@@ -26,6 +27,7 @@ use Rattle.rb_top.specs.declared.loading.TextStop.{TextStop}
 use Rattle.rb_top.specs.declared.loading.TextStop.TheVariants as stops
 use Rattle.rb_top.specs.declared.printing.PrintStop.{PrintStop}
 use Rattle.rb_top.specs.declared.printing.PrintStop.TheVariants as print
+use Rattle.rb_top.specs.declared.source.Source.{Source}
 use Rattle.rb_top.specs.declared.status.SourceError.TheVariants as sources
 use Rattle.rb_top.specs.declared.status.Status.{Status}
 use Rattle.rb_top.specs.declared.status.Status.TheVariants.{FileFault, SourceRefused, BatchRefused, ServiceRefused, WriteFault, Memory, FileTooLong}
@@ -72,10 +74,14 @@ EndsUntyped text error = EndsWith (violation_of error) (SourceRefused (sources.T
 abbrev pub EndsRefusedService : List ℕ → StoreError → Status → Device (List ℕ) → Device (List ℕ) → Type 0
 EndsRefusedService text error = EndsWith (store_refusal error) (ServiceRefused error) (line (shown_service_refusal text error))
 
+-- A batch of the program in the text is refused, and that was said, unless memory was wanting.
+abbrev pub EndsBatchRefused : List ℕ → Refusal → Status → Device (List ℕ) → Device (List ℕ) → Type 0
+EndsBatchRefused text refusal = Ends (BatchRefused refusal) (line (shown_batch_refusal text refusal))
+
 -- The program in the text isn't admitted, and that was said; or memory was wanting before anything was.
 abbrev pub EndsUnadmitted : List ℕ → Program → Status → Device (List ℕ) → Device (List ℕ) → Type 0
 EndsUnadmitted text p result before after =
-    ((refusal : Refusal) × IsAnswerOf p refusal × Ends (BatchRefused refusal) (line (shown_batch_refusal text refusal)) result before after)
+    ((refusal : Refusal) × IsAnswerOf p refusal × EndsBatchRefused text refusal result before after)
     ⊎ Starves result before after
 
 -- The program in the text is admitted, and is what is answered, with nothing said; or it was said why it isn't.
@@ -104,7 +110,17 @@ GoesOn text program a result before after =
 abbrev pub RunsOn : List ℕ → Program → List ℕ → ℕ → Status → Scene → Scene → Type 0
 RunsOn text program s fuel result before after = (p : List ℕ) → GoesOn text program (Both p s fuel) result before after
 
+-- The same, of a program as it was loaded.
+abbrev pub GoesOnWith : Source → Asked → Status → Scene → Scene → Type 0
+GoesOnWith source = GoesOn (text_of source) (program_of source)
+
+abbrev pub RunsOnWith : Source → List ℕ → ℕ → Status → Scene → Scene → Type 0
+RunsOnWith source = RunsOn (text_of source) (program_of source)
+
 -- The run was printed, and its status answered; or its code was wanting memory, where it has no batch.
 abbrev pub EndsRun : List ℕ → ℕ → Program → Served → Status → Device (List ℕ) → Device (List ℕ) → Type 0
 EndsRun text fuel p served result before after =
     Ends (run_status fuel p served) (run_text text fuel p served) result before after ⊎ (HasNoBatch p × (result ≡ Memory))
+
+abbrev pub EndsRunOf : Source → ℕ → Served → Status → Device (List ℕ) → Device (List ℕ) → Type 0
+EndsRunOf source fuel = EndsRun (text_of source) fuel (program_of source)

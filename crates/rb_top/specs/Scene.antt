@@ -18,3 +18,11 @@ output w out = device w.told w.faults out
 
 abbrev pub outside : {F W : Type 0} → files.Ghosts F → sinks.Ghosts W → F → W → Scene
 outside f w fs out = record { files = directory f fs; out = output w out }
+
+-- This holds of the output before and after.
+abbrev pub Across : {W : Type 0} → sinks.Ghosts W → W → W → (Device (List ℕ) → Device (List ℕ) → Type 0) → Type 0
+Across w out out' Holds = Holds (output w out) (output w out')
+
+-- This holds of the scenes before and after.
+abbrev pub Between : {F W : Type 0} → files.Ghosts F → sinks.Ghosts W → F → W → F → W → (Scene → Scene → Type 0) → Type 0
+Between f w fs out fs' out' Holds = Holds (outside f w fs out) (outside f w fs' out')

@@ -1,18 +1,16 @@
 // The commands, from their words to what they print.
 
-ghost use Rattle.std.specs.Prelude.{◌≡◌, ◌++◌, map, Some, IfOk};
+ghost use Rattle.std.specs.Prelude.{◌≡◌, ◌++◌, ℕ, map, Some, IfOk};
 ghost use Rattle.rb_meaning.specs.Shown.{line};
-ghost use Rattle.rb_top.specs.BatchRefusals.{shown_batch_refusal};
 ghost use Rattle.rb_top.specs.Answers.{Ends, Says, ChecksTold, RunsTold};
 ghost use Rattle.rb_trees.specs.mirror.Declarations.{mirror_class, mirror_program};
 ghost use Rattle.rb_code.specs.Differ.{ClassesDiffer};
 ghost use Rattle.rb_trees.specs.mirror.Services.{mirror_service};
-ghost use Rattle.rb_top.specs.Commands.{Admits, EndsRefused, EndsRefusedService, EndsRun, EndsUntyped, EndsUnread, LoadsProgram, GoesOn, RunsOn, run_answer, status_after, stopped_status};
+ghost use Rattle.rb_top.specs.Commands.{Admits, EndsBatchRefused, EndsRefused, EndsRefusedService, EndsRunOf, EndsUntyped, EndsUnread, LoadsProgram, GoesOnWith, RunsOnWith, run_answer, status_after, stopped_status};
 ghost use Rattle.rb_top.specs.FirstForm.{FirstProgram};
-ghost use Rattle.rb_top.specs.Scene.{output, outside};
+ghost use Rattle.rb_top.specs.Scene.{output, Across, Between};
 ghost use Rattle.rb_top.specs.Sources.{text_of, program_of};
 ghost use Rattle.rb_top.specs.Texts.{WithinLength, IsBuilt};
-ghost use Rattle.rb_top.specs.declared.status.Status.TheVariants.{BatchRefused};
 ghost use Rattle.rb_top.specs.Words.{texts, asked, asked_by};
 
 use crate::admission::first_refusal;
@@ -143,7 +141,7 @@ fn refuse_types<W: Sink>(alloc: Global, text: &[u8], error: TypeError, out: &mut
 /// Says why a program isn't admitted.
 fn refuse_batch<W: Sink>(alloc: Global, text: &[u8], refusal: Refusal, out: &mut W) -> Status
     requires { WithinLength text.now }
-    ensures { Ends (BatchRefused refusal) (line (shown_batch_refusal text.now refusal)) result (output W.Sink out.old) (output W.Sink out.new) }
+    ensures { EndsBatchRefused text.now refusal result (output W.Sink out.old) (output W.Sink out.new) }
 {
     match batch_refusal_line(alloc, text, &refusal) {
         Ok(line) => say(Status::BatchRefused(refusal), line.as_slice(), out),
@@ -159,7 +157,7 @@ fn admitted_program<W: Sink>(
     out: &mut W,
 ) -> Result<Source, Status>
     requires { WithinLength text.items }
-    ensures { Admits text_of program_of text.items (mirror_program typed) result (output W.Sink out.old) (output W.Sink out.new) }
+    ensures { Across W.Sink out.old out.new (Admits text_of program_of text.items (mirror_program typed) result) }
 {
     match first_refusal(alloc, &typed) {
         Ok(None) => Ok(Source { text, typed }),
@@ -183,7 +181,7 @@ fn loaded_program<F: Files, W: Sink>(
     out: &mut W,
 ) -> Result<Source, Status>
     ensures short { IfOk result (λ source. WithinLength (text_of source)) }
-    ensures loads { LoadsProgram text_of program_of name.now result (outside F.Files W.Sink files.old out.old) (outside F.Files W.Sink files.new out.new) }
+    ensures loads { Between F.Files W.Sink files.old out.old files.new out.new (LoadsProgram text_of program_of name.now result) }
 {
     match load_text(alloc, name, files) {
         Err(stop) => Err(say_unread(alloc, stop, name, out)),
@@ -235,7 +233,7 @@ fn run_there<W: Sink>(
     requires first { FirstProgram (program_of source.now) }
     requires service { ClassesDiffer (map mirror_class service.classes) }
     requires short { WithinLength (text_of source.now) }
-    ensures { (fuel : ℕ) → EndsRun (text_of source.now) fuel (program_of source.now) (mirror_service service, table) result (output W.Sink out.old) (output W.Sink out.new) }
+    ensures { (fuel : ℕ) → Across W.Sink out.old out.new (EndsRunOf source.now fuel (mirror_service service, table) result) }
 {
     match Host::make(alloc, service, table) {
         Ok(mut host) => run_answer(run_batch(alloc, source, &mut host, out)),
@@ -255,7 +253,7 @@ fn run_program<W: Sink>(
     requires built { IsBuilt (program_of source.now) }
     requires service { ClassesDiffer (map mirror_class service.classes) }
     requires short { WithinLength (text_of source.now) }
-    ensures { EndsRun (text_of source.now) fuel (program_of source.now) (mirror_service service, table) result (output W.Sink out.old) (output W.Sink out.new) }
+    ensures { Across W.Sink out.old out.new (EndsRunOf source.now fuel (mirror_service service, table) result) }
 {
     if has_no_batch(&source.typed) {
         run_answer(run_local(alloc, source, &table, fuel, out))
@@ -275,7 +273,7 @@ fn run_on<F: Files, W: Sink>(
 ) -> Status
     requires built { IsBuilt (program_of source.now) }
     requires short { WithinLength (text_of source.now) }
-    ensures { RunsOn (text_of source.now) (program_of source.now) name.now fuel result (outside F.Files W.Sink files.old out.old) (outside F.Files W.Sink files.new out.new) }
+    ensures { Between F.Files W.Sink files.old out.old files.new out.new (RunsOnWith source.now name.now fuel result) }
 {
     match load_text(alloc, name, files) {
         Err(stop) => say_unread(alloc, stop, name, out),
@@ -298,7 +296,7 @@ fn go_on<F: Files, W: Sink>(
     out: &mut W,
 ) -> Status
     requires { WithinLength (text_of source.now) }
-    ensures { GoesOn (text_of source.now) (program_of source.now) (asked_by command.now) result (outside F.Files W.Sink files.old out.old) (outside F.Files W.Sink files.new out.new) }
+    ensures { Between F.Files W.Sink files.old out.old files.new out.new (GoesOnWith source.now (asked_by command.now) result) }
 {
     match command {
         Command::Check(_) => say(Status::Done, b"admitted\n", out),
@@ -323,7 +321,7 @@ fn carry_out<F: Files, W: Sink>(
     files: &mut F,
     out: &mut W,
 ) -> Status
-    ensures { Says (Some (asked_by command.now)) result (outside F.Files W.Sink files.old out.old) (outside F.Files W.Sink files.new out.new) }
+    ensures { Between F.Files W.Sink files.old out.old files.new out.new (Says (Some (asked_by command.now)) result) }
 {
     match loaded_program(alloc, command.program(), files, out) {
         Err(status) => status,
@@ -343,11 +341,11 @@ fn carry_out<F: Files, W: Sink>(
 /// the answer is `WriteFault`.
 pub fn top<F: Files, W: Sink>(alloc: Global, words: &[String], files: &mut F, out: &mut W) -> Status
     // What is answered and printed is what the words and the files mean.
-    ensures answer { Says (asked (texts words.now)) result (outside F.Files W.Sink files.old out.old) (outside F.Files W.Sink files.new out.new) }
+    ensures answer { Between F.Files W.Sink files.old out.old files.new out.new (Says (asked (texts words.now)) result) }
     // An admitted program that the files tell is checked, unless the output fails or memory is wanting.
-    ensures checks { ChecksTold (asked (texts words.now)) result (outside F.Files W.Sink files.old out.old) (outside F.Files W.Sink files.new out.new) }
+    ensures checks { Between F.Files W.Sink files.old out.old files.new out.new (ChecksTold (asked (texts words.now)) result) }
     // A program that the files tell is run on a service that they tell, unless the output fails or memory is wanting.
-    ensures runs { RunsTold (asked (texts words.now)) result (outside F.Files W.Sink files.old out.old) (outside F.Files W.Sink files.new out.new) }
+    ensures runs { Between F.Files W.Sink files.old out.old files.new out.new (RunsTold (asked (texts words.now)) result) }
 {
     sources_have_one_outcome();
     sources_have_one_outcome_as_services();

@@ -19,7 +19,7 @@ pub run_program-requires-clause-service : goal.run_program-requires-clause-servi
 run_program-requires-clause-service g c =
     source_classes_differ c.as_slice-other.result.now _ (mirror_service c.in-Ok-read_service.service, c.in-Ok-read_service.table) c.in-Ok-read_service.ensures.read refl
 
-pub returns-in-Ok-read_service : goal.returns-in-Ok-read_service
-returns-in-Ok-read_service g c =
+pub returns : goal.returns
+returns g c =
     run_ended (text_of c.args.source.now) c.args.name.now c.as_slice-other.result.now c.args.fuel (program_of c.args.source.now) (mirror_service c.in-Ok-read_service.service, c.in-Ok-read_service.table) c.run_program.result _ _ c.requires.built
     (subst (HoldsText _ c.args.name.now) (sym c.as_slice-other.ensures) c.in-Ok.ensures.0) c.in-Ok.ensures.1 c.in-Ok-read_service.ensures.read c.run_program.ensures

@@ -14,6 +14,4 @@ returns-in-Ok g c = λ fuel.
 
 pub returns-in-Err : goal.returns-in-Err
 returns-in-Err g c = λ fuel.
-    let p = program_of c.args.source.now in
-    let served = (mirror_service c.args.service, c.args.table) in
-    inl (starved_at_once (run_status fuel p served) (run_text (text_of c.args.source.now) fuel p served) (output g.W.Sink c.args.out.now))
+    inl (starved_at_once (run_status fuel (program_of c.args.source.now) (mirror_service c.args.service, c.args.table)) (run_text (text_of c.args.source.now) fuel (program_of c.args.source.now) (mirror_service c.args.service, c.args.table)) (output g.W.Sink c.args.out.now))
