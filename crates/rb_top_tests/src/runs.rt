@@ -98,7 +98,11 @@ static SERVICES: [(&str, &str); 9] = [
 #[test]
 fn a_batch_runs_on_any_service(rt: HostRuntime) -> Result<(), Fail> {
     for (service, wanted) in SERVICES {
-        assert_eq!(rt; shown(rt.alloc(), Some(PROGRAM), Some(service))?.as_str(), wanted, "{service}");
+        assert_eq!(rt;
+            shown(rt.alloc(), Some(PROGRAM), Some(service))?.as_str(),
+            wanted,
+            "{service}"
+        );
     }
     Ok(())
 }
@@ -131,15 +135,42 @@ fn a_fault_stands_behind_the_lines_before_it(rt: HostRuntime) -> Result<(), Fail
 static REFUSED: [(&str, &str); 12] = [
     ("class D { } $", "6 service lex 1 BadByte at 1:13\n"),
     ("", "6 service parse 6 Unexpected at 1:1\n"),
-    ("class D { } root 0", "6 service parse 6 Unexpected at 1:19\n"),
-    ("class D { v: E; } object 0: D { v = #0; } root 0;", "6 service types 1 UnknownName at 1:14\n"),
-    ("class D { fun f() {\n  print(1); } } object 0: D { } root 0;", "6 service types 8 NotAllowedHere at 2:3\n"),
-    ("class D { } object 1: D { } root 0;", "6 service 24 ObjectNumber object 0\n"),
-    ("class D { } object 0: E { } root 0;", "6 service types 1 UnknownName at 1:23\n"),
-    ("class D { v: Int; } object 0: D { } root 0;", "6 service 22 FieldMissing object 0\n"),
-    ("class D { v: Int; } object 0: D { v = 1; } object 1: D { v = \"x\"; } root 0;", "6 service 23 FieldKind object 1\n"),
-    ("class D { v: List<D>; } object 0: D { v = [#0, #7]; } root 0;", "6 service 21 BadReference object 0\n"),
-    ("class D { } object 0: D { } root 9;", "6 service 20 NoRoot\n"),
+    (
+        "class D { } root 0",
+        "6 service parse 6 Unexpected at 1:19\n",
+    ),
+    (
+        "class D { v: E; } object 0: D { v = #0; } root 0;",
+        "6 service types 1 UnknownName at 1:14\n",
+    ),
+    (
+        "class D { fun f() {\n  print(1); } } object 0: D { } root 0;",
+        "6 service types 8 NotAllowedHere at 2:3\n",
+    ),
+    (
+        "class D { } object 1: D { } root 0;",
+        "6 service 24 ObjectNumber object 0\n",
+    ),
+    (
+        "class D { } object 0: E { } root 0;",
+        "6 service types 1 UnknownName at 1:23\n",
+    ),
+    (
+        "class D { v: Int; } object 0: D { } root 0;",
+        "6 service 22 FieldMissing object 0\n",
+    ),
+    (
+        "class D { v: Int; } object 0: D { v = 1; } object 1: D { v = \"x\"; } root 0;",
+        "6 service 23 FieldKind object 1\n",
+    ),
+    (
+        "class D { v: List<D>; } object 0: D { v = [#0, #7]; } root 0;",
+        "6 service 21 BadReference object 0\n",
+    ),
+    (
+        "class D { } object 0: D { } root 9;",
+        "6 service 20 NoRoot\n",
+    ),
     ("class D { } root 0;", "6 service 20 NoRoot\n"),
 ];
 
@@ -147,7 +178,11 @@ static REFUSED: [(&str, &str); 12] = [
 fn texts_that_are_no_service_are_refused(rt: HostRuntime) -> Result<(), Fail> {
     for (service, wanted) in REFUSED {
         for program in [PROGRAM, "main { }"] {
-            assert_eq!(rt; shown(rt.alloc(), Some(program), Some(service))?.as_str(), wanted, "{service}");
+            assert_eq!(rt;
+                shown(rt.alloc(), Some(program), Some(service))?.as_str(),
+                wanted,
+                "{service}"
+            );
         }
     }
     Ok(())

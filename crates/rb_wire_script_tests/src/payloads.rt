@@ -75,7 +75,9 @@ fn told(alloc: Global, payload: &[u8]) -> Result<Option<(u8, usize, u64, bool)>,
 fn valid_scripts_are_read_and_written(rt: HostRuntime) -> Result<(), Fail> {
     for (digits, inputs, steps, values) in VALID {
         let payload = bytes_of(rt.alloc(), digits)?;
-        let code = (payload.len() as u64).saturating_sub(values).saturating_sub(2);
+        let code = (payload.len() as u64)
+            .saturating_sub(values)
+            .saturating_sub(2);
         assert_eq!(rt;
             told(rt.alloc(), payload.as_slice())?,
             Some((inputs, steps, code, true))
