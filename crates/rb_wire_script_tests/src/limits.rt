@@ -92,7 +92,22 @@ fn limits_are_kept(rt: HostRuntime) -> Result<(), Fail> {
 fn nested(alloc: Global, blocks: u32) -> Result<Vec<u8>, Fail> {
     let mut payload = bytes_of(alloc, "01 00")?;
     for id in 1..blocks {
-        payload.extend_from_slice(&[0, 0, 0, 1, 0x13, 0, 0, 0, id as u8, 0, 0, 0, 0, 0x23])?;
+        payload.extend_from_slice(&[
+            0,
+            0,
+            0,
+            1,
+            0x13,
+            0,
+            0,
+            0,
+            (id % 256) as u8,
+            0,
+            0,
+            0,
+            0,
+            0x23,
+        ])?;
     }
     payload.extend_from_slice(&[0, 0, 0, 0])?;
     for _ in 1..blocks {
