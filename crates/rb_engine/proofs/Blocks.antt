@@ -19,7 +19,6 @@ use Rattle.rb_engine.specs.Code.{body_run, stmts_run, try_run}
 use Rattle.rb_engine.specs.Ends.{fault_of, lifted}
 use Rattle.rb_engine.specs.declared.ends.Refusal.{Refusal}
 use Rattle.rb_engine.specs.declared.ends.End.{End}
-use Rattle.rb_engine.specs.declared.ends.End.TheVariants.{NoMemory, Stopped}
 use Rattle.rb_engine.specs.declared.ends.End.TheVariants as ends
 use Rattle.rb_engine.specs.Meets.{Scene, Led, Meets}
 use Rattle.rb_engine.proofs.Runs.{gave, cut, ended, stands, at_run, through_led, sequel, sequel_of_fault}

@@ -9,7 +9,7 @@ use Rattle.rb_trees.specs.declared.code.Expr as expr
 use Rattle.rb_trees.specs.declared.code.Stmt as stmt
 use Rattle.rb_trees.specs.declared.declarations.Class as class
 use Rattle.rb_trees.specs.mirror.Code as code
-use Rattle.rb_trees.specs.mirror.Code.{Expr, Stmt, Stmts, expr_at, mirror_expr, mirror_stmt}
+use Rattle.rb_trees.specs.mirror.Code.{Expr, Stmt, expr_at, mirror_expr, mirror_stmt}
 use Rattle.rb_meaning_code.specs.Faults.{kind, too_deep, raised, raises}
 use Rattle.rb_meaning_code.specs.State.{Local}
 use Rattle.rb_meaning_code.specs.Dialogue.{Line, Invoke, Faulted, Done, Ask, Surroundings, next, end, told}

@@ -14,7 +14,7 @@ use Rattle.rb_engine.specs.Ends.{fault_of, lifted, flattened}
 use Rattle.rb_engine.specs.declared.ends.Refusal.{Refusal}
 use Rattle.rb_engine.specs.declared.ends.Refusal.TheVariants as refusal
 use Rattle.rb_engine.specs.declared.ends.End.{End}
-use Rattle.rb_engine.specs.declared.ends.End.TheVariants.{NoMemory, Stopped}
+use Rattle.rb_engine.specs.declared.ends.End.TheVariants.{NoMemory}
 use Rattle.rb_engine.specs.declared.ends.End.TheVariants as ends
 use Rattle.rb_engine.specs.declared.world.Halt.{Halt}
 use Rattle.rb_engine.specs.declared.world.Halt.TheVariants.{Memory, World}

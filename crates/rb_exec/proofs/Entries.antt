@@ -7,7 +7,7 @@ use Rattle.rb_trees.specs.declared.forests.NodeFault.{NodeFault}
 use Rattle.rb_trees.specs.declared.forests.Entry as entry
 use Rattle.rb_trees.specs.declared.forests.Entry.TheVariants as entries
 use Rattle.rb_trees.specs.mirror.Forests as forest
-use Rattle.rb_trees.specs.mirror.Forests.{Node, Nodes, Holds, Entry, NoEntries, MoreEntries, NoNodes, MoreNodes, mirror_node, mirror_entry, mirror_entries, mirror_nodes}
+use Rattle.rb_trees.specs.mirror.Forests.{Node, Nodes, Holds, Entry, NoEntries, mirror_node, mirror_entry, mirror_entries, mirror_nodes}
 use Rattle.rb_trees.proofs.mirror.Nodes.{at_Node, form_Value, form_Branch, form_Rows}
 use Rattle.rb_meaning_code.specs.ScriptRun.{Ran, in_front, with_entry, with_kept}
 use Rattle.rb_exec.specs.Blocks.{with_entries, kept_entries}

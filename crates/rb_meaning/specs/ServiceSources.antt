@@ -4,7 +4,7 @@ use Rattle.rb_trees.specs.declared.reading.ReadError.{ReadError}
 use Rattle.rb_trees.specs.declared.services.Object.{Object}
 use Rattle.rb_trees.specs.mirror.Services.{Service, ServiceText}
 use Rattle.rb_meaning_bytes.specs.grammar.Sources.{ReadService}
-use Rattle.rb_meaning_types.specs.Stores.{StoreRefusal, Read, Stored, service_of}
+use Rattle.rb_meaning_types.specs.Stores.{Read, Stored, service_of}
 
 -- The source is this service with this table, or has this first refusal.
 pub data ReadsAsService (source : List ℕ) : Stored (Service × List Object) → Type 0 where

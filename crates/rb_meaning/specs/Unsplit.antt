@@ -8,7 +8,7 @@ use Rattle.rb_trees.specs.declared.services.Object.{Object}
 use Rattle.rb_trees.specs.mirror.Types as types
 use Rattle.rb_trees.specs.mirror.Types.{TypeTree}
 use Rattle.rb_trees.specs.mirror.Code as code
-use Rattle.rb_trees.specs.mirror.Code.{Expr, Exprs, Stmt, Stmts, expr_at}
+use Rattle.rb_trees.specs.mirror.Code.{Expr, Exprs, Stmts, expr_at}
 use Rattle.rb_trees.specs.mirror.Declarations.{Signature, Interface, Program}
 use Rattle.rb_trees.specs.mirror.Services.{Service}
 use Rattle.rb_meaning_code.specs.Faults.{kind, raised, raises, raised_remotely}

@@ -2,4 +2,3 @@ pub mod Fits
 pub mod formats
 pub mod grammar
 pub mod tokens
-pub mod wire

@@ -7,7 +7,7 @@ use Rattle.rb_trees.specs.declared.values.Value.TheOpen.{Value-F}
 use Rattle.rb_trees.specs.declared.values.Value.TheVariants as value
 use Rattle.rb_trees.specs.declared.values.Fault.{Fault}
 use Rattle.rb_trees.specs.mirror.Code as code
-use Rattle.rb_trees.specs.mirror.Code.{Expr, Stmt, Stmts, expr_at}
+use Rattle.rb_trees.specs.mirror.Code.{Expr, Stmt, Stmts}
 use Rattle.rb_meaning_code.specs.Faults.{fuel_used, thrown, kind, raised, raises, caught_text, is_caught}
 use Rattle.rb_meaning_code.specs.Operators.{shown_value}
 use Rattle.rb_meaning_code.specs.State.{Names, Local, bound, closed, spent}

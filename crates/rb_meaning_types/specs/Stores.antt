@@ -1,6 +1,6 @@
 -- Which texts of services have a table, and which: the first refusal of the others. Objects are looked at in order, each
 -- by its number, its class, the names of its fields, and then its values from the left; the root comes last.
-use Rattle.std.specs.Prelude.{ℕ, ◌+◌, List, [], ◌∷◌, map, Bool, true, false, ◌&&◌, cond, nat_eq, nat_le, Option, Some, None, option_map, is_some, Result, Ok, Err}
+use Rattle.std.specs.Prelude.{ℕ, ◌+◌, List, [], ◌∷◌, map, Bool, true, false, ◌&&◌, cond, nat_eq, nat_le, Option, Some, None, option_map, is_some, Result, Ok}
 use Rattle.std.specs.Str.{bytes_eq}
 use Rattle.rb_trees.specs.Limits.{longest_list}
 use Rattle.rb_trees.specs.Outcome.{◌>>=◌, ◌>>◌, known, must, refused_as}

@@ -6,7 +6,7 @@ use Rattle.rb_trees.specs.declared.tokens.TokenKind.{TokenKind}
 use Rattle.rb_trees.specs.Kinds.{is_kind, is_one_of}
 use Rattle.rb_meaning_bytes.specs.grammar.Symbols.{Symbol, Terminal, The, Nonterminal, TreeOf, Trees, made}
 use Rattle.rb_meaning_bytes.specs.grammar.Derives as g
-use Rattle.rb_meaning_bytes.specs.grammar.Derives.{Spells, IsPrefix}
+use Rattle.rb_meaning_bytes.specs.grammar.Derives.{Spells}
 use Rattle.rb_parse.specs.Table.{Choice, choice, begins, may_be_empty, all_begin, cases, otherwise, predict}
 use Rattle.rb_parse.proofs.KindLists.{kind_is, within, apart, one_within, one_apart, one_here, one_there}
 use Rattle.rb_parse.proofs.Checks.{bars, symbol_bars, implies, implied, implies_true, all_empty, fitting, ending}

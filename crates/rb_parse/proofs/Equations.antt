@@ -13,7 +13,7 @@ use Rattle.rb_parse.specs.Reading.{Read, Reader, ◌>>=◌, read_into, by_choice
 use Rattle.rb_trees.specs.declared.code.UnOp.TheVariants as unary
 use Rattle.rb_trees.specs.declared.code.BinOp.{BinOp}
 use Rattle.rb_trees.specs.mirror.Code as code
-use Rattle.rb_trees.specs.mirror.Code.{Expr, Exprs, mirror_expr, mirror_exprs}
+use Rattle.rb_trees.specs.mirror.Code.{Expr, Exprs}
 use Rattle.rb_meaning_bytes.specs.grammar.Productions.{member}
 use Rattle.rb_parse.specs.declared.levels.Level.{Level}
 use Rattle.rb_parse.specs.declared.levels.Level.TheVariants as l

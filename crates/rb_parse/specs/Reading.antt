@@ -4,7 +4,7 @@ use Rattle.rb_trees.specs.declared.tokens.Token.{Token}
 use Rattle.rb_trees.specs.declared.tokens.TokenKind.{TokenKind}
 use Rattle.rb_trees.specs.Kinds.{is_kind, is_one_of}
 use Rattle.rb_meaning_bytes.specs.grammar.Symbols as s
-use Rattle.rb_meaning_bytes.specs.grammar.Symbols.{Symbol, Terminal, The, Nonterminal, Chain, MoreChain, TreeOf, Tree, Makes}
+use Rattle.rb_meaning_bytes.specs.grammar.Symbols.{Symbol, Terminal, The, Nonterminal, Chain, TreeOf, Tree, Makes}
 use Rattle.rb_parse.specs.Table.{Choice, predict}
 pub use Rattle.rb_trees.specs.Outcome.{◌>>=◌}
 

@@ -9,7 +9,7 @@ use Rattle.rb_trees.specs.declared.values.Value.{Value, out-Value}
 use Rattle.rb_trees.specs.declared.values.Value.TheOpen.{Value-F}
 use Rattle.rb_trees.specs.declared.forests.NodeFault.{NodeFault}
 use Rattle.rb_trees.specs.mirror.Scripts as script
-use Rattle.rb_trees.specs.mirror.Scripts.{SExpr, SExprs, Step, Steps}
+use Rattle.rb_trees.specs.mirror.Scripts.{Step, Steps}
 use Rattle.rb_trees.specs.mirror.Forests as forest
 use Rattle.rb_trees.specs.mirror.Forests.{Node, Nodes, Entry, Entries}
 use Rattle.rb_meaning_types.specs.Values.{IsText}

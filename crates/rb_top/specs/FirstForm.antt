@@ -18,7 +18,6 @@ use Rattle.rb_trees.specs.mirror.Scripts as script
 use Rattle.rb_trees.specs.mirror.Scripts.{Steps, Script}
 use Rattle.rb_meaning.specs.Division.{int_kind}
 use Rattle.rb_meaning.specs.Division.{printed_call}
-use Rattle.rb_meaning_bytes.specs.wire.Scripts.{count_steps, script as spelled_script}
 
 abbrev pub count_stmts : Stmts → ℕ
 count_stmts code.NoStmts = 0

@@ -1,5 +1,5 @@
 -- How many bytes the code of a script has on the wire.
-use Rattle.std.specs.Prelude.{ℕ, ◌+◌, ◌-◌, ◌^◌, min, List, length}
+use Rattle.std.specs.Prelude.{ℕ, ◌+◌, ◌-◌, ◌^◌, min, length}
 use Rattle.rb_trees.specs.declared.values.Value.{Value, out-Value}
 use Rattle.rb_trees.specs.declared.values.Value.TheOpen.{Value-F}
 use Rattle.rb_trees.specs.mirror.Scripts.{SExpr, Lit, Input, Var, Root, Unary, Binary, Call, SExprs, NoSExprs, MoreSExprs, Step, Do, Keep, Let, If, Each, Steps, NoSteps, MoreSteps, Script}

@@ -17,7 +17,7 @@ const MOST_EXPRS: u32 = 256;
 /// Why a script isn't valid: its first refusal, at a step's number.
 #[derive(Clone, Copy, Debug, PartialEq, Eq, Error)]
 pub enum ScriptRefusal {
-    /// The variable is bound neither by an earlier Let of the same or an enclosing block, nor by an enclosing Each.
+    /// Nothing in scope binds the variable: no Let before it, in its own block or in one around it, and no Each around it.
     #[error("step {0} has a variable that nothing binds")]
     UnknownVariable(u32),
     /// The script has fewer inputs.

@@ -13,7 +13,7 @@ use Rattle.rb_trees.specs.declared.values.Value.TheVariants as value
 use Rattle.rb_trees.specs.declared.services.Object.{Object}
 use Rattle.rb_trees.specs.mirror.Declarations.{Param, Interface, Class, Method}
 use Rattle.rb_meaning_types.specs.Kinds as kind
-use Rattle.rb_meaning_types.specs.Kinds.{Kind, kind_of}
+use Rattle.rb_meaning_types.specs.Kinds.{kind_of}
 use Rattle.rb_meaning_types.specs.Names.{interface_named, class_named, method_named, field_named}
 use Rattle.rb_meaning_types.specs.Violations.{Placed, WrongCount, wanted}
 use Rattle.rb_meaning_types.specs.Declared.{Context}

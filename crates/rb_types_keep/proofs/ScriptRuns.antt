@@ -10,9 +10,9 @@ use Rattle.rb_trees.specs.declared.values.Value.TheViews.{out-Value}
 use Rattle.rb_trees.specs.declared.values.Fault.{Fault}
 use Rattle.rb_trees.specs.declared.services.Object.{Object}
 use Rattle.rb_trees.specs.mirror.Scripts as script
-use Rattle.rb_trees.specs.mirror.Scripts.{SExpr, SExprs, Step, Steps, Script}
+use Rattle.rb_trees.specs.mirror.Scripts.{SExpr, SExprs, Step, Steps}
 use Rattle.rb_trees.specs.mirror.Forests as forest
-use Rattle.rb_trees.specs.mirror.Forests.{Node, Nodes, Entry, Entries, Holds, NoEntries, MoreEntries, NoNodes, MoreNodes}
+use Rattle.rb_trees.specs.mirror.Forests.{Node, Entry, Entries, Holds, NoEntries}
 use Rattle.rb_trees.specs.mirror.Declarations.{Class}
 use Rattle.rb_meaning_types.specs.Values.{IsList}
 use Rattle.rb_meaning_types.specs.Programs.{check_service}

@@ -15,7 +15,7 @@ use Rattle.rb_trees.specs.declared.services.Object.{Object}
 use Rattle.rb_trees.specs.mirror.Code.{Expr, Stmt, Stmts, Name, This, Field, Val, Var, Assign, Run, Print, Throw, If, While, For, Try, Batch, NoStmts, MoreStmts, expr_at}
 use Rattle.rb_trees.specs.mirror.Declarations.{Interface, Body}
 use Rattle.rb_meaning_types.specs.Kinds as kind
-use Rattle.rb_meaning_types.specs.Kinds.{Kind, is_primitive, kind_of, is_unit}
+use Rattle.rb_meaning_types.specs.Kinds.{Kind, is_primitive, is_unit}
 use Rattle.rb_meaning_types.specs.Names.{interface_named}
 use Rattle.rb_meaning_types.specs.Violations.{Checked, Placed, UnknownName, NameTaken, NotAssignable, NotAllowedHere, wanted, wrong_type, with_place}
 use Rattle.rb_meaning_types.specs.Declared.{Declarations, Context, is_interface}
@@ -27,7 +27,7 @@ use Rattle.rb_meaning_types.specs.Fits.{classes_of, IsIntValue, IsBoolValue, IsT
 use Rattle.rb_meaning_code.specs.State.{Local, bound, spent}
 use Rattle.rb_meaning_code.specs.Faults.{raised, fuel_used, caught_text, is_caught}
 use Rattle.rb_meaning_code.specs.Operators.{shown_value}
-use Rattle.rb_meaning_code.specs.Dialogue.{Question, Line, Turn, ListTurn, Outcome, Gave, Faulted, Dialogue, Done, Ask, AskBatch, seq, on, next, gives, end, told}
+use Rattle.rb_meaning_code.specs.Dialogue.{Question, Line, Turn, ListTurn, Outcome, Gave, Faulted, Dialogue, Done, Ask, next, gives, told}
 use Rattle.rb_meaning_code.specs.Dialogue as dialogue
 use Rattle.rb_meaning_code.specs.Objects.{with_field_of}
 use Rattle.rb_meaning_code.specs.Calls.{Bodies, unit_due}

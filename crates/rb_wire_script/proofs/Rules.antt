@@ -1,5 +1,5 @@
 -- The rules by which validity is checked with an index.
-use Rattle.std.proofs.Common.{◌≡◌, List, ◌++◌, ℕ, length, take, append_assoc, append-nil}
+use Rattle.std.proofs.Common.{append_assoc, append-nil}
 use Rattle.std.proofs.Math.Seq.{take-append_seam}
 use Rattle.std.proofs.lemmas.Grind.{common_steps}
 use Rattle.rb_trees.proofs.mirror.Steps.{steps as mirrored_steps}

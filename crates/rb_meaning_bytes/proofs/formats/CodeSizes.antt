@@ -1,12 +1,12 @@
 -- The code of a script has as many bytes as its size says.
-use Rattle.std.proofs.Common.{◌≡◌, ℕ, ◌+◌, List, [], ◌∷◌, ◌++◌, Bool, true, false, length, length-append, refl, arith}
+use Rattle.std.proofs.Common.{◌≡◌, ℕ, ◌+◌, List, ◌∷◌, ◌++◌, Bool, true, false, length, length-append, refl, arith}
 use Rattle.rb_trees.specs.declared.values.Value.{Value, out-Value}
 use Rattle.rb_trees.specs.declared.values.Value.TheOpen.{Value-F}
 use Rattle.rb_trees.specs.mirror.Scripts as tree
 use Rattle.rb_trees.specs.mirror.Scripts.{SExpr, SExprs, Step, Steps}
-use Rattle.rb_trees.specs.CodeSize.{value_form_size, value_size, expr_size, exprs_size, step_size, steps_size, block_size}
+use Rattle.rb_trees.specs.CodeSize.{value_form_size, expr_size, exprs_size, step_size, steps_size, block_size}
 use Rattle.rb_meaning_bytes.specs.formats.Fields.{number, wide_number, text, truth}
-use Rattle.rb_meaning_bytes.specs.formats.ScriptBytes.{value_form, value_bytes, unary_code, binary_code, expr_bytes, exprs_bytes, count_exprs, step_bytes, steps_bytes, count_steps, block_bytes}
+use Rattle.rb_meaning_bytes.specs.formats.ScriptBytes.{value_form, expr_bytes, exprs_bytes, count_exprs, step_bytes, steps_bytes, count_steps, block_bytes}
 
 number_size : (n : ℕ) → length (number n) ≡ 4
 unfolding number

@@ -1,8 +1,8 @@
 -- Reading a format gives its value where the bytes spell one, and else the first violation. Nothing here knows a message.
-use Rattle.std.proofs.Common.{◌≡◌, ℕ, zero, suc, ◌+◌, ◌-◌, ◌<◌, ◌≤◌, ◌^◌, List, [], ◌∷◌, ◌++◌, length, take, drop, get_or, Result, Ok, Err, refl, ap, sym, ◌∙◌, subst, arith, append_assoc, append-nil, length-append, Bool, true, false, cond, nat_eq, ◌⊎◌, inl, inr}
-use Rattle.rb_meaning_bytes.specs.formats.Fields.{Field, Byte, Tag, Deeper, Of, spelled, Fits, Violates, wrong, cut, trailing, bad_tag}
-use Rattle.rb_meaning_bytes.specs.formats.Formats.{Format, Done, Then, the, ◌>>=◌, Spells, done, more, Reaches, here, behind, FirstViolation, within, behind_all, choose, picked, is_tag, times, deeper}
-use Rattle.rb_meaning_bytes.specs.formats.Reading.{Fault, Read, on, look, read, alone, on_all, read_all, is_cut, deep}
+use Rattle.std.proofs.Common.{◌≡◌, ℕ, zero, suc, ◌+◌, ◌-◌, ◌≤◌, List, [], ◌∷◌, ◌++◌, length, Result, Ok, Err, refl, ap, sym, ◌∙◌, subst, arith, append_assoc, append-nil, length-append, Bool, true, false, cond, ◌⊎◌, inl, inr}
+use Rattle.rb_meaning_bytes.specs.formats.Fields.{Field, Of, spelled, Violates, wrong, cut, trailing}
+use Rattle.rb_meaning_bytes.specs.formats.Formats.{Format, Done, Then, ◌>>=◌, Spells, done, more, Reaches, here, behind, FirstViolation, within, behind_all}
+use Rattle.rb_meaning_bytes.specs.formats.Reading.{Fault, Read, on, look, read, on_all, read_all}
 use Rattle.rb_meaning_bytes.proofs.formats.FieldLaws as fields
 use Rattle.rb_meaning_bytes.specs.formats.Fields.{IsBytes}
 use Rattle.rb_meaning_bytes.proofs.formats.FieldLaws.{rest_bytes}

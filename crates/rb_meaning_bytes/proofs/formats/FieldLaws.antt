@@ -1,5 +1,5 @@
 -- Looking at a field gives the value that the bytes spell, or what is violated.
-use Rattle.std.proofs.Common.{◌≡◌, ◌⊎◌, ℕ, ℤ, zero, suc, ◌+◌, ◌-◌, ◌<◌, ◌≤◌, ◌^◌, Bool, true, false, cond, ltb, List, [], ◌∷◌, ◌++◌, length, take, drop, get_or, Result, Ok, Err, refl, ap, sym, ◌∙◌, subst, arith, append_assoc, append-nil, length-append, inl, inr, drop-drop}
+use Rattle.std.proofs.Common.{◌≡◌, ◌⊎◌, ℕ, ℤ, zero, suc, ◌+◌, ◌-◌, ◌<◌, ◌≤◌, ◌^◌, Bool, true, false, cond, ltb, List, [], ◌∷◌, ◌++◌, length, take, drop, Result, Ok, Err, refl, ap, sym, ◌∙◌, subst, arith, append_assoc, length-append, inl, inr, drop-drop}
 use Rattle.std.specs.Int.{Width, w32, w64, byte_len, from_be_bytes, to_be_bytes, cast_signed, cast_unsigned}
 use Rattle.std.specs.Int.RustNames.{FitsSigned}
 use Rattle.std.specs.Str.{is_utf8}
@@ -10,9 +10,9 @@ use Rattle.std.proofs.lemmas.Bool.{cases_lt, ltb-true, ltb-false, le-ltb, lt-ltb
 use Rattle.std.proofs.lemmas.List.{take_at, drop_at, take-append-drop, length-take, length-drop, get_or-drop, get_or-take, get_or_past}
 use Rattle.std.proofs.lemmas.Nat.{be_bytes_4, be_bytes_8, from_be_bytes-to_be_bytes_4, from_be_bytes-to_be_bytes_8}
 use Rattle.rb_trees.specs.Limits.{longest_text}
-use Rattle.rb_meaning_bytes.specs.formats.Fields.{IsBytes, Field, Tag, Byte, Number, Wide, Truth, Text, Name, Deeper, Of, spelled, number, wide_number, text, Fits, is_name, announced, content, needs, Wrong, no_such_tag, no_truth, too_long, no_utf8, no_name, deeper, Violates, wrong, cut, bad_tag, bad_text, not_canonical, too_deep, truncated}
+use Rattle.rb_meaning_bytes.specs.formats.Fields.{IsBytes, Field, Tag, Byte, Number, Wide, Truth, Text, Name, Deeper, Of, spelled, number, wide_number, text, Fits, is_name, announced, content, needs, Wrong, no_such_tag, no_truth, too_long, no_utf8, no_name, deeper, Violates, wrong, cut, bad_tag, bad_text, not_canonical, too_deep}
 use Rattle.std.proofs.Math.Seq.{take-append_seam, drop-append_seam}
-use Rattle.rb_meaning_bytes.specs.formats.Reading.{Fault, Read, look, is_cut, fixed, deep}
+use Rattle.rb_meaning_bytes.specs.formats.Reading.{Fault, look, is_cut, fixed}
 
 pub IsBytes-drop : (n : ℕ) (bytes : List ℕ) → IsBytes bytes → IsBytes (drop n bytes)
 IsBytes-drop n bytes h i = rw get_or-drop (h (n + i))

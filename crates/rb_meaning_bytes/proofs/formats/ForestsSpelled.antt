@@ -1,10 +1,10 @@
 -- A forest that is formed spells its bytes, and so does a refusal.
-use Rattle.std.proofs.Common.{◌≡◌, ℕ, zero, suc, ◌+◌, ◌<◌, ◌≤◌, ◌^◌, Bool, true, false, cond, nat_eq, List, [], ◌∷◌, ◌++◌, refl, ap, sym, ◌∙◌, subst, arith, append_assoc, append-nil, Option, None, Some}
+use Rattle.std.proofs.Common.{◌≡◌, ℕ, zero, suc, ◌+◌, ◌<◌, Bool, true, false, cond, nat_eq, List, [], ◌∷◌, ◌++◌, refl, ap, sym, subst, arith, append_assoc, append-nil, Option, None, Some}
 use Rattle.std.proofs.lemmas.Bool.Decides.{nat_tests}
 use Rattle.rb_trees.specs.declared.forests.NodeFault.{NodeFault}
 use Rattle.rb_trees.specs.mirror.Forests as tree
 use Rattle.rb_trees.specs.mirror.Forests.{Node, Entry, Entries, Nodes, entries_from, nodes_from}
-use Rattle.rb_meaning_bytes.specs.formats.Fields.{Text, Fits, number, text, truth}
+use Rattle.rb_meaning_bytes.specs.formats.Fields.{Text, number, text}
 use Rattle.rb_meaning_bytes.specs.formats.Formats.{Done, the, times, Spells, done, more}
 use Rattle.rb_meaning_bytes.specs.formats.Values.{value}
 use Rattle.rb_meaning_bytes.specs.formats.Forests.{thrown, is_fault_code, fault_text, ends, end, rows_entry, entry_forms, entry, node, forest_message}

@@ -1,5 +1,5 @@
 -- The number of a refusal on the wire is one that refusals have.
-use Rattle.std.proofs.Common.{◌≡◌, ℕ, zero, suc, ◌+◌, ◌<◌, ◌≤◌, Bool, true, false, List, [], ◌∷◌, ◌++◌, Result, Ok, Err, refl, ap, sym, ◌∙◌, subst, arith}
+use Rattle.std.proofs.Common.{◌≡◌, ℕ, zero, suc, ◌+◌, ◌<◌, Bool, true, false, List, [], ◌∷◌, ◌++◌, Err, refl, ap, sym, ◌∙◌, arith}
 use Rattle.std.specs.Prelude.{nat_lt, not}
 use Rattle.std.proofs.lemmas.Bool.{lt-ltb, le-ltb}
 use Rattle.rb_trees.specs.declared.validity.ScriptRefusal.{ScriptRefusal}
@@ -11,7 +11,7 @@ use Rattle.rb_meaning_bytes.specs.formats.Fields.{Field, Wrong, no_such_tag, no_
 use Rattle.rb_meaning_bytes.specs.formats.Formats.{Format, FirstViolation, within, behind_all}
 use Rattle.rb_meaning_bytes.specs.formats.Refusals.{is_refusal_number}
 use Rattle.rb_meaning_bytes.specs.formats.FormedScripts.{Within, AllWithin, WholeWithin, StepWithin, StepsWithin, IsWithinLimits}
-use Rattle.rb_meaning_bytes.specs.formats.ScriptPayloads.{Sent, Refused, Means, taken, violated, not_valid, number_of}
+use Rattle.rb_meaning_bytes.specs.formats.ScriptPayloads.{Refused, Means, violated, not_valid, number_of}
 use Rattle.rb_meaning_bytes.proofs.formats.OnlyScripts.{script_only}
 
 -- none of the refusals is TooDeep

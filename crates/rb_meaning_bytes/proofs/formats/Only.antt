@@ -1,5 +1,5 @@
 -- What a format spells is what a function of the value gives, and the value is a good one. By the format's steps.
-use Rattle.std.proofs.Common.{◌≡◌, ℕ, zero, suc, ◌+◌, ◌<◌, ◌≤◌, ◌^◌, Bool, true, false, cond, nat_eq, nat_le, List, [], ◌∷◌, ◌++◌, length, map, refl, ap, sym, ◌∙◌, subst, arith, append_assoc, append-nil, length-append}
+use Rattle.std.proofs.Common.{◌≡◌, ℕ, zero, suc, ◌+◌, Bool, true, false, cond, nat_eq, List, [], ◌∷◌, ◌++◌, refl, ap, sym, ◌∙◌, subst, append_assoc, append-nil}
 use Rattle.std.proofs.lemmas.Bool.{eqb-true}
 use Rattle.rb_meaning_bytes.specs.formats.Fields.{Field, Of, spelled, Fits}
 use Rattle.rb_meaning_bytes.specs.formats.Formats.{Format, Done, Then, ◌>>=◌, deeper, choose, picked, is_tag, times, Spells, done, more}

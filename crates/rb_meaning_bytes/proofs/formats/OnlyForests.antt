@@ -1,9 +1,8 @@
 -- What a forest is spelled by is its bytes, and it is formed; and so it is with refusals.
-use Rattle.std.proofs.Common.{◌≡◌, ℕ, zero, suc, ◌<◌, ◌^◌, Bool, true, false, cond, nat_eq, List, [], ◌∷◌, ◌++◌, refl, ap, sym, ◌∙◌, subst, append_assoc, Option, None, Some}
-use Rattle.rb_trees.specs.declared.forests.NodeFault.{NodeFault}
+use Rattle.std.proofs.Common.{◌≡◌, ℕ, zero, suc, ◌<◌, ◌^◌, Bool, true, false, cond, nat_eq, List, [], ◌∷◌, ◌++◌, refl, ap, sym, subst, append_assoc, None, Some}
 use Rattle.rb_trees.specs.mirror.Forests as tree
-use Rattle.rb_trees.specs.mirror.Forests.{Node, Entry, Entries, Nodes, entries_from, nodes_from}
-use Rattle.rb_meaning_bytes.specs.formats.Fields.{Tag, Number, Truth, Text, number, text, truth}
+use Rattle.rb_trees.specs.mirror.Forests.{Node, Entry, entries_from, nodes_from}
+use Rattle.rb_meaning_bytes.specs.formats.Fields.{Tag, Number, Truth, Text, number, text}
 use Rattle.rb_meaning_bytes.specs.formats.Formats.{Done, the, times}
 use Rattle.rb_meaning_bytes.specs.formats.Values.{value}
 use Rattle.rb_meaning_bytes.specs.formats.Forests.{thrown, is_fault_code, fault_text, ends, end, entry_forms, entry, node, forest_message}

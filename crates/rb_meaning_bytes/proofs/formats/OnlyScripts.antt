@@ -7,7 +7,7 @@ use Rattle.rb_trees.specs.declared.code.UnOp.TheVariants as un
 use Rattle.rb_trees.specs.declared.code.BinOp.{BinOp}
 use Rattle.rb_trees.specs.declared.code.BinOp.TheVariants as bin
 use Rattle.rb_trees.specs.mirror.Scripts as tree
-use Rattle.rb_trees.specs.mirror.Scripts.{SExpr, SExprs, Step, Steps, Script, sexprs_from, steps_from}
+use Rattle.rb_trees.specs.mirror.Scripts.{SExpr, Step, Steps, Script, sexprs_from, steps_from}
 use Rattle.rb_meaning_bytes.specs.formats.Fields.{Byte, Number, Truth, Name, Tag, number, text, truth}
 use Rattle.rb_meaning_bytes.specs.formats.Formats.{Format, times}
 use Rattle.rb_meaning_bytes.specs.formats.Values.{value}

@@ -1,9 +1,9 @@
 -- A payload comes to one thing.
-use Rattle.std.proofs.Common.{◌≡◌, ℕ, List, [], append-nil, Result, Ok, Err, refl, ap, sym, ◌∙◌, subst, inl, inr}
+use Rattle.std.proofs.Common.{◌≡◌, ℕ, List, [], append-nil, Result, Ok, Err, refl, ap, sym, ◌∙◌, inl, inr}
 use Rattle.rb_trees.specs.declared.validity.ScriptRefusal.{ScriptRefusal}
 use Rattle.rb_trees.specs.Validity.{verdict}
 use Rattle.rb_meaning_bytes.specs.formats.Fields.{IsBytes}
-use Rattle.rb_meaning_bytes.specs.formats.Formats.{Format, Spells, FirstViolation}
+use Rattle.rb_meaning_bytes.specs.formats.Formats.{Format, Spells}
 use Rattle.rb_meaning_bytes.specs.formats.Laws.{IsPrefixFree, IsTotal, IsEither, HasOneViolation}
 use Rattle.rb_meaning_bytes.specs.formats.Scripts.{script_message}
 use Rattle.rb_meaning_bytes.specs.formats.ScriptPayloads.{Sent, Refused, refused, Means, taken, violated, not_valid}

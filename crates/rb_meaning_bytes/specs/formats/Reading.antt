@@ -1,6 +1,6 @@
 -- What reading a format from the left gives: its value and the bytes behind it, or the first violation. Laws say that this
 -- is what the format spells and violates; it is a device of proofs.
-use Rattle.std.specs.Prelude.{◌≡◌, ◌+◌, ℕ, zero, suc, List, [], ◌∷◌, length, take, drop, cond, nat_eq, nat_lt, Result, Ok, Err}
+use Rattle.std.specs.Prelude.{◌+◌, ℕ, zero, suc, List, [], ◌∷◌, length, take, drop, cond, nat_eq, nat_lt, Result, Ok, Err}
 use Rattle.rb_trees.specs.Limits.{longest_text}
 use Rattle.std.specs.Int.{w32, w64, from_be_bytes, cast_signed}
 use Rattle.std.specs.Str.{is_utf8}

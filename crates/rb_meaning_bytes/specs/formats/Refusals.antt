@@ -1,5 +1,5 @@
 -- The format of refusals: the number of what is refused, and its place.
-use Rattle.std.specs.Prelude.{ℕ, List, [], ◌∷◌, Bool, nat_lt, nat_le, ◌&&◌, ◌||◌}
+use Rattle.std.specs.Prelude.{ℕ, [], ◌∷◌, Bool, nat_lt, nat_le, ◌&&◌, ◌||◌}
 use Rattle.rb_meaning_bytes.specs.formats.Fields.{Tag, Number}
 use Rattle.rb_meaning_bytes.specs.formats.Formats.{Format, Done, ◌>>=◌, the, choose}
 

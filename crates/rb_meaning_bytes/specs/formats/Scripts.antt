@@ -26,8 +26,8 @@ binary_ops = (1, Done binary.Add) ∷ (2, Done binary.Sub) ∷ (3, Done binary.M
 unfoldable pub binary_op : Format BinOp
 binary_op = choose binary_ops
 
--- What a call's result must be: 0 Unit, 1 Int, 2 Bool, 3 Text, 4 an object, 5 Rows of Int, 6 Rows of Bool, 7 Rows of Text,
--- 8 Rows of objects.
+-- What a call must give: nothing (0), a value of one of four forms (1 to 4: Int, Bool, Text, an object), or rows of values of
+-- that form (5 to 8).
 unfoldable pub kind : Format ℕ
 kind = the (Tag (λ k. nat_le k 8))
 

@@ -1,5 +1,5 @@
 -- What numbers of a text stand for has 64 bits.
-use Rattle.std.proofs.Common.{◌≡◌, refl, ℕ, ◌<◌, ◌≤◌, ◌==◌, min, ltb, cond, Bool, true, false, pos, negsuc, neg_ℤ, List, arith, ltb-true, ltb-false}
+use Rattle.std.proofs.Common.{◌≡◌, refl, ℕ, ◌<◌, ◌≤◌, ◌==◌, ltb, cond, Bool, true, false, pos, negsuc, neg_ℤ, List, arith, ltb-true, ltb-false}
 use Rattle.std.specs.Int.{w64}
 use Rattle.std.proofs.lemmas.Bool.{eqb-false}
 use Rattle.std.proofs.lemmas.Int.{SFits-int_wrap}

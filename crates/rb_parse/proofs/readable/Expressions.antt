@@ -9,9 +9,9 @@ use Rattle.rb_trees.specs.printing.Exprs.{level_of}
 use Rattle.rb_meaning_bytes.specs.tokens.Lists.{is_minus}
 use Rattle.rb_trees.specs.Kinds as k
 use Rattle.rb_meaning_bytes.specs.grammar.Symbols as s
-use Rattle.rb_meaning_bytes.specs.grammar.Symbols.{Symbol, Nonterminal, Chain, MoreChain, TreeOf, Makes}
+use Rattle.rb_meaning_bytes.specs.grammar.Symbols.{Symbol, Chain, MoreChain, TreeOf, Makes}
 use Rattle.rb_meaning_bytes.specs.grammar.Productions as r
-use Rattle.rb_meaning_bytes.specs.grammar.Productions.{Production, member}
+use Rattle.rb_meaning_bytes.specs.grammar.Productions.{Production}
 use Rattle.rb_meaning_bytes.specs.grammar.Values.{name_of, text_of}
 use Rattle.rb_meaning_bytes.specs.grammar.Limits.{Nesting, after}
 use Rattle.rb_parse.proofs.readable.Trees.{IsReadExpr, marks_of, marks_of_all}

@@ -2,7 +2,6 @@
 use Rattle.std.proofs.Common.{◌≡◌, ℕ, ◌+◌, ◌-◌, ◌≤◌, Bool, true, false, cond, not, nat_eq, [], ◌∷◌, refl, ap, sym, subst, ◌∙◌, arith}
 use Rattle.rb_trees.specs.declared.tokens.TokenKind.TheVariants as kind
 use Rattle.rb_trees.specs.Kinds as k
-use Rattle.rb_trees.specs.Kinds.{is_kind, is_one_of}
 use Rattle.rb_meaning_bytes.specs.grammar.Limits.{Nesting, opens_block, opens_type, is_mark, ends_expression, blocks_after, types_after, marks_after, after}
 use Rattle.rb_parse.proofs.readable.States.{afters, Ready, Room, Goes, Moves, Marks}
 

@@ -1,5 +1,5 @@
 -- The text of pieces that stand one after another.
-use Rattle.std.proofs.Common.{◌≡◌, ℕ, List, [], ◌∷◌, ◌++◌, refl, ap, sym, ◌∙◌, append_assoc, append-nil}
+use Rattle.std.proofs.Common.{◌≡◌, List, [], ◌∷◌, ◌++◌, refl, ap, sym, ◌∙◌, append_assoc, append-nil}
 use Rattle.std.proofs.lemmas.Grind.{common_steps}
 use Rattle.rb_trees.specs.printing.Pieces.{Piece, spelling, spelled}
 

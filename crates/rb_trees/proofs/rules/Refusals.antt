@@ -1,5 +1,5 @@
 -- The first of the refusals of a part, from those of its parts.
-use Rattle.std.proofs.Common.{◌≡◌, ℕ, ◌+◌, Bool, true, false, List, [], ◌∷◌, ◌++◌, refl, ap, sym, ◌∙◌, subst, arith, append_assoc, Result, Ok, Err}
+use Rattle.std.proofs.Common.{◌≡◌, ℕ, ◌+◌, Bool, true, false, List, [], ◌∷◌, ◌++◌, refl, ap, sym, ◌∙◌, append_assoc, Ok, Err}
 use Rattle.std.specs.Prelude.{nat_lt}
 use Rattle.std.proofs.lemmas.Grind.{common_steps}
 use Rattle.rb_trees.specs.ScriptLimits.{most_exprs}
@@ -10,7 +10,7 @@ use Rattle.rb_trees.specs.declared.scripts.StepForm.TheFolds.{fold_out-StepForm}
 use Rattle.rb_trees.specs.declared.validity.ScriptRefusal.{ScriptRefusal}
 use Rattle.rb_trees.specs.declared.validity.ScriptRefusal.TheVariants.{TooDeep, StepRepeated}
 use Rattle.rb_trees.specs.mirror.Scripts.{SExpr, Lit, Input, Var, Root, Unary, Binary, Call, Step, Do, Keep, Let, If, Each, step_form_step, step_step, mirror_step, mirror_step_form, mirror_steps}
-use Rattle.rb_trees.specs.Validity.{has, when, first, repeated, expr_refusals, exprs_refusals, step_numbers, steps_numbers, steps_lets, step_lets, step_refusals}
+use Rattle.rb_trees.specs.Validity.{has, when, first, expr_refusals, step_numbers, steps_numbers, steps_lets, step_lets, step_refusals}
 use Rattle.rb_trees.proofs.mirror.SExprs.{sexprs}
 use Rattle.rb_trees.proofs.mirror.Steps.{at_Step, steps as mirrored_steps}
 use Rattle.rb_trees.proofs.rules.Scopes.{scopes}

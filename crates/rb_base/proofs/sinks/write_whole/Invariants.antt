@@ -1,4 +1,4 @@
-use Rattle.std.proofs.Common.{◌≡◌, length}
+use Rattle.std.proofs.Common.{length}
 use Rattle.rb_base.specs.Devices.{device}
 use Rattle.rb_base.proofs.Fronts.{HasFront}
 use Rattle.rb_base.proofs.sinks.write_whole.Given as goal

@@ -12,7 +12,7 @@ use Rattle.rb_trees.specs.printing.Words.{space, dot, name_piece}
 use Rattle.rb_trees.specs.printing.Unplaced.{unplaced_type, unplaced_expr, unplaced_exprs}
 use Rattle.rb_meaning_bytes.specs.grammar.Values.{slice}
 use Rattle.rb_meaning_bytes.specs.grammar.Symbols as s
-use Rattle.rb_meaning_bytes.specs.grammar.Symbols.{Chain, MoreChain}
+use Rattle.rb_meaning_bytes.specs.grammar.Symbols.{Chain}
 use Rattle.rb_meaning_bytes.specs.grammar.Productions as r
 use Rattle.rb_meaning_bytes.specs.grammar.Productions.{member}
 use Rattle.rb_parse.proofs.readable.Trees.{behind, before_operand, before_right, IsReadExpr, AreReadExprs}

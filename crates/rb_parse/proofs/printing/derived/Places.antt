@@ -7,7 +7,7 @@ use Rattle.rb_trees.specs.printing.Pieces.{Piece}
 use Rattle.rb_trees.specs.printing.Exprs.{level_of, in_parentheses, placed_at}
 use Rattle.rb_trees.specs.printing.Unplaced.{unplaced_expr}
 use Rattle.rb_meaning_bytes.specs.grammar.Symbols as s
-use Rattle.rb_meaning_bytes.specs.grammar.Symbols.{Symbol, Trees, Nonterminal, TreeOf, Level, Chain, MoreChain}
+use Rattle.rb_meaning_bytes.specs.grammar.Symbols.{Nonterminal, TreeOf, Level, Chain, MoreChain}
 use Rattle.rb_meaning_bytes.specs.grammar.Productions as r
 use Rattle.rb_parse.proofs.printing.derived.Made.{MadePart, end, token, the, last, by}
 

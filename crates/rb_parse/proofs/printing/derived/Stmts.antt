@@ -10,7 +10,7 @@ use Rattle.rb_trees.specs.printing.Words as w
 use Rattle.rb_trees.specs.printing.Words.{space, name_piece}
 use Rattle.rb_trees.specs.printing.Unplaced.{unplaced_expr, unplaced_stmt, unplaced_stmts, unplaced_body}
 use Rattle.rb_meaning_bytes.specs.grammar.Symbols as s
-use Rattle.rb_meaning_bytes.specs.grammar.Symbols.{Symbol, The, Trees, Chain}
+use Rattle.rb_meaning_bytes.specs.grammar.Symbols.{Symbol, The, Trees}
 use Rattle.rb_meaning_bytes.specs.grammar.Productions as r
 use Rattle.rb_parse.proofs.readable.Trees.{IsReadStmt, AreReadStmts, IsReadReturn, IsReadBody}
 use Rattle.rb_parse.proofs.printing.derived.Made.{Made, MadePart, end, skip, token, the, last, by, turned}

@@ -15,7 +15,7 @@ use Rattle.rb_trees.specs.printing.Pieces.{Piece}
 use Rattle.rb_trees.specs.printing.Types.{type_pieces, result_pieces}
 use Rattle.rb_trees.specs.printing.Exprs.{expr_pieces, args_pieces, more_args_pieces, unary_pieces, in_parentheses, placed_at, level_of, left_level, right_level, operand_level, binary_sign}
 use Rattle.rb_trees.specs.printing.Words as w
-use Rattle.rb_trees.specs.printing.Words.{space, name_piece, number_piece, int_pieces, bool_piece, form_pieces, literal_pieces}
+use Rattle.rb_trees.specs.printing.Words.{space, name_piece, int_pieces, bool_piece, form_pieces}
 use Rattle.rb_meaning_types.specs.Lawful.{IsLawfulType}
 use Rattle.rb_parse.proofs.readable.Trees.{IsReadInt, IsReadForm, IsReadExpr, AreReadExprs, before_operand, before_right}
 use Rattle.rb_parse.proofs.printing.lexed.Good.{Good}

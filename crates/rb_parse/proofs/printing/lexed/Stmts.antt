@@ -16,7 +16,7 @@ use Rattle.rb_meaning_bytes.specs.tokens.Bytes.{is_separator}
 use Rattle.rb_parse.proofs.readable.Trees.{IsReadExpr, IsReadStmt, AreReadStmts, IsReadReturn, IsReadBody}
 use Rattle.rb_parse.proofs.printing.lexed.Good.{Good}
 use Rattle.rb_parse.proofs.printing.lexed.Leads as leads
-use Rattle.rb_parse.proofs.printing.lexed.Leads.{Followed, Opened, Leads, opens_too, spaced, ended, name_leads, space_good}
+use Rattle.rb_parse.proofs.printing.lexed.Leads.{Opened, Leads, opens_too, spaced, ended, name_leads, space_good}
 use Rattle.rb_parse.proofs.printing.lexed.Exprs.{Flows, Trails, flows_then, trails_flow, one_flows, word_flows, spaced_trails, semicolon_trails, in_parentheses_trails, after_space, expr_flows}
 
 -- The pieces are whole lines: they may stand before any lines.

@@ -1,4 +1,4 @@
-use Rattle.std.proofs.Common.{◌≡◌, ◌+◌, sym, ◌∙◌, refl, arith, rules, drop}
+use Rattle.std.proofs.Common.{◌+◌, sym, ◌∙◌, refl, arith, rules, drop}
 use Rattle.std.proofs.lemmas.Grind.{common_steps}
 use Rattle.rb_trees.specs.Scopes.{seen, bound}
 use Rattle.rb_trees.proofs.rules.Blocks.{if_gives, each_gives, fails_in, in_block, in_own, in_second, in_turn}
