@@ -1,0 +1,2 @@
+-- The lemmas on texts of services with their tables.
+pub mod alike

@@ -1,0 +1,3 @@
+//! The law that a service is read back from its text: its classes as they are printed, the lines of its objects, and that
+//! of its root.
+#![tactic(auto)]
