@@ -1,2 +1,3 @@
 -- The lemmas on texts of services with their tables.
 pub mod alike
+pub mod tables
