@@ -1,3 +1,4 @@
 -- The lemmas on texts of services with their tables.
 pub mod alike
 pub mod tables
+pub mod printed

@@ -1,1 +1,2 @@
 -- The law of printed tables.
+pub mod Printed

@@ -1,0 +1,4 @@
+-- The text of a service with its table as pieces: its tokens, what they derive, and that they break no limit.
+pub mod Pieces
+pub mod Prints
+pub mod Texts
