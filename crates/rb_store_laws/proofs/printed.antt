@@ -2,3 +2,6 @@
 pub mod Pieces
 pub mod Prints
 pub mod Texts
+pub mod Ints
+pub mod Lexed
+pub mod ClassLines
