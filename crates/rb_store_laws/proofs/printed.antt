@@ -5,3 +5,5 @@ pub mod Texts
 pub mod Ints
 pub mod Lexed
 pub mod ClassLines
+pub mod ClassTrees
+pub mod ObjectTrees
