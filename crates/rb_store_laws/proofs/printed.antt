@@ -7,3 +7,5 @@ pub mod Lexed
 pub mod ClassLines
 pub mod ClassTrees
 pub mod ObjectTrees
+pub mod Within
+pub mod Whole
