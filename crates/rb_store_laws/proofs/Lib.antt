@@ -2,3 +2,4 @@
 pub mod alike
 pub mod tables
 pub mod printed
+pub mod ReadBack
