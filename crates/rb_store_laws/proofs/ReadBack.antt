@@ -1,5 +1,5 @@
 -- The text of a service with its table is read as that service, but for positions, with just that table.
-use Rattle.std.proofs.Common.{◌≡◌, ℕ, ◌+◌, ◌<◌, ◌≤◌, List, [], ◌∷◌, ◌++◌, map, length, Ok, refl, sym, ap, subst, ◌∙◌, arith, length-append}
+use Rattle.std.proofs.Common.{◌≡◌, ℕ, ◌+◌, ◌<◌, ◌≤◌, List, [], ◌∷◌, ◌++◌, map, length, Result, Ok, Err, refl, sym, ap, subst, ◌∙◌, arith, length-append}
 use Rattle.std.specs.List.{All, AllByRecursion}
 use Rattle.std.proofs.lemmas.List.Elements.{recursion_from_All}
 use Rattle.rb_trees.specs.Outcome.{◌>>◌}
@@ -12,12 +12,12 @@ use Rattle.rb_trees.specs.printing.Unplaced.{unplaced_class}
 use Rattle.rb_meaning_bytes.specs.tokens.Texts.{longest_text}
 use Rattle.rb_meaning_types.specs.Fits.{ObjectFits, TableFits, classes_of}
 use Rattle.rb_meaning_types.specs.Programs.{check_service}
-use Rattle.rb_meaning_types.specs.Stores.{object_of, table_of, check_text, service_of}
+use Rattle.rb_meaning_types.specs.Stores.{Stored, object_of, table_of, check_text, service_of}
 use Rattle.rb_meaning.specs.Links.{IsTyped}
 use Rattle.rb_meaning.specs.Shown.{shown_table}
-use Rattle.rb_meaning.specs.ServiceSources.{ReadsAsService, of_text}
+use Rattle.rb_meaning.specs.ServiceSources.{ReadsAsService, unread, of_text}
 use Rattle.rb_parse.proofs.readable.Trees.{IsReadClass}
-use Rattle.rb_store_laws.specs.Printed.{root_line, printed_service, PrintsShort, WereRead, TableReadsBack}
+use Rattle.rb_store_laws.specs.Printed.{root_line, printed_service, PrintsShort, WereRead, TableReadsBack, PrintedTablesReadBack, ReadServicesHaveReadClasses}
 use Rattle.rb_store_laws.proofs.alike.Names.{bare, length_map}
 use Rattle.rb_store_laws.proofs.alike.Classes.{typed_too}
 use Rattle.rb_store_laws.proofs.tables.Stored.{typed_stored}
@@ -82,7 +82,7 @@ module _ (service : Service) (table : List Object) (read : All IsReadClass servi
               (suit_too (bare service.classes) (classes_of table) 0 t.objects (subst (ObjectsSuit (bare service.classes) (classes_of table) 0) (sym objects) written.suit))) in
       let root : t.root < length t.objects = omega (arith, same.root_same, typed.fits.root_is, length_map object_of t.objects, ap length is) in
       let passes : check_text t ≡ Ok tt = service_passes t (typed_too service.classes t.classes same.classes_same typed.typed) suit root in
-      ap (λ c. c >> Ok (record { classes = t.classes; root = t.root }, table_of t.objects)) passes ∙ ap (λ x. Ok (record { classes = t.classes; root = t.root }, x)) is
+      subst (λ x. service_of t ≡ Ok (record { classes = t.classes; root = t.root }, x)) is (rw passes refl)
 
   is_back : (t : ServiceText) → Same service.classes written.objects service.root t → ReadsAsService (printed_service service table) (service_of t) → TableReadsBack service table
   is_back t same reads = (
@@ -102,5 +102,20 @@ module _ (service : Service) (table : List Object) (read : All IsReadClass servi
       let source : spelled (service_pieces service.classes (o ∷ os) service.root) ≡ printed_service service table = sym (printed_so ∙ ap (λ xs. spelled (service_pieces service.classes xs service.root)) e) in
       is_back back.text same (subst (λ text. ReadsAsService text (service_of back.text)) source (of_text back.read_so))
 
-pub reads_back : (service : Service) (table : List Object) → WereRead service.classes → IsTyped service table → PrintsShort service table → TableReadsBack service table
-reads_back service table were typed short = reads_by service table (were_readable service.classes were) typed short (written service table (were_readable service.classes were) typed short).objects refl
+pub reads_back : PrintedTablesReadBack
+reads_back service table were typed short =
+    let read = were_readable service.classes were in
+    reads_by service table read typed short (written service table read typed short).objects refl
+
+-- the service of a text has the text's classes
+same_classes : {D : Type 0} (check : Result (Unit {0}) D) (one other : Service × List Object) → check >> Ok one ≡ Ok other → one.0.classes ≡ other.0.classes
+same_classes (Ok u) one other e = let same : one ≡ other = cc in ap (λ x. x.0.classes) same
+same_classes (Err d) one other e = absurd (cc)
+
+were_read : (source : List ℕ) (service : Service) (table : List Object) (outcome : Stored (Service × List Object)) → ReadsAsService source outcome → outcome ≡ Ok (service, table) → WereRead service.classes
+were_read source service table _ (unread r) e = absurd (cc)
+were_read source service table _ (of_text {text} r) e =
+    (source, text, r, same_classes (check_text text) (record { classes = text.classes; root = text.root }, table_of text.objects) (service, table) e)
+
+pub read_classes : ReadServicesHaveReadClasses
+read_classes source service table reads = were_read source service table (Ok (service, table)) reads refl

@@ -1,4 +1,4 @@
--- A service with its table as a text, and what it says that the text is read back.
+-- A service with its table as a text, and the laws that the text is read back.
 use Rattle.std.specs.Prelude.{◌≡◌, ℕ, ◌≤◌, List, ◌++◌, map, length, Ok, codes}
 use Rattle.std.specs.Fmt.{decimal}
 use Rattle.rb_trees.specs.declared.services.Object.{Object}
@@ -9,6 +9,7 @@ use Rattle.rb_trees.specs.printing.Programs.{classes_pieces}
 use Rattle.rb_trees.specs.printing.Unplaced.{unplaced_class}
 use Rattle.rb_meaning_bytes.specs.tokens.Texts.{longest_text}
 use Rattle.rb_meaning_bytes.specs.grammar.Sources.{ReadService}
+use Rattle.rb_meaning.specs.Links.{IsTyped}
 use Rattle.rb_meaning.specs.Shown.{line, shown_table}
 use Rattle.rb_meaning.specs.ServiceSources.{ReadsAsService}
 
@@ -37,3 +38,14 @@ abbrev pub TableReadsBack : Service → List Object → Type 0
 TableReadsBack service table =
     (other : Service) × ReadsAsService (printed_service service table) (Ok (other, table))
     × (unplaced_service other ≡ unplaced_service service)
+
+-- What is printed of a typed service whose classes were read, with its table, is read back, where it isn't too long.
+abbrev pub PrintedTablesReadBack : Type 0
+PrintedTablesReadBack =
+    (service : Service) → (table : List Object) → WereRead service.classes → IsTyped service table → PrintsShort service table
+    → TableReadsBack service table
+
+-- The classes of a service that a source is read as were read.
+abbrev pub ReadServicesHaveReadClasses : Type 0
+ReadServicesHaveReadClasses =
+    (source : List ℕ) → (service : Service) → (table : List Object) → ReadsAsService source (Ok (service, table)) → WereRead service.classes

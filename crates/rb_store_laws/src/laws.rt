@@ -1,13 +1,14 @@
-// The law of printed tables. It takes no memory and does nothing.
+// The laws of printed tables. They take no memory and do nothing.
 
-ghost use Rattle.std.specs.Prelude.{List};
-ghost use Rattle.rb_trees.specs.declared.services.Object.{Object};
-ghost use Rattle.rb_trees.specs.mirror.Services.{Service};
-ghost use Rattle.rb_meaning.specs.Links.{IsTyped};
-ghost use Rattle.rb_store_laws.specs.Printed.{WereRead, PrintsShort, TableReadsBack};
+ghost use Rattle.rb_store_laws.specs.Printed.{PrintedTablesReadBack, ReadServicesHaveReadClasses};
 
 /// What is printed of a service that was read, with a table that fits it, is read again: as the same service but for
 /// positions, and with just that table, where its text isn't too long.
 pub fn printed_tables_read_back()
-    ensures { (service : Service) → (table : List Object) → WereRead service.classes → IsTyped service table → PrintsShort service table → TableReadsBack service table }
+    ensures { PrintedTablesReadBack }
+{}
+
+/// The classes of a service that a source is read as were read, so that it is read back with whatever table fits it.
+pub fn read_services_have_read_classes()
+    ensures { ReadServicesHaveReadClasses }
 {}
