@@ -1,17 +1,15 @@
 -- The text of a service with its table is read as that service, but for positions, with just that table.
-use Rattle.std.proofs.Common.{◌≡◌, ℕ, ◌+◌, ◌<◌, ◌≤◌, List, [], ◌∷◌, ◌++◌, map, length, Result, Ok, Err, refl, sym, ap, subst, ◌∙◌, arith, length-append}
+use Rattle.std.proofs.Common.{◌≡◌, ℕ, ◌<◌, ◌≤◌, List, [], ◌∷◌, ◌++◌, map, length, Result, Ok, Err, refl, sym, ap, subst, ◌∙◌, arith, length-append}
 use Rattle.std.specs.List.{All, AllByRecursion}
 use Rattle.std.proofs.lemmas.List.Elements.{recursion_from_All}
 use Rattle.rb_trees.specs.Outcome.{◌>>◌}
 use Rattle.rb_trees.specs.declared.services.Object.{Object}
-use Rattle.rb_trees.specs.mirror.Declarations.{Class}
 use Rattle.rb_trees.specs.mirror.Services.{ObjectText, Service, ServiceText}
 use Rattle.rb_trees.specs.printing.Pieces.{spelled}
 use Rattle.rb_trees.specs.printing.Programs.{classes_pieces}
 use Rattle.rb_trees.specs.printing.Unplaced.{unplaced_class}
 use Rattle.rb_meaning_bytes.specs.tokens.Texts.{longest_text}
-use Rattle.rb_meaning_types.specs.Fits.{ObjectFits, TableFits, classes_of}
-use Rattle.rb_meaning_types.specs.Programs.{check_service}
+use Rattle.rb_meaning_types.specs.Fits.{ObjectFits, classes_of}
 use Rattle.rb_meaning_types.specs.Stores.{Stored, object_of, table_of, check_text, service_of}
 use Rattle.rb_meaning.specs.Links.{IsTyped}
 use Rattle.rb_meaning.specs.Shown.{shown_table}
@@ -77,9 +75,9 @@ module _ (service : Service) (table : List Object) (read : All IsReadClass servi
       let names : classes_in t.objects ≡ classes_of table = sym (classes_bare t.objects) ∙ ap classes_in objects ∙ sym (classes_of_table written.objects) ∙ ap classes_of written.is in
       let is : table_of t.objects ≡ table = sym (table_bare t.objects) ∙ ap table_of objects ∙ written.is in
       let suit : ObjectsSuit (bare t.classes) (classes_in t.objects) 0 t.objects =
-              subst (λ cs. ObjectsSuit (bare t.classes) cs 0 t.objects) (sym names)
-              (subst (λ cs. ObjectsSuit cs (classes_of table) 0 t.objects) (sym same.classes_same)
-              (suit_too (bare service.classes) (classes_of table) 0 t.objects (subst (ObjectsSuit (bare service.classes) (classes_of table) 0) (sym objects) written.suit))) in
+      subst (λ cs. ObjectsSuit (bare t.classes) cs 0 t.objects) (sym names)
+      (subst (λ cs. ObjectsSuit cs (classes_of table) 0 t.objects) (sym same.classes_same)
+      (suit_too (bare service.classes) (classes_of table) 0 t.objects (subst (ObjectsSuit (bare service.classes) (classes_of table) 0) (sym objects) written.suit))) in
       let root : t.root < length t.objects = omega (arith, same.root_same, typed.fits.root_is, length_map object_of t.objects, ap length is) in
       let passes : check_text t ≡ Ok tt = service_passes t (typed_too service.classes t.classes same.classes_same typed.typed) suit root in
       subst (λ x. service_of t ≡ Ok (record { classes = t.classes; root = t.root }, x)) is (rw passes refl)
@@ -95,9 +93,9 @@ module _ (service : Service) (table : List Object) (read : All IsReadClass servi
   reads_by [] e = absurd (let n = ap length e in let r = typed.fits.root_is in omega (arith, many))
   reads_by (o ∷ os) e =
       let short_too : length (spelled (service_pieces service.classes (o ∷ os) service.root)) ≤ longest_text =
-              subst (λ xs. length (spelled (service_pieces service.classes xs service.root)) ≤ longest_text) e (subst (λ t. length t ≤ longest_text) printed_so short) in
+      subst (λ xs. length (spelled (service_pieces service.classes xs service.root)) ≤ longest_text) e (subst (λ t. length t ≤ longest_text) printed_so short) in
       let back : AsText service.classes o os service.root read (subst (AllByRecursion ObjectPrints) e prints) (omega (arith, few, typed.fits.root_is)) =
-              as_text service.classes o os service.root read (subst (AllByRecursion ObjectPrints) e prints) (omega (arith, few, typed.fits.root_is)) short_too in
+      as_text service.classes o os service.root read (subst (AllByRecursion ObjectPrints) e prints) (omega (arith, few, typed.fits.root_is)) short_too in
       let same : Same service.classes written.objects service.root back.text = subst (λ xs. Same service.classes xs service.root back.text) (sym e) back.same in
       let source : spelled (service_pieces service.classes (o ∷ os) service.root) ≡ printed_service service table = sym (printed_so ∙ ap (λ xs. spelled (service_pieces service.classes xs service.root)) e) in
       is_back back.text same (subst (λ text. ReadsAsService text (service_of back.text)) source (of_text back.read_so))

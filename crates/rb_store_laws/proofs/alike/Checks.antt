@@ -1,5 +1,5 @@
 -- Checks that both pass or both don't, whatever the positions are that they tell.
-use Rattle.std.proofs.Common.{◌≡◌, ℕ, List, [], ◌∷◌, map, length, nat_eq, suc, Bool, true, false, cond, Option, Some, None, option_map, Result, Ok, Err, refl, sym, ap, subst, ◌∙◌}
+use Rattle.std.proofs.Common.{◌≡◌, ℕ, List, [], ◌∷◌, length, suc, Bool, true, false, Option, Some, None, option_map, Ok, Err, refl, sym, ap, subst, ◌∙◌}
 use Rattle.rb_trees.specs.Outcome.{◌>>=◌, ◌>>◌, known, must}
 use Rattle.rb_meaning_types.specs.Kinds.{Kind, same_kind}
 use Rattle.rb_meaning_types.specs.Violations.{Violation, Checked, Placed, with_place, wanted, wrong_type}

@@ -1,6 +1,5 @@
 -- Classes are typed whatever the positions are.
-use Rattle.std.proofs.Common.{◌≡◌, ℕ, List, [], ◌∷◌, ◌++◌, map, Bool, true, false, not, ◌&&◌, Ok, refl, sym, ap, subst, ◌∙◌}
-use Rattle.rb_trees.specs.Outcome.{must}
+use Rattle.std.proofs.Common.{◌≡◌, ℕ, List, [], ◌∷◌, ◌++◌, map, false, not, Ok, refl, sym, ap, subst, ◌∙◌}
 use Rattle.rb_trees.specs.mirror.Declarations.{Param, Signature, Method, Class}
 use Rattle.rb_trees.specs.printing.Unplaced.{unplaced_type, unplaced_param, unplaced_signature, unplaced_method, unplaced_body, unplaced_class}
 use Rattle.rb_meaning_types.specs.Declared.{of_service}

@@ -1,5 +1,5 @@
 -- Expressions have their types whatever the positions are.
-use Rattle.std.proofs.Common.{◌≡◌, ℕ, List, [], ◌∷◌, map, Bool, ◌||◌, Option, Some, None, option_map, Ok, refl, sym, ap, subst, ◌∙◌}
+use Rattle.std.proofs.Common.{◌≡◌, ℕ, List, [], ◌∷◌, Bool, Option, Some, None, option_map, refl, sym, ap}
 use Rattle.rb_trees.specs.declared.code.UnOp.{UnOp}
 use Rattle.rb_trees.specs.declared.code.BinOp.{BinOp}
 use Rattle.rb_trees.specs.mirror.Types.{TypeTree}
@@ -11,7 +11,7 @@ use Rattle.rb_meaning_types.specs.Kinds.{Kind, kind_of}
 use Rattle.rb_meaning_types.specs.Declared.{Context, of_service, method_context}
 use Rattle.rb_meaning_types.specs.Violations.{Checked, Placed, UnknownName, wrong_type}
 use Rattle.rb_meaning_types.specs.Scopes.{Scope, variable_named}
-use Rattle.rb_meaning_types.specs.Operators.{takes_operand, takes_left, unary_kind, unary_result, binary_kind, binary_result, item_of, index_kind}
+use Rattle.rb_meaning_types.specs.Operators.{takes_operand, takes_left, unary_kind, binary_kind, binary_result, item_of, index_kind}
 use Rattle.rb_meaning_types.specs.Expressions.{name_kind, all_wanted, items_kind, with_first, type_of, types_of}
 use Rattle.rb_store_laws.proofs.alike.Checks.{Alike, pass, fail, Same, SameKind, SameKinds, bind_alike, then_alike, known_alike, placed_alike, tested_alike, wanted_alike, by_kind}
 use Rattle.rb_store_laws.proofs.alike.Names.{bare, kind_bare, item_alike}

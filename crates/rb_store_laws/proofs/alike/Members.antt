@@ -1,5 +1,5 @@
 -- Fields, calls and new objects have their types whatever the positions are.
-use Rattle.std.proofs.Common.{◌≡◌, ℕ, List, [], ◌∷◌, map, length, nat_eq, Bool, not, ◌||◌, Option, None, Ok, refl, sym, ap, subst, ◌∙◌}
+use Rattle.std.proofs.Common.{◌≡◌, ℕ, List, [], ◌∷◌, map, length, nat_eq, Bool, not, ◌||◌, None, Ok, refl, sym, ap, subst, ◌∙◌}
 use Rattle.rb_trees.specs.mirror.Declarations.{Param, Method, Class}
 use Rattle.rb_trees.specs.Outcome.{◌>>=◌, ◌>>◌, must}
 use Rattle.rb_trees.specs.printing.Unplaced.{unplaced_type, unplaced_param, unplaced_method, unplaced_class}

@@ -3,14 +3,13 @@ use Rattle.std.proofs.Common.{◌≡◌, ℕ, List, [], ◌∷◌, map, length, 
 use Rattle.std.specs.Option.{is_some}
 use Rattle.std.specs.Str.{bytes_eq}
 use Rattle.rb_trees.specs.Named.{first_named}
-use Rattle.rb_trees.specs.Outcome.{must}
 use Rattle.rb_trees.specs.mirror.Types as type
 use Rattle.rb_trees.specs.mirror.Types.{TypeTree}
 use Rattle.rb_trees.specs.mirror.Declarations.{Param, Method, Class}
 use Rattle.rb_trees.specs.printing.Unplaced.{unplaced_type, unplaced_param, unplaced_method, unplaced_class}
-use Rattle.rb_meaning_types.specs.Kinds.{Kind, ListOf, RowsOf, kind_of}
+use Rattle.rb_meaning_types.specs.Kinds.{ListOf, RowsOf, kind_of}
 use Rattle.rb_meaning_types.specs.Names.{class_named, field_named, method_named}
-use Rattle.rb_meaning_types.specs.Declared.{Declarations, of_service, is_class, is_declared}
+use Rattle.rb_meaning_types.specs.Declared.{of_service, is_class, is_declared}
 use Rattle.rb_meaning_types.specs.Violations.{UnknownName, TypeNotHere}
 use Rattle.rb_meaning_types.specs.Scopes.{parameter, parameters}
 use Rattle.rb_meaning_types.specs.Places.{declared_type, value_type, value_result, item_type, parameter_type, result_type}

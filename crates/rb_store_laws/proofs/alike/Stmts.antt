@@ -1,14 +1,14 @@
 -- Statements and bodies are typed whatever the positions are.
-use Rattle.std.proofs.Common.{◌≡◌, ℕ, List, [], ◌∷◌, ◌++◌, Bool, true, false, not, ◌&&◌, Option, Some, None, option_map, Ok, refl, sym, ap, subst, ◌∙◌}
-use Rattle.rb_trees.specs.Outcome.{◌>>=◌, ◌>>◌, must}
+use Rattle.std.proofs.Common.{◌≡◌, ℕ, List, Bool, true, false, not, ◌&&◌, Option, Some, None, option_map, refl, sym, ap, subst, ◌∙◌}
+use Rattle.rb_trees.specs.Outcome.{must}
 use Rattle.rb_trees.specs.mirror.Types.{TypeTree}
 use Rattle.rb_trees.specs.mirror.Code.{Expr, Lit, Name, This, Unary, Binary, Field, Call, Index, New, Items, Taken, Stmt, Stmts, Val, Var, Assign, Run, Print, Throw, If, While, For, Try, Batch, NoStmts, MoreStmts, expr_at}
 use Rattle.rb_trees.specs.mirror.Declarations.{Body, Class}
 use Rattle.rb_trees.specs.printing.Unplaced.{unplaced_type, unplaced_expr, unplaced_stmt, unplaced_stmts, unplaced_body}
 use Rattle.rb_meaning_types.specs.Kinds as kind
 use Rattle.rb_meaning_types.specs.Kinds.{Kind, kind_of, is_unit, same_kind}
-use Rattle.rb_meaning_types.specs.Declared.{Declarations, Context, of_service}
-use Rattle.rb_meaning_types.specs.Violations.{Checked, Placed, NameTaken, UnknownName, NotAssignable, NotAllowedHere, MissingReturn, wrong_type}
+use Rattle.rb_meaning_types.specs.Declared.{of_service}
+use Rattle.rb_meaning_types.specs.Violations.{Checked, Placed, NameTaken, NotAssignable, NotAllowedHere, MissingReturn, wrong_type}
 use Rattle.rb_meaning_types.specs.Scopes.{Scope, is_free, with_variable}
 use Rattle.rb_meaning_types.specs.Statements.{placed, condition, declare, is_assignable, assign, is_printable, print, turn_kind, loop_scope, catch_scope, batch_scope, closed, check_stmt, check_stmts}
 use Rattle.rb_meaning_types.specs.Bodies.{return_fits, check_return, check_body}

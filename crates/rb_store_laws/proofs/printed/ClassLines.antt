@@ -1,14 +1,14 @@
 -- The lines of readable classes are good before any lines: they are so in the text of a program that has just them.
-use Rattle.std.proofs.Common.{◌≡◌, ℕ, ◌≤◌, Bool, true, false, List, [], ◌∷◌, ◌++◌, refl, sym, ap, subst, ◌∙◌, append_assoc, append-nil, None, arith}
+use Rattle.std.proofs.Common.{◌≡◌, ℕ, Bool, false, List, [], ◌∷◌, ◌++◌, sym, subst, ◌∙◌, append_assoc, append-nil, None, arith}
 use Rattle.std.specs.List.{All}
 use Rattle.std.proofs.lemmas.List.Elements.{All-nil}
 use Rattle.rb_trees.specs.declared.tokens.TokenKind.{TokenKind}
 use Rattle.rb_trees.specs.declared.tokens.TokenKind.TheVariants as kinds
 use Rattle.rb_trees.specs.mirror.Types as type
 use Rattle.rb_trees.specs.mirror.Code.{NoStmts}
-use Rattle.rb_trees.specs.mirror.Declarations.{Interface, Class, Program}
+use Rattle.rb_trees.specs.mirror.Declarations.{Class, Program}
 use Rattle.rb_trees.specs.printing.Pieces.{Piece, Token, Space, spelled}
-use Rattle.rb_trees.specs.printing.Stmts.{line, opened, closed, body_pieces}
+use Rattle.rb_trees.specs.printing.Stmts.{line, opened, closed}
 use Rattle.rb_trees.specs.printing.Programs.{inside, class_pieces, classes_pieces, fields_pieces, methods_pieces, main_head, program_pieces}
 use Rattle.rb_trees.specs.printing.Words as w
 use Rattle.rb_trees.specs.printing.Words.{space, name_piece}

@@ -1,8 +1,7 @@
 -- The pieces of objects are good: their text has just their tokens.
-use Rattle.std.proofs.Common.{◌≡◌, ℕ, ℤ, pos, negsuc, ◌≤◌, suc, Bool, true, false, List, [], ◌∷◌, ◌++◌, codes, refl, sym, subst, append_assoc, arith}
+use Rattle.std.proofs.Common.{ℕ, ℤ, pos, negsuc, ◌≤◌, suc, Bool, true, false, List, [], ◌∷◌, ◌++◌, codes, refl, sym, subst, append_assoc}
 use Rattle.std.specs.List.{AllByRecursion}
 use Rattle.rb_trees.specs.mirror.Services.{Literal, Literals, Int, Bool as Truth, Text, Object as Reference, Items, NoLiterals, MoreLiterals, ObjectText}
-use Rattle.rb_trees.specs.printing.Pieces.{Piece, spelled}
 use Rattle.rb_trees.specs.printing.Words as w
 use Rattle.rb_trees.specs.printing.Words.{space, name_piece, number_piece, bool_piece, text_piece}
 use Rattle.rb_meaning_types.specs.Values.{IsInt}

@@ -1,5 +1,5 @@
 -- The objects that are printed, and their derivations.
-use Rattle.std.proofs.Common.{◌≡◌, ℕ, ℤ, pos, negsuc, neg_ℤ, ◌≤◌, ◌<◌, ◌^◌, suc, min, Bool, true, false, List, [], ◌∷◌, ◌++◌, map, refl, ap, ◌∙◌, arith}
+use Rattle.std.proofs.Common.{◌≡◌, ℕ, ℤ, pos, negsuc, neg_ℤ, ◌≤◌, ◌<◌, ◌^◌, suc, min, Bool, true, false, List, [], ◌∷◌, map, refl, ap, ◌∙◌, arith}
 use Rattle.std.specs.List.{AllByRecursion}
 use Rattle.std.specs.Fmt.{decimal}
 use Rattle.std.specs.Int.{int_wrap, w64}
@@ -10,7 +10,7 @@ use Rattle.rb_trees.specs.printing.Unplaced.{unplaced_class}
 use Rattle.rb_trees.specs.printing.Words.{bool_piece}
 use Rattle.rb_meaning_types.specs.Values.{IsInt}
 use Rattle.rb_meaning_bytes.specs.tokens.Values.{number_value, int_of, text_value}
-use Rattle.rb_meaning_bytes.specs.grammar.Values.{slice, count_of, number_of, minus_of}
+use Rattle.rb_meaning_bytes.specs.grammar.Values.{slice, count_of, number_of}
 use Rattle.rb_meaning_bytes.specs.grammar.Symbols as s
 use Rattle.rb_meaning_bytes.specs.grammar.Productions as r
 use Rattle.rb_parse.proofs.readable.Trees.{IsReadClass}

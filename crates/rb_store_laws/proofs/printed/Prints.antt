@@ -1,5 +1,5 @@
 -- What literals and objects that suit readable classes are: their parts have their forms, and few lists are open.
-use Rattle.std.proofs.Common.{◌≡◌, ℕ, ◌+◌, ◌<◌, ◌≤◌, suc, List, [], ◌∷◌, map, length, slice_get, Some, option_map, Option, None, refl, sym, ap, subst, ◌∙◌, arith}
+use Rattle.std.proofs.Common.{◌≡◌, ℕ, ◌+◌, ◌<◌, ◌≤◌, suc, List, [], ◌∷◌, map, length, Some, option_map, Option, None, refl, sym, ap, subst, ◌∙◌, arith}
 use Rattle.std.specs.List.{AllByRecursion}
 use Rattle.std.proofs.lemmas.List.Elements.{recursion_from_All}
 use Rattle.std.proofs.lemmas.Option.{slice_get_within}
@@ -8,15 +8,14 @@ use Rattle.rb_trees.specs.mirror.Types as type
 use Rattle.rb_trees.specs.mirror.Types.{TypeTree}
 use Rattle.rb_trees.specs.mirror.Declarations.{Param, Class}
 use Rattle.rb_trees.specs.mirror.Services.{Literal, Literals, Int, Bool as Truth, Text, Object as Reference, Items, NoLiterals, MoreLiterals, ObjectText}
-use Rattle.rb_trees.specs.printing.Unplaced.{unplaced_type, unplaced_param, unplaced_class}
-use Rattle.rb_meaning_types.specs.Kinds as kind
+use Rattle.rb_trees.specs.printing.Unplaced.{unplaced_param, unplaced_class}
 use Rattle.rb_meaning_types.specs.Kinds.{Kind, kind_of}
 use Rattle.rb_meaning_types.specs.Names.{class_named}
 use Rattle.rb_meaning_types.specs.Values.{IsInt, IsText}
 use Rattle.rb_parse.proofs.readable.Trees.{type_depth, IsReadParam, IsReadClass}
 use Rattle.rb_store_laws.proofs.alike.Names.{bare, class_bare, kind_bare}
 use Rattle.rb_store_laws.proofs.tables.Stored.{found_in}
-use Rattle.rb_store_laws.proofs.tables.Suits.{IsIntLiteral, IsBoolLiteral, IsTextLiteral, IsReference, AllSuit, AreItems, Suits, GivenSuit, ObjectSuits, ObjectsSuit}
+use Rattle.rb_store_laws.proofs.tables.Suits.{IsIntLiteral, IsBoolLiteral, IsTextLiteral, IsReference, AllSuit, AreItems, Suits, GivenSuit, ObjectsSuit}
 
 -- the greatest number of a text
 abbrev pub greatest : ℕ

@@ -6,7 +6,6 @@ use Rattle.rb_trees.specs.declared.tokens.Token.{Token as Lexeme}
 use Rattle.rb_trees.specs.mirror.Declarations.{Class}
 use Rattle.rb_trees.specs.mirror.Services.{ObjectText, ServiceText}
 use Rattle.rb_trees.specs.printing.Pieces.{spelled}
-use Rattle.rb_trees.specs.printing.Programs.{classes_pieces}
 use Rattle.rb_meaning_bytes.specs.tokens.Texts.{IsTokens, longest_text}
 use Rattle.rb_meaning_bytes.specs.grammar.Symbols as s
 use Rattle.rb_meaning_bytes.specs.grammar.Symbols.{Symbol, The, Trees}

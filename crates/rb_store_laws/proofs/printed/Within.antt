@@ -1,17 +1,16 @@
 -- The tokens of a printed service break no limit of nesting.
-use Rattle.std.proofs.Common.{◌≡◌, ℕ, ℤ, pos, negsuc, ◌+◌, ◌-◌, ◌≤◌, suc, Bool, true, false, not, ◌&&◌, cond, nat_lt, codes, List, [], ◌∷◌, ◌++◌, length, Option, None, Some, refl, sym, ap, subst, ◌∙◌, append_assoc, arith, le-ltb, length-append}
+use Rattle.std.proofs.Common.{◌≡◌, ℕ, ℤ, pos, negsuc, ◌+◌, ◌≤◌, suc, Bool, true, false, not, ◌&&◌, cond, codes, List, [], ◌∷◌, ◌++◌, length, Option, None, Some, refl, sym, ap, subst, ◌∙◌, append_assoc, arith, le-ltb, length-append}
 use Rattle.std.specs.List.{All, AllByRecursion, list_all}
 use Rattle.std.proofs.lemmas.Bool.{not-true, and_parts}
 use Rattle.std.proofs.lemmas.List.Elements.{recursion_from_All}
 use Rattle.rb_trees.specs.declared.tokens.Token.{Token as Lexeme}
 use Rattle.rb_trees.specs.declared.tokens.TokenKind.{TokenKind}
-use Rattle.rb_trees.specs.declared.tokens.TokenKind.TheVariants as kinds
 use Rattle.rb_trees.specs.Kinds as k
 use Rattle.rb_trees.specs.Kinds.{is_kind}
 use Rattle.rb_trees.specs.mirror.Declarations.{Class}
 use Rattle.rb_trees.specs.mirror.Services.{Literal, Literals, Int, Bool as Truth, Text, Object as Reference, Items, NoLiterals, MoreLiterals, ObjectText}
 use Rattle.rb_trees.specs.printing.Pieces.{Piece, Token, Space, spelled}
-use Rattle.rb_trees.specs.printing.Programs.{classes_pieces, program_pieces}
+use Rattle.rb_trees.specs.printing.Programs.{classes_pieces}
 use Rattle.rb_trees.specs.printing.Words as w
 use Rattle.rb_trees.specs.printing.Words.{space, name_piece, number_piece, bool_piece}
 use Rattle.rb_meaning_bytes.specs.grammar.Symbols as s
@@ -25,7 +24,7 @@ use Rattle.rb_parse.proofs.printing.Spots.{tokens_at}
 use Rattle.rb_parse.proofs.printing.derived.Stands.{stand}
 use Rattle.rb_parse.proofs.printing.derived.Made.{Made, last}
 use Rattle.rb_parse.proofs.printing.within.Programs.{within}
-use Rattle.rb_store_laws.proofs.printed.Pieces.{object_word, feed, signed_pieces, literal_pieces, items_pieces, more_pieces, given_pieces, object_end, object_pieces, objects_pieces, root_pieces, service_pieces}
+use Rattle.rb_store_laws.proofs.printed.Pieces.{object_word, signed_pieces, literal_pieces, items_pieces, more_pieces, given_pieces, object_end, object_pieces, objects_pieces, root_pieces, service_pieces}
 use Rattle.rb_store_laws.proofs.printed.Prints.{Prints, AllPrint, GivenPrints, ObjectPrints}
 use Rattle.rb_store_laws.proofs.printed.ClassLines.{alone, alone_pieces, alone_readable, main_pieces}
 use Rattle.rb_store_laws.proofs.printed.ClassTrees.{classes_made}

@@ -1,22 +1,20 @@
 -- Objects that suit the classes have no refusal.
-use Rattle.std.proofs.Common.{◌≡◌, ℕ, ◌+◌, ◌<◌, ◌≤◌, suc, zero, List, [], ◌∷◌, map, length, Bool, true, false, ◌&&◌, cond, nat_eq, nat_le, Option, Some, None, option_map, Ok, refl, sym, ap, subst, ◌∙◌, slice_get, arith}
+use Rattle.std.proofs.Common.{◌≡◌, ℕ, ◌+◌, ◌<◌, ◌≤◌, suc, zero, List, [], ◌∷◌, map, length, Bool, true, false, cond, nat_eq, nat_le, Option, Some, None, option_map, Ok, refl, sym, ap, subst, ◌∙◌, slice_get, arith}
 use Rattle.std.specs.Option.{is_some}
 use Rattle.std.specs.Str.{bytes_eq}
 use Rattle.std.proofs.lemmas.Slice.Eq.{bytes_eq-Decides}
 use Rattle.std.proofs.lemmas.Bool.{and_from}
 use Rattle.std.proofs.lemmas.Bool.Decides.{nat_tests}
 use Rattle.rb_trees.specs.Limits.{longest_list}
-use Rattle.rb_trees.specs.Outcome.{◌>>=◌, ◌>>◌, known, must, refused_as}
 use Rattle.rb_trees.specs.mirror.Declarations.{Param, Class}
 use Rattle.rb_trees.specs.mirror.Services.{Literal, Literals, Int, Bool as Truth, Text, Object as Reference, Items, NoLiterals, MoreLiterals, ObjectText, ServiceText}
-use Rattle.rb_trees.specs.printing.Unplaced.{unplaced_type, unplaced_param, unplaced_class}
+use Rattle.rb_trees.specs.printing.Unplaced.{unplaced_param, unplaced_class}
 use Rattle.rb_meaning_types.specs.Kinds as kind
 use Rattle.rb_meaning_types.specs.Kinds.{Kind, kind_of}
 use Rattle.rb_meaning_types.specs.Names.{class_named}
-use Rattle.rb_meaning_types.specs.Violations as violation
 use Rattle.rb_meaning_types.specs.Lawful.{literal_count}
 use Rattle.rb_meaning_types.specs.Programs.{check_service}
-use Rattle.rb_meaning_types.specs.Stores.{Types, class_written, is_written, may_be_of, all_literals, is_of_kind, is_int_literal, is_bool_literal, is_text_literal, is_reference_to, are_items, refers_well, all_refer_well, check_literal, check_literals, has_fields, check_fields, check_object, check_objects, check_table, check_text}
+use Rattle.rb_meaning_types.specs.Stores.{class_written, may_be_of, all_literals, is_of_kind, refers_well, all_refer_well, check_literals, has_fields, check_object, check_objects, check_text}
 use Rattle.rb_store_laws.proofs.alike.Names.{bare, class_bare, kind_bare}
 use Rattle.rb_store_laws.proofs.tables.Suits.{IsIntLiteral, IsBoolLiteral, IsTextLiteral, IsReference, AllSuit, AreItems, Suits, GivenSuit, ObjectSuits, ObjectsSuit}
 
@@ -166,7 +164,7 @@ pub service_passes : (t : ServiceText) → check_service t.classes ≡ Ok tt →
 service_passes t typed suit root =
     let classes = classes_in t.objects in
     let placed : (number : ℕ) (name : List ℕ) → slice_get classes number ≡ Some name → class_written t.objects number ≡ Some name =
-        λ number name is. written_at (bare t.classes) classes 0 t.objects suit number name is number (omega arith) in
+    λ number name is. written_at (bare t.classes) classes 0 t.objects suit number name is number (omega arith) in
     let all = objects_pass t classes placed 0 t.objects suit in
     let at = there classes t.root (omega (arith, length_classes t.objects)) in
     let written = ap is_some (placed t.root at.0 at.1) in

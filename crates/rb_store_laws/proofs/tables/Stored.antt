@@ -1,5 +1,5 @@
 -- The fields of typed classes have types of which values are stored: no Unit and no Rows.
-use Rattle.std.proofs.Common.{◌≡◌, ℕ, List, [], ◌∷◌, ◌++◌, Bool, true, false, cond, Option, Some, None, Ok, Err, refl, sym, ap, subst, ◌∙◌, Result}
+use Rattle.std.proofs.Common.{◌≡◌, ℕ, List, [], ◌∷◌, ◌++◌, Bool, true, false, cond, Some, Ok, Err, refl, sym, ap, subst, ◌∙◌, Result}
 use Rattle.std.specs.Str.{bytes_eq}
 use Rattle.std.specs.List.{AllByRecursion}
 use Rattle.std.proofs.lemmas.Slice.Eq.{bytes_eq-Decides}
@@ -10,7 +10,6 @@ use Rattle.rb_trees.specs.mirror.Types.{TypeTree}
 use Rattle.rb_trees.specs.mirror.Declarations.{Param, Class}
 use Rattle.rb_meaning_types.specs.Kinds as kind
 use Rattle.rb_meaning_types.specs.Kinds.{Kind, kind_of}
-use Rattle.rb_meaning_types.specs.Violations.{Checked}
 use Rattle.rb_meaning_types.specs.Declared.{Declarations, of_service}
 use Rattle.rb_meaning_types.specs.Places.{declared_type, value_type, parameter_type}
 use Rattle.rb_meaning_types.specs.Declarations.{new_name, check_params, check_methods, check_class, check_classes, check_declarations}

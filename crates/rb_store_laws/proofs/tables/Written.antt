@@ -1,26 +1,23 @@
 -- A table that fits is that of objects with literals that suit.
-use Rattle.std.proofs.Common.{◌≡◌, ℕ, ℤ, ◌+◌, ◌≤◌, suc, List, [], ◌∷◌, map, length, Option, Some, None, option_map, Bool, refl, sym, ap, subst, ◌∙◌, slice_get, arith}
-use Rattle.std.specs.List.{All, AllByRecursion}
+use Rattle.std.proofs.Common.{◌≡◌, ℕ, ◌+◌, suc, List, [], ◌∷◌, map, length, option_map, refl, sym, ap, subst, ◌∙◌, arith}
+use Rattle.std.specs.List.{AllByRecursion}
 use Rattle.std.proofs.lemmas.List.Elements.{recursion_from_All}
-use Rattle.rb_trees.specs.Limits.{longest_list}
 use Rattle.rb_trees.specs.declared.services.Object.{Object}
 use Rattle.rb_trees.specs.declared.values.Value.{Value}
 use Rattle.rb_trees.specs.declared.values.Value.TheOpen.{Value-F}
 use Rattle.rb_trees.specs.declared.values.Value.TheVariants as value
 use Rattle.rb_trees.specs.declared.values.Value.TheViews.{out-Value, roll-Value, roll-out-Value}
-use Rattle.rb_trees.specs.mirror.Types.{TypeTree}
 use Rattle.rb_trees.specs.mirror.Declarations.{Param, Class}
 use Rattle.rb_trees.specs.mirror.Services.{Literal, Literals, Int, Bool as Truth, Text, Object as Reference, Items, NoLiterals, MoreLiterals, ObjectText}
-use Rattle.rb_trees.specs.printing.Unplaced.{unplaced_type, unplaced_param, unplaced_class}
+use Rattle.rb_trees.specs.printing.Unplaced.{unplaced_param, unplaced_class}
 use Rattle.rb_meaning_types.specs.Kinds as kind
 use Rattle.rb_meaning_types.specs.Kinds.{Kind, kind_of}
-use Rattle.rb_meaning_types.specs.Names.{class_named}
 use Rattle.rb_meaning_types.specs.Lawful.{literal_count}
-use Rattle.rb_meaning_types.specs.Fits.{IsIntValue, IsBoolValue, IsTextValue, IsObjectOf, AreItems, Fits, FieldsFit, ObjectFits, HeapFits, classes_of}
-use Rattle.rb_meaning_types.specs.Stores.{value_of, values_of, fields_of, object_of, table_of}
+use Rattle.rb_meaning_types.specs.Fits.{IsIntValue, IsBoolValue, IsTextValue, IsObjectOf, AreItems, Fits, FieldsFit, ObjectFits}
+use Rattle.rb_meaning_types.specs.Stores.{value_of, values_of, fields_of, table_of}
 use Rattle.rb_store_laws.proofs.alike.Names.{bare, class_bare, kind_bare}
 use Rattle.rb_store_laws.proofs.tables.Stored.{IsStored, IsStoredParam, IsStoredClass, found_in}
-use Rattle.rb_store_laws.proofs.tables.Suits.{AllSuit, Suits, GivenSuit, ObjectSuits, ObjectsSuit, unplaced_object}
+use Rattle.rb_store_laws.proofs.tables.Suits.{AllSuit, Suits, GivenSuit, ObjectsSuit, unplaced_object}
 
 -- a value by its outermost form
 same_value : (v w : Value) (form : Value-F Value) → out-Value v ≡ form → roll-Value form ≡ w → w ≡ v
