@@ -25,7 +25,8 @@ printed_service service table = spelled (classes_pieces service.classes) ++ show
 abbrev pub PrintsShort : Service → List Object → Type 0
 PrintsShort service table = length (printed_service service table) ≤ longest_text
 
--- The classes are those of a text that was read. So they break no limit of nesting, and no literal in them is negative.
+-- The classes are those of a text that was read. So they break no limit of nesting, and no literal in them is negative but
+-- the least Int behind a minus.
 abbrev pub WereRead : List Class → Type 0
 WereRead classes = (source : List ℕ) × (text : ServiceText) × ReadService source (Ok text) × (text.classes ≡ classes)
 

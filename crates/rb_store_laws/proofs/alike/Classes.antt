@@ -11,7 +11,7 @@ use Rattle.rb_meaning_types.specs.Declarations.{new_name, check_params, check_si
 use Rattle.rb_meaning_types.specs.Programs.{check_service}
 use Rattle.rb_store_laws.proofs.alike.Checks.{Alike, pass, Same, then_alike, must_alike, passes_too, other_way}
 use Rattle.rb_store_laws.proofs.alike.Names.{bare, parameters_bare, parameter_alike, result_alike}
-use Rattle.rb_store_laws.proofs.alike.Exprs.{There}
+use Rattle.rb_store_laws.proofs.alike.Members.{There}
 use Rattle.rb_store_laws.proofs.alike.Stmts.{body_alike}
 
 new_alike : (before : List (List ℕ)) (at here : ℕ) (name : List ℕ) → Alike Same (new_name before at name) (new_name before here name)

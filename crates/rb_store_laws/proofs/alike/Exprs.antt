@@ -8,14 +8,14 @@ use Rattle.rb_trees.specs.mirror.Declarations.{Class}
 use Rattle.rb_trees.specs.printing.Unplaced.{unplaced_type, unplaced_expr, unplaced_exprs}
 use Rattle.rb_meaning_types.specs.Kinds as kind
 use Rattle.rb_meaning_types.specs.Kinds.{Kind, kind_of}
-use Rattle.rb_meaning_types.specs.Declared.{Context, of_service, method_context}
+use Rattle.rb_meaning_types.specs.Declared.{of_service}
 use Rattle.rb_meaning_types.specs.Violations.{Checked, Placed, UnknownName, wrong_type}
 use Rattle.rb_meaning_types.specs.Scopes.{Scope, variable_named}
 use Rattle.rb_meaning_types.specs.Operators.{takes_operand, takes_left, unary_kind, binary_kind, binary_result, item_of, index_kind}
 use Rattle.rb_meaning_types.specs.Expressions.{name_kind, all_wanted, items_kind, with_first, type_of, types_of}
 use Rattle.rb_store_laws.proofs.alike.Checks.{Alike, pass, fail, Same, SameKind, SameKinds, bind_alike, then_alike, known_alike, placed_alike, tested_alike, wanted_alike, by_kind}
 use Rattle.rb_store_laws.proofs.alike.Names.{bare, kind_bare, item_alike}
-use Rattle.rb_store_laws.proofs.alike.Members.{field_alike, call_alike, new_alike}
+use Rattle.rb_store_laws.proofs.alike.Members.{Here, There, field_alike, call_alike, new_alike}
 
 same_option : {A : Type 0} (o : Option A) → o ≡ option_map (λ x. x) o
 same_option None = refl
@@ -60,14 +60,8 @@ module _ (cs : List Class) where
       then_alike (then_alike (item_alike cs item) (all_alike (kind_of item) (kind_of (unplaced_type item)) ps qs (sym (kind_bare item)) h)) (pass (ap kind.ListOf (sym (kind_bare item))))
 
   module _ (class : List ℕ) (remote : Bool) where
-    abbrev pub Here : Context
-    Here = method_context (of_service cs) class remote
-
-    abbrev pub There : Context
-    There = method_context (of_service (bare cs)) class remote
-
     mutual
-      pub type_alike : (scope : Scope) (e : Expr) → Alike Same (type_of Here scope e) (type_of There scope (unplaced_expr e))
+      pub type_alike : (scope : Scope) (e : Expr) → Alike Same (type_of (Here cs class remote) scope e) (type_of (There cs class remote) scope (unplaced_expr e))
       type_alike scope (Lit at value) = pass refl
       type_alike scope (Name at name) = name_alike scope at 0 name
       type_alike scope (This at) = pass refl
@@ -86,7 +80,7 @@ module _ (cs : List Class) where
       type_alike scope (Items at item items) = bind_alike (types_alike scope items) (λ ps qs h. items_alike item ps qs h)
       type_alike scope (Taken at step) = fail
 
-      types_alike : (scope : Scope) (es : Exprs) → Alike SameKinds (types_of Here scope es) (types_of There scope (unplaced_exprs es))
+      types_alike : (scope : Scope) (es : Exprs) → Alike SameKinds (types_of (Here cs class remote) scope es) (types_of (There cs class remote) scope (unplaced_exprs es))
       types_alike scope NoExprs = pass tt
       types_alike scope (MoreExprs e es) =
           bind_alike (placed_alike (expr_at e) (expr_at (unplaced_expr e)) (type_alike scope e)) (λ p q same. first_alike p q same (types_alike scope es))

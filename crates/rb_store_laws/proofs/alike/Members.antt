@@ -58,10 +58,11 @@ module _ (cs : List Class) where
       (λ f g is. pass (sym (ap (λ x. kind_of x.kind) is ∙ kind_bare f.kind))))
 
   module _ (class : List ℕ) (remote : Bool) where
-    abbrev Here : Context
+    -- where code of a method stands, with the positions of the classes and without them
+    abbrev pub Here : Context
     Here = method_context (of_service cs) class remote
 
-    abbrev There : Context
+    abbrev pub There : Context
     There = method_context (of_service (bare cs)) class remote
 
     signature_alike : (at here : ℕ) (m : Method) (ps qs : List Placed) → SameKinds ps qs → Alike Same (signature_kind at m.signature ps) (signature_kind here (unplaced_method m).signature qs)

@@ -14,7 +14,8 @@ use Rattle.rb_meaning_types.specs.Statements.{placed, condition, declare, is_ass
 use Rattle.rb_meaning_types.specs.Bodies.{return_fits, check_return, check_body}
 use Rattle.rb_store_laws.proofs.alike.Checks.{Alike, pass, fail, Same, SameKind, bind_alike, then_alike, must_alike, placed_alike, tested_alike, wanted_alike, by_kind}
 use Rattle.rb_store_laws.proofs.alike.Names.{bare, kind_bare}
-use Rattle.rb_store_laws.proofs.alike.Exprs.{Here, There, type_alike}
+use Rattle.rb_store_laws.proofs.alike.Members.{Here, There}
+use Rattle.rb_store_laws.proofs.alike.Exprs.{type_alike}
 
 free_alike : (scope : Scope) (at here : ℕ) (name : List ℕ) → Alike Same (must (is_free scope name) (NameTaken at)) (must (is_free scope name) (NameTaken here))
 free_alike scope at here name = must_alike (is_free scope name) (is_free scope name) (NameTaken at) (NameTaken here) refl
@@ -91,7 +92,7 @@ module _ (cs : List Class) where
     batch_alike scope at here interface root = then_alike (then_alike (then_alike (free_alike scope at here root) fail) (must_alike remote remote (NotAllowedHere at) (NotAllowedHere here) refl)) (pass refl)
 
     mutual
-      pub stmt_alike : (scope : Scope) (s : Stmt) → Alike Same (check_stmt (Here cs class remote) scope s) (check_stmt (There cs class remote) scope (unplaced_stmt s))
+      stmt_alike : (scope : Scope) (s : Stmt) → Alike Same (check_stmt (Here cs class remote) scope s) (check_stmt (There cs class remote) scope (unplaced_stmt s))
       stmt_alike scope (Val at name e) = bind_alike (here_alike scope e) (λ p q same. declare_alike scope at 0 name true p q same)
       stmt_alike scope (Var at name e) = bind_alike (here_alike scope e) (λ p q same. declare_alike scope at 0 name false p q same)
       stmt_alike scope (Assign at a b) = bind_alike (here_alike scope a) (λ p q e. bind_alike (here_alike scope b) (λ r s f. assign_alike scope at 0 a p q r s e f))

@@ -17,7 +17,7 @@ use Rattle.rb_meaning_types.specs.Bodies.{check_class_bodies}
 use Rattle.rb_meaning_types.specs.Programs.{check_service}
 
 -- what passes first, and what passes then
-pub passed : {B D : Type 0} (a : Result (Unit {0}) D) (b : Result B D) (y : B) → a >> b ≡ Ok y → (a ≡ Ok tt) × (b ≡ Ok y)
+passed : {B D : Type 0} (a : Result (Unit {0}) D) (b : Result B D) (y : B) → a >> b ≡ Ok y → (a ≡ Ok tt) × (b ≡ Ok y)
 passed (Ok u) b y e = (refl, e)
 passed (Err d) b y e = absurd (cc)
 

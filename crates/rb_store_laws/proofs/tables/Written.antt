@@ -25,16 +25,16 @@ same_value v w form e rolls = sym rolls ∙ ap roll-Value (sym e) ∙ roll-out-V
 
 module _ (classes : List (List ℕ)) where
   -- the literal of a value
-  pub record LiteralOf (k : Kind) (v : Value) : Type 0 where
-    pub literal : Literal
-    pub is : value_of literal ≡ v
-    pub suits : Suits classes k literal
+  record LiteralOf (k : Kind) (v : Value) : Type 0 where
+    literal : Literal
+    is : value_of literal ≡ v
+    suits : Suits classes k literal
 
-  pub record LiteralsOf (k : Kind) (vs : List Value) : Type 0 where
-    pub literals : Literals
-    pub is : values_of literals ≡ vs
-    pub count : literal_count literals ≡ length vs
-    pub suit : AllSuit (Suits classes k) literals
+  record LiteralsOf (k : Kind) (vs : List Value) : Type 0 where
+    literals : Literals
+    is : values_of literals ≡ vs
+    count : literal_count literals ≡ length vs
+    suit : AllSuit (Suits classes k) literals
 
   int_of : (v : Value) (form : Value-F Value) → out-Value v ≡ form → IsIntValue form → LiteralOf kind.Int v
   int_of v (Value-F.Int n) e h = record { literal = Int n; is = same_value v (value.Int n) (Value-F.Int n) e (value.rolls-Int n); suits = h }
@@ -95,7 +95,7 @@ module _ (classes : List (List ℕ)) where
   list_of k one v (Value-F.Remote object) e h = absurd h
   list_of k one v (Value-F.Rows rows) e h = absurd h
 
-  pub literal_of : (k : Kind) (v : Value) → IsStored k → Fits [] classes k v → LiteralOf k v
+  literal_of : (k : Kind) (v : Value) → IsStored k → Fits [] classes k v → LiteralOf k v
   literal_of kind.Int v s h = int_of v (out-Value v) refl h
   literal_of kind.Bool v s h = bool_of v (out-Value v) refl h
   literal_of kind.Text v s h = text_of v (out-Value v) refl h
