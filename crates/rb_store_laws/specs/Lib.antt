@@ -1,0 +1,2 @@
+-- The law of printed tables.
+pub mod Printed
