@@ -1,7 +1,7 @@
 -- What a program of the first form means is what its script gives: a line for each number that is kept, and the fault that
 -- ends it.
 use Rattle.std.proofs.Common.{◌≡◌, ℕ, ℤ, suc, ◌+◌, List, [], ◌∷◌, ◌++◌, Bool, true, false, Option, None, Some, Result, Ok, Err, option_map, cond, ap, sym, ◌∙◌, refl, subst, arith, append_assoc, append-nil}
-use Rattle.std.specs.Prelude.{◌||◌, nat_eq, map, codes, IfOk, OnOk}
+use Rattle.std.specs.Prelude.{◌||◌, nat_eq, codes}
 use Rattle.std.proofs.lemmas.Bool.Decides.{nat_tests}
 use Rattle.std.specs.Str.{bytes_eq}
 use Rattle.std.specs.Fmt.{decimal, signed_decimal}
@@ -13,20 +13,15 @@ use Rattle.rb_trees.specs.declared.values.Value.TheVariants as value
 use Rattle.rb_trees.specs.declared.values.Fault.{Fault}
 use Rattle.rb_trees.specs.declared.forests.NodeFault.{NodeFault}
 use Rattle.rb_trees.specs.declared.services.Object.{Object}
-use Rattle.rb_trees.specs.declared.outcomes.Ending.TheVariants as endings
 use Rattle.rb_trees.specs.mirror.Types as types
 use Rattle.rb_trees.specs.mirror.Types.{TypeTree}
 use Rattle.rb_trees.specs.mirror.Code as code
 use Rattle.rb_trees.specs.mirror.Code.{Stmts}
-use Rattle.rb_trees.specs.mirror.Declarations.{Signature, Class, Program, mirror_class}
+use Rattle.rb_trees.specs.mirror.Declarations.{Signature, Class, Program}
 use Rattle.rb_trees.specs.mirror.Services.{Service}
-use Rattle.rb_trees.specs.mirror.Scripts as script
-use Rattle.rb_trees.specs.mirror.Scripts.{mirror_script}
 use Rattle.rb_trees.specs.mirror.Forests as forest
 use Rattle.rb_trees.specs.mirror.Forests.{Node, Holds, Entry, Entries, mirror_entries, mirror_node}
 use Rattle.rb_trees.specs.declared.forests.Node as tree_node
-use Rattle.rb_trees.specs.declared.scripts.Script as tree_script
-use Rattle.rb_trees.specs.declared.want.Memory.{Memory}
 use Rattle.rb_trees.specs.declared.forests.Entry as tree_entry
 use Rattle.rb_trees.specs.declared.outcomes.Ending.{Ending}
 use Rattle.rb_trees.proofs.mirror.Nodes.{at_Node}
@@ -40,18 +35,16 @@ use Rattle.rb_meaning_code.specs.Expressions.{evaluates_all}
 use Rattle.rb_meaning_code.specs.Statements.{prints, performs_all}
 use Rattle.rb_meaning_code.specs.Bodies.{bodies_of}
 use Rattle.rb_meaning_code.specs.Remote.{Server, Reply, Got, Stopped, and_then, replies, seen_as, checked, served, returned, server_of, invoke}
-use Rattle.rb_meaning_code.specs.ScriptRun.{Ground, Ran, ended, in_front, with_entry, on_reply, is_primitive, kept, run_steps, run_script, batch_fuel}
+use Rattle.rb_meaning_code.specs.ScriptRun.{Ground, Ran, ended, with_entry, on_reply, is_primitive, kept, run_steps, run_script, batch_fuel}
 use Rattle.rb_meaning.specs.State as state
 use Rattle.rb_meaning.specs.State.{Event, Outside}
 use Rattle.rb_meaning.specs.Meaning.{Meaning, meaning, meant, in_main, at_start, outside_of, main_result, performs_found}
-use Rattle.rb_meaning.specs.Division.{int_kind, steps_of, first_block, first_script}
-use Rattle.rb_meaning.specs.Unsplit.{Kinds, in_batch, performed, kind_of_type, result_kind, methods_of, call_kinds, batch_at, begun, settles, table_left, remote_only}
+use Rattle.rb_meaning.specs.Division.{int_kind, steps_of, first_script}
+use Rattle.rb_meaning.specs.Unsplit.{Kinds, in_batch, performed, kind_of_type, result_kind, methods_of, call_kinds, batch_at, settles, table_left, remote_only}
 use Rattle.rb_meaning.specs.Shown.{line, shown, shown_events, shown_ending, shown_table, exchanges}
 use Rattle.rb_top.specs.FirstForm.{FirstProgram, PrintsCalls, PlainSignatures, GivesInt, is_among, signature_names}
 use Rattle.rb_top.specs.Printing.{Prints, PrintsAnswering, end_text}
-use Rattle.rb_exec.specs.Hosted.{Hosted}
-use Rattle.rb_exec.specs.Hosts.{script_run}
-use Rattle.rb_top.specs.Replay.{number_line, entry_line, entry_lines, ending_by, ending_of_node, replayed, served_of, first_run, Leaves, PrintsNode, PrintsBatch}
+use Rattle.rb_top.specs.Replay.{number_line, entry_line, entry_lines, ending_by, ending_of_node, replayed, first_run, Leaves, PrintsNode, PrintsBatch}
 use Rattle.rb_top.specs.Runs.{Served, run_text, run_status, ended_status}
 use Rattle.rb_top.specs.declared.printing.PrintStop.{PrintStop}
 use Rattle.rb_top.specs.declared.status.Status.{Status}
@@ -314,17 +307,6 @@ batch_printed text p served node table r before after f l h = λ fuel.
     ap (λ n. ended_status (ending_of_node n)) l.0 ∙ sym (run_ended fuel p served f) in
     subst (λ s. PrintsAnswering s (run_text text fuel p served) r before after) ended'
     (subst (λ t. PrintsAnswering (ended_status (ending_of_node node)) t r before after) shown' h)
-
--- What a script gives on a host is what the program's script gives there, where it is that one.
-pub given_so : (p : Program) (h : Hosted) (s : tree_script.Script) (r : Result tree_node.Node Memory) (table : List Object) → mirror_script s ≡ first_script p
-    → IfOk r (λ n. mirror_node n ≡ (script_run h s []).node) → OnOk r (table ≡ (script_run h s []).server.table) → IfOk r (λ n. Leaves p (served_of h) (mirror_node n) table)
-given_so p h s (Ok n) table e is_node is_table =
-    let classes = map mirror_class h.service.classes in
-    let root = h.service.root in (
-      is_node ∙ ap (λ x. (run_script x [] classes root h.table).node) e,
-      is_table ∙ ap (λ x. (run_script x [] classes root h.table).server.table) e,
-    )
-given_so p h s (Err m) table e is_node is_table = tt
 
 -- a node that was printed, by its entries and its fault
 pub node_printed : (text : List ℕ) (n : tree_node.Node) (table : List Object) (s : Status) (r : Result (Unit {0}) PrintStop) (before after : Device (List ℕ)) (source : List ℕ) (entries : List tree_entry.Entry) (ending : Ending)

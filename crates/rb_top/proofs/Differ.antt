@@ -1,19 +1,18 @@
 -- The classes of a typed program differ by name, and so do the methods of each.
-use Rattle.std.proofs.Common.{◌≡◌, ℕ, List, [], ◌∷◌, ◌++◌, map, Bool, true, false, None, Some, Result, Ok, Err, cond, ap, sym, ◌∙◌, refl, subst}
+use Rattle.std.proofs.Common.{◌≡◌, ℕ, List, [], ◌∷◌, ◌++◌, map, Bool, true, false, None, Some, Result, Ok, Err, cond, ap, sym, ◌∙◌, refl}
 use Rattle.std.specs.Str.{bytes_eq}
 use Rattle.std.specs.Result.{is_ok}
 use Rattle.rb_trees.specs.Named.{first_named}
-use Rattle.rb_trees.specs.Outcome.{◌>>◌, must, refused_as}
+use Rattle.rb_trees.specs.Outcome.{◌>>◌, must}
 use Rattle.rb_trees.specs.declared.services.Object.{Object}
-use Rattle.rb_trees.specs.mirror.Services.{Service, ServiceText}
+use Rattle.rb_trees.specs.mirror.Services.{Service}
 use Rattle.rb_trees.specs.mirror.Declarations.{Class, Method, Program}
 use Rattle.rb_meaning_types.specs.Names.{is_new}
 use Rattle.rb_meaning_types.specs.Declared.{Declarations, of_program, of_service}
 use Rattle.rb_meaning_types.specs.Declarations.{new_name, check_params, check_method, check_methods, check_class, check_classes, check_interfaces, check_declarations}
 use Rattle.rb_meaning_types.specs.Bodies.{check_class_bodies}
-use Rattle.rb_meaning_types.specs.Programs.{check_main, check_service, is_typed, is_typed_service}
-use Rattle.rb_meaning_types.specs.Stores.{Stored, Types, check_table, check_text, service_of, table_of}
-use Rattle.rb_meaning.specs.ServiceSources.{ReadsAsService, unread, of_text}
+use Rattle.rb_meaning_types.specs.Programs.{check_main, is_typed, is_typed_service}
+use Rattle.rb_meaning.specs.Links.{IsTyped}
 use Rattle.rb_code.specs.Differ.{MethodsDiffer, ClassesDiffer}
 use Rattle.rb_top.proofs.Names.{same_bytes, one_name}
 
@@ -113,22 +112,6 @@ service_classes_differ cs h =
     let declarations = first_passed (check_declarations d) (check_class_bodies d cs) h in
     classes_differ d (map (λ i. i.name) d.interfaces) cs (then_passed (check_interfaces d [] d.interfaces) (check_classes d (map (λ i. i.name) d.interfaces) d.classes) declarations)
 
-passed_with : {B D : Type 0} (a : Result (Unit {0}) D) (x s : B) → (a >> Ok x) ≡ Ok s → (is_ok a ≡ true) × (x ≡ s)
-passed_with (Ok u) x s e = (refl, cc e)
-passed_with (Err d) x s e = absurd (cc e)
-
-passed_as : {A D F : Type 0} (f : D → F) (a : Result A D) → is_ok (refused_as f a) ≡ true → is_ok a ≡ true
-passed_as f (Ok u) h = refl
-passed_as f (Err d) h = absurd (cc h)
-
--- the classes of what a text is as a service
-text_classes_differ : (t : ServiceText) (s : Service × List Object) → service_of t ≡ Ok s → ClassesDiffer s.0.classes
-text_classes_differ t s e =
-    let p = passed_with (check_text t) (record { classes = t.classes; root = t.root }, table_of t.objects) s e in
-    let typed = passed_as Types (check_service t.classes) (first_passed (refused_as Types (check_service t.classes)) (check_table t) p.0) in
-    subst (λ (x : Service × List Object). ClassesDiffer x.0.classes) p.1 (service_classes_differ t.classes typed)
-
--- the classes of a service that a source is
-pub source_classes_differ : (source : List ℕ) (outcome : Stored (Service × List Object)) (s : Service × List Object) → ReadsAsService source outcome → outcome ≡ Ok s → ClassesDiffer s.0.classes
-source_classes_differ source outcome s (unread r) e = absurd (cc e)
-source_classes_differ source outcome s (of_text {text = t} r) e = text_classes_differ t s e
+-- and of one that is typed with its table
+pub served_classes_differ : (s : Service) (table : List Object) → IsTyped s table → ClassesDiffer s.classes
+served_classes_differ s table t = service_classes_differ s.classes (ap is_ok t.typed)

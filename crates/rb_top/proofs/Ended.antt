@@ -1,5 +1,5 @@
 -- How a call that prints a text ends.
-use Rattle.std.proofs.Common.{◌≡◌, ℕ, List, true, false, Option, None, Some, Result, Ok, Err, ap, sym, ◌∙◌, refl, subst, inl, inr}
+use Rattle.std.proofs.Common.{◌≡◌, ℕ, List, true, false, Option, None, Some, Result, Ok, Err, ◌∙◌, refl, subst, inl, inr}
 use Rattle.std.specs.Option.{is_none}
 use Rattle.rb_trees.specs.mirror.Declarations.{Program}
 use Rattle.rb_base.specs.Devices.{Device}
@@ -8,7 +8,7 @@ use Rattle.rb_top.specs.declared.loading.TextStop.TheVariants as stops
 use Rattle.rb_top.specs.declared.printing.PrintStop.{PrintStop}
 use Rattle.rb_top.specs.declared.printing.PrintStop.TheVariants as print
 use Rattle.rb_top.specs.declared.status.Status.{Status}
-use Rattle.rb_top.specs.declared.status.Status.TheVariants.{Done, Memory}
+use Rattle.rb_top.specs.declared.status.Status.TheVariants.{Memory}
 use Rattle.rb_top.specs.FirstForm.{FirstProgram}
 use Rattle.rb_top.specs.Local.{PrintsLocal}
 use Rattle.rb_top.specs.Printing.{Prints, PrintsAnswering}
@@ -16,7 +16,7 @@ use Rattle.rb_top.specs.Replay.{PrintsBatch}
 use Rattle.rb_top.specs.Runs.{Served, run_status, run_text}
 use Rattle.rb_top.specs.Texts.{HasNoBatch, IsBuilt}
 use Rattle.rb_top.specs.Answers.{Ends, whole, cut, starved, fault_line, too_long_line}
-use Rattle.rb_top.specs.Commands.{run_answer, status_after, stopped_status, EndsUnread, EndsWith, EndsRun}
+use Rattle.rb_top.specs.Commands.{run_answer, status_after, EndsUnread, EndsWith, EndsRun}
 use Rattle.rb_top.proofs.Printed.{wrote_none}
 
 pub ends_by : {A : Type 0} (status : Status) (text : List ℕ) (before after : Device (List ℕ)) (r : Result A PrintStop) (result : Status) → result ≡ status_after status r → Prints text r before after → Ends status text result before after

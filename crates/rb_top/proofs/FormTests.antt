@@ -1,6 +1,6 @@
 -- The tests of the form that is built decide it.
 use Rattle.std.proofs.lemmas.Bool.{and_parts}
-use Rattle.std.proofs.Common.{◌≡◌, ℕ, ◌<◌, ◌≤◌, ◌^◌, Bool, true, false, not, List, [], ◌∷◌, length, Option, Some, None, ap, sym, ◌∙◌, refl, arith, IsTrue}
+use Rattle.std.proofs.Common.{◌≡◌, ℕ, ◌+◌, ◌<◌, ◌≤◌, ◌^◌, Bool, true, false, not, List, [], ◌∷◌, length, Option, Some, None, ap, sym, ◌∙◌, refl, arith, IsTrue}
 use Rattle.std.specs.Prelude.{◌&&◌, nat_lt, nat_le, Decides}
 use Rattle.std.specs.Str.{bytes_eq}
 use Rattle.std.proofs.lemmas.Slice.Eq.{bytes_eq-Decides}
@@ -10,7 +10,7 @@ use Rattle.rb_trees.specs.mirror.Types.{TypeTree}
 use Rattle.rb_trees.specs.mirror.Code as code
 use Rattle.rb_trees.specs.mirror.Code.{Expr, Exprs, Stmt, Stmts}
 use Rattle.rb_trees.specs.mirror.Declarations.{Signature, Interface, Program}
-use Rattle.rb_top.specs.FirstForm.{FirstProgram, GivesInt, PlainSignatures, PrintsCalls, is_among, distinct, signature_names, count_stmts}
+use Rattle.rb_top.specs.FirstForm.{FirstProgram, GivesInt, PlainSignatures, PrintsCalls, is_among, distinct, signature_names, prints_size, most_code}
 use Rattle.rb_top.specs.FormTests.{is_nil, no_exprs, printed_of, batch_of, gives_int, is_plain, plain_signatures, is_declared_on, on_root, prints_call_of, prints_calls, alone, without_result, only_batch, names_agree, has_prints, suits, by_batch, by_interface, first_form}
 
 and_true : (x y : Bool) → x ≡ true → y ≡ true → (x && y) ≡ true
@@ -93,7 +93,7 @@ record Suits (i : Interface) (name root : List ℕ) (block : Stmts) : Type 0 whe
   differs : ¬ (root ≡ i.name)
   names : IsTrue (distinct (signature_names i.methods))
   signatures : PlainSignatures i.methods
-  few : count_stmts block ≤ 1000000
+  small : 4 + prints_size block ≤ most_code
   prints : PrintsCalls root (signature_names i.methods) block
 
 differs_by : (a b : List ℕ) → not (bytes_eq a b) ≡ true → ¬ (a ≡ b)
@@ -113,13 +113,13 @@ suits_by i name root block h =
     let b = and_parts (bytes_eq name i.name) (not (bytes_eq root i.name) && distinct names) a.0 in
     let c = and_parts (not (bytes_eq root i.name)) (distinct names) b.1 in
     let d = and_parts (plain_signatures i.methods) (has_prints root names block) a.1 in
-    let e = and_parts (nat_le (count_stmts block) 1000000) (prints_calls root names block) d.1 in
+    let e = and_parts (nat_le (4 + prints_size block) most_code) (prints_calls root names block) d.1 in
     record {
       same = (bytes_eq-Decides name i.name).0 b.0;
       differs = differs_by root i.name c.0;
       names = c.1;
       signatures = plain_by i.methods d.0;
-      few = let k = e.0 in grind (arith, nat_tests, k);
+      small = let k = e.0 in grind (arith, nat_tests, k);
       prints = stmts_by root names block e.1;
     }
 
@@ -130,7 +130,7 @@ suits_so i name root block s =
     (and_true (bytes_eq name i.name) (not (bytes_eq root i.name) && distinct names) ((bytes_eq-Decides name i.name).1 s.same)
     (and_true (not (bytes_eq root i.name)) (distinct names) (differs_so root i.name s.differs) s.names))
     (and_true (plain_signatures i.methods) (has_prints root names block) (plain_so i.methods s.signatures)
-    (and_true (nat_le (count_stmts block) 1000000) (prints_calls root names block) (let k = s.few in grind (arith, nat_tests, k)) (stmts_so root names block s.prints)))
+    (and_true (nat_le (4 + prints_size block) most_code) (prints_calls root names block) (let k = s.small in grind (arith, nat_tests, k)) (stmts_so root names block s.prints)))
 
 -- the parts of a program
 record Batched (statements : Stmts) (batch : List ℕ × List ℕ × Stmts) : Type 0 where
@@ -185,14 +185,14 @@ form_by p h =
       result_is = w.0;
       signatures = k.signatures;
       prints = k.prints;
-      few = k.few;
+      small = k.small;
       root_differs = k.differs;
       names_differ = k.names;
     }
 
 pub form_so : (p : Program) → FirstProgram p → first_form p ≡ true
 form_so p f =
-    let suit : Suits f.interface f.interface.name f.root f.block = record { same = refl; differs = f.root_differs; names = f.names_differ; signatures = f.signatures; few = f.few; prints = f.prints } in
+    let suit : Suits f.interface f.interface.name f.root f.block = record { same = refl; differs = f.root_differs; names = f.names_differ; signatures = f.signatures; small = f.small; prints = f.prints } in
     and_true (is_nil p.classes) (by_interface p.interfaces (only_batch p.body))
     (ap is_nil f.classes_are)
     (ap (λ is. by_interface is (only_batch p.body)) f.interfaces_are

@@ -2,6 +2,8 @@ pub mod BatchRuns
 pub mod ConsoleRuns
 pub mod Differ
 pub mod Ended
+pub mod Exchanged
+pub mod FirstScripts
 pub mod Forms
 pub mod FormTests
 pub mod Literals

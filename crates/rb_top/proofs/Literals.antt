@@ -1,5 +1,5 @@
 -- Values that aren't a number.
-use Rattle.std.proofs.Common.{◌≡◌, ℤ, [], ap, sym, ◌∙◌, refl}
+use Rattle.std.proofs.Common.{◌≡◌, ℤ, [], sym, ◌∙◌, refl}
 use Rattle.std.proofs.lemmas.Grind.{common_steps}
 use Rattle.rb_trees.specs.declared.values.Value.{Value, out-Value}
 use Rattle.rb_trees.specs.declared.values.Value.TheOpen.{Value-F}

@@ -1,9 +1,10 @@
 -- The steps of a block, statement by statement.
-use Rattle.std.proofs.Common.{◌≡◌, ℕ, suc, List, [], ◌∷◌, ◌++◌, map, Option, None, Some, ap, sym, ◌∙◌, refl}
+use Rattle.std.proofs.Common.{◌≡◌, ℕ, suc, List, [], ◌∷◌, ◌++◌, None, Some, ap, refl}
 use Rattle.std.proofs.lemmas.Grind.{common_steps}
 use Rattle.rb_trees.specs.declared.scripts.Step as step
 use Rattle.rb_trees.specs.mirror.Code.{Stmt, Stmts, MoreStmts}
-use Rattle.rb_trees.specs.mirror.Scripts.{Step, Steps, NoSteps, MoreSteps, mirror_step, mirror_steps}
+use Rattle.rb_trees.specs.mirror.Scripts.{Steps, NoSteps, MoreSteps, mirror_step, mirror_steps}
+use Rattle.rb_meaning_bytes.specs.formats.FormedScripts.{FormedStep, FormedSteps}
 use Rattle.rb_meaning.specs.Division.{printed_call, steps_of, with_step, keep_call}
 
 -- steps before others
@@ -25,4 +26,8 @@ steps_none n s ss h = ap (λ o. with_step n o (λ k. steps_of k ss)) h
 pub steps_some : (n : ℕ) (s : Stmt) (ss : Stmts) (at : ℕ) (method : List ℕ) → printed_call s ≡ Some (at, method) → steps_of n (MoreStmts s ss) ≡ MoreSteps (keep_call n at method) (steps_of (suc n) ss)
 steps_some n s ss at method h = ap (λ o. with_step n o (λ k. steps_of k ss)) h
 
-pub ruleset collected = (before_none, before_more, steps_none, steps_some, common_steps)
+pub formed_more : (ss : List step.Step) (s : step.Step) → FormedSteps (mirror_steps ss) → FormedStep (mirror_step s) → FormedSteps (mirror_steps (ss ++ s ∷ []))
+formed_more [] s h k = (k, tt)
+formed_more (t ∷ ts) s h k = (h.0, formed_more ts s h.1 k)
+
+pub ruleset collected = (before_none, before_more, steps_none, steps_some, formed_more, common_steps)

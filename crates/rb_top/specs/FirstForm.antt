@@ -1,32 +1,28 @@
 -- The one form of program with a batch that is built. It has one interface of methods without parameters that give Int,
 -- and its `main` is one batch of prints of such methods, called on the root.
-use Rattle.std.specs.Prelude.{◌≡◌, ℕ, ◌<◌, ◌≤◌, ◌^◌, ℤ, suc, List, [], ◌∷◌, Bool, true, false, cond, Option, None, Some, IsTrue, length, map, FitsSigned}
-use Rattle.std.specs.Int.{w64}
-use Rattle.std.specs.Option.{IfSome}
+use Rattle.std.specs.Prelude.{◌≡◌, ℕ, ◌+◌, ◌<◌, ◌≤◌, ◌^◌, List, [], ◌∷◌, Bool, true, false, cond, Option, None, Some, IsTrue, length, map}
 use Rattle.std.specs.List.{list_any}
 use Rattle.std.specs.Str.{bytes_eq}
-use Rattle.rb_trees.specs.declared.values.Value.{Value, out-Value}
-use Rattle.rb_trees.specs.declared.values.Value.TheOpen.{Value-F}
-use Rattle.rb_trees.specs.declared.services.Object.{Object}
 use Rattle.rb_trees.specs.mirror.Types as types
 use Rattle.rb_trees.specs.mirror.Types.{TypeTree}
 use Rattle.rb_trees.specs.mirror.Code as code
-use Rattle.rb_trees.specs.mirror.Code.{Expr, Stmt, Stmts}
-use Rattle.rb_trees.specs.mirror.Declarations.{Signature, Interface, Method, Class, Program}
-use Rattle.rb_trees.specs.mirror.Services.{Service}
-use Rattle.rb_trees.specs.mirror.Scripts as script
-use Rattle.rb_trees.specs.mirror.Scripts.{Steps, Script}
-use Rattle.rb_meaning.specs.Division.{int_kind}
+use Rattle.rb_trees.specs.mirror.Code.{Stmts}
+use Rattle.rb_trees.specs.mirror.Declarations.{Signature, Interface, Program}
 use Rattle.rb_meaning.specs.Division.{printed_call}
 
-abbrev pub count_stmts : Stmts → ℕ
-count_stmts code.NoStmts = 0
-count_stmts (code.MoreStmts s ss) = suc (count_stmts ss)
+-- how many bytes the step of a printed call has: 24, and those of the method's name; without a call there is no step
+abbrev pub call_size : Option (ℕ × List ℕ) → ℕ
+call_size None = 0
+call_size (Some call) = 24 + length call.1
 
--- Each method that is called has a name that fits the wire.
-abbrev pub FitNames : Stmts → Type 0
-FitNames code.NoStmts = Unit {0}
-FitNames (code.MoreStmts s ss) = IfSome (printed_call s) (λ call. length call.1 < 2 ^ 32) × FitNames ss
+-- how many bytes the steps of a block's prints have
+abbrev pub prints_size : Stmts → ℕ
+prints_size code.NoStmts = 0
+prints_size (code.MoreStmts s ss) = call_size (printed_call s) + prints_size ss
+
+-- the most bytes of the code of a script
+abbrev pub most_code : ℕ
+most_code = 4194304
 
 -- whether a name is among names
 abbrev pub is_among : List (List ℕ) → List ℕ → Bool
@@ -58,7 +54,7 @@ PrintsCalls root names (code.MoreStmts (code.Print place (code.Call at (code.Nam
 PrintsCalls root names _ = ⊥
 
 -- The program is of the form that is built: the batch names the interface, its root has another name, and no two methods
--- of the interface have one name. A batch's fuel allows 1,000,000 prints.
+-- of the interface have one name. The code of its script, a count of 4 bytes and the steps, is no longer than it may be.
 pub record FirstProgram (p : Program) : Type 0 where
   pub interface : Interface
   pub place : ℕ
@@ -70,6 +66,6 @@ pub record FirstProgram (p : Program) : Type 0 where
   pub result_is : p.body.result ≡ None
   pub signatures : PlainSignatures interface.methods
   pub prints : PrintsCalls root (signature_names interface.methods) block
-  pub few : count_stmts block ≤ 1000000
+  pub small : 4 + prints_size block ≤ most_code
   pub root_differs : ¬ (root ≡ interface.name)
   pub names_differ : IsTrue (distinct (signature_names interface.methods))

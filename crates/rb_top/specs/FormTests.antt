@@ -1,12 +1,12 @@
 -- The tests by which a program is found to be of the form that is built: they decide `FirstProgram`.
-use Rattle.std.specs.Prelude.{ℕ, ◌^◌, List, [], ◌∷◌, Bool, true, false, not, ◌&&◌, Option, None, Some, length, nat_lt, nat_le}
+use Rattle.std.specs.Prelude.{ℕ, ◌+◌, ◌^◌, List, [], ◌∷◌, Bool, true, false, not, ◌&&◌, Option, None, Some, length, nat_lt, nat_le}
 use Rattle.std.specs.Str.{bytes_eq}
 use Rattle.rb_trees.specs.mirror.Types as types
 use Rattle.rb_trees.specs.mirror.Types.{TypeTree}
 use Rattle.rb_trees.specs.mirror.Code as code
 use Rattle.rb_trees.specs.mirror.Code.{Expr, Exprs, Stmt, Stmts}
 use Rattle.rb_trees.specs.mirror.Declarations.{Signature, Interface, Body, Program}
-use Rattle.rb_top.specs.FirstForm.{is_among, distinct, signature_names, count_stmts}
+use Rattle.rb_top.specs.FirstForm.{is_among, distinct, signature_names, prints_size, most_code}
 
 abbrev pub is_nil : {A : Type 0} → List A → Bool
 is_nil [] = true
@@ -86,9 +86,9 @@ only_batch body = without_result body.result (alone body.statements)
 abbrev pub names_agree : Interface → List ℕ → List ℕ → Bool
 names_agree i name root = bytes_eq name i.name && (not (bytes_eq root i.name) && distinct (signature_names i.methods))
 
--- whether the batch has no more prints than its fuel allows, each of such a call
+-- whether the code of the prints isn't too long, and each is of such a call
 abbrev pub has_prints : List ℕ → List (List ℕ) → Stmts → Bool
-has_prints root names block = nat_le (count_stmts block) 1000000 && prints_calls root names block
+has_prints root names block = nat_le (4 + prints_size block) most_code && prints_calls root names block
 
 -- whether an interface and a batch are of the form that is built
 abbrev pub suits : Interface → List ℕ → List ℕ → Stmts → Bool

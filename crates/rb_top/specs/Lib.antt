@@ -6,6 +6,7 @@ pub mod BatchRefusals
 pub mod Commands
 pub mod Console
 pub mod Codes
+pub mod Exchanged
 pub mod FirstForm
 pub mod FormTests
 pub mod Loads
@@ -14,5 +15,6 @@ pub mod Printing
 pub mod Refusals
 pub mod Replay
 pub mod Runs
+pub mod Sendable
 pub mod ServiceRefusals
 pub mod Texts

@@ -1,6 +1,5 @@
 -- A run of a program without a batch: what its code shows, and what is printed of it.
-use Rattle.std.specs.Prelude.{◌≡◌, ◌++◌, ℕ, List, map, Option, option_map, Result, Ok, Err, codes}
-use Rattle.std.specs.Fmt.{decimal}
+use Rattle.std.specs.Prelude.{ℕ, List, map, Option, option_map, Result}
 use Rattle.rb_trees.specs.declared.values.Value.{Value}
 use Rattle.rb_trees.specs.declared.outcomes.Ending.{Ending}
 use Rattle.rb_trees.specs.declared.code.Expr as expr
@@ -8,20 +7,17 @@ use Rattle.rb_trees.specs.declared.declarations.Class as class
 use Rattle.rb_trees.specs.declared.services.Object.{Object}
 use Rattle.rb_trees.specs.mirror.Code.{mirror_expr}
 use Rattle.rb_trees.specs.mirror.Declarations.{Body, Class, Program, mirror_class}
-use Rattle.rb_trees.specs.mirror.Services.{Service}
 use Rattle.rb_meaning_code.specs.Faults.{kind, raised}
 use Rattle.rb_meaning_code.specs.State.{Local}
 use Rattle.rb_meaning_code.specs.Dialogue.{Faulted, Run, Handler, handle}
 use Rattle.rb_meaning_code.specs.Bodies.{bodies_of}
 use Rattle.rb_meaning.specs.State.{Outside}
 use Rattle.rb_meaning.specs.Meaning.{Meaning, answers_outside, at_start, outside_of, main_result, meant, runs_main}
-use Rattle.rb_meaning.specs.Shown.{line, shown_ending, shown_events, shown_table}
-use Rattle.rb_base.specs.Devices.{Device, failed}
-use Rattle.rb_base.specs.Sinks.{with_bytes, WrotePrefix}
+use Rattle.rb_meaning.specs.Shown.{shown_events}
+use Rattle.rb_base.specs.Devices.{Device}
 use Rattle.rb_top.specs.Printing.{PrintsUnlessStarved}
 use Rattle.rb_top.specs.Runs.{Served, run_status, run_text}
 use Rattle.rb_top.specs.declared.printing.PrintStop.{PrintStop}
-use Rattle.rb_top.specs.declared.printing.PrintStop.TheVariants.{WriteFault, Memory}
 use Rattle.rb_top.specs.declared.status.Status.{Status}
 
 -- the surroundings of code in which no batch stands

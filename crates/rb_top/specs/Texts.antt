@@ -1,13 +1,10 @@
 -- The texts of programs and services.
-use Rattle.std.specs.Prelude.{◌≡◌, ◌⊎◌, ◌==◌, ℕ, ◌<◌, ◌≤◌, List, Bool, false, Option, None, Some, Ok, Err, length, IsTrue}
-use Rattle.std.specs.List.{list_any}
+use Rattle.std.specs.Prelude.{◌≡◌, ◌⊎◌, ℕ, ◌<◌, ◌≤◌, List, Some, Ok, Err, length, IsTrue}
 use Rattle.rb_trees.specs.declared.refusals.Refusal.{Refusal}
 use Rattle.rb_trees.specs.declared.stores.StoreError.{StoreError}
-use Rattle.rb_trees.specs.declared.tokens.Token.{Token}
 use Rattle.rb_trees.specs.declared.typing.TypeError.{TypeError}
 use Rattle.rb_trees.specs.mirror.Declarations.{Program}
-use Rattle.rb_trees.specs.mirror.Services.{Service}
-use Rattle.rb_meaning_bytes.specs.tokens.Texts.{IsTokens, longest_text}
+use Rattle.rb_meaning_bytes.specs.tokens.Texts.{longest_text}
 use Rattle.rb_meaning_bytes.specs.grammar.Sources.{ReadSource}
 use Rattle.rb_meaning_types.specs.Violations.{Violation, violation_of}
 use Rattle.rb_meaning_types.specs.Batches.{batch_count}

@@ -1,25 +1,28 @@
-// A run of the batch that is all of a program of the first form: its script runs on the host, and the lines and the
-// ending come from the node that it gives.
+// A run of the batch that is all of a program of the first form: its script goes over a link in one exchange, and the
+// lines and the ending come from the node that is the reply.
 
-ghost use Rattle.std.specs.Prelude.{◌≡◌, ◌++◌, IfOk};
+ghost use Rattle.std.specs.Prelude.{◌≡◌, ◌++◌, IfOk, OnOk};
 ghost use Rattle.rb_trees.specs.mirror.Declarations.{mirror_program};
 ghost use Rattle.rb_trees.specs.mirror.Forests.{mirror_entry, mirror_entries, mirror_node};
 ghost use Rattle.rb_trees.specs.declared.values.Value.{out-Value};
+ghost use Rattle.rb_meaning_types.specs.Lawful.{IsLawful};
+ghost use Rattle.rb_top.specs.Exchanged.{ExchangesOnce, LeavesOn, UnlessStarved};
 ghost use Rattle.rb_top.specs.FirstForm.{FirstProgram};
 ghost use Rattle.rb_top.specs.Printing.{Prints, end_text};
-ghost use Rattle.rb_top.specs.Replay.{number_line, entry_line, entry_lines, ending_by, served_of, Leaves, PrintsNode, PrintsBatch};
+ghost use Rattle.rb_top.specs.Replay.{number_line, entry_line, entry_lines, ending_by, served_of, PrintsNode, PrintsBatch};
 ghost use Rattle.rb_top.specs.Scene.{output};
 ghost use Rattle.rb_top.specs.Sources.{text_of, program_of};
 ghost use Rattle.rb_top.specs.Texts.{WithinLength};
 
+use crate::exchange::{ask, node_of, request_of};
 use crate::first_script::first_script;
 use crate::local_run::status_of;
 use crate::printing::{PrintStop, print_end, print_number};
 use crate::source::Source;
 use crate::status::Status;
 use rb_base::Sink;
-use rb_exec::{Host, run_script};
 use rb_heap::Heap;
+use rb_session::MemoryLink;
 use rb_trees::{Ending, Entry, Memory, Node, NodeFault, Program, Value};
 use std::alloc::Global;
 
@@ -109,30 +112,36 @@ fn print_node<W: Sink>(
     }
 }
 
-/// The node that the program's script gives on the host.
-fn perform(alloc: Global, program: &Program, host: &mut Host) -> Result<Node, Memory>
-    requires { FirstProgram (mirror_program program.now) }
-    ensures { IfOk result (λ node. Leaves (mirror_program program.now) (served_of host.old) (mirror_node node) host.new.table) }
+/// The node that the program's script gives on the link's host. The script goes over the link as bytes, and the node
+/// comes back as bytes.
+fn perform(alloc: Global, program: &Program, link: &mut MemoryLink) -> Result<Node, Memory>
+    requires first { FirstProgram (mirror_program program.now) }
+    requires lawful { IsLawful (mirror_program program.now) }
+    ensures leaves { IfOk result (λ node. LeavesOn (mirror_program program.now) link.old (mirror_node node) link.new) }
+    ensures exchanges { OnOk result (ExchangesOnce (mirror_program program.now) link.old link.new) }
 {
     let script = first_script(alloc, program)?;
-    run_script(alloc, host, &script, &[])
+    let request = request_of(alloc, &script)?;
+    let reply = ask(link, request.as_slice())?;
+    node_of(alloc, reply.payload.as_slice())
 }
 
 /// Runs the program's batch on the server, prints what the program means there, and answers how it ended.
 ///
-/// The lines and the ending come from the node that the server gives.
+/// The lines and the ending come from the node that is exchanged for the program's script.
 pub fn run_batch<W: Sink>(
     alloc: Global,
     source: &Source,
-    host: &mut Host,
+    link: &mut MemoryLink,
     out: &mut W,
 ) -> Result<Status, PrintStop>
     requires first { FirstProgram (program_of source.now) }
     requires short { WithinLength (text_of source.now) }
-    ensures { PrintsBatch (text_of source.now) (program_of source.now) (served_of host.old) result (output W.Sink out.old) (output W.Sink out.new) }
+    ensures prints { PrintsBatch (text_of source.now) (program_of source.now) (served_of link.old.host) result (output W.Sink out.old) (output W.Sink out.new) }
+    ensures exchanges { UnlessStarved result (ExchangesOnce (program_of source.now) link.old link.new) }
 {
-    match perform(alloc, source.typed.program(), host) {
-        Ok(node) => print_node(alloc, source, node, host.table(), out),
+    match perform(alloc, source.typed.program(), link) {
+        Ok(node) => print_node(alloc, source, node, link.host().table(), out),
         Err(Memory) => Err(PrintStop::Memory),
     }
 }

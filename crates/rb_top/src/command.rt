@@ -1,11 +1,12 @@
 // The commands, from their words to what they print.
 
-ghost use Rattle.std.specs.Prelude.{◌≡◌, ◌++◌, ℕ, map, Some, IfOk};
+ghost use Rattle.std.specs.Prelude.{◌≡◌, ◌++◌, ℕ, Some, IfOk};
 ghost use Rattle.rb_meaning.specs.Shown.{line};
 ghost use Rattle.rb_top.specs.Answers.{Ends, Says, ChecksTold, RunsTold};
-ghost use Rattle.rb_trees.specs.mirror.Declarations.{mirror_class, mirror_program};
-ghost use Rattle.rb_code.specs.Differ.{ClassesDiffer};
+ghost use Rattle.rb_trees.specs.mirror.Declarations.{mirror_program};
 ghost use Rattle.rb_trees.specs.mirror.Services.{mirror_service};
+ghost use Rattle.rb_meaning.specs.Links.{IsTyped};
+ghost use Rattle.rb_session.specs.MemoryLinks.{new_link};
 ghost use Rattle.rb_top.specs.Commands.{Admits, EndsBatchRefused, EndsRefused, EndsRefusedService, EndsRunOf, EndsUntyped, EndsUnread, LoadsProgram, GoesOnWith, RunsOnWith, run_answer, status_after, stopped_status};
 ghost use Rattle.rb_top.specs.FirstForm.{FirstProgram};
 ghost use Rattle.rb_top.specs.Scene.{output, Across, Between};
@@ -29,6 +30,7 @@ use rb_base::{Files, Sink};
 use rb_exec::Host;
 use rb_heap::Heap;
 use rb_parse::{parse_program, sources_have_one_outcome};
+use rb_session::MemoryLink;
 use rb_store::{read_service, sources_have_one_outcome_as_services};
 use rb_trees::{Memory, ReadError, Refusal, Seq, Service, StoreError, TypeError};
 use rb_types::{Typed, check as check_types};
@@ -222,7 +224,16 @@ fn run_answer(answered: Result<Status, PrintStop>) -> Status
     }
 }
 
-/// Runs a program of the first form on a service with its table.
+/// A link to a server with a service and its table.
+fn link_to(alloc: Global, service: Service, table: Heap) -> Result<MemoryLink, Memory>
+    requires { IsTyped (mirror_service service) table }
+    ensures { IfOk result (λ link. link ≡ new_link (record { service = service; table = table })) }
+{
+    let host = Host::make(alloc, service, table)?;
+    MemoryLink::make(alloc, host)
+}
+
+/// Runs a program of the first form over a link to a server with a service and its table.
 fn run_there<W: Sink>(
     alloc: Global,
     source: &Source,
@@ -231,12 +242,12 @@ fn run_there<W: Sink>(
     out: &mut W,
 ) -> Status
     requires first { FirstProgram (program_of source.now) }
-    requires service { ClassesDiffer (map mirror_class service.classes) }
+    requires typed { IsTyped (mirror_service service) table }
     requires short { WithinLength (text_of source.now) }
     ensures { (fuel : ℕ) → Across W.Sink out.old out.new (EndsRunOf source.now fuel (mirror_service service, table) result) }
 {
-    match Host::make(alloc, service, table) {
-        Ok(mut host) => run_answer(run_batch(alloc, source, &mut host, out)),
+    match link_to(alloc, service, table) {
+        Ok(mut link) => run_answer(run_batch(alloc, source, &mut link, out)),
         Err(Memory) => Status::Memory,
     }
 }
@@ -251,7 +262,7 @@ fn run_program<W: Sink>(
     out: &mut W,
 ) -> Status
     requires built { IsBuilt (program_of source.now) }
-    requires service { ClassesDiffer (map mirror_class service.classes) }
+    requires typed { IsTyped (mirror_service service) table }
     requires short { WithinLength (text_of source.now) }
     ensures { Across W.Sink out.old out.new (EndsRunOf source.now fuel (mirror_service service, table) result) }
 {

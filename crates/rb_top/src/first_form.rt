@@ -1,20 +1,29 @@
 // Whether a program is of the form that is built.
 
-ghost use Rattle.std.specs.Prelude.{◌≡◌, map, Decides};
+ghost use Rattle.std.specs.Prelude.{◌≡◌, ◌+◌, map, Decides};
 ghost use Rattle.std.specs.Option.{option_map};
+ghost use Rattle.rb_trees.specs.CodeSize.{capped};
 ghost use Rattle.rb_trees.specs.mirror.Types.{mirror_type};
 ghost use Rattle.rb_trees.specs.mirror.Code.{mirror_expr, mirror_exprs, mirror_stmt, mirror_stmts};
 ghost use Rattle.rb_trees.specs.mirror.Declarations.{mirror_param, mirror_signature, mirror_interface, mirror_body, mirror_class, mirror_program};
-ghost use Rattle.rb_top.specs.FirstForm.{FirstProgram, is_among, distinct, signature_names};
+ghost use Rattle.rb_meaning.specs.Division.{printed_call};
+ghost use Rattle.rb_top.specs.FirstForm.{FirstProgram, is_among, distinct, signature_names, call_size, prints_size};
 ghost use Rattle.rb_top.specs.FormTests.{is_nil, no_exprs, printed_of, called_of, name_of, batch_of, gives_int, is_plain, plain_signatures, is_declared_on, calls_root, prints_call_of, prints_calls, only_batch, names_agree, has_prints, suits, by_interface, first_form};
 
+use crate::first_script::printed_call_of;
 use rb_trees::{
     Body, Class, Expr, ExprForm, Interface, Param, Program, Signature, Stmt, StmtForm, TypeForm,
     TypeTree,
 };
 
-/// The most prints of a batch, which its fuel allows.
-const MOST_PRINTS: usize = 1_000_000;
+/// The most bytes of the code of a script.
+const MOST_CODE: u64 = 4_194_304;
+
+/// The bytes of the count of a script's steps.
+const COUNT_SIZE: u64 = 4;
+
+/// The bytes of a print's step but for its method's name.
+const PRINT_SIZE: u64 = 24;
 
 /// One more than the greatest length of a name on the wire.
 const TOO_LONG_A_NAME: usize = 4_294_967_296;
@@ -222,12 +231,32 @@ fn names_agree(interface: &Interface, name: &[u8], root: &[u8]) -> bool
     are_distinct(interface.methods.as_slice())
 }
 
-/// Whether the batch has no more prints than its fuel allows, each of such a call.
-#[tactic(auto, using(crate::proofs::Forms::counted))]
+/// How many bytes the step of a print has.
+fn print_size(stmt: &Stmt) -> u64
+    ensures { result ≡ capped (call_size (printed_call (mirror_stmt stmt.now))) }
+{
+    match printed_call_of(stmt) {
+        Some((_, method)) => (method.len() as u64).saturating_add(PRINT_SIZE),
+        None => 0,
+    }
+}
+
+/// How many bytes the code of the script has, or the most of a `u64` where it has more.
+fn code_size(block: &[Stmt]) -> u64
+    ensures { result ≡ capped (4 + prints_size (mirror_stmts block.now)) }
+{
+    let mut total = COUNT_SIZE;
+    for stmt in block {
+        total = total.saturating_add(print_size(stmt));
+    }
+    total
+}
+
+/// Whether the code of the prints isn't too long, and each is of such a call.
 fn has_prints(root: &[u8], signatures: &[Signature], block: &[Stmt]) -> bool
     ensures { result ≡ has_prints root.now (signature_names (map mirror_signature signatures.now)) (mirror_stmts block.now) }
 {
-    if block.len() <= MOST_PRINTS {
+    if code_size(block) <= MOST_CODE {
         prints_calls(root, signatures, block)
     } else {
         false

@@ -5,10 +5,15 @@ ghost use Rattle.std.specs.Option.{option_map};
 ghost use Rattle.rb_trees.specs.mirror.Code.{mirror_stmt, mirror_stmts};
 ghost use Rattle.rb_trees.specs.mirror.Declarations.{mirror_program};
 ghost use Rattle.rb_trees.specs.mirror.Scripts.{mirror_sexpr, mirror_step, mirror_steps, mirror_script};
+ghost use Rattle.rb_meaning_bytes.specs.formats.Fields.{Name, Fits};
+ghost use Rattle.rb_meaning_bytes.specs.formats.FormedScripts.{FormedStep, FormedSteps};
+ghost use Rattle.rb_meaning_types.specs.Lawful.{IsLawful};
 ghost use Rattle.rb_meaning.specs.Division as division;
 ghost use Rattle.rb_meaning.specs.Division.{printed_call, call_on_root, keep_call, steps_of, first_block};
+ghost use Rattle.rb_top.specs.Sendable.{FitNames, IsSendable};
 ghost use Rattle.rb_top.specs.FirstForm.{FirstProgram};
 
+use rb_meaning_bytes::valid_scripts_are_within_limits;
 use rb_trees::{
     Boxed, ExprForm, Memory, Program, SExpr, Script, Seq, Step, StepForm, Stmt, StmtForm, Word,
 };
@@ -19,7 +24,7 @@ const KIND_INT: u8 = 1;
 
 /// A print of a call: the call's position, and the name of the method.
 #[tactic(auto, using(rb_trees::proofs::mirror::Stmts::stmts, rb_trees::proofs::mirror::Exprs::exprs, std::proofs::lemmas::Grind::common_steps))]
-fn printed_call_of(stmt: &Stmt) -> Option<(u32, &Word)>
+pub fn printed_call_of(stmt: &Stmt) -> Option<(u32, &Word)>
     ensures { option_map (λ call. (call.0, call.1.now)) result ≡ printed_call (mirror_stmt stmt.now) }
 {
     match &stmt.form {
@@ -62,7 +67,9 @@ fn call_on_root(alloc: Global, at: u32, method: &Word) -> Result<SExpr, Memory>
 /// The step that keeps what a method of the root gives.
 #[tactic(auto, using(rb_trees::proofs::mirror::Steps::steps, std::proofs::lemmas::Grind::common_steps))]
 fn keep_call(alloc: Global, id: u32, at: u32, method: &Word) -> Result<Step, Memory>
-    ensures { IfOk result (λ s. mirror_step s ≡ keep_call id at method.now) }
+    requires { Fits Name method.now }
+    ensures step { IfOk result (λ s. mirror_step s ≡ keep_call id at method.now) }
+    ensures formed { IfOk result (λ s. FormedStep (mirror_step s)) }
 {
     let call = call_on_root(alloc, at, method)?;
     Ok(Step {
@@ -75,8 +82,10 @@ fn keep_call(alloc: Global, id: u32, at: u32, method: &Word) -> Result<Step, Mem
 /// The steps of a block, numbered from 0.
 #[tactic(auto, using(crate::proofs::Steps::collected))]
 fn steps_of(alloc: Global, block: &[Stmt]) -> Result<Seq<Step>, Memory>
-    requires { length block.now < 2 ^ 32 }
-    ensures { IfOk result (λ steps. mirror_steps steps ≡ steps_of 0 (mirror_stmts block.now)) }
+    requires few { length block.now < 2 ^ 32 }
+    requires names { FitNames (mirror_stmts block.now) }
+    ensures steps { IfOk result (λ steps. mirror_steps steps ≡ steps_of 0 (mirror_stmts block.now)) }
+    ensures formed { IfOk result (λ steps. FormedSteps (mirror_steps steps)) }
 {
     let mut steps = Seq::new(alloc);
     let mut id = 0;
@@ -91,12 +100,14 @@ fn steps_of(alloc: Global, block: &[Stmt]) -> Result<Seq<Step>, Memory>
 
 /// The script of the program's batch, which has no inputs: a step for each print.
 ///
-/// The program is of the form that is built (`FirstProgram`).
-#[tactic(auto, using(crate::proofs::Forms::forms))]
+/// The program is of the form that is built (`FirstProgram`), and lawful. So the script can be sent.
 pub fn first_script(alloc: Global, program: &Program) -> Result<Script, Memory>
-    requires { FirstProgram (mirror_program program.now) }
-    ensures { IfOk result (λ script. mirror_script script ≡ division.first_script (mirror_program program.now)) }
+    requires first { FirstProgram (mirror_program program.now) }
+    requires lawful { IsLawful (mirror_program program.now) }
+    ensures script { IfOk result (λ script. mirror_script script ≡ division.first_script (mirror_program program.now)) }
+    ensures sendable { IfOk result (λ script. IsSendable (mirror_script script)) }
 {
+    valid_scripts_are_within_limits();
     let body = steps_of(alloc, block_of(program))?;
     Ok(Script { inputs: 0, body })
 }

@@ -6,6 +6,7 @@ mod batch_refusals;
 mod batch_run;
 mod command;
 mod console;
+mod exchange;
 mod first_form;
 mod first_script;
 mod fuel;

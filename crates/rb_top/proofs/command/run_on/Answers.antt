@@ -1,8 +1,7 @@
-use Rattle.std.proofs.Common.{refl, sym, subst}
+use Rattle.std.proofs.Common.{sym, subst}
 use Rattle.rb_trees.specs.mirror.Services.{mirror_service}
 use Rattle.rb_top.specs.Loads.{HoldsText}
 use Rattle.rb_top.specs.Sources.{text_of, program_of}
-use Rattle.rb_top.proofs.Differ.{source_classes_differ}
 use Rattle.rb_top.proofs.Said.{service_unread, no_service, run_ended}
 use Rattle.rb_top.proofs.command.run_on.Goals as goal
 
@@ -14,10 +13,6 @@ pub returns-in-Err-read_service : goal.returns-in-Err-read_service
 returns-in-Err-read_service g c =
     no_service (text_of c.args.source.now) c.args.name.now c.as_slice-other.result.now c.args.fuel (program_of c.args.source.now) c.in-Err-read_service.error c.refuse_service.result _ _ c.requires.built
     (subst (HoldsText _ c.args.name.now) (sym c.as_slice-other.ensures) c.in-Ok.ensures.0) c.in-Ok.ensures.1 c.in-Err-read_service.ensures.read c.refuse_service.ensures
-
-pub run_program-requires-clause-service : goal.run_program-requires-clause-service
-run_program-requires-clause-service g c =
-    source_classes_differ c.as_slice-other.result.now _ (mirror_service c.in-Ok-read_service.service, c.in-Ok-read_service.table) c.in-Ok-read_service.ensures.read refl
 
 pub returns : goal.returns
 returns g c =
