@@ -1,0 +1,72 @@
+// The shapes of payloads.
+
+/// The shapes of payloads. Each is a script as long as its bytes let it be.
+#[derive(Clone, Copy)]
+pub enum Shape {
+    /// Many small steps, numbered in order.
+    Steps,
+    /// Many small steps, whose numbers are scattered.
+    Scattered,
+    /// Many steps that bind a variable, each to the one before.
+    Variables,
+    /// Blocks within each other, as many as may be open, and many steps in the innermost one.
+    Blocks,
+    /// A call with many arguments, each of as many expressions within each other as may be.
+    Deep,
+    /// A call with many numbers as arguments.
+    Wide,
+    /// A call with many arguments that are a byte each.
+    Narrow,
+    /// Many steps with texts as long as texts may be.
+    Texts,
+    /// Many small steps, of which the last one has the number of the first.
+    Repeated,
+    /// Many small steps, and a last one with a variable that nothing binds.
+    Unbound,
+    /// Many small steps, of which more are announced than there are.
+    Cut,
+}
+
+/// All shapes.
+pub static SHAPES: [Shape; 11] = [
+    Shape::Steps,
+    Shape::Scattered,
+    Shape::Variables,
+    Shape::Blocks,
+    Shape::Deep,
+    Shape::Wide,
+    Shape::Narrow,
+    Shape::Texts,
+    Shape::Repeated,
+    Shape::Unbound,
+    Shape::Cut,
+];
+
+impl Shape {
+    /// The shape's name.
+    pub fn name(self) -> &'static str {
+        match self {
+            Shape::Steps => "steps",
+            Shape::Scattered => "scattered",
+            Shape::Variables => "variables",
+            Shape::Blocks => "blocks",
+            Shape::Deep => "deep",
+            Shape::Wide => "wide",
+            Shape::Narrow => "narrow",
+            Shape::Texts => "texts",
+            Shape::Repeated => "repeated",
+            Shape::Unbound => "unbound",
+            Shape::Cut => "cut",
+        }
+    }
+}
+
+/// The shape of a name.
+pub fn shape_named(name: &str) -> Option<Shape> {
+    for shape in &SHAPES {
+        if shape.name() == name {
+            return Some(*shape);
+        }
+    }
+    None
+}
