@@ -8,13 +8,13 @@ mod script;
 mod service;
 mod totals;
 
-use hosts::{Trouble, host_of, totals_of};
+use hosts::{host_of, totals_of};
 use std::{env, io};
 
 /// The most files: a list has no more items.
 const MOST_FILES: u32 = 10_000;
 
-/// The most rounds: the fuel of a script isn't used up by them.
+/// The most rounds: more would use up the fuel of a script over the most files.
 const MOST_ROUNDS: u32 = 9;
 
 fn main(rt: HostRuntime) -> io::Result<()> {

@@ -3,23 +3,35 @@
 use rb_trees::{BinOp, Boxed, Memory, SExpr, Script, Seq, Step, StepForm, UnOp, Value};
 use std::alloc::Global;
 
-/// The variables of the script: the row, its size at first, whether it is large, and what it has grown by.
+/// The variable of the row.
 const FILE: u32 = 0;
 
+/// The variable of the file's size at first.
 const SIZE: u32 = 1;
 
+/// The variable that says whether the file was large.
 const LARGE: u32 = 2;
 
+/// The variable of what the file has grown by in the end.
 const GROWN: u32 = 3;
 
-/// The kinds of the results of calls.
+/// The number of the kind of calls that give nothing.
 const UNIT: u8 = 0;
 
+/// The number of the kind of calls that give an Int.
 const INT: u8 = 1;
 
+/// The number of the kind of calls that give a Text.
 const TEXT: u8 = 3;
 
+/// The number of the kind of calls that give rows of objects.
 const ROWS_OF_OBJECTS: u8 = 8;
+
+/// The size above which a file is large.
+const LARGE_SIZE: i64 = 900;
+
+/// How much larger than at first a file may be.
+const ROOM: i64 = 1000;
 
 /// The script of so many rounds of ten steps, with the one input that tells how much a file grows.
 pub fn script_of(alloc: Global, rounds: u32) -> Result<Script, Memory> {
@@ -94,7 +106,7 @@ fn add_growth(alloc: Global, body: &mut Block) -> Result<(), Memory> {
 
 /// Keeps the file's name if it was large, else its size at first.
 fn add_choice(alloc: Global, body: &mut Block) -> Result<(), Memory> {
-    let limit = SExpr::Lit(Value::Int(900));
+    let limit = SExpr::Lit(Value::Int(LARGE_SIZE));
     let large = binary(alloc, BinOp::Gt, SExpr::Var(SIZE), limit)?;
     body.add(bound(LARGE, large))?;
     let named = StepForm::Keep(call_of_file(alloc, TEXT, b"name", None)?);
@@ -105,12 +117,8 @@ fn add_choice(alloc: Global, body: &mut Block) -> Result<(), Memory> {
 
 /// Checks that the file isn't too large, and keeps whether it has grown.
 fn add_checks(alloc: Global, body: &mut Block) -> Result<(), Memory> {
-    let most = binary(
-        alloc,
-        BinOp::Add,
-        SExpr::Var(SIZE),
-        SExpr::Lit(Value::Int(1000)),
-    )?;
+    let room = SExpr::Lit(Value::Int(ROOM));
+    let most = binary(alloc, BinOp::Add, SExpr::Var(SIZE), room)?;
     body.add(StepForm::Do(call_of_file(alloc, UNIT, b"check", Some(most))?))?;
     let wanted = binary(alloc, BinOp::Add, SExpr::Var(SIZE), SExpr::Input(0))?;
     let grown = binary(alloc, BinOp::Eq, size(alloc)?, wanted)?;

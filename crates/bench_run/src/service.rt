@@ -22,18 +22,24 @@ class Dir {
 /// The text of the service whose root has so many files, with names and sizes of their own.
 pub fn service_text(alloc: Global, files: u32) -> Result<String, Memory> {
     let mut text = String::from_str(alloc, CLASSES)?;
-    text.push_str("object 0: Dir { list = [")?;
-    for file in 0..files {
-        let item = if file == 0 { "#" } else { ", #" };
-        text.push_str(item)?;
-        add_number(&mut text, u64::from(file) + 1)?;
-    }
-    text.push_str("]; }\n")?;
+    add_directory(&mut text, files)?;
     for file in 0..files {
         add_file(&mut text, u64::from(file) + 1)?;
     }
     text.push_str("root 0;\n")?;
     Ok(text)
+}
+
+/// Adds the root, whose list has so many files.
+fn add_directory(text: &mut String, files: u32) -> Result<(), Memory> {
+    text.push_str("object 0: Dir { list = [")?;
+    for file in 0..files {
+        let before = if file == 0 { "#" } else { ", #" };
+        let number = u64::from(file) + 1;
+        write!(text, "{before}{number}")?;
+    }
+    text.push_str("]; }\n")?;
+    Ok(())
 }
 
 /// Adds the file of a number.
@@ -43,11 +49,5 @@ fn add_file(text: &mut String, number: u64) -> Result<(), Memory> {
         text,
         "object {number}: File {{ name = \"f{number}\"; size = {size}; }}\n"
     )?;
-    Ok(())
-}
-
-/// Adds a number.
-fn add_number(text: &mut String, number: u64) -> Result<(), Memory> {
-    write!(text, "{number}")?;
     Ok(())
 }

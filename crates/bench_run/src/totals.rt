@@ -4,24 +4,23 @@ use rb_trees::{Entry, Node, Value};
 use std::fmt;
 
 /// The turns and the entries of a node and of those within it, the sum of the Ints among the entries, and the code of the
-/// last fault, or 0.
+/// fault, if any.
 #[derive(Clone, Copy)]
 pub struct Totals {
     turns: u64,
     entries: u64,
     sum: i64,
-    fault: u8,
+    fault: Option<u8>,
 }
 
 impl fmt::Display for Totals {
     fn fmt<W: fmt::Write>(&self, f: &mut fmt::Formatter<W>) -> fmt::Result {
         let (turns, entries, sum) = (self.turns, self.entries, self.sum);
         write!(f, "{turns} turns, {entries} entries, sum {sum}")?;
-        let fault = self.fault;
-        if fault != 0 {
-            write!(f, ", fault {fault}")?;
+        match self.fault {
+            Some(fault) => write!(f, ", fault {fault}"),
+            None => Ok(()),
         }
-        Ok(())
     }
 }
 
@@ -32,7 +31,7 @@ impl Totals {
             turns: 0,
             entries: 0,
             sum: 0,
-            fault: 0,
+            fault: None,
         };
         add_node(node, &mut totals);
         totals
@@ -45,7 +44,7 @@ fn add_node(node: &Node, totals: &mut Totals) {
         add_entry(entry, totals);
     }
     if let Some(fault) = &node.fault {
-        totals.fault = fault.fault.code;
+        totals.fault = Some(fault.fault.code);
     }
 }
 

@@ -4,16 +4,19 @@ use bytes::{BufMut, BytesMut};
 use rb_trees::Memory;
 use rb_wire_fields::puts::put_number;
 
-/// The bytes of a step of each form before its expression.
+/// The bytes of a step that does an expression, before the expression.
 pub const DO: u32 = 9;
 
+/// The bytes of a step that binds a variable, before the value.
 pub const LET: u32 = 14;
 
-/// The bytes of an expression of each form.
+/// The bytes of the root.
 pub const ROOT: u32 = 1;
 
+/// The bytes of a variable.
 pub const VARIABLE: u32 = 5;
 
+/// The bytes of a number as a literal.
 pub const INT: u32 = 10;
 
 /// The version, and no inputs.

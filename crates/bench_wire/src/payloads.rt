@@ -13,9 +13,10 @@ use std::alloc::Global;
 /// The most bytes of a payload.
 const MOST_BYTES: u32 = 16_777_216;
 
-/// The most blocks and the most expressions within each other.
+/// The most blocks within each other.
 const MOST_BLOCKS: u32 = 64;
 
+/// The most expressions within each other.
 const MOST_EXPRS: u32 = 256;
 
 /// The bytes of a count.
