@@ -441,7 +441,7 @@ module _ (side : Side) (x : Context) (known' : Known x.declared) (all : Truth) (
         let ca = closed_ok scope (check_stmts x t.0 a) after t.2 in
         let own_inner = λ (own_side : IsNear side). place_added x scope (record { name = name; kind = u.0; fixed = true }) (own own_side) (turn_own is s.0 u.0 over (own_list own_side)) in
         let ra = stmts_run a gas (with_variable scope name u.0 true) ca.0 own_inner (subst (λ inner. check_stmts x inner a ≡ Ok ca.0) (sym same) ca.1) f.1
-        (λ ts e'. subst (λ inner. AreBatchStmts ts x inner a) (sym same) ((n ts e').0.1 t.0 (loop_is x scope at name e s.0 t.0 s.1 t.1), (n ts e').1.1 t.0 (loop_is x scope at name e s.0 t.0 s.1 t.1)))
+        (λ ts e'. subst (λ inner. AreBatchStmts ts x inner a) (ap (scope_or scope) (loop_is x scope at name e s.0 t.0 s.1 t.1) ∙ sym same) ((n ts e').0.1, (n ts e').1.1))
         (λ bs e' holds. subst (λ inner. AreAmong bs (sites_in x inner a)) (ap (scope_or scope) (loop_is x scope at name e s.0 t.0 s.1 t.1) ∙ sym same) (b' bs e' holds)) in
         adds_none _ ca.2 own (λ l state. then_goes _ (here scope own e l s.0 s.1 f.0 (λ ts e'. ((n ts e').0.0, (n ts e').1.0)) state) (λ v l1 fv state1 g1.
         turns_run side x scope ca.0 at name s.0 u.0 (performs_all bodies gas a) own_list over ra v l1 fv state1))
@@ -455,7 +455,7 @@ module _ (side : Side) (x : Context) (known' : Known x.declared) (all : Truth) (
         let ra = stmts_run a gas scope ca.0 own ca.1 f.0 (λ ts e. ((n ts e).0.0, (n ts e).1.0)) (λ bs e holds. first_among bs (sites_in x scope a) (sites_in x (scope_or scope (catch_scope scope at name)) b) (b' bs e holds)) in
         let own_inner = λ (own_side : IsNear side). place_added x scope (record { name = name; kind = kind.Text; fixed = true }) (own own_side) tt in
         let rb = stmts_run b gas (with_variable scope name kind.Text true) cb.0 own_inner (subst (λ inner. check_stmts x inner b ≡ Ok cb.0) (sym same) cb.1) f.1
-        (λ ts e. subst (λ inner. AreBatchStmts ts x inner b) (sym same) ((n ts e).0.1 u.0 u.1, (n ts e).1.1 u.0 u.1))
+        (λ ts e. subst (λ inner. AreBatchStmts ts x inner b) (ap (scope_or scope) u.1 ∙ sym same) ((n ts e).0.1, (n ts e).1.1))
         (λ bs e holds. subst (λ inner. AreAmong bs (sites_in x inner b)) (ap (scope_or scope) u.1 ∙ sym same) (rest_among bs (sites_in x scope a) (sites_in x (scope_or scope (catch_scope scope at name)) b) (b' bs e holds))) in
         adds_none _ cb.2 own (λ l state. record {
           keeps = keeps_seq x.declared side (Closes x scope (classes_of l.heap)) _ (block (performs_all bodies gas a) l) (handles name (performs_all bodies gas b))
@@ -481,7 +481,7 @@ module _ (side : Side) (x : Context) (known' : Known x.declared) (all : Truth) (
     stmts_run (MoreStmts s ss) gas scope after own h f n b' =
         let t = bind_ok (check_stmt x scope s) _ after h in
         let r = stmt_runs s gas scope t.0 own t.1 f.0 (λ ts e. ((n ts e).0.0, (n ts e).1.0)) (λ bs e holds. first_among bs (sites x scope s) (sites_in x (scope_or scope (check_stmt x scope s)) ss) (b' bs e holds)) in
-        let rs = stmts_run ss gas t.0 after r.own t.2 f.1 (λ ts e. ((n ts e).0.1 t.0 t.1, (n ts e).1.1 t.0 t.1)) (λ bs e holds. subst (λ inner. AreAmong bs (sites_in x inner ss)) (ap (scope_or scope) t.1) (rest_among bs (sites x scope s) (sites_in x (scope_or scope (check_stmt x scope s)) ss) (b' bs e holds))) in
+        let rs = stmts_run ss gas t.0 after r.own t.2 f.1 (λ ts e. subst (λ inner. AreBatchStmts ts x inner ss) (ap (scope_or scope) t.1) ((n ts e).0.1, (n ts e).1.1)) (λ bs e holds. subst (λ inner. AreAmong bs (sites_in x inner ss)) (ap (scope_or scope) t.1) (rest_among bs (sites x scope s) (sites_in x (scope_or scope (check_stmt x scope s)) ss) (b' bs e holds))) in
         record {
           sub = λ cs ns k. r.sub cs ns (rs.sub cs ns k);
           own = rs.own;

@@ -9,6 +9,7 @@ use Rattle.rb_meaning_types.specs.Declared.{Declarations, Context}
 use Rattle.rb_meaning_types.specs.Scopes.{Scope}
 use Rattle.rb_meaning_types.specs.Expressions.{type_of}
 use Rattle.rb_meaning_types.specs.Statements.{placed, loop_scope, catch_scope, check_stmt}
+use Rattle.rb_meaning_types.specs.Notes.{scope_or}
 use Rattle.rb_trees.specs.Outcome.{◌>>=◌}
 
 -- A class of the declarations has this method.
@@ -41,7 +42,7 @@ module _ (x : Context) where
     AreAdmittedExprs scope NoExprs = Unit {0}
     AreAdmittedExprs scope (MoreExprs e es) = IsAdmittedExpr scope e × AreAdmittedExprs scope es
 
-  -- each block in the scope in which it is typed
+  -- each block in the scope in which it is judged
   abbrev mutual
     pub IsAdmittedStmt : Scope → Stmt → Type 0
     IsAdmittedStmt scope (Val at name e) = IsAdmittedExpr scope e
@@ -53,10 +54,10 @@ module _ (x : Context) where
     IsAdmittedStmt scope (If at c a b) = IsAdmittedExpr scope c × AreAdmittedStmts scope a × AreAdmittedStmts scope b
     IsAdmittedStmt scope (While at c a) = IsAdmittedExpr scope c × AreAdmittedStmts scope a
     IsAdmittedStmt scope (For at name e a) = IsAdmittedExpr scope e
-        × ((inner : Scope) → (placed x scope e >>= λ p. loop_scope scope at name p) ≡ Ok inner → AreAdmittedStmts inner a)
-    IsAdmittedStmt scope (Try at a name b) = AreAdmittedStmts scope a × ((inner : Scope) → catch_scope scope at name ≡ Ok inner → AreAdmittedStmts inner b)
+        × AreAdmittedStmts (scope_or scope (placed x scope e >>= λ p. loop_scope scope at name p)) a
+    IsAdmittedStmt scope (Try at a name b) = AreAdmittedStmts scope a × AreAdmittedStmts (scope_or scope (catch_scope scope at name)) b
     IsAdmittedStmt scope (Batch at interface root a) = ⊥
 
     pub AreAdmittedStmts : Scope → Stmts → Type 0
     AreAdmittedStmts scope NoStmts = Unit {0}
-    AreAdmittedStmts scope (MoreStmts s ss) = IsAdmittedStmt scope s × ((after : Scope) → check_stmt x scope s ≡ Ok after → AreAdmittedStmts after ss)
+    AreAdmittedStmts scope (MoreStmts s ss) = IsAdmittedStmt scope s × AreAdmittedStmts (scope_or scope (check_stmt x scope s)) ss

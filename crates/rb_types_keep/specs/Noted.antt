@@ -1,5 +1,5 @@
 -- Code whose expressions have the types that are noted at their positions.
-use Rattle.std.specs.Prelude.{◌≡◌, ℕ, Option, Some, Ok}
+use Rattle.std.specs.Prelude.{◌≡◌, ℕ, Option, Some}
 use Rattle.rb_trees.specs.mirror.Code.{Expr, Exprs, Lit, Name, This, Unary, Binary, Field, Call, Index, New, Items, Taken, NoExprs, MoreExprs, expr_at, Stmt, Stmts, Val, Var, Assign, Run, Print, Throw, If, While, For, Try, Batch, NoStmts, MoreStmts}
 use Rattle.rb_meaning_types.specs.Kinds.{Kind}
 use Rattle.rb_meaning_types.specs.Violations.{Checked}
@@ -7,6 +7,7 @@ use Rattle.rb_meaning_types.specs.Declared.{Context}
 use Rattle.rb_meaning_types.specs.Scopes.{Scope}
 use Rattle.rb_meaning_types.specs.Expressions.{type_of}
 use Rattle.rb_meaning_types.specs.Statements.{placed, loop_scope, catch_scope, batch_scope, check_stmt}
+use Rattle.rb_meaning_types.specs.Notes.{scope_or}
 use Rattle.rb_trees.specs.Outcome.{◌>>=◌}
 
 module _ (types : ℕ → Option (Checked Kind)) (x : Context) where
@@ -33,7 +34,7 @@ module _ (types : ℕ → Option (Checked Kind)) (x : Context) where
     AreNotedExprs scope NoExprs = Unit {0}
     AreNotedExprs scope (MoreExprs e es) = IsNotedExpr scope e × AreNotedExprs scope es
 
-  -- each block in the scope in which it is typed
+  -- each block in the scope in which it is judged
   abbrev mutual
     pub IsNotedStmt : Scope → Stmt → Type 0
     IsNotedStmt scope (Val at name e) = IsNotedExpr scope e
@@ -45,10 +46,10 @@ module _ (types : ℕ → Option (Checked Kind)) (x : Context) where
     IsNotedStmt scope (If at c a b) = IsNotedExpr scope c × AreNotedStmts scope a × AreNotedStmts scope b
     IsNotedStmt scope (While at c a) = IsNotedExpr scope c × AreNotedStmts scope a
     IsNotedStmt scope (For at name e a) = IsNotedExpr scope e
-        × ((inner : Scope) → (placed x scope e >>= λ p. loop_scope scope at name p) ≡ Ok inner → AreNotedStmts inner a)
-    IsNotedStmt scope (Try at a name b) = AreNotedStmts scope a × ((inner : Scope) → catch_scope scope at name ≡ Ok inner → AreNotedStmts inner b)
-    IsNotedStmt scope (Batch at interface root a) = (inner : Scope) → batch_scope x scope at interface root ≡ Ok inner → AreNotedStmts inner a
+        × AreNotedStmts (scope_or scope (placed x scope e >>= λ p. loop_scope scope at name p)) a
+    IsNotedStmt scope (Try at a name b) = AreNotedStmts scope a × AreNotedStmts (scope_or scope (catch_scope scope at name)) b
+    IsNotedStmt scope (Batch at interface root a) = AreNotedStmts (scope_or scope (batch_scope x scope at interface root)) a
 
     pub AreNotedStmts : Scope → Stmts → Type 0
     AreNotedStmts scope NoStmts = Unit {0}
-    AreNotedStmts scope (MoreStmts s ss) = IsNotedStmt scope s × ((after : Scope) → check_stmt x scope s ≡ Ok after → AreNotedStmts after ss)
+    AreNotedStmts scope (MoreStmts s ss) = IsNotedStmt scope s × AreNotedStmts (scope_or scope (check_stmt x scope s)) ss
