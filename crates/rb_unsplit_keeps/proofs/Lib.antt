@@ -1,0 +1,3 @@
+-- The lemmas on admitted programs.
+mod Positions
+mod Notes

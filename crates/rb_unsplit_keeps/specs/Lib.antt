@@ -1,0 +1,2 @@
+-- What admitted programs keep in the unsplit meaning, and the laws of it.
+pub mod Noted
