@@ -1,5 +1,5 @@
 -- Typed expressions and calls keep types.
-use Rattle.std.proofs.Common.{◌≡◌, ◌⊎◌, inl, inr, refl, sym, ap, ◌∙◌, subst, ℕ, zero, suc, List, [], ◌∷◌, length, arith, Bool as Truth, true, false, not, ◌||◌, nat_lt, All, Option, Some, None, Result, Ok, Err}
+use Rattle.std.proofs.Common.{◌≡◌, ◌⊎◌, inl, inr, refl, sym, ap, ◌∙◌, subst, ℕ, zero, suc, List, [], ◌∷◌, length, arith, Bool as Truth, true, false, not, ◌||◌, nat_lt, All, Option, Some, None, is_some, Result, Ok, Err}
 use Rattle.std.proofs.lemmas.List.Elements.{All-nil, All-cons}
 use Rattle.rb_trees.specs.Outcome.{known, must}
 use Rattle.rb_trees.specs.declared.values.Value.{Value}
@@ -127,7 +127,7 @@ rows_bounded P (Value-F.Rows rows) h = tt
 rows_bounded P Value-F.Unit h = absurd h
 rows_bounded P _ h = absurd h
 
-value_bounded : (is : List Interface) (cs : List (List ℕ)) (k : Kind) (v : Value) → Fits is cs k v → IsBounded v
+pub value_bounded : (is : List Interface) (cs : List (List ℕ)) (k : Kind) (v : Value) → Fits is cs k v → IsBounded v
 value_bounded is cs kind.Int v h = int_bounded (out-Value v) h
 value_bounded is cs kind.Bool v h = bool_bounded (out-Value v) h
 value_bounded is cs kind.Text v h = text_bounded (out-Value v) h
@@ -245,7 +245,7 @@ module _ (side : Side) (x : Context) (known' : Known x.declared) (all : Truth) (
       → Runs side x scope scope (OfKind x k) (classes_of l.heap) (called bodies at v (out-Value v) name vs l)
   any_call_runs at name p ts k v vs l (inl d) far may noted state fv fvs =
       let on_it = subst (λ m. Fits is (classes_of l.heap) m v) d.receiver fv in
-      let allowed = by_side side refl d.method may (near_call x.remote d.method d.allowed) (λ types e. (noted types e).1 d.class d.method d.receiver (record { of_class = d.of_class; found = d.found; method = d.there })) in
+      let allowed = by_side side refl d.method may (near_call x.remote d.method d.allowed) (λ types e. (noted types e).1 d.class d.method d.receiver (ap is_some (class_apart x.declared known' d.class d.of_class d.found)) (record { of_class = d.of_class; found = d.found; method = d.there })) in
       called_runs (OfKind x k) (classes_of l.heap) d.class l at name v (out-Value v) vs (of_class is (classes_of l.heap) d.class v (class_apart x.declared known' d.class d.of_class d.found) on_it)
       (subst (λ m. Runs side x scope scope (OfKind x m) (classes_of l.heap) (call bodies at v name vs l)) d.same
       (call_runs l at d.class name d.of_class d.method v vs d.found d.there allowed state on_it (arguments_do x (classes_of l.heap) at d.method.signature.params ts vs d.args_fit fvs)))

@@ -1,5 +1,5 @@
 -- The lemmas on typed code.
-mod Checks
+pub mod Checks
 mod Values
 mod Faults
 mod Results
@@ -14,6 +14,7 @@ mod Bodies
 mod Services
 mod InSurroundings
 mod Served
+mod FarValues
 mod Far
 mod ScriptRuns
 mod NodeSizes

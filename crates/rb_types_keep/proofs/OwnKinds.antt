@@ -101,7 +101,7 @@ receiver_far d kind.Int i e = absurd (cc (e))
 receiver_far d _ i e = absurd (cc (e))
 
 -- its result is one that comes from a remote object
-far_result : (d : Declarations) → Known d → (at : ℕ) (name : List ℕ) (i : Interface) (args : List Placed) (k : Kind) → AllGiveFar d i → interface_call at name i args ≡ Ok k → IsFarKind d.interfaces k
+pub far_result : (d : Declarations) → Known d → (at : ℕ) (name : List ℕ) (i : Interface) (args : List Placed) (k : Kind) → AllGiveFar d i → interface_call at name i args ≡ Ok k → IsFarKind d.interfaces k
 far_result d known' at name i args k all h =
     let s = bind_ok (known (UnknownName at) (signature_named i.methods name)) _ k h in
     let t = then_ok (arguments_fit at (s.0).params args) (Ok (kind_of (s.0).result)) k s.2 in

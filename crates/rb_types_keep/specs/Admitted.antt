@@ -5,7 +5,7 @@ use Rattle.rb_trees.specs.mirror.Code.{Expr, Exprs, Lit, Name, This, Unary, Bina
 use Rattle.rb_trees.specs.mirror.Declarations.{Class, Method}
 use Rattle.rb_meaning_types.specs.Kinds.{Kind, Named, is_primitive}
 use Rattle.rb_meaning_types.specs.Names.{class_named, method_named}
-use Rattle.rb_meaning_types.specs.Declared.{Declarations, Context}
+use Rattle.rb_meaning_types.specs.Declared.{Declarations, Context, is_interface}
 use Rattle.rb_meaning_types.specs.Scopes.{Scope}
 use Rattle.rb_meaning_types.specs.Expressions.{type_of}
 use Rattle.rb_meaning_types.specs.Statements.{placed, loop_scope, catch_scope, check_stmt}
@@ -20,7 +20,7 @@ pub record HasMethod (d : Declarations) (class name : List ℕ) (m : Method) : T
 
 -- a method of the name that isn't remote, where the type is a class's
 abbrev pub CallsNoRemote : Declarations → List ℕ → Kind → Type 0
-CallsNoRemote d name kind = (class : List ℕ) (m : Method) → kind ≡ Named class → HasMethod d class name m → m.remote ≡ false
+CallsNoRemote d name kind = (class : List ℕ) (m : Method) → kind ≡ Named class → is_interface d class ≡ false → HasMethod d class name m → m.remote ≡ false
 
 module _ (x : Context) where
   abbrev mutual

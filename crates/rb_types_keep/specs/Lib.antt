@@ -10,6 +10,7 @@ pub mod Batches
 pub mod Operators
 pub mod Code
 pub mod Around
+pub mod Far
 pub mod Remote
 pub mod Scripts
 pub mod Nodes
