@@ -1,5 +1,5 @@
 -- A batch is the one that is found by its position, where positions differ.
-use Rattle.std.proofs.Common.{◌≡◌, ◌⊎◌, inl, inr, refl, sym, ap, ◌∙◌, subst, arith, ℕ, zero, suc, List, [], ◌∷◌, ◌++◌, Bool, true, false, cond, ◌==◌, Option, Some, None}
+use Rattle.std.proofs.Common.{◌≡◌, ◌⊎◌, inl, inr, refl, sym, ap, ◌∙◌, subst, arith, ℕ, List, [], ◌∷◌, ◌++◌, Bool, true, false, cond, ◌==◌, Option, Some, None}
 use Rattle.std.specs.List.{AllByRecursion, Contains, flat_map}
 use Rattle.std.proofs.lemmas.List.Elements.{Contains-append_cases}
 use Rattle.rb_trees.specs.mirror.Code.{Stmt, Stmts, Val, Var, Assign, Run, Print, Throw, If, While, For, Try, Batch, NoStmts, MoreStmts, expr_at}
@@ -8,6 +8,7 @@ use Rattle.rb_meaning_types.specs.Lawful.{IsLawful, expr_positions, stmt_positio
 use Rattle.rb_meaning_flow.specs.Facts.{Facts, facts_of}
 use Rattle.rb_meaning_flow.specs.Scopes.{Scope, with_variable}
 use Rattle.rb_meaning_flow.specs.Outermost.{Outermost, outer_role, outer_after, parameters, outermost, outermost_in, method_batches, class_batches, program_batches}
+use Rattle.rb_flow.proofs.Members.{contained_cases, none_contained}
 use Rattle.rb_meaning.specs.Unsplit.{batch_within, batch_at}
 use Rattle.rb_unsplit_keeps.proofs.Positions.{same_position, Apart, Differ, differ_from, apart_left, apart_right, differ_left, differ_right, EachApart, differ_apart}
 
@@ -74,8 +75,11 @@ before {bs = bs} {P = P} Q n = record {
 }
 
 only : (b c : Outermost) → Contains (b ∷ []) c → b ≡ c
-only b c (zero, is) = is.1
-only b c (suc k, is) = absurd (omega (arith, is.0))
+only b c is = by (contained_cases b [] c is)
+  where
+    by : (b ≡ c) ⊎ Contains [] c → b ≡ c
+    by (inl e) = e
+    by (inr m) = absurd (none_contained c m)
 
 one : (b : Outermost) (P : List ℕ) → Numbered (b ∷ []) (b.at ∷ P)
 one b P = record {

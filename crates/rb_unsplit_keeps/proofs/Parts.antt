@@ -121,10 +121,10 @@ module _ (x : Context) (scope : Scope) where
   turn_ok p _ item h = absurd (cc (h))
 
   pub record Loops (at : ℕ) (name : List ℕ) (e : Expr) (a : Stmts) (after : Scope) : Type 0 where
-    pub kind : Kind
+    pub list : Kind
     pub item : Kind
-    pub typed : type_of x scope e ≡ Ok kind
-    pub over : (kind ≡ kind.ListOf item) ⊎ (kind ≡ kind.RowsOf item)
+    pub typed : type_of x scope e ≡ Ok list
+    pub over : (list ≡ kind.ListOf item) ⊎ (list ≡ kind.RowsOf item)
     pub free : is_free scope name ≡ true
     pub judged : (placed x scope e >>= λ p. loop_scope scope at name p) ≡ Ok (with_variable scope name item true)
     pub last : Scope
@@ -141,7 +141,7 @@ module _ (x : Context) (scope : Scope) where
       let inner : with_variable scope name u.0 true ≡ t.0 = cc (u.2) in
       let ca = closed_ok scope (check_stmts x t.0 a) after t.2 in
       record {
-        kind = s.0;
+        list = s.0;
         item = u.0;
         typed = s.1;
         over = turn_ok p s.0 u.0 w.1;
