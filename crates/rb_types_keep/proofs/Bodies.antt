@@ -154,7 +154,7 @@ far_calls : (types : ℕ → Option (Checked Kind)) (x : Context) → MayCall (I
 far_calls types x near remote = absurd near
 
 module _ (d : Declarations) (typed : AreTyped d) (batches : List Site) (asks : MethodsAsk batches d) (p : Place) (gas : ℕ) where
-  own_stmts : IsOwnPlace (context d p) p.scope → (ss : Stmts) (after : Scope) → LeadTo d p ss after → AllAsk d batches p ss → Adds (Own batches) (context d p) p.scope after (performs_all (bodies d gas) gas ss)
+  pub own_stmts : IsOwnPlace (context d p) p.scope → (ss : Stmts) (after : Scope) → LeadTo d p ss after → AllAsk d batches p ss → Adds (Own batches) (context d p) p.scope after (performs_all (bodies d gas) gas ss)
   own_stmts own ss after t b =
       stmts_run (Own batches) (context d p) (typed_known d typed) true (body_within d.classes gas) (own_bodies d typed batches asks gas) (own_calls batches (context d p)) ss gas p.scope after (λ near. own) t.0 t.1
       (λ ts e. absurd (subst IsFar (sym e) tt)) (λ ks e. known_by (λ q. MayHold (context d p) → AreAmong q (sites_in (context d p) p.scope ss)) b ks e)
@@ -181,7 +181,7 @@ types_keep d typed batches asks = record {
 noted_in : {types : ℕ → Option (Checked Kind)} (P : (ℕ → Option (Checked Kind)) → Type 0) → P types → (ts : ℕ → Option (Checked Kind)) → InBatch types ≡ InBatch ts → P ts
 noted_in P h ts e = subst (λ side. ByTypes P side) e h
 
-far_stmts : (d : Declarations) (typed : AreTyped d) (types : ℕ → Option (Checked Kind)) (p : Place) (gas : ℕ) (ss : Stmts) (after : Scope) → LeadTo d p ss after → AreBatchStmts types (context d p) p.scope ss
+pub far_stmts : (d : Declarations) (typed : AreTyped d) (types : ℕ → Option (Checked Kind)) (p : Place) (gas : ℕ) (ss : Stmts) (after : Scope) → LeadTo d p ss after → AreBatchStmts types (context d p) p.scope ss
     → Adds (InBatch types) (context d p) p.scope after (performs_all (bodies d gas) gas ss)
 far_stmts d typed types p gas ss after t n =
     stmts_run (InBatch types) (context d p) (typed_known d typed) false (body_within d.classes gas) (far_bodies d typed types gas) (far_calls types (context d p)) ss gas p.scope after (λ near. absurd near) t.0 t.1

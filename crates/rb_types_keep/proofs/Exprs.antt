@@ -54,7 +54,7 @@ NotedExprs side x scope es = (types : ℕ → Option (Checked Kind)) → side �
 from_nothing : (cs : List (List ℕ)) → Grown [] cs
 from_nothing cs object class e = absurd (cc (e))
 
-literal_fits : (is : List Interface) (cs : List (List ℕ)) (v : Value) (w : Value-F Value) → out-Value v ≡ w → IsPrimitiveForm w → Fits is cs (literal_form w) v
+pub literal_fits : (is : List Interface) (cs : List (List ℕ)) (v : Value) (w : Value-F Value) → out-Value v ≡ w → IsPrimitiveForm w → Fits is cs (literal_form w) v
 literal_fits is cs v (Value-F.Int n) e h = subst IsIntValue (sym e) h
 literal_fits is cs v (Value-F.Bool b) e h = subst IsBoolValue (sym e) h
 literal_fits is cs v (Value-F.Text t) e h = subst IsTextValue (sym e) h

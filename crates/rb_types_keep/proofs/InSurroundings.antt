@@ -10,7 +10,7 @@ use Rattle.rb_types_keep.specs.Around.{HandlerFits, SurroundingsFit, EndsHandled
 use Rattle.rb_types_keep.proofs.Bodies.{types_keep, batches_keep}
 use Rattle.rb_types_keep.proofs.Services.{so}
 
-handled : {S A : Type 0} (d : Declarations) (side : Side) (Holds : S → Type 0) (h : Handler S) → HandlerFits d side Holds h → (P : A → Type 0) (run : Dialogue A) → Keeps d side P run → EndsHandled Holds h A P run
+pub handled : {S A : Type 0} (d : Declarations) (side : Side) (Holds : S → Type 0) (h : Handler S) → HandlerFits d side Holds h → (P : A → Type 0) (run : Dialogue A) → Keeps d side P run → EndsHandled Holds h A P run
 handled d side Holds h fits P (Done a) k s holds = (k, holds)
 handled d side Holds h fits P (Ask q go) k s holds =
     handled d side Holds h fits P (go (h.answer s q).0) (k.1 (h.answer s q).0 (fits.answers s q holds k.0)) (h.answer s q).1 (fits.answered s q holds k.0)

@@ -85,7 +85,7 @@ abbrev pub Closes : Context → Scope → List (List ℕ) → Outcome (Unit {0})
 Closes x scope cs (Gave u l1) = Left x scope cs l1
 Closes x scope cs (Faulted r l1) = FaultFits r × Left x scope cs l1
 
-left_taken : (x : Context) (scope : Scope) (cs : List (List ℕ)) (n : ℕ) (l1 : Local) → length (frame_scope x.this scope) ≡ n → LocalHolds x scope l1 → Grown cs (classes_of l1.heap) → Left x scope cs (closed n l1)
+pub left_taken : (x : Context) (scope : Scope) (cs : List (List ℕ)) (n : ℕ) (l1 : Local) → length (frame_scope x.this scope) ≡ n → LocalHolds x scope l1 → Grown cs (classes_of l1.heap) → Left x scope cs (closed n l1)
 left_taken x scope cs n l1 e h g =
     record {
       state = record {

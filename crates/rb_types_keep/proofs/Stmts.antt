@@ -146,10 +146,10 @@ blocked run h l state = block_runs run state h.sub (h.runs l state)
 
 -- a new name
 
-within_added : (x : Context) (scope : Scope) (name : List ℕ) (k : Kind) (fixed : Truth) → Within x scope (with_variable scope name k fixed)
+pub within_added : (x : Context) (scope : Scope) (name : List ℕ) (k : Kind) (fixed : Truth) → Within x scope (with_variable scope name k fixed)
 within_added x scope name k fixed cs ns h = names_less x.declared.interfaces cs x.this scope (record { name = name; kind = k; fixed = fixed } ∷ []) ns h
 
-binds : (x : Context) (scope : Scope) (l : Local) (name : List ℕ) (k : Kind) (fixed : Truth) (v : Value) → LocalFits x scope l → Fits x.declared.interfaces (classes_of l.heap) k v → LocalFits x (with_variable scope name k fixed) (bound name v l)
+pub binds : (x : Context) (scope : Scope) (l : Local) (name : List ℕ) (k : Kind) (fixed : Truth) (v : Value) → LocalFits x scope l → Fits x.declared.interfaces (classes_of l.heap) k v → LocalFits x (with_variable scope name k fixed) (bound name v l)
 binds x scope l name k fixed v state fits = record {
   holds = record {
     names_fit = names_added x.declared.interfaces (classes_of l.heap) x.this scope l.names (record { name = name; kind = k; fixed = fixed }) v state.count state.holds.names_fit fits;

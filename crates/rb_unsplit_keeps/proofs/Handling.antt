@@ -1,5 +1,6 @@
 -- What the code of a batch is answered fits, and the table keeps fitting.
-use Rattle.std.proofs.Common.{◌≡◌, ◌≤◌, refl, sym, ap, ◌∙◌, subst, arith, inl, inr, ℕ, zero, suc, ◌-◌, List, [], length, All, Option, Some, None, Result, Ok, Err}
+use Rattle.std.proofs.Common.{◌≡◌, ◌≤◌, refl, sym, ap, ◌∙◌, subst, arith, inl, inr, ℕ, zero, suc, ◌-◌, List, [], length, Bool as Truth, true, false, nat_lt, All, Option, Some, None, Result, Ok, Err}
+use Rattle.std.proofs.lemmas.Bool.{ltb-true, ltb-false}
 use Rattle.rb_trees.specs.declared.values.Value.{Value}
 use Rattle.rb_trees.specs.declared.values.Value.TheOpen.{Value-F}
 use Rattle.rb_trees.specs.declared.values.Value.TheVariants as value
@@ -30,7 +31,7 @@ use Rattle.rb_types_keep.specs.Asked.{Side, Own, InBatch, IsFarCall, IsAsked, Is
 use Rattle.rb_types_keep.specs.Around.{HandlerFits}
 use Rattle.rb_types_keep.specs.Remote.{IsOfKind, IsFault, IsCallFault, ReplyKeeps, CallsKeep}
 use Rattle.rb_types_keep.proofs.Faults.{plain_own}
-use Rattle.rb_unsplit_keeps.proofs.Kinds.{kind_fits}
+use Rattle.rb_unsplit_keeps.proofs.OfKinds.{kind_fits}
 
 -- a fault of a call on a remote object isn't Kind
 remote_there : (w : Value-F Value) → IsRemoteValue w → remote_object w ≡ None → ⊥
@@ -47,10 +48,11 @@ call_fault at w place f remote h = record {
 }
   where
     at_most : (n : ℕ) → n ≤ 12 → (n ≡ 12 → ⊥) → n ≤ 11
-    at_most n h k = by_cases n h k
-
-    by_cases : (n : ℕ) → n ≤ 12 → (n ≡ 12 → ⊥) → n ≤ 11
-    by_cases n h k = omega (arith, h, k)
+    at_most n h k = by (nat_lt 11 n) refl
+      where
+        by : (t : Truth) → nat_lt 11 n ≡ t → n ≤ 11
+        by true e = absurd (k (omega (arith, h, ltb-true 11 n e)))
+        by false e = ltb-false 11 n e
 
 -- what a reply gives is so, and the table that it leaves fits
 abbrev pub Fine : {A : Type 0} → Service → (A → Type 0) → Reply A → Type 0

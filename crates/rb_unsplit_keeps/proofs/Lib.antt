@@ -8,3 +8,11 @@ mod TypeFacts
 mod Standing
 mod Programs
 mod Admission
+mod OfKinds
+mod Handling
+mod Whole
+mod Conditions
+mod Carried
+mod Walking
+mod Walked
+mod Admitted

@@ -62,7 +62,7 @@ item_fits is (type.ListOf item) n v far h = absurd far
 item_fits is (type.RowsOf row) n v far h = absurd far
 
 rows_fit : (is : List Interface) (k : type.Kind) (n : ℕ) (w : Value-F Value) → IsFarItem is k → AreRowsForm n (item_of k) w → AreRows (Fits is [] k) w
-rows_fit is k n (Value-F.Rows rows) far h = All-weaker (λ v. IsItemForm n (item_of k) (out-Value v)) (Fits is [] k) rows (λ v m. item_fits is k n v far m) h.1
+rows_fit is k n (Value-F.Rows rows) far h = All-weaker (λ v. IsItemForm n (item_of k) (out-Value v)) (Fits is [] k) (λ v m. item_fits is k n v far m) rows h.1
 rows_fit is k n Value-F.Unit far h = absurd h
 rows_fit is k n _ far h = absurd h
 
