@@ -1,5 +1,4 @@
 -- What goes to remote objects and comes from them.
-use Rattle.std.proofs.Common.{◌≡◌}
 use Rattle.rb_types_keep.specs.Far.{FittingAreBounded, RemoteCallsGiveFar}
 use Rattle.rb_types_keep.proofs.Known.{AllGiveFar, typed_known, found_one}
 use Rattle.rb_types_keep.proofs.OwnKinds.{far_result}

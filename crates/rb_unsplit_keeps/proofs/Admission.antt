@@ -1,30 +1,28 @@
 -- The code of a batch without refusals is admitted.
-use Rattle.std.proofs.Common.{◌≡◌, ◌⊎◌, inl, inr, refl, sym, ap, ◌∙◌, subst, ℕ, List, [], ◌∷◌, ◌++◌, Bool as Truth, true, false, not, ◌&&◌, ◌||◌, Option, Some, None, Ok}
+use Rattle.std.proofs.Common.{◌≡◌, ◌⊎◌, inl, inr, refl, sym, ap, ◌∙◌, subst, ℕ, List, [], ◌∷◌, ◌++◌, Bool as Truth, true, false, not, ◌&&◌, ◌||◌, Option, Some, Ok}
 use Rattle.std.specs.List.{Contains}
 use Rattle.std.proofs.lemmas.List.Elements.{Contains-append_left, Contains-append_right}
 use Rattle.rb_trees.specs.Outcome.{◌>>=◌}
 use Rattle.rb_trees.specs.declared.refusals.Refusal.{Refusal}
 use Rattle.rb_trees.specs.declared.refusals.Refusal.TheVariants as refusal
 use Rattle.rb_trees.specs.mirror.Code.{Expr, Exprs, Lit, Name, This, Unary, Binary, Field, Call, Index, New, Items, Taken, NoExprs, MoreExprs, expr_at, Stmt, Stmts, Val, Var, Assign, Run, Print, Throw, If, While, For, Try, Batch, NoStmts, MoreStmts}
-use Rattle.rb_trees.specs.mirror.Declarations.{Method, Class, Program}
+use Rattle.rb_trees.specs.mirror.Declarations.{Program}
 use Rattle.rb_meaning_types.specs.Kinds as kind
 use Rattle.rb_meaning_types.specs.Kinds.{Kind, is_primitive}
-use Rattle.rb_meaning_types.specs.Names.{class_named}
 use Rattle.rb_meaning_types.specs.Violations.{Checked}
-use Rattle.rb_meaning_types.specs.Declared.{Declarations, Context, of_program, is_interface}
+use Rattle.rb_meaning_types.specs.Declared.{Declarations, Context, of_program}
 use Rattle.rb_meaning_types.specs.Scopes as typed
-use Rattle.rb_meaning_types.specs.Expressions.{type_of}
 use Rattle.rb_meaning_types.specs.Statements.{placed, is_printable, loop_scope, catch_scope, check_stmt, check_stmts}
 use Rattle.rb_meaning_types.specs.Notes.{scope_or, type_at}
 use Rattle.rb_meaning_flow.specs.declared.scopes.Role.{Role}
 use Rattle.rb_meaning_flow.specs.Facts.{Facts, facts_of, is_object, is_rows, has_remote_method, class_has_remote, is_remote_method}
 use Rattle.rb_meaning_flow.specs.Scopes.{Scope, with_variable}
-use Rattle.rb_meaning_flow.specs.Sites.{Around, Branch, WhileTurn, Turn, InTry, StmtSite, Over, ExprSite, site, under, right_under, expr_sites, exprs_sites, own, all_sites, turn_role, scope_after, stmt_site, sites, block_sites, exprs_of}
-use Rattle.rb_meaning_flow.specs.Refusals.{has_remote_type, calls_remote_method, escapes, IsRefusal}
+use Rattle.rb_meaning_flow.specs.Sites.{Around, Branch, WhileTurn, Turn, InTry, StmtSite, Over, site, under, right_under, expr_sites, exprs_sites, own, all_sites, turn_role, scope_after, stmt_site, sites, block_sites, exprs_of}
+use Rattle.rb_meaning_flow.specs.Refusals.{has_remote_type, calls_remote_method, IsRefusal}
 use Rattle.rb_flow.proofs.Members.{first_contained, more_contained, contained_cases, none_contained}
 use Rattle.rb_types_keep.specs.Noted.{IsNotedExpr, AreNotedExprs, IsNotedStmt, AreNotedStmts}
-use Rattle.rb_types_keep.specs.Admitted.{HasMethod, CallsNoRemote, IsAdmittedExpr, AreAdmittedExprs, IsAdmittedStmt, AreAdmittedStmts}
-use Rattle.rb_unsplit_keeps.proofs.Parts.{val_parts, var_parts, assign_parts, run_parts, print_parts, throw_parts, if_parts, while_parts, for_parts, try_parts, stmts_parts}
+use Rattle.rb_types_keep.specs.Admitted.{CallsNoRemote, IsAdmittedExpr, AreAdmittedExprs, IsAdmittedStmt, AreAdmittedStmts}
+use Rattle.rb_unsplit_keeps.proofs.Parts.{print_parts, if_parts, while_parts, for_parts, try_parts, stmts_parts}
 use Rattle.rb_unsplit_keeps.proofs.Standing.{Within, within_left, within_right}
 use Rattle.rb_unsplit_keeps.proofs.TypeFacts.{kind_here, object_fact, rows_fact, method_fact}
 
@@ -102,20 +100,18 @@ module _ (p : Program) (x : Context) (same : x.declared ≡ of_program p) (ss : 
     expr_admitted s above ws (This at) w n = tt
     expr_admitted s above ws (Unary at op a) w n = expr_admitted s (under (Unary at op a) above) ws a (within_tail _ _ _ w) n.1
     expr_admitted s above ws (Binary at op a b) w n =
-        let t = within_tail _ _ _ w in
-        (
+        let t = within_tail _ _ _ w in (
           expr_admitted s (under (Binary at op a b) above) ws a (within_left _ (expr_sites s (right_under (Binary at op a b) above) b) _ t) n.1,
           expr_admitted s (right_under (Binary at op a b) above) ws b (within_right (expr_sites s (under (Binary at op a b) above) a) _ _ t) n.2,
         )
     expr_admitted s above ws (Field at a name) w n = expr_admitted s (under (Field at a name) above) ws a (within_tail _ _ _ w) n.1
     expr_admitted s above ws (Call at a method args) w n =
         let t = within_tail _ _ _ w in
-        let o = under (Call at a method args) above in
-        (
+        let o = under (Call at a method args) above in (
           expr_admitted s o ws a (within_left _ (exprs_sites s o args) _ t) n.1,
           exprs_admitted s o ws args (within_right (expr_sites s o a) _ _ t) n.2,
           λ k typed. subst (λ e. CallsNoRemote e method k) (sym same)
-          (calls_none s above at a method args k (w (site s above (Call at a method args)) (site_first s above (Call at a method args))) (kind_here types x ws a k n.1 typed)),
+              (calls_none s above at a method args k (w (site s above (Call at a method args)) (site_first s above (Call at a method args))) (kind_here types x ws a k n.1 typed)),
         )
     expr_admitted s above ws (Index at a b) w n =
         let t = within_tail _ _ _ w in
@@ -177,8 +173,7 @@ module _ (p : Program) (x : Context) (same : x.declared ≡ of_program p) (ss : 
     stmt_admitted around vs ws after (If at c a b) t n w =
         let h = if_parts x ws at c a b after t in
         let inner = Branch at vs c a b ∷ around in
-        let rest = within_tail _ _ _ w in
-        (
+        let rest = within_tail _ _ _ w in (
           one_admitted around vs ws (If at c a b) c [] refl w n.0,
           block_admitted inner vs ws h.first a h.first_typed n.1 (within_left (block_sites f inner vs a) (block_sites f inner vs b) _ rest),
           block_admitted inner vs ws h.second b h.second_typed n.2 (within_right (block_sites f inner vs a) (block_sites f inner vs b) _ rest),
@@ -189,11 +184,10 @@ module _ (p : Program) (x : Context) (same : x.declared ≡ of_program p) (ss : 
     stmt_admitted around vs ws after (For at name e a) t n w =
         let h = for_parts x ws at name e a after t in
         let inner = typed.with_variable ws name h.item true in
-        let is : scope_or ws (placed x ws e >>= λ q. loop_scope ws at name q) ≡ inner = ap (scope_or ws) h.judged in
-        (
+        let is : scope_or ws (placed x ws e >>= λ q. loop_scope ws at name q) ≡ inner = ap (scope_or ws) h.judged in (
           one_admitted around vs ws (For at name e a) e [] refl w n.0,
           subst (λ i. AreAdmittedStmts x i a) (sym is)
-          (block_admitted (Turn at vs e ∷ around) (with_variable vs name (turn_role f e) at) inner h.last a h.block_typed (subst (λ i. AreNotedStmts types x i a) is n.1) (within_tail _ _ _ w)),
+              (block_admitted (Turn at vs e ∷ around) (with_variable vs name (turn_role f e) at) inner h.last a h.block_typed (subst (λ i. AreNotedStmts types x i a) is n.1) (within_tail _ _ _ w)),
         )
     stmt_admitted around vs ws after (Try at a name b) t n w =
         let h = try_parts x ws at a name b after t in
@@ -201,11 +195,10 @@ module _ (p : Program) (x : Context) (same : x.declared ≡ of_program p) (ss : 
         let is : scope_or ws (catch_scope ws at name) ≡ inner = ap (scope_or ws) h.judged in
         let frame = InTry at vs a name b ∷ around in
         let caught = with_variable vs name Role.Plain at in
-        let rest = within_tail _ _ _ w in
-        (
+        let rest = within_tail _ _ _ w in (
           block_admitted frame vs ws h.first a h.first_typed n.0 (within_left (block_sites f frame vs a) (block_sites f frame caught b) _ rest),
           subst (λ i. AreAdmittedStmts x i b) (sym is)
-          (block_admitted frame caught inner h.second b h.second_typed (subst (λ i. AreNotedStmts types x i b) is n.1) (within_right (block_sites f frame vs a) (block_sites f frame caught b) _ rest)),
+              (block_admitted frame caught inner h.second b h.second_typed (subst (λ i. AreNotedStmts types x i b) is n.1) (within_right (block_sites f frame vs a) (block_sites f frame caught b) _ rest)),
         )
     stmt_admitted around vs ws after (Batch at interface root a) t n w =
         let s = stmt_site around vs (Batch at interface root a) in
@@ -215,10 +208,9 @@ module _ (p : Program) (x : Context) (same : x.declared ≡ of_program p) (ss : 
     block_admitted around vs ws after NoStmts t n w = tt
     block_admitted around vs ws after (MoreStmts s rest) t n w =
         let h = stmts_parts x ws s rest after t in
-        let is : scope_or ws (check_stmt x ws s) ≡ h.middle = ap (scope_or ws) h.typed in
-        (
+        let is : scope_or ws (check_stmt x ws s) ≡ h.middle = ap (scope_or ws) h.typed in (
           stmt_admitted around vs ws h.middle s h.typed n.0 (within_left (sites f around vs s) (block_sites f around (scope_after f around vs s) rest) _ w),
           subst (λ i. AreAdmittedStmts x i rest) (sym is)
-          (block_admitted around (scope_after f around vs s) h.middle after rest h.rest (subst (λ i. AreNotedStmts types x i rest) is n.1)
-          (within_right (sites f around vs s) (block_sites f around (scope_after f around vs s) rest) _ w)),
+              (block_admitted around (scope_after f around vs s) h.middle after rest h.rest (subst (λ i. AreNotedStmts types x i rest) is n.1)
+              (within_right (sites f around vs s) (block_sites f around (scope_after f around vs s) rest) _ w)),
         )

@@ -1,22 +1,17 @@
 -- The law of admitted programs.
-use Rattle.std.proofs.Common.{◌≡◌, refl, sym, ap, ◌∙◌, subst, ℕ, List, [], ◌∷◌, true}
+use Rattle.std.proofs.Common.{refl, List, [], true}
 use Rattle.rb_trees.specs.declared.services.Object.{Object}
-use Rattle.rb_trees.specs.declared.refusals.Refusal.{Refusal}
 use Rattle.rb_trees.specs.mirror.Declarations.{Program}
 use Rattle.rb_trees.specs.mirror.Services.{Service}
 use Rattle.rb_meaning_types.specs.Kinds as kind
 use Rattle.rb_meaning_types.specs.Scopes as typed
 use Rattle.rb_meaning_types.specs.Lawful.{IsLawful}
 use Rattle.rb_meaning_types.specs.Fits.{classes_of, TableFits}
-use Rattle.rb_meaning_code.specs.State.{Local}
 use Rattle.rb_meaning_flow.specs.declared.scopes.Role.{Role}
-use Rattle.rb_meaning_flow.specs.Facts.{Facts, facts_of}
+use Rattle.rb_meaning_flow.specs.Facts.{facts_of}
 use Rattle.rb_meaning_flow.specs.Scopes as flow
 use Rattle.rb_meaning_flow.specs.Scopes.{assigned_in, opened}
-use Rattle.rb_meaning_flow.specs.Sites.{StmtSite}
-use Rattle.rb_meaning_flow.specs.Refusals.{IsRefusal}
-use Rattle.rb_meaning_flow.specs.Outermost.{Outermost, batch_sites, program_batches}
-use Rattle.rb_meaning.specs.State.{Outside}
+use Rattle.rb_meaning_flow.specs.Outermost.{batch_sites, program_batches}
 use Rattle.rb_meaning.specs.RemotePart.{Walked, ended, remote_only}
 use Rattle.rb_meaning.specs.Unsplit.{server_after}
 use Rattle.rb_meaning.specs.Links.{IsTyped}
@@ -44,7 +39,7 @@ table_fine service (Got u s) h = h.1
 table_fine service (Stopped at f s) h = h.1
 
 module _ (laws : Laws) (conditions : ConditionsHold) (exprs_formed : LawfulExprsAreFormed) (stmts_formed : LawfulStmtsAreFormed) (classes_formed : LawfulClassesAreFormed) (types_keep : TypesKeep) (sends : AdmittedSendPortable)
-  (p : Program) (lawful : IsLawful p) (t : IsTypedProgram p) (none : HasNoRefusal p) (service : Service) (first : List Object) (served : IsTyped service first) where
+    (p : Program) (lawful : IsLawful p) (t : IsTypedProgram p) (none : HasNoRefusal p) (service : Service) (first : List Object) (served : IsTyped service first) where
   whole_fits : AllWhole laws.calls exprs_formed stmts_formed classes_formed types_keep p lawful t none service first served
   whole_fits o interface place known agree among start s h fits last block_typed noted is_interface =
       let f = facts_of p in

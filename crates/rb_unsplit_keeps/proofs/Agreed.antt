@@ -1,16 +1,13 @@
 -- The scopes of the judgement and of admission go together: the same names in order, and a variable that is portable has a
 -- type that may come from a remote object.
-use Rattle.std.proofs.Common.{◌≡◌, refl, sym, ap, ◌∙◌, subst, ℕ, List, [], ◌∷◌, ◌++◌, map, Bool as Truth, true, false, not, ◌&&◌, cond, Option, Some, None, Ok}
-use Rattle.std.specs.Str.{bytes_eq}
-use Rattle.rb_trees.specs.Named.{first_named}
+use Rattle.std.proofs.Common.{◌≡◌, refl, ℕ, List, [], ◌∷◌, Bool as Truth, true, false, not, ◌&&◌, cond}
 use Rattle.rb_trees.specs.mirror.Declarations.{Param, Interface}
 use Rattle.rb_meaning_types.specs.Kinds as kind
 use Rattle.rb_meaning_types.specs.Kinds.{Kind, kind_of, is_primitive}
 use Rattle.rb_meaning_types.specs.Names.{is_new}
 use Rattle.rb_meaning_types.specs.Scopes as typed
 use Rattle.rb_meaning_flow.specs.declared.scopes.Role.{Role}
-use Rattle.rb_meaning_flow.specs.declared.scopes.Variable.{Variable}
-use Rattle.rb_meaning_flow.specs.Scopes.{Scope, variable_named, with_variable, role_in, role_of, is_constant_role, is_portable_role, role_with, variable_with, scope_with}
+use Rattle.rb_meaning_flow.specs.Scopes.{Scope, with_variable, is_constant_role, is_portable_role, role_with, scope_with}
 use Rattle.rb_meaning_flow.specs.Outermost.{outer_role, parameters}
 use Rattle.rb_types_keep.specs.Own.{IsFarKind}
 
@@ -58,29 +55,3 @@ outer_far is k h = by (is_primitive k) refl h
 pub agree_parameters : (is : List Interface) (ps : List Param) → Agree is (parameters ps) (typed.parameters ps)
 agree_parameters is [] = tt
 agree_parameters is (p ∷ ps) = (refl, outer_far is (kind_of p.kind), agree_parameters is ps)
-
--- a portable variable's type
-pub portable_far : (is : List Interface) (vs : Scope) (ws : typed.Scope) (name : List ℕ) (w : typed.Variable) → Agree is vs ws → is_portable_role (role_of vs name) ≡ true → typed.variable_named ws name ≡ Some w → IsFarKind is w.kind
-portable_far is [] [] name w h p e = absurd (cc (p))
-portable_far is [] (u ∷ ws) name w h p e = absurd h
-portable_far is (v ∷ vs) [] name w h p e = absurd h
-portable_far is (v ∷ vs) (u ∷ ws) name w h p e =
-    by (bytes_eq v.name name) p (subst (λ n. cond (bytes_eq n name) (Some u) (typed.variable_named ws name) ≡ Some w) (sym h.0) e) (portable_far is vs ws name w h.2)
-  where
-    by : (t : Truth) → is_portable_role (role_in (cond t (Some v) (variable_named vs name))) ≡ true → cond t (Some u) (typed.variable_named ws name) ≡ Some w
-        → (is_portable_role (role_of vs name) ≡ true → typed.variable_named ws name ≡ Some w → IsFarKind is w.kind) → IsFarKind is w.kind
-    by true p' e' rest = let same : u ≡ w = cc (e') in subst (λ y. IsFarKind is y.kind) same (h.1 p')
-    by false p' e' rest = rest p' e'
-
--- a name that is portable is in scope
-pub portable_named : (is : List Interface) (vs : Scope) (ws : typed.Scope) (name : List ℕ) → Agree is vs ws → is_portable_role (role_of vs name) ≡ true → typed.variable_named ws name ≡ None → ⊥
-portable_named is [] [] name h p e = absurd (cc (p))
-portable_named is [] (u ∷ ws) name h p e = absurd h
-portable_named is (v ∷ vs) [] name h p e = absurd h
-portable_named is (v ∷ vs) (u ∷ ws) name h p e =
-    by (bytes_eq v.name name) p (subst (λ n. cond (bytes_eq n name) (Some u) (typed.variable_named ws name) ≡ None) (sym h.0) e) (portable_named is vs ws name h.2)
-  where
-    by : (t : Truth) → is_portable_role (role_in (cond t (Some v) (variable_named vs name))) ≡ true → cond t (Some u) (typed.variable_named ws name) ≡ None
-        → (is_portable_role (role_of vs name) ≡ true → typed.variable_named ws name ≡ None → ⊥) → ⊥
-    by true p' e' rest = absurd (cc (e'))
-    by false p' e' rest = rest p' e'

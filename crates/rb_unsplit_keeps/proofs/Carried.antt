@@ -1,5 +1,5 @@
 -- The names of the walk over a batch's remote part: each portable variable has a value of its type there.
-use Rattle.std.proofs.Common.{◌≡◌, refl, sym, ap, ◌∙◌, subst, arith, ℕ, suc, List, [], ◌∷◌, ◌++◌, length, Bool as Truth, true, false, cond, option_map, Option, Some, None}
+use Rattle.std.proofs.Common.{◌≡◌, refl, sym, ◌∙◌, subst, arith, ℕ, List, [], ◌∷◌, ◌++◌, length, Bool as Truth, true, false, cond, option_map, Option, Some, None}
 use Rattle.std.specs.Str.{bytes_eq}
 use Rattle.std.specs.Option.{is_some}
 use Rattle.std.proofs.lemmas.List.Elements.{All-weaker}
@@ -18,7 +18,6 @@ use Rattle.rb_meaning_flow.specs.declared.scopes.Role.{Role}
 use Rattle.rb_meaning_flow.specs.declared.scopes.Variable.{Variable}
 use Rattle.rb_meaning_flow.specs.Scopes.{Scope, variable_named, with_variable, role_in, role_of, is_portable_role}
 use Rattle.rb_types_keep.specs.Own.{IsFarItem, IsFarKind}
-use Rattle.rb_types_keep.proofs.Faults.{SomeIs}
 use Rattle.rb_unsplit_keeps.proofs.Agreed.{Agree}
 
 -- a value of a type that may come from a remote object holds no object of the own side
@@ -110,6 +109,7 @@ module _ (is : List Interface) where
     where
       lookup_or : Truth → Option Value
       lookup_or t = option_map (λ q. q.1) (cond t (Some n) (first_named (λ p. p.0) ms name))
+
   -- the names with which a batch begins
   begins : (cs : List (List ℕ)) (vs : Scope) (ws : typed.Scope) (ns : Names) → Agree is vs ws → NamesFit is cs ws ns → length ws ≡ length ns → Carry is vs ws ns
   begins cs [] [] [] h f e = none

@@ -1,5 +1,5 @@
 -- Without refusals a condition is portable above branches that hold a remote operation.
-use Rattle.std.proofs.Common.{◌≡◌, ◌⊎◌, inl, inr, refl, sym, ap, subst, ℕ, List, [], ◌∷◌, ◌++◌, Bool as Truth, true, false, ◌||◌, cond}
+use Rattle.std.proofs.Common.{◌≡◌, ◌⊎◌, inl, inr, refl, sym, subst, ℕ, List, [], ◌∷◌, ◌++◌, Bool as Truth, true, false, ◌||◌, cond}
 use Rattle.std.specs.List.{Contains, flat_map}
 use Rattle.rb_trees.specs.declared.refusals.Refusal.{Refusal}
 use Rattle.rb_trees.specs.declared.refusals.Refusal.TheVariants as refusal
@@ -8,7 +8,7 @@ use Rattle.rb_meaning_flow.specs.declared.scopes.Role.{Role}
 use Rattle.rb_meaning_flow.specs.Facts.{Facts, is_remote, over_rows}
 use Rattle.rb_meaning_flow.specs.Scopes.{Scope, with_variable}
 use Rattle.rb_meaning_flow.specs.Portable.{portable, holds_call, any_holds_call, holds_operation, block_holds, branches_hold}
-use Rattle.rb_meaning_flow.specs.Sites.{Around, Branch, WhileTurn, Turn, InTry, InBatch, StmtSite, Over, ExprSite, site, under, right_under, expr_sites, exprs_sites, own, all_sites, turn_role, scope_after, stmt_site, sites, block_sites, exprs_of}
+use Rattle.rb_meaning_flow.specs.Sites.{Around, Branch, WhileTurn, Turn, InTry, InBatch, StmtSite, Over, site, under, right_under, expr_sites, exprs_sites, own, all_sites, turn_role, scope_after, stmt_site, sites, block_sites, exprs_of}
 use Rattle.rb_meaning_flow.specs.Refusals.{operand_condition, while_condition, frame_condition, expr_conditions, stmt_conditions, StandsFirst, IsRefusal}
 use Rattle.rb_unsplit_keeps.proofs.Standing.{Within, within_left, within_right}
 use Rattle.rb_unsplit_keeps.proofs.Admission.{within_tail, exprs_among, site_first, stmt_first}

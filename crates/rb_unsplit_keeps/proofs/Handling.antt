@@ -1,12 +1,11 @@
 -- What the code of a batch is answered fits, and the table keeps fitting.
-use Rattle.std.proofs.Common.{◌≡◌, ◌≤◌, refl, sym, ap, ◌∙◌, subst, arith, inl, inr, ℕ, zero, suc, ◌-◌, List, [], length, Bool as Truth, true, false, nat_lt, All, Option, Some, None, Result, Ok, Err}
+use Rattle.std.proofs.Common.{◌≡◌, ◌≤◌, refl, ap, subst, arith, ℕ, zero, suc, ◌-◌, List, [], length, Bool as Truth, true, false, nat_lt, All, Option, Some, None, Ok}
 use Rattle.std.proofs.lemmas.Bool.{ltb-true, ltb-false}
 use Rattle.rb_trees.specs.declared.values.Value.{Value}
 use Rattle.rb_trees.specs.declared.values.Value.TheOpen.{Value-F}
 use Rattle.rb_trees.specs.declared.values.Value.TheVariants as value
 use Rattle.rb_trees.specs.declared.values.Value.TheViews.{out-Value}
 use Rattle.rb_trees.specs.declared.values.Fault.{Fault}
-use Rattle.rb_trees.specs.declared.outcomes.Raised.{Raised}
 use Rattle.rb_trees.specs.mirror.Declarations.{Program}
 use Rattle.rb_trees.specs.mirror.Services.{Service}
 use Rattle.rb_meaning_types.specs.Kinds.{Kind}
@@ -15,8 +14,6 @@ use Rattle.rb_meaning_types.specs.Declared.{Declarations, of_program}
 use Rattle.rb_meaning_types.specs.Notes.{type_at}
 use Rattle.rb_meaning_types.specs.Programs.{check_service}
 use Rattle.rb_meaning_types.specs.Fits.{IsRemoteValue, Fits, TableFits}
-use Rattle.rb_meaning_code.specs.State.{Local}
-use Rattle.rb_meaning_code.specs.Faults.{fuel_used, raised_remotely}
 use Rattle.rb_meaning_code.specs.Dialogue.{Question, Line, Taken, Invoke, Turn, ListTurn}
 use Rattle.rb_meaning_code.specs.Calls.{unit_due}
 use Rattle.rb_meaning_code.specs.Remote.{Server, Reply, Got, Stopped, and_then, replies, remote_object, invoke}
@@ -24,12 +21,12 @@ use Rattle.rb_meaning.specs.State.{Outside}
 use Rattle.rb_meaning.specs.CallKinds.{kind_number, kind_noted, call_kind}
 use Rattle.rb_meaning.specs.RemotePart.{answer_of, unit_of}
 use Rattle.rb_meaning.specs.Unsplit.{with_answer, answers_in_batch, in_batch}
-use Rattle.rb_types_keep.specs.Kept.{IsBounded, IsOwnFault, FaultFits}
+use Rattle.rb_types_keep.specs.Kept.{IsBounded, IsOwnFault}
 use Rattle.rb_types_keep.specs.Formed.{AreFormed}
 use Rattle.rb_types_keep.specs.Own.{IsFarKind}
-use Rattle.rb_types_keep.specs.Asked.{Side, Own, InBatch, IsFarCall, IsAsked, IsAnswer, IsAskedBatch, Site}
+use Rattle.rb_types_keep.specs.Asked.{Side, InBatch, IsAsked, IsAnswer}
 use Rattle.rb_types_keep.specs.Around.{HandlerFits}
-use Rattle.rb_types_keep.specs.Remote.{IsOfKind, IsFault, IsCallFault, ReplyKeeps, CallsKeep}
+use Rattle.rb_types_keep.specs.Remote.{IsOfKind, IsCallFault, ReplyKeeps, CallsKeep}
 use Rattle.rb_types_keep.proofs.Faults.{plain_own}
 use Rattle.rb_unsplit_keeps.proofs.OfKinds.{kind_fits}
 
@@ -42,17 +39,14 @@ remote_there _ h e = absurd h
 pub call_fault : (at : ℕ) (w : Value-F Value) (place : ℕ) (f : Fault) → IsRemoteValue w → IsCallFault at w place f → IsOwnFault f
 call_fault at w place f remote h = record {
   least = h.fault.least;
-  most = at_most f.code h.fault.most (λ e. remote_there w remote (h.kind e));
+  most = at_most (nat_lt 11 f.code) refl;
   text = h.fault.text;
   plain = h.fault.plain;
 }
   where
-    at_most : (n : ℕ) → n ≤ 12 → (n ≡ 12 → ⊥) → n ≤ 11
-    at_most n h k = by (nat_lt 11 n) refl
-      where
-        by : (t : Truth) → nat_lt 11 n ≡ t → n ≤ 11
-        by true e = absurd (k (omega (arith, h, ltb-true 11 n e)))
-        by false e = ltb-false 11 n e
+    at_most : (t : Truth) → nat_lt 11 f.code ≡ t → f.code ≤ 11
+    at_most true e = absurd (remote_there w remote (h.kind (omega (arith, h.fault.most, ltb-true 11 f.code e))))
+    at_most false e = ltb-false 11 f.code e
 
 -- what a reply gives is so, and the table that it leaves fits
 abbrev pub Fine : {A : Type 0} → Service → (A → Type 0) → Reply A → Type 0

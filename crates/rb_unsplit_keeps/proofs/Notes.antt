@@ -1,17 +1,17 @@
 -- The first note at the position of an expression is its own, where positions differ.
-use Rattle.std.proofs.Common.{◌≡◌, refl, sym, ap, ◌∙◌, subst, ℕ, List, [], ◌∷◌, ◌++◌, Bool, true, false, cond, nat_eq, Option, Some, None, Ok}
+use Rattle.std.proofs.Common.{◌≡◌, refl, ap, ℕ, List, [], ◌∷◌, ◌++◌, Bool, true, false, cond, nat_eq, Option, Some, None}
 use Rattle.std.specs.List.{AllByRecursion}
 use Rattle.rb_trees.specs.Outcome.{◌>>=◌}
 use Rattle.rb_trees.specs.mirror.Code.{Expr, Exprs, Lit, Name, This, Unary, Binary, Field, Call, Index, New, Items, Taken, NoExprs, MoreExprs, expr_at, Stmt, Stmts, Val, Var, Assign, Run, Print, Throw, If, While, For, Try, Batch, NoStmts, MoreStmts}
-use Rattle.rb_trees.specs.mirror.Declarations.{Body, Method, Class, Program}
+use Rattle.rb_trees.specs.mirror.Declarations.{Body, Method, Class}
 use Rattle.rb_meaning_types.specs.Kinds.{Kind}
 use Rattle.rb_meaning_types.specs.Violations.{Checked}
 use Rattle.rb_meaning_types.specs.Scopes.{Scope, parameters}
 use Rattle.rb_meaning_types.specs.Declared.{Declarations, Context, of_program, method_context, main_context}
 use Rattle.rb_meaning_types.specs.Statements.{placed, loop_scope, catch_scope, batch_scope, check_stmt, check_stmts}
 use Rattle.rb_meaning_types.specs.Expressions.{type_of}
-use Rattle.rb_meaning_types.specs.Notes.{Note, note, noted, all_noted, scope_or, stmt_noted, stmts_noted, return_noted, body_noted, method_noted, methods_noted, classes_noted, main_noted, program_notes, note_at, type_at}
-use Rattle.rb_meaning_types.specs.Lawful.{IsLawful, expr_positions, exprs_positions, stmt_positions, stmts_positions, return_positions, body_positions, methods_positions, classes_positions}
+use Rattle.rb_meaning_types.specs.Notes.{Note, noted, all_noted, scope_or, stmt_noted, stmts_noted, return_noted, body_noted, methods_noted, classes_noted, note_at}
+use Rattle.rb_meaning_types.specs.Lawful.{expr_positions, exprs_positions, stmt_positions, stmts_positions, return_positions, body_positions, methods_positions, classes_positions}
 use Rattle.rb_types_keep.specs.Noted.{IsNotedExpr, AreNotedExprs, IsNotedStmt, AreNotedStmts}
 use Rattle.rb_unsplit_keeps.specs.Noted.{LawfulAreNoted}
 use Rattle.rb_unsplit_keeps.proofs.Positions.{same_position, Apart, Differ, differ_from, apart_left, apart_right, differ_left, differ_right, EachApart, differ_apart}

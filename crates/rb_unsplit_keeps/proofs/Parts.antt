@@ -1,14 +1,14 @@
 -- What it tells of the parts of a statement that it is typed.
-use Rattle.std.proofs.Common.{◌≡◌, ◌⊎◌, inl, inr, refl, sym, ap, ◌∙◌, subst, ℕ, List, [], ◌∷◌, Bool as Truth, true, false, not, Option, Some, None, Ok, Err}
+use Rattle.std.proofs.Common.{◌≡◌, ◌⊎◌, inl, inr, refl, sym, ap, ◌∙◌, subst, ℕ, List, Bool as Truth, true, false, not, Ok, Err}
 use Rattle.rb_trees.specs.Outcome.{◌>>=◌, ◌>>◌, must}
-use Rattle.rb_trees.specs.mirror.Code.{Expr, Stmt, Stmts, Val, Var, Assign, Run, Print, Throw, If, While, For, Try, Batch, NoStmts, MoreStmts, expr_at}
+use Rattle.rb_trees.specs.mirror.Code.{Expr, Stmt, Stmts, Val, Var, Assign, Run, Print, Throw, If, While, For, Try, Batch, MoreStmts, expr_at}
 use Rattle.rb_meaning_types.specs.Kinds as kind
 use Rattle.rb_meaning_types.specs.Kinds.{Kind, is_unit}
 use Rattle.rb_meaning_types.specs.Violations.{Checked, Placed, UnknownName, NameTaken, NotAllowedHere, wanted, wrong_type, with_place}
 use Rattle.rb_meaning_types.specs.Declared.{Context, is_interface}
 use Rattle.rb_meaning_types.specs.Scopes.{Scope, is_free, with_variable}
 use Rattle.rb_meaning_types.specs.Expressions.{type_of}
-use Rattle.rb_meaning_types.specs.Statements.{placed, condition, declare, assign, is_assignable, is_printable, print, turn_kind, loop_scope, catch_scope, batch_scope, closed, check_stmt, check_stmts}
+use Rattle.rb_meaning_types.specs.Statements.{placed, condition, declare, is_assignable, is_printable, turn_kind, loop_scope, catch_scope, batch_scope, closed, check_stmt, check_stmts}
 use Rattle.rb_types_keep.proofs.Checks.{bind_ok, then_ok, must_ok, placed_ok, wanted_ok}
 
 pub closed_ok : (scope : Scope) (r : Checked Scope) (after : Scope) → closed scope r ≡ Ok after → (inner : Scope) × (r ≡ Ok inner) × (scope ≡ after)

@@ -1,17 +1,16 @@
 -- All batches of a typed, lawful program.
-use Rattle.std.proofs.Common.{◌≡◌, refl, sym, ap, ◌∙◌, subst, ℕ, List, [], ◌∷◌, ◌++◌, Bool as Truth, true, false, cond, Option, Some, None, All, Ok}
+use Rattle.std.proofs.Common.{◌≡◌, refl, sym, ap, ◌∙◌, subst, ℕ, List, [], ◌∷◌, ◌++◌, Bool as Truth, true, false, cond, Some, None, All, Ok}
 use Rattle.std.specs.Str.{bytes_eq}
 use Rattle.std.specs.List.{AllByRecursion, Contains, flat_map}
 use Rattle.std.proofs.lemmas.List.Elements.{All-head, All-tail, Contains-append_left, Contains-append_right}
 use Rattle.std.proofs.lemmas.Slice.Eq.{bytes_eq-Decides}
 use Rattle.rb_trees.specs.Named.{first_named}
-use Rattle.rb_trees.specs.Outcome.{◌>>=◌, ◌>>◌}
+use Rattle.rb_trees.specs.Outcome.{◌>>◌}
 use Rattle.rb_trees.specs.mirror.Declarations.{Method, Class, Program}
-use Rattle.rb_meaning_types.specs.Kinds.{kind_of}
-use Rattle.rb_meaning_types.specs.Declared.{Declarations, Context, of_program, method_context, main_context}
+use Rattle.rb_meaning_types.specs.Declared.{Declarations, of_program, method_context, main_context}
 use Rattle.rb_meaning_types.specs.Scopes.{parameters}
 use Rattle.rb_meaning_types.specs.Statements.{check_stmts}
-use Rattle.rb_meaning_types.specs.Bodies.{check_return, check_body, check_method_body, check_method_bodies, check_class_bodies}
+use Rattle.rb_meaning_types.specs.Bodies.{check_body, check_method_body, check_method_bodies, check_class_bodies}
 use Rattle.rb_meaning_types.specs.Places.{main_type}
 use Rattle.rb_meaning_types.specs.Declarations.{check_declarations}
 use Rattle.rb_meaning_types.specs.Programs.{check_main, check_program}
@@ -20,8 +19,7 @@ use Rattle.rb_meaning_flow.specs.Facts.{Facts, facts_of}
 use Rattle.rb_meaning_flow.specs.Outermost as flow
 use Rattle.rb_meaning_flow.specs.Outermost.{Outermost, outermost_in, method_batches, class_batches, program_batches}
 use Rattle.rb_types_keep.specs.Asked.{Site}
-use Rattle.rb_types_keep.specs.Admitted.{HasMethod}
-use Rattle.rb_types_keep.specs.Batches.{sites_in, MayHold, MethodsAsk}
+use Rattle.rb_types_keep.specs.Batches.{sites_in, MethodsAsk}
 use Rattle.rb_types_keep.proofs.Checks.{bind_ok, then_ok}
 use Rattle.rb_unsplit_keeps.specs.Noted.{IsNotedMethod, IsNotedClass, IsNotedProgram}
 use Rattle.rb_unsplit_keeps.proofs.Agreed.{agree_parameters}

@@ -1,26 +1,24 @@
 -- Each batch of a program as admission knows it: with its scope there, and with what is noted and lawful of it.
-use Rattle.std.proofs.Common.{◌≡◌, ◌⊎◌, inl, inr, refl, sym, ap, ◌∙◌, subst, ℕ, List, [], ◌∷◌, ◌++◌, Bool as Truth, true, false, Option, Some, None, Ok}
-use Rattle.std.specs.List.{AllByRecursion, Contains, flat_map}
+use Rattle.std.proofs.Common.{◌≡◌, ◌⊎◌, inl, inr, refl, ap, subst, ℕ, List, [], ◌∷◌, ◌++◌, Bool as Truth, true, false, Option, Ok}
+use Rattle.std.specs.List.{Contains}
 use Rattle.std.proofs.lemmas.List.Elements.{Contains-append_left, Contains-append_right, Contains-append_cases}
 use Rattle.rb_trees.specs.Outcome.{◌>>=◌}
-use Rattle.rb_trees.specs.mirror.Code.{Expr, Stmt, Stmts, Val, Var, Assign, Run, Print, Throw, If, While, For, Try, Batch, NoStmts, MoreStmts, expr_at}
-use Rattle.rb_trees.specs.mirror.Declarations.{Method, Class, Program, Interface}
+use Rattle.rb_trees.specs.mirror.Code.{Stmt, Stmts, Val, Var, Assign, Run, Print, Throw, If, While, For, Try, Batch, NoStmts, MoreStmts, expr_at}
+use Rattle.rb_trees.specs.mirror.Declarations.{Program, Interface}
 use Rattle.rb_meaning_types.specs.Kinds as kind
 use Rattle.rb_meaning_types.specs.Kinds.{Kind, is_primitive}
-use Rattle.rb_meaning_types.specs.Violations.{Checked}
-use Rattle.rb_meaning_types.specs.Declared.{Declarations, Context, of_program, method_context, main_context}
+use Rattle.rb_meaning_types.specs.Declared.{Context, of_program}
 use Rattle.rb_meaning_types.specs.Scopes as typed
 use Rattle.rb_meaning_types.specs.Statements.{placed, loop_scope, catch_scope, check_stmt, check_stmts}
 use Rattle.rb_meaning_types.specs.Notes.{scope_or, type_at}
 use Rattle.rb_meaning_types.specs.Lawful.{IsLawfulStmt, AreLawfulStmts, IsLawfulBlock}
-use Rattle.rb_meaning_flow.specs.declared.scopes.Role.{Role}
 use Rattle.rb_meaning_flow.specs.Facts.{Facts, facts_of, has_primitive_items}
 use Rattle.rb_meaning_flow.specs.Scopes.{Scope, with_variable, is_portable_role}
 use Rattle.rb_meaning_flow.specs.Outermost.{Outermost, outer_role, outer_after, outermost, outermost_in}
 use Rattle.rb_flow.proofs.Members.{first_contained, contained_cases, none_contained}
 use Rattle.rb_types_keep.specs.Own.{IsFarKind}
 use Rattle.rb_types_keep.specs.Noted.{IsNotedStmt, AreNotedStmts}
-use Rattle.rb_types_keep.specs.Ends.{Place, context}
+use Rattle.rb_types_keep.specs.Ends.{context}
 use Rattle.rb_types_keep.specs.Asked.{Site}
 use Rattle.rb_types_keep.specs.Batches.{sites, sites_in}
 use Rattle.rb_unsplit_keeps.proofs.Agreed.{Agree, agree_added, outer_far}

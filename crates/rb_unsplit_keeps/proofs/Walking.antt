@@ -1,10 +1,8 @@
 -- A portable expression of a batch has a value of its type on the service, and its table keeps fitting.
-use Rattle.std.proofs.Common.{◌≡◌, refl, sym, ap, ◌∙◌, subst, ℕ, List, [], ◌∷◌, ◌++◌, Bool as Truth, true, false, ◌&&◌, cond, All, Option, Some, None, is_some, Result, Ok, Err}
-use Rattle.std.specs.List.{AllByRecursion}
+use Rattle.std.proofs.Common.{◌≡◌, refl, sym, ap, ◌∙◌, subst, ℕ, List, [], Bool as Truth, true, ◌&&◌, All, Option, Some, None, is_some, Result, Ok, Err}
 use Rattle.std.proofs.lemmas.Bool.{and_parts}
 use Rattle.std.proofs.lemmas.List.Elements.{All-nil, All-cons}
 use Rattle.rb_trees.specs.Outcome.{known}
-use Rattle.rb_trees.specs.Named.{lookup}
 use Rattle.rb_trees.specs.declared.values.Value.{Value}
 use Rattle.rb_trees.specs.declared.values.Value.TheOpen.{Value-F}
 use Rattle.rb_trees.specs.declared.values.Value.TheViews.{out-Value}
@@ -20,7 +18,7 @@ use Rattle.rb_meaning_types.specs.Declared.{Declarations, Context, of_program}
 use Rattle.rb_meaning_types.specs.Scopes as typed
 use Rattle.rb_meaning_types.specs.Literals.{literal_form, literal_kind}
 use Rattle.rb_meaning_types.specs.Expressions.{with_first, type_of, types_of}
-use Rattle.rb_meaning_types.specs.Members.{call_on, call_kind, interface_call, receiver_interface}
+use Rattle.rb_meaning_types.specs.Members.{call_on, interface_call, receiver_interface}
 use Rattle.rb_meaning_types.specs.Notes.{type_at}
 use Rattle.rb_meaning_types.specs.Programs.{check_service}
 use Rattle.rb_meaning_types.specs.Fits.{IsRemoteValue, FitsNamed, Fits, TableFits}
@@ -28,7 +26,7 @@ use Rattle.rb_meaning_code.specs.State.{Names, Local}
 use Rattle.rb_meaning_code.specs.Faults as faults
 use Rattle.rb_meaning_code.specs.Faults.{raises}
 use Rattle.rb_meaning_code.specs.Operators.{on_one, on_two, by_left}
-use Rattle.rb_meaning_code.specs.Dialogue.{Outcome, Gave, Faulted, Dialogue, Done, Ask, AskBatch, Run, Handler, handle, seq, on, next, gives, end}
+use Rattle.rb_meaning_code.specs.Dialogue.{Outcome, Gave, Faulted, Dialogue, Done, Ask, AskBatch, Run, Handler, handle, seq, on, next, end}
 use Rattle.rb_meaning_code.specs.Calls.{Bodies, called}
 use Rattle.rb_meaning_code.specs.Expressions.{value_of, decided_or, evaluates, evaluates_all}
 use Rattle.rb_meaning_code.specs.Bodies.{bodies_of}

@@ -1,60 +1,57 @@
 -- A batch of an admitted program ends as a statement does, and the whole program as its types say.
-use Rattle.std.proofs.Common.{◌≡◌, refl, sym, ap, ◌∙◌, subst, ℕ, List, [], ◌∷◌, ◌++◌, map, length, Bool as Truth, true, false, not, ◌&&◌, ◌||◌, cond, nat_eq, All, Option, Some, None, Result, Ok, Err}
+use Rattle.std.proofs.Common.{◌≡◌, refl, sym, ap, ◌∙◌, subst, ℕ, List, [], length, Bool as Truth, true, false, not, ◌&&◌, cond, Option, Some, None, Ok}
 use Rattle.std.specs.List.{Contains, flat_map}
 use Rattle.std.specs.Option.{is_some}
 use Rattle.std.proofs.lemmas.Bool.{and_parts}
 use Rattle.std.proofs.lemmas.List.Elements.{All-nil}
-use Rattle.rb_trees.specs.Outcome.{◌>>=◌, ◌>>◌, must}
+use Rattle.rb_trees.specs.Outcome.{must}
 use Rattle.rb_trees.specs.declared.values.Value.{Value}
 use Rattle.rb_trees.specs.declared.values.Value.TheOpen.{Value-F}
 use Rattle.rb_trees.specs.declared.values.Value.TheVariants as value
 use Rattle.rb_trees.specs.declared.values.Value.TheViews.{out-Value}
-use Rattle.rb_trees.specs.declared.outcomes.Raised.{Raised}
 use Rattle.rb_trees.specs.declared.services.Object.{Object}
 use Rattle.rb_trees.specs.declared.refusals.Refusal.{Refusal}
 use Rattle.rb_trees.specs.mirror.Types as tree
 use Rattle.rb_trees.specs.mirror.Types.{TypeTree, type_at as place_of}
-use Rattle.rb_trees.specs.mirror.Code.{Expr, Stmts, Batch, expr_at}
+use Rattle.rb_trees.specs.mirror.Code.{Expr, Stmts, expr_at}
 use Rattle.rb_trees.specs.mirror.Declarations.{Program, Interface}
 use Rattle.rb_trees.specs.mirror.Services.{Service}
 use Rattle.rb_meaning_types.specs.Kinds as kind
 use Rattle.rb_meaning_types.specs.Kinds.{Kind, kind_of, is_unit, is_primitive, same_kind}
 use Rattle.rb_meaning_types.specs.Names.{interface_named}
-use Rattle.rb_meaning_types.specs.Violations.{Checked, MissingReturn, TypeNotHere, wrong_type}
+use Rattle.rb_meaning_types.specs.Violations.{MissingReturn, TypeNotHere}
 use Rattle.rb_meaning_types.specs.Declared.{Declarations, Context, of_program, main_context}
 use Rattle.rb_meaning_types.specs.Scopes.{Scope, with_variable}
 use Rattle.rb_meaning_types.specs.Expressions.{type_of}
-use Rattle.rb_meaning_types.specs.Statements.{placed, batch_scope, check_stmt, check_stmts}
-use Rattle.rb_meaning_types.specs.Bodies.{return_fits, check_return}
-use Rattle.rb_meaning_types.specs.Places.{declared_type, is_main_result, main_type}
+use Rattle.rb_meaning_types.specs.Statements.{check_stmts}
+use Rattle.rb_meaning_types.specs.Bodies.{check_return}
+use Rattle.rb_meaning_types.specs.Places.{declared_type, is_main_result}
 use Rattle.rb_meaning_types.specs.Notes.{scope_or, type_at}
 use Rattle.rb_meaning_types.specs.Lawful.{IsLawful, IsLawfulReturn}
-use Rattle.rb_meaning_types.specs.Programs.{check_program}
-use Rattle.rb_meaning_types.specs.Fits.{classes_of, IsRemoteValue, FitsNamed, Fits, frame_scope, TableFits}
-use Rattle.rb_meaning_code.specs.State.{Local, bound, closed}
-use Rattle.rb_meaning_code.specs.Dialogue.{Question, Line, Taken, Invoke, Turn, ListTurn, Outcome, Gave, Faulted, Run, handle, on, next}
+use Rattle.rb_meaning_types.specs.Fits.{classes_of, IsRemoteValue, FitsNamed, Fits, TableFits}
+use Rattle.rb_meaning_code.specs.State.{Local, bound}
+use Rattle.rb_meaning_code.specs.Dialogue.{Question, Line, Taken, Invoke, Turn, ListTurn, Outcome, Gave, Faulted, handle, on}
 use Rattle.rb_meaning_code.specs.Statements.{performs_all}
 use Rattle.rb_meaning_code.specs.Expressions.{evaluates}
 use Rattle.rb_meaning_code.specs.Bodies.{bodies_of}
 use Rattle.rb_meaning_flow.specs.Facts.{facts_of}
 use Rattle.rb_meaning_flow.specs.Scopes.{opened}
-use Rattle.rb_meaning_flow.specs.Sites.{StmtSite}
 use Rattle.rb_meaning_flow.specs.Refusals.{IsRefusal}
 use Rattle.rb_meaning_flow.specs.Outermost.{Outermost, batch_sites, program_batches}
 use Rattle.rb_meaning.specs.State.{Outside}
-use Rattle.rb_meaning.specs.Unsplit.{batch_at, in_batch, with_side, begun, table_after, settles, whole_table, performs_batch}
-use Rattle.rb_meaning.specs.Meaning.{local_answer, shown_by, answers_outside, performs_found, in_main, gives_some, main_result, runs_main, ending_of, at_start, outside_of, meaning}
+use Rattle.rb_meaning.specs.Unsplit.{batch_at, in_batch, with_side, begun, settles, whole_table, performs_batch}
+use Rattle.rb_meaning.specs.Meaning.{local_answer, shown_by, performs_found, in_main, gives_some, main_result, runs_main, ending_of, at_start, outside_of, meaning}
 use Rattle.rb_meaning.specs.Links.{IsTyped}
 use Rattle.rb_flow.specs.Program.{HasNoRefusal}
 use Rattle.rb_flow.proofs.Among.{mapped_to}
-use Rattle.rb_types_keep.specs.Kept.{IsOwnFault, FaultFits}
+use Rattle.rb_types_keep.specs.Kept.{FaultFits}
 use Rattle.rb_types_keep.specs.Own.{IsOwnPlace}
-use Rattle.rb_types_keep.specs.Formed.{IsFormedReturn, AreFormed, AreFormedStmts, LawfulExprsAreFormed, LawfulStmtsAreFormed, LawfulClassesAreFormed}
-use Rattle.rb_types_keep.specs.Ends.{Place, context, LocalFits, FitsPlace, Ends, OfKind, Nothing, EndsThere}
+use Rattle.rb_types_keep.specs.Formed.{IsFormedReturn, AreFormed, LawfulExprsAreFormed, LawfulStmtsAreFormed, LawfulClassesAreFormed}
+use Rattle.rb_types_keep.specs.Ends.{Place, context, LocalFits, FitsPlace, Ends, Nothing, EndsThere}
 use Rattle.rb_types_keep.specs.Asked.{Site, Side, Own, InBatch, IsNear, IsAsked, IsAnswer, IsAskedBatch, Keeps}
 use Rattle.rb_types_keep.specs.Noted.{AreNotedStmts}
-use Rattle.rb_types_keep.specs.Batches.{sites_in, MayHold, AreAmong}
-use Rattle.rb_types_keep.specs.Code.{AreTyped, Stands, AreBatchStmts, EndsIn, bodies, TypesKeep}
+use Rattle.rb_types_keep.specs.Batches.{sites_in}
+use Rattle.rb_types_keep.specs.Code.{AreTyped, Stands, EndsIn, bodies, TypesKeep}
 use Rattle.rb_types_keep.specs.Around.{HandlerFits}
 use Rattle.rb_types_keep.specs.Remote.{CallsKeep}
 use Rattle.rb_types_keep.proofs.Checks.{bind_ok, then_ok, must_ok, placed_ok, same_sound}
@@ -65,13 +62,12 @@ use Rattle.rb_types_keep.proofs.Bodies.{own_stmts, far_stmts}
 use Rattle.rb_types_keep.proofs.InSurroundings.{handled}
 use Rattle.std.proofs.lemmas.List.Elements.{Contains-append_right}
 use Rattle.rb_unsplit_keeps.specs.Noted.{IsNotedProgram}
-use Rattle.rb_unsplit_keeps.specs.Kept.{IsResult, EndsWell, MeansWell, AdmittedMeanWell}
-use Rattle.rb_unsplit_keeps.proofs.Notes.{lawful_are_noted}
+use Rattle.rb_unsplit_keeps.specs.Kept.{IsResult, EndsWell, MeansWell}
 use Rattle.rb_unsplit_keeps.proofs.Found.{batch_found}
 use Rattle.rb_unsplit_keeps.proofs.Agreed.{Agree}
 use Rattle.rb_unsplit_keeps.proofs.Parts.{batch_parts}
 use Rattle.rb_unsplit_keeps.proofs.Standing.{block_lawful, IsBatchOf}
-use Rattle.rb_unsplit_keeps.proofs.Programs.{class_sites, program_sites, methods_ask, IsTypedProgram, program_typed, batches_in}
+use Rattle.rb_unsplit_keeps.proofs.Programs.{class_sites, program_sites, methods_ask, IsTypedProgram, batches_in}
 use Rattle.rb_unsplit_keeps.proofs.Admission.{block_admitted}
 use Rattle.rb_unsplit_keeps.proofs.Handling.{batch_handler_fits}
 
@@ -82,7 +78,7 @@ remote_named None cs name w e h = absurd (cc (e))
 
 -- a program, and what is known of it
 module _ (calls : CallsKeep) (exprs_formed : LawfulExprsAreFormed) (stmts_formed : LawfulStmtsAreFormed) (classes_formed : LawfulClassesAreFormed) (types_keep : TypesKeep)
-  (p : Program) (lawful : IsLawful p) (t : IsTypedProgram p) (none : HasNoRefusal p) (service : Service) (first : List Object) (served : IsTyped service first) where
+    (p : Program) (lawful : IsLawful p) (t : IsTypedProgram p) (none : HasNoRefusal p) (service : Service) (first : List Object) (served : IsTyped service first) where
   abbrev d : Declarations
   d = of_program p
 
