@@ -20,7 +20,8 @@ use Rattle.rb_meaning_flow.specs.Facts.{facts_of}
 use Rattle.rb_meaning_flow.specs.Scopes.{opened}
 use Rattle.rb_meaning_flow.specs.Outermost.{Outermost, program_batches}
 use Rattle.rb_meaning_flow.specs.Programs.{program_marks}
-use Rattle.rb_meaning.specs.RemotePart.{remote_answer, remote_only}
+use Rattle.rb_meaning.specs.RemoteAnswers.{remote_answer}
+use Rattle.rb_meaning.specs.RemotePart.{remote_only}
 use Rattle.rb_meaning.specs.State as state
 use Rattle.rb_meaning.specs.State.{Outside, shows}
 
