@@ -1,20 +1,16 @@
 -- The whole remote part of a batch: a walk over its source that performs what is remote, in order, and skips all else. A fault
 -- ends the walk. Which expressions are portable, and which statements hold a remote operation, the definitions of marks say.
-use Rattle.std.specs.Prelude.{ℕ, ◌-◌, List, [], ◌∷◌, ◌++◌, cond, Result, Ok, Err}
+use Rattle.std.specs.Prelude.{ℕ, List, [], ◌∷◌, ◌++◌, cond, Result, Ok, Err}
 use Rattle.rb_trees.specs.declared.values.Value.{Value, out-Value}
 use Rattle.rb_trees.specs.declared.values.Value.TheOpen.{Value-F}
-use Rattle.rb_trees.specs.declared.values.Value.TheVariants as value
 use Rattle.rb_trees.specs.declared.values.Fault.{Fault}
-use Rattle.rb_trees.specs.declared.outcomes.Raised.{Raised}
 use Rattle.rb_trees.specs.mirror.Code.{Expr, Stmt, Stmts, Val, If, For, NoStmts, MoreStmts}
 use Rattle.rb_trees.specs.mirror.Declarations.{Program}
 use Rattle.rb_trees.specs.mirror.Services.{Service}
-use Rattle.rb_meaning_code.specs.Faults.{kind, raised, raised_remotely}
+use Rattle.rb_meaning_code.specs.Faults.{kind, raised}
 use Rattle.rb_meaning_code.specs.State.{Names, Local}
-use Rattle.rb_meaning_code.specs.Dialogue as ask
-use Rattle.rb_meaning_code.specs.Dialogue.{Question, Outcome, Gave, Faulted, Handler, handle}
-use Rattle.rb_meaning_code.specs.Calls.{unit_due}
-use Rattle.rb_meaning_code.specs.Remote.{Server, Reply, Got, Stopped, and_then, replies, invoke}
+use Rattle.rb_meaning_code.specs.Dialogue.{Outcome, Gave, Faulted, Handler, handle}
+use Rattle.rb_meaning_code.specs.Remote.{Server, Reply, Got, Stopped, and_then, replies}
 use Rattle.rb_meaning_code.specs.Expressions.{evaluates}
 use Rattle.rb_meaning_code.specs.Statements.{truth_of}
 use Rattle.rb_meaning_code.specs.Bodies.{bodies_of}
@@ -23,7 +19,7 @@ use Rattle.rb_meaning_flow.specs.Facts.{facts_of, over_rows}
 use Rattle.rb_meaning_flow.specs.Scopes.{Scope, with_variable}
 use Rattle.rb_meaning_flow.specs.Portable.{portable, branches_hold}
 use Rattle.rb_meaning_flow.specs.Sites.{scope_after}
-use Rattle.rb_meaning.specs.CallKinds.{call_kind}
+use Rattle.rb_meaning.specs.RemoteAnswers.{unit_of, remote_answer}
 use Rattle.rb_meaning.specs.RemoteExprs.{remote_of}
 
 -- how the walk ends: by itself or by a fault, with the server after it
@@ -42,15 +38,6 @@ ended names s = Got tt s
 abbrev pub with_name : List ℕ → Value → Names → Names
 with_name name v names = names ++ (name, v) ∷ []
 
--- A unit of remote fuel is due at a position. It gives nothing.
-abbrev pub unit_of : ℕ → Server → Reply Value
-unit_of at s = and_then (replies at (unit_due s.fuel) s) (λ u s1. Got value.Unit (record s1 { fuel = s1.fuel - 1 }))
-
--- a reply as an answer to code; its fault is remote
-abbrev pub answer_of : Reply Value → Result Value Raised × Server
-answer_of (Got v s) = (Ok v, s)
-answer_of (Stopped at f s) = (Err (raised_remotely f at), s)
-
 -- how an evaluation ends, as a reply
 abbrev pub reply_of : Outcome Value × Server → Reply Value
 reply_of (Gave v l, s) = Got v s
@@ -60,6 +47,7 @@ reply_of (Faulted r l, s) = Stopped r.at r.fault s
 abbrev pub with_names : Names → Local
 with_names names = record { names = names; heap = []; fuel = 0; depth = 0 }
 
+-- the rows of a value of the client
 abbrev pub rows_in : Value-F Value → Result (List Value) Fault
 rows_in (Value-F.Rows rows) = Ok rows
 rows_in _ = Err kind
@@ -71,15 +59,9 @@ turns at turn (row ∷ rows) s = and_then (unit_of at s) (λ u s1. and_then (tur
 
 -- of a program, on a service
 module _ (p : Program) (service : Service) where
-  -- What the server answers to code that asks for a remote call or for a turn over rows. It is asked nothing else.
-  abbrev pub remote_answer : Server → Question → Result Value Raised × Server
-  remote_answer s (ask.Invoke at target method args) = answer_of (invoke service.classes at (call_kind p at) (out-Value target) method args s)
-  remote_answer s (ask.Turn at) = answer_of (unit_of at s)
-  remote_answer s _ = (Err (raised kind 0), s)
-
   -- the surroundings of a portable expression; no batch stands in one
   abbrev pub in_remote_part : Handler Server
-  in_remote_part = record { answer = remote_answer; batch = λ s at l. (Faulted (raised kind at) l, s) }
+  in_remote_part = record { answer = remote_answer p service; batch = λ s at l. (Faulted (raised kind at) l, s) }
 
   -- the value of a portable expression, by the same evaluation as everywhere
   abbrev pub value_of : Expr → Names → Server → Reply Value

@@ -20,15 +20,17 @@ use Rattle.rb_meaning_flow.specs.Facts.{facts_of}
 use Rattle.rb_meaning_flow.specs.Scopes.{opened}
 use Rattle.rb_meaning_flow.specs.Outermost.{Outermost, program_batches}
 use Rattle.rb_meaning_flow.specs.Programs.{program_marks}
-use Rattle.rb_meaning.specs.RemotePart.{remote_answer, remote_only}
+use Rattle.rb_meaning.specs.RemoteAnswers.{remote_answer}
+use Rattle.rb_meaning.specs.RemotePart.{remote_only}
 use Rattle.rb_meaning.specs.State as state
 use Rattle.rb_meaning.specs.State.{Outside, shows}
 
--- the batch at a position
+-- the one of these batches that stands at a position
 abbrev pub batch_within : List Outermost → ℕ → Option Outermost
 batch_within [] at = None
 batch_within (b ∷ bs) at = cond (b.at == at) (Some b) (batch_within bs at)
 
+-- the batch of a program at a position, in `main` or in a method
 abbrev pub batch_at : Program → ℕ → Option Outermost
 batch_at p at = batch_within (program_batches (facts_of p) p) at
 
@@ -42,7 +44,7 @@ answers_in_batch p service s (ask.Line at bytes) = (Ok value.Unit, shows (state.
 answers_in_batch p service s (ask.ListTurn at) = (Ok value.Unit, s)
 answers_in_batch p service s question = with_answer s (remote_answer p service s.server question)
 
--- no batch stands in another
+-- the surroundings of a batch's body; no batch stands in another
 abbrev pub in_batch : Program → Service → Handler Outside
 in_batch p service = record { answer = answers_in_batch p service; batch = λ s at l. (Faulted (raised kind at) l, s) }
 
