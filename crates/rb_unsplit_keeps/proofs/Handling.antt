@@ -19,7 +19,7 @@ use Rattle.rb_meaning_code.specs.Calls.{unit_due}
 use Rattle.rb_meaning_code.specs.Remote.{Server, Reply, Got, Stopped, and_then, replies, remote_object, invoke}
 use Rattle.rb_meaning.specs.State.{Outside}
 use Rattle.rb_meaning.specs.CallKinds.{kind_number, kind_noted, call_kind}
-use Rattle.rb_meaning.specs.RemotePart.{answer_of, unit_of}
+use Rattle.rb_meaning.specs.RemoteAnswers.{answer_of, unit_of}
 use Rattle.rb_meaning.specs.Unsplit.{with_answer, answers_in_batch, in_batch}
 use Rattle.rb_types_keep.specs.Kept.{IsBounded, IsOwnFault}
 use Rattle.rb_types_keep.specs.Formed.{AreFormed}

@@ -33,7 +33,8 @@ use Rattle.rb_meaning_flow.specs.Marks.{is_portable_call}
 use Rattle.rb_meaning_flow.specs.Sites.{Around, Branch, Turn, is_script_place, StmtSite, scope_after, stmt_site, sites, block_sites}
 use Rattle.rb_meaning_flow.specs.Refusals.{IsRefusal}
 use Rattle.rb_meaning.specs.RemoteExprs.{whole_or, remote_in, all_remote_in, remote_of}
-use Rattle.rb_meaning.specs.RemotePart.{Walked, Rest, ended, with_name, unit_of, rows_in, turns, value_of, performed, skims, walk, walk_block}
+use Rattle.rb_meaning.specs.RemoteAnswers.{unit_of}
+use Rattle.rb_meaning.specs.RemotePart.{Walked, Rest, ended, with_name, rows_in, turns, value_of, performed, skims, walk, walk_block}
 use Rattle.rb_flow.specs.Laws.{SendsPortable}
 use Rattle.rb_flow.proofs.Members.{first_contained}
 use Rattle.rb_types_keep.specs.Kept.{Fair}

@@ -36,7 +36,8 @@ use Rattle.rb_meaning_flow.specs.Scopes.{Scope}
 use Rattle.rb_meaning_flow.specs.Portable.{portable, all_portable}
 use Rattle.rb_meaning.specs.CallKinds as numbers
 use Rattle.rb_meaning.specs.RemotePart as part
-use Rattle.rb_meaning.specs.RemotePart.{answer_of, reply_of, with_names, in_remote_part}
+use Rattle.rb_meaning.specs.RemoteAnswers.{answer_of}
+use Rattle.rb_meaning.specs.RemotePart.{reply_of, with_names, in_remote_part}
 use Rattle.rb_types_keep.specs.Kept.{IsBounded, IsOwnFault, Fair}
 use Rattle.rb_types_keep.specs.Formed.{IsFormedExpr, AreFormedExprs, AreFormed}
 use Rattle.rb_types_keep.specs.Noted.{IsNotedExpr, AreNotedExprs}
