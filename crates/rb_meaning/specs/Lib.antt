@@ -1,6 +1,10 @@
 pub mod Place
 pub mod State
 pub mod Division
+pub mod CallKinds
+pub mod RemoteAnswers
+pub mod RemoteExprs
+pub mod RemotePart
 pub mod Unsplit
 pub mod Meaning
 pub mod Shown

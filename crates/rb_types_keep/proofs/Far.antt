@@ -20,9 +20,9 @@ use Rattle.rb_meaning_types.specs.Values.{IsInt, IsText, IsList}
 use Rattle.rb_meaning_code.specs.Faults.{plain_fault, division_by_zero, text_too_long}
 use Rattle.rb_meaning_code.specs.Operators.{bool_text, negation, opposite, count, as_text, on_one, number, joined_text, plus, on_numbers, divided, quotient, remainder, equal, truth_by, on_truths, on_two, conjunct, disjunct, by_left}
 use Rattle.rb_meaning_code.specs.Remote.{Item, AnInt, ABool, AText, AnObject, Kind, Nothing, One, Rows}
-use Rattle.rb_types_keep.specs.Kept.{IsPrimitiveForm, IsPrimitive}
+use Rattle.rb_types_keep.specs.Kept.{IsPrimitiveForm, IsPrimitive, IsBoundedForm}
 use Rattle.rb_types_keep.specs.Operators.{IfDecided}
-use Rattle.rb_types_keep.specs.Remote.{IsBoundedForm, IsItemForm, AreRowsForm, IsNothingForm, IsKindForm, IsFault}
+use Rattle.rb_types_keep.specs.Remote.{IsItemForm, AreRowsForm, IsNothingForm, IsKindForm, IsFault}
 use Rattle.rb_types_keep.proofs.Faults.{empty_text}
 use Rattle.rb_types_keep.proofs.Values.{int_out, bool_out, text_out}
 use Rattle.rb_types_keep.proofs.Results.{wrapped, divides, leaves, counted, decimal_text, truth_text}

@@ -3,9 +3,8 @@ use Rattle.std.proofs.Common.{◌≡◌, refl, sym, subst, ℕ, zero, suc, ◌�
 use Rattle.rb_trees.specs.declared.values.Fault.{Fault}
 use Rattle.rb_trees.specs.Outcome.{known}
 use Rattle.rb_meaning_types.specs.Values.{IsText}
-use Rattle.rb_meaning_types.specs.Declared.{Declarations}
-use Rattle.rb_meaning_code.specs.Faults.{plain_fault, thrown, fault_names, name_or_nothing, fault_name, caught_text, raised}
-use Rattle.rb_types_keep.specs.Kept.{IsOwnFault, FaultFits, Fair}
+use Rattle.rb_meaning_code.specs.Faults.{plain_fault, thrown, fault_names, name_or_nothing, fault_name, caught_text}
+use Rattle.rb_types_keep.specs.Kept.{IsOwnFault, Fair}
 
 pub empty_text : IsText []
 empty_text = (([], (refl, refl)), omega arith)
@@ -16,9 +15,6 @@ plain_own code least most = record { least = least; most = most; text = empty_te
 
 pub thrown_own : (text : List ℕ) → IsText text → IsOwnFault (thrown text)
 thrown_own text h = record { least = omega arith; most = omega arith; text = h; plain = inl refl }
-
-pub raised_fits : (d : Declarations) (f : Fault) (at : ℕ) → IsOwnFault f → FaultFits d (raised f at)
-raised_fits d f at h = record { least = h.least; most = omega (arith, h.most); text = h.text; plain = h.plain; kind = λ e. absurd (omega (arith, e, h.most)) }
 
 -- the names of faults are texts
 

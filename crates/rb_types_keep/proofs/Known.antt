@@ -7,17 +7,17 @@ use Rattle.std.proofs.lemmas.List.Elements.{All-nil, All-cons, All-head, All-tai
 use Rattle.rb_trees.specs.Named.{first_named}
 use Rattle.rb_trees.specs.Outcome.{◌>>◌, must}
 use Rattle.rb_trees.specs.mirror.Types as tree
-use Rattle.rb_trees.specs.mirror.Types.{TypeTree}
-use Rattle.rb_trees.specs.mirror.Declarations.{Param, Interface, Method, Class}
+use Rattle.rb_trees.specs.mirror.Types.{TypeTree, type_at}
+use Rattle.rb_trees.specs.mirror.Declarations.{Param, Signature, Interface, Method, Class}
 use Rattle.rb_meaning_types.specs.Kinds.{kind_of}
 use Rattle.rb_meaning_types.specs.Names.{is_new, interface_named, class_named, method_named}
 use Rattle.rb_meaning_types.specs.Violations.{TypeNotHere, NotAllowedHere}
 use Rattle.rb_meaning_types.specs.Declared.{Declarations, is_class}
-use Rattle.rb_meaning_types.specs.Places.{declared_type, value_type, value_result, parameter_type, result_type}
+use Rattle.rb_meaning_types.specs.Places.{declared_type, value_type, value_result, is_remote_value, is_remote_result, parameter_type, result_type}
 use Rattle.rb_meaning_types.specs.Bodies.{check_method_body, check_method_bodies, check_class_bodies}
-use Rattle.rb_meaning_types.specs.Declarations.{new_name, check_params, check_signature, check_method, check_methods, check_interfaces, check_class, check_classes}
+use Rattle.rb_meaning_types.specs.Declarations.{new_name, check_params, check_signature, check_signatures, check_method, check_methods, check_interfaces, check_class, check_classes}
 use Rattle.rb_types_keep.specs.Formed.{IsFormedMethod, IsFormedClass, AreFormed}
-use Rattle.rb_types_keep.specs.Own.{IsOwnKind}
+use Rattle.rb_types_keep.specs.Own.{IsOwnKind, IsFarItem, IsFarKind}
 use Rattle.rb_types_keep.specs.Code.{AreTyped}
 use Rattle.rb_types_keep.proofs.Checks.{then_ok, must_ok}
 
@@ -132,6 +132,48 @@ classes_own d more (c ∷ cs) h =
     })
     (classes_own d (more ++ c.name ∷ []) cs (subst (λ names. check_classes d names cs ≡ Ok tt) (append_assoc (map (λ i. i.name) d.interfaces) more (c.name ∷ [])) s.1))
 
+-- results of interfaces' methods
+
+item_far : (d : Declarations) (t : TypeTree) → is_remote_value d t ≡ true → IsFarItem d.interfaces (kind_of t)
+item_far d (tree.Int at) h = tt
+item_far d (tree.Bool at) h = tt
+item_far d (tree.Text at) h = tt
+item_far d (tree.Unit at) h = absurd (cc (h))
+item_far d (tree.Named at name) h = h
+item_far d (tree.ListOf at item) h = absurd (cc (h))
+item_far d (tree.RowsOf at row) h = absurd (cc (h))
+
+result_far : (d : Declarations) (t : TypeTree) → is_remote_result d t ≡ true → IsFarKind d.interfaces (kind_of t)
+result_far d (tree.Int at) h = tt
+result_far d (tree.Bool at) h = tt
+result_far d (tree.Text at) h = tt
+result_far d (tree.Unit at) h = tt
+result_far d (tree.Named at name) h = h
+result_far d (tree.ListOf at item) h = absurd (cc (h))
+result_far d (tree.RowsOf at row) h = item_far d row h
+
+abbrev pub GivesFar : Declarations → Signature → Type 0
+GivesFar d s = IsFarKind d.interfaces (kind_of s.result)
+
+signatures_far : (d : Declarations) (before : List (List ℕ)) (ss : List Signature) → check_signatures d before ss ≡ Ok tt → All (GivesFar d) ss
+signatures_far d before [] h = All-nil (GivesFar d)
+signatures_far d before (s ∷ ss) h =
+    let a = then_ok (new_name before s.at s.name >> check_signature true d s) (check_signatures d (before ++ s.name ∷ []) ss) tt h in
+    let b = then_ok (new_name before s.at s.name) (check_signature true d s) tt a.0 in
+    let c = then_ok (check_params true d [] s.params) (result_type true d s.result) tt b.1 in
+    let e = then_ok (declared_type d s.result) (must (is_remote_result d s.result) (TypeNotHere (type_at s.result))) tt c.1 in
+    All-cons (GivesFar d) s ss (result_far d s.result (must_ok (is_remote_result d s.result) (TypeNotHere (type_at s.result)) e.1)) (signatures_far d (before ++ s.name ∷ []) ss a.1)
+
+abbrev pub AllGiveFar : Declarations → Interface → Type 0
+AllGiveFar d i = All (GivesFar d) i.methods
+
+interfaces_far : (d : Declarations) (before : List (List ℕ)) (is : List Interface) → check_interfaces d before is ≡ Ok tt → All (AllGiveFar d) is
+interfaces_far d before [] h = All-nil (AllGiveFar d)
+interfaces_far d before (i ∷ is) h =
+    let a = then_ok (new_name before i.at i.name >> check_signatures d [] i.methods) (check_interfaces d (before ++ i.name ∷ []) is) tt h in
+    let b = then_ok (new_name before i.at i.name) (check_signatures d [] i.methods) tt a.0 in
+    All-cons (AllGiveFar d) i is (signatures_far d [] i.methods b.1) (interfaces_far d (before ++ i.name ∷ []) is a.1)
+
 -- bodies
 
 abbrev HasBody : Declarations → List ℕ → Method → Type 0
@@ -158,6 +200,7 @@ pub record Known (d : Declarations) : Type 0 where
   pub bodies : All (HasBodies d) d.classes
   pub formed : AreFormed d.classes
   pub alone : d.service ≡ true → d.interfaces ≡ []
+  pub interfaces : All (AllGiveFar d) d.interfaces
 
 pub typed_known : (d : Declarations) → AreTyped d → Known d
 typed_known d h =
@@ -167,6 +210,7 @@ typed_known d h =
       bodies = classes_checked d d.classes h.bodies;
       formed = h.formed;
       alone = h.alone;
+      interfaces = interfaces_far d [] d.interfaces s.0;
     }
 
 -- a class that is found by name

@@ -1,19 +1,20 @@
 -- The lemmas on typed code.
-mod Checks
-mod Values
-mod Faults
+pub mod Checks
+pub mod Values
+pub mod Faults
 mod Results
-mod Steps
+pub mod Steps
 mod Known
 mod OwnKinds
 mod Names
 mod Objects
-mod Exprs
-mod Stmts
-mod Bodies
+pub mod Exprs
+pub mod Stmts
+pub mod Bodies
 mod Services
-mod InSurroundings
-mod Served
+pub mod InSurroundings
+pub mod Served
+mod FarValues
 mod Far
 mod ScriptRuns
 mod NodeSizes

@@ -15,19 +15,19 @@ use Rattle.rb_trees.specs.mirror.Code.{Expr, Lit, Name, This, Unary, Binary, Fie
 use Rattle.rb_trees.specs.mirror.Declarations.{Param, Interface, Method, Class}
 use Rattle.rb_meaning_types.specs.Kinds as kind
 use Rattle.rb_meaning_types.specs.Kinds.{Kind, kind_of}
-use Rattle.rb_meaning_types.specs.Names.{interface_named, class_named, method_named, field_named}
+use Rattle.rb_meaning_types.specs.Names.{interface_named, class_named, method_named, field_named, signature_named}
 use Rattle.rb_meaning_types.specs.Violations.{Placed, UnknownName, NotAllowedHere, wanted, wrong_type}
 use Rattle.rb_meaning_types.specs.Declared.{Declarations, Context}
 use Rattle.rb_meaning_types.specs.Scopes.{Scope, Variable, variable_named, parameters}
 use Rattle.rb_meaning_types.specs.Literals.{literal_form, literal_kind}
 use Rattle.rb_meaning_types.specs.Operators.{takes_operand, unary_result, takes_left, binary_result, item_of}
-use Rattle.rb_meaning_types.specs.Members.{arguments_fit, receiver_class, field_kind, signature_kind, class_call, call_on, receiver_interface, call_kind, new_kind}
+use Rattle.rb_meaning_types.specs.Members.{arguments_fit, receiver_class, field_kind, signature_kind, interface_call, class_call, call_on, receiver_interface, call_kind, new_kind}
 use Rattle.rb_meaning_types.specs.Places.{declared_type, value_type, item_type}
 use Rattle.rb_meaning_types.specs.Expressions.{this_kind, all_wanted, items_kind, type_of, types_of}
 use Rattle.rb_meaning_types.specs.Fits.{frame_scope}
-use Rattle.rb_types_keep.specs.Own.{IsOwnKind, IsOwnScope, IsOwnPlace}
-use Rattle.rb_types_keep.proofs.Checks.{bind_ok, then_ok, known_ok, placed_ok}
-use Rattle.rb_types_keep.proofs.Known.{Known, IsOwnParam, class_known, class_apart, method_known, found_one, value_own}
+use Rattle.rb_types_keep.specs.Own.{IsOwnKind, IsOwnScope, IsOwnPlace, IsFarKind}
+use Rattle.rb_types_keep.proofs.Checks.{bind_ok, then_ok, known_ok, must_ok, placed_ok}
+use Rattle.rb_types_keep.proofs.Known.{Known, GivesFar, AllGiveFar, IsOwnParam, class_known, class_apart, method_known, found_one, value_own}
 
 -- what look-ups of members tell
 
@@ -54,7 +54,7 @@ field_ok d at name p k h =
     record { class = r.0; of_class = s.0; field = t.0; receiver = r.1; found = r.2; there = known_ok (UnknownName at) (field_named (s.0).fields name) t.0 t.1; same = cc (t.2) }
 
 -- a call of a method of a class
-pub record IsCall (d : Declarations) (at : ℕ) (name : List ℕ) (p : Placed) (args : List Placed) (k : Kind) : Type 0 where
+pub record IsCall (d : Declarations) (remote : Truth) (at : ℕ) (name : List ℕ) (p : Placed) (args : List Placed) (k : Kind) : Type 0 where
   pub class : List ℕ
   pub of_class : Class
   pub method : Method
@@ -62,10 +62,11 @@ pub record IsCall (d : Declarations) (at : ℕ) (name : List ℕ) (p : Placed) (
   pub found : class_named d.classes class ≡ Some of_class
   pub there : method_named of_class.methods name ≡ Some method
   pub args_fit : arguments_fit at method.signature.params args ≡ Ok tt
+  pub allowed : (remote || not method.remote) ≡ true
   pub same : kind_of method.signature.result ≡ k
 
 class_call_ok : (x : Context) (at : ℕ) (name : List ℕ) (p : Placed) (args : List Placed) (k : Kind)
-    → (receiver_class x.declared p p.kind >>= λ c. class_call x at name c args) ≡ Ok k → IsCall x.declared at name p args k
+    → (receiver_class x.declared p p.kind >>= λ c. class_call x at name c args) ≡ Ok k → IsCall x.declared x.remote at name p args k
 class_call_ok x at name p args k h =
     let s = bind_ok (receiver_class x.declared p p.kind) (λ c. class_call x at name c args) k h in
     let t = bind_ok (known (UnknownName at) (method_named (s.0).methods name)) _ k s.2 in
@@ -73,7 +74,7 @@ class_call_ok x at name p args k h =
     let v = then_ok (arguments_fit at (t.0).signature.params args) (Ok (kind_of (t.0).signature.result)) u.0 u.1 in
     let w = then_ok (must (x.remote || not (t.0).remote) (NotAllowedHere at)) (Ok u.0) k u.2 in
     let r = receiver_ok x.declared p p.kind s.0 s.1 in
-    record { class = r.0; of_class = s.0; method = t.0; receiver = r.1; found = r.2; there = known_ok (UnknownName at) (method_named (s.0).methods name) t.0 t.1; args_fit = v.0; same = cc (v.1, w.1) }
+    record { class = r.0; of_class = s.0; method = t.0; receiver = r.1; found = r.2; there = known_ok (UnknownName at) (method_named (s.0).methods name) t.0 t.1; args_fit = v.0; allowed = must_ok (x.remote || not (t.0).remote) (NotAllowedHere at) w.0; same = cc (v.1, w.1) }
 
 no_receiver : (d : Declarations) (k : Kind) → IsOwnKind d.interfaces k → receiver_interface d k ≡ None
 no_receiver d kind.Int h = refl
@@ -84,7 +85,7 @@ no_receiver d (kind.Named name) h = h
 no_receiver d (kind.ListOf item) h = refl
 no_receiver d (kind.RowsOf row) h = absurd h
 
-pub call_ok : (x : Context) (at : ℕ) (name : List ℕ) (p : Placed) (args : List Placed) (k : Kind) → IsOwnKind x.declared.interfaces p.kind → call_kind x at name p args ≡ Ok k → IsCall x.declared at name p args k
+pub call_ok : (x : Context) (at : ℕ) (name : List ℕ) (p : Placed) (args : List Placed) (k : Kind) → IsOwnKind x.declared.interfaces p.kind → call_kind x at name p args ≡ Ok k → IsCall x.declared x.remote at name p args k
 call_ok x at name p args k own h = class_call_ok x at name p args k (subst (λ o. call_on x at name p args o ≡ Ok k) (no_receiver x.declared p.kind own) h)
 
 -- a call on an object of the service
@@ -94,18 +95,30 @@ pub record IsFarCall (d : Declarations) (k : Kind) : Type 0 where
   pub receiver : k ≡ kind.Named name
   pub found : interface_named d.interfaces name ≡ Some interface
 
-receiver_far : (d : Declarations) (k : Kind) (i : Interface) → receiver_interface d k ≡ Some i → IsFarCall d k
-receiver_far d (kind.Named name) i e = record { name = name; interface = i; receiver = refl; found = e }
+receiver_far : (d : Declarations) (k : Kind) (i : Interface) → receiver_interface d k ≡ Some i → (name : List ℕ) × (k ≡ kind.Named name) × (interface_named d.interfaces name ≡ Some i)
+receiver_far d (kind.Named name) i e = (name, refl, e)
 receiver_far d kind.Int i e = absurd (cc (e))
 receiver_far d _ i e = absurd (cc (e))
 
+-- its result is one that comes from a remote object
+pub far_result : (d : Declarations) → Known d → (at : ℕ) (name : List ℕ) (i : Interface) (args : List Placed) (k : Kind) → AllGiveFar d i → interface_call at name i args ≡ Ok k → IsFarKind d.interfaces k
+far_result d known' at name i args k all h =
+    let s = bind_ok (known (UnknownName at) (signature_named i.methods name)) _ k h in
+    let t = then_ok (arguments_fit at (s.0).params args) (Ok (kind_of (s.0).result)) k s.2 in
+    let same : kind_of (s.0).result ≡ k = cc (t.1) in
+    subst (IsFarKind d.interfaces) same (found_one (GivesFar d) (λ y. y.name) i.methods name s.0 (known_ok (UnknownName at) (signature_named i.methods name) s.0 s.1) all)
+
 -- a call is on an own object or on a remote one
-pub call_how : (x : Context) (at : ℕ) (name : List ℕ) (p : Placed) (args : List Placed) (k : Kind) → call_kind x at name p args ≡ Ok k → IsCall x.declared at name p args k ⊎ IsFarCall x.declared p.kind
-call_how x at name p args k h = by (receiver_interface x.declared p.kind) refl h
+pub call_how : (x : Context) → Known x.declared → (at : ℕ) (name : List ℕ) (p : Placed) (args : List Placed) (k : Kind) → call_kind x at name p args ≡ Ok k
+    → IsCall x.declared x.remote at name p args k ⊎ (IsFarCall x.declared p.kind × IsFarKind x.declared.interfaces k)
+call_how x known' at name p args k h = by (receiver_interface x.declared p.kind) refl h
   where
-    by : (o : Option Interface) → receiver_interface x.declared p.kind ≡ o → call_on x at name p args o ≡ Ok k → IsCall x.declared at name p args k ⊎ IsFarCall x.declared p.kind
+    by : (o : Option Interface) → receiver_interface x.declared p.kind ≡ o → call_on x at name p args o ≡ Ok k → IsCall x.declared x.remote at name p args k ⊎ (IsFarCall x.declared p.kind × IsFarKind x.declared.interfaces k)
     by None e h' = inl (class_call_ok x at name p args k h')
-    by (Some i) e h' = inr (receiver_far x.declared p.kind i e)
+    by (Some i) e h' =
+        let f = receiver_far x.declared p.kind i e in
+        let all = found_one (AllGiveFar x.declared) (λ y. y.name) x.declared.interfaces f.0 i f.2 known'.interfaces in
+        inr (record { name = f.0; interface = i; receiver = f.1; found = f.2 }, far_result x.declared known' at name i args k all h')
 
 pub not_far : (d : Declarations) (k : Kind) → IsOwnKind d.interfaces k → IsFarCall d k → ⊥
 not_far d k own far = let none : interface_named d.interfaces far.name ≡ None = subst (IsOwnKind d.interfaces) far.receiver own in absurd (cc (none, far.found))

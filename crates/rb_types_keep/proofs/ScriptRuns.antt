@@ -22,11 +22,11 @@ use Rattle.rb_meaning_code.specs.Operators.{on_one, on_two, by_left}
 use Rattle.rb_meaning_code.specs.Statements.{truth_of}
 use Rattle.rb_meaning_code.specs.Remote.{Server, Reply, Got, Stopped, and_then, replies, invoke}
 use Rattle.rb_meaning_code.specs.ScriptRun.{batch_fuel, Ground, Vars, latest, Ran, ended, in_front, with_entry, on_reply, decided_or, value_of, values_of, is_primitive, kept, with_kept, condition, rows_in, rows_of, goes_on, chosen, branched, Why, AllDone, InTurn, NoUnit, Turned, with_unit, turned_on, turns, turn_over, after_turns, walked, run_step, run_steps}
-use Rattle.rb_types_keep.specs.Kept.{IsPrimitiveForm, IsPrimitive}
+use Rattle.rb_types_keep.specs.Kept.{IsPrimitiveForm, IsPrimitive, IsBounded}
 use Rattle.rb_types_keep.specs.Formed.{AreFormed}
 use Rattle.rb_types_keep.specs.Ends.{Grown}
 use Rattle.rb_types_keep.specs.Operators.{IfDecided}
-use Rattle.rb_types_keep.specs.Remote.{IsBounded, IsOfKind, IsFault, IsCallFault, TableKeeps, ReplyKeeps}
+use Rattle.rb_types_keep.specs.Remote.{IsOfKind, IsFault, IsCallFault, TableKeeps, ReplyKeeps}
 use Rattle.rb_types_keep.specs.Scripts.{IsPlace, IsBoundedSExpr, AreBoundedSExprs, IsBoundedStep, AreBoundedSteps, IsKept, IsNode, IsBranch, count_nodes, AreNodes, AreTurns, Then, AreNone, KeptFirst, StepGives, StepsGive, RanKeeps, ScriptsKeep}
 use Rattle.rb_types_keep.proofs.Values.{grown_on}
 use Rattle.rb_types_keep.proofs.Served.{remote_out, still_within, table_same, invoke_keeps}

@@ -26,9 +26,11 @@ use Rattle.rb_meaning_code.specs.Dialogue.{Outcome, Gave, Faulted}
 use Rattle.rb_meaning_code.specs.Calls.{method_of}
 use Rattle.rb_meaning_code.specs.Remote.{Server, Reply, and_then, replies, Item, AnInt, ABool, AText, AnObject, Kind, Nothing, One, Rows, kind_of, seen_item, seen_items, seen_rows, seen_nothing, seen, seen_as, taken_object, taken_as, taken_all, remote_object, begun, server_of, served, returned, invoke}
 use Rattle.rb_types_keep.specs.Formed.{AreFormed}
-use Rattle.rb_types_keep.specs.Ends.{Grown, place_in, Ends, OfKind}
-use Rattle.rb_types_keep.specs.Code.{ArgumentsFit, HasMethod, CallFits, Place, Stands}
-use Rattle.rb_types_keep.specs.Remote.{IsBoundedForm, IsBounded, IsItemForm, AreRowsForm, IsNothingForm, IsKindForm, IsOfKind, IsCallFault, TableKeeps, ReplyKeeps, CallsKeep}
+use Rattle.rb_types_keep.specs.Ends.{Grown, Place, context, Ends, OfKind}
+use Rattle.rb_types_keep.specs.Admitted.{HasMethod}
+use Rattle.rb_types_keep.specs.Code.{ArgumentsFit, CallFits, Stands}
+use Rattle.rb_types_keep.specs.Kept.{IsBoundedForm, IsBounded}
+use Rattle.rb_types_keep.specs.Remote.{IsItemForm, AreRowsForm, IsNothingForm, IsKindForm, IsOfKind, IsCallFault, TableKeeps, ReplyKeeps, CallsKeep}
 use Rattle.rb_types_keep.proofs.Faults.{empty_text}
 use Rattle.rb_types_keep.proofs.Values.{unit_out, int_out, bool_out, text_out, grown_same, int_fits, bool_fits, text_fits, object_fits}
 use Rattle.rb_types_keep.proofs.Services.{services_end}
@@ -261,14 +263,18 @@ module _ (classes : List Class) (typed : check_service classes ≡ Ok tt) (forme
   seen_keeps before w s (Some u) e h t = (seen_fits (length s.table) kind w u h e, t)
   seen_keeps before w s None e h t = (plain_fallen at target 11 (omega arith) (omega arith), t)
 
+  -- outside of all methods
+  abbrev outside : Place
+  outside = record { this = None; remote = true; scope = [] }
+
   returned_keeps : (k : type.Kind) (before : List Object) (o : Outcome Value) → TableFits classes root before
-      → Ends (place_in (of_service classes) None true) [] [] (OfKind (place_in (of_service classes) None true) k) (classes_of before) o
+      → Ends (context (of_service classes) outside) [] [] (OfKind (context (of_service classes) outside) k) (classes_of before) o
       → ReplyKeeps classes root before (IsOfKind kind) (IsCallFault at target) (returned at kind o)
   returned_keeps k before (Gave v l) h e =
       seen_keeps before (out-Value v) (server_of l) (seen_as kind (out-Value v)) refl (subst (λ n. IsWholeForm n (out-Value v)) (classes_count l.heap) (whole (classes_of l.heap) k v e.gives))
       (table_after classes root before l.heap h e.state.holds.heap_fits e.grown)
   returned_keeps k before (Faulted r l) h e = (
-    record { here = refl; fault = record { least = e.fault.least; most = e.fault.most; text = e.fault.text; plain = e.fault.plain }; kind = λ c. absurd (cc ((e.fault.kind c).1)) },
+    record { here = refl; fault = record { least = e.fault.least; most = omega (arith, e.fault.most); text = e.fault.text; plain = e.fault.plain }; kind = λ c. absurd (omega (arith, c, e.fault.most)) },
     table_after classes root before l.heap h e.state.heap_fits e.grown,
   )
 
@@ -291,7 +297,6 @@ module _ (classes : List Class) (typed : check_service classes ≡ Ok tt) (forme
         on = object_fits [] (classes_of s.table) (o.0).class object refl (class_at s.table object o.0 o.1);
         args_fit = values_taken s.table m.signature.params args values bounded taken;
       } in
-      let outside : Place = record { this = None; remote = true; scope = [] } in
       let stands : Stands (of_service classes) outside (begun s) = record { own = tt; fits = record { holds = record { names_fit = tt; heap_fits = fits.heap_fits }; count = refl } } in
       returned_keeps (type.kind_of m.signature.result) s.table (served classes at object method values s) fits
       ((services_end classes typed formed).calls outside (o.0).class method m (value.Ref object) values at s.fuel (begun s) call_fits stands))))

@@ -1,7 +1,8 @@
 -- Typed statements keep types.
-use Rattle.std.proofs.Common.{◌≡◌, ◌⊎◌, inl, inr, refl, sym, ap, ◌∙◌, subst, ℕ, zero, suc, List, [], ◌∷◌, length, arith, Bool as Truth, true, false, not, cond, All, Option, Some, None, is_some, Result, Ok, Err}
+use Rattle.std.proofs.Common.{◌≡◌, ◌⊎◌, inl, inr, refl, sym, ap, ◌∙◌, subst, ℕ, zero, suc, List, [], ◌∷◌, length, arith, ◌++◌, Bool as Truth, true, false, not, cond, All, Option, Some, None, is_some, Result, Ok, Err}
 use Rattle.std.proofs.lemmas.Bool.{not-true}
-use Rattle.std.proofs.lemmas.List.Elements.{All-head, All-tail}
+use Rattle.std.proofs.lemmas.List.Elements.{All-head, All-tail, Contains-append_left, Contains-append_right}
+use Rattle.std.specs.List.{Contains}
 use Rattle.std.specs.Str.{bytes_eq}
 use Rattle.rb_trees.specs.Named.{replaced}
 use Rattle.rb_trees.specs.Outcome.{◌>>=◌, ◌>>◌, known, must}
@@ -22,6 +23,7 @@ use Rattle.rb_meaning_types.specs.Declared.{Declarations, Context, is_interface}
 use Rattle.rb_meaning_types.specs.Scopes.{Scope, Variable, variable_named, is_free, with_variable}
 use Rattle.rb_meaning_types.specs.Expressions.{type_of}
 use Rattle.rb_meaning_types.specs.Members.{field_kind}
+use Rattle.rb_meaning_types.specs.Notes.{scope_or}
 use Rattle.rb_meaning_types.specs.Statements.{placed, condition, declare, is_assignable, assign, is_printable, turn_kind, loop_scope, catch_scope, batch_scope, closed, check_stmt, check_stmts}
 use Rattle.rb_meaning_types.specs.Fits.{classes_of, IsIntValue, IsBoolValue, IsTextValue, AreItems, AreRows, Fits, this_name, frame_scope, NamesFit}
 use Rattle.rb_meaning_code.specs.State.{Local, bound, spent}
@@ -36,17 +38,19 @@ use Rattle.rb_meaning_code.specs.Statements.{Effect, nothing, block, truth_of, e
 use Rattle.rb_types_keep.specs.Kept.{IsOwnFault, Fair}
 use Rattle.rb_types_keep.specs.Formed.{IsFormedExpr, IsFormedStmt, AreFormedStmts}
 use Rattle.rb_types_keep.specs.Own.{IsOwnKind, IsOwnPlace}
-use Rattle.rb_types_keep.specs.Ends.{Grown, LocalFits, Ends, OfKind, Nothing, Side, Own, InBatch, IsFar, IsAnswer, Keeps}
-use Rattle.rb_types_keep.specs.Noted.{IsNotedExpr, IsNotedStmt, AreNotedStmts}
+use Rattle.rb_types_keep.specs.Ends.{Grown, LocalFits, Ends, OfKind, Nothing}
+use Rattle.rb_types_keep.specs.Asked.{Site, Side, Own, InBatch, IsFar, IsNear, MayAsk, IsAnswer, Keeps}
+use Rattle.rb_types_keep.specs.Batches.{sites, sites_in, MayHold, AreAmong}
+use Rattle.rb_types_keep.specs.Code.{IsBatchStmt, AreBatchStmts}
 use Rattle.rb_types_keep.proofs.Checks.{bind_ok, then_ok, known_ok, must_ok, placed_ok, wanted_ok}
 use Rattle.rb_types_keep.proofs.Values.{of_class, grown_same, grown_on, fits_more, all_more, names_less, names_added, frame_longer, text_fits}
-use Rattle.rb_types_keep.proofs.Faults.{plain_own, thrown_own, raised_fits, caught_is_text, SomeIs}
+use Rattle.rb_types_keep.proofs.Faults.{plain_own, thrown_own, caught_is_text, SomeIs}
 use Rattle.rb_types_keep.proofs.Results.{conditions_hold}
 use Rattle.rb_types_keep.proofs.Known.{Known, class_apart}
 use Rattle.rb_types_keep.proofs.OwnKinds.{field_ok, type_own, place_added}
 use Rattle.rb_types_keep.proofs.Names.{name_fits, frame_put, put_count}
 use Rattle.rb_types_keep.proofs.Objects.{IsWritten, write_fits}
-use Rattle.rb_types_keep.proofs.Exprs.{NotedExpr, SafeBodies, unit_fair, value_runs}
+use Rattle.rb_types_keep.proofs.Exprs.{NotedExpr, SafeBodies, MayCall, unit_fair, value_runs}
 use Rattle.rb_types_keep.proofs.Steps.{keeps_seq, keeps_more, Within, within_same, Runs, goes, then_goes, ends, falls, helped, Closes, block_closes, block_runs}
 
 -- what checks of statements tell
@@ -115,9 +119,9 @@ own_printed d (kind.Named name) own t = let none : is_some (interface_named d.in
 own_printed d (kind.ListOf item) own t = absurd (cc (t))
 own_printed d (kind.RowsOf row) own t = absurd own
 
-printed : (side : Side) (d : Declarations) (k : Kind) → (side ≡ Own → IsOwnKind d.interfaces k) → ((kinds : ℕ → Option Kind) → side ≡ InBatch kinds → is_primitive k ≡ true) → is_printable d k ≡ true → is_primitive k ≡ true
-printed Own d k own noted t = own_printed d k (own refl) t
-printed (InBatch kinds) d k own noted t = noted kinds refl
+printed : (side : Side) (d : Declarations) (k : Kind) → (IsNear side → IsOwnKind d.interfaces k) → ((types : ℕ → Option (Checked Kind)) → side ≡ InBatch types → is_primitive k ≡ true) → is_printable d k ≡ true → is_primitive k ≡ true
+printed (Own batches) d k own noted t = own_printed d k (own tt) t
+printed (InBatch types) d k own noted t = noted types refl
 
 -- an interface stands in no service
 no_service : (d : Declarations) → Known d → (name : List ℕ) → is_interface d name ≡ true → d.service ≡ false
@@ -130,10 +134,10 @@ no_service d known' name h = by d.service refl
 -- code that may add names to its scope, from every state that fits
 pub record Adds (side : Side) (x : Context) (scope after : Scope) (run : Effect) : Type 0 where
   pub sub : Within x scope after
-  pub own : side ≡ Own → IsOwnPlace x after
+  pub own : IsNear side → IsOwnPlace x after
   pub runs : (l : Local) → LocalFits x scope l → Runs side x scope after Nothing (classes_of l.heap) (run l)
 
-adds_none : {side : Side} {x : Context} {scope after : Scope} (run : Effect) → scope ≡ after → (side ≡ Own → IsOwnPlace x scope) → ((l : Local) → LocalFits x scope l → Runs side x scope scope Nothing (classes_of l.heap) (run l)) → Adds side x scope after run
+adds_none : {side : Side} {x : Context} {scope after : Scope} (run : Effect) → scope ≡ after → (IsNear side → IsOwnPlace x scope) → ((l : Local) → LocalFits x scope l → Runs side x scope scope Nothing (classes_of l.heap) (run l)) → Adds side x scope after run
 adds_none {side = side} {x = x} {scope = scope} run e own h = subst (λ s. Adds side x scope s run) e (record { sub = within_same x scope; own = own; runs = h })
 
 -- a block of such code keeps the scope
@@ -142,10 +146,10 @@ blocked run h l state = block_runs run state h.sub (h.runs l state)
 
 -- a new name
 
-within_added : (x : Context) (scope : Scope) (name : List ℕ) (k : Kind) (fixed : Truth) → Within x scope (with_variable scope name k fixed)
+pub within_added : (x : Context) (scope : Scope) (name : List ℕ) (k : Kind) (fixed : Truth) → Within x scope (with_variable scope name k fixed)
 within_added x scope name k fixed cs ns h = names_less x.declared.interfaces cs x.this scope (record { name = name; kind = k; fixed = fixed } ∷ []) ns h
 
-binds : (x : Context) (scope : Scope) (l : Local) (name : List ℕ) (k : Kind) (fixed : Truth) (v : Value) → LocalFits x scope l → Fits x.declared.interfaces (classes_of l.heap) k v → LocalFits x (with_variable scope name k fixed) (bound name v l)
+pub binds : (x : Context) (scope : Scope) (l : Local) (name : List ℕ) (k : Kind) (fixed : Truth) (v : Value) → LocalFits x scope l → Fits x.declared.interfaces (classes_of l.heap) k v → LocalFits x (with_variable scope name k fixed) (bound name v l)
 binds x scope l name k fixed v state fits = record {
   holds = record {
     names_fit = names_added x.declared.interfaces (classes_of l.heap) x.this scope l.names (record { name = name; kind = k; fixed = fixed }) v state.count state.holds.names_fit fits;
@@ -195,7 +199,7 @@ while_runs : (side : Side) (x : Context) (scope : Scope) (gas at : ℕ) (test : 
     → ((l1 : Local) → LocalFits x scope l1 → Runs side x scope scope (OfKind x kind.Bool) (classes_of l1.heap) (test l1))
     → ((l1 : Local) → LocalFits x scope l1 → Runs side x scope scope Nothing (classes_of l1.heap) (body l1))
     → (l : Local) → LocalFits x scope l → Runs side x scope scope Nothing (classes_of l.heap) (while_turns gas at test body l)
-while_runs side x scope zero at test body ht hb l state = falls (raised fuel_used at) (raised_fits x.declared fuel_used at (plain_own 7 (omega arith) (omega arith))) state (grown_same (classes_of l.heap))
+while_runs side x scope zero at test body ht hb l state = falls (raised fuel_used at) (plain_own 7 (omega arith) (omega arith)) state (grown_same (classes_of l.heap))
 while_runs side x scope (suc gas) at test body ht hb l state =
     then_goes _ (ht l state) (λ v l1 fv state1 g1.
     truth_runs side x scope at v _ nothing l1 state1 fv
@@ -234,11 +238,11 @@ row_turns_run side x scope after at name item statements far h (Value-F.Rows row
 row_turns_run side x scope after at name item statements far h Value-F.Unit l each state = absurd each
 row_turns_run side x scope after at name item statements far h _ l each state = absurd each
 
-rows_far : (side : Side) (is : List Interface) (k item : Kind) → (side ≡ Own → IsOwnKind is k) → k ≡ kind.RowsOf item → IsFar side
-rows_far Own is k item own e = absurd (subst (IsOwnKind is) e (own refl))
-rows_far (InBatch kinds) is k item own e = tt
+rows_far : (side : Side) (is : List Interface) (k item : Kind) → (IsNear side → IsOwnKind is k) → k ≡ kind.RowsOf item → IsFar side
+rows_far (Own batches) is k item own e = absurd (subst (IsOwnKind is) e (own tt))
+rows_far (InBatch types) is k item own e = tt
 
-turns_run : (side : Side) (x : Context) (scope after : Scope) (at : ℕ) (name : List ℕ) (k item : Kind) (statements : Effect) → (side ≡ Own → IsOwnKind x.declared.interfaces k) → (k ≡ kind.ListOf item) ⊎ (k ≡ kind.RowsOf item)
+turns_run : (side : Side) (x : Context) (scope after : Scope) (at : ℕ) (name : List ℕ) (k item : Kind) (statements : Effect) → (IsNear side → IsOwnKind x.declared.interfaces k) → (k ≡ kind.ListOf item) ⊎ (k ≡ kind.RowsOf item)
     → Adds side x (with_variable scope name item true) after statements
     → (v : Value) (l : Local) → Fits x.declared.interfaces (classes_of l.heap) k v → LocalFits x scope l → Runs side x scope scope Nothing (classes_of l.heap) (turns at name (out-Value v) statements l)
 turns_run side x scope after at name k item statements own (inl e) h v l fv state =
@@ -302,23 +306,50 @@ writes_run side x known' scope at placed_at object name p k a l t state on_it fi
     d.found d.there (subst (λ m. Fits is (classes_of l.heap) m a) (sym d.same) fits)) (λ heap w.
     ends tt tt (rewritten x scope l heap state w) (subst (Grown (classes_of l.heap)) (sym w.same) (grown_same (classes_of l.heap))))
 
+-- code in a batch is noted and admitted, and other code asks the batches that it may
 abbrev pub NotedStmt : Side → Context → Scope → Stmt → Type 0
-NotedStmt side x scope s = (kinds : ℕ → Option Kind) → side ≡ InBatch kinds → IsNotedStmt kinds x scope s
+NotedStmt side x scope s = (types : ℕ → Option (Checked Kind)) → side ≡ InBatch types → IsBatchStmt types x scope s
 
 abbrev pub NotedStmts : Side → Context → Scope → Stmts → Type 0
-NotedStmts side x scope ss = (kinds : ℕ → Option Kind) → side ≡ InBatch kinds → AreNotedStmts kinds x scope ss
+NotedStmts side x scope ss = (types : ℕ → Option (Checked Kind)) → side ≡ InBatch types → AreBatchStmts types x scope ss
 
-module _ (side : Side) (x : Context) (known' : Known x.declared) (run : Body → Local → dialogue.Run Value) (run_ok : SafeBodies x.declared side run) where
+abbrev pub KnownStmt : Side → Context → Scope → Stmt → Type 0
+KnownStmt side x scope s = (batches : List Site) → side ≡ Own batches → MayHold x → AreAmong batches (sites x scope s)
+
+abbrev pub KnownStmts : Side → Context → Scope → Stmts → Type 0
+KnownStmts side x scope ss = (batches : List Site) → side ≡ Own batches → MayHold x → AreAmong batches (sites_in x scope ss)
+
+first_among : (batches xs ys : List Site) → AreAmong batches (xs ++ ys) → AreAmong batches xs
+first_among batches xs ys h b is = h b (Contains-append_left xs ys b is)
+
+rest_among : (batches xs ys : List Site) → AreAmong batches (xs ++ ys) → AreAmong batches ys
+rest_among batches xs ys h b is = h b (Contains-append_right xs ys b is)
+
+-- a batch that is among those may be asked, and none that stands in a batch
+here_first : (b : Site) (bs : List Site) → Contains (b ∷ bs) b
+here_first b bs = (0, omega arith, refl)
+
+may_ask : (side : Side) (x : Context) (scope : Scope) (at : ℕ) (interface root : List ℕ) (block : Stmts) → NotedStmt side x scope (Batch at interface root block) → KnownStmt side x scope (Batch at interface root block) → MayHold x
+    → MayAsk side (record { at = at; interface = interface; root = root; block = block; place = record { this = x.this; remote = x.remote; scope = scope } })
+may_ask (Own batches) x scope at interface root block n b holds = b batches refl holds _ (here_first _ [])
+may_ask (InBatch types) x scope at interface root block n b holds = absurd (n types refl).1
+
+-- the scope of a loop's block, as the judgement gives it
+loop_is : (x : Context) (scope : Scope) (at : ℕ) (name : List ℕ) (e : Expr) (k : Kind) (inner : Scope) → type_of x scope e ≡ Ok k → loop_scope scope at name (record { at = expr_at e; kind = k }) ≡ Ok inner
+    → (placed x scope e >>= λ p. loop_scope scope at name p) ≡ Ok inner
+loop_is x scope at name e k inner t h = ap (λ r. with_place (expr_at e) r >>= λ p. loop_scope scope at name p) t ∙ h
+
+module _ (side : Side) (x : Context) (known' : Known x.declared) (all : Truth) (run : Body → Local → dialogue.Run Value) (run_ok : SafeBodies x.declared side all run) (may : MayCall side x all) where
   abbrev bodies : Bodies
   bodies = record { classes = x.declared.classes; run = run }
 
   abbrev is : List Interface
   is = x.declared.interfaces
 
-  pub here : (scope : Scope) → (side ≡ Own → IsOwnPlace x scope) → (e : Expr) (l : Local) (k : Kind) → type_of x scope e ≡ Ok k → IsFormedExpr e → NotedExpr side x scope e → LocalFits x scope l → Runs side x scope scope (OfKind x k) (classes_of l.heap) (evaluates bodies e l)
-  here = value_runs side x known' run run_ok
+  pub here : (scope : Scope) → (IsNear side → IsOwnPlace x scope) → (e : Expr) (l : Local) (k : Kind) → type_of x scope e ≡ Ok k → IsFormedExpr e → NotedExpr side x scope e → LocalFits x scope l → Runs side x scope scope (OfKind x k) (classes_of l.heap) (evaluates bodies e l)
+  here scope own = value_runs side x known' all run run_ok scope own may
 
-  declares : (scope after : Scope) → (side ≡ Own → IsOwnPlace x scope) → (at : ℕ) (name : List ℕ) (fixed : Truth) (e : Expr) → (placed x scope e >>= λ p. declare scope at name fixed p) ≡ Ok after → IsFormedExpr e → NotedExpr side x scope e
+  declares : (scope after : Scope) → (IsNear side → IsOwnPlace x scope) → (at : ℕ) (name : List ℕ) (fixed : Truth) (e : Expr) → (placed x scope e >>= λ p. declare scope at name fixed p) ≡ Ok after → IsFormedExpr e → NotedExpr side x scope e
       → Adds side x scope after (λ l. next (evaluates bodies e l) (λ v l1. nothing (bound name v l1)))
   declares scope after own at name fixed e h f n =
       let s = placed_ok (expr_at e) (type_of x scope e) _ after h in
@@ -342,107 +373,115 @@ module _ (side : Side) (x : Context) (known' : Known x.declared) (run : Body →
       let w = then_ok (must (is_assignable scope left) (NotAssignable at)) (wanted s.0 q) tt t.0 in
       (s.0, s.1, u.1 ∙ ap Ok (sym (wanted_ok s.0 q w.1)), must_ok (is_assignable scope left) (NotAssignable at) w.0, cc (t.1))
 
-  assign_runs : (scope after : Scope) → (side ≡ Own → IsOwnPlace x scope) → (at : ℕ) (left right : Expr) → (placed x scope left >>= λ p. placed x scope right >>= λ q. assign scope at left p q) ≡ Ok after
-      → IsFormedExpr left → IsFormedExpr right → ((kinds : ℕ → Option Kind) → side ≡ InBatch kinds → IsNotedExpr kinds x scope left × IsNotedExpr kinds x scope right) → Adds side x scope after (assignment bodies at left right)
-  assign_runs scope after own at (Name place name) right h f g n =
+  assign_runs : (scope after : Scope) → (IsNear side → IsOwnPlace x scope) → (at : ℕ) (left right : Expr) → (placed x scope left >>= λ p. placed x scope right >>= λ q. assign scope at left p q) ≡ Ok after
+      → IsFormedExpr left → IsFormedExpr right → NotedExpr side x scope left → NotedExpr side x scope right → Adds side x scope after (assignment bodies at left right)
+  assign_runs scope after own at (Name place name) right h f g m n =
       let a = assign_ok scope after at (Name place name) right h in
       let s = bind_ok (known (UnknownName place) (variable_named scope name)) _ a.0 a.1 in
       let same : (s.0).kind ≡ a.0 = cc (s.2) in
-      adds_none _ a.4 own (λ l state. then_goes _ (here scope own right l a.0 a.2 g (λ kinds e. (n kinds e).1) state) (λ v l1 fv state1 g1.
+      adds_none _ a.4 own (λ l state. then_goes _ (here scope own right l a.0 a.2 g n state) (λ v l1 fv state1 g1.
       assigns_run side x scope place name s.0 v l1 f (known_ok (UnknownName place) (variable_named scope name) s.0 s.1) state1 (subst (λ m. Fits is (classes_of l1.heap) m v) (sym same) fv)))
-  assign_runs scope after own at (Field place object name) right h f g n =
+  assign_runs scope after own at (Field place object name) right h f g m n =
       let a = assign_ok scope after at (Field place object name) right h in
       let s = placed_ok (expr_at object) (type_of x scope object) _ a.0 a.1 in
-      adds_none _ a.4 own (λ l state. then_goes _ (here scope own object l s.0 s.1 f (λ kinds e. (n kinds e).0) state) (λ y l1 fy state1 g1.
-      then_goes _ (here scope own right l1 a.0 a.2 g (λ kinds e. (n kinds e).1) state1) (λ v l2 fv state2 g2.
+      adds_none _ a.4 own (λ l state. then_goes _ (here scope own object l s.0 s.1 f (λ ts e. ((m ts e).0.1, (m ts e).1)) state) (λ y l1 fy state1 g1.
+      then_goes _ (here scope own right l1 a.0 a.2 g n state1) (λ v l2 fv state2 g2.
       writes_run side x known' scope place place y name (record { at = expr_at object; kind = s.0 }) a.0 v l2 s.2 state2 (fits_more is (classes_of l1.heap) (classes_of l2.heap) g2 s.0 y fy) fv)))
-  assign_runs scope after own at (This place) right h f g n = let a = assign_ok scope after at (This place) right h in absurd (cc (a.3))
-  assign_runs scope after own at left right h f g n = let a = assign_ok scope after at left right h in absurd (cc (a.3))
+  assign_runs scope after own at (This place) right h f g m n = let a = assign_ok scope after at (This place) right h in absurd (cc (a.3))
+  assign_runs scope after own at left right h f g m n = let a = assign_ok scope after at left right h in absurd (cc (a.3))
 
   mutual
-    pub stmt_runs : (s : Stmt) (gas : ℕ) (scope after : Scope) → (side ≡ Own → IsOwnPlace x scope) → check_stmt x scope s ≡ Ok after → IsFormedStmt s → NotedStmt side x scope s → Adds side x scope after (performs bodies gas s)
-    stmt_runs (Val at name e) gas scope after own h f n = declares scope after own at name true e h f n
-    stmt_runs (Var at name e) gas scope after own h f n = declares scope after own at name false e h f n
-    stmt_runs (Assign at left right) gas scope after own h f n = assign_runs scope after own at left right h f.0 f.1 n
-    stmt_runs (Run at e) gas scope after own h f n =
+    pub stmt_runs : (s : Stmt) (gas : ℕ) (scope after : Scope) → (IsNear side → IsOwnPlace x scope) → check_stmt x scope s ≡ Ok after → IsFormedStmt s → NotedStmt side x scope s → KnownStmt side x scope s → Adds side x scope after (performs bodies gas s)
+    stmt_runs (Val at name e) gas scope after own h f n b' = declares scope after own at name true e h f n
+    stmt_runs (Var at name e) gas scope after own h f n b' = declares scope after own at name false e h f n
+    stmt_runs (Assign at left right) gas scope after own h f n b' = assign_runs scope after own at left right h f.0 f.1 (λ ts e. ((n ts e).0.0, (n ts e).1.0)) (λ ts e. ((n ts e).0.1, (n ts e).1.1))
+    stmt_runs (Run at e) gas scope after own h f n b' =
         let s = placed_ok (expr_at e) (type_of x scope e) _ after h in
         adds_none _ (cc (s.2)) own (λ l state. then_goes _ (here scope own e l s.0 s.1 f n state) (λ v l1 fv state1 g1. ends tt tt state1 (grown_same (classes_of l1.heap))))
-    stmt_runs (Print at e) gas scope after own h f n =
+    stmt_runs (Print at e) gas scope after own h f n b' =
         let s = placed_ok (expr_at e) (type_of x scope e) _ after h in
         let p : Placed = record { at = expr_at e; kind = s.0 } in
         let t = then_ok (must (is_printable x.declared s.0) (wrong_type p) >> must (not x.declared.service) (NotAllowedHere at)) (Ok scope) after s.2 in
         let u = then_ok (must (is_printable x.declared s.0) (wrong_type p)) (must (not x.declared.service) (NotAllowedHere at)) tt t.0 in
         let none = not-true x.declared.service (must_ok (not x.declared.service) (NotAllowedHere at) u.1) in
-        let primitive = printed side x.declared s.0 (λ own_side. type_own x known' scope (own own_side) e s.0 s.1) (λ kinds is_batch. (n kinds is_batch).1 s.0 s.1) (must_ok (is_printable x.declared s.0) (wrong_type p) u.0) in
-        adds_none _ (cc (t.1)) own (λ l state. then_goes _ (here scope own e l s.0 s.1 f (λ kinds is_batch. (n kinds is_batch).0) state) (λ v l1 fv state1 g1.
+        let primitive = printed side x.declared s.0 (λ own_side. type_own x known' scope (own own_side) e s.0 s.1) (λ ts e'. (n ts e').1.1 s.0 s.1) (must_ok (is_printable x.declared s.0) (wrong_type p) u.0) in
+        adds_none _ (cc (t.1)) own (λ l state. then_goes _ (here scope own e l s.0 s.1 f (λ ts e'. ((n ts e').0, (n ts e').1.0)) state) (λ v l1 fv state1 g1.
         prints_run side x scope at (shown_value (out-Value v)) l1 (shows is (classes_of l1.heap) s.0 v primitive fv) none state1))
-    stmt_runs (Throw at e) gas scope after own h f n =
+    stmt_runs (Throw at e) gas scope after own h f n b' =
         let s = placed_ok (expr_at e) (type_of x scope e) _ after h in
         let p : Placed = record { at = expr_at e; kind = s.0 } in
         let t = then_ok (wanted kind.Text p) (Ok scope) after s.2 in
         adds_none _ (cc (t.1)) own (λ l state. then_goes _ (here scope own e l s.0 s.1 f n state) (λ v l1 fv state1 g1.
         let own_fault = throws_own (out-Value v) (subst (λ m. Fits is (classes_of l1.heap) m v) (sym (wanted_ok kind.Text p t.0)) fv) in
-        falls (raised (throws (out-Value v)) at) (raised_fits x.declared (throws (out-Value v)) at own_fault) state1 (grown_same (classes_of l1.heap))))
-    stmt_runs (If at c a b) gas scope after own h f n =
+        falls (raised (throws (out-Value v)) at) own_fault state1 (grown_same (classes_of l1.heap))))
+    stmt_runs (If at c a b) gas scope after own h f n b' =
         let t = bind_ok (condition x scope c >> closed scope (check_stmts x scope a)) _ after h in
         let u = then_ok (condition x scope c) (closed scope (check_stmts x scope a)) t.0 t.1 in
         let ca = closed_ok scope (check_stmts x scope a) t.0 u.1 in
         let cb = closed_ok scope (check_stmts x scope b) after t.2 in
-        adds_none _ cb.2 own (λ l state. then_goes _ (here scope own c l kind.Bool (condition_ok x scope c u.0) f.0 (λ kinds e. (n kinds e).0) state) (λ v l1 fv state1 g1.
+        adds_none _ cb.2 own (λ l state. then_goes _ (here scope own c l kind.Bool (condition_ok x scope c u.0) f.0 (λ ts e. ((n ts e).0.0, (n ts e).1.0)) state) (λ v l1 fv state1 g1.
         truth_runs side x scope at v (block (performs_all bodies gas a)) (block (performs_all bodies gas b)) l1 state1 fv
-        (blocked (performs_all bodies gas a) (stmts_run a gas scope ca.0 own ca.1 f.1 (λ kinds e. (n kinds e).1)) l1 state1) (blocked (performs_all bodies gas b) (stmts_run b gas scope cb.0 own cb.1 f.2 (λ kinds e. (n kinds e).2)) l1 state1)))
-    stmt_runs (While at c a) gas scope after own h f n =
+        (blocked (performs_all bodies gas a) (stmts_run a gas scope ca.0 own ca.1 f.1 (λ ts e. ((n ts e).0.1, (n ts e).1.1)) (λ bs e holds. first_among bs (sites_in x scope a) (sites_in x scope b) (b' bs e holds))) l1 state1)
+        (blocked (performs_all bodies gas b) (stmts_run b gas scope cb.0 own cb.1 f.2 (λ ts e. ((n ts e).0.2, (n ts e).1.2)) (λ bs e holds. rest_among bs (sites_in x scope a) (sites_in x scope b) (b' bs e holds))) l1 state1)))
+    stmt_runs (While at c a) gas scope after own h f n b' =
         let u = then_ok (condition x scope c) (closed scope (check_stmts x scope a)) after h in
         let ca = closed_ok scope (check_stmts x scope a) after u.1 in
         adds_none _ ca.2 own (while_runs side x scope (suc gas) at (evaluates bodies c) (block (performs_all bodies gas a))
-        (λ l1 state1. here scope own c l1 kind.Bool (condition_ok x scope c u.0) f.0 (λ kinds e. (n kinds e).0) state1)
-        (blocked (performs_all bodies gas a) (stmts_run a gas scope ca.0 own ca.1 f.1 (λ kinds e. (n kinds e).1))))
-    stmt_runs (For at name e a) gas scope after own h f n =
+        (λ l1 state1. here scope own c l1 kind.Bool (condition_ok x scope c u.0) f.0 (λ ts e. ((n ts e).0.0, (n ts e).1.0)) state1)
+        (blocked (performs_all bodies gas a) (stmts_run a gas scope ca.0 own ca.1 f.1 (λ ts e. ((n ts e).0.1, (n ts e).1.1)) b')))
+    stmt_runs (For at name e a) gas scope after own h f n b' =
         let s = placed_ok (expr_at e) (type_of x scope e) _ after h in
         let p : Placed = record { at = expr_at e; kind = s.0 } in
         let t = bind_ok (loop_scope scope at name p) _ after s.2 in
         let u = bind_ok (must (is_free scope name) (NameTaken at) >> turn_kind p s.0) _ t.0 t.1 in
         let w = then_ok (must (is_free scope name) (NameTaken at)) (turn_kind p s.0) u.0 u.1 in
-        let own_list = λ (own_side : side ≡ Own). type_own x known' scope (own own_side) e s.0 s.1 in
+        let own_list = λ (own_side : IsNear side). type_own x known' scope (own own_side) e s.0 s.1 in
         let over = turn_ok p s.0 u.0 w.1 in
         let same : with_variable scope name u.0 true ≡ t.0 = cc (u.2) in
         let ca = closed_ok scope (check_stmts x t.0 a) after t.2 in
-        let own_inner = λ (own_side : side ≡ Own). place_added x scope (record { name = name; kind = u.0; fixed = true }) (own own_side) (turn_own is s.0 u.0 over (own_list own_side)) in
+        let own_inner = λ (own_side : IsNear side). place_added x scope (record { name = name; kind = u.0; fixed = true }) (own own_side) (turn_own is s.0 u.0 over (own_list own_side)) in
         let ra = stmts_run a gas (with_variable scope name u.0 true) ca.0 own_inner (subst (λ inner. check_stmts x inner a ≡ Ok ca.0) (sym same) ca.1) f.1
-        (λ kinds is_batch. subst (λ inner. AreNotedStmts kinds x inner a) (sym same) ((n kinds is_batch).1 p t.0 (ap (with_place (expr_at e)) s.1) t.1)) in
-        adds_none _ ca.2 own (λ l state. then_goes _ (here scope own e l s.0 s.1 f.0 (λ kinds is_batch. (n kinds is_batch).0) state) (λ v l1 fv state1 g1.
+        (λ ts e'. subst (λ inner. AreBatchStmts ts x inner a) (ap (scope_or scope) (loop_is x scope at name e s.0 t.0 s.1 t.1) ∙ sym same) ((n ts e').0.1, (n ts e').1.1))
+        (λ bs e' holds. subst (λ inner. AreAmong bs (sites_in x inner a)) (ap (scope_or scope) (loop_is x scope at name e s.0 t.0 s.1 t.1) ∙ sym same) (b' bs e' holds)) in
+        adds_none _ ca.2 own (λ l state. then_goes _ (here scope own e l s.0 s.1 f.0 (λ ts e'. ((n ts e').0.0, (n ts e').1.0)) state) (λ v l1 fv state1 g1.
         turns_run side x scope ca.0 at name s.0 u.0 (performs_all bodies gas a) own_list over ra v l1 fv state1))
-    stmt_runs (Try at a name b) gas scope after own h f n =
+    stmt_runs (Try at a name b) gas scope after own h f n b' =
         let t = bind_ok (closed scope (check_stmts x scope a)) _ after h in
         let ca = closed_ok scope (check_stmts x scope a) t.0 t.1 in
         let u = bind_ok (catch_scope scope at name) _ after t.2 in
         let w = then_ok (must (is_free scope name) (NameTaken at)) (Ok (with_variable scope name kind.Text true)) u.0 u.1 in
         let same : with_variable scope name kind.Text true ≡ u.0 = cc (w.1) in
         let cb = closed_ok scope (check_stmts x u.0 b) after u.2 in
-        let ra = stmts_run a gas scope ca.0 own ca.1 f.0 (λ kinds is_batch. (n kinds is_batch).0) in
-        let own_inner = λ (own_side : side ≡ Own). place_added x scope (record { name = name; kind = kind.Text; fixed = true }) (own own_side) tt in
+        let ra = stmts_run a gas scope ca.0 own ca.1 f.0 (λ ts e. ((n ts e).0.0, (n ts e).1.0)) (λ bs e holds. first_among bs (sites_in x scope a) (sites_in x (scope_or scope (catch_scope scope at name)) b) (b' bs e holds)) in
+        let own_inner = λ (own_side : IsNear side). place_added x scope (record { name = name; kind = kind.Text; fixed = true }) (own own_side) tt in
         let rb = stmts_run b gas (with_variable scope name kind.Text true) cb.0 own_inner (subst (λ inner. check_stmts x inner b ≡ Ok cb.0) (sym same) cb.1) f.1
-        (λ kinds is_batch. subst (λ inner. AreNotedStmts kinds x inner b) (sym same) ((n kinds is_batch).1 u.0 u.1)) in
+        (λ ts e. subst (λ inner. AreBatchStmts ts x inner b) (ap (scope_or scope) u.1 ∙ sym same) ((n ts e).0.1, (n ts e).1.1))
+        (λ bs e holds. subst (λ inner. AreAmong bs (sites_in x inner b)) (ap (scope_or scope) u.1 ∙ sym same) (rest_among bs (sites_in x scope a) (sites_in x (scope_or scope (catch_scope scope at name)) b) (b' bs e holds))) in
         adds_none _ cb.2 own (λ l state. record {
           keeps = keeps_seq x.declared side (Closes x scope (classes_of l.heap)) _ (block (performs_all bodies gas a) l) (handles name (performs_all bodies gas b))
               (block_closes (performs_all bodies gas a) state ra.sub (ra.runs l state))
               (handles_keep side x scope cb.0 (classes_of l.heap) name (performs_all bodies gas b) rb);
         })
-    stmt_runs (Batch at interface root a) gas scope after own h f n =
+    stmt_runs (Batch at interface root a) gas scope after own h f n b' =
         let t = bind_ok (batch_scope x scope at interface root) _ after h in
         let u = then_ok (must (is_free scope root) (NameTaken at) >> must (is_interface x.declared interface) (UnknownName at) >> must x.remote (NotAllowedHere at)) _ t.0 t.1 in
         let w = then_ok (must (is_free scope root) (NameTaken at) >> must (is_interface x.declared interface) (UnknownName at)) (must x.remote (NotAllowedHere at)) tt u.0 in
         let y = then_ok (must (is_free scope root) (NameTaken at)) (must (is_interface x.declared interface) (UnknownName at)) tt w.0 in
         let ca = closed_ok scope (check_stmts x t.0 a) after t.2 in
         let none = no_service x.declared known' interface (must_ok (is_interface x.declared interface) (UnknownName at) y.1) in
-        adds_none _ ca.2 own (λ l state. record { keeps = (none, λ o kept. kept x.this x.remote scope state) })
+        let holds : MayHold x = record { of_program = none; remote = must_ok x.remote (NotAllowedHere at) w.1 } in
+        let site : Site = record { at = at; interface = interface; root = root; block = a; place = record { this = x.this; remote = x.remote; scope = scope } } in
+        let typed : check_stmt x scope (Batch at interface root a) ≡ Ok scope = subst (λ s. check_stmt x scope (Batch at interface root a) ≡ Ok s) (sym ca.2) h in
+        adds_none _ ca.2 own (λ l state. record {
+          keeps = (site, record { of_program = none; here = refl; may = may_ask side x scope at interface root a n b' holds; typed = typed; fits = state }, λ o kept. kept);
+        })
 
-    pub stmts_run : (ss : Stmts) (gas : ℕ) (scope after : Scope) → (side ≡ Own → IsOwnPlace x scope) → check_stmts x scope ss ≡ Ok after → AreFormedStmts ss → NotedStmts side x scope ss → Adds side x scope after (performs_all bodies gas ss)
-    stmts_run NoStmts gas scope after own h f n = adds_none _ (cc (h)) own (λ l state. ends tt tt state (grown_same (classes_of l.heap)))
-    stmts_run (MoreStmts s ss) gas scope after own h f n =
+    pub stmts_run : (ss : Stmts) (gas : ℕ) (scope after : Scope) → (IsNear side → IsOwnPlace x scope) → check_stmts x scope ss ≡ Ok after → AreFormedStmts ss → NotedStmts side x scope ss → KnownStmts side x scope ss → Adds side x scope after (performs_all bodies gas ss)
+    stmts_run NoStmts gas scope after own h f n b' = adds_none _ (cc (h)) own (λ l state. ends tt tt state (grown_same (classes_of l.heap)))
+    stmts_run (MoreStmts s ss) gas scope after own h f n b' =
         let t = bind_ok (check_stmt x scope s) _ after h in
-        let r = stmt_runs s gas scope t.0 own t.1 f.0 (λ kinds is_batch. (n kinds is_batch).0) in
-        let rs = stmts_run ss gas t.0 after r.own t.2 f.1 (λ kinds is_batch. (n kinds is_batch).1 t.0 t.1) in
+        let r = stmt_runs s gas scope t.0 own t.1 f.0 (λ ts e. ((n ts e).0.0, (n ts e).1.0)) (λ bs e holds. first_among bs (sites x scope s) (sites_in x (scope_or scope (check_stmt x scope s)) ss) (b' bs e holds)) in
+        let rs = stmts_run ss gas t.0 after r.own t.2 f.1 (λ ts e. subst (λ inner. AreBatchStmts ts x inner ss) (ap (scope_or scope) t.1) ((n ts e).0.1, (n ts e).1.1)) (λ bs e holds. subst (λ inner. AreAmong bs (sites_in x inner ss)) (ap (scope_or scope) t.1) (rest_among bs (sites x scope s) (sites_in x (scope_or scope (check_stmt x scope s)) ss) (b' bs e holds))) in
         record {
           sub = λ cs ns k. r.sub cs ns (rs.sub cs ns k);
           own = rs.own;

@@ -1,21 +1,28 @@
 -- How typed code ends, whatever its surroundings answer, as long as their answers fit.
-use Rattle.std.specs.Prelude.{◌≡◌, ℕ, List, [], ◌∷◌, Bool, false, Option, Some, Result, Ok, Err, slice_get}
+use Rattle.std.specs.Prelude.{◌≡◌, ℕ, List, [], ◌∷◌, Bool, Option, Some, slice_get}
 use Rattle.rb_trees.specs.declared.values.Value.{Value}
-use Rattle.rb_trees.specs.declared.values.Value.TheVariants as value
-use Rattle.rb_trees.specs.declared.values.Value.TheViews.{out-Value}
 use Rattle.rb_trees.specs.declared.outcomes.Raised.{Raised}
 use Rattle.rb_meaning_types.specs.Kinds.{Kind}
 use Rattle.rb_meaning_types.specs.Violations.{Placed}
 use Rattle.rb_meaning_types.specs.Scopes.{Scope}
 use Rattle.rb_meaning_types.specs.Declared.{Declarations, Context}
-use Rattle.rb_meaning_types.specs.Fits.{classes_of, IsRemoteValue, Fits, HeapFits, StateHolds, StateFits}
+use Rattle.rb_meaning_types.specs.Fits.{classes_of, Fits, HeapFits, StateHolds, StateFits}
 use Rattle.rb_meaning_code.specs.State.{Local}
-use Rattle.rb_meaning_code.specs.Dialogue.{Question, Line, Taken, Invoke, Turn, ListTurn, Outcome, Gave, Faulted, Dialogue, Done, Ask, AskBatch}
+use Rattle.rb_meaning_code.specs.Dialogue.{Outcome, Gave, Faulted}
 use Rattle.rb_types_keep.specs.Kept.{FaultFits}
 
 -- Objects stay in their places, each with its class; there may be more of them.
 abbrev pub Grown : List (List ℕ) → List (List ℕ) → Type 0
 Grown before after = (object : ℕ) (class : List ℕ) → slice_get before object ≡ Some class → slice_get after object ≡ Some class
+
+-- Where code stands: the class of `this` in a method, whether it may be remote, and what is in scope.
+pub record Place : Type 0 where
+  pub this : Option (List ℕ)
+  pub remote : Bool
+  pub scope : Scope
+
+abbrev pub context : Declarations → Place → Context
+context d p = record { declared = d; this = p.this; remote = p.remote }
 
 -- a local state that fits a scope, and one that holds at least what the scope has
 abbrev pub LocalFits : Context → Scope → Local → Type 0
@@ -23,6 +30,10 @@ LocalFits x scope l = StateFits x scope l.names l.heap
 
 abbrev pub LocalHolds : Context → Scope → Local → Type 0
 LocalHolds x scope l = StateHolds x scope l.names l.heap
+
+-- A local state fits the scope of a place.
+abbrev pub FitsPlace : Declarations → Place → Local → Type 0
+FitsPlace d p l = LocalFits (context d p) p.scope l
 
 -- Code gave what it should, and left a state that fits the scope after it.
 pub record GaveFit {A : Type 0} (x : Context) (after : Scope) (P : List (List ℕ) → A → Type 0) (before : List (List ℕ)) (a : A) (l : Local) : Type 0 where
@@ -32,7 +43,7 @@ pub record GaveFit {A : Type 0} (x : Context) (after : Scope) (P : List (List �
 
 -- Code ended by a fault that fits, and left a state that holds the scope before it.
 pub record FellFit (x : Context) (scope : Scope) (before : List (List ℕ)) (r : Raised) (l : Local) : Type 0 where
-  pub fault : FaultFits x.declared r
+  pub fault : FaultFits r
   pub state : LocalHolds x scope l
   pub grown : Grown before (classes_of l.heap)
 
@@ -54,6 +65,10 @@ OfKinds x (p ∷ ps) classes (v ∷ vs) = OfKind x p.kind classes v × OfKinds x
 abbrev pub Nothing : List (List ℕ) → Unit {0} → Type 0
 Nothing classes u = Unit {0}
 
+-- how code ends as a statement does that adds no name, where it began at a place in a local state
+abbrev pub EndsThere : Declarations → Place → Local → Outcome (Unit {0}) → Type 0
+EndsThere d p l o = Ends (context d p) p.scope p.scope Nothing (classes_of l.heap) o
+
 -- How a method's body ends: the names that it leaves are of no interest.
 pub record Returned (d : Declarations) (before : List (List ℕ)) (l : Local) : Type 0 where
   pub heap : HeapFits d.interfaces d.classes l.heap
@@ -61,61 +76,4 @@ pub record Returned (d : Declarations) (before : List (List ℕ)) (l : Local) : 
 
 abbrev pub Returns : Declarations → Kind → List (List ℕ) → Outcome Value → Type 0
 Returns d kind before (Gave v l) = Fits d.interfaces (classes_of l.heap) kind v × Returned d before l
-Returns d kind before (Faulted r l) = FaultFits d r × Returned d before l
-
--- Where code stands: where no remote value is in scope, or in a batch, whose calls have these types by their positions.
-pub data Side : Type 0 where
-  Own : Side
-  InBatch : (kinds : ℕ → Option Kind) → Side
-
--- what only code in a batch asks
-abbrev pub IsFar : Side → Type 0
-IsFar Own = ⊥
-IsFar (InBatch kinds) = Unit {0}
-
--- What code asks: a line, unless it is a service's; whether a turn goes on; and in a batch a call on a remote object.
-abbrev pub IsAsked : Declarations → Side → Question → Type 0
-IsAsked d side (Line at bytes) = d.service ≡ false
-IsAsked d side (ListTurn at) = Unit {0}
-IsAsked d side (Taken step) = ⊥
-IsAsked d side (Invoke at target method args) = IsFar side × IsRemoteValue (out-Value target)
-IsAsked d side (Turn at) = IsFar side
-
--- A value that a call gives is of the call's type, and holds no object of the own side.
-abbrev pub CallGives : Declarations → Side → ℕ → Value → Type 0
-CallGives d Own at v = Unit {0}
-CallGives d (InBatch kinds) at v = (kind : Kind) → kinds at ≡ Some kind → Fits d.interfaces [] kind v
-
-abbrev pub AnswerGives : Declarations → Side → Question → Value → Type 0
-AnswerGives d side (Invoke at target method args) v = CallGives d side at v
-AnswerGives d side (Line at bytes) v = Unit {0}
-AnswerGives d side (ListTurn at) v = Unit {0}
-AnswerGives d side (Taken step) v = Unit {0}
-AnswerGives d side (Turn at) v = Unit {0}
-
--- an answer that fits what is asked
-abbrev pub IsAnswer : Declarations → Side → Question → Result Value Raised → Type 0
-IsAnswer d side q (Ok v) = AnswerGives d side q v
-IsAnswer d side q (Err r) = FaultFits d r
-
--- where code of these declarations stands
-abbrev pub place_in : Declarations → Option (List ℕ) → Bool → Context
-place_in d this remote = record { declared = d; this = this; remote = remote }
-
--- A batch keeps what fits: lent a state that fits a scope, it ends as a statement does.
-abbrev pub BatchKeeps : Declarations → Local → Outcome (Unit {0}) → Type 0
-BatchKeeps d l o = (this : Option (List ℕ)) (remote : Bool) (scope : Scope) → LocalFits (place_in d this remote) scope l
-    → Ends (place_in d this remote) scope scope Nothing (classes_of l.heap) o
-
--- The run asks only what it may, and with answers that fit it ends by what P says.
-abbrev pub Keeps : {A : Type 0} → Declarations → Side → (A → Type 0) → Dialogue A → Type 0
-Keeps d side P (Done a) = P a
-Keeps d side P (Ask q go) = IsAsked d side q × ((a : Result Value Raised) → IsAnswer d side q a → Keeps d side P (go a))
-Keeps d side P (AskBatch at l go) = (d.service ≡ false) × ((o : Outcome (Unit {0})) → BatchKeeps d l o → Keeps d side P (go o))
-
--- The run asks nothing but whether turns over lists go on, and where each does, it ends by what P says.
-abbrev pub KeepsAlone : {A : Type 0} → (A → Type 0) → Dialogue A → Type 0
-KeepsAlone P (Done a) = P a
-KeepsAlone P (Ask (ListTurn at) go) = KeepsAlone P (go (Ok value.Unit))
-KeepsAlone P (Ask q go) = ⊥
-KeepsAlone P (AskBatch at l go) = ⊥
+Returns d kind before (Faulted r l) = FaultFits r × Returned d before l

@@ -12,16 +12,8 @@ use Rattle.rb_meaning_types.specs.Programs.{check_service}
 use Rattle.rb_meaning_types.specs.Fits.{classes_of, TableFits}
 use Rattle.rb_meaning_code.specs.Remote.{Server, Reply, Got, Stopped, Item, AnInt, ABool, AText, AnObject, Kind, Nothing, One, Rows, kind_of, remote_object, invoke}
 use Rattle.rb_types_keep.specs.Formed.{AreFormed}
+use Rattle.rb_types_keep.specs.Kept.{IsBounded}
 use Rattle.rb_types_keep.specs.Ends.{Grown}
-
--- a value whose number or text is within its limits, if it is one
-abbrev pub IsBoundedForm : Value-F Value → Type 0
-IsBoundedForm (Value-F.Int number) = IsInt number
-IsBoundedForm (Value-F.Text text) = IsText text
-IsBoundedForm _ = Unit {0}
-
-abbrev pub IsBounded : Value → Type 0
-IsBounded v = IsBoundedForm (out-Value v)
 
 -- a single value at the client: of a primitive kind, within its limits, or one of so many objects of the table
 abbrev pub IsItemForm : ℕ → Item → Value-F Value → Type 0

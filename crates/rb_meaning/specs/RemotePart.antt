@@ -1,0 +1,109 @@
+-- The whole remote part of a batch: a walk over its source that performs what is remote, in order, and skips all else. A fault
+-- ends the walk. Which expressions are portable, and which statements hold a remote operation, the definitions of marks say.
+use Rattle.std.specs.Prelude.{ℕ, List, [], ◌∷◌, ◌++◌, cond, Result, Ok, Err}
+use Rattle.rb_trees.specs.declared.values.Value.{Value, out-Value}
+use Rattle.rb_trees.specs.declared.values.Value.TheOpen.{Value-F}
+use Rattle.rb_trees.specs.declared.values.Fault.{Fault}
+use Rattle.rb_trees.specs.mirror.Code.{Expr, Stmt, Stmts, Val, If, For, NoStmts, MoreStmts}
+use Rattle.rb_trees.specs.mirror.Declarations.{Program}
+use Rattle.rb_trees.specs.mirror.Services.{Service}
+use Rattle.rb_meaning_code.specs.Faults.{kind, raised}
+use Rattle.rb_meaning_code.specs.State.{Names, Local}
+use Rattle.rb_meaning_code.specs.Dialogue.{Outcome, Gave, Faulted, Handler, handle}
+use Rattle.rb_meaning_code.specs.Remote.{Server, Reply, Got, Stopped, and_then, replies}
+use Rattle.rb_meaning_code.specs.Expressions.{evaluates}
+use Rattle.rb_meaning_code.specs.Statements.{truth_of}
+use Rattle.rb_meaning_code.specs.Bodies.{bodies_of}
+use Rattle.rb_meaning_flow.specs.declared.scopes.Role.{Role}
+use Rattle.rb_meaning_flow.specs.Facts.{facts_of, over_rows}
+use Rattle.rb_meaning_flow.specs.Scopes.{Scope, with_variable}
+use Rattle.rb_meaning_flow.specs.Portable.{portable, branches_hold}
+use Rattle.rb_meaning_flow.specs.Sites.{scope_after}
+use Rattle.rb_meaning.specs.RemoteAnswers.{unit_of, remote_answer}
+use Rattle.rb_meaning.specs.RemoteExprs.{remote_of}
+
+-- how the walk ends: by itself or by a fault, with the server after it
+abbrev pub Walked : Type 0
+Walked = Reply (Unit {0})
+
+-- what follows, from the names and the server of then
+abbrev pub Rest : Type 0
+Rest = Names → Server → Walked
+
+-- the end of a block
+abbrev pub ended : Rest
+ended names s = Got tt s
+
+-- with one name more, at the end
+abbrev pub with_name : List ℕ → Value → Names → Names
+with_name name v names = names ++ (name, v) ∷ []
+
+-- how an evaluation ends, as a reply
+abbrev pub reply_of : Outcome Value × Server → Reply Value
+reply_of (Gave v l, s) = Got v s
+reply_of (Faulted r l, s) = Stopped r.at r.fault s
+
+-- a local state with these names, and nothing else
+abbrev pub with_names : Names → Local
+with_names names = record { names = names; heap = []; fuel = 0; depth = 0 }
+
+-- the rows of a value of the client
+abbrev pub rows_in : Value-F Value → Result (List Value) Fault
+rows_in (Value-F.Rows rows) = Ok rows
+rows_in _ = Err kind
+
+-- turns over rows, each of which begins with a unit at the loop
+abbrev pub turns : ℕ → (Value → Server → Walked) → List Value → Server → Walked
+turns at turn [] s = Got tt s
+turns at turn (row ∷ rows) s = and_then (unit_of at s) (λ u s1. and_then (turn row s1) (λ v s2. turns at turn rows s2))
+
+-- of a program, on a service
+module _ (p : Program) (service : Service) where
+  -- the surroundings of a portable expression; no batch stands in one
+  abbrev pub in_remote_part : Handler Server
+  in_remote_part = record { answer = remote_answer p service; batch = λ s at l. (Faulted (raised kind at) l, s) }
+
+  -- the value of a portable expression, by the same evaluation as everywhere
+  abbrev pub value_of : Expr → Names → Server → Reply Value
+  value_of e names s = reply_of (handle in_remote_part (evaluates (bodies_of p.classes 0) e (with_names names)) s)
+
+  -- portable expressions, performed in order
+  abbrev pub performed : List Expr → Names → Server → Walked
+  performed [] names s = Got tt s
+  performed (e ∷ es) names s = and_then (value_of e names s) (λ v s1. performed es names s1)
+
+  -- a statement of which the remote expressions are performed and all else is skipped, and what follows it
+  abbrev pub skims : Scope → Stmt → Names → Server → Rest → Walked
+  skims scope stmt names s go = and_then (performed (remote_of (facts_of p) scope stmt) names s) (λ u s1. go names s1)
+
+  abbrev mutual
+    -- A statement at a script place, and what follows it. A portable `val` is carried; an `if` that holds a remote operation
+    -- in its branches, and a loop over rows, are performed with their blocks, whose names end with them.
+    pub walk : Scope → Stmt → Names → Server → Rest → Walked
+    walk scope (Val at name e) names s go =
+        cond (portable (facts_of p) scope e)
+        (and_then (value_of e names s) (λ v s1. go (with_name name v names) s1))
+        (skims scope (Val at name e) names s go)
+    walk scope (If at c a b) names s go =
+        cond (branches_hold (facts_of p) a b)
+        (and_then (value_of c names s) (λ v s1.
+        and_then (replies at (truth_of (out-Value v)) s1) (λ holds s2.
+        and_then (cond holds (walk_block scope a names s2 ended) (walk_block scope b names s2 ended)) (λ u s3. go names s3))))
+        (skims scope (If at c a b) names s go)
+    walk scope (For at name e a) names s go =
+        cond (over_rows (facts_of p) e)
+        (and_then (value_of e names s) (λ v s1.
+        and_then (replies at (rows_in (out-Value v)) s1) (λ rows s2.
+        and_then (turns at (λ row s3. walk_block (with_variable scope name Role.Row at) a (with_name name row names) s3 ended) rows s2) (λ u s3. go names s3))))
+        (skims scope (For at name e a) names s go)
+    walk scope stmt names s go = skims scope stmt names s go
+
+    -- statements in order, and what follows them
+    pub walk_block : Scope → Stmts → Names → Server → Rest → Walked
+    walk_block scope NoStmts names s go = go names s
+    walk_block scope (MoreStmts stmt stmts) names s go =
+        walk scope stmt names s (λ names1 s1. walk_block (scope_after (facts_of p) [] scope stmt) stmts names1 s1 go)
+
+  -- the remote part of a batch's block, with the names and the server of its start
+  abbrev pub remote_only : Scope → Stmts → Names → Server → Walked
+  remote_only scope block names s = walk_block scope block names s ended

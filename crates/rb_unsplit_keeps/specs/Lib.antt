@@ -1,0 +1,3 @@
+-- What admitted programs keep in the unsplit meaning, and the laws of it.
+pub mod Noted
+pub mod Kept
