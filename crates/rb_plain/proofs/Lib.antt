@@ -1,0 +1,16 @@
+pub mod Answering
+pub mod BatchTold
+pub mod Bytes
+pub mod Collected
+pub mod Differ
+pub mod Dropped
+pub mod Evaluated
+pub mod Events
+pub mod Found
+pub mod Fronts
+pub mod Looked
+pub mod MainLed
+pub mod Names
+pub mod Replies
+pub mod Stepped
+pub mod Told
