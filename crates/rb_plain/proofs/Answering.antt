@@ -56,12 +56,15 @@ outer_as g first start = record {
 -- a line was written whole
 pub line_whole : {W : Type 0} (g : sinks.Ghosts W) (w w' : BatchWorld W) (bytes : List ℕ) → w'.remote ≡ w.remote → w'.out.ghost_name ≡ w.out.ghost_name
     → output g w'.out.now ≡ with_bytes (output g w.out.now) (line bytes) → Prints g w bytes (Ok (Ok value.Unit)) w'
-line_whole g w w' bytes same name e = λ first start s sees. (refl, record {
-  stage_so = ap (λ r. r.stage) same ∙ sees.stage_so;
-  same_output = name ∙ sees.same_output;
-  written = both_whole start (output g w.out.now) (output g w'.out.now) (shown_events s.events) (line bytes) sees.written e ∙ ap (with_bytes start) (sym (shown_line s.events bytes));
-  server_so = ap (λ r. r.server) same ∙ sees.server_so;
-})
+line_whole g w w' bytes same name e = λ first start s sees. (
+  refl,
+  record {
+    stage_so = ap (λ r. r.stage) same ∙ sees.stage_so;
+    same_output = name ∙ sees.same_output;
+    written = both_whole start (output g w.out.now) (output g w'.out.now) (shown_events s.events) (line bytes) sees.written e ∙ ap (with_bytes start) (sym (shown_line s.events bytes));
+    server_so = ap (λ r. r.server) same ∙ sees.server_so;
+  },
+)
 
 -- a write failed in a line
 pub line_cut : {W : Type 0} (g : sinks.Ghosts W) (w w' : BatchWorld W) (bytes : List ℕ) (stop : Failed) → w'.out.ghost_name ≡ w.out.ghost_name
@@ -76,11 +79,14 @@ line_cut g w w' bytes stop name h = λ first start s sees. record {
 pub line_outside : {W : Type 0} (g : sinks.Ghosts W) (w w' : OuterWorld W) (at : ℕ) (bytes : List ℕ) (a : Answer Failed) → w'.batches ≡ w.batches → w'.exchanges ≡ w.exchanges
     → Prints g w.inner bytes a w'.inner → outer_answers g w (ask.Line at bytes) a w'
 line_outside g w w' at bytes (Ok a) same count h = λ first start s sees.
-    let t = h first.inner start s sees.inner_so in (t.0, record {
-      inner_so = t.1;
-      batches_so = subst (λ b. AreBatchesOf (program_of first.inner.remote.stage) b.now) (sym same) sees.batches_so;
-      exchanges_so = count ∙ sees.exchanges_so ∙ sym (exchanges_line s.events bytes);
-    })
+    let t = h first.inner start s sees.inner_so in (
+      t.0,
+      record {
+        inner_so = t.1;
+        batches_so = subst (λ b. AreBatchesOf (program_of first.inner.remote.stage) b.now) (sym same) sees.batches_so;
+        exchanges_so = count ∙ sees.exchanges_so ∙ sym (exchanges_line s.events bytes);
+      },
+    )
 line_outside g w w' at bytes (Err stop) same count h = λ first start s sees. h first.inner start s sees.inner_so
 
 -- What changes nothing.

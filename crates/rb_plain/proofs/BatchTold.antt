@@ -12,20 +12,18 @@ use Rattle.rb_trees.specs.mirror.Services.{Service}
 use Rattle.rb_meaning_code.specs.Bodies.{bodies_of}
 use Rattle.rb_meaning_code.specs.Dialogue as ask
 use Rattle.rb_meaning_code.specs.Dialogue.{Question, Outcome, Gave, Faulted, Run, Dialogue, Done, Ask, AskBatch, Follows, handle}
-use Rattle.rb_meaning_code.specs.Remote.{Server, invoke}
+use Rattle.rb_meaning_code.specs.Remote.{Server}
 use Rattle.rb_meaning_code.specs.ScriptRun.{batch_fuel}
 use Rattle.rb_meaning_code.specs.State.{Local, Names, bound, closed}
 use Rattle.rb_meaning_code.specs.Statements.{performs_all}
-use Rattle.rb_meaning.specs.CallKinds.{call_kind}
-use Rattle.rb_meaning.specs.RemotePart.{answer_of, remote_only, unit_of}
+use Rattle.rb_meaning.specs.RemotePart.{remote_answer, remote_only}
 use Rattle.rb_meaning.specs.Shown.{exchanges, shown_events}
 use Rattle.rb_meaning.specs.State as state
 use Rattle.rb_meaning.specs.State.{Outside}
 use Rattle.rb_meaning.specs.Unsplit as unsplit
-use Rattle.rb_meaning.specs.Unsplit.{answers_in_batch, as_value, faults, in_batch, performs_batch, server_after, settles, table_after, with_answer, with_side}
+use Rattle.rb_meaning.specs.Unsplit.{answers_in_batch, faults, in_batch, performs_batch, server_after, settles, table_after, with_answer, with_side}
 use Rattle.rb_meaning_flow.specs.Outermost.{Outermost}
 use Rattle.rb_meaning_flow.specs.Scopes.{opened}
-use Rattle.rb_trees.specs.declared.values.Value.{out-Value}
 use Rattle.rb_base.specs.Devices.{Device, failed}
 use Rattle.rb_base.specs.Sinks.{with_bytes, WrotePrefix}
 use Rattle.rb_base.specs.declared.sinks.Failed.{Failed}
@@ -52,14 +50,14 @@ use Rattle.rb_plain.proofs.Told.{told}
 
 -- code in a batch begins no batch
 
-answered_same : {A : Type 0} (s : Outside) (r : A × Server) → exchanges (with_answer s r).1.events ≡ exchanges s.events
+answered_same : (s : Outside) (r : Result Value Raised × Server) → exchanges (with_answer s r).1.events ≡ exchanges s.events
 answered_same s (a, server) = refl
 
 question_same : (p : Program) (service : Service) (s : Outside) (q : Question) → exchanges (answers_in_batch p service s q).1.events ≡ exchanges s.events
 question_same p service s (ask.Line at bytes) = exchanges_line s.events bytes
 question_same p service s (ask.Taken step) = refl
-question_same p service s (ask.Invoke at target method args) = answered_same s (answer_of (invoke service.classes at (call_kind p at) (out-Value target) method args s.server))
-question_same p service s (ask.Turn at) = answered_same s (answer_of (as_value (unit_of at s.server)))
+question_same p service s (ask.Invoke at target method args) = answered_same s (remote_answer p service s.server (ask.Invoke at target method args))
+question_same p service s (ask.Turn at) = answered_same s (remote_answer p service s.server (ask.Turn at))
 question_same p service s (ask.ListTurn at) = refl
 
 handled_same : {A : Type 0} (p : Program) (service : Service) (d : Dialogue A) (s : Outside) → exchanges (handle (in_batch p service) d s).1.events ≡ exchanges s.events
@@ -100,7 +98,6 @@ pub record Enters {W : Type 0} (g : sinks.Ghosts W) (first : OuterWorld W) (star
   pub exchanges_so : w1.exchanges ≡ w.exchanges + 1
 
 module _ {W : Type 0} (g : sinks.Ghosts W) (first : OuterWorld W) (start : Device (List ℕ)) (s : Outside) (o : Outermost) (b : OpenBatch) (copies : Start) (w w1 : OuterWorld W) (l l1 : Local) (enters : Enters g first start s o b copies w w1 l l1) where
-
   abbrev st : Staged
   st = first.inner.remote.stage
 
@@ -138,9 +135,9 @@ module _ {W : Type 0} (g : sinks.Ghosts W) (first : OuterWorld W) (start : Devic
       ap (λ x. whole_table x b copies) e
       ∙ ap (λ x. (server_after (remote_only (program_of st) (service_of st) x.scope x.block copies.names (record { table = copies.table; fuel = batch_fuel }))).table) enters.batch_so
       ∙ ap (λ ns. (server_after (remote_only (program_of st) (service_of st) (opened o.outer o.at o.root o.block) o.block ns (record { table = copies.table; fuel = batch_fuel }))).table)
-        (enters.begun_so.names_so ∙ names_so)
+      (enters.begun_so.names_so ∙ names_so)
       ∙ ap (λ t. (server_after (remote_only (program_of st) (service_of st) (opened o.outer o.at o.root o.block) o.block bound_local.names (record { table = t; fuel = batch_fuel }))).table)
-        (enters.begun_so.table_so ∙ ap (λ x. x.table) enters.sees.inner_so.server_so)
+      (enters.begun_so.table_so ∙ ap (λ x. x.table) enters.sees.inner_so.server_so)
 
   exchanges_at_end : (w3 : OuterWorld W) → w3.exchanges ≡ w1.exchanges → w3.exchanges ≡ exchanges handled.1.events
   exchanges_at_end w3 e = e ∙ enters.exchanges_so ∙ ap (λ n. n + 1) enters.sees.exchanges_so ∙ sym (exchanges_batch s.events)

@@ -13,7 +13,7 @@ use Rattle.rb_meaning_code.specs.Dialogue.{Question, Outcome, Gave, Faulted, Dia
 use Rattle.rb_meaning_code.specs.Expressions.{evaluates}
 use Rattle.rb_meaning_code.specs.Remote.{Server, Reply, Got, Stopped}
 use Rattle.rb_meaning_code.specs.State.{Names, Local}
-use Rattle.rb_meaning.specs.RemotePart.{remotely, reply_of, with_names}
+use Rattle.rb_meaning.specs.RemotePart.{in_remote_part, reply_of, with_names}
 use Rattle.rb_engine.specs.Code.{value_run}
 use Rattle.rb_engine.specs.Ends.{flattened}
 use Rattle.rb_engine.specs.Meets.{Led}
@@ -41,10 +41,10 @@ by_handled st w w' s (Ok a) meant e f h = subst (λ x. Told (server_view st) (Ok
     (subst (λ x. Told (server_view st) (Ok a) w' (meant w.stage x)) f (h.0, (h.2 ∙ e, h.1)))
 by_handled st w w' s (Err x) meant e f h = h
 
-as_server : (st : Staged) → AnswersAs (server_view st) calls (remotely (program_of st) (service_of st))
+as_server : (st : Staged) → AnswersAs (server_view st) calls (in_remote_part (program_of st) (service_of st))
 as_server st = record {
-  questions = λ w w' s q r sees h. by_handled st w w' s r (λ x y. (remotely (program_of x) (service_of x)).answer y q) sees.0 sees.1 h;
-  batches = λ w w' s at l r sees h. by_handled st w w' s r (λ x y. (remotely (program_of x) (service_of x)).batch y at l) sees.0 sees.1 h;
+  questions = λ w w' s q r sees h. by_handled st w w' s r (λ x y. (in_remote_part (program_of x) (service_of x)).answer y q) sees.0 sees.1 h;
+  batches = λ w w' s at l r sees h. by_handled st w w' s r (λ x y. (in_remote_part (program_of x) (service_of x)).batch y at l) sees.0 sees.1 h;
   later = λ w s d c. c;
 }
 
@@ -63,10 +63,10 @@ miss_of (Err h) = Err miss.Memory
 by_end : (st : Staged) (e : expr.Expr) (names : Names) (w w1 : RemoteWorld) (l1 : Local) (q : Result (Result Value Raised) (Halt Memory)) → w.stage ≡ st
     → Led calls (evaluates (bodies_of (program_of st).classes 0) (mirror_expr e) (with_names names)) w l1 (flattened q) w1 → Ended (value_meant st e names w.server) (miss_of q) w w1
 by_end st e names w w1 l1 (Ok (Ok v)) same f =
-    let t = told (server_view st) calls (remotely (program_of st) (service_of st)) (as_server st) _ w w1 w.server (Ok (Gave v l1)) (same, refl) f in
+    let t = told (server_view st) calls (in_remote_part (program_of st) (service_of st)) (as_server st) _ w w1 w.server (Ok (Gave v l1)) (same, refl) f in
     record { means = reply_gave _ v l1 w1.server t.0 t.1.1; stage_so = t.1.0 ∙ sym same }
 by_end st e names w w1 l1 (Ok (Err r)) same f =
-    let t = told (server_view st) calls (remotely (program_of st) (service_of st)) (as_server st) _ w w1 w.server (Ok (Faulted r l1)) (same, refl) f in
+    let t = told (server_view st) calls (in_remote_part (program_of st) (service_of st)) (as_server st) _ w w1 w.server (Ok (Faulted r l1)) (same, refl) f in
     record { means = reply_faulted _ r l1 w1.server t.0 t.1.1; stage_so = t.1.0 ∙ sym same }
 by_end st e names w w1 l1 (Err h) same f = record { means = tt; stage_so = tt }
 

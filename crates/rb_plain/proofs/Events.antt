@@ -1,26 +1,25 @@
 -- Events only come.
 use Rattle.std.proofs.Common.{◌≡◌, refl, sym, ap, ◌∙◌, ℕ, List, [], ◌∷◌, ◌++◌, append_assoc, append-nil}
 use Rattle.std.specs.Prelude.{◌+◌, Option, None, Some, Result, Ok}
-use Rattle.rb_trees.specs.declared.values.Value.{Value, out-Value}
+use Rattle.rb_trees.specs.declared.values.Value.{Value}
 use Rattle.rb_trees.specs.declared.outcomes.Raised.{Raised}
 use Rattle.rb_trees.specs.declared.services.Object.{Object}
 use Rattle.rb_trees.specs.mirror.Declarations.{Program}
 use Rattle.rb_trees.specs.mirror.Services.{Service}
 use Rattle.rb_meaning_code.specs.Dialogue as ask
 use Rattle.rb_meaning_code.specs.Dialogue.{Question, Outcome, Gave, Faulted, Dialogue, Done, Ask, AskBatch, Handler, handle}
-use Rattle.rb_meaning_code.specs.Remote.{Server, invoke}
+use Rattle.rb_meaning_code.specs.Remote.{Server}
 use Rattle.rb_meaning_code.specs.Bodies.{bodies_of}
 use Rattle.rb_meaning_code.specs.State.{Local, bound}
 use Rattle.rb_meaning_code.specs.Statements.{performs_all}
 use Rattle.rb_trees.specs.declared.values.Value.TheVariants as value
 use Rattle.rb_meaning_flow.specs.Outermost.{Outermost}
-use Rattle.rb_meaning.specs.CallKinds.{call_kind}
 use Rattle.rb_meaning.specs.Meaning.{in_main, performs_found, shown_by}
-use Rattle.rb_meaning.specs.RemotePart.{answer_of, unit_of}
+use Rattle.rb_meaning.specs.RemotePart.{remote_answer}
 use Rattle.rb_meaning.specs.Shown.{exchanges, line, shown_events}
 use Rattle.rb_meaning.specs.State as state
 use Rattle.rb_meaning.specs.State.{Event, Outside}
-use Rattle.rb_meaning.specs.Unsplit.{answers_in_batch, as_value, batch_at, begun, in_batch, performs_batch, settles, whole_table, with_answer}
+use Rattle.rb_meaning.specs.Unsplit.{answers_in_batch, batch_at, begun, in_batch, performs_batch, settles, whole_table, with_answer}
 
 -- later events are those before and more
 abbrev pub More : Outside → Outside → Type 0
@@ -44,7 +43,7 @@ handled_more h adds (Ask q go) s =
 handled_more h adds (AskBatch at l go) s =
     more_far s (h.batch s at l).1 (handle h (AskBatch at l go) s).1 (adds.batches s at l) (handled_more h adds (go (h.batch s at l).0) (h.batch s at l).1)
 
-answered_same : {A : Type 0} (s : Outside) (r : A × Server) → (with_answer s r).1.events ≡ s.events
+answered_same : (s : Outside) (r : Result Value Raised × Server) → (with_answer s r).1.events ≡ s.events
 answered_same s (a, server) = refl
 
 batch_adds : (p : Program) (service : Service) → Adds (in_batch p service)
@@ -54,9 +53,8 @@ batch_adds p service = record { questions = by_question; batches = λ s at l. no
     by_question s (ask.Line at bytes) = (state.Line bytes ∷ [], refl)
     by_question s (ask.Taken step) = no_more s s refl
     by_question s (ask.Invoke at target method args) =
-        let r = answer_of (invoke service.classes at (call_kind p at) (out-Value target) method args s.server) in
-        no_more s (with_answer s r).1 (answered_same s r)
-    by_question s (ask.Turn at) = let r = answer_of (as_value (unit_of at s.server)) in no_more s (with_answer s r).1 (answered_same s r)
+        let r = remote_answer p service s.server (ask.Invoke at target method args) in no_more s (with_answer s r).1 (answered_same s r)
+    by_question s (ask.Turn at) = let r = remote_answer p service s.server (ask.Turn at) in no_more s (with_answer s r).1 (answered_same s r)
     by_question s (ask.ListTurn at) = no_more s s refl
 
 pub batch_more : {A : Type 0} (p : Program) (service : Service) (d : Dialogue A) (s : Outside) → More s (handle (in_batch p service) d s).1
@@ -82,6 +80,7 @@ outer_adds p service = record { questions = by_question; batches = λ s at l. by
     by_question s (ask.Invoke at target method args) = no_more s s refl
     by_question s (ask.Turn at) = no_more s s refl
     by_question s (ask.ListTurn at) = no_more s s refl
+
     by_batch : (b : Option Outermost) (s : Outside) (at : ℕ) (l : Local) → More s (performs_found p service b at l s).1
     by_batch None s at l = no_more s s refl
     by_batch (Some b) s at l = performed_more p service b l s

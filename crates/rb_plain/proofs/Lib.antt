@@ -14,3 +14,4 @@ pub mod Names
 pub mod Replies
 pub mod Stepped
 pub mod Told
+pub mod Whole

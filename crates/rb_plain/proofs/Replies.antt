@@ -54,6 +54,10 @@ same_by {t = t} {w = w} {w1 = w1} {a = a} h is = unstarved_ok t a (SameStage w w
 pub given : {A : Type 0} {m : Reply A} {a : A} {w w1 : RemoteWorld} → m ≡ Got a w1.server → SameStage w w1 → Ended m (Ok a) w w1
 given e same = record { means = e; stage_so = same }
 
+-- what is performed from a later world on
+pub from_later : {A : Type 0} {m : Reply A} {r : Result A Miss} {w w1 w2 : RemoteWorld} → SameStage w w1 → Ended m r w1 w2 → Ended m r w w2
+from_later {r = r} {w = w} {w1 = w1} {w2 = w2} same h = record { means = h.means; stage_so = unstarved_so r (SameStage w1 w2) (SameStage w w2) (λ x. x ∙ same) h.stage_so }
+
 -- for want of memory nothing is said
 pub starved : {A : Type 0} {m : Reply A} {r : Result A Miss} {h : Miss} {w w1 : RemoteWorld} → r ≡ Err h → h ≡ miss.Memory → Ended m r w w1
 starved is e = by_result (is ∙ ap Err e) (record { means = tt; stage_so = tt })

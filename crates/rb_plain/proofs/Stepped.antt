@@ -1,36 +1,39 @@
 -- How statements are performed one after the other.
-use Rattle.std.proofs.Common.{◌≡◌, refl, sym, ap, ◌∙◌, subst, ℕ, suc, zero, ◌+◌, ◌<◌, ◌≤◌, List, [], ◌∷◌, ◌++◌, length, take, drop, get_or}
+use Rattle.std.proofs.Common.{◌≡◌, refl, sym, ap, ◌∙◌, subst, ℕ, suc, zero, ◌+◌, ◌-◌, ◌<◌, ◌≤◌, List, [], ◌∷◌, ◌++◌, append-nil, arith, length, take, drop, get_or}
 use Rattle.std.proofs.lemmas.List.{drop_all}
+use Rattle.std.specs.List.{flat_map}
 use Rattle.std.specs.Prelude.{Bool, true, false, cond, OnOk, Result, Ok, Err}
 use Rattle.rb_trees.specs.declared.values.Value.{Value, out-Value}
+use Rattle.rb_trees.specs.declared.values.Value.TheVariants as value
 use Rattle.rb_trees.specs.declared.values.Fault.{Fault}
 use Rattle.rb_trees.specs.declared.code.Expr as expr
 use Rattle.rb_trees.specs.declared.code.Stmt as stmt
 use Rattle.rb_trees.specs.mirror.Code as code
 use Rattle.rb_trees.specs.mirror.Code.{Stmt, mirror_expr, mirror_stmt, mirror_stmts}
+use Rattle.rb_meaning_code.specs.Calls.{unit_due}
 use Rattle.rb_meaning_code.specs.Faults.{fuel_used}
 use Rattle.rb_meaning_code.specs.State.{Names}
 use Rattle.rb_meaning_code.specs.Remote.{Server, Reply, Got, Stopped, and_then, replies}
 use Rattle.rb_meaning_code.specs.Statements.{truth_of}
-use Rattle.rb_meaning_flow.specs.Facts.{facts_of, over_rows}
-use Rattle.rb_meaning_flow.specs.Portable.{portable, branches_hold}
+use Rattle.rb_meaning_flow.specs.Facts.{facts_of}
 use Rattle.rb_meaning_flow.specs.Scopes.{Scope}
+use Rattle.rb_meaning_flow.specs.Sites.{own}
+use Rattle.rb_meaning.specs.RemoteExprs.{remote_in, remote_of}
 use Rattle.rb_meaning.specs.RemotePart as part
-use Rattle.rb_meaning.specs.RemotePart.{Rest, chosen, rows_in, turns, unit_of, unit_within, walk, walk_block}
+use Rattle.rb_meaning.specs.RemotePart.{Rest, rows_in, turns, unit_of, walk_block}
 use Rattle.rb_engine.specs.Misses.{Means}
 use Rattle.rb_engine.specs.Servers.{TakesUnit}
 use Rattle.rb_engine.specs.declared.misses.Miss.{Miss}
 use Rattle.rb_engine.specs.declared.misses.Miss.TheVariants as miss
-use Rattle.rb_plain.specs.Parts as parts
-use Rattle.rb_plain.specs.Parts.{Looked}
-use Rattle.rb_plain.specs.Remote.{Ended, SameStage, Unstarved, value_meant}
+use Rattle.rb_plain.specs.Parts.{part_meant, performed_meant}
+use Rattle.rb_plain.specs.Remote.{Ended, SameStage, as_unit, value_meant}
 use Rattle.rb_plain.specs.Staged.{Staged, program_of, service_of}
-use Rattle.rb_plain.specs.Walks.{Does, Kept, Meaning, Walked, block_from, block_meant, branch_meant, carried_meant, for_meant, form_meant, if_meant, plain_meant, rows_meant, scope_behind, stmt_meant, stmts_meant, turn_from, turn_meant, turns_from, turns_meant, val_meant}
+use Rattle.rb_plain.specs.Walks.{Does, Kept, Meaning, Walked, block_from, block_meant, branch_meant, carried_meant, for_meant, form_meant, if_meant, plain_meant, rows_meant, scope_behind, skim_meant, stmt_meant, stmts_meant, turn_from, turn_meant, turns_from, turns_meant, val_meant}
 use Rattle.rb_plain.specs.declared.remote_world.RemoteWorld.{RemoteWorld}
 use Rattle.rb_plain.specs.declared.walk.Loop.{Loop}
 use Rattle.rb_plain.proofs.Dropped.{dropped_one}
 use Rattle.rb_plain.proofs.Fronts.{kept_added, kept_after, kept_far, kept_same}
-use Rattle.rb_plain.proofs.Replies.{as_reply, given, got, in_row, missed, same_by, unstarved_err, unstarved_ok, unstarved_so, went}
+use Rattle.rb_plain.proofs.Replies.{as_reply, from_later, given, got, in_row, missed, same_by, unstarved_err, unstarved_ok, went}
 
 pub by_result : {m : Meaning} {r r1 : Result (Unit {0}) Miss} {old new : Names} {w w1 : RemoteWorld} → r ≡ r1 → Walked m old r1 w new w1 → Walked m old r w new w1
 by_result {m = m} {old = old} {new = new} {w = w} {w1 = w1} e h = subst (λ x. Walked m old x w new w1) (sym e) h
@@ -50,21 +53,6 @@ went_on {names = names} = record { does = λ go. refl; names_so = kept_same name
 -- for want of memory nothing is said
 pub want : {m : Meaning} {old new : Names} {r : Result (Unit {0}) Miss} {h : Miss} {w w1 : RemoteWorld} → r ≡ Err h → h ≡ miss.Memory → Walked m old r w new w1
 want is so = by_result (is ∙ ap Err so) (record { does = tt; names_so = tt; stage_so = tt })
-
--- Expressions alone.
-
-does_plain : (r : Result (Unit {0}) Miss) (m : parts.Meaning) (names : Names) (s : Server) → parts.Looks m r s → Does (λ go. m (go names)) r names s
-does_plain (Ok u) m names s l = λ go. l (go names)
-does_plain (Err (miss.Fault at f)) m names s l = λ go. l (go names)
-does_plain (Err miss.Memory) m names s l = tt
-
-kept_on : (r : Result (Unit {0}) Miss) (names : Names) → OnOk r (Kept names names)
-kept_on (Ok u) names = kept_same names
-kept_on (Err h) names = tt
-
--- only what is remote in expressions is performed
-pub plain : {m : parts.Meaning} {r : Result (Unit {0}) Miss} {w w1 : RemoteWorld} (names : Names) → Looked m r w w1 → Walked (λ go. m (go names)) names r w names w1
-plain {m = m} {r = r} {w1 = w1} names h = record { does = does_plain r m names w1.server h.looks; names_so = kept_on r names; stage_so = h.stage_so }
 
 -- Values that are bound.
 
@@ -127,19 +115,49 @@ pub to_end : {x : part.Walked} {r : Result (Unit {0}) Miss} {names new : Names} 
     → Walked (λ go. and_then x (λ u s. go names s)) names r w new w1
 to_end {x = x} {r = r} {names = names} {new = new} {w1 = w1} h e = record { does = does_reply r x names new w1.server e h.means; names_so = kept_by r names new e; stage_so = h.stage_so }
 
+-- a statement of which only the remote expressions are performed
+
+pub plain : {r : Result (Unit {0}) Miss} {w w1 : RemoteWorld} (scope : Scope) (e : expr.Expr) (names new : Names) → Ended (part_meant w scope e names) r w w1 → OnOk r (new ≡ names)
+    → Walked (plain_meant w scope e names) names r w new w1
+plain scope e names new h same = to_end h same
+
+abbrev remote : RemoteWorld → Scope → expr.Expr → List code.Expr
+remote w scope e = remote_in (facts_of (program_of w.stage)) scope (mirror_expr e)
+
+-- its own expression is one
+pub skims_one : {r : Result (Unit {0}) Miss} {w w1 : RemoteWorld} (scope : Scope) (s : Stmt) (e : expr.Expr) (names new : Names) → own s ≡ mirror_expr e ∷ []
+    → Ended (part_meant w scope e names) r w w1 → OnOk r (new ≡ names) → Walked (skim_meant w scope s names) names r w new w1
+skims_one {w = w} scope s e names new is h same =
+    let all : remote_of (facts_of (program_of w.stage)) scope s ≡ remote w scope e =
+    ap (flat_map (remote_in (facts_of (program_of w.stage)) scope)) is ∙ append-nil (remote w scope e) in
+    as_meant (λ go. ap (λ es. and_then (performed_meant w es names) (λ u s1. go names s1)) all) (to_end h same)
+
+-- they are two
+pub skims_two : {r : Result (Unit {0}) Miss} {w w1 : RemoteWorld} (scope : Scope) (s : Stmt) (a b : expr.Expr) (names new : Names) → own s ≡ mirror_expr a ∷ mirror_expr b ∷ []
+    → Ended (performed_meant w (remote w scope a ++ remote w scope b) names) r w w1 → OnOk r (new ≡ names) → Walked (skim_meant w scope s names) names r w new w1
+skims_two {w = w} scope s a b names new is h same =
+    let all : remote_of (facts_of (program_of w.stage)) scope s ≡ remote w scope a ++ remote w scope b =
+    ap (flat_map (remote_in (facts_of (program_of w.stage)) scope)) is ∙ ap (λ es. remote w scope a ++ es) (append-nil (remote w scope b)) in
+    as_meant (λ go. ap (λ es. and_then (performed_meant w es names) (λ u s1. go names s1)) all) (to_end h same)
+
+-- there are none
+pub skims_none : {w : RemoteWorld} (scope : Scope) (s : Stmt) (names : Names) → own s ≡ [] → Walked (skim_meant w scope s names) names (Ok tt) w names w
+skims_none {w = w} scope s names is =
+    as_meant (λ go. ap (λ es. and_then (performed_meant w (flat_map (remote_in (facts_of (program_of w.stage)) scope) es) names) (λ u s1. go names s1)) is) went_on
+
 -- the block that a condition chose
 pub chosen_so : {r : Result (Unit {0}) Miss} {w w1 w2 : RemoteWorld} (holds : Bool) (scope : Scope) (a b ss : List stmt.Stmt) (names : Names) → ss ≡ cond holds a b → SameStage w w1
-    → Ended (block_meant w1 scope ss names) r w1 w2 → Ended (chosen holds (block_from w.stage scope a names w1.server) (block_from w.stage scope b names w1.server)) r w1 w2
+    → Ended (block_meant w1 scope ss names) r w1 w2 → Ended (cond holds (block_from w.stage scope a names w1.server) (block_from w.stage scope b names w1.server)) r w1 w2
 chosen_so {w = w} {w1 = w1} true scope a b ss names e same h = as_reply (ap (λ st. block_from st scope a names w1.server) (sym same) ∙ ap (λ xs. block_from w1.stage scope xs names w1.server) (sym e)) h
 chosen_so {w = w} {w1 = w1} false scope a b ss names e same h = as_reply (ap (λ st. block_from st scope b names w1.server) (sym same) ∙ ap (λ xs. block_from w1.stage scope xs names w1.server) (sym e)) h
 
 -- an `if` whose condition is carried
 pub branch_so : {r : Result (Unit {0}) Miss} {names new : Names} {w w1 : RemoteWorld} (scope : Scope) (at : ℕ) (c : expr.Expr) (a b : List stmt.Stmt) → OnOk r (new ≡ names)
-    → Ended (and_then (value_meant w.stage c names w.server) (λ v s1. and_then (replies at (truth_of (out-Value v)) s1) (λ holds s2. chosen holds (block_from w.stage scope a names s2) (block_from w.stage scope b names s2)))) r w w1
+    → Ended (and_then (value_meant w.stage c names w.server) (λ v s1. and_then (replies at (truth_of (out-Value v)) s1) (λ holds s2. cond holds (block_from w.stage scope a names s2) (block_from w.stage scope b names s2)))) r w w1
     → Walked (branch_meant w scope at c a b names) names r w new w1
 branch_so {names = names} {w = w} scope at c a b e h =
     as_meant (λ go. in_row (value_meant w.stage c names w.server) (λ v s1. replies at (truth_of (out-Value v)) s1)
-    (λ holds s2. chosen holds (block_from w.stage scope a names s2) (block_from w.stage scope b names s2)) (λ u s3. go names s3)) (to_end h e)
+    (λ holds s2. cond holds (block_from w.stage scope a names s2) (block_from w.stage scope b names s2)) (λ u s3. go names s3)) (to_end h e)
 
 -- Turns.
 
@@ -154,17 +172,22 @@ pub turns_so : {r : Result (Unit {0}) Miss} {w w1 w2 : RemoteWorld} (scope : Sco
 turns_so {w1 = w1} scope l names rows same h = as_reply (ap (λ st. turns_from st scope l names rows w1.server) (sym same)) h
 
 -- a unit was taken, or there was none
-unit_by : (at : ℕ) (s s1 : Server) (left : ℕ) → s ≡ record { table = s1.table; fuel = suc left } → s1.fuel ≡ left → unit_of at s ≡ Got tt s1
-unit_by at s s1 left e f = ap (unit_of at) e ∙ ap (λ n. Got tt (record { table = s1.table; fuel = n })) (sym f)
+unit_by : (at : ℕ) (s s1 : Server) (left : ℕ) → s ≡ record { table = s1.table; fuel = suc left } → s1.fuel ≡ left → unit_of at s ≡ Got value.Unit s1
+unit_by at s s1 left e f =
+    let less : suc left - 1 ≡ s1.fuel = omega (arith, f) in
+    ap (unit_of at) e ∙ ap (λ n. Got value.Unit (record { table = s1.table; fuel = n })) less
 
-pub unit_taken : (at : ℕ) {w w1 : RemoteWorld} (t : Bool) → TakesUnit w.server t w1.server → t ≡ true → SameStage w w1 → Ended (unit_of at w.server) (Ok tt) w w1
+pub unit_taken : (at : ℕ) {w w1 : RemoteWorld} (t : Bool) → TakesUnit w.server t w1.server → t ≡ true → SameStage w w1 → Ended (unit_of at w.server) (Ok value.Unit) w w1
 unit_taken at {w = w} {w1 = w1} true h e same = given (unit_by at w.server w1.server w1.server.fuel h refl) same
 unit_taken at false h e same = absurd (cc e)
+
+none_left : (at n : ℕ) (s : Server) → n ≡ 0 → and_then (replies at (unit_due n) s) (λ u s1. Got value.Unit (record s1 { fuel = s1.fuel - 1 })) ≡ Stopped at fuel_used s
+none_left at n s e = ap (λ m. and_then (replies at (unit_due m) s) (λ u s1. Got value.Unit (record s1 { fuel = s1.fuel - 1 }))) e
 
 pub unit_missing : (at : ℕ) {w w1 : RemoteWorld} {f : Fault} (t : Bool) → TakesUnit w.server t w1.server → t ≡ false → f ≡ fuel_used → SameStage w w1 → Ended (unit_of at w.server) (Err (miss.Fault at f)) w w1
 unit_missing at true h e g same = absurd (cc e)
 unit_missing at {w = w} {w1 = w1} false h e g same = record {
-  means = ap (λ n. unit_within at n w.server) h.0 ∙ ap (λ x. Stopped at x w.server) (sym g) ∙ ap (Stopped at _) (sym h.1);
+  means = none_left at w.server.fuel w.server h.0 ∙ ap (λ x. Stopped at x w.server) (sym g) ∙ ap (Stopped at _) (sym h.1);
   stage_so = same;
 }
 
@@ -181,33 +204,29 @@ turn_on : (st : Staged) (scope : Scope) (l : Loop) (names : Names) (rows : List 
 turn_on st scope l names rows i row s h is = ap (λ xs. turns_from st scope l names xs s) (dropped_one rows i row h is)
 
 pub turns_more : {t r : Result (Unit {0}) Miss} {u v : Unit {0}} {scope : Scope} {l : Loop} {names : Names} {rows : List Value} {w w1 w2 w3 : RemoteWorld} {i : ℕ} (row : Value) → i < length rows → row ≡ get_or rows i row
-    → TurnsOn scope l names rows w i w1 → Ended (unit_of l.at w1.server) t w1 w2 → t ≡ Ok u → Ended (turn_meant w2 scope l names row) r w2 w3 → r ≡ Ok v → TurnsOn scope l names rows w (i + 1) w3
+    → TurnsOn scope l names rows w i w1 → Ended (unit_of l.at w1.server) (as_unit t) w1 w2 → t ≡ Ok u → Ended (turn_meant w2 scope l names row) r w2 w3 → r ≡ Ok v → TurnsOn scope l names rows w (i + 1) w3
 turns_more {scope = scope} {l = l} {names = names} {rows = rows} {w = w} {w1 = w1} {w2 = w2} {w3 = w3} {i = i} row h is on unit so turn end =
     let rest : Server → part.Walked = λ s. turns_from w.stage scope l names (drop (i + 1) rows) s in
-    let same : SameStage w w2 = same_by unit so ∙ on.stage_so in
+    let same : SameStage w w2 = same_by unit (ap as_unit so) ∙ on.stage_so in
     record {
       leads = on.leads ∙ turn_on w.stage scope l names rows i row w1.server h is
-          ∙ ap (λ x. and_then x (λ a s1. and_then (turn_from w.stage scope l names row s1) (λ b s2. rest s2))) (got unit so)
+          ∙ ap (λ x. and_then x (λ a s1. and_then (turn_from w.stage scope l names row s1) (λ b s2. rest s2))) (got unit (ap as_unit so))
           ∙ ap (λ st. and_then (turn_from st scope l names row w2.server) (λ b s2. rest s2)) (sym same)
           ∙ ap (λ x. and_then x (λ b s2. rest s2)) (got turn end);
       stage_so = same_by turn end ∙ same;
     }
 
--- what is performed from a later world on
-from_later : {A : Type 0} {m : Reply A} {r : Result A Miss} {w w1 w2 : RemoteWorld} → SameStage w w1 → Ended m r w1 w2 → Ended m r w w2
-from_later {r = r} {w = w} {w1 = w1} {w2 = w2} same h = record { means = h.means; stage_so = unstarved_so r (SameStage w1 w2) (SameStage w w2) (λ x. x ∙ same) h.stage_so }
-
 pub turns_short : {t r : Result (Unit {0}) Miss} {h : Miss} {scope : Scope} {l : Loop} {names : Names} {rows : List Value} {w w1 w2 : RemoteWorld} {i : ℕ} (row : Value) → i < length rows → row ≡ get_or rows i row
-    → TurnsOn scope l names rows w i w1 → Ended (unit_of l.at w1.server) t w1 w2 → t ≡ Err h → r ≡ Err h → Ended (turns_meant w scope l names rows) r w w2
+    → TurnsOn scope l names rows w i w1 → Ended (unit_of l.at w1.server) (as_unit t) w1 w2 → t ≡ Err h → r ≡ Err h → Ended (turns_meant w scope l names rows) r w w2
 turns_short {scope = scope} {l = l} {names = names} {rows = rows} {w = w} {w1 = w1} {i = i} row g is on unit so end =
-    as_reply (on.leads ∙ turn_on w.stage scope l names rows i row w1.server g is) (from_later on.stage_so (missed _ unit so end))
+    as_reply (on.leads ∙ turn_on w.stage scope l names rows i row w1.server g is) (from_later on.stage_so (missed _ unit (ap as_unit so) end))
 
 pub turns_cut : {t r q : Result (Unit {0}) Miss} {u : Unit {0}} {h : Miss} {scope : Scope} {l : Loop} {names : Names} {rows : List Value} {w w1 w2 w3 : RemoteWorld} {i : ℕ} (row : Value) → i < length rows → row ≡ get_or rows i row
-    → TurnsOn scope l names rows w i w1 → Ended (unit_of l.at w1.server) t w1 w2 → t ≡ Ok u → Ended (turn_meant w2 scope l names row) r w2 w3 → r ≡ Err h → q ≡ Err h → Ended (turns_meant w scope l names rows) q w w3
+    → TurnsOn scope l names rows w i w1 → Ended (unit_of l.at w1.server) (as_unit t) w1 w2 → t ≡ Ok u → Ended (turn_meant w2 scope l names row) r w2 w3 → r ≡ Err h → q ≡ Err h → Ended (turns_meant w scope l names rows) q w w3
 turns_cut {scope = scope} {l = l} {names = names} {rows = rows} {w = w} {w1 = w1} {w2 = w2} {i = i} row g is on unit so turn cut end =
     as_reply (on.leads ∙ turn_on w.stage scope l names rows i row w1.server g is)
-    (from_later on.stage_so (went _ unit so
-    (as_reply (ap (λ st. and_then (turn_from st scope l names row w2.server) (λ b s2. turns_from w.stage scope l names (drop (i + 1) rows) s2)) (sym (same_by unit so ∙ on.stage_so)))
+    (from_later on.stage_so (went _ unit (ap as_unit so)
+    (as_reply (ap (λ st. and_then (turn_from st scope l names row w2.server) (λ b s2. turns_from w.stage scope l names (drop (i + 1) rows) s2)) (sym (same_by unit (ap as_unit so) ∙ on.stage_so)))
     (missed _ turn cut end))))
 
 pub turns_end : {scope : Scope} {l : Loop} {names : Names} {rows : List Value} {w w1 : RemoteWorld} {i : ℕ} → length rows ≤ i → TurnsOn scope l names rows w i w1 → Ended (turns_meant w scope l names rows) (Ok tt) w w1

@@ -1,6 +1,7 @@
 -- What remote calls and remote expressions of a program mean.
 use Rattle.std.specs.Prelude.{◌≡◌, ℕ, List, Result, Ok, Err}
 use Rattle.rb_trees.specs.declared.values.Value.{Value, out-Value}
+use Rattle.rb_trees.specs.declared.values.Value.TheVariants as value
 use Rattle.rb_trees.specs.declared.outcomes.Raised.{Raised}
 use Rattle.rb_trees.specs.declared.want.Memory.{Memory}
 use Rattle.rb_trees.specs.declared.code.Expr as expr
@@ -9,7 +10,7 @@ use Rattle.rb_meaning_code.specs.State.{Names, Local}
 use Rattle.rb_meaning_code.specs.Dialogue.{Question, Outcome}
 use Rattle.rb_meaning_code.specs.Remote.{Server, Reply, invoke}
 use Rattle.rb_meaning.specs.CallKinds.{call_kind}
-use Rattle.rb_meaning.specs.RemotePart.{answer_of, remotely, value_of}
+use Rattle.rb_meaning.specs.RemotePart.{answer_of, in_remote_part, unit_of, value_of}
 use Rattle.rb_engine.specs.Answers.{Answer, Performed}
 use Rattle.rb_engine.specs.Misses.{Means}
 use Rattle.rb_engine.specs.declared.misses.Miss.{Miss}
@@ -31,6 +32,15 @@ abbrev pub call_meant : RemoteWorld → ℕ → Value → List ℕ → List Valu
 call_meant w at target method args =
     answer_of (invoke (service_of w.stage).classes at (call_kind (program_of w.stage) at) (out-Value target) method args w.server)
 
+-- a unit of remote fuel, at a position: the answer, and the server then
+abbrev pub turn_meant : RemoteWorld → ℕ → Result Value Raised × Server
+turn_meant w at = answer_of (unit_of at w.server)
+
+-- nothing, as a value
+abbrev pub as_unit : {E : Type 0} → Result (Unit {0}) E → Result Value E
+as_unit (Ok u) = Ok value.Unit
+as_unit (Err e) = Err e
+
 -- This was answered, and the server is then so, unless memory ran out.
 abbrev pub IsAnswered : {A : Type 0} → A × Server → Result A Memory → RemoteWorld → Type 0
 IsAnswered meant (Ok answer) w' = (answer ≡ meant.0) × (w'.server ≡ meant.1)
@@ -42,10 +52,10 @@ Handled meant w (Ok answer) w' = (answer ≡ meant.0) × (w'.server ≡ meant.1)
 Handled meant w (Err want) w' = ⊥
 
 abbrev pub remote_answers : RemoteWorld → Question → Answer Memory → RemoteWorld → Type 0
-remote_answers w question answer w' = Handled ((remotely (program_of w.stage) (service_of w.stage)).answer w.server question) w answer w'
+remote_answers w question answer w' = Handled ((in_remote_part (program_of w.stage) (service_of w.stage)).answer w.server question) w answer w'
 
 abbrev pub remote_performs : RemoteWorld → ℕ → Local → Performed Memory → RemoteWorld → Type 0
-remote_performs w at l ended w' = Handled ((remotely (program_of w.stage) (service_of w.stage)).batch w.server at l) w ended w'
+remote_performs w at l ended w' = Handled ((in_remote_part (program_of w.stage) (service_of w.stage)).batch w.server at l) w ended w'
 
 -- the value of a remote expression where these names are in scope
 abbrev pub value_meant : Staged → expr.Expr → Names → Server → Reply Value

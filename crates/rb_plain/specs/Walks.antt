@@ -1,5 +1,5 @@
 -- What is remote in the statements of a batch, as the code performs it.
-use Rattle.std.specs.Prelude.{◌≡◌, ℕ, List, [], length, take, OnOk, Result, Ok, Err}
+use Rattle.std.specs.Prelude.{◌≡◌, ℕ, List, [], length, take, cond, OnOk, Result, Ok, Err}
 use Rattle.rb_trees.specs.declared.values.Value.{Value, out-Value}
 use Rattle.rb_trees.specs.declared.code.Expr as expr
 use Rattle.rb_trees.specs.declared.code.Stmt as stmt
@@ -13,9 +13,10 @@ use Rattle.rb_meaning_flow.specs.Facts.{facts_of}
 use Rattle.rb_meaning_flow.specs.Scopes.{Scope, with_variable}
 use Rattle.rb_meaning_flow.specs.Sites.{scope_after, val_role}
 use Rattle.rb_meaning.specs.RemotePart as part
-use Rattle.rb_meaning.specs.RemotePart.{Rest, chosen, ended, remote_in, rows_in, turns, walk, walk_block, with_name}
+use Rattle.rb_meaning.specs.RemotePart.{Rest, ended, rows_in, skims, turns, walk, walk_block, with_name}
 use Rattle.rb_engine.specs.declared.misses.Miss.{Miss}
 use Rattle.rb_engine.specs.declared.misses.Miss.TheVariants as miss
+use Rattle.rb_plain.specs.Parts.{part_meant}
 use Rattle.rb_plain.specs.Remote.{SameStage, Unstarved, value_meant}
 use Rattle.rb_plain.specs.Staged.{Staged, program_of, service_of}
 use Rattle.rb_plain.specs.declared.remote_world.RemoteWorld.{RemoteWorld}
@@ -46,9 +47,13 @@ pub record Walked (meaning : Meaning) (old : Names) (result : Result (Unit {0}) 
 abbrev pub carried_meant : RemoteWorld → List ℕ → expr.Expr → Names → Meaning
 carried_meant w name e names go = and_then (value_meant w.stage e names w.server) (λ v s. go (with_name name v names) s)
 
--- a statement of which only what is remote in an expression is performed
+-- a statement of which only the remote expressions are performed
+abbrev pub skim_meant : RemoteWorld → Scope → Stmt → Names → Meaning
+skim_meant w scope s names go = skims (program_of w.stage) (service_of w.stage) scope s names w.server go
+
+-- a variable that isn't carried
 abbrev pub plain_meant : RemoteWorld → Scope → expr.Expr → Names → Meaning
-plain_meant w scope e names go = remote_in (program_of w.stage) (service_of w.stage) scope (mirror_expr e) names w.server (go names)
+plain_meant w scope e names go = and_then (part_meant w scope e names) (λ u s. go names s)
 
 -- a statement of a form
 abbrev pub form_meant : RemoteWorld → Scope → Stmt → Names → Meaning
@@ -81,7 +86,7 @@ abbrev pub branch_meant : RemoteWorld → Scope → ℕ → expr.Expr → List s
 branch_meant w scope at c a b names go =
     and_then (value_meant w.stage c names w.server) (λ v s1.
     and_then (replies at (truth_of (out-Value v)) s1) (λ holds s2.
-    and_then (chosen holds (block_from w.stage scope a names s2) (block_from w.stage scope b names s2)) (λ u s3. go names s3)))
+    and_then (cond holds (block_from w.stage scope a names s2) (block_from w.stage scope b names s2)) (λ u s3. go names s3)))
 
 -- the block of a turn, with its row bound
 abbrev pub turn_from : Staged → Scope → Loop → Names → Value → Server → part.Walked

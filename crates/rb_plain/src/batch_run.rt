@@ -46,7 +46,7 @@ pub fn begin(
 fn with_side(stage: &Stage<'_>, raised: Raised) -> Raised
     ensures { result ≡ sided stage.now raised }
 {
-    let remote = raised.remote || stage.is_remote_at(raised.at);
+    let remote = raised.remote || stage.stands_remote(raised.at);
     Raised {
         fault: raised.fault,
         at: raised.at,

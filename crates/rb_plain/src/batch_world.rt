@@ -7,7 +7,7 @@ use crate::lines::whole_line;
 use crate::remote_world::RemoteWorld;
 use rb_base::{Failed, Sink, write_whole};
 use rb_engine::{Frame, Halt, State, Step, World};
-use rb_trees::{Raised, Seq, Value};
+use rb_trees::{Seq, Value};
 
 /// The surroundings of the code in a batch: its lines go to the output, its remote calls are performed where they stand,
 /// and a turn over rows takes a unit of remote fuel. All else but a turn over a list faults Kind. A run is cut off where
@@ -30,14 +30,6 @@ impl<'a, 'o, W: Sink> BatchWorld<'a, 'o, W> {
             Ok(()) => Ok(Ok(())),
             Err(failed) => Err(Halt::World(failed)),
         }
-    }
-
-    // A unit of remote fuel, at a position.
-    fn take_unit(&mut self, at: u32) -> Result<(), Raised> {
-        if self.remote.server.take_unit() {
-            return Ok(());
-        }
-        Err(self.remote.no_fuel(at))
     }
 }
 
@@ -76,7 +68,7 @@ impl<'a, 'o, W: Sink> World for BatchWorld<'a, 'o, W> {
     }
 
     fn turn(&mut self, at: u32) -> Step<(), Failed> {
-        Ok(self.take_unit(at))
+        Ok(self.remote.take_unit(at))
     }
 
     fn list_turn(&mut self, _at: u32) -> Step<(), Failed> {

@@ -30,11 +30,7 @@ pub fn root_of<'b>(batch: &'b OpenBatch<'_>) -> Option<&'b Variable>
 }
 
 // Notes the place of a batch.
-fn note(
-    places: &mut HashMap<u32, usize>,
-    batch: &OpenBatch<'_>,
-    place: usize,
-) -> Result<(), Memory>
+fn note(places: &mut HashMap<u32, usize>, batch: &OpenBatch<'_>, place: usize) -> Result<(), Memory>
     ensures { OnOk result (Notes batch.now place (get nat_eq places.old) (get nat_eq places.new)) }
 {
     if let Some(root) = root_of(batch) {

@@ -1,11 +1,12 @@
 // Performs what is remote in the expressions of a batch.
 
-ghost use Rattle.std.specs.Prelude.{◌≡◌};
+ghost use Rattle.std.specs.Prelude.{◌≡◌, [], ◌∷◌};
 ghost use Rattle.rb_trees.specs.mirror.Code.{mirror_expr};
 ghost use Rattle.rb_meaning_flow.specs.Facts.{facts_of};
 ghost use Rattle.rb_meaning_flow.specs.Marks.{is_portable_call};
 ghost use Rattle.rb_plain.specs.Staged.{program_of};
-ghost use Rattle.rb_plain.specs.Parts.{Looked, whole_meant, part_meant, parts_meant, all_parts_meant};
+ghost use Rattle.rb_plain.specs.Parts.{all_parts_meant, part_meant, parts_meant, performed_meant};
+ghost use Rattle.rb_plain.specs.Remote.{Ended};
 
 use crate::remote_world::{RemoteWorld, value_of};
 use crate::stage::Stage;
@@ -23,7 +24,7 @@ fn is_remote(stage: &Stage<'_>, scope: &Scope, expr: &Expr) -> bool
     is_portable(typed, scope, expr) && holds_call(typed, expr)
 }
 
-/// A remote expression, whose value isn't of use.
+// A remote expression, whose value isn't of use.
 #[inline(never)]
 fn perform_whole(
     alloc: Global,
@@ -31,13 +32,13 @@ fn perform_whole(
     frame: &Frame,
     expr: &Expr,
 ) -> Result<(), Miss>
-    ensures { Looked (whole_meant world.old expr.now frame.now) result world.old world.new }
+    ensures { Ended (performed_meant world.old (mirror_expr expr.now ∷ []) frame.now) result world.old world.new }
 {
     let _value = value_of(alloc, world, frame, expr)?;
     Ok(())
 }
 
-/// Performs an expression, where it is a largest remote one, or else what is remote in its parts: `remote_in`.
+/// Performs an expression, where it is a remote one as a whole, or else those in its parts: `remote_in`.
 #[cycle(parts)]
 #[inline(never)]
 pub fn perform_in(
@@ -47,7 +48,7 @@ pub fn perform_in(
     frame: &Frame,
     expr: &Expr,
 ) -> Result<(), Miss>
-    ensures { Looked (part_meant world.old scope.now expr.now frame.now) result world.old world.new }
+    ensures { Ended (part_meant world.old scope.now expr.now frame.now) result world.old world.new }
 {
     if is_remote(&world.stage, scope, expr) {
         return perform_whole(alloc, world, frame, expr);
@@ -65,7 +66,7 @@ fn perform_parts(
     frame: &Frame,
     expr: &Expr,
 ) -> Result<(), Miss>
-    ensures { Looked (parts_meant world.old scope.now expr.now frame.now) result world.old world.new }
+    ensures { Ended (parts_meant world.old scope.now expr.now frame.now) result world.old world.new }
 {
     match &expr.form {
         ExprForm::Lit(_) | ExprForm::Name(_) | ExprForm::This | ExprForm::Taken(_) => Ok(()),
@@ -100,7 +101,7 @@ fn perform_in_all(
     frame: &Frame,
     exprs: &[Expr],
 ) -> Result<(), Miss>
-    ensures { Looked (all_parts_meant world.old scope.now exprs.now frame.now) result world.old world.new }
+    ensures { Ended (all_parts_meant world.old scope.now exprs.now frame.now) result world.old world.new }
 {
     'exprs: for expr in exprs {
         perform_in(alloc, world, scope, frame, expr)?;

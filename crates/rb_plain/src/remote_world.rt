@@ -3,7 +3,7 @@
 ghost use Rattle.std.specs.Prelude.{◌≡◌};
 ghost use Rattle.rb_meaning_code.specs.Faults as faults;
 ghost use Rattle.rb_meaning_code.specs.Faults.{raised, raised_remotely};
-ghost use Rattle.rb_plain.specs.Remote.{Ended, IsAnswered, SameStage, call_meant, value_meant};
+ghost use Rattle.rb_plain.specs.Remote.{Ended, IsAnswered, SameStage, as_unit, call_meant, turn_meant, value_meant};
 
 use crate::kinds::call_kind;
 use crate::stage::Stage;
@@ -13,7 +13,7 @@ use rb_trees::{Expr, Fault, Memory, Raised, Seq, Value};
 use std::alloc::Global;
 
 /// The service that a program's remote calls are performed on. As a World it surrounds remote expressions alone: a remote
-/// call is performed, and all else faults Kind. It never cuts a run off.
+/// call is performed, a turn over rows takes a unit of remote fuel, and all else faults Kind. It never cuts a run off.
 #[derive(Drop)]
 pub struct RemoteWorld<'a> {
     pub alloc: Global,
@@ -55,11 +55,22 @@ impl<'a> RemoteWorld<'a> {
         raise(self.alloc, 12, at, false)
     }
 
-    /// The fault that no fuel is left, of a remote operation at a position.
-    pub fn no_fuel(&self, at: u32) -> Raised
+    // The fault that no fuel is left, of a remote operation at a position.
+    fn no_fuel(&self, at: u32) -> Raised
         ensures { result ≡ raised_remotely faults.fuel_used at }
     {
         raise(self.alloc, 7, at, true)
+    }
+
+    /// Takes a unit of remote fuel, which is due at a position.
+    pub fn take_unit(&mut self, at: u32) -> Result<(), Raised>
+        ensures answer { (as_unit result ≡ (turn_meant self.old at).0) × (self.new.server ≡ (turn_meant self.old at).1) }
+        ensures stage { SameStage self.old self.new }
+    {
+        if self.server.take_unit() {
+            return Ok(());
+        }
+        Err(self.no_fuel(at))
     }
 
     /// A remote call, whose result has to be of the kind by the call's type.
@@ -124,8 +135,8 @@ impl<'a> World for RemoteWorld<'a> {
         }
     }
 
-    fn turn(&mut self, _at: u32) -> Step<(), Memory> {
-        Ok(Err(self.refuse(0)))
+    fn turn(&mut self, at: u32) -> Step<(), Memory> {
+        Ok(self.take_unit(at))
     }
 
     fn list_turn(&mut self, _at: u32) -> Step<(), Memory> {

@@ -89,9 +89,9 @@ impl<'a> Stage<'a> {
         self.root
     }
 
-    /// Whether a remote expression stands at a position: `is_remote_at`.
-    pub fn is_remote_at(&self, at: u32) -> bool
-        ensures { result ≡ meant.is_remote_at (program_of self.now) at }
+    /// Whether a part of a remote expression stands at a position: `stands_remote`.
+    pub fn stands_remote(&self, at: u32) -> bool
+        ensures { result ≡ meant.stands_remote (program_of self.now) at }
     {
         match self.marks.mark_at(at) {
             Some(Mark::Remote) => true,

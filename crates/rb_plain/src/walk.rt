@@ -8,7 +8,7 @@ ghost use Rattle.rb_meaning_flow.specs.declared.scopes.Role.{Role};
 ghost use Rattle.rb_meaning_flow.specs.Scopes.{with_variable};
 ghost use Rattle.rb_meaning.specs.RemotePart as meant;
 ghost use Rattle.rb_engine.specs.Ends.{fault_of};
-ghost use Rattle.rb_plain.specs.Remote.{Ended};
+ghost use Rattle.rb_plain.specs.Remote.{Ended, as_unit};
 ghost use Rattle.rb_plain.specs.Walks.{Kept, Walked, block_meant, branch_meant, carried_meant, for_meant, if_meant, plain_meant, rows_meant, scope_behind, stmt_meant, stmts_meant, turn_meant, turns_meant, val_meant, val_scope};
 
 use crate::remote_parts::perform_in;
@@ -17,9 +17,7 @@ use rb_engine::{Frame, Miss, Refusal, at_place, truth_of};
 use rb_flow::{branches_hold, is_portable, over_rows};
 use rb_marks::Scope;
 use rb_meaning_flow::Role;
-use rb_trees::{
-    Expr, Fault, Seq, Shared, Stmt, StmtForm, Value, Word, copy_value, copy_word,
-};
+use rb_trees::{Expr, Fault, Seq, Shared, Stmt, StmtForm, Value, Word, copy_value, copy_word};
 use std::alloc::Global;
 
 /// A loop over rows, without its rows: its position, the name of its rows, and its block.
@@ -54,7 +52,7 @@ fn rows_in(alloc: Global, value: &Value) -> Result<Shared<Seq<Value>>, Refusal>
 
 // A unit of remote fuel, at a position: `unit_of`.
 fn take_unit(alloc: Global, world: &mut RemoteWorld<'_>, at: u32) -> Result<(), Miss>
-    ensures { Ended (meant.unit_of at world.old.server) result world.old world.new }
+    ensures { Ended (meant.unit_of at world.old.server) (as_unit result) world.old world.new }
 {
     if world.server.take_unit() {
         return Ok(());
@@ -89,7 +87,7 @@ fn perform_carried(
     Ok(())
 }
 
-// A variable that isn't carried: what is remote in its expression.
+// A variable that isn't carried: the remote expressions in its own are performed.
 #[inline(never)]
 fn perform_plain(
     alloc: Global,
