@@ -41,14 +41,14 @@ pub batch_as : {W : Type 0} (g : sinks.Ghosts W) (first : BatchWorld W) (start :
 batch_as g first start = record {
   questions = λ w w' s q r sees answered. answered first start s sees;
   batches = λ w w' s at l r sees performed. performed first start s sees;
-  later = λ w s d c. cut_later g first start w s (handle (inner first) d s).1 (batch_more (program_of first.remote.stage) (service_of first.remote.stage) d s) c;
+  later = λ A w s d c. cut_later g first start w s (handle (inner first) d s).1 (batch_more (program_of first.remote.stage) (service_of first.remote.stage) d s) c;
 }
 
 pub outer_as : {W : Type 0} (g : sinks.Ghosts W) (first : OuterWorld W) (start : Device (List ℕ)) → AnswersAs (outer_view g first start) (surrounds g) (outer first)
 outer_as g first start = record {
   questions = λ w w' s q r sees answered. answered first start s sees;
   batches = λ w w' s at l r sees performed. performed first start s sees;
-  later = λ w s d c. cut_later g first.inner start w.inner s (handle (outer first) d s).1 (outer_more (program_of first.inner.remote.stage) (service_of first.inner.remote.stage) d s) c;
+  later = λ A w s d c. cut_later g first.inner start w.inner s (handle (outer first) d s).1 (outer_more (program_of first.inner.remote.stage) (service_of first.inner.remote.stage) d s) c;
 }
 
 -- Lines.

@@ -45,7 +45,7 @@ as_server : (st : Staged) → AnswersAs (server_view st) calls (in_remote_part (
 as_server st = record {
   questions = λ w w' s q r sees h. by_handled st w w' s r (λ x y. (in_remote_part (program_of x) (service_of x)).answer y q) sees.0 sees.1 h;
   batches = λ w w' s at l r sees h. by_handled st w w' s r (λ x y. (in_remote_part (program_of x) (service_of x)).batch y at l) sees.0 sees.1 h;
-  later = λ w s d c. c;
+  later = λ A w s d c. c;
 }
 
 pub reply_gave : (H : Outcome Value × Server) (v : Value) (l : Local) (s : Server) → Gave v l ≡ H.0 → s ≡ H.1 → reply_of H ≡ Got v s

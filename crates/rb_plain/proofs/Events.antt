@@ -1,5 +1,5 @@
 -- Events only come.
-use Rattle.std.proofs.Common.{◌≡◌, refl, sym, ap, ◌∙◌, ℕ, List, [], ◌∷◌, ◌++◌, append_assoc, append-nil}
+use Rattle.std.proofs.Common.{◌≡◌, refl, sym, ap, ◌∙◌, ℕ, List, [], ◌∷◌, ◌++◌, length, append_assoc, append-nil}
 use Rattle.std.specs.Prelude.{◌+◌, Option, None, Some, Result, Ok}
 use Rattle.rb_trees.specs.declared.values.Value.{Value}
 use Rattle.rb_trees.specs.declared.outcomes.Raised.{Raised}
@@ -67,9 +67,11 @@ settled_same p count whole (Faulted f l, s) = refl
 performed_more : (p : Program) (service : Service) (b : Outermost) (l : Local) (s : Outside) → More s (performs_batch p service b l s).1
 performed_more p service b l s =
     let start = bound b.root (value.Remote service.root) l in
-    let body = handle (in_batch p service) (performs_all (bodies_of p.classes l.fuel) l.fuel b.block start) (begun s) in
+    let run = performs_all (bodies_of p.classes l.fuel) l.fuel b.block start in
+    let body = handle (in_batch p service) run (begun s) in
     more_far s (begun s) (performs_batch p service b l s).1 (state.Batch ∷ [], refl)
-    (more_far (begun s) body.1 (performs_batch p service b l s).1 (batch_more p service _ (begun s)) (no_more body.1 (performs_batch p service b l s).1 (settled_same p _ _ body)))
+    (more_far (begun s) body.1 (performs_batch p service b l s).1 (batch_more p service run (begun s))
+    (no_more body.1 (performs_batch p service b l s).1 (settled_same p (length l.names) (whole_table p service b start (begun s).server) body)))
 
 outer_adds : (p : Program) (service : Service) → Adds (in_main p service)
 outer_adds p service = record { questions = by_question; batches = λ s at l. by_batch (batch_at p at) s at l }

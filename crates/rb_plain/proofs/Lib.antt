@@ -14,4 +14,5 @@ pub mod Names
 pub mod Replies
 pub mod Stepped
 pub mod Told
+pub mod Weight
 pub mod Whole

@@ -29,12 +29,16 @@ pub unstarved_ok : {A : Type 0} (r : Result A Miss) (a : A) (P : Type 0) → r �
 unstarved_ok r a P e p = subst (λ x. Unstarved x P) e p
 
 -- of one error for results of two kinds
-pub unstarved_err : {A B : Type 0} (r : Result A Miss) (h : Miss) (P Q : Type 0) → (P → Q) → r ≡ Err h → Unstarved r P → Unstarved {A = B} (Err h) Q
-unstarved_err r h P Q f e p = by_miss h (subst (λ x. Unstarved x P) e p)
-  where
-    by_miss : (h : Miss) → Unstarved (Err h) P → Unstarved (Err h) Q
-    by_miss (miss.Fault at x) p = f p
-    by_miss miss.Memory p = tt
+
+abbrev missed_as : (A : Type 0) → Miss → Result A Miss
+missed_as A h = Err h
+
+miss_so : (A B : Type 0) (h : Miss) (P Q : Type 0) → (P → Q) → Unstarved (missed_as A h) P → Unstarved (missed_as B h) Q
+miss_so A B (miss.Fault at x) P Q f p = f p
+miss_so A B miss.Memory P Q f p = tt
+
+pub unstarved_err : {A : Type 0} (B : Type 0) (r : Result A Miss) (h : Miss) (P Q : Type 0) → (P → Q) → r ≡ Err h → Unstarved r P → Unstarved (missed_as B h) Q
+unstarved_err {A = A} B r h P Q f e p = miss_so A B h P Q f (subst (λ x. Unstarved x P) e p)
 
 -- replies
 
@@ -77,9 +81,9 @@ missed_by miss.Memory m s k e = tt
 -- a reply gave none, and nothing follows
 pub missed : {A B : Type 0} {m : Reply A} {t : Result A Miss} {w w1 : RemoteWorld} {h : Miss} {r : Result B Miss} (k : A → Server → Reply B)
     → Ended m t w w1 → t ≡ Err h → r ≡ Err h → Ended (and_then m k) r w w1
-missed {m = m} {t = t} {w = w} {w1 = w1} {h = h} k f is e = by_result e (record {
+missed {B = B} {m = m} {t = t} {w = w} {w1 = w1} {h = h} k f is e = by_result e (record {
   means = missed_by h m w1.server k (subst (λ x. Means m x w1.server) is f.means);
-  stage_so = unstarved_err t h (SameStage w w1) (SameStage w w1) (λ x. x) is f.stage_so;
+  stage_so = unstarved_err B t h (SameStage w w1) (SameStage w w1) (λ x. x) is f.stage_so;
 })
 
 -- what a rule gives at a position
@@ -88,12 +92,12 @@ ruled {w = w} at (Ok a) d g is = by_result is (record { means = ap (λ x. replie
 ruled {w = w} at (Err (refusal.Fault f)) d g is = by_result is (record { means = ap (λ x. replies at x w.server) g; stage_so = refl })
 ruled at (Err refusal.Memory) d g is = by_result is (record { means = tt; stage_so = tt })
 
+two_in_row : {B C D : Type 0} (m : Reply B) (l : B → Server → Reply C) (j : C → Server → Reply D) → and_then m (λ b s1. and_then (l b s1) j) ≡ and_then (and_then m l) j
+two_in_row (Got b s) l j = refl
+two_in_row (Stopped at f s) l j = refl
+
 -- three replies in a row, as two and then one
 pub in_row : {A B C D : Type 0} (m : Reply A) (k : A → Server → Reply B) (l : B → Server → Reply C) (j : C → Server → Reply D)
     → and_then m (λ a s. and_then (k a s) (λ b s1. and_then (l b s1) j)) ≡ and_then (and_then m (λ a s. and_then (k a s) l)) j
-in_row (Got a s) k l j = by_second (k a s) l j
-  where
-    by_second : {B C D : Type 0} (m : Reply B) (l : B → Server → Reply C) (j : C → Server → Reply D) → and_then m (λ b s1. and_then (l b s1) j) ≡ and_then (and_then m l) j
-    by_second (Got b s) l j = refl
-    by_second (Stopped at f s) l j = refl
+in_row (Got a s) k l j = two_in_row (k a s) l j
 in_row (Stopped at f s) k l j = refl

@@ -71,7 +71,7 @@ pub carried_missed : {t : Result Value Miss} {h : Miss} {r : Result (Unit {0}) M
 carried_missed {t = t} {h = h} {old = old} {new = new} {w = w} {w1 = w1} name e d is so = by_result so (record {
   does = missed_by h (value_meant w.stage e old w.server) (λ v go s. go (old ++ (name, v) ∷ []) s) new w1.server (subst (λ x. Means (value_meant w.stage e old w.server) x w1.server) is d.means);
   names_so = tt;
-  stage_so = unstarved_err t h (SameStage w w1) (SameStage w w1) (λ x. x) is d.stage_so;
+  stage_so = unstarved_err (Unit {0}) t h (SameStage w w1) (SameStage w w1) (λ x. x) is d.stage_so;
 })
 
 -- Statements of one of two kinds.
@@ -281,7 +281,7 @@ stmts_cut {t = t} {h = h} {ss = ss} {scope = scope} {scope1 = scope1} {names = n
       does = does_as (Err h) (stmts_meant w scope ss names) (λ go. stmt_meant w1 scope1 x names1 (rest go)) names2 w2.server (λ go. on.leads go ∙ stmt_on w1 scope1 ss i x names1 go l is)
           (stops h (stmt_meant w1 scope1 x names1) rest names2 w2.server (subst (λ y. Does (stmt_meant w1 scope1 x names1) y names2 w2.server) so d.does));
       names_so = tt;
-      stage_so = unstarved_err t h (SameStage w1 w2) (SameStage w w2) (λ y. y ∙ on.stage_so) so d.stage_so;
+      stage_so = unstarved_err (Unit {0}) t h (SameStage w1 w2) (SameStage w w2) (λ y. y ∙ on.stage_so) so d.stage_so;
     })
 
 pub stmts_end : {ss : List stmt.Stmt} {scope scope1 : Scope} {names names1 : Names} {w w1 : RemoteWorld} {i : ℕ} → length ss ≤ i → StmtsOn ss scope names w i scope1 names1 w1 → Walked (stmts_meant w scope ss names) names (Ok tt) w names1 w1

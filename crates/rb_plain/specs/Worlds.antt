@@ -57,15 +57,15 @@ inner first = in_batch (program_of first.remote.stage) (service_of first.remote.
 
 -- A line was printed, or cut off.
 abbrev pub Prints : {W : Type 0} → sinks.Ghosts W → BatchWorld W → List ℕ → Answer Failed → BatchWorld W → Type 0
-Prints g w bytes answer w' = (first : BatchWorld _) (start : Device (List ℕ)) (s : Outside) → SeesBatch g first start w s
+Prints {W = W} g w bytes answer w' = (first : BatchWorld W) (start : Device (List ℕ)) (s : Outside) → SeesBatch g first start w s
     → Told (batch_view g first start) answer w' (Ok value.Unit, shows (state.Line bytes) s)
 
 abbrev pub batch_answers : {W : Type 0} → sinks.Ghosts W → BatchWorld W → Question → Answer Failed → BatchWorld W → Type 0
-batch_answers g w question answer w' = (first : BatchWorld _) (start : Device (List ℕ)) (s : Outside) → SeesBatch g first start w s
+batch_answers {W = W} g w question answer w' = (first : BatchWorld W) (start : Device (List ℕ)) (s : Outside) → SeesBatch g first start w s
     → Told (batch_view g first start) answer w' ((inner first).answer s question)
 
 abbrev pub batch_performs : {W : Type 0} → sinks.Ghosts W → BatchWorld W → ℕ → Local → Performed Failed → BatchWorld W → Type 0
-batch_performs g w at l ended w' = (first : BatchWorld _) (start : Device (List ℕ)) (s : Outside) → SeesBatch g first start w s
+batch_performs {W = W} g w at l ended w' = (first : BatchWorld W) (start : Device (List ℕ)) (s : Outside) → SeesBatch g first start w s
     → Told (batch_view g first start) ended w' ((inner first).batch s at l)
 
 -- Outside of batches the batches that were begun are counted, too.
@@ -85,14 +85,14 @@ abbrev pub outer : {W : Type 0} → OuterWorld W → Handler Outside
 outer first = in_main (program_of first.inner.remote.stage) (service_of first.inner.remote.stage)
 
 abbrev pub outer_answers : {W : Type 0} → sinks.Ghosts W → OuterWorld W → Question → Answer Failed → OuterWorld W → Type 0
-outer_answers g w question answer w' = (first : OuterWorld _) (start : Device (List ℕ)) (s : Outside) → SeesOuter g first start w s
+outer_answers {W = W} g w question answer w' = (first : OuterWorld W) (start : Device (List ℕ)) (s : Outside) → SeesOuter g first start w s
     → Told (outer_view g first start) answer w' ((outer first).answer s question)
 
 abbrev pub outer_performs : {W : Type 0} → sinks.Ghosts W → OuterWorld W → ℕ → Local → Performed Failed → OuterWorld W → Type 0
-outer_performs g w at l ended w' = (first : OuterWorld _) (start : Device (List ℕ)) (s : Outside) → SeesOuter g first start w s
+outer_performs {W = W} g w at l ended w' = (first : OuterWorld W) (start : Device (List ℕ)) (s : Outside) → SeesOuter g first start w s
     → Told (outer_view g first start) ended w' ((outer first).batch s at l)
 
 -- A batch of the program was performed, of which the code has this and this root.
 abbrev pub PerformsBatch : {W : Type 0} → sinks.Ghosts W → List ℕ → OpenBatch → OuterWorld W → Local → Performed Failed → OuterWorld W → Type 0
-PerformsBatch g root b w l ended w' = (first : OuterWorld _) (start : Device (List ℕ)) (s : Outside) (o : Outermost) → SeesOuter g first start w s → begun_of b ≡ begun o → root ≡ o.root
+PerformsBatch {W = W} g root b w l ended w' = (first : OuterWorld W) (start : Device (List ℕ)) (s : Outside) (o : Outermost) → SeesOuter g first start w s → begun_of b ≡ begun o → root ≡ o.root
     → Told (outer_view g first start) ended w' (performs_batch (program_of first.inner.remote.stage) (service_of first.inner.remote.stage) o l s)

@@ -45,7 +45,7 @@ fn places_of(alloc: Global, batches: &[OpenBatch<'_>]) -> Result<HashMap<u32, us
 {
     let mut places = HashMap::new(alloc);
     let mut place = batches.len();
-    while place > 0 {
+    'places: while place > 0 {
         place -= 1;
         note(&mut places, &batches[place], place)?;
     }

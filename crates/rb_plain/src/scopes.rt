@@ -11,7 +11,7 @@ pub fn copy_scope(alloc: Global, scope: &Scope) -> Result<Scope, Memory>
     ensures { IfOk result (λ copy. copy ≡ scope.now) }
 {
     let mut copy = Scope::new(alloc);
-    for v in scope.as_slice() {
+    'variables: for v in scope.as_slice() {
         copy.bind(alloc, &v.name, v.role, v.node)?;
     }
     Ok(copy)
