@@ -6,6 +6,7 @@ ghost use Rattle.rb_trees.specs.declared.values.Value.{out-Value};
 ghost use Rattle.rb_engine.specs.Ends.{fault_of};
 ghost use Rattle.rb_engine.specs.declared.ends.Refusal.TheVariants as refusal;
 ghost use Rattle.rb_meaning_code.specs.Faults as faults;
+ghost use Rattle.rb_meaning_code.specs.Remote as remote;
 ghost use Rattle.rb_meaning_code.specs.ScriptRun as meant;
 ghost use Rattle.rb_exec.specs.Blocks as blocks;
 
@@ -84,7 +85,7 @@ pub fn may_keep(alloc: Global, keep: bool, value: &Value) -> Result<(), Refusal>
 #[inline(never)]
 #[tactic(auto, using(rb_engine::proofs::Values::values))]
 pub fn rows_in(alloc: Global, value: &Value) -> Result<Shared<Seq<Value>>, Refusal>
-    ensures { Gives (λ rows. rows) fault_of result (meant.rows_in (out-Value value.now)) }
+    ensures { Gives (λ rows. rows) fault_of result (remote.rows_in (out-Value value.now)) }
 {
     match value {
         Value::Rows(rows) => Ok(rows.share()?),

@@ -1,16 +1,14 @@
 -- The whole remote part of a batch: a walk over its source that performs what is remote, in order, and skips all else. A fault
 -- ends the walk. Which expressions are portable, and which statements hold a remote operation, the definitions of marks say.
-use Rattle.std.specs.Prelude.{ℕ, List, [], ◌∷◌, ◌++◌, cond, Result, Ok, Err}
+use Rattle.std.specs.Prelude.{ℕ, List, [], ◌∷◌, ◌++◌, cond}
 use Rattle.rb_trees.specs.declared.values.Value.{Value, out-Value}
-use Rattle.rb_trees.specs.declared.values.Value.TheOpen.{Value-F}
-use Rattle.rb_trees.specs.declared.values.Fault.{Fault}
 use Rattle.rb_trees.specs.mirror.Code.{Expr, Stmt, Stmts, Val, If, For, NoStmts, MoreStmts}
 use Rattle.rb_trees.specs.mirror.Declarations.{Program}
 use Rattle.rb_trees.specs.mirror.Services.{Service}
 use Rattle.rb_meaning_code.specs.Faults.{kind, raised}
 use Rattle.rb_meaning_code.specs.State.{Names, Local}
 use Rattle.rb_meaning_code.specs.Dialogue.{Outcome, Gave, Faulted, Handler, handle}
-use Rattle.rb_meaning_code.specs.Remote.{Server, Reply, Got, Stopped, and_then, replies}
+use Rattle.rb_meaning_code.specs.Remote.{Server, Reply, Got, Stopped, and_then, replies, rows_in}
 use Rattle.rb_meaning_code.specs.Expressions.{evaluates}
 use Rattle.rb_meaning_code.specs.Statements.{truth_of}
 use Rattle.rb_meaning_code.specs.Bodies.{bodies_of}
@@ -46,11 +44,6 @@ reply_of (Faulted r l, s) = Stopped r.at r.fault s
 -- a local state with these names, and nothing else
 abbrev pub with_names : Names → Local
 with_names names = record { names = names; heap = []; fuel = 0; depth = 0 }
-
--- the rows of a value of the client
-abbrev pub rows_in : Value-F Value → Result (List Value) Fault
-rows_in (Value-F.Rows rows) = Ok rows
-rows_in _ = Err kind
 
 -- turns over rows, each of which begins with a unit at the loop
 abbrev pub turns : ℕ → (Value → Server → Walked) → List Value → Server → Walked

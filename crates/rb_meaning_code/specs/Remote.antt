@@ -38,6 +38,11 @@ abbrev pub replies : {A : Type 0} → ℕ → Result A Fault → Server → Repl
 replies at (Ok a) s = Got a s
 replies at (Err f) s = Stopped at f s
 
+-- the rows of a value of the client, which a loop over rows goes over
+abbrev pub rows_in : Value-F Value → Result (List Value) Fault
+rows_in (Value-F.Rows rows) = Ok rows
+rows_in _ = Err faults.kind
+
 -- what a single value is
 pub data Item : Type 0 where
   AnInt : Item

@@ -1,6 +1,6 @@
 -- What a script means on a service: the node that it gives, and the server after it. It means something whatever its tree
 -- and inputs are. Each step takes what follows it; a block is run to its end, and then goes on.
-use Rattle.std.specs.Prelude.{ℕ, zero, suc, List, [], ◌∷◌, Bool, true, false, cond, nat_eq, Option, None, Some, Result, Ok, Err, slice_get}
+use Rattle.std.specs.Prelude.{ℕ, zero, suc, List, [], ◌∷◌, Bool, true, false, cond, nat_eq, Option, None, Some, Result, Ok, slice_get}
 use Rattle.rb_trees.specs.Outcome.{known, must, ◌>>◌}
 use Rattle.rb_trees.specs.declared.values.Value.{Value, out-Value}
 use Rattle.rb_trees.specs.declared.values.Value.TheOpen.{Value-F}
@@ -15,7 +15,7 @@ use Rattle.rb_trees.specs.mirror.Declarations.{Class}
 use Rattle.rb_meaning_code.specs.Faults.{fuel_used, kind}
 use Rattle.rb_meaning_code.specs.Operators.{on_one, on_two, by_left}
 use Rattle.rb_meaning_code.specs.Statements.{truth_of}
-use Rattle.rb_meaning_code.specs.Remote.{Server, Reply, Got, Stopped, and_then, replies, invoke}
+use Rattle.rb_meaning_code.specs.Remote.{Server, Reply, Got, Stopped, and_then, replies, rows_in, invoke}
 
 -- the fuel of a script, which is fresh at its start
 unfoldable pub batch_fuel : ℕ
@@ -123,11 +123,7 @@ with_kept false v r = r
 abbrev pub condition : ℕ → Value → Server → Reply Bool
 condition at v s = replies at (truth_of (out-Value v)) s
 
--- the rows of a value
-abbrev pub rows_in : Value-F Value → Result (List Value) Fault
-rows_in (Value-F.Rows rows) = Ok rows
-rows_in _ = Err kind
-
+-- the rows of a step's value
 abbrev pub rows_of : ℕ → Value → Server → Reply (List Value)
 rows_of at v s = replies at (rows_in (out-Value v)) s
 

@@ -6,7 +6,7 @@ use Rattle.rb_trees.specs.Outcome.{◌>>=◌}
 use Rattle.rb_trees.specs.mirror.Code.{Stmt, Stmts, Val, Var, Assign, Run, Print, Throw, If, While, For, Try, Batch, NoStmts, MoreStmts, expr_at}
 use Rattle.rb_trees.specs.mirror.Declarations.{Program, Interface}
 use Rattle.rb_meaning_types.specs.Kinds as kind
-use Rattle.rb_meaning_types.specs.Kinds.{Kind, is_primitive}
+use Rattle.rb_meaning_types.specs.Kinds.{Kind}
 use Rattle.rb_meaning_types.specs.Declared.{Context, of_program}
 use Rattle.rb_meaning_types.specs.Scopes as typed
 use Rattle.rb_meaning_types.specs.Statements.{placed, loop_scope, catch_scope, check_stmt, check_stmts}

@@ -24,7 +24,7 @@ use Rattle.rb_meaning_types.specs.Programs.{check_service}
 use Rattle.rb_meaning_types.specs.Fits.{AreRows, Fits}
 use Rattle.rb_meaning_code.specs.State.{Names}
 use Rattle.rb_meaning_code.specs.Statements.{truth_of}
-use Rattle.rb_meaning_code.specs.Remote.{Server, Reply, Got, Stopped, and_then, replies}
+use Rattle.rb_meaning_code.specs.Remote.{Server, Reply, Got, Stopped, and_then, replies, rows_in}
 use Rattle.rb_meaning_flow.specs.declared.scopes.Role.{Role}
 use Rattle.rb_meaning_flow.specs.Facts.{Facts, facts_of, over_rows, is_rows}
 use Rattle.rb_meaning_flow.specs.Scopes.{Scope, with_variable}
@@ -34,7 +34,7 @@ use Rattle.rb_meaning_flow.specs.Sites.{Around, Branch, Turn, is_script_place, S
 use Rattle.rb_meaning_flow.specs.Refusals.{IsRefusal}
 use Rattle.rb_meaning.specs.RemoteExprs.{whole_or, remote_in, all_remote_in, remote_of}
 use Rattle.rb_meaning.specs.RemoteAnswers.{unit_of}
-use Rattle.rb_meaning.specs.RemotePart.{Walked, Rest, ended, with_name, rows_in, turns, value_of, performed, skims, walk, walk_block}
+use Rattle.rb_meaning.specs.RemotePart.{Walked, Rest, ended, with_name, turns, value_of, performed, skims, walk, walk_block}
 use Rattle.rb_flow.specs.Laws.{SendsPortable}
 use Rattle.rb_flow.proofs.Members.{first_contained}
 use Rattle.rb_types_keep.specs.Kept.{Fair}

@@ -11,7 +11,7 @@ use Rattle.rb_lex.proofs.InTables.{keyword_word}
 use Rattle.rb_parse.proofs.printing.lexed.Good.{Good}
 use Rattle.rb_parse.proofs.printing.lexed.Words.{word_utf8, sign_utf8}
 use Rattle.rb_parse.proofs.printing.lexed.Leads as leads
-use Rattle.rb_parse.proofs.printing.lexed.Leads.{Followed, Opened, Leads, Stands, opens_too, spaced, ended, name_leads, number_leads, text_leads}
+use Rattle.rb_parse.proofs.printing.lexed.Leads.{Followed, Leads, Stands, opens_too, spaced, ended, name_leads, number_leads, text_leads}
 use Rattle.rb_parse.proofs.printing.lexed.Exprs.{Flows, Trails, flows_then, nothing_trails, trails_flow, one_flows, semicolon_trails, comma_trails, after_space}
 use Rattle.rb_parse.proofs.printing.lexed.Stmts.{Lines, lines_then, no_lines}
 use Rattle.rb_store_laws.proofs.printed.Ints.{small, small_behind}

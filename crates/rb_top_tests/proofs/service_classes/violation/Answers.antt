@@ -1,4 +1,4 @@
-use Rattle.std.proofs.Common.{◌≡◌, List, [], ◌∷◌, ◌++◌, Bool, false, map}
+use Rattle.std.proofs.Common.{◌≡◌, List, [], ◌∷◌, ◌++◌, Bool, false}
 use Rattle.std.specs.List.{IsDistinct, AllByRecursion}
 use Rattle.rb_trees.specs.mirror.Declarations.{Program}
 use Rattle.rb_meaning_types.specs.Lawful.{IsLawful, IsLawfulService, classes_positions}
