@@ -4,7 +4,7 @@ use Rattle.rb_trees.specs.declared.values.Value.{Value}
 use Rattle.rb_trees.specs.declared.values.Value.TheVariants as value
 use Rattle.rb_trees.specs.declared.outcomes.Raised.{Raised}
 use Rattle.rb_meaning_code.specs.Dialogue as ask
-use Rattle.rb_meaning_code.specs.Dialogue.{Question, Dialogue, Done, Ask, AskBatch, Outcome, Gave, Faulted, Run, seq, next, on, Surroundings, Follows, handle}
+use Rattle.rb_meaning_code.specs.Dialogue.{Dialogue, Done, Ask, AskBatch, Follows, handle}
 use Rattle.rb_meaning.specs.State as state
 use Rattle.rb_meaning.specs.State.{Event, Outside, shows}
 use Rattle.rb_meaning.specs.Meaning.{local_answer}

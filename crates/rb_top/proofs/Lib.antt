@@ -3,6 +3,7 @@ pub mod ConsoleRuns
 pub mod Differ
 pub mod Ended
 pub mod Exchanged
+pub mod FirstKinds
 pub mod FirstScripts
 pub mod Forms
 pub mod FormTests

@@ -1,6 +1,7 @@
 -- Runs of programs without a batch: from the console's run to what the program means.
 use Rattle.std.proofs.Common.{◌≡◌, ℕ, ◌+◌, List, [], ◌∷◌, ◌++◌, map, Option, None, Some, Result, Ok, Err, ap, sym, ◌∙◌, refl, subst, arith, append_assoc, inl, inr}
-use Rattle.std.specs.Prelude.{codes}
+use Rattle.std.specs.Prelude.{true, codes}
+use Rattle.std.specs.List.{flat_map}
 use Rattle.std.specs.Fmt.{decimal}
 use Rattle.rb_trees.specs.declared.values.Value.{Value}
 use Rattle.rb_trees.specs.declared.outcomes.Raised.{Raised}
@@ -8,23 +9,27 @@ use Rattle.rb_trees.specs.declared.outcomes.Ending.{Ending}
 use Rattle.rb_trees.specs.declared.outcomes.Ending.TheVariants as endings
 use Rattle.rb_trees.specs.declared.services.Object.{Object}
 use Rattle.rb_trees.specs.mirror.Code as code
-use Rattle.rb_trees.specs.mirror.Code.{Expr, Stmt, Stmts}
+use Rattle.rb_trees.specs.mirror.Code.{Expr, Stmt, Stmts, expr_at}
 use Rattle.rb_trees.specs.declared.code.Expr as expr
 use Rattle.rb_trees.specs.declared.declarations.Class as class
 use Rattle.rb_trees.specs.declared.declarations.Body as body
 use Rattle.rb_trees.specs.declared.declarations.Program as program
-use Rattle.rb_trees.specs.mirror.Declarations.{Body, Class, Program, mirror_body, mirror_class, mirror_program}
+use Rattle.rb_trees.specs.mirror.Declarations.{Body, Method, Class, Program, mirror_body, mirror_class, mirror_program}
 use Rattle.rb_trees.specs.mirror.Services.{Service}
-use Rattle.rb_meaning_types.specs.Batches.{batches_in, class_batches}
+use Rattle.rb_meaning_types.specs.Batches as count
+use Rattle.rb_meaning_types.specs.Batches.{batches_of, batches_in}
+use Rattle.rb_meaning_flow.specs.Facts.{Facts, facts_of}
+use Rattle.rb_meaning_flow.specs.Scopes.{Scope, with_variable}
+use Rattle.rb_meaning_flow.specs.Outermost.{outermost, outermost_in, outer_after, outer_role, parameters, method_batches, class_batches}
 use Rattle.rb_meaning_code.specs.Faults.{kind, raised}
 use Rattle.rb_meaning_code.specs.State.{Local}
 use Rattle.rb_meaning_code.specs.Dialogue as ask
-use Rattle.rb_meaning_code.specs.Dialogue.{Dialogue, Done, Ask, AskBatch, Outcome, Gave, Faulted, Run, seq, next, on, gives, Surroundings, Follows, handle}
+use Rattle.rb_meaning_code.specs.Dialogue.{Dialogue, Done, Ask, AskBatch, Outcome, Gave, Faulted, Run, seq, next, on, Surroundings, Follows, handle}
 use Rattle.rb_meaning.specs.State as state
 use Rattle.rb_meaning.specs.State.{Event, Outside}
 use Rattle.rb_meaning.specs.Shown.{line, exchanges, shown, shown_ending, shown_events, shown_table}
 use Rattle.rb_meaning.specs.Meaning.{meaning, meant, in_main, performs_found, runs_main, at_start, outside_of, ending_of, local_answer, shown_by, gives_some}
-use Rattle.rb_meaning.specs.Unsplit.{batch_at}
+use Rattle.rb_meaning.specs.Unsplit.{batch_at, batch_within}
 use Rattle.rb_base.specs.Devices.{Device, failed}
 use Rattle.rb_base.specs.Sinks.{with_bytes, WrotePrefix}
 use Rattle.rb_base.specs.declared.sinks.Sink as sinks
@@ -74,23 +79,45 @@ faulted_on R d k f l w w1 h = seq_done R d (on k) (Faulted f l) _ w w1 w1 h (ref
 pub cut_on : {W X A B : Type 0} (R : Surroundings W X) (d : Run A) (k : A → Local → Run B) (x : X) (w w1 : W) → Follows R d w (Err x) w1 → Follows R (next d k) w (Err x) w1
 cut_on R d k x w w1 h = seq_cut R d (on k) x w w1 h
 
--- no batch stands directly in `main` where none stands anywhere
-none_at : (ss : Stmts) (at : ℕ) → batches_in ss ≡ 0 → batch_at ss at ≡ None
-none_at code.NoStmts at h = refl
-none_at (code.MoreStmts (code.Batch place interface root block) ss) at h = absurd (omega arith)
-none_at (code.MoreStmts (code.Val place name e) ss) at h = none_at ss at (omega arith)
-none_at (code.MoreStmts (code.Var place name e) ss) at h = none_at ss at (omega arith)
-none_at (code.MoreStmts (code.Assign place a b) ss) at h = none_at ss at (omega arith)
-none_at (code.MoreStmts (code.Run place e) ss) at h = none_at ss at (omega arith)
-none_at (code.MoreStmts (code.Print place e) ss) at h = none_at ss at (omega arith)
-none_at (code.MoreStmts (code.Throw place e) ss) at h = none_at ss at (omega arith)
-none_at (code.MoreStmts (code.If place c a b) ss) at h = none_at ss at (omega arith)
-none_at (code.MoreStmts (code.While place c a) ss) at h = none_at ss at (omega arith)
-none_at (code.MoreStmts (code.For place name e a) ss) at h = none_at ss at (omega arith)
-none_at (code.MoreStmts (code.Try place a name b) ss) at h = none_at ss at (omega arith)
+both_none : {A : Type 0} {xs ys : List A} → xs ≡ [] → ys ≡ [] → xs ++ ys ≡ []
+both_none {ys = ys} e h = ap (λ zs. zs ++ ys) e ∙ h
+
+mutual
+  -- where no batch stands, none is an outermost one
+  none_of : (x : Facts) (scope : Scope) (s : code.Stmt) → batches_of s ≡ 0 → outermost x scope s ≡ []
+  none_of x scope (code.Val place name e) h = refl
+  none_of x scope (code.Var place name e) h = refl
+  none_of x scope (code.Assign place a b) h = refl
+  none_of x scope (code.Run place e) h = refl
+  none_of x scope (code.Print place e) h = refl
+  none_of x scope (code.Throw place e) h = refl
+  none_of x scope (code.If place c a b) h = both_none (none_in x scope a (omega arith)) (none_in x scope b (omega arith))
+  none_of x scope (code.While place c a) h = none_in x scope a h
+  none_of x scope (code.For place name e a) h = none_in x (with_variable scope name (outer_role (x.items (expr_at e))) place) a h
+  none_of x scope (code.Try place a name b) h =
+      both_none (none_in x scope a (omega arith)) (none_in x (with_variable scope name (outer_role true) place) b (omega arith))
+  none_of x scope (code.Batch place interface root block) h = absurd (omega arith)
+
+  none_in : (x : Facts) (scope : Scope) (ss : Stmts) → batches_in ss ≡ 0 → outermost_in x scope ss ≡ []
+  none_in x scope code.NoStmts h = refl
+  none_in x scope (code.MoreStmts s ss) h = both_none (none_of x scope s (omega arith)) (none_in x (outer_after x scope s) ss (omega arith))
+
+none_in_methods : (x : Facts) (ms : List Method) → count.method_batches ms ≡ 0 → flat_map (method_batches x) ms ≡ []
+none_in_methods x [] h = refl
+none_in_methods x (m ∷ ms) h =
+    both_none (none_in x (parameters m.signature.params) m.body.statements (omega arith)) (none_in_methods x ms (omega arith))
+
+none_in_classes : (x : Facts) (cs : List Class) → count.class_batches cs ≡ 0 → flat_map (class_batches x) cs ≡ []
+none_in_classes x [] h = refl
+none_in_classes x (c ∷ cs) h = both_none (none_in_methods x c.methods (omega arith)) (none_in_classes x cs (omega arith))
+
+none_at : (p : Program) (at : ℕ) → HasNoBatch p → batch_at p at ≡ None
+none_at p at h =
+    let h : count.class_batches p.classes + batches_in p.body.statements ≡ 0 = h in
+    ap (λ bs. batch_within bs at) (both_none (none_in_classes (facts_of p) p.classes (omega arith)) (none_in (facts_of p) [] p.body.statements (omega arith)))
 
 -- where no batch is found, code in `main` is surrounded as code without batches
-in_main_alone : {A : Type 0} (p : Program) (s : Service) (d : Dialogue A) (o : Outside) → ((at : ℕ) → batch_at p.body.statements at ≡ None) → handle (in_main p s) d o ≡ handle without_batches d o
+in_main_alone : {A : Type 0} (p : Program) (s : Service) (d : Dialogue A) (o : Outside) → ((at : ℕ) → batch_at p at ≡ None) → handle (in_main p s) d o ≡ handle without_batches d o
 in_main_alone p s (Done a) o none = refl
 in_main_alone p s (Ask q go) o none = in_main_alone p s (go (local_answer q)) (shown_by q o) none
 in_main_alone p s (AskBatch at l go) o none =
@@ -123,13 +150,10 @@ no_exchange (Ask (ask.Turn at) go) o = no_exchange (go (local_answer (ask.Turn a
 no_exchange (Ask (ask.ListTurn at) go) o = no_exchange (go (local_answer (ask.ListTurn at))) o
 no_exchange (AskBatch at l go) o = no_exchange (go (Faulted (raised kind at) l)) o
 
-no_batch_in_main : (p : Program) → HasNoBatch p → batches_in p.body.statements ≡ 0
-no_batch_in_main p h = let h : class_batches p.classes + batches_in p.body.statements ≡ 0 = h in omega arith
-
 -- what a program without a batch means
 pub means_alone : (p : Program) (s : Service) (table : List Object) (fuel : ℕ) → HasNoBatch p → meaning p s table fuel ≡ main_alone p.classes p.body fuel table
 means_alone p s table fuel h =
-    ap meant (in_main_alone p s (runs_main p.classes fuel p.body (at_start fuel)) (outside_of table) (λ at. none_at p.body.statements at (no_batch_in_main p h)))
+    ap meant (in_main_alone p s (runs_main p.classes fuel p.body (at_start fuel)) (outside_of table) (λ at. none_at p at h))
 
 -- what it shows: its lines, and what follows them
 pub shows_alone : (text : List ℕ) (p : Program) (s : Service) (table : List Object) (fuel : ℕ) → HasNoBatch p

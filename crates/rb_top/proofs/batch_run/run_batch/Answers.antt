@@ -14,6 +14,7 @@ use Rattle.rb_top.proofs.batch_run.run_batch.Goals as goal
 pub returns-in-Ok-clause-prints : goal.returns-in-Ok-clause-prints
 returns-in-Ok-clause-prints g c =
     batch_printed (text_of c.args.source.now) (program_of c.args.source.now) (served_of c.args.link.now.host) (mirror_node c.in-Ok.node) c.table.result.now c.print_node.result _ _ c.requires.first
+    c.program.ensures.lawful
     (subst (λ t. Leaves (program_of c.args.source.now) (served_of c.args.link.now.host) (mirror_node c.in-Ok.node) t) (sym (c.table.ensures ∙ ap (λ h. h.table) c.host.ensures))
     (subst (λ q. Leaves (mirror_program q) (served_of c.args.link.now.host) (mirror_node c.in-Ok.node) c.perform.new.link.host.table) c.program.ensures.same c.in-Ok.ensures.leaves)) c.print_node.ensures
 
