@@ -1,0 +1,92 @@
+//! Reads a thousand random scripts, and each of them a few times with a byte changed, with one taken out and with one put in.
+//!
+//! The payload of a valid script is written form by form, by the random numbers of a fixed seed, so that it is read as a
+//! script, whose spelling is the payload. A payload with another byte is refused, or is the spelling of another script. Each
+//! line tells, of the scripts so far, their number and bytes, how many payloads were scripts and how many were refused, how
+//! many answers were wrong, and a sum of all bytes and answers. The last lines tell how often each refusal came.
+#![tactic(auto)]
+
+mod answers;
+mod edits;
+mod message;
+mod random;
+mod tally;
+
+use answers::answer_of;
+use edits::{Edit, edited};
+use message::message;
+use random::Random;
+use rb_trees::Memory;
+use std::alloc::Global;
+use std::io;
+use tally::Tally;
+
+/// The seed of the random numbers.
+const SEED: u64 = 2009;
+
+/// How many scripts there are for a line.
+const LINE: u32 = 100;
+
+/// How many lines there are.
+const LINES: u32 = 10;
+
+/// How often a payload is taken with each edit.
+const ROUNDS: u32 = 4;
+
+/// The numbers of refusals.
+static REFUSALS: [u8; 9] = [1, 2, 3, 4, 5, 6, 11, 12, 13];
+
+fn main(rt: HostRuntime) -> io::Result<()> {
+    let mut random = Random::new(SEED);
+    let mut tally = Tally::new();
+    for line in 0..LINES {
+        if take_line(rt.alloc(), &mut random, &mut tally).is_err() {
+            return println!(rt; "out of memory");
+        }
+        report(&rt, (line + 1) * LINE, &tally)?;
+    }
+    for number in &REFUSALS {
+        let count = tally.count(*number);
+        println!(rt; "refusal {number}: {count}")?;
+    }
+    Ok(())
+}
+
+/// Prints what was counted of so many scripts.
+fn report<R: Print>(rt: &R, count: u32, tally: &Tally) -> io::Result<()> {
+    let (bytes, scripts, wrong, sum) = (tally.bytes, tally.scripts(), tally.wrong(), tally.sum);
+    println!(rt; "{count} scripts, {bytes} bytes: {scripts} read, {wrong} wrong, sum {sum}")
+}
+
+/// Takes the scripts of a line.
+fn take_line(alloc: Global, random: &mut Random, tally: &mut Tally) -> Result<(), Memory> {
+    for _ in 0..LINE {
+        take(alloc, random, tally)?;
+    }
+    Ok(())
+}
+
+/// Takes a script, and its payload with another byte.
+fn take(alloc: Global, random: &mut Random, tally: &mut Tally) -> Result<(), Memory> {
+    let payload = message(alloc, random)?;
+    tally.add_payload(payload.as_slice());
+    tally.add_answer(answer_of(alloc, payload.as_slice())?);
+    for _ in 0..ROUNDS {
+        take_edits(alloc, payload.as_slice(), random, tally)?;
+    }
+    Ok(())
+}
+
+/// Takes a payload after each of the edits.
+fn take_edits(
+    alloc: Global,
+    payload: &[u8],
+    random: &mut Random,
+    tally: &mut Tally,
+) -> Result<(), Memory> {
+    for edit in [Edit::Change, Edit::TakeOut, Edit::PutIn] {
+        let other = edited(alloc, payload, edit, random)?;
+        tally.add_answer(answer_of(alloc, other.as_slice())?);
+    }
+    Ok(())
+}

@@ -1,0 +1,67 @@
+// Nodes as texts.
+//
+// Entries have a space behind. A branch is `yes(..)` or `no(..)`, rows are `[(..)(..)]`, and a fault is `Big!8@3#2`: its text,
+// its code, its position and its step.
+
+use rb_trees::{Entry, Memory, Node, NodeFault, Seq, Value, Word};
+use std::alloc::Global;
+
+fn add_value(alloc: Global, value: &Value, into: &mut Word) -> Result<(), Memory> {
+    match value {
+        Value::Int(number) => {
+            let text = format!(in alloc; "{number}")?;
+            into.extend_from_slice(text.as_bytes())
+        }
+        Value::Bool(true) => into.push(b't'),
+        Value::Bool(false) => into.push(b'f'),
+        Value::Text(text) => into.extend_from_slice(text.get().as_slice()),
+        _ => into.push(b'?'),
+    }
+}
+
+fn add_fault(alloc: Global, fault: &NodeFault, into: &mut Word) -> Result<(), Memory> {
+    let (code, at, step) = (fault.fault.code, fault.at, fault.step);
+    into.extend_from_slice(fault.fault.text.as_slice())?;
+    let text = format!(in alloc; "!{code}@{at}#{step}")?;
+    into.extend_from_slice(text.as_bytes())
+}
+
+#[cycle(nodes)]
+pub fn add_node(alloc: Global, node: &Node, into: &mut Word) -> Result<(), Memory> {
+    for entry in node.entries.as_slice() {
+        add_entry(alloc, entry, into)?;
+        into.push(b' ')?;
+    }
+    match &node.fault {
+        Some(fault) => add_fault(alloc, fault, into),
+        None => Ok(()),
+    }
+}
+
+#[cycle(nodes)]
+fn add_entry(alloc: Global, entry: &Entry, into: &mut Word) -> Result<(), Memory> {
+    match entry {
+        Entry::Value(value) => add_value(alloc, value, into),
+        Entry::Branch(taken, node) => {
+            let word: &[u8] = if *taken { b"yes(" } else { b"no(" };
+            into.extend_from_slice(word)?;
+            add_node(alloc, node, into)?;
+            into.push(b')')
+        }
+        Entry::Rows(nodes) => {
+            into.push(b'[')?;
+            add_turns(alloc, nodes.as_slice(), into)?;
+            into.push(b']')
+        }
+    }
+}
+
+#[cycle(nodes)]
+fn add_turns(alloc: Global, nodes: &[Node], into: &mut Word) -> Result<(), Memory> {
+    for node in nodes {
+        into.push(b'(')?;
+        add_node(alloc, node, into)?;
+        into.push(b')')?;
+    }
+    Ok(())
+}
