@@ -123,11 +123,12 @@ impl Writer {
 
     /// An input, or the root where there is none.
     fn input(&mut self, random: &mut Random) -> Result<(), Memory> {
-        if self.inputs == 0 {
+        let inputs = self.inputs;
+        if inputs == 0 {
             return self.root();
         }
         self.byte(0x21)?;
-        self.byte((random.below(self.inputs) % 256) as u8)
+        self.byte((random.below(inputs) % 256) as u8)
     }
 
     /// A variable that is bound, or the root where there is none.
