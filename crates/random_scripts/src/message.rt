@@ -4,11 +4,11 @@ use crate::random::Random;
 use rb_trees::Memory;
 use std::alloc::Global;
 
-/// How many functions for blocks stand within each other, three for a block.
-const BLOCKS: u32 = 9;
+/// How many blocks stand within each other that may have steps.
+const BLOCKS: u32 = 3;
 
-/// How many functions for expressions stand within each other, two for an expression.
-const EXPRS: u32 = 6;
+/// How many expressions with parts stand within each other.
+const EXPRS: u32 = 4;
 
 /// The greatest number of a variable.
 const LAST: u32 = 4_294_967_295;
@@ -123,12 +123,12 @@ impl Writer {
 
     /// An input, or the root where there is none.
     fn input(&mut self, random: &mut Random) -> Result<(), Memory> {
-        let inputs = self.inputs;
-        if inputs == 0 {
+        if self.inputs == 0 {
             return self.root();
         }
+        let input = random.below(self.inputs) % 256;
         self.byte(0x21)?;
-        self.byte((random.below(inputs) % 256) as u8)
+        self.byte(input as u8)
     }
 
     /// A variable that is bound, or the root where there is none.
@@ -157,37 +157,31 @@ impl Writer {
     /// An operator and its operands.
     #[cycle(exprs)]
     fn operator(&mut self, random: &mut Random, binary: bool, depth: u32) -> Result<(), Memory> {
-        if depth == 0 {
-            return self.leaf(random);
-        }
         if binary {
             self.byte(0x25)?;
             self.byte((1 + random.below(13)) as u8)?;
             self.any_number(random)?;
-            self.expr(random, depth - 1)?;
+            self.expr(random, depth)?;
         } else {
             self.byte(0x24)?;
             self.byte((1 + random.below(4)) as u8)?;
             self.any_number(random)?;
         }
-        self.expr(random, depth - 1)
+        self.expr(random, depth)
     }
 
     /// A call with up to two arguments.
     #[cycle(exprs)]
     fn call(&mut self, random: &mut Random, depth: u32) -> Result<(), Memory> {
-        if depth == 0 {
-            return self.leaf(random);
-        }
         self.byte(0x26)?;
         self.any_number(random)?;
         self.byte(random.below(9) as u8)?;
         self.text(NAMES[random.below(6)])?;
-        self.expr(random, depth - 1)?;
+        self.expr(random, depth)?;
         let count = random.below(3) as u32;
         self.number(count)?;
         for _ in 0..count {
-            self.expr(random, depth - 1)?;
+            self.expr(random, depth)?;
         }
         Ok(())
     }
@@ -244,38 +238,29 @@ impl Writer {
 
     #[cycle(steps)]
     fn if_step(&mut self, random: &mut Random, depth: u32) -> Result<(), Memory> {
-        if depth == 0 {
-            return self.plain_step(random);
-        }
         self.step_start(random, 0x13)?;
         self.expr(random, EXPRS)?;
-        self.block(random, depth - 1)?;
-        self.block(random, depth - 1)
+        self.block(random, depth)?;
+        self.block(random, depth)
     }
 
     #[cycle(steps)]
     fn each_step(&mut self, random: &mut Random, depth: u32) -> Result<(), Memory> {
-        if depth == 0 {
-            return self.plain_step(random);
-        }
         self.step_start(random, 0x14)?;
         let variable = self.binding(random)?;
         self.expr(random, EXPRS)?;
-        let count = self.bound.len();
+        let bound = self.bound.len();
         self.bound.push(variable)?;
-        self.block(random, depth - 1)?;
-        self.bound.truncate(count);
+        self.block(random, depth)?;
+        self.bound.truncate(bound);
         Ok(())
     }
 
     #[cycle(steps)]
     fn step(&mut self, random: &mut Random, depth: u32) -> Result<(), Memory> {
-        if depth == 0 {
-            return self.plain_step(random);
-        }
         match random.below(5) {
-            0 => self.if_step(random, depth - 1),
-            1 => self.each_step(random, depth - 1),
+            0 => self.if_step(random, depth),
+            1 => self.each_step(random, depth),
             _ => self.plain_step(random),
         }
     }
