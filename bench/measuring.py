@@ -3,8 +3,6 @@
 import os
 import subprocess
 
-RUNS = 5
-
 
 def run(command, out):
     """The seconds and the KiB of one run, whose output goes into a file; None where it fails."""
@@ -17,9 +15,9 @@ def run(command, out):
     return used.ru_utime + used.ru_stime, used.ru_maxrss
 
 
-def best(command, out):
-    """The least seconds and the least KiB of five runs; None where one fails."""
-    runs = [run(command, out) for _ in range(RUNS)]
+def best(command, out, count):
+    """The least seconds and the least KiB of so many runs; None where one fails."""
+    runs = [run(command, out) for _ in range(count)]
     if None in runs:
         return None
     return min(seconds for seconds, _ in runs), min(memory for _, memory in runs)

@@ -1,4 +1,5 @@
 import sys
+import time
 
 
 class File:
@@ -54,14 +55,10 @@ def run(root, rounds, by):
     return turns
 
 
-def main(count, rounds):
-    root = Dir([File(f"f{i}", i * 617 % 1000) for i in range(1, count + 1)])
-    if rounds is None:
-        print(f"{count + 1} objects")
-        return
+def totals(turns):
     entries = 1
     total = 0
-    for turn in run(root, rounds, 3):
+    for turn in turns:
         for entry in turn:
             entries += 1
             if type(entry) is tuple:
@@ -69,7 +66,18 @@ def main(count, rounds):
                 entry = entry[1][0]
             if type(entry) is int:
                 total += entry
-    print(f"{count} turns, {entries} entries, sum {total}")
+    return f"{len(turns)} turns, {entries} entries, sum {total}"
 
 
-main(int(sys.argv[1]), int(sys.argv[2]) if len(sys.argv) > 2 else None)
+def main(count, rounds):
+    root = Dir([File(f"f{i}", i * 617 % 1000) for i in range(1, count + 1)])
+    print(totals(run(root, rounds, 3)))
+    times = []
+    for _ in range(20):
+        start = time.process_time()
+        run(root, rounds, 3)
+        times.append(time.process_time() - start)
+    print(min(times) * 1000)
+
+
+main(int(sys.argv[1]), int(sys.argv[2]))
