@@ -1,6 +1,8 @@
 pub mod Place
 pub mod State
 pub mod Division
+pub mod CallKinds
+pub mod RemotePart
 pub mod Unsplit
 pub mod Meaning
 pub mod Shown

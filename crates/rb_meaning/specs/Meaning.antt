@@ -19,7 +19,8 @@ use Rattle.rb_meaning_code.specs.Statements.{performs_all}
 use Rattle.rb_meaning_code.specs.Bodies.{bodies_of}
 use Rattle.rb_meaning.specs.State as state
 use Rattle.rb_meaning.specs.State.{Event, Outside, shows}
-use Rattle.rb_meaning.specs.Unsplit.{BatchText, batch_at, performs_batch}
+use Rattle.rb_meaning_flow.specs.Outermost.{Outermost}
+use Rattle.rb_meaning.specs.Unsplit.{batch_at, performs_batch}
 
 pub record Meaning : Type 0 where
   pub ending : ending.Ending
@@ -42,14 +43,14 @@ shown_by _ s = s
 abbrev pub answers_outside : Outside → Question → Result Value Raised × Outside
 answers_outside s question = (local_answer question, shown_by question s)
 
-abbrev pub performs_found : Program → Service → Option BatchText → ℕ → Local → Outside → Outcome (Unit {0}) × Outside
+abbrev pub performs_found : Program → Service → Option Outermost → ℕ → Local → Outside → Outcome (Unit {0}) × Outside
 performs_found program service None at l s = (Faulted (raised kind at) l, s)
 performs_found program service (Some b) at l s = performs_batch program service b l s
 
 abbrev pub in_main : Program → Service → Handler Outside
 in_main program service = record {
   answer = answers_outside;
-  batch = λ s at l. performs_found program service (batch_at program.body.statements at) at l s;
+  batch = λ s at l. performs_found program service (batch_at program at) at l s;
 }
 
 -- the value of `main`, if it has one
