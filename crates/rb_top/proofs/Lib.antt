@@ -1,15 +1,14 @@
 pub mod BatchRuns
-pub mod ConsoleRuns
 pub mod Differ
 pub mod Ended
 pub mod Exchanged
+pub mod FirstKinds
 pub mod FirstScripts
 pub mod Forms
 pub mod FormTests
 pub mod Literals
 pub mod Lines
 pub mod Loaded
-pub mod Local
 pub mod Names
 pub mod OneAnswer
 pub mod Others
@@ -17,3 +16,4 @@ pub mod Parts
 pub mod Printed
 pub mod Said
 pub mod Steps
+pub mod UnsplitRuns

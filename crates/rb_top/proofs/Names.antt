@@ -20,6 +20,9 @@ pub same_bytes : (xs : List ℕ) → bytes_eq xs xs ≡ true
 same_bytes [] = refl
 same_bytes (x ∷ xs) = grind (arith, common_steps, same_bytes xs)
 
+pub same_number : (a : ℕ) → nat_eq a a ≡ true
+same_number a = grind (arith, nat_tests)
+
 -- names that compare alike are one
 pub one_name : (a b : List ℕ) → bytes_eq a b ≡ true → a ≡ b
 one_name [] [] h = refl
