@@ -1,5 +1,5 @@
 -- The calls that a lawful program of the first form prints ask for numbers: each is noted as an Int, once.
-use Rattle.std.proofs.Common.{◌≡◌, ℕ, ◌+◌, List, [], ◌∷◌, ◌++◌, Bool, true, false, Option, None, Some, Ok, cond, ap, sym, ◌∙◌, refl, subst, arith, append-nil}
+use Rattle.std.proofs.Common.{◌≡◌, ℕ, List, [], ◌∷◌, ◌++◌, Bool, true, false, Option, None, Some, Ok, cond, ap, sym, ◌∙◌, refl, subst, arith, append-nil}
 use Rattle.std.specs.Prelude.{◌||◌, nat_eq}
 use Rattle.std.specs.List.{IsDistinct, AllByRecursion}
 use Rattle.std.proofs.lemmas.Bool.Decides.{nat_tests}
@@ -23,7 +23,6 @@ use Rattle.rb_meaning_types.specs.Notes.{Note, note_at, stmts_noted, program_not
 use Rattle.rb_meaning_types.specs.Lawful.{IsLawful, stmts_positions, classes_positions, body_positions, return_positions}
 use Rattle.rb_meaning_types.specs.Members as members
 use Rattle.rb_meaning_types.specs.Statements.{check_stmt, print}
-use Rattle.rb_meaning_code.specs.Faults.{kind}
 use Rattle.rb_meaning.specs.CallKinds.{call_kind, kind_noted}
 use Rattle.rb_meaning.specs.Division.{int_kind}
 use Rattle.rb_top.specs.FirstForm.{FirstProgram, PrintsCalls, PlainSignatures, GivesInt, is_among, signature_names}
@@ -116,12 +115,12 @@ still_fresh : (ns : List Note) (m n : Note) (qs : List ℕ) → AreFresh ns qs �
     → AreFresh ((ns ++ m ∷ []) ++ n ∷ []) qs
 still_fresh ns m n [] fresh other others = tt
 still_fresh ns m n (q ∷ qs) fresh other others = (
-      noted_twice ns m n q
+  noted_twice ns m n q
       ∙ ap (λ o. or (or o (note_at (m ∷ []) q None)) (note_at (n ∷ []) q None)) fresh.0
       ∙ ap (λ b. or (cond b (Some m.gives) None) (note_at (n ∷ []) q None)) other.0
       ∙ ap (λ b. cond b (Some n.gives) None) others.0,
-      still_fresh ns m n qs fresh.1 other.1 others.1,
-    )
+  still_fresh ns m n qs fresh.1 other.1 others.1,
+)
 
 apart : (a b : ℕ) → nat_eq a b ≡ false → nat_eq b a ≡ false
 apart a b h = grind (arith, nat_tests, h)

@@ -1,5 +1,5 @@
 -- What the commands say, from what reading and running answer.
-use Rattle.std.proofs.Common.{◌≡◌, ℕ, List, Option, None, Some, Result, Ok, Err, codes, ap, sym, ◌∙◌, refl, subst, inl, inr}
+use Rattle.std.proofs.Common.{◌≡◌, ℕ, List, Option, None, Some, Ok, Err, codes, ap, sym, ◌∙◌, refl, subst, inl, inr}
 use Rattle.std.specs.Prelude.{IsTrue}
 use Rattle.rb_trees.specs.declared.reading.ReadError.{ReadError}
 use Rattle.rb_trees.specs.declared.reading.ReadError.TheVariants as errors

@@ -1,6 +1,5 @@
-use Rattle.std.proofs.Common.{refl, sym, subst}
+use Rattle.std.proofs.Common.{refl, subst}
 use Rattle.rb_trees.specs.mirror.Declarations.{mirror_program}
-use Rattle.rb_flow.specs.Program.{HasNoRefusal}
 use Rattle.rb_top.specs.Commands.{EndsBatchRefused, GoesOn}
 use Rattle.rb_top.specs.Scene.{output, outside}
 use Rattle.rb_top.specs.Sources.{program_of}

@@ -1,4 +1,3 @@
-use Rattle.std.proofs.Common.{refl}
 use Rattle.std.proofs.lemmas.Result.{err_from_is_err_and}
 use Rattle.rb_trees.specs.mirror.Services.{mirror_service}
 use Rattle.rb_top.specs.Scene.{output}
