@@ -1,11 +1,10 @@
 // The unsplit run of a program.
 
-ghost use Rattle.std.specs.Prelude.{◌≡◌, IfOk, OnOk};
+ghost use Rattle.std.specs.Prelude.{◌≡◌, IfOk};
 ghost use Rattle.rb_trees.specs.mirror.Declarations.{mirror_program};
-ghost use Rattle.rb_meaning.specs.Shown as shown;
 ghost use Rattle.rb_meaning.specs.Shown.{shown_events};
 ghost use Rattle.rb_meaning_flow.specs.Programs.{program_marks};
-ghost use Rattle.rb_plain.specs.Unsplit.{WritesUnlessStarved, meant};
+ghost use Rattle.rb_plain.specs.Unsplit.{Leaves, WritesUnlessStarved, meant};
 ghost use Rattle.rb_plain.specs.Worlds.{output};
 
 use crate::run::{PlainStop, Run};
@@ -21,19 +20,17 @@ use std::alloc::Global;
 /// The marks of the program have to be its own. Each line goes to the output as it comes, and the table becomes what the
 /// run leaves. After `WriteFault` a front of the lines was written; after `Memory` nothing is said of the output; after
 /// both nothing is said of the table.
-pub fn unsplit<W: Sink>(
+pub fn unsplit<'a, W: Sink>(
     alloc: Global,
-    admitted: &Admitted<'_>,
-    code: &Code,
+    admitted: &'a Admitted<'a>,
+    code: &'a Code,
     root: u32,
     table: &mut Heap,
     fuel: u64,
     out: &mut W,
 ) -> Result<Run, PlainStop>
     requires marks { admitted.now.1.0 ≡ program_marks (mirror_program admitted.now.0) }
-    ensures ending { IfOk result (λ run. run.ending ≡ (meant admitted.now.0 code.now root table.old fuel).ending) }
-    ensures exchanges { IfOk result (λ run. run.exchanges ≡ shown.exchanges (meant admitted.now.0 code.now root table.old fuel).events) }
-    ensures table { OnOk result (table.new ≡ (meant admitted.now.0 code.now root table.old fuel).table) }
+    ensures left { IfOk result (λ run. Leaves (meant admitted.now.0 code.now root table.old fuel) run table.new) }
     ensures written { WritesUnlessStarved (shown_events (meant admitted.now.0 code.now root table.old fuel).events) result (output W.Sink out.old) (output W.Sink out.new) }
 {
     Err(PlainStop::Memory)
