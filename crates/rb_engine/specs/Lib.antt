@@ -4,8 +4,10 @@ pub mod Ends
 pub mod Kinds
 pub mod Locals
 pub mod Meets
+pub mod Misses
 pub mod Numbers
 pub mod Remote
+pub mod Servers
 pub mod Service
 pub mod Shown
 pub mod Targets

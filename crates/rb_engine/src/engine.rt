@@ -49,6 +49,21 @@ pub fn exec<W: World>(
     step_of(run_all(alloc, code, state, frame, world, body.as_slice()))
 }
 
+/// Runs the statements of a slice in order: `performs_all`.
+#[tactic(auto, using(crate::proofs::Wrapped::wrapped))]
+pub fn exec_slice<W: World>(
+    alloc: Global,
+    code: &Code,
+    state: &mut State,
+    frame: &mut Frame,
+    world: &mut W,
+    body: &[Stmt],
+) -> Step<(), W::Stop>
+    ensures { Effects W.World (stmts_run code.now body.now) frame.old state.old world.old (flattened result) frame.new state.new world.new }
+{
+    step_of(run_all(alloc, code, state, frame, world, body))
+}
+
 /// The value of an expression: `evaluates`.
 #[tactic(auto, using(crate::proofs::Wrapped::wrapped))]
 pub fn eval<W: World>(

@@ -1,12 +1,12 @@
 // The names in scope, with their values.
 
-ghost use Rattle.std.specs.Prelude.{◌≡◌, [], ◌∷◌, ◌++◌, length, take, OnOk, OnErr};
+ghost use Rattle.std.specs.Prelude.{◌≡◌, [], ◌∷◌, ◌++◌, length, take, IfOk, OnOk, OnErr};
 ghost use Rattle.std.specs.Option.{option_copied};
 ghost use Rattle.rb_trees.specs.Named.{lookup};
 ghost use Rattle.rb_named.specs.Writes.{Replaces};
 
 use rb_named::{find_value, replace_value};
-use rb_trees::{Memory, Seq, Value, Word};
+use rb_trees::{Memory, Seq, Value, Word, copy_value, copy_word};
 use std::alloc::Global;
 use std::marker::Model;
 
@@ -28,6 +28,15 @@ impl Model for Frame {
     ghost view = { λ frame. frame.names };
 }
 
+// A copy of a name with its value.
+fn copy_name(alloc: Global, name: &(Word, Value)) -> Result<(Word, Value), Memory>
+    ensures { IfOk result (λ copy. copy ≡ name.now) }
+{
+    let word = copy_word(alloc, &name.0)?;
+    let value = copy_value(&name.1)?;
+    Ok((word, value))
+}
+
 impl Frame {
     /// The frame without names, which takes no memory.
     pub fn make(alloc: Global) -> Frame
@@ -43,6 +52,17 @@ impl Frame {
         ensures { result ≡ names }
     {
         Frame { names }
+    }
+
+    /// A copy of the frame: the same names with the same values. Its error is want of memory.
+    pub fn copy(&self, alloc: Global) -> Result<Frame, Memory>
+        ensures { IfOk result (λ copy. copy ≡ self.now) }
+    {
+        let mut names = Seq::new(alloc);
+        for name in self.names.as_slice() {
+            names.push(copy_name(alloc, name)?)?;
+        }
+        Ok(Frame { names })
     }
 
     /// The number of names.

@@ -1,7 +1,8 @@
 //! Runs class code of both sides: expressions, statements and calls of methods, over a [`World`] that answers what the
 //! code asks of its surroundings.
 //!
-//! [`invoke`] performs a remote call on a service. What operators give is offered to whoever evaluates by them.
+//! [`invoke`] performs a remote call on a service, and a [`Server`] holds a service's table between such calls. What
+//! operators give is offered to whoever evaluates by them.
 //!
 //! What code means stands in `specs/` of `rb_meaning_code`; what is run is proved to be that.
 #![tactic(auto)]
@@ -16,6 +17,7 @@ mod expressions;
 mod faults;
 mod frame;
 mod kinds;
+mod misses;
 mod names;
 mod numbers;
 mod objects;
@@ -23,6 +25,7 @@ mod operators;
 mod pairs;
 mod remote;
 mod seen;
+mod server;
 mod service;
 mod state;
 mod statements;
@@ -33,12 +36,14 @@ mod world;
 
 pub use conditions::truth_of;
 pub use ends::Refusal;
-pub use engine::{call, eval, exec};
+pub use engine::{call, eval, exec, exec_slice};
 pub use frame::Frame;
+pub use misses::{Miss, at_place};
 pub use operators::unary;
 pub use pairs::{binary, by_left};
 pub use rb_code::Code;
 pub use remote::invoke;
+pub use server::Server;
 pub use service::ServiceWorld;
 pub use state::State;
 pub use world::{Halt, Step, World};

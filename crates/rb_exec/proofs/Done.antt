@@ -15,15 +15,16 @@ use Rattle.rb_trees.specs.mirror.Scripts.{Steps, mirror_step, mirror_steps}
 use Rattle.rb_meaning_code.specs.Remote.{Server, Reply, Got, Stopped, and_then, replies}
 use Rattle.rb_meaning_code.specs.ScriptRun.{Ground, Vars, Ran, ended, stopped, halted, with_entry, with_kept, on_reply, may_keep, kept, goes_on, chosen, branched, condition, rows_of, walked, run_step, run_steps}
 use Rattle.rb_exec.specs.Blocks.{with_entries, Does, Extends, Binds, Did, Closes, IsRun, Finished, kept_entries}
-use Rattle.rb_exec.specs.Ends.{at_step, Means, Replied, UnlessMemory}
+use Rattle.rb_engine.specs.Misses.{Means, Replied}
+use Rattle.rb_exec.specs.Ends.{at_step, UnlessMemory}
 use Rattle.rb_exec.specs.Stages.{Rest, Meaning, ground, value_run, block_run, step_run, steps_run, if_run, each_run, turns_run}
 use Rattle.rb_exec.specs.Bindings.{oldest}
 use Rattle.rb_exec.specs.declared.stage.Stage.{Stage}
 use Rattle.rb_exec.specs.declared.turns.Walk.{Walk}
 use Rattle.rb_trees.specs.declared.scripts.SExpr.{SExpr}
 use Rattle.rb_exec.specs.declared.blocks.Block.{Block}
-use Rattle.rb_exec.specs.declared.ends.Miss.{Miss}
-use Rattle.rb_exec.specs.declared.ends.Miss.TheVariants as miss
+use Rattle.rb_engine.specs.declared.misses.Miss.{Miss}
+use Rattle.rb_engine.specs.declared.misses.Miss.TheVariants as miss
 use Rattle.rb_exec.specs.declared.ends.Stop.{Stop}
 use Rattle.rb_exec.specs.declared.ends.Stop.TheVariants as stop
 use Rattle.rb_exec.proofs.Dropped.{dropped_one}

@@ -1,4 +1,3 @@
-pub mod Answered
 pub mod Done
 pub mod Dropped
 pub mod Entries

@@ -9,7 +9,7 @@ use Rattle.rb_engine.specs.Ends.{fault_of}
 use Rattle.rb_engine.specs.declared.ends.Refusal.{Refusal}
 use Rattle.rb_engine.specs.declared.ends.Refusal.TheVariants as refusal
 use Rattle.rb_meaning_code.specs.Remote.{Server, Reply, Got, Stopped, and_then, replies}
-use Rattle.rb_exec.specs.Ends.{at_place, Means, Replied}
+use Rattle.rb_engine.specs.Misses.{at_place, Means, Replied}
 use Rattle.rb_trees.specs.declared.scripts.SExpr.{SExpr}
 use Rattle.rb_trees.specs.mirror.Scripts as script
 use Rattle.rb_trees.specs.mirror.Scripts.{mirror_sexpr}
@@ -17,8 +17,8 @@ use Rattle.rb_meaning_code.specs.ScriptRun.{Vars, value_of}
 use Rattle.rb_exec.specs.Stages.{ground, value_run, values_run}
 use Rattle.rb_exec.specs.declared.stage.Stage.{Stage}
 use Rattle.rb_exec.proofs.Dropped.{dropped_one}
-use Rattle.rb_exec.specs.declared.ends.Miss.{Miss}
-use Rattle.rb_exec.specs.declared.ends.Miss.TheVariants as miss
+use Rattle.rb_engine.specs.declared.misses.Miss.{Miss}
+use Rattle.rb_engine.specs.declared.misses.Miss.TheVariants as miss
 
 pub by_result : {A : Type 0} {m : Reply A} {r r1 : Result A Miss} {s : Server} → r ≡ r1 → Replied m r1 s → Replied m r s
 by_result {m = m} {s = s} e h = subst (λ x. Replied m x s) (sym e) h

@@ -13,15 +13,15 @@ use Rattle.rb_trees.specs.mirror.Forests.{Node, NoNodes, MoreNodes, mirror_node,
 use Rattle.rb_meaning_code.specs.Remote.{Server, replies}
 use Rattle.rb_meaning_code.specs.ScriptRun.{Vars, Ran, Turned, Why, AllDone, InTurn, NoUnit, with_entry, stopped, on_reply, may_keep, with_kept, with_unit, before_turns, turned_on, turns, turn_over, after_turns, walked}
 use Rattle.rb_exec.specs.Blocks.{with_entries, Did, IsRun, AreTurns, EndsTurns, end_of, kept_entries, row_entries}
-use Rattle.rb_exec.specs.Ends.{at_place}
-use Rattle.rb_exec.specs.Servers.{TakesUnit}
+use Rattle.rb_engine.specs.Misses.{at_place}
+use Rattle.rb_engine.specs.Servers.{TakesUnit}
 use Rattle.rb_exec.specs.declared.blocks.Block.{Block}
 use Rattle.rb_engine.specs.Ends.{fault_of}
 use Rattle.rb_engine.specs.declared.ends.Refusal.{Refusal}
 use Rattle.rb_engine.specs.declared.ends.Refusal.TheVariants as refusal
 use Rattle.rb_trees.proofs.mirror.Nodes.{at_Node}
-use Rattle.rb_exec.specs.declared.ends.Miss.{Miss}
-use Rattle.rb_exec.specs.declared.ends.Miss.TheVariants as miss
+use Rattle.rb_engine.specs.declared.misses.Miss.{Miss}
+use Rattle.rb_engine.specs.declared.misses.Miss.TheVariants as miss
 use Rattle.rb_exec.specs.declared.ends.Stop.{Stop}
 use Rattle.rb_exec.specs.declared.turns.TurnsEnd.{TurnsEnd}
 use Rattle.rb_exec.specs.declared.turns.TurnsEnd.TheVariants as ends

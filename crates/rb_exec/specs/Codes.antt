@@ -1,17 +1,12 @@
--- The codes of what a server and a host are seen as.
-use Rattle.std.specs.Prelude.{ℕ, List}
-use Rattle.std.specs.Coded.{Coded, code_by, coded×, coded_list, coded_ℕ}
+-- The code of what a host is seen as.
+use Rattle.std.specs.Prelude.{List}
+use Rattle.std.specs.Coded.{Coded, code_by, coded×, coded_list}
 use mathlib.Core.Path.{refl}
 use Rattle.rb_trees.specs.contracts.services.Object as object_code
 use Rattle.rb_trees.specs.contracts.services.Service as service_code
 use Rattle.rb_trees.specs.declared.services.Object.{Object}
 use Rattle.rb_trees.specs.declared.services.Service.{Service}
-use Rattle.rb_meaning_code.specs.Remote.{Server}
 use Rattle.rb_exec.specs.Hosted.{Hosted}
-
-abbrev pub server_code : Coded Server
-server_code =
-    code_by (List Object × ℕ) (coded× (coded_list object_code.the_row.coded) coded_ℕ) (λ s. (s.table, s.fuel)) (λ p. record { table = p.0; fuel = p.1 }) (λ _. refl)
 
 abbrev pub host_code : Coded Hosted
 host_code =

@@ -4,5 +4,4 @@ pub mod Codes
 pub mod Ends
 pub mod Hosted
 pub mod Hosts
-pub mod Servers
 pub mod Stages

@@ -1,17 +1,10 @@
-// How expressions and steps end early.
+// How steps end early.
 
 ghost use Rattle.std.specs.Prelude.{◌≡◌};
 ghost use Rattle.rb_exec.specs.Ends as words;
 
-use rb_engine::Refusal;
-use rb_trees::{Fault, Memory, NodeFault};
-
-/// Why an expression gives no value: by a fault at a position, or for want of memory.
-#[derive(Drop)]
-pub enum Miss {
-    Fault(u32, Fault),
-    Memory,
-}
+use rb_engine::Miss;
+use rb_trees::{Memory, NodeFault};
 
 /// Why steps end early: by a fault of their node, by one that stands within its last entry, or for want of memory.
 #[derive(Drop)]
@@ -19,17 +12,6 @@ pub enum Stop {
     Fault(NodeFault),
     Within,
     Memory,
-}
-
-impl From<Memory> for Miss {
-    ghost use Rattle.std.specs.Prelude.{◌≡◌};
-    ghost use Rattle.rb_exec.specs.declared.ends.Miss.TheVariants as miss;
-
-    ghost from_gives = { λ _ e. e ≡ miss.Memory };
-
-    fn from(_want: Memory) -> Miss {
-        Miss::Memory
-    }
 }
 
 impl From<Memory> for Stop {
@@ -40,17 +22,6 @@ impl From<Memory> for Stop {
 
     fn from(_want: Memory) -> Stop {
         Stop::Memory
-    }
-}
-
-/// What a rule gives at a position.
-pub fn at_place<T>(at: u32, outcome: Result<T, Refusal>) -> Result<T, Miss>
-    ensures { result ≡ words.at_place at outcome }
-{
-    match outcome {
-        Ok(value) => Ok(value),
-        Err(Refusal::Fault(fault)) => Err(Miss::Fault(at, fault)),
-        Err(Refusal::Memory) => Err(Miss::Memory),
     }
 }
 

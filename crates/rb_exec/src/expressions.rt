@@ -3,15 +3,13 @@
 // One function of the machine's stack stands for each node that is open, so each form has a function of its own, whose
 // locals are few and small, and which isn't inlined into the next.
 
-ghost use Rattle.rb_exec.specs.Ends.{Replied};
+ghost use Rattle.rb_engine.specs.Misses.{Replied};
 ghost use Rattle.rb_exec.specs.Stages.{value_run, values_run, unary_run, binary_run, call_run};
 
-use crate::ends::{Miss, at_place};
 use crate::rules::{input, variable};
-use crate::server::Server;
 use crate::stage::Stage;
 use crate::variables::Variables;
-use rb_engine::{binary, by_left, unary};
+use rb_engine::{Miss, Server, at_place, binary, by_left, unary};
 use rb_trees::{BinOp, SExpr, Seq, UnOp, Value, Word, copy_value};
 use std::alloc::Global;
 

@@ -11,11 +11,11 @@ ghost use Rattle.rb_exec.specs.Stages.{body_run};
 
 use crate::blocks::Block;
 use crate::ends::Stop;
-use crate::server::Server;
 use crate::stage::Stage;
 use crate::steps::run_block;
 use crate::variables::Variables;
 use rb_code::Code;
+use rb_engine::Server;
 use rb_heap::Heap;
 use rb_trees::{Memory, Node, Script, Seq, Service, Step, Value};
 use std::alloc::Global;

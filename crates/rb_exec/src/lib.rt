@@ -10,7 +10,6 @@ mod ends;
 mod expressions;
 mod host;
 mod rules;
-mod server;
 mod stage;
 mod steps;
 mod turns;

@@ -6,14 +6,13 @@ ghost use Rattle.rb_exec.specs.Ends.{UnlessMemory};
 ghost use Rattle.rb_exec.specs.Stages.{block_run, do_run, each_run, if_run, keep_run, let_run, step_run, steps_run};
 
 use crate::blocks::{Block, finish};
-use crate::ends::{Stop, at_place, at_step};
+use crate::ends::{Stop, at_step};
 use crate::expressions::value_of;
 use crate::rules::{add_kept, may_keep, rows_in};
-use crate::server::Server;
 use crate::stage::Stage;
 use crate::turns::{Walk, end_turns, run_turns};
 use crate::variables::Variables;
-use rb_engine::truth_of;
+use rb_engine::{Server, at_place, truth_of};
 use rb_trees::{Entry, SExpr, Seq, Step, StepForm};
 use std::alloc::Global;
 

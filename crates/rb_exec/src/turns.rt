@@ -6,12 +6,12 @@ ghost use Rattle.rb_exec.specs.Ends.{UnlessMemory};
 ghost use Rattle.rb_exec.specs.Stages.{row_run, turn_run, turns_run};
 
 use crate::blocks::{Block, faulted};
-use crate::ends::{Miss, Stop, at_place};
+use crate::ends::Stop;
 use crate::rules::{fuel_used, row_entries};
-use crate::server::Server;
 use crate::stage::Stage;
 use crate::steps::run_block;
 use crate::variables::Variables;
+use rb_engine::{Miss, Server, at_place};
 use rb_trees::{Entry, Node, NodeFault, Seq, Step, Value, copy_value};
 use std::alloc::Global;
 

@@ -1,4 +1,6 @@
 //! Which flow from a remote call to a part of what is sent is named, and by which chain.
+//!
+//! What it asks of a program is offered too: what is portable, what holds a remote operation, and the program's batches.
 #![tactic(auto)]
 
 mod admission;
@@ -26,4 +28,7 @@ mod writers;
 
 pub use admission::{AdmitStop, Admitted, admit};
 pub use chain::{Reach, chain_to, least_chain, search_levels};
+pub use facts::over_rows;
 pub use laws::{admitted_programs_send_only_portable_parts, each_bad_part_has_a_refusal};
+pub use outermost::{OpenBatch, collect_batches};
+pub use portable::{branches_hold, holds_call, is_portable};

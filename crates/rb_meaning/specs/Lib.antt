@@ -2,6 +2,7 @@ pub mod Place
 pub mod State
 pub mod Division
 pub mod CallKinds
+pub mod RemoteExprs
 pub mod RemotePart
 pub mod Unsplit
 pub mod Meaning

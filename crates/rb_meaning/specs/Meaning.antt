@@ -43,6 +43,7 @@ shown_by _ s = s
 abbrev pub answers_outside : Outside → Question → Result Value Raised × Outside
 answers_outside s question = (local_answer question, shown_by question s)
 
+-- a batch that was found, as one is wherever a program asks for a batch
 abbrev pub performs_found : Program → Service → Option Outermost → ℕ → Local → Outside → Outcome (Unit {0}) × Outside
 performs_found program service None at l s = (Faulted (raised kind at) l, s)
 performs_found program service (Some b) at l s = performs_batch program service b l s

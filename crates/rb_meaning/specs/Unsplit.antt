@@ -1,8 +1,8 @@
 -- A batch as it stands in the source: each remote operation is performed on the table at its place.
-use Rattle.std.specs.Prelude.{ℕ, ◌==◌, List, [], ◌∷◌, ◌++◌, Bool, true, false, cond, ◌||◌, Option, None, Some, Result, Ok, Err, length}
+use Rattle.std.specs.Prelude.{ℕ, ◌==◌, List, [], ◌∷◌, ◌++◌, Bool, true, false, cond, ◌||◌, Option, None, Some, Result, Ok, length}
 use Rattle.std.specs.FinMap.{get}
 use Rattle.rb_trees.specs.declared.marks.Mark.{Mark}
-use Rattle.rb_trees.specs.declared.values.Value.{Value, out-Value}
+use Rattle.rb_trees.specs.declared.values.Value.{Value}
 use Rattle.rb_trees.specs.declared.values.Value.TheVariants as value
 use Rattle.rb_trees.specs.declared.outcomes.Raised.{Raised}
 use Rattle.rb_trees.specs.declared.services.Object.{Object}
@@ -12,7 +12,7 @@ use Rattle.rb_meaning_code.specs.Faults.{kind, raised}
 use Rattle.rb_meaning_code.specs.State.{Local, bound, closed}
 use Rattle.rb_meaning_code.specs.Dialogue as ask
 use Rattle.rb_meaning_code.specs.Dialogue.{Question, Outcome, Gave, Faulted, Handler, handle}
-use Rattle.rb_meaning_code.specs.Remote.{Server, Reply, Got, Stopped, and_then, invoke}
+use Rattle.rb_meaning_code.specs.Remote.{Server, Reply, Got, Stopped}
 use Rattle.rb_meaning_code.specs.ScriptRun.{batch_fuel}
 use Rattle.rb_meaning_code.specs.Statements.{performs_all}
 use Rattle.rb_meaning_code.specs.Bodies.{bodies_of}
@@ -20,8 +20,7 @@ use Rattle.rb_meaning_flow.specs.Facts.{facts_of}
 use Rattle.rb_meaning_flow.specs.Scopes.{opened}
 use Rattle.rb_meaning_flow.specs.Outermost.{Outermost, program_batches}
 use Rattle.rb_meaning_flow.specs.Programs.{program_marks}
-use Rattle.rb_meaning.specs.CallKinds.{call_kind}
-use Rattle.rb_meaning.specs.RemotePart.{answer_of, unit_of, remote_only}
+use Rattle.rb_meaning.specs.RemotePart.{remote_answer, remote_only}
 use Rattle.rb_meaning.specs.State as state
 use Rattle.rb_meaning.specs.State.{Outside, shows}
 
@@ -33,38 +32,32 @@ batch_within (b ∷ bs) at = cond (b.at == at) (Some b) (batch_within bs at)
 abbrev pub batch_at : Program → ℕ → Option Outermost
 batch_at p at = batch_within (program_batches (facts_of p) p) at
 
--- what surrounds the code, with the server after an answer
-abbrev pub with_answer : {A : Type 0} → Outside → A × Server → A × Outside
-with_answer s (a, server) = (a, record s { server = server })
+-- what surrounds the code, with the server after its answer
+abbrev pub with_answer : Outside → Result Value Raised × Server → Result Value Raised × Outside
+with_answer s (answer, server) = (answer, record s { server = server })
 
--- nothing, in place of a unit
-abbrev pub as_value : Reply (Unit {0}) → Reply Value
-as_value (Got u s) = Got value.Unit s
-as_value (Stopped at f s) = Stopped at f s
-
--- What the code of a batch's body gets: remote calls and turns over rows are performed where they stand.
+-- What the code of a batch's body is answered: a line is printed, and what is remote is performed where it stands.
 abbrev pub answers_in_batch : Program → Service → Outside → Question → Result Value Raised × Outside
 answers_in_batch p service s (ask.Line at bytes) = (Ok value.Unit, shows (state.Line bytes) s)
-answers_in_batch p service s (ask.Taken step) = (Err (raised kind 0), s)
-answers_in_batch p service s (ask.Invoke at target method args) =
-    with_answer s (answer_of (invoke service.classes at (call_kind p at) (out-Value target) method args s.server))
-answers_in_batch p service s (ask.Turn at) = with_answer s (answer_of (as_value (unit_of at s.server)))
 answers_in_batch p service s (ask.ListTurn at) = (Ok value.Unit, s)
+answers_in_batch p service s question = with_answer s (remote_answer p service s.server question)
 
 -- no batch stands in another
 abbrev pub in_batch : Program → Service → Handler Outside
 in_batch p service = record { answer = answers_in_batch p service; batch = λ s at l. (Faulted (raised kind at) l, s) }
 
--- A fault is remote where it came from afar, or stands in a remote expression: an operator there is remote, too.
 abbrev pub is_remote_mark : Option Mark → Bool
 is_remote_mark (Some Mark.Remote) = true
 is_remote_mark _ = false
 
-abbrev pub is_remote_at : Program → ℕ → Bool
-is_remote_at p at = is_remote_mark (get (program_marks p) at)
+-- whether a position is that of a part of a remote expression
+abbrev pub stands_remote : Program → ℕ → Bool
+stands_remote p at = is_remote_mark (get (program_marks p) at)
 
+-- A fault with its side: it is remote where the server answered it, and where it stands in a remote expression, as that of an
+-- operator there.
 abbrev pub with_side : Program → Raised → Raised
-with_side p r = record r { remote = r.remote || is_remote_at p r.at }
+with_side p r = record r { remote = r.remote || stands_remote p r.at }
 
 -- a batch begins: its event, and fresh remote fuel
 abbrev pub begun : Outside → Outside
@@ -74,7 +67,7 @@ abbrev pub server_after : {A : Type 0} → Reply A → Server
 server_after (Got a s) = s
 server_after (Stopped at f s) = s
 
--- the table after a fault: a local one leaves that of the whole remote part
+-- the table after a fault: a remote one leaves it as it is, a local one leaves that of the whole remote part
 abbrev pub table_after : Raised → List Object → List Object → List Object
 table_after r table whole = cond r.remote table whole
 

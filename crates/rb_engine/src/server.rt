@@ -1,20 +1,24 @@
-// The service while a script runs.
+// The service while remote calls on it are performed.
 
 ghost use Rattle.std.specs.Prelude.{◌≡◌, map};
 ghost use Rattle.rb_trees.specs.declared.values.Value.{out-Value};
 ghost use Rattle.rb_trees.specs.mirror.Declarations.{mirror_class};
 ghost use Rattle.rb_meaning_code.specs.Remote as rules;
-ghost use Rattle.rb_exec.specs.Ends.{Replied};
-ghost use Rattle.rb_exec.specs.Servers.{TakesUnit};
+ghost use Rattle.rb_engine.specs.Misses.{Replied};
+ghost use Rattle.rb_engine.specs.Servers.{TakesUnit};
 
-use crate::ends::Miss;
-use rb_engine::{Code, State, invoke};
+use crate::misses::Miss;
+use crate::remote::invoke;
+use crate::state::State;
+use rb_code::Code;
 use rb_heap::Heap;
 use rb_trees::{Seq, Value};
 use std::alloc::Global;
 use std::marker::Model;
+use std::mem;
 
-/// The service's table and the units of fuel that are left. Between calls of a script no call of the service is active.
+/// The service's table and the units of fuel that are left. Between remote calls no call of the
+/// service is active.
 #[derive(Drop)]
 pub struct Server {
     state: State,
@@ -23,7 +27,7 @@ pub struct Server {
 impl Model for Server {
     ghost use Rattle.std.specs.Prelude.{◌≡◌};
     ghost use Rattle.rb_meaning_code.specs.Remote as meant;
-    ghost use Rattle.rb_exec.specs.Codes.{server_code};
+    ghost use Rattle.rb_engine.specs.Servers.{server_code};
 
     ghost Value = { meant.Server };
 
@@ -53,6 +57,21 @@ impl Server {
         ensures { result.now ≡ self.now.table }
     {
         &self.state.heap
+    }
+
+    /// Gives it another table, and gives back the one that it had.
+    pub fn replace_table(&mut self, table: Heap) -> Heap
+        ensures before { result ≡ self.old.table }
+        ensures after { self.new ≡ record { table = table; fuel = self.old.fuel } }
+    {
+        mem::replace(&mut self.state.heap, table)
+    }
+
+    /// The units of fuel that are left.
+    pub fn fuel(&self) -> u64
+        ensures { result ≡ self.now.fuel }
+    {
+        self.state.fuel
     }
 
     /// Gives it so much fuel.

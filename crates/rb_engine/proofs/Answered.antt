@@ -1,4 +1,4 @@
--- What the engine answers to a remote call, as the reply of an expression.
+-- What is answered to a remote call, as the reply of an expression.
 use Rattle.std.proofs.Common.{◌≡◌, subst, ℕ}
 use Rattle.std.specs.Prelude.{Result, Ok, Err}
 use Rattle.rb_trees.specs.declared.values.Value.{Value}
@@ -6,8 +6,8 @@ use Rattle.rb_trees.specs.declared.outcomes.Raised.{Raised}
 use Rattle.rb_trees.specs.declared.want.Memory.{Memory}
 use Rattle.rb_engine.specs.Remote.{RepliesAt}
 use Rattle.rb_meaning_code.specs.Remote.{Server, Reply}
-use Rattle.rb_exec.specs.Ends.{Replied}
-use Rattle.rb_exec.specs.declared.ends.Miss.TheVariants as miss
+use Rattle.rb_engine.specs.Misses.{Replied}
+use Rattle.rb_engine.specs.declared.misses.Miss.TheVariants as miss
 
 pub value_answered : {m : Reply Value} {r : Result (Result Value Raised) Memory} {v : Value} {s : Server} (at : ℕ) → RepliesAt at m r s → r ≡ Ok (Ok v) → Replied m (Ok v) s
 value_answered {m = m} {s = s} at h is = record { means = subst (λ x. RepliesAt at m x s) is h }

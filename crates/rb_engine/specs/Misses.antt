@@ -1,0 +1,23 @@
+-- How expressions end early whose faults stand at positions, as the code says it.
+use Rattle.std.specs.Prelude.{◌≡◌, ℕ, Result, Ok, Err}
+use Rattle.rb_meaning_code.specs.Remote.{Server, Reply, Got, Stopped}
+use Rattle.rb_engine.specs.declared.ends.Refusal.{Refusal}
+use Rattle.rb_engine.specs.declared.ends.Refusal.TheVariants as refusal
+use Rattle.rb_engine.specs.declared.misses.Miss.{Miss}
+use Rattle.rb_engine.specs.declared.misses.Miss.TheVariants as miss
+
+-- what a rule gives at a position
+abbrev pub at_place : {T : Type 0} → ℕ → Result T Refusal → Result T Miss
+at_place at (Ok a) = Ok a
+at_place at (Err (refusal.Fault f)) = Err (miss.Fault at f)
+at_place at (Err refusal.Memory) = Err miss.Memory
+
+-- The result is this reply, with the server after it, unless memory ran out.
+abbrev pub Means : {A : Type 0} → Reply A → Result A Miss → Server → Type 0
+Means meant (Ok a) s = meant ≡ Got a s
+Means meant (Err (miss.Fault at f)) s = meant ≡ Stopped at f s
+Means meant (Err miss.Memory) s = Unit {0}
+
+-- the same, as a fact that lemmas take whole
+pub record Replied {A : Type 0} (meant : Reply A) (result : Result A Miss) (server : Server) : Type 0 where
+  pub means : Means meant result server
