@@ -302,16 +302,15 @@ batch_printed text p served node table r before after f lawful l h = λ fuel.
     (subst (λ t. PrintsAnswering (ended_status (ending_of_node node)) t r before after) shown' h)
 
 -- a node that was printed, by its entries and its fault
-pub node_printed : (text : List ℕ) (n : tree_node.Node) (table : List Object) (s : Status) (r : Result (Unit {0}) PrintStop) (before after : Device (List ℕ)) (source : List ℕ) (entries : List tree_entry.Entry) (ending : Ending)
-    → s ≡ ended_status (ending_by n.fault) → source ≡ text → entries ≡ n.entries → ending ≡ ending_by n.fault
-    → Prints (entry_lines (mirror_entries entries) ++ end_text source ending 1 table) r before after → PrintsNode text (mirror_node n) table (answered s r) before after
-node_printed text n table s r before after source entries ending e is_text is_entries is_ending h =
+pub node_printed : (text : List ℕ) (n : tree_node.Node) (table : List Object) (s : Status) (r : Result (Unit {0}) PrintStop) (before after : Device (List ℕ)) (entries : List tree_entry.Entry) (ending : Ending)
+    → s ≡ ended_status (ending_by n.fault) → entries ≡ n.entries → ending ≡ ending_by n.fault
+    → Prints (entry_lines (mirror_entries entries) ++ end_text text ending 1 table) r before after → PrintsNode text (mirror_node n) table (answered s r) before after
+node_printed text n table s r before after entries ending e is_entries is_ending h =
     subst (λ m. PrintsNode text m table (answered s r) before after) (sym (at_Node n)) (by_result r (subst (λ t. Prints t r before after) same h))
   where
-    same : entry_lines (mirror_entries entries) ++ end_text source ending 1 table ≡ entry_lines (mirror_entries n.entries) ++ end_text text (ending_by n.fault) 1 table
+    same : entry_lines (mirror_entries entries) ++ end_text text ending 1 table ≡ entry_lines (mirror_entries n.entries) ++ end_text text (ending_by n.fault) 1 table
     same =
-        ap (λ es. entry_lines (mirror_entries es) ++ end_text source ending 1 table) is_entries
-        ∙ ap (λ t. entry_lines (mirror_entries n.entries) ++ end_text t ending 1 table) is_text
+        ap (λ es. entry_lines (mirror_entries es) ++ end_text text ending 1 table) is_entries
         ∙ ap (λ x. entry_lines (mirror_entries n.entries) ++ end_text text x 1 table) is_ending
 
     by_result : (t : Result (Unit {0}) PrintStop) → Prints (entry_lines (mirror_entries n.entries) ++ end_text text (ending_by n.fault) 1 table) t before after

@@ -1,5 +1,4 @@
 pub mod BatchRuns
-pub mod ConsoleRuns
 pub mod Differ
 pub mod Ended
 pub mod Exchanged
@@ -10,7 +9,6 @@ pub mod FormTests
 pub mod Literals
 pub mod Lines
 pub mod Loaded
-pub mod Local
 pub mod Names
 pub mod OneAnswer
 pub mod Others
@@ -18,3 +16,4 @@ pub mod Parts
 pub mod Printed
 pub mod Said
 pub mod Steps
+pub mod UnsplitRuns

@@ -22,10 +22,12 @@ use Rattle.rb_top.specs.Loads.{FindsTooLong}
 use Rattle.rb_top.specs.Runs.{Served, run_status, run_text}
 use Rattle.rb_top.specs.Scene.{Scene}
 use Rattle.rb_top.specs.Texts.{WithinLength, TooLong, IsUntyped, IsRefused, IsProgram, IsBuilt, IsService}
-use Rattle.rb_top.specs.Words.{Asked, Check, Both, program_name}
+use Rattle.rb_top.specs.Words.{Asked, Check, Run, program_name}
 use Rattle.rb_top.specs.declared.status.Status.{Status}
 use Rattle.rb_top.specs.declared.status.Status.TheVariants.{Done, Memory}
-use Rattle.rb_top.specs.Answers.{Answers, words, program_fault, program_too_long, program_refused, program_untyped, program_not_admitted, program_admitted, program_form, service_fault, service_too_long, service_refused, run, Ends, Says, answered, starved_first, starved_running, read_times, IsTold, ToldAdmitted, ToldBoth, ChecksTold, RunsTold}
+use Rattle.rb_top.specs.declared.words.Way.{Way}
+use Rattle.rb_top.specs.declared.words.Way.TheVariants.{Both}
+use Rattle.rb_top.specs.Answers.{Answers, words, program_fault, program_too_long, program_refused, program_untyped, program_not_admitted, program_admitted, program_form, service_fault, service_too_long, service_refused, run, Ends, Says, answered, starved_first, starved_running, read_times, IsTold, ToldAdmitted, ToldRun, ChecksTold, RunsTold}
 use Rattle.rb_top.proofs.Ended.{starved_at_once}
 
 abbrev found_or_none : Option (List ℕ) → List ℕ
@@ -57,11 +59,15 @@ program_short text program i = i.1.short
 -- what is asked of a program, and of a service
 abbrev service_name : Asked → List ℕ
 service_name (Check p) = p
-service_name (Both p s fuel) = s
+service_name (Run way p s fuel) = s
 
 abbrev fuel_asked : Asked → ℕ
 fuel_asked (Check p) = 0
-fuel_asked (Both p s fuel) = fuel
+fuel_asked (Run way p s fuel) = fuel
+
+abbrev way_asked : Asked → Way
+way_asked (Check p) = Both
+way_asked (Run way p s fuel) = way
 
 -- what is asked is one thing
 same_asked : (a b : Asked) → Some a ≡ Some b → a ≡ b
@@ -70,14 +76,11 @@ same_asked a b e = cc
 named : (a b : Asked) → Some a ≡ Some b → program_name a ≡ program_name b
 named a b e = ap program_name (same_asked a b e)
 
-same_both : (p' s' : List ℕ) (fuel' : ℕ) (p s : List ℕ) (fuel : ℕ) → Some (Both p' s' fuel') ≡ Some (Both p s fuel) → Both p' s' fuel' ≡ Both p s fuel
-same_both p' s' fuel' p s fuel e = same_asked (Both p' s' fuel') (Both p s fuel) e
+no_check : {A : Type 0} (way : Way) (p p' s : List ℕ) (fuel : ℕ) → Some (Run way p' s fuel) ≡ Some (Check p) → A
+no_check way p p' s fuel e = absurd (cc e)
 
-no_check : {A : Type 0} (p p' s : List ℕ) (fuel : ℕ) → Some (Both p' s fuel) ≡ Some (Check p) → A
-no_check p p' s fuel e = absurd (cc e)
-
-no_both : {A : Type 0} (p s p' : List ℕ) (fuel : ℕ) → Some (Check p') ≡ Some (Both p s fuel) → A
-no_both p s p' fuel e = absurd (cc e)
+no_run : {A : Type 0} (way : Way) (p s p' : List ℕ) (fuel : ℕ) → Some (Check p') ≡ Some (Run way p s fuel) → A
+no_run way p s p' fuel e = absurd (cc e)
 
 -- no source has two outcomes
 abbrev OneSource : Type 0
@@ -128,11 +131,11 @@ checked_once one files left asked p text program status shown w t (program_untyp
 checked_once one files left asked p text program status shown w t (program_not_admitted a found other refusal f x) =
     absurd (never_unadmitted one files.told p text found program other refusal t.finds t.is (subst (λ m. Finds files.told m found) (named a (Check p) w) f) x)
 checked_once one files left asked p text program status shown w t (program_admitted p' found other h) = (refl, refl)
-checked_once one files left asked p text program status shown w t (program_form p' s' found fuel' other h n) = no_check p p' s' fuel' w
-checked_once one files left asked p text program status shown w t (service_fault p' s' found fuel' other h b g) = no_check p p' s' fuel' w
-checked_once one files left asked p text program status shown w t (service_too_long p' s' found fuel' other h b l) = no_check p p' s' fuel' w
-checked_once one files left asked p text program status shown w t (service_refused p' s' found next fuel' other error h b g n) = no_check p p' s' fuel' w
-checked_once one files left asked p text program status shown w t (run p' s' found next fuel' other served h b g j) = no_check p p' s' fuel' w
+checked_once one files left asked p text program status shown w t (program_form p' s' found fuel' other h n) = no_check Both p p' s' fuel' w
+checked_once one files left asked p text program status shown w t (service_fault way p' s' found fuel' other h b g) = no_check way p p' s' fuel' w
+checked_once one files left asked p text program status shown w t (service_too_long way p' s' found fuel' other h b l) = no_check way p p' s' fuel' w
+checked_once one files left asked p text program status shown w t (service_refused way p' s' found next fuel' other error h b g n) = no_check way p p' s' fuel' w
+checked_once one files left asked p text program status shown w t (run way p' s' found next fuel' other served h b g j) = no_check way p p' s' fuel' w
 
 -- no source is two services, or one and none
 abbrev OneService : Type 0
@@ -156,36 +159,36 @@ text_short text outcome (of_text r) h = r.1.short
 service_short : (text : List ℕ) (served : Served) → IsService text served → WithinLength text
 service_short text served i = text_short text (Ok served) i refl
 
--- `both P S FUEL`, where the files tell a program and a service for it
-run_once : OneSource → OneService → (files left : Device Directory) (asked : Option Asked) (p s text other : List ℕ) (fuel : ℕ) (program : Program) (served : Served) (status : Status) (shown : List ℕ) → asked ≡ Some (Both p s fuel) → ToldBoth files.told p s text other program served → Answers files asked status shown left → Is (run_status fuel program served) (run_text text fuel program served) status shown
-run_once one services files left asked p s text other fuel program served status shown w t words = absurd (cc w)
-run_once one services files left asked p s text other fuel program served status shown w t (program_fault a f) =
-    absurd (never_fails files.told p text t.finds (subst (FailsNext files.told) (named a (Both p s fuel) w) f))
-run_once one services files left asked p s text other fuel program served status shown w t (program_too_long a l) =
-    absurd (never_too_long files.told p text t.finds (program_short text program t.is.read) (subst (FindsTooLong files.told) (named a (Both p s fuel) w) l))
-run_once one services files left asked p s text other fuel program served status shown w t (program_refused a found error f x) =
-    absurd (never_refused one files.told p text found program error t.finds t.is.read (subst (λ m. Finds files.told m found) (named a (Both p s fuel) w) f.0) x)
-run_once one services files left asked p s text other fuel program served status shown w t (program_untyped a found program' error f x) =
-    absurd (never_ill_typed one files.told p text found program program' error t.finds t.is.read t.is.typed (subst (λ m. Finds files.told m found) (named a (Both p s fuel) w) f) x)
-run_once one services files left asked p s text other fuel program served status shown w t (program_not_admitted a found program' refusal f x) =
-    absurd (never_unadmitted one files.told p text found program program' refusal t.finds t.is (subst (λ m. Finds files.told m found) (named a (Both p s fuel) w) f) x)
-run_once one services files left asked p s text other fuel program served status shown w t (program_admitted p' found program' h) = no_both p s p' fuel w
-run_once one services files left asked p s text other fuel program served status shown w t (program_form p' s' found fuel' program' h n) =
-    let e = same_both p' s' fuel' p s fuel w in
+-- `both P S FUEL` or `unsplit P S FUEL`, where the files tell a program and a service for it
+run_once : OneSource → OneService → (files left : Device Directory) (asked : Option Asked) (way : Way) (p s text other : List ℕ) (fuel : ℕ) (program : Program) (served : Served) (status : Status) (shown : List ℕ) → asked ≡ Some (Run way p s fuel) → ToldRun files.told way p s text other program served → Answers files asked status shown left → Is (run_status fuel program served) (run_text text fuel program served) status shown
+run_once one services files left asked way p s text other fuel program served status shown w t words = absurd (cc w)
+run_once one services files left asked way p s text other fuel program served status shown w t (program_fault a f) =
+    absurd (never_fails files.told p text t.finds (subst (FailsNext files.told) (named a (Run way p s fuel) w) f))
+run_once one services files left asked way p s text other fuel program served status shown w t (program_too_long a l) =
+    absurd (never_too_long files.told p text t.finds (program_short text program t.is.read) (subst (FindsTooLong files.told) (named a (Run way p s fuel) w) l))
+run_once one services files left asked way p s text other fuel program served status shown w t (program_refused a found error f x) =
+    absurd (never_refused one files.told p text found program error t.finds t.is.read (subst (λ m. Finds files.told m found) (named a (Run way p s fuel) w) f.0) x)
+run_once one services files left asked way p s text other fuel program served status shown w t (program_untyped a found program' error f x) =
+    absurd (never_ill_typed one files.told p text found program program' error t.finds t.is.read t.is.typed (subst (λ m. Finds files.told m found) (named a (Run way p s fuel) w) f) x)
+run_once one services files left asked way p s text other fuel program served status shown w t (program_not_admitted a found program' refusal f x) =
+    absurd (never_unadmitted one files.told p text found program program' refusal t.finds t.is (subst (λ m. Finds files.told m found) (named a (Run way p s fuel) w) f) x)
+run_once one services files left asked way p s text other fuel program served status shown w t (program_admitted p' found program' h) = no_run way p s p' fuel w
+run_once one services files left asked way p s text other fuel program served status shown w t (program_form p' s' found fuel' program' h n) =
+    let e = same_asked (Run Both p' s' fuel') (Run way p s fuel) w in
     let same_program = one_program one files.told p text found program program' t.finds t.is.read (subst (λ m. Finds files.told m found) (ap program_name e) h.finds) h.is.read in
-    absurd (n (subst IsBuilt (sym same_program) t.built))
-run_once one services files left asked p s text other fuel program served status shown w t (service_fault p' s' found fuel' program' h b g) =
-    let e = same_both p' s' fuel' p s fuel w in
+    absurd (n (subst (IsBuilt Both) (sym same_program) (subst (λ x. IsBuilt x program) (sym (ap way_asked e)) t.built)))
+run_once one services files left asked way p s text other fuel program served status shown w t (service_fault way' p' s' found fuel' program' h b g) =
+    let e = same_asked (Run way' p' s' fuel') (Run way p s fuel) w in
     absurd (never_fails (told_after files.told) s other t.finds_next (subst (FailsNext (told_after files.told)) (ap service_name e) g))
-run_once one services files left asked p s text other fuel program served status shown w t (service_too_long p' s' found fuel' program' h b l) =
-    let e = same_both p' s' fuel' p s fuel w in
+run_once one services files left asked way p s text other fuel program served status shown w t (service_too_long way' p' s' found fuel' program' h b l) =
+    let e = same_asked (Run way' p' s' fuel') (Run way p s fuel) w in
     absurd (never_too_long (told_after files.told) s other t.finds_next (service_short other served t.is_service) (subst (FindsTooLong (told_after files.told)) (ap service_name e) l))
-run_once one services files left asked p s text other fuel program served status shown w t (service_refused p' s' found next fuel' program' error h b g n) =
-    let e = same_both p' s' fuel' p s fuel w in
+run_once one services files left asked way p s text other fuel program served status shown w t (service_refused way' p' s' found next fuel' program' error h b g n) =
+    let e = same_asked (Run way' p' s' fuel') (Run way p s fuel) w in
     let same = found_once (told_after files.told) s other next t.finds_next (subst (λ m. Finds (told_after files.told) m next) (ap service_name e) g.0) in
     absurd (never_a_service services other served n.refusal t.is_service (subst (λ x. ReadsAsService x (Err n.refusal)) same n.is))
-run_once one services files left asked p s text other fuel program served status shown w t (run p' s' found next fuel' program' served' h b g j) =
-    let e = same_both p' s' fuel' p s fuel w in
+run_once one services files left asked way p s text other fuel program served status shown w t (run way' p' s' found next fuel' program' served' h b g j) =
+    let e = same_asked (Run way' p' s' fuel') (Run way p s fuel) w in
     let here = subst (λ m. Finds files.told m found) (ap program_name e) h.finds in
     let same = found_once files.told p text found t.finds here in
     let same_program = one_program one files.told p text found program program' t.finds t.is.read here h.is.read in
@@ -209,18 +212,18 @@ checks_by : OneSource → (asked : Option Asked) (p text : List ℕ) (program : 
 checks_by one asked p text program result before after w t (answered status shown a e) =
     ends_so Done (line (codes "admitted")) result before after status shown (checked_once one before.files after.files asked p text program status shown w t a) e
 checks_by one asked p text program result before after w t (starved_first count r f) = ends_starved Done (line (codes "admitted")) result count before after r f
-checks_by one asked p text program result before after w t (starved_running p' s' found fuel program' e h b r f) = no_check p p' s' fuel (sym e ∙ w)
+checks_by one asked p text program result before after w t (starved_running way p' s' found fuel program' e h b r f) = no_check way p p' s' fuel (sym e ∙ w)
 
 pub checks_told : OneSource → (asked : Option Asked) (result : Status) (before after : Scene) → Says asked result before after → ChecksTold asked result before after
 checks_told one asked result before after h = λ p text program w t. checks_by one asked p text program result before after w t h
 
-runs_by : OneSource → OneService → (asked : Option Asked) (p s text other : List ℕ) (fuel : ℕ) (program : Program) (served : Served) (result : Status) (before after : Scene) → asked ≡ Some (Both p s fuel) → ToldBoth before.files.told p s text other program served → Says asked result before after
+runs_by : OneSource → OneService → (asked : Option Asked) (way : Way) (p s text other : List ℕ) (fuel : ℕ) (program : Program) (served : Served) (result : Status) (before after : Scene) → asked ≡ Some (Run way p s fuel) → ToldRun before.files.told way p s text other program served → Says asked result before after
     → Ends (run_status fuel program served) (run_text text fuel program served) result before.out after.out ⊎ (result ≡ Memory)
-runs_by one services asked p s text other fuel program served result before after w t (answered status shown a e) =
-    inl (ends_so (run_status fuel program served) (run_text text fuel program served) result before after status shown (run_once one services before.files after.files asked p s text other fuel program served status shown w t a) e)
-runs_by one services asked p s text other fuel program served result before after w t (starved_first count r f) =
+runs_by one services asked way p s text other fuel program served result before after w t (answered status shown a e) =
+    inl (ends_so (run_status fuel program served) (run_text text fuel program served) result before after status shown (run_once one services before.files after.files asked way p s text other fuel program served status shown w t a) e)
+runs_by one services asked way p s text other fuel program served result before after w t (starved_first count r f) =
     inl (ends_starved (run_status fuel program served) (run_text text fuel program served) result count before after r f)
-runs_by one services asked p s text other fuel program served result before after w t (starved_running p' s' found fuel' program' e h b r f) = inr r
+runs_by one services asked way p s text other fuel program served result before after w t (starved_running way' p' s' found fuel' program' e h b r f) = inr r
 
 pub runs_told : OneSource → OneService → (asked : Option Asked) (result : Status) (before after : Scene) → Says asked result before after → RunsTold asked result before after
-runs_told one services asked result before after h = λ p s text other fuel program served w t. runs_by one services asked p s text other fuel program served result before after w t h
+runs_told one services asked result before after h = λ way p s text other fuel program served w t. runs_by one services asked way p s text other fuel program served result before after w t h

@@ -1,6 +1,6 @@
 -- What the commands say, from what reading and running answer.
-use Rattle.std.proofs.Common.{◌≡◌, ℕ, List, Option, None, Some, Result, Ok, Err, codes, ap, sym, ◌∙◌, refl, subst, inl, inr}
-use Rattle.std.specs.Prelude.{IsTrue, IfOk}
+use Rattle.std.proofs.Common.{◌≡◌, ℕ, List, Option, None, Some, Ok, Err, codes, ap, sym, ◌∙◌, refl, subst, inl, inr}
+use Rattle.std.specs.Prelude.{IsTrue}
 use Rattle.rb_trees.specs.declared.reading.ReadError.{ReadError}
 use Rattle.rb_trees.specs.declared.reading.ReadError.TheVariants as errors
 use Rattle.rb_trees.specs.declared.refusals.Refusal.{Refusal}
@@ -16,23 +16,29 @@ use Rattle.rb_meaning_types.specs.Violations.{violation_of}
 use Rattle.rb_meaning.specs.ServiceSources.{ReadsAsService}
 use Rattle.rb_meaning_types.specs.Programs.{check_program, is_typed}
 use Rattle.rb_meaning_flow.specs.Programs.{IsAnswerOf}
+use Rattle.rb_flow.specs.Program.{HasNoRefusal}
 use Rattle.rb_base.specs.Devices.{Device, failed}
 use Rattle.rb_base.specs.Directories.{Directory, read_once, Finds}
 use Rattle.rb_top.specs.declared.loading.TextStop.{TextStop}
 use Rattle.rb_top.specs.declared.loading.TextStop.TheVariants as stops
 use Rattle.rb_top.specs.declared.status.SourceError.TheVariants as sources
 use Rattle.rb_top.specs.declared.status.Status.{Status}
-use Rattle.rb_top.specs.declared.status.Status.TheVariants.{Done, Words, FileFault, SourceRefused, BatchRefused, ServiceRefused, FileTooLong}
+use Rattle.rb_top.specs.declared.status.Status.TheVariants.{Done, Words, FileFault, SourceRefused, BatchRefused, ServiceRefused, Memory, FileTooLong}
+use Rattle.rb_top.specs.declared.source.Source.{Source}
+use Rattle.rb_top.specs.declared.words.Job.{Job}
+use Rattle.rb_top.specs.declared.words.Way.{Way}
+use Rattle.rb_top.specs.declared.words.Way.TheVariants.{Both, Unsplit}
 use Rattle.rb_top.specs.Answers.{Answers, words, program_fault, program_too_long, program_refused, program_untyped, program_not_admitted, program_admitted, program_form, service_fault, service_too_long, service_refused, run, Ends, Says, answered, starved_first, starved_running, read_times, fault_line, too_long_line}
 use Rattle.rb_top.specs.BatchRefusals.{shown_batch_refusal}
-use Rattle.rb_top.specs.Commands.{Starves, EndsUnread, EndsWith, EndsRefused, EndsRefusedService, EndsUntyped, EndsUnadmitted, EndsRun, Admits, LoadsProgram, GoesOn, RunsOn}
+use Rattle.rb_top.specs.Commands.{Starves, EndsUnread, EndsWith, EndsRefused, EndsRefusedService, EndsUntyped, EndsBatchRefused, EndsRun, LoadsProgram, GoesOn, GoesOnTyped}
 use Rattle.rb_top.specs.Loads.{Unread, HoldsText, HoldsProgram}
 use Rattle.rb_top.specs.Refusals.{shown_refusal, shown_violation}
 use Rattle.rb_top.specs.Runs.{Served, run_status, run_text}
 use Rattle.rb_top.specs.Scene.{Scene}
+use Rattle.rb_top.specs.Sources.{text_of, program_of}
 use Rattle.rb_top.specs.ServiceRefusals.{shown_service_refusal}
-use Rattle.rb_top.specs.Texts.{WithinLength, IsBuilt, IsService}
-use Rattle.rb_top.specs.Words.{Asked, Check, Both, program_name}
+use Rattle.rb_top.specs.Texts.{IsBuilt, IsService}
+use Rattle.rb_top.specs.Words.{Asked, Check, Run, program_name, asked_job}
 
 -- an answer, said over a scene whose files were left so
 says : (asked : Option Asked) (status result : Status) (text : List ℕ) (left : Device Directory) (before after : Scene) → Answers before.files asked status text left → after.files ≡ left → Ends status text result before.out after.out → Says asked result before after
@@ -76,44 +82,42 @@ program_not_typed a p text program error result before after n h r v e f =
     says_with (Some a) (violation_of error) (SourceRefused (sources.Types error)) result (line (shown_violation text error)) before after
     (λ d m. program_untyped a text program error (subst (λ q. Finds before.files.told q text) (sym n) h) (record { read = r; violation = d; told = m; fails = subst (λ o. Refuses o (check_program program)) m v })) e f
 
-unadmitted_text : (a : Asked) (p text : List ℕ) (program : Program) (refusal : Refusal) (result : Status) (before after : Scene) → program_name a ≡ p → Finds before.files.told p text → ReadSource text (Ok program) → IsTrue (is_typed program) → IsAnswerOf program refusal
-    → Ends (BatchRefused refusal) (line (shown_batch_refusal text refusal)) result before.out after.out → after.files ≡ read_once before.files → Says (Some a) result before after
-unadmitted_text a p text program refusal result before after n h r t is e f =
-    says (Some a) (BatchRefused refusal) result (line (shown_batch_refusal text refusal)) (read_once before.files) before after
-    (program_not_admitted a text program refusal (subst (λ q. Finds before.files.told q text) (sym n) h) (record { read = r; typed = t; refused = is })) f e
-
-pub program_unadmitted : (a : Asked) (p text : List ℕ) (program : Program) (result : Status) (before after : Scene) → program_name a ≡ p → Finds before.files.told p text → ReadSource text (Ok program) → IsTrue (is_typed program) → EndsUnadmitted text program result before.out after.out → after.files ≡ read_once before.files → Says (Some a) result before after
-program_unadmitted a p text program result before after n h r t (inl e) f = unadmitted_text a p text program e.0 result before after n h r t e.1 e.2 f
-program_unadmitted a p text program result before after n h r t (inr s) f = starves (Some a) result before after 1 s f
-
 -- two scenes whose files and outputs are these are one
 same_scene : (before after : Scene) → after.files ≡ read_once before.files → after.out ≡ before.out → after ≡ record before { files = read_once before.files }
 same_scene before after f o = ap (λ d. record { files = after.files; out = d }) o ∙ ap (λ d. record { files = d; out = before.out }) f
 
--- what was read and typed is admitted, and so it was loaded; or it was said why it isn't
-pub program_loaded : {X : Type 0} (text_in : X → List ℕ) (program_in : X → Program) (p text : List ℕ) (program : Program) (result : Result X Status) (before after : Scene) → Finds before.files.told p text → ReadSource text (Ok program) → IsTrue (is_typed program) → Admits text_in program_in text program result before.out after.out → after.files ≡ read_once before.files → LoadsProgram text_in program_in p result before after
-program_loaded text_in program_in p text program (Ok x) before after h r t a f =
-    (subst (λ q. HoldsProgram before.files.told p (text_in x) q) (sym a.1) (subst (λ s. HoldsProgram before.files.told p s program) (sym a.0) (record { finds = h; is = record { read = r; typed = t; admitted = a.2 } })), same_scene before after f a.3)
-program_loaded text_in program_in p text program (Err status) before after h r t a f = λ w n. program_unadmitted w p text program status before after n h r t a f
-
--- and its text is the one that was read
-pub short_program : {X : Type 0} (text_in : X → List ℕ) (program_in : X → Program) (text : List ℕ) (program : Program) (result : Result X Status) (before after : Device (List ℕ)) → WithinLength text → Admits text_in program_in text program result before after → IfOk result (λ x. WithinLength (text_in x))
-short_program text_in program_in text program (Ok x) before after w a = subst WithinLength (sym a.0) w
-short_program text_in program_in text program (Err status) before after w a = tt
+-- what was read and typed was loaded
+pub program_loaded : (p : List ℕ) (source : Source) (before after : Scene) → Finds before.files.told p (text_of source) → ReadSource (text_of source) (Ok (program_of source)) → IsTrue (is_typed (program_of source)) → after.files ≡ read_once before.files → after.out ≡ before.out → LoadsProgram p (Ok source) before after
+program_loaded p source before after h r t f o = (record { finds = h; read = r; typed = t }, same_scene before after f o)
 
 -- the scene before, with the files before the program was read
 abbrev at_first : Scene → Device Directory → Scene
 at_first before first = record before { files = first }
+
+-- the rest, where the program is admitted
+pub goes_admitted : (source : Source) (a : Asked) (result : Status) (before after : Scene) → HasNoRefusal (program_of source) → GoesOn (text_of source) (program_of source) a result before after → GoesOnTyped source a result before after
+goes_admitted source a result before after none goes = λ first b h. goes first b (record { finds = h.finds; is = record { read = h.read; typed = h.typed; admitted = none } })
+
+-- where it is refused
+pub goes_refused : (source : Source) (a : Asked) (refusal : Refusal) (result : Status) (before after : Scene) → IsAnswerOf (program_of source) refusal → EndsBatchRefused (text_of source) refusal result before.out after.out → after.files ≡ before.files → GoesOnTyped source a result before after
+goes_refused source a refusal result before after is e f = λ first b h.
+    says (Some a) (BatchRefused refusal) result (line (shown_batch_refusal (text_of source) refusal)) (read_once first) (at_first before first) after
+    (program_not_admitted a (text_of source) (program_of source) refusal h.finds (record { read = h.read; typed = h.typed; refused = is })) (f ∙ b) e
+
+-- and where memory is wanting before that is known
+pub goes_starved : (source : Source) (a : Asked) (before : Scene) → GoesOnTyped source a Memory before before
+goes_starved source a before = λ first b h. starves (Some a) Memory (at_first before first) before 1 (refl, refl) b
 
 -- the rest of `check P`
 pub goes_check : (text p : List ℕ) (program : Program) (result : Status) (before after : Scene) → Ends Done (line (codes "admitted")) result before.out after.out → after.files ≡ before.files → GoesOn text program (Check p) result before after
 goes_check text p program result before after e f = λ first b h.
     says (Some (Check p)) Done result (line (codes "admitted")) (read_once first) (at_first before first) after (program_admitted p text program h) (f ∙ b) e
 
--- the rest of `both P S`, where the program isn't of a form that is built
-pub goes_form : (text p s : List ℕ) (fuel : ℕ) (program : Program) (result : Status) (before after : Scene) → ¬ IsBuilt program → Ends (SourceRefused sources.NotBuilt) (line (codes "not built")) result before.out after.out → after.files ≡ before.files → GoesOn text program (Both p s fuel) result before after
-goes_form text p s fuel program result before after n e f = λ first b h.
-    says (Some (Both p s fuel)) (SourceRefused sources.NotBuilt) result (line (codes "not built")) (read_once first) (at_first before first) after (program_form p s text fuel program h n) (f ∙ b) e
+-- the rest of a run, where none of the program is built in its way
+pub goes_form : (way : Way) (text p s : List ℕ) (fuel : ℕ) (program : Program) (result : Status) (before after : Scene) → ¬ IsBuilt way program → Ends (SourceRefused sources.NotBuilt) (line (codes "not built")) result before.out after.out → after.files ≡ before.files → GoesOn text program (Run way p s fuel) result before after
+goes_form Unsplit text p s fuel program result before after n e f = absurd (n (inl tt))
+goes_form Both text p s fuel program result before after n e f = λ first b h.
+    says (Some (Run Both p s fuel)) (SourceRefused sources.NotBuilt) result (line (codes "not built")) (read_once first) (at_first before first) after (program_form p s text fuel program h n) (f ∙ b) e
 
 -- what is said over the scene in the middle with the files before is said over the one before
 pub says_from : (asked : Option Asked) (result : Status) (before middle after : Scene) → middle ≡ record before { files = read_once before.files } → Says asked result (record middle { files = before.files }) after → Says asked result before after
@@ -122,33 +126,33 @@ says_from asked result before middle after m h = subst (λ s. Says asked result 
 again : (first before after : Device Directory) → before ≡ read_once first → after ≡ read_once before → after ≡ read_once (read_once first)
 again first before after b a = a ∙ ap read_once b
 
-pub service_unread : (text s : List ℕ) (fuel : ℕ) (program : Program) (stop : TextStop) (result : Status) (before after : Scene) → IsBuilt program → Unread stop s before.files after.files → EndsUnread stop s result before.out after.out → RunsOn text program s fuel result before after
-service_unread text s fuel program stop result before after i u e = λ p first b h.
-    unread p first h (again first before.files after.files b) stop (subst (λ d. Unread stop s d after.files) b u) e
+pub service_unread : (text : List ℕ) (program : Program) (way : Way) (p s : List ℕ) (fuel : ℕ) (stop : TextStop) (result : Status) (before after : Scene) → IsBuilt way program → Unread stop s before.files after.files → EndsUnread stop s result before.out after.out → GoesOn text program (Run way p s fuel) result before after
+service_unread text program way p s fuel stop result before after i u e = λ first b h.
+    unread first h (again first before.files after.files b) stop (subst (λ d. Unread stop s d after.files) b u) e
   where
-    unread : (p : List ℕ) (first : Device Directory) → HoldsProgram first.told p text program → (after.files ≡ read_once before.files → after.files ≡ read_once (read_once first)) → (t : TextStop) → Unread t s (read_once first) after.files → EndsUnread t s result before.out after.out → Says (Some (Both p s fuel)) result (at_first before first) after
-    unread p first h twice stops.FileFault u e = says (Some (Both p s fuel)) (FileFault s) result (fault_line s) (failed (read_once (read_once first))) (at_first before first) after (service_fault p s text fuel program h i u.0) u.1 e
-    unread p first h twice stops.TooLong u e = says (Some (Both p s fuel)) (FileTooLong s) result (too_long_line s) (read_once (read_once first)) (at_first before first) after (service_too_long p s text fuel program h i u.0) u.1 e
-    unread p first h twice stops.Memory u e = starves (Some (Both p s fuel)) result (at_first before first) after 2 e u
+    unread : (first : Device Directory) → HoldsProgram first.told p text program → (after.files ≡ read_once before.files → after.files ≡ read_once (read_once first)) → (t : TextStop) → Unread t s (read_once first) after.files → EndsUnread t s result before.out after.out → Says (Some (Run way p s fuel)) result (at_first before first) after
+    unread first h twice stops.FileFault u e = says (Some (Run way p s fuel)) (FileFault s) result (fault_line s) (failed (read_once (read_once first))) (at_first before first) after (service_fault way p s text fuel program h i u.0) u.1 e
+    unread first h twice stops.TooLong u e = says (Some (Run way p s fuel)) (FileTooLong s) result (too_long_line s) (read_once (read_once first)) (at_first before first) after (service_too_long way p s text fuel program h i u.0) u.1 e
+    unread first h twice stops.Memory u e = starves (Some (Run way p s fuel)) result (at_first before first) after 2 e u
 
-pub no_service : (text s other : List ℕ) (fuel : ℕ) (program : Program) (error : StoreError) (result : Status) (before after : Scene) → IsBuilt program → HoldsText before.files.told s other → after.files ≡ read_once before.files → Refused (ReadsAsService other) (store_refusal error) → EndsRefusedService other error result before.out after.out → RunsOn text program s fuel result before after
-no_service text s other fuel program error result before after i t a n e = λ p first b h.
-    by_refusal p first b h (store_refusal error) refl n e
+pub no_service : (text : List ℕ) (program : Program) (way : Way) (p s other : List ℕ) (fuel : ℕ) (error : StoreError) (result : Status) (before after : Scene) → IsBuilt way program → HoldsText before.files.told s other → after.files ≡ read_once before.files → Refused (ReadsAsService other) (store_refusal error) → EndsRefusedService other error result before.out after.out → GoesOn text program (Run way p s fuel) result before after
+no_service text program way p s other fuel error result before after i t a n e = λ first b h.
+    by_refusal first b h (store_refusal error) refl n e
   where
-    by_refusal : (p : List ℕ) (first : Device Directory) → before.files ≡ read_once first → HoldsProgram first.told p text program → (o : Option StoreRefusal) → store_refusal error ≡ o → Refused (ReadsAsService other) o
-        → EndsWith o (ServiceRefused error) (line (shown_service_refusal other error)) result before.out after.out → Says (Some (Both p s fuel)) result (at_first before first) after
-    by_refusal p first b h None told n e = starves (Some (Both p s fuel)) result (at_first before first) after 2 e (again first before.files after.files b a)
-    by_refusal p first b h (Some refusal) told n e =
-        says (Some (Both p s fuel)) (ServiceRefused error) result (line (shown_service_refusal other error)) (read_once (read_once first)) (at_first before first) after
-        (service_refused p s text other fuel program error h i (subst (λ d. HoldsText d.told s other) b t) (record { refusal = refusal; told = told; is = n })) (again first before.files after.files b a) e
+    by_refusal : (first : Device Directory) → before.files ≡ read_once first → HoldsProgram first.told p text program → (o : Option StoreRefusal) → store_refusal error ≡ o → Refused (ReadsAsService other) o
+        → EndsWith o (ServiceRefused error) (line (shown_service_refusal other error)) result before.out after.out → Says (Some (Run way p s fuel)) result (at_first before first) after
+    by_refusal first b h None told n e = starves (Some (Run way p s fuel)) result (at_first before first) after 2 e (again first before.files after.files b a)
+    by_refusal first b h (Some refusal) told n e =
+        says (Some (Run way p s fuel)) (ServiceRefused error) result (line (shown_service_refusal other error)) (read_once (read_once first)) (at_first before first) after
+        (service_refused way p s text other fuel program error h i (subst (λ d. HoldsText d.told s other) b t) (record { refusal = refusal; told = told; is = n })) (again first before.files after.files b a) e
 
-pub run_ended : (text s other : List ℕ) (fuel : ℕ) (program : Program) (served : Served) (result : Status) (before after : Scene) → IsBuilt program → HoldsText before.files.told s other → after.files ≡ read_once before.files → IsService other served
-    → EndsRun text fuel program served result before.out after.out → RunsOn text program s fuel result before after
-run_ended text s other fuel program served result before after i t a is (inl e) = λ p first b h.
-    says (Some (Both p s fuel)) (run_status fuel program served) result (run_text text fuel program served) (read_once (read_once first)) (at_first before first) after
-    (run p s text other fuel program served h i (subst (λ d. HoldsText d.told s other) b t).0 is) (again first before.files after.files b a) e
-run_ended text s other fuel program served result before after i t a is (inr e) = λ p first b h.
-    starved_running p s text fuel program refl h e.0 e.1 (again first before.files after.files b a)
+pub run_ended : (text : List ℕ) (program : Program) (job : Job) (other : List ℕ) (served : Served) (result : Status) (before after : Scene) → IsBuilt job.way program → HoldsText before.files.told job.service.now other → after.files ≡ read_once before.files → IsService other served
+    → EndsRun text program job served result before.out after.out → GoesOn text program (asked_job job) result before after
+run_ended text program job other served result before after i t a is (inl e) = λ first b h.
+    says (Some (asked_job job)) (run_status job.fuel program served) result (run_text text job.fuel program served) (read_once (read_once first)) (at_first before first) after
+    (run job.way job.program.now job.service.now text other job.fuel program served h i (subst (λ d. HoldsText d.told job.service.now other) b t).0 is) (again first before.files after.files b a) e
+run_ended text program job other served result before after i t a is (inr e) = λ first b h.
+    starved_running job.way job.program.now job.service.now text job.fuel program refl h e.0 e.1 (again first before.files after.files b a)
 
 pub not_understood : (asked : Option Asked) (result : Status) (before after : Scene) → None ≡ asked → Ends Words (line (codes "words not understood")) result before.out after.out → after.files ≡ before.files → Says asked result before after
 not_understood asked result before after n e f = subst (λ a. Says a result before after) n (says None Words result (line (codes "words not understood")) before.files before after words f e)

@@ -9,20 +9,18 @@ use Rattle.rb_trees.specs.Reading.{read_refusal}
 use Rattle.rb_meaning.specs.Shown.{line}
 use Rattle.rb_meaning_types.specs.Stores.{store_refusal}
 use Rattle.rb_meaning_types.specs.Violations.{violation_of}
-use Rattle.rb_meaning_flow.specs.Programs.{IsAnswerOf}
-use Rattle.rb_flow.specs.Program.{HasNoRefusal}
 use Rattle.rb_base.specs.Devices.{Device}
 use Rattle.rb_base.specs.Directories.{Directory, read_once}
 use Rattle.rb_top.specs.Answers.{Ends, Says, fault_line, too_long_line}
 use Rattle.rb_top.specs.BatchRefusals.{shown_batch_refusal}
-use Rattle.rb_top.specs.Loads.{HoldsProgram}
+use Rattle.rb_top.specs.Loads.{HoldsTyped, HoldsProgram}
 use Rattle.rb_top.specs.Refusals.{shown_refusal, shown_violation}
 use Rattle.rb_top.specs.Runs.{Served, run_status, run_text}
 use Rattle.rb_top.specs.Scene.{Scene}
-use Rattle.rb_top.specs.Sources.{text_of, program_of}
+use Rattle.rb_top.specs.Sources.{text_of, program_of, Admitted, admitted_program}
 use Rattle.rb_top.specs.ServiceRefusals.{shown_service_refusal}
-use Rattle.rb_top.specs.Texts.{HasNoBatch}
-use Rattle.rb_top.specs.Words.{Asked, Both, program_name}
+use Rattle.rb_top.specs.Texts.{RunsUnsplit}
+use Rattle.rb_top.specs.Words.{Asked, program_name, asked_job}
 use Rattle.rb_top.specs.declared.loading.TextStop.{TextStop}
 use Rattle.rb_top.specs.declared.loading.TextStop.TheVariants as stops
 use Rattle.rb_top.specs.declared.printing.PrintStop.{PrintStop}
@@ -31,6 +29,7 @@ use Rattle.rb_top.specs.declared.source.Source.{Source}
 use Rattle.rb_top.specs.declared.status.SourceError.TheVariants as sources
 use Rattle.rb_top.specs.declared.status.Status.{Status}
 use Rattle.rb_top.specs.declared.status.Status.TheVariants.{FileFault, SourceRefused, BatchRefused, ServiceRefused, WriteFault, Memory, FileTooLong}
+use Rattle.rb_top.specs.declared.words.Job.{Job}
 
 -- the status where not all was printed
 abbrev pub stopped_status : PrintStop → Status
@@ -78,49 +77,39 @@ EndsRefusedService text error = EndsWith (store_refusal error) (ServiceRefused e
 abbrev pub EndsBatchRefused : List ℕ → Refusal → Status → Device (List ℕ) → Device (List ℕ) → Type 0
 EndsBatchRefused text refusal = Ends (BatchRefused refusal) (line (shown_batch_refusal text refusal))
 
--- The program in the text isn't admitted, and that was said; or memory was wanting before anything was.
-abbrev pub EndsUnadmitted : List ℕ → Program → Status → Device (List ℕ) → Device (List ℕ) → Type 0
-EndsUnadmitted text p result before after =
-    ((refusal : Refusal) × IsAnswerOf p refusal × EndsBatchRefused text refusal result before after)
-    ⊎ Starves result before after
-
--- The program in the text is admitted, and is what is answered, with nothing said; or it was said why it isn't.
-abbrev pub Admits : {X : Type 0} → (X → List ℕ) → (X → Program) → List ℕ → Program → Result X Status → Device (List ℕ) → Device (List ℕ) → Type 0
-Admits text_in program_in text p (Ok x) before after =
-    (text_in x ≡ text) × (program_in x ≡ p) × HasNoRefusal p × (after ≡ before)
-Admits text_in program_in text p (Err status) before after = EndsUnadmitted text p status before after
-
 -- Whoever asks for something of the program of this name is answered so, before it is known whether it is admitted.
 abbrev pub SaysFirst : List ℕ → Status → Scene → Scene → Type 0
 SaysFirst p result before after = (a : Asked) → program_name a ≡ p → Says (Some a) result before after
 
--- The file of the name was read as an admitted program; or it was said why there is none.
-abbrev pub LoadsProgram : {X : Type 0} → (X → List ℕ) → (X → Program) → List ℕ → Result X Status → Scene → Scene → Type 0
-LoadsProgram text program p (Ok x) before after =
-    HoldsProgram before.files.told p (text x) (program x) × (after ≡ record before { files = read_once before.files })
-LoadsProgram text program p (Err status) before after = SaysFirst p status before after
+-- The file of the name was read as a typed program; or it was said why there is none.
+abbrev pub LoadsProgram : List ℕ → Result Source Status → Scene → Scene → Type 0
+LoadsProgram p (Ok source) before after =
+    HoldsTyped before.files.told p (text_of source) (program_of source) × (after ≡ record before { files = read_once before.files })
+LoadsProgram p (Err status) before after = SaysFirst p status before after
 
--- What is asked of the program of this text, which was read before, is answered so.
+-- What is asked of the typed program of this text, which was read before, is answered so.
+abbrev pub GoesOnTyped : Source → Asked → Status → Scene → Scene → Type 0
+GoesOnTyped source a result before after =
+    (first : Device Directory) → before.files ≡ read_once first → HoldsTyped first.told (program_name a) (text_of source) (program_of source)
+    → Says (Some a) result (record before { files = first }) after
+
+-- What is asked of the admitted program of this text, which was read before, is answered so.
 abbrev pub GoesOn : List ℕ → Program → Asked → Status → Scene → Scene → Type 0
 GoesOn text program a result before after =
     (first : Device Directory) → before.files ≡ read_once first → HoldsProgram first.told (program_name a) text program
     → Says (Some a) result (record before { files = first }) after
 
--- The run on the service of this name, with so much fuel, of the program of this text, is answered so.
-abbrev pub RunsOn : List ℕ → Program → List ℕ → ℕ → Status → Scene → Scene → Type 0
-RunsOn text program s fuel result before after = (p : List ℕ) → GoesOn text program (Both p s fuel) result before after
+abbrev pub GoesOnWith : List ℕ → Admitted → Asked → Status → Scene → Scene → Type 0
+GoesOnWith text admitted = GoesOn text (admitted_program admitted)
 
--- The same, of a program as it was loaded.
-abbrev pub GoesOnWith : Source → Asked → Status → Scene → Scene → Type 0
-GoesOnWith source = GoesOn (text_of source) (program_of source)
+-- The same, of the run that a job asks for.
+abbrev pub RunsOnWith : List ℕ → Admitted → Job → Status → Scene → Scene → Type 0
+RunsOnWith text admitted job = GoesOnWith text admitted (asked_job job)
 
-abbrev pub RunsOnWith : Source → List ℕ → ℕ → Status → Scene → Scene → Type 0
-RunsOnWith source = RunsOn (text_of source) (program_of source)
+-- The run of a program was printed, and its status answered; or memory was wanting while it was run as it stands.
+abbrev pub EndsRun : List ℕ → Program → Job → Served → Status → Device (List ℕ) → Device (List ℕ) → Type 0
+EndsRun text p job served result before after =
+    Ends (run_status job.fuel p served) (run_text text job.fuel p served) result before after ⊎ (RunsUnsplit job.way p × (result ≡ Memory))
 
--- The run was printed, and its status answered; or its code was wanting memory, where it has no batch.
-abbrev pub EndsRun : List ℕ → ℕ → Program → Served → Status → Device (List ℕ) → Device (List ℕ) → Type 0
-EndsRun text fuel p served result before after =
-    Ends (run_status fuel p served) (run_text text fuel p served) result before after ⊎ (HasNoBatch p × (result ≡ Memory))
-
-abbrev pub EndsRunOf : Source → ℕ → Served → Status → Device (List ℕ) → Device (List ℕ) → Type 0
-EndsRunOf source fuel = EndsRun (text_of source) fuel (program_of source)
+abbrev pub EndsRunOf : List ℕ → Admitted → Job → Served → Status → Device (List ℕ) → Device (List ℕ) → Type 0
+EndsRunOf text admitted = EndsRun text (admitted_program admitted)

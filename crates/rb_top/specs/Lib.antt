@@ -4,13 +4,11 @@ pub mod Words
 pub mod Answers
 pub mod BatchRefusals
 pub mod Commands
-pub mod Console
 pub mod Codes
 pub mod Exchanged
 pub mod FirstForm
 pub mod FormTests
 pub mod Loads
-pub mod Local
 pub mod Printing
 pub mod Refusals
 pub mod Replay

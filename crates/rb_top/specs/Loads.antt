@@ -1,6 +1,8 @@
 -- What reading a text from the files answers, and how it leaves them.
-use Rattle.std.specs.Prelude.{◌≡◌, ℕ, List, Option, Result, Ok, Err}
+use Rattle.std.specs.Prelude.{◌≡◌, ℕ, List, Option, Result, Ok, Err, IsTrue}
 use Rattle.rb_trees.specs.mirror.Declarations.{Program}
+use Rattle.rb_meaning_bytes.specs.grammar.Sources.{ReadSource}
+use Rattle.rb_meaning_types.specs.Programs.{is_typed}
 use Rattle.rb_base.specs.Devices.{Device, failed}
 use Rattle.rb_base.specs.Directories.{Directory, Finds, FailsNext, read_once}
 use Rattle.rb_top.specs.Texts.{WithinLength, TooLong, IsProgram}
@@ -26,7 +28,13 @@ abbrev pub LoadsText : {R : Type 0} → (R → List ℕ) → List ℕ → Result
 LoadsText view name (Ok text) before after = HoldsText before.told name (view text) × (after ≡ read_once before)
 LoadsText view name (Err stop) before after = Unread stop name before after
 
--- The file of the name holds this text, as far as the files tell, and it is this program, typed and admitted.
+-- The file of the name holds this text, as far as the files tell, and it is read as this program, which is typed.
+pub record HoldsTyped (told : Option Directory) (name text : List ℕ) (program : Program) : Type 0 where
+  pub finds : Finds told name text
+  pub read : ReadSource text (Ok program)
+  pub typed : IsTrue (is_typed program)
+
+-- The same, and the program is admitted.
 pub record HoldsProgram (told : Option Directory) (name text : List ℕ) (program : Program) : Type 0 where
   pub finds : Finds told name text
   pub is : IsProgram text program

@@ -6,8 +6,15 @@ use Rattle.rb_trees.specs.declared.outcomes.Ending.{Ending}
 use Rattle.rb_meaning.specs.Shown.{line, shown_ending, shown_table}
 use Rattle.rb_base.specs.Devices.{Device, failed}
 use Rattle.rb_base.specs.Sinks.{with_bytes, WrotePrefix}
+use Rattle.rb_plain.specs.declared.run.PlainStop.{PlainStop}
+use Rattle.rb_plain.specs.declared.run.PlainStop.TheVariants as plain
 use Rattle.rb_top.specs.declared.printing.PrintStop.{PrintStop}
 use Rattle.rb_top.specs.declared.printing.PrintStop.TheVariants.{WriteFault, Memory}
+
+-- how a run that was cut off stops the printing of it
+abbrev pub stop_of : PlainStop → PrintStop
+stop_of plain.WriteFault = WriteFault
+stop_of plain.Memory = Memory
 
 -- the output with one fault more where a write failed, and with none where memory was wanting
 abbrev pub stopped : PrintStop → Device (List ℕ) → Device (List ℕ)

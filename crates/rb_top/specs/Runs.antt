@@ -1,5 +1,5 @@
 -- A run of a program of a form that is built, on a service and its table.
-use Rattle.std.specs.Prelude.{ℕ, List}
+use Rattle.std.specs.Prelude.{ℕ, List, Result}
 use Rattle.rb_trees.specs.mirror.Declarations.{Program}
 use Rattle.rb_trees.specs.mirror.Services.{Service}
 use Rattle.rb_trees.specs.declared.services.Object.{Object}
@@ -7,6 +7,9 @@ use Rattle.rb_trees.specs.declared.outcomes.Ending.{Ending}
 use Rattle.rb_trees.specs.declared.outcomes.Ending.TheVariants as endings
 use Rattle.rb_meaning.specs.Meaning.{meaning}
 use Rattle.rb_meaning.specs.Shown.{shown}
+use Rattle.rb_base.specs.Devices.{Device}
+use Rattle.rb_top.specs.Printing.{PrintsUnlessStarved}
+use Rattle.rb_top.specs.declared.printing.PrintStop.{PrintStop}
 use Rattle.rb_top.specs.declared.status.Status.{Status}
 use Rattle.rb_top.specs.declared.status.Status.TheVariants.{Done, Faulted}
 
@@ -26,3 +29,7 @@ ended_status (endings.Faulted fault at) = Faulted fault at
 -- the status of the program's meaning on the service, its table and a fuel
 abbrev pub run_status : ℕ → Program → Served → Status
 run_status fuel p served = ended_status (meaning p served.0 served.1 fuel).ending
+
+-- What the program shows on the service was printed, and how it ended was answered. Of want of memory nothing is said.
+abbrev pub PrintsRun : List ℕ → ℕ → Program → Served → Result Status PrintStop → Device (List ℕ) → Device (List ℕ) → Type 0
+PrintsRun text fuel p served = PrintsUnlessStarved (run_status fuel p served) (run_text text fuel p served)

@@ -1,6 +1,12 @@
--- An admitted program as it was loaded.
-use Rattle.std.specs.Prelude.{ℕ, List}
+-- A typed program as it was loaded, and as it was admitted.
+use Rattle.std.specs.Prelude.{◌≡◌, ℕ, List}
+use Rattle.std.specs.Ordering.{nat_cmp}
+use Rattle.std.specs.FinMap.{FinMap}
+use Rattle.rb_trees.specs.declared.declarations.Program as program
+use Rattle.rb_trees.specs.declared.marks.Mark.{Mark}
+use Rattle.rb_trees.specs.declared.marks.Place.{Place}
 use Rattle.rb_trees.specs.mirror.Declarations.{Program, mirror_program}
+use Rattle.rb_meaning_flow.specs.Programs.{program_marks}
 use Rattle.rb_top.specs.declared.source.Source.{Source}
 
 -- the text that it was read from
@@ -10,3 +16,14 @@ text_of s = s.text.items
 -- the program
 abbrev pub program_of : Source → Program
 program_of s = mirror_program s.typed
+
+-- a program that was admitted, with the marks of its expressions and the places of its statements
+abbrev pub Admitted : Type 0
+Admitted = program.Program × (FinMap nat_cmp Mark × FinMap nat_cmp Place)
+
+abbrev pub admitted_program : Admitted → Program
+admitted_program a = mirror_program a.0
+
+-- The marks are those of the program.
+abbrev pub HasOwnMarks : Admitted → Type 0
+HasOwnMarks a = a.1.0 ≡ program_marks (admitted_program a)

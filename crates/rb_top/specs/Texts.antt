@@ -15,6 +15,8 @@ use Rattle.rb_meaning.specs.ServiceSources.{ReadsAsService}
 use Rattle.rb_flow.specs.Program.{HasNoRefusal}
 use Rattle.rb_top.specs.FirstForm.{FirstProgram}
 use Rattle.rb_top.specs.Runs.{Served}
+use Rattle.rb_top.specs.declared.words.Way.{Way}
+use Rattle.rb_top.specs.declared.words.Way.TheVariants.{Both, Unsplit}
 
 -- The text has at most as many bytes as a text may have.
 abbrev pub WithinLength : List ℕ → Type 0
@@ -47,9 +49,14 @@ pub record IsProgram (text : List ℕ) (p : Program) : Type 0 where
 abbrev pub HasNoBatch : Program → Type 0
 HasNoBatch p = batch_count p ≡ 0
 
--- The program is of a form that is built: it has no batch, or it is of the first form.
-abbrev pub IsBuilt : Program → Type 0
-IsBuilt p = HasNoBatch p ⊎ FirstProgram p
+-- The program is run as it stands, without a script: `unsplit` does so always, and `both` where there is no batch.
+abbrev pub RunsUnsplit : Way → Program → Type 0
+RunsUnsplit Unsplit p = Unit {0}
+RunsUnsplit Both p = HasNoBatch p
+
+-- Runs of the program in this way are built: it is run as it stands, or it is of the first form.
+abbrev pub IsBuilt : Way → Program → Type 0
+IsBuilt way p = RunsUnsplit way p ⊎ FirstProgram p
 
 -- The text is this service with this table.
 abbrev pub IsService : List ℕ → Served → Type 0

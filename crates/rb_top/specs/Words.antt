@@ -1,5 +1,5 @@
--- What the words of a command ask for: `check P`, or `both P S` with a fuel or without.
-use Rattle.std.specs.Prelude.{ℕ, List, [], ◌∷◌, Bool, ◌&&◌, Option, None, Some, option_map, cond, codes, length, map, nat_lt, nat_le}
+-- What the words of a command ask for: `check P`, or `both P S` or `unsplit P S`, with a fuel or without.
+use Rattle.std.specs.Prelude.{ℕ, List, [], ◌∷◌, Bool, ◌&&◌, Option, None, Some, option_and_then, option_map, cond, codes, length, map, nat_lt, nat_le}
 use Rattle.std.specs.List.{list_all}
 use Rattle.std.specs.Str.{bytes_eq}
 use Rattle.std.specs.String.{string_bytes}
@@ -8,15 +8,18 @@ use Rattle.rb_trees.specs.Spelling.{is_digit}
 use Rattle.rb_meaning_bytes.specs.tokens.Values.{number_value}
 use Rattle.rb_top.specs.declared.words.Command.{Command}
 use Rattle.rb_top.specs.declared.words.Command.TheVariants as commands
+use Rattle.rb_top.specs.declared.words.Job.{Job}
+use Rattle.rb_top.specs.declared.words.Way.{Way}
+use Rattle.rb_top.specs.declared.words.Way.TheVariants.{Both, Unsplit}
 
 -- the bytes of each word
 abbrev pub texts : {Z : Type 0} → List (String Z) → List (List ℕ)
 texts words = map string_bytes words
 
--- what is asked for: a check of the program in a file, or its run on the service in another, with so much fuel
+-- what is asked for: a check of the program in a file, or its run in some way on the service in another, with so much fuel
 pub data Asked : Type 0 where
   Check : (p : List ℕ) → Asked
-  Both : (p s : List ℕ) (fuel : ℕ) → Asked
+  Run : (way : Way) (p s : List ℕ) (fuel : ℕ) → Asked
 
 -- the fuel of a run, where the words name none, and the most that words may name
 unfoldable pub default_fuel : ℕ
@@ -40,22 +43,31 @@ fuel_of word = cond (is_fuel word) (Some (number_value word)) None
 abbrev pub check_of : List ℕ → List ℕ → Option Asked
 check_of command p = cond (bytes_eq command (codes "check")) (Some (Check p)) None
 
-abbrev pub both_of : List ℕ → List ℕ → List ℕ → Option ℕ → Option Asked
-both_of command p s fuel = cond (bytes_eq command (codes "both")) (option_map (Both p s) fuel) None
+-- the way of a run that a word names
+abbrev pub way_of : List ℕ → Option Way
+way_of command = cond (bytes_eq command (codes "both")) (Some Both) (cond (bytes_eq command (codes "unsplit")) (Some Unsplit) None)
+
+-- what is asked for by the words of a run, if they are understood
+unfoldable pub run_of : List ℕ → List ℕ → List ℕ → Option ℕ → Option Asked
+run_of command p s fuel = option_and_then (λ way. option_map (Run way p s) fuel) (way_of command)
 
 -- what words ask for, if they are understood
 abbrev pub asked : List (List ℕ) → Option Asked
 asked (command ∷ p ∷ []) = check_of command p
-asked (command ∷ p ∷ s ∷ []) = both_of command p s (Some default_fuel)
-asked (command ∷ p ∷ s ∷ fuel ∷ []) = both_of command p s (fuel_of fuel)
+asked (command ∷ p ∷ s ∷ []) = run_of command p s (Some default_fuel)
+asked (command ∷ p ∷ s ∷ fuel ∷ []) = run_of command p s (fuel_of fuel)
 asked _ = None
 
 -- the name of the file of the program
 abbrev pub program_name : Asked → List ℕ
 program_name (Check p) = p
-program_name (Both p s fuel) = p
+program_name (Run way p s fuel) = p
 
--- what a command is
+-- what a job asks for
+abbrev pub asked_job : Job → Asked
+asked_job job = Run job.way job.program.now job.service.now job.fuel
+
+-- what a command asks for
 abbrev pub asked_by : Command → Asked
 asked_by (commands.Check p) = Check p.now
-asked_by (commands.Both p s fuel) = Both p.now s.now fuel
+asked_by (commands.Run job) = asked_job job

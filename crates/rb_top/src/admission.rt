@@ -1,23 +1,23 @@
-// Whether a typed program is admitted.
+// Admission of typed programs.
 
-ghost use Rattle.std.specs.Prelude.{IfOk};
+ghost use Rattle.std.specs.Prelude.{◌≡◌, IfOk};
+ghost use Rattle.rb_trees.specs.Outcome.{Tells};
 ghost use Rattle.rb_trees.specs.mirror.Declarations.{mirror_program};
-ghost use Rattle.rb_flow.specs.Program.{IsProgramAnswer};
+ghost use Rattle.rb_flow.specs.Admission.{refusal_of};
+ghost use Rattle.rb_flow.specs.Program.{IsAdmission};
+ghost use Rattle.rb_top.specs.Sources.{HasOwnMarks};
 
-use rb_flow::{AdmitStop, admit};
+use rb_flow::{AdmitStop, Admitted, admit};
 use rb_marks::mark;
-use rb_trees::{Memory, Refusal};
 use rb_types::Typed;
 use std::alloc::Global;
 
-/// The first refusal of a typed program by admission, or None exactly where it has none.
-pub fn first_refusal(alloc: Global, typed: &Typed) -> Result<Option<Refusal>, Memory>
-    ensures { IfOk result (IsProgramAnswer (mirror_program typed.now)) }
+/// Admits a typed program with its marks, or tells its first refusal.
+pub fn admission<'a>(alloc: Global, typed: &'a Typed) -> Result<Admitted<'a>, AdmitStop>
+    ensures admission { Tells (λ a. tt) refusal_of result (IsAdmission (mirror_program typed.now)) }
+    ensures typed { IfOk result (λ admitted. admitted.0 ≡ typed.now) }
+    ensures marks { IfOk result HasOwnMarks }
 {
     let marks = mark(alloc, typed)?;
-    match admit(alloc, typed, marks) {
-        Ok(_) => Ok(None),
-        Err(AdmitStop::Refused(refusal)) => Ok(Some(refusal)),
-        Err(AdmitStop::Memory) => Err(Memory),
-    }
+    admit(alloc, typed, marks)
 }

@@ -11,16 +11,15 @@ ghost use Rattle.rb_top.specs.FirstForm.{FirstProgram};
 ghost use Rattle.rb_top.specs.Printing.{Prints, end_text};
 ghost use Rattle.rb_top.specs.Replay.{number_line, entry_line, entry_lines, ending_by, served_of, PrintsNode, PrintsBatch};
 ghost use Rattle.rb_top.specs.Scene.{output};
-ghost use Rattle.rb_top.specs.Sources.{text_of, program_of};
+ghost use Rattle.rb_top.specs.Sources.{admitted_program};
 ghost use Rattle.rb_top.specs.Texts.{WithinLength};
 
 use crate::exchange::{ask, node_of, request_of};
 use crate::first_script::first_script;
-use crate::local_run::status_of;
 use crate::printing::{PrintStop, print_end, print_number};
-use crate::source::Source;
-use crate::status::Status;
+use crate::status::{Status, status_of};
 use rb_base::Sink;
+use rb_flow::Admitted;
 use rb_heap::Heap;
 use rb_session::MemoryLink;
 use rb_trees::{Ending, Entry, Memory, Node, NodeFault, Program, Value};
@@ -89,24 +88,17 @@ fn print_shown<W: Sink>(
 /// Prints what is shown of a node and of the table that its script left, and answers how it ended.
 fn print_node<W: Sink>(
     alloc: Global,
-    source: &Source,
+    text: &[u8],
     node: Node,
     table: &Heap,
     out: &mut W,
 ) -> Result<Status, PrintStop>
-    requires { WithinLength (text_of source.now) }
-    ensures { PrintsNode (text_of source.now) (mirror_node node) table.now result (output W.Sink out.old) (output W.Sink out.new) }
+    requires { WithinLength text.now }
+    ensures { PrintsNode text.now (mirror_node node) table.now result (output W.Sink out.old) (output W.Sink out.new) }
 {
     let Node { entries, fault } = node;
     let ending = ending_by(fault);
-    match print_shown(
-        alloc,
-        source.text.as_slice(),
-        entries.as_slice(),
-        &ending,
-        table,
-        out,
-    ) {
+    match print_shown(alloc, text, entries.as_slice(), &ending, table, out) {
         Ok(()) => Ok(status_of(ending)),
         Err(stop) => Err(stop),
     }
@@ -131,17 +123,19 @@ fn perform(alloc: Global, program: &Program, link: &mut MemoryLink) -> Result<No
 /// The lines and the ending come from the node that is exchanged for the program's script.
 pub fn run_batch<W: Sink>(
     alloc: Global,
-    source: &Source,
+    text: &[u8],
+    admitted: &Admitted<'_>,
     link: &mut MemoryLink,
     out: &mut W,
 ) -> Result<Status, PrintStop>
-    requires first { FirstProgram (program_of source.now) }
-    requires short { WithinLength (text_of source.now) }
-    ensures prints { PrintsBatch (text_of source.now) (program_of source.now) (served_of link.old.host) result (output W.Sink out.old) (output W.Sink out.new) }
-    ensures exchanges { UnlessStarved result (ExchangesOnce (program_of source.now) link.old link.new) }
+    requires first { FirstProgram (admitted_program admitted.now) }
+    requires short { WithinLength text.now }
+    ensures prints { PrintsBatch text.now (admitted_program admitted.now) (served_of link.old.host) result (output W.Sink out.old) (output W.Sink out.new) }
+    ensures exchanges { UnlessStarved result (ExchangesOnce (admitted_program admitted.now) link.old link.new) }
 {
-    match perform(alloc, source.typed.program(), link) {
-        Ok(node) => print_node(alloc, source, node, link.host().table(), out),
+    let program = admitted.typed().program();
+    match perform(alloc, program, link) {
+        Ok(node) => print_node(alloc, text, node, link.host().table(), out),
         Err(Memory) => Err(PrintStop::Memory),
     }
 }

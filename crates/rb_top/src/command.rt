@@ -3,37 +3,38 @@
 ghost use Rattle.std.specs.Prelude.{◌≡◌, ◌++◌, ℕ, Some, IfOk};
 ghost use Rattle.rb_meaning.specs.Shown.{line};
 ghost use Rattle.rb_top.specs.Answers.{Ends, Says, ChecksTold, RunsTold};
-ghost use Rattle.rb_trees.specs.mirror.Declarations.{mirror_program};
 ghost use Rattle.rb_trees.specs.mirror.Services.{mirror_service};
 ghost use Rattle.rb_meaning.specs.Links.{IsTyped};
 ghost use Rattle.rb_session.specs.MemoryLinks.{new_link};
-ghost use Rattle.rb_top.specs.Commands.{Admits, EndsBatchRefused, EndsRefused, EndsRefusedService, EndsRunOf, EndsUntyped, EndsUnread, LoadsProgram, GoesOnWith, RunsOnWith, run_answer, status_after, stopped_status};
+ghost use Rattle.rb_top.specs.Commands.{EndsBatchRefused, EndsRefused, EndsRefusedService, EndsRunOf, EndsUntyped, EndsUnread, LoadsProgram, GoesOnTyped, GoesOnWith, RunsOnWith, run_answer, status_after, stopped_status};
 ghost use Rattle.rb_top.specs.FirstForm.{FirstProgram};
 ghost use Rattle.rb_top.specs.Scene.{output, Across, Between};
-ghost use Rattle.rb_top.specs.Sources.{text_of, program_of};
+ghost use Rattle.rb_top.specs.Sources.{text_of, HasOwnMarks, admitted_program};
 ghost use Rattle.rb_top.specs.Texts.{WithinLength, IsBuilt};
 ghost use Rattle.rb_top.specs.Words.{texts, asked, asked_by};
+ghost use Rattle.rb_top.specs.declared.words.Job.{Job};
 
-use crate::admission::first_refusal;
+use crate::admission::admission;
 use crate::batch_refusals::batch_refusal_line;
 use crate::batch_run::run_batch;
 use crate::loading::{TextStop, load_text};
-use crate::local_run::run_local;
 use crate::printing::{PrintStop, print_text};
 use crate::refusals::{is_memory, is_no_violation, refusal_line, violation_line};
 use crate::service_refusals::{is_no_store_refusal, service_refusal_line};
-use crate::source::{Source, has_no_batch, is_built};
+use crate::source::{Source, is_built, runs_unsplit};
 use crate::status::{SourceError, Status};
-use crate::words::{Command, command_of};
+use crate::unsplit_run::run_unsplit;
+use crate::words::{Command, Job, command_of};
 use bytes::BytesMut;
 use rb_base::{Files, Sink};
 use rb_exec::Host;
+use rb_flow::{AdmitStop, Admitted};
 use rb_heap::Heap;
 use rb_parse::{parse_program, sources_have_one_outcome};
 use rb_session::MemoryLink;
 use rb_store::{read_service, sources_have_one_outcome_as_services};
 use rb_trees::{Memory, ReadError, Refusal, Seq, Service, StoreError, TypeError};
-use rb_types::{Typed, check as check_types};
+use rb_types::check as check_types;
 use std::alloc::{AllocError, Global};
 
 /// The status where not all was printed.
@@ -151,31 +152,7 @@ fn refuse_batch<W: Sink>(alloc: Global, text: &[u8], refusal: Refusal, out: &mut
     }
 }
 
-/// The typed program of a text, if it is admitted, or the status after it was said why it isn't.
-fn admitted_program<W: Sink>(
-    alloc: Global,
-    text: BytesMut,
-    typed: Typed,
-    out: &mut W,
-) -> Result<Source, Status>
-    requires { WithinLength text.items }
-    ensures { Across W.Sink out.old out.new (Admits text_of program_of text.items (mirror_program typed) result) }
-{
-    match first_refusal(alloc, &typed) {
-        Ok(None) => Ok(Source { text, typed }),
-        Ok(Some(refusal)) => {
-            let status = refuse_batch(alloc, text.as_slice(), refusal, out);
-            drop(typed);
-            Err(status)
-        }
-        Err(Memory) => {
-            drop(typed);
-            Err(Status::Memory)
-        }
-    }
-}
-
-/// The admitted program in a file, or the status after it was said why there is none.
+/// The typed program in a file, or the status after it was said why there is none.
 fn loaded_program<F: Files, W: Sink>(
     alloc: Global,
     name: &str,
@@ -183,7 +160,7 @@ fn loaded_program<F: Files, W: Sink>(
     out: &mut W,
 ) -> Result<Source, Status>
     ensures short { IfOk result (λ source. WithinLength (text_of source)) }
-    ensures loads { Between F.Files W.Sink files.old out.old files.new out.new (LoadsProgram text_of program_of name.now result) }
+    ensures loads { Between F.Files W.Sink files.old out.old files.new out.new (LoadsProgram name.now result) }
 {
     match load_text(alloc, name, files) {
         Err(stop) => Err(say_unread(alloc, stop, name, out)),
@@ -193,7 +170,7 @@ fn loaded_program<F: Files, W: Sink>(
                 Err(error) => Err(refuse(alloc, source, error, out)),
                 Ok(program) => match check_types(alloc, program) {
                     Err(error) => Err(refuse_types(alloc, source, error, out)),
-                    Ok(typed) => admitted_program(alloc, text, typed, out),
+                    Ok(typed) => Ok(Source { text, typed }),
                 },
             }
         }
@@ -236,84 +213,93 @@ fn link_to(alloc: Global, service: Service, table: Heap) -> Result<MemoryLink, M
 /// Runs a program of the first form over a link to a server with a service and its table.
 fn run_there<W: Sink>(
     alloc: Global,
-    source: &Source,
+    text: &[u8],
+    admitted: &Admitted<'_>,
     service: Service,
     table: Heap,
     out: &mut W,
 ) -> Status
-    requires first { FirstProgram (program_of source.now) }
+    requires first { FirstProgram (admitted_program admitted.now) }
     requires typed { IsTyped (mirror_service service) table }
-    requires short { WithinLength (text_of source.now) }
-    ensures { (fuel : ℕ) → Across W.Sink out.old out.new (EndsRunOf source.now fuel (mirror_service service, table) result) }
+    requires short { WithinLength text.now }
+    ensures { (job : Job) → Across W.Sink out.old out.new (EndsRunOf text.now admitted.now job (mirror_service service, table) result) }
 {
     match link_to(alloc, service, table) {
-        Ok(mut link) => run_answer(run_batch(alloc, source, &mut link, out)),
+        Ok(mut link) => run_answer(run_batch(alloc, text, admitted, &mut link, out)),
         Err(Memory) => Status::Memory,
     }
 }
 
-/// Runs a program on a service and its table with so much fuel, and prints what it means there.
+/// Runs a program on a service and its table as a job asks, and prints what it means there.
 fn run_program<W: Sink>(
     alloc: Global,
-    source: &Source,
+    text: &[u8],
+    admitted: &Admitted<'_>,
+    job: &Job,
     service: Service,
     table: Heap,
-    fuel: u64,
     out: &mut W,
 ) -> Status
-    requires built { IsBuilt (program_of source.now) }
+    requires built { IsBuilt job.now.way (admitted_program admitted.now) }
+    requires marks { HasOwnMarks admitted.now }
     requires typed { IsTyped (mirror_service service) table }
-    requires short { WithinLength (text_of source.now) }
-    ensures { Across W.Sink out.old out.new (EndsRunOf source.now fuel (mirror_service service, table) result) }
+    requires short { WithinLength text.now }
+    ensures { Across W.Sink out.old out.new (EndsRunOf text.now admitted.now job.now (mirror_service service, table) result) }
 {
-    if has_no_batch(&source.typed) {
-        run_answer(run_local(alloc, source, &table, fuel, out))
+    if runs_unsplit(job.way, admitted) {
+        let ran = run_unsplit(alloc, text, admitted, &service, table, job.fuel, out);
+        run_answer(ran)
     } else {
-        run_there(alloc, source, service, table, out)
+        run_there(alloc, text, admitted, service, table, out)
     }
 }
 
-/// Runs a program on the service in a file, with so much fuel.
+/// Runs a program as a job asks, on the service in its file.
 fn run_on<F: Files, W: Sink>(
     alloc: Global,
-    source: &Source,
-    name: &str,
-    fuel: u64,
+    text: &[u8],
+    admitted: &Admitted<'_>,
+    job: &Job,
     files: &mut F,
     out: &mut W,
 ) -> Status
-    requires built { IsBuilt (program_of source.now) }
-    requires short { WithinLength (text_of source.now) }
-    ensures { Between F.Files W.Sink files.old out.old files.new out.new (RunsOnWith source.now name.now fuel result) }
+    requires built { IsBuilt job.now.way (admitted_program admitted.now) }
+    requires marks { HasOwnMarks admitted.now }
+    requires short { WithinLength text.now }
+    ensures { Between F.Files W.Sink files.old out.old files.new out.new (RunsOnWith text.now admitted.now job.now result) }
 {
-    match load_text(alloc, name, files) {
-        Err(stop) => say_unread(alloc, stop, name, out),
-        Ok(text) => {
-            let other = text.as_slice();
+    match load_text(alloc, job.service, files) {
+        Err(stop) => say_unread(alloc, stop, job.service, out),
+        Ok(other_text) => {
+            let other = other_text.as_slice();
             match read_service(alloc, other) {
                 Err(error) => refuse_service(alloc, other, error, out),
-                Ok((service, table)) => run_program(alloc, source, service, table, fuel, out),
+                Ok((service, table)) => {
+                    run_program(alloc, text, admitted, job, service, table, out)
+                }
             }
         }
     }
 }
 
 /// Carries out the rest of a command, once its program is known to be admitted.
-fn go_on<F: Files, W: Sink>(
+fn fulfil<F: Files, W: Sink>(
     alloc: Global,
-    source: &Source,
+    text: &[u8],
+    admitted: &Admitted<'_>,
     command: &Command,
     files: &mut F,
     out: &mut W,
 ) -> Status
-    requires { WithinLength (text_of source.now) }
-    ensures { Between F.Files W.Sink files.old out.old files.new out.new (GoesOnWith source.now (asked_by command.now) result) }
+    requires marks { HasOwnMarks admitted.now }
+    requires short { WithinLength text.now }
+    ensures { Between F.Files W.Sink files.old out.old files.new out.new (GoesOnWith text.now admitted.now (asked_by command.now) result) }
 {
     match command {
         Command::Check(_) => say(Status::Done, b"admitted\n", out),
-        Command::Both(_, service, fuel) => {
-            if is_built(&source.typed) {
-                run_on(alloc, source, service, *fuel, files, out)
+        Command::Run(job) => {
+            if is_built(job.way, admitted) {
+                run_on(alloc, text, admitted, job, files, out)
             } else {
                 say(
                     Status::SourceRefused(SourceError::NotBuilt),
@@ -322,6 +308,25 @@ fn go_on<F: Files, W: Sink>(
                 )
             }
         }
+    }
+}
+
+/// Carries out the rest of a command, once its program is known to be typed: it is admitted first.
+fn go_on<F: Files, W: Sink>(
+    alloc: Global,
+    source: &Source,
+    command: &Command,
+    files: &mut F,
+    out: &mut W,
+) -> Status
+    requires { WithinLength (text_of source.now) }
+    ensures { Between F.Files W.Sink files.old out.old files.new out.new (GoesOnTyped source.now (asked_by command.now) result) }
+{
+    let text = source.text.as_slice();
+    match admission(alloc, &source.typed) {
+        Ok(admitted) => fulfil(alloc, text, &admitted, command, files, out),
+        Err(AdmitStop::Refused(refusal)) => refuse_batch(alloc, text, refusal, out),
+        Err(AdmitStop::Memory) => Status::Memory,
     }
 }
 

@@ -10,6 +10,7 @@ ghost use Rattle.rb_top.specs.Texts.{WithinLength};
 
 use rb_base::{Failed, Sink, write_whole};
 use rb_heap::Heap;
+use rb_plain::PlainStop;
 use rb_shown::{ending_line, exchanges_line};
 use rb_store::print_table;
 use rb_trees::{Ending, Memory};
@@ -52,6 +53,20 @@ impl From<Memory> for PrintStop {
 
     fn from(_want: Memory) -> PrintStop {
         PrintStop::Memory
+    }
+}
+
+impl From<PlainStop> for PrintStop {
+    ghost use Rattle.std.specs.Prelude.{◌≡◌};
+    ghost use Rattle.rb_top.specs.Printing.{stop_of};
+
+    ghost from_gives = { λ stop e. e ≡ stop_of stop };
+
+    fn from(stop: PlainStop) -> PrintStop {
+        match stop {
+            PlainStop::WriteFault => PrintStop::WriteFault,
+            PlainStop::Memory => PrintStop::Memory,
+        }
     }
 }
 

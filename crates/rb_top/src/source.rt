@@ -1,30 +1,35 @@
-// Admitted programs, and whether they are run.
+// Typed programs as they were loaded, and whether admitted ones are run.
 
-ghost use Rattle.rb_trees.specs.mirror.Declarations.{mirror_program};
 ghost use Rattle.std.specs.Prelude.{Decides};
-ghost use Rattle.rb_top.specs.Texts.{HasNoBatch, IsBuilt};
+ghost use Rattle.rb_top.specs.Sources.{admitted_program};
+ghost use Rattle.rb_top.specs.Texts.{RunsUnsplit, IsBuilt};
 
 use crate::first_form::is_first_program;
+use crate::words::Way;
 use bytes::BytesMut;
+use rb_flow::Admitted;
 use rb_types::Typed;
 
-/// A typed program that is admitted, with the text that it was read from.
+/// A typed program, with the text that it was read from.
 #[derive(Drop)]
 pub struct Source {
     pub text: BytesMut,
     pub typed: Typed,
 }
 
-/// Whether a program has no batch.
-pub fn has_no_batch(typed: &Typed) -> bool
-    ensures { Decides result (HasNoBatch (mirror_program typed.now)) }
+/// Whether a program is run as it stands: that is asked, or it has no batch.
+pub fn runs_unsplit(way: Way, admitted: &Admitted<'_>) -> bool
+    ensures { Decides result (RunsUnsplit way (admitted_program admitted.now)) }
 {
-    typed.batches() == 0
+    match way {
+        Way::Unsplit => true,
+        Way::Both => admitted.typed().batches() == 0,
+    }
 }
 
-/// Whether a program is of a form that is built: it has no batch, or it is of the first form.
-pub fn is_built(typed: &Typed) -> bool
-    ensures { Decides result (IsBuilt (mirror_program typed.now)) }
+/// Whether runs of a program in a way are built: it is run as it stands, or it is of the first form.
+pub fn is_built(way: Way, admitted: &Admitted<'_>) -> bool
+    ensures { Decides result (IsBuilt way (admitted_program admitted.now)) }
 {
-    has_no_batch(typed) || is_first_program(typed.program())
+    runs_unsplit(way, admitted) || is_first_program(admitted.typed().program())
 }

@@ -2,8 +2,9 @@
 
 ghost use Rattle.std.specs.Prelude.{◌≡◌};
 ghost use Rattle.rb_top.specs.Codes.{code_of};
+ghost use Rattle.rb_top.specs.Runs.{ended_status};
 
-use rb_trees::{Fault, ReadError, Refusal, StoreError, TypeError, Word};
+use rb_trees::{Ending, Fault, ReadError, Refusal, StoreError, TypeError, Word};
 use thiserror::Error;
 
 /// Why a program's text is refused.
@@ -59,5 +60,15 @@ impl Status {
             Status::Memory => 10,
             Status::FileTooLong(_) => 13,
         }
+    }
+}
+
+/// The status of how a program ended.
+pub fn status_of(ending: Ending) -> Status
+    ensures { result ≡ ended_status ending }
+{
+    match ending {
+        Ending::Done(_) => Status::Done,
+        Ending::Faulted(fault, at) => Status::Faulted(fault, at),
     }
 }

@@ -2,20 +2,39 @@
 
 ghost use Rattle.std.specs.Prelude.{◌≡◌};
 ghost use Rattle.std.specs.Option.{option_map};
-ghost use Rattle.rb_top.specs.Words.{texts, asked, asked_by, program_name, check_of, both_of, default_fuel};
+ghost use Rattle.rb_top.specs.Words.{texts, asked, asked_by, program_name, check_of, run_of, way_of, default_fuel};
 
 use crate::fuel::fuel_of;
 
 /// The fuel of a run, where the words name none.
 const DEFAULT_FUEL: u64 = 1_000_000;
 
+/// How a program is run.
+#[derive(Clone, Copy, Drop)]
+pub enum Way {
+    /// `both`: the script of a batch goes over a link.
+    Both,
+    /// `unsplit`: each remote operation is performed where it stands.
+    Unsplit,
+}
+
+/// A run that is asked for: the way, the names of the files of the program and of the service, and the fuel.
+#[derive(Drop)]
+pub struct Job<'w> {
+    pub way: Way,
+    pub program: &'w str,
+    pub service: &'w str,
+    pub fuel: u64,
+}
+
 /// A command that was understood, with the names of its files.
 #[derive(Drop)]
 pub enum Command<'w> {
-    /// `check P`: says whether the program in the file P is typed.
+    /// `check P`: says whether the program in the file P is admitted.
     Check(&'w str),
-    /// `both P S [FUEL]`: runs the program in the file P on the service in the file S, with so much fuel.
-    Both(&'w str, &'w str, u64),
+    /// `both P S [FUEL]` and `unsplit P S [FUEL]`: runs the program in the file P on the service in the file S, with so much
+    /// fuel.
+    Run(Job<'w>),
 }
 
 impl Command<'_> {
@@ -25,7 +44,7 @@ impl Command<'_> {
     {
         match self {
             Command::Check(program) => program,
-            Command::Both(program, _, _) => program,
+            Command::Run(job) => job.program,
         }
     }
 }
@@ -41,22 +60,37 @@ fn check_command<'w>(command: &str, program: &'w str) -> Option<Command<'w>>
     }
 }
 
+/// The way of a run that a word names.
+fn way_of(word: &str) -> Option<Way>
+    ensures { result ≡ way_of word.now }
+{
+    if word == "both" {
+        Some(Way::Both)
+    } else if word == "unsplit" {
+        Some(Way::Unsplit)
+    } else {
+        None
+    }
+}
+
 /// The command of three words, or of four, of which the last names a fuel.
-fn both_command<'w>(
+#[tactic(auto, unfolding(crate::specs::Words::run_of))]
+fn run_command<'w>(
     command: &str,
     program: &'w str,
     service: &'w str,
     fuel: Option<u64>,
 ) -> Option<Command<'w>>
-    ensures { option_map asked_by result ≡ both_of command.now program.now service.now fuel }
+    ensures { option_map asked_by result ≡ run_of command.now program.now service.now fuel }
 {
-    if command == "both" {
-        match fuel {
-            Some(fuel) => Some(Command::Both(program, service, fuel)),
-            None => None,
-        }
-    } else {
-        None
+    match (way_of(command), fuel) {
+        (Some(way), Some(fuel)) => Some(Command::Run(Job {
+            way,
+            program,
+            service,
+            fuel,
+        })),
+        _ => None,
     }
 }
 
@@ -67,13 +101,13 @@ pub fn command_of(words: &[String]) -> Option<Command<'_>>
 {
     match words {
         [command, program] => check_command(command.as_str(), program.as_str()),
-        [command, program, service] => both_command(
+        [command, program, service] => run_command(
             command.as_str(),
             program.as_str(),
             service.as_str(),
             Some(DEFAULT_FUEL),
         ),
-        [command, program, service, fuel] => both_command(
+        [command, program, service, fuel] => run_command(
             command.as_str(),
             program.as_str(),
             service.as_str(),

@@ -41,6 +41,34 @@ fn missing_files_are_named_in_order(rt: HostRuntime) -> Result<(), Fail> {
 }
 
 #[test]
+fn unsplit_reads_a_service_for_each_admitted_program(rt: HostRuntime) -> Result<(), Fail> {
+    for (program, service, wanted) in [
+        (None, None, "3 file fault p\n"),
+        (Some(PROGRAM), None, "3 file fault s\n"),
+        (Some(OTHER), None, "3 file fault s\n"),
+        (Some("main { }"), None, "3 file fault s\n"),
+        (Some("$"), Some(SERVICE), "4 lex 1 BadByte at 1:1\n"),
+        (
+            Some("interface D { fun n(): Int; } main { batch (D r) { print(r); } }"),
+            Some(SERVICE),
+            "5 refused 4 Escapes 1:58\n",
+        ),
+        (
+            Some(OTHER),
+            Some("$"),
+            "6 service lex 1 BadByte at 1:1\n",
+        ),
+    ] {
+        let files = files_of(rt.alloc(), program, service)?;
+        assert_eq!(rt;
+            answer(rt.alloc(), "unsplit p s", files)?.as_str(),
+            wanted
+        );
+    }
+    Ok(())
+}
+
+#[test]
 fn no_service_is_read_without_a_program(rt: HostRuntime) -> Result<(), Fail> {
     let alloc = rt.alloc();
     let words = words_of(alloc, "both p s")?;
@@ -62,7 +90,7 @@ fn no_service_is_read_without_a_program(rt: HostRuntime) -> Result<(), Fail> {
 
 /// Words that are no command.
 const OTHER_WORDS: &str =
-    "both p,both,Both p s,both p s s,p both s,check,check p s,Check p,both p s 1000000001,both p s 01000000000,both p s -1,both p s 1x,check p 1,both p s 1 2";
+    "both p,both,Both p s,both p s s,p both s,check,check p s,Check p,both p s 1000000001,both p s 01000000000,both p s -1,both p s 1x,check p 1,both p s 1 2,unsplit,unsplit p,Unsplit p s,p unsplit s,unsplit p s s,unsplit p s 1 2";
 
 #[test]
 fn other_words_are_not_understood(rt: HostRuntime) -> Result<(), Fail> {

@@ -1,5 +1,5 @@
 use Rattle.std.proofs.Common.{Some, sym, ap, subst}
-use Rattle.rb_top.specs.Loads.{HoldsProgram}
+use Rattle.rb_top.specs.Loads.{HoldsTyped}
 use Rattle.rb_top.specs.Sources.{text_of, program_of}
 use Rattle.rb_top.specs.Words.{asked_by}
 use Rattle.rb_top.proofs.Said.{says_from}
@@ -12,4 +12,4 @@ pub returns-in-Ok : goal.returns-in-Ok
 returns-in-Ok g c =
     says_from (Some (asked_by c.args.command.now)) c.go_on-status.result _ _ _ c.in-Ok.ensures.loads.1
     (c.go_on-status.ensures _ (ap (λ s. s.files) c.in-Ok.ensures.loads.1)
-    (subst (λ p. HoldsProgram (g.F.Files.told c.args.files.now) p (text_of c.in-Ok.source) (program_of c.in-Ok.source)) c.program.ensures c.in-Ok.ensures.loads.0))
+    (subst (λ p. HoldsTyped (g.F.Files.told c.args.files.now) p (text_of c.in-Ok.source) (program_of c.in-Ok.source)) c.program.ensures c.in-Ok.ensures.loads.0))

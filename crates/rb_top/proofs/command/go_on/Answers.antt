@@ -1,25 +1,22 @@
-use Rattle.std.proofs.Common.{refl, sym, subst}
-use Rattle.rb_top.specs.Commands.{GoesOn}
-use Rattle.rb_top.specs.Scene.{outside}
-use Rattle.rb_top.specs.Sources.{text_of, program_of}
-use Rattle.rb_top.specs.Texts.{IsBuilt}
+use Rattle.std.proofs.Common.{refl, subst}
+use Rattle.rb_trees.specs.mirror.Declarations.{mirror_program}
+use Rattle.rb_top.specs.Commands.{EndsBatchRefused, GoesOn}
+use Rattle.rb_top.specs.Scene.{output, outside}
+use Rattle.rb_top.specs.Sources.{program_of}
 use Rattle.rb_top.specs.Words.{asked_by}
-use Rattle.rb_top.proofs.FormTests.{not_decided}
-use Rattle.rb_top.proofs.Said.{goes_check, goes_form}
+use Rattle.rb_top.proofs.Said.{goes_admitted, goes_refused, goes_starved}
 use Rattle.rb_top.proofs.command.go_on.Goals as goal
 
-pub returns-in-Check : goal.returns-in-Check
-returns-in-Check g c =
-    subst (λ k. GoesOn (text_of c.args.source.now) (program_of c.args.source.now) (asked_by k) c.say.result (outside g.F.Files g.W.Sink c.args.files.now c.args.out.now) (outside g.F.Files g.W.Sink c.args.files.now c.say.new.out)) (sym c.in-Check.is)
-    (goes_check (text_of c.args.source.now) c.in-Check.field-0.now (program_of c.args.source.now) c.say.result _ _ c.say.ensures refl)
+pub returns-in-Ok : goal.returns-in-Ok
+returns-in-Ok g c =
+    goes_admitted c.args.source.now (asked_by c.args.command.now) c.fulfil.result _ _ c.in-Ok.ensures.admission
+    (subst (λ t. GoesOn t (program_of c.args.source.now) (asked_by c.args.command.now) c.fulfil.result (outside g.F.Files g.W.Sink c.args.files.now c.args.out.now) (outside g.F.Files g.W.Sink c.fulfil.new.files c.fulfil.new.out)) c.as_slice-text.ensures
+    (subst (λ q. GoesOn c.as_slice-text.result.now (mirror_program q) (asked_by c.args.command.now) c.fulfil.result (outside g.F.Files g.W.Sink c.args.files.now c.args.out.now) (outside g.F.Files g.W.Sink c.fulfil.new.files c.fulfil.new.out)) c.in-Ok.ensures.typed c.fulfil.ensures))
 
-pub returns-then-is_built : goal.returns-then-is_built
-returns-then-is_built g c =
-    subst (λ k. GoesOn (text_of c.args.source.now) (program_of c.args.source.now) (asked_by k) c.run_on.result (outside g.F.Files g.W.Sink c.args.files.now c.args.out.now) (outside g.F.Files g.W.Sink c.run_on.new.files c.run_on.new.out)) (sym c.in-Both.is)
-    (c.run_on.ensures c.in-Both.field-0.now)
+pub returns-in-Err-Refused : goal.returns-in-Err-Refused
+returns-in-Err-Refused g c =
+    goes_refused c.args.source.now (asked_by c.args.command.now) c.in-Err-Refused.refusal c.refuse_batch.result _ _ (rw c.in-Err-Refused.field-0-is at c.in-Err-Refused.ensures.admission)
+    (subst (λ t. EndsBatchRefused t c.in-Err-Refused.refusal c.refuse_batch.result (output g.W.Sink c.args.out.now) (output g.W.Sink c.refuse_batch.new.out)) c.as_slice-text.ensures c.refuse_batch.ensures) refl
 
-pub returns-else-is_built : goal.returns-else-is_built
-returns-else-is_built g c =
-    subst (λ k. GoesOn (text_of c.args.source.now) (program_of c.args.source.now) (asked_by k) c.say-else-is_built.result (outside g.F.Files g.W.Sink c.args.files.now c.args.out.now) (outside g.F.Files g.W.Sink c.args.files.now c.say-else-is_built.new.out)) (sym c.in-Both.is)
-    (goes_form (text_of c.args.source.now) c.in-Both.field-0.now c.in-Both.service.now c.in-Both.fuel (program_of c.args.source.now) c.say-else-is_built.result _ _
-    (not_decided c.is_built.result (IsBuilt (program_of c.args.source.now)) c.is_built.ensures c.if-is_built.false) c.say-else-is_built.ensures refl)
+pub returns-in-Err-Memory : goal.returns-in-Err-Memory
+returns-in-Err-Memory g c = goes_starved c.args.source.now (asked_by c.args.command.now) (outside g.F.Files g.W.Sink c.args.files.now c.args.out.now)

@@ -1,11 +1,10 @@
-use Rattle.std.proofs.Common.{refl, sym, subst}
+use Rattle.std.proofs.Common.{Ok, refl, sym, subst}
 use Rattle.std.specs.Prelude.{IsTrue}
 use Rattle.std.specs.Result.{is_ok}
 use Rattle.rb_trees.specs.mirror.Declarations.{mirror_program}
-use Rattle.rb_top.specs.Commands.{Admits}
+use Rattle.rb_meaning_bytes.specs.grammar.Sources.{ReadSource}
+use Rattle.rb_meaning_types.specs.Programs.{is_typed}
 use Rattle.rb_top.specs.Loads.{HoldsText}
-use Rattle.rb_top.specs.Scene.{output}
-use Rattle.rb_top.specs.Sources.{text_of, program_of}
 use Rattle.rb_top.proofs.Said.{program_unread, program_not_read, program_not_typed, program_loaded}
 use Rattle.rb_top.proofs.command.loaded_program.Goals as goal
 
@@ -24,9 +23,8 @@ returns-in-Err-check_types-clause-loads g c = λ a n.
 
 pub returns-in-Ok-check_types-clause-loads : goal.returns-in-Ok-check_types-clause-loads
 returns-in-Ok-check_types-clause-loads g c =
-    program_loaded text_of program_of c.args.name.now c.as_slice-source.result.now (mirror_program c.in-Ok-parse_program.program) c.admitted_program.result _ _
-    (subst (HoldsText _ c.args.name.now) (sym c.as_slice-source.ensures) c.in-Ok.ensures.0).0
-    c.in-Ok-parse_program.ensures.read (subst (λ o. IsTrue (is_ok o)) (sym c.in-Ok-check_types.ensures.gives) refl)
-    (subst (λ t. Admits text_of program_of t (mirror_program c.in-Ok-parse_program.program) c.admitted_program.result (output g.W.Sink c.args.out.now) (output g.W.Sink c.admitted_program.new.out)) (sym c.as_slice-source.ensures)
-    (subst (λ q. Admits text_of program_of c.in-Ok.text.items (mirror_program q) c.admitted_program.result (output g.W.Sink c.args.out.now) (output g.W.Sink c.admitted_program.new.out)) c.in-Ok-check_types.ensures.same c.admitted_program.ensures))
-    c.in-Ok.ensures.1
+    program_loaded c.args.name.now (record { text = c.in-Ok.text; typed = c.in-Ok-check_types.typed }) _ _ c.in-Ok.ensures.0.0
+    (subst (λ q. ReadSource c.in-Ok.text.items (Ok (mirror_program q))) (sym c.in-Ok-check_types.ensures.same)
+    (subst (λ t. ReadSource t (Ok (mirror_program c.in-Ok-parse_program.program))) c.as_slice-source.ensures c.in-Ok-parse_program.ensures.read))
+    (subst (λ q. IsTrue (is_typed (mirror_program q))) (sym c.in-Ok-check_types.ensures.same) (subst (λ o. IsTrue (is_ok o)) (sym c.in-Ok-check_types.ensures.gives) refl))
+    c.in-Ok.ensures.1 refl

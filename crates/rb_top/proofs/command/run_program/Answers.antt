@@ -1,21 +1,19 @@
 use Rattle.rb_trees.specs.mirror.Services.{mirror_service}
-use Rattle.rb_top.specs.Sources.{text_of, program_of}
-use Rattle.rb_top.specs.Texts.{HasNoBatch}
-use Rattle.rb_top.proofs.Ended.{local_ended, is_first}
+use Rattle.rb_top.specs.Sources.{admitted_program}
+use Rattle.rb_top.specs.Texts.{RunsUnsplit}
+use Rattle.rb_top.proofs.Ended.{unsplit_ended, is_first}
 use Rattle.rb_top.proofs.FormTests.{not_decided}
 use Rattle.rb_top.proofs.command.run_program.Goals as goal
 
-pub run_local-requires-clause-no_batch : goal.run_local-requires-clause-no_batch
-run_local-requires-clause-no_batch g c = c.has_no_batch.ensures.0 c.if-has_no_batch.true
-
 pub run_there-requires-clause-first : goal.run_there-requires-clause-first
 run_there-requires-clause-first g c =
-    is_first (program_of c.args.source.now) (not_decided c.has_no_batch.result (HasNoBatch (program_of c.args.source.now)) c.has_no_batch.ensures c.if-has_no_batch.false) c.requires.built
+    is_first c.args.job.now.way (admitted_program c.args.admitted.now)
+    (not_decided c.runs_unsplit.result (RunsUnsplit c.args.job.now.way (admitted_program c.args.admitted.now)) c.runs_unsplit.ensures c.if-runs_unsplit.false) c.requires.built
 
-pub returns-then-has_no_batch : goal.returns-then-has_no_batch
-returns-then-has_no_batch g c =
-    local_ended (text_of c.args.source.now) c.args.fuel (program_of c.args.source.now) (mirror_service c.args.service, c.args.table) c.run_local.result c.run_answer.result _ _
-    (c.has_no_batch.ensures.0 c.if-has_no_batch.true) c.run_answer.ensures (c.run_local.ensures (mirror_service c.args.service))
+pub returns-then-runs_unsplit : goal.returns-then-runs_unsplit
+returns-then-runs_unsplit g c =
+    unsplit_ended c.args.text.now (admitted_program c.args.admitted.now) c.args.job.now (mirror_service c.args.service, c.args.table) c.run_unsplit-ran.result c.run_answer.result _ _
+    (c.runs_unsplit.ensures.0 c.if-runs_unsplit.true) c.run_answer.ensures c.run_unsplit-ran.ensures
 
-pub returns-else-has_no_batch : goal.returns-else-has_no_batch
-returns-else-has_no_batch g c = c.run_there.ensures c.args.fuel
+pub returns-else-runs_unsplit : goal.returns-else-runs_unsplit
+returns-else-runs_unsplit g c = c.run_there.ensures c.args.job.now
