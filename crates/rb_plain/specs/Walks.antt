@@ -1,0 +1,116 @@
+-- What is remote in the statements of a batch, as the code performs it.
+use Rattle.std.specs.Prelude.{◌≡◌, ℕ, List, [], length, take, cond, OnOk, Result, Ok, Err}
+use Rattle.rb_trees.specs.declared.values.Value.{Value, out-Value}
+use Rattle.rb_trees.specs.declared.code.Expr as expr
+use Rattle.rb_trees.specs.declared.code.Stmt as stmt
+use Rattle.rb_trees.specs.mirror.Code as code
+use Rattle.rb_trees.specs.mirror.Code.{Stmt, mirror_expr, mirror_stmt, mirror_stmts}
+use Rattle.rb_meaning_code.specs.State.{Names}
+use Rattle.rb_meaning_code.specs.Remote.{Server, Stopped, and_then, replies, rows_in}
+use Rattle.rb_meaning_code.specs.Statements.{truth_of}
+use Rattle.rb_meaning_flow.specs.declared.scopes.Role.{Role}
+use Rattle.rb_meaning_flow.specs.Facts.{facts_of}
+use Rattle.rb_meaning_flow.specs.Scopes.{Scope, with_variable}
+use Rattle.rb_meaning_flow.specs.Sites.{scope_after, val_role}
+use Rattle.rb_meaning.specs.RemotePart as part
+use Rattle.rb_meaning.specs.RemotePart.{Rest, ended, skims, turns, walk, walk_block, with_name}
+use Rattle.rb_engine.specs.declared.misses.Miss.{Miss}
+use Rattle.rb_engine.specs.declared.misses.Miss.TheVariants as miss
+use Rattle.rb_plain.specs.Parts.{part_meant}
+use Rattle.rb_plain.specs.Remote.{SameStage, Unstarved, value_meant}
+use Rattle.rb_plain.specs.Staged.{Staged, program_of, service_of}
+use Rattle.rb_plain.specs.declared.remote_world.RemoteWorld.{RemoteWorld}
+use Rattle.rb_plain.specs.declared.walk.Loop.{Loop}
+
+-- what statements mean before whatever follows them
+abbrev pub Meaning : Type 0
+Meaning = Rest → part.Walked
+
+-- Statements did what they mean, whatever follows them: that is gone on with, with these names and this server; or a fault
+-- ended the walk. Nothing is said after want of memory.
+abbrev pub Does : Meaning → Result (Unit {0}) Miss → Names → Server → Type 0
+Does meaning (Ok u) names s = (go : Rest) → meaning go ≡ go names s
+Does meaning (Err (miss.Fault at f)) names s = (go : Rest) → meaning go ≡ Stopped at f s
+Does meaning (Err miss.Memory) names s = Unit {0}
+
+-- The list was only added to.
+abbrev pub Kept : {A : Type 0} → List A → List A → Type 0
+Kept before after = take (length before) after ≡ before
+
+-- what performing statements ensures: they did what they mean, names were only added, and the stage stays
+pub record Walked (meaning : Meaning) (old : Names) (result : Result (Unit {0}) Miss) (before : RemoteWorld) (new : Names) (after : RemoteWorld) : Type 0 where
+  pub does : Does meaning result new after.server
+  pub names_so : OnOk result (Kept old new)
+  pub stage_so : Unstarved result (SameStage before after)
+
+-- a `val` that is carried
+abbrev pub carried_meant : RemoteWorld → List ℕ → expr.Expr → Names → Meaning
+carried_meant w name e names go = and_then (value_meant w.stage e names w.server) (λ v s. go (with_name name v names) s)
+
+-- a statement of which only the remote expressions are performed
+abbrev pub skim_meant : RemoteWorld → Scope → Stmt → Names → Meaning
+skim_meant w scope s names go = skims (program_of w.stage) (service_of w.stage) scope s names w.server go
+
+-- a variable that isn't carried
+abbrev pub plain_meant : RemoteWorld → Scope → expr.Expr → Names → Meaning
+plain_meant w scope e names go = and_then (part_meant w scope e names) (λ u s. go names s)
+
+-- a statement of a form
+abbrev pub form_meant : RemoteWorld → Scope → Stmt → Names → Meaning
+form_meant w scope s names go = walk (program_of w.stage) (service_of w.stage) scope s names w.server go
+
+abbrev pub val_meant : RemoteWorld → Scope → ℕ → List ℕ → expr.Expr → Names → Meaning
+val_meant w scope at name e names go = form_meant w scope (code.Val at name (mirror_expr e)) names go
+
+abbrev pub if_meant : RemoteWorld → Scope → ℕ → expr.Expr → List stmt.Stmt → List stmt.Stmt → Names → Meaning
+if_meant w scope at c a b names go = form_meant w scope (code.If at (mirror_expr c) (mirror_stmts a) (mirror_stmts b)) names go
+
+abbrev pub for_meant : RemoteWorld → Scope → Loop → expr.Expr → Names → Meaning
+for_meant w scope l e names go = form_meant w scope (code.For l.at l.name.now (mirror_expr e) (mirror_stmts l.block.now)) names go
+
+abbrev pub stmt_meant : RemoteWorld → Scope → stmt.Stmt → Names → Meaning
+stmt_meant w scope s names go = form_meant w scope (mirror_stmt s) names go
+
+abbrev pub stmts_meant : RemoteWorld → Scope → List stmt.Stmt → Names → Meaning
+stmts_meant w scope ss names go = walk_block (program_of w.stage) (service_of w.stage) scope (mirror_stmts ss) names w.server go
+
+-- a block to its end, with the server that it begins with
+abbrev pub block_from : Staged → Scope → List stmt.Stmt → Names → Server → part.Walked
+block_from st scope ss names s = walk_block (program_of st) (service_of st) scope (mirror_stmts ss) names s ended
+
+abbrev pub block_meant : RemoteWorld → Scope → List stmt.Stmt → Names → part.Walked
+block_meant w scope ss names = block_from w.stage scope ss names w.server
+
+-- an `if` whose condition is carried
+abbrev pub branch_meant : RemoteWorld → Scope → ℕ → expr.Expr → List stmt.Stmt → List stmt.Stmt → Names → Meaning
+branch_meant w scope at c a b names go =
+    and_then (value_meant w.stage c names w.server) (λ v s1.
+    and_then (replies at (truth_of (out-Value v)) s1) (λ holds s2.
+    and_then (cond holds (block_from w.stage scope a names s2) (block_from w.stage scope b names s2)) (λ u s3. go names s3)))
+
+-- the block of a turn, with its row bound
+abbrev pub turn_from : Staged → Scope → Loop → Names → Value → Server → part.Walked
+turn_from st scope l names row s = block_from st (with_variable scope l.name.now Role.Row l.at) l.block.now (with_name l.name.now row names) s
+
+abbrev pub turn_meant : RemoteWorld → Scope → Loop → Names → Value → part.Walked
+turn_meant w scope l names row = turn_from w.stage scope l names row w.server
+
+abbrev pub turns_from : Staged → Scope → Loop → Names → List Value → Server → part.Walked
+turns_from st scope l names rows s = turns l.at (turn_from st scope l names) rows s
+
+abbrev pub turns_meant : RemoteWorld → Scope → Loop → Names → List Value → part.Walked
+turns_meant w scope l names rows = turns_from w.stage scope l names rows w.server
+
+-- a loop over rows
+abbrev pub rows_meant : RemoteWorld → Scope → Loop → expr.Expr → Names → Meaning
+rows_meant w scope l e names go =
+    and_then (value_meant w.stage e names w.server) (λ v s1.
+    and_then (replies l.at (rows_in (out-Value v)) s1) (λ rows s2.
+    and_then (turns_from w.stage scope l names rows s2) (λ u s3. go names s3)))
+
+-- the variables in scope after a statement
+abbrev pub scope_behind : RemoteWorld → Scope → stmt.Stmt → Scope
+scope_behind w scope s = scope_after (facts_of (program_of w.stage)) [] scope (mirror_stmt s)
+
+abbrev pub val_scope : RemoteWorld → Scope → ℕ → List ℕ → expr.Expr → Scope
+val_scope w scope at name e = with_variable scope name (val_role (facts_of (program_of w.stage)) [] scope (mirror_expr e)) at

@@ -1,0 +1,105 @@
+// How a batch begins, and what a local fault in it leaves.
+
+ghost use Rattle.std.specs.Prelude.{◌≡◌, IfOk, OnOk};
+ghost use Rattle.rb_plain.specs.Staged.{program_of};
+ghost use Rattle.rb_plain.specs.BatchRuns.{Begins, IsOver, SetsTable, Settles, sided, whole_table};
+
+use crate::remote_world::RemoteWorld;
+use crate::scopes::copy_scope;
+use crate::stage::Stage;
+use crate::walk::perform_block;
+use rb_engine::{Frame, Miss};
+use rb_flow::OpenBatch;
+use rb_heap::Heap;
+use rb_trees::{Memory, Raised, Value, Word, copy_word};
+use std::alloc::Global;
+
+/// The units of remote fuel of a batch: `batch_fuel`.
+const BATCH_FUEL: u64 = 1_000_000;
+
+/// Copies of the names and of the table at a batch's start.
+#[derive(Drop)]
+pub struct Start {
+    pub names: Frame,
+    pub table: Heap,
+}
+
+/// Begins a batch: its root is bound, and the remote fuel is fresh.
+#[inline(never)]
+pub fn begin(
+    alloc: Global,
+    world: &mut RemoteWorld<'_>,
+    root: &Word,
+    frame: &mut Frame,
+) -> Result<Start, Memory>
+    ensures { Begins root.now result world.old frame.old world.new frame.new }
+{
+    let name = copy_word(alloc, root)?;
+    frame.bind(name, Value::Remote(world.stage.root()))?;
+    let names = frame.copy(alloc)?;
+    let table = world.server.table().copy(alloc)?;
+    world.server.refuel(BATCH_FUEL);
+    Ok(Start { names, table })
+}
+
+// A fault with its side: `with_side`.
+fn with_side(stage: &Stage<'_>, raised: Raised) -> Raised
+    ensures { result ≡ sided stage.now raised }
+{
+    let remote = raised.remote || stage.stands_remote(raised.at);
+    Raised {
+        fault: raised.fault,
+        at: raised.at,
+        remote,
+    }
+}
+
+// A walk is over, by a fault too, unless memory ran out.
+fn over(ended: Result<(), Miss>) -> Result<(), Memory>
+    ensures { OnOk result (IsOver ended) }
+{
+    match ended {
+        Ok(()) => Ok(()),
+        Err(Miss::Fault(_, _)) => Ok(()),
+        Err(Miss::Memory) => Err(Memory),
+    }
+}
+
+// Performs the whole remote part of a batch from its start: the table is what that leaves.
+#[inline(never)]
+fn perform_whole(
+    alloc: Global,
+    world: &mut RemoteWorld<'_>,
+    batch: &OpenBatch<'_>,
+    start: Start,
+) -> Result<(), Memory>
+    ensures { OnOk result (SetsTable (whole_table world.old.stage batch.now start) world.old world.new) }
+{
+    let Start { names, table } = start;
+    let mut names = names;
+    let mut scope = copy_scope(alloc, &batch.scope)?;
+    let fuel = world.server.fuel();
+    let _body = world.server.replace_table(table);
+    world.server.refuel(BATCH_FUEL);
+    let ended = perform_block(alloc, world, &mut scope, &mut names, batch.block);
+    world.server.refuel(fuel);
+    over(ended)
+}
+
+/// A fault of a batch, back outside: where it is local, the table is that of the whole remote part.
+#[inline(never)]
+pub fn settle(
+    alloc: Global,
+    world: &mut RemoteWorld<'_>,
+    batch: &OpenBatch<'_>,
+    start: Start,
+    raised: Raised,
+) -> Result<Raised, Memory>
+    ensures { IfOk result (λ r. Settles batch.now start raised r world.old world.new) }
+{
+    let raised = with_side(&world.stage, raised);
+    if !raised.remote {
+        perform_whole(alloc, world, batch, start)?;
+    }
+    Ok(raised)
+}

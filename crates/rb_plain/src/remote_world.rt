@@ -1,0 +1,168 @@
+// Remote calls of a program, and the evaluation of remote expressions.
+
+ghost use Rattle.std.specs.Prelude.{◌≡◌};
+ghost use Rattle.rb_meaning_code.specs.Faults as faults;
+ghost use Rattle.rb_meaning_code.specs.Faults.{raised, raised_remotely};
+ghost use Rattle.rb_plain.specs.Remote.{Ended, IsAnswered, SameStage, as_unit, call_meant, turn_meant, value_meant};
+
+use crate::kinds::call_kind;
+use crate::stage::Stage;
+use rb_engine::{Frame, Halt, Miss, Server, State, Step, World, eval};
+use rb_heap::Heap;
+use rb_trees::{Expr, Fault, Memory, Raised, Seq, Value};
+use std::alloc::Global;
+
+/// The service that a program's remote calls are performed on. As a World it surrounds remote expressions alone: a remote
+/// call is performed, a turn over rows takes a unit of remote fuel, and all else faults Kind. It never cuts a run off.
+#[derive(Drop)]
+pub struct RemoteWorld<'a> {
+    pub alloc: Global,
+    pub stage: Stage<'a>,
+    pub server: Server,
+}
+
+// A fault with a code and without a text, at a position.
+fn raise(alloc: Global, code: u8, at: u32, remote: bool) -> Raised
+    ensures { result ≡ record { fault = faults.plain_fault code; at = at; remote = remote } }
+{
+    Raised {
+        fault: Fault {
+            code,
+            text: Seq::new(alloc),
+        },
+        at,
+        remote,
+    }
+}
+
+impl<'a> RemoteWorld<'a> {
+    /// The service with this table, without fuel.
+    pub fn new(alloc: Global, stage: Stage<'a>, table: Heap) -> RemoteWorld<'a>
+        ensures stage { result.stage ≡ stage.entry }
+        ensures server { result.server ≡ record { table = table; fuel = 0 } }
+    {
+        RemoteWorld {
+            alloc,
+            stage,
+            server: Server::new(table),
+        }
+    }
+
+    /// The fault Kind at a position.
+    pub fn refuse(&self, at: u32) -> Raised
+        ensures { result ≡ raised faults.kind at }
+    {
+        raise(self.alloc, 12, at, false)
+    }
+
+    // The fault that no fuel is left, of a remote operation at a position.
+    fn no_fuel(&self, at: u32) -> Raised
+        ensures { result ≡ raised_remotely faults.fuel_used at }
+    {
+        raise(self.alloc, 7, at, true)
+    }
+
+    /// Takes a unit of remote fuel, which is due at a position.
+    pub fn take_unit(&mut self, at: u32) -> Result<(), Raised>
+        ensures answer { (as_unit result ≡ (turn_meant self.old at).0) × (self.new.server ≡ (turn_meant self.old at).1) }
+        ensures stage { SameStage self.old self.new }
+    {
+        if self.server.take_unit() {
+            return Ok(());
+        }
+        Err(self.no_fuel(at))
+    }
+
+    /// A remote call, whose result has to be of the kind by the call's type.
+    pub fn call(
+        &mut self,
+        at: u32,
+        target: Value,
+        method: &[u8],
+        args: Seq<Value>,
+    ) -> Result<Result<Value, Raised>, Memory>
+        ensures answer { IsAnswered (call_meant self.old at target method.now args) result self.new }
+        ensures stage { SameStage self.old self.new }
+    {
+        let kind = call_kind(self.stage.typed(), at);
+        let service = self.stage.service();
+        match self
+            .server
+            .invoke(self.alloc, service, at, kind, target, method, args)
+        {
+            Ok(value) => Ok(Ok(value)),
+            Err(Miss::Fault(at, fault)) => Ok(Err(Raised {
+                fault,
+                at,
+                remote: true,
+            })),
+            Err(Miss::Memory) => Err(Memory),
+        }
+    }
+}
+
+impl<'a> World for RemoteWorld<'a> {
+    ghost use Rattle.rb_plain.specs.Remote.{remote_answers, remote_performs};
+
+    type Stop = Memory;
+
+    ghost answers = { remote_answers };
+
+    ghost performs = { remote_performs };
+
+    fn line(&mut self, _at: u32, _bytes: &[u8]) -> Step<(), Memory> {
+        Ok(Err(self.refuse(0)))
+    }
+
+    fn batch(&mut self, at: u32, _state: &mut State, _frame: &mut Frame) -> Step<(), Memory> {
+        Ok(Err(self.refuse(at)))
+    }
+
+    fn taken(&mut self, _step: u32) -> Step<Value, Memory> {
+        Ok(Err(self.refuse(0)))
+    }
+
+    fn invoke(
+        &mut self,
+        at: u32,
+        target: Value,
+        method: &[u8],
+        args: Seq<Value>,
+    ) -> Step<Value, Memory> {
+        match self.call(at, target, method, args) {
+            Ok(answer) => Ok(answer),
+            Err(Memory) => Err(Halt::Memory),
+        }
+    }
+
+    fn turn(&mut self, at: u32) -> Step<(), Memory> {
+        Ok(self.take_unit(at))
+    }
+
+    fn list_turn(&mut self, _at: u32) -> Step<(), Memory> {
+        Ok(Err(self.refuse(0)))
+    }
+}
+
+/// The value of a remote expression where these names are in scope: `value_of`.
+#[inline(never)]
+pub fn value_of(
+    alloc: Global,
+    world: &mut RemoteWorld<'_>,
+    frame: &Frame,
+    expr: &Expr,
+) -> Result<Value, Miss>
+    ensures { Ended (value_meant world.old.stage expr.now frame.now world.old.server) result world.old world.new }
+{
+    let code = world.stage.code();
+    let mut state = State {
+        heap: Heap::make(alloc),
+        fuel: 0,
+        depth: 0,
+    };
+    match eval(alloc, code, &mut state, frame, world, expr) {
+        Ok(Ok(value)) => Ok(value),
+        Ok(Err(raised)) => Err(Miss::Fault(raised.at, raised.fault)),
+        Err(_) => Err(Miss::Memory),
+    }
+}

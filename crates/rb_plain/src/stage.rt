@@ -1,0 +1,102 @@
+// What a run stands on.
+
+ghost use Rattle.std.specs.Prelude.{◌≡◌};
+ghost use Rattle.std.specs.FinMap.{get};
+ghost use Rattle.rb_trees.specs.mirror.Declarations.{mirror_program};
+ghost use Rattle.rb_meaning_flow.specs.Programs.{program_marks};
+ghost use Rattle.rb_meaning.specs.Unsplit as meant;
+ghost use Rattle.rb_plain.specs.Staged.{program_of};
+
+use rb_code::Code;
+use rb_marks::Marks;
+use rb_trees::Mark;
+use rb_types::Typed;
+use std::marker::Model;
+
+/// The program with the code of its classes and its marks, and the service: the code of its classes, and the number of its
+/// root. Contracts see the program and the service.
+#[derive(Drop)]
+pub struct Stage<'a> {
+    typed: &'a Typed,
+    marks: &'a Marks,
+    code: &'a Code,
+    service: &'a Code,
+    root: u32,
+}
+
+impl<'a> Model for Stage<'a> {
+    ghost use Rattle.std.specs.Prelude.{◌≡◌};
+    ghost use Rattle.rb_trees.specs.mirror.Declarations.{mirror_program};
+    ghost use Rattle.rb_meaning_flow.specs.Programs.{program_marks};
+    ghost use Rattle.rb_plain.specs.Staged.{Staged, staged_code};
+
+    ghost Value = { Staged };
+
+    ghost coded = { staged_code };
+
+    ghost view = { λ s. record { program = s.typed.now; service = record { classes = s.service.now; root = s.root } } };
+
+    ghost invariant = { λ s. (s.code.now ≡ s.typed.now.classes) × (s.marks.now.0 ≡ program_marks (mirror_program s.typed.now)) };
+}
+
+impl<'a> Stage<'a> {
+    /// The stage of a program and a service. The code is that of the program's classes, and the marks are the program's.
+    pub fn new(
+        typed: &'a Typed,
+        marks: &'a Marks,
+        code: &'a Code,
+        service: &'a Code,
+        root: u32,
+    ) -> Stage<'a>
+        requires code { code.now ≡ typed.now.classes }
+        requires marks { marks.now.0 ≡ program_marks (mirror_program typed.now) }
+        ensures { result ≡ record { program = typed.now; service = record { classes = service.now; root = root } } }
+    {
+        Stage {
+            typed,
+            marks,
+            code,
+            service,
+            root,
+        }
+    }
+
+    /// The program.
+    pub fn typed(&self) -> &'a Typed
+        ensures { result.now ≡ self.now.program }
+    {
+        self.typed
+    }
+
+    /// The code of the program's classes.
+    pub fn code(&self) -> &'a Code
+        ensures { result.now ≡ self.now.program.classes }
+    {
+        self.code
+    }
+
+    /// The code of the service's classes.
+    pub fn service(&self) -> &'a Code
+        ensures { result.now ≡ self.now.service.classes }
+    {
+        self.service
+    }
+
+    /// The number of the service's root.
+    pub fn root(&self) -> u32
+        ensures { result ≡ self.now.service.root }
+    {
+        self.root
+    }
+
+    /// Whether a part of a remote expression stands at a position: `stands_remote`.
+    pub fn stands_remote(&self, at: u32) -> bool
+        ensures { result ≡ meant.stands_remote (program_of self.now) at }
+    {
+        match self.marks.mark_at(at) {
+            Some(Mark::Remote) => true,
+            Some(Mark::Constant) | Some(Mark::Local) => false,
+            None => false,
+        }
+    }
+}
