@@ -1,5 +1,6 @@
 // What payloads are read as.
 
+use crate::sum::Sum;
 use bytes::BytesMut;
 use rb_trees::{Memory, code_size, valid};
 use rb_wire_script::{ScriptStop, decode_script, encode_script};
@@ -8,40 +9,34 @@ use std::alloc::Global;
 /// The most bytes of a payload.
 const MOST: usize = 16_777_216;
 
-/// What a payload is read as.
-#[derive(Clone, Copy)]
-pub struct Answer {
-    /// The number of its refusal, `SCRIPT` or `WRONG`.
-    pub number: u8,
-    /// The place of its refusal, or the size of its script's code.
-    pub at: u32,
-}
-
-/// The number of a script whose spelling is the payload.
+/// The number of a script that is valid, and whose spelling is the payload.
 pub const SCRIPT: u8 = 0;
 
 /// The number of what mustn't come: a script that isn't valid, or has another spelling than the payload.
 pub const WRONG: u8 = 15;
 
-/// What a payload is read as.
-pub fn answer_of(alloc: Global, payload: &[u8]) -> Result<Answer, Memory> {
+/// The number of the refusal of a payload, `SCRIPT` or `WRONG`. What it is read as is added to the sum: a script with its
+/// inputs and the size of its code, or the number and the place of a refusal.
+pub fn answer_to(alloc: Global, payload: &[u8], sum: &mut Sum) -> Result<u8, Memory> {
     if payload.len() > MOST {
-        return Ok(Answer {
-            number: WRONG,
-            at: 0,
-        });
+        return Ok(WRONG);
     }
     match decode_script(alloc, payload) {
         Ok((script, values)) => {
+            sum.add_script(&script, &values);
+            sum.add((code_size(&script) % 4_294_967_296) as u32);
             let mut again = BytesMut::new(alloc);
             encode_script(&script, values.as_slice(), &mut again)?;
-            let same = valid(&script).is_ok() && again.as_slice() == payload;
-            Ok(Answer {
-                number: if same { SCRIPT } else { WRONG },
-                at: (code_size(&script) % 4_294_967_296) as u32,
-            })
+            if valid(&script).is_ok() && again.as_slice() == payload {
+                return Ok(SCRIPT);
+            }
+            Ok(WRONG)
         }
-        Err(ScriptStop::Refused { number, at }) => Ok(Answer { number, at }),
+        Err(ScriptStop::Refused { number, at }) => {
+            sum.add(u32::from(number));
+            sum.add(at);
+            Ok(number)
+        }
         Err(ScriptStop::Memory) => Err(Memory),
     }
 }

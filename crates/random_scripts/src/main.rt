@@ -1,24 +1,26 @@
-//! Reads a thousand random scripts, and each of them a few times with a byte changed, with one taken out and with one put in.
+//! Reads a thousand random scripts, each of them also with a byte changed, with one taken out and with one put in.
 //!
 //! The payload of a valid script is written form by form, by the random numbers of a fixed seed, so that it is read as a
 //! script, whose spelling is the payload. A payload with another byte is refused, or is the spelling of another script. Each
-//! line tells, of the scripts so far, their number and bytes, how many payloads were scripts and how many were refused, how
-//! many answers were wrong, and a sum of all bytes and answers. The last lines tell how often each refusal came.
+//! line tells, of the scripts so far, how many there were, how many bytes they had, how many payloads were scripts, how many
+//! answers were wrong, and a sum of all payloads, scripts and refusals. The last lines tell how often each refusal came.
 #![tactic(auto)]
 
 mod answers;
 mod edits;
 mod message;
 mod random;
+mod sum;
 mod tally;
 
-use answers::answer_of;
+use answers::answer_to;
 use edits::{Edit, edited};
 use message::message;
 use random::Random;
 use rb_trees::Memory;
 use std::alloc::Global;
 use std::io;
+use sum::Sum;
 use tally::Tally;
 
 /// The seed of the random numbers.
@@ -39,11 +41,12 @@ static REFUSALS: [u8; 9] = [1, 2, 3, 4, 5, 6, 11, 12, 13];
 fn main(rt: HostRuntime) -> io::Result<()> {
     let mut random = Random::new(SEED);
     let mut tally = Tally::new();
+    let mut sum = Sum::new();
     for line in 0..LINES {
-        if take_line(rt.alloc(), &mut random, &mut tally).is_err() {
-            return println!(rt; "out of memory");
+        if take_line(rt.alloc(), &mut random, &mut tally, &mut sum).is_err() {
+            return Err(io::Error::from(io::ErrorKind::OutOfMemory));
         }
-        report(&rt, (line + 1) * LINE, &tally)?;
+        report(&rt, (line + 1) * LINE, &tally, sum.value())?;
     }
     for number in &REFUSALS {
         let count = tally.count(*number);
@@ -53,26 +56,37 @@ fn main(rt: HostRuntime) -> io::Result<()> {
 }
 
 /// Prints what was counted of so many scripts.
-fn report<R: Print>(rt: &R, count: u32, tally: &Tally) -> io::Result<()> {
-    let (bytes, scripts, wrong, sum) = (tally.bytes, tally.scripts(), tally.wrong(), tally.sum);
+fn report<R: Print>(rt: &R, count: u32, tally: &Tally, sum: u32) -> io::Result<()> {
+    let (bytes, scripts, wrong) = (tally.bytes(), tally.scripts(), tally.wrong());
     println!(rt; "{count} scripts, {bytes} bytes: {scripts} read, {wrong} wrong, sum {sum}")
 }
 
 /// Takes the scripts of a line.
-fn take_line(alloc: Global, random: &mut Random, tally: &mut Tally) -> Result<(), Memory> {
+fn take_line(
+    alloc: Global,
+    random: &mut Random,
+    tally: &mut Tally,
+    sum: &mut Sum,
+) -> Result<(), Memory> {
     for _ in 0..LINE {
-        take(alloc, random, tally)?;
+        take(alloc, random, tally, sum)?;
     }
     Ok(())
 }
 
 /// Takes a script, and its payload with another byte.
-fn take(alloc: Global, random: &mut Random, tally: &mut Tally) -> Result<(), Memory> {
+fn take(
+    alloc: Global,
+    random: &mut Random,
+    tally: &mut Tally,
+    sum: &mut Sum,
+) -> Result<(), Memory> {
     let payload = message(alloc, random)?;
+    sum.add_bytes(payload.as_slice());
     tally.add_payload(payload.as_slice());
-    tally.add_answer(answer_of(alloc, payload.as_slice())?);
+    tally.add_answer(answer_to(alloc, payload.as_slice(), sum)?);
     for _ in 0..ROUNDS {
-        take_edits(alloc, payload.as_slice(), random, tally)?;
+        take_edits(alloc, payload.as_slice(), random, tally, sum)?;
     }
     Ok(())
 }
@@ -83,10 +97,11 @@ fn take_edits(
     payload: &[u8],
     random: &mut Random,
     tally: &mut Tally,
+    sum: &mut Sum,
 ) -> Result<(), Memory> {
     for edit in [Edit::Change, Edit::TakeOut, Edit::PutIn] {
         let other = edited(alloc, payload, edit, random)?;
-        tally.add_answer(answer_of(alloc, other.as_slice())?);
+        tally.add_answer(answer_to(alloc, other.as_slice(), sum)?);
     }
     Ok(())
 }

@@ -79,7 +79,7 @@ impl Writer {
         Ok(())
     }
 
-    /// A text of a table.
+    /// A text or a name.
     fn text(&mut self, text: &str) -> Result<(), Memory> {
         self.number((text.len() % 4096) as u32)?;
         self.bytes.extend_from_slice(text.as_bytes())?;
@@ -207,7 +207,7 @@ impl Writer {
         self.any_number(random)
     }
 
-    /// A variable that is bound from here on, with whether it is kept: it is often one that was bound before.
+    /// The variable of a Let or an Each, which was often bound before, and whether it is kept.
     fn binding(&mut self, random: &mut Random) -> Result<u32, Memory> {
         let variable = LAST.wrapping_add(random.below(4) as u32);
         self.number(variable)?;

@@ -9,6 +9,7 @@ pub struct Random {
 }
 
 impl Random {
+    /// Begins with a seed.
     pub fn new(seed: u64) -> Random {
         Random { state: seed }
     }

@@ -1,46 +1,38 @@
 // What was counted.
 
-use crate::answers::{Answer, SCRIPT, WRONG};
+use crate::answers::{SCRIPT, WRONG};
 
-/// Counts of payloads and answers, and a sum of all of them.
+/// Counts of bytes and of answers.
 #[derive(Drop)]
 pub struct Tally {
-    /// The bytes of the scripts.
-    pub bytes: usize,
+    bytes: usize,
     /// The answers of each number.
     numbers: [u32; 16],
-    /// The sum of bytes and answers, which depends on their order.
-    pub sum: u32,
 }
 
 impl Tally {
+    /// Nothing was counted.
     pub fn new() -> Tally {
         Tally {
             bytes: 0,
             numbers: [0; 16],
-            sum: 0,
         }
     }
 
-    /// Adds a word to the sum.
-    fn mix(&mut self, word: u32) {
-        self.sum = (self.sum ^ word).wrapping_mul(16_777_619);
-    }
-
-    /// Counts the payload of a script.
+    /// Counts the bytes of a script.
     pub fn add_payload(&mut self, payload: &[u8]) {
         self.bytes = self.bytes.saturating_add(payload.len());
-        for byte in payload {
-            self.mix(u32::from(*byte));
-        }
     }
 
     /// Counts an answer.
-    pub fn add_answer(&mut self, answer: Answer) {
-        let at = (answer.number % 16) as usize;
+    pub fn add_answer(&mut self, number: u8) {
+        let at = (number % 16) as usize;
         self.numbers[at] = self.numbers[at].saturating_add(1);
-        self.mix(u32::from(answer.number));
-        self.mix(answer.at);
+    }
+
+    /// How many bytes the scripts had.
+    pub fn bytes(&self) -> usize {
+        self.bytes
     }
 
     /// How many answers had a number.
@@ -53,7 +45,7 @@ impl Tally {
         self.count(SCRIPT)
     }
 
-    /// How many answers mustn't come.
+    /// How many answers mustn't have come.
     pub fn wrong(&self) -> u32 {
         self.count(WRONG)
     }

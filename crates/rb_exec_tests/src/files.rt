@@ -1,6 +1,6 @@
 // A service of two files, and scripts on it.
 
-use crate::notation::{steps_of, text};
+use crate::notation::{steps_of, text_value};
 use crate::shown::add_node;
 use rb_differ::classes_differ;
 use rb_exec::{Host, run_script};
@@ -79,7 +79,7 @@ fn add_run(alloc: Global, host: &mut Host, script: &Script, into: &mut Word) -> 
     if valid(script).is_err() {
         return into.extend_from_slice(b"not valid");
     }
-    let word = text(alloc, "in")?;
+    let word = text_value(alloc, "in")?;
     let inputs = [Value::Int(10), Value::Bool(true), word, Value::Remote(7)];
     let node = run_script(alloc, host, script, &inputs)?;
     add_node(alloc, &node, into)

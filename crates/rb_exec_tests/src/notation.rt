@@ -63,8 +63,8 @@ fn bytes(alloc: Global, word: &str) -> Result<Word, Memory> {
     Seq::from_slice(alloc, word.as_bytes())
 }
 
-/// A Text.
-pub fn text(alloc: Global, word: &str) -> Result<Value, Memory> {
+/// The Text of a word.
+pub fn text_value(alloc: Global, word: &str) -> Result<Value, Memory> {
     Ok(Value::Text(Shared::new(alloc, bytes(alloc, word)?)?))
 }
 
@@ -81,7 +81,7 @@ fn literal(word: &str) -> SExpr {
 /// An expression of one word.
 fn single(alloc: Global, word: &str) -> Result<SExpr, Memory> {
     if let Some(rest) = word.strip_prefix('\'') {
-        return Ok(SExpr::Lit(text(alloc, rest)?));
+        return Ok(SExpr::Lit(text_value(alloc, rest)?));
     }
     if let Some(variable) = word.strip_prefix('$') {
         return Ok(SExpr::Var(variable.parse::<u32>().unwrap_or(0)));

@@ -10,6 +10,7 @@ pub struct Reader<'a> {
 }
 
 impl<'a> Reader<'a> {
+    /// Begins with the first word of a text.
     pub fn new(text: &'a str) -> Reader<'a> {
         Reader {
             words: text.split_whitespace(),
@@ -27,7 +28,7 @@ impl<'a> Reader<'a> {
         self.word().parse::<u32>().unwrap_or(0)
     }
 
-    /// The position of the operator or call that was read last.
+    /// The position of the operator or call that was just read: how many there were so far.
     pub fn place(&mut self) -> u32 {
         self.count = self.count.saturating_add(1);
         self.count

@@ -26,6 +26,7 @@ fn add_fault(alloc: Global, fault: &NodeFault, into: &mut Word) -> Result<(), Me
     into.extend_from_slice(text.as_bytes())
 }
 
+/// Adds the text of a node.
 #[cycle(nodes)]
 pub fn add_node(alloc: Global, node: &Node, into: &mut Word) -> Result<(), Memory> {
     for entry in node.entries.as_slice() {
