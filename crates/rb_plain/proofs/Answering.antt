@@ -1,17 +1,14 @@
 -- The Worlds of a program's code answer as the surroundings of the unsplit meaning do.
-use Rattle.std.proofs.Common.{◌≡◌, refl, sym, ap, ◌∙◌, subst, ℕ, List, [], ◌∷◌, ◌++◌}
+use Rattle.std.proofs.Common.{◌≡◌, refl, sym, ap, ◌∙◌, subst, ℕ, List}
 use Rattle.std.specs.Prelude.{Result, Ok, Err}
-use Rattle.rb_trees.specs.declared.values.Value.{Value}
 use Rattle.rb_trees.specs.declared.values.Value.TheVariants as value
 use Rattle.rb_trees.specs.declared.outcomes.Raised.{Raised}
 use Rattle.rb_meaning_code.specs.Dialogue as ask
 use Rattle.rb_meaning_code.specs.Dialogue.{Question, Dialogue, Surroundings, handle}
-use Rattle.rb_meaning.specs.State as state
-use Rattle.rb_meaning.specs.State.{Outside, shows}
-use Rattle.rb_meaning.specs.Shown.{exchanges, line, shown_events}
-use Rattle.rb_meaning.specs.Meaning.{local_answer, shown_by}
+use Rattle.rb_meaning.specs.State.{Outside}
+use Rattle.rb_meaning.specs.Shown.{line, shown_events}
 use Rattle.rb_base.specs.Devices.{Device, failed}
-use Rattle.rb_base.specs.Sinks.{with_bytes, Writes, WrotePrefix}
+use Rattle.rb_base.specs.Sinks.{with_bytes, WrotePrefix}
 use Rattle.rb_base.specs.declared.sinks.Failed.{Failed}
 use Rattle.rb_base.specs.declared.sinks.Sink as sinks
 use Rattle.rb_engine.specs.Answers.{Answer, Answered, as_value}
@@ -20,7 +17,7 @@ use Rattle.rb_engine.specs.declared.world.Halt.TheVariants as halt
 use Rattle.rb_plain.specs.Batches.{AreBatchesOf}
 use Rattle.rb_plain.specs.MainRuns.{surrounds}
 use Rattle.rb_plain.specs.Staged.{program_of, service_of}
-use Rattle.rb_plain.specs.Worlds.{CutsBatch, CutsOuter, Prints, SeesBatch, SeesOuter, Told, batch_answers, batch_performs, batch_view, inner, outer, outer_answers, outer_performs, outer_view, output}
+use Rattle.rb_plain.specs.Worlds.{CutsBatch, Prints, batch_answers, batch_performs, batch_view, inner, outer, outer_answers, outer_view, output}
 use Rattle.rb_plain.specs.declared.batch_world.BatchWorld.{BatchWorld}
 use Rattle.rb_plain.specs.declared.outer_world.OuterWorld.{OuterWorld}
 use Rattle.rb_plain.proofs.Bytes.{both_whole, fails_next, prefix_front}

@@ -1,13 +1,12 @@
 -- A batch is performed as it means: it begins, its body is led to its end, and a fault is settled.
-use Rattle.std.proofs.Common.{◌≡◌, refl, sym, ap, ◌∙◌, subst, ℕ, ◌+◌, List, [], ◌∷◌, ◌++◌, length, take, map}
+use Rattle.std.proofs.Common.{◌≡◌, refl, sym, ap, ◌∙◌, subst, ℕ, ◌+◌, List, [], ◌∷◌, ◌++◌, length}
 use Rattle.std.specs.Prelude.{Result, Ok, Err}
 use Rattle.rb_trees.specs.declared.values.Value.{Value}
 use Rattle.rb_trees.specs.declared.values.Value.TheVariants as value
 use Rattle.rb_trees.specs.declared.outcomes.Raised.{Raised}
 use Rattle.rb_trees.specs.declared.services.Object.{Object}
 use Rattle.rb_trees.specs.declared.declarations.Class as class
-use Rattle.rb_trees.specs.mirror.Code.{mirror_stmts}
-use Rattle.rb_trees.specs.mirror.Declarations.{Program, mirror_class}
+use Rattle.rb_trees.specs.mirror.Declarations.{Program}
 use Rattle.rb_trees.specs.mirror.Services.{Service}
 use Rattle.rb_meaning_code.specs.Bodies.{bodies_of}
 use Rattle.rb_meaning_code.specs.Dialogue as ask
@@ -19,7 +18,6 @@ use Rattle.rb_meaning_code.specs.Statements.{performs_all}
 use Rattle.rb_meaning.specs.RemoteAnswers.{remote_answer}
 use Rattle.rb_meaning.specs.RemotePart.{remote_only}
 use Rattle.rb_meaning.specs.Shown.{exchanges, shown_events}
-use Rattle.rb_meaning.specs.State as state
 use Rattle.rb_meaning.specs.State.{Outside}
 use Rattle.rb_meaning.specs.Unsplit as unsplit
 use Rattle.rb_meaning.specs.Unsplit.{answers_in_batch, faults, in_batch, performs_batch, server_after, settles, table_after, with_answer, with_side}

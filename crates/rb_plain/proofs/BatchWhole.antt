@@ -1,5 +1,5 @@
 -- The start of a batch, and the whole remote part from it.
-use Rattle.std.proofs.Common.{◌≡◌, refl, sym, ap, ◌∙◌, subst, ℕ, List, [], ◌∷◌, ◌++◌}
+use Rattle.std.proofs.Common.{◌≡◌, refl, sym, ap, ◌∙◌, List}
 use Rattle.std.specs.Prelude.{OnOk, Result, Ok, Err}
 use Rattle.rb_trees.specs.declared.services.Object.{Object}
 use Rattle.rb_trees.specs.declared.want.Memory.{Memory}
@@ -14,7 +14,6 @@ use Rattle.rb_engine.specs.declared.misses.Miss.TheVariants as miss
 use Rattle.rb_flow.specs.declared.outermost.OpenBatch.{OpenBatch}
 use Rattle.rb_plain.specs.BatchRuns.{IsOver, SetsTable, whole_table}
 use Rattle.rb_plain.specs.Remote.{Ended, SameStage, Unstarved}
-use Rattle.rb_plain.specs.Staged.{Staged}
 use Rattle.rb_plain.specs.Walks.{block_from, block_meant}
 use Rattle.rb_plain.specs.declared.batch_run.Start.{Start}
 use Rattle.rb_plain.specs.declared.remote_world.RemoteWorld.{RemoteWorld}

@@ -1,23 +1,21 @@
 -- The value of a remote expression, as the World of its calls leads to it.
-use Rattle.std.proofs.Common.{◌≡◌, refl, sym, ap, ◌∙◌, subst, inl, inr, ℕ, List, []}
+use Rattle.std.proofs.Common.{◌≡◌, refl, sym, ap, ◌∙◌, subst, List}
 use Rattle.std.specs.Prelude.{Result, Ok, Err}
 use Rattle.rb_trees.specs.declared.values.Value.{Value}
-use Rattle.rb_trees.specs.declared.values.Fault.{Fault}
 use Rattle.rb_trees.specs.declared.outcomes.Raised.{Raised}
 use Rattle.rb_trees.specs.declared.code.Expr as expr
 use Rattle.rb_trees.specs.declared.want.Memory.{Memory}
 use Rattle.rb_trees.specs.declared.declarations.Class as class
 use Rattle.rb_trees.specs.mirror.Code.{mirror_expr}
 use Rattle.rb_meaning_code.specs.Bodies.{bodies_of}
-use Rattle.rb_meaning_code.specs.Dialogue.{Question, Outcome, Gave, Faulted, Dialogue, Done, Ask, AskBatch, Surroundings, Follows, handle}
+use Rattle.rb_meaning_code.specs.Dialogue.{Outcome, Gave, Faulted, Surroundings}
 use Rattle.rb_meaning_code.specs.Expressions.{evaluates}
-use Rattle.rb_meaning_code.specs.Remote.{Server, Reply, Got, Stopped}
+use Rattle.rb_meaning_code.specs.Remote.{Server, Got, Stopped}
 use Rattle.rb_meaning_code.specs.State.{Names, Local}
 use Rattle.rb_meaning.specs.RemotePart.{in_remote_part, reply_of, with_names}
 use Rattle.rb_engine.specs.Code.{value_run}
 use Rattle.rb_engine.specs.Ends.{flattened}
 use Rattle.rb_engine.specs.Meets.{Led}
-use Rattle.rb_engine.specs.Misses.{Means}
 use Rattle.rb_engine.specs.declared.misses.Miss.{Miss}
 use Rattle.rb_engine.specs.declared.misses.Miss.TheVariants as miss
 use Rattle.rb_engine.specs.declared.world.Halt.{Halt}

@@ -1,17 +1,16 @@
 -- The batch that is found by its position.
-use Rattle.std.proofs.Common.{◌≡◌, refl, sym, ap, ◌∙◌, subst, ℕ, zero, suc, ◌+◌, ◌-◌, ◌<◌, arith, List, [], ◌∷◌, ◌++◌, map, length, length-append, drop, get_or}
+use Rattle.std.proofs.Common.{◌≡◌, refl, sym, ap, ◌∙◌, ℕ, zero, suc, ◌+◌, ◌-◌, ◌<◌, arith, List, [], ◌∷◌, ◌++◌, map, length, length-append, drop, get_or}
 use Rattle.std.proofs.lemmas.List.{map-append}
 use Rattle.std.specs.Prelude.{Bool, true, false, cond, nat_eq, Option, None, Some, option_and_then, option_map, slice_get}
 use Rattle.std.specs.HashMap.{get}
 use Rattle.rb_trees.specs.mirror.Code.{Stmts}
 use Rattle.rb_trees.specs.mirror.Declarations.{Program}
 use Rattle.rb_meaning_flow.specs.declared.scopes.Role.{Role}
-use Rattle.rb_meaning_flow.specs.declared.scopes.Variable.{Variable}
 use Rattle.rb_meaning_flow.specs.Facts.{facts_of}
 use Rattle.rb_meaning_flow.specs.Outermost.{Outermost, program_batches}
 use Rattle.rb_meaning_flow.specs.Scopes.{Scope, assigned_in, opened, variable_with}
 use Rattle.rb_meaning.specs.Unsplit.{batch_at, batch_within}
-use Rattle.rb_flow.specs.Begun.{Begun, begun, begun_of, program_begun}
+use Rattle.rb_flow.specs.Begun.{begun, begun_of, program_begun}
 use Rattle.rb_flow.specs.declared.outermost.OpenBatch.{OpenBatch}
 use Rattle.rb_plain.specs.Batches.{AreBatchesOf, Notes, found, place_in, root_of, stands_at}
 use Rattle.rb_plain.specs.declared.batches.Batches.{Batches}

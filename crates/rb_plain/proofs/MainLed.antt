@@ -1,5 +1,5 @@
 -- The code of `main` is led to its end as it means.
-use Rattle.std.proofs.Common.{◌≡◌, ℕ, List, [], ◌∷◌, map, Option, None, Some, Result, Ok, Err, ap, sym, ◌∙◌, refl, subst, arith, inl, inr}
+use Rattle.std.proofs.Common.{◌≡◌, ℕ, List, map, Option, None, Some, Result, Ok, Err, ap, sym, refl, subst, inl, inr}
 use Rattle.rb_trees.specs.declared.values.Value.{Value}
 use Rattle.rb_trees.specs.declared.outcomes.Raised.{Raised}
 use Rattle.rb_trees.specs.declared.outcomes.Ending.{Ending}
@@ -7,8 +7,8 @@ use Rattle.rb_trees.specs.declared.outcomes.Ending.TheVariants as endings
 use Rattle.rb_trees.specs.declared.code.Expr as expr
 use Rattle.rb_trees.specs.declared.declarations.Class as class
 use Rattle.rb_trees.specs.declared.declarations.Body as body
-use Rattle.rb_trees.specs.mirror.Declarations.{mirror_body, mirror_class, mirror_program}
-use Rattle.rb_meaning_code.specs.Dialogue.{Dialogue, Done, Ask, AskBatch, Outcome, Gave, Faulted, Run, seq, next, on, Surroundings, Follows, handle}
+use Rattle.rb_trees.specs.mirror.Declarations.{mirror_body, mirror_class}
+use Rattle.rb_meaning_code.specs.Dialogue.{Dialogue, Done, Ask, AskBatch, Outcome, Gave, Faulted, Run, seq, next, on, Surroundings, Follows}
 use Rattle.rb_meaning_code.specs.State.{Local}
 use Rattle.rb_meaning.specs.Meaning.{at_start, ending_of, gives_some, runs_main}
 use Rattle.rb_meaning.specs.State.{Outside}
@@ -21,7 +21,7 @@ use Rattle.rb_engine.specs.Meets.{Led}
 use Rattle.rb_engine.specs.declared.world.Halt.{Halt}
 use Rattle.rb_engine.specs.declared.world.Halt.TheVariants.{Memory, World}
 use Rattle.rb_plain.specs.MainRuns.{Ends, Leads, RunsMain, main_meant, result_run, surrounds}
-use Rattle.rb_plain.specs.Staged.{Staged, program_of}
+use Rattle.rb_plain.specs.Staged.{program_of}
 use Rattle.rb_plain.specs.Worlds.{SeesOuter, outer, outer_view}
 use Rattle.rb_plain.specs.declared.outer_world.OuterWorld.{OuterWorld}
 use Rattle.rb_plain.specs.declared.run.PlainStop.{PlainStop}

@@ -1,6 +1,6 @@
 -- Statements of which only the remote expressions are performed, by their forms.
-use Rattle.std.proofs.Common.{◌≡◌, refl, ℕ, List, [], ◌∷◌}
-use Rattle.std.specs.Prelude.{OnOk, Result, Ok, Err}
+use Rattle.std.proofs.Common.{◌≡◌, refl, ℕ, List}
+use Rattle.std.specs.Prelude.{OnOk, Result, Ok}
 use Rattle.rb_trees.specs.declared.code.Expr as expr
 use Rattle.rb_trees.specs.declared.code.Stmt as stmt
 use Rattle.rb_trees.specs.declared.code.StmtForm.TheVariants as form

@@ -1,5 +1,5 @@
 -- How statements are performed one after the other.
-use Rattle.std.proofs.Common.{◌≡◌, refl, sym, ap, ◌∙◌, subst, ℕ, suc, zero, ◌+◌, ◌-◌, ◌<◌, ◌≤◌, List, [], ◌∷◌, ◌++◌, append-nil, arith, length, take, drop, get_or}
+use Rattle.std.proofs.Common.{◌≡◌, refl, sym, ap, ◌∙◌, subst, ℕ, suc, ◌+◌, ◌-◌, ◌<◌, ◌≤◌, List, [], ◌∷◌, ◌++◌, append-nil, arith, length, drop, get_or}
 use Rattle.std.proofs.lemmas.List.{drop_all}
 use Rattle.std.specs.List.{flat_map}
 use Rattle.std.specs.Prelude.{Bool, true, false, cond, OnOk, Result, Ok, Err}
@@ -30,7 +30,7 @@ use Rattle.rb_engine.specs.declared.misses.Miss.TheVariants as miss
 use Rattle.rb_plain.specs.Parts.{part_meant, performed_meant}
 use Rattle.rb_plain.specs.Remote.{Ended, SameStage, as_unit, value_meant}
 use Rattle.rb_plain.specs.Staged.{Staged, program_of, service_of}
-use Rattle.rb_plain.specs.Walks.{Does, Kept, Meaning, Walked, block_from, block_meant, branch_meant, carried_meant, for_meant, form_meant, if_meant, plain_meant, rows_meant, scope_behind, skim_meant, stmt_meant, stmts_meant, turn_from, turn_meant, turns_from, turns_meant, val_meant}
+use Rattle.rb_plain.specs.Walks.{Does, Kept, Meaning, Walked, block_from, block_meant, branch_meant, carried_meant, form_meant, plain_meant, rows_meant, scope_behind, skim_meant, stmt_meant, stmts_meant, turn_from, turn_meant, turns_from, turns_meant}
 use Rattle.rb_plain.specs.declared.remote_world.RemoteWorld.{RemoteWorld}
 use Rattle.rb_plain.specs.declared.walk.Loop.{Loop}
 use Rattle.rb_plain.proofs.Dropped.{dropped_one}

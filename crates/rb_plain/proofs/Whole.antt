@@ -1,17 +1,16 @@
 -- From the run of `main` to what an unsplit run leaves.
-use Rattle.std.proofs.Common.{◌≡◌, refl, sym, ap, ◌∙◌, subst, ℕ, List, []}
+use Rattle.std.proofs.Common.{◌≡◌, refl, sym, ap, ◌∙◌, subst, ℕ, List}
 use Rattle.std.specs.Prelude.{Result, Ok, Err}
 use Rattle.rb_trees.specs.declared.outcomes.Ending.{Ending}
 use Rattle.rb_trees.specs.declared.services.Object.{Object}
 use Rattle.rb_meaning.specs.Meaning.{Meaning, meant, outside_of}
 use Rattle.rb_meaning.specs.Shown.{exchanges, shown_events}
-use Rattle.rb_meaning.specs.State.{Outside}
-use Rattle.rb_base.specs.Devices.{Device, failed}
+use Rattle.rb_base.specs.Devices.{failed}
 use Rattle.rb_base.specs.Sinks.{with_bytes, WrotePrefix}
 use Rattle.rb_base.specs.declared.sinks.Sink as sinks
 use Rattle.rb_plain.specs.Batches.{AreBatchesOf}
 use Rattle.rb_plain.specs.MainRuns.{Ends, RunsMain, main_meant}
-use Rattle.rb_plain.specs.Staged.{Staged, program_of, service_of}
+use Rattle.rb_plain.specs.Staged.{Staged, program_of}
 use Rattle.rb_plain.specs.Unsplit.{Leaves, WritesUnlessStarved, staged_meaning}
 use Rattle.rb_plain.specs.Worlds.{SeesOuter, output}
 use Rattle.rb_plain.specs.declared.run.Run.{Run}

@@ -6,7 +6,7 @@ use Rattle.rb_trees.specs.declared.outcomes.Raised.{Raised}
 use Rattle.rb_trees.specs.declared.code.Expr as expr
 use Rattle.rb_trees.specs.declared.declarations.Class as class
 use Rattle.rb_trees.specs.mirror.Code.{mirror_expr}
-use Rattle.rb_trees.specs.mirror.Declarations.{Program, mirror_class}
+use Rattle.rb_trees.specs.mirror.Declarations.{mirror_class}
 use Rattle.rb_meaning_code.specs.Bodies.{bodies_of}
 use Rattle.rb_meaning_code.specs.Dialogue.{Outcome, Gave, Faulted, Run, Surroundings, Follows, handle}
 use Rattle.rb_meaning_code.specs.State.{Local}
@@ -18,7 +18,7 @@ use Rattle.rb_base.specs.declared.sinks.Sink as sinks
 use Rattle.rb_engine.specs.declared.world.Halt.{Halt}
 use Rattle.rb_engine.specs.declared.world.Halt.TheVariants.{Memory, World}
 use Rattle.rb_plain.specs.Staged.{program_of}
-use Rattle.rb_plain.specs.Worlds.{CutsOuter, SeesOuter, outer, outer_answers, outer_performs, outer_view}
+use Rattle.rb_plain.specs.Worlds.{CutsOuter, SeesOuter, outer, outer_answers, outer_performs}
 use Rattle.rb_plain.specs.declared.outer_world.OuterWorld.{OuterWorld}
 use Rattle.rb_plain.specs.declared.run.PlainStop.{PlainStop}
 use Rattle.rb_plain.specs.declared.run.PlainStop.TheVariants as stops

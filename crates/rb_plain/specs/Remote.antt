@@ -7,7 +7,7 @@ use Rattle.rb_trees.specs.declared.want.Memory.{Memory}
 use Rattle.rb_trees.specs.declared.code.Expr as expr
 use Rattle.rb_trees.specs.mirror.Code.{mirror_expr}
 use Rattle.rb_meaning_code.specs.State.{Names, Local}
-use Rattle.rb_meaning_code.specs.Dialogue.{Question, Outcome}
+use Rattle.rb_meaning_code.specs.Dialogue.{Question}
 use Rattle.rb_meaning_code.specs.Remote.{Server, Reply, invoke}
 use Rattle.rb_meaning.specs.CallKinds.{call_kind}
 use Rattle.rb_meaning.specs.RemoteAnswers.{answer_of, unit_of}

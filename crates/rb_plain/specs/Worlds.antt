@@ -1,10 +1,8 @@
 -- What the surroundings of a program's code are seen as, and what they answer: what the unsplit meaning's do.
 use Rattle.std.specs.Prelude.{◌≡◌, ℕ, List, Result, Ok, Err}
-use Rattle.rb_trees.specs.declared.values.Value.{Value}
 use Rattle.rb_trees.specs.declared.values.Value.TheVariants as value
-use Rattle.rb_trees.specs.declared.outcomes.Raised.{Raised}
 use Rattle.rb_meaning_code.specs.State.{Local}
-use Rattle.rb_meaning_code.specs.Dialogue.{Question, Outcome, Handler}
+use Rattle.rb_meaning_code.specs.Dialogue.{Question, Handler}
 use Rattle.rb_meaning.specs.State as state
 use Rattle.rb_meaning.specs.State.{Outside, shows}
 use Rattle.rb_meaning.specs.Shown.{exchanges, shown_events}

@@ -9,6 +9,7 @@ ghost use Rattle.rb_plain.specs.Staged.{program_of};
 ghost use Rattle.rb_plain.specs.Unsplit.{Leaves, WritesUnlessStarved, meant, staged_meaning};
 ghost use Rattle.rb_plain.specs.Worlds.{output};
 
+use crate::batch_world::BatchWorld;
 use crate::batches::Batches;
 use crate::main_run::perform_main;
 use crate::outer_world::OuterWorld;
@@ -39,8 +40,14 @@ fn run_on<'a, 'b, 'p, W: Sink>(
     let first = mem::replace(table, Heap::make(alloc));
     let mut world = OuterWorld::over(alloc, batches, stage, first, out);
     let ended = perform_main(alloc, &mut world, fuel);
-    *table = world.inner.remote.server.replace_table(Heap::make(alloc));
-    let exchanges = world.exchanges;
+    let OuterWorld {
+        batches: _,
+        inner,
+        exchanges,
+    } = world;
+    let BatchWorld { remote, out: _out } = inner;
+    let mut server = remote.server;
+    *table = server.replace_table(Heap::make(alloc));
     match ended {
         Ok(ending) => Ok(Run { ending, exchanges }),
         Err(stop) => Err(stop),

@@ -8,7 +8,6 @@ ghost use Rattle.rb_meaning_flow.specs.declared.scopes.Role.{Role};
 ghost use Rattle.rb_meaning_flow.specs.Scopes.{with_variable};
 ghost use Rattle.rb_meaning_code.specs.Remote as remote;
 ghost use Rattle.rb_meaning.specs.RemoteAnswers as answers;
-ghost use Rattle.rb_meaning.specs.RemotePart as meant;
 ghost use Rattle.rb_engine.specs.Ends.{fault_of};
 ghost use Rattle.rb_plain.specs.Remote.{Ended, as_unit};
 ghost use Rattle.rb_plain.specs.Walks.{Kept, Walked, block_meant, branch_meant, carried_meant, for_meant, if_meant, plain_meant, rows_meant, scope_behind, stmt_meant, stmts_meant, turn_meant, turns_meant, val_meant, val_scope};

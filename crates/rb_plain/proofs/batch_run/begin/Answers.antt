@@ -1,4 +1,4 @@
-use Rattle.std.proofs.Common.{refl, ap, ◌∙◌, [], ◌∷◌, ◌++◌}
+use Rattle.std.proofs.Common.{refl, ap, ◌∙◌}
 use Rattle.rb_trees.specs.declared.values.Value.TheVariants as value
 use Rattle.rb_plain.proofs.BatchWhole.{fresh}
 use Rattle.rb_plain.proofs.Stepped.{named}

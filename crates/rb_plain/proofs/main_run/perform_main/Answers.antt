@@ -1,4 +1,4 @@
-use Rattle.std.proofs.Common.{[], Ok, Err, ap, sym, ◌∙◌}
+use Rattle.std.proofs.Common.{[], Ok, Err, ap, ◌∙◌}
 use Rattle.rb_plain.proofs.MainLed.{ending_or_stop, main_so}
 use Rattle.rb_plain.proofs.main_run.perform_main.Goals as goal
 

@@ -1,5 +1,5 @@
 -- Each form of a statement is performed as it means.
-use Rattle.std.proofs.Common.{rules, arith, refl, sym, ap, ◌∙◌, Ok, take}
+use Rattle.std.proofs.Common.{rules, arith, ap, ◌∙◌, take}
 use Rattle.rb_engine.proofs.Forms.{val_form, var_form, if_form, for_form}
 use Rattle.rb_plain.proofs.Fronts.{kept_opened}
 use Rattle.rb_plain.proofs.Replies.{ruled, same_by, went}
