@@ -53,17 +53,10 @@ fn unsplit_reads_a_service_for_each_admitted_program(rt: HostRuntime) -> Result<
             Some(SERVICE),
             "5 refused 4 Escapes 1:58\n",
         ),
-        (
-            Some(OTHER),
-            Some("$"),
-            "6 service lex 1 BadByte at 1:1\n",
-        ),
+        (Some(OTHER), Some("$"), "6 service lex 1 BadByte at 1:1\n"),
     ] {
         let files = files_of(rt.alloc(), program, service)?;
-        assert_eq!(rt;
-            answer(rt.alloc(), "unsplit p s", files)?.as_str(),
-            wanted
-        );
+        assert_eq!(rt; answer(rt.alloc(), "unsplit p s", files)?.as_str(), wanted);
     }
     Ok(())
 }
