@@ -190,9 +190,9 @@ fn call(
     Ok(SExpr::Call {
         at: 0,
         kind,
-        method: Seq::from_slice(alloc, method)?,
+        method: Boxed::new(alloc, Seq::from_slice(alloc, method)?)?,
         target: Boxed::new(alloc, target)?,
-        args,
+        args: Boxed::new(alloc, args)?,
     })
 }
 

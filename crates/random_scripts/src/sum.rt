@@ -97,9 +97,9 @@ impl Sum {
                 args,
             } => {
                 self.add_two(*at, u32::from(*kind));
-                self.add_bytes(method.as_slice());
+                self.add_bytes(method.get().as_slice());
                 self.add_expr(target.get());
-                self.add_exprs(args);
+                self.add_exprs(args.get());
             }
         }
     }

@@ -4,8 +4,7 @@ use Rattle.rb_trees.specs.declared.values.Value.{Value}
 use Rattle.rb_trees.specs.declared.declarations.Class.{Class}
 use Rattle.rb_trees.specs.declared.scripts.Script.{Script}
 use Rattle.rb_trees.specs.declared.services.Object.{Object}
-use Rattle.rb_meaning_code.specs.Remote.{Server}
-use Rattle.rb_meaning_code.specs.ScriptRun.{batch_fuel}
+use Rattle.rb_meaning_code.specs.Remote.{Server, batch_fuel}
 use Rattle.rb_exec.specs.Blocks.{IsRun}
 use Rattle.rb_exec.specs.Hosted.{Hosted}
 use Rattle.rb_exec.specs.Hosts.{script_run}

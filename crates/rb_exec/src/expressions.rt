@@ -62,9 +62,9 @@ pub fn value_of(
                 at,
                 *place,
                 *kind,
-                method,
+                method.get(),
                 target.get(),
-                args,
+                args.get(),
             )
         }
     }

@@ -108,9 +108,9 @@ fn call(alloc: Global, reader: &mut Reader<'_>, depth: u32) -> Result<SExpr, Mem
     Ok(SExpr::Call {
         at,
         kind,
-        method,
+        method: Boxed::new(alloc, method)?,
         target,
-        args,
+        args: Boxed::new(alloc, args)?,
     })
 }
 

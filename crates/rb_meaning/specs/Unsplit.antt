@@ -12,8 +12,7 @@ use Rattle.rb_meaning_code.specs.Faults.{kind, raised}
 use Rattle.rb_meaning_code.specs.State.{Local, bound, closed}
 use Rattle.rb_meaning_code.specs.Dialogue as ask
 use Rattle.rb_meaning_code.specs.Dialogue.{Question, Outcome, Gave, Faulted, Handler, handle}
-use Rattle.rb_meaning_code.specs.Remote.{Server, Reply, Got, Stopped}
-use Rattle.rb_meaning_code.specs.ScriptRun.{batch_fuel}
+use Rattle.rb_meaning_code.specs.Remote.{Server, Reply, Got, Stopped, batch_fuel}
 use Rattle.rb_meaning_code.specs.Statements.{performs_all}
 use Rattle.rb_meaning_code.specs.Bodies.{bodies_of}
 use Rattle.rb_meaning_flow.specs.Facts.{facts_of}

@@ -23,6 +23,10 @@ pub record Server : Type 0 where
   pub table : List Object
   pub fuel : ℕ
 
+-- the units of fuel of a batch, which are fresh at its start
+unfoldable pub batch_fuel : ℕ
+batch_fuel = 1000000
+
 -- what the server does: a value, or a fault at a position, with the server after it
 pub data Reply (A : Type 0) : Type 0 where
   Got : A → Server → Reply A

@@ -15,11 +15,7 @@ use Rattle.rb_trees.specs.mirror.Declarations.{Class}
 use Rattle.rb_meaning_code.specs.Faults.{fuel_used, kind}
 use Rattle.rb_meaning_code.specs.Operators.{on_one, on_two, by_left}
 use Rattle.rb_meaning_code.specs.Statements.{truth_of}
-use Rattle.rb_meaning_code.specs.Remote.{Server, Reply, Got, Stopped, and_then, replies, rows_in, invoke}
-
--- the fuel of a script, which is fresh at its start
-unfoldable pub batch_fuel : ℕ
-batch_fuel = 1000000
+use Rattle.rb_meaning_code.specs.Remote.{Server, batch_fuel, Reply, Got, Stopped, and_then, replies, rows_in, invoke}
 
 -- what a script runs on: the service's classes and root, and the values of the script's inputs
 pub record Ground : Type 0 where

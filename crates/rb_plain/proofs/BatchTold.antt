@@ -11,8 +11,7 @@ use Rattle.rb_trees.specs.mirror.Services.{Service}
 use Rattle.rb_meaning_code.specs.Bodies.{bodies_of}
 use Rattle.rb_meaning_code.specs.Dialogue as ask
 use Rattle.rb_meaning_code.specs.Dialogue.{Question, Outcome, Gave, Faulted, Run, Dialogue, Done, Ask, AskBatch, Follows, handle}
-use Rattle.rb_meaning_code.specs.Remote.{Server}
-use Rattle.rb_meaning_code.specs.ScriptRun.{batch_fuel}
+use Rattle.rb_meaning_code.specs.Remote.{Server, batch_fuel}
 use Rattle.rb_meaning_code.specs.State.{Local, Names, bound, closed}
 use Rattle.rb_meaning_code.specs.Statements.{performs_all}
 use Rattle.rb_meaning.specs.RemoteAnswers.{remote_answer}

@@ -4,8 +4,7 @@ use Rattle.std.specs.Prelude.{OnOk, Result, Ok, Err}
 use Rattle.rb_trees.specs.declared.services.Object.{Object}
 use Rattle.rb_trees.specs.declared.want.Memory.{Memory}
 use Rattle.rb_meaning_code.specs.State.{Names}
-use Rattle.rb_meaning_code.specs.Remote.{Server, Reply}
-use Rattle.rb_meaning_code.specs.ScriptRun.{batch_fuel}
+use Rattle.rb_meaning_code.specs.Remote.{Server, Reply, batch_fuel}
 use Rattle.rb_meaning.specs.Unsplit.{server_after}
 use Rattle.rb_meaning_flow.specs.Scopes.{Scope}
 use Rattle.rb_engine.specs.Misses.{Means}

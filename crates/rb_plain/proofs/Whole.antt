@@ -13,7 +13,7 @@ use Rattle.rb_plain.specs.MainRuns.{Ends, RunsMain, main_meant}
 use Rattle.rb_plain.specs.Staged.{Staged, program_of}
 use Rattle.rb_plain.specs.Unsplit.{Leaves, WritesUnlessStarved, staged_meaning}
 use Rattle.rb_plain.specs.Worlds.{SeesOuter, output}
-use Rattle.rb_plain.specs.declared.run.Run.{Run}
+use Rattle.rb_trees.specs.declared.outcomes.Run.{Run}
 use Rattle.rb_plain.specs.declared.outer_world.OuterWorld.{OuterWorld}
 use Rattle.rb_plain.specs.declared.run.PlainStop.{PlainStop}
 use Rattle.rb_plain.specs.declared.run.PlainStop.TheVariants as stops

@@ -1,12 +1,12 @@
 -- How a batch begins, and what a local fault in it leaves.
 use Rattle.std.specs.Prelude.{◌≡◌, List, [], ◌∷◌, ◌++◌, ℕ, Result, Ok, Err}
+use Rattle.rb_meaning_code.specs.Remote.{batch_fuel}
 use Rattle.rb_trees.specs.declared.values.Value.TheVariants as value
 use Rattle.rb_trees.specs.declared.outcomes.Raised.{Raised}
 use Rattle.rb_trees.specs.declared.services.Object.{Object}
 use Rattle.rb_trees.specs.declared.want.Memory.{Memory}
 use Rattle.rb_trees.specs.mirror.Code.{mirror_stmts}
 use Rattle.rb_meaning_code.specs.State.{Names}
-use Rattle.rb_meaning_code.specs.ScriptRun.{batch_fuel}
 use Rattle.rb_meaning.specs.RemotePart.{remote_only}
 use Rattle.rb_meaning.specs.Unsplit.{server_after, table_after, with_side}
 use Rattle.rb_base.specs.declared.sinks.Failed.{Failed}

@@ -10,7 +10,7 @@ use Rattle.rb_meaning.specs.Shown.{exchanges}
 use Rattle.rb_base.specs.Devices.{Device, failed}
 use Rattle.rb_base.specs.Sinks.{with_bytes, WrotePrefix}
 use Rattle.rb_plain.specs.Staged.{Staged, program_of, service_of}
-use Rattle.rb_plain.specs.declared.run.Run.{Run}
+use Rattle.rb_trees.specs.declared.outcomes.Run.{Run}
 use Rattle.rb_plain.specs.declared.run.PlainStop.{PlainStop}
 use Rattle.rb_plain.specs.declared.run.PlainStop.TheVariants as stops
 

@@ -20,4 +20,4 @@ mod stage;
 mod walk;
 
 pub use plain_run::unsplit;
-pub use run::{PlainStop, Run};
+pub use run::PlainStop;

@@ -1,14 +1,7 @@
-// How a run ended.
+// Why a run is cut off.
 
-use rb_trees::{Ending, Memory};
+use rb_trees::Memory;
 use thiserror::Error;
-
-/// How a run ended, and the number of batches that were begun.
-#[derive(Drop)]
-pub struct Run {
-    pub ending: Ending,
-    pub exchanges: u64,
-}
 
 /// Why a run was cut off.
 #[derive(Debug, Drop, Error)]

@@ -32,8 +32,8 @@ use Rattle.rb_meaning_code.specs.Calls.{Bodies, called}
 use Rattle.rb_meaning_code.specs.Expressions.{evaluates_all}
 use Rattle.rb_meaning_code.specs.Statements.{prints, performs_all}
 use Rattle.rb_meaning_code.specs.Bodies.{bodies_of}
-use Rattle.rb_meaning_code.specs.Remote.{Server, Reply, Got, Stopped, and_then, replies, seen_as, checked, served, returned, server_of, invoke}
-use Rattle.rb_meaning_code.specs.ScriptRun.{Ground, Ran, ended, with_entry, on_reply, is_primitive, kept, run_steps, run_script, batch_fuel}
+use Rattle.rb_meaning_code.specs.Remote.{Server, Reply, Got, Stopped, and_then, replies, seen_as, checked, served, returned, server_of, invoke, batch_fuel}
+use Rattle.rb_meaning_code.specs.ScriptRun.{Ground, Ran, ended, with_entry, on_reply, is_primitive, kept, run_steps, run_script}
 use Rattle.rb_meaning_flow.specs.Facts.{facts_of}
 use Rattle.rb_meaning_flow.specs.Outermost.{Outermost, program_batches, class_batches, outermost_in}
 use Rattle.rb_meaning.specs.CallKinds.{call_kind}

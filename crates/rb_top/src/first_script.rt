@@ -58,9 +58,9 @@ fn call_on_root(alloc: Global, at: u32, method: &Word) -> Result<SExpr, Memory>
     Ok(SExpr::Call {
         at,
         kind: KIND_INT,
-        method: Seq::from_slice(alloc, method.as_slice())?,
+        method: Boxed::new(alloc, Seq::from_slice(alloc, method.as_slice())?)?,
         target: Boxed::new(alloc, SExpr::Root)?,
-        args: Seq::new(alloc),
+        args: Boxed::new(alloc, Seq::new(alloc))?,
     })
 }
 

@@ -80,7 +80,7 @@ pub fn checked(alloc: Global, text: &[u8]) -> Result<String, Fail> {
 }
 
 /// The two lines of interfaces before each text whose batches are admitted or refused.
-const INTERFACES: &str = "\
+pub const INTERFACES: &str = "\
 interface File { fun name(): Text; fun size(): Int; fun grow(by: Int); fun check(max: Int); fun rename(to: Text); }\n\
 interface Dir { fun files(): Rows<File>; fun file(i: Int): File; fun burn(n: Int); }\n";
 

@@ -21,3 +21,5 @@ mod runs;
 mod service_classes;
 #[cfg(test)]
 mod types;
+#[cfg(test)]
+mod unsplit_runs;

@@ -40,7 +40,7 @@ pub use declarations::{Body, Class, Interface, Method, Param, Program, Signature
 pub use flows::{BadPart, Writer};
 pub use forests::{Entry, Node, NodeFault};
 pub use marks::{Mark, Place};
-pub use outcomes::{Ending, Raised};
+pub use outcomes::{Ending, Raised, Run};
 pub use printing::print_program;
 pub use reading::{LexError, ReadError};
 pub use refusals::Refusal;

@@ -16,3 +16,10 @@ pub enum Ending {
     Done(Option<Value>),
     Faulted(Fault, u32),
 }
+
+/// How a run ended, and the number of batches that were begun.
+#[derive(Drop)]
+pub struct Run {
+    pub ending: Ending,
+    pub exchanges: u64,
+}

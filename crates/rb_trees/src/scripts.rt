@@ -59,12 +59,13 @@ pub enum SExpr {
     Root,
     Unary(UnOp, u32, Boxed<SExpr>),
     Binary(BinOp, u32, Boxed<SExpr>, Boxed<SExpr>),
-    /// A remote call. Its kind, from 0 to 8, says what its result must be.
+    /// A remote call. Its kind, from 0 to 8, says what its result must be. Its parts are boxed, so that an expression stays
+    /// small: a hostile script may have one for each of its bytes.
     Call {
         at: u32,
         kind: u8,
-        method: Word,
+        method: Boxed<Word>,
         target: Boxed<SExpr>,
-        args: Seq<SExpr>,
+        args: Boxed<Seq<SExpr>>,
     },
 }

@@ -39,11 +39,11 @@ fn size_of_expr(expr: &SExpr) -> u64
             args,
             ..
         } => {
-            let args = size_of_exprs(args.as_slice());
+            let args = size_of_exprs(args.get().as_slice());
             size_of_expr(target.get())
                 .saturating_add(args)
                 .saturating_add(14)
-                .saturating_add(method.len() as u64)
+                .saturating_add(method.get().len() as u64)
         }
     }
 }

@@ -159,7 +159,7 @@ fn check_expr(
         }
         SExpr::Call { target, args, .. } => {
             check_expr(target.get(), inputs, scope, step, depth + 1)?;
-            check_exprs(args.as_slice(), inputs, scope, step, depth + 1)
+            check_exprs(args.get().as_slice(), inputs, scope, step, depth + 1)
         }
     }
 }

@@ -20,8 +20,8 @@ use Rattle.rb_meaning_types.specs.Fits.{classes_of, TableFits}
 use Rattle.rb_meaning_code.specs.Faults.{kind}
 use Rattle.rb_meaning_code.specs.Operators.{on_one, on_two, by_left}
 use Rattle.rb_meaning_code.specs.Statements.{truth_of}
-use Rattle.rb_meaning_code.specs.Remote.{Server, Reply, Got, Stopped, and_then, replies, rows_in, invoke}
-use Rattle.rb_meaning_code.specs.ScriptRun.{batch_fuel, Ground, Vars, latest, Ran, ended, in_front, with_entry, on_reply, decided_or, value_of, values_of, is_primitive, kept, with_kept, condition, rows_of, goes_on, chosen, branched, Why, AllDone, InTurn, NoUnit, Turned, with_unit, turned_on, turns, turn_over, after_turns, walked, run_step, run_steps}
+use Rattle.rb_meaning_code.specs.Remote.{Server, Reply, Got, Stopped, and_then, replies, rows_in, invoke, batch_fuel}
+use Rattle.rb_meaning_code.specs.ScriptRun.{Ground, Vars, latest, Ran, ended, in_front, with_entry, on_reply, decided_or, value_of, values_of, is_primitive, kept, with_kept, condition, rows_of, goes_on, chosen, branched, Why, AllDone, InTurn, NoUnit, Turned, with_unit, turned_on, turns, turn_over, after_turns, walked, run_step, run_steps}
 use Rattle.rb_types_keep.specs.Kept.{IsPrimitiveForm, IsPrimitive, IsBounded}
 use Rattle.rb_types_keep.specs.Formed.{AreFormed}
 use Rattle.rb_types_keep.specs.Ends.{Grown}

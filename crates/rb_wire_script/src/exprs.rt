@@ -92,9 +92,9 @@ fn call(alloc: Global, left: usize, bytes: &[u8]) -> Result<(SExpr, &[u8]), Stop
     let call = SExpr::Call {
         at,
         kind,
-        method,
+        method: Boxed::new(alloc, method)?,
         target: Boxed::new(alloc, target)?,
-        args,
+        args: Boxed::new(alloc, args)?,
     };
     Ok((call, rest))
 }

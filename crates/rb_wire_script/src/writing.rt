@@ -81,10 +81,10 @@ fn put_expr(e: &SExpr, into: &mut BytesMut) -> Result<(), Memory>
             target,
             args,
         } => {
-            put_method(*at, *kind, method.as_slice(), into)?;
+            put_method(*at, *kind, method.get().as_slice(), into)?;
             put_expr(target.get(), into)?;
-            put_count(args.len(), into)?;
-            put_exprs(args.as_slice(), into)?;
+            put_count(args.get().len(), into)?;
+            put_exprs(args.get().as_slice(), into)?;
             Ok(())
         }
     }

@@ -3,7 +3,7 @@ use Rattle.rb_trees.specs.declared.outcomes.Ending.{Ending}
 use Rattle.rb_meaning.specs.Shown.{shown_events}
 use Rattle.rb_plain.specs.Unsplit.{WritesUnlessStarved, staged_meaning}
 use Rattle.rb_plain.specs.Worlds.{output}
-use Rattle.rb_plain.specs.declared.run.Run.{Run}
+use Rattle.rb_trees.specs.declared.outcomes.Run.{Run}
 use Rattle.rb_plain.proofs.Whole.{leaves_so, sees_first, stopped_as, written_so}
 use Rattle.rb_plain.proofs.plain_run.run_on.Goals as goal
 

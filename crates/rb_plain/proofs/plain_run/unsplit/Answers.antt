@@ -4,7 +4,7 @@ use Rattle.rb_meaning_types.specs.Programs.{is_typed}
 use Rattle.rb_meaning.specs.Shown.{shown_events}
 use Rattle.rb_plain.specs.Unsplit.{WritesUnlessStarved, meant}
 use Rattle.rb_plain.specs.Worlds.{output}
-use Rattle.rb_plain.specs.declared.run.Run.{Run}
+use Rattle.rb_trees.specs.declared.outcomes.Run.{Run}
 use Rattle.rb_plain.proofs.Differ.{typed_differ}
 use Rattle.rb_plain.proofs.plain_run.unsplit.Goals as goal
 
