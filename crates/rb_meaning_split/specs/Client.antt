@@ -1,0 +1,77 @@
+-- The client: a program whose batches are divided. At each batch its event is shown, and its remainder is performed on the next
+-- of the nodes that the scripts gave.
+use Rattle.std.specs.Prelude.{ℕ, List, [], ◌∷◌, ◌++◌, length, Option, None, Some}
+use Rattle.rb_trees.specs.Named.{lookup}
+use Rattle.rb_trees.specs.declared.values.Value.{Value}
+use Rattle.rb_trees.specs.declared.values.Value.TheVariants as value
+use Rattle.rb_trees.specs.declared.outcomes.Ending as ending
+use Rattle.rb_trees.specs.mirror.Declarations.{Program}
+use Rattle.rb_trees.specs.mirror.Forests.{Node}
+use Rattle.rb_meaning_code.specs.Faults.{kind, raised}
+use Rattle.rb_meaning_code.specs.State.{Names, Local, closed}
+use Rattle.rb_meaning_code.specs.Dialogue.{Question, Outcome, Gave, Faulted, Handler, handle}
+use Rattle.rb_meaning_flow.specs.Outermost.{Outermost}
+use Rattle.rb_meaning.specs.State as state
+use Rattle.rb_meaning.specs.State.{Event}
+use Rattle.rb_meaning.specs.Unsplit.{batch_at}
+use Rattle.rb_meaning.specs.Meaning.{local_answer, runs_main, ending_of, at_start}
+use Rattle.rb_meaning_code.specs.Dialogue as ask
+use Rattle.rb_trees.specs.declared.outcomes.Raised.{Raised}
+use Rattle.std.specs.Prelude.{Result}
+use Rattle.rb_meaning_split.specs.Division.{Division, division}
+use Rattle.rb_meaning_split.specs.Replay.{Seen, Replayed, ended, replay_all}
+
+-- the value of a name, as a batch takes it for an input; each input has one
+abbrev pub value_or_unit : Option Value → Value
+value_or_unit (Some v) = v
+value_or_unit None = value.Unit
+
+-- the values of a batch's inputs at its start
+abbrev pub input_values : List (List ℕ) → Names → List Value
+input_values [] names = []
+input_values (name ∷ inputs) names = value_or_unit (lookup names name) ∷ input_values inputs names
+
+-- the names of a batch are gone at its end
+abbrev pub left : ℕ → Outcome (Unit {0}) → Outcome (Unit {0})
+left count (Gave u l) = Gave u (closed count l)
+left count (Faulted r l) = Faulted r (closed count l)
+
+-- a batch's remainder on a node, from the local state and the events of its start, its own event among them
+abbrev pub replays : Program → Division → Local → List Event → Node → Replayed
+replays p d l events n =
+    let r = replay_all p.classes l.fuel d.remainder l (record { events = events; node = n }) ended in
+    record r { outcome = left (length l.names) r.outcome }
+
+-- what surrounds a client's code: the events so far, and the nodes that are still to come
+pub record Waiting : Type 0 where
+  pub events : List Event
+  pub nodes : List Node
+
+-- what code outside of a batch shows: a line is printed
+abbrev pub answers_waiting : Waiting → Question → Result Value Raised × Waiting
+answers_waiting s (ask.Line at bytes) = (local_answer (ask.Line at bytes), record s { events = s.events ++ state.Line bytes ∷ [] })
+answers_waiting s question = (local_answer question, s)
+
+abbrev pub with_replayed : Replayed → List Node → Outcome (Unit {0}) × Waiting
+with_replayed r nodes = (r.outcome, record { events = r.events; nodes = nodes })
+
+-- a batch that was found, on the next node; without one it ends by Kind
+abbrev pub replays_next : Program → Option Outermost → ℕ → Local → List Event → List Node → Outcome (Unit {0}) × Waiting
+replays_next p None at l events nodes = (Faulted (raised kind at) l, record { events = events; nodes = nodes })
+replays_next p (Some b) at l events [] = (Faulted (raised kind at) l, record { events = events; nodes = [] })
+replays_next p (Some b) at l events (n ∷ nodes) = with_replayed (replays p (division p b) l (events ++ state.Batch ∷ []) n) nodes
+
+abbrev pub in_client : Program → Handler Waiting
+in_client p = record { answer = answers_waiting; batch = λ s at l. replays_next p (batch_at p at) at l s.events s.nodes }
+
+-- how a client ends, and what it shows
+pub record Heard : Type 0 where
+  pub ending : ending.Ending
+  pub events : List Event
+
+abbrev pub heard : Outcome (Option Value) × Waiting → Heard
+heard r = record { ending = ending_of r.0; events = r.1.events }
+
+-- the client of a program with so much fuel, on the nodes of the replies in order
+abbrev pub client : Program → ℕ → List Node → Heard
+client p fuel nodes = heard (handle (in_client p) (runs_main p.classes fuel p.body (at_start fuel)) (record { events = []; nodes = nodes }))

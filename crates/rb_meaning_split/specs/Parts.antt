@@ -1,0 +1,57 @@
+-- The parts of a batch's remainder: what is left to the client, statement by statement.
+use Rattle.std.specs.Prelude.{ℕ, suc, ◌-◌, List, [], ◌∷◌, cond}
+use Rattle.rb_trees.specs.mirror.Code.{Expr, expr_at, Stmt, Stmts, Val, Run, If, For, NoStmts, MoreStmts}
+use Rattle.rb_trees.specs.mirror.Declarations.{Program}
+use Rattle.rb_trees.specs.mirror.Remainders.{Part, Parts, Plain, Pass, Bind, Both, Branch, Turns, NoParts, MoreParts}
+use Rattle.rb_meaning_flow.specs.declared.scopes.Role.{Role}
+use Rattle.rb_meaning_flow.specs.Facts.{facts_of, over_rows}
+use Rattle.rb_meaning_flow.specs.Scopes.{Scope, with_variable}
+use Rattle.rb_meaning_flow.specs.Portable.{portable, holds_call, branches_hold}
+use Rattle.rb_meaning_flow.specs.Marks.{is_portable_call}
+use Rattle.rb_meaning_flow.specs.Sites.{scope_after}
+use Rattle.rb_meaning.specs.CallKinds.{call_kind}
+use Rattle.rb_meaning.specs.RemoteExprs.{remote_of}
+use Rattle.rb_meaning_split.specs.Cuts.{cut_stmt}
+use Rattle.rb_meaning_split.specs.Numbers.{step_after, steps_after}
+
+module _ (p : Program) where
+  -- the steps that a statement takes, numbered from n on, each with the kind of what it kept
+  abbrev pub takes : ℕ → List Expr → List (ℕ × ℕ)
+  takes n [] = []
+  takes n (e ∷ es) = (n, call_kind p (expr_at e)) ∷ takes (suc n) es
+
+  -- a statement without its remote expressions
+  abbrev pub plain : Scope → ℕ → Stmt → Part
+  plain scope n stmt = Plain (cut_stmt (facts_of p) scope n stmt) (takes n (remote_of (facts_of p) scope stmt))
+
+  -- A carried val: what isn't primitive stays in the script; what holds a call is bound to what was kept; and what holds none
+  -- is evaluated on both sides.
+  abbrev pub carried : ℕ → ℕ → List ℕ → Expr → Part
+  carried n at name e =
+      cond ((facts_of p).primitive (expr_at e))
+      (cond (holds_call (facts_of p) e) (Bind n name (call_kind p (expr_at e))) (Both n at name e))
+      (Pass n)
+
+  -- the kind of a row, by the kind of rows
+  abbrev pub row_kind : Expr → ℕ
+  row_kind e = call_kind p (expr_at e) - 4
+
+  abbrev mutual
+    -- the part of a statement at a script place, whose first step has the number n
+    pub part : Scope → ℕ → Stmt → Part
+    part scope n (Val at name e) = cond (portable (facts_of p) scope e) (carried n at name e) (plain scope n (Val at name e))
+    part scope n (Run at e) = cond (is_portable_call (facts_of p) scope e) (Pass n) (plain scope n (Run at e))
+    part scope n (If at c a b) =
+        cond (branches_hold (facts_of p) a b)
+        (Branch n (block_parts scope (suc n) a) (block_parts scope (steps_after (facts_of p) scope a (suc n)) b))
+        (plain scope n (If at c a b))
+    part scope n (For at name e a) =
+        cond (over_rows (facts_of p) e)
+        (Turns n name (row_kind e) (block_parts (with_variable scope name Role.Row at) (suc n) a))
+        (plain scope n (For at name e a))
+    part scope n stmt = plain scope n stmt
+
+    pub block_parts : Scope → ℕ → Stmts → Parts
+    block_parts scope n NoStmts = NoParts
+    block_parts scope n (MoreStmts s ss) =
+        MoreParts (part scope n s) (block_parts (scope_after (facts_of p) [] scope s) (step_after (facts_of p) scope s n) ss)
