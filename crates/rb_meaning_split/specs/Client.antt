@@ -1,23 +1,23 @@
 -- The client: a program whose batches are divided. At each batch its event is shown, and its remainder is performed on the next
 -- of the nodes that the scripts gave.
-use Rattle.std.specs.Prelude.{ℕ, List, [], ◌∷◌, ◌++◌, length, Option, None, Some}
+use Rattle.std.specs.Prelude.{ℕ, List, [], ◌∷◌, ◌++◌, length, Option, None, Some, Result}
 use Rattle.rb_trees.specs.Named.{lookup}
 use Rattle.rb_trees.specs.declared.values.Value.{Value}
 use Rattle.rb_trees.specs.declared.values.Value.TheVariants as value
+use Rattle.rb_trees.specs.declared.outcomes.Raised.{Raised}
 use Rattle.rb_trees.specs.declared.outcomes.Ending as ending
 use Rattle.rb_trees.specs.mirror.Declarations.{Program}
 use Rattle.rb_trees.specs.mirror.Forests.{Node}
+use Rattle.rb_trees.specs.mirror.Scripts.{Script}
 use Rattle.rb_meaning_code.specs.Faults.{kind, raised}
 use Rattle.rb_meaning_code.specs.State.{Names, Local, closed}
+use Rattle.rb_meaning_code.specs.Dialogue as ask
 use Rattle.rb_meaning_code.specs.Dialogue.{Question, Outcome, Gave, Faulted, Handler, handle}
 use Rattle.rb_meaning_flow.specs.Outermost.{Outermost}
 use Rattle.rb_meaning.specs.State as state
 use Rattle.rb_meaning.specs.State.{Event}
 use Rattle.rb_meaning.specs.Unsplit.{batch_at}
 use Rattle.rb_meaning.specs.Meaning.{local_answer, runs_main, ending_of, at_start}
-use Rattle.rb_meaning_code.specs.Dialogue as ask
-use Rattle.rb_trees.specs.declared.outcomes.Raised.{Raised}
-use Rattle.std.specs.Prelude.{Result}
 use Rattle.rb_meaning_split.specs.Division.{Division, division}
 use Rattle.rb_meaning_split.specs.Replay.{Seen, Replayed, ended, replay_all}
 
@@ -42,9 +42,14 @@ replays p d l events n =
     let r = replay_all p.classes l.fuel d.remainder l (record { events = events; node = n }) ended in
     record r { outcome = left (length l.names) r.outcome }
 
--- what surrounds a client's code: the events so far, and the nodes that are still to come
+-- a script with the values of its inputs, as it is sent
+abbrev pub Sent : Type 0
+Sent = Script × List Value
+
+-- what surrounds a client's code: the events so far, the scripts that were sent, and the nodes that are still to come
 pub record Waiting : Type 0 where
   pub events : List Event
+  pub sent : List Sent
   pub nodes : List Node
 
 -- what code outside of a batch shows: a line is printed
@@ -52,26 +57,39 @@ abbrev pub answers_waiting : Waiting → Question → Result Value Raised × Wai
 answers_waiting s (ask.Line at bytes) = (local_answer (ask.Line at bytes), record s { events = s.events ++ state.Line bytes ∷ [] })
 answers_waiting s question = (local_answer question, s)
 
-abbrev pub with_replayed : Replayed → List Node → Outcome (Unit {0}) × Waiting
-with_replayed r nodes = (r.outcome, record { events = r.events; nodes = nodes })
+abbrev pub with_replayed : Replayed → Waiting → Outcome (Unit {0}) × Waiting
+with_replayed r s = (r.outcome, record s { events = r.events })
 
--- a batch that was found, on the next node; without one it ends by Kind
-abbrev pub replays_next : Program → Option Outermost → ℕ → Local → List Event → List Node → Outcome (Unit {0}) × Waiting
-replays_next p None at l events nodes = (Faulted (raised kind at) l, record { events = events; nodes = nodes })
-replays_next p (Some b) at l events [] = (Faulted (raised kind at) l, record { events = events; nodes = [] })
-replays_next p (Some b) at l events (n ∷ nodes) = with_replayed (replays p (division p b) l (events ++ state.Batch ∷ []) n) nodes
+-- what is sent for a batch, from the names of its start
+abbrev pub sent_for : Division → Local → Sent
+sent_for d l = (d.script, input_values d.inputs l.names)
+
+-- A batch begins: its event, and its script is sent.
+abbrev pub begins : Division → Local → Waiting → Waiting
+begins d l s = record s { events = s.events ++ state.Batch ∷ []; sent = s.sent ++ sent_for d l ∷ [] }
+
+-- a batch that was begun, on the next node; without one it ends by Kind
+abbrev pub replays_next : Program → Division → Local → Waiting → List Node → Outcome (Unit {0}) × Waiting
+replays_next p d l s [] = (Faulted (raised kind d.at) l, s)
+replays_next p d l s (n ∷ nodes) = with_replayed (replays p d l s.events n) (record s { nodes = nodes })
+
+-- a batch that was found, as one is wherever a program asks for a batch
+abbrev pub performs_divided : Program → Option Outermost → ℕ → Local → Waiting → Outcome (Unit {0}) × Waiting
+performs_divided p None at l s = (Faulted (raised kind at) l, s)
+performs_divided p (Some b) at l s = let begun = begins (division p b) l s in replays_next p (division p b) l begun begun.nodes
 
 abbrev pub in_client : Program → Handler Waiting
-in_client p = record { answer = answers_waiting; batch = λ s at l. replays_next p (batch_at p at) at l s.events s.nodes }
+in_client p = record { answer = answers_waiting; batch = λ s at l. performs_divided p (batch_at p at) at l s }
 
--- how a client ends, and what it shows
+-- how a client ends, what it shows, and what it sends
 pub record Heard : Type 0 where
   pub ending : ending.Ending
   pub events : List Event
+  pub sent : List Sent
 
 abbrev pub heard : Outcome (Option Value) × Waiting → Heard
-heard r = record { ending = ending_of r.0; events = r.1.events }
+heard r = record { ending = ending_of r.0; events = r.1.events; sent = r.1.sent }
 
 -- the client of a program with so much fuel, on the nodes of the replies in order
 abbrev pub client : Program → ℕ → List Node → Heard
-client p fuel nodes = heard (handle (in_client p) (runs_main p.classes fuel p.body (at_start fuel)) (record { events = []; nodes = nodes }))
+client p fuel nodes = heard (handle (in_client p) (runs_main p.classes fuel p.body (at_start fuel)) (record { events = []; sent = []; nodes = nodes }))
