@@ -101,12 +101,12 @@ after (Gave a l, s) go = go a l s
 after (Faulted r l, s) go = stopped r l s
 
 -- a block's names go at its end, by a fault too; then the node goes on behind the entry
+abbrev pub behind_end : ℕ → Node → Outcome (Unit {0}) → List Event → Rest → Replayed
+behind_end count rest (Gave u l) events go = go (closed count l) (record { events = events; node = rest })
+behind_end count rest (Faulted r l) events go = record { outcome = Faulted r (closed count l); events = events }
+
 abbrev pub behind : ℕ → Node → Replayed → Rest → Replayed
-behind count rest r go = by r.outcome
-  where
-    by : Outcome (Unit {0}) → Replayed
-    by (Gave u l) = go (closed count l) (record { events = r.events; node = rest })
-    by (Faulted x l) = record { outcome = Faulted x (closed count l); events = r.events }
+behind count rest r go = behind_end count rest r.outcome r.events go
 
 -- the branch that was taken, with its node and the node behind it
 abbrev pub on_branch : ℕ → Node → Local → Seen → (Bool → Node → Node → Replayed) → Replayed
