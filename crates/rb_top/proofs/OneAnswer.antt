@@ -17,17 +17,19 @@ use Rattle.rb_meaning_types.specs.Programs.{check_program, is_typed}
 use Rattle.rb_meaning_types.specs.Stores.{StoreRefusal, Stored}
 use Rattle.rb_meaning.specs.ServiceSources.{ReadsAsService, unread, of_text}
 use Rattle.rb_flow.specs.Program.{HasNoRefusal}
+use Rattle.rb_meaning_split.specs.Division.{Division, divisions}
+use Rattle.rb_shown.specs.Views.{shown_divisions}
 use Rattle.rb_parse.specs.Outcomes.{AtMostOne}
 use Rattle.rb_top.specs.Loads.{FindsTooLong}
 use Rattle.rb_top.specs.Runs.{Served, run_status, run_text}
 use Rattle.rb_top.specs.Scene.{Scene}
-use Rattle.rb_top.specs.Texts.{WithinLength, TooLong, IsUntyped, IsRefused, IsProgram, IsBuilt, IsService}
-use Rattle.rb_top.specs.Words.{Asked, Check, Run, program_name}
+use Rattle.rb_top.specs.Texts.{WithinLength, TooLong, IsUntyped, IsRefused, IsUndivided, IsProgram, IsBuilt, IsService}
+use Rattle.rb_top.specs.Words.{Asked, Check, Split, Run, program_name}
 use Rattle.rb_top.specs.declared.status.Status.{Status}
 use Rattle.rb_top.specs.declared.status.Status.TheVariants.{Done, Memory}
 use Rattle.rb_top.specs.declared.words.Way.{Way}
 use Rattle.rb_top.specs.declared.words.Way.TheVariants.{Both}
-use Rattle.rb_top.specs.Answers.{Answers, words, program_fault, program_too_long, program_refused, program_untyped, program_not_admitted, program_admitted, program_form, service_fault, service_too_long, service_refused, run, Ends, Says, answered, starved_first, starved_running, read_times, IsTold, ToldAdmitted, ToldRun, ChecksTold, RunsTold}
+use Rattle.rb_top.specs.Answers.{Answers, words, program_fault, program_too_long, program_refused, program_untyped, program_not_admitted, program_not_divided, program_accepted, program_viewed, program_form, service_fault, service_too_long, service_refused, run, Ends, Says, answered, starved_first, starved_running, read_times, IsTold, ToldAccepted, ToldRun, ChecksTold, SplitsTold, RunsTold}
 use Rattle.rb_top.proofs.Ended.{starved_at_once}
 
 abbrev found_or_none : Option (List ℕ) → List ℕ
@@ -59,14 +61,17 @@ program_short text program i = i.1.short
 -- what is asked of a program, and of a service
 abbrev service_name : Asked → List ℕ
 service_name (Check p) = p
+service_name (Split p) = p
 service_name (Run way p s fuel) = s
 
 abbrev fuel_asked : Asked → ℕ
 fuel_asked (Check p) = 0
+fuel_asked (Split p) = 0
 fuel_asked (Run way p s fuel) = fuel
 
 abbrev way_asked : Asked → Way
 way_asked (Check p) = Both
+way_asked (Split p) = Both
 way_asked (Run way p s fuel) = way
 
 -- what is asked is one thing
@@ -113,12 +118,30 @@ never_unadmitted : OneSource → (told : Option Directory) (name text found : Li
 never_unadmitted one told name text found program other refusal r i f x =
     subst HasNoRefusal (sym (one_program one told name text found program other r i.read f x.read)) i.admitted refusal x.refused.0
 
+-- the batches of an accepted program are divided
+never_undivided : OneSource → (told : Option Directory) (name text found : List ℕ) (program other : Program) (refusal : Refusal) → IsTold told name text → IsProgram text program → Finds told name found → IsUndivided found other refusal → ⊥
+never_undivided one told name text found program other refusal r i f x =
+    let e = sym i.divided.1 ∙ subst (λ q. divisions q ≡ Err refusal) (one_program one told name text found program other r i.read f x.read) x.refused in
+    absurd (cc e)
+
 -- an answer is this one
 abbrev Is : Status → List ℕ → Status → List ℕ → Type 0
 Is status text status' text' = (status' ≡ status) × (text' ≡ text)
 
--- `check P`, where the files tell an admitted program
-checked_once : OneSource → (files left : Device Directory) (asked : Option Asked) (p text : List ℕ) (program : Program) (status : Status) (shown : List ℕ) → asked ≡ Some (Check p) → ToldAdmitted files.told p text program → Answers files asked status shown left → Is Done (line (codes "admitted")) status shown
+no_view : {A : Type 0} (p p' : List ℕ) → Some (Split p') ≡ Some (Check p) → A
+no_view p p' e = absurd (cc e)
+
+no_check_view : {A : Type 0} (p p' : List ℕ) → Some (Check p') ≡ Some (Split p) → A
+no_check_view p p' e = absurd (cc e)
+
+no_run_view : {A : Type 0} (way : Way) (p p' s : List ℕ) (fuel : ℕ) → Some (Run way p' s fuel) ≡ Some (Split p) → A
+no_run_view way p p' s fuel e = absurd (cc e)
+
+no_view_run : {A : Type 0} (way : Way) (p s p' : List ℕ) (fuel : ℕ) → Some (Split p') ≡ Some (Run way p s fuel) → A
+no_view_run way p s p' fuel e = absurd (cc e)
+
+-- `check P`, where the files tell an accepted program
+checked_once : OneSource → (files left : Device Directory) (asked : Option Asked) (p text : List ℕ) (program : Program) (status : Status) (shown : List ℕ) → asked ≡ Some (Check p) → ToldAccepted files.told p text program → Answers files asked status shown left → Is Done (line (codes "accepted")) status shown
 checked_once one files left asked p text program status shown w t words = absurd (cc w)
 checked_once one files left asked p text program status shown w t (program_fault a f) =
     absurd (never_fails files.told p text t.finds (subst (FailsNext files.told) (named a (Check p) w) f))
@@ -130,12 +153,49 @@ checked_once one files left asked p text program status shown w t (program_untyp
     absurd (never_ill_typed one files.told p text found program other error t.finds t.is.read t.is.typed (subst (λ m. Finds files.told m found) (named a (Check p) w) f) x)
 checked_once one files left asked p text program status shown w t (program_not_admitted a found other refusal f x) =
     absurd (never_unadmitted one files.told p text found program other refusal t.finds t.is (subst (λ m. Finds files.told m found) (named a (Check p) w) f) x)
-checked_once one files left asked p text program status shown w t (program_admitted p' found other h) = (refl, refl)
+checked_once one files left asked p text program status shown w t (program_not_divided a found other refusal f x) =
+    absurd (never_undivided one files.told p text found program other refusal t.finds t.is (subst (λ m. Finds files.told m found) (named a (Check p) w) f) x)
+checked_once one files left asked p text program status shown w t (program_accepted p' found other h) = (refl, refl)
+checked_once one files left asked p text program status shown w t (program_viewed p' found other ds h d) = no_view p p' w
 checked_once one files left asked p text program status shown w t (program_form p' s' found fuel' other h n) = no_check Both p p' s' fuel' w
 checked_once one files left asked p text program status shown w t (service_fault way p' s' found fuel' other h b g) = no_check way p p' s' fuel' w
 checked_once one files left asked p text program status shown w t (service_too_long way p' s' found fuel' other h b l) = no_check way p p' s' fuel' w
 checked_once one files left asked p text program status shown w t (service_refused way p' s' found next fuel' other error h b g n) = no_check way p p' s' fuel' w
 checked_once one files left asked p text program status shown w t (run way p' s' found next fuel' other served h b g j) = no_check way p p' s' fuel' w
+
+-- a program is divided in one way
+one_division : (p q : Program) (ds es : List Division) → p ≡ q → divisions p ≡ Ok ds → divisions q ≡ Ok es → ds ≡ es
+one_division p q ds es same d e =
+    let both : Ok ds ≡ Ok es = sym d ∙ ap divisions same ∙ e in
+    cc both
+
+-- `split P`, where the files tell an accepted program
+viewed_once : OneSource → (files left : Device Directory) (asked : Option Asked) (p text : List ℕ) (program : Program) (ds : List Division) (status : Status) (shown : List ℕ) → asked ≡ Some (Split p) → ToldAccepted files.told p text program → divisions program ≡ Ok ds
+    → Answers files asked status shown left → Is Done (shown_divisions text ds) status shown
+viewed_once one files left asked p text program ds status shown w t v words = absurd (cc w)
+viewed_once one files left asked p text program ds status shown w t v (program_fault a f) =
+    absurd (never_fails files.told p text t.finds (subst (FailsNext files.told) (named a (Split p) w) f))
+viewed_once one files left asked p text program ds status shown w t v (program_too_long a l) =
+    absurd (never_too_long files.told p text t.finds (program_short text program t.is.read) (subst (FindsTooLong files.told) (named a (Split p) w) l))
+viewed_once one files left asked p text program ds status shown w t v (program_refused a found error f x) =
+    absurd (never_refused one files.told p text found program error t.finds t.is.read (subst (λ m. Finds files.told m found) (named a (Split p) w) f.0) x)
+viewed_once one files left asked p text program ds status shown w t v (program_untyped a found other error f x) =
+    absurd (never_ill_typed one files.told p text found program other error t.finds t.is.read t.is.typed (subst (λ m. Finds files.told m found) (named a (Split p) w) f) x)
+viewed_once one files left asked p text program ds status shown w t v (program_not_admitted a found other refusal f x) =
+    absurd (never_unadmitted one files.told p text found program other refusal t.finds t.is (subst (λ m. Finds files.told m found) (named a (Split p) w) f) x)
+viewed_once one files left asked p text program ds status shown w t v (program_not_divided a found other refusal f x) =
+    absurd (never_undivided one files.told p text found program other refusal t.finds t.is (subst (λ m. Finds files.told m found) (named a (Split p) w) f) x)
+viewed_once one files left asked p text program ds status shown w t v (program_accepted p' found other h) = no_check_view p p' w
+viewed_once one files left asked p text program ds status shown w t v (program_viewed p' found other es h d) =
+    let here = subst (λ m. Finds files.told m found) (named (Split p') (Split p) w) h.finds in
+    let same = found_once files.told p text found t.finds here in
+    let it = one_division other program es ds (one_program one files.told p text found program other t.finds t.is.read here h.is.read) d v in
+    (refl, ap (λ x. shown_divisions x es) same ∙ ap (shown_divisions text) it)
+viewed_once one files left asked p text program ds status shown w t v (program_form p' s' found fuel' other h n) = no_run_view Both p p' s' fuel' w
+viewed_once one files left asked p text program ds status shown w t v (service_fault way p' s' found fuel' other h b g) = no_run_view way p p' s' fuel' w
+viewed_once one files left asked p text program ds status shown w t v (service_too_long way p' s' found fuel' other h b l) = no_run_view way p p' s' fuel' w
+viewed_once one files left asked p text program ds status shown w t v (service_refused way p' s' found next fuel' other error h b g n) = no_run_view way p p' s' fuel' w
+viewed_once one files left asked p text program ds status shown w t v (run way p' s' found next fuel' other served h b g j) = no_run_view way p p' s' fuel' w
 
 -- no source is two services, or one and none
 abbrev OneService : Type 0
@@ -172,7 +232,10 @@ run_once one services files left asked way p s text other fuel program served st
     absurd (never_ill_typed one files.told p text found program program' error t.finds t.is.read t.is.typed (subst (λ m. Finds files.told m found) (named a (Run way p s fuel) w) f) x)
 run_once one services files left asked way p s text other fuel program served status shown w t (program_not_admitted a found program' refusal f x) =
     absurd (never_unadmitted one files.told p text found program program' refusal t.finds t.is (subst (λ m. Finds files.told m found) (named a (Run way p s fuel) w) f) x)
-run_once one services files left asked way p s text other fuel program served status shown w t (program_admitted p' found program' h) = no_run way p s p' fuel w
+run_once one services files left asked way p s text other fuel program served status shown w t (program_not_divided a found program' refusal f x) =
+    absurd (never_undivided one files.told p text found program program' refusal t.finds t.is (subst (λ m. Finds files.told m found) (named a (Run way p s fuel) w) f) x)
+run_once one services files left asked way p s text other fuel program served status shown w t (program_accepted p' found program' h) = no_run way p s p' fuel w
+run_once one services files left asked way p s text other fuel program served status shown w t (program_viewed p' found program' ds h d) = no_view_run way p s p' fuel w
 run_once one services files left asked way p s text other fuel program served status shown w t (program_form p' s' found fuel' program' h n) =
     let e = same_asked (Run Both p' s' fuel') (Run way p s fuel) w in
     let same_program = one_program one files.told p text found program program' t.finds t.is.read (subst (λ m. Finds files.told m found) (ap program_name e) h.finds) h.is.read in
@@ -208,14 +271,24 @@ ends_so : (status : Status) (text : List ℕ) (result : Status) (before after : 
 ends_so status text result before after status' text' is e =
     subst (λ x. Ends status x result before.out after.out) is.1 (subst (λ x. Ends x text' result before.out after.out) is.0 e)
 
-checks_by : OneSource → (asked : Option Asked) (p text : List ℕ) (program : Program) (result : Status) (before after : Scene) → asked ≡ Some (Check p) → ToldAdmitted before.files.told p text program → Says asked result before after → Ends Done (line (codes "admitted")) result before.out after.out
+checks_by : OneSource → (asked : Option Asked) (p text : List ℕ) (program : Program) (result : Status) (before after : Scene) → asked ≡ Some (Check p) → ToldAccepted before.files.told p text program → Says asked result before after → Ends Done (line (codes "accepted")) result before.out after.out
 checks_by one asked p text program result before after w t (answered status shown a e) =
-    ends_so Done (line (codes "admitted")) result before after status shown (checked_once one before.files after.files asked p text program status shown w t a) e
-checks_by one asked p text program result before after w t (starved_first count r f) = ends_starved Done (line (codes "admitted")) result count before after r f
+    ends_so Done (line (codes "accepted")) result before after status shown (checked_once one before.files after.files asked p text program status shown w t a) e
+checks_by one asked p text program result before after w t (starved_first count r f) = ends_starved Done (line (codes "accepted")) result count before after r f
 checks_by one asked p text program result before after w t (starved_running way p' s' found fuel program' e h b r f) = no_check way p p' s' fuel (sym e ∙ w)
 
 pub checks_told : OneSource → (asked : Option Asked) (result : Status) (before after : Scene) → Says asked result before after → ChecksTold asked result before after
 checks_told one asked result before after h = λ p text program w t. checks_by one asked p text program result before after w t h
+
+splits_by : OneSource → (asked : Option Asked) (p text : List ℕ) (program : Program) (ds : List Division) (result : Status) (before after : Scene) → asked ≡ Some (Split p) → ToldAccepted before.files.told p text program → divisions program ≡ Ok ds → Says asked result before after
+    → Ends Done (shown_divisions text ds) result before.out after.out
+splits_by one asked p text program ds result before after w t v (answered status shown a e) =
+    ends_so Done (shown_divisions text ds) result before after status shown (viewed_once one before.files after.files asked p text program ds status shown w t v a) e
+splits_by one asked p text program ds result before after w t v (starved_first count r f) = ends_starved Done (shown_divisions text ds) result count before after r f
+splits_by one asked p text program ds result before after w t v (starved_running way p' s' found fuel program' e h b r f) = no_run_view way p p' s' fuel (sym e ∙ w)
+
+pub splits_told : OneSource → (asked : Option Asked) (result : Status) (before after : Scene) → Says asked result before after → SplitsTold asked result before after
+splits_told one asked result before after h = λ p text program ds w t v. splits_by one asked p text program ds result before after w t v h
 
 runs_by : OneSource → OneService → (asked : Option Asked) (way : Way) (p s text other : List ℕ) (fuel : ℕ) (program : Program) (served : Served) (result : Status) (before after : Scene) → asked ≡ Some (Run way p s fuel) → ToldRun before.files.told way p s text other program served → Says asked result before after
     → Ends (run_status fuel program served) (run_text text fuel program served) result before.out after.out ⊎ (result ≡ Memory)

@@ -17,6 +17,8 @@ use Rattle.rb_meaning.specs.ServiceSources.{ReadsAsService}
 use Rattle.rb_meaning_types.specs.Programs.{check_program, is_typed}
 use Rattle.rb_meaning_flow.specs.Programs.{IsAnswerOf}
 use Rattle.rb_flow.specs.Program.{HasNoRefusal}
+use Rattle.rb_meaning_split.specs.Division.{Division, divisions}
+use Rattle.rb_shown.specs.Views.{shown_divisions}
 use Rattle.rb_base.specs.Devices.{Device, failed}
 use Rattle.rb_base.specs.Directories.{Directory, read_once, Finds}
 use Rattle.rb_top.specs.declared.loading.TextStop.{TextStop}
@@ -28,9 +30,9 @@ use Rattle.rb_top.specs.declared.source.Source.{Source}
 use Rattle.rb_top.specs.declared.words.Job.{Job}
 use Rattle.rb_top.specs.declared.words.Way.{Way}
 use Rattle.rb_top.specs.declared.words.Way.TheVariants.{Both, Unsplit}
-use Rattle.rb_top.specs.Answers.{Answers, words, program_fault, program_too_long, program_refused, program_untyped, program_not_admitted, program_admitted, program_form, service_fault, service_too_long, service_refused, run, Ends, Says, answered, starved_first, starved_running, read_times, fault_line, too_long_line}
+use Rattle.rb_top.specs.Answers.{Answers, words, program_fault, program_too_long, program_refused, program_untyped, program_not_admitted, program_not_divided, program_accepted, program_viewed, program_form, service_fault, service_too_long, service_refused, run, Ends, Says, answered, starved_first, starved_running, read_times, fault_line, too_long_line}
 use Rattle.rb_top.specs.BatchRefusals.{shown_batch_refusal}
-use Rattle.rb_top.specs.Commands.{Starves, EndsUnread, EndsWith, EndsRefused, EndsRefusedService, EndsUntyped, EndsBatchRefused, EndsRun, LoadsProgram, GoesOn, GoesOnTyped}
+use Rattle.rb_top.specs.Commands.{Starves, EndsUnread, EndsWith, EndsRefused, EndsRefusedService, EndsUntyped, EndsBatchRefused, EndsRun, LoadsProgram, GoesOn, GoesOnAdmitted, GoesOnTyped}
 use Rattle.rb_top.specs.Loads.{Unread, HoldsText, HoldsProgram}
 use Rattle.rb_top.specs.Refusals.{shown_refusal, shown_violation}
 use Rattle.rb_top.specs.Runs.{Served, run_status, run_text}
@@ -38,7 +40,7 @@ use Rattle.rb_top.specs.Scene.{Scene}
 use Rattle.rb_top.specs.Sources.{text_of, program_of}
 use Rattle.rb_top.specs.ServiceRefusals.{shown_service_refusal}
 use Rattle.rb_top.specs.Texts.{IsBuilt, IsService}
-use Rattle.rb_top.specs.Words.{Asked, Check, Run, program_name, asked_job}
+use Rattle.rb_top.specs.Words.{Asked, Check, Split, Run, program_name, asked_job}
 
 -- an answer, said over a scene whose files were left so
 says : (asked : Option Asked) (status result : Status) (text : List ℕ) (left : Device Directory) (before after : Scene) → Answers before.files asked status text left → after.files ≡ left → Ends status text result before.out after.out → Says asked result before after
@@ -95,8 +97,22 @@ abbrev at_first : Scene → Device Directory → Scene
 at_first before first = record before { files = first }
 
 -- the rest, where the program is admitted
-pub goes_admitted : (source : Source) (a : Asked) (result : Status) (before after : Scene) → HasNoRefusal (program_of source) → GoesOn (text_of source) (program_of source) a result before after → GoesOnTyped source a result before after
-goes_admitted source a result before after none goes = λ first b h. goes first b (record { finds = h.finds; is = record { read = h.read; typed = h.typed; admitted = none } })
+pub goes_admitted : (source : Source) (a : Asked) (result : Status) (before after : Scene) → HasNoRefusal (program_of source) → GoesOnAdmitted (text_of source) (program_of source) a result before after → GoesOnTyped source a result before after
+goes_admitted source a result before after none goes = λ first b h. goes first b h none
+
+-- where its batches are divided
+pub goes_divided : (text : List ℕ) (program : Program) (ds : List Division) (a : Asked) (result : Status) (before after : Scene) → divisions program ≡ Ok ds → GoesOn text program a result before after → GoesOnAdmitted text program a result before after
+goes_divided text program ds a result before after d goes = λ first b h none. goes first b (record { finds = h.finds; is = record { read = h.read; typed = h.typed; admitted = none; divided = (ds, d) } })
+
+-- where one is refused by the division
+pub goes_undivided : (text : List ℕ) (program : Program) (a : Asked) (refusal : Refusal) (result : Status) (before after : Scene) → divisions program ≡ Err refusal → EndsBatchRefused text refusal result before.out after.out → after.files ≡ before.files → GoesOnAdmitted text program a result before after
+goes_undivided text program a refusal result before after d e f = λ first b h none.
+    says (Some a) (BatchRefused refusal) result (line (shown_batch_refusal text refusal)) (read_once first) (at_first before first) after
+    (program_not_divided a text program refusal h.finds (record { read = h.read; typed = h.typed; admitted = none; refused = d })) (f ∙ b) e
+
+-- and where memory is wanting for it
+pub goes_undecided : (text : List ℕ) (program : Program) (a : Asked) (before : Scene) → GoesOnAdmitted text program a Memory before before
+goes_undecided text program a before = λ first b h none. starves (Some a) Memory (at_first before first) before 1 (refl, refl) b
 
 -- where it is refused
 pub goes_refused : (source : Source) (a : Asked) (refusal : Refusal) (result : Status) (before after : Scene) → IsAnswerOf (program_of source) refusal → EndsBatchRefused (text_of source) refusal result before.out after.out → after.files ≡ before.files → GoesOnTyped source a result before after
@@ -109,9 +125,14 @@ pub goes_starved : (source : Source) (a : Asked) (before : Scene) → GoesOnType
 goes_starved source a before = λ first b h. starves (Some a) Memory (at_first before first) before 1 (refl, refl) b
 
 -- the rest of `check P`
-pub goes_check : (text p : List ℕ) (program : Program) (result : Status) (before after : Scene) → Ends Done (line (codes "admitted")) result before.out after.out → after.files ≡ before.files → GoesOn text program (Check p) result before after
+pub goes_check : (text p : List ℕ) (program : Program) (result : Status) (before after : Scene) → Ends Done (line (codes "accepted")) result before.out after.out → after.files ≡ before.files → GoesOn text program (Check p) result before after
 goes_check text p program result before after e f = λ first b h.
-    says (Some (Check p)) Done result (line (codes "admitted")) (read_once first) (at_first before first) after (program_admitted p text program h) (f ∙ b) e
+    says (Some (Check p)) Done result (line (codes "accepted")) (read_once first) (at_first before first) after (program_accepted p text program h) (f ∙ b) e
+
+-- the rest of `split P`
+pub goes_split : (text p : List ℕ) (program : Program) (ds : List Division) (result : Status) (before after : Scene) → divisions program ≡ Ok ds → Ends Done (shown_divisions text ds) result before.out after.out → after.files ≡ before.files → GoesOn text program (Split p) result before after
+goes_split text p program ds result before after d e f = λ first b h.
+    says (Some (Split p)) Done result (shown_divisions text ds) (read_once first) (at_first before first) after (program_viewed p text program ds h d) (f ∙ b) e
 
 -- the rest of a run, where none of the program is built in its way
 pub goes_form : (way : Way) (text p s : List ℕ) (fuel : ℕ) (program : Program) (result : Status) (before after : Scene) → ¬ IsBuilt way program → Ends (SourceRefused sources.NotBuilt) (line (codes "not built")) result before.out after.out → after.files ≡ before.files → GoesOn text program (Run way p s fuel) result before after

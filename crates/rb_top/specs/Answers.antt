@@ -1,6 +1,6 @@
--- What the commands `check P`, `both P S [FUEL]` and `unsplit P S [FUEL]` answer: the status, the text on the output, and
--- what is left of the scene.
-use Rattle.std.specs.Prelude.{◌≡◌, ◌⊎◌, ℕ, zero, suc, List, ◌++◌, Option, None, Some, Err, codes}
+-- What the commands `check P`, `split P`, `both P S [FUEL]` and `unsplit P S [FUEL]` answer: the status, the text on the
+-- output, and what is left of the scene.
+use Rattle.std.specs.Prelude.{◌≡◌, ◌⊎◌, ℕ, zero, suc, List, ◌++◌, Option, None, Some, Ok, Err, codes}
 use Rattle.rb_trees.specs.declared.reading.ReadError.{ReadError}
 use Rattle.rb_trees.specs.declared.refusals.Refusal.{Refusal}
 use Rattle.rb_trees.specs.declared.typing.TypeError.{TypeError}
@@ -8,6 +8,8 @@ use Rattle.rb_trees.specs.mirror.Declarations.{Program}
 use Rattle.rb_trees.specs.declared.stores.StoreError.{StoreError}
 use Rattle.rb_meaning.specs.Shown.{line}
 use Rattle.rb_meaning_bytes.specs.grammar.Sources.{ReadSource}
+use Rattle.rb_meaning_split.specs.Division.{Division, divisions}
+use Rattle.rb_shown.specs.Views.{shown_divisions}
 use Rattle.rb_base.specs.Devices.{Device, failed}
 use Rattle.rb_base.specs.Directories.{Directory, next_read, told_after, read_once, Finds, FailsNext}
 use Rattle.rb_base.specs.Sinks.{with_bytes, WrotePrefix}
@@ -17,8 +19,8 @@ use Rattle.rb_top.specs.Refusals.{shown_refusal, shown_violation}
 use Rattle.rb_top.specs.Runs.{Served, run_status, run_text}
 use Rattle.rb_top.specs.Scene.{Scene}
 use Rattle.rb_top.specs.ServiceRefusals.{shown_service_refusal}
-use Rattle.rb_top.specs.Texts.{IsUntyped, IsRefused, IsProgram, RunsUnsplit, IsBuilt, IsService, IsNoService}
-use Rattle.rb_top.specs.Words.{Asked, Check, Run, program_name}
+use Rattle.rb_top.specs.Texts.{IsUntyped, IsRefused, IsUndivided, IsProgram, RunsUnsplit, IsBuilt, IsService, IsNoService}
+use Rattle.rb_top.specs.Words.{Asked, Check, Split, Run, program_name}
 use Rattle.rb_top.specs.declared.status.SourceError.TheVariants as sources
 use Rattle.rb_top.specs.declared.status.Status.{Status}
 use Rattle.rb_top.specs.declared.status.Status.TheVariants.{Done, Words, FileFault, SourceRefused, BatchRefused, ServiceRefused, WriteFault, Memory, FileTooLong}
@@ -49,8 +51,13 @@ pub data Answers (files : Device Directory) : Option Asked → Status → List �
   program_not_admitted : (a : Asked) (text : List ℕ) (program : Program) (refusal : Refusal)
       → Finds files.told (program_name a) text → IsRefused text program refusal
       → Answers files (Some a) (BatchRefused refusal) (line (shown_batch_refusal text refusal)) (read_once files)
-  program_admitted : (p text : List ℕ) (program : Program) → HoldsProgram files.told p text program
-      → Answers files (Some (Check p)) Done (line (codes "admitted")) (read_once files)
+  program_not_divided : (a : Asked) (text : List ℕ) (program : Program) (refusal : Refusal)
+      → Finds files.told (program_name a) text → IsUndivided text program refusal
+      → Answers files (Some a) (BatchRefused refusal) (line (shown_batch_refusal text refusal)) (read_once files)
+  program_accepted : (p text : List ℕ) (program : Program) → HoldsProgram files.told p text program
+      → Answers files (Some (Check p)) Done (line (codes "accepted")) (read_once files)
+  program_viewed : (p text : List ℕ) (program : Program) (ds : List Division) → HoldsProgram files.told p text program
+      → divisions program ≡ Ok ds → Answers files (Some (Split p)) Done (shown_divisions text ds) (read_once files)
   program_form : (p s text : List ℕ) (fuel : ℕ) (program : Program) → HoldsProgram files.told p text program → ¬ IsBuilt Both program
       → Answers files (Some (Run Both p s fuel)) (SourceRefused sources.NotBuilt) (line (codes "not built")) (read_once files)
   service_fault : (way : Way) (p s text : List ℕ) (fuel : ℕ) (program : Program) → HoldsProgram files.told p text program
@@ -95,8 +102,8 @@ abbrev pub IsTold : Option Directory → List ℕ → List ℕ → Type 0
 IsTold None name text = ⊥
 IsTold (Some directory) name text = next_read directory name ≡ Some text
 
--- The files tell an admitted program under this name.
-pub record ToldAdmitted (told : Option Directory) (p text : List ℕ) (program : Program) : Type 0 where
+-- The files tell an accepted program under this name.
+pub record ToldAccepted (told : Option Directory) (p text : List ℕ) (program : Program) : Type 0 where
   pub finds : IsTold told p text
   pub is : IsProgram text program
 
@@ -109,11 +116,18 @@ pub record ToldRun (told : Option Directory) (way : Way) (p s text other : List 
   pub finds_next : IsTold (told_after told) s other
   pub is_service : IsService other served
 
--- Where `check P` is asked, and the files tell an admitted program under this name, `admitted` is printed and the answer is Done,
+-- Where `check P` is asked, and the files tell an accepted program under this name, `accepted` is printed and the answer is Done,
 -- unless the output fails or memory is wanting.
 abbrev pub ChecksTold : Option Asked → Status → Scene → Scene → Type 0
-ChecksTold asked result before after = (p text : List ℕ) (program : Program) → asked ≡ Some (Check p) → ToldAdmitted before.files.told p text program
-    → Ends Done (line (codes "admitted")) result before.out after.out
+ChecksTold asked result before after = (p text : List ℕ) (program : Program) → asked ≡ Some (Check p) → ToldAccepted before.files.told p text program
+    → Ends Done (line (codes "accepted")) result before.out after.out
+
+-- Where `split P` is asked, and the files tell an accepted program under this name, the view of its division is printed and the
+-- answer is Done, unless the output fails or memory is wanting.
+abbrev pub SplitsTold : Option Asked → Status → Scene → Scene → Type 0
+SplitsTold asked result before after = (p text : List ℕ) (program : Program) (ds : List Division) → asked ≡ Some (Split p)
+    → ToldAccepted before.files.told p text program → divisions program ≡ Ok ds
+    → Ends Done (shown_divisions text ds) result before.out after.out
 
 -- Where `both P S FUEL` or `unsplit P S FUEL` is asked, and the files tell a program and a service under these names, its run is
 -- printed and the answer is how it ends, unless the output fails or memory is wanting.

@@ -10,6 +10,7 @@ use Rattle.rb_meaning.specs.Shown.{line}
 use Rattle.rb_meaning_types.specs.Stores.{store_refusal}
 use Rattle.rb_meaning_types.specs.Violations.{violation_of}
 use Rattle.rb_base.specs.Devices.{Device}
+use Rattle.rb_flow.specs.Program.{HasNoRefusal}
 use Rattle.rb_base.specs.Directories.{Directory, read_once}
 use Rattle.rb_top.specs.Answers.{Ends, Says, fault_line, too_long_line}
 use Rattle.rb_top.specs.BatchRefusals.{shown_batch_refusal}
@@ -93,11 +94,20 @@ GoesOnTyped source a result before after =
     (first : Device Directory) → before.files ≡ read_once first → HoldsTyped first.told (program_name a) (text_of source) (program_of source)
     → Says (Some a) result (record before { files = first }) after
 
--- What is asked of the admitted program of this text, which was read before, is answered so.
+-- What is asked of the admitted program of this text, which was read before, is answered so, before it is divided.
+abbrev pub GoesOnAdmitted : List ℕ → Program → Asked → Status → Scene → Scene → Type 0
+GoesOnAdmitted text program a result before after =
+    (first : Device Directory) → before.files ≡ read_once first → HoldsTyped first.told (program_name a) text program → HasNoRefusal program
+    → Says (Some a) result (record before { files = first }) after
+
+-- What is asked of the accepted program of this text, which was read before, is answered so.
 abbrev pub GoesOn : List ℕ → Program → Asked → Status → Scene → Scene → Type 0
 GoesOn text program a result before after =
     (first : Device Directory) → before.files ≡ read_once first → HoldsProgram first.told (program_name a) text program
     → Says (Some a) result (record before { files = first }) after
+
+abbrev pub DividesWith : List ℕ → Admitted → Asked → Status → Scene → Scene → Type 0
+DividesWith text admitted = GoesOnAdmitted text (admitted_program admitted)
 
 abbrev pub GoesOnWith : List ℕ → Admitted → Asked → Status → Scene → Scene → Type 0
 GoesOnWith text admitted = GoesOn text (admitted_program admitted)

@@ -12,6 +12,7 @@ use Rattle.rb_meaning_types.specs.Stores.{StoreRefusal, store_refusal}
 use Rattle.rb_meaning_types.specs.Programs.{check_program, is_typed}
 use Rattle.rb_meaning_flow.specs.Programs.{IsAnswerOf}
 use Rattle.rb_meaning.specs.ServiceSources.{ReadsAsService}
+use Rattle.rb_meaning_split.specs.Division.{Division, divisions}
 use Rattle.rb_flow.specs.Program.{HasNoRefusal}
 use Rattle.rb_top.specs.FirstForm.{FirstProgram}
 use Rattle.rb_top.specs.Runs.{Served}
@@ -39,11 +40,23 @@ pub record IsRefused (text : List ℕ) (p : Program) (refusal : Refusal) : Type 
   pub typed : IsTrue (is_typed p)
   pub refused : IsAnswerOf p refusal
 
--- The text is read as this program, which is typed and admitted.
+-- The text is read as this program, which is typed and admitted, and this is its first refusal by the division.
+pub record IsUndivided (text : List ℕ) (p : Program) (refusal : Refusal) : Type 0 where
+  pub read : ReadSource text (Ok p)
+  pub typed : IsTrue (is_typed p)
+  pub admitted : HasNoRefusal p
+  pub refused : divisions p ≡ Err refusal
+
+-- Each batch of the program is divided.
+abbrev pub IsDivided : Program → Type 0
+IsDivided p = (ds : List Division) × (divisions p ≡ Ok ds)
+
+-- The text is read as this program, which is accepted: it is typed and admitted, and each batch is divided.
 pub record IsProgram (text : List ℕ) (p : Program) : Type 0 where
   pub read : ReadSource text (Ok p)
   pub typed : IsTrue (is_typed p)
   pub admitted : HasNoRefusal p
+  pub divided : IsDivided p
 
 -- The program has no batch.
 abbrev pub HasNoBatch : Program → Type 0

@@ -1,4 +1,4 @@
--- What the words of a command ask for: `check P`, or `both P S` or `unsplit P S`, with a fuel or without.
+-- What the words of a command ask for: `check P` or `split P`, or `both P S` or `unsplit P S`, with a fuel or without.
 use Rattle.std.specs.Prelude.{ℕ, List, [], ◌∷◌, Bool, ◌&&◌, Option, None, Some, option_and_then, option_map, cond, codes, length, map, nat_lt, nat_le}
 use Rattle.std.specs.List.{list_all}
 use Rattle.std.specs.Str.{bytes_eq}
@@ -16,9 +16,11 @@ use Rattle.rb_top.specs.declared.words.Way.TheVariants.{Both, Unsplit}
 abbrev pub texts : {Z : Type 0} → List (String Z) → List (List ℕ)
 texts words = map string_bytes words
 
--- what is asked for: a check of the program in a file, or its run in some way on the service in another, with so much fuel
+-- what is asked for: a check of the program in a file, the view of its division, or its run in some way on the service in
+-- another, with so much fuel
 pub data Asked : Type 0 where
   Check : (p : List ℕ) → Asked
+  Split : (p : List ℕ) → Asked
   Run : (way : Way) (p s : List ℕ) (fuel : ℕ) → Asked
 
 -- the fuel of a run, where the words name none, and the most that words may name
@@ -40,8 +42,9 @@ is_fuel word =
 abbrev pub fuel_of : List ℕ → Option ℕ
 fuel_of word = cond (is_fuel word) (Some (number_value word)) None
 
-abbrev pub check_of : List ℕ → List ℕ → Option Asked
-check_of command p = cond (bytes_eq command (codes "check")) (Some (Check p)) None
+-- what is asked for by a word and a program, if they are understood
+abbrev pub view_of : List ℕ → List ℕ → Option Asked
+view_of command p = cond (bytes_eq command (codes "check")) (Some (Check p)) (cond (bytes_eq command (codes "split")) (Some (Split p)) None)
 
 -- the way of a run that a word names
 abbrev pub way_of : List ℕ → Option Way
@@ -53,7 +56,7 @@ run_of command p s fuel = option_and_then (λ way. option_map (Run way p s) fuel
 
 -- what words ask for, if they are understood
 abbrev pub asked : List (List ℕ) → Option Asked
-asked (command ∷ p ∷ []) = check_of command p
+asked (command ∷ p ∷ []) = view_of command p
 asked (command ∷ p ∷ s ∷ []) = run_of command p s (Some default_fuel)
 asked (command ∷ p ∷ s ∷ fuel ∷ []) = run_of command p s (fuel_of fuel)
 asked _ = None
@@ -61,6 +64,7 @@ asked _ = None
 -- the name of the file of the program
 abbrev pub program_name : Asked → List ℕ
 program_name (Check p) = p
+program_name (Split p) = p
 program_name (Run way p s fuel) = p
 
 -- what a job asks for
@@ -70,4 +74,5 @@ asked_job job = Run job.way job.program.now job.service.now job.fuel
 -- what a command asks for
 abbrev pub asked_by : Command → Asked
 asked_by (commands.Check p) = Check p.now
+asked_by (commands.Split p) = Split p.now
 asked_by (commands.Run job) = asked_job job

@@ -2,7 +2,7 @@
 
 ghost use Rattle.std.specs.Prelude.{◌≡◌};
 ghost use Rattle.std.specs.Option.{option_map};
-ghost use Rattle.rb_top.specs.Words.{texts, asked, asked_by, program_name, check_of, run_of, way_of, default_fuel};
+ghost use Rattle.rb_top.specs.Words.{texts, asked, asked_by, program_name, view_of, run_of, way_of, default_fuel};
 
 use crate::fuel::fuel_of;
 
@@ -30,8 +30,10 @@ pub struct Job<'w> {
 /// A command that was understood, with the names of its files.
 #[derive(Drop)]
 pub enum Command<'w> {
-    /// `check P`: says whether the program in the file P is admitted.
+    /// `check P`: says whether the program in the file P is accepted.
     Check(&'w str),
+    /// `split P`: shows how the batches of the program in the file P are divided.
+    Split(&'w str),
     /// `both P S [FUEL]` and `unsplit P S [FUEL]`: runs the program in the file P on the service in the file S, with so much
     /// fuel.
     Run(Job<'w>),
@@ -44,17 +46,20 @@ impl Command<'_> {
     {
         match self {
             Command::Check(program) => program,
+            Command::Split(program) => program,
             Command::Run(job) => job.program,
         }
     }
 }
 
 /// The command of two words.
-fn check_command<'w>(command: &str, program: &'w str) -> Option<Command<'w>>
-    ensures { option_map asked_by result ≡ check_of command.now program.now }
+fn view_command<'w>(command: &str, program: &'w str) -> Option<Command<'w>>
+    ensures { option_map asked_by result ≡ view_of command.now program.now }
 {
     if command == "check" {
         Some(Command::Check(program))
+    } else if command == "split" {
+        Some(Command::Split(program))
     } else {
         None
     }
@@ -100,7 +105,7 @@ pub fn command_of(words: &[String]) -> Option<Command<'_>>
     ensures { option_map asked_by result ≡ asked (texts words.now) }
 {
     match words {
-        [command, program] => check_command(command.as_str(), program.as_str()),
+        [command, program] => view_command(command.as_str(), program.as_str()),
         [command, program, service] => run_command(
             command.as_str(),
             program.as_str(),

@@ -11,7 +11,7 @@ fn each_refusal_stands_alone(rt: HostRuntime) -> Result<(), Fail> {
         ),
         (
             "main { var n = 1; batch (Dir r) { if (n > 0) { r.file(0).grow(1); } } }",
-            "0 admitted",
+            "0 accepted",
         ),
         (
             "main { batch (Dir r) { var n = 1; r.file(0).grow(n); } }",
@@ -195,10 +195,10 @@ fn rows_and_objects_stay_in_the_script(rt: HostRuntime) -> Result<(), Fail> {
             "5 refused 1 Flow 3:52 3:24 3:90",
         ),
         ("main { batch (Dir r) { r; } }", "5 refused 4 Escapes 3:24"),
-        ("main { batch (Dir r) { r.file(0); } }", "0 admitted"),
+        ("main { batch (Dir r) { r.file(0); } }", "0 accepted"),
         (
             "main { batch (Dir r) { val fs = r.files(); for (f in fs) { print(f.size()); } } }",
-            "0 admitted",
+            "0 accepted",
         ),
         (
             "main { batch (Dir r) { val fs = r.files(); print(fs); } }",
@@ -206,7 +206,7 @@ fn rows_and_objects_stay_in_the_script(rt: HostRuntime) -> Result<(), Fail> {
         ),
         (
             "main { batch (Dir r) { if (true) { val f = r.file(0); f.grow(1); } } }",
-            "0 admitted",
+            "0 accepted",
         ),
         (
             "main { batch (Dir r) { var n = 1; while (n > 0) { val q = r; n = 0; } } }",
@@ -251,7 +251,7 @@ fn batches_of_methods_and_of_calls_count(rt: HostRuntime) -> Result<(), Fail> {
         ),
         (
             "class C { v: Int; remote fun go(n: Int) { val k = n; batch (Dir r) { r.burn(k); } } } main { new C(1).go(2); }",
-            "0 admitted",
+            "0 accepted",
         ),
         (
             "class C { v: Int; remote fun go() { batch (Dir r) { r.burn(1); } } } main { batch (Dir r) { new C(1).go(); } }",
@@ -288,11 +288,11 @@ fn the_first_refused_batch_counts(rt: HostRuntime) -> Result<(), Fail> {
         ),
         (
             "main { while (false) { batch (Dir r) { r.burn(1); } } for (x in List<Int>(1)) { batch (Dir r) { r.burn(x); } } }",
-            "0 admitted",
+            "0 accepted",
         ),
         (
             "main { var k = 1; while (k > 0) { batch (Dir r) { k = r.file(0).size(); r.burn(2); } batch (Dir r) { r.burn(k); } } }",
-            "0 admitted",
+            "0 accepted",
         ),
     ] {
         assert_eq!(rt;

@@ -21,9 +21,9 @@ fn text_of(alloc: Global, row: &str) -> Result<Vec<u8>, Fail> {
 }
 
 /// Texts, each behind what `check` answers: the refusals, each limit, and each form.
-const CHECKED: &str = r#"0 admitted|main { }
-0 admitted|main { print(1); } // a comment
-0 admitted|main { val a = - -1; val b = - -a; }
+const CHECKED: &str = r#"0 accepted|main { }
+0 accepted|main { print(1); } // a comment
+0 accepted|main { val a = - -1; val b = - -a; }
 4 types 1 UnknownName at 1:14|main { print(x); }
 4 lex 1 BadByte at 1:16|main { print(1 $ 2); }
 4 lex 1 BadByte at 1:16|main { print("a\qb"); }
@@ -41,20 +41,20 @@ const CHECKED: &str = r#"0 admitted|main { }
 4 parse 7 TooNested at 1:216|main { val a = ~-~201~1; }
 4 parse 7 TooNested at 1:966|main {~ while (true) {~64~
 4 parse 7 TooNested at 1:338|class C { v: ~List<~65~Int
-0 admitted|main { val a = ~-~200~1; }
-0 admitted|main {~ while (true) {~63~~ }~64~
-0 admitted|class C { v: ~List<~64~Int~>~64~; } main { }
-0 admitted|interface D { fun n(): Int; fun f(a: Int, b: Text): Rows<D>; fun g(); } main { }
-0 admitted|class C { v: Int; remote fun m(): Bool { return true; } fun k(o: C): Unit { } } main { }
-0 admitted|class F { fun h(a: Int): List<F> { return List<F>(this); } fun g() { } } main { val f = new F(); f.h(1)[0].g(); }
-0 admitted|main: Text { val a = 1; var b = "t\n"; b = "u"; return b; }
-0 admitted|main { print(len("b")); throw "x"; if (true) { } else { } if (false) { } while (true) { } }
-0 admitted|main { for (x in List<Int>()) { } try { throw "x"; } catch (e) { } }
-0 admitted|interface D { fun n(); } main { batch (D r) { r.n(); } }
-0 admitted|class C { v: C; fun m(a: Int, b: Int): C { val c = this.v.m(a, List<Int>(1, 2)[0]); return new C(c); } } main { }
-0 admitted|class C { } main { val a = new C(); val b = List<List<Bool>>(); val c = str(1) + ("d"); }
-0 admitted|main { val a = true || false && 1 == 2; val b = "g" != "h"; val c = 1 < 2; val d = 3 >= 4; }
-0 admitted|main { val a = 1 <= 2 == (3 > 4); val b = 1 + 2 - 3 * 4 / 5 % 6; val c = !a; }"#;
+0 accepted|main { val a = ~-~200~1; }
+0 accepted|main {~ while (true) {~63~~ }~64~
+0 accepted|class C { v: ~List<~64~Int~>~64~; } main { }
+0 accepted|interface D { fun n(): Int; fun f(a: Int, b: Text): Rows<D>; fun g(); } main { }
+0 accepted|class C { v: Int; remote fun m(): Bool { return true; } fun k(o: C): Unit { } } main { }
+0 accepted|class F { fun h(a: Int): List<F> { return List<F>(this); } fun g() { } } main { val f = new F(); f.h(1)[0].g(); }
+0 accepted|main: Text { val a = 1; var b = "t\n"; b = "u"; return b; }
+0 accepted|main { print(len("b")); throw "x"; if (true) { } else { } if (false) { } while (true) { } }
+0 accepted|main { for (x in List<Int>()) { } try { throw "x"; } catch (e) { } }
+0 accepted|interface D { fun n(); } main { batch (D r) { r.n(); } }
+0 accepted|class C { v: C; fun m(a: Int, b: Int): C { val c = this.v.m(a, List<Int>(1, 2)[0]); return new C(c); } } main { }
+0 accepted|class C { } main { val a = new C(); val b = List<List<Bool>>(); val c = str(1) + ("d"); }
+0 accepted|main { val a = true || false && 1 == 2; val b = "g" != "h"; val c = 1 < 2; val d = 3 >= 4; }
+0 accepted|main { val a = 1 <= 2 == (3 > 4); val b = 1 + 2 - 3 * 4 / 5 % 6; val c = !a; }"#;
 
 #[test]
 fn texts_are_admitted_or_refused_at_their_first_fault(rt: HostRuntime) -> Result<(), Fail> {

@@ -11,7 +11,7 @@ fn a_flow_is_named_by_its_chain(rt: HostRuntime) -> Result<(), Fail> {
         ),
         (
             "main { batch (Dir r) { val s = r.file(0).size(); r.file(1).grow(s + 1); } }",
-            "0 admitted",
+            "0 accepted",
         ),
         (
             "class Box { v: Int; fun set(n: Int) { this.v = n; } fun get(): Int { return this.v; } }\nmain { val o = new Box(0); batch (Dir r) { o.set(r.file(0).size()); r.file(1).grow(o.get()); } }",
@@ -233,7 +233,7 @@ fn a_chain_may_have_no_link(rt: HostRuntime) -> Result<(), Fail> {
         ),
         (
             "main { batch (Dir r) { r.burn(len(r.file(0).name())); } }",
-            "0 admitted",
+            "0 accepted",
         ),
         (
             "class Box { v: Int; fun set(n: Int) { this.v = n; } fun get(): Int { return this.v; } }\nmain { batch (Dir r) { r.burn(new Box(r.file(0).size()).v); } }",
@@ -283,27 +283,27 @@ fn what_looks_like_a_flow_is_admitted(rt: HostRuntime) -> Result<(), Fail> {
     for (program, wanted) in [
         (
             "main { batch (Dir r) { var s = r.file(0).size(); s = s + 1; print(s); r.file(1).grow(2); } }",
-            "0 admitted",
+            "0 accepted",
         ),
         (
             "main { batch (Dir r) { val s = r.file(0).size(); val t = s + 1; r.file(t).grow(s * 2); } }",
-            "0 admitted",
+            "0 accepted",
         ),
         (
             "main { val n = 3; batch (Dir r) { r.file(r.file(0).size()).grow(r.file(1).size() + n); } }",
-            "0 admitted",
+            "0 accepted",
         ),
         (
             "main { val n = 100; batch (Dir r) { for (f in r.files()) { val s = f.size(); if (s > n) { f.grow(s - n); } } } }",
-            "0 admitted",
+            "0 accepted",
         ),
         (
             "main { var t = \"a\"; t = \"b\"; batch (Dir r) { for (f in r.files()) { if (f.size() > 1 && f.name() != t) { f.rename(\"x\" + t); } } } }",
-            "0 admitted",
+            "0 accepted",
         ),
         (
             "main { batch (Dir r) { for (a in r.files()) { for (f in r.files()) { f.grow(a.size()); } } } }",
-            "0 admitted",
+            "0 accepted",
         ),
     ] {
         assert_eq!(rt;
@@ -320,29 +320,29 @@ fn what_stays_remote_or_local_is_admitted(rt: HostRuntime) -> Result<(), Fail> {
     for (program, wanted) in [
         (
             "main { batch (Dir r) { var sum = 0; for (f in r.files()) { sum = sum + f.size(); } print(sum); r.burn(1); } }",
-            "0 admitted",
+            "0 accepted",
         ),
         (
             "class Box { v: Int; fun set(n: Int) { this.v = n; } fun get(): Int { return this.v; } }\nmain { val o = new Box(0); batch (Dir r) { o.set(r.file(0).size()); print(o.get()); r.burn(1); } }",
-            "0 admitted",
+            "0 accepted",
         ),
         (
             "main { var k = 0; batch (Dir r) { k = r.file(0).size(); } batch (Dir r) { r.burn(k); } }",
-            "0 admitted",
+            "0 accepted",
         ),
         (
             "main { batch (Dir r) { val s = r.file(0).size(); try { print(1 / s); } catch (e) { print(e); } r.burn(s); } }",
-            "0 admitted",
+            "0 accepted",
         ),
         (
             "main { batch (Dir r) { if (r.file(0).size() > 1) { r.burn(1); } else { r.burn(2); } } }",
-            "0 admitted",
+            "0 accepted",
         ),
         (
             "main { batch (Dir r) { val f = r.file(0); f.grow(f.size()); print(f.name()); } }",
-            "0 admitted",
+            "0 accepted",
         ),
-        ("main { batch (Dir r) { } }", "0 admitted"),
+        ("main { batch (Dir r) { } }", "0 accepted"),
     ] {
         assert_eq!(rt;
             admission(rt.alloc(), program)?.as_str().trim_end(),

@@ -42,9 +42,9 @@ const NAMES_ARE_DECLARED_ONCE: &str =
 4 types 2 NameTaken at 1:35|interface D { } main { val r = 1; batch (D r) { } }
 4 types 2 NameTaken at 1:27|class C { fun f(a: Int) { val a = 1; } } main { }
 4 types 2 NameTaken at 1:38|main { var a = 1; if (true) { a = 2; val a = 3; } }
-0 admitted|class C { C: Int; fun C(C: Int) { } } main { val C = new C(1); }
-0 admitted|class C { v: Int; fun v(): Int { return this.v; } } main { }
-0 admitted|interface D { fun n(); } interface E { fun n(); } main { }
+0 accepted|class C { C: Int; fun C(C: Int) { } } main { val C = new C(1); }
+0 accepted|class C { v: Int; fun v(): Int { return this.v; } } main { }
+0 accepted|interface D { fun n(); } interface E { fun n(); } main { }
 "#;
 
 #[test]
@@ -72,8 +72,8 @@ const NAMES_ARE_KNOWN: &str = r#"4 types 1 UnknownName at 1:14|main { print(x); 
 4 types 1 UnknownName at 1:32|interface D { } main { val c = new D(); }
 4 types 1 UnknownName at 1:8|main { batch (D r) { } }
 4 types 1 UnknownName at 1:20|class C { } main { batch (C r) { } }
-0 admitted|class C { fun f(b: B): C { return b.c; } } class B { c: C; } main { }
-0 admitted|interface D { fun n(e: E): Rows<D>; } interface E { } main { }
+0 accepted|class C { fun f(b: B): C { return b.c; } } class B { c: C; } main { }
+0 accepted|interface D { fun n(e: E): Rows<D>; } interface E { } main { }
 "#;
 
 #[test]
@@ -103,11 +103,11 @@ const TYPES_STAND_AT_THEIR_PLACES: &str =
 4 types 7 TypeNotHere at 1:7|main: Unit { }
 4 types 7 TypeNotHere at 1:7|main: List<Int> { }
 4 types 7 TypeNotHere at 1:21|main { val a = List<Unit>(); }
-0 admitted|interface D { fun n(a: Int, b: D): Rows<Text>; fun m(): D; fun k(); } main { }
-0 admitted|class C { v: List<C>; fun f(a: List<List<Text>>): List<C> { return this.v; } } main { }
-0 admitted|class C { fun f(): Unit { } } main { }
-0 admitted|main: Int { return 1; }
-0 admitted|main: Bool { return !false; }
+0 accepted|interface D { fun n(a: Int, b: D): Rows<Text>; fun m(): D; fun k(); } main { }
+0 accepted|class C { v: List<C>; fun f(a: List<List<Text>>): List<C> { return this.v; } } main { }
+0 accepted|class C { fun f(): Unit { } } main { }
+0 accepted|main: Int { return 1; }
+0 accepted|main: Bool { return !false; }
 "#;
 
 #[test]
@@ -144,8 +144,8 @@ const EXPRESSIONS_HAVE_THE_TYPES_OF_THEIR_PLACES: &str =
 4 types 3 WrongType at 1:34|class C { fun f(): Text { return 1; } } main { }
 4 types 3 WrongType at 1:45|class C { fun g() { } fun f() { return this.g(); } } main { }
 5 refused 4 Escapes 1:64|interface D { fun n(): Rows<D>; } main { batch (D r) { print(r.n()); print(r); for (x in r.n()) { print(x); } } }
-0 admitted|class C { v: Text; } main { val c = new C("a"); c.v = c.v + "b"; throw c.v; }
-0 admitted|main: Text { return "a"; }
+0 accepted|class C { v: Text; } main { val c = new C("a"); c.v = c.v + "b"; throw c.v; }
+0 accepted|main: Text { return "a"; }
 "#;
 
 #[test]
@@ -179,8 +179,8 @@ const OPERANDS_HAVE_THEIR_TYPES: &str = r#"4 types 3 WrongType at 1:20|main { va
 4 types 3 WrongType at 1:29|main { val a = List<Int>(1)[true]; }
 4 types 3 WrongType at 1:20|main { val a = len(1); }
 4 types 3 WrongType at 1:20|main { val a = str("a"); }
-0 admitted|main { val a = List<Int>(1) + List<Int>(2); print(a[0] + len(a) * len("b")); }
-0 admitted|main { print(str(1) + str(true) == "1true" && !(1 < 2) || "a" != "b"); }
+0 accepted|main { val a = List<Int>(1) + List<Int>(2); print(a[0] + len(a) * len("b")); }
+0 accepted|main { print(str(1) + str(true) == "1true" && !(1 < 2) || "a" != "b"); }
 "#;
 
 #[test]
@@ -212,13 +212,13 @@ const CALLS_ASSIGNMENTS_AND_RETURNS_ARE_JUDGED: &str =
 4 types 8 NotAllowedHere at 1:37|interface D { } class B { fun f() { batch (D r) { } } } main { }
 4 types 8 NotAllowedHere at 1:45|class C { remote fun f() { } fun g() { this.f(); } } main { }
 4 types 8 NotAllowedHere at 1:71|class C { remote fun f(): Int { return 1; } fun g(c: C) { print(1 + c.f()); } } main { }
-0 admitted|class C { remote fun f() { } } main { new C().f(); }
-0 admitted|class C { remote fun f() { this.f(); } } main { }
-0 admitted|interface D { } class C { remote fun f() { batch (D r) { } } } main { batch (D r) { } }
-0 admitted|class C { fun f(n: Int): Int { return this.f(n - 1); } } main { }
-0 admitted|class C { fun f(): Int { return this.g(); } fun g(): Int { return 1; } } main { }
+0 accepted|class C { remote fun f() { } } main { new C().f(); }
+0 accepted|class C { remote fun f() { this.f(); } } main { }
+0 accepted|interface D { } class C { remote fun f() { batch (D r) { } } } main { batch (D r) { } }
+0 accepted|class C { fun f(n: Int): Int { return this.f(n - 1); } } main { }
+0 accepted|class C { fun f(): Int { return this.g(); } fun g(): Int { return 1; } } main { }
 4 types 3 WrongType at 1:38|class C { fun f(): Int { return this.g(); } fun g(): Text { return "a"; } } main { }
-0 admitted|class C { fun f(): B { return new B(); } } class B { } main { new C().f(); }
+0 accepted|class C { fun f(): B { return new B(); } } class B { } main { new C().f(); }
 "#;
 
 #[test]
@@ -232,26 +232,26 @@ fn calls_assignments_and_returns_are_judged(rt: HostRuntime) -> Result<(), Fail>
 
 /// Names behind the block that they were declared in.
 const SCOPES_END_WITH_THEIR_BLOCKS: &str =
-    r#"0 admitted|main { if (true) { val a = 1; } else { val a = true; } val a = "t"; print(a + "u"); }
+    r#"0 accepted|main { if (true) { val a = 1; } else { val a = true; } val a = "t"; print(a + "u"); }
 4 types 1 UnknownName at 1:46|main { if (true) { val a = 1; } else { print(a); } }
 4 types 1 UnknownName at 1:42|main { while (true) { val a = 1; } print(a); }
-0 admitted|main { for (a in List<Int>()) { print(a + 1); } for (a in List<Text>()) { print(a + "b"); } }
+0 accepted|main { for (a in List<Int>()) { print(a + 1); } for (a in List<Text>()) { print(a + "b"); } }
 4 types 1 UnknownName at 1:41|main { for (a in List<Int>()) { } print(a); }
-0 admitted|main { try { val a = 1; } catch (a) { print(a + "b"); } val a = 1; print(a + 1); }
+0 accepted|main { try { val a = 1; } catch (a) { print(a + "b"); } val a = 1; print(a + 1); }
 4 types 1 UnknownName at 1:45|main { try { val a = 1; } catch (e) { print(a); } }
 4 types 1 UnknownName at 1:36|main { try { } catch (e) { } print(e); }
 4 types 3 WrongType at 1:38|main { try { } catch (e) { print(e + 1); } }
 4 types 5 NotAssignable at 1:30|main { try { } catch (e) { e = "a"; } }
 4 types 2 NameTaken at 1:28|main { try { } catch (e) { val e = 1; } }
-0 admitted|main { try { } catch (e) { try { throw e; } catch (f) { print(e + f); } } }
-0 admitted|interface D { } main { batch (D r) { val a = 1; } batch (D r) { val a = "a"; } val r = 1; }
+0 accepted|main { try { } catch (e) { try { throw e; } catch (f) { print(e + f); } } }
+0 accepted|interface D { } main { batch (D r) { val a = 1; } batch (D r) { val a = "a"; } val r = 1; }
 4 types 1 UnknownName at 1:46|interface D { } main { batch (D r) { } print(r); }
-0 admitted|class C { fun f(a: Int) { val b = a; } fun g() { val a = "a"; val b = a; } } main { val a = 1; }
+0 accepted|class C { fun f(a: Int) { val b = a; } fun g() { val a = "a"; val b = a; } } main { val a = 1; }
 4 types 1 UnknownName at 1:56|class C { fun f(a: Int) { val b = a; } fun g() { print(a); } } main { }
 4 types 1 UnknownName at 1:44|class C { fun f(a: Int) { } } main { print(a); }
 4 types 1 UnknownName at 1:16|main { val a = a; }
 4 types 1 UnknownName at 1:45|main: Int { if (true) { val a = 1; } return a; }
-0 admitted|main: Int { val a = 1; return a; }
+0 accepted|main: Int { val a = 1; return a; }
 "#;
 
 #[test]
