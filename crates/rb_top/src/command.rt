@@ -1,12 +1,16 @@
 // The commands, from their words to what they print.
 
-ghost use Rattle.std.specs.Prelude.{◌≡◌, ◌++◌, ℕ, Some, IfOk};
+ghost use Rattle.std.specs.Prelude.{◌≡◌, ◌++◌, ℕ, map, Some, Ok, IfOk};
 ghost use Rattle.rb_meaning.specs.Shown.{line};
-ghost use Rattle.rb_top.specs.Answers.{Ends, Says, ChecksTold, RunsTold};
+ghost use Rattle.rb_meaning_split.specs.Division.{divisions};
+ghost use Rattle.rb_shown.specs.Views.{shown_divisions};
+ghost use Rattle.rb_split.specs.Seen.{seen};
+ghost use Rattle.rb_top.specs.Answers.{Ends, Says, ChecksTold, SplitsTold, RunsTold};
+ghost use Rattle.rb_top.specs.declared.status.Status.TheVariants.{Done};
 ghost use Rattle.rb_trees.specs.mirror.Services.{mirror_service};
 ghost use Rattle.rb_meaning.specs.Links.{IsTyped};
 ghost use Rattle.rb_session.specs.MemoryLinks.{new_link};
-ghost use Rattle.rb_top.specs.Commands.{EndsBatchRefused, EndsRefused, EndsRefusedService, EndsRunOf, EndsUntyped, EndsUnread, LoadsProgram, GoesOnTyped, GoesOnWith, RunsOnWith, run_answer, status_after, stopped_status};
+ghost use Rattle.rb_top.specs.Commands.{EndsBatchRefused, EndsRefused, EndsRefusedService, EndsRunOf, EndsUntyped, EndsUnread, LoadsProgram, GoesOnTyped, DividesWith, GoesOnWith, RunsOnWith, run_answer, status_after, stopped_status};
 ghost use Rattle.rb_top.specs.FirstForm.{FirstProgram};
 ghost use Rattle.rb_top.specs.Scene.{output, Across, Between};
 ghost use Rattle.rb_top.specs.Sources.{text_of, HasOwnMarks, admitted_program};
@@ -17,6 +21,7 @@ ghost use Rattle.rb_top.specs.declared.words.Job.{Job};
 use crate::admission::admission;
 use crate::batch_refusals::batch_refusal_line;
 use crate::batch_run::run_batch;
+use crate::divisions::divisions_text;
 use crate::loading::{TextStop, load_text};
 use crate::printing::{PrintStop, print_text};
 use crate::refusals::{is_memory, is_no_violation, refusal_line, violation_line};
@@ -32,8 +37,9 @@ use rb_flow::{AdmitStop, Admitted};
 use rb_heap::Heap;
 use rb_parse::{parse_program, sources_have_one_outcome};
 use rb_session::MemoryLink;
+use rb_split::{SplitStop, split_all};
 use rb_store::{read_service, sources_have_one_outcome_as_services};
-use rb_trees::{Memory, ReadError, Refusal, Seq, Service, StoreError, TypeError};
+use rb_trees::{Memory, ReadError, Refusal, Seq, Service, Split, StoreError, TypeError};
 use rb_types::check as check_types;
 use std::alloc::{AllocError, Global};
 
@@ -282,21 +288,35 @@ fn run_on<F: Files, W: Sink>(
     }
 }
 
-/// Carries out the rest of a command, once its program is known to be admitted.
+/// Shows how the batches of a program are divided.
+fn say_divided<W: Sink>(alloc: Global, text: &[u8], splits: &[Split], out: &mut W) -> Status
+    requires { WithinLength text.now }
+    ensures { Ends Done (shown_divisions text.now (map seen splits.now)) result (output W.Sink out.old) (output W.Sink out.new) }
+{
+    match divisions_text(alloc, text, splits) {
+        Ok(view) => say(Status::Done, view.as_slice(), out),
+        Err(_) => Status::Memory,
+    }
+}
+
+/// Carries out the rest of a command, once its program is known to be accepted.
 fn fulfil<F: Files, W: Sink>(
     alloc: Global,
     text: &[u8],
     admitted: &Admitted<'_>,
+    splits: &[Split],
     command: &Command,
     files: &mut F,
     out: &mut W,
 ) -> Status
     requires marks { HasOwnMarks admitted.now }
     requires short { WithinLength text.now }
+    requires divided { divisions (admitted_program admitted.now) ≡ Ok (map seen splits.now) }
     ensures { Between F.Files W.Sink files.old out.old files.new out.new (GoesOnWith text.now admitted.now (asked_by command.now) result) }
 {
     match command {
-        Command::Check(_) => say(Status::Done, b"admitted\n", out),
+        Command::Check(_) => say(Status::Done, b"accepted\n", out),
+        Command::Split(_) => say_divided(alloc, text, splits, out),
         Command::Run(job) => {
             if is_built(job.way, admitted) {
                 run_on(alloc, text, admitted, job, files, out)
@@ -308,6 +328,26 @@ fn fulfil<F: Files, W: Sink>(
                 )
             }
         }
+    }
+}
+
+/// Carries out the rest of a command, once its program is known to be admitted: its batches are divided first.
+fn go_on_admitted<F: Files, W: Sink>(
+    alloc: Global,
+    text: &[u8],
+    admitted: &Admitted<'_>,
+    command: &Command,
+    files: &mut F,
+    out: &mut W,
+) -> Status
+    requires marks { HasOwnMarks admitted.now }
+    requires short { WithinLength text.now }
+    ensures { Between F.Files W.Sink files.old out.old files.new out.new (DividesWith text.now admitted.now (asked_by command.now) result) }
+{
+    match split_all(alloc, admitted) {
+        Ok(splits) => fulfil(alloc, text, admitted, splits.as_slice(), command, files, out),
+        Err(SplitStop::Refused(refusal)) => refuse_batch(alloc, text, refusal, out),
+        Err(SplitStop::Memory) => Status::Memory,
     }
 }
 
@@ -324,7 +364,7 @@ fn go_on<F: Files, W: Sink>(
 {
     let text = source.text.as_slice();
     match admission(alloc, &source.typed) {
-        Ok(admitted) => fulfil(alloc, text, &admitted, command, files, out),
+        Ok(admitted) => go_on_admitted(alloc, text, &admitted, command, files, out),
         Err(AdmitStop::Refused(refusal)) => refuse_batch(alloc, text, refusal, out),
         Err(AdmitStop::Memory) => Status::Memory,
     }
@@ -358,8 +398,10 @@ fn carry_out<F: Files, W: Sink>(
 pub fn top<F: Files, W: Sink>(alloc: Global, words: &[String], files: &mut F, out: &mut W) -> Status
     // What is answered and printed is what the words and the files mean.
     ensures answer { Between F.Files W.Sink files.old out.old files.new out.new (Says (asked (texts words.now)) result) }
-    // An admitted program that the files tell is checked, unless the output fails or memory is wanting.
+    // An accepted program that the files tell is checked, unless the output fails or memory is wanting.
     ensures checks { Between F.Files W.Sink files.old out.old files.new out.new (ChecksTold (asked (texts words.now)) result) }
+    // The division of such a program is shown, unless the output fails or memory is wanting.
+    ensures splits { Between F.Files W.Sink files.old out.old files.new out.new (SplitsTold (asked (texts words.now)) result) }
     // A program that the files tell is run on a service that they tell, unless the output fails or memory is wanting.
     ensures runs { Between F.Files W.Sink files.old out.old files.new out.new (RunsTold (asked (texts words.now)) result) }
 {

@@ -5,6 +5,7 @@ mod admission;
 mod batch_refusals;
 mod batch_run;
 mod command;
+mod divisions;
 mod exchange;
 mod first_form;
 mod first_script;

@@ -1,6 +1,6 @@
 use Rattle.std.proofs.Common.{refl, subst}
 use Rattle.rb_trees.specs.mirror.Declarations.{mirror_program}
-use Rattle.rb_top.specs.Commands.{EndsBatchRefused, GoesOn}
+use Rattle.rb_top.specs.Commands.{EndsBatchRefused, GoesOnAdmitted}
 use Rattle.rb_top.specs.Scene.{output, outside}
 use Rattle.rb_top.specs.Sources.{program_of}
 use Rattle.rb_top.specs.Words.{asked_by}
@@ -9,9 +9,9 @@ use Rattle.rb_top.proofs.command.go_on.Goals as goal
 
 pub returns-in-Ok : goal.returns-in-Ok
 returns-in-Ok g c =
-    goes_admitted c.args.source.now (asked_by c.args.command.now) c.fulfil.result _ _ c.in-Ok.ensures.admission
-    (subst (λ t. GoesOn t (program_of c.args.source.now) (asked_by c.args.command.now) c.fulfil.result (outside g.F.Files g.W.Sink c.args.files.now c.args.out.now) (outside g.F.Files g.W.Sink c.fulfil.new.files c.fulfil.new.out)) c.as_slice-text.ensures
-    (subst (λ q. GoesOn c.as_slice-text.result.now (mirror_program q) (asked_by c.args.command.now) c.fulfil.result (outside g.F.Files g.W.Sink c.args.files.now c.args.out.now) (outside g.F.Files g.W.Sink c.fulfil.new.files c.fulfil.new.out)) c.in-Ok.ensures.typed c.fulfil.ensures))
+    goes_admitted c.args.source.now (asked_by c.args.command.now) c.go_on_admitted.result _ _ c.in-Ok.ensures.admission
+    (subst (λ t. GoesOnAdmitted t (program_of c.args.source.now) (asked_by c.args.command.now) c.go_on_admitted.result (outside g.F.Files g.W.Sink c.args.files.now c.args.out.now) (outside g.F.Files g.W.Sink c.go_on_admitted.new.files c.go_on_admitted.new.out)) c.as_slice-text.ensures
+    (subst (λ q. GoesOnAdmitted c.as_slice-text.result.now (mirror_program q) (asked_by c.args.command.now) c.go_on_admitted.result (outside g.F.Files g.W.Sink c.args.files.now c.args.out.now) (outside g.F.Files g.W.Sink c.go_on_admitted.new.files c.go_on_admitted.new.out)) c.in-Ok.ensures.typed c.go_on_admitted.ensures))
 
 pub returns-in-Err-Refused : goal.returns-in-Err-Refused
 returns-in-Err-Refused g c =

@@ -1,0 +1,23 @@
+// How the batches of a program are divided, as a text.
+
+ghost use Rattle.std.specs.Prelude.{◌≡◌, map, IfOk};
+ghost use Rattle.rb_shown.specs.Views.{shown_divisions};
+ghost use Rattle.rb_split.specs.Seen.{seen};
+ghost use Rattle.rb_top.specs.Texts.{WithinLength};
+
+use rb_shown::split_view;
+use rb_trees::{Memory, Split};
+use std::alloc::Global;
+
+/// The views of divided batches, one after the other.
+pub fn divisions_text(alloc: Global, text: &[u8], splits: &[Split]) -> Result<Vec<u8>, Memory>
+    requires { WithinLength text.now }
+    ensures { IfOk result (λ view. view.items ≡ shown_divisions text.now (map seen splits.now)) }
+{
+    let mut view = Vec::new(alloc);
+    for split in splits {
+        let own = split_view(alloc, text, split)?;
+        view.extend_from_slice(own.as_slice())?;
+    }
+    Ok(view)
+}
