@@ -8,6 +8,8 @@ mod answers;
 #[cfg(test)]
 mod checks;
 #[cfg(test)]
+mod divisions;
+#[cfg(test)]
 mod faults;
 #[cfg(test)]
 mod flows;
