@@ -4,8 +4,9 @@ use Rattle.rb_trees.specs.CodeSize.{code_size_of}
 use Rattle.rb_trees.specs.declared.refusals.Refusal.{Refusal}
 use Rattle.rb_trees.specs.declared.refusals.Refusal.TheVariants.{TooManyInputs, ScriptTooLarge}
 use Rattle.rb_trees.specs.mirror.Declarations.{Program}
-use Rattle.rb_trees.specs.mirror.Scripts.{Script}
-use Rattle.rb_trees.specs.mirror.Remainders.{Parts}
+use Rattle.rb_trees.specs.declared.remainders.Split.{Split}
+use Rattle.rb_trees.specs.mirror.Scripts.{Script, mirror_script}
+use Rattle.rb_trees.specs.mirror.Remainders.{Parts, mirror_parts}
 use Rattle.rb_meaning_flow.specs.Facts.{facts_of}
 use Rattle.rb_meaning_flow.specs.Scopes.{Scope, opened}
 use Rattle.rb_meaning_flow.specs.Outermost.{Outermost, program_batches}
@@ -21,6 +22,10 @@ pub record Division : Type 0 where
   pub inputs : List (List ℕ)
   pub script : Script
   pub remainder : Parts
+
+-- the division that a Split holds
+abbrev pub mirror_split : Split → Division
+mirror_split s = record { at = s.at; inputs = s.inputs; script = mirror_script s.script; remainder = mirror_parts s.remainder }
 
 -- the inputs, numbered from n on
 abbrev pub numbered : ℕ → List (List ℕ) → Refs
