@@ -3,7 +3,7 @@ use Rattle.std.proofs.Common.{refl, arith, ap, sym}
 use Rattle.rb_meaning_code.specs.Remote.{Got}
 use Rattle.rb_exec.proofs.Forms.{lit_form, input_form, var_form, root_form, unary_form, binary_form, call_form}
 use Rattle.rb_exec.proofs.Replies.{given, ruled, of_form}
-use Rattle.rb_exec.proofs.Weight.{expr_weight, weight_of, expr_in}
+use Rattle.rb_exec.proofs.Weight.{expr_weight, weight_of, weights_of, expr_in}
 use Rattle.rb_exec.proofs.expressions.+evaluating.Goals as goal
 
 pub value_of-unary_value-requires : goal.value_of-unary_value-requires
@@ -13,7 +13,7 @@ pub value_of-binary_value-requires : goal.value_of-binary_value-requires
 value_of-binary_value-requires t c = let w = ap expr_weight (binary_form c.args.expr.now c.in-Binary.a c.in-Binary.b c.in-Binary.is) in let e = ap weight_of c.get-in-Binary.ensures in let f = ap weight_of c.get-in-Binary-2.ensures in omega arith
 
 pub value_of-call_value-requires : goal.value_of-call_value-requires
-value_of-call_value-requires t c = let w = ap expr_weight (call_form c.args.expr.now c.in-Call.target c.in-Call.args c.in-Call.is) in let e = ap weight_of c.get-in-Call.ensures in omega arith
+value_of-call_value-requires t c = let w = ap expr_weight (call_form c.args.expr.now c.in-Call.target c.in-Call.args c.in-Call.is) in let e = ap weight_of c.get-in-Call-2.ensures in let f = ap weights_of c.get-in-Call-3.ensures in omega arith
 
 pub value_of-returns-in_ok-copy_value-in-Lit : goal.value_of-returns-in_ok-copy_value-in-Lit
 value_of-returns-in_ok-copy_value-in-Lit t c =
@@ -35,7 +35,7 @@ pub value_of-returns-in-Binary : goal.value_of-returns-in-Binary
 value_of-returns-in-Binary t c = of_form c.args.stage.now c.args.at c.args.variables.now c.args.server.now c.args.expr.now (binary_form c.args.expr.now _ _ c.in-Binary.is) (rw (← c.get-in-Binary.ensures, ← c.get-in-Binary-2.ensures) c.binary_value.ensures)
 
 pub value_of-returns-in-Call : goal.value_of-returns-in-Call
-value_of-returns-in-Call t c = of_form c.args.stage.now c.args.at c.args.variables.now c.args.server.now c.args.expr.now (call_form c.args.expr.now _ _ c.in-Call.is) (rw (← c.get-in-Call.ensures) c.call_value.ensures)
+value_of-returns-in-Call t c = of_form c.args.stage.now c.args.at c.args.variables.now c.args.server.now c.args.expr.now (call_form c.args.expr.now _ _ c.in-Call.is) (rw (← c.get-in-Call.ensures, ← c.get-in-Call-2.ensures, ← c.get-in-Call-3.ensures) c.call_value.ensures)
 
 pub values_of-value_of-requires : goal.values_of-value_of-requires
 values_of-value_of-requires t c = let w = expr_in c.args.exprs.now c.exprs.expr-index c.expr-item.result (omega arith) in let e = ap weight_of c.expr-item.is in omega arith
