@@ -2,3 +2,4 @@
 pub mod Pieces
 pub mod ValueForms
 pub mod Offsets
+pub mod ViewForms

@@ -1,4 +1,4 @@
-//! Tests of the lines that runs and tables print.
+//! Tests of the lines that runs and tables print, and of the views of divisions.
 #![tactic(auto)]
 
 #[cfg(test)]
@@ -6,4 +6,10 @@ mod endings;
 #[cfg(test)]
 mod literals;
 #[cfg(test)]
+mod remainders;
+#[cfg(test)]
+mod scripts;
+#[cfg(test)]
 mod tables;
+#[cfg(test)]
+mod views;

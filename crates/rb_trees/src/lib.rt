@@ -41,7 +41,7 @@ pub use flows::{BadPart, Writer};
 pub use forests::{Entry, Node, NodeFault};
 pub use marks::{Mark, Place};
 pub use outcomes::{Ending, Raised, Run};
-pub use printing::print_program;
+pub use printing::{print_expr, print_program, print_stmt, two_more};
 pub use reading::{LexError, ReadError};
 pub use refusals::Refusal;
 pub use remainders::{Part, Split};

@@ -19,7 +19,9 @@ use crate::declarations::{Body, Class, Interface, Program};
 use crate::sequence::{Seq, Word};
 use crate::want::Memory;
 use declarations::{print_class, print_interface};
+pub use expressions::print_expr;
 use statements::print_within;
+pub use statements::{print_stmt, two_more};
 use std::alloc::Global;
 use types::print_result;
 

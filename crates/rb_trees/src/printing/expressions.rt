@@ -33,7 +33,7 @@ fn level(expr: &Expr) -> u8
     }
 }
 
-/// Adds an expression where any may stand.
+/// Adds an expression where any may stand. The value that step N kept is `<N>`.
 #[cycle(printed_exprs)]
 #[tactic(auto, using(crate::proofs::printed::Exprs::printed_exprs))]
 pub fn print_expr(alloc: Global, expr: &Expr, into: &mut Word) -> Result<(), Memory>

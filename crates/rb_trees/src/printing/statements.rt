@@ -134,10 +134,10 @@ fn print_batch(indent: &[u8], interface: &Word, root: &Word, into: &mut Word) ->
     into.extend_from_slice(b") {\n")
 }
 
-// Adds a statement.
+/// Adds a statement, on lines of its own behind these spaces.
 #[cycle(printed_stmts)]
 #[tactic(auto, using(crate::proofs::printed::Stmts::printed_stmts))]
-fn print_stmt(alloc: Global, indent: &[u8], stmt: &Stmt, into: &mut Word) -> Result<(), Memory>
+pub fn print_stmt(alloc: Global, indent: &[u8], stmt: &Stmt, into: &mut Word) -> Result<(), Memory>
     ensures { Adds (stmt_pieces indent.now (mirror_stmt stmt.now)) into.old result into.new }
 {
     match &stmt.form {
@@ -184,8 +184,8 @@ fn print_stmts(alloc: Global, indent: &[u8], stmts: &[Stmt], into: &mut Word) ->
     Ok(())
 }
 
-// The spaces of a block's lines.
-fn two_more(alloc: Global, indent: &[u8]) -> Result<Word, Memory>
+/// The spaces of a block's lines.
+pub fn two_more(alloc: Global, indent: &[u8]) -> Result<Word, Memory>
     ensures { IfOk result (λ spaces. spaces ≡ deeper indent.now) }
 {
     let mut spaces = Seq::from_slice(alloc, indent)?;
