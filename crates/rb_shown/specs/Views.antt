@@ -5,11 +5,10 @@ use Rattle.rb_trees.specs.declared.code.UnOp.{UnOp}
 use Rattle.rb_trees.specs.declared.code.UnOp.TheVariants as unary
 use Rattle.rb_trees.specs.declared.code.BinOp.{BinOp}
 use Rattle.rb_trees.specs.declared.code.BinOp.TheVariants as binary
-use Rattle.rb_trees.specs.declared.remainders.Split.{Split}
 use Rattle.rb_trees.specs.mirror.Code.{Expr}
 use Rattle.rb_trees.specs.mirror.Scripts.{SExpr, Lit, Input, Var, Root, Unary, Binary, Call, SExprs, NoSExprs, MoreSExprs}
-use Rattle.rb_trees.specs.mirror.Scripts.{Step, Do, Keep, Let, If, Each, Steps, NoSteps, MoreSteps, mirror_script}
-use Rattle.rb_trees.specs.mirror.Remainders.{Part, Plain, Pass, Bind, Both, Branch, Turns, Parts, NoParts, MoreParts, mirror_parts}
+use Rattle.rb_trees.specs.mirror.Scripts.{Step, Do, Keep, Let, If, Each, Steps, NoSteps, MoreSteps}
+use Rattle.rb_trees.specs.mirror.Remainders.{Part, Plain, Pass, Bind, Both, Branch, Turns, Parts, NoParts, MoreParts}
 use Rattle.rb_trees.specs.printing.Pieces.{spelled}
 use Rattle.rb_trees.specs.printing.Exprs.{expr_pieces}
 use Rattle.rb_trees.specs.printing.Stmts.{deeper, stmt_pieces}
@@ -177,6 +176,7 @@ shown_division source d =
     ++ line (codes "script") ++ shown_steps (codes "  ") d.script.body
     ++ line (codes "remainder") ++ shown_parts (codes "  ") d.remainder
 
--- the division that a Split holds
-abbrev pub mirror_split : Split → Division
-mirror_split s = record { at = s.at; inputs = s.inputs; script = mirror_script s.script; remainder = mirror_parts s.remainder }
+-- the views of divided batches, one after the other
+abbrev pub shown_divisions : List ℕ → List Division → List ℕ
+shown_divisions source [] = []
+shown_divisions source (d ∷ ds) = shown_division source d ++ shown_divisions source ds

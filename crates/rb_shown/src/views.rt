@@ -4,7 +4,8 @@ ghost use Rattle.std.specs.Prelude.{◌≡◌, ◌++◌, codes, IfOk};
 ghost use Rattle.rb_meaning.specs.Shown.{line, line_and_column};
 ghost use Rattle.rb_shown.specs.Appends.{Appends};
 ghost use Rattle.rb_shown.specs.Texts.{WithinLength};
-ghost use Rattle.rb_shown.specs.Views.{shown_names, shown_division, mirror_split};
+ghost use Rattle.rb_meaning_split.specs.Division.{mirror_split};
+ghost use Rattle.rb_shown.specs.Views.{shown_names, shown_division};
 
 mod expressions;
 mod parts;

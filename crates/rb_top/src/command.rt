@@ -2,9 +2,8 @@
 
 ghost use Rattle.std.specs.Prelude.{◌≡◌, ◌++◌, ℕ, map, Some, Ok, IfOk};
 ghost use Rattle.rb_meaning.specs.Shown.{line};
-ghost use Rattle.rb_meaning_split.specs.Division.{divisions};
+ghost use Rattle.rb_meaning_split.specs.Division.{divisions, mirror_split};
 ghost use Rattle.rb_shown.specs.Views.{shown_divisions};
-ghost use Rattle.rb_split.specs.Seen.{seen};
 ghost use Rattle.rb_top.specs.Answers.{Ends, Says, ChecksTold, SplitsTold, RunsTold};
 ghost use Rattle.rb_top.specs.declared.status.Status.TheVariants.{Done};
 ghost use Rattle.rb_trees.specs.mirror.Services.{mirror_service};
@@ -291,7 +290,7 @@ fn run_on<F: Files, W: Sink>(
 /// Shows how the batches of a program are divided.
 fn say_divided<W: Sink>(alloc: Global, text: &[u8], splits: &[Split], out: &mut W) -> Status
     requires { WithinLength text.now }
-    ensures { Ends Done (shown_divisions text.now (map seen splits.now)) result (output W.Sink out.old) (output W.Sink out.new) }
+    ensures { Ends Done (shown_divisions text.now (map mirror_split splits.now)) result (output W.Sink out.old) (output W.Sink out.new) }
 {
     match divisions_text(alloc, text, splits) {
         Ok(view) => say(Status::Done, view.as_slice(), out),
@@ -311,7 +310,7 @@ fn fulfil<F: Files, W: Sink>(
 ) -> Status
     requires marks { HasOwnMarks admitted.now }
     requires short { WithinLength text.now }
-    requires divided { divisions (admitted_program admitted.now) ≡ Ok (map seen splits.now) }
+    requires divided { divisions (admitted_program admitted.now) ≡ Ok (map mirror_split splits.now) }
     ensures { Between F.Files W.Sink files.old out.old files.new out.new (GoesOnWith text.now admitted.now (asked_by command.now) result) }
 {
     match command {

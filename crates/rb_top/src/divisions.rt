@@ -1,8 +1,8 @@
 // How the batches of a program are divided, as a text.
 
 ghost use Rattle.std.specs.Prelude.{◌≡◌, map, IfOk};
+ghost use Rattle.rb_meaning_split.specs.Division.{mirror_split};
 ghost use Rattle.rb_shown.specs.Views.{shown_divisions};
-ghost use Rattle.rb_split.specs.Seen.{seen};
 ghost use Rattle.rb_top.specs.Texts.{WithinLength};
 
 use rb_shown::split_view;
@@ -10,9 +10,10 @@ use rb_trees::{Memory, Split};
 use std::alloc::Global;
 
 /// The views of divided batches, one after the other.
+#[tactic(auto, using(crate::proofs::Lines::pieces))]
 pub fn divisions_text(alloc: Global, text: &[u8], splits: &[Split]) -> Result<Vec<u8>, Memory>
     requires { WithinLength text.now }
-    ensures { IfOk result (λ view. view.items ≡ shown_divisions text.now (map seen splits.now)) }
+    ensures { IfOk result (λ view. view.items ≡ shown_divisions text.now (map mirror_split splits.now)) }
 {
     let mut view = Vec::new(alloc);
     for split in splits {

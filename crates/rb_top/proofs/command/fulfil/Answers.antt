@@ -1,6 +1,6 @@
 use Rattle.std.proofs.Common.{refl, sym, subst}
 use Rattle.std.specs.Prelude.{map}
-use Rattle.rb_split.specs.Seen.{seen}
+use Rattle.rb_meaning_split.specs.Division.{mirror_split}
 use Rattle.rb_top.specs.Commands.{GoesOn}
 use Rattle.rb_top.specs.Scene.{outside}
 use Rattle.rb_top.specs.Sources.{admitted_program}
@@ -18,7 +18,7 @@ returns-in-Check g c =
 pub returns-in-Split : goal.returns-in-Split
 returns-in-Split g c =
     subst (λ k. GoesOn c.args.text.now (admitted_program c.args.admitted.now) (asked_by k) c.say_divided.result (outside g.F.Files g.W.Sink c.args.files.now c.args.out.now) (outside g.F.Files g.W.Sink c.args.files.now c.say_divided.new.out)) (sym c.in-Split.is)
-    (goes_split c.args.text.now c.in-Split.field-0.now (admitted_program c.args.admitted.now) (map seen c.args.splits.now) c.say_divided.result _ _ c.requires.divided c.say_divided.ensures refl)
+    (goes_split c.args.text.now c.in-Split.field-0.now (admitted_program c.args.admitted.now) (map mirror_split c.args.splits.now) c.say_divided.result _ _ c.requires.divided c.say_divided.ensures refl)
 
 pub returns-then-is_built : goal.returns-then-is_built
 returns-then-is_built g c =

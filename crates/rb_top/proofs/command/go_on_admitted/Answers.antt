@@ -1,6 +1,6 @@
 use Rattle.std.proofs.Common.{refl}
 use Rattle.std.specs.Prelude.{map}
-use Rattle.rb_split.specs.Seen.{seen}
+use Rattle.rb_meaning_split.specs.Division.{mirror_split}
 use Rattle.rb_top.specs.Scene.{outside}
 use Rattle.rb_top.specs.Sources.{admitted_program}
 use Rattle.rb_top.specs.Words.{asked_by}
@@ -9,7 +9,7 @@ use Rattle.rb_top.proofs.command.go_on_admitted.Goals as goal
 
 pub returns-in-Ok : goal.returns-in-Ok
 returns-in-Ok g c =
-    goes_divided c.args.text.now (admitted_program c.args.admitted.now) (map seen c.in-Ok.splits) (asked_by c.args.command.now) c.fulfil.result _ _ c.in-Ok.ensures c.fulfil.ensures
+    goes_divided c.args.text.now (admitted_program c.args.admitted.now) (map mirror_split c.in-Ok.splits) (asked_by c.args.command.now) c.fulfil.result _ _ c.in-Ok.ensures c.fulfil.ensures
 
 pub returns-in-Err-Refused : goal.returns-in-Err-Refused
 returns-in-Err-Refused g c =
