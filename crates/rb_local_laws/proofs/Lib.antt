@@ -1,0 +1,3 @@
+-- The lemmas on local code.
+mod Names
+mod Meeting
