@@ -1,3 +1,5 @@
 -- The lemmas on local code.
 mod Names
 mod Meeting
+mod Near
+mod Alike
