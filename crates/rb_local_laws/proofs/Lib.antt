@@ -1,5 +1,9 @@
 -- The lemmas on local code.
+mod TypeFacts
+mod Parts
 mod Names
 mod Meeting
 mod Near
 mod Alike
+mod Coded
+mod Portable
