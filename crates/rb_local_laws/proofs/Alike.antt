@@ -95,16 +95,16 @@ names_of (Gave v l) = l.names
 names_of (Faulted r l) = l.names
 
 -- An expression leaves the names as they are, on both sides.
-abbrev pub SameNames : {A : Type 0} → Context → Scope → Local → A → Local → Local → Type 0
-SameNames x scope l a l1 cl = (l1.names ≡ l.names) × (cl ≡ at_client x scope l1)
+abbrev pub SameNames : {A : Type 0} → Context → Scope → Names → A → Local → Local → Type 0
+SameNames x scope ns a l1 cl = (l1.names ≡ ns) × (cl ≡ at_client x scope l1)
 
-abbrev pub FellSame : Context → Scope → Local → Local → Local → Type 0
-FellSame x scope l l1 cl = (l1.names ≡ l.names) × (cl ≡ at_client x scope l1)
+abbrev pub FellSame : Context → Scope → Names → Local → Local → Type 0
+FellSame x scope ns l1 cl = (l1.names ≡ ns) × (cl ≡ at_client x scope l1)
 
 module _ (p : Program) (service : Service) (g : Ground) (refs : Refs) (vars : Vars) (gas : ℕ) (Holds : Outside → Type 0) (x : Context) (scope : Scope) where
   -- a call of an own method, which asks nothing remote
   pub call_meets : (d : Declarations) (P : Outcome Value → Type 0) (at : ℕ) (receiver : Value) (name : List ℕ) (args : List Value) (l : Local) (n : ℕ) → Keeps d (Own []) P (call (bodies_of p.classes gas) at receiver name args l)
-      → Meets p service g refs vars gas Holds (SameNames x scope l) (FellSame x scope l) [] n (call (bodies_of p.classes gas) at receiver name args l) (call (bodies_of p.classes gas) at receiver name args (at_client x scope l))
+      → Meets p service g refs vars gas Holds (SameNames x scope l.names) (FellSame x scope l.names) [] n (call (bodies_of p.classes gas) at receiver name args l) (call (bodies_of p.classes gas) at receiver name args (at_client x scope l))
   call_meets d P at receiver name args l n keeps = record {
     met = λ events server go holds.
         let run = call (bodies_of p.classes gas) at receiver name args l in
@@ -118,7 +118,7 @@ module _ (p : Program) (service : Service) (g : Ground) (refs : Refs) (vars : Va
   }
     where
       by : (ran : Ran) (go : Rest) (w : Outcome Value × Outside) (c : Outcome Value × Seen) → c ≡ (renamed (seen x scope l.names) w.0, record { events = w.1.events; node = ran.node }) → w.0 ≡ renamed l.names w.0 → go vars w.1.server ≡ ran → NearEnd w.0
-          → Met p service g refs vars gas (SameNames x scope l) (FellSame x scope l) [] w c ran go
+          → Met p service g refs vars gas (SameNames x scope l.names) (FellSame x scope l.names) [] w c ran go
       by ran go (Gave v l1, s1) c is own same near =
           let names = ap names_of own in
           record {

@@ -7,3 +7,5 @@ mod Near
 mod Alike
 mod Coded
 mod Portable
+mod Uncut
+mod Values
