@@ -9,3 +9,5 @@ mod Coded
 mod Portable
 mod Uncut
 mod Values
+mod Closing
+mod Effects

@@ -11,7 +11,7 @@ use Rattle.rb_trees.specs.mirror.Scripts.{NoSteps}
 use Rattle.rb_trees.specs.mirror.Forests as forest
 use Rattle.rb_meaning_code.specs.State.{Local}
 use Rattle.rb_meaning_code.specs.Faults.{raised, raises}
-use Rattle.rb_meaning_code.specs.Dialogue.{Outcome, Gave, Faulted, Dialogue, Done, Ask, AskBatch, Run, Handler, handle, seq, on, next, gives, end}
+use Rattle.rb_meaning_code.specs.Dialogue.{Line, ListTurn, Outcome, Gave, Faulted, Dialogue, Done, Ask, AskBatch, Run, Handler, handle, seq, on, next, gives, end, told}
 use Rattle.rb_meaning_code.specs.Remote.{Server, Reply, Got, Stopped, and_then}
 use Rattle.rb_meaning_code.specs.ScriptRun.{Ground, Vars, Ran, on_reply, kept, with_entry, run_steps}
 use Rattle.rb_meaning_code.specs.ScriptRun as scripts
@@ -176,25 +176,50 @@ module _ (p : Program) (service : Service) (g : Ground) (refs : Refs) (vars : Va
   Still n events server go es =
       Stays p service g refs vars gas (record { events = events; server = server }) (record { events = events; node = (rest_of n es go vars server).node }) (rest_of n es go vars server) (go vars server)
 
-  pub falls_meet : {A : Type 0} {Q : A → Local → Local → Type 0} {F : Local → Local → Type 0} {n : ℕ} (l cl : Local) (es : List Expr) (f : Fault) (at : ℕ) → F l cl
-      → M Q F es n (Done (Faulted (raised f at) l)) (Done (Faulted (raised f at) cl))
-  falls_meet {n = n} l cl es f at h = record {
+  pub falls_meet : {A : Type 0} {Q : A → Local → Local → Type 0} {F : Local → Local → Type 0} {n : ℕ} (l cl : Local) (es : List Expr) (r : Raised) → r.remote ≡ false → F l cl
+      → M Q F es n (Done (Faulted r l)) (Done (Faulted r cl))
+  falls_meet {n = n} l cl es r near h = record {
     met = λ events server go holds. inr (record {
       local = cl;
       relates = h;
-      near = refl;
+      near = near;
       ends = refl;
       events = refl;
       stays = λ none. subst (Still n events server go) (sym none) (record { same = refl; fault = refl; server = refl });
     });
   }
+
+  -- a line is shown on both sides
+  pub line_meets : {Q : Unit {0} → Local → Local → Type 0} {F : Local → Local → Type 0} {n : ℕ} (l cl : Local) (at : ℕ) (bytes : List ℕ) → Q tt l cl → M Q F [] n (Ask (Line at bytes) (told l)) (Ask (Line at bytes) (told cl))
+  line_meets l cl at bytes q = record { met = λ events server go holds. record { local = cl; relates = q; ends = refl; fault = refl; server = refl } }
+
+  -- a turn over a list goes on
+  pub turn_meets : {B : Type 0} {R : B → Local → Local → Type 0} {F : Local → Local → Type 0} {n : ℕ} (l cl : Local) (at : ℕ) (k k' : Unit {0} → Local → Run B) → M R F [] n (k tt l) (k' tt cl)
+      → M R F [] n (next (Ask (ListTurn at) (told l)) k) (next (Ask (ListTurn at) (told cl)) k')
+  turn_meets l cl at k k' m = record { met = λ events server go holds. m.met events server go holds }
+
+  -- what is said of the ends, in other words
+  pub told_otherwise : {A : Type 0} {Q R : A → Local → Local → Type 0} {F G : Local → Local → Type 0} {P : Outcome A → Type 0} {es : List Expr} {n : ℕ} {d c : Run A} → M Q F es n d c → Ended P d
+      → ((a : A) (l cl : Local) → P (Gave a l) → Q a l cl → R a l cl) → ((r : Raised) (l cl : Local) → P (Faulted r l) → F l cl → G l cl) → M R G es n d c
+  told_otherwise {A = A} {Q = Q} {R = R} {F = F} {G = G} {P = P} {es = es} {n = n} {d = d} {c = c} m ended gave fell = record {
+    met = λ events server go holds.
+        let s : Outside = record { events = events; server = server } in
+        let ran = rest_of n es go vars server in
+        by (handle (in_batch p service) d s) (handle in_replay c (record { events = events; node = ran.node })) ran go (ended.handled s holds).0 (m.met events server go holds);
+  }
+    where
+      by : (w : Outcome A × Outside) (o : Outcome A × Seen) (ran : Ran) (go : Rest) → P w.0 → N Q F es w o ran go → N R G es w o ran go
+      by (Gave a l, s) o ran go h t = record { local = t.local; relates = gave a l t.local h t.relates; ends = t.ends; fault = t.fault; server = t.server }
+      by (Faulted r l, s) o ran go h (inl t) = inl (record { local = t.local; relates = fell r l t.local h t.relates; from = t.from; ends = t.ends; events = t.events; fault = t.fault; server = t.server })
+      by (Faulted r l, s) o ran go h (inr t) = inr (record { local = t.local; relates = fell r l t.local h t.relates; near = t.near; ends = t.ends; events = t.events; stays = t.stays })
+
   pub end_meets : {A : Type 0} {Q : A → Local → Local → Type 0} {F : Local → Local → Type 0} {n : ℕ} (l cl : Local) (at : ℕ) (r : Result A Fault) → ((a : A) → r ≡ Ok a → Q a l cl) → F l cl
       → M Q F [] n (end l (raises at r)) (end cl (raises at r))
   end_meets l cl at (Ok a) q h = gives_meet l cl a (q a refl)
-  end_meets l cl at (Err f) q h = falls_meet l cl [] f at h
+  end_meets l cl at (Err f) q h = falls_meet l cl [] (raised f at) refl h
 
   -- a check of a rule and what follows it, in the same state
   pub after_check : {A B : Type 0} {R : B → Local → Local → Type 0} {F : Local → Local → Type 0} {n : ℕ} (l cl : Local) (es : List Expr) (at : ℕ) (r : Result A Fault) (k k' : A → Local → Run B) → F l cl
       → ((a : A) → r ≡ Ok a → M R F es n (k a l) (k' a cl)) → M R F es n (next (end l (raises at r)) k) (next (end cl (raises at r)) k')
   after_check l cl es at (Ok a) k k' h more = more a refl
-  after_check l cl es at (Err f) k k' h more = falls_meet l cl es f at h
+  after_check l cl es at (Err f) k k' h more = falls_meet l cl es (raised f at) refl h

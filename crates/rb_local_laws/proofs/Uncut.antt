@@ -1,9 +1,9 @@
 -- Nothing is taken in code without remote calls.
 use Rattle.std.proofs.Common.{◌≡◌, refl, ap, ◌∙◌, subst, ℕ, List, [], ◌∷◌, ◌++◌, Bool as Truth, true, false, ◌&&◌, ◌||◌, cond}
 use Rattle.rb_trees.specs.mirror.Code.{Expr, Exprs, Lit, Name, This, Unary, Binary, Field, Call, Index, New, Items, Taken, NoExprs, MoreExprs, Stmt, Stmts, Val, Var, Assign, Run, Print, Throw, If, While, For, Try, Batch, NoStmts, MoreStmts}
-use Rattle.rb_meaning_flow.specs.Facts.{Facts, is_remote}
+use Rattle.rb_meaning_flow.specs.Facts.{Facts, is_remote, over_rows}
 use Rattle.rb_meaning_flow.specs.Scopes.{Scope}
-use Rattle.rb_meaning_flow.specs.Portable.{portable, holds_call, any_holds_call, holds_operation}
+use Rattle.rb_meaning_flow.specs.Portable.{portable, holds_call, any_holds_call, holds_operation, block_holds}
 use Rattle.rb_meaning_flow.specs.Marks.{is_portable_call}
 use Rattle.rb_meaning.specs.RemoteExprs.{remote_in, all_remote_in, remote_of}
 use Rattle.rb_meaning_split.specs.Cuts.{counted, cut, cut_all, cut_stmt}
@@ -83,3 +83,37 @@ module _ (f : Facts) (vs : Scope) where
         let t = or_none (holds_call f e) (any_holds_call f es) h in
         let m = counted (remote_in f vs e) n in
         ap (λ q. MoreExprs q (cut_all f vs m es)) (not_cut n e t.0) ∙ ap (MoreExprs e) (none_cut m es t.1)
+
+  one_none : (e : Expr) → holds_call f e ≡ false → remote_in f vs e ++ [] ≡ []
+  one_none e h = both_empty (remote_in f vs e) [] (nothing_taken e h) refl
+
+  -- nothing is taken by a statement in which no remote operation stands
+  pub stmt_takes_none : (s : Stmt) → holds_operation f s ≡ false → remote_of f vs s ≡ []
+  stmt_takes_none (Val at name e) h = one_none e h
+  stmt_takes_none (Var at name e) h = one_none e h
+  stmt_takes_none (Assign at a b) h =
+      let t = or_none (holds_call f a) (holds_call f b) h in both_empty (remote_in f vs a) (remote_in f vs b ++ []) (nothing_taken a t.0) (one_none b t.1)
+  stmt_takes_none (Run at e) h = one_none e h
+  stmt_takes_none (Print at e) h = one_none e h
+  stmt_takes_none (Throw at e) h = one_none e h
+  stmt_takes_none (If at c a b) h = one_none c (or_none (holds_call f c) (block_holds f a) (or_none (holds_call f c || block_holds f a) (block_holds f b) h).0).0
+  stmt_takes_none (While at c a) h = one_none c (or_none (holds_call f c) (block_holds f a) h).0
+  stmt_takes_none (For at name e a) h = one_none e (or_none (over_rows f e) (holds_call f e) (or_none (over_rows f e || holds_call f e) (block_holds f a) h).0).1
+  stmt_takes_none (Try at a name b) h = refl
+  stmt_takes_none (Batch at interface root a) h = refl
+
+  pub stmt_not_cut : (n : ℕ) (s : Stmt) → holds_operation f s ≡ false → cut_stmt f vs n s ≡ s
+  stmt_not_cut n (Val at name e) h = ap (Val at name) (not_cut n e h)
+  stmt_not_cut n (Var at name e) h = ap (Var at name) (not_cut n e h)
+  stmt_not_cut n (Assign at a b) h =
+      let t = or_none (holds_call f a) (holds_call f b) h in
+      let m = counted (remote_in f vs a) n in
+      ap (λ q. Assign at q (cut f vs m b)) (not_cut n a t.0) ∙ ap (Assign at a) (not_cut m b t.1)
+  stmt_not_cut n (Run at e) h = ap (Run at) (not_cut n e h)
+  stmt_not_cut n (Print at e) h = ap (Print at) (not_cut n e h)
+  stmt_not_cut n (Throw at e) h = ap (Throw at) (not_cut n e h)
+  stmt_not_cut n (If at c a b) h = ap (λ q. If at q a b) (not_cut n c (or_none (holds_call f c) (block_holds f a) (or_none (holds_call f c || block_holds f a) (block_holds f b) h).0).0)
+  stmt_not_cut n (While at c a) h = ap (λ q. While at q a) (not_cut n c (or_none (holds_call f c) (block_holds f a) h).0)
+  stmt_not_cut n (For at name e a) h = ap (λ q. For at name q a) (not_cut n e (or_none (over_rows f e) (holds_call f e) (or_none (over_rows f e || holds_call f e) (block_holds f a) h).0).1)
+  stmt_not_cut n (Try at a name b) h = refl
+  stmt_not_cut n (Batch at interface root a) h = refl

@@ -144,11 +144,11 @@ module _ (p : Program) (service : Service) (g : Ground) (refs : Refs) (vars : Va
   abbrev W : Names → List Expr → Type 0
   W ns es = AllWanted p service g refs vars Holds x ws ns es
 
-  wanted_left : (ns : Names) (es fs : List Expr) → W ns (es ++ fs) → W ns es
+  pub wanted_left : (ns : Names) (es fs : List Expr) → W ns (es ++ fs) → W ns es
   wanted_left ns [] fs h = tt
   wanted_left ns (e ∷ es) fs h = (h.0, wanted_left ns es fs h.1)
 
-  wanted_right : (ns : Names) (es fs : List Expr) → W ns (es ++ fs) → W ns fs
+  pub wanted_right : (ns : Names) (es fs : List Expr) → W ns (es ++ fs) → W ns fs
   wanted_right ns [] fs h = h
   wanted_right ns (e ∷ es) fs h = wanted_right ns es fs h.1
 
