@@ -11,3 +11,4 @@ mod Uncut
 mod Values
 mod Closing
 mod Effects
+mod Statements

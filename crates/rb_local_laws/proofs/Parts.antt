@@ -4,7 +4,7 @@ use Rattle.rb_trees.specs.Outcome.{◌>>=◌, ◌>>◌, must}
 use Rattle.rb_trees.specs.mirror.Code.{Expr, Stmt, Stmts, Val, Var, Assign, Run, Print, Throw, If, While, For, Try, Batch, MoreStmts, expr_at}
 use Rattle.rb_meaning_types.specs.Kinds as kind
 use Rattle.rb_meaning_types.specs.Kinds.{Kind, is_unit}
-use Rattle.rb_meaning_types.specs.Violations.{Checked, Placed, UnknownName, NameTaken, NotAllowedHere, wanted, wrong_type, with_place}
+use Rattle.rb_meaning_types.specs.Violations.{Checked, Placed, UnknownName, NameTaken, NotAssignable, NotAllowedHere, wanted, wrong_type, with_place}
 use Rattle.rb_meaning_types.specs.Declared.{Context, is_interface}
 use Rattle.rb_meaning_types.specs.Scopes.{Scope, is_free, with_variable}
 use Rattle.rb_meaning_types.specs.Expressions.{type_of}
@@ -76,14 +76,16 @@ module _ (x : Context) (scope : Scope) where
     pub right : Kind
     pub left_typed : type_of x scope a ≡ Ok left
     pub right_typed : type_of x scope b ≡ Ok right
+    pub assignable : is_assignable scope a ≡ true
     pub same : scope ≡ after
 
   pub assign_parts : (at : ℕ) (a b : Expr) (after : Scope) → check_stmt x scope (Assign at a b) ≡ Ok after → Assigns a b after
   assign_parts at a b after h =
       let s = placed_ok (expr_at a) (type_of x scope a) _ after h in
       let t = placed_ok (expr_at b) (type_of x scope b) _ after s.2 in
-      let u = then_ok (must (is_assignable scope a) _ >> wanted s.0 (record { at = expr_at b; kind = t.0 })) (Ok scope) after t.2 in
-      record { left = s.0; right = t.0; left_typed = s.1; right_typed = t.1; same = cc (u.1) }
+      let u = then_ok (must (is_assignable scope a) (NotAssignable at) >> wanted s.0 (record { at = expr_at b; kind = t.0 })) (Ok scope) after t.2 in
+      let w = then_ok (must (is_assignable scope a) (NotAssignable at)) (wanted s.0 (record { at = expr_at b; kind = t.0 })) tt u.0 in
+      record { left = s.0; right = t.0; left_typed = s.1; right_typed = t.1; assignable = must_ok (is_assignable scope a) (NotAssignable at) w.0; same = cc (u.1) }
 
   pub record Branches (c : Expr) (a b : Stmts) (after : Scope) : Type 0 where
     pub typed : type_of x scope c ≡ Ok kind.Bool

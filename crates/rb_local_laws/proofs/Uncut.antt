@@ -16,7 +16,7 @@ and_none : (a b : Truth) → b ≡ false → (a && b) ≡ false
 and_none true b h = h
 and_none false b h = refl
 
-both_empty : {A : Type 0} (xs ys : List A) → xs ≡ [] → ys ≡ [] → xs ++ ys ≡ []
+pub both_empty : {A : Type 0} (xs ys : List A) → xs ≡ [] → ys ≡ [] → xs ++ ys ≡ []
 both_empty [] ys e f = f
 both_empty (x ∷ xs) ys e f = absurd (cc (e))
 
