@@ -24,7 +24,7 @@ use Rattle.rb_meaning.specs.Unsplit.{in_batch}
 use Rattle.rb_meaning_split.specs.Refs.{Refs}
 use Rattle.rb_meaning_split.specs.Replay.{Seen, in_replay}
 use Rattle.rb_types_keep.specs.Asked.{Own, Keeps}
-use Rattle.rb_local_laws.specs.Shown.{seen, named, at_client}
+use Rattle.rb_local_laws.specs.Shown.{seen, named, at_client, SameNames, FellSame}
 use Rattle.rb_local_laws.specs.Meets.{Rest, Met, Meets}
 use Rattle.rb_local_laws.proofs.Meeting.{handle_seq, none_among}
 use Rattle.rb_local_laws.proofs.Near.{NearEnd, Near, own_call_near}
@@ -93,13 +93,6 @@ module _ {S : Type 0} (h : Handler S) (bodies : Bodies) (at : ℕ) (receiver : V
 abbrev names_of : Outcome Value → Names
 names_of (Gave v l) = l.names
 names_of (Faulted r l) = l.names
-
--- An expression leaves the names as they are, on both sides.
-abbrev pub SameNames : {A : Type 0} → Context → Scope → Names → A → Local → Local → Type 0
-SameNames x scope ns a l1 cl = (l1.names ≡ ns) × (cl ≡ at_client x scope l1)
-
-abbrev pub FellSame : Context → Scope → Names → Local → Local → Type 0
-FellSame x scope ns l1 cl = (l1.names ≡ ns) × (cl ≡ at_client x scope l1)
 
 module _ (p : Program) (service : Service) (g : Ground) (refs : Refs) (vars : Vars) (gas : ℕ) (Holds : Outside → Type 0) (x : Context) (scope : Scope) where
   -- a call of an own method, which asks nothing remote

@@ -19,15 +19,12 @@ use Rattle.rb_meaning_split.specs.Refs.{Refs}
 use Rattle.rb_types_keep.specs.Ends.{LocalFits, LocalHolds, Ends, Nothing}
 use Rattle.rb_types_keep.proofs.Values.{names_less}
 use Rattle.rb_types_keep.proofs.Steps.{Within, holds_less, left_taken, Closes}
-use Rattle.rb_local_laws.specs.Shown.{seen, named, at_client, Fronts}
+use Rattle.rb_local_laws.specs.Shown.{seen, named, at_client, Fronts, LeftSeen}
 use Rattle.rb_local_laws.specs.Meets.{Meets}
 use Rattle.rb_local_laws.proofs.Names.{begins_fit, Extends, extends_same, Framed, fronts_same, fronts_less, fronts_closed}
 use Rattle.rb_local_laws.proofs.Meeting.{handle_seq, Ended, seq_meets, gives_meet, falls_meet}
 
--- how a statement leaves the client, and a block that ended by a fault
-abbrev pub LeftSeen : Context → Scope → Unit {0} → Local → Local → Type 0
-LeftSeen x after u l cl = cl ≡ at_client x after l
-
+-- how a block that ended by a fault leaves the client
 abbrev pub FellSeen : Context → Scope → Local → Local → Type 0
 FellSeen x scope l cl = cl ≡ at_client x scope l
 

@@ -53,7 +53,7 @@ use Rattle.rb_types_keep.proofs.Values.{all_more, fits_more, grown_on, text_fits
 use Rattle.rb_types_keep.proofs.Faults.{caught_is_text}
 use Rattle.rb_types_keep.proofs.Steps.{holds_less, Closes}
 use Rattle.rb_types_keep.proofs.Stmts.{binds}
-use Rattle.rb_local_laws.specs.Shown.{is_far, seen, named, at_client, Fronts}
+use Rattle.rb_local_laws.specs.Shown.{is_far, seen, named, at_client, Fronts, LeftSeen}
 use Rattle.rb_local_laws.specs.Wanted.{AllWanted}
 use Rattle.rb_local_laws.specs.Parted.{Parted, PartedStmt, PartedStmts}
 use Rattle.rb_local_laws.specs.Meets.{Meets}
@@ -65,7 +65,7 @@ use Rattle.rb_local_laws.proofs.Coded.{Code, field_code}
 use Rattle.rb_local_laws.proofs.Portable.{value_ended}
 use Rattle.rb_local_laws.proofs.Uncut.{or_none, nothing_taken, not_cut, stmt_takes_none, stmt_not_cut}
 use Rattle.rb_local_laws.proofs.Values.{then_here, wanted_left, wanted_right, value_meets}
-use Rattle.rb_local_laws.proofs.Closing.{LeftSeen, FellSeen, extends_with, extends_on, within_extends, holds_framed, close_ended, close_meets}
+use Rattle.rb_local_laws.proofs.Closing.{FellSeen, extends_with, extends_on, within_extends, holds_framed, close_ended, close_meets}
 
 module _ (p : Program) (service : Service) (g : Ground) (refs : Refs) (vars : Vars) (gas : ℕ) (Holds : Outside → Type 0) (this : Option (List ℕ)) (remote : Truth)
     (keeps : OfBatchCode (of_program p) (type_at p) (λ A P run. EndsHandled Holds (in_batch p service) A P run)) (declared : AreTyped (of_program p))

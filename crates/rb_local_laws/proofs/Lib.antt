@@ -12,3 +12,4 @@ mod Values
 mod Closing
 mod Effects
 mod Statements
+mod Locally

@@ -40,7 +40,7 @@ use Rattle.rb_types_keep.specs.Admitted.{IsAdmittedStmt, AreAdmittedStmts}
 use Rattle.rb_types_keep.specs.Code.{AreTyped, LeadsTo, LeadTo, OfBatchCode, IsBatchStmt, AreBatchStmts}
 use Rattle.rb_types_keep.proofs.Checks.{bind_ok, known_ok}
 use Rattle.rb_types_keep.proofs.Steps.{holds_less}
-use Rattle.rb_local_laws.specs.Shown.{is_far, at_client, Fronts}
+use Rattle.rb_local_laws.specs.Shown.{is_far, at_client, Fronts, LeftSeen}
 use Rattle.rb_local_laws.specs.Wanted.{AllWanted}
 use Rattle.rb_local_laws.specs.Parted.{PartedStmt, PartedStmts}
 use Rattle.rb_local_laws.specs.Meets.{Meets}
@@ -51,7 +51,7 @@ use Rattle.rb_local_laws.proofs.Meeting.{Ended, then_meets, seq_meets, gives_mee
 use Rattle.rb_local_laws.proofs.Coded.{Code, field_code}
 use Rattle.rb_local_laws.proofs.Uncut.{or_none, both_empty, nothing_taken, not_cut, stmt_takes_none, stmt_not_cut}
 use Rattle.rb_local_laws.proofs.Values.{wanted_left, wanted_right}
-use Rattle.rb_local_laws.proofs.Closing.{LeftSeen, FellSeen, extends_on, within_extends, holds_framed}
+use Rattle.rb_local_laws.proofs.Closing.{FellSeen, extends_on, within_extends, holds_framed}
 use Rattle.rb_local_laws.proofs.Effects.{Inner, then_value, truth_meets, block_left, block_ended, block_meets, while_meets, turns_meet, handles_meet, prints_meet, assigns_meet, writes_meet}
 
 -- a statement's scope goes on in the one that it leads to

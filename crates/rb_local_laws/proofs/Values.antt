@@ -61,14 +61,14 @@ use Rattle.rb_types_keep.proofs.OwnKinds.{IsCall, IsFarCall, call_how}
 use Rattle.rb_types_keep.proofs.Objects.{arguments_do}
 use Rattle.rb_types_keep.proofs.Exprs.{call_runs}
 use Rattle.rb_types_keep.proofs.Bodies.{AskKnown, bodies_keep}
-use Rattle.rb_local_laws.specs.Shown.{is_far, seen, named, at_client}
+use Rattle.rb_local_laws.specs.Shown.{is_far, seen, named, at_client, SameNames, FellSame}
 use Rattle.rb_local_laws.specs.Wanted.{Wanted, AllWanted}
 use Rattle.rb_local_laws.specs.Parted.{Parted, AllParted}
 use Rattle.rb_local_laws.specs.Meets.{far_side, Rest, keeping, Met, Meets}
 use Rattle.rb_local_laws.proofs.TypeFacts.{kind_here, object_fact}
 use Rattle.rb_local_laws.proofs.Names.{begins_fit, seen_value, seen_this}
 use Rattle.rb_local_laws.proofs.Meeting.{Ended, then_meets, gives_meet, end_meets, after_check}
-use Rattle.rb_local_laws.proofs.Alike.{SameNames, FellSame, call_meets}
+use Rattle.rb_local_laws.proofs.Alike.{call_meets}
 use Rattle.rb_local_laws.proofs.Coded.{Code, Codes, unary_code, binary_code, field_code, call_code, index_code, new_code, items_code, taken_code, first_code}
 use Rattle.rb_local_laws.proofs.Portable.{put_at, local_of, Same, value_twins, value_ended, values_ended}
 use Rattle.rb_local_laws.proofs.Uncut.{nothing_taken}

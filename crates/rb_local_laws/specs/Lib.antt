@@ -3,3 +3,4 @@ pub mod Shown
 pub mod Wanted
 pub mod Parted
 pub mod Meets
+pub mod Local

@@ -34,3 +34,14 @@ at_client x scope l = named (seen x scope l.names) l
 pub record Fronts (x : Context) (scope : Scope) (l client : Local) : Type 0 where
   pub rest : Names
   pub same : client ≡ named (seen x scope l.names ++ rest) l
+
+-- how a statement leaves the client that leads to a scope
+abbrev pub LeftSeen : Context → Scope → Unit {0} → Local → Local → Type 0
+LeftSeen x after u l client = client ≡ at_client x after l
+
+-- An expression leaves these names, on both sides.
+abbrev pub SameNames : {A : Type 0} → Context → Scope → Names → A → Local → Local → Type 0
+SameNames x scope ns a l client = (l.names ≡ ns) × (client ≡ at_client x scope l)
+
+abbrev pub FellSame : Context → Scope → Names → Local → Local → Type 0
+FellSame x scope ns l client = (l.names ≡ ns) × (client ≡ at_client x scope l)

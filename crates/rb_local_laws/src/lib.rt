@@ -2,3 +2,12 @@
 //!
 //! There is no code here; the laws are functions that do nothing.
 #![tactic(auto)]
+
+ghost use Rattle.rb_local_laws.specs.Local.{LocalCodeDoesTheSame};
+
+/// Local code of an admitted batch, whose remote calls the server performs where they stand, and the same code at the
+/// client, which takes what the script kept of its remote expressions, show the same lines and end alike: by the same
+/// value, by the same local fault, or by a remote fault that stopped the script, too.
+pub fn local_code_does_the_same()
+    ensures { LocalCodeDoesTheSame }
+{}
