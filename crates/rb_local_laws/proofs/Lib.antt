@@ -13,3 +13,7 @@ mod Closing
 mod Effects
 mod Statements
 mod Locally
+mod Sited
+mod Refused
+mod Origins
+mod Admitting

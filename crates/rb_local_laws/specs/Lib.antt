@@ -4,3 +4,4 @@ pub mod Wanted
 pub mod Parted
 pub mod Meets
 pub mod Local
+pub mod Admitted
