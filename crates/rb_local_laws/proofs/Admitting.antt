@@ -59,16 +59,16 @@ carries_added d [] (w ∷ ws) name role at k fixed h f = absurd h
 carries_added d (v ∷ vs) [] name role at k fixed h f = absurd h
 carries_added d (v ∷ vs) (w ∷ ws) name role at k fixed h f = (h.0, h.1, carries_added d vs ws name role at k fixed h.2 f)
 
-or_holds : (a b : Truth) → b ≡ true → (a || b) ≡ true
+pub or_holds : (a b : Truth) → b ≡ true → (a || b) ≡ true
 or_holds true b h = refl
 or_holds false b h = h
 
 -- a name alone
-abbrev IfName : Facts → Scope → Context → typed.Scope → Expr → Type 0
+abbrev pub IfName : Facts → Scope → Context → typed.Scope → Expr → Type 0
 IfName f vs x ws (Name at name) = IsNear f vs x ws (Name at name)
 IfName f vs x ws _ = Unit {0}
 
-if_name : (f : Facts) (vs : Scope) (x : Context) (ws : typed.Scope) (e : Expr) → IsNear f vs x ws e → IfName f vs x ws e
+pub if_name : (f : Facts) (vs : Scope) (x : Context) (ws : typed.Scope) (e : Expr) → IsNear f vs x ws e → IfName f vs x ws e
 if_name f vs x ws (Name at name) h = h
 if_name f vs x ws (Lit at v) h = tt
 if_name f vs x ws _ h = tt
@@ -87,22 +87,22 @@ module _ (p : Program) (this : Option (List ℕ)) (remote : Truth) (known' : Kno
   types = type_at p
 
   -- what is far has a remote type
-  far_type : (e : Expr) (k : Kind) → types (expr_at e) ≡ Some (Ok k) → has_remote_type f e ≡ is_far d k
+  pub far_type : (e : Expr) (k : Kind) → types (expr_at e) ≡ Some (Ok k) → has_remote_type f e ≡ is_far d k
   far_type e k noted = ap (λ t. t || f.rows (expr_at e)) (object_fact p (expr_at e) k noted) ∙ ap (λ t. is_object d k || t) (rows_fact p (expr_at e) k noted)
 
   -- nothing escapes
-  near_site : (s : StmtSite) (above : List Over) (ws : typed.Scope) (e : Expr) → Contains (exprs_of ss) (site s above e) → may_be_remote f s above ≡ false → IsNotedExpr types x ws e → (vs : Scope) → IsNear f vs x ws e
+  pub near_site : (s : StmtSite) (above : List Over) (ws : typed.Scope) (e : Expr) → Contains (exprs_of ss) (site s above e) → may_be_remote f s above ≡ false → IsNotedExpr types x ws e → (vs : Scope) → IsNear f vs x ws e
   near_site s above ws e is quiet n vs k typed' = refuted (is_far d k) (λ far.
       admitted.none (refusal.Escapes (expr_at e)) (site s above e, is, refl, ap (λ t. has_remote_type f e && not t) quiet ∙ ap (λ t. t && true) (far_type e k (kind_here types x ws e k n typed') ∙ far)))
 
   -- a name alone that may not be remote there
-  name_in : (s : StmtSite) (above : List Over) (ws : typed.Scope) (e : Expr) → Within (expr_sites s above e) (exprs_of ss) → may_be_remote f s above ≡ false → IsNotedExpr types x ws e → (vs : Scope) → IfName f vs x ws e
+  pub name_in : (s : StmtSite) (above : List Over) (ws : typed.Scope) (e : Expr) → Within (expr_sites s above e) (exprs_of ss) → may_be_remote f s above ≡ false → IsNotedExpr types x ws e → (vs : Scope) → IfName f vs x ws e
   name_in s above ws e w quiet n vs = if_name f vs x ws e (near_site s above ws e (w (site s above e) (site_first s above e)) quiet n vs)
 
   -- where no remote call stands in it, whatever the scope of the statement
   module _ (vs : Scope) (ws : typed.Scope) where
     mutual
-      quiet_parted : (s : StmtSite) (above : List Over) (e : Expr) → Within (expr_sites s above e) (exprs_of ss) → IsNotedExpr types x ws e → holds_call f e ≡ false → IfName f vs x ws e → Parted f vs x ws e
+      pub quiet_parted : (s : StmtSite) (above : List Over) (e : Expr) → Within (expr_sites s above e) (exprs_of ss) → IsNotedExpr types x ws e → holds_call f e ≡ false → IfName f vs x ws e → Parted f vs x ws e
       quiet_parted s above (Lit at v) w n h i = tt
       quiet_parted s above (Name at name) w n h i = i
       quiet_parted s above (This at) w n h i = tt
@@ -173,7 +173,7 @@ module _ (p : Program) (this : Option (List ℕ)) (remote : Truth) (known' : Kno
 
   module _ (ws : typed.Scope) where
     mutual
-      script_parted : (s : StmtSite) (above : List Over) (e : Expr) → Within (expr_sites s above e) (exprs_of ss) → IsNotedExpr types x ws e → IfName f s.scope x ws e → Parted f s.scope x ws e
+      pub script_parted : (s : StmtSite) (above : List Over) (e : Expr) → Within (expr_sites s above e) (exprs_of ss) → IsNotedExpr types x ws e → IfName f s.scope x ws e → Parted f s.scope x ws e
       script_parted s above (Lit at v) w n i = tt
       script_parted s above (Name at name) w n i = i
       script_parted s above (This at) w n i = tt

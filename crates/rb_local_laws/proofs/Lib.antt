@@ -17,3 +17,4 @@ mod Sited
 mod Refused
 mod Origins
 mod Admitting
+mod Standing

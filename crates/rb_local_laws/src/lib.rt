@@ -3,6 +3,7 @@
 //! There is no code here; the laws are functions that do nothing.
 #![tactic(auto)]
 
+ghost use Rattle.rb_local_laws.specs.Admitted.{AdmittedAreParted};
 ghost use Rattle.rb_local_laws.specs.Local.{LocalCodeDoesTheSame};
 
 /// Local code of an admitted batch, whose remote calls the server performs where they stand, and the same code at the
@@ -10,4 +11,10 @@ ghost use Rattle.rb_local_laws.specs.Local.{LocalCodeDoesTheSame};
 /// value, by the same local fault, or by a remote fault that stopped the script, too.
 pub fn local_code_does_the_same()
     ensures { LocalCodeDoesTheSame }
+{}
+
+/// In a batch without refusals each statement that stays with the client as a whole takes only portable expressions, none
+/// of them under `&&` or `||` or in a block; all else of it reads no remote object and no rows.
+pub fn remote_expressions_stand_as_they_should()
+    ensures { AdmittedAreParted }
 {}
