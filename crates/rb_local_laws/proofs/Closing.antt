@@ -40,10 +40,10 @@ within_extends x scope after h cs ns fit = names_less x.declared.interfaces cs x
 pub holds_framed : (x : Context) (scope : Scope) (l : Local) → LocalHolds x scope l → Framed x scope l.names
 holds_framed x scope l h = begins_fit x.declared.interfaces (classes_of l.heap) (frame_scope x.this scope) l.names h.names_fit
 
-module _ (p : Program) (service : Service) (g : Ground) (refs : Refs) (vars : Vars) (gas : ℕ) (Holds : Outside → Type 0) (x : Context) where
+module _ (p : Program) (service : Service) (g : Ground) (refs : Refs) (vars : Vars) (gas : ℕ) (Holds : Outside → Type 0) (Here : ℕ → Type 0) (x : Context) where
   -- code of a block that begins in one scope and leads to another, all behind the names of the scope before
-  module _ (ws inner last : Scope) (into : Extends ws inner) (on : Extends inner last) {cs : List (List ℕ)} (l : Local) (state : LocalFits x ws l) {d : Run (Unit {0})} (ended : Ended p service g refs vars gas Holds (Ends x inner last Nothing cs) d) where
-    pub close_ended : Ended p service g refs vars gas Holds (Closes x ws cs) (seq d (closes (length l.names)))
+  module _ (ws inner last : Scope) (into : Extends ws inner) (on : Extends inner last) {cs : List (List ℕ)} (l : Local) (state : LocalFits x ws l) {d : Run (Unit {0})} (ended : Ended p service g refs vars gas Holds Here (Ends x inner last Nothing cs) d) where
+    pub close_ended : Ended p service g refs vars gas Holds Here (Closes x ws cs) (seq d (closes (length l.names)))
     close_ended = record {
       handled = λ s holds.
           let e = ended.handled s holds in
@@ -54,16 +54,16 @@ module _ (p : Program) (service : Service) (g : Ground) (refs : Refs) (vars : Va
         by (Gave u l1, s1) e h = (left_taken x ws cs (length l.names) l1 state.count (holds_less x ws last l1 (within_extends x ws last (extends_on ws inner last into on)) e.state.holds) e.grown, h)
         by (Faulted r l1, s1) e h = ((e.fault, left_taken x ws cs (length l.names) l1 state.count (holds_less x ws inner l1 (within_extends x ws inner into) e.state) e.grown), h)
 
-    pub close_meets : {c : Run (Unit {0})} {n : ℕ} → Meets p service g refs vars gas Holds (LeftSeen x last) (Fronts x inner) [] n d c
-        → Meets p service g refs vars gas Holds (LeftSeen x ws) (FellSeen x ws) [] n (seq d (closes (length l.names))) (seq c (closes (length (at_client x ws l).names)))
+    pub close_meets : {c : Run (Unit {0})} {n : ℕ} → Meets p service g refs vars gas Holds Here (LeftSeen x last) (Fronts x inner) [] n d c
+        → Meets p service g refs vars gas Holds Here (LeftSeen x ws) (FellSeen x ws) [] n (seq d (closes (length l.names))) (seq c (closes (length (at_client x ws l).names)))
     close_meets m =
-        seq_meets p service g refs vars gas Holds (closes (length l.names)) (closes (length (at_client x ws l).names)) m ended
+        seq_meets p service g refs vars gas Holds Here (closes (length l.names)) (closes (length (at_client x ws l).names)) m ended
         (λ u l1 cl e q.
         let h1 = holds_less x ws last l1 (within_extends x ws last (extends_on ws inner last into on)) e.state.holds in
         let fronts = fronts_less x ws last l1 (at_client x last l1) (extends_on ws inner last into on) (holds_framed x ws l1 h1) (fronts_same x last l1) in
-        gives_meet p service g refs vars gas Holds (closed (length l.names) l1) (closed (length (at_client x ws l).names) cl) u
+        gives_meet p service g refs vars gas Holds Here (closed (length l.names) l1) (closed (length (at_client x ws l).names) cl) u
         (ap (closed (length (at_client x ws l).names)) q ∙ fronts_closed x ws l l1 (at_client x last l1) (holds_framed x ws l state.holds) state.count (holds_framed x ws l1 h1) fronts))
-        (λ r l1 cl e near fronts.
+        (λ r l1 cl e near here fronts.
         let h1 = holds_less x ws inner l1 (within_extends x ws inner into) e.state in
-        falls_meet p service g refs vars gas Holds (closed (length l.names) l1) (closed (length (at_client x ws l).names) cl) [] r near
+        falls_meet p service g refs vars gas Holds Here (closed (length l.names) l1) (closed (length (at_client x ws l).names) cl) [] r near here
         (fronts_closed x ws l l1 cl (holds_framed x ws l state.holds) state.count (holds_framed x ws l1 h1) (fronts_less x ws inner l1 cl into (holds_framed x ws l1 h1) fronts)))

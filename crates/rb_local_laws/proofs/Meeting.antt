@@ -40,12 +40,12 @@ none_left : {A : Type 0} (xs ys : List A) → xs ++ ys ≡ [] → (xs ≡ []) ×
 none_left [] ys e = (refl, e)
 none_left (x ∷ xs) ys e = absurd (cc (e))
 
-module _ (p : Program) (service : Service) (g : Ground) (refs : Refs) (vars : Vars) (gas : ℕ) (Holds : Outside → Type 0) where
+module _ (p : Program) (service : Service) (g : Ground) (refs : Refs) (vars : Vars) (gas : ℕ) (Holds : Outside → Type 0) (Here : ℕ → Type 0) where
   abbrev M : {A : Type 0} → (A → Local → Local → Type 0) → (Local → Local → Type 0) → List Expr → ℕ → Run A → Run A → Type 0
-  M Q F es n whole client = Meets p service g refs vars gas Holds Q F es n whole client
+  M Q F es n whole client = Meets p service g refs vars gas Holds Here Q F es n whole client
 
   abbrev N : {A : Type 0} → (A → Local → Local → Type 0) → (Local → Local → Type 0) → List Expr → Outcome A × Outside → Outcome A × Seen → Ran → Rest → Type 0
-  N Q F es whole client ran go = Met p service g refs vars gas Q F es whole client ran go
+  N Q F es whole client ran go = Met p service g refs vars gas Holds Here Q F es whole client ran go
 
   -- how the run ends where it stands
   pub record Ended {A : Type 0} (P : Outcome A → Type 0) (run : Run A) : Type 0 where
@@ -66,7 +66,7 @@ module _ (p : Program) (service : Service) (g : Ground) (refs : Refs) (vars : Va
   widened Q F es fs (Faulted r l, s) c ran inner go f e (inl m) = inl (record {
     local = m.local;
     relates = m.relates;
-    from = record { expr = m.from.expr; one = Contains-append_right es fs m.from.expr m.from.one; local = m.from.local; around = m.from.around; ended = m.from.ended };
+    from = record { expr = m.from.expr; one = Contains-append_right es fs m.from.expr m.from.one; local = m.from.local; around = m.from.around; place = m.from.place; kind = m.from.kind; typed = m.from.typed; noted = m.from.noted; fits = m.from.fits; holds = m.from.holds; ended = m.from.ended };
     ends = m.ends;
     events = m.events;
     fault = f ∙ m.fault;
@@ -76,6 +76,7 @@ module _ (p : Program) (service : Service) (g : Ground) (refs : Refs) (vars : Va
     local = m.local;
     relates = m.relates;
     near = m.near;
+    here = m.here;
     ends = m.ends;
     events = m.events;
     stays = λ none. let t = m.stays (none_left es fs none).1 in record { same = t.same; fault = f ∙ t.fault; server = e ∙ t.server };
@@ -99,7 +100,7 @@ module _ (p : Program) (service : Service) (g : Ground) (refs : Refs) (vars : Va
             subst (λ q. N R G (es ++ fs) (Faulted r l, s) (handle in_replay (on k' q) o.1) ran go) (sym m.ends) (inl (record {
               local = m.local;
               relates = falls r l m.local e m.relates;
-              from = record { expr = m.from.expr; one = Contains-append_left es fs m.from.expr m.from.one; local = m.from.local; around = m.from.around; ended = m.from.ended };
+              from = record { expr = m.from.expr; one = Contains-append_left es fs m.from.expr m.from.one; local = m.from.local; around = m.from.around; place = m.from.place; kind = m.from.kind; typed = m.from.typed; noted = m.from.noted; fits = m.from.fits; holds = m.from.holds; ended = m.from.ended };
               ends = refl;
               events = m.events;
               fault = m.fault;
@@ -110,10 +111,11 @@ module _ (p : Program) (service : Service) (g : Ground) (refs : Refs) (vars : Va
               local = m.local;
               relates = falls r l m.local e m.relates;
               near = m.near;
+              here = m.here;
               ends = refl;
               events = m.events;
               stays = λ none. let both = none_left es fs none in let t = m.stays both.0 in
-                  subst (λ q. Stays p service g refs vars gas s o.1 ran (rest_of (counted es n) q go vars s.server) → Stays p service g refs vars gas s o.1 ran (go vars s.server)) (sym both.1) (λ u. u) t;
+                  subst (λ q. Stays p service g refs vars gas Holds Here s o.1 ran (rest_of (counted es n) q go vars s.server) → Stays p service g refs vars gas Holds Here s o.1 ran (go vars s.server)) (sym both.1) (λ u. u) t;
             }))
 
         met : (events : List Event) (server : Server) (go : Rest) → Holds (record { events = events; server = server })
@@ -139,7 +141,7 @@ module _ (p : Program) (service : Service) (g : Ground) (refs : Refs) (vars : Va
     -- what follows sees how a run ended that takes nothing
     pub seq_meets : {n : ℕ} (k k' : Outcome A → Run B) → M Q F [] n d c → Ended P d
         → ((a : A) (l cl : Local) → P (Gave a l) → Q a l cl → M R G [] n (k (Gave a l)) (k' (Gave a cl)))
-        → ((r : Raised) (l cl : Local) → P (Faulted r l) → r.remote ≡ false → F l cl → M R G [] n (k (Faulted r l)) (k' (Faulted r cl)))
+        → ((r : Raised) (l cl : Local) → P (Faulted r l) → r.remote ≡ false → Here r.at → F l cl → M R G [] n (k (Faulted r l)) (k' (Faulted r cl)))
         → M R G [] n (seq d k) (seq c k')
     seq_meets {n = n} k k' first ends more falls = record { met = met }
       where
@@ -155,7 +157,7 @@ module _ (p : Program) (service : Service) (g : Ground) (refs : Refs) (vars : Va
             subst (λ q. N R G [] (handle (in_batch p service) (k (Faulted r l)) s) (handle in_replay (k' q) o.1) ran go) (sym m.ends)
             (subst (λ q. N R G [] (handle (in_batch p service) (k (Faulted r l)) s) (handle in_replay (k' (Faulted r m.local)) q) ran go) (sym t.same)
             (widened R G [] [] (handle (in_batch p service) (k (Faulted r l)) s) (handle in_replay (k' (Faulted r m.local)) (record { events = s.events; node = (go vars s.server).node })) ran (go vars s.server) go
-            t.fault t.server ((falls r l m.local e m.near m.relates).met s.events s.server go holds)))
+            t.fault t.server ((falls r l m.local e m.near m.here m.relates).met s.events s.server go holds)))
 
         met : (events : List Event) (server : Server) (go : Rest) → Holds (record { events = events; server = server })
             → N R G [] (handle (in_batch p service) (seq d k) (record { events = events; server = server }))
@@ -174,15 +176,16 @@ module _ (p : Program) (service : Service) (g : Ground) (refs : Refs) (vars : Va
 
   abbrev Still : ℕ → List Event → Server → Rest → List Expr → Type 0
   Still n events server go es =
-      Stays p service g refs vars gas (record { events = events; server = server }) (record { events = events; node = (rest_of n es go vars server).node }) (rest_of n es go vars server) (go vars server)
+      Stays p service g refs vars gas Holds Here (record { events = events; server = server }) (record { events = events; node = (rest_of n es go vars server).node }) (rest_of n es go vars server) (go vars server)
 
-  pub falls_meet : {A : Type 0} {Q : A → Local → Local → Type 0} {F : Local → Local → Type 0} {n : ℕ} (l cl : Local) (es : List Expr) (r : Raised) → r.remote ≡ false → F l cl
+  pub falls_meet : {A : Type 0} {Q : A → Local → Local → Type 0} {F : Local → Local → Type 0} {n : ℕ} (l cl : Local) (es : List Expr) (r : Raised) → r.remote ≡ false → Here r.at → F l cl
       → M Q F es n (Done (Faulted r l)) (Done (Faulted r cl))
-  falls_meet {n = n} l cl es r near h = record {
+  falls_meet {n = n} l cl es r near here h = record {
     met = λ events server go holds. inr (record {
       local = cl;
       relates = h;
       near = near;
+      here = here;
       ends = refl;
       events = refl;
       stays = λ none. subst (Still n events server go) (sym none) (record { same = refl; fault = refl; server = refl });
@@ -211,15 +214,15 @@ module _ (p : Program) (service : Service) (g : Ground) (refs : Refs) (vars : Va
       by : (w : Outcome A × Outside) (o : Outcome A × Seen) (ran : Ran) (go : Rest) → P w.0 → N Q F es w o ran go → N R G es w o ran go
       by (Gave a l, s) o ran go h t = record { local = t.local; relates = gave a l t.local h t.relates; ends = t.ends; fault = t.fault; server = t.server }
       by (Faulted r l, s) o ran go h (inl t) = inl (record { local = t.local; relates = fell r l t.local h t.relates; from = t.from; ends = t.ends; events = t.events; fault = t.fault; server = t.server })
-      by (Faulted r l, s) o ran go h (inr t) = inr (record { local = t.local; relates = fell r l t.local h t.relates; near = t.near; ends = t.ends; events = t.events; stays = t.stays })
+      by (Faulted r l, s) o ran go h (inr t) = inr (record { local = t.local; relates = fell r l t.local h t.relates; near = t.near; here = t.here; ends = t.ends; events = t.events; stays = t.stays })
 
-  pub end_meets : {A : Type 0} {Q : A → Local → Local → Type 0} {F : Local → Local → Type 0} {n : ℕ} (l cl : Local) (at : ℕ) (r : Result A Fault) → ((a : A) → r ≡ Ok a → Q a l cl) → F l cl
+  pub end_meets : {A : Type 0} {Q : A → Local → Local → Type 0} {F : Local → Local → Type 0} {n : ℕ} (l cl : Local) (at : ℕ) (r : Result A Fault) → Here at → ((a : A) → r ≡ Ok a → Q a l cl) → F l cl
       → M Q F [] n (end l (raises at r)) (end cl (raises at r))
-  end_meets l cl at (Ok a) q h = gives_meet l cl a (q a refl)
-  end_meets l cl at (Err f) q h = falls_meet l cl [] (raised f at) refl h
+  end_meets l cl at (Ok a) here q h = gives_meet l cl a (q a refl)
+  end_meets l cl at (Err f) here q h = falls_meet l cl [] (raised f at) refl here h
 
   -- a check of a rule and what follows it, in the same state
-  pub after_check : {A B : Type 0} {R : B → Local → Local → Type 0} {F : Local → Local → Type 0} {n : ℕ} (l cl : Local) (es : List Expr) (at : ℕ) (r : Result A Fault) (k k' : A → Local → Run B) → F l cl
+  pub after_check : {A B : Type 0} {R : B → Local → Local → Type 0} {F : Local → Local → Type 0} {n : ℕ} (l cl : Local) (es : List Expr) (at : ℕ) (r : Result A Fault) (k k' : A → Local → Run B) → Here at → F l cl
       → ((a : A) → r ≡ Ok a → M R F es n (k a l) (k' a cl)) → M R F es n (next (end l (raises at r)) k) (next (end cl (raises at r)) k')
-  after_check l cl es at (Ok a) k k' h more = more a refl
-  after_check l cl es at (Err f) k k' h more = falls_meet l cl es (raised f at) refl h
+  after_check l cl es at (Ok a) k k' here h more = more a refl
+  after_check l cl es at (Err f) k k' here h more = falls_meet l cl es (raised f at) refl here h

@@ -60,7 +60,7 @@ remote_fits : (o : Option Interface) (cs : List (List ℕ)) (name : List ℕ) (w
 remote_fits (Some i) cs name w e h = h
 remote_fits None cs name w e h = absurd (cc (e))
 
-module _ (p : Program) (service : Service) (g : Ground) (refs : Refs) (vars : Vars) (gas : ℕ) (Holds : Outside → Type 0) where
+module _ (p : Program) (service : Service) (g : Ground) (refs : Refs) (vars : Vars) (gas : ℕ) (Holds : Outside → Type 0) (Here : ℕ → Type 0) where
   abbrev code : Bodies
   code = bodies_of p.classes gas
 
@@ -88,7 +88,7 @@ module _ (p : Program) (service : Service) (g : Ground) (refs : Refs) (vars : Va
   check_twins l at (Ok a) k k' more = more a
   check_twins l at (Err f) k k' more = record { twins = λ s h. record { ends = refl; local = refl; still = refl } }
 
-  then_twins : {A B : Type 0} {P : Outcome A → Type 0} {l : Local} {whole part : Run A} (k k' : A → Local → Run B) → Twins l whole part → Ended p service g refs vars gas Holds P whole
+  then_twins : {A B : Type 0} {P : Outcome A → Type 0} {l : Local} {whole part : Run A} (k k' : A → Local → Run B) → Twins l whole part → Ended p service g refs vars gas Holds Here P whole
       → ((a : A) → P (Gave a l) → Twins l (k a l) (k' a (with_names l.names))) → Twins l (next whole k) (next part k')
   then_twins {A = A} {B = B} {P = P} {l = l} {whole = whole} {part = part} k k' first ended more = record {
     twins = λ s h.
@@ -137,10 +137,10 @@ module _ (p : Program) (service : Service) (g : Ground) (refs : Refs) (vars : Va
     abbrev AllCoded : Exprs → List Placed → Type 0
     AllCoded es ks = Codes (type_at p) x ws es ks
 
-    pub value_ended : (e : Expr) (k : Kind) (l : Local) → Coded e k → FitsPlace (of_program p) place l → Ended p service g refs vars gas Holds (EndsIn (of_program p) place l k) (evaluates code e l)
+    pub value_ended : (e : Expr) (k : Kind) (l : Local) → Coded e k → FitsPlace (of_program p) place l → Ended p service g refs vars gas Holds Here (EndsIn (of_program p) place l k) (evaluates code e l)
     value_ended e k l c fits = record { handled = keeps.values place e k gas l (c.typed, c.formed) (c.noted, c.admitted) fits }
 
-    pub values_ended : (es : Exprs) (ks : List Placed) (l : Local) → AllCoded es ks → FitsPlace (of_program p) place l → Ended p service g refs vars gas Holds (EndsInAll (of_program p) place l ks) (evaluates_all code es l)
+    pub values_ended : (es : Exprs) (ks : List Placed) (l : Local) → AllCoded es ks → FitsPlace (of_program p) place l → Ended p service g refs vars gas Holds Here (EndsInAll (of_program p) place l ks) (evaluates_all code es l)
     values_ended es ks l c fits = record { handled = keeps.lists place es ks gas l (c.typed, c.formed) (c.noted, c.admitted) fits }
 
     module _ (vs : Scope) where

@@ -2,6 +2,7 @@
 pub mod Shown
 pub mod Wanted
 pub mod Parted
+pub mod Placed
 pub mod Meets
 pub mod Local
 pub mod Admitted

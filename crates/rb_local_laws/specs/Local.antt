@@ -19,8 +19,9 @@ use Rattle.rb_meaning_code.specs.ScriptRun.{Ground, Vars}
 use Rattle.rb_meaning_flow.specs.Facts.{Facts, facts_of}
 use Rattle.rb_meaning_flow.specs.Scopes.{Scope}
 use Rattle.rb_meaning_flow.specs.Portable.{block_holds}
+use Rattle.rb_meaning_flow.specs.Marks.{is_portable_call}
 use Rattle.rb_meaning.specs.State.{Outside}
-use Rattle.rb_meaning.specs.Unsplit.{in_batch}
+use Rattle.rb_meaning.specs.Unsplit.{in_batch, stands_remote}
 use Rattle.rb_meaning.specs.RemoteExprs.{remote_in, all_remote_in, remote_of}
 use Rattle.rb_meaning_split.specs.Refs.{Refs}
 use Rattle.rb_meaning_split.specs.Cuts.{cut, cut_all, cut_stmt}
@@ -31,15 +32,21 @@ use Rattle.rb_types_keep.specs.Code.{AreTyped, HasKind, HaveKinds, LeadsTo, Lead
 use Rattle.rb_local_laws.specs.Shown.{is_far, at_client, Fronts, LeftSeen, SameNames, FellSame}
 use Rattle.rb_local_laws.specs.Wanted.{AllWanted}
 use Rattle.rb_local_laws.specs.Parted.{Parted, AllParted, PartedStmt, PartedStmts}
+use Rattle.rb_local_laws.specs.Placed.{PlacedExpr, PlacedExprs, PlacedStmt, PlacedStmts, PlacedClasses}
 use Rattle.rb_local_laws.specs.Meets.{Meets}
 
 -- the table of a service fits
 abbrev pub HoldsTable : Service → Outside → Type 0
 HoldsTable service s = TableFits service.classes service.root s.server.table
 
--- A typed program on a service whose answers fit as long as its table does.
+-- a position that isn't that of a part of a remote expression
+abbrev pub IsLocalAt : Program → ℕ → Type 0
+IsLocalAt p at = stands_remote p at ≡ false
+
+-- A typed program, in whose methods nothing is remote, on a service whose answers fit as long as its table does.
 pub record FitsService (p : Program) (service : Service) : Type 0 where
   pub declared : AreTyped (of_program p)
+  pub placed : PlacedClasses (IsLocalAt p) p.classes
   pub handler : HandlerFits (of_program p) (InBatch (type_at p)) (HoldsTable service) (in_batch p service)
 
 -- Where a batch's code stands, and what the script knows there: `this` is an object of the own side.
@@ -72,18 +79,18 @@ module _ (p : Program) (service : Service) (at : Stand) where
   Wants l es = AllWanted p service at.ground at.refs at.vars (HoldsTable service) x ws l.names es
 
   abbrev pub MeetHere : {A : Type 0} → (A → Local → Local → Type 0) → (Local → Local → Type 0) → List Expr → ℕ → Run A → Run A → Type 0
-  MeetHere Q F es n whole client = Meets p service at.ground at.refs at.vars at.gas (HoldsTable service) Q F es n whole client
+  MeetHere Q F es n whole client = Meets p service at.ground at.refs at.vars at.gas (HoldsTable service) (IsLocalAt p) Q F es n whole client
 
   -- Local code of an admitted batch that stands there, from a local state that fits: expressions and statements do the same
   -- without their remote expressions, and blocks without remote operations do the same as they are.
   pub record LocalCodeMeets : Type 0 where
-    pub values : (e : Expr) (k : Kind) (n : ℕ) (l : Local) → HasKind (of_program p) at.place e k → IsBatchExpr (type_at p) x ws e → Parted f at.scope x ws e → FitsPlace (of_program p) at.place l → Wants l (remote_in f at.scope e)
+    pub values : (e : Expr) (k : Kind) (n : ℕ) (l : Local) → HasKind (of_program p) at.place e k → IsBatchExpr (type_at p) x ws e → Parted f at.scope x ws e → PlacedExpr (IsLocalAt p) (is_portable_call f at.scope) e → FitsPlace (of_program p) at.place l → Wants l (remote_in f at.scope e)
         → MeetHere (SameNames x ws l.names) (FellSame x ws l.names) (remote_in f at.scope e) n (evaluates code e l) (evaluates code (cut f at.scope n e) (at_client x ws l))
-    pub lists : (es : Exprs) (ks : List Placed) (n : ℕ) (l : Local) → HaveKinds (of_program p) at.place es ks → AreBatchExprs (type_at p) x ws es → AllParted f at.scope x ws es → FitsPlace (of_program p) at.place l → Wants l (all_remote_in f at.scope es)
+    pub lists : (es : Exprs) (ks : List Placed) (n : ℕ) (l : Local) → HaveKinds (of_program p) at.place es ks → AreBatchExprs (type_at p) x ws es → AllParted f at.scope x ws es → PlacedExprs (IsLocalAt p) (is_portable_call f at.scope) es → FitsPlace (of_program p) at.place l → Wants l (all_remote_in f at.scope es)
         → MeetHere (SameNames x ws l.names) (FellSame x ws l.names) (all_remote_in f at.scope es) n (evaluates_all code es l) (evaluates_all code (cut_all f at.scope n es) (at_client x ws l))
-    pub statements : (s : Stmt) (after : typed.Scope) (n : ℕ) (l : Local) → LeadsTo (of_program p) at.place s after → IsBatchStmt (type_at p) x ws s → PartedStmt f at.scope x ws s → FitsPlace (of_program p) at.place l → Wants l (remote_of f at.scope s)
+    pub statements : (s : Stmt) (after : typed.Scope) (n : ℕ) (l : Local) → LeadsTo (of_program p) at.place s after → IsBatchStmt (type_at p) x ws s → PartedStmt f at.scope x ws s → PlacedStmt (IsLocalAt p) (is_portable_call f at.scope) s → FitsPlace (of_program p) at.place l → Wants l (remote_of f at.scope s)
         → MeetHere (LeftSeen x after) (Fronts x ws) (remote_of f at.scope s) n (performs code at.gas s l) (performs code at.gas (cut_stmt f at.scope n s) (at_client x ws l))
-    pub sequences : (ss : Stmts) (after : typed.Scope) (n : ℕ) (l : Local) → block_holds f ss ≡ false → LeadTo (of_program p) at.place ss after → AreBatchStmts (type_at p) x ws ss → PartedStmts f at.scope x ws ss → FitsPlace (of_program p) at.place l
+    pub sequences : (ss : Stmts) (after : typed.Scope) (n : ℕ) (l : Local) → block_holds f ss ≡ false → LeadTo (of_program p) at.place ss after → AreBatchStmts (type_at p) x ws ss → PartedStmts f at.scope x ws ss → PlacedStmts (IsLocalAt p) (is_portable_call f at.scope) ss → FitsPlace (of_program p) at.place l
         → MeetHere (LeftSeen x after) (Fronts x ws) [] n (performs_all code at.gas ss l) (performs_all code at.gas ss (at_client x ws l))
 
 -- Local code does the same where it stands and where it is replayed.
