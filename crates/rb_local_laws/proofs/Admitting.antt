@@ -1,44 +1,33 @@
 -- In an admitted batch remote expressions stand as they should.
-use Rattle.std.proofs.Common.{◌≡◌, ◌⊎◌, inl, inr, refl, sym, ap, ◌∙◌, subst, ℕ, List, [], ◌∷◌, ◌++◌, Bool as Truth, true, false, not, ◌&&◌, ◌||◌, cond, Option, Some, None, is_some, Ok}
+use Rattle.std.proofs.Common.{◌≡◌, inl, refl, sym, ap, ◌∙◌, subst, ℕ, List, [], ◌∷◌, ◌++◌, Bool as Truth, true, false, not, ◌&&◌, ◌||◌, cond, Option, Some, Ok}
 use Rattle.std.specs.Str.{bytes_eq}
 use Rattle.std.specs.List.{Contains, flat_map}
-use Rattle.std.proofs.lemmas.Bool.{and_parts}
-use Rattle.rb_trees.specs.Outcome.{◌>>=◌, known}
 use Rattle.rb_trees.specs.declared.code.BinOp.{BinOp}
 use Rattle.rb_trees.specs.declared.refusals.Refusal.TheVariants as refusal
-use Rattle.rb_trees.specs.mirror.Code.{Expr, Exprs, Lit, Name, This, Unary, Binary, Field, Call, Index, New, Items, Taken, NoExprs, MoreExprs, expr_at, Stmt, Stmts, Val, Var, Assign, Run, Print, Throw, If, While, For, Try, Batch, NoStmts, MoreStmts}
+use Rattle.rb_trees.specs.mirror.Code.{Expr, Exprs, Lit, Name, This, Unary, Binary, Field, Call, Index, New, Items, Taken, NoExprs, MoreExprs, expr_at}
 use Rattle.rb_trees.specs.mirror.Declarations.{Program}
 use Rattle.rb_meaning_types.specs.Kinds as kind
 use Rattle.rb_meaning_types.specs.Kinds.{Kind}
-use Rattle.rb_meaning_types.specs.Violations.{Checked, UnknownName}
+use Rattle.rb_meaning_types.specs.Violations.{Checked}
 use Rattle.rb_meaning_types.specs.Declared.{Declarations, Context, of_program}
 use Rattle.rb_meaning_types.specs.Scopes as typed
-use Rattle.rb_meaning_types.specs.Expressions.{type_of}
-use Rattle.rb_meaning_types.specs.Statements.{placed, loop_scope, catch_scope, check_stmt, check_stmts}
-use Rattle.rb_meaning_types.specs.Notes.{scope_or, type_at}
+use Rattle.rb_meaning_types.specs.Notes.{type_at}
 use Rattle.rb_meaning_flow.specs.declared.scopes.Role.{Role}
-use Rattle.rb_meaning_flow.specs.declared.scopes.Variable.{Variable}
-use Rattle.rb_meaning_flow.specs.Facts.{Facts, facts_of, is_object, is_rows, is_remote, over_rows}
+use Rattle.rb_meaning_flow.specs.Facts.{Facts, facts_of, is_object, is_remote}
 use Rattle.rb_meaning_flow.specs.Scopes.{Scope, variable_named, with_variable, role_in, role_of, is_portable_role}
-use Rattle.rb_meaning_flow.specs.Portable.{portable, holds_call, any_holds_call, holds_operation, block_holds, branches_hold}
+use Rattle.rb_meaning_flow.specs.Portable.{portable, holds_call, any_holds_call}
 use Rattle.rb_meaning_flow.specs.Marks.{is_portable_call}
-use Rattle.rb_meaning_flow.specs.Flow.{is_call}
-use Rattle.rb_meaning_flow.specs.Sites.{Around, Branch, WhileTurn, Turn, InTry, StmtSite, ExprSite, Over, is_script_place, site, under, right_under, expr_sites, exprs_sites, own, all_sites, turn_role, val_role, scope_after, stmt_site, sites, block_sites, exprs_of}
-use Rattle.rb_meaning_flow.specs.Refusals.{has_remote_type, is_and_or, frame_condition, may_be_remote, whole_may, operand_condition, while_condition, StandsFirst}
-use Rattle.rb_types_keep.specs.Own.{IsOwnKind, IsFarKind}
-use Rattle.rb_types_keep.specs.Noted.{IsNotedExpr, AreNotedExprs, IsNotedStmt, AreNotedStmts}
-use Rattle.rb_types_keep.proofs.Checks.{bind_ok, known_ok}
+use Rattle.rb_meaning_flow.specs.Sites.{StmtSite, Over, site, under, right_under, expr_sites, exprs_sites, exprs_of}
+use Rattle.rb_meaning_flow.specs.Refusals.{has_remote_type, is_and_or, frame_condition, may_be_remote, operand_condition, while_condition, StandsFirst}
+use Rattle.rb_types_keep.specs.Noted.{IsNotedExpr, AreNotedExprs}
 use Rattle.rb_types_keep.proofs.Known.{Known}
-use Rattle.rb_types_keep.proofs.OwnKinds.{IsFarCall}
 use Rattle.rb_local_laws.specs.Shown.{is_far}
-use Rattle.rb_local_laws.specs.Parted.{IsNear, Parted, AllParted, HasNearItems, PartedStmt, PartedStmts}
-use Rattle.rb_local_laws.specs.Admitted.{IsKnownKind, AreKnownKinds, Carries, IsAdmittedBatch, StaysWhole}
+use Rattle.rb_local_laws.specs.Parted.{IsNear, Parted, AllParted}
+use Rattle.rb_local_laws.specs.Admitted.{Carries, IsAdmittedBatch}
 use Rattle.rb_local_laws.proofs.TypeFacts.{kind_here, object_fact, rows_fact}
-use Rattle.rb_local_laws.proofs.Parts.{val_parts, var_parts, assign_parts, run_parts, print_parts, throw_parts, if_parts, while_parts, for_parts, try_parts, stmts_parts}
 use Rattle.rb_local_laws.proofs.Uncut.{or_none}
-use Rattle.rb_local_laws.proofs.Sited.{Within, within_left, within_right, within_tail, site_first, stmt_first, own_among, first_among}
-use Rattle.rb_local_laws.proofs.Refused.{refuted, NonEmpty, Bad, BadAround, no_call, no_operations}
-use Rattle.rb_local_laws.proofs.Origins.{own_near, item_own, known_added, origin, kind_known}
+use Rattle.rb_local_laws.proofs.Sited.{Within, within_left, within_right, within_tail, site_first}
+use Rattle.rb_local_laws.proofs.Refused.{refuted, Bad, no_call}
 
 -- a variable of an object of the service or of rows has a portable role
 pub carries_role : (d : Declarations) (vs : Scope) (ws : typed.Scope) (name : List ℕ) (w : typed.Variable) → Carries d vs ws → typed.variable_named ws name ≡ Some w → is_far d w.kind ≡ true → is_portable_role (role_of vs name) ≡ true
@@ -159,8 +148,11 @@ module _ (p : Program) (this : Option (List ℕ)) (remote : Truth) (known' : Kno
 
   -- above the right operand of `&&` or `||` a local condition stands, unless the whole is portable
   right_bad : (s : StmtSite) (above : List Over) (at : ℕ) (op : BinOp) (a b : Expr) → is_and_or op ≡ true → portable f s.scope (Binary at op a b) ≡ false → Bad f ss admitted.none s (right_under (Binary at op a b) above)
-  right_bad s above at op a b is none_whole = inl (expr_at a, subst (λ t. StandsFirst (expr_at a) (((cond (t && not (portable f s.scope (Binary at op a b))) (expr_at a ∷ []) [] ++ flat_map (λ o. operand_condition f s.scope o.right o.expr) above) ++ while_condition s.stmt) ++ flat_map (frame_condition f) s.around)) (sym is)
-      (subst (λ t. StandsFirst (expr_at a) (((cond (true && not t) (expr_at a ∷ []) [] ++ flat_map (λ o. operand_condition f s.scope o.right o.expr) above) ++ while_condition s.stmt) ++ flat_map (frame_condition f) s.around)) (sym none_whole) refl))
+  right_bad s above at op a b is none_whole = inl (
+    expr_at a,
+    subst (λ t. StandsFirst (expr_at a) (((cond (t && not (portable f s.scope (Binary at op a b))) (expr_at a ∷ []) [] ++ flat_map (λ o. operand_condition f s.scope o.right o.expr) above) ++ while_condition s.stmt) ++ flat_map (frame_condition f) s.around)) (sym is)
+        (subst (λ t. StandsFirst (expr_at a) (((cond (true && not t) (expr_at a ∷ []) [] ++ flat_map (λ o. operand_condition f s.scope o.right o.expr) above) ++ while_condition s.stmt) ++ flat_map (frame_condition f) s.around)) (sym none_whole) refl),
+  )
 
   and_left : (a b : Truth) → (a && b) ≡ false → b ≡ true → a ≡ false
   and_left true b e h = absurd (cc (e, h))

@@ -1,13 +1,10 @@
 -- Blocks of local code meet: at their ends the names of before are left on both sides.
-use Rattle.std.proofs.Common.{◌≡◌, refl, sym, ap, ◌∙◌, subst, ℕ, List, [], ◌∷◌, ◌++◌, length, append_assoc, Bool as Truth, true, false}
-use Rattle.rb_trees.specs.declared.values.Value.{Value}
-use Rattle.rb_trees.specs.declared.outcomes.Raised.{Raised}
-use Rattle.rb_trees.specs.mirror.Code.{Expr}
+use Rattle.std.proofs.Common.{◌≡◌, refl, sym, ap, ◌∙◌, subst, ℕ, List, [], ◌∷◌, ◌++◌, length, append_assoc, Bool as Truth}
 use Rattle.rb_trees.specs.mirror.Declarations.{Program}
 use Rattle.rb_trees.specs.mirror.Services.{Service}
 use Rattle.rb_meaning_types.specs.Kinds.{Kind}
 use Rattle.rb_meaning_types.specs.Declared.{Context}
-use Rattle.rb_meaning_types.specs.Scopes.{Scope, Variable, with_variable}
+use Rattle.rb_meaning_types.specs.Scopes.{Scope, with_variable}
 use Rattle.rb_meaning_types.specs.Fits.{classes_of, frame_scope, NamesFit}
 use Rattle.rb_meaning_code.specs.State.{Local, closed}
 use Rattle.rb_meaning_code.specs.Dialogue.{Outcome, Gave, Faulted, Run, handle, seq}
@@ -19,9 +16,9 @@ use Rattle.rb_meaning_split.specs.Refs.{Refs}
 use Rattle.rb_types_keep.specs.Ends.{LocalFits, LocalHolds, Ends, Nothing}
 use Rattle.rb_types_keep.proofs.Values.{names_less}
 use Rattle.rb_types_keep.proofs.Steps.{Within, holds_less, left_taken, Closes}
-use Rattle.rb_local_laws.specs.Shown.{seen, named, at_client, Fronts, LeftSeen}
+use Rattle.rb_local_laws.specs.Shown.{at_client, Fronts, LeftSeen}
 use Rattle.rb_local_laws.specs.Meets.{Meets}
-use Rattle.rb_local_laws.proofs.Names.{begins_fit, Extends, extends_same, Framed, fronts_same, fronts_less, fronts_closed}
+use Rattle.rb_local_laws.proofs.Names.{begins_fit, Extends, Framed, fronts_same, fronts_less, fronts_closed}
 use Rattle.rb_local_laws.proofs.Meeting.{handle_seq, Ended, seq_meets, gives_meet, falls_meet}
 
 -- how a block that ended by a fault leaves the client

@@ -1,6 +1,6 @@
 -- Typed code of a batch, and what is so of its parts.
-use Rattle.std.proofs.Common.{◌≡◌, refl, ap, ℕ, List, [], ◌∷◌, Option, Result, Ok, Err}
-use Rattle.rb_trees.specs.mirror.Code.{Expr, Exprs, Lit, Name, This, Unary, Binary, Field, Call, Index, New, Items, Taken, NoExprs, MoreExprs, expr_at}
+use Rattle.std.proofs.Common.{◌≡◌, refl, ℕ, List, Option, Ok, Err}
+use Rattle.rb_trees.specs.mirror.Code.{Expr, Exprs, Unary, Binary, Field, Call, Index, New, Items, Taken, MoreExprs, expr_at}
 use Rattle.rb_meaning_types.specs.Kinds.{Kind}
 use Rattle.rb_meaning_types.specs.Violations.{Checked, Placed}
 use Rattle.rb_meaning_types.specs.Declared.{Context}
@@ -107,6 +107,7 @@ module _ (types : ℕ → Option (Checked Kind)) (x : Context) (ws : Scope) wher
   pub first_code : (e : Expr) (es : Exprs) (ks : List Placed) → Codes (MoreExprs e es) ks → OnePart e × ListParts es
   first_code e es ks c =
       let s = placed_ok (expr_at e) (type_of x ws e) _ ks c.typed in
-      let ts = rest_typed (record { at = expr_at e; kind = s.0 }) (types_of x ws es) ks s.2 in
-      (record { kind = s.0; code = record { typed = s.1; formed = c.formed.0; noted = c.noted.0; admitted = c.admitted.0 } },
-      record { kinds = ts.0; codes = record { typed = ts.1; formed = c.formed.1; noted = c.noted.1; admitted = c.admitted.1 } })
+      let ts = rest_typed (record { at = expr_at e; kind = s.0 }) (types_of x ws es) ks s.2 in (
+        record { kind = s.0; code = record { typed = s.1; formed = c.formed.0; noted = c.noted.0; admitted = c.admitted.0 } },
+        record { kinds = ts.0; codes = record { typed = ts.1; formed = c.formed.1; noted = c.noted.1; admitted = c.admitted.1 } },
+      )

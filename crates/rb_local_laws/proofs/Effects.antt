@@ -1,5 +1,5 @@
 -- Statements of local code meet.
-use Rattle.std.proofs.Common.{◌≡◌, ◌⊎◌, inl, inr, refl, sym, ap, ◌∙◌, subst, ℕ, zero, suc, List, [], ◌∷◌, ◌++◌, length, Bool as Truth, true, false, ◌||◌, cond, All, Option, Some, None, Result, Ok, Err}
+use Rattle.std.proofs.Common.{◌≡◌, refl, sym, ap, subst, ℕ, zero, suc, List, [], ◌∷◌, ◌++◌, Bool as Truth, true, false, cond, All, Option, Some, None, Result, Ok, Err}
 use Rattle.std.proofs.lemmas.List.Elements.{All-head, All-tail}
 use Rattle.std.specs.Str.{bytes_eq}
 use Rattle.rb_trees.specs.Named.{lookup, replaced}
@@ -10,64 +10,55 @@ use Rattle.rb_trees.specs.declared.values.Value.TheVariants as value
 use Rattle.rb_trees.specs.declared.values.Value.TheViews.{out-Value}
 use Rattle.rb_trees.specs.declared.values.Fault.{Fault}
 use Rattle.rb_trees.specs.declared.outcomes.Raised.{Raised}
-use Rattle.rb_trees.specs.mirror.Code.{Expr, Stmt, Stmts, Lit, Name, This, Unary, Binary, Field, Call, Index, New, Items, Val, Var, Assign, Run, Print, Throw, If, While, For, Try, Batch, NoStmts, MoreStmts, expr_at}
-use Rattle.rb_trees.specs.mirror.Code as code_tree
+use Rattle.rb_trees.specs.mirror.Code.{Expr}
 use Rattle.rb_trees.specs.mirror.Declarations.{Program}
 use Rattle.rb_trees.specs.mirror.Services.{Service}
 use Rattle.rb_meaning_types.specs.Kinds as kind
 use Rattle.rb_meaning_types.specs.Kinds.{Kind}
-use Rattle.rb_meaning_types.specs.Violations.{UnknownName}
 use Rattle.rb_meaning_types.specs.Declared.{Declarations, Context, of_program}
 use Rattle.rb_meaning_types.specs.Scopes as typed
 use Rattle.rb_meaning_types.specs.Scopes.{with_variable, variable_named}
-use Rattle.rb_meaning_types.specs.Expressions.{type_of}
-use Rattle.rb_meaning_types.specs.Statements.{placed, loop_scope, catch_scope, check_stmt, check_stmts}
-use Rattle.rb_meaning_types.specs.Notes.{scope_or, type_at}
+use Rattle.rb_meaning_types.specs.Notes.{type_at}
 use Rattle.rb_meaning_types.specs.Fits.{classes_of, AreItems, Fits, this_name, frame_scope}
 use Rattle.rb_meaning_code.specs.State.{Names, Local, bound, spent}
 use Rattle.rb_meaning_code.specs.Faults as faults
 use Rattle.rb_meaning_code.specs.Faults.{fuel_used, raised, raises, caught_text, is_caught}
-use Rattle.rb_meaning_code.specs.Operators.{shown_value}
 use Rattle.rb_meaning_code.specs.Dialogue as dialogue
 use Rattle.rb_meaning_code.specs.Dialogue.{ListTurn, Outcome, Gave, Faulted, Done, Ask, handle, seq, next, gives, end, told}
 use Rattle.rb_meaning_code.specs.Objects.{with_field_of}
 use Rattle.rb_meaning_code.specs.Calls.{Bodies, unit_due}
-use Rattle.rb_meaning_code.specs.Expressions.{value_of, evaluates}
-use Rattle.rb_meaning_code.specs.Statements.{Effect, nothing, block, truth_of, either, by_truth, after_unit, while_turns, turns_over, list_turn, turns, prints, throws, handles, assigned, assigns, writes, assignment, performs, performs_all}
+use Rattle.rb_meaning_code.specs.Expressions.{evaluates}
+use Rattle.rb_meaning_code.specs.Statements.{Effect, nothing, block, truth_of, either, by_truth, after_unit, while_turns, turns_over, list_turn, turns, prints, handles, assigns, writes}
 use Rattle.rb_meaning_code.specs.Bodies.{bodies_of}
 use Rattle.rb_meaning_code.specs.ScriptRun.{Ground, Vars}
-use Rattle.rb_meaning_flow.specs.Facts.{Facts, facts_of, is_rows, over_rows}
+use Rattle.rb_meaning_flow.specs.Facts.{Facts, facts_of}
 use Rattle.rb_meaning_flow.specs.Scopes.{Scope}
-use Rattle.rb_meaning_flow.specs.Portable.{holds_call, holds_operation, block_holds, branches_hold}
+use Rattle.rb_meaning_flow.specs.Portable.{holds_call}
 use Rattle.rb_meaning_flow.specs.Marks.{is_portable_call}
 use Rattle.rb_meaning.specs.State.{Outside}
 use Rattle.rb_meaning.specs.Unsplit.{in_batch}
-use Rattle.rb_meaning.specs.RemoteExprs.{remote_in, remote_of}
+use Rattle.rb_meaning.specs.RemoteExprs.{remote_in}
 use Rattle.rb_meaning_split.specs.Refs.{Refs}
-use Rattle.rb_meaning_split.specs.Cuts.{counted, cut, cut_stmt}
-use Rattle.rb_types_keep.specs.Formed.{IsFormedStmt, AreFormedStmts}
-use Rattle.rb_types_keep.specs.Ends.{Place, context, LocalFits, FitsPlace, GaveFit, Ends, Nothing, Grown}
+use Rattle.rb_meaning_split.specs.Cuts.{counted, cut}
+use Rattle.rb_types_keep.specs.Ends.{Place, LocalFits, FitsPlace, GaveFit, Ends, Nothing, Grown}
 use Rattle.rb_types_keep.specs.Around.{EndsHandled}
-use Rattle.rb_types_keep.specs.Code.{AreTyped, OfBatchCode, EndsAt, IsBatchStmt, AreBatchStmts}
-use Rattle.rb_types_keep.proofs.Checks.{bind_ok, known_ok}
-use Rattle.rb_types_keep.proofs.Values.{all_more, fits_more, grown_on, text_fits}
+use Rattle.rb_types_keep.specs.Code.{AreTyped, OfBatchCode}
+use Rattle.rb_types_keep.proofs.Values.{all_more, text_fits}
 use Rattle.rb_types_keep.proofs.Faults.{caught_is_text}
-use Rattle.rb_types_keep.proofs.Steps.{holds_less, Closes}
+use Rattle.rb_types_keep.proofs.Steps.{Closes}
 use Rattle.rb_types_keep.proofs.Stmts.{binds}
 use Rattle.rb_local_laws.specs.Shown.{is_far, seen, named, at_client, Fronts, LeftSeen}
 use Rattle.rb_local_laws.specs.Wanted.{AllWanted}
-use Rattle.rb_local_laws.specs.Parted.{Parted, PartedStmt, PartedStmts}
+use Rattle.rb_local_laws.specs.Parted.{Parted}
 use Rattle.rb_local_laws.specs.Placed.{PlacedExpr, PlacedClasses}
 use Rattle.rb_local_laws.specs.Meets.{Meets}
-use Rattle.rb_local_laws.proofs.TypeFacts.{kind_here, rows_fact}
-use Rattle.rb_local_laws.proofs.Parts.{val_parts, var_parts, assign_parts, run_parts, print_parts, throw_parts, if_parts, while_parts, for_parts, try_parts, stmts_parts}
-use Rattle.rb_local_laws.proofs.Names.{Begins, begins_fit, Extends, extends_same, seen_value, seen_put, seen_bound, fronts_same, fronts_less}
-use Rattle.rb_local_laws.proofs.Meeting.{Ended, then_meets, seq_meets, gives_meet, falls_meet, line_meets, turn_meets, told_otherwise, end_meets, after_check}
-use Rattle.rb_local_laws.proofs.Coded.{Code, field_code}
+use Rattle.rb_local_laws.proofs.Names.{Begins, begins_fit, Extends, extends_same, seen_value, seen_put, seen_bound, fronts_same}
+use Rattle.rb_local_laws.proofs.Meeting.{Ended, then_meets, gives_meet, falls_meet, line_meets, turn_meets, told_otherwise, after_check}
+use Rattle.rb_local_laws.proofs.Coded.{Code}
 use Rattle.rb_local_laws.proofs.Portable.{value_ended}
-use Rattle.rb_local_laws.proofs.Uncut.{or_none, nothing_taken, not_cut, stmt_takes_none, stmt_not_cut}
-use Rattle.rb_local_laws.proofs.Values.{then_here, wanted_left, wanted_right, value_meets}
-use Rattle.rb_local_laws.proofs.Closing.{FellSeen, extends_with, extends_on, within_extends, holds_framed, close_ended, close_meets}
+use Rattle.rb_local_laws.proofs.Uncut.{nothing_taken, not_cut}
+use Rattle.rb_local_laws.proofs.Values.{then_here, value_meets}
+use Rattle.rb_local_laws.proofs.Closing.{FellSeen, extends_with, close_ended, close_meets}
 
 module _ (p : Program) (service : Service) (g : Ground) (refs : Refs) (vars : Vars) (gas : ℕ) (Holds : Outside → Type 0) (Here : ℕ → Type 0) (this : Option (List ℕ)) (remote : Truth)
     (keeps : OfBatchCode (of_program p) (type_at p) (λ A P run. EndsHandled Holds (in_batch p service) A P run)) (declared : AreTyped (of_program p))
@@ -243,7 +234,7 @@ module _ (p : Program) (service : Service) (g : Ground) (refs : Refs) (vars : Va
 
       by : (o o' : Option Value) → o' ≡ o
           → S ws ws [] n (next (end l (raises at (known faults.kind o >>= λ old. Ok (replaced l.names name v)))) (λ names l1. nothing (record l1 { names = names })))
-            (next (end (at_client x ws l) (raises at (known faults.kind o' >>= λ old. Ok (replaced (seen x ws l.names) name v)))) (λ names l1. nothing (record l1 { names = names })))
+          (next (end (at_client x ws l) (raises at (known faults.kind o' >>= λ old. Ok (replaced (seen x ws l.names) name v)))) (λ names l1. nothing (record l1 { names = names })))
       by (Some w) (Some w') e =
           gives_meet p service g refs vars gas Holds Here (named (replaced l.names name v) l) (named (replaced (seen x ws l.names) name v) l) tt (ap (λ q. named q l) (sym (seen_put x ws l.names name u v plain framed found near)))
       by None None e = falls_meet p service g refs vars gas Holds Here l (at_client x ws l) [] (raised faults.kind at) refl here (fronts_same x ws l)

@@ -1,5 +1,5 @@
 -- How runs that meet follow one another.
-use Rattle.std.proofs.Common.{◌≡◌, ◌⊎◌, inl, inr, refl, sym, ap, ◌∙◌, subst, ℕ, suc, List, [], ◌∷◌, ◌++◌, append-nil, arith, true, false, Result, Ok, Err}
+use Rattle.std.proofs.Common.{◌≡◌, inl, inr, refl, sym, ap, ◌∙◌, subst, ℕ, suc, List, [], ◌∷◌, ◌++◌, append-nil, arith, true, false, Result, Ok, Err}
 use Rattle.std.specs.List.{Contains}
 use Rattle.std.proofs.lemmas.List.Elements.{Contains-append_left, Contains-append_right}
 use Rattle.rb_trees.specs.declared.values.Fault.{Fault}
@@ -22,7 +22,7 @@ use Rattle.rb_meaning_split.specs.Cuts.{counted}
 use Rattle.rb_meaning_split.specs.Steps.{keeps}
 use Rattle.rb_meaning_split.specs.Replay.{Seen, in_replay}
 use Rattle.rb_types_keep.specs.Around.{EndsHandled}
-use Rattle.rb_local_laws.specs.Meets.{far_side, Rest, keeping, FromOne, GaveSame, FellFar, Stays, FellNear, Met, Meets}
+use Rattle.rb_local_laws.specs.Meets.{Rest, Stays, Met, Meets}
 
 pub handle_seq : {S A B : Type 0} (h : Handler S) (run : Dialogue A) (k : A → Dialogue B) (s : S) → handle h (seq run k) s ≡ handle h (k (handle h run s).0) (handle h run s).1
 handle_seq h (Done a) k s = refl
@@ -120,7 +120,7 @@ module _ (p : Program) (service : Service) (g : Ground) (refs : Refs) (vars : Va
 
         met : (events : List Event) (server : Server) (go : Rest) → Holds (record { events = events; server = server })
             → N R G (es ++ fs) (handle (in_batch p service) (next d k) (record { events = events; server = server }))
-              (handle in_replay (next c k') (record { events = events; node = (rest_of n (es ++ fs) go vars server).node })) (rest_of n (es ++ fs) go vars server) go
+            (handle in_replay (next c k') (record { events = events; node = (rest_of n (es ++ fs) go vars server).node })) (rest_of n (es ++ fs) go vars server) go
         met events server go holds =
             let s : Outside = record { events = events; server = server } in
             let after = rest_of (counted es n) fs go in
@@ -161,7 +161,7 @@ module _ (p : Program) (service : Service) (g : Ground) (refs : Refs) (vars : Va
 
         met : (events : List Event) (server : Server) (go : Rest) → Holds (record { events = events; server = server })
             → N R G [] (handle (in_batch p service) (seq d k) (record { events = events; server = server }))
-              (handle in_replay (seq c k') (record { events = events; node = (go vars server).node })) (go vars server) go
+            (handle in_replay (seq c k') (record { events = events; node = (go vars server).node })) (go vars server) go
         met events server go holds =
             let s : Outside = record { events = events; server = server } in
             let seen : Seen = record { events = events; node = (go vars server).node } in

@@ -1,7 +1,6 @@
 -- What becomes of the names that a client has too where names are looked up, added, changed and dropped.
-use Rattle.std.proofs.Common.{◌≡◌, refl, sym, ap, ◌∙◌, subst, ℕ, suc, List, [], ◌∷◌, ◌++◌, length, take, append_assoc, append-nil, arith, Bool as Truth, true, false, cond, Option, Some, None}
+use Rattle.std.proofs.Common.{◌≡◌, refl, sym, ap, ◌∙◌, ℕ, suc, List, [], ◌∷◌, ◌++◌, length, take, append_assoc, append-nil, Bool as Truth, true, false, cond, Option, Some, None}
 use Rattle.std.specs.Str.{bytes_eq}
-
 use Rattle.std.proofs.Math.Seq.{take-append_seam}
 use Rattle.rb_trees.specs.Named.{first_named, lookup, replaced}
 use Rattle.rb_trees.specs.declared.values.Value.{Value}
@@ -10,7 +9,7 @@ use Rattle.rb_meaning_types.specs.Kinds as kind
 use Rattle.rb_meaning_types.specs.Kinds.{Kind}
 use Rattle.rb_meaning_types.specs.Declared.{Declarations, Context}
 use Rattle.rb_meaning_types.specs.Scopes.{Scope, Variable, variable_named, with_variable}
-use Rattle.rb_meaning_types.specs.Fits.{Fits, this_name, frame_scope, NamesFit}
+use Rattle.rb_meaning_types.specs.Fits.{this_name, frame_scope, NamesFit}
 use Rattle.rb_meaning_code.specs.State.{Names, Local, bound, closed}
 use Rattle.rb_types_keep.proofs.Names.{first_value}
 use Rattle.rb_local_laws.specs.Shown.{is_far, shown, seen, named, at_client, Fronts}

@@ -1,7 +1,7 @@
 -- Where values of the types of remote objects and of rows come from: names, and remote calls.
-use Rattle.std.proofs.Common.{◌≡◌, ◌⊎◌, inl, inr, refl, sym, ap, ◌∙◌, subst, ℕ, List, [], ◌∷◌, ◌++◌, Bool as Truth, true, false, ◌||◌, cond, Option, Some, None, is_some, Ok}
+use Rattle.std.proofs.Common.{◌≡◌, ◌⊎◌, inl, inr, refl, ap, subst, ℕ, List, [], ◌∷◌, ◌++◌, Bool as Truth, true, false, ◌||◌, cond, Option, Some, None, is_some, Ok}
 use Rattle.std.specs.Str.{bytes_eq}
-use Rattle.rb_trees.specs.Outcome.{◌>>=◌, ◌>>◌, known, must}
+use Rattle.rb_trees.specs.Outcome.{◌>>◌, known, must}
 use Rattle.rb_trees.specs.declared.values.Value.{Value}
 use Rattle.rb_trees.specs.declared.values.Value.TheOpen.{Value-F}
 use Rattle.rb_trees.specs.declared.values.Value.TheViews.{out-Value}

@@ -28,14 +28,14 @@ use Rattle.rb_meaning_code.specs.Bodies.{bodies_of}
 use Rattle.rb_meaning_code.specs.Remote.{Server}
 use Rattle.rb_meaning_code.specs.ScriptRun.{Ground, Vars}
 use Rattle.rb_meaning_split.specs.Refs.{Refs}
-use Rattle.rb_meaning_flow.specs.Facts.{Facts, facts_of, is_remote, is_object}
+use Rattle.rb_meaning_flow.specs.Facts.{facts_of, is_remote, is_object}
 use Rattle.rb_meaning_flow.specs.Scopes.{Scope}
 use Rattle.rb_meaning_flow.specs.Portable.{portable, all_portable}
 use Rattle.rb_meaning.specs.State.{Event, Outside}
 use Rattle.rb_meaning.specs.Unsplit.{in_batch}
 use Rattle.rb_meaning.specs.RemoteAnswers.{remote_answer}
 use Rattle.rb_meaning.specs.RemotePart.{with_names, in_remote_part}
-use Rattle.rb_types_keep.specs.Ends.{Place, context, FitsPlace, Ends, OfKind, OfKinds}
+use Rattle.rb_types_keep.specs.Ends.{Place, FitsPlace}
 use Rattle.rb_types_keep.specs.Around.{EndsHandled}
 use Rattle.rb_types_keep.specs.Code.{OfBatchCode, EndsIn, EndsInAll}
 use Rattle.rb_local_laws.proofs.Meeting.{handle_seq, Ended}

@@ -1,14 +1,14 @@
 -- Without refusals no remote operation stands under a local condition, nor in a `try`.
-use Rattle.std.proofs.Common.{◌≡◌, ◌⊎◌, inl, inr, refl, sym, ap, ◌∙◌, subst, ℕ, List, [], ◌∷◌, ◌++◌, Bool as Truth, true, false, not, ◌&&◌, ◌||◌, cond}
+use Rattle.std.proofs.Common.{◌≡◌, ◌⊎◌, inl, inr, refl, ℕ, List, [], ◌∷◌, ◌++◌, Bool as Truth, true, false, ◌||◌}
 use Rattle.std.specs.List.{Contains, flat_map}
 use Rattle.rb_trees.specs.declared.refusals.Refusal.{Refusal}
 use Rattle.rb_trees.specs.declared.refusals.Refusal.TheVariants as refusal
-use Rattle.rb_trees.specs.mirror.Code.{Expr, Exprs, Lit, Name, This, Unary, Binary, Field, Call, Index, New, Items, Taken, NoExprs, MoreExprs, expr_at, Stmt, Stmts, Val, Var, Assign, Run, Print, Throw, If, While, For, Try, Batch, NoStmts, MoreStmts}
+use Rattle.rb_trees.specs.mirror.Code.{Expr, Exprs, Lit, Name, This, Unary, Binary, Field, Call, Index, New, Items, Taken, NoExprs, MoreExprs, Stmt, Stmts, Val, Var, Assign, Run, Print, Throw, If, While, For, Try, Batch, NoStmts, MoreStmts}
 use Rattle.rb_meaning_flow.specs.declared.scopes.Role.{Role}
 use Rattle.rb_meaning_flow.specs.Facts.{Facts, is_remote, over_rows}
 use Rattle.rb_meaning_flow.specs.Scopes.{Scope, with_variable}
 use Rattle.rb_meaning_flow.specs.Portable.{holds_call, any_holds_call, holds_operation, block_holds}
-use Rattle.rb_meaning_flow.specs.Sites.{Around, Branch, WhileTurn, Turn, InTry, InBatch, StmtSite, Over, site, under, right_under, expr_sites, exprs_sites, all_sites, own, turn_role, scope_after, stmt_site, sites, block_sites, exprs_of}
+use Rattle.rb_meaning_flow.specs.Sites.{Around, Branch, WhileTurn, Turn, InTry, InBatch, StmtSite, Over, site, expr_sites, exprs_sites, all_sites, own, turn_role, scope_after, stmt_site, sites, block_sites, exprs_of}
 use Rattle.rb_meaning_flow.specs.Refusals.{operand_condition, while_condition, frame_condition, any_try, is_try, StandsFirst, IsRefusal}
 use Rattle.rb_local_laws.proofs.Sited.{Within, within_left, within_right, within_tail, site_first, stmt_first, own_among, first_among}
 

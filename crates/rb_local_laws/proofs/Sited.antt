@@ -5,7 +5,7 @@ use Rattle.std.proofs.lemmas.List.Elements.{Contains-append_left, Contains-appen
 use Rattle.rb_trees.specs.mirror.Code.{Expr, Lit, Name, This, Unary, Binary, Field, Call, Index, New, Items, Taken, Stmt, Val, Var, Assign, Run, Print, Throw, If, While, For, Try, Batch}
 use Rattle.rb_meaning_flow.specs.Facts.{Facts}
 use Rattle.rb_meaning_flow.specs.Scopes.{Scope}
-use Rattle.rb_meaning_flow.specs.Sites.{Around, StmtSite, ExprSite, Over, site, expr_sites, own, all_sites, stmt_site, sites, exprs_of}
+use Rattle.rb_meaning_flow.specs.Sites.{Around, StmtSite, Over, site, expr_sites, own, all_sites, stmt_site, sites, exprs_of}
 use Rattle.rb_local_laws.proofs.Meeting.{none_among}
 
 pub first_contained : {A : Type 0} (x : A) (xs : List A) → Contains (x ∷ xs) x

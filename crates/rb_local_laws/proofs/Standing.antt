@@ -1,9 +1,9 @@
 -- The statements of an admitted batch that stay with the client as a whole.
-use Rattle.std.proofs.Common.{◌≡◌, ◌⊎◌, inl, inr, refl, sym, ap, ◌∙◌, subst, ℕ, List, [], ◌∷◌, ◌++◌, Bool as Truth, true, false, not, ◌&&◌, ◌||◌, cond, Option, Some, None, is_some, Ok}
-use Rattle.std.specs.List.{Contains, flat_map}
+use Rattle.std.proofs.Common.{◌≡◌, ◌⊎◌, inl, inr, refl, sym, ap, ◌∙◌, subst, ℕ, List, [], ◌∷◌, ◌++◌, Bool as Truth, true, false, ◌&&◌, ◌||◌, cond, Option, Some, is_some, Ok}
+use Rattle.std.specs.List.{flat_map}
 use Rattle.rb_trees.specs.Outcome.{◌>>=◌, known}
 use Rattle.rb_trees.specs.declared.refusals.Refusal.TheVariants as refusal
-use Rattle.rb_trees.specs.mirror.Code.{Expr, Exprs, Lit, Name, This, Unary, Binary, Field, Call, Index, New, Items, Taken, expr_at, Stmt, Stmts, Val, Var, Assign, Run, Print, Throw, If, While, For, Try, Batch, NoStmts, MoreStmts}
+use Rattle.rb_trees.specs.mirror.Code.{Expr, Lit, Name, Call, expr_at, Stmt, Stmts, Val, Var, Assign, Run, Print, Throw, If, While, For, Try, Batch, NoStmts, MoreStmts}
 use Rattle.rb_trees.specs.mirror.Declarations.{Program}
 use Rattle.rb_meaning_types.specs.Kinds as kind
 use Rattle.rb_meaning_types.specs.Kinds.{Kind}
@@ -15,22 +15,21 @@ use Rattle.rb_meaning_types.specs.Statements.{placed, loop_scope, catch_scope, c
 use Rattle.rb_meaning_types.specs.Notes.{scope_or, type_at}
 use Rattle.rb_meaning_flow.specs.declared.scopes.Role.{Role}
 use Rattle.rb_meaning_flow.specs.Facts.{Facts, facts_of, is_object, is_rows, is_remote, over_rows}
-use Rattle.rb_meaning_flow.specs.Scopes.{Scope, with_variable, role_of, is_portable_role}
+use Rattle.rb_meaning_flow.specs.Scopes.{Scope, with_variable, is_portable_role}
 use Rattle.rb_meaning_flow.specs.Portable.{portable, holds_call, holds_operation, block_holds, branches_hold}
 use Rattle.rb_meaning_flow.specs.Sites.{Around, Branch, WhileTurn, Turn, InTry, StmtSite, is_script_place, site, expr_sites, all_sites, own, turn_role, val_role, scope_after, stmt_site, sites, block_sites, exprs_of}
 use Rattle.rb_meaning_flow.specs.Refusals.{StandsFirst, frame_condition, whole_may}
-use Rattle.rb_types_keep.specs.Own.{IsOwnKind, IsFarKind}
 use Rattle.rb_types_keep.specs.Noted.{IsNotedExpr, IsNotedStmt, AreNotedStmts}
 use Rattle.rb_types_keep.proofs.Checks.{bind_ok, known_ok}
 use Rattle.rb_types_keep.proofs.Known.{Known, typed_known}
 use Rattle.rb_local_laws.specs.Shown.{is_far}
 use Rattle.rb_local_laws.specs.Parted.{IsNear, Parted, HasNearItems, PartedStmt, PartedStmts}
-use Rattle.rb_local_laws.specs.Admitted.{IsKnownKind, AreKnownKinds, Carries, IsAdmittedBatch, StaysWhole, StandsAt, IsKnownStmt, AdmittedAreParted}
+use Rattle.rb_local_laws.specs.Admitted.{IsKnownKind, AreKnownKinds, Carries, IsAdmittedBatch, StaysWhole, AdmittedAreParted}
 use Rattle.rb_local_laws.proofs.TypeFacts.{kind_here, object_fact, rows_fact}
 use Rattle.rb_local_laws.proofs.Parts.{val_parts, var_parts, assign_parts, run_parts, print_parts, throw_parts, if_parts, while_parts, for_parts, try_parts, batch_parts, stmts_parts}
 use Rattle.rb_local_laws.proofs.Uncut.{or_none}
 use Rattle.rb_local_laws.proofs.Sited.{Within, within_left, within_right, within_tail, site_first, stmt_first, own_among, first_among}
-use Rattle.rb_local_laws.proofs.Refused.{refuted, BadAround, no_call, no_operations}
+use Rattle.rb_local_laws.proofs.Refused.{refuted, no_call, no_operations}
 use Rattle.rb_local_laws.proofs.Origins.{own_near, item_own, known_added, IsOrigin, origin, kind_known}
 use Rattle.rb_local_laws.proofs.Admitting.{carries_role, carries_added, IfName, if_name, far_type, near_site, quiet_parted, script_parted}
 

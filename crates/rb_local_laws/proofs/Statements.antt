@@ -1,9 +1,8 @@
 -- Statements of a batch that stay with the client as a whole meet, and blocks in which nothing is taken.
-use Rattle.std.proofs.Common.{◌≡◌, ◌⊎◌, inl, inr, refl, sym, ap, ◌∙◌, subst, ℕ, suc, List, [], ◌∷◌, ◌++◌, Bool as Truth, true, false, ◌||◌, Option, Some, Ok}
+use Rattle.std.proofs.Common.{◌≡◌, ◌⊎◌, inl, inr, refl, sym, ap, ◌∙◌, subst, ℕ, suc, List, [], ◌∷◌, ◌++◌, Bool as Truth, true, false, Option, Some, Ok}
 use Rattle.rb_trees.specs.Outcome.{◌>>=◌, known}
-use Rattle.rb_trees.specs.declared.values.Value.{Value}
 use Rattle.rb_trees.specs.declared.values.Value.TheViews.{out-Value}
-use Rattle.rb_trees.specs.mirror.Code.{Expr, Lit, Name, This, Unary, Binary, Field, Call, Index, New, Items, Taken, Stmt, Stmts, Val, Var, Assign, Run, Print, Throw, If, While, For, Try, Batch, NoStmts, MoreStmts, expr_at}
+use Rattle.rb_trees.specs.mirror.Code.{Expr, Lit, Name, Field, Stmt, Stmts, Val, Var, Assign, Run, Print, Throw, If, While, For, Try, Batch, NoStmts, MoreStmts, expr_at}
 use Rattle.rb_trees.specs.mirror.Declarations.{Program}
 use Rattle.rb_trees.specs.mirror.Services.{Service}
 use Rattle.rb_meaning_types.specs.Kinds as kind
@@ -12,17 +11,15 @@ use Rattle.rb_meaning_types.specs.Violations.{UnknownName}
 use Rattle.rb_meaning_types.specs.Declared.{Declarations, Context, of_program}
 use Rattle.rb_meaning_types.specs.Scopes as typed
 use Rattle.rb_meaning_types.specs.Scopes.{with_variable, variable_named}
-use Rattle.rb_meaning_types.specs.Expressions.{type_of}
 use Rattle.rb_meaning_types.specs.Statements.{placed, loop_scope, catch_scope, check_stmt, check_stmts}
 use Rattle.rb_meaning_types.specs.Notes.{scope_or, type_at}
-use Rattle.rb_meaning_types.specs.Fits.{classes_of, AreItems, Fits}
+use Rattle.rb_meaning_types.specs.Fits.{classes_of, Fits}
 use Rattle.rb_meaning_code.specs.State.{Names, Local, bound}
 use Rattle.rb_meaning_code.specs.Faults.{raised}
 use Rattle.rb_meaning_code.specs.Operators.{shown_value}
 use Rattle.rb_meaning_code.specs.Dialogue as dialogue
 use Rattle.rb_meaning_code.specs.Calls.{Bodies}
-use Rattle.rb_meaning_code.specs.Expressions.{evaluates}
-use Rattle.rb_meaning_code.specs.Statements.{Effect, block, while_turns, throws, handles, performs, performs_all}
+use Rattle.rb_meaning_code.specs.Statements.{Effect, block, throws, handles, performs, performs_all}
 use Rattle.rb_meaning_code.specs.Bodies.{bodies_of}
 use Rattle.rb_meaning_code.specs.ScriptRun.{Ground, Vars}
 use Rattle.rb_meaning_flow.specs.Facts.{Facts, facts_of, is_rows, over_rows}
@@ -36,8 +33,6 @@ use Rattle.rb_meaning_split.specs.Refs.{Refs}
 use Rattle.rb_meaning_split.specs.Cuts.{counted, cut, cut_stmt}
 use Rattle.rb_types_keep.specs.Ends.{Place, LocalFits, Ends, Nothing}
 use Rattle.rb_types_keep.specs.Around.{EndsHandled}
-use Rattle.rb_types_keep.specs.Noted.{IsNotedStmt, AreNotedStmts}
-use Rattle.rb_types_keep.specs.Admitted.{IsAdmittedStmt, AreAdmittedStmts}
 use Rattle.rb_types_keep.specs.Code.{AreTyped, LeadsTo, LeadTo, OfBatchCode, IsBatchStmt, AreBatchStmts}
 use Rattle.rb_types_keep.proofs.Checks.{bind_ok, known_ok}
 use Rattle.rb_types_keep.proofs.Steps.{holds_less}
@@ -53,7 +48,7 @@ use Rattle.rb_local_laws.proofs.Meeting.{Ended, then_meets, seq_meets, gives_mee
 use Rattle.rb_local_laws.proofs.Coded.{Code, field_code}
 use Rattle.rb_local_laws.proofs.Uncut.{or_none, both_empty, nothing_taken, not_cut, stmt_takes_none, stmt_not_cut}
 use Rattle.rb_local_laws.proofs.Values.{wanted_left, wanted_right}
-use Rattle.rb_local_laws.proofs.Closing.{FellSeen, extends_on, within_extends, holds_framed}
+use Rattle.rb_local_laws.proofs.Closing.{extends_on, within_extends, holds_framed}
 use Rattle.rb_local_laws.proofs.Effects.{Inner, then_value, truth_meets, block_left, block_ended, block_meets, while_meets, turns_meet, handles_meet, prints_meet, assigns_meet, writes_meet}
 
 -- a statement's scope goes on in the one that it leads to

@@ -1,7 +1,6 @@
 -- Expressions of local code meet.
-use Rattle.std.proofs.Common.{◌≡◌, ◌⊎◌, inl, inr, refl, sym, ap, ◌∙◌, subst, ℕ, List, [], ◌∷◌, ◌++◌, append-nil, arith, Bool as Truth, true, false, ◌&&◌, cond, Option, Some, None, is_some, Result, Ok, Err}
+use Rattle.std.proofs.Common.{◌≡◌, inl, inr, refl, sym, ap, ◌∙◌, subst, ℕ, List, [], ◌∷◌, ◌++◌, append-nil, arith, Bool as Truth, true, false, cond, Option, Some, None, is_some, Result, Ok}
 use Rattle.std.proofs.lemmas.Bool.{and_parts, eq-eqb}
-use Rattle.std.specs.Str.{bytes_eq}
 use Rattle.rb_trees.specs.Outcome.{known, must, ◌>>◌}
 use Rattle.rb_trees.specs.declared.code.BinOp.{BinOp}
 use Rattle.rb_trees.specs.declared.code.BinOp.TheVariants as binary
@@ -9,7 +8,6 @@ use Rattle.rb_trees.specs.declared.values.Value.{Value}
 use Rattle.rb_trees.specs.declared.values.Value.TheOpen.{Value-F}
 use Rattle.rb_trees.specs.declared.values.Value.TheViews.{out-Value}
 use Rattle.rb_trees.specs.declared.values.Fault.{Fault}
-use Rattle.rb_trees.specs.declared.outcomes.Raised.{Raised}
 use Rattle.rb_trees.specs.declared.forests.NodeFault.{NodeFault}
 use Rattle.rb_trees.specs.mirror.Code.{Expr, Exprs, Lit, Name, This, Unary, Binary, Field, Call, Index, New, Items, Taken, NoExprs, MoreExprs, expr_at}
 use Rattle.rb_trees.specs.mirror.Declarations.{Program, Interface}
@@ -18,11 +16,10 @@ use Rattle.rb_trees.specs.mirror.Forests as forest
 use Rattle.rb_trees.specs.mirror.Forests.{Node, Holds as Has}
 use Rattle.rb_meaning_types.specs.Kinds as kind
 use Rattle.rb_meaning_types.specs.Kinds.{Kind, is_primitive}
-use Rattle.rb_meaning_types.specs.Names.{interface_named}
 use Rattle.rb_meaning_types.specs.Violations.{Placed, UnknownName}
-use Rattle.rb_meaning_types.specs.Declared.{Declarations, Context, of_program, is_interface}
+use Rattle.rb_meaning_types.specs.Declared.{Declarations, Context, of_program}
 use Rattle.rb_meaning_types.specs.Scopes as typed
-use Rattle.rb_meaning_types.specs.Expressions.{this_kind, type_of}
+use Rattle.rb_meaning_types.specs.Expressions.{this_kind}
 use Rattle.rb_meaning_types.specs.Notes.{type_at}
 use Rattle.rb_meaning_types.specs.Fits.{classes_of, IsIntValue, IsBoolValue, IsTextValue, IsObjectOf, Fits, this_name, frame_scope}
 use Rattle.rb_meaning_code.specs.State.{Names, Local}
@@ -32,9 +29,9 @@ use Rattle.rb_meaning_code.specs.Operators.{on_one, on_two, by_left}
 use Rattle.rb_meaning_code.specs.Dialogue.{Outcome, Gave, Faulted, Run, handle, next, gives, end}
 use Rattle.rb_meaning_code.specs.Objects.{constructed, field_of}
 use Rattle.rb_meaning_code.specs.Calls.{Bodies, call, called}
-use Rattle.rb_meaning_code.specs.Expressions.{value_of, indexed, list_of, decided_or, constructs, evaluates, evaluates_all}
+use Rattle.rb_meaning_code.specs.Expressions.{value_of, indexed, list_of, decided_or, evaluates, evaluates_all}
 use Rattle.rb_meaning_code.specs.Bodies.{bodies_of, body_within}
-use Rattle.rb_meaning_code.specs.Remote.{Server, Reply, Got, Stopped, and_then, replies}
+use Rattle.rb_meaning_code.specs.Remote.{Server, Reply, Got, and_then, replies}
 use Rattle.rb_meaning_code.specs.ScriptRun as scripts
 use Rattle.rb_meaning_code.specs.ScriptRun.{Ground, Vars, Ran, on_reply, kept, with_entry, in_front}
 use Rattle.rb_meaning_flow.specs.Facts.{Facts, facts_of, is_remote, is_object}
@@ -46,12 +43,12 @@ use Rattle.rb_meaning.specs.State.{Event, Outside}
 use Rattle.rb_meaning.specs.Unsplit.{in_batch}
 use Rattle.rb_meaning.specs.RemotePart.{with_names, reply_of}
 use Rattle.rb_meaning.specs.RemoteExprs.{whole_or, remote_in, all_remote_in}
-use Rattle.rb_meaning_split.specs.Refs.{Refs, sexpr}
+use Rattle.rb_meaning_split.specs.Refs.{Refs}
 use Rattle.rb_meaning_split.specs.Cuts.{counted, taken_or, cut, cut_all}
 use Rattle.rb_meaning_split.specs.Replay.{Seen, taken, with_taken, missed, in_replay}
-use Rattle.rb_types_keep.specs.Ends.{Place, context, FitsPlace, GaveFit, Ends, OfKind, OfKinds}
+use Rattle.rb_types_keep.specs.Ends.{Place, FitsPlace, GaveFit, Ends, OfKinds}
 use Rattle.rb_types_keep.specs.Around.{EndsHandled}
-use Rattle.rb_types_keep.specs.Asked.{Own, Keeps}
+use Rattle.rb_types_keep.specs.Asked.{Own}
 use Rattle.rb_types_keep.specs.Admitted.{HasMethod, CallsNoRemote}
 use Rattle.rb_types_keep.specs.Code.{AreTyped, OfBatchCode, EndsIn}
 use Rattle.rb_types_keep.proofs.Checks.{bind_ok, known_ok}
@@ -61,17 +58,17 @@ use Rattle.rb_types_keep.proofs.OwnKinds.{IsCall, IsFarCall, call_how}
 use Rattle.rb_types_keep.proofs.Objects.{arguments_do}
 use Rattle.rb_types_keep.proofs.Exprs.{call_runs}
 use Rattle.rb_types_keep.proofs.Bodies.{AskKnown, bodies_keep}
-use Rattle.rb_local_laws.specs.Shown.{is_far, seen, named, at_client, SameNames, FellSame}
+use Rattle.rb_local_laws.specs.Shown.{is_far, seen, at_client, SameNames, FellSame}
 use Rattle.rb_local_laws.specs.Wanted.{Wanted, AllWanted}
 use Rattle.rb_local_laws.specs.Parted.{Parted, AllParted}
 use Rattle.rb_local_laws.specs.Placed.{PlacedExpr, PlacedExprs, PlacedClasses}
-use Rattle.rb_local_laws.specs.Meets.{far_side, Rest, keeping, Met, Meets}
+use Rattle.rb_local_laws.specs.Meets.{Rest, Met, Meets}
 use Rattle.rb_local_laws.proofs.TypeFacts.{kind_here, object_fact}
 use Rattle.rb_local_laws.proofs.Names.{begins_fit, seen_value, seen_this}
 use Rattle.rb_local_laws.proofs.Meeting.{Ended, then_meets, gives_meet, end_meets, after_check}
 use Rattle.rb_local_laws.proofs.Alike.{call_meets}
 use Rattle.rb_local_laws.proofs.Coded.{Code, Codes, unary_code, binary_code, field_code, call_code, index_code, new_code, items_code, taken_code, first_code}
-use Rattle.rb_local_laws.proofs.Portable.{put_at, local_of, Same, value_twins, value_ended, values_ended}
+use Rattle.rb_local_laws.proofs.Portable.{put_at, local_of, value_twins, value_ended, values_ended}
 use Rattle.rb_local_laws.proofs.Uncut.{nothing_taken}
 
 -- a value of a primitive type may be kept
@@ -218,7 +215,7 @@ module _ (p : Program) (service : Service) (g : Ground) (refs : Refs) (vars : Va
     where
       by : (events : List Event) (s : Outside) (go : Rest) → Holds s → (w : Outcome Value × Outside) → (handle (in_batch p service) (evaluates code e l) s).0 ≡ w.0 → EndsIn d place l k w.0 → w.0 ≡ put_at l w.0 → w.1.events ≡ events
           → Met p service g refs vars gas Holds Here (SameNames x ws l.names) (FellSame x ws l.names) (e ∷ []) w (takes n e l events (ran_of n e go (reply_of (put_at (with_names l.names) w.0, w.1.server))).node)
-            (ran_of n e go (reply_of (put_at (with_names l.names) w.0, w.1.server))) go
+          (ran_of n e go (reply_of (put_at (with_names l.names) w.0, w.1.server))) go
       by events s go holds (Gave v l1, s1) is fit at_l still =
           let same : l1 ≡ l = ap local_of at_l in
           let nd = (go vars s1.server).node in

@@ -1,11 +1,11 @@
 -- A law of admitted batches: how remote expressions stand in the statements that stay with the client as a whole.
-use Rattle.std.specs.Prelude.{◌≡◌, ◌⊎◌, ℕ, List, [], ◌∷◌, true, false, Ok}
+use Rattle.std.specs.Prelude.{◌≡◌, ◌⊎◌, List, [], ◌∷◌, true, false, Ok}
 use Rattle.std.specs.List.{Contains}
 use Rattle.rb_trees.specs.declared.refusals.Refusal.{Refusal}
-use Rattle.rb_trees.specs.mirror.Code.{Expr, Stmt, Val, Run, If, For, Batch}
+use Rattle.rb_trees.specs.mirror.Code.{Stmt, Val, Run, If, For}
 use Rattle.rb_trees.specs.mirror.Declarations.{Program, Interface}
 use Rattle.rb_meaning_types.specs.Kinds.{Kind}
-use Rattle.rb_meaning_types.specs.Declared.{Declarations, Context, of_program}
+use Rattle.rb_meaning_types.specs.Declared.{Declarations, of_program}
 use Rattle.rb_meaning_types.specs.Scopes as typed
 use Rattle.rb_meaning_types.specs.Statements.{check_stmt}
 use Rattle.rb_meaning_types.specs.Notes.{type_at}

@@ -96,4 +96,4 @@ module _ (p : Program) (service : Service) (g : Ground) (refs : Refs) (vars : Va
   pub record Meets {A : Type 0} (Q : A → Local → Local → Type 0) (F : Local → Local → Type 0) (es : List Expr) (n : ℕ) (whole client : Run A) : Type 0 where
     pub met : (events : List Event) (server : Server) (go : Rest) → Holds (record { events = events; server = server })
         → Met Q F es (handle (in_batch p service) whole (record { events = events; server = server }))
-          (handle in_replay client (record { events = events; node = (keeping n es server go).node })) (keeping n es server go) go
+        (handle in_replay client (record { events = events; node = (keeping n es server go).node })) (keeping n es server go) go

@@ -1,6 +1,6 @@
 -- How remote expressions stand in local code of an admitted batch: each remote call is part of a portable expression, and no
 -- object of the service nor rows is read elsewhere.
-use Rattle.std.specs.Prelude.{◌≡◌, List, ℕ, true, false, Ok}
+use Rattle.std.specs.Prelude.{◌≡◌, true, false, Ok}
 use Rattle.rb_trees.specs.Outcome.{◌>>=◌}
 use Rattle.rb_trees.specs.mirror.Code.{Expr, Exprs, Lit, Name, This, Unary, Binary, Field, Call, Index, New, Items, Taken, NoExprs, MoreExprs, Stmt, Stmts, Val, Var, Assign, Run, Print, Throw, If, While, For, Try, Batch, NoStmts, MoreStmts}
 use Rattle.rb_meaning_types.specs.Kinds.{Kind, ListOf}
