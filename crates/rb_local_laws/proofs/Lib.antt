@@ -18,3 +18,4 @@ mod Refused
 mod Origins
 mod Admitting
 mod Standing
+mod Beginning

@@ -1,5 +1,5 @@
 -- A law of local code: it does the same where it stands in a batch and where it is replayed.
-use Rattle.std.specs.Prelude.{◌≡◌, ℕ, List, [], Option, Some, false}
+use Rattle.std.specs.Prelude.{Bool, ◌≡◌, ℕ, List, [], Option, Some, false}
 use Rattle.rb_trees.specs.mirror.Code.{Expr, Exprs, Stmt, Stmts}
 use Rattle.rb_trees.specs.mirror.Declarations.{Program}
 use Rattle.rb_trees.specs.mirror.Services.{Service}
@@ -74,6 +74,45 @@ module _ (p : Program) (service : Service) (at : Stand) where
   abbrev pub code : Bodies
   code = bodies_of p.classes at.gas
 
+  -- what a client takes as a whole there
+  abbrev pub taken : Expr → Bool
+  taken e = is_portable_call f at.scope e
+
+  -- Local code that stands there, of an admitted batch: it is typed, its remote expressions stand as they should, and what else
+  -- may fault stands at positions of local code.
+
+  pub record IsLocalExpr (e : Expr) (k : Kind) : Type 0 where
+    pub typed : HasKind (of_program p) at.place e k
+    pub noted : IsBatchExpr (type_at p) x ws e
+    pub parted : Parted f at.scope x ws e
+    pub placed : PlacedExpr (IsLocalAt p) taken e
+
+  pub record AreLocalExprs (es : Exprs) (ks : List Placed) : Type 0 where
+    pub typed : HaveKinds (of_program p) at.place es ks
+    pub noted : AreBatchExprs (type_at p) x ws es
+    pub parted : AllParted f at.scope x ws es
+    pub placed : PlacedExprs (IsLocalAt p) taken es
+
+  pub record IsLocalStmt (s : Stmt) (after : typed.Scope) : Type 0 where
+    pub typed : LeadsTo (of_program p) at.place s after
+    pub noted : IsBatchStmt (type_at p) x ws s
+    pub parted : PartedStmt f at.scope x ws s
+    pub placed : PlacedStmt (IsLocalAt p) taken s
+
+  pub record AreLocalStmts (ss : Stmts) (after : typed.Scope) : Type 0 where
+    pub typed : LeadTo (of_program p) at.place ss after
+    pub noted : AreBatchStmts (type_at p) x ws ss
+    pub parted : PartedStmts f at.scope x ws ss
+    pub placed : PlacedStmts (IsLocalAt p) taken ss
+
+  -- A local state that fits there.
+  abbrev pub FitsHere : Local → Type 0
+  FitsHere l = FitsPlace (of_program p) at.place l
+
+  -- that of the client
+  abbrev pub client_of : Local → Local
+  client_of l = at_client x ws l
+
   -- what a client takes there
   abbrev pub Wants : Local → List Expr → Type 0
   Wants l es = AllWanted p service at.ground at.refs at.vars (HoldsTable service) x ws l.names es
@@ -81,17 +120,24 @@ module _ (p : Program) (service : Service) (at : Stand) where
   abbrev pub MeetHere : {A : Type 0} → (A → Local → Local → Type 0) → (Local → Local → Type 0) → List Expr → ℕ → Run A → Run A → Type 0
   MeetHere Q F es n whole client = Meets p service at.ground at.refs at.vars at.gas (HoldsTable service) (IsLocalAt p) Q F es n whole client
 
-  -- Local code of an admitted batch that stands there, from a local state that fits: expressions and statements do the same
-  -- without their remote expressions, and blocks without remote operations do the same as they are.
+  -- so do runs of expressions, which leave the names, and of statements that lead to a scope
+  abbrev pub ExprsMeet : {A : Type 0} → Local → List Expr → ℕ → Run A → Run A → Type 0
+  ExprsMeet l es n whole client = MeetHere (SameNames x ws l.names) (FellSame x ws l.names) es n whole client
+
+  abbrev pub StmtsMeet : typed.Scope → List Expr → ℕ → Run (Unit {0}) → Run (Unit {0}) → Type 0
+  StmtsMeet after es n whole client = MeetHere (LeftSeen x after) (Fronts x ws) es n whole client
+
+  -- Expressions and statements do the same without their remote expressions, and blocks in which no remote operation stands do
+  -- the same as they are.
   pub record LocalCodeMeets : Type 0 where
-    pub values : (e : Expr) (k : Kind) (n : ℕ) (l : Local) → HasKind (of_program p) at.place e k → IsBatchExpr (type_at p) x ws e → Parted f at.scope x ws e → PlacedExpr (IsLocalAt p) (is_portable_call f at.scope) e → FitsPlace (of_program p) at.place l → Wants l (remote_in f at.scope e)
-        → MeetHere (SameNames x ws l.names) (FellSame x ws l.names) (remote_in f at.scope e) n (evaluates code e l) (evaluates code (cut f at.scope n e) (at_client x ws l))
-    pub lists : (es : Exprs) (ks : List Placed) (n : ℕ) (l : Local) → HaveKinds (of_program p) at.place es ks → AreBatchExprs (type_at p) x ws es → AllParted f at.scope x ws es → PlacedExprs (IsLocalAt p) (is_portable_call f at.scope) es → FitsPlace (of_program p) at.place l → Wants l (all_remote_in f at.scope es)
-        → MeetHere (SameNames x ws l.names) (FellSame x ws l.names) (all_remote_in f at.scope es) n (evaluates_all code es l) (evaluates_all code (cut_all f at.scope n es) (at_client x ws l))
-    pub statements : (s : Stmt) (after : typed.Scope) (n : ℕ) (l : Local) → LeadsTo (of_program p) at.place s after → IsBatchStmt (type_at p) x ws s → PartedStmt f at.scope x ws s → PlacedStmt (IsLocalAt p) (is_portable_call f at.scope) s → FitsPlace (of_program p) at.place l → Wants l (remote_of f at.scope s)
-        → MeetHere (LeftSeen x after) (Fronts x ws) (remote_of f at.scope s) n (performs code at.gas s l) (performs code at.gas (cut_stmt f at.scope n s) (at_client x ws l))
-    pub sequences : (ss : Stmts) (after : typed.Scope) (n : ℕ) (l : Local) → block_holds f ss ≡ false → LeadTo (of_program p) at.place ss after → AreBatchStmts (type_at p) x ws ss → PartedStmts f at.scope x ws ss → PlacedStmts (IsLocalAt p) (is_portable_call f at.scope) ss → FitsPlace (of_program p) at.place l
-        → MeetHere (LeftSeen x after) (Fronts x ws) [] n (performs_all code at.gas ss l) (performs_all code at.gas ss (at_client x ws l))
+    pub values : (e : Expr) (k : Kind) (n : ℕ) (l : Local) → IsLocalExpr e k → FitsHere l → Wants l (remote_in f at.scope e)
+        → ExprsMeet l (remote_in f at.scope e) n (evaluates code e l) (evaluates code (cut f at.scope n e) (client_of l))
+    pub lists : (es : Exprs) (ks : List Placed) (n : ℕ) (l : Local) → AreLocalExprs es ks → FitsHere l → Wants l (all_remote_in f at.scope es)
+        → ExprsMeet l (all_remote_in f at.scope es) n (evaluates_all code es l) (evaluates_all code (cut_all f at.scope n es) (client_of l))
+    pub statements : (s : Stmt) (after : typed.Scope) (n : ℕ) (l : Local) → IsLocalStmt s after → FitsHere l → Wants l (remote_of f at.scope s)
+        → StmtsMeet after (remote_of f at.scope s) n (performs code at.gas s l) (performs code at.gas (cut_stmt f at.scope n s) (client_of l))
+    pub sequences : (ss : Stmts) (after : typed.Scope) (n : ℕ) (l : Local) → AreLocalStmts ss after → block_holds f ss ≡ false → FitsHere l
+        → StmtsMeet after [] n (performs_all code at.gas ss l) (performs_all code at.gas ss (client_of l))
 
 -- Local code does the same where it stands and where it is replayed.
 abbrev pub LocalCodeDoesTheSame : Type 0

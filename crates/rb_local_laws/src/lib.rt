@@ -3,7 +3,7 @@
 //! There is no code here; the laws are functions that do nothing.
 #![tactic(auto)]
 
-ghost use Rattle.rb_local_laws.specs.Admitted.{AdmittedAreParted};
+ghost use Rattle.rb_local_laws.specs.Admitted.{AdmittedAreParted, BatchesBeginKnown, TurnsBeginKnown, TypesAreKnown};
 ghost use Rattle.rb_local_laws.specs.Local.{LocalCodeDoesTheSame};
 
 /// Local code of an admitted batch, whose remote calls the server performs where they stand, and the same code at the
@@ -17,4 +17,11 @@ pub fn local_code_does_the_same()
 /// of them under `&&` or `||` or in a block; all else of it reads no remote object and no rows.
 pub fn remote_expressions_stand_as_they_should()
     ensures { AdmittedAreParted }
+{}
+
+/// What that asks of the scopes is so where a batch begins, and where a turn over rows does.
+pub fn scopes_of_batches_are_known()
+    ensures batches { BatchesBeginKnown }
+    ensures turns { TurnsBeginKnown }
+    ensures types { TypesAreKnown }
 {}
