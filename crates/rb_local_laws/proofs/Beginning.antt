@@ -1,16 +1,14 @@
 -- What is known of scopes where a batch and where a turn over rows begins.
-use Rattle.std.proofs.Common.{◌≡◌, ◌⊎◌, inl, inr, refl, sym, ap, ◌∙◌, ℕ, List, [], ◌∷◌, ◌++◌, Bool as Truth, true, false, is_some}
-use Rattle.rb_trees.specs.mirror.Code.{Stmts}
+use Rattle.std.proofs.Common.{inl, inr, refl, ℕ, List, [], ◌∷◌, true}
 use Rattle.rb_trees.specs.mirror.Declarations.{Interface}
 use Rattle.rb_meaning_types.specs.Kinds as kind
 use Rattle.rb_meaning_types.specs.Kinds.{Kind}
-use Rattle.rb_meaning_types.specs.Declared.{Declarations, is_interface}
+use Rattle.rb_meaning_types.specs.Declared.{Declarations}
 use Rattle.rb_meaning_types.specs.Scopes as typed
 use Rattle.rb_meaning_flow.specs.declared.scopes.Role.{Role}
 use Rattle.rb_meaning_flow.specs.Scopes.{Scope, with_variable, scope_with, assigned_in}
-use Rattle.rb_types_keep.specs.Own.{IsOwnKind, IsFarItem, IsFarKind, IsOwnScope}
+use Rattle.rb_types_keep.specs.Own.{IsFarItem, IsFarKind, IsOwnScope}
 use Rattle.rb_types_keep.proofs.Known.{typed_known}
-use Rattle.rb_local_laws.specs.Shown.{is_far}
 use Rattle.rb_local_laws.specs.Admitted.{IsKnownKind, AreKnownKinds, Carries, AreNamed, BatchesBeginKnown, TurnsBeginKnown, TypesAreKnown}
 use Rattle.rb_local_laws.proofs.Origins.{own_near, known_added, kind_known}
 use Rattle.rb_local_laws.proofs.Admitting.{carries_added}

@@ -19,3 +19,4 @@ mod Origins
 mod Admitting
 mod Standing
 mod Beginning
+mod Marked

@@ -33,11 +33,11 @@ use Rattle.rb_local_laws.proofs.Refused.{refuted, no_call, no_operations}
 use Rattle.rb_local_laws.proofs.Origins.{own_near, item_own, known_added, IsOrigin, origin, kind_known}
 use Rattle.rb_local_laws.proofs.Admitting.{carries_role, carries_added, IfName, if_name, far_type, near_site, quiet_parted, script_parted}
 
-no_left : (a b : Truth) → a ≡ false → (a && b) ≡ false
+pub no_left : (a b : Truth) → a ≡ false → (a && b) ≡ false
 no_left true b h = absurd (cc (h))
 no_left false b h = refl
 
-no_right : (a b : Truth) → b ≡ false → (a && b) ≡ false
+pub no_right : (a b : Truth) → b ≡ false → (a && b) ≡ false
 no_right true b h = h
 no_right false b h = refl
 

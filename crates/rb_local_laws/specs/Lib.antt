@@ -6,3 +6,4 @@ pub mod Placed
 pub mod Meets
 pub mod Local
 pub mod Admitted
+pub mod Marked

@@ -5,6 +5,7 @@
 
 ghost use Rattle.rb_local_laws.specs.Admitted.{AdmittedAreParted, BatchesBeginKnown, TurnsBeginKnown, TypesAreKnown};
 ghost use Rattle.rb_local_laws.specs.Local.{LocalCodeDoesTheSame};
+ghost use Rattle.rb_local_laws.specs.Marked.{AdmittedArePlaced};
 
 /// Local code of an admitted batch, whose remote calls the server performs where they stand, and the same code at the
 /// client, which takes what the script kept of its remote expressions, show the same lines and end alike: by the same
@@ -24,4 +25,9 @@ pub fn scopes_of_batches_are_known()
     ensures batches { BatchesBeginKnown }
     ensures turns { TurnsBeginKnown }
     ensures types { TypesAreKnown }
+{}
+
+/// What isn't taken of such a statement stands at positions that aren't those of remote expressions.
+pub fn local_code_is_not_marked_remote()
+    ensures { AdmittedArePlaced }
 {}
