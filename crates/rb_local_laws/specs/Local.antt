@@ -49,7 +49,7 @@ pub record FitsService (p : Program) (service : Service) : Type 0 where
   pub placed : PlacedClasses (IsLocalAt p) p.classes
   pub handler : HandlerFits (of_program p) (InBatch (type_at p)) (HoldsTable service) (in_batch p service)
 
--- Where a batch's code stands, and what the script knows there: `this` is an object of the own side.
+-- Where a batch's code stands, what the script knows there, and how much gas code has.
 pub record Stand : Type 0 where
   pub place : Place
   pub scope : Scope
@@ -58,6 +58,7 @@ pub record Stand : Type 0 where
   pub vars : Vars
   pub gas : ℕ
 
+-- `this`, where there is one, is an object of the own side
 abbrev pub IsNearThis : Program → Option (List ℕ) → Type 0
 IsNearThis p this = (class : List ℕ) → this ≡ Some class → is_far (of_program p) (Named class) ≡ false
 
