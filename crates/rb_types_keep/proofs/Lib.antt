@@ -2,12 +2,12 @@
 pub mod Checks
 pub mod Values
 pub mod Faults
-mod Results
+pub mod Results
 pub mod Steps
-mod Known
-mod OwnKinds
-mod Names
-mod Objects
+pub mod Known
+pub mod OwnKinds
+pub mod Names
+pub mod Objects
 pub mod Exprs
 pub mod Stmts
 pub mod Bodies

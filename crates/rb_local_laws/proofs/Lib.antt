@@ -1,0 +1,22 @@
+-- The lemmas on local code.
+mod TypeFacts
+mod Parts
+mod Names
+mod Meeting
+mod Near
+mod Alike
+mod Coded
+mod Portable
+mod Uncut
+mod Values
+mod Closing
+mod Effects
+mod Statements
+mod Locally
+mod Sited
+mod Refused
+mod Origins
+mod Admitting
+mod Standing
+mod Beginning
+mod Marked
