@@ -1,0 +1,2 @@
+-- The laws of the division.
+pub mod Sendable
