@@ -8,6 +8,8 @@ mod answers;
 #[cfg(test)]
 mod checks;
 #[cfg(test)]
+mod directories;
+#[cfg(test)]
 mod faults;
 #[cfg(test)]
 mod flows;
@@ -21,5 +23,7 @@ mod runs;
 mod service_classes;
 #[cfg(test)]
 mod types;
+#[cfg(test)]
+mod unsplit_faults;
 #[cfg(test)]
 mod unsplit_runs;
