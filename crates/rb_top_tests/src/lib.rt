@@ -8,6 +8,8 @@ mod answers;
 #[cfg(test)]
 mod checks;
 #[cfg(test)]
+mod directories;
+#[cfg(test)]
 mod divisions;
 #[cfg(test)]
 mod faults;
@@ -23,5 +25,7 @@ mod runs;
 mod service_classes;
 #[cfg(test)]
 mod types;
+#[cfg(test)]
+mod unsplit_faults;
 #[cfg(test)]
 mod unsplit_runs;

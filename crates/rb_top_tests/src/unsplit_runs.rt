@@ -1,47 +1,12 @@
 // What `unsplit p s` prints: each remote operation is performed where it stands.
 use crate::answers::{INTERFACES, answer, files_of};
+use crate::directories::{CLASSES, left, others, ran, ran_behind};
 use std::alloc::Global;
 use std::test::Fail;
 
-/// The classes of a directory of files.
-const CLASSES: &str = "\
-class File { name: Text; size: Int; fun name(): Text { return this.name; } fun size(): Int { return this.size; } \
-fun grow(by: Int) { this.size = this.size + by; } fun check(max: Int) { if (this.size > max) { throw \"Big\"; } } \
-fun rename(to: Text) { this.name = to; } }\n\
-class Dir { list: List<File>; fun files(): List<File> { return this.list; } fun file(i: Int): File { return this.list[i]; } \
-fun burn(n: Int) { var i = 0; while (i < n) { i = i + 1; } } }\n";
-
-/// A directory of two files.
-const OBJECTS: &str = "\
-object 0: Dir { list = [#1, #2]; }\n\
-object 1: File { name = \"a\"; size = 10; }\n\
-object 2: File { name = \"bb\"; size = 200; }\n\
-root 0;\n";
-
-/// What a program of two lines and `main` answers on the directory of two files.
-fn ran_behind(alloc: Global, lines: &str, main: &str) -> Result<String, Fail> {
-    let program = format!(in alloc; "{lines}{main}")?;
-    let service = format!(in alloc; "{CLASSES}{OBJECTS}")?;
-    let files = files_of(alloc, Some(program.as_str()), Some(service.as_str()))?;
-    answer(alloc, "unsplit p s", files)
-}
-
-/// The same behind the interfaces of that directory.
-fn ran(alloc: Global, main: &str) -> Result<String, Fail> {
-    ran_behind(alloc, INTERFACES, main)
-}
-
-/// A status and lines, before the table with these sizes of the files.
-fn left(alloc: Global, lines: &str, one: u32, two: u32) -> Result<String, Fail> {
-    let whole = format!(in alloc;
-        "{lines}object 0: Dir {{ list = [#1, #2]; }}\nobject 1: File {{ name = \"a\"; size = {one}; }}\nobject 2: File {{ name = \"bb\"; size = {two}; }}\n"
-    )?;
-    Ok(whole)
-}
-
 #[test]
 fn operations_are_performed_where_they_stand(rt: HostRuntime) -> Result<(), Fail> {
-    for (main, lines, one, two) in [
+    let rows = [
         (
             "main { batch (Dir r) { } }",
             "0 done\nexchanges 1\n",
@@ -84,97 +49,74 @@ fn operations_are_performed_where_they_stand(rt: HostRuntime) -> Result<(), Fail
             10,
             200,
         ),
-    ] {
-        assert_eq!(rt;
-            ran(rt.alloc(), main)?.as_str(),
-            left(rt.alloc(), lines, one, two)?.as_str(),
-            "{main}"
-        );
-    }
+    ];
+    assert_eq!(rt; others(rt.alloc(), "unsplit p s", &rows)?.as_str(), "");
     Ok(())
 }
 
 #[test]
-fn after_a_remote_fault_nothing_more_is_performed(rt: HostRuntime) -> Result<(), Fail> {
-    for (main, lines, one, two) in [
+fn a_batch_sees_the_table_of_the_one_before(rt: HostRuntime) -> Result<(), Fail> {
+    let rows = [
         (
-            "main { batch (Dir r) { for (f in r.files()) { print(f.name()); f.check(100); f.grow(1); } } }",
-            "1 a\nbb\nfault 8 Thrown \"Big\" at 3:66\nexchanges 1\n",
-            11,
+            "main { batch (Dir r) { r.file(0).grow(5); } var s = 0; batch (Dir r) { s = r.file(0).size(); r.file(1).grow(1); } print(s); batch (Dir r) { print(r.file(0).size() + r.file(1).size()); } }",
+            "0 15\n216\ndone\nexchanges 3\n",
+            15,
+            201,
+        ),
+        (
+            "main { var i = 0; while (i < 3) { i = i + 1; batch (Dir r) { r.file(0).grow(i); print(r.file(0).size()); } } }",
+            "0 11\n13\n16\ndone\nexchanges 3\n",
+            16,
             200,
         ),
         (
-            "main { val a = 1; val b = 0; batch (Dir r) { r.file(0).grow(1); r.file(1).grow(a / b); } }",
-            "1 fault 1 DivZero at 3:82\nexchanges 1\n",
-            11,
-            200,
-        ),
-    ] {
-        assert_eq!(rt;
-            ran(rt.alloc(), main)?.as_str(),
-            left(rt.alloc(), lines, one, two)?.as_str(),
-            "{main}"
-        );
-    }
-    Ok(())
-}
-
-#[test]
-fn a_turn_over_rows_takes_a_unit_of_the_batch(rt: HostRuntime) -> Result<(), Fail> {
-    let main =
-        "main { batch (Dir r) { val fs = r.files(); r.burn(999998); for (f in fs) { print(f.size()); } } }";
-    assert_eq!(rt;
-        ran(rt.alloc(), main)?.as_str(),
-        left(
-            rt.alloc(),
-            "1 fault 7 FuelUsed at 3:60\nexchanges 1\n",
+            "main { for (n in List<Int>(5, 7)) { batch (Dir r) { r.file(1).grow(n); } } }",
+            "0 done\nexchanges 2\n",
             10,
-            200
-        )?
-        .as_str()
-    );
+            212,
+        ),
+    ];
+    assert_eq!(rt; others(rt.alloc(), "unsplit p s", &rows)?.as_str(), "");
     Ok(())
 }
 
 #[test]
-fn want_of_fuel_in_a_batch_is_caught(rt: HostRuntime) -> Result<(), Fail> {
-    let main =
-        "main { try { batch (Dir r) { val fs = r.files(); r.burn(999998); for (f in fs) { print(f.size()); } } } catch (e) { print(e); } }";
-    assert_eq!(rt;
-        ran(rt.alloc(), main)?.as_str(),
-        left(rt.alloc(), "0 FuelUsed\ndone\nexchanges 1\n", 10, 200)?.as_str()
-    );
-    Ok(())
-}
-
-#[test]
-fn after_a_local_fault_the_whole_remote_part_stands(rt: HostRuntime) -> Result<(), Fail> {
-    for (main, lines, one, two) in [
+fn a_batch_in_a_method_is_performed_at_each_call(rt: HostRuntime) -> Result<(), Fail> {
+    let rows = [
         (
-            "main { batch (Dir r) { for (f in r.files()) { var z = 0; print(1 / z); f.grow(1); } } }",
-            "1 fault 1 DivZero at 3:66\nexchanges 1\n",
-            11,
-            201,
-        ),
-        (
-            "main { try { batch (Dir r) { for (f in r.files()) { var z = 0; print(1 / z); f.grow(1); } } } catch (e) { print(e); } batch (Dir r) { for (f in r.files()) { print(f.size()); } } }",
-            "0 DivZero\n11\n201\ndone\nexchanges 2\n",
-            11,
-            201,
-        ),
-        (
-            "main { val a = 1; val b = 0; batch (Dir r) { r.file(0).grow(1); val k = a / b; r.file(1).grow(k); } }",
-            "1 fault 1 DivZero at 3:75\nexchanges 1\n",
-            11,
+            "class Box { n: Int; remote fun grown(by: Int): Int { this.n = this.n + 1; var s = 0; batch (Dir r) { r.file(0).grow(by); s = r.file(0).size(); } return s; } } main { val b = new Box(0); print(b.grown(1)); print(b.grown(2)); print(b.n); }",
+            "0 11\n13\n2\ndone\nexchanges 2\n",
+            13,
             200,
         ),
-    ] {
-        assert_eq!(rt;
-            ran(rt.alloc(), main)?.as_str(),
-            left(rt.alloc(), lines, one, two)?.as_str(),
-            "{main}"
-        );
-    }
+        (
+            "class Box { remote fun tried(i: Int) { try { batch (Dir r) { r.file(i).grow(1); } } catch (e) { print(e); } } } main { val b = new Box(); b.tried(0); b.tried(7); b.tried(1); }",
+            "0 Index\ndone\nexchanges 3\n",
+            11,
+            201,
+        ),
+    ];
+    assert_eq!(rt; others(rt.alloc(), "unsplit p s", &rows)?.as_str(), "");
+    Ok(())
+}
+
+#[test]
+fn a_batch_is_repeated_until_a_value_changes(rt: HostRuntime) -> Result<(), Fail> {
+    let rows = [
+        (
+            "main { var s = 0; while (s < 13) { batch (Dir r) { r.file(0).grow(1); s = r.file(0).size(); } } print(s); }",
+            "0 13\ndone\nexchanges 3\n",
+            13,
+            200,
+        ),
+        (
+            "main { var big = false; while (!big) { batch (Dir r) { for (f in r.files()) { f.grow(40); } big = r.file(0).size() > 100; } } }",
+            "0 done\nexchanges 3\n",
+            130,
+            320,
+        ),
+    ];
+    assert_eq!(rt; others(rt.alloc(), "unsplit p s", &rows)?.as_str(), "");
     Ok(())
 }
 
@@ -197,7 +139,7 @@ fn a_service_that_differs_from_its_interface_faults(rt: HostRuntime) -> Result<(
         let interfaces =
             "interface File { fun size(): Text; fun lost(); }\ninterface Dir { fun file(i: Int): File; }\n";
         assert_eq!(rt;
-            ran_behind(rt.alloc(), interfaces, main)?.as_str(),
+            ran_behind(rt.alloc(), "unsplit p s", interfaces, main)?.as_str(),
             left(rt.alloc(), lines, 10, 200)?.as_str(),
             "{main}"
         );
@@ -210,6 +152,7 @@ fn refused_programs_are_not_run(rt: HostRuntime) -> Result<(), Fail> {
     assert_eq!(rt;
         ran(
             rt.alloc(),
+            "unsplit p s",
             "main { var n = 1; batch (Dir r) { n = 2; if (n > 0) { r.file(0).grow(1); } } }"
         )?
         .as_str(),
