@@ -1,0 +1,10 @@
+pub mod Collected
+pub mod Cuts
+pub mod Given
+pub mod Noted
+pub mod Placed
+pub mod Remotes
+pub mod Scoped
+pub mod Scripted
+pub mod Steps
+pub mod Walked
