@@ -1,5 +1,6 @@
 pub mod Collected
-pub mod Cuts
+pub mod CutForms
+pub mod Fronts
 pub mod Given
 pub mod Noted
 pub mod Placed

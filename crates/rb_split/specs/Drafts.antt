@@ -93,8 +93,8 @@ module _ (p : Program) where
 
   -- an `if` whose blocks were drafted
   abbrev pub closed_branch : Refs → Drafted → ℕ → Expr → Drafted → Drafted → Drafted
-  closed_branch refs d at c yes no =
-      with_step d (script.If d.step at (sexpr p refs c) yes.steps no.steps) (remainder.Branch d.step yes.parts no.parts) no.step no.var
+  closed_branch refs d at c one two =
+      with_step d (script.If d.step at (sexpr p refs c) one.steps two.steps) (remainder.Branch d.step one.parts two.parts) two.step two.var
 
   -- a loop over rows whose block was drafted
   abbrev pub closed_turns : Refs → Drafted → ℕ → List ℕ → Expr → Drafted → Drafted
@@ -103,15 +103,15 @@ module _ (p : Program) where
       (remainder.Turns d.step name (row_kind p e) body.parts) body.step body.var
 
   -- the block of a carried `if`'s first branch, and of its second one
-  abbrev pub yes_drafted : Refs → Scope → Drafted → Stmts → Drafted
-  yes_drafted refs scope d a = block_drafted refs scope (fresh (suc d.step) d.var) a
+  abbrev pub first_drafted : Refs → Scope → Drafted → Stmts → Drafted
+  first_drafted refs scope d a = block_drafted refs scope (fresh (suc d.step) d.var) a
 
-  abbrev pub no_drafted : Refs → Scope → Drafted → Stmts → Drafted
-  no_drafted refs scope yes b = block_drafted refs scope (fresh yes.step yes.var) b
+  abbrev pub second_drafted : Refs → Scope → Drafted → Stmts → Drafted
+  second_drafted refs scope one b = block_drafted refs scope (fresh one.step one.var) b
 
   abbrev pub branch_drafted : Refs → Scope → Drafted → ℕ → Expr → Stmts → Stmts → Drafted
   branch_drafted refs scope d at c a b =
-      closed_branch refs d at c (yes_drafted refs scope d a) (no_drafted refs scope (yes_drafted refs scope d a) b)
+      closed_branch refs d at c (first_drafted refs scope d a) (second_drafted refs scope (first_drafted refs scope d a) b)
 
   -- the block of a loop over rows, with its row
   abbrev pub turn_drafted : Refs → Scope → ℕ → ℕ → ℕ → List ℕ → Stmts → Drafted

@@ -1,5 +1,6 @@
 -- What the code's values stand for in the definitions.
-use Rattle.std.specs.Prelude.{ℕ, List, map, Bor}
+use Rattle.std.specs.Prelude.{ℕ, List, map}
+use Rattle.std.specs.Borrow.{Bor}
 use Rattle.rb_trees.specs.declared.code.Expr as expr
 use Rattle.rb_trees.specs.declared.declarations.Program as program
 use Rattle.rb_trees.specs.mirror.Code.{Expr, mirror_expr, mirror_exprs}

@@ -1,6 +1,6 @@
 // Copies of expressions in which what a step kept stands in the place of each remote expression.
 
-#![tactic(auto, using(crate::proofs::Cuts::cut_rules))]
+#![tactic(auto, using(crate::proofs::CutForms::cut_rules))]
 
 ghost use Rattle.std.specs.Prelude.{◌≡◌, suc, IfOk, OnOk};
 ghost use Rattle.rb_trees.specs.mirror.Code as code;

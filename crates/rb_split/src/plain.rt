@@ -1,6 +1,6 @@
 // Copies of statements without their remote expressions.
 
-#![tactic(auto, using(crate::proofs::Cuts::plain_rules))]
+#![tactic(auto, using(crate::proofs::CutForms::plain_rules))]
 
 ghost use Rattle.std.specs.Prelude.{◌≡◌, IfOk};
 ghost use Rattle.rb_trees.specs.mirror.Code as code;
