@@ -2,6 +2,7 @@ pub mod Collected
 pub mod CutForms
 pub mod Fronts
 pub mod Given
+pub mod Joined
 pub mod Noted
 pub mod Placed
 pub mod Remotes
