@@ -1,5 +1,6 @@
 pub mod Collected
 pub mod CutForms
+pub mod Divided
 pub mod Fronts
 pub mod Given
 pub mod Joined

@@ -25,23 +25,24 @@ new_behind name other (u ∷ uses) = ap (cond (bytes_eq u other) false) (new_beh
     swapped false true = refl
     swapped false false = refl
 
--- names that are noted come behind those before, each where it is used first
-mutual
-  behind : (before uses names : List (List ℕ)) → ((name : List ℕ) → is_new name before ≡ is_new name uses) → noted uses names ≡ uses ++ first_uses before names
-  behind before uses [] h = sym (append-nil uses)
-  behind before uses (x ∷ xs) h = one_behind before uses x xs (is_new x before) refl h
+-- one more name, which is noted where it is new
+one_behind : (b : Bool) (before uses : List (List ℕ)) (x : List ℕ) (xs : List (List ℕ)) → is_new x before ≡ b → is_new x before ≡ is_new x uses
+    → noted (uses ++ x ∷ []) xs ≡ (uses ++ x ∷ []) ++ first_uses (x ∷ before) xs → noted uses xs ≡ uses ++ first_uses before xs
+    → noted (with_use uses x) xs ≡ uses ++ first_uses before (x ∷ xs)
+one_behind true before uses x xs is same new old =
+    ap (λ c. noted (cond c (uses ++ x ∷ []) uses) xs) (sym same ∙ is) ∙ new ∙ append_assoc uses (x ∷ []) (first_uses (x ∷ before) xs)
+    ∙ ap (λ c. uses ++ cond c (x ∷ first_uses (x ∷ before) xs) (first_uses before xs)) (sym is)
+one_behind false before uses x xs is same new old =
+    ap (λ c. noted (cond c (uses ++ x ∷ []) uses) xs) (sym same ∙ is) ∙ old
+    ∙ ap (λ c. uses ++ cond c (x ∷ first_uses (x ∷ before) xs) (first_uses before xs)) (sym is)
 
-  one_behind : (before uses : List (List ℕ)) (x : List ℕ) (xs : List (List ℕ)) (b : Bool) → is_new x before ≡ b → ((name : List ℕ) → is_new name before ≡ is_new name uses)
-      → noted (with_use uses x) xs ≡ uses ++ first_uses before (x ∷ xs)
-  one_behind before uses x xs true is h =
-      ap (λ c. noted (cond c (uses ++ x ∷ []) uses) xs) (sym (h x) ∙ is)
-      ∙ behind (x ∷ before) (uses ++ x ∷ []) xs (λ name. ap (cond (bytes_eq x name) false) (h name) ∙ sym (new_behind x name uses))
-      ∙ append_assoc uses (x ∷ []) (first_uses (x ∷ before) xs)
-      ∙ ap (λ c. uses ++ cond c (x ∷ first_uses (x ∷ before) xs) (first_uses before xs)) (sym is)
-  one_behind before uses x xs false is h =
-      ap (λ c. noted (cond c (uses ++ x ∷ []) uses) xs) (sym (h x) ∙ is)
-      ∙ behind before uses xs h
-      ∙ ap (λ c. uses ++ cond c (x ∷ first_uses (x ∷ before) xs) (first_uses before xs)) (sym is)
+-- names that are noted come behind those before, each where it is used first
+behind : (before uses names : List (List ℕ)) → ((name : List ℕ) → is_new name before ≡ is_new name uses) → noted uses names ≡ uses ++ first_uses before names
+behind before uses [] h = sym (append-nil uses)
+behind before uses (x ∷ xs) h =
+    one_behind (is_new x before) before uses x xs refl (h x)
+    (behind (x ∷ before) (uses ++ x ∷ []) xs (λ name. ap (cond (bytes_eq x name) false) (h name) ∙ sym (new_behind x name uses)))
+    (behind before uses xs h)
 
 -- names that are noted from none on
 pub noted_first : (names : List (List ℕ)) → noted [] names ≡ first_uses [] names

@@ -1,10 +1,7 @@
 -- How uses of inputs are noted, one after the other.
 use Rattle.std.specs.Prelude.{ℕ, List, [], ◌∷◌, ◌++◌, cond}
-use Rattle.rb_trees.specs.mirror.Code.{Expr, Stmts}
 use Rattle.rb_meaning_types.specs.Names.{is_new}
-use Rattle.rb_meaning_flow.specs.Facts.{Facts}
 use Rattle.rb_meaning_flow.specs.Scopes.{Scope, is_constant_role, role_of}
-use Rattle.rb_meaning_split.specs.Inputs.{constants, used_in}
 
 -- the inputs so far, and one more where the name is new
 abbrev pub with_use : List (List ℕ) → List ℕ → List (List ℕ)
@@ -18,7 +15,3 @@ noted uses (name ∷ names) = noted (with_use uses name) names
 -- a variable, where it is constant
 abbrev pub constant_variable : Scope → List ℕ → List (List ℕ)
 constant_variable scope name = cond (is_constant_role (role_of scope name)) (name ∷ []) []
-
--- the inputs so far, and those of a carried `if`
-abbrev pub branch_noted : Facts → Scope → List (List ℕ) → Expr → Stmts → Stmts → List (List ℕ)
-branch_noted x scope uses c a b = noted uses (constants scope c ++ used_in x scope a ++ used_in x scope b)

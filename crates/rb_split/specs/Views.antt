@@ -1,13 +1,11 @@
 -- What the code's values stand for in the definitions.
-use Rattle.std.specs.Prelude.{ℕ, List, map}
+use Rattle.std.specs.Prelude.{List, map}
 use Rattle.std.specs.Borrow.{Bor}
 use Rattle.rb_trees.specs.declared.code.Expr as expr
 use Rattle.rb_trees.specs.declared.declarations.Program as program
 use Rattle.rb_trees.specs.mirror.Code.{Expr, mirror_expr, mirror_exprs}
 use Rattle.rb_trees.specs.mirror.Declarations.{mirror_program}
-use Rattle.rb_trees.specs.mirror.Scripts as script
 use Rattle.rb_trees.specs.mirror.Scripts.{SExpr, SExprs}
-use Rattle.rb_meaning.specs.CallKinds.{call_kind}
 use Rattle.rb_meaning_flow.specs.Facts.{Facts, facts_of}
 use Rattle.rb_meaning_split.specs.Refs as ref
 use Rattle.rb_meaning_split.specs.Refs.{Ref, Refs, sexpr, sexprs}
@@ -35,10 +33,6 @@ in_script p ks e = sexpr (mirror_program p) (refs_of ks) (mirror_expr e)
 
 abbrev pub all_in_script : program.Program → List Known → List expr.Expr → SExprs
 all_in_script p ks es = sexprs (mirror_program p) (refs_of ks) (mirror_exprs es)
-
--- a call in the script, by its kind
-abbrev pub call_in_script : program.Program → ℕ → List ℕ → SExpr → SExprs → SExpr
-call_in_script p at method target args = script.Call at (call_kind (mirror_program p) at) method target args
 
 -- expressions that were found, in the mirror
 abbrev pub trees : List (Bor expr.Expr) → List Expr

@@ -43,22 +43,22 @@ fn unary_of(alloc: Global, at: u32, op: UnOp, a: Expr) -> Result<Expr, Memory>
     })
 }
 
-fn binary_of(alloc: Global, at: u32, op: BinOp, both: (Expr, Expr)) -> Result<Expr, Memory>
-    ensures { IfOk result (λ e. mirror_expr e ≡ code.Binary at op (mirror_expr both.0) (mirror_expr both.1)) }
+fn binary_of(alloc: Global, at: u32, op: BinOp, a: Expr, b: Expr) -> Result<Expr, Memory>
+    ensures { IfOk result (λ e. mirror_expr e ≡ code.Binary at op (mirror_expr a) (mirror_expr b)) }
 {
-    let a = Boxed::new(alloc, both.0)?;
-    let b = Boxed::new(alloc, both.1)?;
+    let a = Boxed::new(alloc, a)?;
+    let b = Boxed::new(alloc, b)?;
     Ok(Expr {
         at,
         form: ExprForm::Binary(op, a, b),
     })
 }
 
-fn index_of(alloc: Global, at: u32, both: (Expr, Expr)) -> Result<Expr, Memory>
-    ensures { IfOk result (λ e. mirror_expr e ≡ code.Index at (mirror_expr both.0) (mirror_expr both.1)) }
+fn index_of(alloc: Global, at: u32, a: Expr, b: Expr) -> Result<Expr, Memory>
+    ensures { IfOk result (λ e. mirror_expr e ≡ code.Index at (mirror_expr a) (mirror_expr b)) }
 {
-    let a = Boxed::new(alloc, both.0)?;
-    let b = Boxed::new(alloc, both.1)?;
+    let a = Boxed::new(alloc, a)?;
+    let b = Boxed::new(alloc, b)?;
     Ok(Expr {
         at,
         form: ExprForm::Index(a, b),
@@ -79,16 +79,17 @@ fn field_of(alloc: Global, at: u32, a: Expr, name: &Word) -> Result<Expr, Memory
 fn call_of(
     alloc: Global,
     at: u32,
+    receiver: Expr,
     method: &Word,
-    sent: (Expr, Seq<Expr>),
+    args: Seq<Expr>,
 ) -> Result<Expr, Memory>
-    ensures { IfOk result (λ e. mirror_expr e ≡ code.Call at (mirror_expr sent.0) method.now (mirror_exprs sent.1)) }
+    ensures { IfOk result (λ e. mirror_expr e ≡ code.Call at (mirror_expr receiver) method.now (mirror_exprs args)) }
 {
-    let receiver = Boxed::new(alloc, sent.0)?;
+    let receiver = Boxed::new(alloc, receiver)?;
     let method = copy_word(alloc, method)?;
     Ok(Expr {
         at,
-        form: ExprForm::Call(receiver, method, sent.1),
+        form: ExprForm::Call(receiver, method, args),
     })
 }
 
@@ -153,16 +154,19 @@ fn cut_parts(
             field_of(alloc, e.at, cut(alloc, x, scope, number, a.get())?, name)
         }
         ExprForm::Binary(op, a, b) => {
-            let both = cut_both(alloc, x, scope, number, a.get(), b.get())?;
-            binary_of(alloc, e.at, *op, both)
+            let a = cut(alloc, x, scope, number, a.get())?;
+            let b = cut(alloc, x, scope, number, b.get())?;
+            binary_of(alloc, e.at, *op, a, b)
         }
         ExprForm::Index(a, b) => {
-            let both = cut_both(alloc, x, scope, number, a.get(), b.get())?;
-            index_of(alloc, e.at, both)
+            let a = cut(alloc, x, scope, number, a.get())?;
+            let b = cut(alloc, x, scope, number, b.get())?;
+            index_of(alloc, e.at, a, b)
         }
         ExprForm::Call(a, method, args) => {
-            let sent = cut_sent(alloc, x, scope, number, a.get(), args)?;
-            call_of(alloc, e.at, method, sent)
+            let a = cut(alloc, x, scope, number, a.get())?;
+            let args = cut_all(alloc, x, scope, number, args.as_slice())?;
+            call_of(alloc, e.at, a, method, args)
         }
         ExprForm::New(class, args) => {
             let args = cut_all(alloc, x, scope, number, args.as_slice())?;
@@ -173,44 +177,6 @@ fn cut_parts(
             items_of(alloc, e.at, item, items)
         }
     }
-}
-
-/// The same of two expressions.
-#[cycle(cuts)]
-pub fn cut_both(
-    alloc: Global,
-    x: &Typed,
-    scope: &Scope,
-    number: &mut u32,
-    a: &Expr,
-    b: &Expr,
-) -> Result<(Expr, Expr), Memory>
-    ensures first { IfOk result (λ c. mirror_expr c.0 ≡ cut_so (facts x.now) scope.now number.old a.now) }
-    ensures second { IfOk result (λ c. mirror_expr c.1 ≡ cut_so (facts x.now) scope.now (number_after (facts x.now) scope.now number.old (mirror_expr a.now)) b.now) }
-    ensures number { OnOk result (number.new ≡ number_after (facts x.now) scope.now (number_after (facts x.now) scope.now number.old (mirror_expr a.now)) (mirror_expr b.now)) }
-{
-    let a = cut(alloc, x, scope, number, a)?;
-    let b = cut(alloc, x, scope, number, b)?;
-    Ok((a, b))
-}
-
-// The same of the receiver and the arguments of a call.
-#[cycle(cuts)]
-fn cut_sent(
-    alloc: Global,
-    x: &Typed,
-    scope: &Scope,
-    number: &mut u32,
-    a: &Expr,
-    args: &Seq<Expr>,
-) -> Result<(Expr, Seq<Expr>), Memory>
-    ensures first { IfOk result (λ c. mirror_expr c.0 ≡ cut_so (facts x.now) scope.now number.old a.now) }
-    ensures second { IfOk result (λ c. mirror_exprs c.1 ≡ all_cut_so (facts x.now) scope.now (number_after (facts x.now) scope.now number.old (mirror_expr a.now)) args.now) }
-    ensures number { OnOk result (number.new ≡ all_numbers_after (facts x.now) scope.now (number_after (facts x.now) scope.now number.old (mirror_expr a.now)) (mirror_exprs args.now)) }
-{
-    let a = cut(alloc, x, scope, number, a)?;
-    let args = cut_all(alloc, x, scope, number, args.as_slice())?;
-    Ok((a, args))
 }
 
 // The same of expressions, from left to right.

@@ -7,7 +7,7 @@ ghost use Rattle.std.specs.Option.{option_map};
 ghost use Rattle.rb_trees.specs.mirror.Scripts as script;
 ghost use Rattle.rb_trees.specs.mirror.Scripts.{mirror_sexpr, mirror_sexprs};
 ghost use Rattle.rb_meaning_split.specs.Refs.{ref_expr};
-ghost use Rattle.rb_split.specs.Views.{all_in_script, call_in_script, in_script, ref_of};
+ghost use Rattle.rb_split.specs.Views.{all_in_script, in_script, ref_of};
 
 use crate::kinds::call_kind;
 use crate::refs::{Refs, Target};
@@ -80,48 +80,18 @@ pub fn script_expr(alloc: Global, x: &Typed, refs: &Refs, e: &Expr) -> Result<SE
             unary_of(alloc, *op, e.at, a)
         }
         ExprForm::Binary(op, a, b) => {
-            script_binary(alloc, x, refs, *op, e.at, a.get(), b.get())
+            let a = script_expr(alloc, x, refs, a.get())?;
+            let b = script_expr(alloc, x, refs, b.get())?;
+            binary_of(alloc, *op, e.at, a, b)
         }
         ExprForm::Call(a, method, args) => {
-            script_call(alloc, x, refs, e.at, a.get(), method, args)
+            let target = script_expr(alloc, x, refs, a.get())?;
+            let args = script_exprs(alloc, x, refs, args.as_slice())?;
+            call_of(alloc, e.at, call_kind(x, e.at), method, target, args)
         }
         ExprForm::This | ExprForm::Field(_, _) | ExprForm::Index(_, _) => Ok(SExpr::Root),
         ExprForm::New(_, _) | ExprForm::Items(_, _) | ExprForm::Taken(_) => Ok(SExpr::Root),
     }
-}
-
-#[cycle(portables)]
-fn script_binary(
-    alloc: Global,
-    x: &Typed,
-    refs: &Refs,
-    op: BinOp,
-    at: u32,
-    a: &Expr,
-    b: &Expr,
-) -> Result<SExpr, Memory>
-    ensures { IfOk result (λ s. mirror_sexpr s ≡ script.Binary op at (in_script x.now refs.now a.now) (in_script x.now refs.now b.now)) }
-{
-    let a = script_expr(alloc, x, refs, a)?;
-    let b = script_expr(alloc, x, refs, b)?;
-    binary_of(alloc, op, at, a, b)
-}
-
-#[cycle(portables)]
-fn script_call(
-    alloc: Global,
-    x: &Typed,
-    refs: &Refs,
-    at: u32,
-    receiver: &Expr,
-    method: &Word,
-    args: &Seq<Expr>,
-) -> Result<SExpr, Memory>
-    ensures { IfOk result (λ s. mirror_sexpr s ≡ call_in_script x.now at method.now (in_script x.now refs.now receiver.now) (all_in_script x.now refs.now args.now)) }
-{
-    let target = script_expr(alloc, x, refs, receiver)?;
-    let args = script_exprs(alloc, x, refs, args.as_slice())?;
-    call_of(alloc, at, call_kind(x, at), method, target, args)
 }
 
 #[cycle(portables)]

@@ -8,7 +8,7 @@ ghost use Rattle.rb_trees.specs.mirror.Code.{mirror_expr, mirror_exprs, mirror_s
 ghost use Rattle.rb_meaning_flow.specs.declared.scopes.Role.{Role};
 ghost use Rattle.rb_meaning_flow.specs.Scopes.{is_constant_role, with_variable};
 ghost use Rattle.rb_meaning_split.specs.Inputs as meant;
-ghost use Rattle.rb_split.specs.Uses.{branch_noted, constant_variable, noted};
+ghost use Rattle.rb_split.specs.Uses.{constant_variable, noted};
 ghost use Rattle.rb_split.specs.Views.{facts, trees};
 
 use crate::remote::remote_of;
@@ -144,7 +144,9 @@ fn note_stmt(
         }
         StmtForm::If(c, a, b) => {
             if branches_hold(x, a.as_slice(), b.as_slice()) {
-                note_branch(alloc, x, scope, uses, c, a, b)
+                note_constants(alloc, scope, uses, c)?;
+                note_block(alloc, x, scope, uses, a.as_slice())?;
+                note_block(alloc, x, scope, uses, b.as_slice())
             } else {
                 note_kept(alloc, x, scope, uses, s)
             }
@@ -167,25 +169,6 @@ fn note_stmt(
             note_kept(alloc, x, scope, uses, s)
         }
     }
-}
-
-// A carried `if`.
-#[cycle(used)]
-fn note_branch(
-    alloc: Global,
-    x: &Typed,
-    scope: &mut Scope,
-    uses: &mut Uses,
-    c: &Expr,
-    a: &Seq<Stmt>,
-    b: &Seq<Stmt>,
-) -> Result<(), Memory>
-    ensures uses { OnOk result (uses.new ≡ branch_noted (facts x.now) scope.old uses.old (mirror_expr c.now) (mirror_stmts a.now) (mirror_stmts b.now)) }
-    ensures scope { OnOk result (scope.new ≡ scope.old) }
-{
-    note_constants(alloc, scope, uses, c)?;
-    note_block(alloc, x, scope, uses, a.as_slice())?;
-    note_block(alloc, x, scope, uses, b.as_slice())
 }
 
 // A block, whose variables go at its end.

@@ -8,7 +8,7 @@ ghost use Rattle.rb_trees.specs.mirror.Code.{mirror_expr, mirror_stmt, mirror_st
 ghost use Rattle.rb_meaning_split.specs.Cuts as meant;
 ghost use Rattle.rb_split.specs.Views.{facts};
 
-use crate::cuts::{cut, cut_both};
+use crate::cuts::cut;
 use rb_marks::Scope;
 use rb_trees::{Expr, Memory, Seq, Stmt, StmtForm, Word, copy_stmt, copy_stmts, copy_word};
 use rb_types::Typed;
@@ -35,12 +35,12 @@ fn var_of(alloc: Global, at: u32, name: &Word, e: Expr) -> Result<Stmt, Memory>
     })
 }
 
-fn assign_of(at: u32, both: (Expr, Expr)) -> Stmt
-    ensures { mirror_stmt result ≡ code.Assign at (mirror_expr both.0) (mirror_expr both.1) }
+fn assign_of(at: u32, a: Expr, b: Expr) -> Stmt
+    ensures { mirror_stmt result ≡ code.Assign at (mirror_expr a) (mirror_expr b) }
 {
     Stmt {
         at,
-        form: StmtForm::Assign(both.0, both.1),
+        form: StmtForm::Assign(a, b),
     }
 }
 
@@ -136,8 +136,9 @@ fn cut_sides(
     ensures { IfOk result (λ c. mirror_stmt c ≡ meant.cut_stmt (facts x.now) scope.now number (code.Assign at (mirror_expr a.now) (mirror_expr b.now))) }
 {
     let mut number = number;
-    let both = cut_both(alloc, x, scope, &mut number, a, b)?;
-    Ok(assign_of(at, both))
+    let a = cut(alloc, x, scope, &mut number, a)?;
+    let b = cut(alloc, x, scope, &mut number, b)?;
+    Ok(assign_of(at, a, b))
 }
 
 /// A statement without its remote expressions, which are numbered from `number` on: `cut_stmt`.

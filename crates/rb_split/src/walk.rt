@@ -31,14 +31,6 @@ use rb_trees::{
 use rb_types::Typed;
 use std::alloc::Global;
 
-/// A loop over rows, without its rows: its position, the name of its rows, and its block.
-#[derive(Clone, Copy)]
-pub struct Loop<'a> {
-    pub at: u32,
-    pub name: &'a Word,
-    pub block: &'a [Stmt],
-}
-
 // A statement that is left to the client, without its remote expressions.
 fn draft_plain(
     alloc: Global,
@@ -189,20 +181,21 @@ fn close_turns(
     x: &Typed,
     refs: &Refs,
     draft: &mut Draft,
-    turns: &Loop<'_>,
+    at: u32,
+    name: &Word,
     e: &Expr,
     body: Draft,
 ) -> Result<(), Memory>
-    ensures { OnOk result (drafted draft.new ≡ words.closed_turns (mirror_program x.now) (refs_of refs.now) (drafted draft.old) turns.now.at turns.now.name.now (mirror_expr e.now) (drafted body)) }
+    ensures { OnOk result (drafted draft.new ≡ words.closed_turns (mirror_program x.now) (refs_of refs.now) (drafted draft.old) at name.now (mirror_expr e.now) (drafted body)) }
 {
     let id = draft.step;
     let var = draft.var;
     let rows = script_expr(alloc, x, refs, e)?;
-    let name = copy_word(alloc, turns.name)?;
+    let name = copy_word(alloc, name)?;
     let keep = has_primitive_items(x, e.at);
     let step = Step {
         id,
-        at: turns.at,
+        at,
         form: StepForm::Each {
             var,
             keep,
@@ -250,19 +243,20 @@ fn draft_stmt(
         }
         StmtForm::If(c, a, b) => {
             if branches_hold(x, a.as_slice(), b.as_slice()) {
-                draft_branch(alloc, x, scope, refs, draft, s.at, c, a, b)
+                let first = next(draft.step)?;
+                let yes = draft_block(alloc, x, scope, refs, first, draft.var, a.as_slice())?;
+                let no = draft_block(alloc, x, scope, refs, yes.step, yes.var, b.as_slice())?;
+                close_branch(alloc, x, refs, draft, s.at, c, yes, no)
             } else {
                 draft_plain(alloc, x, scope, refs, draft, s)
             }
         }
         StmtForm::For(name, e, a) => {
-            let turns = Loop {
-                at: s.at,
-                name,
-                block: a.as_slice(),
-            };
             if over_rows(x, e) {
-                draft_turns(alloc, x, scope, refs, draft, &turns, e)
+                let first = next(draft.step)?;
+                let (var, block) = (draft.var, a.as_slice());
+                let body = draft_turn(alloc, x, scope, refs, first, var, name, s.at, block)?;
+                close_turns(alloc, x, refs, draft, s.at, name, e, body)
             } else {
                 draft_plain(alloc, x, scope, refs, draft, s)
             }
@@ -277,49 +271,6 @@ fn draft_stmt(
             draft_plain(alloc, x, scope, refs, draft, s)
         }
     }
-}
-
-// A carried `if`.
-#[cycle(walking)]
-fn draft_branch(
-    alloc: Global,
-    x: &Typed,
-    scope: &mut Scope,
-    refs: &mut Refs,
-    draft: &mut Draft,
-    at: u32,
-    c: &Expr,
-    a: &Seq<Stmt>,
-    b: &Seq<Stmt>,
-) -> Result<(), Memory>
-    ensures drafted { OnOk result (drafted draft.new ≡ words.branch_drafted (mirror_program x.now) (refs_of refs.old) scope.old (drafted draft.old) at (mirror_expr c.now) (mirror_stmts a.now) (mirror_stmts b.now)) }
-    ensures scope { OnOk result (scope.new ≡ scope.old) }
-    ensures refs { OnOk result (refs.new ≡ refs.old) }
-{
-    let first = next(draft.step)?;
-    let yes = draft_block(alloc, x, scope, refs, first, draft.var, a.as_slice())?;
-    let no = draft_block(alloc, x, scope, refs, yes.step, yes.var, b.as_slice())?;
-    close_branch(alloc, x, refs, draft, at, c, yes, no)
-}
-
-// A loop over rows.
-#[cycle(walking)]
-fn draft_turns(
-    alloc: Global,
-    x: &Typed,
-    scope: &mut Scope,
-    refs: &mut Refs,
-    draft: &mut Draft,
-    turns: &Loop<'_>,
-    e: &Expr,
-) -> Result<(), Memory>
-    ensures drafted { OnOk result (drafted draft.new ≡ words.turns_drafted (mirror_program x.now) (refs_of refs.old) scope.old (drafted draft.old) turns.now.at turns.now.name.now (mirror_expr e.now) (mirror_stmts turns.now.block.now)) }
-    ensures scope { OnOk result (scope.new ≡ scope.old) }
-    ensures refs { OnOk result (refs.new ≡ refs.old) }
-{
-    let first = next(draft.step)?;
-    let body = draft_turn(alloc, x, scope, refs, first, draft.var, turns)?;
-    close_turns(alloc, x, refs, draft, turns, e, body)
 }
 
 /// A block, whose first step and first variable have these numbers, and whose variables go at its end.
@@ -355,9 +306,11 @@ fn draft_turn(
     refs: &mut Refs,
     step: u32,
     var: u32,
-    turns: &Loop<'_>,
+    name: &Word,
+    at: u32,
+    ss: &[Stmt],
 ) -> Result<Draft, Memory>
-    ensures drafted { IfOk result (λ d. drafted d ≡ words.turn_drafted (mirror_program x.now) (refs_of refs.old) scope.old step var turns.now.at turns.now.name.now (mirror_stmts turns.now.block.now)) }
+    ensures drafted { IfOk result (λ d. drafted d ≡ words.turn_drafted (mirror_program x.now) (refs_of refs.old) scope.old step var at name.now (mirror_stmts ss.now)) }
     ensures scope { OnOk result (scope.new ≡ scope.old) }
     ensures refs { OnOk result (refs.new ≡ refs.old) }
 {
@@ -365,9 +318,9 @@ fn draft_turn(
     let names = refs.len();
     let after = next(var)?;
     let mut draft = Draft::new(alloc, step, after);
-    refs.bind(alloc, turns.name, Target::Var(var))?;
-    scope.bind(alloc, turns.name, Role::Row, turns.at)?;
-    draft_all(alloc, x, scope, refs, &mut draft, turns.block)?;
+    refs.bind(alloc, name, Target::Var(var))?;
+    scope.bind(alloc, name, Role::Row, at)?;
+    draft_all(alloc, x, scope, refs, &mut draft, ss)?;
     scope.truncate(variables);
     refs.truncate(names);
     Ok(draft)
