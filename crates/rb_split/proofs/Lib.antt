@@ -1,0 +1,13 @@
+pub mod Collected
+pub mod CutForms
+pub mod Divided
+pub mod Fronts
+pub mod Given
+pub mod Joined
+pub mod Noted
+pub mod Placed
+pub mod Remotes
+pub mod Scoped
+pub mod Scripted
+pub mod Steps
+pub mod Walked

@@ -1,0 +1,8 @@
+-- Words of the contracts, each after those that it names.
+pub mod Views
+pub mod Uses
+pub mod Cutting
+pub mod Drafts
+pub mod Divided
+pub mod Numbers
+pub mod Seen

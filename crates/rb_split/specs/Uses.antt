@@ -1,0 +1,17 @@
+-- How uses of inputs are noted, one after the other.
+use Rattle.std.specs.Prelude.{ℕ, List, [], ◌∷◌, ◌++◌, cond}
+use Rattle.rb_meaning_types.specs.Names.{is_new}
+use Rattle.rb_meaning_flow.specs.Scopes.{Scope, is_constant_role, role_of}
+
+-- the inputs so far, and one more where the name is new
+abbrev pub with_use : List (List ℕ) → List ℕ → List (List ℕ)
+with_use uses name = cond (is_new name uses) (uses ++ name ∷ []) uses
+
+-- the inputs so far, and those of these names that are new
+abbrev pub noted : List (List ℕ) → List (List ℕ) → List (List ℕ)
+noted uses [] = uses
+noted uses (name ∷ names) = noted (with_use uses name) names
+
+-- a variable, where it is constant
+abbrev pub constant_variable : Scope → List ℕ → List (List ℕ)
+constant_variable scope name = cond (is_constant_role (role_of scope name)) (name ∷ []) []

@@ -1,0 +1,145 @@
+// The division of a batch.
+
+ghost use Rattle.std.specs.Prelude.{◌≡◌, ◌≤◌, length, IfOk};
+ghost use Rattle.rb_trees.specs.Outcome.{Gives};
+ghost use Rattle.rb_trees.specs.mirror.Code.{mirror_stmts};
+ghost use Rattle.rb_trees.specs.mirror.Declarations.{mirror_program};
+ghost use Rattle.rb_meaning_flow.specs.Outermost.{Outermost};
+ghost use Rattle.rb_meaning_split.specs.Division as meant;
+ghost use Rattle.rb_flow.specs.Begun.{begun, begun_of};
+ghost use Rattle.rb_split.specs.Divided.{counted_inputs, divided_from, division_with};
+ghost use Rattle.rb_split.specs.Seen.{refusal_of, seen};
+ghost use Rattle.rb_split.specs.Views.{refs_of};
+
+use crate::drafts::Draft;
+use crate::inputs::inputs_of;
+use crate::refs::{Refs, Target};
+use crate::scopes::copy_scope;
+use crate::stops::SplitStop;
+use crate::walk::draft_block;
+use rb_flow::OpenBatch;
+use rb_marks::Scope;
+use rb_trees::{Memory, Refusal, Script, Seq, Split, Stmt, Word, code_size};
+use rb_types::Typed;
+use std::alloc::Global;
+
+/// The greatest number of inputs, which one byte counts.
+const MOST_INPUTS: usize = 255;
+
+/// The greatest number of bytes of a script's code.
+const LONGEST_CODE: u64 = 4_194_304;
+
+/// Where a batch stands: its number, its position and the name of its root.
+#[derive(Clone, Copy)]
+struct Place<'a> {
+    number: u32,
+    at: u32,
+    root: &'a Word,
+}
+
+// The portable variables with which a batch begins: its root, and its inputs.
+fn first_refs(alloc: Global, root: &Word, inputs: &[Word]) -> Result<Refs, Memory>
+    requires { length inputs.now ≤ 255 }
+    ensures { IfOk result (λ refs. refs_of refs ≡ meant.first_refs root.now inputs.now) }
+{
+    let mut refs = Refs::new(alloc);
+    refs.bind(alloc, root, Target::Root)?;
+    'inputs: for i in 0..inputs.len() {
+        refs.bind(alloc, &inputs[i], Target::Input(i as u8))?;
+    }
+    Ok(refs)
+}
+
+// The number of the inputs of the batch at a position, or its refusal where there are too many.
+fn count_inputs(at: u32, inputs: &[Word]) -> Result<u8, SplitStop>
+    ensures { Gives (λ n. n) refusal_of result (counted_inputs at inputs.now) }
+{
+    let count = inputs.len();
+    if count <= MOST_INPUTS {
+        return Ok(count as u8);
+    }
+    match u32::try_from(count) {
+        Ok(count) => Err(SplitStop::Refused(Refusal::TooManyInputs(at, count))),
+        Err(_) => Err(SplitStop::Memory),
+    }
+}
+
+// The division, or its refusal where the script is too large.
+fn checked(split: Split) -> Result<Split, SplitStop>
+    ensures divided { Gives seen refusal_of result (meant.checked_code (seen split)) }
+    ensures number { IfOk result (λ s. s.batch ≡ split.batch) }
+{
+    let size = code_size(&split.script);
+    if size > LONGEST_CODE {
+        return Err(SplitStop::Refused(Refusal::ScriptTooLarge(split.at, size)));
+    }
+    Ok(split)
+}
+
+// The division with these inputs, as many as `count` says.
+fn write(
+    alloc: Global,
+    x: &Typed,
+    place: &Place<'_>,
+    scope: &mut Scope,
+    block: &[Stmt],
+    inputs: Seq<Word>,
+    count: u8,
+) -> Result<Split, Memory>
+    requires { count ≡ length inputs }
+    ensures divided { IfOk result (λ s. seen s ≡ division_with (mirror_program x.now) place.now.at place.now.root.now scope.old (mirror_stmts block.now) inputs) }
+    ensures number { IfOk result (λ s. s.batch ≡ place.now.number) }
+{
+    let mut refs = first_refs(alloc, place.root, inputs.as_slice())?;
+    let Draft { steps, parts, .. } = draft_block(alloc, x, scope, &mut refs, 0, 0, block)?;
+    Ok(Split {
+        batch: place.number,
+        at: place.at,
+        inputs,
+        script: Script {
+            inputs: count,
+            body: steps,
+        },
+        remainder: parts,
+    })
+}
+
+// The division of a batch whose block begins in this scope.
+fn divide_from(
+    alloc: Global,
+    x: &Typed,
+    place: &Place<'_>,
+    scope: &mut Scope,
+    block: &[Stmt],
+) -> Result<Split, SplitStop>
+    ensures divided { Gives seen refusal_of result (divided_from (mirror_program x.now) place.now.at place.now.root.now scope.old (mirror_stmts block.now)) }
+    ensures number { IfOk result (λ s. s.batch ≡ place.now.number) }
+{
+    let inputs = inputs_of(alloc, x, scope, block)?;
+    let count = count_inputs(place.at, inputs.as_slice())?;
+    let split = write(alloc, x, place, scope, block, inputs, count)?;
+    checked(split)
+}
+
+/// The division of a batch that has this number. The last variable in scope where it begins is its root, whose node is the
+/// batch's position.
+pub fn divide(
+    alloc: Global,
+    x: &Typed,
+    number: u32,
+    batch: &OpenBatch<'_>,
+) -> Result<Split, SplitStop>
+    ensures divided { (b : Outermost) → begun_of batch.now ≡ begun b → Gives seen refusal_of result (meant.divided (mirror_program x.now) b) }
+    ensures number { IfOk result (λ s. s.batch ≡ number) }
+{
+    let Some(root) = batch.scope.as_slice().last() else {
+        return Err(SplitStop::Memory);
+    };
+    let place = Place {
+        number,
+        at: root.node,
+        root: &root.name,
+    };
+    let mut scope = copy_scope(alloc, &batch.scope)?;
+    divide_from(alloc, x, &place, &mut scope, batch.block)
+}

@@ -1,0 +1,244 @@
+// The inputs of a batch.
+
+#![tactic(auto, using(crate::proofs::Noted::use_rules))]
+
+ghost use Rattle.std.specs.Prelude.{◌≡◌, [], take, length, IfOk, OnOk};
+ghost use Rattle.std.specs.List.{flat_map};
+ghost use Rattle.rb_trees.specs.mirror.Code.{mirror_expr, mirror_exprs, mirror_stmt, mirror_stmts};
+ghost use Rattle.rb_meaning_flow.specs.declared.scopes.Role.{Role};
+ghost use Rattle.rb_meaning_flow.specs.Scopes.{is_constant_role, with_variable};
+ghost use Rattle.rb_meaning_split.specs.Inputs as meant;
+ghost use Rattle.rb_split.specs.Uses.{constant_variable, noted};
+ghost use Rattle.rb_split.specs.Views.{facts, trees};
+
+use crate::remote::remote_of;
+use crate::scopes::bind_after;
+use crate::uses::Uses;
+use rb_flow::{branches_hold, is_portable, over_rows};
+use rb_marks::Scope;
+use rb_meaning_flow::Role;
+use rb_trees::{Expr, ExprForm, Memory, Seq, Stmt, StmtForm, Word};
+use rb_types::Typed;
+use std::alloc::Global;
+
+// Whether a variable of a role is constant.
+fn is_constant(role: Role) -> bool
+    ensures { result ≡ is_constant_role role }
+{
+    match role {
+        Role::Constant => true,
+        Role::Root | Role::Row | Role::Carried | Role::Plain => false,
+    }
+}
+
+// Notes a variable, where it is constant.
+fn note_variable(
+    alloc: Global,
+    scope: &Scope,
+    uses: &mut Uses,
+    name: &Word,
+) -> Result<(), Memory>
+    ensures { OnOk result (uses.new ≡ noted uses.old (constant_variable scope.now name.now)) }
+{
+    match scope.find(name) {
+        Some(variable) => {
+            if is_constant(variable.role) {
+                uses.note(alloc, name)
+            } else {
+                Ok(())
+            }
+        }
+        None => Ok(()),
+    }
+}
+
+// Notes the constant variables in a portable expression.
+#[cycle(constants)]
+fn note_constants(
+    alloc: Global,
+    scope: &Scope,
+    uses: &mut Uses,
+    e: &Expr,
+) -> Result<(), Memory>
+    ensures { OnOk result (uses.new ≡ noted uses.old (meant.constants scope.now (mirror_expr e.now))) }
+{
+    match &e.form {
+        ExprForm::Name(name) => note_variable(alloc, scope, uses, name),
+        ExprForm::Unary(_, a) => note_constants(alloc, scope, uses, a.get()),
+        ExprForm::Binary(_, a, b) => {
+            note_constants(alloc, scope, uses, a.get())?;
+            note_constants(alloc, scope, uses, b.get())
+        }
+        ExprForm::Call(a, _, args) => {
+            note_constants(alloc, scope, uses, a.get())?;
+            note_all_constants(alloc, scope, uses, args.as_slice())
+        }
+        ExprForm::Lit(_) | ExprForm::This | ExprForm::Field(_, _) | ExprForm::Index(_, _) => Ok(()),
+        ExprForm::New(_, _) | ExprForm::Items(_, _) | ExprForm::Taken(_) => Ok(()),
+    }
+}
+
+#[cycle(constants)]
+fn note_all_constants(
+    alloc: Global,
+    scope: &Scope,
+    uses: &mut Uses,
+    es: &[Expr],
+) -> Result<(), Memory>
+    ensures { OnOk result (uses.new ≡ noted uses.old (meant.all_constants scope.now (mirror_exprs es.now))) }
+{
+    'exprs: for e in es {
+        note_constants(alloc, scope, uses, e)?;
+    }
+    Ok(())
+}
+
+// Notes those in expressions that were found.
+fn note_found(
+    alloc: Global,
+    scope: &Scope,
+    uses: &mut Uses,
+    found: &[&Expr],
+) -> Result<(), Memory>
+    ensures { OnOk result (uses.new ≡ noted uses.old (flat_map (meant.constants scope.now) (trees found.now))) }
+{
+    'found: for e in found {
+        note_constants(alloc, scope, uses, e)?;
+    }
+    Ok(())
+}
+
+// Notes those in the remote expressions of a statement.
+fn note_kept(
+    alloc: Global,
+    x: &Typed,
+    scope: &Scope,
+    uses: &mut Uses,
+    s: &Stmt,
+) -> Result<(), Memory>
+    ensures { OnOk result (uses.new ≡ noted uses.old (meant.kept_constants (facts x.now) scope.now (mirror_stmt s.now))) }
+{
+    let found = remote_of(alloc, x, scope, s)?;
+    note_found(alloc, scope, uses, found.as_slice())
+}
+
+// Notes those that a statement at a script place gives to the script.
+#[cycle(used)]
+fn note_stmt(
+    alloc: Global,
+    x: &Typed,
+    scope: &mut Scope,
+    uses: &mut Uses,
+    s: &Stmt,
+) -> Result<(), Memory>
+    ensures uses { OnOk result (uses.new ≡ noted uses.old (meant.used (facts x.now) scope.old (mirror_stmt s.now))) }
+    ensures scope { OnOk result (scope.new ≡ scope.old) }
+{
+    match &s.form {
+        StmtForm::Val(_, e) => {
+            if is_portable(x, scope, e) {
+                note_constants(alloc, scope, uses, e)
+            } else {
+                note_kept(alloc, x, scope, uses, s)
+            }
+        }
+        StmtForm::If(c, a, b) => {
+            if branches_hold(x, a.as_slice(), b.as_slice()) {
+                note_constants(alloc, scope, uses, c)?;
+                note_block(alloc, x, scope, uses, a.as_slice())?;
+                note_block(alloc, x, scope, uses, b.as_slice())
+            } else {
+                note_kept(alloc, x, scope, uses, s)
+            }
+        }
+        StmtForm::For(name, e, a) => {
+            if over_rows(x, e) {
+                note_constants(alloc, scope, uses, e)?;
+                note_turn(alloc, x, scope, uses, name, s.at, a.as_slice())
+            } else {
+                note_kept(alloc, x, scope, uses, s)
+            }
+        }
+        StmtForm::Var(_, _) | StmtForm::Assign(_, _) | StmtForm::Run(_) => {
+            note_kept(alloc, x, scope, uses, s)
+        }
+        StmtForm::Print(_) | StmtForm::Throw(_) | StmtForm::While(_, _) => {
+            note_kept(alloc, x, scope, uses, s)
+        }
+        StmtForm::Try(_, _, _) | StmtForm::Batch(_, _, _) => {
+            note_kept(alloc, x, scope, uses, s)
+        }
+    }
+}
+
+// A block, whose variables go at its end.
+#[cycle(used)]
+fn note_block(
+    alloc: Global,
+    x: &Typed,
+    scope: &mut Scope,
+    uses: &mut Uses,
+    ss: &[Stmt],
+) -> Result<(), Memory>
+    ensures uses { OnOk result (uses.new ≡ noted uses.old (meant.used_in (facts x.now) scope.old (mirror_stmts ss.now))) }
+    ensures scope { OnOk result (scope.new ≡ scope.old) }
+{
+    let count = scope.len();
+    note_stmts(alloc, x, scope, uses, ss)?;
+    scope.truncate(count);
+    Ok(())
+}
+
+// The block of a loop over rows, with its row.
+#[cycle(used)]
+fn note_turn(
+    alloc: Global,
+    x: &Typed,
+    scope: &mut Scope,
+    uses: &mut Uses,
+    name: &Word,
+    at: u32,
+    ss: &[Stmt],
+) -> Result<(), Memory>
+    ensures uses { OnOk result (uses.new ≡ noted uses.old (meant.used_in (facts x.now) (with_variable scope.old name.now Role.Row at) (mirror_stmts ss.now))) }
+    ensures scope { OnOk result (scope.new ≡ scope.old) }
+{
+    let count = scope.len();
+    scope.bind(alloc, name, Role::Row, at)?;
+    note_stmts(alloc, x, scope, uses, ss)?;
+    scope.truncate(count);
+    Ok(())
+}
+
+#[cycle(used)]
+fn note_stmts(
+    alloc: Global,
+    x: &Typed,
+    scope: &mut Scope,
+    uses: &mut Uses,
+    ss: &[Stmt],
+) -> Result<(), Memory>
+    ensures uses { OnOk result (uses.new ≡ noted uses.old (meant.used_in (facts x.now) scope.old (mirror_stmts ss.now))) }
+    ensures kept { OnOk result (take (length scope.old) scope.new ≡ scope.old) }
+{
+    'stmts: for s in ss {
+        note_stmt(alloc, x, scope, uses, s)?;
+        bind_after(alloc, x, scope, s)?;
+    }
+    Ok(())
+}
+
+/// The inputs of a batch whose block begins in this scope, in order of first use.
+pub fn inputs_of(
+    alloc: Global,
+    x: &Typed,
+    scope: &mut Scope,
+    block: &[Stmt],
+) -> Result<Seq<Word>, Memory>
+    ensures inputs { IfOk result (λ names. names ≡ meant.first_uses [] (meant.used_in (facts x.now) scope.old (mirror_stmts block.now))) }
+    ensures scope { OnOk result (scope.new ≡ scope.old) }
+{
+    let mut uses = Uses::new(alloc);
+    note_block(alloc, x, scope, &mut uses, block)?;
+    Ok(uses.into_names())
+}

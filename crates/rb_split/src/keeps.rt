@@ -1,0 +1,62 @@
+// The steps that keep what a statement takes.
+
+#![tactic(auto, using(crate::proofs::Steps::step_rules))]
+
+ghost use Rattle.std.specs.Prelude.{◌≡◌, IfOk, OnOk};
+ghost use Rattle.rb_trees.specs.mirror.Code.{mirror_expr};
+ghost use Rattle.rb_trees.specs.mirror.Declarations.{mirror_program};
+ghost use Rattle.rb_meaning_split.specs.Parts as meant;
+ghost use Rattle.rb_split.specs.Drafts as words;
+ghost use Rattle.rb_split.specs.Drafts.{drafted};
+ghost use Rattle.rb_split.specs.Views.{refs_of, trees};
+
+use crate::drafts::Draft;
+use crate::exprs::script_expr;
+use crate::kinds::call_kind;
+use crate::numbers::next;
+use crate::refs::Refs;
+use rb_trees::{Expr, Memory, Seq, Step, StepForm};
+use rb_types::Typed;
+use std::alloc::Global;
+
+// Adds a step that keeps the value of an expression.
+fn keep(
+    alloc: Global,
+    x: &Typed,
+    refs: &Refs,
+    draft: &mut Draft,
+    e: &Expr,
+) -> Result<(), Memory>
+    ensures { OnOk result (drafted draft.new ≡ words.one_kept (mirror_program x.now) (refs_of refs.now) (drafted draft.old) (mirror_expr e.now)) }
+{
+    let id = draft.step;
+    let after = next(id)?;
+    let value = script_expr(alloc, x, refs, e)?;
+    let step = Step {
+        id,
+        at: e.at,
+        form: StepForm::Keep(value),
+    };
+    draft.add_step(step, after)
+}
+
+/// Adds a step for each expression that was found, which keeps its value. What is answered are the numbers of the steps, each
+/// with the kind of what it keeps.
+pub fn keep_all(
+    alloc: Global,
+    x: &Typed,
+    refs: &Refs,
+    draft: &mut Draft,
+    found: &[&Expr],
+) -> Result<Seq<(u32, u8)>, Memory>
+    ensures drafted { OnOk result (drafted draft.new ≡ words.all_kept (mirror_program x.now) (refs_of refs.now) (drafted draft.old) (trees found.now)) }
+    ensures takes { IfOk result (λ takes. takes ≡ meant.takes (mirror_program x.now) draft.old.step (trees found.now)) }
+{
+    let mut takes = Seq::new(alloc);
+    'found: for e in found {
+        let id = draft.step;
+        keep(alloc, x, refs, draft, e)?;
+        takes.push((id, call_kind(x, e.at)))?;
+    }
+    Ok(takes)
+}
