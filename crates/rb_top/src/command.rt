@@ -344,7 +344,15 @@ fn go_on_admitted<F: Files, W: Sink>(
     ensures { Between F.Files W.Sink files.old out.old files.new out.new (DividesWith text.now admitted.now (asked_by command.now) result) }
 {
     match split_all(alloc, admitted) {
-        Ok(splits) => fulfil(alloc, text, admitted, splits.as_slice(), command, files, out),
+        Ok(splits) => fulfil(
+            alloc,
+            text,
+            admitted,
+            splits.as_slice(),
+            command,
+            files,
+            out,
+        ),
         Err(SplitStop::Refused(refusal)) => refuse_batch(alloc, text, refusal, out),
         Err(SplitStop::Memory) => Status::Memory,
     }

@@ -11,7 +11,11 @@ interface Dir { fun files(): Rows<File>; fun file(i: Int): File; fun best(f: Fil
 /// What `split p` answers on a text behind interfaces.
 fn viewed(alloc: Global, interfaces: &str, program: &str) -> Result<String, Fail> {
     let text = format!(in alloc; "{interfaces}{program}")?;
-    answer(alloc, "split p", files_of(alloc, Some(text.as_str()), None)?)
+    answer(
+        alloc,
+        "split p",
+        files_of(alloc, Some(text.as_str()), None)?,
+    )
 }
 
 #[test]
@@ -82,7 +86,11 @@ remainder
 "#,
         ),
     ] {
-        assert_eq!(rt; viewed(rt.alloc(), INTERFACES, program)?.as_str(), wanted, "{program}");
+        assert_eq!(rt;
+            viewed(rt.alloc(), INTERFACES, program)?.as_str(),
+            wanted,
+            "{program}"
+        );
     }
     Ok(())
 }
@@ -156,7 +164,11 @@ remainder
 "#,
         ),
     ] {
-        assert_eq!(rt; viewed(rt.alloc(), INTERFACES, program)?.as_str(), wanted, "{program}");
+        assert_eq!(rt;
+            viewed(rt.alloc(), INTERFACES, program)?.as_str(),
+            wanted,
+            "{program}"
+        );
     }
     Ok(())
 }
@@ -230,7 +242,11 @@ remainder
 "#,
         ),
     ] {
-        assert_eq!(rt; viewed(rt.alloc(), WIDE, program)?.as_str(), wanted, "{program}");
+        assert_eq!(rt;
+            viewed(rt.alloc(), WIDE, program)?.as_str(),
+            wanted,
+            "{program}"
+        );
     }
     Ok(())
 }
@@ -277,7 +293,11 @@ remainder
 "#,
         ),
     ] {
-        assert_eq!(rt; viewed(rt.alloc(), WIDE, program)?.as_str(), wanted, "{program}");
+        assert_eq!(rt;
+            viewed(rt.alloc(), WIDE, program)?.as_str(),
+            wanted,
+            "{program}"
+        );
     }
     Ok(())
 }
@@ -327,12 +347,13 @@ remainder
   print(<0> + this.n);
 "#,
         ),
-        (
-            r#"main { print(1); }"#,
-            r#"0 "#,
-        ),
+        (r#"main { print(1); }"#, r#"0 "#),
     ] {
-        assert_eq!(rt; viewed(rt.alloc(), WIDE, program)?.as_str(), wanted, "{program}");
+        assert_eq!(rt;
+            viewed(rt.alloc(), WIDE, program)?.as_str(),
+            wanted,
+            "{program}"
+        );
     }
     Ok(())
 }
@@ -361,7 +382,10 @@ fn wide_calls(alloc: Global, count: u32) -> Result<String, Fail> {
 fn a_script_has_at_most_four_megabytes(rt: HostRuntime) -> Result<(), Fail> {
     let alloc = rt.alloc();
     assert_eq!(rt; wide_calls(alloc, 4092)?.as_str(), "0 accepted\n");
-    assert_eq!(rt; wide_calls(alloc, 4093)?.as_str(), "5 refused 9 ScriptTooLarge 2:8 4195329\n");
+    assert_eq!(rt;
+        wide_calls(alloc, 4093)?.as_str(),
+        "5 refused 9 ScriptTooLarge 2:8 4195329\n"
+    );
     Ok(())
 }
 
@@ -385,7 +409,10 @@ fn many_inputs(alloc: Global, first: &str, count: u32) -> Result<String, Fail> {
 fn a_batch_has_at_most_255_inputs(rt: HostRuntime) -> Result<(), Fail> {
     let alloc = rt.alloc();
     assert_eq!(rt; many_inputs(alloc, "", 255)?.as_str(), "0 accepted\n");
-    assert_eq!(rt; many_inputs(alloc, "", 256)?.as_str(), "5 refused 8 TooManyInputs 4:1 256\n");
+    assert_eq!(rt;
+        many_inputs(alloc, "", 256)?.as_str(),
+        "5 refused 8 TooManyInputs 4:1 256\n"
+    );
     let behind = many_inputs(alloc, "batch (Dir q) { q.burn(1); } ", 257)?;
     assert_eq!(rt; behind.as_str(), "5 refused 8 TooManyInputs 4:1 257\n");
     Ok(())
