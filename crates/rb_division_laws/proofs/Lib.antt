@@ -6,3 +6,10 @@ mod Numbers
 mod Valid
 mod Formed
 mod Sent
+mod Reading
+mod Used
+mod Known
+mod Sends
+mod Fitting
+mod Outer
+mod Nodes

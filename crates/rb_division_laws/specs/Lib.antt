@@ -1,2 +1,3 @@
 -- The laws of the division.
 pub mod Sendable
+pub mod Fitting

@@ -3,9 +3,16 @@
 //! There is no code here; the laws are functions that do nothing.
 #![tactic(auto)]
 
+ghost use Rattle.rb_division_laws.specs.Fitting.{NodesFit};
 ghost use Rattle.rb_division_laws.specs.Sendable.{DividedCanBeSent};
 
+use rb_flow::admitted_programs_send_only_portable_parts;
 use rb_meaning_bytes::the_code_has_its_size;
+use rb_types_keep::{
+    conditions_have_truths, lawful_code_is_formed, operators_keep_types, remote_calls_are_typed,
+    remote_calls_keep_tables, typed_code_keeps_types,
+};
+use rb_unsplit_keeps::lawful_programs_are_noted;
 
 /// The script of each batch of a lawful program that is divided can be sent: it is formed and valid, and with all its
 /// inputs a request holds it.
@@ -13,4 +20,19 @@ pub fn divided_scripts_can_be_sent()
     ensures { DividedCanBeSent }
 {
     the_code_has_its_size();
+}
+
+/// In a lawful, typed program without refusals, and on a typed service, what the script of a batch gives fits the batch's
+/// remainder, for each local state in which the batch may begin.
+pub fn nodes_of_scripts_fit()
+    ensures { NodesFit }
+{
+    operators_keep_types();
+    conditions_have_truths();
+    remote_calls_keep_tables();
+    remote_calls_are_typed();
+    lawful_code_is_formed();
+    typed_code_keeps_types();
+    admitted_programs_send_only_portable_parts();
+    lawful_programs_are_noted();
 }

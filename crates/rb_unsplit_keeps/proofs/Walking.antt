@@ -69,12 +69,12 @@ pub rest_typed : (p : Placed) (r : Checked (List Placed)) (ps : List Placed) →
 rest_typed p (Ok qs) ps h = (qs, refl)
 rest_typed p (Err fault) ps h = absurd (cc (h))
 
-object_named : (d : Declarations) (k : Kind) → is_object d k ≡ true → (name : List ℕ) × (k ≡ kind.Named name) × (is_some (interface_named d.interfaces name) ≡ true)
+pub object_named : (d : Declarations) (k : Kind) → is_object d k ≡ true → (name : List ℕ) × (k ≡ kind.Named name) × (is_some (interface_named d.interfaces name) ≡ true)
 object_named d (kind.Named name) h = (name, refl, h)
 object_named d kind.Int h = absurd (cc (h))
 object_named d _ h = absurd (cc (h))
 
-there : {A : Type 0} (o : Option A) → is_some o ≡ true → (a : A) × (o ≡ Some a)
+pub there : {A : Type 0} (o : Option A) → is_some o ≡ true → (a : A) × (o ≡ Some a)
 there (Some a) h = (a, refl)
 there None h = absurd (cc (h))
 
