@@ -13,3 +13,5 @@ mod Sends
 mod Fitting
 mod Outer
 mod Nodes
+mod Marked
+mod RemoteFaults

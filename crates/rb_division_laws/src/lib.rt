@@ -3,10 +3,12 @@
 //! There is no code here; the laws are functions that do nothing.
 #![tactic(auto)]
 
+ghost use Rattle.rb_division_laws.specs.Faults.{SentFaultsAreRemote};
 ghost use Rattle.rb_division_laws.specs.Fitting.{NodesFit};
 ghost use Rattle.rb_division_laws.specs.Sendable.{DividedCanBeSent};
 
 use rb_flow::admitted_programs_send_only_portable_parts;
+use rb_marks::each_expression_has_its_mark;
 use rb_meaning_bytes::the_code_has_its_size;
 use rb_types_keep::{
     conditions_have_truths, lawful_code_is_formed, operators_keep_types, remote_calls_are_typed,
@@ -35,4 +37,16 @@ pub fn nodes_of_scripts_fit()
     typed_code_keeps_types();
     admitted_programs_send_only_portable_parts();
     lawful_programs_are_noted();
+}
+
+/// In a lawful, typed program and on a typed service, each fault of what is sent in a batch is remote: the server answered
+/// it, or it stands at a position that is marked Remote.
+pub fn sent_code_faults_remotely()
+    ensures { SentFaultsAreRemote }
+{
+    operators_keep_types();
+    remote_calls_keep_tables();
+    remote_calls_are_typed();
+    lawful_code_is_formed();
+    each_expression_has_its_mark();
 }

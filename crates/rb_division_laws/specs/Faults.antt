@@ -1,0 +1,54 @@
+-- Laws of faults: where they stand, and on which side.
+use Rattle.std.specs.Prelude.{◌≡◌, ℕ, List, Bool, true, Ok}
+use Rattle.rb_trees.specs.declared.outcomes.Raised.{Raised}
+use Rattle.rb_trees.specs.mirror.Declarations.{Program}
+use Rattle.rb_trees.specs.mirror.Services.{Service}
+use Rattle.rb_meaning_types.specs.Kinds.{Kind}
+use Rattle.rb_meaning_types.specs.Declared.{of_program}
+use Rattle.rb_meaning_types.specs.Expressions.{type_of}
+use Rattle.rb_meaning_types.specs.Lawful.{IsLawful}
+use Rattle.rb_meaning_types.specs.Notes.{type_at}
+use Rattle.rb_meaning_types.specs.Programs.{check_program, check_service}
+use Rattle.rb_meaning_types.specs.Fits.{TableFits}
+use Rattle.rb_meaning_code.specs.State.{Local}
+use Rattle.rb_meaning_code.specs.Dialogue.{Outcome, Gave, Faulted, handle}
+use Rattle.rb_meaning_code.specs.Expressions.{evaluates}
+use Rattle.rb_meaning_code.specs.Bodies.{bodies_of}
+use Rattle.rb_meaning_flow.specs.Facts.{facts_of}
+use Rattle.rb_meaning_flow.specs.Portable.{portable}
+use Rattle.rb_meaning_flow.specs.Marks.{is_remote_at}
+use Rattle.rb_meaning_flow.specs.Sites.{ExprSite}
+use Rattle.rb_meaning.specs.State.{Outside}
+use Rattle.rb_meaning.specs.Unsplit.{in_batch, with_side}
+use Rattle.rb_marks.specs.Laws.{InBatches}
+use Rattle.rb_types_keep.specs.Formed.{IsFormedExpr, AreFormed}
+use Rattle.rb_types_keep.specs.Noted.{IsNotedExpr}
+use Rattle.rb_types_keep.specs.Ends.{Place, context, FitsPlace}
+
+-- An expression of a batch that the service evaluates: it is Remote where it stands, it is portable, and it has a type there.
+pub record IsSent (p : Program) (s : ExprSite) (place : Place) : Type 0 where
+  pub stands : InBatches p s
+  pub remote : is_remote_at (facts_of p) s ≡ true
+  pub portable : portable (facts_of p) s.stands.scope s.expr ≡ true
+  pub kind : Kind
+  pub typed : type_of (context (of_program p) place) place.scope s.expr ≡ Ok kind
+  pub noted : IsNotedExpr (type_at p) (context (of_program p) place) place.scope s.expr
+  pub formed : IsFormedExpr s.expr
+
+-- each fault by which a run may have ended is so
+abbrev pub EachFault : {A : Type 0} → (Raised → Type 0) → Outcome A → Type 0
+EachFault P (Gave a l) = Unit {0}
+EachFault P (Faulted r l) = P r
+
+-- A fault is remote, by the position where it stands or because the server answered it.
+abbrev pub IsRemote : Program → Raised → Type 0
+IsRemote p r = (with_side p r).remote ≡ true
+
+-- In a lawful, typed program and on a typed service, what is sent in a batch faults remotely, for each local state that fits
+-- where it stands.
+abbrev pub SentFaultsAreRemote : Type 0
+SentFaultsAreRemote = (p : Program) → IsLawful p → check_program p ≡ Ok tt
+    → (service : Service) → check_service service.classes ≡ Ok tt → AreFormed service.classes
+    → (s : ExprSite) (place : Place) → IsSent p s place → (l : Local) → FitsPlace (of_program p) place l
+    → (outside : Outside) → TableFits service.classes service.root outside.server.table
+    → (gas : ℕ) → EachFault (IsRemote p) (handle (in_batch p service) (evaluates (bodies_of p.classes gas) s.expr l) outside).0
