@@ -15,3 +15,5 @@ mod Outer
 mod Nodes
 mod Marked
 mod RemoteFaults
+mod Falls
+mod Parted
