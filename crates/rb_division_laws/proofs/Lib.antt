@@ -17,3 +17,4 @@ mod Marked
 mod RemoteFaults
 mod Falls
 mod Parted
+mod Unmarked

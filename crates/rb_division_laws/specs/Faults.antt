@@ -1,5 +1,6 @@
 -- Laws of faults: where they stand, and on which side.
-use Rattle.std.specs.Prelude.{◌≡◌, ℕ, List, Bool, true, Ok}
+use Rattle.std.specs.Prelude.{◌≡◌, ℕ, List, Bool, true, false, Ok}
+use Rattle.std.specs.List.{Contains}
 use Rattle.rb_trees.specs.declared.outcomes.Raised.{Raised}
 use Rattle.rb_trees.specs.mirror.Declarations.{Program}
 use Rattle.rb_trees.specs.mirror.Services.{Service}
@@ -13,13 +14,18 @@ use Rattle.rb_meaning_types.specs.Fits.{TableFits}
 use Rattle.rb_meaning_code.specs.State.{Local}
 use Rattle.rb_meaning_code.specs.Dialogue.{Outcome, Gave, Faulted, handle}
 use Rattle.rb_meaning_code.specs.Expressions.{evaluates}
+use Rattle.rb_meaning_code.specs.Statements.{performs}
 use Rattle.rb_meaning_code.specs.Bodies.{bodies_of}
 use Rattle.rb_meaning_flow.specs.Facts.{facts_of}
 use Rattle.rb_meaning_flow.specs.Portable.{portable}
-use Rattle.rb_meaning_flow.specs.Marks.{is_remote_at}
-use Rattle.rb_meaning_flow.specs.Sites.{ExprSite}
+use Rattle.rb_meaning_flow.specs.Marks.{is_remote_whole, is_remote_at}
+use Rattle.rb_meaning_flow.specs.Sites.{StmtSite, ExprSite}
+use Rattle.rb_meaning_flow.specs.Outermost.{Outermost, batch_sites, program_batches}
 use Rattle.rb_meaning.specs.State.{Outside}
-use Rattle.rb_meaning.specs.Unsplit.{in_batch, with_side}
+use Rattle.rb_meaning.specs.Unsplit.{stands_remote, in_batch, with_side}
+use Rattle.rb_meaning_split.specs.Cuts.{cut_stmt}
+use Rattle.rb_meaning_split.specs.Replay.{Seen, in_replay}
+use Rattle.rb_flow.specs.Program.{HasNoRefusal}
 use Rattle.rb_marks.specs.Laws.{InBatches}
 use Rattle.rb_types_keep.specs.Formed.{IsFormedExpr, AreFormed}
 use Rattle.rb_types_keep.specs.Noted.{IsNotedExpr}
@@ -52,3 +58,17 @@ SentFaultsAreRemote = (p : Program) → IsLawful p → check_program p ≡ Ok tt
     → (s : ExprSite) (place : Place) → IsSent p s place → (l : Local) → FitsPlace (of_program p) place l
     → (outside : Outside) → TableFits service.classes service.root outside.server.table
     → (gas : ℕ) → EachFault (IsRemote p) (handle (in_batch p service) (evaluates (bodies_of p.classes gas) s.expr l) outside).0
+
+-- A fault of the own side stands at no position that is marked Remote. At position 0 no code of a program stands: there are
+-- faults for want of gas, and of what a node lacks.
+abbrev pub StandsElsewhere : Program → Raised → Type 0
+StandsElsewhere p r = r.remote ≡ false → (r.at ≡ 0 → ⊥) → stands_remote p r.at ≡ false
+
+-- In a lawful program without refusals what is left of a statement of a batch, without its remote expressions, has such faults
+-- alone on replay. The statement is one that isn't divided: no `if` that holds a remote operation, and no loop over rows.
+abbrev pub OwnFaultsStandElsewhere : Type 0
+OwnFaultsStandElsewhere = (p : Program) → IsLawful p → HasNoRefusal p
+    → (b : Outermost) → Contains (program_batches (facts_of p) p) b
+    → (t : StmtSite) → Contains (batch_sites (facts_of p) b) t → is_remote_whole (facts_of p) t.around t.stmt ≡ false
+    → (n gas : ℕ) (l : Local) (seen : Seen)
+    → EachFault (StandsElsewhere p) (handle in_replay (performs (bodies_of p.classes gas) gas (cut_stmt (facts_of p) t.scope n t.stmt) l) seen).0
