@@ -18,3 +18,4 @@ mod RemoteFaults
 mod Falls
 mod Parted
 mod Unmarked
+mod OwnFaults

@@ -3,12 +3,12 @@
 //! There is no code here; the laws are functions that do nothing.
 #![tactic(auto)]
 
-ghost use Rattle.rb_division_laws.specs.Faults.{SentFaultsAreRemote};
+ghost use Rattle.rb_division_laws.specs.Faults.{OwnFaultsStandElsewhere, SentFaultsAreRemote};
 ghost use Rattle.rb_division_laws.specs.Fitting.{NodesFit};
 ghost use Rattle.rb_division_laws.specs.Sendable.{DividedCanBeSent};
 
 use rb_flow::admitted_programs_send_only_portable_parts;
-use rb_marks::each_expression_has_its_mark;
+use rb_marks::{each_expression_has_its_mark, remote_expressions_stand_in_the_script};
 use rb_meaning_bytes::the_code_has_its_size;
 use rb_types_keep::{
     conditions_have_truths, lawful_code_is_formed, operators_keep_types, remote_calls_are_typed,
@@ -49,4 +49,13 @@ pub fn sent_code_faults_remotely()
     remote_calls_are_typed();
     lawful_code_is_formed();
     each_expression_has_its_mark();
+}
+
+/// In a lawful program without refusals, what is left of a statement of a batch without its remote expressions faults on
+/// replay at positions that aren't marked Remote, unless the fault is remote.
+pub fn own_faults_stand_elsewhere()
+    ensures { OwnFaultsStandElsewhere }
+{
+    each_expression_has_its_mark();
+    remote_expressions_stand_in_the_script();
 }
