@@ -1,5 +1,5 @@
 -- Where the faults of code stand: at positions of its own, unless an answer brings them.
-use Rattle.std.proofs.Common.{◌≡◌, refl, sym, subst, ℕ, zero, suc, List, [], ◌∷◌, length, Bool, true, false, cond, Option, Some, None, option_and_then, Result, Ok, Err, nat_eq, slice_get}
+use Rattle.std.proofs.Common.{◌≡◌, refl, subst, ℕ, zero, suc, List, [], ◌∷◌, length, Bool, true, false, cond, Option, Some, None, option_and_then, Result, Ok, Err, nat_eq, slice_get}
 use Rattle.std.specs.List.{AllByRecursion}
 use Rattle.std.specs.Str.{bytes_eq}
 use Rattle.rb_trees.specs.Named.{first_named}
@@ -15,12 +15,12 @@ use Rattle.rb_trees.specs.mirror.Code.{Expr, Exprs, Lit, Name, This, Unary, Bina
 use Rattle.rb_trees.specs.mirror.Declarations.{Body, Method, Class}
 use Rattle.rb_meaning_code.specs.Faults.{fuel_used, kind, raised, raises, caught_text, is_caught}
 use Rattle.rb_meaning_code.specs.Operators.{on_one, on_two, by_left, shown_value}
-use Rattle.rb_meaning_code.specs.State.{Local, bound, closed, spent, this_name}
+use Rattle.rb_meaning_code.specs.State.{Local, bound, spent, this_name}
 use Rattle.rb_meaning_code.specs.Dialogue as ask
 use Rattle.rb_meaning_code.specs.Dialogue.{Question, Outcome, Gave, Faulted, Dialogue, Done, Ask, AskBatch, Run, Handler, handle, seq, on, next, gives, end, told}
 use Rattle.rb_meaning_code.specs.Objects.{constructed, field_of, with_field_of}
-use Rattle.rb_meaning_code.specs.Calls.{Bodies, method_of, own_method, called_method, unit_due, call_fits, names_within, entered, left, call, called}
-use Rattle.rb_meaning_code.specs.Expressions.{value_of, indexed, list_of, decided_or, constructs, evaluates, evaluates_all}
+use Rattle.rb_meaning_code.specs.Calls.{Bodies, method_of, called_method, unit_due, call_fits, names_within, entered, left, call, called}
+use Rattle.rb_meaning_code.specs.Expressions.{value_of, indexed, list_of, decided_or, evaluates, evaluates_all}
 use Rattle.rb_meaning_code.specs.Statements.{Effect, nothing, closes, block, truth_of, either, by_truth, after_unit, while_turns, turns_over, list_turn, row_turn, turns, prints, throws, handles, assigned, assigns, writes, assignment, performs, performs_all}
 use Rattle.rb_meaning_code.specs.Bodies.{returns, runs, body_within, bodies_of}
 use Rattle.rb_division_laws.specs.Faults.{EachFault}

@@ -1,200 +1,72 @@
 -- The node of a batch's script fits its remainder.
-use Rattle.std.proofs.Common.{◌≡◌, ◌≤◌, ◌-◌, ◌⊎◌, inl, inr, refl, sym, ap, ◌∙◌, subst, arith, ℕ, suc, List, [], ◌∷◌, ◌++◌, Bool as Truth, true, false, ◌&&◌, cond, All, Option, Some, None, is_some, Result, Ok, Err}
-use Rattle.std.specs.List.{AllByRecursion, Contains, flat_map}
+use Rattle.std.proofs.Common.{◌≡◌, ◌≤◌, ◌-◌, ◌⊎◌, refl, sym, ap, ◌∙◌, subst, arith, ℕ, suc, List, [], ◌∷◌, ◌++◌, Bool as Truth, true, false, ◌&&◌, cond, All, Option, Some, None, Ok, Err}
+use Rattle.std.specs.List.{AllByRecursion, flat_map}
 use Rattle.std.proofs.lemmas.Bool.{and_parts}
-use Rattle.std.proofs.lemmas.List.Elements.{All-head, All-tail}
 use Rattle.rb_trees.specs.Outcome.{known, must, ◌>>◌, ◌>>=◌}
 use Rattle.rb_trees.specs.declared.values.Value.{Value}
-use Rattle.rb_trees.specs.declared.values.Value.TheOpen.{Value-F}
 use Rattle.rb_trees.specs.declared.values.Value.TheViews.{out-Value}
-use Rattle.rb_trees.specs.declared.values.Fault.{Fault}
 use Rattle.rb_trees.specs.declared.refusals.Refusal.{Refusal}
 use Rattle.rb_trees.specs.mirror.Declarations.{Program, Interface}
 use Rattle.rb_trees.specs.mirror.Services.{Service}
 use Rattle.rb_meaning_types.specs.Kinds as kind
 use Rattle.rb_meaning_types.specs.Kinds.{Kind}
-use Rattle.rb_meaning_types.specs.Violations.{Checked, Placed}
+use Rattle.rb_meaning_types.specs.Violations.{Checked}
 use Rattle.rb_meaning_types.specs.Declared.{Context, of_program}
 use Rattle.rb_meaning_types.specs.Scopes as typed
-use Rattle.rb_meaning_types.specs.Expressions.{type_of, types_of}
+use Rattle.rb_meaning_types.specs.Expressions.{type_of}
 use Rattle.rb_meaning_types.specs.Statements.{placed, loop_scope, check_stmt, check_stmts}
 use Rattle.rb_meaning_types.specs.Notes.{scope_or, type_at}
 use Rattle.rb_meaning_types.specs.Programs.{check_service}
-use Rattle.rb_meaning_types.specs.Fits.{IsIntValue, IsBoolValue, IsTextValue, IsUnitValue, IsObjectOf, IsRemoteValue, AreItems, AreRows, FitsNamed, Fits, TableFits}
+use Rattle.rb_meaning_types.specs.Fits.{Fits, TableFits}
 use Rattle.rb_meaning_types.specs.Kinds.{is_primitive}
 use Rattle.rb_meaning_flow.specs.Facts.{has_primitive_items}
-use Rattle.rb_meaning_types.specs.Names.{interface_named}
-use Rattle.rb_meaning_code.specs.State.{Names}
 use Rattle.rb_meaning_code.specs.Statements.{truth_of}
 use Rattle.rb_meaning_code.specs.Remote.{Server, Reply, Got, Stopped, and_then, replies, rows_in}
 use Rattle.rb_meaning_flow.specs.declared.scopes.Role.{Role}
-use Rattle.rb_meaning_flow.specs.Facts.{Facts, facts_of, over_rows, is_rows}
+use Rattle.rb_meaning_flow.specs.Facts.{Facts, facts_of, over_rows}
 use Rattle.rb_meaning_flow.specs.Scopes.{Scope, with_variable}
 use Rattle.rb_meaning_flow.specs.Portable.{portable, holds_call, branches_hold}
 use Rattle.rb_meaning_flow.specs.Marks.{is_portable_call}
-use Rattle.rb_meaning_flow.specs.Sites.{Around, Branch, Turn, is_script_place, StmtSite, scope_after, stmt_site, sites, block_sites}
+use Rattle.rb_meaning_flow.specs.Sites.{Around, Branch, Turn, is_script_place, StmtSite, scope_after, sites, block_sites}
 use Rattle.rb_meaning_flow.specs.Refusals.{IsRefusal}
 use Rattle.rb_flow.specs.Laws.{SendsPortable}
-use Rattle.rb_flow.proofs.Members.{first_contained}
-use Rattle.rb_types_keep.specs.Kept.{Fair}
-use Rattle.rb_types_keep.specs.Formed.{IsFormedExpr, AreFormedExprs, IsFormedStmt, AreFormedStmts, AreFormed}
-use Rattle.rb_types_keep.specs.Noted.{IsNotedExpr, AreNotedExprs, IsNotedStmt, AreNotedStmts}
+use Rattle.rb_types_keep.specs.Formed.{IsFormedExpr, IsFormedStmt, AreFormedStmts, AreFormed}
+use Rattle.rb_types_keep.specs.Noted.{IsNotedExpr, IsNotedStmt, AreNotedStmts}
 use Rattle.rb_types_keep.specs.Operators.{ConditionsHold}
 use Rattle.rb_types_keep.specs.Code.{AreTyped}
-use Rattle.rb_types_keep.proofs.Checks.{bind_ok, placed_ok}
 use Rattle.rb_unsplit_keeps.proofs.Parts.{val_parts, var_parts, assign_parts, run_parts, print_parts, throw_parts, if_parts, while_parts, for_parts, try_parts, batch_parts, stmts_parts}
-use Rattle.rb_unsplit_keeps.proofs.TypeFacts.{kind_here, rows_fact}
+use Rattle.rb_unsplit_keeps.proofs.TypeFacts.{kind_here}
 use Rattle.rb_unsplit_keeps.proofs.Standing.{Within, within_left, within_right}
-use Rattle.rb_unsplit_keeps.proofs.Admission.{within_tail, stmt_first}
+use Rattle.rb_unsplit_keeps.proofs.Admission.{within_tail}
 use Rattle.rb_unsplit_keeps.proofs.Conditions.{condition_portable}
-use Rattle.rb_trees.specs.mirror.Code.{Expr, Exprs, expr_at, Stmt, Stmts, Val, Var, Assign, Run, Print, Throw, If, While, For, Try, Batch, NoStmts, MoreStmts}
+use Rattle.rb_trees.specs.mirror.Code.{Expr, expr_at, Stmt, Stmts, Val, Var, Assign, Run, Print, Throw, If, While, For, Try, Batch, NoStmts, MoreStmts}
 use Rattle.rb_trees.specs.declared.services.Object.{Object}
 use Rattle.rb_trees.specs.mirror.Scripts as script
 use Rattle.rb_trees.specs.mirror.Scripts.{SExpr, Steps, MoreSteps}
 use Rattle.rb_trees.specs.mirror.Forests as forest
 use Rattle.rb_trees.specs.mirror.Remainders as part_of
 use Rattle.rb_trees.specs.mirror.Remainders.{Part, Parts, NoParts, MoreParts}
-use Rattle.rb_meaning_bytes.specs.Fits.{form_has_kind, is_kept, step_of, Walk, is_left, leaves, behind_value, begun, went, value_read, values_read, row_read, passed, turns_done, part_read, parts_read}
+use Rattle.rb_meaning_bytes.specs.Fits.{form_has_kind, is_kept, step_of, Walk, behind_value, begun, went, value_read, row_read, passed, part_read, parts_read}
 use Rattle.rb_meaning_code.specs.Faults as faults
-use Rattle.rb_meaning_code.specs.ScriptRun.{Ground, Vars, Ran, ended, with_entry, in_front, stopped, on_reply, value_of, is_primitive as primitive_form, may_keep, kept, with_kept, condition, rows_of, goes_on, chosen, branched, turns, turn_over, walked, run_step, run_steps}
-use Rattle.rb_meaning.specs.CallKinds.{item_number, kind_number, kind_noted, call_kind}
+use Rattle.rb_meaning_code.specs.ScriptRun.{Ground, Vars, Ran, ended, with_entry, in_front, on_reply, value_of, is_primitive as primitive_form, kept, with_kept, condition, rows_of, chosen, branched, turns, turn_over, walked, run_steps}
+use Rattle.rb_meaning.specs.CallKinds.{kind_number, kind_noted, call_kind}
 use Rattle.rb_meaning.specs.RemoteExprs.{remote_in, remote_of}
 use Rattle.rb_meaning_split.specs.Refs.{Refs, with_var, sexpr}
-use Rattle.rb_meaning_split.specs.Cuts.{counted, cut_stmt}
+use Rattle.rb_meaning_split.specs.Cuts.{counted}
 use Rattle.rb_meaning_split.specs.Inputs.{constants, kept_constants, used, used_in}
 use Rattle.rb_meaning_split.specs.Numbers.{kept_after, step_after, steps_after, var_after, vars_after}
 use Rattle.rb_meaning_split.specs.Steps.{refs_after, keeps_val, keeps, steps, block_steps}
 use Rattle.rb_meaning_split.specs.Parts.{takes, plain, carried, row_kind, part, block_parts}
 use Rattle.rb_unsplit_keeps.proofs.Walking.{Laws}
 use Rattle.rb_unsplit_keeps.proofs.Walked.{Ready, script_scope, rows_fair, one_ready, remote_ready, loop_portable, rows_only, script_inside}
-use Rattle.rb_unsplit_keeps.proofs.TypeFacts.{primitive_fact, items_fact}
-use Rattle.rb_division_laws.proofs.Lists.{all_both, all_left, all_right, cond_is, recursively}
-use Rattle.rb_division_laws.proofs.Numbers.{grows, grows_all, whole_remote, one_step}
-use Rattle.rb_division_laws.proofs.Reading.{later_less, Reader, Rests, parts_rest, taking, takes_rest, then_reads, regroup, first_part, first_taken, standing, over, raises_here, Later, WalksOf, walks_same, Walks, walks_stopped, walks_passed, walks_value, walks_branch, TurnWalks, turns_walk, walks_turns}
+use Rattle.rb_unsplit_keeps.proofs.TypeFacts.{items_fact}
+use Rattle.rb_division_laws.proofs.Lists.{all_both, all_left, all_right, recursively}
+use Rattle.rb_division_laws.proofs.Numbers.{grows_all, whole_remote, one_step}
+use Rattle.rb_division_laws.proofs.Reading.{later_less, Reader, Rests, parts_rest, taking, takes_rest, then_reads, first_part, first_taken, standing, over, raises_here, walks_same, Walks, walks_stopped, walks_passed, walks_value, walks_branch, TurnWalks, turns_walk, walks_turns}
 use Rattle.rb_division_laws.proofs.Used.{IsIn, AreIn, EachIn, each_in}
 use Rattle.rb_division_laws.proofs.Known.{Knows, knows_later, knows_more, knows_plain}
-use Rattle.rb_division_laws.proofs.Sends.{Serves, then_serves, rule_serves, Fit, ground_of, value_typed}
-
--- ---- numbers of variables
-
-module _ (x : Facts) where
-  mutual
-    var_grows : (scope : Scope) (s : Stmt) (m : ℕ) → m ≤ var_after x scope s m
-    var_grows scope (Val at name e) m = cond_is (λ (v : ℕ). m ≤ v) (portable x scope e) (suc m) m (omega arith) (omega arith)
-    var_grows scope (If at c a b) m =
-        cond_is (λ (v : ℕ). m ≤ v) (branches_hold x a b) (vars_after x scope b (vars_after x scope a m)) m (omega (arith, vars_grow scope a m, vars_grow scope b (vars_after x scope a m))) (omega arith)
-    var_grows scope (For at name e a) m =
-        cond_is (λ (v : ℕ). m ≤ v) (over_rows x e) (vars_after x (with_variable scope name Role.Row at) a (suc m)) m (omega (arith, vars_grow (with_variable scope name Role.Row at) a (suc m))) (omega arith)
-    var_grows scope s m = omega arith
-
-    vars_grow : (scope : Scope) (ss : Stmts) (m : ℕ) → m ≤ vars_after x scope ss m
-    vars_grow scope NoStmts m = omega arith
-    vars_grow scope (MoreStmts s ss) m = omega (arith, var_grows scope s m, vars_grow (scope_after x [] scope s) ss (var_after x scope s m))
-
--- ---- what is kept has the kind that is demanded
-
-int_held : (w : Value-F Value) → IsIntValue w → form_has_kind 1 w ≡ true
-int_held (Value-F.Int n) h = refl
-int_held Value-F.Unit h = absurd h
-int_held _ h = absurd h
-
-bool_held : (w : Value-F Value) → IsBoolValue w → form_has_kind 2 w ≡ true
-bool_held (Value-F.Bool b) h = refl
-bool_held Value-F.Unit h = absurd h
-bool_held _ h = absurd h
-
-text_held : (w : Value-F Value) → IsTextValue w → form_has_kind 3 w ≡ true
-text_held (Value-F.Text b) h = refl
-text_held Value-F.Unit h = absurd h
-text_held _ h = absurd h
-
--- a value of no primitive type isn't primitive
-unit_far : (w : Value-F Value) → IsUnitValue w → primitive_form w ≡ true → ⊥
-unit_far Value-F.Unit h e = cc e
-unit_far (Value-F.Int n) h e = h
-unit_far _ h e = h
-
-remote_far : (w : Value-F Value) → IsRemoteValue w → primitive_form w ≡ true → ⊥
-remote_far (Value-F.Remote n) h e = cc e
-remote_far Value-F.Unit h e = h
-remote_far _ h e = h
-
-object_far : (cs : List (List ℕ)) (name : List ℕ) (w : Value-F Value) → IsObjectOf cs name w → primitive_form w ≡ true → ⊥
-object_far cs name (Value-F.Ref n) h e = cc e
-object_far cs name Value-F.Unit h e = h
-object_far cs name _ h e = h
-
-named_far : (o : Option Interface) (cs : List (List ℕ)) (name : List ℕ) (w : Value-F Value) → FitsNamed o cs name w → primitive_form w ≡ true → ⊥
-named_far (Some i) cs name w h e = remote_far w h e
-named_far None cs name w h e = object_far cs name w h e
-
-items_far : (P : Value → Type 0) (w : Value-F Value) → AreItems P w → primitive_form w ≡ true → ⊥
-items_far P (Value-F.List items) h e = cc e
-items_far P Value-F.Unit h e = h
-items_far P _ h e = h
-
-rows_far : (P : Value → Type 0) (w : Value-F Value) → AreRows P w → primitive_form w ≡ true → ⊥
-rows_far P (Value-F.Rows rows) h e = cc e
-rows_far P Value-F.Unit h e = h
-rows_far P _ h e = h
-
-held : (is : List Interface) (k : Kind) (v : Value) → Fits is [] k v → primitive_form (out-Value v) ≡ true → form_has_kind (kind_number k) (out-Value v) ≡ true
-held is kind.Int v h e = int_held (out-Value v) h
-held is kind.Bool v h e = bool_held (out-Value v) h
-held is kind.Text v h e = text_held (out-Value v) h
-held is kind.Unit v h e = absurd (unit_far (out-Value v) h e)
-held is (kind.Named name) v h e = absurd (named_far (interface_named is name) [] name (out-Value v) h e)
-held is (kind.ListOf item) v h e = absurd (items_far (Fits is [] item) (out-Value v) h e)
-held is (kind.RowsOf row) v h e = absurd (rows_far (Fits is [] row) (out-Value v) h e)
-
--- a value of a primitive type is primitive, and of its kind
-int_is : (w : Value-F Value) → IsIntValue w → primitive_form w ≡ true
-int_is (Value-F.Int n) h = refl
-int_is Value-F.Unit h = absurd h
-int_is _ h = absurd h
-
-bool_is : (w : Value-F Value) → IsBoolValue w → primitive_form w ≡ true
-bool_is (Value-F.Bool b) h = refl
-bool_is Value-F.Unit h = absurd h
-bool_is _ h = absurd h
-
-text_is : (w : Value-F Value) → IsTextValue w → primitive_form w ≡ true
-text_is (Value-F.Text b) h = refl
-text_is Value-F.Unit h = absurd h
-text_is _ h = absurd h
-
-primitive_is : (is : List Interface) (k : Kind) (v : Value) → is_primitive k ≡ true → Fits is [] k v → primitive_form (out-Value v) ≡ true
-primitive_is is kind.Int v e h = int_is (out-Value v) h
-primitive_is is kind.Bool v e h = bool_is (out-Value v) h
-primitive_is is kind.Text v e h = text_is (out-Value v) h
-primitive_is is kind.Unit v e h = absurd (cc e)
-primitive_is is _ v e h = absurd (cc e)
-
--- rows of a primitive type are kept, and no others
-kept_rows : (k : Kind) → is_kept (kind_number (kind.RowsOf k) - 4) ≡ is_primitive k
-kept_rows kind.Int = refl
-kept_rows kind.Bool = refl
-kept_rows kind.Text = refl
-kept_rows kind.Unit = refl
-kept_rows (kind.Named name) = refl
-kept_rows (kind.ListOf item) = refl
-kept_rows (kind.RowsOf row) = refl
-
-row_number : (k : Kind) → kind_number (kind.RowsOf k) - 4 ≡ item_number k
-row_number kind.Int = refl
-row_number kind.Bool = refl
-row_number kind.Text = refl
-row_number kind.Unit = refl
-row_number (kind.Named name) = refl
-row_number (kind.ListOf item) = refl
-row_number (kind.RowsOf row) = refl
-
-item_held : (is : List Interface) (k : Kind) (v : Value) → is_primitive k ≡ true → Fits is [] k v → form_has_kind (item_number k) (out-Value v) ≡ true
-item_held is kind.Int v e h = int_held (out-Value v) h
-item_held is kind.Bool v e h = bool_held (out-Value v) h
-item_held is kind.Text v e h = text_held (out-Value v) h
-item_held is kind.Unit v e h = absurd (cc e)
-item_held is _ v e h = absurd (cc e)
+use Rattle.rb_division_laws.proofs.Sends.{Serves, then_serves, rule_serves, value_typed}
+use Rattle.rb_division_laws.proofs.Held.{vars_grow, held, primitive_is, kept_rows, row_number, item_held}
 
 module _ (laws : Laws) (conditions : ConditionsHold) (p : Program) (service : Service) (service_typed : check_service service.classes ≡ Ok tt) (service_formed : AreFormed service.classes) (declared : AreTyped (of_program p))
     (this : Option (List ℕ)) (remote : Truth) (ss : List StmtSite) (none : (r : Refusal) → IsRefusal (facts_of p) ss r → ⊥) (sends : SendsPortable (facts_of p) ss)

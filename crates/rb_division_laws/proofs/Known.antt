@@ -1,5 +1,5 @@
 -- What a script calls the portable variables: each has a value of its type there.
-use Rattle.std.proofs.Common.{◌≡◌, refl, subst, ap, sym, ◌∙◌, ℕ, suc, ◌≤◌, ◌<◌, List, [], ◌∷◌, ◌++◌, Bool as Truth, true, false, cond, arith, nat_eq, Option, Some, None, option_map, slice_get}
+use Rattle.std.proofs.Common.{◌≡◌, refl, subst, ap, sym, ◌∙◌, ℕ, suc, ◌≤◌, ◌<◌, List, [], ◌∷◌, ◌++◌, Bool as Truth, true, false, cond, arith, Option, Some, None, option_map, slice_get}
 use Rattle.std.specs.List.{AllByRecursion}
 use Rattle.std.specs.Str.{bytes_eq}
 use Rattle.std.proofs.lemmas.Bool.{eq-eqb, ne_eqb}
@@ -208,11 +208,14 @@ module _ (is : List Interface) (names : List (List ℕ)) (g : Ground) where
         where
           by : (t : Truth) → bytes_eq name q ≡ t → cond t (Some (typed_one name k fixed)) None ≡ Some w → HasValue w.kind (resolved g ((m, v) ∷ vars) (lookup (with_var refs name m) q))
           by true is_it e' =
-              let same : typed_one name k fixed ≡ w = cc e' in
-              (v, ap (resolved g ((m, v) ∷ vars)) (lookup_more refs name m q)
-              ∙ ap (λ o. resolved g ((m, v) ∷ vars) (option_map (λ n. n.1) (else_first o (cond (bytes_eq name q) (Some (name, Var m)) None)))) (no_first refs q (h.none q there))
-              ∙ ap (λ (t : Truth). resolved g ((m, v) ∷ vars) (option_map (λ (n : List ℕ × Ref). n.1) (cond t (Some (name, Var m)) None))) is_it
-              ∙ ap (λ (t : Truth). cond t (Some v) (latest vars m)) (eq-eqb m m refl), subst (λ z. Fits is [] z.kind v) same fits)
+              let same : typed_one name k fixed ≡ w = cc e' in (
+                v,
+                ap (resolved g ((m, v) ∷ vars)) (lookup_more refs name m q)
+                    ∙ ap (λ o. resolved g ((m, v) ∷ vars) (option_map (λ n. n.1) (else_first o (cond (bytes_eq name q) (Some (name, Var m)) None)))) (no_first refs q (h.none q there))
+                    ∙ ap (λ (t : Truth). resolved g ((m, v) ∷ vars) (option_map (λ (n : List ℕ × Ref). n.1) (cond t (Some (name, Var m)) None))) is_it
+                    ∙ ap (λ (t : Truth). cond t (Some v) (latest vars m)) (eq-eqb m m refl),
+                subst (λ z. Fits is [] z.kind v) same fits,
+              )
           by false is_it e' = absurd (cc e')
 
   -- one more, which isn't portable

@@ -10,6 +10,7 @@ mod Reading
 mod Used
 mod Known
 mod Sends
+mod Held
 mod Fitting
 mod Outer
 mod Nodes
@@ -19,3 +20,4 @@ mod Falls
 mod Parted
 mod Unmarked
 mod OwnFaults
+mod SentSites

@@ -1,7 +1,6 @@
 -- What is Remote in a batch is so with all its parts.
-use Rattle.std.proofs.Common.{◌≡◌, ◌⊎◌, inl, inr, refl, sym, ap, ◌∙◌, subst, ℕ, List, [], ◌∷◌, ◌++◌, Bool, true, false, ◌||◌, cond, Option, Some}
+use Rattle.std.proofs.Common.{◌≡◌, ◌⊎◌, inl, inr, refl, sym, ap, ◌∙◌, subst, ℕ, List, [], ◌∷◌, ◌++◌, Bool, true, false, ◌||◌, cond, Some}
 use Rattle.std.specs.List.{AllByRecursion, Contains, list_any}
-use Rattle.std.specs.FinMap.{get}
 use Rattle.std.proofs.lemmas.List.Elements.{Contains-append_left, Contains-append_right, Contains-append_cases}
 use Rattle.rb_trees.specs.declared.marks.Mark.{Mark}
 use Rattle.rb_trees.specs.mirror.Code.{Expr, Exprs, Lit, Name, This, Unary, Binary, Field, Call, Index, New, Items, Taken, NoExprs, MoreExprs, expr_at}
@@ -9,9 +8,9 @@ use Rattle.rb_trees.specs.mirror.Declarations.{Program}
 use Rattle.rb_meaning_types.specs.Lawful.{IsLawful, expr_positions, exprs_positions}
 use Rattle.rb_meaning_flow.specs.Facts.{Facts, facts_of}
 use Rattle.rb_meaning_flow.specs.Portable.{is_constant}
-use Rattle.rb_meaning_flow.specs.Marks.{is_portable_call, is_remote_whole, is_remote_at, mark_at}
+use Rattle.rb_meaning_flow.specs.Marks.{is_portable_call, is_remote_whole, is_remote_at}
 use Rattle.rb_meaning_flow.specs.Sites.{StmtSite, Over, ExprSite, site, under, right_under, expr_sites, exprs_sites, own, all_sites, exprs_of}
-use Rattle.rb_meaning_flow.specs.Programs.{sites_of, program_marks}
+use Rattle.rb_meaning_flow.specs.Programs.{sites_of}
 use Rattle.rb_meaning.specs.Unsplit.{is_remote_mark, stands_remote}
 use Rattle.rb_marks.specs.Laws.{InBatches, EachHasItsMark}
 use Rattle.rb_flow.proofs.Members.{first_contained, more_contained, contained_cases, none_contained}
@@ -154,23 +153,29 @@ module _ (law : EachHasItsMark) (p : Program) (lawful : IsLawful p) (batch : Lis
     parts_marked st above (Unary at op a) w h =
         (here_marked st above (Unary at op a) (first_among _ _ w) h, parts_marked st (under (Unary at op a) above) a (rest_among _ _ w) (part_remote f st above (Unary at op a) false a h))
     parts_marked st above (Binary at op a b) w h =
-        let rest = rest_among _ _ w in
-        (here_marked st above (Binary at op a b) (first_among _ _ w) h, marked_two (expr_positions a) (expr_positions b)
-        (parts_marked st (under (Binary at op a b) above) a (left_among _ (expr_sites st (right_under (Binary at op a b) above) b) rest) (part_remote f st above (Binary at op a b) false a h))
-        (parts_marked st (right_under (Binary at op a b) above) b (right_among (expr_sites st (under (Binary at op a b) above) a) _ rest) (part_remote f st above (Binary at op a b) true b h)))
+        let rest = rest_among _ _ w in (
+          here_marked st above (Binary at op a b) (first_among _ _ w) h,
+          marked_two (expr_positions a) (expr_positions b)
+              (parts_marked st (under (Binary at op a b) above) a (left_among _ (expr_sites st (right_under (Binary at op a b) above) b) rest) (part_remote f st above (Binary at op a b) false a h))
+              (parts_marked st (right_under (Binary at op a b) above) b (right_among (expr_sites st (under (Binary at op a b) above) a) _ rest) (part_remote f st above (Binary at op a b) true b h)),
+        )
     parts_marked st above (Field at a name) w h =
         (here_marked st above (Field at a name) (first_among _ _ w) h, parts_marked st (under (Field at a name) above) a (rest_among _ _ w) (part_remote f st above (Field at a name) false a h))
     parts_marked st above (Call at a method args) w h =
         let rest = rest_among _ _ w in
-        let o = under (Call at a method args) above in
-        (here_marked st above (Call at a method args) (first_among _ _ w) h, marked_two (expr_positions a) (exprs_positions args)
-        (parts_marked st o a (left_among _ (exprs_sites st o args) rest) (part_remote f st above (Call at a method args) false a h))
-        (all_marked st above (Call at a method args) args (right_among (expr_sites st o a) _ rest) h))
+        let o = under (Call at a method args) above in (
+          here_marked st above (Call at a method args) (first_among _ _ w) h,
+          marked_two (expr_positions a) (exprs_positions args)
+              (parts_marked st o a (left_among _ (exprs_sites st o args) rest) (part_remote f st above (Call at a method args) false a h))
+              (all_marked st above (Call at a method args) args (right_among (expr_sites st o a) _ rest) h),
+        )
     parts_marked st above (Index at a b) w h =
         let rest = rest_among _ _ w in
-        let o = under (Index at a b) above in
-        (here_marked st above (Index at a b) (first_among _ _ w) h, marked_two (expr_positions a) (expr_positions b)
-        (parts_marked st o a (left_among _ (expr_sites st o b) rest) (part_remote f st above (Index at a b) false a h)) (parts_marked st o b (right_among (expr_sites st o a) _ rest) (part_remote f st above (Index at a b) false b h)))
+        let o = under (Index at a b) above in (
+          here_marked st above (Index at a b) (first_among _ _ w) h,
+          marked_two (expr_positions a) (expr_positions b)
+              (parts_marked st o a (left_among _ (expr_sites st o b) rest) (part_remote f st above (Index at a b) false a h)) (parts_marked st o b (right_among (expr_sites st o a) _ rest) (part_remote f st above (Index at a b) false b h)),
+        )
     parts_marked st above (New at class args) w h = (here_marked st above (New at class args) (first_among _ _ w) h, all_marked st above (New at class args) args (rest_among _ _ w) h)
     parts_marked st above (Items at item items) w h = (here_marked st above (Items at item items) (first_among _ _ w) h, all_marked st above (Items at item items) items (rest_among _ _ w) h)
     parts_marked st above (Taken at step) w h = (here_marked st above (Taken at step) (first_among _ [] w) h, tt)

@@ -1,8 +1,7 @@
 -- The node of each batch of an admitted program fits its remainder.
-use Rattle.std.proofs.Common.{◌≡◌, refl, subst, ap, sym, ◌∙◌, ℕ, zero, suc, ◌+◌, List, [], ◌∷◌, ◌++◌, length, Bool as Truth, true, false, cond, arith, Option, Some, None, option_map, is_none, Result, Ok, Err, slice_get}
+use Rattle.std.proofs.Common.{◌≡◌, refl, subst, ap, sym, ◌∙◌, ℕ, suc, ◌+◌, List, [], ◌∷◌, ◌++◌, Bool as Truth, true, false, cond, arith, Option, Some, None, option_map, is_none, Result, Ok, Err, slice_get}
 use Rattle.std.specs.List.{AllByRecursion, Contains}
 use Rattle.std.specs.Str.{bytes_eq}
-use Rattle.std.specs.Option.{is_some}
 use Rattle.std.proofs.lemmas.Slice.Eq.{bytes_eq-Decides}
 use Rattle.rb_trees.specs.Named.{first_named, lookup}
 use Rattle.rb_trees.specs.declared.values.Value.{Value, out-Value}
@@ -10,9 +9,8 @@ use Rattle.rb_trees.specs.declared.values.Value.TheVariants as value
 use Rattle.rb_trees.specs.declared.services.Object.{Object}
 use Rattle.rb_trees.specs.mirror.Declarations.{Program, Interface}
 use Rattle.rb_trees.specs.mirror.Services.{Service}
-use Rattle.rb_trees.specs.mirror.Remainders.{Parts}
 use Rattle.rb_trees.specs.mirror.Code.{Stmts}
-use Rattle.rb_meaning_bytes.specs.Fits.{Walk, leaves, begun, parts_read, judged, fits, Extra, At}
+use Rattle.rb_meaning_bytes.specs.Fits.{Walk, leaves, begun, parts_read, judged, fits, Extra}
 use Rattle.rb_meaning_types.specs.Kinds as kind
 use Rattle.rb_meaning_types.specs.Kinds.{Kind}
 use Rattle.rb_meaning_types.specs.Names.{is_new, interface_named}
@@ -22,10 +20,10 @@ use Rattle.rb_meaning_types.specs.Notes.{scope_or, type_at}
 use Rattle.rb_meaning_types.specs.Lawful.{IsLawful}
 use Rattle.rb_meaning_types.specs.Programs.{check_program}
 use Rattle.rb_meaning_split.specs.Parts.{block_parts}
-use Rattle.rb_meaning_types.specs.Fits.{classes_of, IsRemoteValue, Fits, this_name, TableFits}
+use Rattle.rb_meaning_types.specs.Fits.{classes_of, IsRemoteValue, Fits, this_name}
 use Rattle.rb_meaning_code.specs.State.{Names, Local, bound}
 use Rattle.rb_meaning_code.specs.Remote.{batch_fuel}
-use Rattle.rb_meaning_code.specs.ScriptRun.{Ground, Vars, ended, run_steps, run_script}
+use Rattle.rb_meaning_code.specs.ScriptRun.{Ground}
 use Rattle.rb_meaning_flow.specs.declared.scopes.Role.{Role}
 use Rattle.rb_meaning_flow.specs.Facts.{Facts, facts_of}
 use Rattle.rb_meaning_flow.specs.Scopes as flow
@@ -33,10 +31,10 @@ use Rattle.rb_meaning_flow.specs.Scopes.{role_of, is_constant_role, is_portable_
 use Rattle.rb_meaning_flow.specs.Outermost.{Outermost, batch_sites, program_batches}
 use Rattle.rb_meaning.specs.Links.{IsTyped}
 use Rattle.rb_meaning.specs.Unsplit.{batch_at}
-use Rattle.rb_meaning_split.specs.Refs.{Ref, Root, Input, Refs}
-use Rattle.rb_meaning_split.specs.Inputs.{used_in, first_uses}
+use Rattle.rb_meaning_split.specs.Refs.{Ref, Root, Input}
+use Rattle.rb_meaning_split.specs.Inputs.{used_in}
 use Rattle.rb_meaning_split.specs.Client.{value_or_unit, input_values}
-use Rattle.rb_meaning_split.specs.Division.{numbered, first_refs, scope_of, inputs_of, division}
+use Rattle.rb_meaning_split.specs.Division.{numbered, first_refs, inputs_of, division}
 use Rattle.rb_types_keep.specs.Formed.{LawfulExprsAreFormed, LawfulStmtsAreFormed, LawfulClassesAreFormed}
 use Rattle.rb_types_keep.specs.Noted.{AreNotedStmts}
 use Rattle.rb_types_keep.specs.Operators.{ConditionsHold}
@@ -59,11 +57,9 @@ use Rattle.rb_unsplit_keeps.proofs.Carried.{Carry, carry_begins, carry_look}
 use Rattle.rb_unsplit_keeps.proofs.Walking.{Laws}
 use Rattle.rb_unsplit_keeps.proofs.Whole.{remote_named, declared, service_formed}
 use Rattle.rb_division_laws.specs.Fitting.{node_of, NodesFit}
-use Rattle.rb_division_laws.proofs.Lists.{each}
-use Rattle.rb_division_laws.proofs.Reading.{WalksOf}
-use Rattle.rb_division_laws.proofs.Used.{IsIn, AreIn, uses_in}
-use Rattle.rb_division_laws.proofs.Known.{else_first, first_more, resolve, resolved, AreOlder, SameNames, Match, names_match, HasValue, Knows}
-use Rattle.rb_division_laws.proofs.Outer.{IsOuter, AreOuter, batches_outer, opened_outer, IsConstantIn, block_constant, uses_so}
+use Rattle.rb_division_laws.proofs.Used.{IsIn, uses_in}
+use Rattle.rb_division_laws.proofs.Known.{else_first, first_more, resolved, AreOlder, SameNames, Match, names_match, HasValue, Knows}
+use Rattle.rb_division_laws.proofs.Outer.{AreOuter, batches_outer, opened_outer, IsConstantIn, block_constant, uses_so}
 use Rattle.rb_division_laws.proofs.Fitting.{block_walks}
 
 same_names : (is : List Interface) (vs : flow.Scope) (ws : typed.Scope) → Agree is vs ws → SameNames vs ws

@@ -1,10 +1,11 @@
 -- The positions of expressions in batches are none of those at which other code raises.
-use Rattle.std.proofs.Common.{◌≡◌, ◌⊎◌, inl, inr, refl, sym, ap, ◌∙◌, subst, ℕ, List, [], ◌∷◌, ◌++◌, Bool, true, false, nat_eq, Option, Some, None}
-use Rattle.std.specs.List.{AllByRecursion, Contains, IsDistinct, flat_map}
-use Rattle.rb_trees.specs.mirror.Code.{Expr, Exprs, Lit, Name, This, Unary, Binary, Field, Call, Index, New, Items, Taken, NoExprs, MoreExprs, expr_at, Stmt, Stmts, Val, Var, Assign, Run, Print, Throw, If, While, For, Try, Batch, NoStmts, MoreStmts, stmt_at}
+use Rattle.std.proofs.Common.{◌≡◌, ℕ, List, [], ◌∷◌, ◌++◌, false, nat_eq}
+use Rattle.std.specs.List.{AllByRecursion}
+use Rattle.rb_trees.specs.mirror.Code.{Stmt, Stmts, Val, Var, Assign, Run, Print, Throw, If, While, For, Try, Batch, NoStmts, MoreStmts}
 use Rattle.rb_trees.specs.mirror.Declarations.{Body, Method, Class, Program}
-use Rattle.rb_meaning_types.specs.Lawful.{IsLawful, expr_positions, exprs_positions, stmt_positions, stmts_positions, return_positions, body_positions, methods_positions, classes_positions}
-use Rattle.rb_unsplit_keeps.proofs.Positions.{apart_sym, Apart, Differ, differ_from, apart_left, apart_right, differ_left, differ_right, EachApart, differ_apart}
+use Rattle.rb_meaning_types.specs.Lawful.{IsLawful, expr_positions, stmt_positions, stmts_positions, return_positions, body_positions, methods_positions, classes_positions}
+use Rattle.rb_unsplit_keeps.proofs.Positions.{Apart, Differ, differ_from, apart_left, apart_right, differ_left, differ_right, EachApart, each_none, each_more, differ_apart}
+use Rattle.rb_unsplit_keeps.proofs.Found.{each_left, each_right}
 use Rattle.rb_division_laws.proofs.Lists.{all_both}
 
 -- ---- the two kinds of positions
@@ -119,22 +120,6 @@ apart_both q xs ys h g = all_both (λ y. nat_eq y q ≡ false) xs ys h g
 
 each_both : (R R' X : List ℕ) → EachApart R X → EachApart R' X → EachApart (R ++ R') X
 each_both R R' X h g = all_both (λ y. Apart y X) R R' h g
-
-each_left : (P Q X : List ℕ) → EachApart (P ++ Q) X → EachApart P X
-each_left [] Q X h = tt
-each_left (q ∷ P) Q X h = (h.0, each_left P Q X h.1)
-
-each_right : (P Q X : List ℕ) → EachApart (P ++ Q) X → EachApart Q X
-each_right [] Q X h = h
-each_right (q ∷ P) Q X h = each_right P Q X h.1
-
-each_none : (ys : List ℕ) → EachApart ys []
-each_none [] = tt
-each_none (y ∷ ys) = (tt, each_none ys)
-
-each_more : (x : ℕ) (ys xs : List ℕ) → Apart x ys → EachApart ys xs → EachApart ys (x ∷ xs)
-each_more x [] xs a h = tt
-each_more x (y ∷ ys) xs a h = ((apart_sym y x a.0, h.0), each_more x ys xs a.1 h.1)
 
 each_sym : (ys xs : List ℕ) → EachApart ys xs → EachApart xs ys
 each_sym [] xs h = each_none xs

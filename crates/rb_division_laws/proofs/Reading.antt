@@ -1,8 +1,8 @@
 -- How the walk of `fits` reads the nodes that runs give.
-use Rattle.std.proofs.Common.{◌≡◌, refl, subst, ap, sym, ◌∙◌, ℕ, zero, suc, ◌≤◌, List, [], ◌∷◌, Bool as Truth, true, false, cond, ◌||◌, arith, nat_eq, Option, Some, None, is_some, Result, Ok, Err}
+use Rattle.std.proofs.Common.{◌≡◌, refl, subst, ap, sym, ◌∙◌, ℕ, zero, suc, ◌≤◌, List, [], ◌∷◌, Bool as Truth, true, false, cond, arith, Option, Some, None, is_some, Result, Ok, Err}
 use Rattle.std.specs.List.{AllByRecursion}
 use Rattle.std.proofs.lemmas.Bool.{eq-eqb, ne_eqb}
-use Rattle.rb_trees.specs.Outcome.{◌>>=◌, known}
+use Rattle.rb_trees.specs.Outcome.{◌>>=◌}
 use Rattle.rb_trees.specs.declared.values.Value.{Value, out-Value}
 use Rattle.rb_trees.specs.declared.values.Fault.{Fault}
 use Rattle.rb_trees.specs.declared.services.Object.{Object}
@@ -11,10 +11,10 @@ use Rattle.rb_trees.specs.mirror.Forests as forest
 use Rattle.rb_trees.specs.mirror.Forests.{Node, Holds, Entries, NoEntries, MoreEntries, Nodes, NoNodes, MoreNodes}
 use Rattle.rb_trees.specs.mirror.Remainders as part
 use Rattle.rb_trees.specs.mirror.Remainders.{Part, Parts, NoParts, MoreParts}
-use Rattle.rb_meaning_bytes.specs.Fits.{form_has_kind, Walk, step_of, begun, are_left, is_left, leaves, behind, behind_value, is_at, faults_at, raised, raised_or, passed, demanded, went, value_read, values_read, row_read, with_spare, turns_read, turns_done, part_read, parts_read}
+use Rattle.rb_meaning_bytes.specs.Fits.{form_has_kind, Walk, step_of, begun, leaves, behind, raised, raised_or, passed, demanded, went, value_read, values_read, row_read, turns_read, turns_done, part_read, parts_read}
 use Rattle.rb_meaning_code.specs.Faults.{fuel_used}
 use Rattle.rb_meaning_code.specs.Remote.{Server}
-use Rattle.rb_meaning_code.specs.ScriptRun.{Ran, stopped, halted, in_front, with_entry, goes_on, Why, AllDone, InTurn, NoUnit, Turned, with_unit, turned_on, turns, after_turns, walked}
+use Rattle.rb_meaning_code.specs.ScriptRun.{Ran, stopped, in_front, with_entry, goes_on, Why, AllDone, InTurn, NoUnit, Turned, with_unit, turned_on, turns, after_turns}
 
 -- ---- walks
 

@@ -1,5 +1,5 @@
 -- What is sent in a batch faults remotely.
-use Rattle.std.proofs.Common.{◌≡◌, refl, sym, ap, ◌∙◌, subst, ℕ, List, [], ◌∷◌, ◌++◌, Bool as Truth, true, false, cond, ◌&&◌, option_map, All, Option, Some, None, is_some, Result, Ok, Err}
+use Rattle.std.proofs.Common.{◌≡◌, refl, sym, ap, ◌∙◌, subst, ℕ, List, [], ◌∷◌, Bool as Truth, true, false, cond, ◌&&◌, option_map, All, Option, Some, None, Result, Ok, Err}
 use Rattle.std.proofs.lemmas.Bool.{and_parts}
 use Rattle.std.proofs.lemmas.List.Elements.{All-nil, All-cons}
 use Rattle.rb_trees.specs.Outcome.{known}
@@ -14,34 +14,32 @@ use Rattle.rb_meaning_types.specs.Kinds as kind
 use Rattle.rb_meaning_types.specs.Kinds.{Kind}
 use Rattle.rb_meaning_types.specs.Names.{interface_named}
 use Rattle.rb_meaning_types.specs.Violations.{Checked, Placed, UnknownName}
-use Rattle.rb_meaning_types.specs.Declared.{Declarations, Context, of_program}
+use Rattle.rb_meaning_types.specs.Declared.{Context, of_program}
 use Rattle.rb_meaning_types.specs.Scopes as typed
 use Rattle.rb_meaning_types.specs.Literals.{literal_form, literal_kind}
-use Rattle.rb_meaning_types.specs.Expressions.{with_first, type_of, types_of}
+use Rattle.rb_meaning_types.specs.Expressions.{type_of, types_of}
 use Rattle.rb_meaning_types.specs.Members.{call_on, interface_call, receiver_interface}
 use Rattle.rb_meaning_types.specs.Notes.{type_at}
 use Rattle.rb_meaning_types.specs.Programs.{check_service}
 use Rattle.rb_meaning_types.specs.Fits.{IsRemoteValue, FitsNamed, Fits, TableFits}
-use Rattle.rb_meaning_code.specs.State.{Names, Local}
+use Rattle.rb_meaning_code.specs.State.{Local}
 use Rattle.rb_meaning_code.specs.Faults as faults
 use Rattle.rb_meaning_code.specs.Faults.{raises}
 use Rattle.rb_meaning_code.specs.Operators.{on_one, on_two, by_left}
-use Rattle.rb_meaning_code.specs.Dialogue.{Outcome, Gave, Faulted, Dialogue, Done, Ask, AskBatch, Run, Handler, handle, seq, on, next, end}
+use Rattle.rb_meaning_code.specs.Dialogue.{Outcome, Gave, Faulted, Run, Handler, handle, on, next, end}
 use Rattle.rb_meaning_code.specs.Calls.{Bodies, called}
 use Rattle.rb_meaning_code.specs.Expressions.{value_of, decided_or, evaluates, evaluates_all}
 use Rattle.rb_meaning_code.specs.Bodies.{bodies_of}
-use Rattle.rb_meaning_code.specs.Remote.{Server, Reply, Got, Stopped, invoke}
-use Rattle.rb_meaning_flow.specs.Facts.{Facts, facts_of, is_remote, is_object}
+use Rattle.rb_meaning_code.specs.Remote.{Reply, Got, Stopped, invoke}
+use Rattle.rb_meaning_flow.specs.Facts.{Facts, facts_of, is_remote}
 use Rattle.rb_meaning_flow.specs.Scopes.{Scope}
 use Rattle.rb_meaning_flow.specs.Portable.{portable, all_portable}
 use Rattle.rb_meaning.specs.CallKinds as numbers
 use Rattle.rb_meaning.specs.RemoteAnswers.{answer_of}
-use Rattle.rb_types_keep.specs.Kept.{IsBounded, IsOwnFault, Fair}
+use Rattle.rb_types_keep.specs.Kept.{IsBounded, Fair}
 use Rattle.rb_types_keep.specs.Formed.{IsFormedExpr, AreFormedExprs, AreFormed}
 use Rattle.rb_types_keep.specs.Noted.{IsNotedExpr, AreNotedExprs}
-use Rattle.rb_types_keep.specs.Operators.{IfDecided, OneKeeps, TwoKeep, LeftKeeps}
-use Rattle.rb_types_keep.specs.Far.{FittingAreBounded, RemoteCallsGiveFar}
-use Rattle.rb_types_keep.specs.Remote.{CallsKeep}
+use Rattle.rb_types_keep.specs.Operators.{IfDecided}
 use Rattle.rb_types_keep.specs.Code.{AreTyped}
 use Rattle.rb_types_keep.proofs.Checks.{bind_ok, known_ok, placed_ok}
 use Rattle.rb_types_keep.proofs.Exprs.{literal_fits}
@@ -49,26 +47,19 @@ use Rattle.rb_unsplit_keeps.proofs.TypeFacts.{kind_here, object_fact}
 use Rattle.rb_unsplit_keeps.proofs.Handling.{Fine, invoke_fine}
 use Rattle.std.specs.Str.{bytes_eq}
 use Rattle.rb_trees.specs.Named.{first_named, lookup}
-use Rattle.rb_trees.specs.declared.outcomes.Raised.{Raised}
 use Rattle.rb_meaning_types.specs.Fits.{classes_of, this_name, frame_scope, Frame, NamesFit}
-use Rattle.rb_meaning_types.specs.Lawful.{IsLawful, expr_positions, exprs_positions}
-use Rattle.rb_meaning_types.specs.Programs.{check_program}
+use Rattle.rb_meaning_types.specs.Lawful.{expr_positions, exprs_positions}
 use Rattle.rb_meaning.specs.State.{Outside}
-use Rattle.rb_meaning.specs.Unsplit.{stands_remote, with_answer, answers_in_batch, in_batch}
+use Rattle.rb_meaning.specs.Unsplit.{stands_remote, with_answer, in_batch}
 use Rattle.rb_marks.specs.Laws.{EachHasItsMark}
 use Rattle.rb_types_keep.specs.Ends.{Grown, Place, context, FitsPlace}
 use Rattle.rb_types_keep.specs.Formed.{LawfulClassesAreFormed}
 use Rattle.rb_types_keep.proofs.Values.{fits_more}
 use Rattle.rb_unsplit_keeps.proofs.Programs.{program_typed}
-use Rattle.rb_unsplit_keeps.proofs.Walking.{Laws, rest_typed, object_named, there}
-use Rattle.rb_division_laws.specs.Faults.{IsSent, EachFault, IsRemote, SentFaultsAreRemote}
+use Rattle.rb_unsplit_keeps.proofs.Walking.{Laws, handle_seq, rest_typed, object_named, there}
+use Rattle.rb_division_laws.specs.Faults.{EachFault, IsRemote, SentFaultsAreRemote}
 use Rattle.rb_division_laws.proofs.Lists.{all_left, all_right}
 use Rattle.rb_division_laws.proofs.Marked.{EachMarked, site_marked}
-
-handle_seq : {S A B : Type 0} (h : Handler S) (run : Dialogue A) (k : A → Dialogue B) (s : S) → handle h (seq run k) s ≡ handle h (k (handle h run s).0) (handle h run s).1
-handle_seq h (Done a) k s = refl
-handle_seq h (Ask q go) k s = handle_seq h (go (h.answer s q).0) k (h.answer s q).1
-handle_seq h (AskBatch at l go) k s = handle_seq h (go (h.batch s at l).0) k (h.batch s at l).1
 
 -- ---- names
 

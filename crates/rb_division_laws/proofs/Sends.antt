@@ -1,42 +1,37 @@
 -- A portable expression of a batch has a value of its type in the script, and the table keeps fitting.
-use Rattle.std.proofs.Common.{◌≡◌, refl, sym, ap, ◌∙◌, subst, ℕ, List, [], ◌∷◌, Bool as Truth, true, false, cond, ◌&&◌, All, Option, Some, None, is_some, Result, Ok, Err}
+use Rattle.std.proofs.Common.{◌≡◌, refl, sym, ap, ◌∙◌, subst, ℕ, List, [], ◌∷◌, Bool as Truth, true, false, cond, ◌&&◌, All, Option, Some, None, Result, Ok, Err}
 use Rattle.std.proofs.lemmas.Bool.{and_parts}
 use Rattle.std.proofs.lemmas.List.Elements.{All-nil, All-cons}
 use Rattle.rb_trees.specs.Outcome.{known}
 use Rattle.rb_trees.specs.declared.values.Value.{Value}
-use Rattle.rb_trees.specs.declared.values.Value.TheOpen.{Value-F}
 use Rattle.rb_trees.specs.declared.values.Value.TheViews.{out-Value}
 use Rattle.rb_trees.specs.declared.values.Fault.{Fault}
 use Rattle.rb_trees.specs.mirror.Code.{Expr, Exprs, Lit, Name, This, Unary, Binary, Field, Call, Index, New, Items, Taken, NoExprs, MoreExprs, expr_at}
 use Rattle.rb_trees.specs.mirror.Declarations.{Program, Interface}
 use Rattle.rb_trees.specs.mirror.Services.{Service}
-use Rattle.rb_meaning_types.specs.Kinds as kind
 use Rattle.rb_meaning_types.specs.Kinds.{Kind}
 use Rattle.rb_meaning_types.specs.Names.{interface_named}
 use Rattle.rb_meaning_types.specs.Violations.{Checked, Placed, UnknownName}
-use Rattle.rb_meaning_types.specs.Declared.{Declarations, Context, of_program}
+use Rattle.rb_meaning_types.specs.Declared.{Context, of_program}
 use Rattle.rb_meaning_types.specs.Scopes as typed
 use Rattle.rb_meaning_types.specs.Literals.{literal_form, literal_kind}
-use Rattle.rb_meaning_types.specs.Expressions.{with_first, type_of, types_of}
+use Rattle.rb_meaning_types.specs.Expressions.{type_of, types_of}
 use Rattle.rb_meaning_types.specs.Members.{call_on, interface_call, receiver_interface}
 use Rattle.rb_meaning_types.specs.Notes.{type_at}
 use Rattle.rb_meaning_types.specs.Programs.{check_service}
 use Rattle.rb_meaning_types.specs.Fits.{IsRemoteValue, FitsNamed, Fits, TableFits}
-use Rattle.rb_meaning_code.specs.State.{Names, Local}
 use Rattle.rb_meaning_code.specs.Faults as faults
 use Rattle.rb_meaning_code.specs.Faults.{raises}
 use Rattle.rb_meaning_code.specs.Operators.{on_one, on_two, by_left}
 use Rattle.rb_meaning_code.specs.Remote.{Server, Reply, Got, Stopped, invoke}
-use Rattle.rb_meaning_flow.specs.Facts.{Facts, facts_of, is_remote, is_object}
+use Rattle.rb_meaning_flow.specs.Facts.{Facts, facts_of, is_remote}
 use Rattle.rb_meaning_flow.specs.Scopes.{Scope}
 use Rattle.rb_meaning_flow.specs.Portable.{portable, all_portable}
 use Rattle.rb_meaning.specs.CallKinds as numbers
-use Rattle.rb_types_keep.specs.Kept.{IsBounded, IsOwnFault, Fair}
+use Rattle.rb_types_keep.specs.Kept.{IsBounded, Fair}
 use Rattle.rb_types_keep.specs.Formed.{IsFormedExpr, AreFormedExprs, AreFormed}
 use Rattle.rb_types_keep.specs.Noted.{IsNotedExpr, AreNotedExprs}
-use Rattle.rb_types_keep.specs.Operators.{IfDecided, OneKeeps, TwoKeep, LeftKeeps}
-use Rattle.rb_types_keep.specs.Far.{FittingAreBounded, RemoteCallsGiveFar}
-use Rattle.rb_types_keep.specs.Remote.{CallsKeep}
+use Rattle.rb_types_keep.specs.Operators.{IfDecided}
 use Rattle.rb_types_keep.specs.Code.{AreTyped}
 use Rattle.rb_types_keep.proofs.Checks.{bind_ok, known_ok, placed_ok}
 use Rattle.rb_types_keep.proofs.Exprs.{literal_fits}

@@ -1,26 +1,21 @@
 -- Positions that aren't marked Remote: those of all code but the Remote expressions of batches.
-use Rattle.std.proofs.Common.{◌≡◌, ◌⊎◌, inl, inr, refl, sym, ap, ◌∙◌, subst, ℕ, List, [], ◌∷◌, ◌++◌, map, Bool, true, false, cond, ◌&&◌, ◌||◌, nat_eq, Option, Some, None}
-use Rattle.std.specs.List.{AllByRecursion, Contains, flat_map, list_any}
-use Rattle.std.specs.FinMap.{get}
+use Rattle.std.proofs.Common.{◌≡◌, sym, ap, ◌∙◌, ℕ, List, [], ◌∷◌, ◌++◌, map, true, false, nat_eq}
+use Rattle.std.specs.List.{AllByRecursion, Contains, flat_map}
 use Rattle.std.proofs.lemmas.Bool.{eq-eqb}
-use Rattle.std.proofs.lemmas.List.Elements.{Contains-append_left, Contains-append_right, Contains-append_cases}
-use Rattle.rb_trees.specs.declared.marks.Mark.{Mark}
-use Rattle.rb_trees.specs.mirror.Code.{Expr, Exprs, Lit, Name, This, Unary, Binary, Field, Call, Index, New, Items, Taken, NoExprs, MoreExprs, expr_at, Stmt, Stmts, Val, Var, Assign, Run, Print, Throw, If, While, For, Try, Batch, NoStmts, MoreStmts, stmt_at}
-use Rattle.rb_trees.specs.mirror.Declarations.{Body, Method, Class, Program}
+use Rattle.rb_trees.specs.mirror.Code.{Expr, Exprs, Lit, Name, This, Unary, Binary, Field, Call, Index, New, Items, Taken, NoExprs, MoreExprs, expr_at, Stmt, Stmts, Val, Var, Assign, Run, Print, Throw, If, While, For, Try, Batch, NoStmts, MoreStmts}
+use Rattle.rb_trees.specs.mirror.Declarations.{Method, Class, Program}
 use Rattle.rb_meaning_types.specs.Lawful.{IsLawful, expr_positions, exprs_positions}
 use Rattle.rb_meaning_flow.specs.declared.scopes.Role.{Role}
-use Rattle.rb_meaning_flow.specs.Facts.{Facts, facts_of, over_rows}
+use Rattle.rb_meaning_flow.specs.Facts.{Facts, facts_of}
 use Rattle.rb_meaning_flow.specs.Scopes.{Scope, with_variable, opened}
-use Rattle.rb_meaning_flow.specs.Portable.{portable, holds_call, branches_hold, is_constant}
-use Rattle.rb_meaning_flow.specs.Marks.{is_portable_call, is_remote_whole, is_remote_at, mark_at}
-use Rattle.rb_meaning_flow.specs.Sites.{Around, Branch, WhileTurn, Turn, InTry, InBatch, is_script_place, StmtSite, Over, ExprSite, site, under, right_under, expr_sites, exprs_sites, own, all_sites, turn_role, scope_after, stmt_site, sites, block_sites, exprs_of}
+use Rattle.rb_meaning_flow.specs.Sites.{Around, Branch, WhileTurn, Turn, InTry, InBatch, StmtSite, Over, ExprSite, under, right_under, expr_sites, exprs_sites, own, all_sites, turn_role, scope_after, stmt_site, sites, block_sites, exprs_of}
 use Rattle.rb_meaning_flow.specs.Outermost.{Outermost, batch_sites, outer_role, outer_after, outermost, outermost_in, parameters, method_batches, class_batches, program_batches}
-use Rattle.rb_meaning_flow.specs.Programs.{sites_of, program_marks}
+use Rattle.rb_meaning_flow.specs.Programs.{sites_of}
 use Rattle.rb_meaning.specs.Unsplit.{is_remote_mark, stands_remote}
-use Rattle.rb_marks.specs.Laws.{InBatches, EachHasItsMark, NoMarkElsewhere}
+use Rattle.rb_marks.specs.Laws.{InBatches, NoMarkElsewhere}
 use Rattle.rb_unsplit_keeps.proofs.Positions.{Apart, EachApart, apart_left, apart_right}
-use Rattle.rb_division_laws.proofs.Lists.{each, all_both, all_left, all_right, all_given}
-use Rattle.rb_division_laws.proofs.Parted.{stmt_ats, stmts_ats, expr_ats, exprs_ats, free_at, free_in, batch_at, batch_in, free_body, free_methods, free_classes, batch_methods, batch_classes, free_ats, batch_ats, program_parted}
+use Rattle.rb_division_laws.proofs.Lists.{each, all_both, all_left, all_right}
+use Rattle.rb_division_laws.proofs.Parted.{stmts_ats, expr_ats, exprs_ats, free_at, free_in, batch_at, batch_in, free_body, free_methods, free_classes, batch_methods, batch_classes, free_ats, batch_ats, program_parted}
 
 -- ---- no expression of a batch stands at a position that is none of theirs
 
@@ -39,9 +34,11 @@ mutual
   other_expr q st above (Name at name) h = h
   other_expr q st above (This at) h = h
   other_expr q st above (Unary at op a) h = (h.0, other_expr q st (under (Unary at op a) above) a h.1)
-  other_expr q st above (Binary at op a b) h =
-      (h.0, other_two q (expr_sites st (under (Binary at op a b) above) a) (expr_sites st (right_under (Binary at op a b) above) b)
-      (other_expr q st (under (Binary at op a b) above) a (apart_left q (expr_positions a) (expr_positions b) h.1)) (other_expr q st (right_under (Binary at op a b) above) b (apart_right q (expr_positions a) (expr_positions b) h.1)))
+  other_expr q st above (Binary at op a b) h = (
+    h.0,
+    other_two q (expr_sites st (under (Binary at op a b) above) a) (expr_sites st (right_under (Binary at op a b) above) b)
+        (other_expr q st (under (Binary at op a b) above) a (apart_left q (expr_positions a) (expr_positions b) h.1)) (other_expr q st (right_under (Binary at op a b) above) b (apart_right q (expr_positions a) (expr_positions b) h.1)),
+  )
   other_expr q st above (Field at a name) h = (h.0, other_expr q st (under (Field at a name) above) a h.1)
   other_expr q st above (Call at a method args) h =
       let o = under (Call at a method args) above in
@@ -77,18 +74,23 @@ module _ (f : Facts) (q : ℕ) where
     other_sites around vs (Throw at e) h = (one_other (stmt_site around vs (Throw at e)) e h, tt)
     other_sites around vs (If at c a b) h =
         let front = apart_left q (expr_positions c ++ exprs_ats a) (exprs_ats b) h in
-        let frame = Branch at vs c a b ∷ around in
-        (one_other (stmt_site around vs (If at c a b)) c (apart_left q (expr_positions c) (exprs_ats a) front), all_both (Other q) (block_sites f frame vs a) (block_sites f frame vs b)
-        (other_block frame vs a (apart_right q (expr_positions c) (exprs_ats a) front)) (other_block frame vs b (apart_right q (expr_positions c ++ exprs_ats a) (exprs_ats b) h)))
+        let frame = Branch at vs c a b ∷ around in (
+          one_other (stmt_site around vs (If at c a b)) c (apart_left q (expr_positions c) (exprs_ats a) front),
+          all_both (Other q) (block_sites f frame vs a) (block_sites f frame vs b)
+              (other_block frame vs a (apart_right q (expr_positions c) (exprs_ats a) front)) (other_block frame vs b (apart_right q (expr_positions c ++ exprs_ats a) (exprs_ats b) h)),
+        )
     other_sites around vs (While at c a) h =
         (one_other (stmt_site around vs (While at c a)) c (apart_left q (expr_positions c) (exprs_ats a) h), other_block (WhileTurn at vs c ∷ around) vs a (apart_right q (expr_positions c) (exprs_ats a) h))
-    other_sites around vs (For at name e a) h =
-        (one_other (stmt_site around vs (For at name e a)) e (apart_left q (expr_positions e) (exprs_ats a) h),
-        other_block (Turn at vs e ∷ around) (with_variable vs name (turn_role f e) at) a (apart_right q (expr_positions e) (exprs_ats a) h))
+    other_sites around vs (For at name e a) h = (
+      one_other (stmt_site around vs (For at name e a)) e (apart_left q (expr_positions e) (exprs_ats a) h),
+      other_block (Turn at vs e ∷ around) (with_variable vs name (turn_role f e) at) a (apart_right q (expr_positions e) (exprs_ats a) h),
+    )
     other_sites around vs (Try at a name b) h =
-        let frame = InTry at vs a name b ∷ around in
-        (tt, all_both (Other q) (block_sites f frame vs a) (block_sites f frame (with_variable vs name Role.Plain at) b)
-        (other_block frame vs a (apart_left q (exprs_ats a) (exprs_ats b) h)) (other_block frame (with_variable vs name Role.Plain at) b (apart_right q (exprs_ats a) (exprs_ats b) h)))
+        let frame = InTry at vs a name b ∷ around in (
+          tt,
+          all_both (Other q) (block_sites f frame vs a) (block_sites f frame (with_variable vs name Role.Plain at) b)
+              (other_block frame vs a (apart_left q (exprs_ats a) (exprs_ats b) h)) (other_block frame (with_variable vs name Role.Plain at) b (apart_right q (exprs_ats a) (exprs_ats b) h)),
+        )
     other_sites around vs (Batch at interface root a) h = (tt, other_block (InBatch at ∷ around) (with_variable vs root Role.Plain at) a h)
 
     other_block : (around : List Around) (vs : Scope) (ss : Stmts) → Apart q (exprs_ats ss) → Others (block_sites f around vs ss)
@@ -173,20 +175,20 @@ free_unmarked law p lawful = by (free_ats p) (program_parted p lawful)
 -- ---- the statements of a batch
 
 module _ (p : Program) where
-  abbrev f' : Facts
-  f' = facts_of p
+  abbrev facts : Facts
+  facts = facts_of p
 
-  un : (xs ys : List ℕ) → Unmarked p (xs ++ ys) → Unmarked p xs
-  un xs ys h = all_left (λ q. stands_remote p q ≡ false) xs ys h
+  unmarked_left : (xs ys : List ℕ) → Unmarked p (xs ++ ys) → Unmarked p xs
+  unmarked_left xs ys h = all_left (λ q. stands_remote p q ≡ false) xs ys h
 
-  ur : (xs ys : List ℕ) → Unmarked p (xs ++ ys) → Unmarked p ys
-  ur xs ys h = all_right (λ q. stands_remote p q ≡ false) xs ys h
+  unmarked_right : (xs ys : List ℕ) → Unmarked p (xs ++ ys) → Unmarked p ys
+  unmarked_right xs ys h = all_right (λ q. stands_remote p q ≡ false) xs ys h
 
   abbrev Block : Outermost → Type 0
   Block b = Unmarked p (stmts_ats b.block)
 
   mutual
-    stmt_block : (vs : Scope) (s : Stmt) → Unmarked p (free_at s) → AllByRecursion Block (outermost f' vs s)
+    stmt_block : (vs : Scope) (s : Stmt) → Unmarked p (free_at s) → AllByRecursion Block (outermost facts vs s)
     stmt_block vs (Val at name e) h = tt
     stmt_block vs (Var at name e) h = tt
     stmt_block vs (Assign at a b) h = tt
@@ -194,31 +196,31 @@ module _ (p : Program) where
     stmt_block vs (Print at e) h = tt
     stmt_block vs (Throw at e) h = tt
     stmt_block vs (If at c a b) h =
-        let front = un (expr_positions c ++ free_in a) (free_in b) h.1 in
-        all_both Block (outermost_in f' vs a) (outermost_in f' vs b) (stmts_block vs a (ur (expr_positions c) (free_in a) front)) (stmts_block vs b (ur (expr_positions c ++ free_in a) (free_in b) h.1))
-    stmt_block vs (While at c a) h = stmts_block vs a (ur (expr_positions c) (free_in a) h.1)
-    stmt_block vs (For at name e a) h = stmts_block (with_variable vs name (outer_role (f'.items (expr_at e))) at) a (ur (expr_positions e) (free_in a) h.1)
+        let front = unmarked_left (expr_positions c ++ free_in a) (free_in b) h.1 in
+        all_both Block (outermost_in facts vs a) (outermost_in facts vs b) (stmts_block vs a (unmarked_right (expr_positions c) (free_in a) front)) (stmts_block vs b (unmarked_right (expr_positions c ++ free_in a) (free_in b) h.1))
+    stmt_block vs (While at c a) h = stmts_block vs a (unmarked_right (expr_positions c) (free_in a) h.1)
+    stmt_block vs (For at name e a) h = stmts_block (with_variable vs name (outer_role (facts.items (expr_at e))) at) a (unmarked_right (expr_positions e) (free_in a) h.1)
     stmt_block vs (Try at a name b) h =
-        all_both Block (outermost_in f' vs a) (outermost_in f' (with_variable vs name (outer_role true) at) b) (stmts_block vs a (un (free_in a) (free_in b) h.1)) (stmts_block (with_variable vs name (outer_role true) at) b (ur (free_in a) (free_in b) h.1))
+        all_both Block (outermost_in facts vs a) (outermost_in facts (with_variable vs name (outer_role true) at) b) (stmts_block vs a (unmarked_left (free_in a) (free_in b) h.1)) (stmts_block (with_variable vs name (outer_role true) at) b (unmarked_right (free_in a) (free_in b) h.1))
     stmt_block vs (Batch at interface root a) h = (h.1, tt)
 
-    stmts_block : (vs : Scope) (ss : Stmts) → Unmarked p (free_in ss) → AllByRecursion Block (outermost_in f' vs ss)
+    stmts_block : (vs : Scope) (ss : Stmts) → Unmarked p (free_in ss) → AllByRecursion Block (outermost_in facts vs ss)
     stmts_block vs NoStmts h = tt
-    stmts_block vs (MoreStmts s ss) h = all_both Block (outermost f' vs s) (outermost_in f' (outer_after f' vs s) ss) (stmt_block vs s (un (free_at s) (free_in ss) h)) (stmts_block (outer_after f' vs s) ss (ur (free_at s) (free_in ss) h))
+    stmts_block vs (MoreStmts s ss) h = all_both Block (outermost facts vs s) (outermost_in facts (outer_after facts vs s) ss) (stmt_block vs s (unmarked_left (free_at s) (free_in ss) h)) (stmts_block (outer_after facts vs s) ss (unmarked_right (free_at s) (free_in ss) h))
 
-  methods_block : (ms : List Method) → Unmarked p (free_methods ms) → AllByRecursion Block (flat_map (method_batches f') ms)
+  methods_block : (ms : List Method) → Unmarked p (free_methods ms) → AllByRecursion Block (flat_map (method_batches facts) ms)
   methods_block [] h = tt
   methods_block (m ∷ ms) h =
-      all_both Block (method_batches f' m) (flat_map (method_batches f') ms)
-      (stmts_block (parameters m.signature.params) m.body.statements (un (free_in m.body.statements) _ (un (free_body m.body) (free_methods ms) h))) (methods_block ms (ur (free_body m.body) (free_methods ms) h))
+      all_both Block (method_batches facts m) (flat_map (method_batches facts) ms)
+      (stmts_block (parameters m.signature.params) m.body.statements (unmarked_left (free_in m.body.statements) _ (unmarked_left (free_body m.body) (free_methods ms) h))) (methods_block ms (unmarked_right (free_body m.body) (free_methods ms) h))
 
-  classes_block : (cs : List Class) → Unmarked p (free_classes cs) → AllByRecursion Block (flat_map (class_batches f') cs)
+  classes_block : (cs : List Class) → Unmarked p (free_classes cs) → AllByRecursion Block (flat_map (class_batches facts) cs)
   classes_block [] h = tt
-  classes_block (c ∷ cs) h = all_both Block (class_batches f' c) (flat_map (class_batches f') cs) (methods_block c.methods (un (free_methods c.methods) (free_classes cs) h)) (classes_block cs (ur (free_methods c.methods) (free_classes cs) h))
+  classes_block (c ∷ cs) h = all_both Block (class_batches facts c) (flat_map (class_batches facts) cs) (methods_block c.methods (unmarked_left (free_methods c.methods) (free_classes cs) h)) (classes_block cs (unmarked_right (free_methods c.methods) (free_classes cs) h))
 
   -- the statements of a batch stand at such positions
-  pub block_unmarked : Unmarked p (free_ats p) → (b : Outermost) → Contains (program_batches f' p) b → Unmarked p (stmts_ats b.block)
+  pub block_unmarked : Unmarked p (free_ats p) → (b : Outermost) → Contains (program_batches facts p) b → Unmarked p (stmts_ats b.block)
   block_unmarked h b is =
-      each Block (program_batches f' p) b
-      (all_both Block (flat_map (class_batches f') p.classes) (outermost_in f' [] p.body.statements) (classes_block p.classes (un (free_classes p.classes) (free_body p.body) h))
-      (stmts_block [] p.body.statements (un (free_in p.body.statements) _ (ur (free_classes p.classes) (free_body p.body) h)))) is
+      each Block (program_batches facts p) b
+      (all_both Block (flat_map (class_batches facts) p.classes) (outermost_in facts [] p.body.statements) (classes_block p.classes (unmarked_left (free_classes p.classes) (free_body p.body) h))
+      (stmts_block [] p.body.statements (unmarked_left (free_in p.body.statements) _ (unmarked_right (free_classes p.classes) (free_body p.body) h)))) is

@@ -1,5 +1,5 @@
 -- Laws of faults: where they stand, and on which side.
-use Rattle.std.specs.Prelude.{◌≡◌, ℕ, List, Bool, true, false, Ok}
+use Rattle.std.specs.Prelude.{◌≡◌, ℕ, List, [], ◌++◌, cond, true, false, Ok}
 use Rattle.std.specs.List.{Contains}
 use Rattle.rb_trees.specs.declared.outcomes.Raised.{Raised}
 use Rattle.rb_trees.specs.mirror.Declarations.{Program}
@@ -16,10 +16,12 @@ use Rattle.rb_meaning_code.specs.Dialogue.{Outcome, Gave, Faulted, handle}
 use Rattle.rb_meaning_code.specs.Expressions.{evaluates}
 use Rattle.rb_meaning_code.specs.Statements.{performs}
 use Rattle.rb_meaning_code.specs.Bodies.{bodies_of}
-use Rattle.rb_meaning_flow.specs.Facts.{facts_of}
+use Rattle.rb_meaning_flow.specs.Facts.{Facts, facts_of}
 use Rattle.rb_meaning_flow.specs.Portable.{portable}
 use Rattle.rb_meaning_flow.specs.Marks.{is_remote_whole, is_remote_at}
-use Rattle.rb_meaning_flow.specs.Sites.{StmtSite, ExprSite}
+use Rattle.rb_meaning_flow.specs.Sites.{StmtSite, Over, ExprSite, site, own}
+use Rattle.rb_meaning.specs.RemoteExprs.{remote_of}
+use Rattle.rb_trees.specs.mirror.Code.{Expr}
 use Rattle.rb_meaning_flow.specs.Outermost.{Outermost, batch_sites, program_batches}
 use Rattle.rb_meaning.specs.State.{Outside}
 use Rattle.rb_meaning.specs.Unsplit.{stands_remote, in_batch, with_side}
@@ -40,6 +42,22 @@ pub record IsSent (p : Program) (s : ExprSite) (place : Place) : Type 0 where
   pub typed : type_of (context (of_program p) place) place.scope s.expr ≡ Ok kind
   pub noted : IsNotedExpr (type_at p) (context (of_program p) place) place.scope s.expr
   pub formed : IsFormedExpr s.expr
+
+-- What the service evaluates of a statement of a batch: its remote expressions; and a carried condition, or what a loop over
+-- rows goes over, as a whole.
+abbrev pub sent_of : Facts → StmtSite → List Expr
+sent_of f s = remote_of f s.scope s.stmt ++ cond (is_remote_whole f s.around s.stmt) (own s.stmt) []
+
+-- An expression of a statement that is Remote where it stands.
+pub record StandsRemote (p : Program) (s : StmtSite) (e : Expr) : Type 0 where
+  pub above : List Over
+  pub stands : InBatches p (site s above e)
+  pub remote : is_remote_at (facts_of p) (site s above e) ≡ true
+
+-- What the service evaluates of each statement of a batch is Remote there.
+abbrev pub SentIsRemote : Type 0
+SentIsRemote = (p : Program) (b : Outermost) → Contains (program_batches (facts_of p) p) b → (s : StmtSite) → Contains (batch_sites (facts_of p) b) s
+    → (e : Expr) → Contains (sent_of (facts_of p) s) e → StandsRemote p s e
 
 -- each fault by which a run may have ended is so
 abbrev pub EachFault : {A : Type 0} → (Raised → Type 0) → Outcome A → Type 0

@@ -3,7 +3,7 @@
 //! There is no code here; the laws are functions that do nothing.
 #![tactic(auto)]
 
-ghost use Rattle.rb_division_laws.specs.Faults.{OwnFaultsStandElsewhere, SentFaultsAreRemote};
+ghost use Rattle.rb_division_laws.specs.Faults.{OwnFaultsStandElsewhere, SentFaultsAreRemote, SentIsRemote};
 ghost use Rattle.rb_division_laws.specs.Fitting.{NodesFit};
 ghost use Rattle.rb_division_laws.specs.Sendable.{DividedCanBeSent};
 
@@ -38,6 +38,11 @@ pub fn nodes_of_scripts_fit()
     admitted_programs_send_only_portable_parts();
     lawful_programs_are_noted();
 }
+
+/// What the service evaluates of a statement of a batch is Remote where it stands.
+pub fn sent_expressions_are_remote()
+    ensures { SentIsRemote }
+{}
 
 /// In a lawful, typed program and on a typed service, each fault of what is sent in a batch is remote: the server answered
 /// it, or it stands at a position that is marked Remote.

@@ -60,7 +60,7 @@ pub record Laws : Type 0 where
   pub sent : FittingAreBounded
   pub given : RemoteCallsGiveFar
 
-handle_seq : {S A B : Type 0} (h : Handler S) (run : Dialogue A) (k : A → Dialogue B) (s : S) → handle h (seq run k) s ≡ handle h (k (handle h run s).0) (handle h run s).1
+pub handle_seq : {S A B : Type 0} (h : Handler S) (run : Dialogue A) (k : A → Dialogue B) (s : S) → handle h (seq run k) s ≡ handle h (k (handle h run s).0) (handle h run s).1
 handle_seq h (Done a) k s = refl
 handle_seq h (Ask q go) k s = handle_seq h (go (h.answer s q).0) k (h.answer s q).1
 handle_seq h (AskBatch at l go) k s = handle_seq h (go (h.batch s at l).0) k (h.batch s at l).1
