@@ -7,9 +7,11 @@ use Rattle.rb_meaning_types.specs.Lawful.{stmt_depth, stmts_depth, IsLawful, IsL
 use Rattle.rb_meaning_flow.specs.Facts.{Facts, facts_of}
 use Rattle.rb_meaning_flow.specs.Scopes.{Scope, with_variable}
 use Rattle.rb_meaning_flow.specs.Outermost.{Outermost, outer_role, outer_after, outermost, outermost_in, parameters, method_batches, class_batches, program_batches}
-use Rattle.rb_division_laws.specs.Sendable.{IsPlace, HasPlaces}
+use Rattle.rb_division_laws.specs.Sendable.{HasPlaces}
+use Rattle.rb_types_keep.specs.Scripts.{IsPlace}
+use Rattle.rb_unsplit_keeps.proofs.Standing.{block_lawful}
 use Rattle.rb_division_laws.proofs.Lists.{each, all_both, all_left, all_right, recursively}
-use Rattle.rb_division_laws.proofs.Carriable.{StmtCarriable, StmtsCarriable, Places, block_lawful, lawful_stmts}
+use Rattle.rb_division_laws.proofs.Carriable.{StmtCarriable, StmtsCarriable, Places, lawful_stmts}
 
 -- a batch whose block can be carried, within at most 63 blocks
 abbrev pub BatchCarriable : Outermost → Type 0

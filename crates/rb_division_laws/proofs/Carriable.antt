@@ -3,12 +3,13 @@ use Rattle.std.proofs.Common.{ℕ, ◌≤◌, List, [], ◌∷◌, ◌++◌, ari
 use Rattle.std.specs.List.{AllByRecursion, flat_map}
 use Rattle.rb_trees.specs.Spelling.{IsName}
 use Rattle.rb_trees.specs.mirror.Code.{Expr, Exprs, Lit, Name, This, Unary, Binary, Field, Call, Index, New, Items, Taken, NoExprs, MoreExprs, expr_at, Stmt, Stmts, Val, Var, Assign, Run, Print, Throw, If, While, For, Try, Batch, NoStmts, MoreStmts}
-use Rattle.rb_meaning_types.specs.Lawful.{IsLiteral, IsLawfulExpr, AreLawfulExprs, expr_depth, exprs_depth, IsLawfulStmt, AreLawfulStmts, IsLawfulBlock, IsShallowStmt, AreShallowStmts, expr_positions, exprs_positions, stmt_positions, stmts_positions}
+use Rattle.rb_meaning_types.specs.Lawful.{IsLiteral, IsLawfulExpr, AreLawfulExprs, expr_depth, exprs_depth, IsLawfulStmt, AreLawfulStmts, IsShallowStmt, AreShallowStmts, expr_positions, exprs_positions, stmt_positions, stmts_positions}
 use Rattle.rb_meaning_flow.specs.Facts.{Facts}
 use Rattle.rb_meaning_flow.specs.Scopes.{Scope}
 use Rattle.rb_meaning_flow.specs.Marks.{is_portable_call}
 use Rattle.rb_meaning.specs.RemoteExprs.{whole_or, remote_in, all_remote_in, remote_of}
-use Rattle.rb_division_laws.specs.Sendable.{IsPlace}
+use Rattle.rb_types_keep.specs.Scripts.{IsPlace}
+use Rattle.rb_unsplit_keeps.proofs.Standing.{block_lawful}
 use Rattle.rb_division_laws.proofs.Lists.{all_both, all_left, all_right, cond_is}
 
 abbrev mutual
@@ -82,10 +83,6 @@ mutual
   pub lawful_exprs : (es : Exprs) → AreLawfulExprs es → Places (exprs_positions es) → AllCarriable es
   lawful_exprs NoExprs l p = tt
   lawful_exprs (MoreExprs e es) l p = (lawful_expr e l.0 (left (expr_positions e) (exprs_positions es) p), lawful_exprs es l.1 (right (expr_positions e) (exprs_positions es) p))
-
-pub block_lawful : (ss : Stmts) → IsLawfulBlock ss → AreLawfulStmts ss
-block_lawful NoStmts h = tt
-block_lawful (MoreStmts s ss) h = (h.0, h.1)
 
 mutual
   pub lawful_stmt : (s : Stmt) → IsLawfulStmt s → IsShallowStmt s → Places (stmt_positions s) → StmtCarriable s

@@ -100,11 +100,11 @@ module _ (inputs : ℕ) where
     x = facts_of p
 
     module _ (refs : Refs) (bound : List ℕ) (step : ℕ) (there : AreThere bound refs) where
-      abbrev NoneOf : ℕ → SExpr → Type 0
-      NoneOf depth e = expr_refusals inputs bound step depth e ≡ []
+      abbrev HasNone : ℕ → SExpr → Type 0
+      HasNone depth e = expr_refusals inputs bound step depth e ≡ []
 
       mutual
-        expr_valid : (e : Expr) (depth : ℕ) → depth + expr_depth e ≤ 257 → NoneOf depth (sexpr p refs e)
+        expr_valid : (e : Expr) (depth : ℕ) → depth + expr_depth e ≤ 257 → HasNone depth (sexpr p refs e)
         expr_valid (Lit at value) depth d = not_deep step depth (omega (arith, d))
         expr_valid (Name at name) depth d = name_valid bound step depth (lookup refs name) (found_there bound refs name there) (omega (arith, d))
         expr_valid (This at) depth d = not_deep step depth (omega (arith, d))

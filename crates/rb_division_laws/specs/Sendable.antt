@@ -1,5 +1,5 @@
 -- A law of divisions: the script of a batch can be sent.
-use Rattle.std.specs.Prelude.{◌≡◌, ◌<◌, ◌≤◌, ◌^◌, ℕ, List, ◌++◌, length, Ok}
+use Rattle.std.specs.Prelude.{◌≡◌, ◌≤◌, List, ◌++◌, length, Ok}
 use Rattle.std.specs.List.{AllByRecursion, Contains}
 use Rattle.rb_trees.specs.CodeSize.{code_size_of}
 use Rattle.rb_trees.specs.Validity.{verdict}
@@ -12,13 +12,10 @@ use Rattle.rb_meaning_types.specs.Lawful.{IsLawful, classes_positions, body_posi
 use Rattle.rb_meaning_flow.specs.Facts.{facts_of}
 use Rattle.rb_meaning_flow.specs.Outermost.{Outermost, program_batches}
 use Rattle.rb_meaning.specs.Answers.{longest_request}
+use Rattle.rb_types_keep.specs.Scripts.{IsPlace}
 use Rattle.rb_meaning_split.specs.Division.{Division, divided, longest_code}
 
--- A position has 32 bits.
-abbrev pub IsPlace : ℕ → Type 0
-IsPlace at = at < 2 ^ 32
-
--- So do all positions of a program.
+-- All positions of a program have 32 bits.
 abbrev pub HasPlaces : Program → Type 0
 HasPlaces p = AllByRecursion IsPlace (classes_positions p.classes ++ body_positions p.body)
 

@@ -28,11 +28,11 @@ within_rest (c ∷ bs) cs q h = by (c.at == q) h (within_rest bs cs q)
     by true e rest = absurd (cc (e))
     by false e rest = rest e
 
-each_left : (P Q X : List ℕ) → EachApart (P ++ Q) X → EachApart P X
+pub each_left : (P Q X : List ℕ) → EachApart (P ++ Q) X → EachApart P X
 each_left [] Q X h = tt
 each_left (q ∷ P) Q X h = (h.0, each_left P Q X h.1)
 
-each_right : (P Q X : List ℕ) → EachApart (P ++ Q) X → EachApart Q X
+pub each_right : (P Q X : List ℕ) → EachApart (P ++ Q) X → EachApart Q X
 each_right [] Q X h = h
 each_right (q ∷ P) Q X h = each_right P Q X h.1
 

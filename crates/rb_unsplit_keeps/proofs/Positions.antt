@@ -53,11 +53,11 @@ differ_right (x ∷ xs) ys h = differ_right xs ys h.1
 abbrev pub EachApart : List ℕ → List ℕ → Type 0
 EachApart ys xs = AllByRecursion (λ y. Apart y xs) ys
 
-each_none : (ys : List ℕ) → EachApart ys []
+pub each_none : (ys : List ℕ) → EachApart ys []
 each_none [] = tt
 each_none (y ∷ ys) = (tt, each_none ys)
 
-each_more : (x : ℕ) (ys xs : List ℕ) → Apart x ys → EachApart ys xs → EachApart ys (x ∷ xs)
+pub each_more : (x : ℕ) (ys xs : List ℕ) → Apart x ys → EachApart ys xs → EachApart ys (x ∷ xs)
 each_more x [] xs a h = tt
 each_more x (y ∷ ys) xs a h = ((apart_sym y x a.0, h.0), each_more x ys xs a.1 h.1)
 

@@ -57,7 +57,7 @@ all_append P [] ys h g = g
 all_append P (x ∷ xs) ys h g = (h.0, all_append P xs ys h.1 g)
 
 -- in a script a scope goes on as in the batch's own block
-script_scope : (f : Facts) (around : List Around) (vs : Scope) (s : Stmt) → is_script_place f around ≡ true → scope_after f around vs s ≡ scope_after f [] vs s
+pub script_scope : (f : Facts) (around : List Around) (vs : Scope) (s : Stmt) → is_script_place f around ≡ true → scope_after f around vs s ≡ scope_after f [] vs s
 script_scope f around vs (Val at name e) h = ap (λ t. with_variable vs name (cond (t && portable f vs e) Role.Carried Role.Plain) at) h
 script_scope f around vs (Var at name e) h = refl
 script_scope f around vs (Assign at a b) h = refl
@@ -70,7 +70,7 @@ script_scope f around vs (For at name e a) h = refl
 script_scope f around vs (Try at a name b) h = refl
 script_scope f around vs (Batch at interface root a) h = refl
 
-rows_fair : (P : Value → Type 0) (w : Value-F Value) → AreRows P w → Fair (All P) (rows_in w)
+pub rows_fair : (P : Value → Type 0) (w : Value-F Value) → AreRows P w → Fair (All P) (rows_in w)
 rows_fair P (Value-F.Rows rows) h = h
 rows_fair P Value-F.Unit h = absurd h
 rows_fair P _ h = absurd h
@@ -124,7 +124,7 @@ module _ (laws : Laws) (conditions : ConditionsHold) (p : Program) (service : Se
         by false e' = h
 
     mutual
-      remote_ready : (e : Expr) (k : Kind) → type_of x ws e ≡ Ok k → IsNotedExpr types x ws e → IsFormedExpr e → AllByRecursion (Ready vs ws) (remote_in f vs e)
+      pub remote_ready : (e : Expr) (k : Kind) → type_of x ws e ≡ Ok k → IsNotedExpr types x ws e → IsFormedExpr e → AllByRecursion (Ready vs ws) (remote_in f vs e)
       remote_ready (Lit at value) k t n g = tt
       remote_ready (Name at name) k t n g = tt
       remote_ready (This at) k t n g = tt
@@ -158,7 +158,7 @@ module _ (laws : Laws) (conditions : ConditionsHold) (p : Program) (service : Se
           all_append (Ready vs ws) (remote_in f vs e) (all_remote_in f vs es) (remote_ready e b.0 b.1 n.0 g.0) (all_ready es qs.0 qs.1 n.1 g.1)
 
     -- the one outermost expression of a statement
-    one_ready : (e : Expr) (k : Kind) → type_of x ws e ≡ Ok k → IsNotedExpr types x ws e → IsFormedExpr e → AllByRecursion (Ready vs ws) (flat_map (remote_in f vs) (e ∷ []))
+    pub one_ready : (e : Expr) (k : Kind) → type_of x ws e ≡ Ok k → IsNotedExpr types x ws e → IsFormedExpr e → AllByRecursion (Ready vs ws) (flat_map (remote_in f vs) (e ∷ []))
     one_ready e k t n g = all_append (Ready vs ws) (remote_in f vs e) [] (remote_ready e k t n g) tt
 
     module _ (ns : Names) (carry : Carry is vs ws ns) where
@@ -183,17 +183,17 @@ module _ (laws : Laws) (conditions : ConditionsHold) (p : Program) (service : Se
       turns_good item at turn each rows s2 (All-tail (Fits is [] item) row rows h) t2))
 
   -- what a loop over rows goes over is portable
-  loop_portable : (around : List Around) (vs : Scope) (at : ℕ) (name : List ℕ) (e : Expr) (a : Stmts) → Within (sites f around vs (For at name e a)) ss → over_rows f e ≡ true → portable f vs e ≡ true
+  pub loop_portable : (around : List Around) (vs : Scope) (at : ℕ) (name : List ℕ) (e : Expr) (a : Stmts) → Within (sites f around vs (For at name e a)) ss → over_rows f e ≡ true → portable f vs e ≡ true
   loop_portable around vs at name e a w h =
       let s = stmt_site around vs (For at name e a) in
       sends.loops s (w s (stmt_first f around vs (For at name e a))) e (subst (λ t. Contains (cond t (e ∷ []) []) e) (sym h) (first_contained e []))
 
   -- and it is rows
-  rows_only : (e : Expr) (list item : Kind) → types (expr_at e) ≡ Some (Ok list) → over_rows f e ≡ true → (list ≡ kind.ListOf item) ⊎ (list ≡ kind.RowsOf item) → list ≡ kind.RowsOf item
+  pub rows_only : (e : Expr) (list item : Kind) → types (expr_at e) ≡ Some (Ok list) → over_rows f e ≡ true → (list ≡ kind.ListOf item) ⊎ (list ≡ kind.RowsOf item) → list ≡ kind.RowsOf item
   rows_only e list item noted h (inl is_list) = absurd (cc (sym h ∙ rows_fact p (expr_at e) list noted ∙ ap is_rows is_list))
   rows_only e list item noted h (inr is_rows') = is_rows'
 
-  script_inside : (around : List Around) (b : Truth) → is_script_place f around ≡ true → b ≡ true → (is_script_place f around && b) ≡ true
+  pub script_inside : (around : List Around) (b : Truth) → is_script_place f around ≡ true → b ≡ true → (is_script_place f around && b) ≡ true
   script_inside around b h e = ap (λ t. t && b) h ∙ e
 
   -- an `if`, whose blocks are walked where a remote operation stands in them
