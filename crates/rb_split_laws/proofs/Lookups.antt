@@ -1,0 +1,44 @@
+-- Names with values, and what one more at their end changes.
+use Rattle.std.proofs.Common.{◌≡◌, refl, sym, ap, ◌∙◌, subst, ℕ, List, [], ◌∷◌, ◌++◌, Bool, true, false, cond, option_map, Option, Some, None}
+use Rattle.std.specs.Str.{bytes_eq}
+use Rattle.std.proofs.lemmas.Slice.Eq.{bytes_eq-Decides}
+use Rattle.rb_trees.specs.Named.{first_named, lookup}
+
+pub same_bytes : (a b : List ℕ) → bytes_eq a b ≡ true → a ≡ b
+same_bytes a b h = (bytes_eq-Decides a b).0 h
+
+pub bytes_same : (a b : List ℕ) → a ≡ b → bytes_eq a b ≡ true
+bytes_same a b h = (bytes_eq-Decides a b).1 h
+
+-- what a name has that stands first
+abbrev pub first_or : {A : Type 0} → Bool → A → Option A → Option A
+first_or true a o = Some a
+first_or false a o = o
+
+pub lookup_more : {A : Type 0} (name : List ℕ) (a : A) (xs : List (List ℕ × A)) (y : List ℕ) → lookup ((name, a) ∷ xs) y ≡ first_or (bytes_eq name y) a (lookup xs y)
+lookup_more name a xs y = by (bytes_eq name y) refl
+  where
+    by : (t : Bool) → bytes_eq name y ≡ t → lookup ((name, a) ∷ xs) y ≡ first_or t a (lookup xs y)
+    by true e = subst (λ t. option_map (λ n. n.1) (cond t (Some (name, a)) (first_named (λ n. n.0) xs y)) ≡ Some a) (sym e) refl
+    by false e = subst (λ t. option_map (λ n. n.1) (cond t (Some (name, a)) (first_named (λ n. n.0) xs y)) ≡ lookup xs y) (sym e) refl
+
+-- what was found is still found
+pub lookup_old : {A : Type 0} (xs : List (List ℕ × A)) (y name : List ℕ) (a b : A) → lookup xs y ≡ Some b → lookup (xs ++ (name, a) ∷ []) y ≡ Some b
+lookup_old [] y name a b h = absurd (cc (h))
+lookup_old (x ∷ xs) y name a b h =
+    lookup_more x.0 x.1 (xs ++ (name, a) ∷ []) y ∙ by (bytes_eq x.0 y) (sym (lookup_more x.0 x.1 xs y) ∙ h) (lookup_old xs y name a b)
+  where
+    by : (t : Bool) → first_or t x.1 (lookup xs y) ≡ Some b → (lookup xs y ≡ Some b → lookup (xs ++ (name, a) ∷ []) y ≡ Some b) → first_or t x.1 (lookup (xs ++ (name, a) ∷ []) y) ≡ Some b
+    by true e rest = e
+    by false e rest = rest e
+
+-- what wasn't is the new one, if it has the name
+pub lookup_new : {A : Type 0} (xs : List (List ℕ × A)) (y name : List ℕ) (a : A) → lookup xs y ≡ None → lookup (xs ++ (name, a) ∷ []) y ≡ first_or (bytes_eq name y) a None
+lookup_new [] y name a h = lookup_more name a [] y
+lookup_new (x ∷ xs) y name a h =
+    lookup_more x.0 x.1 (xs ++ (name, a) ∷ []) y ∙ by (bytes_eq x.0 y) (sym (lookup_more x.0 x.1 xs y) ∙ h) (lookup_new xs y name a)
+  where
+    by : (t : Bool) → first_or t x.1 (lookup xs y) ≡ None → (lookup xs y ≡ None → lookup (xs ++ (name, a) ∷ []) y ≡ first_or (bytes_eq name y) a None)
+        → first_or t x.1 (lookup (xs ++ (name, a) ∷ []) y) ≡ first_or (bytes_eq name y) a None
+    by true e rest = absurd (cc (e))
+    by false e rest = rest e

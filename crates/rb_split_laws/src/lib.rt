@@ -1,0 +1,2 @@
+//! Laws of the division.
+#![tactic(auto)]
