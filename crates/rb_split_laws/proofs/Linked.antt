@@ -1,5 +1,5 @@
 -- What a script reads for its variables, against the names of the source.
-use Rattle.std.proofs.Common.{◌≡◌, ◌<◌, refl, sym, ap, ◌∙◌, subst, arith, ℕ, suc, ◌≤◌, List, [], ◌∷◌, ◌++◌, Bool, true, false, cond, nat_eq, Option, Some, None, slice_get}
+use Rattle.std.proofs.Common.{◌≡◌, ◌<◌, refl, sym, ap, ◌∙◌, subst, arith, ℕ, suc, ◌≤◌, List, [], ◌∷◌, ◌++◌, Bool, true, false, cond, Option, Some, None, slice_get}
 use Rattle.std.specs.Str.{bytes_eq}
 use Rattle.std.proofs.lemmas.Bool.{eq-eqb, ne_eqb}
 use Rattle.rb_trees.specs.Named.{lookup}
@@ -9,7 +9,7 @@ use Rattle.rb_trees.specs.mirror.Code.{Expr, Exprs, Lit, Name, This, Unary, Bina
 use Rattle.rb_meaning_code.specs.State.{Names, this_name}
 use Rattle.rb_meaning_code.specs.ScriptRun.{Ground, Vars, latest}
 use Rattle.rb_meaning_split.specs.Refs.{Ref, Root, Input, Var, Refs, with_var}
-use Rattle.rb_split_laws.proofs.Lookups.{same_bytes, bytes_same, first_or, lookup_old, lookup_new}
+use Rattle.rb_split_laws.proofs.Lookups.{same_bytes, first_or, lookup_old, lookup_new}
 
 -- what a script reads for a variable
 abbrev pub ref_value : Ground → Vars → Ref → Option Value

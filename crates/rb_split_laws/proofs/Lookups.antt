@@ -1,5 +1,5 @@
 -- Names with values, and what one more at their end changes.
-use Rattle.std.proofs.Common.{◌≡◌, refl, sym, ap, ◌∙◌, subst, ℕ, List, [], ◌∷◌, ◌++◌, Bool, true, false, cond, option_map, Option, Some, None}
+use Rattle.std.proofs.Common.{◌≡◌, refl, sym, ◌∙◌, subst, ℕ, List, [], ◌∷◌, ◌++◌, Bool, true, false, cond, option_map, Option, Some, None}
 use Rattle.std.specs.Str.{bytes_eq}
 use Rattle.std.proofs.lemmas.Slice.Eq.{bytes_eq-Decides}
 use Rattle.rb_trees.specs.Named.{first_named, lookup}
@@ -40,5 +40,23 @@ lookup_new (x ∷ xs) y name a h =
   where
     by : (t : Bool) → first_or t x.1 (lookup xs y) ≡ None → (lookup xs y ≡ None → lookup (xs ++ (name, a) ∷ []) y ≡ first_or (bytes_eq name y) a None)
         → first_or t x.1 (lookup (xs ++ (name, a) ∷ []) y) ≡ first_or (bytes_eq name y) a None
+    by true e rest = absurd (cc (e))
+    by false e rest = rest e
+
+-- the same of things with names
+pub first_old : {A : Type 0} (name_of : A → List ℕ) (xs : List A) (z : A) (y : List ℕ) (a : A) → first_named name_of xs y ≡ Some a → first_named name_of (xs ++ z ∷ []) y ≡ Some a
+first_old name_of [] z y a h = absurd (cc (h))
+first_old name_of (x ∷ xs) z y a h = by (bytes_eq (name_of x) y) h (first_old name_of xs z y a)
+  where
+    by : (t : Bool) → cond t (Some x) (first_named name_of xs y) ≡ Some a → (first_named name_of xs y ≡ Some a → first_named name_of (xs ++ z ∷ []) y ≡ Some a) → cond t (Some x) (first_named name_of (xs ++ z ∷ []) y) ≡ Some a
+    by true e rest = e
+    by false e rest = rest e
+
+pub first_new : {A : Type 0} (name_of : A → List ℕ) (xs : List A) (z : A) (y : List ℕ) → first_named name_of xs y ≡ None → first_named name_of (xs ++ z ∷ []) y ≡ cond (bytes_eq (name_of z) y) (Some z) None
+first_new name_of [] z y h = refl
+first_new name_of (x ∷ xs) z y h = by (bytes_eq (name_of x) y) h (first_new name_of xs z y)
+  where
+    by : (t : Bool) → cond t (Some x) (first_named name_of xs y) ≡ None → (first_named name_of xs y ≡ None → first_named name_of (xs ++ z ∷ []) y ≡ cond (bytes_eq (name_of z) y) (Some z) None)
+        → cond t (Some x) (first_named name_of (xs ++ z ∷ []) y) ≡ cond (bytes_eq (name_of z) y) (Some z) None
     by true e rest = absurd (cc (e))
     by false e rest = rest e

@@ -1,10 +1,9 @@
 -- A portable expression has the same value in a script as in the source.
-use Rattle.std.proofs.Common.{◌≡◌, refl, sym, ap, ◌∙◌, subst, ℕ, List, [], ◌∷◌, length, Option, Some, None, Result, Ok, Err, slice_get}
+use Rattle.std.proofs.Common.{◌≡◌, refl, sym, ap, subst, ℕ, List, [], length, Option, Some, None, Result, Ok, Err}
 use Rattle.rb_trees.specs.Named.{lookup}
 use Rattle.rb_trees.specs.Outcome.{known}
 use Rattle.rb_trees.specs.declared.values.Value.{Value}
 use Rattle.rb_trees.specs.declared.values.Value.TheOpen.{Value-F}
-use Rattle.rb_trees.specs.declared.values.Value.TheVariants as value
 use Rattle.rb_trees.specs.declared.values.Value.TheViews.{out-Value}
 use Rattle.rb_trees.specs.declared.values.Fault.{Fault}
 use Rattle.rb_trees.specs.mirror.Code.{Expr, Exprs, Lit, Name, This, Unary, Binary, Field, Call, Index, New, Items, Taken, NoExprs, MoreExprs}
@@ -19,7 +18,7 @@ use Rattle.rb_meaning_code.specs.Calls.{Bodies, called_method, unit_due, call_fi
 use Rattle.rb_meaning_code.specs.Expressions as source
 use Rattle.rb_meaning_code.specs.Expressions.{evaluates, evaluates_all}
 use Rattle.rb_meaning_code.specs.Bodies.{bodies_of}
-use Rattle.rb_meaning_code.specs.Remote.{Server, Reply, Got, Stopped, and_then, replies, remote_object, checked, returned, served, invoke}
+use Rattle.rb_meaning_code.specs.Remote.{Server, Reply, Got, Stopped, and_then, replies, invoke}
 use Rattle.rb_meaning_code.specs.ScriptRun as run
 use Rattle.rb_meaning_code.specs.ScriptRun.{Ground, Vars}
 use Rattle.rb_meaning.specs.CallKinds.{call_kind}
@@ -27,12 +26,8 @@ use Rattle.rb_meaning.specs.RemoteAnswers.{answer_of}
 use Rattle.rb_meaning.specs.RemotePart as part
 use Rattle.rb_meaning.specs.RemotePart.{reply_of, with_names, in_remote_part}
 use Rattle.rb_meaning_split.specs.Refs.{Ref, Root, Input, Var, Refs, ref_expr, sexpr, sexprs}
+use Rattle.rb_unsplit_keeps.proofs.Walking.{handle_seq}
 use Rattle.rb_split_laws.proofs.Linked.{ref_value, IsRead, Linked, IsFound, Closed, AllClosed}
-
-handle_seq : {S A B : Type 0} (h : Handler S) (code : Dialogue A) (k : A → Dialogue B) (s : S) → handle h (seq code k) s ≡ handle h (k (handle h code s).0) (handle h code s).1
-handle_seq h (Done a) k s = refl
-handle_seq h (Ask q go) k s = handle_seq h (go (h.answer s q).0) k (h.answer s q).1
-handle_seq h (AskBatch at l go) k s = handle_seq h (go (h.batch s at l).0) k (h.batch s at l).1
 
 -- Code ends as a reply does, and leaves the local state as it is where it gives a value.
 abbrev pub Does : {A : Type 0} → Local → Outcome A × Server → Reply A → Type 0
@@ -46,7 +41,7 @@ module _ (p : Program) (service : Service) (g : Ground) (classes : g.classes ≡
   abbrev code : Bodies
   code = bodies_of p.classes 0
 
-  then_does : {A B : Type 0} (d : Run A) (k : A → Local → Run B) (l : Local) (s : Server) (r : Reply A) (kr : A → Server → Reply B) → Does l (handle h d s) r
+  pub then_does : {A B : Type 0} (d : Run A) (k : A → Local → Run B) (l : Local) (s : Server) (r : Reply A) (kr : A → Server → Reply B) → Does l (handle h d s) r
       → ((a : A) (s1 : Server) → Does l (handle h (k a l) s1) (kr a s1)) → Does l (handle h (next d k) s) (and_then r kr)
   then_does {A = A} d k l s r kr first more = subst (λ o. Does l o (and_then r kr)) (sym (handle_seq h d (on k) s)) (by (handle h d s) first)
     where
@@ -55,11 +50,11 @@ module _ (p : Program) (service : Service) (g : Ground) (classes : g.classes ≡
           subst (λ m. Does l (handle h (k a m) s1) (and_then r kr)) (sym e.0) (subst (λ q. Does l (handle h (k a l) s1) (and_then q kr)) (sym e.1) (more a s1))
       by (Faulted x l1, s1) e = ap (λ q. and_then q kr) e
 
-  end_does : {A : Type 0} (at : ℕ) (r : Result A Fault) (l : Local) (s : Server) → Does l (handle h (end l (raises at r)) s) (replies at r s)
+  pub end_does : {A : Type 0} (at : ℕ) (r : Result A Fault) (l : Local) (s : Server) → Does l (handle h (end l (raises at r)) s) (replies at r s)
   end_does at (Ok a) l s = (refl, refl)
   end_does at (Err f) l s = refl
 
-  answer_does : (l : Local) (r : Reply Value) → Does l (handle h (end l (answer_of r).0) (answer_of r).1) r
+  pub answer_does : (l : Local) (r : Reply Value) → Does l (handle h (end l (answer_of r).0) (answer_of r).1) r
   answer_does l (Got v s1) = (refl, refl)
   answer_does l (Stopped at f s1) = refl
 
@@ -102,7 +97,7 @@ module _ (p : Program) (service : Service) (g : Ground) (classes : g.classes ≡
         by (Var number) e = ap (λ o. replies step (known faults.kind o) s) e
 
     mutual
-      value_does : (e : Expr) (s : Server) → Closed refs e → Does l (handle h (evaluates code e l) s) (run.value_of g step vars (sexpr p refs e) s)
+      pub value_does : (e : Expr) (s : Server) → Closed refs e → Does l (handle h (evaluates code e l) s) (run.value_of g step vars (sexpr p refs e) s)
       value_does (Lit at v) s c = (refl, refl)
       value_does (Name at name) s c = by (lookup refs name) refl c.1
         where
@@ -128,7 +123,7 @@ module _ (p : Program) (service : Service) (g : Ground) (classes : g.classes ≡
       value_does (Items at item items) s c = absurd c
       value_does (Taken at place) s c = absurd c
 
-      values_do : (es : Exprs) (s : Server) → AllClosed refs es → Does l (handle h (evaluates_all code es l) s) (run.values_of g step vars (sexprs p refs es) s)
+      pub values_do : (es : Exprs) (s : Server) → AllClosed refs es → Does l (handle h (evaluates_all code es l) s) (run.values_of g step vars (sexprs p refs es) s)
       values_do NoExprs s c = (refl, refl)
       values_do (MoreExprs e es) s c =
           then_does (evaluates code e l) _ l s (run.value_of g step vars (sexpr p refs e) s) _ (value_does e s c.0) (λ v s1.

@@ -1,18 +1,18 @@
 -- The lemmas on admitted programs.
 mod Positions
 mod Notes
-mod Found
-mod Agreed
-mod Parts
-mod TypeFacts
-mod Standing
-mod Programs
-mod Admission
+pub mod Found
+pub mod Agreed
+pub mod Parts
+pub mod TypeFacts
+pub mod Standing
+pub mod Programs
+pub mod Admission
 mod OfKinds
-mod Handling
-mod Whole
-mod Conditions
-mod Carried
-mod Walking
-mod Walked
+pub mod Handling
+pub mod Whole
+pub mod Conditions
+pub mod Carried
+pub mod Walking
+pub mod Walked
 mod Admitted

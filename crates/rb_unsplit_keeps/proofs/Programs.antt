@@ -21,18 +21,10 @@ use Rattle.rb_meaning_flow.specs.Outermost.{Outermost, outermost_in, method_batc
 use Rattle.rb_types_keep.specs.Asked.{Site}
 use Rattle.rb_types_keep.specs.Batches.{sites_in, MethodsAsk}
 use Rattle.rb_types_keep.proofs.Checks.{bind_ok, then_ok}
+use Rattle.rb_unsplit_keeps.specs.Sites.{method_sites, class_sites, program_sites}
 use Rattle.rb_unsplit_keeps.specs.Noted.{IsNotedMethod, IsNotedClass, IsNotedProgram}
 use Rattle.rb_unsplit_keeps.proofs.Agreed.{agree_parameters}
 use Rattle.rb_unsplit_keeps.proofs.Standing.{block_lawful, IsBatchOf, Within, within_left, within_right, nothing, each_of, stmts_in}
-
-abbrev pub method_sites : Declarations → List ℕ → Method → List Site
-method_sites d class m = sites_in (method_context d class m.remote) (parameters m.signature.params) m.body.statements
-
-abbrev pub class_sites : Declarations → Class → List Site
-class_sites d c = flat_map (method_sites d c.name) c.methods
-
-abbrev pub program_sites : Program → List Site
-program_sites p = flat_map (class_sites (of_program p)) p.classes ++ sites_in (main_context (of_program p)) [] p.body.statements
 
 named_within : {A B : Type 0} (name_of : A → List ℕ) (f : A → List B) (xs : List A) (n : List ℕ) (y : A) → first_named name_of xs n ≡ Some y → Within (f y) (flat_map f xs)
 named_within name_of f [] n y h = absurd (cc (h))

@@ -52,12 +52,12 @@ use Rattle.rb_unsplit_keeps.proofs.Carried.{Carry, carry_more, carry_skip}
 use Rattle.rb_unsplit_keeps.proofs.Handling.{Fine, unit_fine}
 use Rattle.rb_unsplit_keeps.proofs.Walking.{Laws, rest_typed, Table, value_fine}
 
-all_append : {A : Type 0} (P : A → Type 0) (xs ys : List A) → AllByRecursion P xs → AllByRecursion P ys → AllByRecursion P (xs ++ ys)
+pub all_append : {A : Type 0} (P : A → Type 0) (xs ys : List A) → AllByRecursion P xs → AllByRecursion P ys → AllByRecursion P (xs ++ ys)
 all_append P [] ys h g = g
 all_append P (x ∷ xs) ys h g = (h.0, all_append P xs ys h.1 g)
 
 -- in a script a scope goes on as in the batch's own block
-script_scope : (f : Facts) (around : List Around) (vs : Scope) (s : Stmt) → is_script_place f around ≡ true → scope_after f around vs s ≡ scope_after f [] vs s
+pub script_scope : (f : Facts) (around : List Around) (vs : Scope) (s : Stmt) → is_script_place f around ≡ true → scope_after f around vs s ≡ scope_after f [] vs s
 script_scope f around vs (Val at name e) h = ap (λ t. with_variable vs name (cond (t && portable f vs e) Role.Carried Role.Plain) at) h
 script_scope f around vs (Var at name e) h = refl
 script_scope f around vs (Assign at a b) h = refl

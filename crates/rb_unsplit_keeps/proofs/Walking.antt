@@ -60,7 +60,7 @@ pub record Laws : Type 0 where
   pub sent : FittingAreBounded
   pub given : RemoteCallsGiveFar
 
-handle_seq : {S A B : Type 0} (h : Handler S) (run : Dialogue A) (k : A → Dialogue B) (s : S) → handle h (seq run k) s ≡ handle h (k (handle h run s).0) (handle h run s).1
+pub handle_seq : {S A B : Type 0} (h : Handler S) (run : Dialogue A) (k : A → Dialogue B) (s : S) → handle h (seq run k) s ≡ handle h (k (handle h run s).0) (handle h run s).1
 handle_seq h (Done a) k s = refl
 handle_seq h (Ask q go) k s = handle_seq h (go (h.answer s q).0) k (h.answer s q).1
 handle_seq h (AskBatch at l go) k s = handle_seq h (go (h.batch s at l).0) k (h.batch s at l).1
@@ -69,12 +69,12 @@ pub rest_typed : (p : Placed) (r : Checked (List Placed)) (ps : List Placed) →
 rest_typed p (Ok qs) ps h = (qs, refl)
 rest_typed p (Err fault) ps h = absurd (cc (h))
 
-object_named : (d : Declarations) (k : Kind) → is_object d k ≡ true → (name : List ℕ) × (k ≡ kind.Named name) × (is_some (interface_named d.interfaces name) ≡ true)
+pub object_named : (d : Declarations) (k : Kind) → is_object d k ≡ true → (name : List ℕ) × (k ≡ kind.Named name) × (is_some (interface_named d.interfaces name) ≡ true)
 object_named d (kind.Named name) h = (name, refl, h)
 object_named d kind.Int h = absurd (cc (h))
 object_named d _ h = absurd (cc (h))
 
-there : {A : Type 0} (o : Option A) → is_some o ≡ true → (a : A) × (o ≡ Some a)
+pub there : {A : Type 0} (o : Option A) → is_some o ≡ true → (a : A) × (o ≡ Some a)
 there (Some a) h = (a, refl)
 there None h = absurd (cc (h))
 

@@ -62,17 +62,18 @@ use Rattle.rb_types_keep.proofs.Bodies.{own_stmts, far_stmts}
 use Rattle.rb_types_keep.proofs.InSurroundings.{handled}
 use Rattle.std.proofs.lemmas.List.Elements.{Contains-append_right}
 use Rattle.rb_unsplit_keeps.specs.Noted.{IsNotedProgram}
+use Rattle.rb_unsplit_keeps.specs.Sites.{class_sites, program_sites}
 use Rattle.rb_unsplit_keeps.specs.Kept.{IsResult, EndsWell, MeansWell}
 use Rattle.rb_unsplit_keeps.proofs.Found.{batch_found}
 use Rattle.rb_unsplit_keeps.proofs.Agreed.{Agree}
 use Rattle.rb_unsplit_keeps.proofs.Parts.{batch_parts}
 use Rattle.rb_unsplit_keeps.proofs.Standing.{block_lawful, IsBatchOf}
-use Rattle.rb_unsplit_keeps.proofs.Programs.{class_sites, program_sites, methods_ask, IsTypedProgram, batches_in}
+use Rattle.rb_unsplit_keeps.proofs.Programs.{methods_ask, IsTypedProgram, batches_in}
 use Rattle.rb_unsplit_keeps.proofs.Admission.{block_admitted}
 use Rattle.rb_unsplit_keeps.proofs.Handling.{batch_handler_fits}
 
 -- a remote object fits an interface's name
-remote_named : (o : Option Interface) (cs : List (List ℕ)) (name : List ℕ) (w : Value-F Value) → is_some o ≡ true → IsRemoteValue w → FitsNamed o cs name w
+pub remote_named : (o : Option Interface) (cs : List (List ℕ)) (name : List ℕ) (w : Value-F Value) → is_some o ≡ true → IsRemoteValue w → FitsNamed o cs name w
 remote_named (Some i) cs name w e h = h
 remote_named None cs name w e h = absurd (cc (e))
 
