@@ -1,8 +1,6 @@
 -- The script of a batch performs just the batch's whole remote part.
-use Rattle.std.proofs.Common.{◌≡◌, refl, sym, ap, ◌∙◌, subst, ℕ, List, [], true, Option, Some, None, is_some, Ok}
+use Rattle.std.proofs.Common.{◌≡◌, refl, sym, ap, ◌∙◌, subst, ℕ, List, [], true, Some, Ok}
 use Rattle.std.specs.List.{Contains}
-use Rattle.rb_trees.specs.declared.values.Value.{Value}
-use Rattle.rb_trees.specs.declared.values.Value.TheOpen.{Value-F}
 use Rattle.rb_trees.specs.declared.values.Value.TheVariants as value
 use Rattle.rb_trees.specs.declared.values.Value.TheViews.{out-Value}
 use Rattle.rb_trees.specs.declared.services.Object.{Object}
@@ -16,7 +14,7 @@ use Rattle.rb_meaning_types.specs.Scopes as typed
 use Rattle.rb_meaning_types.specs.Statements.{check_stmt}
 use Rattle.rb_meaning_types.specs.Notes.{scope_or, type_at}
 use Rattle.rb_meaning_types.specs.Lawful.{IsLawful}
-use Rattle.rb_meaning_types.specs.Fits.{classes_of, IsRemoteValue, FitsNamed}
+use Rattle.rb_meaning_types.specs.Fits.{classes_of, IsRemoteValue}
 use Rattle.rb_meaning_code.specs.State.{Local, bound}
 use Rattle.rb_meaning_code.specs.Remote.{Server, batch_fuel}
 use Rattle.rb_meaning_code.specs.ScriptRun as run

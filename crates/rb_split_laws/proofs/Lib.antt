@@ -16,3 +16,4 @@ pub mod Outer
 pub mod Sited
 pub mod Law
 pub mod Later
+pub mod There

@@ -13,7 +13,7 @@ use Rattle.rb_meaning_code.specs.State.{Names, Local, spent}
 use Rattle.rb_meaning_code.specs.Faults as faults
 use Rattle.rb_meaning_code.specs.Faults.{raises}
 use Rattle.rb_meaning_code.specs.Operators.{on_one, on_two, by_left}
-use Rattle.rb_meaning_code.specs.Dialogue.{Outcome, Gave, Faulted, Dialogue, Done, Ask, AskBatch, Run, Handler, handle, seq, on, next, end}
+use Rattle.rb_meaning_code.specs.Dialogue.{Outcome, Gave, Faulted, Run, Handler, handle, seq, on, next, end}
 use Rattle.rb_meaning_code.specs.Calls.{Bodies, called_method, unit_due, call_fits, names_within, entered, left, call, called}
 use Rattle.rb_meaning_code.specs.Expressions as source
 use Rattle.rb_meaning_code.specs.Expressions.{evaluates, evaluates_all}
