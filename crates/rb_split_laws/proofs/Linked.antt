@@ -2,14 +2,14 @@
 use Rattle.std.proofs.Common.{◌≡◌, ◌<◌, refl, sym, ap, ◌∙◌, subst, arith, ℕ, suc, ◌≤◌, List, [], ◌∷◌, ◌++◌, Bool, true, false, cond, Option, Some, None, slice_get}
 use Rattle.std.specs.Str.{bytes_eq}
 use Rattle.std.proofs.lemmas.Bool.{eq-eqb, ne_eqb}
-use Rattle.rb_trees.specs.Named.{lookup}
+use Rattle.rb_trees.specs.Named.{lookup, replaced}
 use Rattle.rb_trees.specs.declared.values.Value.{Value}
 use Rattle.rb_trees.specs.declared.values.Value.TheVariants as value
 use Rattle.rb_trees.specs.mirror.Code.{Expr, Exprs, Lit, Name, This, Unary, Binary, Field, Call, Index, New, Items, Taken, NoExprs, MoreExprs}
 use Rattle.rb_meaning_code.specs.State.{Names, this_name}
 use Rattle.rb_meaning_code.specs.ScriptRun.{Ground, Vars, latest}
 use Rattle.rb_meaning_split.specs.Refs.{Ref, Root, Input, Var, Refs, with_var}
-use Rattle.rb_split_laws.proofs.Lookups.{same_bytes, first_or, lookup_old, lookup_new}
+use Rattle.rb_split_laws.proofs.Lookups.{same_bytes, first_or, lookup_old, lookup_new, lookup_replaced}
 
 -- what a script reads for a variable
 abbrev pub ref_value : Ground → Vars → Ref → Option Value
@@ -118,3 +118,19 @@ linked_more g refs vars names m name v linked fresh free y plain r e = by (looku
           holds = lookup_old names y name v old.value old.holds;
         }
     by None h = by_name (bytes_eq name y) refl (sym (lookup_new refs y name (Var m) h) ∙ e)
+
+-- a name that the source alone binds
+pub linked_append : (g : Ground) (refs : Refs) (vars : Vars) (names : Names) (name : List ℕ) (v : Value) → Linked g refs vars names → Linked g refs vars (names ++ (name, v) ∷ [])
+linked_append g refs vars names name v linked y plain r e =
+    let old = linked y plain r e in
+    record { value = old.value; reads = old.reads; holds = lookup_old names y name v old.value old.holds }
+
+-- a value that the source alone replaces
+pub linked_replaced : (g : Ground) (refs : Refs) (vars : Vars) (names : Names) (name : List ℕ) (v : Value) → lookup refs name ≡ None → Linked g refs vars names → Linked g refs vars (replaced names name v)
+linked_replaced g refs vars names name v absent linked y plain r e =
+    let old = linked y plain r e in
+    record { value = old.value; reads = old.reads; holds = lookup_replaced names name y v (by (bytes_eq name y) refl) ∙ old.holds }
+  where
+    by : (t : Bool) → bytes_eq name y ≡ t → t ≡ false
+    by false h = refl
+    by true h = absurd (cc (subst (λ z. lookup refs z ≡ None) (same_bytes name y h) absent, e))

@@ -1,8 +1,8 @@
 -- Names with values, and what one more at their end changes.
-use Rattle.std.proofs.Common.{◌≡◌, refl, sym, ◌∙◌, subst, ℕ, List, [], ◌∷◌, ◌++◌, Bool, true, false, cond, option_map, Option, Some, None}
+use Rattle.std.proofs.Common.{◌≡◌, refl, sym, ap, ◌∙◌, subst, ℕ, List, [], ◌∷◌, ◌++◌, Bool, true, false, cond, option_map, Option, Some, None}
 use Rattle.std.specs.Str.{bytes_eq}
 use Rattle.std.proofs.lemmas.Slice.Eq.{bytes_eq-Decides}
-use Rattle.rb_trees.specs.Named.{first_named, lookup}
+use Rattle.rb_trees.specs.Named.{first_named, lookup, replaced}
 
 pub same_bytes : (a b : List ℕ) → bytes_eq a b ≡ true → a ≡ b
 same_bytes a b h = (bytes_eq-Decides a b).0 h
@@ -60,3 +60,14 @@ first_new name_of (x ∷ xs) z y h = by (bytes_eq (name_of x) y) h (first_new na
         → cond t (Some x) (first_named name_of (xs ++ z ∷ []) y) ≡ cond (bytes_eq (name_of z) y) (Some z) None
     by true e rest = absurd (cc (e))
     by false e rest = rest e
+
+-- another name keeps what it has where a value is replaced
+pub lookup_replaced : {A : Type 0} (xs : List (List ℕ × A)) (name y : List ℕ) (a : A) → bytes_eq name y ≡ false → lookup (replaced xs name a) y ≡ lookup xs y
+lookup_replaced [] name y a h = refl
+lookup_replaced (x ∷ xs) name y a h = by (bytes_eq x.0 name) refl (lookup_replaced xs name y a h)
+  where
+    by : (t : Bool) → bytes_eq x.0 name ≡ t → lookup (replaced xs name a) y ≡ lookup xs y → lookup (cond t ((x.0, a) ∷ xs) (x ∷ replaced xs name a)) y ≡ lookup (x ∷ xs) y
+    by true e rest =
+        let apart : bytes_eq x.0 y ≡ false = subst (λ z. bytes_eq z y ≡ false) (sym (same_bytes x.0 name e)) h in
+        lookup_more x.0 a xs y ∙ ap (λ t. first_or t a (lookup xs y)) apart ∙ sym (lookup_more x.0 x.1 xs y ∙ ap (λ t. first_or t x.1 (lookup xs y)) apart)
+    by false e rest = lookup_more x.0 x.1 (replaced xs name a) y ∙ ap (first_or (bytes_eq x.0 y) x.1) rest ∙ sym (lookup_more x.0 x.1 xs y)
