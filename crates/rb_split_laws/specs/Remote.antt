@@ -30,7 +30,8 @@ fault_of (Stopped at f s) = Some f
 
 -- the run of a batch's script on a service and its table, with the inputs from the local state of the batch's start
 abbrev pub script_run : Program → Service → Outermost → Local → List Object → Ran
-script_run p service o l table = run_script (division p o).script (input_values (division p o).inputs l.names) service.classes service.root table
+script_run p service o l table =
+    let d = division p o in run_script d.script (input_values d.inputs l.names) service.classes service.root table
 
 -- the whole remote part of the batch, from there, with fresh fuel
 abbrev pub remote_part : Program → Service → Outermost → Local → List Object → Walked
