@@ -60,7 +60,7 @@ each_of P xs ys f g b is = by (Contains-append_cases xs ys b is)
     by (inl h) = f b h
     by (inr h) = g b h
 
-the_one : {A : Type 0} (P : A → Type 0) (b : A) → P b → (c : A) → Contains (b ∷ []) c → P c
+pub the_one : {A : Type 0} (P : A → Type 0) (b : A) → P b → (c : A) → Contains (b ∷ []) c → P c
 the_one P b h c is = by (contained_cases b [] c is)
   where
     by : (b ≡ c) ⊎ Contains [] c → P c

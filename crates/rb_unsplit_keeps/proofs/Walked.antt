@@ -52,7 +52,7 @@ use Rattle.rb_unsplit_keeps.proofs.Carried.{Carry, carry_more, carry_skip}
 use Rattle.rb_unsplit_keeps.proofs.Handling.{Fine, unit_fine}
 use Rattle.rb_unsplit_keeps.proofs.Walking.{Laws, rest_typed, Table, value_fine}
 
-all_append : {A : Type 0} (P : A → Type 0) (xs ys : List A) → AllByRecursion P xs → AllByRecursion P ys → AllByRecursion P (xs ++ ys)
+pub all_append : {A : Type 0} (P : A → Type 0) (xs ys : List A) → AllByRecursion P xs → AllByRecursion P ys → AllByRecursion P (xs ++ ys)
 all_append P [] ys h g = g
 all_append P (x ∷ xs) ys h g = (h.0, all_append P xs ys h.1 g)
 

@@ -1,0 +1,2 @@
+-- Laws of the division of a batch.
+pub mod Remote
