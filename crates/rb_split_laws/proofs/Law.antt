@@ -41,7 +41,7 @@ use Rattle.rb_types_keep.specs.Code.{AreTyped}
 use Rattle.rb_types_keep.proofs.Served.{remote_out}
 use Rattle.rb_types_keep.proofs.Stmts.{binds}
 use Rattle.rb_unsplit_keeps.specs.Noted.{LawfulAreNoted}
-use Rattle.rb_unsplit_keeps.specs.Sites.{program_sites}
+use Rattle.rb_unsplit_keeps.specs.Batches.{program_sites}
 use Rattle.rb_unsplit_keeps.proofs.Agreed.{Agree, agree_added, agree_with}
 use Rattle.rb_unsplit_keeps.proofs.Found.{batch_found}
 use Rattle.rb_unsplit_keeps.proofs.Parts.{batch_parts}

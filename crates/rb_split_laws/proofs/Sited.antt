@@ -18,7 +18,7 @@ use Rattle.rb_types_keep.proofs.Checks.{bind_ok, then_ok}
 use Rattle.rb_unsplit_keeps.proofs.Parts.{val_parts, var_parts, assign_parts, run_parts, print_parts, throw_parts, if_parts, while_parts, for_parts, try_parts, batch_parts, stmts_parts}
 use Rattle.rb_unsplit_keeps.proofs.Standing.{nothing, each_of, the_one}
 use Rattle.rb_unsplit_keeps.proofs.Programs.{IsTypedProgram}
-use Rattle.rb_unsplit_keeps.specs.Sites.{method_sites, class_sites, program_sites}
+use Rattle.rb_unsplit_keeps.specs.Batches.{method_sites, class_sites, program_sites}
 use Rattle.rb_split_laws.proofs.Kept.{OpenScope, open_more, open_fixed, var_no_unit}
 
 -- a batch that is typed where it stands

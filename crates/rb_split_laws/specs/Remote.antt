@@ -21,7 +21,7 @@ use Rattle.rb_meaning_split.specs.Client.{input_values}
 use Rattle.rb_flow.specs.Program.{HasNoRefusal}
 use Rattle.rb_types_keep.specs.Asked.{Site}
 use Rattle.rb_types_keep.specs.Ends.{FitsPlace}
-use Rattle.rb_unsplit_keeps.specs.Sites.{program_sites}
+use Rattle.rb_unsplit_keeps.specs.Batches.{program_sites}
 
 -- the fault that a reply tells, if it tells one
 abbrev pub fault_of : {A : Type 0} → Reply A → Option Fault

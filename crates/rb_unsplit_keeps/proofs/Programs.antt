@@ -21,7 +21,6 @@ use Rattle.rb_meaning_flow.specs.Outermost.{Outermost, outermost_in, method_batc
 use Rattle.rb_types_keep.specs.Asked.{Site}
 use Rattle.rb_types_keep.specs.Batches.{sites_in, MethodsAsk}
 use Rattle.rb_types_keep.proofs.Checks.{bind_ok, then_ok}
-use Rattle.rb_unsplit_keeps.specs.Sites.{method_sites, class_sites, program_sites}
 use Rattle.rb_unsplit_keeps.specs.Noted.{IsNotedMethod, IsNotedClass, IsNotedProgram}
 use Rattle.rb_unsplit_keeps.specs.Batches.{method_sites, class_sites, program_sites}
 use Rattle.rb_unsplit_keeps.proofs.Agreed.{agree_parameters}

@@ -63,7 +63,6 @@ use Rattle.rb_types_keep.proofs.InSurroundings.{handled}
 use Rattle.std.proofs.lemmas.List.Elements.{Contains-append_right}
 use Rattle.rb_unsplit_keeps.specs.Noted.{IsNotedProgram}
 use Rattle.rb_unsplit_keeps.specs.Batches.{class_sites, program_sites}
-use Rattle.rb_unsplit_keeps.specs.Sites.{class_sites, program_sites}
 use Rattle.rb_unsplit_keeps.specs.Kept.{IsResult, EndsWell, MeansWell}
 use Rattle.rb_unsplit_keeps.proofs.Found.{batch_found}
 use Rattle.rb_unsplit_keeps.proofs.Agreed.{Agree}

@@ -1,5 +1,4 @@
 -- What admitted programs keep in the unsplit meaning, and the laws of it.
 pub mod Noted
 pub mod Batches
-pub mod Sites
 pub mod Kept
