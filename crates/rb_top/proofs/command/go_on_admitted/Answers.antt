@@ -9,12 +9,12 @@ use Rattle.rb_top.proofs.command.go_on_admitted.Goals as goal
 
 pub returns-in-Ok : goal.returns-in-Ok
 returns-in-Ok g c =
-    goes_divided c.args.text.now (admitted_program c.args.admitted.now) (map mirror_split c.in-Ok.splits) (asked_by c.args.command.now) c.fulfil.result _ _ c.in-Ok.ensures c.fulfil.ensures
+    goes_divided c.args.text.now (admitted_program c.args.admitted.now) (map mirror_split c.in-Ok.splits) (asked_by c.args.command.now) c.fulfil.result _ _ c.in-Ok.ensures.divided c.fulfil.ensures
 
 pub returns-in-Err-Refused : goal.returns-in-Err-Refused
 returns-in-Err-Refused g c =
     goes_undivided c.args.text.now (admitted_program c.args.admitted.now) (asked_by c.args.command.now) c.in-Err-Refused.refusal c.refuse_batch.result _ _
-    (rw c.in-Err-Refused.field-0-is at c.in-Err-Refused.ensures) c.refuse_batch.ensures refl
+    (rw c.in-Err-Refused.field-0-is at c.in-Err-Refused.ensures.divided) c.refuse_batch.ensures refl
 
 pub returns-in-Err-Memory : goal.returns-in-Err-Memory
 returns-in-Err-Memory g c =
