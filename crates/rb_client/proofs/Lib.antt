@@ -1,0 +1,11 @@
+pub mod Adding
+pub mod Answering
+pub mod Bytes
+pub mod Dropped
+pub mod Enclosed
+pub mod Events
+pub mod Lefts
+pub mod Parted
+pub mod Replaying
+pub mod Told
+pub mod Weight
