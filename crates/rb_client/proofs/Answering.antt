@@ -1,6 +1,6 @@
 -- The World of replayed code answers as the surroundings of the definition do.
-use Rattle.std.proofs.Common.{◌≡◌, refl, sym, ap, ◌∙◌, subst, ℕ, List, [], ◌∷◌, ◌++◌}
-use Rattle.std.specs.Prelude.{Option, None, Some, Result, Ok, Err}
+use Rattle.std.proofs.Common.{◌≡◌, refl, sym, ap, ◌∙◌, subst, ℕ, List}
+use Rattle.std.specs.Prelude.{None, Some, Result, Ok, Err}
 use Rattle.std.specs.Borrow.{MutBor}
 use Rattle.rb_trees.specs.declared.values.Value.{Value}
 use Rattle.rb_trees.specs.declared.values.Value.TheVariants as value
@@ -11,7 +11,7 @@ use Rattle.rb_meaning_code.specs.Dialogue as ask
 use Rattle.rb_meaning_code.specs.Dialogue.{Surroundings, handle}
 use Rattle.rb_meaning.specs.Shown.{line, shown_events}
 use Rattle.rb_meaning.specs.State.{Event}
-use Rattle.rb_meaning_split.specs.Replay.{Seen, answers_replayed, fault_at, in_replay, missed, taken, with_taken}
+use Rattle.rb_meaning_split.specs.Replay.{Seen, fault_at, in_replay, missed, taken, with_taken}
 use Rattle.rb_base.specs.Devices.{Device, failed}
 use Rattle.rb_base.specs.Sinks.{with_bytes, WrotePrefix}
 use Rattle.rb_base.specs.declared.sinks.Failed.{Failed}
@@ -22,7 +22,7 @@ use Rattle.rb_engine.specs.declared.world.Halt.TheVariants as halt
 use Rattle.rb_client.specs.Ends.{flattened}
 use Rattle.rb_client.specs.Lefts.{first_value, seen}
 use Rattle.rb_client.specs.Events.{More}
-use Rattle.rb_client.specs.Worlds.{CutsReplay, Prints, SeesReplay, Takes, Told, output, replay_answers, replay_performs, replay_view, taken_meant}
+use Rattle.rb_client.specs.Worlds.{CutsReplay, Prints, SeesReplay, Takes, output, replay_answers, replay_performs, replay_view, taken_meant}
 use Rattle.rb_client.specs.declared.early.Early.{Early}
 use Rattle.rb_client.specs.declared.early.Early.TheVariants as early
 use Rattle.rb_client.specs.declared.replay_world.ReplayWorld.{ReplayWorld}

@@ -1,19 +1,18 @@
 -- How parts are performed on nodes of their own: branches, and turns over rows.
-use Rattle.std.proofs.Common.{◌≡◌, refl, sym, ap, ◌∙◌, subst, ℕ, ◌+◌, ◌<◌, ◌≤◌, arith, List, [], ◌∷◌, map, length, drop, get_or}
+use Rattle.std.proofs.Common.{◌≡◌, refl, sym, ap, ◌∙◌, subst, ℕ, ◌+◌, ◌<◌, ◌≤◌, arith, List, [], length, drop, get_or}
 use Rattle.std.proofs.lemmas.List.{drop_all}
-use Rattle.std.specs.Prelude.{Bool, true, false, cond, Option, None, Some, Result, Ok, Err}
+use Rattle.std.specs.Prelude.{Bool, true, false, cond, None, Some, Result, Ok, Err}
 use Rattle.std.specs.Borrow.{MutBor}
 use Rattle.rb_trees.specs.declared.declarations.Class as class
 use Rattle.rb_trees.specs.declared.forests.Node as node
 use Rattle.rb_trees.specs.declared.outcomes.Raised.{Raised}
 use Rattle.rb_trees.specs.declared.remainders.Part as part
-use Rattle.rb_trees.specs.mirror.Declarations.{mirror_class}
 use Rattle.rb_trees.specs.mirror.Forests as forest
 use Rattle.rb_trees.specs.mirror.Forests.{Node, Nodes, Holds, NoEntries, MoreEntries, MoreNodes, mirror_node, mirror_nodes}
 use Rattle.rb_trees.specs.mirror.Remainders.{Turns, mirror_parts}
 use Rattle.rb_meaning_bytes.specs.Fits.{is_kept}
 use Rattle.rb_meaning_code.specs.State.{Local, bound, closed}
-use Rattle.rb_meaning_split.specs.Replay.{Seen, Replayed, Rest, behind, ended, far_fault, fault_at, missed, on_branch, on_rows, on_turn, replay_all, stopped, turns, unless}
+use Rattle.rb_meaning_split.specs.Replay.{Seen, Replayed, Rest, behind, ended, far_fault, fault_at, missed, on_branch, on_rows, on_turn, stopped, turns}
 use Rattle.rb_base.specs.Devices.{Device, failed}
 use Rattle.rb_base.specs.Sinks.{WrotePrefix}
 use Rattle.rb_base.specs.declared.sinks.Sink as sinks
@@ -30,7 +29,7 @@ use Rattle.rb_client.proofs.Adding.{behind_more, ended_adds, on_turn_more, turns
 use Rattle.rb_client.proofs.Answering.{cut_later, sees_taken}
 use Rattle.rb_client.proofs.Dropped.{dropped_one}
 use Rattle.rb_client.proofs.Events.{no_more}
-use Rattle.rb_client.proofs.Parted.{On, all_adds, as_meant, by_result, on_as, on_begin, on_ends, on_more, on_stops, raised_there}
+use Rattle.rb_client.proofs.Parted.{On, all_adds, as_meant, on_as, on_begin, on_ends, on_more, on_stops, raised_there}
 
 -- a World that stands on another node, with the same output
 pub stands : {W : Type 0} (g : sinks.Ghosts W) (out : MutBor W) (start : Device (List ℕ)) (w w' : ReplayWorld W) (s : Seen) (n : Node) → SeesReplay g out start w s → w'.out ≡ w.out → seen w'.left ≡ n → SeesReplay g out start w' (record s { node = n })

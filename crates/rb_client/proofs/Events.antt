@@ -58,3 +58,6 @@ shown_append (state.Batch ∷ es) fs = shown_append es fs
 
 pub shown_line : (es : List Event) (bytes : List ℕ) → shown_events (es ++ state.Line bytes ∷ []) ≡ shown_events es ++ line bytes
 shown_line es bytes = shown_append es (state.Line bytes ∷ []) ∙ ap (λ t. shown_events es ++ t) (append-nil (line bytes))
+
+pub shown_batch : (es : List Event) → shown_events (es ++ state.Batch ∷ []) ≡ shown_events es
+shown_batch es = shown_append es (state.Batch ∷ []) ∙ append-nil (shown_events es)

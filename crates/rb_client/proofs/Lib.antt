@@ -9,3 +9,15 @@ pub mod Parted
 pub mod Replaying
 pub mod Told
 pub mod Weight
+pub mod Traded
+pub mod Utf8
+pub mod Divided
+pub mod Performing
+pub mod ClientRuns
+pub mod ClientAnswers
+pub mod MainLed
+pub mod MainEnds
+pub mod WholeRun
+pub mod Differ
+pub mod Names
+pub mod Requested

@@ -1,28 +1,24 @@
 -- How parts are performed, one after the other and within each other.
 use Rattle.std.proofs.Common.{◌≡◌, refl, sym, ap, ◌∙◌, subst, ℕ, ◌+◌, ◌<◌, ◌≤◌, arith, List, [], ◌∷◌, map, length, drop, get_or}
 use Rattle.std.proofs.lemmas.List.{drop_all}
-use Rattle.std.specs.Prelude.{Bool, true, false, cond, Option, None, Some, Result, Ok, Err}
+use Rattle.std.specs.Prelude.{None, Some, Result, Ok, Err}
 use Rattle.std.specs.Borrow.{MutBor}
 use Rattle.rb_trees.specs.declared.code.Stmt as stmt
 use Rattle.rb_trees.specs.declared.code.Expr as expr
 use Rattle.rb_trees.specs.declared.declarations.Class as class
-use Rattle.rb_trees.specs.declared.forests.Node as node
 use Rattle.rb_trees.specs.declared.forests.NodeFault.{NodeFault}
 use Rattle.rb_trees.specs.declared.outcomes.Raised.{Raised}
 use Rattle.rb_trees.specs.declared.remainders.Part as part
 use Rattle.rb_trees.specs.declared.values.Value.{Value}
-use Rattle.rb_trees.specs.mirror.Code.{mirror_expr, mirror_stmt}
+use Rattle.rb_trees.specs.mirror.Code.{mirror_stmt}
 use Rattle.rb_trees.specs.mirror.Declarations.{mirror_class}
-use Rattle.rb_trees.specs.mirror.Forests as forest
-use Rattle.rb_trees.specs.mirror.Forests.{Node, Nodes, Holds, NoEntries, MoreEntries, mirror_node, mirror_nodes}
+use Rattle.rb_trees.specs.mirror.Forests.{Node}
 use Rattle.rb_trees.specs.mirror.Remainders.{Part, mirror_part, mirror_parts}
 use Rattle.rb_meaning_code.specs.Bodies.{bodies_of}
-use Rattle.rb_meaning_code.specs.Dialogue.{Outcome, Gave, Faulted, Dialogue, Done, Ask, AskBatch, Run, Handler, handle, next}
-use Rattle.rb_meaning_code.specs.Expressions.{evaluates}
-use Rattle.rb_meaning_code.specs.State.{Local, bound, closed}
+use Rattle.rb_meaning_code.specs.Dialogue.{Outcome, Gave, Faulted, Done, Ask, AskBatch, Run, Handler, handle, next}
+use Rattle.rb_meaning_code.specs.State.{Local, bound}
 use Rattle.rb_meaning_code.specs.Statements.{nothing, performs}
-use Rattle.rb_meaning.specs.State.{Event}
-use Rattle.rb_meaning_split.specs.Replay.{Seen, Replayed, Rest, after, behind, ended, far_fault, fault_at, in_replay, missed, on_branch, on_rows, on_value, own_fault, stopped, taken, unless}
+use Rattle.rb_meaning_split.specs.Replay.{Seen, Replayed, Rest, after, far_fault, fault_at, in_replay, on_value, own_fault, stopped, unless}
 use Rattle.rb_base.specs.Devices.{Device}
 use Rattle.rb_base.specs.declared.sinks.Failed.{Failed}
 use Rattle.rb_base.specs.declared.sinks.Sink as sinks
@@ -33,14 +29,13 @@ use Rattle.rb_engine.specs.declared.world.Halt.{Halt}
 use Rattle.rb_engine.specs.declared.world.Halt.TheVariants as halt
 use Rattle.rb_client.specs.Ends.{flattened}
 use Rattle.rb_client.specs.Events.{Adds}
-use Rattle.rb_client.specs.Lefts.{first_branch, first_rows, seen}
-use Rattle.rb_client.specs.Walks.{Does, Meaning, Performs, all_meant, bind_meant, both_meant, branch_meant, enclosed, form_meant, part_meant, pass_meant, plain_meant, rows_meant, turn_meant, turns_meant, turns_over}
-use Rattle.rb_client.specs.Worlds.{CutsReplay, SeesReplay, Takes, output, replay_view, taken_meant}
+use Rattle.rb_client.specs.Lefts.{seen}
+use Rattle.rb_client.specs.Walks.{Does, Meaning, Performs, all_meant, bind_meant, both_meant, form_meant, part_meant, pass_meant, plain_meant}
+use Rattle.rb_client.specs.Worlds.{CutsReplay, SeesReplay, Takes, replay_view, taken_meant}
 use Rattle.rb_client.specs.declared.early.Early.{Early}
 use Rattle.rb_client.specs.declared.early.Early.TheVariants as early
-use Rattle.rb_client.specs.declared.replay.Loop.{Loop}
 use Rattle.rb_client.specs.declared.replay_world.ReplayWorld.{ReplayWorld}
-use Rattle.rb_client.proofs.Adding.{after_more, behind_more, ended_adds, parts_more, turns_more, unless_more}
+use Rattle.rb_client.proofs.Adding.{after_more, parts_more}
 use Rattle.rb_client.proofs.Answering.{cut_later, replay_as, taken_seen, within}
 use Rattle.rb_client.proofs.Dropped.{dropped_one}
 use Rattle.rb_client.proofs.Events.{no_more}

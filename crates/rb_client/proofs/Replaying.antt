@@ -1,5 +1,5 @@
 -- A remainder that was performed as it means leaves what it means.
-use Rattle.std.proofs.Common.{◌≡◌, refl, sym, ap, ◌∙◌, subst, ℕ, ◌≤◌, List, length, arith}
+use Rattle.std.proofs.Common.{◌≡◌, refl, sym, ap, ◌∙◌, subst, ℕ, List, length, arith}
 use Rattle.std.specs.Prelude.{Result, Ok, Err}
 use Rattle.rb_trees.specs.declared.declarations.Class as class
 use Rattle.rb_trees.specs.declared.remainders.Part as part
@@ -7,7 +7,6 @@ use Rattle.rb_trees.specs.mirror.Forests.{Node}
 use Rattle.rb_meaning_code.specs.Dialogue.{Gave, Faulted}
 use Rattle.rb_meaning_code.specs.State.{Local, closed}
 use Rattle.rb_meaning.specs.Shown.{shown_events}
-use Rattle.rb_meaning.specs.State.{Event}
 use Rattle.rb_meaning_split.specs.Client.{left}
 use Rattle.rb_meaning_split.specs.Replay.{Replayed, Rest, ended}
 use Rattle.rb_base.specs.Devices.{Device, failed}

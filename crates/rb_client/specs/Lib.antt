@@ -5,3 +5,11 @@ pub mod Events
 pub mod Worlds
 pub mod Walks
 pub mod Replays
+pub mod Replies
+pub mod Exchanges
+pub mod Plans
+pub mod Splits
+pub mod Requests
+pub mod Clients
+pub mod Runs
+pub mod MainRuns

@@ -7,8 +7,8 @@ use Rattle.rb_trees.specs.declared.declarations.Class as class
 use Rattle.rb_trees.specs.declared.remainders.Part as part
 use Rattle.rb_trees.specs.declared.forests.Node as node
 use Rattle.rb_trees.specs.mirror.Code.{mirror_expr, mirror_stmt}
-use Rattle.rb_trees.specs.mirror.Declarations.{Class, mirror_class}
-use Rattle.rb_trees.specs.mirror.Forests.{Node, Nodes, mirror_node, mirror_nodes}
+use Rattle.rb_trees.specs.mirror.Declarations.{mirror_class}
+use Rattle.rb_trees.specs.mirror.Forests.{Node, Nodes, mirror_nodes}
 use Rattle.rb_trees.specs.mirror.Remainders as code
 use Rattle.rb_trees.specs.mirror.Remainders.{Part, Parts, mirror_part, mirror_parts}
 use Rattle.rb_meaning_code.specs.State.{Local, bound}
@@ -16,7 +16,6 @@ use Rattle.rb_meaning_split.specs.Replay.{Seen, Replayed, Rest, behind, ended, f
 use Rattle.rb_base.specs.Devices.{Device}
 use Rattle.rb_base.specs.declared.sinks.Sink as sinks
 use Rattle.rb_client.specs.Events.{Adds}
-use Rattle.rb_client.specs.Lefts.{seen}
 use Rattle.rb_client.specs.Worlds.{CutsReplay, SeesReplay}
 use Rattle.rb_client.specs.declared.early.Early.{Early}
 use Rattle.rb_client.specs.declared.early.Early.TheVariants as early

@@ -4,11 +4,21 @@
 //! What a client does with a remainder stands in `specs/` of `rb_meaning_split`; what is run is proved to be that.
 #![tactic(auto)]
 
+mod client_run;
+mod client_world;
 mod early;
 mod left;
 mod lines;
+mod plan;
 mod replay;
 mod replay_world;
+mod replies;
+mod requests;
+mod stops;
 
+pub use client_run::run_over;
+pub use client_world::ClientWorld;
 pub use early::Early;
-pub use replay::replay;
+pub use plan::Plan;
+pub use replay::perform_remainder;
+pub use stops::{BadReason, RunStop};

@@ -320,7 +320,7 @@ fn perform_row<W: Sink>(
 ///
 /// The node needn't fit the remainder: where it lacks what a part reads, and its fault isn't there, the fault is Kind.
 #[inline(never)]
-pub fn replay<W: Sink>(
+pub fn perform_remainder<W: Sink>(
     alloc: Global,
     code: &Code,
     state: &mut State,

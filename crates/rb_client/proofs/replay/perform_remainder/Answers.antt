@@ -2,7 +2,7 @@ use Rattle.std.proofs.Common.{sym, ap, ◌∙◌, take}
 use Rattle.rb_trees.specs.mirror.Forests.{mirror_node}
 use Rattle.rb_engine.specs.Locals.{local}
 use Rattle.rb_client.proofs.Replaying.{replay_so}
-use Rattle.rb_client.proofs.replay.replay.Goals as goal
+use Rattle.rb_client.proofs.replay.perform_remainder.Goals as goal
 
 pub returns : goal.returns
 returns g c =
