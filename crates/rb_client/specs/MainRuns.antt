@@ -78,3 +78,8 @@ Ends gl gw o fuel (Err stop) w = EndsAt gl gw o fuel stop w
 -- the same, wherever the World has done nothing yet
 abbrev pub RunsMain : {L W : Type 0} → links.Ghosts L → sinks.Ghosts W → ℕ → ClientWorld L W → Result Ending RunStop → ClientWorld L W → Type 0
 RunsMain {L = L} {W = W} gl gw fuel w result w' = (o : Origin L W) → SeesClient gl gw o w nothing_yet → Ends gl gw o fuel result w'
+
+-- The World holds the same output and the same link, unless memory ran out.
+abbrev pub KeepsBoth : {L W A : Type 0} → Result A RunStop → ClientWorld L W → ClientWorld L W → Type 0
+KeepsBoth (Err stops.Memory) w w' = Unit {0}
+KeepsBoth result w w' = (w'.link.ghost_name ≡ w.link.ghost_name) × (w'.out.ghost_name ≡ w.out.ghost_name)

@@ -4,16 +4,19 @@ ghost use Rattle.std.specs.Prelude.{◌≡◌, [], map, IfErr, IfOk};
 ghost use Rattle.rb_trees.specs.mirror.Declarations.{mirror_body, mirror_class};
 ghost use Rattle.rb_meaning.specs.Meaning.{runs_main};
 ghost use Rattle.rb_engine.specs.Locals.{local};
-ghost use Rattle.rb_client.specs.MainRuns.{Leads, LeadsWithin, RunsMain, result_run};
+ghost use Rattle.rb_client.specs.Exchanges.{AreDivisions};
+ghost use Rattle.rb_client.specs.MainRuns.{KeepsBoth, Leads, LeadsWithin, RunsMain, result_run};
 ghost use Rattle.rb_client.specs.Runs.{IsCutOff, Ran};
 
 use crate::client_world::ClientWorld;
+use crate::plan::Plan;
 use crate::stops::RunStop;
 use rb_base::{Link, Sink};
 use rb_code::Code;
 use rb_engine::{Frame, Halt, State, Step, eval, exec};
 use rb_heap::Heap;
-use rb_trees::{Body, Ending, Expr, Run, Value};
+use rb_trees::{Body, Ending, Expr, Run, Seq, Split, Value};
+use rb_types::Typed;
 use std::alloc::Global;
 
 /// The value of `main`, if it has one.
@@ -78,17 +81,14 @@ fn perform_main<L: Link, W: Sink>(
     }
 }
 
-/// Runs the program of a plan with so much fuel, over a link and an output: `client`. Nothing was exchanged in the World yet.
-///
-/// Each line goes to the output as it comes. At each batch its script is sent with the values of its inputs, and its remainder
-/// is performed on the node that is replied. After `WriteFault` a front of the lines was written; after `LinkFault` and
-/// `BadReply` the lines before that batch; after `Memory` nothing is said.
-pub fn run_over<L: Link, W: Sink>(
+// Runs the program of a World, in which nothing was exchanged yet.
+fn run_over<L: Link, W: Sink>(
     alloc: Global,
     world: &mut ClientWorld<'_, '_, '_, L, W>,
     fuel: u64,
 ) -> Result<Run, RunStop>
     requires { world.old.exchanges ≡ 0 }
+    ensures kept { KeepsBoth result world.old world.new }
     ensures ran { IfOk result (λ run. Ran L.Link W.Sink world.old.plan.now.program fuel run world.old.link.now world.new.link.now world.old.out.now world.new.out.now) }
     ensures cut { IfErr result (IsCutOff L.Link W.Sink world.old.plan.now.program fuel world.old.link world.old.out world.new.link.now world.new.out.now) }
 {
@@ -99,4 +99,59 @@ pub fn run_over<L: Link, W: Sink>(
         }),
         Err(stop) => Err(stop),
     }
+}
+
+// A reference is given back as it stands.
+fn give_back<A>(lent: &mut A)
+    ensures { lent.new ≡ lent.old }
+{
+    let _lent = lent;
+}
+
+// Runs the program of a plan over a link and an output.
+fn run_plan<L: Link, W: Sink>(
+    alloc: Global,
+    plan: &Plan<'_>,
+    fuel: u64,
+    link: &mut L,
+    out: &mut W,
+) -> Result<Run, RunStop>
+    ensures ran { IfOk result (λ run. Ran L.Link W.Sink plan.now.program fuel run link.old link.new out.old out.new) }
+    ensures cut { IfErr result (IsCutOff L.Link W.Sink plan.now.program fuel link.entry out.entry link.new out.new) }
+{
+    let mut world = ClientWorld::over(alloc, plan, link, out);
+    let ended = run_over(alloc, &mut world, fuel);
+    let ClientWorld {
+        alloc: _,
+        plan: _,
+        link,
+        out,
+        exchanges: _,
+    } = world;
+    give_back(link);
+    give_back(out);
+    ended
+}
+
+/// Runs a typed program with so much fuel, whose batches have these divisions, over a link: `client`.
+///
+/// Each line goes to the output as it comes. At each batch its script is sent with the values of its inputs, and its remainder
+/// is performed on the node that is replied. After `WriteFault` a front of the lines was written; after `LinkFault` and
+/// `BadReply` the lines before that batch; after `Memory` nothing is said.
+pub fn run_client<L: Link, W: Sink>(
+    alloc: Global,
+    typed: &Typed,
+    splits: &Seq<Split>,
+    fuel: u64,
+    link: &mut L,
+    out: &mut W,
+) -> Result<Run, RunStop>
+    requires { AreDivisions typed.now splits.now }
+    ensures ran { IfOk result (λ run. Ran L.Link W.Sink typed.now fuel run link.old link.new out.old out.new) }
+    ensures cut { IfErr result (IsCutOff L.Link W.Sink typed.now fuel link.entry out.entry link.new out.new) }
+{
+    let program = typed.program();
+    let code = Code::make(alloc, &program.classes)?;
+    let plan = Plan::new(typed, splits, &code);
+    run_plan(alloc, &plan, fuel, link, out)
 }

@@ -16,9 +16,5 @@ mod replies;
 mod requests;
 mod stops;
 
-pub use client_run::run_over;
-pub use client_world::ClientWorld;
-pub use early::Early;
-pub use plan::Plan;
-pub use replay::perform_remainder;
+pub use client_run::run_client;
 pub use stops::{BadReason, RunStop};
