@@ -1,18 +1,17 @@
 -- How parts are performed on nodes of their own: branches, and turns over rows.
 use Rattle.std.proofs.Common.{◌≡◌, refl, sym, ap, ◌∙◌, subst, ℕ, ◌+◌, ◌<◌, ◌≤◌, arith, List, [], length, drop, get_or}
 use Rattle.std.proofs.lemmas.List.{drop_all}
-use Rattle.std.specs.Prelude.{Bool, true, false, cond, None, Some, Result, Ok, Err}
+use Rattle.std.specs.Prelude.{Bool, true, false, cond, Some, Result, Ok, Err}
 use Rattle.std.specs.Borrow.{MutBor}
 use Rattle.rb_trees.specs.declared.declarations.Class as class
 use Rattle.rb_trees.specs.declared.forests.Node as node
-use Rattle.rb_trees.specs.declared.outcomes.Raised.{Raised}
 use Rattle.rb_trees.specs.declared.remainders.Part as part
 use Rattle.rb_trees.specs.mirror.Forests as forest
 use Rattle.rb_trees.specs.mirror.Forests.{Node, Nodes, Holds, NoEntries, MoreEntries, MoreNodes, mirror_node, mirror_nodes}
 use Rattle.rb_trees.specs.mirror.Remainders.{Turns, mirror_parts}
 use Rattle.rb_meaning_bytes.specs.Fits.{is_kept}
 use Rattle.rb_meaning_code.specs.State.{Local, bound, closed}
-use Rattle.rb_meaning_split.specs.Replay.{Seen, Replayed, Rest, behind, ended, far_fault, fault_at, missed, on_branch, on_rows, on_turn, stopped, turns}
+use Rattle.rb_meaning_split.specs.Replay.{Seen, Replayed, Rest, behind, ended, far_fault, fault_at, on_branch, on_rows, on_turn, stopped, turns}
 use Rattle.rb_base.specs.Devices.{Device, failed}
 use Rattle.rb_base.specs.Sinks.{WrotePrefix}
 use Rattle.rb_base.specs.declared.sinks.Sink as sinks
@@ -29,7 +28,7 @@ use Rattle.rb_client.proofs.Adding.{behind_more, ended_adds, on_turn_more, turns
 use Rattle.rb_client.proofs.Answering.{cut_later, sees_taken}
 use Rattle.rb_client.proofs.Dropped.{dropped_one}
 use Rattle.rb_client.proofs.Events.{no_more}
-use Rattle.rb_client.proofs.Parted.{On, all_adds, as_meant, on_as, on_begin, on_ends, on_more, on_stops, raised_there}
+use Rattle.rb_client.proofs.Parted.{On, all_adds, as_meant, on_as, on_begin, on_ends, on_more, on_stops}
 
 -- a World that stands on another node, with the same output
 pub stands : {W : Type 0} (g : sinks.Ghosts W) (out : MutBor W) (start : Device (List ℕ)) (w w' : ReplayWorld W) (s : Seen) (n : Node) → SeesReplay g out start w s → w'.out ≡ w.out → seen w'.left ≡ n → SeesReplay g out start w' (record s { node = n })
@@ -73,12 +72,6 @@ branch_first step (Holds (MoreEntries (forest.Value v) es) f) x l s go e = absur
 branch_first step (Holds (MoreEntries (forest.Branch b n) es) f) x l s go e = let same : (b, n, Holds es f) ≡ x = cc e in ap (λ y. go y.0 y.1 y.2) same
 branch_first step (Holds (MoreEntries (forest.Rows ns) es) f) x l s go e = absurd (cc e)
 
-branch_missed : (step : ℕ) (n : Node) (l : Local) (s : Seen) (go : Bool → Node → Node → Replayed) → first_branch n ≡ None → on_branch step n l s go ≡ stopped (missed (fault_at step n)) l s
-branch_missed step (Holds NoEntries f) l s go e = refl
-branch_missed step (Holds (MoreEntries (forest.Value v) es) f) l s go e = refl
-branch_missed step (Holds (MoreEntries (forest.Branch b n) es) f) l s go e = absurd (cc e)
-branch_missed step (Holds (MoreEntries (forest.Rows ns) es) f) l s go e = refl
-
 -- the parts that are gone on with in a branch
 abbrev branch_on : List class.Class → ℕ → List part.Part → List part.Part → ℕ → Local → Seen → Rest → Bool → Node → Node → Replayed
 branch_on classes step a b gas l s go holds n rest =
@@ -100,12 +93,6 @@ pub branch_so : {W : Type 0} (g : sinks.Ghosts W) (classes : List class.Class) (
     → first_branch (seen w.left) ≡ Some (holds, n, rest) → ps ≡ cond holds a b → Performs g (enclosed (all_meant classes ps) n rest) l w r l' w' → Performs g (branch_meant classes step a b) l w r l' w'
 branch_so g classes step a b ps holds n rest l l' w w' r first is h =
     as_seen (λ gas s go e. branch_first step s.node (holds, n, rest) l s (branch_on classes step a b gas l s go) (ap first_branch (sym e) ∙ first) ∙ branch_chosen classes step a b ps gas l s go holds n rest is) h
-
-pub branch_faults : {W : Type 0} (g : sinks.Ghosts W) (classes : List class.Class) (step : ℕ) (a b : List part.Part) (l : Local) (w : ReplayWorld W) (r : Raised) → first_branch (seen w.left) ≡ None → r ≡ missed (fault_at step (seen w.left))
-    → Performs g (branch_meant classes step a b) l w (Err (early.Raised r)) l w
-branch_faults g classes step a b l w r none is =
-    raised_there g (branch_meant classes step a b) l w r (λ gas s go e.
-    branch_missed step s.node l s (branch_on classes step a b gas l s go) (ap first_branch (sym e) ∙ none) ∙ ap (λ x. stopped (missed (fault_at step x)) l s) (sym e) ∙ ap (λ x. stopped x l s) (sym is))
 
 -- Turns.
 
@@ -179,24 +166,12 @@ rows_first step (Holds (MoreEntries (forest.Value v) es) f) x l s go e = absurd 
 rows_first step (Holds (MoreEntries (forest.Branch b n) es) f) x l s go e = absurd (cc e)
 rows_first step (Holds (MoreEntries (forest.Rows ns) es) f) x l s go e = let same : (ns, Holds es f) ≡ x = cc e in ap (λ y. go y.0 y.1) same
 
-rows_missed : (step : ℕ) (n : Node) (l : Local) (s : Seen) (go : Nodes → Node → Replayed) → first_rows n ≡ None → on_rows step n l s go ≡ stopped (missed (fault_at step n)) l s
-rows_missed step (Holds NoEntries f) l s go e = refl
-rows_missed step (Holds (MoreEntries (forest.Value v) es) f) l s go e = refl
-rows_missed step (Holds (MoreEntries (forest.Branch b n) es) f) l s go e = refl
-rows_missed step (Holds (MoreEntries (forest.Rows ns) es) f) l s go e = absurd (cc e)
-
 -- the turns that are gone on with, and then the step's place
 abbrev rows_on : List class.Class → Loop → ℕ → Local → Seen → Rest → Nodes → Node → Replayed
 rows_on classes t gas l s go ns rest = turns_over classes t ns rest gas l s (λ l1 s1. pass_meant t.step gas l1 s1 go)
 
 abbrev over : List class.Class → Loop → Nodes → Node → Meaning
 over classes t ns rest gas l s go = rows_on classes t gas l s go ns rest
-
-pub rows_faults : {W : Type 0} (g : sinks.Ghosts W) (classes : List class.Class) (t : Loop) (l : Local) (w : ReplayWorld W) (r : Raised) → first_rows (seen w.left) ≡ None → r ≡ missed (fault_at t.step (seen w.left))
-    → Performs g (rows_meant classes t) l w (Err (early.Raised r)) l w
-rows_faults g classes t l w r none is =
-    raised_there g (rows_meant classes t) l w r (λ gas s go e.
-    rows_missed t.step s.node l s (rows_on classes t gas l s go) (ap first_rows (sym e) ∙ none) ∙ ap (λ x. stopped (missed (fault_at t.step x)) l s) (sym e) ∙ ap (λ x. stopped x l s) (sym is))
 
 rows_begin : {W : Type 0} (g : sinks.Ghosts W) (classes : List class.Class) (t : Loop) (ns : Nodes) (rest : Node) (l : Local) (w : ReplayWorld W) → first_rows (seen w.left) ≡ Some (ns, rest) → On g (rows_meant classes t) (over classes t ns rest) l w l w
 rows_begin g classes t ns rest l w first = record {

@@ -1,12 +1,11 @@
 -- How parts are performed, one after the other and within each other.
 use Rattle.std.proofs.Common.{◌≡◌, refl, sym, ap, ◌∙◌, subst, ℕ, ◌+◌, ◌<◌, ◌≤◌, arith, List, [], ◌∷◌, map, length, drop, get_or}
 use Rattle.std.proofs.lemmas.List.{drop_all}
-use Rattle.std.specs.Prelude.{None, Some, Result, Ok, Err}
+use Rattle.std.specs.Prelude.{None, Result, Ok, Err}
 use Rattle.std.specs.Borrow.{MutBor}
 use Rattle.rb_trees.specs.declared.code.Stmt as stmt
 use Rattle.rb_trees.specs.declared.code.Expr as expr
 use Rattle.rb_trees.specs.declared.declarations.Class as class
-use Rattle.rb_trees.specs.declared.forests.NodeFault.{NodeFault}
 use Rattle.rb_trees.specs.declared.outcomes.Raised.{Raised}
 use Rattle.rb_trees.specs.declared.remainders.Part as part
 use Rattle.rb_trees.specs.declared.values.Value.{Value}
@@ -18,7 +17,7 @@ use Rattle.rb_meaning_code.specs.Bodies.{bodies_of}
 use Rattle.rb_meaning_code.specs.Dialogue.{Outcome, Gave, Faulted, Done, Ask, AskBatch, Run, Handler, handle, next}
 use Rattle.rb_meaning_code.specs.State.{Local, bound}
 use Rattle.rb_meaning_code.specs.Statements.{nothing, performs}
-use Rattle.rb_meaning_split.specs.Replay.{Seen, Replayed, Rest, after, far_fault, fault_at, in_replay, on_value, own_fault, stopped, unless}
+use Rattle.rb_meaning_split.specs.Replay.{Seen, Replayed, Rest, after, fault_at, in_replay, on_value, own_fault, stopped, unless}
 use Rattle.rb_base.specs.Devices.{Device}
 use Rattle.rb_base.specs.declared.sinks.Failed.{Failed}
 use Rattle.rb_base.specs.declared.sinks.Sink as sinks
@@ -30,7 +29,7 @@ use Rattle.rb_engine.specs.declared.world.Halt.TheVariants as halt
 use Rattle.rb_client.specs.Ends.{flattened}
 use Rattle.rb_client.specs.Events.{Adds}
 use Rattle.rb_client.specs.Lefts.{seen}
-use Rattle.rb_client.specs.Walks.{Does, Meaning, Performs, all_meant, bind_meant, both_meant, form_meant, part_meant, pass_meant, plain_meant}
+use Rattle.rb_client.specs.Walks.{Does, Meaning, Performs, all_meant, bind_meant, both_meant, form_meant, part_meant, plain_meant}
 use Rattle.rb_client.specs.Worlds.{CutsReplay, SeesReplay, Takes, replay_view, taken_meant}
 use Rattle.rb_client.specs.declared.early.Early.{Early}
 use Rattle.rb_client.specs.declared.early.Early.TheVariants as early
@@ -213,19 +212,6 @@ plain_so g classes x xs l l' w w' r q one is h = by_result is (record {
 
 -- The place of a step, and its fault.
 
-pub raised_there : {W : Type 0} (g : sinks.Ghosts W) (m : Meaning) (l : Local) (w : ReplayWorld W) (r : Raised) → ((gas : ℕ) (s : Seen) (go : Rest) → seen w.left ≡ s.node → m gas l s go ≡ stopped r l s) → Performs g m l w (Err (early.Raised r)) l w
-raised_there g m l w r e = record { fuel = omega arith; depth = refl; does = λ gas le out start s sees. (s, sees, λ go. e gas s go sees.node_so) }
-
-goes_there : {W : Type 0} (g : sinks.Ghosts W) (m : Meaning) (l : Local) (w : ReplayWorld W) → ((gas : ℕ) (s : Seen) (go : Rest) → seen w.left ≡ s.node → m gas l s go ≡ go l s) → Performs g m l w (Ok tt) l w
-goes_there g m l w e = record { fuel = omega arith; depth = refl; does = λ gas le out start s sees. (s, sees, λ go. e gas s go sees.node_so) }
-
-pub pass_faults : {W : Type 0} (g : sinks.Ghosts W) (l : Local) (w : ReplayWorld W) (step : ℕ) (f : NodeFault) (r : Raised) → fault_at step (seen w.left) ≡ Some f → r ≡ far_fault f → Performs g (pass_meant step) l w (Err (early.Raised r)) l w
-pass_faults g l w step f r is same = raised_there g (pass_meant step) l w r (λ gas s go e.
-    ap (λ o. unless o far_fault l s (go l s)) (ap (fault_at step) (sym e) ∙ is) ∙ ap (λ x. stopped x l s) (sym same))
-
-pub pass_goes : {W : Type 0} (g : sinks.Ghosts W) (l : Local) (w : ReplayWorld W) (step : ℕ) → fault_at step (seen w.left) ≡ None → Performs g (pass_meant step) l w (Ok tt) l w
-pass_goes g l w step is = goes_there g (pass_meant step) l w (λ gas s go e. ap (λ o. unless o far_fault l s (go l s)) (ap (fault_at step) (sym e) ∙ is))
-
 -- Values that are bound.
 
 pub bind_so : {W : Type 0} (g : sinks.Ghosts W) (l l' : Local) (w w' : ReplayWorld W) (step : ℕ) (name : List ℕ) (t : Result Value Early) (v : Value) → Takes (taken_meant w step) w t w' → t ≡ Ok v → l' ≡ bound name v l
@@ -241,27 +227,7 @@ bind_so g l l' w w' step name t v takes is end =
           (record s { node = seen w'.left }, e.1, λ go. ap (λ x. on_value x l s (λ v s1. go (bound name v l) s1)) e.0 ∙ ap (λ x. go x (record s { node = seen w'.left })) (sym end));
     }
 
-pub bind_faults : {W : Type 0} (g : sinks.Ghosts W) (l : Local) (w w' : ReplayWorld W) (step : ℕ) (name : List ℕ) (t : Result Value Early) (h : Early) (q : Result (Unit {0}) Early) → Takes (taken_meant w step) w t w' → t ≡ Err h → q ≡ Err h
-    → Performs g (bind_meant step name) l w q l w'
-bind_faults g l w w' step name t h q takes is so = by_result so (by_early h (subst (λ x. Takes (taken_meant w step) w x w') is takes))
-  where
-    by_early : (h : Early) → Takes (taken_meant w step) w (Err h) w' → Performs g (bind_meant step name) l w (Err h) l w'
-    by_early (early.Raised r) k = record {
-      fuel = omega arith;
-      depth = refl;
-      does = λ gas le out start s sees.
-          let e = taken_seen g out start w w' s step (Err r) sees k.0 k.1 in
-          (record s { node = seen w'.left }, e.1, λ go. ap (λ x. on_value x l s (λ v s1. go (bound name v l) s1)) e.0);
-    }
-    by_early early.WriteFault k = absurd k
-    by_early early.Memory k = want g (bind_meant step name) l l w w' (Err early.Memory) early.Memory refl refl (omega arith) refl
-
 -- What is evaluated on both sides.
-
-pub both_faults : {W : Type 0} (g : sinks.Ghosts W) (classes : List class.Class) (l : Local) (w : ReplayWorld W) (step : ℕ) (name : List ℕ) (e : expr.Expr) (f : NodeFault) (r : Raised) → fault_at step (seen w.left) ≡ Some f → r ≡ own_fault f
-    → Performs g (both_meant classes step name e) l w (Err (early.Raised r)) l w
-both_faults g classes l w step name e f r is same = raised_there g (both_meant classes step name e) l w r (λ gas s go n.
-    ap (λ o. unless o own_fault l s (after (handle in_replay (value_run classes e gas l) s) (λ v l1 s1. go (bound name v l1) s1))) (ap (fault_at step) (sym n) ∙ is) ∙ ap (λ x. stopped x l s) (sym same))
 
 -- what is bound where the code gave a value
 bound_does : {W : Type 0} (g : sinks.Ghosts W) (out : MutBor W) (start : Device (List ℕ)) (name : List ℕ) (handled : Outcome Value × Seen) (v : Value) (l l' : Local) (w : ReplayWorld W) → Leads g out start handled (Ok v) l w → l' ≡ bound name v l

@@ -1,6 +1,5 @@
 -- A weight of parts, which falls at each step into them.
-use Rattle.std.proofs.Common.{◌≡◌, ap, ℕ, zero, suc, ◌+◌, ◌<◌, ◌≤◌, max, arith, List, [], ◌∷◌, length, get_or}
-use Rattle.std.specs.Prelude.{Bool, true, false, cond}
+use Rattle.std.proofs.Common.{ℕ, zero, suc, ◌+◌, ◌<◌, ◌≤◌, max, arith, List, [], ◌∷◌, length, get_or}
 use Rattle.rb_trees.specs.declared.remainders.Part as tree
 use Rattle.rb_trees.specs.mirror.Remainders as part
 use Rattle.rb_trees.specs.mirror.Remainders.{Part, Parts, mirror_part, mirror_parts}
@@ -30,7 +29,3 @@ pub part_in : (ps : List tree.Part) (i : ℕ) (p : tree.Part) → i < length ps 
 part_in [] i p l = absurd (omega arith)
 part_in (x ∷ ps) zero p l = omega arith
 part_in (x ∷ ps) (suc i) p l = let h = part_in ps i p (omega arith) in omega arith
-
-pub chosen_in : (holds : Bool) (a b ps : List tree.Part) → ps ≡ cond holds a b → parts_of ps ≤ max (parts_of a) (parts_of b)
-chosen_in true a b ps e = let h = ap parts_of e in omega (arith, h)
-chosen_in false a b ps e = let h = ap parts_of e in omega (arith, h)
