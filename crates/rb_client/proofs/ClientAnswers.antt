@@ -1,0 +1,133 @@
+-- The client's World answers as the surroundings of the definition do.
+use Rattle.std.proofs.Common.{◌≡◌, refl, sym, ap, ◌∙◌, subst, ℕ, ◌+◌, List, [], ◌∷◌, ◌++◌, append-nil}
+use Rattle.std.specs.Prelude.{None, Some, OnOk, Result, Ok, Err}
+use Rattle.rb_trees.specs.declared.forests.Node as node
+use Rattle.rb_trees.specs.declared.outcomes.Raised.{Raised}
+use Rattle.rb_trees.specs.declared.remainders.Split.{Split}
+use Rattle.rb_trees.specs.declared.values.Value.{Value}
+use Rattle.rb_trees.specs.declared.values.Value.TheVariants as value
+use Rattle.rb_trees.specs.mirror.Declarations.{mirror_program}
+use Rattle.rb_trees.specs.mirror.Forests.{Node}
+use Rattle.rb_trees.specs.mirror.Remainders.{mirror_parts}
+use Rattle.rb_meaning_code.specs.Dialogue as ask
+use Rattle.rb_meaning_code.specs.Dialogue.{Question, Outcome, Gave, Faulted}
+use Rattle.rb_meaning_code.specs.Faults.{kind, raised}
+use Rattle.rb_meaning_code.specs.State.{Local, Names}
+use Rattle.rb_meaning.specs.Shown.{line, shown_events}
+use Rattle.rb_meaning.specs.State as state
+use Rattle.rb_meaning.specs.Unsplit.{batch_at}
+use Rattle.rb_meaning_split.specs.Client.{answers_waiting, performs_divided}
+use Rattle.rb_meaning_split.specs.Division.{division}
+use Rattle.rb_base.specs.Devices.{failed}
+use Rattle.rb_base.specs.Sinks.{with_bytes, WrotePrefix}
+use Rattle.rb_base.specs.declared.links.Link as links
+use Rattle.rb_base.specs.declared.sinks.Sink as sinks
+use Rattle.rb_engine.specs.Answers.{Answered, performed}
+use Rattle.rb_engine.specs.declared.world.Halt.{Halt}
+use Rattle.rb_engine.specs.declared.world.Halt.TheVariants as halt
+use Rattle.rb_client.specs.Clients.{Fetched, Fetches, Past, PerformedAs, PerformsSplit, client_answers, client_performs, waiting}
+use Rattle.rb_client.specs.Exchanges.{AreDivisions}
+use Rattle.rb_client.specs.Replies.{Trades, pairs_of}
+use Rattle.rb_client.specs.Requests.{IsRequest}
+use Rattle.rb_client.specs.Splits.{split_at}
+use Rattle.rb_client.specs.Worlds.{output}
+use Rattle.rb_client.specs.declared.client_world.ClientWorld.{ClientWorld}
+use Rattle.rb_client.specs.declared.stops.RunStop.{RunStop}
+use Rattle.rb_client.specs.declared.stops.RunStop.TheVariants as stops
+use Rattle.rb_client.proofs.Bytes.{both_whole, fails_next}
+use Rattle.rb_client.proofs.Divided.{none_found, some_found}
+use Rattle.rb_client.proofs.Events.{shown_line}
+
+module _ {L W : Type 0} (gl : links.Ghosts L) (gw : sinks.Ghosts W) where
+  -- an answer after which nothing is another
+  pub answered_still : (w : ClientWorld L W) (q : Question) (a : Result Value Raised) → ((h : Past) (more : List Node) → answers_waiting (waiting h more) q ≡ (a, waiting h more)) → client_answers gl gw w q (Ok a) w
+  answered_still w q a e = λ o h sees. (h, sees, refl, λ more. e h more)
+
+  -- Lines.
+
+  pub line_whole : (w w' : ClientWorld L W) (at : ℕ) (bytes : List ℕ) → w'.plan ≡ w.plan → w'.link ≡ w.link → w'.exchanges ≡ w.exchanges → w'.out.ghost_name ≡ w.out.ghost_name
+      → output gw w'.out.now ≡ with_bytes (output gw w.out.now) (line bytes) → client_answers gl gw w (ask.Line at bytes) (Ok (Ok value.Unit)) w'
+  line_whole w w' at bytes plan link count name e = λ o h sees. (
+    record { events = h.events ++ state.Line bytes ∷ []; sent = h.sent; nodes = h.nodes },
+    record {
+      program_so = ap (λ x. mirror_program x.now.program) plan ∙ sees.program_so;
+      same_output = name ∙ sees.same_output;
+      same_link = ap (λ x. x.ghost_name) link ∙ sees.same_link;
+      written = both_whole o.start (output gw w.out.now) (output gw w'.out.now) (shown_events h.events) (line bytes) sees.written e ∙ ap (with_bytes o.start) (sym (shown_line h.events bytes));
+      exchanged = record { pairs = sees.exchanged.pairs; pairs_so = ap (λ x. pairs_of gl x.now) link ∙ sees.exchanged.pairs_so; exchanges = sees.exchanged.exchanges };
+      faults_so = ap (λ x. gl.faults x.now) link ∙ sees.faults_so;
+      exchanges_so = count ∙ sees.exchanges_so;
+    },
+    refl,
+    λ more. refl,
+  )
+
+  pub line_cut : (w w' : ClientWorld L W) (at : ℕ) (bytes : List ℕ) → w'.link ≡ w.link → w'.out.ghost_name ≡ w.out.ghost_name → WrotePrefix (failed (output gw w.out.now)) (output gw w'.out.now) (line bytes)
+      → client_answers gl gw w (ask.Line at bytes) (Err stops.WriteFault) w'
+  line_cut w w' at bytes link name p = λ o h sees. (
+    refl,
+    record {
+      sent = h.sent;
+      same_output = name ∙ sees.same_output;
+      same_link = ap (λ x. x.ghost_name) link ∙ sees.same_link;
+      written = subst (λ t. WrotePrefix (failed o.start) (output gw w'.out.now) t) (sym (shown_line h.events bytes))
+          (fails_next o.start (output gw w.out.now) (output gw w'.out.now) (shown_events h.events) (line bytes) sees.written p);
+      exchanged = record { pairs = sees.exchanged.pairs; pairs_so = ap (λ x. pairs_of gl x.now) link ∙ sees.exchanged.pairs_so; exchanges = sees.exchanged.exchanges };
+      faults_so = ap (λ x. gl.faults x.now) link ∙ sees.faults_so;
+    },
+  )
+
+  -- Batches.
+
+  found_in : (w w' : ClientWorld L W) (at : ℕ) (l : Local) (e : Result (Outcome (Unit {0})) RunStop) (split : Split) → AreDivisions w.plan.now.program w.plan.now.splits → split_at w.plan.now.splits at ≡ Some split → PerformsSplit gl gw split at w l e w'
+      → client_performs gl gw w at l e w'
+  found_in w w' at l e split are is h = λ o past sees.
+      let f = some_found (mirror_program w.plan.now.program) w.plan.now.splits at split are.divided is in
+      let stands : batch_at o.program at ≡ Some f.batch = ap (λ p. batch_at p at) (sym sees.program_so) ∙ f.stands in
+      subst (λ b. PerformedAs gl gw o past b at l e w') (sym stands) (h o past f.batch sees stands (f.is ∙ ap (λ p. division p f.batch) sees.program_so))
+
+  pub batch_found : (w w' : ClientWorld L W) (at : ℕ) (l l' : Local) (q : Result (Result (Unit {0}) Raised) (Halt RunStop)) (split : Split) → AreDivisions w.plan.now.program w.plan.now.splits → split_at w.plan.now.splits at ≡ Some split
+      → Answered (performed l' q) (λ e. PerformsSplit gl gw split at w l e w') → Answered (performed l' q) (λ e. client_performs gl gw w at l e w')
+  batch_found w w' at l l' (Ok (Ok u)) split are is h = found_in w w' at l (Ok (Gave tt l')) split are is h
+  batch_found w w' at l l' (Ok (Err f)) split are is h = found_in w w' at l (Ok (Faulted f l')) split are is h
+  batch_found w w' at l l' (Err halt.Memory) split are is h = tt
+  batch_found w w' at l l' (Err (halt.World x)) split are is h = found_in w w' at l (Err x) split are is h
+
+  pub batch_missing : (w : ClientWorld L W) (at : ℕ) (l : Local) (r : Raised) → AreDivisions w.plan.now.program w.plan.now.splits → split_at w.plan.now.splits at ≡ None → r ≡ raised kind at → client_performs gl gw w at l (Ok (Faulted r l)) w
+  batch_missing w at l r are is same = λ o h sees.
+      let none : batch_at o.program at ≡ None = ap (λ p. batch_at p at) (sym sees.program_so) ∙ none_found (mirror_program w.plan.now.program) w.plan.now.splits at are.divided is in (
+        [],
+        h,
+        sees,
+        sym (append-nil h.nodes),
+        λ more. ap (λ b. performs_divided o.program b at l (waiting h more)) none ∙ ap (λ x. (Faulted x l, waiting h more)) (sym same),
+      )
+
+-- Exchanges.
+
+fetches_of : {L W : Type 0} (gl : links.Ghosts L) (split : Split) (names : Names) (w w' : ClientWorld L W) (r : Result node.Node RunStop) → Fetched gl split names w r w' → Fetches gl split names w r w'
+fetches_of gl split names w w' (Ok n) f = f
+fetches_of gl split names w w' (Err (stops.LinkFault k)) f = f
+fetches_of gl split names w w' (Err (stops.BadReply k why number bytes)) f = f
+fetches_of gl split names w w' (Err stops.WriteFault) f = f
+fetches_of gl split names w w' (Err stops.Memory) f = tt
+
+pub fetch_so : {L W : Type 0} (gl : links.Ghosts L) (split : Split) (names : Names) (w w' : ClientWorld L W) (request slice : List ℕ) (t r : Result node.Node RunStop) → slice ≡ request → IsRequest split names request
+    → Trades gl (mirror_parts split.remainder) w.exchanges slice w.link.now t w'.link.now → w'.link.ghost_name ≡ w.link.ghost_name → w'.plan ≡ w.plan → w'.out ≡ w.out → r ≡ t → OnOk r (w'.exchanges ≡ w.exchanges + 1) → Fetches gl split names w r w'
+fetch_so gl split names w w' request slice t r same is trades link plan out ends count = fetches_of gl split names w w' r (record {
+  request = request;
+  request_so = is.spells;
+  trades = subst (λ x. Trades gl (mirror_parts split.remainder) w.exchanges request w.link.now x w'.link.now) (sym ends) (subst (λ x. Trades gl (mirror_parts split.remainder) w.exchanges x w.link.now t w'.link.now) same trades);
+  same_link = link;
+  same_plan = plan;
+  same_output = out;
+  counted = count;
+})
+
+none_counted : (r : Result node.Node RunStop) (e : RunStop) (P : Type 0) → r ≡ Err e → OnOk r P
+none_counted (Ok n) e P is = absurd (cc is)
+none_counted (Err x) e P is = tt
+
+pub fetch_stops : {L W : Type 0} (gl : links.Ghosts L) (split : Split) (names : Names) (w w' : ClientWorld L W) (request slice : List ℕ) (t r : Result node.Node RunStop) (e : RunStop) → slice ≡ request → IsRequest split names request
+    → Trades gl (mirror_parts split.remainder) w.exchanges slice w.link.now t w'.link.now → w'.link.ghost_name ≡ w.link.ghost_name → w'.plan ≡ w.plan → w'.out ≡ w.out → t ≡ Err e → r ≡ Err e → Fetches gl split names w r w'
+fetch_stops gl split names w w' request slice t r e same is trades link plan out was ends = fetch_so gl split names w w' request slice t r same is trades link plan out (ends ∙ sym was) (none_counted r e _ ends)

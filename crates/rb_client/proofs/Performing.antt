@@ -1,0 +1,214 @@
+-- A batch is performed as the definition performs it, where its division was found.
+use Rattle.std.proofs.Common.{◌≡◌, refl, sym, ap, ◌∙◌, subst, ℕ, arith, List, [], ◌∷◌, ◌++◌, map, length, length-append, append_assoc}
+use Rattle.std.specs.Prelude.{Option, None, Some, Result, Ok, Err}
+use Rattle.rb_trees.specs.declared.declarations.Class as class
+use Rattle.rb_trees.specs.declared.forests.Node as node
+use Rattle.rb_trees.specs.declared.outcomes.Raised.{Raised}
+use Rattle.rb_trees.specs.declared.remainders.Split.{Split}
+use Rattle.rb_trees.specs.mirror.Declarations.{Program, mirror_class, mirror_program}
+use Rattle.rb_trees.specs.mirror.Forests.{Node, mirror_node}
+use Rattle.rb_trees.specs.mirror.Remainders.{mirror_parts}
+use Rattle.rb_meaning_bytes.specs.Fits.{fits}
+use Rattle.rb_meaning_bytes.specs.formats.Formats.{Spells}
+use Rattle.rb_meaning_bytes.specs.formats.Scripts.{script_message}
+use Rattle.rb_meaning_code.specs.Dialogue.{Outcome, Gave, Faulted}
+use Rattle.rb_meaning_code.specs.State.{Local}
+use Rattle.rb_meaning.specs.Answers.{forest_kind}
+use Rattle.rb_meaning.specs.Links.{Pair}
+use Rattle.rb_meaning.specs.Shown.{shown_events}
+use Rattle.rb_meaning.specs.State as state
+use Rattle.rb_meaning.specs.State.{Event}
+use Rattle.rb_meaning.specs.Unsplit.{batch_at}
+use Rattle.rb_meaning_flow.specs.Outermost.{Outermost}
+use Rattle.rb_meaning_split.specs.Client.{Sent, input_values, replays, sent_for}
+use Rattle.rb_meaning_split.specs.Division.{Division, division}
+use Rattle.rb_meaning_split.specs.Replay.{Replayed, ended, replay_all}
+use Rattle.rb_base.specs.Counts.{risen}
+use Rattle.rb_base.specs.Devices.{failed}
+use Rattle.rb_base.specs.Sinks.{with_bytes, WrotePrefix}
+use Rattle.rb_base.specs.declared.links.Link as links
+use Rattle.rb_base.specs.declared.sinks.Sink as sinks
+use Rattle.rb_engine.specs.Answers.{Answered, performed}
+use Rattle.rb_engine.specs.declared.world.Halt.{Halt}
+use Rattle.rb_client.specs.Clients.{Fetched, Fetches, Origin, Past, PerformedAs, PerformsSplit, SeesClient, waiting}
+use Rattle.rb_client.specs.Ends.{halted, stepped}
+use Rattle.rb_client.specs.Exchanges.{Exchanged, Exchanges, IsExchange, seen_split}
+use Rattle.rb_client.specs.Replays.{EndsSo, Replays, outside, remainder_meant}
+use Rattle.rb_client.specs.Replies.{HasReason, more_pairs, pair_of, pairs_of, refused_pairs}
+use Rattle.rb_client.specs.Worlds.{output}
+use Rattle.rb_client.specs.declared.client_world.ClientWorld.{ClientWorld}
+use Rattle.rb_client.specs.declared.early.Early.{Early}
+use Rattle.rb_client.specs.declared.early.Early.TheVariants as early
+use Rattle.rb_client.specs.declared.stops.RunStop.{RunStop}
+use Rattle.rb_client.specs.declared.stops.RunStop.TheVariants as stops
+use Rattle.rb_client.proofs.Events.{shown_batch}
+
+-- one exchange more
+exchanges_more : (p : Program) (pairs : List Pair) (sent : List Sent) (nodes : List Node) (pair : Pair) (x : Sent) (n : Node) → Exchanges p pairs sent nodes → IsExchange p pair x n → Exchanges p (pairs ++ pair ∷ []) (sent ++ x ∷ []) (nodes ++ n ∷ [])
+exchanges_more p [] [] [] pair x n e i = (i, tt)
+exchanges_more p (a ∷ pairs) (b ∷ sent) (c ∷ nodes) pair x n e i = (e.0, exchanges_more p pairs sent nodes pair x n e.1 i)
+exchanges_more p [] [] (c ∷ nodes) pair x n e i = absurd e
+exchanges_more p [] (b ∷ sent) [] pair x n e i = absurd e
+exchanges_more p [] (b ∷ sent) (c ∷ nodes) pair x n e i = absurd e
+exchanges_more p (a ∷ pairs) [] [] pair x n e i = absurd e
+exchanges_more p (a ∷ pairs) [] (c ∷ nodes) pair x n e i = absurd e
+exchanges_more p (a ∷ pairs) (b ∷ sent) [] pair x n e i = absurd e
+
+pairs_twice : (before : Option (List Pair)) (a b : List Pair) → more_pairs b (more_pairs a before) ≡ more_pairs (a ++ b) before
+pairs_twice None a b = refl
+pairs_twice (Some pairs) a b = ap Some (append_assoc pairs a b)
+
+exchanged_more : (p : Program) (before mid after : Option (List Pair)) (sent : List Sent) (nodes : List Node) (pair : Pair) (x : Sent) (n : Node) → Exchanged p before mid sent nodes → after ≡ more_pairs (pair ∷ []) mid → IsExchange p pair x n
+    → Exchanged p before after (sent ++ x ∷ []) (nodes ++ n ∷ [])
+exchanged_more p before mid after sent nodes pair x n e is i = record {
+  pairs = e.pairs ++ pair ∷ [];
+  pairs_so = is ∙ ap (more_pairs (pair ∷ [])) e.pairs_so ∙ pairs_twice before e.pairs (pair ∷ []);
+  exchanges = exchanges_more p e.pairs sent nodes pair x n e.exchanges i;
+}
+
+same_sent : (split : Split) (d : Division) (l : Local) (request : List ℕ) → seen_split split ≡ d → Spells script_message request ((seen_split split).script, input_values split.inputs l.names) → Spells script_message request (sent_for d l)
+same_sent split d l request is h = subst (λ x. Spells script_message request (x.script, input_values x.inputs l.names)) is h
+
+-- the World after the exchange, and after the remainder
+pub record After {L W : Type 0} (w1 w2 : ClientWorld L W) (out : W) : Type 0 where
+  pub same_plan : w2.plan ≡ w1.plan
+  pub same_link : w2.link ≡ w1.link
+  pub same_output : w2.out.ghost_name ≡ w1.out.ghost_name
+  pub now : w2.out.now ≡ out
+  pub exchanges_so : w2.exchanges ≡ w1.exchanges
+
+module _ {L W : Type 0} (gl : links.Ghosts L) (gw : sinks.Ghosts W) (split : Split) (at : ℕ) (classes : List class.Class) (w w1 w2 : ClientWorld L W) (out : W) (n : node.Node) (l l1 : Local)
+    (own : classes ≡ w.plan.now.program.classes) (fetched : Fetched gl split l.names w (Ok n) w1) (after : After w1 w2 out) where
+  module _ (o : Origin L W) (h : Past) (b : Outermost) (sees : SeesClient gl gw o w h) (stands : batch_at o.program at ≡ Some b) (is : seen_split split ≡ division o.program b) where
+    abbrev d : Division
+    d = division o.program b
+
+    abbrev begun : List Event
+    begun = h.events ++ state.Batch ∷ []
+
+    abbrev meant : Replayed
+    meant = replays o.program d l begun (mirror_node n)
+
+    abbrev past : Past
+    past = record { events = meant.events; sent = h.sent ++ sent_for d l ∷ []; nodes = h.nodes ++ mirror_node n ∷ [] }
+
+    meant_so : remainder_meant classes split.remainder (mirror_node n) l.fuel l begun ≡ meant
+    meant_so =
+        ap (λ cs. outside (length l.names) (replay_all cs l.fuel (mirror_parts split.remainder) l (record { events = begun; node = mirror_node n }) ended)) (ap (map mirror_class) own ∙ ap (λ x. x.classes) sees.program_so)
+        ∙ ap (λ ps. outside (length l.names) (replay_all o.program.classes l.fuel ps l (record { events = begun; node = mirror_node n }) ended)) (ap (λ x. x.remainder) is)
+
+    written_so : output gw w1.out.now ≡ with_bytes o.start (shown_events begun)
+    written_so = ap (λ x. output gw x.now) fetched.same_output ∙ sees.written ∙ ap (with_bytes o.start) (sym (shown_batch h.events))
+
+    exchange_so : IsExchange o.program (pair_of fetched.request forest_kind fetched.trades.reply) (sent_for d l) (mirror_node n)
+    exchange_so = record {
+      at = at;
+      batch = b;
+      stands = stands;
+      script_so = refl;
+      request = same_sent split d l fetched.request is fetched.request_so;
+      kind = refl;
+      reply = fetched.trades.forest.spells;
+      fits_so = subst (λ x. fits (mirror_node n) x.remainder ≡ Ok tt) is fetched.trades.forest.fits_so;
+    }
+
+    exchanged_so : Exchanged o.program o.pairs (pairs_of gl w2.link.now) past.sent past.nodes
+    exchanged_so =
+        exchanged_more o.program o.pairs (pairs_of gl w.link.now) (pairs_of gl w2.link.now) h.sent h.nodes (pair_of fetched.request forest_kind fetched.trades.reply) (sent_for d l) (mirror_node n)
+        sees.exchanged (ap (λ x. pairs_of gl x.now) after.same_link ∙ fetched.trades.pairs_so) exchange_so
+
+    faults_so : gl.faults w2.link.now ≡ o.faults
+    faults_so = ap (λ x. gl.faults x.now) after.same_link ∙ fetched.trades.faults_so ∙ sees.faults_so
+
+    same_output : w2.out.ghost_name ≡ o.out.ghost_name
+    same_output = after.same_output ∙ ap (λ x. x.ghost_name) fetched.same_output ∙ sees.same_output
+
+    same_link : w2.link.ghost_name ≡ o.link.ghost_name
+    same_link = ap (λ x. x.ghost_name) after.same_link ∙ fetched.same_link ∙ sees.same_link
+
+    sees_after : output gw out ≡ with_bytes o.start (shown_events meant.events) → SeesClient gl gw o w2 past
+    sees_after e =
+        let a = after.exchanges_so in
+        let c = fetched.counted in
+        let s = sees.exchanges_so in
+        record {
+          program_so = ap (λ x. mirror_program x.now.program) (after.same_plan ∙ fetched.same_plan) ∙ sees.program_so;
+          same_output = same_output;
+          same_link = same_link;
+          written = ap (output gw) after.now ∙ e;
+          exchanged = exchanged_so;
+          faults_so = faults_so;
+          exchanges_so = omega (arith, a, c, s, length-append h.sent (sent_for d l ∷ []));
+        }
+
+    gave : (e : Outcome (Unit {0})) → (meant.outcome ≡ e) × (output gw out ≡ with_bytes o.start (shown_events meant.events)) → PerformedAs gl gw o h (Some b) at l (Ok e) w2
+    gave e (same, wrote) = (mirror_node n ∷ [], past, sees_after wrote, refl, λ more. ap (λ x. (x, waiting past more)) same)
+
+    by_end : (r : Result (Unit {0}) Early) → EndsSo gw o.start meant r l1 out → Answered (performed l1 (stepped r)) (λ e. PerformedAs gl gw o h (Some b) at l e w2)
+    by_end (Ok u) e = gave (Gave tt l1) e
+    by_end (Err (early.Raised f)) e = gave (Faulted f l1) e
+    by_end (Err early.WriteFault) e = (
+      mirror_node n ∷ [],
+      record {
+        sent = past.sent;
+        same_output = same_output;
+        same_link = same_link;
+        written = subst (λ x. WrotePrefix (failed o.start) (output gw x) (shown_events meant.events)) (sym after.now) e;
+        exchanged = exchanged_so;
+        faults_so = faults_so;
+      },
+    )
+    by_end (Err early.Memory) e = tt
+
+  each : (r : Result (Unit {0}) Early)
+      → ((o : Origin L W) (h : Past) (b : Outermost) → SeesClient gl gw o w h → batch_at o.program at ≡ Some b → seen_split split ≡ division o.program b → Answered (performed l1 (stepped r)) (λ e. PerformedAs gl gw o h (Some b) at l e w2))
+      → Answered (performed l1 (stepped r)) (λ e. PerformsSplit gl gw split at w l e w2)
+  each (Ok u) f = f
+  each (Err (early.Raised x)) f = f
+  each (Err early.WriteFault) f = f
+  each (Err early.Memory) f = tt
+
+  pub performs_so : (r : Result (Unit {0}) Early) (q : Result (Result (Unit {0}) Raised) (Halt RunStop)) → q ≡ stepped r → Replays gw (remainder_meant classes split.remainder (mirror_node n)) l w1.out.now r l1 out
+      → Answered (performed l1 q) (λ e. PerformsSplit gl gw split at w l e w2)
+  performs_so r q same replayed =
+      subst (λ x. Answered (performed l1 x) (λ e. PerformsSplit gl gw split at w l e w2)) (sym same)
+      (each r (λ o h b sees stands is.
+      by_end o h b sees stands is r
+      (subst (λ x. EndsSo gw o.start x r l1 out) (meant_so o h b sees stands is)
+      (replayed.ends l.fuel (omega arith) o.start (begun o h b sees stands is) (written_so o h b sees stands is)))))
+
+-- the exchange gave no node
+pub stops_so : {L W : Type 0} (gl : links.Ghosts L) (gw : sinks.Ghosts W) (split : Split) (at : ℕ) (w w1 : ClientWorld L W) (l : Local) (r : Result node.Node RunStop) (stop : RunStop) (x : Halt RunStop) → r ≡ Err stop → x ≡ halted stop → Fetches gl split l.names w r w1
+    → Answered (performed {X = RunStop} l (Err x)) (λ e. PerformsSplit gl gw split at w l e w1)
+stops_so gl gw split at w w1 l r stop x is same h = subst (λ y. Answered (performed {X = RunStop} l (Err y)) (λ e. PerformsSplit gl gw split at w l e w1)) (sym same) (by_stop stop (subst (λ y. Fetches gl split l.names w y w1) is h))
+  where
+    by_stop : (stop : RunStop) → Fetches gl split l.names w (Err stop) w1 → Answered (performed {X = RunStop} l (Err (halted stop))) (λ e. PerformsSplit gl gw split at w l e w1)
+    by_stop (stops.LinkFault k) f = λ o h b sees stands is. record {
+      same_output = ap (λ y. y.ghost_name) f.same_output ∙ sees.same_output;
+      same_link = f.same_link ∙ sees.same_link;
+      written = ap (λ y. output gw y.now) f.same_output ∙ sees.written;
+      gives_none = (
+        f.trades.0 ∙ sees.exchanges_so,
+        record { pairs = sees.exchanged.pairs; pairs_so = f.trades.1.pairs_so ∙ sees.exchanged.pairs_so; exchanges = sees.exchanged.exchanges },
+        f.trades.1.faults_so ∙ ap risen sees.faults_so,
+      );
+    }
+    by_stop (stops.BadReply k why kind bytes) f = λ o h b sees stands is. record {
+      same_output = ap (λ y. y.ghost_name) f.same_output ∙ sees.same_output;
+      same_link = f.same_link ∙ sees.same_link;
+      written = ap (λ y. output gw y.now) f.same_output ∙ sees.written;
+      gives_none = (
+        f.trades.0 ∙ sees.exchanges_so,
+        subst (λ y. HasReason why y.remainder kind bytes) is f.trades.1.reason_so,
+        record {
+          pairs = sees.exchanged.pairs;
+          request = f.request;
+          request_so = same_sent split (division o.program b) l f.request is f.request_so;
+          pairs_so = f.trades.1.pairs_so ∙ ap (more_pairs (refused_pairs why (pair_of f.request kind bytes))) sees.exchanged.pairs_so;
+          exchanges = sees.exchanged.exchanges;
+        },
+        f.trades.1.faults_so ∙ sees.faults_so,
+      );
+    }
+    by_stop stops.WriteFault f = absurd f.trades
+    by_stop stops.Memory f = tt

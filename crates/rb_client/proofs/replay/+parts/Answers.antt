@@ -1,0 +1,109 @@
+-- Each part is performed as it means.
+use Rattle.std.proofs.Common.{rules, arith, refl, sym, ap, ◌∙◌, take}
+use Rattle.rb_trees.specs.mirror.Code.{mirror_expr, mirror_stmt}
+use Rattle.rb_trees.specs.mirror.Forests.{mirror_node}
+use Rattle.rb_trees.specs.mirror.Remainders.{Plain, Pass, Bind, Both, Branch, Turns, mirror_part, mirror_parts}
+use Rattle.rb_trees.proofs.mirror.Parts.{form_Plain, form_Pass, form_Bind, form_Both, form_Branch, form_Turns}
+use Rattle.rb_engine.specs.Locals.{local}
+use Rattle.rb_client.specs.Lefts.{seen}
+use Rattle.rb_client.specs.Walks.{all_meant, turn_meant}
+use Rattle.rb_client.proofs.Enclosed.{branch_so, enclosed_so, loop_so, row_kept, row_missed, row_none, rows_cut, rows_so, turns_begin, turns_cut, turns_end, turns_next}
+use Rattle.rb_client.proofs.Parted.{all_cut, all_end, all_more, of_form}
+use Rattle.rb_client.proofs.Weight.{part_in, part_of, part_weight, parts_of}
+use Rattle.rb_client.proofs.replay.+parts.Goals as goal
+
+pub perform_all-perform_part-requires : goal.perform_all-perform_part-requires
+perform_all-perform_part-requires g t c κs within = (let w = part_in c.args.parts.now c.parts.part-index c.part-item.result (omega arith) in let e = ap part_of c.part-item.is in omega arith, within)
+
+pub perform_all-returns-in_err-perform_part : goal.perform_all-returns-in_err-perform_part
+perform_all-returns-in_err-perform_part g t c =
+    all_cut c.args.code.now c.args.parts.now c.parts.part-index c.part-item.result (omega arith) c.part-item.is c.parts.invariant c.perform_part.ensures c.in_err-perform_part.was (search rules)
+
+pub perform_all-parts-preserved : goal.perform_all-parts-preserved
+perform_all-parts-preserved g t c = all_more c.args.code.now c.args.parts.now c.parts.part-index c.part-item.result (omega arith) c.part-item.is c.parts.invariant c.perform_part.ensures c.in_ok-perform_part.was
+
+pub perform_all-returns : goal.perform_all-returns
+perform_all-returns g t c = all_end c.args.code.now c.args.parts.now c.parts.part-index (omega arith) c.parts.invariant
+
+pub perform_block-returns : goal.perform_block-returns
+perform_block-returns g t c =
+    enclosed_so g.W.Sink (all_meant c.args.code.now c.args.parts.now) (mirror_node c.args.node.now) (seen c.args.rest) (local c.args.frame.now c.args.state.now)
+    (local c.perform_all-ended.new.frame c.perform_all-ended.new.state) (local c.truncate.new.self c.perform_all-ended.new.state) c.args.world.now _ c.perform_all-ended.new.world _ c.perform_all-ended.result
+    refl c.of-world.ensures c.perform_all-ended.ensures refl refl
+    (ap (λ ns. local ns c.perform_all-ended.new.state) (c.truncate.ensures ∙ ap (λ n. take n c.perform_all-ended.new.frame) c.len-count.ensures))
+
+pub perform_branch-returns : goal.perform_branch-returns
+perform_branch-returns g t c =
+    branch_so g.W.Sink c.args.code.now c.args.step c.args.yes.now c.args.no.now c.chosen-parts.result.now c.in-Some.holds (mirror_node c.in-Some.node.now) (seen c.in-Some.rest) (local c.args.frame.now c.args.state.now) _ c.args.world.now _ c.perform_block.result
+    (sym c.in-Some.ensures) c.chosen-parts.ensures (rw c.as_slice.ensures at c.perform_block.ensures)
+
+pub perform_part-perform_branch-requires : goal.perform_part-perform_branch-requires
+perform_part-perform_branch-requires g t c κs within = (let w = ap part_weight (ap mirror_part c.in-Branch.is ∙ form_Branch c.in-Branch.step c.in-Branch.yes c.in-Branch.no) in omega arith, within)
+
+pub perform_part-perform_rows-requires : goal.perform_part-perform_rows-requires
+perform_part-perform_rows-requires g t c κs within =
+    (let w = ap part_weight (ap mirror_part c.in-Turns.is ∙ form_Turns c.in-Turns.step c.in-Turns.name c.in-Turns.kind c.in-Turns.body) in let e = ap parts_of c.as_slice.ensures in omega arith, within)
+
+pub perform_part-returns-in-Plain : goal.perform_part-returns-in-Plain
+perform_part-returns-in-Plain g t c =
+    of_form c.args.code.now c.args.part.now (Plain (mirror_stmt c.in-Plain.stmt) c.in-Plain.field-1) (ap mirror_part c.in-Plain.is ∙ form_Plain c.in-Plain.stmt c.in-Plain.field-1) c.perform_plain.ensures
+
+pub perform_part-returns-in-Pass : goal.perform_part-returns-in-Pass
+perform_part-returns-in-Pass g t c = of_form c.args.code.now c.args.part.now (Pass c.in-Pass.step) (ap mirror_part c.in-Pass.is ∙ form_Pass c.in-Pass.step) c.perform_pass.ensures
+
+pub perform_part-returns-in-Bind : goal.perform_part-returns-in-Bind
+perform_part-returns-in-Bind g t c = of_form c.args.code.now c.args.part.now (Bind c.in-Bind.step c.in-Bind.name _) (ap mirror_part c.in-Bind.is ∙ form_Bind c.in-Bind.step c.in-Bind.name _) c.perform_bind.ensures
+
+pub perform_part-returns-in-Both : goal.perform_part-returns-in-Both
+perform_part-returns-in-Both g t c =
+    of_form c.args.code.now c.args.part.now (Both c.in-Both.step _ c.in-Both.name (mirror_expr c.in-Both.value)) (ap mirror_part c.in-Both.is ∙ form_Both c.in-Both.step _ c.in-Both.name c.in-Both.value) c.perform_both.ensures
+
+pub perform_part-returns-in-Branch : goal.perform_part-returns-in-Branch
+perform_part-returns-in-Branch g t c =
+    of_form c.args.code.now c.args.part.now (Branch c.in-Branch.step (mirror_parts c.in-Branch.yes) (mirror_parts c.in-Branch.no)) (ap mirror_part c.in-Branch.is ∙ form_Branch c.in-Branch.step c.in-Branch.yes c.in-Branch.no) c.perform_branch.ensures
+
+pub perform_part-returns-in-Turns : goal.perform_part-returns-in-Turns
+perform_part-returns-in-Turns g t c =
+    of_form c.args.code.now c.args.part.now (Turns c.in-Turns.step c.in-Turns.name c.in-Turns.kind (mirror_parts c.in-Turns.body)) (ap mirror_part c.in-Turns.is ∙ form_Turns c.in-Turns.step c.in-Turns.name c.in-Turns.kind c.in-Turns.body)
+    (loop_so c.args.code.now c.in-Turns.step c.in-Turns.name c.is_kept.result c.as_slice.result.now c.in-Turns.kind c.in-Turns.body c.is_kept.ensures c.as_slice.ensures c.perform_rows.ensures)
+
+pub perform_rows-returns-in_err-perform_turns : goal.perform_rows-returns-in_err-perform_turns
+perform_rows-returns-in_err-perform_turns g t c =
+    rows_cut g.W.Sink c.args.code.now c.args.turns.now c.in-Some.nodes.now (seen c.in-Some.rest) (local c.args.frame.now c.args.state.now) _ c.args.world.now _ c.perform_turns.result _ _
+    (sym c.in-Some.ensures) c.perform_turns.ensures c.in_err-perform_turns.was (search rules)
+
+pub perform_rows-returns : goal.perform_rows-returns
+perform_rows-returns g t c =
+    rows_so g.W.Sink c.args.code.now c.args.turns.now c.in-Some.nodes.now (seen c.in-Some.rest) (local c.args.frame.now c.args.state.now) _ _ c.args.world.now _ _ c.perform_turns.result _ _
+    (sym c.in-Some.ensures) c.perform_turns.ensures c.in_ok-perform_turns.was c.perform_pass.ensures
+
+pub perform_turn-returns-clause-performs : goal.perform_turn-returns-clause-performs
+perform_turn-returns-clause-performs g t c =
+    enclosed_so g.W.Sink (turn_meant c.args.code.now c.args.turns.now) (mirror_node c.args.node.now) (seen c.args.rest) (local c.args.frame.now c.args.state.now)
+    (local c.perform_row-ended.new.frame c.perform_row-ended.new.state) (local c.truncate.new.self c.perform_row-ended.new.state) c.args.world.now _ c.perform_row-ended.new.world _ c.perform_row-ended.result
+    refl c.of-world.ensures c.perform_row-ended.ensures refl refl
+    (ap (λ ns. local ns c.perform_row-ended.new.state) (c.truncate.ensures ∙ ap (λ n. take n c.perform_row-ended.new.frame) c.len-count.ensures))
+
+pub perform_turns-nodes-init : goal.perform_turns-nodes-init
+perform_turns-nodes-init g t c = turns_begin g.W.Sink c.args.code.now c.args.turns.now c.args.nodes.now (seen c.args.rest) (local c.args.frame.now c.args.state.now) c.args.world.now _ refl refl
+
+pub perform_turns-returns-in_err-perform_turn : goal.perform_turns-returns-in_err-perform_turn
+perform_turns-returns-in_err-perform_turn g t c =
+    turns_cut c.node-item.result (omega arith) c.node-item.is c.nodes.invariant c.perform_turn.ensures.performs c.in_err-perform_turn.was (search rules)
+
+pub perform_turns-nodes-preserved : goal.perform_turns-nodes-preserved
+perform_turns-nodes-preserved g t c = turns_next c.node-item.result (omega arith) c.node-item.is c.nodes.invariant c.perform_turn.ensures.performs c.in_ok-perform_turn.was c.perform_turn.ensures.left
+
+pub perform_turns-returns : goal.perform_turns-returns
+perform_turns-returns g t c = turns_end (omega arith) c.nodes.invariant
+
+pub perform_row-returns-in_err-perform_bind : goal.perform_row-returns-in_err-perform_bind
+perform_row-returns-in_err-perform_bind g t c =
+    row_missed g.W.Sink c.args.code.now c.args.turns.now (local c.args.frame.now c.args.state.now) _ c.args.world.now _ c.perform_bind.result _ _ c.if-turns.true c.perform_bind.ensures c.in_err-perform_bind.was (search rules)
+
+pub perform_row-returns-then-turns : goal.perform_row-returns-then-turns
+perform_row-returns-then-turns g t c =
+    row_kept g.W.Sink c.args.code.now c.args.turns.now (local c.args.frame.now c.args.state.now) _ _ c.args.world.now _ _ c.perform_bind.result _ _ c.if-turns.true c.perform_bind.ensures c.in_ok-perform_bind.was c.perform_all.ensures
+
+pub perform_row-returns : goal.perform_row-returns
+perform_row-returns g t c = row_none g.W.Sink c.args.code.now c.args.turns.now (local c.args.frame.now c.args.state.now) _ c.args.world.now _ _ c.if-turns.false c.perform_all-2.ensures

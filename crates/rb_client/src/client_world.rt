@@ -1,0 +1,204 @@
+// The surroundings of code that stands in no batch.
+
+ghost use Rattle.std.specs.Prelude.{◌≡◌, ◌≤◌, length};
+ghost use Rattle.std.specs.Option.{option_copied};
+ghost use Rattle.rb_engine.specs.Answers.{Answered, performed};
+ghost use Rattle.rb_engine.specs.Locals.{local};
+ghost use Rattle.rb_client.specs.Clients.{Fetches, PerformsSplit};
+ghost use Rattle.rb_client.specs.Ends.{halted, stepped};
+ghost use Rattle.rb_client.specs.Exchanges.{CanBeSent, seen_split};
+ghost use Rattle.rb_client.specs.Splits.{split_at};
+
+use crate::early::Early;
+use crate::left::refuse;
+use crate::lines::whole_line;
+use crate::plan::Plan;
+use crate::replay::perform_remainder;
+use crate::replies::trade;
+use crate::requests::request_of;
+use crate::stops::RunStop;
+use rb_base::{Link, Sink, write_whole};
+use rb_engine::{Frame, Halt, State, Step, World};
+use rb_trees::{Node, Seq, Split, Value};
+use std::alloc::Global;
+
+/// The surroundings of code that stands in no batch: its lines go to the output, and a turn over a list goes on. For a batch
+/// its script is sent, and its remainder is performed on the node that is replied. All else faults Kind. A run is cut off where
+/// a write fails, and where an exchange gives no node. It counts the exchanges that gave one.
+#[derive(Drop)]
+pub struct ClientWorld<'a, 'l, 'o, L, W> {
+    pub alloc: Global,
+    pub plan: &'a Plan<'a>,
+    pub link: &'l mut L,
+    pub out: &'o mut W,
+    pub exchanges: u64,
+}
+
+impl<'a, 'l, 'o, L: Link, W: Sink> ClientWorld<'a, 'l, 'o, L, W> {
+    /// The surroundings of a plan's code over a link and an output. Nothing was exchanged.
+    pub fn over(
+        alloc: Global,
+        plan: &'a Plan<'a>,
+        link: &'l mut L,
+        out: &'o mut W,
+    ) -> ClientWorld<'a, 'l, 'o, L, W>
+        ensures plan { result.plan.now ≡ plan.now }
+        ensures same_link { result.link.ghost_name ≡ link.entry.ghost_name }
+        ensures link { result.link.now ≡ link.old }
+        ensures same_output { result.out.ghost_name ≡ out.entry.ghost_name }
+        ensures out { result.out.now ≡ out.old }
+        ensures exchanges { result.exchanges ≡ 0 }
+    {
+        ClientWorld {
+            alloc,
+            plan,
+            link,
+            out,
+            exchanges: 0,
+        }
+    }
+}
+
+// The division of the batch at a position.
+fn find(splits: &[Split], at: u32) -> Option<&Split>
+    ensures { option_copied result ≡ split_at splits.now at }
+{
+    'splits: for split in splits {
+        if split.at == at {
+            return Some(split);
+        }
+    }
+    None
+}
+
+// Exchanges the script of a batch for a node that fits its remainder. Where exchanges can't be counted any more, the run is cut
+// off as for want of memory.
+#[inline(never)]
+fn fetch<L: Link, W: Sink>(
+    alloc: Global,
+    world: &mut ClientWorld<'_, '_, '_, L, W>,
+    split: &Split,
+    frame: &Frame,
+) -> Result<Node, RunStop>
+    requires sent { CanBeSent (seen_split split.now).script }
+    requires counted { (seen_split split.now).script.inputs ≡ length split.now.inputs }
+    ensures { Fetches L.Link split.now frame.now world.old result world.new }
+{
+    let done = world.exchanges;
+    let Some(next) = done.checked_add(1) else {
+        return Err(RunStop::Memory);
+    };
+    let request = request_of(alloc, split, frame)?;
+    let node = trade(
+        alloc,
+        world.link,
+        request.as_slice(),
+        &split.remainder,
+        done,
+    )?;
+    world.exchanges = next;
+    Ok(node)
+}
+
+// How a remainder ended, as a step.
+fn step_of(ended: Result<(), Early>) -> Step<(), RunStop>
+    ensures { result ≡ stepped ended }
+{
+    match ended {
+        Ok(()) => Ok(Ok(())),
+        Err(Early::Raised(raised)) => Ok(Err(raised)),
+        Err(Early::WriteFault) => Err(Halt::World(RunStop::WriteFault)),
+        Err(Early::Memory) => Err(Halt::Memory),
+    }
+}
+
+// Why a node isn't there, as a halt.
+fn halt_of(stop: RunStop) -> Halt<RunStop>
+    ensures { result ≡ halted stop }
+{
+    match stop {
+        RunStop::Memory => Halt::Memory,
+        other => Halt::World(other),
+    }
+}
+
+// Performs a batch: `performs_divided`.
+fn perform<L: Link, W: Sink>(
+    alloc: Global,
+    world: &mut ClientWorld<'_, '_, '_, L, W>,
+    at: u32,
+    split: &Split,
+    state: &mut State,
+    frame: &mut Frame,
+) -> Step<(), RunStop>
+    requires sent { CanBeSent (seen_split split.now).script }
+    requires counted { (seen_split split.now).script.inputs ≡ length split.now.inputs }
+    ensures fuel { state.new.fuel ≤ state.old.fuel }
+    ensures depth { state.new.depth ≡ state.old.depth }
+    ensures performs { Answered (performed (local frame.new state.new) result) (λ e. PerformsSplit L.Link W.Sink split.now at world.old (local frame.old state.old) e world.new) }
+{
+    let code = world.plan.code();
+    match fetch(alloc, world, split, frame) {
+        Ok(node) => step_of(perform_remainder(
+            alloc,
+            code,
+            state,
+            frame,
+            &node,
+            &split.remainder,
+            world.out,
+        )),
+        Err(stop) => Err(halt_of(stop)),
+    }
+}
+
+impl<'a, 'l, 'o, L: Link, W: Sink> World for ClientWorld<'a, 'l, 'o, L, W> {
+    ghost use Rattle.rb_client.specs.Clients.{client_answers, client_performs};
+
+    type Stop = RunStop;
+
+    ghost answers = { client_answers L.Link W.Sink };
+
+    ghost performs = { client_performs L.Link W.Sink };
+
+    fn line(&mut self, _at: u32, bytes: &[u8]) -> Step<(), RunStop> {
+        let Ok(text) = whole_line(self.alloc, bytes) else {
+            return Err(Halt::Memory);
+        };
+        match write_whole(self.out, text.as_slice()) {
+            Ok(()) => Ok(Ok(())),
+            Err(_) => Err(Halt::World(RunStop::WriteFault)),
+        }
+    }
+
+    fn batch(&mut self, at: u32, state: &mut State, frame: &mut Frame) -> Step<(), RunStop> {
+        let alloc = self.alloc;
+        let splits = self.plan.splits();
+        match find(splits.as_slice(), at) {
+            Some(split) => perform(alloc, self, at, split, state, frame),
+            None => Ok(Err(refuse(alloc, at))),
+        }
+    }
+
+    fn taken(&mut self, _step: u32) -> Step<Value, RunStop> {
+        Ok(Err(refuse(self.alloc, 0)))
+    }
+
+    fn invoke(
+        &mut self,
+        at: u32,
+        _target: Value,
+        _method: &[u8],
+        _args: Seq<Value>,
+    ) -> Step<Value, RunStop> {
+        Ok(Err(refuse(self.alloc, at)))
+    }
+
+    fn turn(&mut self, at: u32) -> Step<(), RunStop> {
+        Ok(Err(refuse(self.alloc, at)))
+    }
+
+    fn list_turn(&mut self, _at: u32) -> Step<(), RunStop> {
+        Ok(Ok(()))
+    }
+}

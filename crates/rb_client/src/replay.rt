@@ -1,0 +1,344 @@
+// Performs the remainder of a batch on the node that its script gave.
+
+ghost use Rattle.std.specs.Prelude.{◌≡◌, cond};
+ghost use Rattle.rb_meaning_bytes.specs.Fits as meaning;
+ghost use Rattle.rb_engine.specs.Locals.{local};
+ghost use Rattle.rb_client.specs.Lefts.{seen};
+ghost use Rattle.rb_trees.specs.mirror.Forests.{mirror_node};
+ghost use Rattle.rb_client.specs.Replays.{Replays, remainder_meant};
+ghost use Rattle.rb_client.specs.Walks.{Performs, all_meant, bind_meant, both_meant, branch_meant, enclosed, part_meant, pass_meant, plain_meant, rows_meant, turn_meant, turns_meant};
+
+use crate::early::{Early, flat};
+use crate::left::{Left, far_fault, own_fault};
+use crate::replay_world::ReplayWorld;
+use rb_base::Sink;
+use rb_code::Code;
+use rb_engine::{Frame, State, eval, exec_slice};
+use rb_trees::{Expr, Node, Part, Seq, Stmt, Word, copy_word};
+use std::alloc::Global;
+use std::slice;
+
+/// A loop over rows, without its nodes: its step, the name of its rows, whether they are kept, and what is performed in a turn.
+#[derive(Clone, Copy)]
+pub struct Loop<'a> {
+    pub step: u32,
+    pub name: &'a Word,
+    pub kept: bool,
+    pub body: &'a [Part],
+}
+
+// Whether rows of a kind are kept: `is_kept`.
+fn is_kept(kind: u8) -> bool
+    ensures { result ≡ meaning.is_kept kind }
+{
+    kind >= 1 && kind <= 3
+}
+
+// The parts of the branch that was taken.
+fn chosen<'a>(holds: bool, yes: &'a Seq<Part>, no: &'a Seq<Part>) -> &'a Seq<Part>
+    ensures { result.now ≡ cond holds yes.now no.now }
+{
+    if holds { yes } else { no }
+}
+
+// A statement.
+#[inline(never)]
+fn perform_plain<W: Sink>(
+    alloc: Global,
+    code: &Code,
+    state: &mut State,
+    frame: &mut Frame,
+    world: &mut ReplayWorld<'_, '_, W>,
+    stmt: &Stmt,
+) -> Result<(), Early>
+    ensures { Performs W.Sink (plain_meant code.now stmt.now) (local frame.old state.old) world.old result (local frame.new state.new) world.new }
+{
+    flat(exec_slice(alloc, code, state, frame, world, slice::from_ref(stmt)))
+}
+
+// The place of a step that gives no entry.
+#[inline(never)]
+fn perform_pass<W: Sink>(
+    alloc: Global,
+    state: &State,
+    frame: &Frame,
+    world: &ReplayWorld<'_, '_, W>,
+    step: u32,
+) -> Result<(), Early>
+    ensures { Performs W.Sink (pass_meant step) (local frame.now state.now) world.now result (local frame.now state.now) world.now }
+{
+    match world.left.fault_at(step) {
+        Some(fault) => Err(Early::Raised(far_fault(alloc, fault)?)),
+        None => Ok(()),
+    }
+}
+
+// A value that was kept, and is bound.
+#[inline(never)]
+fn perform_bind<W: Sink>(
+    alloc: Global,
+    state: &State,
+    frame: &mut Frame,
+    world: &mut ReplayWorld<'_, '_, W>,
+    step: u32,
+    name: &Word,
+) -> Result<(), Early>
+    ensures { Performs W.Sink (bind_meant step name.now) (local frame.old state.now) world.old result (local frame.new state.now) world.new }
+{
+    let value = world.take(step)?;
+    let word = copy_word(alloc, name)?;
+    frame.bind(word, value)?;
+    Ok(())
+}
+
+// A value that both sides evaluate.
+#[inline(never)]
+fn perform_both<W: Sink>(
+    alloc: Global,
+    code: &Code,
+    state: &mut State,
+    frame: &mut Frame,
+    world: &mut ReplayWorld<'_, '_, W>,
+    step: u32,
+    name: &Word,
+    expr: &Expr,
+) -> Result<(), Early>
+    ensures { Performs W.Sink (both_meant code.now step name.now expr.now) (local frame.old state.old) world.old result (local frame.new state.new) world.new }
+{
+    if let Some(fault) = world.left.fault_at(step) {
+        return Err(Early::Raised(own_fault(alloc, fault)?));
+    }
+    let value = flat(eval(alloc, code, state, frame, world, expr))?;
+    let word = copy_word(alloc, name)?;
+    frame.bind(word, value)?;
+    Ok(())
+}
+
+// A part.
+#[cycle(parts)]
+#[inline(never)]
+fn perform_part<W: Sink>(
+    alloc: Global,
+    code: &Code,
+    state: &mut State,
+    frame: &mut Frame,
+    world: &mut ReplayWorld<'_, '_, W>,
+    part: &Part,
+) -> Result<(), Early>
+    ensures { Performs W.Sink (part_meant code.now part.now) (local frame.old state.old) world.old result (local frame.new state.new) world.new }
+{
+    match part {
+        Part::Plain(stmt, _) => perform_plain(alloc, code, state, frame, world, stmt),
+        Part::Pass(step) => perform_pass(alloc, state, frame, world, *step),
+        Part::Bind { step, name, .. } => perform_bind(alloc, state, frame, world, *step, name),
+        Part::Both {
+            step,
+            name,
+            value,
+            ..
+        } => perform_both(alloc, code, state, frame, world, *step, name, value),
+        Part::Branch { step, yes, no } => {
+            perform_branch(alloc, code, state, frame, world, *step, yes, no)
+        }
+        Part::Turns {
+            step,
+            name,
+            kind,
+            body,
+        } => {
+            let turns = Loop {
+                step: *step,
+                name,
+                kept: is_kept(*kind),
+                body: body.as_slice(),
+            };
+            perform_rows(alloc, code, state, frame, world, &turns)
+        }
+    }
+}
+
+/// Performs parts in order: `replay_all`.
+#[cycle(parts)]
+#[inline(never)]
+pub fn perform_all<W: Sink>(
+    alloc: Global,
+    code: &Code,
+    state: &mut State,
+    frame: &mut Frame,
+    world: &mut ReplayWorld<'_, '_, W>,
+    parts: &[Part],
+) -> Result<(), Early>
+    ensures { Performs W.Sink (all_meant code.now parts.now) (local frame.old state.old) world.old result (local frame.new state.new) world.new }
+{
+    'parts: for part in parts {
+        perform_part(alloc, code, state, frame, world, part)?;
+    }
+    Ok(())
+}
+
+// The parts of a block on a node of its own, at whose end its names go, by a fault too. Then the rest is left.
+#[cycle(parts)]
+#[inline(never)]
+fn perform_block<'n, W: Sink>(
+    alloc: Global,
+    code: &Code,
+    state: &mut State,
+    frame: &mut Frame,
+    world: &mut ReplayWorld<'n, '_, W>,
+    parts: &[Part],
+    node: &'n Node,
+    rest: Left<'n>,
+) -> Result<(), Early>
+    ensures { Performs W.Sink (enclosed (all_meant code.now parts.now) (mirror_node node.now) (seen rest.entry)) (local frame.old state.old) world.old result (local frame.new state.new) world.new }
+{
+    let count = frame.len();
+    world.left = Left::of(node);
+    let ended = perform_all(alloc, code, state, frame, world, parts);
+    frame.truncate(count);
+    world.left = rest;
+    ended
+}
+
+// The branch that the script took.
+#[cycle(parts)]
+#[inline(never)]
+fn perform_branch<W: Sink>(
+    alloc: Global,
+    code: &Code,
+    state: &mut State,
+    frame: &mut Frame,
+    world: &mut ReplayWorld<'_, '_, W>,
+    step: u32,
+    yes: &Seq<Part>,
+    no: &Seq<Part>,
+) -> Result<(), Early>
+    ensures { Performs W.Sink (branch_meant code.now step yes.now no.now) (local frame.old state.old) world.old result (local frame.new state.new) world.new }
+{
+    let Some((holds, node, rest)) = world.left.first_branch() else {
+        return Err(Early::Raised(world.left.missed(alloc, step)?));
+    };
+    let parts = chosen(holds, yes, no);
+    perform_block(
+        alloc,
+        code,
+        state,
+        frame,
+        world,
+        parts.as_slice(),
+        node,
+        rest,
+    )
+}
+
+// A loop over rows.
+#[cycle(parts)]
+#[inline(never)]
+fn perform_rows<W: Sink>(
+    alloc: Global,
+    code: &Code,
+    state: &mut State,
+    frame: &mut Frame,
+    world: &mut ReplayWorld<'_, '_, W>,
+    turns: &Loop<'_>,
+) -> Result<(), Early>
+    ensures { Performs W.Sink (rows_meant code.now turns.now) (local frame.old state.old) world.old result (local frame.new state.new) world.new }
+{
+    let Some((nodes, rest)) = world.left.first_rows() else {
+        return Err(Early::Raised(world.left.missed(alloc, turns.step)?));
+    };
+    perform_turns(alloc, code, state, frame, world, turns, nodes, rest)?;
+    perform_pass(alloc, state, frame, world, turns.step)
+}
+
+// The turns over rows, each on its node. Then the rest is left.
+#[cycle(parts)]
+#[inline(never)]
+fn perform_turns<'n, W: Sink>(
+    alloc: Global,
+    code: &Code,
+    state: &mut State,
+    frame: &mut Frame,
+    world: &mut ReplayWorld<'n, '_, W>,
+    turns: &Loop<'_>,
+    nodes: &'n [Node],
+    rest: Left<'n>,
+) -> Result<(), Early>
+    ensures { Performs W.Sink (turns_meant code.now turns.now nodes.now (seen rest.entry)) (local frame.old state.old) world.old result (local frame.new state.new) world.new }
+{
+    world.left = rest;
+    'nodes: for node in nodes {
+        perform_turn(alloc, code, state, frame, world, turns, node, rest)?;
+    }
+    Ok(())
+}
+
+// A turn on its node, at whose end its names go, by a fault too. Then the rest is left.
+#[cycle(parts)]
+#[inline(never)]
+fn perform_turn<'n, W: Sink>(
+    alloc: Global,
+    code: &Code,
+    state: &mut State,
+    frame: &mut Frame,
+    world: &mut ReplayWorld<'n, '_, W>,
+    turns: &Loop<'_>,
+    node: &'n Node,
+    rest: Left<'n>,
+) -> Result<(), Early>
+    ensures performs { Performs W.Sink (enclosed (turn_meant code.now turns.now) (mirror_node node.now) (seen rest.entry)) (local frame.old state.old) world.old result (local frame.new state.new) world.new }
+    ensures left { seen world.new.left ≡ seen rest.entry }
+{
+    let count = frame.len();
+    world.left = Left::of(node);
+    let ended = perform_row(alloc, code, state, frame, world, turns);
+    frame.truncate(count);
+    world.left = rest;
+    ended
+}
+
+// What is performed in a turn, which begins with its row where rows are kept.
+#[cycle(parts)]
+#[inline(never)]
+fn perform_row<W: Sink>(
+    alloc: Global,
+    code: &Code,
+    state: &mut State,
+    frame: &mut Frame,
+    world: &mut ReplayWorld<'_, '_, W>,
+    turns: &Loop<'_>,
+) -> Result<(), Early>
+    ensures { Performs W.Sink (turn_meant code.now turns.now) (local frame.old state.old) world.old result (local frame.new state.new) world.new }
+{
+    if turns.kept {
+        perform_bind(alloc, state, frame, world, turns.step, turns.name)?;
+        return perform_all(alloc, code, state, frame, world, turns.body);
+    }
+    perform_all(alloc, code, state, frame, world, turns.body)
+}
+
+/// Performs a remainder on the node that its script gave: `replay_all`, to its end. Its names go then, by a fault too.
+///
+/// The node needn't fit the remainder: where it lacks what a part reads, and its fault isn't there, the fault is Kind.
+#[inline(never)]
+pub fn perform_remainder<W: Sink>(
+    alloc: Global,
+    code: &Code,
+    state: &mut State,
+    frame: &mut Frame,
+    node: &Node,
+    remainder: &Seq<Part>,
+    out: &mut W,
+) -> Result<(), Early>
+    ensures { Replays W.Sink (remainder_meant code.now remainder.now (mirror_node node.now)) (local frame.old state.old) out.old result (local frame.new state.new) out.new }
+{
+    let count = frame.len();
+    let mut world = ReplayWorld::over(alloc, node, out);
+    let ended = perform_all(alloc, code, state, frame, &mut world, remainder.as_slice());
+    let ReplayWorld {
+        alloc: _,
+        left: _,
+        out: _out,
+    } = world;
+    frame.truncate(count);
+    ended
+}
