@@ -9,8 +9,8 @@ use Rattle.rb_trees.specs.mirror.Scripts.{mirror_script}
 use Rattle.rb_meaning_flow.specs.Facts.{facts_of}
 use Rattle.rb_meaning_flow.specs.Outermost.{Outermost, program_batches}
 use Rattle.rb_meaning.specs.Unsplit.{batch_at, batch_within}
-use Rattle.rb_meaning_split.specs.Division.{Division, checked_code, divided, divided_all, divided_before, division, divisions, inputs_of, longest_code, most_inputs}
-use Rattle.rb_client.specs.Exchanges.{AllCanBeSent, CanBeSent, seen_split}
+use Rattle.rb_meaning_split.specs.Division.{Division, checked_code, divided, divided_all, divided_before, division, divisions, inputs_of, longest_code, most_inputs, mirror_split}
+use Rattle.rb_client.specs.Exchanges.{AllCanBeSent, CanBeSent}
 use Rattle.rb_client.specs.Splits.{split_at}
 
 position : (p : Program) (b : Outermost) → (division p b).at ≡ b.at
@@ -57,16 +57,16 @@ none_before (Ok x) (Ok xs) h = absurd (cc h)
 pub record IsOf (p : Program) (bs : List Outermost) (at : ℕ) (split : Split) : Type 0 where
   pub batch : Outermost
   pub stands : batch_within bs at ≡ Some batch
-  pub is : seen_split split ≡ division p batch
+  pub is : mirror_split split ≡ division p batch
 
-found_here : (p : Program) (bs : List Outermost) (ss : List Split) (at : ℕ) (split : Split) (b : Outermost) (s : Split) (t : Bool) → nat_eq s.at at ≡ t → b.at ≡ s.at → seen_split s ≡ division p b
+found_here : (p : Program) (bs : List Outermost) (ss : List Split) (at : ℕ) (split : Split) (b : Outermost) (s : Split) (t : Bool) → nat_eq s.at at ≡ t → b.at ≡ s.at → mirror_split s ≡ division p b
     → (split_at ss at ≡ Some split → IsOf p bs at split) → cond t (Some s) (split_at ss at) ≡ Some split → IsOf p (b ∷ bs) at split
 found_here p bs ss at split b s true e same is rest h =
     let found : s ≡ split = cc h in
     record {
       batch = b;
       stands = ap (λ n. cond (nat_eq n at) (Some b) (batch_within bs at)) same ∙ ap (λ t. cond t (Some b) (batch_within bs at)) e;
-      is = ap seen_split (sym found) ∙ is;
+      is = ap mirror_split (sym found) ∙ is;
     }
 found_here p bs ss at split b s false e same is rest h =
     let r = rest h in
@@ -76,12 +76,12 @@ found_here p bs ss at split b s false e same is rest h =
       is = r.is;
     }
 
-found_in : (p : Program) (bs : List Outermost) (ss : List Split) (at : ℕ) (split : Split) → divided_all p bs ≡ Ok (map seen_split ss) → split_at ss at ≡ Some split → IsOf p bs at split
+found_in : (p : Program) (bs : List Outermost) (ss : List Split) (at : ℕ) (split : Split) → divided_all p bs ≡ Ok (map mirror_split ss) → split_at ss at ≡ Some split → IsOf p bs at split
 found_in p bs [] at split h e = absurd (cc e)
 found_in p [] (s ∷ ss) at split h e = absurd (cc h)
 found_in p (b ∷ bs) (s ∷ ss) at split h e =
-    let parts = before (divided p b) (divided_all p bs) (seen_split s) (map seen_split ss) h in
-    let is = divided_so p b (seen_split s) parts.first in
+    let parts = before (divided p b) (divided_all p bs) (mirror_split s) (map mirror_split ss) h in
+    let is = divided_so p b (mirror_split s) parts.first in
     let same : b.at ≡ s.at = sym (position p b) ∙ ap (λ d. d.at) is in
     found_here p bs ss at split b s (nat_eq s.at at) refl same (sym is) (λ f. found_in p bs ss at split parts.others f) e
 
@@ -90,20 +90,20 @@ none_here : (p : Program) (bs : List Outermost) (ss : List Split) (at : ℕ) (b 
 none_here p bs ss at b s true e same rest h = absurd (cc h)
 none_here p bs ss at b s false e same rest h = ap (λ n. cond (nat_eq n at) (Some b) (batch_within bs at)) same ∙ ap (λ t. cond t (Some b) (batch_within bs at)) e ∙ rest h
 
-none_in : (p : Program) (bs : List Outermost) (ss : List Split) (at : ℕ) → divided_all p bs ≡ Ok (map seen_split ss) → split_at ss at ≡ None → batch_within bs at ≡ None
+none_in : (p : Program) (bs : List Outermost) (ss : List Split) (at : ℕ) → divided_all p bs ≡ Ok (map mirror_split ss) → split_at ss at ≡ None → batch_within bs at ≡ None
 none_in p [] [] at h e = refl
 none_in p [] (s ∷ ss) at h e = absurd (cc h)
 none_in p (b ∷ bs) [] at h e = absurd (none_before (divided p b) (divided_all p bs) h)
 none_in p (b ∷ bs) (s ∷ ss) at h e =
-    let parts = before (divided p b) (divided_all p bs) (seen_split s) (map seen_split ss) h in
-    let is = divided_so p b (seen_split s) parts.first in
+    let parts = before (divided p b) (divided_all p bs) (mirror_split s) (map mirror_split ss) h in
+    let is = divided_so p b (mirror_split s) parts.first in
     let same : b.at ≡ s.at = sym (position p b) ∙ ap (λ d. d.at) is in
     none_here p bs ss at b s (nat_eq s.at at) refl same (λ f. none_in p bs ss at parts.others f) e
 
-pub some_found : (p : Program) (ss : List Split) (at : ℕ) (split : Split) → divisions p ≡ Ok (map seen_split ss) → split_at ss at ≡ Some split → IsOf p (program_batches (facts_of p) p) at split
+pub some_found : (p : Program) (ss : List Split) (at : ℕ) (split : Split) → divisions p ≡ Ok (map mirror_split ss) → split_at ss at ≡ Some split → IsOf p (program_batches (facts_of p) p) at split
 some_found p ss at split h e = found_in p (program_batches (facts_of p) p) ss at split h e
 
-pub none_found : (p : Program) (ss : List Split) (at : ℕ) → divisions p ≡ Ok (map seen_split ss) → split_at ss at ≡ None → batch_at p at ≡ None
+pub none_found : (p : Program) (ss : List Split) (at : ℕ) → divisions p ≡ Ok (map mirror_split ss) → split_at ss at ≡ None → batch_at p at ≡ None
 none_found p ss at h e = none_in p (program_batches (facts_of p) p) ss at h e
 
 -- a script that is found can be sent, and counts the inputs
@@ -115,7 +115,7 @@ pub found_sent : (ss : List Split) (at : ℕ) (split : Split) → AllCanBeSent s
 found_sent [] at split c e = absurd (cc e)
 found_sent (s ∷ ss) at split c e = by_place (nat_eq s.at at) s split (split_at ss at) c.0 (λ f. found_sent ss at split c.1 f) e
 
-pub found_counted : (p : Program) (ss : List Split) (at : ℕ) (split : Split) → divisions p ≡ Ok (map seen_split ss) → split_at ss at ≡ Some split → (seen_split split).script.inputs ≡ length split.inputs
+pub found_counted : (p : Program) (ss : List Split) (at : ℕ) (split : Split) → divisions p ≡ Ok (map mirror_split ss) → split_at ss at ≡ Some split → (mirror_split split).script.inputs ≡ length split.inputs
 found_counted p ss at split h e =
     let f = some_found p ss at split h e in
     ap (λ d. d.script.inputs) f.is ∙ counted p f.batch ∙ ap (λ d. length d.inputs) (sym f.is)

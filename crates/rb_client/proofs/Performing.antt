@@ -21,7 +21,7 @@ use Rattle.rb_meaning.specs.State.{Event}
 use Rattle.rb_meaning.specs.Unsplit.{batch_at}
 use Rattle.rb_meaning_flow.specs.Outermost.{Outermost}
 use Rattle.rb_meaning_split.specs.Client.{Sent, input_values, replays, sent_for}
-use Rattle.rb_meaning_split.specs.Division.{Division, division}
+use Rattle.rb_meaning_split.specs.Division.{Division, division, mirror_split}
 use Rattle.rb_meaning_split.specs.Replay.{Replayed, ended, replay_all}
 use Rattle.rb_base.specs.Counts.{risen}
 use Rattle.rb_base.specs.Devices.{failed}
@@ -32,7 +32,7 @@ use Rattle.rb_engine.specs.Answers.{Answered, performed}
 use Rattle.rb_engine.specs.declared.world.Halt.{Halt}
 use Rattle.rb_client.specs.Clients.{Fetched, Fetches, Origin, Past, PerformedAs, PerformsSplit, SeesClient, waiting}
 use Rattle.rb_client.specs.Ends.{halted, stepped}
-use Rattle.rb_client.specs.Exchanges.{Exchanged, Exchanges, IsExchange, seen_split}
+use Rattle.rb_client.specs.Exchanges.{Exchanged, Exchanges, IsExchange}
 use Rattle.rb_client.specs.Replays.{EndsSo, Replays, outside, remainder_meant}
 use Rattle.rb_client.specs.Replies.{HasReason, more_pairs, pair_of, pairs_of, refused_pairs}
 use Rattle.rb_client.specs.Worlds.{output}
@@ -66,7 +66,7 @@ exchanged_more p before mid after sent nodes pair x n e is i = record {
   exchanges = exchanges_more p e.pairs sent nodes pair x n e.exchanges i;
 }
 
-same_sent : (split : Split) (d : Division) (l : Local) (request : List ℕ) → seen_split split ≡ d → Spells script_message request ((seen_split split).script, input_values split.inputs l.names) → Spells script_message request (sent_for d l)
+same_sent : (split : Split) (d : Division) (l : Local) (request : List ℕ) → mirror_split split ≡ d → Spells script_message request ((mirror_split split).script, input_values split.inputs l.names) → Spells script_message request (sent_for d l)
 same_sent split d l request is h = subst (λ x. Spells script_message request (x.script, input_values x.inputs l.names)) is h
 
 -- the World after the exchange, and after the remainder
@@ -79,7 +79,7 @@ pub record After {L W : Type 0} (w1 w2 : ClientWorld L W) (out : W) : Type 0 whe
 
 module _ {L W : Type 0} (gl : links.Ghosts L) (gw : sinks.Ghosts W) (split : Split) (at : ℕ) (classes : List class.Class) (w w1 w2 : ClientWorld L W) (out : W) (n : node.Node) (l l1 : Local)
     (own : classes ≡ w.plan.now.program.classes) (fetched : Fetched gl split l.names w (Ok n) w1) (after : After w1 w2 out) where
-  module _ (o : Origin L W) (h : Past) (b : Outermost) (sees : SeesClient gl gw o w h) (stands : batch_at o.program at ≡ Some b) (is : seen_split split ≡ division o.program b) where
+  module _ (o : Origin L W) (h : Past) (b : Outermost) (sees : SeesClient gl gw o w h) (stands : batch_at o.program at ≡ Some b) (is : mirror_split split ≡ division o.program b) where
     abbrev d : Division
     d = division o.program b
 
@@ -161,7 +161,7 @@ module _ {L W : Type 0} (gl : links.Ghosts L) (gw : sinks.Ghosts W) (split : Spl
     by_end (Err early.Memory) e = tt
 
   each : (r : Result (Unit {0}) Early)
-      → ((o : Origin L W) (h : Past) (b : Outermost) → SeesClient gl gw o w h → batch_at o.program at ≡ Some b → seen_split split ≡ division o.program b → Answered (performed l1 (stepped r)) (λ e. PerformedAs gl gw o h (Some b) at l e w2))
+      → ((o : Origin L W) (h : Past) (b : Outermost) → SeesClient gl gw o w h → batch_at o.program at ≡ Some b → mirror_split split ≡ division o.program b → Answered (performed l1 (stepped r)) (λ e. PerformedAs gl gw o h (Some b) at l e w2))
       → Answered (performed l1 (stepped r)) (λ e. PerformsSplit gl gw split at w l e w2)
   each (Ok u) f = f
   each (Err (early.Raised x)) f = f

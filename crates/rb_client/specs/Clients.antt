@@ -15,14 +15,14 @@ use Rattle.rb_meaning.specs.State.{Event}
 use Rattle.rb_meaning.specs.Unsplit.{batch_at}
 use Rattle.rb_meaning_flow.specs.Outermost.{Outermost}
 use Rattle.rb_meaning_split.specs.Client.{Sent, Waiting, answers_waiting, performs_divided, sent_for}
-use Rattle.rb_meaning_split.specs.Division.{Division, division}
+use Rattle.rb_meaning_split.specs.Division.{Division, division, mirror_split}
 use Rattle.rb_base.specs.Counts.{risen}
 use Rattle.rb_base.specs.Devices.{Device, failed}
 use Rattle.rb_base.specs.Sinks.{with_bytes, WrotePrefix}
 use Rattle.rb_base.specs.declared.links.Link as links
 use Rattle.rb_base.specs.declared.sinks.Sink as sinks
 use Rattle.rb_engine.specs.Answers.{Answer, Performed}
-use Rattle.rb_client.specs.Exchanges.{Exchanged, Exchanges, seen_split}
+use Rattle.rb_client.specs.Exchanges.{Exchanged, Exchanges}
 use Rattle.rb_client.specs.Replies.{HasReason, Trades, more_pairs, pair_of, pairs_of, refused_pairs}
 use Rattle.rb_client.specs.Requests.{to_send}
 use Rattle.rb_client.specs.Worlds.{output}
@@ -130,14 +130,14 @@ client_performs {L = L} {W = W} gl gw w at l e w' = (o : Origin L W) (h : Past) 
 
 -- A batch of the program was performed, whose division the code has.
 abbrev pub PerformsSplit : {L W : Type 0} → links.Ghosts L → sinks.Ghosts W → Split → ℕ → ClientWorld L W → Local → Performed RunStop → ClientWorld L W → Type 0
-PerformsSplit {L = L} {W = W} gl gw split at w l e w' = (o : Origin L W) (h : Past) (b : Outermost) → SeesClient gl gw o w h → batch_at o.program at ≡ Some b → seen_split split ≡ division o.program b
+PerformsSplit {L = L} {W = W} gl gw split at w l e w' = (o : Origin L W) (h : Past) (b : Outermost) → SeesClient gl gw o w h → batch_at o.program at ≡ Some b → mirror_split split ≡ division o.program b
     → PerformedAs gl gw o h (Some b) at l e w'
 
 -- The exchange of a batch: its request was sent over the same link, and all else stands, but for the count of exchanges.
 pub record Fetched {L W : Type 0} (gl : links.Ghosts L) (split : Split) (names : Names) (w : ClientWorld L W) (result : Result node.Node RunStop) (w' : ClientWorld L W) : Type 0 where
   pub request : List ℕ
   pub request_so : Spells script_message request (to_send split names)
-  pub trades : Trades gl (seen_split split).remainder w.exchanges request w.link.now result w'.link.now
+  pub trades : Trades gl (mirror_split split).remainder w.exchanges request w.link.now result w'.link.now
   pub same_link : w'.link.ghost_name ≡ w.link.ghost_name
   pub same_plan : w'.plan ≡ w.plan
   pub same_output : w'.out ≡ w.out

@@ -17,12 +17,8 @@ use Rattle.rb_meaning.specs.Links.{Pair}
 use Rattle.rb_meaning.specs.Unsplit.{batch_at}
 use Rattle.rb_meaning_flow.specs.Outermost.{Outermost}
 use Rattle.rb_meaning_split.specs.Client.{Sent}
-use Rattle.rb_meaning_split.specs.Division.{Division, division, divisions}
+use Rattle.rb_meaning_split.specs.Division.{Division, division, divisions, mirror_split}
 use Rattle.rb_client.specs.Replies.{more_pairs}
-
--- a division as the code has it
-abbrev pub seen_split : Split → Division
-seen_split s = record { at = s.at; inputs = s.inputs; script = mirror_script s.script; remainder = mirror_parts s.remainder }
 
 -- A script that can be sent, with values for its inputs: it is formed and valid.
 pub record CanBeSent (s : Script) : Type 0 where
@@ -60,5 +56,5 @@ pub record Exchanged (p : Program) (before after : Option (List Pair)) (sent : L
 
 -- The divisions of a program, each of whose scripts can be sent.
 pub record AreDivisions (p : program.Program) (splits : List Split) : Type 0 where
-  pub divided : divisions (mirror_program p) ≡ Ok (map seen_split splits)
+  pub divided : divisions (mirror_program p) ≡ Ok (map mirror_split splits)
   pub sent : AllCanBeSent splits

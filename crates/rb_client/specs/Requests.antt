@@ -1,16 +1,16 @@
 -- What the request of a batch is.
 use Rattle.std.specs.Prelude.{◌≤◌, ℕ, List, length}
+use Rattle.rb_meaning_split.specs.Division.{mirror_split}
 use Rattle.rb_trees.specs.declared.remainders.Split.{Split}
 use Rattle.rb_meaning_bytes.specs.formats.Formats.{Spells}
 use Rattle.rb_meaning_bytes.specs.formats.Scripts.{script_message}
 use Rattle.rb_meaning_code.specs.State.{Names}
 use Rattle.rb_meaning.specs.Answers.{longest_request}
 use Rattle.rb_meaning_split.specs.Client.{Sent, input_values}
-use Rattle.rb_client.specs.Exchanges.{seen_split}
 
 -- a batch's script and the values of its inputs, as they are sent
 abbrev pub to_send : Split → Names → Sent
-to_send split names = ((seen_split split).script, input_values split.inputs names)
+to_send split names = ((mirror_split split).script, input_values split.inputs names)
 
 -- The bytes spell that, and are short enough.
 pub record IsRequest (split : Split) (names : Names) (bytes : List ℕ) : Type 0 where

@@ -2,11 +2,12 @@
 
 ghost use Rattle.std.specs.Prelude.{◌≡◌, ◌≤◌, length};
 ghost use Rattle.std.specs.Option.{option_copied};
+ghost use Rattle.rb_meaning_split.specs.Division.{mirror_split};
 ghost use Rattle.rb_engine.specs.Answers.{Answered, performed};
 ghost use Rattle.rb_engine.specs.Locals.{local};
 ghost use Rattle.rb_client.specs.Clients.{Fetches, PerformsSplit};
 ghost use Rattle.rb_client.specs.Ends.{halted, stepped};
-ghost use Rattle.rb_client.specs.Exchanges.{CanBeSent, seen_split};
+ghost use Rattle.rb_client.specs.Exchanges.{CanBeSent};
 ghost use Rattle.rb_client.specs.Splits.{split_at};
 
 use crate::early::Early;
@@ -80,8 +81,8 @@ fn fetch<L: Link, W: Sink>(
     split: &Split,
     frame: &Frame,
 ) -> Result<Node, RunStop>
-    requires sent { CanBeSent (seen_split split.now).script }
-    requires counted { (seen_split split.now).script.inputs ≡ length split.now.inputs }
+    requires sent { CanBeSent (mirror_split split.now).script }
+    requires counted { (mirror_split split.now).script.inputs ≡ length split.now.inputs }
     ensures { Fetches L.Link split.now frame.now world.old result world.new }
 {
     let done = world.exchanges;
@@ -131,8 +132,8 @@ fn perform<L: Link, W: Sink>(
     state: &mut State,
     frame: &mut Frame,
 ) -> Step<(), RunStop>
-    requires sent { CanBeSent (seen_split split.now).script }
-    requires counted { (seen_split split.now).script.inputs ≡ length split.now.inputs }
+    requires sent { CanBeSent (mirror_split split.now).script }
+    requires counted { (mirror_split split.now).script.inputs ≡ length split.now.inputs }
     ensures fuel { state.new.fuel ≤ state.old.fuel }
     ensures depth { state.new.depth ≡ state.old.depth }
     ensures performs { Answered (performed (local frame.new state.new) result) (λ e. PerformsSplit L.Link W.Sink split.now at world.old (local frame.old state.old) e world.new) }

@@ -3,10 +3,11 @@
 ghost use Rattle.std.specs.Prelude.{◌≡◌, length, FitsSigned, IfOk, IsTrue};
 ghost use Rattle.std.specs.Int.{w64};
 ghost use Rattle.std.specs.Str.{is_utf8};
+ghost use Rattle.rb_meaning_split.specs.Division.{mirror_split};
 ghost use Rattle.rb_meaning_bytes.specs.formats.FormedScripts.{ArePrimitive, IsPrimitive};
 ghost use Rattle.rb_meaning_split.specs.Client.{input_values, value_or_unit};
 ghost use Rattle.rb_trees.specs.Named.{lookup};
-ghost use Rattle.rb_client.specs.Exchanges.{CanBeSent, seen_split};
+ghost use Rattle.rb_client.specs.Exchanges.{CanBeSent};
 ghost use Rattle.rb_client.specs.Requests.{IsRequest};
 
 use bytes::BytesMut;
@@ -91,8 +92,8 @@ fn are_primitive(values: &[Value]) -> bool
 /// The request of a batch where these names are in scope. Values that can't be sent, as none of an accepted program is, end it
 /// as want of memory does, and so does a request that would be too long.
 pub fn request_of(alloc: Global, split: &Split, frame: &Frame) -> Result<BytesMut, Memory>
-    requires sent { CanBeSent (seen_split split.now).script }
-    requires counted { (seen_split split.now).script.inputs ≡ length split.now.inputs }
+    requires sent { CanBeSent (mirror_split split.now).script }
+    requires counted { (mirror_split split.now).script.inputs ≡ length split.now.inputs }
     ensures { IfOk result (λ request. IsRequest split.now frame.now request.items) }
 {
     let values = values_of(alloc, split.inputs.as_slice(), frame)?;
