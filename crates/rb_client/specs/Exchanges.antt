@@ -5,7 +5,6 @@ use Rattle.rb_trees.specs.declared.declarations.Program as program
 use Rattle.rb_trees.specs.declared.remainders.Split.{Split}
 use Rattle.rb_trees.specs.mirror.Declarations.{Program, mirror_program}
 use Rattle.rb_trees.specs.mirror.Forests.{Node}
-use Rattle.rb_trees.specs.mirror.Remainders.{mirror_parts}
 use Rattle.rb_trees.specs.mirror.Scripts.{Script, mirror_script}
 use Rattle.rb_meaning_bytes.specs.Fits.{fits}
 use Rattle.rb_meaning_bytes.specs.formats.FormedScripts.{FormedScript}
@@ -17,7 +16,7 @@ use Rattle.rb_meaning.specs.Links.{Pair}
 use Rattle.rb_meaning.specs.Unsplit.{batch_at}
 use Rattle.rb_meaning_flow.specs.Outermost.{Outermost}
 use Rattle.rb_meaning_split.specs.Client.{Sent}
-use Rattle.rb_meaning_split.specs.Division.{Division, division, divisions, mirror_split}
+use Rattle.rb_meaning_split.specs.Division.{division, divisions, mirror_split}
 use Rattle.rb_client.specs.Replies.{more_pairs}
 
 -- A script that can be sent, with values for its inputs: it is formed and valid.
