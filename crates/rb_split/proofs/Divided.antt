@@ -12,12 +12,16 @@ use Rattle.rb_meaning_flow.specs.declared.scopes.Variable.{Variable}
 use Rattle.rb_meaning_flow.specs.Facts.{facts_of}
 use Rattle.rb_meaning_flow.specs.Outermost.{Outermost}
 use Rattle.rb_meaning_flow.specs.Scopes.{Scope, assigned_in, opened, variable_with}
-use Rattle.rb_meaning_split.specs.Division.{Division, checked_code, divided, divided_all, divided_before, division}
+use Rattle.rb_meaning_split.specs.Division.{Division, checked_code, divided, divided_all, divided_before, division, numbered}
 use Rattle.rb_meaning_split.specs.Inputs.{first_uses, used_in}
+use Rattle.rb_meaning_split.specs.Refs.{Input}
 use Rattle.rb_flow.specs.Begun.{Begun, begun, begun_of}
 use Rattle.rb_flow.specs.declared.outermost.OpenBatch.{OpenBatch}
 use Rattle.rb_split.specs.Divided.{counted_inputs, divided_from, divided_with, division_with}
 use Rattle.rb_split.specs.Seen.{refusal_of, seen}
+use Rattle.rb_split.specs.Views.{ref_of, refs_of}
+use Rattle.rb_split.specs.declared.refs.Known.{Known}
+use Rattle.rb_split.specs.declared.refs.Target.TheVariants as target
 use Rattle.rb_split.specs.declared.stops.SplitStop.{SplitStop}
 use Rattle.rb_split.specs.declared.stops.SplitStop.TheVariants as stops
 
@@ -163,3 +167,18 @@ pub leads_end : (p : Program) (batches : List OpenBatch) (splits : List Split) (
 leads_end p batches splits i l on bs e =
     let many = as_many batches bs e in
     on bs e ∙ ap (λ xs. in_front (map seen splits) (divided_all p xs)) (drop_all i bs (omega arith)) ∙ ap Ok (append-nil (map seen splits))
+
+-- one more input
+pub inputs_more : (inputs : List (List ℕ)) (i : ℕ) (name : List ℕ) (ks : List Known) → i < length inputs → name ≡ get_or inputs i name
+    → refs_of (ks ++ record { name = name; target = target.Input i } ∷ []) ++ numbered (i + 1) (drop (i + 1) inputs) ≡ refs_of ks ++ numbered i (drop i inputs)
+inputs_more inputs i name ks l is =
+    let next : suc i ≡ i + 1 = omega arith in
+    ap (λ rs. rs ++ numbered (i + 1) (drop (i + 1) inputs)) (map-append (λ (k : Known). (k.name, ref_of k.target)) ks (record { name = name; target = target.Input i } ∷ []))
+    ∙ append_assoc (refs_of ks) ((name, Input i) ∷ []) (numbered (i + 1) (drop (i + 1) inputs))
+    ∙ ap (λ n. refs_of ks ++ (name, Input i) ∷ numbered n (drop n inputs)) (sym next)
+    ∙ ap (λ xs. refs_of ks ++ numbered i xs) (sym (dropped inputs i name l is))
+  where
+    dropped : (xs : List (List ℕ)) (n : ℕ) (x : List ℕ) → n < length xs → x ≡ get_or xs n x → drop n xs ≡ x ∷ drop (suc n) xs
+    dropped [] n x h e = absurd (omega arith)
+    dropped (y ∷ xs) zero x h e = ap (λ z. z ∷ xs) (sym e)
+    dropped (y ∷ xs) (suc n) x h e = dropped xs n x (omega arith) e

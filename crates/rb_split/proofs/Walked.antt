@@ -1,6 +1,6 @@
 -- What is drafted of a statement and of a block, as the definitions say it.
-use Rattle.std.proofs.Common.{◌≡◌, ℕ, suc, List, [], ◌∷◌, ◌++◌, refl, ap, sym, ◌∙◌}
-use Rattle.std.specs.Prelude.{Bool, true, false, cond}
+use Rattle.std.proofs.Common.{◌≡◌, ℕ, suc, List, [], ◌∷◌, ◌++◌, refl, ap, sym, ◌∙◌, subst}
+use Rattle.std.specs.Prelude.{Bool, true, false, cond, OnOk, Result}
 use Rattle.rb_trees.specs.mirror.Code.{Expr, expr_at, Stmt, Stmts, Val, Var, Assign, Run, Print, Throw, If, While, For, Try, Batch, NoStmts, MoreStmts}
 use Rattle.rb_trees.specs.mirror.Declarations.{Program}
 use Rattle.rb_trees.specs.mirror.Scripts as script
@@ -19,11 +19,10 @@ use Rattle.rb_meaning_split.specs.Refs.{Refs, sexpr, with_var}
 use Rattle.rb_meaning_split.specs.Numbers.{kept_after, step_after, steps_after, var_after, vars_after}
 use Rattle.rb_meaning_split.specs.Steps.{block_steps, keeps, refs_after, steps}
 use Rattle.rb_meaning_split.specs.Parts.{block_parts, carried, part, plain, row_kind}
-use Rattle.rb_split.specs.Drafts.{Drafted, block_drafted, branch_drafted, carried_drafted, closed_branch, closed_turns, do_drafted, fresh, joined, joined_parts, let_of, plain_drafted, second_drafted, stmt_drafted, turn_drafted, turns_drafted, with_part}
+use Rattle.rb_split.specs.Drafts.{Drafted, block_drafted, branch_drafted, carried_drafted, closed_branch, closed_turns, do_drafted, fresh, joined, joined_parts, let_of, plain_drafted, second_drafted, stmt_drafted, turn_drafted, turns_drafted, with_kept, with_part, with_step}
 use Rattle.rb_split.proofs.Fronts.{take_front, take_whole, take_kept, kept_after as scope_kept}
 use Rattle.rb_split.proofs.Joined.{draft_of, joined_assoc, kept_so, parts_assoc, joined_whole, parts_whole, steps_apart}
 use Rattle.rb_split.proofs.Remotes.{whole_found}
-use Rattle.rb_split.proofs.Steps.{step_rules}
 use Rattle.rb_trees.proofs.mirror.Stmts.{stmts}
 use Rattle.std.proofs.lemmas.List.{map-append}
 use Rattle.std.proofs.lemmas.Grind.{common_steps}
@@ -44,13 +43,13 @@ chosen d b ss ts q r n k m l = put d (cond b ss ts) (cond b q r) (cond b n k) (c
 pub val_carried : (p : Program) (refs : Refs) (scope : Scope) (d : Drafted) (at : ℕ) (name : List ℕ) (e : Expr) → portable (facts_of p) scope e ≡ true
     → stmt_drafted p refs scope d (Val at name e) ≡ carried_drafted p refs d at name e
 val_carried p refs scope d at name e h =
-    ap (λ b. chosen d b (MoreSteps (let_of p refs d at e) NoSteps) (keeps p refs d.step (remote_of (facts_of p) scope (Val at name e)) NoSteps)
+    ap (λ b. chosen d b (MoreSteps (let_of p refs d.step d.var at e) NoSteps) (keeps p refs d.step (remote_of (facts_of p) scope (Val at name e)) NoSteps)
     (carried p d.step at name e) (plain p scope d.step (Val at name e)) (suc d.step) (kept_after (facts_of p) scope (Val at name e) d.step) (suc d.var) d.var) h
 
 pub val_plain : (p : Program) (refs : Refs) (scope : Scope) (d : Drafted) (at : ℕ) (name : List ℕ) (e : Expr) → portable (facts_of p) scope e ≡ false
     → stmt_drafted p refs scope d (Val at name e) ≡ plain_drafted p refs scope d (Val at name e)
 val_plain p refs scope d at name e h =
-    ap (λ b. chosen d b (MoreSteps (let_of p refs d at e) NoSteps) (keeps p refs d.step (remote_of (facts_of p) scope (Val at name e)) NoSteps)
+    ap (λ b. chosen d b (MoreSteps (let_of p refs d.step d.var at e) NoSteps) (keeps p refs d.step (remote_of (facts_of p) scope (Val at name e)) NoSteps)
     (carried p d.step at name e) (plain p scope d.step (Val at name e)) (suc d.step) (kept_after (facts_of p) scope (Val at name e) d.step) (suc d.var) d.var) h
     ∙ sym (plain_so p refs scope d (Val at name e))
 
@@ -164,4 +163,23 @@ pub batch_plain : (p : Program) (refs : Refs) (scope : Scope) (d : Drafted) (at 
     → stmt_drafted p refs scope d (Batch at interface root a) ≡ plain_drafted p refs scope d (Batch at interface root a)
 batch_plain p refs scope d at interface root a = sym (plain_so p refs scope d (Batch at interface root a))
 
-pub ruleset walk_rules = (step_rules, stmts, map-append, take_front, take_whole, take_kept, scope_kept, val_carried, val_plain, run_do, run_plain, if_branch, if_plain, for_turns, for_plain, var_plain, assign_plain, print_plain, throw_plain, while_plain, try_plain, batch_plain, common_steps)
+pub ruleset stmt_rules = (stmts, val_carried, val_plain, run_do, run_plain, if_branch, if_plain, for_turns, for_plain, var_plain, assign_plain, print_plain, throw_plain, while_plain, try_plain, batch_plain, common_steps)
+
+pub ruleset block_rules = (map-append, take_front, take_whole, take_kept, scope_kept, common_steps)
+
+-- one more part, and one more step, by what they are
+pub written : {E : Type 0} (r : Result (Unit {0}) E) (now : Drafted) {mid : Drafted} (d : Drafted) {s s' : Step} {q q' : Part} {n n' m m' : ℕ} → mid ≡ with_part d q → q ≡ q' → s ≡ s' → n ≡ n' → m ≡ m'
+    → OnOk r (now ≡ with_kept mid s n m) → OnOk r (now ≡ with_step d s' q' n' m')
+written r now {mid = mid} d {s = s} {s' = s'} {q = q} {q' = q'} {n = n} {n' = n'} {m = m} {m' = m'} ed eq es en em h =
+    subst (λ x. OnOk r (now ≡ x))
+    (ap (λ x. with_kept x s n m) (ed ∙ ap (with_part d) eq) ∙ ap (λ x. with_step d x q' n m) es ∙ ap (λ x. with_step d s' q' x m) en ∙ ap (λ x. with_step d s' q' n' x) em) h
+
+-- a statement of a form, drafted as it is
+pub drafted_as : {E : Type 0} (r : Result (Unit {0}) E) (now : Drafted) (p : Program) (refs : Refs) (scope : Scope) (d x : Drafted) (s m : Stmt) → s ≡ m
+    → stmt_drafted p refs scope d m ≡ x → OnOk r (now ≡ x) → OnOk r (now ≡ stmt_drafted p refs scope d s)
+drafted_as r now p refs scope d x s m is so h = subst (λ y. OnOk r (now ≡ y)) (sym (ap (stmt_drafted p refs scope d) is ∙ so)) h
+
+-- and left to the client
+pub drafted_plain : {E : Type 0} (r : Result (Unit {0}) E) (now : Drafted) (p : Program) (refs : Refs) (scope : Scope) (d : Drafted) (s m : Stmt) → s ≡ m
+    → stmt_drafted p refs scope d m ≡ plain_drafted p refs scope d m → OnOk r (now ≡ plain_drafted p refs scope d s) → OnOk r (now ≡ stmt_drafted p refs scope d s)
+drafted_plain r now p refs scope d s m is so h = drafted_as r now p refs scope d (plain_drafted p refs scope d s) s m is (so ∙ ap (plain_drafted p refs scope d) (sym is)) h

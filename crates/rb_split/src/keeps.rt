@@ -37,7 +37,7 @@ fn keep(
         at: e.at,
         form: StepForm::Keep(value),
     };
-    draft.add_step(step, after)
+    draft.add_step(step, after, draft.var)
 }
 
 /// Adds a step for each expression that was found, which keeps its value. What is answered are the numbers of the steps, each
