@@ -262,7 +262,6 @@ fn close_turns(
 
 // A statement at a script place. What it declares isn't bound yet.
 #[cycle(walking)]
-#[tactic(auto, using(crate::proofs::Walked::stmt_rules))]
 fn draft_stmt(
     alloc: Global,
     x: &Typed,
@@ -310,15 +309,13 @@ fn draft_stmt(
                 draft_plain(alloc, x, scope, refs, draft, s)
             }
         }
-        StmtForm::Var(_, _) | StmtForm::Assign(_, _) | StmtForm::Print(_) => {
-            draft_plain(alloc, x, scope, refs, draft, s)
-        }
-        StmtForm::Throw(_) | StmtForm::While(_, _) => {
-            draft_plain(alloc, x, scope, refs, draft, s)
-        }
-        StmtForm::Try(_, _, _) | StmtForm::Batch(_, _, _) => {
-            draft_plain(alloc, x, scope, refs, draft, s)
-        }
+        StmtForm::Var(_, _) => draft_plain(alloc, x, scope, refs, draft, s),
+        StmtForm::Assign(_, _) => draft_plain(alloc, x, scope, refs, draft, s),
+        StmtForm::Print(_) => draft_plain(alloc, x, scope, refs, draft, s),
+        StmtForm::Throw(_) => draft_plain(alloc, x, scope, refs, draft, s),
+        StmtForm::While(_, _) => draft_plain(alloc, x, scope, refs, draft, s),
+        StmtForm::Try(_, _, _) => draft_plain(alloc, x, scope, refs, draft, s),
+        StmtForm::Batch(_, _, _) => draft_plain(alloc, x, scope, refs, draft, s),
     }
 }
 
