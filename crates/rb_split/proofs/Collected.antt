@@ -1,14 +1,17 @@
 -- The batches that a walk through a program collects are the program's.
 use Rattle.std.proofs.Common.{◌≡◌, refl, sym, ap, ◌∙◌, List, [], ◌∷◌, ◌++◌, map, append_assoc, append-nil}
 use Rattle.std.proofs.lemmas.List.{map-append}
-use Rattle.std.specs.Prelude.{true}
+use Rattle.std.specs.Prelude.{true, IfOk, Result, Ok, Err}
 use Rattle.std.specs.List.{flat_map}
 use Rattle.rb_trees.specs.mirror.Code.{expr_at, Stmt, Stmts, Val, Var, Assign, Run, Print, Throw, If, While, For, Try, Batch, NoStmts, MoreStmts}
-use Rattle.rb_trees.specs.mirror.Declarations.{Method, Class, Program}
+use Rattle.rb_trees.specs.declared.declarations.Program as program
+use Rattle.rb_trees.specs.mirror.Declarations.{Method, Class, Program, mirror_program}
 use Rattle.rb_meaning_flow.specs.Facts.{Facts}
 use Rattle.rb_meaning_flow.specs.Scopes.{Scope, with_variable}
 use Rattle.rb_meaning_flow.specs.Outermost.{Outermost, outer_role, outer_after, outermost, outermost_in, parameters, method_batches, class_batches, program_batches}
-use Rattle.rb_flow.specs.Begun.{Begun, begun, stmt_begun, block_begun, methods_begun, classes_begun, program_begun}
+use Rattle.rb_flow.specs.declared.outermost.OpenBatch.{OpenBatch}
+use Rattle.rb_split.specs.Views.{facts}
+use Rattle.rb_flow.specs.Begun.{Begun, begun, begun_of, stmt_begun, block_begun, methods_begun, classes_begun, program_begun}
 
 joined_batches : (bs : List Begun) (os ps : List Outermost) → (bs ++ map begun os) ++ map begun ps ≡ bs ++ map begun (os ++ ps)
 joined_batches bs os ps = append_assoc bs (map begun os) (map begun ps) ∙ ap (λ cs. bs ++ cs) (sym (map-append begun os ps))
@@ -59,3 +62,10 @@ program_collected x p =
     block_collected x [] (classes_begun x [] p.classes) p.body.statements
     ∙ ap (λ cs. cs ++ map begun (outermost_in x [] p.body.statements)) (classes_collected x [] p.classes)
     ∙ joined_batches [] (flat_map (class_batches x) p.classes) (outermost_in x [] p.body.statements)
+
+-- what is collected of a program's tree
+pub collected_so : {E : Type 0} (r : Result (List OpenBatch) E) (p q x : program.Program) → x ≡ p → q ≡ p → IfOk r (λ bs. map begun_of bs ≡ program_begun (facts x) (mirror_program q))
+    → IfOk r (λ bs. map begun_of bs ≡ map begun (program_batches (facts p) (mirror_program p)))
+collected_so (Ok bs) p q x ex eq h =
+    h ∙ ap (λ y. program_begun (facts y) (mirror_program q)) ex ∙ ap (λ y. program_begun (facts p) (mirror_program y)) eq ∙ program_collected (facts p) (mirror_program p)
+collected_so (Err e) p q x ex eq h = tt

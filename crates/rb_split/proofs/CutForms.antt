@@ -1,6 +1,6 @@
 -- The equations that copies without remote expressions stand on.
 use Rattle.std.proofs.Common.{◌≡◌, ℕ, suc, List, [], ◌∷◌, ◌++◌, refl, ap, sym, ◌∙◌, append-nil}
-use Rattle.std.specs.Prelude.{Bool, true, false, cond, ◌&&◌}
+use Rattle.std.specs.Prelude.{Bool, true, false, cond, ◌&&◌, IfOk, Result, Ok, Err}
 use Rattle.rb_trees.specs.declared.code.Expr as tree
 use Rattle.rb_trees.specs.mirror.Code.{Expr, Lit, Name, This, Unary, Binary, Field, Call, Index, New, Items, Taken, Exprs, NoExprs, MoreExprs, expr_at, mirror_expr, mirror_exprs}
 use Rattle.rb_trees.proofs.mirror.Exprs.{exprs}
@@ -37,6 +37,12 @@ whole_cut x scope n e h = whole_or_parts x scope n e ∙ ap (λ b. cond b (Taken
 
 pub only_parts_cut : (x : Facts) (scope : Scope) (n : ℕ) (e : Expr) → is_portable_call x scope e ≡ false → cut x scope n e ≡ parts_cut x scope n e
 only_parts_cut x scope n e h = whole_or_parts x scope n e ∙ ap (λ b. cond b (Taken (expr_at e) n) (parts_cut x scope n e)) h
+
+-- a remote expression that is taken
+pub taken_so : {E : Type 0} (x : Facts) (scope : Scope) (n : ℕ) (e : tree.Expr) (r : Result tree.Expr E) → is_portable_call x scope (mirror_expr e) ≡ true
+    → IfOk r (λ c. mirror_expr c ≡ Taken e.at n) → IfOk r (λ c. mirror_expr c ≡ cut x scope n (mirror_expr e))
+taken_so x scope n e (Ok c) h t = t ∙ ap (λ a. Taken a n) (sym (expr_at_tree e)) ∙ sym (whole_cut x scope n (mirror_expr e) h)
+taken_so x scope n e (Err w) h t = tt
 
 -- numbers after some expressions, and then others
 pub counted-append : (es fs : List Expr) (n : ℕ) → counted (es ++ fs) n ≡ counted fs (counted es n)

@@ -1,23 +1,29 @@
 -- The divisions of batches, one after the other.
 use Rattle.std.proofs.Common.{◌≡◌, ℕ, zero, suc, ◌+◌, ◌-◌, ◌<◌, ◌≤◌, arith, List, [], ◌∷◌, ◌++◌, map, length, length-append, drop, get_or, refl, sym, ap, ◌∙◌, subst, append_assoc, append-nil}
-use Rattle.std.specs.Prelude.{Option, None, Some, Result, Ok, Err, slice_get}
+use Rattle.std.specs.Prelude.{Bool, true, false, cond, nat_lt, Option, None, Some, Result, Ok, Err, slice_get}
 use Rattle.std.proofs.lemmas.List.{map-append, drop_all}
+use Rattle.std.proofs.lemmas.List.FromFn.{map-range_with_len_more}
+use Rattle.std.specs.List.{range_with_len}
 use Rattle.rb_trees.specs.Outcome.{◌>>=◌, Gives, Refuses}
 use Rattle.rb_trees.specs.declared.refusals.Refusal.{Refusal}
+use Rattle.rb_trees.specs.declared.refusals.Refusal.TheVariants.{TooManyInputs}
 use Rattle.rb_trees.specs.declared.remainders.Split.{Split}
 use Rattle.rb_trees.specs.mirror.Code.{Stmts, mirror_stmts}
-use Rattle.rb_trees.specs.mirror.Declarations.{Program}
+use Rattle.rb_trees.specs.declared.declarations.Program as program
+use Rattle.rb_trees.specs.mirror.Declarations.{Program, mirror_program}
 use Rattle.rb_meaning_flow.specs.declared.scopes.Role.{Role}
 use Rattle.rb_meaning_flow.specs.declared.scopes.Variable.{Variable}
-use Rattle.rb_meaning_flow.specs.Facts.{facts_of}
-use Rattle.rb_meaning_flow.specs.Outermost.{Outermost}
+use Rattle.rb_meaning_flow.specs.Outermost.{Outermost, program_batches}
 use Rattle.rb_meaning_flow.specs.Scopes.{Scope, assigned_in, opened, variable_with}
-use Rattle.rb_meaning_split.specs.Division.{Division, checked_code, divided, divided_all, divided_before, division}
-use Rattle.rb_meaning_split.specs.Inputs.{first_uses, used_in}
+use Rattle.rb_meaning_split.specs.Division.{Division, checked_code, divided, divided_all, divided_before, division, first_refs, inputs_of, most_inputs}
+use Rattle.rb_meaning_split.specs.Refs.{Refs}
 use Rattle.rb_flow.specs.Begun.{Begun, begun, begun_of}
 use Rattle.rb_flow.specs.declared.outermost.OpenBatch.{OpenBatch}
-use Rattle.rb_split.specs.Divided.{counted_inputs, divided_from, divided_with, division_with}
+use Rattle.rb_split.specs.Divided.{divided_from, division_with}
+use Rattle.rb_split.specs.Drafts.{Drafted, block_drafted, fresh}
+use Rattle.rb_split.proofs.Walked.{block_put, block_so}
 use Rattle.rb_split.specs.Seen.{refusal_of, seen}
+use Rattle.rb_split.specs.Views.{facts}
 use Rattle.rb_split.specs.declared.stops.SplitStop.{SplitStop}
 use Rattle.rb_split.specs.declared.stops.SplitStop.TheVariants as stops
 
@@ -40,10 +46,16 @@ root_of_opened outer at root block =
 pub root_so : (b : OpenBatch) (o : Outermost) → begun_of b ≡ begun o → slice_get b.scope (length b.scope - 1) ≡ Some (record { name = o.root; role = Role.Root; node = o.at })
 root_so b o e = ap (λ x. slice_get x.scope (length x.scope - 1)) e ∙ root_of_opened o.outer o.at o.root o.block
 
+by_test : (t : Bool) (r : Refusal) (n : ℕ) (m : Result Division Refusal) → cond t (Err r) m ≡ (cond t (Err r) (Ok n)) >>= (λ k. m)
+by_test true r n m = refl
+by_test false r n m = refl
+
 -- a batch is divided from where it begins
 pub divided_begun : (p : Program) (o : Outermost) → divided p o ≡ divided_from p o.at o.root (opened o.outer o.at o.root o.block) o.block
 unfolding division
-divided_begun p o = refl
+divided_begun p o =
+    by_test (nat_lt most_inputs (length (inputs_of p o))) (TooManyInputs o.at (length (inputs_of p o))) (length (inputs_of p o))
+    (checked_code (division_with p o.at o.root (opened o.outer o.at o.root o.block) o.block (inputs_of p o)))
 
 pub divided_so : (p : Program) (b : OpenBatch) (o : Outermost) (root : Variable) → begun_of b ≡ begun o → Some root ≡ slice_get b.scope (length b.scope - 1)
     → divided p o ≡ divided_from p root.node root.name b.scope (mirror_stmts b.block.now)
@@ -54,28 +66,19 @@ divided_so p b o root h is =
     ∙ ap (λ v. divided_from p v.node v.name b.scope (mirror_stmts b.block.now)) same
 
 -- the same answer to another definition that is equal
-pub gives_by : {X Y : Type 0} {view : X → Y} {r : Result X SplitStop} {m m' : Result Y Refusal} → m' ≡ m → Gives view refusal_of r m → Gives view refusal_of r m'
-gives_by {view = view} {r = r} e h = subst (λ x. Gives view refusal_of r x) (sym e) h
+pub gives_by : {X Y : Type 0} (view : X → Y) (r : Result X SplitStop) (m m' : Result Y Refusal) → m' ≡ m → Gives view refusal_of r m → Gives view refusal_of r m'
+gives_by view r m m' e h = subst (λ x. Gives view refusal_of r x) (sym e) h
 
--- too many inputs
-refused_by : (e : SplitStop) (at n : ℕ) (p : Program) (root : List ℕ) (scope : Scope) (block : Stmts) (inputs : List (List ℕ))
-    → Refuses (refusal_of e) (counted_inputs at inputs) → Refuses (refusal_of e) (divided_with p at root scope block inputs)
-refused_by (stops.Refused r) at n p root scope block inputs h = ap (λ x. x >>= (λ n. checked_code (division_with p at root scope block inputs))) h
-refused_by stops.Memory at n p root scope block inputs h = tt
+-- a division, by what is drafted of its block
+abbrev division_by : ℕ → List (List ℕ) → ℕ → Drafted → Division
+division_by at inputs n d = record { at = at; inputs = inputs; script = record { inputs = n; body = d.steps }; remainder = d.parts }
 
-pub inputs_refused : (p : Program) (e : SplitStop) (t : Result ℕ SplitStop) (at : ℕ) (root : List ℕ) (scope : Scope) (block : Stmts) (inputs : List (List ℕ))
-    → inputs ≡ first_uses [] (used_in (facts_of p) scope block) → Gives (λ n. n) refusal_of t (counted_inputs at inputs) → t ≡ Err e → Refuses (refusal_of e) (divided_from p at root scope block)
-inputs_refused p e t at root scope block inputs is h so =
-    subst (λ x. Refuses (refusal_of e) (divided_with p at root scope block x)) is
-    (refused_by e at 0 p root scope block inputs (subst (λ x. Gives (λ n. n) refusal_of x (counted_inputs at inputs)) so h))
-
--- as many as there may be
-pub inputs_counted : (p : Program) (r : Result Split SplitStop) (n : ℕ) (s : Split) (t : Result ℕ SplitStop) (at : ℕ) (root : List ℕ) (scope : Scope) (block : Stmts) (inputs : List (List ℕ))
-    → inputs ≡ first_uses [] (used_in (facts_of p) scope block) → Gives (λ n. n) refusal_of t (counted_inputs at inputs) → t ≡ Ok n
-    → seen s ≡ division_with p at root scope block inputs → Gives seen refusal_of r (checked_code (seen s)) → Gives seen refusal_of r (divided_from p at root scope block)
-inputs_counted p r n s t at root scope block inputs is h so made done =
-    let counted : counted_inputs at inputs ≡ Ok n = subst (λ x. Gives (λ n. n) refusal_of x (counted_inputs at inputs)) so h in
-    gives_by (ap (divided_with p at root scope block) (sym is) ∙ ap (λ x. x >>= (λ n. checked_code (division_with p at root scope block inputs))) counted ∙ ap checked_code (sym made)) done
+pub division_so : (p : Program) (at n : ℕ) (root : List ℕ) (scope : Scope) (block : Stmts) (inputs slice : List (List ℕ)) (refs : Refs) (d : Drafted)
+    → d ≡ block_drafted p refs scope (fresh 0 0) block → refs ≡ first_refs root slice → slice ≡ inputs → n ≡ length inputs
+    → division_by at inputs n d ≡ division_with p at root scope block inputs
+division_so p at n root scope block inputs slice refs d ed er es en =
+    ap (division_by at inputs n) (ed ∙ block_so p refs scope (fresh 0 0) block ∙ ap (λ x. block_put p x scope (fresh 0 0) block) (er ∙ ap (first_refs root) es))
+    ∙ ap (λ x. division_by at inputs x (block_put p (first_refs root inputs) scope (fresh 0 0) block)) en
 
 -- the batch at a place
 pub begun_at : (bs : List OpenBatch) (os : List Outermost) (i : ℕ) (b : OpenBatch) → map begun_of bs ≡ map begun os → i < length bs → b ≡ get_or bs i b
@@ -163,3 +166,47 @@ pub leads_end : (p : Program) (batches : List OpenBatch) (splits : List Split) (
 leads_end p batches splits i l on bs e =
     let many = as_many batches bs e in
     on bs e ∙ ap (λ xs. in_front (map seen splits) (divided_all p xs)) (drop_all i bs (omega arith)) ∙ ap Ok (append-nil (map seen splits))
+
+-- the batch at a place was divided
+pub split_so : (r : Result Split SplitStop) (p q : program.Program) (bs slice : List OpenBatch) (i : ℕ) (x : OpenBatch) (b : Outermost) → q ≡ p
+    → map begun_of bs ≡ map begun (program_batches (facts q) (mirror_program q)) → slice ≡ bs → x ≡ get_or slice i x → i < length (program_batches (facts p) (mirror_program p))
+    → slice_get (program_batches (facts p) (mirror_program p)) i ≡ Some b → Divides (mirror_program q) x r → Gives seen refusal_of r (divided (mirror_program p) b)
+split_so r p q bs slice i x b same collected e is l at h =
+    let os : List Outermost = program_batches (facts p) (mirror_program p) in
+    let got : map begun_of bs ≡ map begun os = collected ∙ ap (λ y. map begun (program_batches (facts y) (mirror_program y))) same in
+    let many : length bs ≡ length os = as_many bs os got in
+    let here : x ≡ get_or bs i x = is ∙ ap (λ s. get_or s i x) e in
+    let found : begun_of x ≡ begun b = numbered_begun bs os i x b got (omega arith) here at in
+    subst (λ y. Gives seen refusal_of r (divided (mirror_program y) b)) same (h b found)
+
+-- one more division, behind the others
+pub leads_on : (p : Program) (batches : List OpenBatch) (splits now : List Split) (i : ℕ) (b : OpenBatch) (t : Result Split SplitStop) (s : Split) → i < length batches → b ≡ get_or batches i b
+    → Leads p batches splits i → Divides p b t → t ≡ Ok s → now ≡ splits ++ s ∷ [] → Leads p batches now (i + 1)
+leads_on p batches splits now i b t s l is on h so e = subst (λ x. Leads p batches x (i + 1)) (sym e) (leads_more p batches splits i b t s l is on h so)
+
+pub leads_refused : (r : Result (List Split) SplitStop) (p : Program) (batches : List OpenBatch) (splits : List Split) (i : ℕ) (b : OpenBatch) (t : Result Split SplitStop) (x : SplitStop) → i < length batches → b ≡ get_or batches i b
+    → Leads p batches splits i → Divides p b t → t ≡ Err x → r ≡ Err x → (bs : List Outermost) → map begun_of batches ≡ map begun bs → Gives (λ ss. map seen ss) refusal_of r (divided_all p bs)
+leads_refused r p batches splits i b t x l is on h so end bs e =
+    subst (λ y. Gives (λ ss. map seen ss) refusal_of y (divided_all p bs)) (sym end) (leads_cut p batches splits i b t x l is on h so bs e)
+
+same_list : (xs : List ℕ) → map (λ x. x) xs ≡ xs
+same_list [] = refl
+same_list (x ∷ xs) = ap (λ ys. x ∷ ys) (same_list xs)
+
+range_more : (n : ℕ) → range_with_len 0 (n + 1) ≡ range_with_len 0 n ++ n ∷ []
+range_more n =
+    sym (same_list (range_with_len 0 (n + 1))) ∙ map-range_with_len_more (λ x. x) 0 n n (omega arith) ∙ ap (λ xs. xs ++ n ∷ []) (same_list (range_with_len 0 n))
+
+-- one more number
+pub numbered_more : (splits now : List Split) (s : Split) (n : ℕ) → map (λ s. s.batch) splits ≡ range_with_len 0 (length splits) → s.batch ≡ n → n ≡ length splits → now ≡ splits ++ s ∷ []
+    → map (λ s. s.batch) now ≡ range_with_len 0 (length now)
+numbered_more splits now s n so es en e =
+    let long : length (splits ++ s ∷ []) ≡ length splits + 1 = length-append splits (s ∷ []) in
+    ap (map (λ s. s.batch)) e ∙ map-append (λ s. s.batch) splits (s ∷ []) ∙ ap (λ xs. xs ++ s.batch ∷ []) so ∙ ap (λ m. range_with_len 0 (length splits) ++ m ∷ []) (es ∙ en)
+    ∙ sym (range_more (length splits)) ∙ ap (range_with_len 0) (sym long) ∙ ap (λ xs. range_with_len 0 (length xs)) (sym e)
+
+pub count_more : (splits now : List Split) (s : Split) (n m : ℕ) → n ≡ length splits → m ≡ suc n → now ≡ splits ++ s ∷ [] → m ≡ length now
+count_more splits now s n m en em e =
+    let long : length (splits ++ s ∷ []) ≡ length splits + 1 = length-append splits (s ∷ []) in
+    let all : length now ≡ length (splits ++ s ∷ []) = ap length e in
+    omega arith

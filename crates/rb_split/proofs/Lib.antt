@@ -1,6 +1,7 @@
 pub mod Collected
 pub mod CutForms
 pub mod Divided
+pub mod Forms
 pub mod Fronts
 pub mod Given
 pub mod Joined

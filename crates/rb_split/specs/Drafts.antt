@@ -45,8 +45,8 @@ abbrev pub with_step : Drafted → Step → Part → ℕ → ℕ → Drafted
 with_step d s q n m = record { steps = joined d.steps (MoreSteps s NoSteps); parts = joined_parts d.parts (MoreParts q NoParts); step = n; var = m }
 
 -- one more step alone
-abbrev pub with_kept : Drafted → Step → ℕ → Drafted
-with_kept d s n = record { steps = joined d.steps (MoreSteps s NoSteps); parts = d.parts; step = n; var = d.var }
+abbrev pub with_kept : Drafted → Step → ℕ → ℕ → Drafted
+with_kept d s n m = record { steps = joined d.steps (MoreSteps s NoSteps); parts = d.parts; step = n; var = m }
 
 -- one more part alone
 abbrev pub with_part : Drafted → Part → Drafted
@@ -55,7 +55,7 @@ with_part d q = record { steps = d.steps; parts = joined_parts d.parts (MorePart
 module _ (p : Program) where
   -- one more step that keeps the value of an expression, and one for each of some
   abbrev pub one_kept : Refs → Drafted → Expr → Drafted
-  one_kept refs d e = with_kept d (script.Keep d.step (expr_at e) (sexpr p refs e)) (suc d.step)
+  one_kept refs d e = with_kept d (script.Keep d.step (expr_at e) (sexpr p refs e)) (suc d.step) d.var
 
   abbrev pub all_kept : Refs → Drafted → List Expr → Drafted
   all_kept refs d [] = d
@@ -66,15 +66,18 @@ module _ (p : Program) where
   plain_drafted refs scope d s = with_part (all_kept refs d (remote_of (facts_of p) scope s)) (plain p scope d.step s)
 
   -- a carried val
-  abbrev pub let_of : Refs → Drafted → ℕ → Expr → Step
-  let_of refs d at e = script.Let d.step at d.var (keeps_val p e) (sexpr p refs e)
+  abbrev pub let_of : Refs → (n m : ℕ) → ℕ → Expr → Step
+  let_of refs n m at e = script.Let n at m (keeps_val p e) (sexpr p refs e)
 
   abbrev pub carried_drafted : Refs → Drafted → ℕ → List ℕ → Expr → Drafted
-  carried_drafted refs d at name e = with_step d (let_of refs d at e) (carried p d.step at name e) (suc d.step) (suc d.var)
+  carried_drafted refs d at name e = with_step d (let_of refs d.step d.var at e) (carried p d.step at name e) (suc d.step) (suc d.var)
 
   -- a remote expression alone
+  abbrev pub do_of : Refs → ℕ → ℕ → Expr → Step
+  do_of refs n at e = script.Do n at (sexpr p refs e)
+
   abbrev pub do_drafted : Refs → Drafted → ℕ → Expr → Drafted
-  do_drafted refs d at e = with_step d (script.Do d.step at (sexpr p refs e)) (remainder.Pass d.step) (suc d.step) d.var
+  do_drafted refs d at e = with_step d (do_of refs d.step at e) (remainder.Pass d.step) (suc d.step) d.var
 
   -- a statement at a script place
   abbrev pub stmt_drafted : Refs → Scope → Drafted → Stmt → Drafted
@@ -92,14 +95,20 @@ module _ (p : Program) where
       block_drafted (refs_after p refs d.var scope s) (scope_after (facts_of p) [] scope s) (stmt_drafted refs scope d s) ss
 
   -- an `if` whose blocks were drafted
+  abbrev pub if_of : Refs → ℕ → ℕ → Expr → Steps → Steps → Step
+  if_of refs n at c a b = script.If n at (sexpr p refs c) a b
+
   abbrev pub closed_branch : Refs → Drafted → ℕ → Expr → Drafted → Drafted → Drafted
   closed_branch refs d at c one two =
-      with_step d (script.If d.step at (sexpr p refs c) one.steps two.steps) (remainder.Branch d.step one.parts two.parts) two.step two.var
+      with_step d (if_of refs d.step at c one.steps two.steps) (remainder.Branch d.step one.parts two.parts) two.step two.var
 
   -- a loop over rows whose block was drafted
+  abbrev pub each_of : Refs → (n m : ℕ) → ℕ → Expr → Steps → Step
+  each_of refs n m at e a = script.Each n at m ((facts_of p).items (expr_at e)) (sexpr p refs e) a
+
   abbrev pub closed_turns : Refs → Drafted → ℕ → List ℕ → Expr → Drafted → Drafted
   closed_turns refs d at name e body =
-      with_step d (script.Each d.step at d.var ((facts_of p).items (expr_at e)) (sexpr p refs e) body.steps)
+      with_step d (each_of refs d.step d.var at e body.steps)
       (remainder.Turns d.step name (row_kind p e) body.parts) body.step body.var
 
   -- the block of a carried `if`'s first branch, and of its second one

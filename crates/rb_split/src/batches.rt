@@ -13,7 +13,6 @@ use rb_types::Typed;
 use std::alloc::Global;
 
 /// The batches of a program as they begin, in source order.
-#[tactic(auto, using(crate::proofs::Collected::program_collected))]
 pub fn batches_of<'p>(alloc: Global, x: &'p Typed) -> Result<Seq<OpenBatch<'p>>, Memory>
     ensures { IfOk result (λ bs. map begun_of bs ≡ map begun (program_batches (facts x.now) (mirror_program x.now))) }
 {

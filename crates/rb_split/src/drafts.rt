@@ -36,17 +36,6 @@ impl Draft {
         }
     }
 
-    /// Adds a step, and the part beside it. The next step and variable have these numbers.
-    pub fn add(&mut self, step: Step, part: Part, next: u32, var: u32) -> Result<(), Memory>
-        ensures { OnOk result (drafted self.new ≡ words.with_step (drafted self.old) (mirror_step step) (mirror_part part) next var) }
-    {
-        self.steps.push(step)?;
-        self.parts.push(part)?;
-        self.step = next;
-        self.var = var;
-        Ok(())
-    }
-
     /// Adds a part.
     pub fn add_part(&mut self, part: Part) -> Result<(), Memory>
         ensures { OnOk result (drafted self.new ≡ words.with_part (drafted self.old) (mirror_part part)) }
@@ -54,12 +43,13 @@ impl Draft {
         self.parts.push(part)
     }
 
-    /// Adds a step that keeps a value. The next step has this number.
-    pub fn add_step(&mut self, step: Step, next: u32) -> Result<(), Memory>
-        ensures { OnOk result (drafted self.new ≡ words.with_kept (drafted self.old) (mirror_step step) next) }
+    /// Adds a step. The next step and the next variable have these numbers.
+    pub fn add_step(&mut self, step: Step, next: u32, var: u32) -> Result<(), Memory>
+        ensures { OnOk result (drafted self.new ≡ words.with_kept (drafted self.old) (mirror_step step) next var) }
     {
         self.steps.push(step)?;
         self.step = next;
+        self.var = var;
         Ok(())
     }
 }

@@ -31,7 +31,7 @@ fn keep(alloc: Global, x: &Typed, refs: &Refs, draft: &mut Draft, e: &Expr) -> R
         at: e.at,
         form: StepForm::Keep(value),
     };
-    draft.add_step(step, after)
+    draft.add_step(step, after, draft.var)
 }
 
 /// Adds a step for each expression that was found, which keeps its value. What is answered are the numbers of the steps, each

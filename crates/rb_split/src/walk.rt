@@ -1,12 +1,12 @@
 // The steps and the parts of the statements of a batch.
 
-#![tactic(auto, using(crate::proofs::Walked::walk_rules))]
+#![tactic(auto, using(crate::proofs::Steps::step_rules))]
 
 ghost use Rattle.std.specs.Prelude.{◌≡◌, suc, take, length, IfOk, OnOk};
 ghost use Rattle.rb_trees.specs.mirror.Code.{mirror_expr, mirror_stmt, mirror_stmts};
 ghost use Rattle.rb_trees.specs.mirror.Declarations.{mirror_program};
 ghost use Rattle.rb_trees.specs.mirror.Remainders.{mirror_part};
-ghost use Rattle.rb_trees.specs.mirror.Scripts.{mirror_step};
+ghost use Rattle.rb_trees.specs.mirror.Scripts.{mirror_step, mirror_steps};
 ghost use Rattle.rb_meaning_split.specs.Parts as meant;
 ghost use Rattle.rb_meaning_split.specs.Steps.{keeps_val};
 ghost use Rattle.rb_split.specs.Drafts as words;
@@ -83,26 +83,24 @@ fn carried_part(
     })
 }
 
-// The step of a carried val.
+// The step of a carried val, with its number and that of its variable.
 fn let_step(
     alloc: Global,
     x: &Typed,
     refs: &Refs,
-    draft: &Draft,
+    id: u32,
+    var: u32,
     at: u32,
     e: &Expr,
 ) -> Result<Step, Memory>
-    ensures { IfOk result (λ s. mirror_step s ≡ words.let_of (mirror_program x.now) (refs_of refs.now) (drafted draft.now) at (mirror_expr e.now)) }
+    ensures { IfOk result (λ s. mirror_step s ≡ words.let_of (mirror_program x.now) (refs_of refs.now) id var at (mirror_expr e.now)) }
 {
     let value = script_expr(alloc, x, refs, e)?;
+    let keep = keeps_value(x, e);
     Ok(Step {
-        id: draft.step,
+        id,
         at,
-        form: StepForm::Let {
-            var: draft.var,
-            keep: keeps_value(x, e),
-            value,
-        },
+        form: StepForm::Let { var, keep, value },
     })
 }
 
@@ -118,11 +116,32 @@ fn draft_carried(
 ) -> Result<(), Memory>
     ensures { OnOk result (drafted draft.new ≡ words.carried_drafted (mirror_program x.now) (refs_of refs.now) (drafted draft.old) at name.now (mirror_expr e.now)) }
 {
-    let after = next(draft.step)?;
-    let var = next(draft.var)?;
-    let step = let_step(alloc, x, refs, draft, at, e)?;
-    let part = carried_part(alloc, x, draft.step, at, name, e)?;
-    draft.add(step, part, after, var)
+    let (id, var) = (draft.step, draft.var);
+    let after = next(id)?;
+    let later = next(var)?;
+    let part = carried_part(alloc, x, id, at, name, e)?;
+    draft.add_part(part)?;
+    let step = let_step(alloc, x, refs, id, var, at, e)?;
+    draft.add_step(step, after, later)
+}
+
+// The step of a remote expression alone.
+fn do_step(
+    alloc: Global,
+    x: &Typed,
+    refs: &Refs,
+    id: u32,
+    at: u32,
+    e: &Expr,
+) -> Result<Step, Memory>
+    ensures { IfOk result (λ s. mirror_step s ≡ words.do_of (mirror_program x.now) (refs_of refs.now) id at (mirror_expr e.now)) }
+{
+    let expr = script_expr(alloc, x, refs, e)?;
+    Ok(Step {
+        id,
+        at,
+        form: StepForm::Do(expr),
+    })
 }
 
 // A remote expression alone.
@@ -138,13 +157,30 @@ fn draft_do(
 {
     let id = draft.step;
     let after = next(id)?;
-    let expr = script_expr(alloc, x, refs, e)?;
-    let step = Step {
+    draft.add_part(Part::Pass(id))?;
+    let step = do_step(alloc, x, refs, id, at, e)?;
+    draft.add_step(step, after, draft.var)
+}
+
+// The step of a carried `if`, with its blocks.
+fn if_step(
+    alloc: Global,
+    x: &Typed,
+    refs: &Refs,
+    id: u32,
+    at: u32,
+    c: &Expr,
+    yes: Seq<Step>,
+    no: Seq<Step>,
+) -> Result<Step, Memory>
+    ensures { IfOk result (λ s. mirror_step s ≡ words.if_of (mirror_program x.now) (refs_of refs.now) id at (mirror_expr c.now) (mirror_steps yes) (mirror_steps no)) }
+{
+    let condition = script_expr(alloc, x, refs, c)?;
+    Ok(Step {
         id,
         at,
-        form: StepForm::Do(expr),
-    };
-    draft.add(step, Part::Pass(id), after, draft.var)
+        form: StepForm::If(condition, yes, no),
+    })
 }
 
 // A carried `if` whose blocks are drafted already.
@@ -161,18 +197,41 @@ fn close_branch(
     ensures { OnOk result (drafted draft.new ≡ words.closed_branch (mirror_program x.now) (refs_of refs.now) (drafted draft.old) at (mirror_expr c.now) (drafted yes) (drafted no)) }
 {
     let id = draft.step;
-    let condition = script_expr(alloc, x, refs, c)?;
-    let step = Step {
-        id,
-        at,
-        form: StepForm::If(condition, yes.steps, no.steps),
-    };
-    let part = Part::Branch {
+    let (after, var) = (no.step, no.var);
+    let step = if_step(alloc, x, refs, id, at, c, yes.steps, no.steps)?;
+    draft.add_step(step, after, var)?;
+    draft.add_part(Part::Branch {
         step: id,
         yes: yes.parts,
         no: no.parts,
-    };
-    draft.add(step, part, no.step, no.var)
+    })
+}
+
+// The step of a loop over rows, with its block.
+fn each_step(
+    alloc: Global,
+    x: &Typed,
+    refs: &Refs,
+    id: u32,
+    var: u32,
+    at: u32,
+    e: &Expr,
+    body: Seq<Step>,
+) -> Result<Step, Memory>
+    ensures { IfOk result (λ s. mirror_step s ≡ words.each_of (mirror_program x.now) (refs_of refs.now) id var at (mirror_expr e.now) (mirror_steps body)) }
+{
+    let rows = script_expr(alloc, x, refs, e)?;
+    let keep = has_primitive_items(x, e.at);
+    Ok(Step {
+        id,
+        at,
+        form: StepForm::Each {
+            var,
+            keep,
+            rows,
+            body,
+        },
+    })
 }
 
 // A loop over rows whose block is drafted already.
@@ -188,28 +247,17 @@ fn close_turns(
 ) -> Result<(), Memory>
     ensures { OnOk result (drafted draft.new ≡ words.closed_turns (mirror_program x.now) (refs_of refs.now) (drafted draft.old) at name.now (mirror_expr e.now) (drafted body)) }
 {
-    let id = draft.step;
-    let var = draft.var;
-    let rows = script_expr(alloc, x, refs, e)?;
+    let (id, var) = (draft.step, draft.var);
+    let (after, later) = (body.step, body.var);
+    let step = each_step(alloc, x, refs, id, var, at, e, body.steps)?;
+    draft.add_step(step, after, later)?;
     let name = copy_word(alloc, name)?;
-    let keep = has_primitive_items(x, e.at);
-    let step = Step {
-        id,
-        at,
-        form: StepForm::Each {
-            var,
-            keep,
-            rows,
-            body: body.steps,
-        },
-    };
-    let part = Part::Turns {
+    draft.add_part(Part::Turns {
         step: id,
         name,
         kind: row_kind(x, e.at),
         body: body.parts,
-    };
-    draft.add(step, part, body.step, body.var)
+    })
 }
 
 // A statement at a script place. What it declares isn't bound yet.
@@ -261,20 +309,19 @@ fn draft_stmt(
                 draft_plain(alloc, x, scope, refs, draft, s)
             }
         }
-        StmtForm::Var(_, _) | StmtForm::Assign(_, _) | StmtForm::Print(_) => {
-            draft_plain(alloc, x, scope, refs, draft, s)
-        }
-        StmtForm::Throw(_) | StmtForm::While(_, _) => {
-            draft_plain(alloc, x, scope, refs, draft, s)
-        }
-        StmtForm::Try(_, _, _) | StmtForm::Batch(_, _, _) => {
-            draft_plain(alloc, x, scope, refs, draft, s)
-        }
+        StmtForm::Var(_, _) => draft_plain(alloc, x, scope, refs, draft, s),
+        StmtForm::Assign(_, _) => draft_plain(alloc, x, scope, refs, draft, s),
+        StmtForm::Print(_) => draft_plain(alloc, x, scope, refs, draft, s),
+        StmtForm::Throw(_) => draft_plain(alloc, x, scope, refs, draft, s),
+        StmtForm::While(_, _) => draft_plain(alloc, x, scope, refs, draft, s),
+        StmtForm::Try(_, _, _) => draft_plain(alloc, x, scope, refs, draft, s),
+        StmtForm::Batch(_, _, _) => draft_plain(alloc, x, scope, refs, draft, s),
     }
 }
 
 /// A block, whose first step and first variable have these numbers, and whose variables go at its end.
 #[cycle(walking)]
+#[tactic(auto, using(crate::proofs::Walked::block_rules))]
 pub fn draft_block(
     alloc: Global,
     x: &Typed,
@@ -299,6 +346,7 @@ pub fn draft_block(
 
 // The block of a loop over rows, with its row.
 #[cycle(walking)]
+#[tactic(auto, using(crate::proofs::Walked::block_rules))]
 fn draft_turn(
     alloc: Global,
     x: &Typed,
@@ -328,6 +376,7 @@ fn draft_turn(
 
 // The statements of a block, in order.
 #[cycle(walking)]
+#[tactic(auto, using(crate::proofs::Walked::block_rules))]
 fn draft_all(
     alloc: Global,
     x: &Typed,
