@@ -11,7 +11,9 @@ ghost use Rattle.rb_split.specs.Views.{all_in_script, in_script, ref_of};
 
 use crate::kinds::call_kind;
 use crate::refs::{Refs, Target};
-use rb_trees::{BinOp, Boxed, Expr, ExprForm, Memory, SExpr, Seq, UnOp, Word, copy_value, copy_word};
+use rb_trees::{
+    BinOp, Boxed, Expr, ExprForm, Memory, SExpr, Seq, UnOp, Word, copy_value, copy_word,
+};
 use rb_types::Typed;
 use std::alloc::Global;
 
@@ -95,12 +97,7 @@ pub fn script_expr(alloc: Global, x: &Typed, refs: &Refs, e: &Expr) -> Result<SE
 }
 
 #[cycle(portables)]
-fn script_exprs(
-    alloc: Global,
-    x: &Typed,
-    refs: &Refs,
-    es: &[Expr],
-) -> Result<Seq<SExpr>, Memory>
+fn script_exprs(alloc: Global, x: &Typed, refs: &Refs, es: &[Expr]) -> Result<Seq<SExpr>, Memory>
     ensures { IfOk result (λ ss. mirror_sexprs ss ≡ all_in_script x.now refs.now es.now) }
 {
     let mut made = Seq::new(alloc);

@@ -32,12 +32,7 @@ fn is_constant(role: Role) -> bool
 }
 
 // Notes a variable, where it is constant.
-fn note_variable(
-    alloc: Global,
-    scope: &Scope,
-    uses: &mut Uses,
-    name: &Word,
-) -> Result<(), Memory>
+fn note_variable(alloc: Global, scope: &Scope, uses: &mut Uses, name: &Word) -> Result<(), Memory>
     ensures { OnOk result (uses.new ≡ noted uses.old (constant_variable scope.now name.now)) }
 {
     match scope.find(name) {
@@ -54,12 +49,7 @@ fn note_variable(
 
 // Notes the constant variables in a portable expression.
 #[cycle(constants)]
-fn note_constants(
-    alloc: Global,
-    scope: &Scope,
-    uses: &mut Uses,
-    e: &Expr,
-) -> Result<(), Memory>
+fn note_constants(alloc: Global, scope: &Scope, uses: &mut Uses, e: &Expr) -> Result<(), Memory>
     ensures { OnOk result (uses.new ≡ noted uses.old (meant.constants scope.now (mirror_expr e.now))) }
 {
     match &e.form {
@@ -94,12 +84,7 @@ fn note_all_constants(
 }
 
 // Notes those in expressions that were found.
-fn note_found(
-    alloc: Global,
-    scope: &Scope,
-    uses: &mut Uses,
-    found: &[&Expr],
-) -> Result<(), Memory>
+fn note_found(alloc: Global, scope: &Scope, uses: &mut Uses, found: &[&Expr]) -> Result<(), Memory>
     ensures { OnOk result (uses.new ≡ noted uses.old (flat_map (meant.constants scope.now) (trees found.now))) }
 {
     'found: for e in found {
@@ -165,9 +150,7 @@ fn note_stmt(
         StmtForm::Print(_) | StmtForm::Throw(_) | StmtForm::While(_, _) => {
             note_kept(alloc, x, scope, uses, s)
         }
-        StmtForm::Try(_, _, _) | StmtForm::Batch(_, _, _) => {
-            note_kept(alloc, x, scope, uses, s)
-        }
+        StmtForm::Try(_, _, _) | StmtForm::Batch(_, _, _) => { note_kept(alloc, x, scope, uses, s) }
     }
 }
 

@@ -20,13 +20,7 @@ use rb_types::Typed;
 use std::alloc::Global;
 
 // Adds a step that keeps the value of an expression.
-fn keep(
-    alloc: Global,
-    x: &Typed,
-    refs: &Refs,
-    draft: &mut Draft,
-    e: &Expr,
-) -> Result<(), Memory>
+fn keep(alloc: Global, x: &Typed, refs: &Refs, draft: &mut Draft, e: &Expr) -> Result<(), Memory>
     ensures { OnOk result (drafted draft.new ≡ words.one_kept (mirror_program x.now) (refs_of refs.now) (drafted draft.old) (mirror_expr e.now)) }
 {
     let id = draft.step;

@@ -92,13 +92,7 @@ fn while_of(alloc: Global, at: u32, c: Expr, block: &Seq<Stmt>) -> Result<Stmt, 
     })
 }
 
-fn for_of(
-    alloc: Global,
-    at: u32,
-    name: &Word,
-    e: Expr,
-    block: &Seq<Stmt>,
-) -> Result<Stmt, Memory>
+fn for_of(alloc: Global, at: u32, name: &Word, e: Expr, block: &Seq<Stmt>) -> Result<Stmt, Memory>
     ensures { IfOk result (λ s. mirror_stmt s ≡ code.For at name.now (mirror_expr e) (mirror_stmts block.now)) }
 {
     let name = copy_word(alloc, name)?;
@@ -110,13 +104,7 @@ fn for_of(
 }
 
 // An expression of a statement, cut.
-fn cut_one(
-    alloc: Global,
-    x: &Typed,
-    scope: &Scope,
-    number: u32,
-    e: &Expr,
-) -> Result<Expr, Memory>
+fn cut_one(alloc: Global, x: &Typed, scope: &Scope, number: u32, e: &Expr) -> Result<Expr, Memory>
     ensures { IfOk result (λ c. mirror_expr c ≡ meant.cut (facts x.now) scope.now number (mirror_expr e.now)) }
 {
     let mut number = number;
@@ -165,7 +153,13 @@ pub fn cut_stmt(
             while_of(alloc, s.at, cut_one(alloc, x, scope, number, c)?, block)
         }
         StmtForm::For(name, e, block) => {
-            for_of(alloc, s.at, name, cut_one(alloc, x, scope, number, e)?, block)
+            for_of(
+                alloc,
+                s.at,
+                name,
+                cut_one(alloc, x, scope, number, e)?,
+                block,
+            )
         }
         StmtForm::Try(_, _, _) | StmtForm::Batch(_, _, _) => copy_stmt(alloc, s),
     }

@@ -20,11 +20,7 @@ use rb_types::Typed;
 use std::alloc::Global;
 
 // The divisions of batches, which are numbered from 0 in order, or the first refusal.
-fn divide_all(
-    alloc: Global,
-    x: &Typed,
-    batches: &[OpenBatch<'_>],
-) -> Result<Seq<Split>, SplitStop>
+fn divide_all(alloc: Global, x: &Typed, batches: &[OpenBatch<'_>]) -> Result<Seq<Split>, SplitStop>
     ensures divided { (bs : List Outermost) → map begun_of batches.now ≡ map begun bs → Gives (λ ss. map seen ss) refusal_of result (meant.divided_all (mirror_program x.now) bs) }
     ensures numbered { IfOk result AreNumbered }
 {

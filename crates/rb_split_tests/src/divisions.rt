@@ -12,7 +12,8 @@ use std::alloc::Global;
 use std::test::Fail;
 
 /// The interfaces before each text.
-const BEFORE: &str = "interface F { fun name(): Text; fun size(): Int; fun grow(by: Int); } interface D { fun file(i: Int): F; fun files(): Rows<F>; fun sizes(): Rows<Int>; } ";
+const BEFORE: &str =
+    "interface F { fun name(): Text; fun size(): Int; fun grow(by: Int); } interface D { fun file(i: Int): F; fun files(): Rows<F>; fun sizes(): Rows<Int>; } ";
 
 fn add_division(alloc: Global, division: &Split, into: &mut Word) -> Result<(), Memory> {
     add_number(alloc, "", division.batch, into)?;

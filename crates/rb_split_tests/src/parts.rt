@@ -102,7 +102,10 @@ fn add_part(alloc: Global, part: &Part, into: &mut Word) -> Result<(), Memory> {
             add_name(alloc, name, *kind, into)
         }
         Part::Both {
-            step, name, value, ..
+            step,
+            name,
+            value,
+            ..
         } => add_both(alloc, *step, name, value, into),
         Part::Branch { step, yes, no } => {
             add_number(alloc, "branch ", *step, into)?;
