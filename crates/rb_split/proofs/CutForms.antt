@@ -1,5 +1,5 @@
 -- The equations that copies without remote expressions stand on.
-use Rattle.std.proofs.Common.{◌≡◌, ℕ, suc, List, [], ◌∷◌, ◌++◌, refl, ap, sym, ◌∙◌, append-nil}
+use Rattle.std.proofs.Common.{◌≡◌, ℕ, suc, List, [], ◌∷◌, ◌++◌, refl, ap, sym, ◌∙◌}
 use Rattle.std.specs.Prelude.{Bool, true, false, cond, ◌&&◌, IfOk, Result, Ok, Err}
 use Rattle.rb_trees.specs.declared.code.Expr as tree
 use Rattle.rb_trees.specs.mirror.Code.{Expr, Lit, Name, This, Unary, Binary, Field, Call, Index, New, Items, Taken, Exprs, NoExprs, MoreExprs, expr_at, mirror_expr, mirror_exprs}
@@ -9,9 +9,8 @@ use Rattle.rb_trees.proofs.mirror.Positions.{expr_at_tree}
 use Rattle.rb_meaning_flow.specs.Facts.{Facts}
 use Rattle.rb_meaning_flow.specs.Scopes.{Scope, role_of, is_portable_role}
 use Rattle.rb_meaning_flow.specs.Marks.{is_portable_call}
-use Rattle.rb_meaning.specs.RemoteExprs.{remote_in}
 use Rattle.rb_meaning_split.specs.Cuts.{counted, cut}
-use Rattle.rb_split.specs.Cutting.{below, below_number, number_after, parts_cut}
+use Rattle.rb_split.specs.Cutting.{parts_cut}
 use Rattle.rb_split.proofs.Remotes.{whole_found, parts_found}
 use Rattle.std.proofs.lemmas.Grind.{common_steps}
 

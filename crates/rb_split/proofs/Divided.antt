@@ -1,6 +1,6 @@
 -- The divisions of batches, one after the other.
 use Rattle.std.proofs.Common.{◌≡◌, ℕ, zero, suc, ◌+◌, ◌-◌, ◌<◌, ◌≤◌, arith, List, [], ◌∷◌, ◌++◌, map, length, length-append, drop, get_or, refl, sym, ap, ◌∙◌, subst, append_assoc, append-nil}
-use Rattle.std.specs.Prelude.{Bool, true, false, cond, nat_lt, Option, None, Some, Result, Ok, Err, slice_get}
+use Rattle.std.specs.Prelude.{Bool, true, false, cond, nat_lt, Some, Result, Ok, Err, slice_get}
 use Rattle.std.proofs.lemmas.List.{map-append, drop_all}
 use Rattle.std.proofs.lemmas.List.FromFn.{map-range_with_len_more}
 use Rattle.std.specs.List.{range_with_len}
@@ -17,7 +17,7 @@ use Rattle.rb_meaning_flow.specs.Outermost.{Outermost, program_batches}
 use Rattle.rb_meaning_flow.specs.Scopes.{Scope, assigned_in, opened, variable_with}
 use Rattle.rb_meaning_split.specs.Division.{Division, checked_code, divided, divided_all, divided_before, division, first_refs, inputs_of, most_inputs}
 use Rattle.rb_meaning_split.specs.Refs.{Refs}
-use Rattle.rb_flow.specs.Begun.{Begun, begun, begun_of}
+use Rattle.rb_flow.specs.Begun.{begun, begun_of}
 use Rattle.rb_flow.specs.declared.outermost.OpenBatch.{OpenBatch}
 use Rattle.rb_split.specs.Divided.{divided_from, division_with}
 use Rattle.rb_split.specs.Drafts.{Drafted, block_drafted, fresh}

@@ -3,7 +3,6 @@ use Rattle.rb_trees.proofs.mirror.Exprs.{exprs}
 use Rattle.rb_trees.proofs.mirror.SExprs.{sexprs}
 use Rattle.std.proofs.Common.{◌≡◌, List, [], ◌∷◌, ◌++◌, refl, ap}
 use Rattle.rb_trees.specs.declared.scripts.SExpr.{SExpr}
-use Rattle.rb_trees.specs.mirror.Scripts as script
 use Rattle.rb_trees.specs.mirror.Scripts.{SExprs, NoSExprs, MoreSExprs, mirror_sexpr, mirror_sexprs}
 use Rattle.std.proofs.lemmas.Grind.{common_steps}
 

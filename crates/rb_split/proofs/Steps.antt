@@ -2,8 +2,8 @@
 use Rattle.std.proofs.Common.{◌≡◌, ℕ, List, [], ◌∷◌, ◌++◌, refl, ap, append_assoc}
 use Rattle.rb_trees.specs.declared.remainders.Part as part_tree
 use Rattle.rb_trees.specs.declared.scripts.Step as step_tree
-use Rattle.rb_trees.specs.mirror.Scripts.{Steps, NoSteps, MoreSteps, mirror_step, mirror_steps}
-use Rattle.rb_trees.specs.mirror.Remainders.{Parts, NoParts, MoreParts, mirror_part, mirror_parts}
+use Rattle.rb_trees.specs.mirror.Scripts.{NoSteps, MoreSteps, mirror_step, mirror_steps}
+use Rattle.rb_trees.specs.mirror.Remainders.{NoParts, MoreParts, mirror_part, mirror_parts}
 use Rattle.rb_trees.proofs.mirror.Parts.{parts}
 use Rattle.rb_trees.proofs.mirror.Positions.{expr_at_tree}
 use Rattle.rb_trees.proofs.mirror.Steps.{steps}

@@ -1,5 +1,5 @@
 -- What is drafted of a statement and of a block, as the definitions say it.
-use Rattle.std.proofs.Common.{◌≡◌, ℕ, suc, List, [], ◌∷◌, ◌++◌, refl, ap, sym, ◌∙◌, subst}
+use Rattle.std.proofs.Common.{◌≡◌, ℕ, suc, List, [], ◌++◌, ap, sym, ◌∙◌, subst}
 use Rattle.std.specs.Prelude.{Bool, true, false, cond, OnOk, Result}
 use Rattle.rb_trees.specs.declared.code.Expr as expr_tree
 use Rattle.rb_trees.specs.declared.code.Stmt as stmt_tree
@@ -194,11 +194,11 @@ pub branch_so : {E : Type 0} (r : Result (Unit {0}) E) (now : Drafted) (p : Prog
     → OnOk r (now ≡ closed_branch p (refs_of ks2) d at c one two) → OnOk r (now ≡ branch_drafted p (refs_of ks) scope d at c (mirror_stmts a) (mirror_stmts b))
 branch_so r now p ks ks1 ks2 scope scope1 d one two at c a b xs ys n ea eb en ek es ek2 e1 e2 h =
     let first : one ≡ first_drafted p (refs_of ks) scope d (mirror_stmts a) =
-        e1 ∙ ap (λ x. block_drafted p (refs_of ks) scope (fresh x d.var) (mirror_stmts xs)) en ∙ ap (λ x. block_drafted p (refs_of ks) scope (fresh (suc d.step) d.var) (mirror_stmts x)) ea in
+    e1 ∙ ap (λ x. block_drafted p (refs_of ks) scope (fresh x d.var) (mirror_stmts xs)) en ∙ ap (λ x. block_drafted p (refs_of ks) scope (fresh (suc d.step) d.var) (mirror_stmts x)) ea in
     let second : two ≡ second_drafted p (refs_of ks) scope one (mirror_stmts b) =
-        e2 ∙ ap (λ x. block_drafted p (refs_of x) scope1 (fresh one.step one.var) (mirror_stmts ys)) ek
-        ∙ ap (λ x. block_drafted p (refs_of ks) x (fresh one.step one.var) (mirror_stmts ys)) es
-        ∙ ap (λ x. block_drafted p (refs_of ks) scope (fresh one.step one.var) (mirror_stmts x)) eb in
+    e2 ∙ ap (λ x. block_drafted p (refs_of x) scope1 (fresh one.step one.var) (mirror_stmts ys)) ek
+    ∙ ap (λ x. block_drafted p (refs_of ks) x (fresh one.step one.var) (mirror_stmts ys)) es
+    ∙ ap (λ x. block_drafted p (refs_of ks) scope (fresh one.step one.var) (mirror_stmts x)) eb in
     subst (λ x. OnOk r (now ≡ x))
     (ap (λ x. closed_branch p (refs_of x) d at c one two) (ek2 ∙ ek) ∙ ap (λ x. closed_branch p (refs_of ks) d at c one x) second
     ∙ ap (λ x. closed_branch p (refs_of ks) d at c x (second_drafted p (refs_of ks) scope x (mirror_stmts b))) first) h

@@ -12,7 +12,7 @@ use Rattle.rb_meaning_flow.specs.Scopes.{Scope, with_variable}
 use Rattle.rb_meaning_flow.specs.Sites.{scope_after}
 use Rattle.rb_meaning.specs.RemoteExprs.{remote_of}
 use Rattle.rb_meaning_split.specs.Refs.{Refs, sexpr, with_var}
-use Rattle.rb_meaning_split.specs.Numbers.{kept_after, step_after, var_after}
+use Rattle.rb_meaning_split.specs.Numbers.{step_after, var_after}
 use Rattle.rb_meaning_split.specs.Steps.{keeps_val, refs_after, steps}
 use Rattle.rb_meaning_split.specs.Parts.{carried, part, plain, row_kind}
 use Rattle.rb_split.specs.declared.drafts.Draft.{Draft}

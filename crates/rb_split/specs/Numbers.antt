@@ -1,5 +1,5 @@
 -- The batches of a program by their numbers.
-use Rattle.std.specs.Prelude.{◌≡◌, ℕ, List, map, length, Option, Some, slice_get}
+use Rattle.std.specs.Prelude.{◌≡◌, ℕ, List, map, length, Option, slice_get}
 use Rattle.std.specs.List.{range_with_len}
 use Rattle.rb_trees.specs.declared.remainders.Split.{Split}
 use Rattle.rb_trees.specs.mirror.Declarations.{Program}
