@@ -1,7 +1,7 @@
 // Remainders as texts.
 //
 // A part is its form and its step, as `bind 3 x:1` with a name and a kind. A statement is `plain`, with its expressions as far as
-// something is taken in them, where `t3` is what the step 3 kept, and then each step with its kind.
+// something is taken in them, where `t` and a number is what the step of that number kept, and then each step with its kind.
 
 use crate::steps::add_number;
 use rb_trees::{Expr, ExprForm, Memory, Part, Seq, Stmt, StmtForm, Word};

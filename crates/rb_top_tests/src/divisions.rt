@@ -19,7 +19,7 @@ fn viewed(alloc: Global, interfaces: &str, program: &str) -> Result<String, Fail
 }
 
 #[test]
-fn views_show_inputs_steps_and_parts(rt: HostRuntime) -> Result<(), Fail> {
+fn kept_values_are_bound(rt: HostRuntime) -> Result<(), Fail> {
     for (program, wanted) in [
         (
             r#"main { batch (Dir r) { } }"#,
@@ -41,6 +41,19 @@ remainder
   pass <1>;
 "#,
         ),
+    ] {
+        assert_eq!(rt;
+            viewed(rt.alloc(), INTERFACES, program)?.as_str(),
+            wanted,
+            "{program}"
+        );
+    }
+    Ok(())
+}
+
+#[test]
+fn values_without_a_call_stand_on_both_sides(rt: HostRuntime) -> Result<(), Fail> {
+    for (program, wanted) in [
         (
             r#"main { val a = 1; val b = 0; batch (Dir r) { r.file(0).grow(1); val k = a / b; r.file(1).grow(k); } }"#,
             r#"0 batch 3:30
@@ -53,18 +66,6 @@ remainder
   pass <0>;
   val k = a / b; // <1>
   pass <2>;
-"#,
-        ),
-        (
-            r#"main { val unused = 3; val n = 1; val t = "x"; batch (Dir r) { r.file(n).rename(t + "y"); r.file(n).grow(n); } }"#,
-            r#"0 batch 3:48
-inputs n t
-script
-  0 do root.file(in0).rename(add(in1, "y"))
-  1 do root.file(in0).grow(in0)
-remainder
-  pass <0>;
-  pass <1>;
 "#,
         ),
         (
@@ -96,11 +97,33 @@ remainder
 }
 
 #[test]
-fn loops_and_branches_nest(rt: HostRuntime) -> Result<(), Fail> {
-    for (program, wanted) in [
-        (
-            r#"main { batch (Dir r) { for (a in r.files()) { for (b in r.files()) { var n = 0; for (c in r.files()) { n = n + a.size() + b.size() + c.size(); } print(n); } } } }"#,
-            r#"0 batch 3:8
+fn inputs_stand_in_order_of_first_use(rt: HostRuntime) -> Result<(), Fail> {
+    for (program, wanted) in [(
+        r#"main { val unused = 3; val n = 1; val t = "x"; batch (Dir r) { r.file(n).rename(t + "y"); r.file(n).grow(n); } }"#,
+        r#"0 batch 3:48
+inputs n t
+script
+  0 do root.file(in0).rename(add(in1, "y"))
+  1 do root.file(in0).grow(in0)
+remainder
+  pass <0>;
+  pass <1>;
+"#,
+    )] {
+        assert_eq!(rt;
+            viewed(rt.alloc(), INTERFACES, program)?.as_str(),
+            wanted,
+            "{program}"
+        );
+    }
+    Ok(())
+}
+
+#[test]
+fn loops_nest(rt: HostRuntime) -> Result<(), Fail> {
+    for (program, wanted) in [(
+        r#"main { batch (Dir r) { for (a in r.files()) { for (b in r.files()) { var n = 0; for (c in r.files()) { n = n + a.size() + b.size() + c.size(); } print(n); } } } }"#,
+        r#"0 batch 3:8
 inputs
 script
   0 each v0 in root.files()
@@ -120,10 +143,21 @@ remainder
     }
   }
 "#,
-        ),
-        (
-            r#"main { batch (Dir r) { for (f in r.files()) { if (f.size() > 100) { print(f.name()); f.grow(5); } else { f.grow(1); print("small"); } } } }"#,
-            r#"0 batch 3:8
+    )] {
+        assert_eq!(rt;
+            viewed(rt.alloc(), INTERFACES, program)?.as_str(),
+            wanted,
+            "{program}"
+        );
+    }
+    Ok(())
+}
+
+#[test]
+fn branches_stand_in_loops(rt: HostRuntime) -> Result<(), Fail> {
+    for (program, wanted) in [(
+        r#"main { batch (Dir r) { for (f in r.files()) { if (f.size() > 100) { print(f.name()); f.grow(5); } else { f.grow(1); print("small"); } } } }"#,
+        r#"0 batch 3:8
 inputs
 script
   0 each v0 in root.files()
@@ -143,10 +177,21 @@ remainder
     }
   }
 "#,
-        ),
-        (
-            r#"main { batch (Dir r) { if (r.file(0).size() > 1) { } else { r.burn(2); } if (r.file(0).size() > 1) { print("big"); } } }"#,
-            r#"0 batch 3:8
+    )] {
+        assert_eq!(rt;
+            viewed(rt.alloc(), INTERFACES, program)?.as_str(),
+            wanted,
+            "{program}"
+        );
+    }
+    Ok(())
+}
+
+#[test]
+fn an_empty_branch_may_stand_first(rt: HostRuntime) -> Result<(), Fail> {
+    for (program, wanted) in [(
+        r#"main { batch (Dir r) { if (r.file(0).size() > 1) { } else { r.burn(2); } if (r.file(0).size() > 1) { print("big"); } } }"#,
+        r#"0 batch 3:8
 inputs
 script
   0 if gt(root.file(0).size(), 1)
@@ -162,8 +207,7 @@ remainder
     print("big");
   }
 "#,
-        ),
-    ] {
+    )] {
         assert_eq!(rt;
             viewed(rt.alloc(), INTERFACES, program)?.as_str(),
             wanted,
@@ -174,11 +218,10 @@ remainder
 }
 
 #[test]
-fn operators_and_literals_have_their_words(rt: HostRuntime) -> Result<(), Fail> {
-    for (program, wanted) in [
-        (
-            r#"main { batch (Dir r) { for (n in r.file(0).sizes()) { print(n); } for (t in r.file(0).tags()) { print(t); } for (b in r.file(0).flags()) { if (b) { r.file(0).set(1, b, "q"); } } } }"#,
-            r#"0 batch 3:8
+fn primitive_rows_are_kept(rt: HostRuntime) -> Result<(), Fail> {
+    for (program, wanted) in [(
+        r#"main { batch (Dir r) { for (n in r.file(0).sizes()) { print(n); } for (t in r.file(0).tags()) { print(t); } for (b in r.file(0).flags()) { if (b) { r.file(0).set(1, b, "q"); } } } }"#,
+        r#"0 batch 3:8
 inputs
 script
   0 each v0 keep in root.file(0).sizes()
@@ -199,10 +242,21 @@ remainder
     }
   }
 "#,
-        ),
-        (
-            r#"main { val n = 2; val b = true; val t = "a\n\"\\"; batch (Dir r) { print(!r.file(0).ok()); print(-r.file(n).size()); print(len(r.file(0).name())); print(str(r.file(0).size())); r.file(1 + 2 - 3 * 4).set(5 / n % 6, n == 1 && t != "u" || b, t); print(r.file(0).size() < 1 == (r.file(0).size() <= 2)); print(r.file(0).size() > 1 == (r.file(0).size() >= 2)); r.file(-9223372036854775808).set(-1, false, ""); } }"#,
-            r#"0 batch 3:52
+    )] {
+        assert_eq!(rt;
+            viewed(rt.alloc(), WIDE, program)?.as_str(),
+            wanted,
+            "{program}"
+        );
+    }
+    Ok(())
+}
+
+#[test]
+fn operators_and_literals_have_their_words(rt: HostRuntime) -> Result<(), Fail> {
+    for (program, wanted) in [(
+        r#"main { val n = 2; val b = true; val t = "a\n\"\\"; batch (Dir r) { print(!r.file(0).ok()); print(-r.file(n).size()); print(len(r.file(0).name())); print(str(r.file(0).size())); r.file(1 + 2 - 3 * 4).set(5 / n % 6, n == 1 && t != "u" || b, t); print(r.file(0).size() < 1 == (r.file(0).size() <= 2)); print(r.file(0).size() > 1 == (r.file(0).size() >= 2)); r.file(-9223372036854775808).set(-1, false, ""); } }"#,
+        r#"0 batch 3:52
 inputs n t b
 script
   0 keep not(root.file(0).ok())
@@ -223,7 +277,19 @@ remainder
   print(<6>);
   pass <7>;
 "#,
-        ),
+    )] {
+        assert_eq!(rt;
+            viewed(rt.alloc(), WIDE, program)?.as_str(),
+            wanted,
+            "{program}"
+        );
+    }
+    Ok(())
+}
+
+#[test]
+fn local_statements_keep_what_they_take(rt: HostRuntime) -> Result<(), Fail> {
+    for (program, wanted) in [
         (
             r#"main { batch (Dir r) { print(List<Int>(r.file(0).size(), 2, r.file(1).size())[r.file(2).size()]); var s = 0; s = s + r.file(0).size() * 2; throw r.file(0).name() + "!"; } }"#,
             r#"0 batch 3:8
@@ -241,19 +307,6 @@ remainder
   throw <4>;
 "#,
         ),
-    ] {
-        assert_eq!(rt;
-            viewed(rt.alloc(), WIDE, program)?.as_str(),
-            wanted,
-            "{program}"
-        );
-    }
-    Ok(())
-}
-
-#[test]
-fn local_statements_keep_what_they_take(rt: HostRuntime) -> Result<(), Fail> {
-    for (program, wanted) in [
         (
             r#"class Box { v: Int; fun add(n: Int): Int { return this.v + n; } } main { val o = new Box(1); batch (Dir r) { print(o.add(r.file(0).size())); o.v = r.file(0).size() + o.v; print(new Box(r.file(0).size()).v); } }"#,
             r#"0 batch 3:94
@@ -268,9 +321,21 @@ remainder
   print(new Box(<2>).v);
 "#,
         ),
-        (
-            r#"main { batch (Dir r) { var n = r.file(0).size(); while (n > 0) { n = n - 1; } for (x in List<Int>(r.file(0).size())) { print(x); } try { print(1 / n); } catch (e) { print(e); } val q = n + 1; print(q); } }"#,
-            r#"0 batch 3:8
+    ] {
+        assert_eq!(rt;
+            viewed(rt.alloc(), WIDE, program)?.as_str(),
+            wanted,
+            "{program}"
+        );
+    }
+    Ok(())
+}
+
+#[test]
+fn local_blocks_stay_as_they_are(rt: HostRuntime) -> Result<(), Fail> {
+    for (program, wanted) in [(
+        r#"main { batch (Dir r) { var n = r.file(0).size(); while (n > 0) { n = n - 1; } for (x in List<Int>(r.file(0).size())) { print(x); } try { print(1 / n); } catch (e) { print(e); } val q = n + 1; print(q); } }"#,
+        r#"0 batch 3:8
 inputs
 script
   0 keep root.file(0).size()
@@ -291,8 +356,32 @@ remainder
   val q = n + 1;
   print(q);
 "#,
-        ),
-    ] {
+    )] {
+        assert_eq!(rt;
+            viewed(rt.alloc(), WIDE, program)?.as_str(),
+            wanted,
+            "{program}"
+        );
+    }
+    Ok(())
+}
+
+#[test]
+fn calls_nest(rt: HostRuntime) -> Result<(), Fail> {
+    for (program, wanted) in [(
+        r#"main { batch (Dir r) { r.best(r.file(0)).set(r.file(1).size(), true, r.file(2).name()); r.file(0).next().next(); print(r.best(r.file(0).next()).name()); } }"#,
+        r#"0 batch 3:8
+inputs
+script
+  0 do root.best(root.file(0)).set(root.file(1).size(), true, root.file(2).name())
+  1 do root.file(0).next().next()
+  2 keep root.best(root.file(0).next()).name()
+remainder
+  pass <0>;
+  pass <1>;
+  print(<2>);
+"#,
+    )] {
         assert_eq!(rt;
             viewed(rt.alloc(), WIDE, program)?.as_str(),
             wanted,
@@ -305,20 +394,6 @@ remainder
 #[test]
 fn batches_stand_in_source_order(rt: HostRuntime) -> Result<(), Fail> {
     for (program, wanted) in [
-        (
-            r#"main { batch (Dir r) { r.best(r.file(0)).set(r.file(1).size(), true, r.file(2).name()); r.file(0).next().next(); print(r.best(r.file(0).next()).name()); } }"#,
-            r#"0 batch 3:8
-inputs
-script
-  0 do root.best(root.file(0)).set(root.file(1).size(), true, root.file(2).name())
-  1 do root.file(0).next().next()
-  2 keep root.best(root.file(0).next()).name()
-remainder
-  pass <0>;
-  pass <1>;
-  print(<2>);
-"#,
-        ),
         (
             r#"main { val n = 1; batch (Dir r) { print(r.file(n).size()); } if (true) { batch (Dir q) { val m = n * 2; print(q.file(m).size()); } } }"#,
             r#"0 batch 3:19

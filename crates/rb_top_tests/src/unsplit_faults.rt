@@ -99,6 +99,14 @@ fn after_a_remote_fault_nothing_more_is_performed(rt: HostRuntime) -> Result<(),
             10,
             200,
         ),
+    ];
+    assert_eq!(rt; others(rt.alloc(), "unsplit p s", &rows)?.as_str(), "");
+    Ok(())
+}
+
+#[test]
+fn operators_in_remote_expressions_fault_remotely(rt: HostRuntime) -> Result<(), Fail> {
+    let rows = [
         (
             "main { val b = 0; batch (Dir r) { val s = r.file(0).size() / b; r.file(0).grow(1); } }",
             "1 fault 1 DivZero at 3:60\nexchanges 1\n",
@@ -123,6 +131,14 @@ fn after_a_remote_fault_nothing_more_is_performed(rt: HostRuntime) -> Result<(),
             10,
             200,
         ),
+    ];
+    assert_eq!(rt; others(rt.alloc(), "unsplit p s", &rows)?.as_str(), "");
+    Ok(())
+}
+
+#[test]
+fn what_local_statements_take_faults_remotely(rt: HostRuntime) -> Result<(), Fail> {
+    let rows = [
         (
             "main { batch (Dir r) { var n = 1; n = n + r.file(7).size(); r.file(0).grow(1); } }",
             "1 fault 2 Index at 3:45\nexchanges 1\n",
@@ -205,6 +221,14 @@ fn after_a_local_fault_the_whole_remote_part_stands(rt: HostRuntime) -> Result<(
             11,
             201,
         ),
+    ];
+    assert_eq!(rt; others(rt.alloc(), "unsplit p s", &rows)?.as_str(), "");
+    Ok(())
+}
+
+#[test]
+fn the_whole_remote_part_stands_wherever_local_code_faults(rt: HostRuntime) -> Result<(), Fail> {
+    let rows = [
         (
             "main { batch (Dir r) { var z = 0; r.file(0).grow(1); r.file(1).grow(1); print(1 / z); } }",
             "1 fault 1 DivZero at 3:81\nexchanges 1\n",
@@ -235,6 +259,14 @@ fn after_a_local_fault_the_whole_remote_part_stands(rt: HostRuntime) -> Result<(
             11,
             200,
         ),
+    ];
+    assert_eq!(rt; others(rt.alloc(), "unsplit p s", &rows)?.as_str(), "");
+    Ok(())
+}
+
+#[test]
+fn the_whole_remote_part_stands_in_loops_and_branches(rt: HostRuntime) -> Result<(), Fail> {
+    let rows = [
         (
             "main { val b = 0; batch (Dir r) { r.file(0).grow(1); val k = 1 / b; r.file(1).grow(1); } }",
             "1 fault 1 DivZero at 3:64\nexchanges 1\n",
