@@ -1,0 +1,3 @@
+-- The lemmas on divided batches.
+pub mod Overs
+pub mod Written
