@@ -37,6 +37,14 @@ module _ (Kept : List ℕ → Type 0) where
   Over (b ∷ bs) [] = ⊥
   Over (b ∷ bs) (n ∷ ns) = (n.0 ≡ b.0) × (Kept b.0 → n.1 ≡ b.1) × Over bs ns
 
+  -- what one local state leaves of another's names
+  abbrev pub Onto : Local → Local → Type 0
+  Onto l l1 = Over l.names l1.names
+
+  -- none of these is kept
+  abbrev pub Unkept : List (List ℕ) → Type 0
+  Unkept names = AllByRecursion (λ y. Kept y → ⊥) names
+
   pub over_same : (ns : Names) → Over ns ns
   over_same [] = tt
   over_same (n ∷ ns) = (refl, λ k. refl, over_same ns)
@@ -176,12 +184,11 @@ module _ (p : Program) (service : Service) (bodies : Bodies) where
   -- ---- statements leave what is kept
 
   module _ (Kept : List ℕ → Type 0) where
-    abbrev pub From : Local → Local → Type 0
-    From l l1 = Over Kept l.names l1.names
+    abbrev From : Local → Local → Type 0
+    From l l1 = Onto Kept l l1
 
-    -- none of these is kept
-    abbrev pub Free : List (List ℕ) → Type 0
-    Free names = AllByRecursion (λ y. Kept y → ⊥) names
+    abbrev Free : List (List ℕ) → Type 0
+    Free names = Unkept Kept names
 
     abbrev Onward : Effect → Type 0
     Onward k = (l : Local) → Leaves (From l) (k l)
@@ -209,7 +216,7 @@ module _ (p : Program) (service : Service) (bodies : Bodies) where
     nothing_from : Onward nothing
     nothing_from l = done_leaves (From l) (Gave tt l) (same_from l)
 
-    block_from : (k : Effect) → Onward k → Onward (block k)
+    pub block_from : (k : Effect) → Onward k → Onward (block k)
     block_from k h l = seq_leaves (From l) (From l) (k l) (closes (length l.names)) (h l) by
       where
         by : (o : Outcome (Unit {0})) → From l (local_of o) → Leaves (From l) (closes (length l.names) o)

@@ -15,7 +15,7 @@ use Rattle.rb_meaning_split.specs.Refs.{Ref, Var as VarRef, Refs, with_var}
 use Rattle.rb_local_laws.proofs.Parts.{val_parts, var_parts, run_parts, throw_parts, print_parts, assign_parts, if_parts, while_parts, for_parts, try_parts, batch_parts, stmts_parts}
 use Rattle.rb_split_laws.proofs.Lookups.{same_bytes, bytes_same, first_or, lookup_old, lookup_new, first_old, first_new}
 use Rattle.rb_split_laws.proofs.Linked.{IsFound}
-use Rattle.rb_headline_laws.proofs.Overs.{Free}
+use Rattle.rb_headline_laws.proofs.Overs.{Unkept}
 
 -- a variable that can't be assigned
 pub record Fixed (ws : Scope) (y : List ℕ) : Type 0 where
@@ -93,18 +93,18 @@ module _ (written : List (List ℕ)) (Kept : List ℕ → Type 0) where
     held_after (Try at a name b) ws after t h = subst Held (try_parts x ws at a name b after t).same h
     held_after (Batch at interface root a) ws after t h = subst Held (batch_parts x ws at interface root a after t).same h
 
-    free_of : (ws : Scope) (a : Expr) → Held ws → is_assignable ws a ≡ true → Written written (assigned_variable a) → Free Kept (assigned_variable a)
+    free_of : (ws : Scope) (a : Expr) → Held ws → is_assignable ws a ≡ true → Written written (assigned_variable a) → Unkept Kept (assigned_variable a)
     free_of ws (Name at y) h unfixed w = (not_held ws y h unfixed w.0, tt)
     free_of ws (Lit at v) h unfixed w = tt
     free_of ws _ h unfixed w = tt
 
-    both_free : (xs ys : List (List ℕ)) → Free Kept xs → Free Kept ys → Free Kept (xs ++ ys)
+    both_free : (xs ys : List (List ℕ)) → Unkept Kept xs → Unkept Kept ys → Unkept Kept (xs ++ ys)
     both_free [] ys h g = g
     both_free (q ∷ xs) ys h g = (h.0, both_free xs ys h.1 g)
 
     mutual
       -- so none is assigned
-      pub stmt_free : (s : Stmt) (ws after : Scope) → check_stmt x ws s ≡ Ok after → Held ws → Written written (assigned_by s) → Free Kept (assigned_by s)
+      pub stmt_free : (s : Stmt) (ws after : Scope) → check_stmt x ws s ≡ Ok after → Held ws → Written written (assigned_by s) → Unkept Kept (assigned_by s)
       stmt_free (Val at name e) ws after t h w = tt
       stmt_free (Var at name e) ws after t h w = tt
       stmt_free (Assign at a b) ws after t h w = free_of ws a h (assign_parts x ws at a b after t).assignable w
@@ -124,7 +124,7 @@ module _ (written : List (List ℕ)) (Kept : List ℕ → Type 0) where
           let q = batch_parts x ws at interface root a after t in
           stmts_free a (with_variable ws root (kind.Named interface) true) q.last q.block_typed (held_more ws root (kind.Named interface) true h) w
 
-      pub stmts_free : (ss : Stmts) (ws after : Scope) → check_stmts x ws ss ≡ Ok after → Held ws → Written written (assigned_in ss) → Free Kept (assigned_in ss)
+      pub stmts_free : (ss : Stmts) (ws after : Scope) → check_stmts x ws ss ≡ Ok after → Held ws → Written written (assigned_in ss) → Unkept Kept (assigned_in ss)
       stmts_free NoStmts ws after t h w = tt
       stmts_free (MoreStmts s ss) ws after t h w =
           let q = stmts_parts x ws s ss after t in
