@@ -3,3 +3,6 @@ pub mod Overs
 pub mod Written
 pub mod Scene
 pub mod Goes
+pub mod Calm
+pub mod Worth
+pub mod Carried
