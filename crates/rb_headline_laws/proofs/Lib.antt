@@ -6,3 +6,4 @@ pub mod Goes
 pub mod Calm
 pub mod Worth
 pub mod Carried
+pub mod Vals
