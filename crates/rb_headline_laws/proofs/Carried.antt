@@ -46,7 +46,6 @@ use Rattle.rb_local_laws.specs.Admitted.{AreKnownScopes}
 use Rattle.rb_local_laws.specs.Meets.{far_side, Met}
 use Rattle.rb_local_laws.proofs.Meeting.{handle_seq, none_among}
 use Rattle.rb_local_laws.proofs.Names.{seen_bound, fronts_same}
-use Rattle.rb_local_laws.proofs.Closing.{holds_framed}
 use Rattle.rb_division_laws.specs.Faults.{EachFault, IsRemote}
 use Rattle.rb_headline_laws.proofs.Calm.{OtherThanFuel}
 use Rattle.rb_headline_laws.proofs.Scene.{Scene, d, is, f, x, h, code, Holds, At}
@@ -82,7 +81,7 @@ module _ (c : Scene) (ws : typed.Scope) (l : Local) where
   stop_went refs m vs vars at r s id rep is_far e = record {
     local = cl;
     fronts = fronts_same (x c) ws l;
-    framed = holds_framed (x c) ws l at.fits.holds;
+    state = at.fits.holds;
     ends = ap (λ q. q.outcome) e ∙ ap (λ q. Faulted q cl) (sym (side_far c r is_far));
     events = ap (λ q. q.events) e;
     far = λ far. (refl, refl);
@@ -224,7 +223,7 @@ module _ (c : Scene) (refs : Refs) (m : ℕ) (vs : Scope) (ws : typed.Scope) (va
       near_went r s rep other near e' = record {
         local = client;
         fronts = fronts_same (x c) ws l;
-        framed = holds_framed (x c) ws l at.fits.holds;
+        state = at.fits.holds;
         ends = ap (λ q. q.outcome) e' ∙ ap (λ t. Faulted (record r { remote = t }) client) (other ∙ sym (ap (λ t. t || stands_remote c.p r.at) near.0 ∙ near.1));
         events = ap (λ q. q.events) e';
         far = λ far. (refl, refl);

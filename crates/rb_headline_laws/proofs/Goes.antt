@@ -37,7 +37,7 @@ use Rattle.rb_meaning_split.specs.Steps.{keeps}
 use Rattle.rb_meaning_split.specs.Parts as parts
 use Rattle.rb_meaning_split.specs.Replay as replay
 use Rattle.rb_meaning_split.specs.Replay.{Seen, in_replay, Replayed}
-use Rattle.rb_types_keep.specs.Ends.{Place, context, LocalFits, Ends, Nothing, FitsPlace}
+use Rattle.rb_types_keep.specs.Ends.{Place, context, LocalFits, LocalHolds, Ends, Nothing, FitsPlace}
 use Rattle.rb_types_keep.specs.Formed.{IsFormedExpr}
 use Rattle.rb_types_keep.specs.Noted.{IsNotedExpr}
 use Rattle.rb_types_keep.specs.Code.{HasKind}
@@ -53,8 +53,6 @@ use Rattle.rb_local_laws.specs.Admitted.{StaysWhole}
 use Rattle.rb_local_laws.specs.Meets.{far_side, keeping, FromOne, Met}
 use Rattle.rb_local_laws.specs.Wanted.{Wanted, AllWanted}
 use Rattle.rb_local_laws.proofs.Portable.{local_of}
-use Rattle.rb_local_laws.proofs.Names.{Framed}
-use Rattle.rb_local_laws.proofs.Closing.{holds_framed}
 use Rattle.rb_division_laws.specs.Faults.{EachFault, IsRemote, IsSent, StandsRemote, sent_of}
 use Rattle.rb_division_laws.proofs.Lists.{each}
 use Rattle.rb_headline_laws.proofs.Overs.{Onto}
@@ -86,7 +84,7 @@ module _ (c : Scene) where
   pub record Went (ws : typed.Scope) (r : Raised) (l : Local) (s : Outside) (ran : Ran) (rep : Replayed) : Type 0 where
     pub local : Local
     pub fronts : Fronts (x c) ws l local
-    pub framed : Framed (x c) ws l.names
+    pub state : LocalHolds (x c) ws l
     pub ends : rep.outcome ≡ Faulted (with_side c.p r) local
     pub events : rep.events ≡ s.events
     pub far : (with_side c.p r).remote ≡ true → (ran.fault ≡ Some r.fault) × (ran.server ≡ s.server)
@@ -227,7 +225,7 @@ module _ (c : Scene) where
               record {
                 local = t.local;
                 fronts = t.relates;
-                framed = holds_framed (x c) ws l1 e.state;
+                state = e.state;
                 ends = ap (λ z. z.outcome) same ∙ ap (λ z. Faulted z t.local) (sym (side_far c r far));
                 events = ap (λ z. z.events) same ∙ t.events;
                 far = λ is_far. (t.fault, t.server);
@@ -238,7 +236,7 @@ module _ (c : Scene) where
               record {
                 local = t.local;
                 fronts = t.relates;
-                framed = holds_framed (x c) ws l1 e.state;
+                state = e.state;
                 ends = ap (λ z. z.outcome) same ∙ ap (λ z. Faulted z t.local) (sym side);
                 events = ap (λ z. z.events) same ∙ t.events;
                 far = λ is_far. let z = ap (λ q. q.remote) side in absurd (cc (is_far, z, t.near));

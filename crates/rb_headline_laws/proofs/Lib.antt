@@ -7,3 +7,4 @@ pub mod Calm
 pub mod Worth
 pub mod Carried
 pub mod Vals
+pub mod Blocks
