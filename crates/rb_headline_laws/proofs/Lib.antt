@@ -8,3 +8,5 @@ pub mod Worth
 pub mod Carried
 pub mod Vals
 pub mod Blocks
+pub mod Choices
+pub mod Turning
