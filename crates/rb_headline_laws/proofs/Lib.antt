@@ -10,3 +10,4 @@ pub mod Vals
 pub mod Blocks
 pub mod Choices
 pub mod Turning
+pub mod Joining
