@@ -11,3 +11,5 @@ pub mod Blocks
 pub mod Choices
 pub mod Turning
 pub mod Joining
+pub mod Owned
+pub mod Standing
