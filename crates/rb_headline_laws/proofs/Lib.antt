@@ -13,3 +13,4 @@ pub mod Turning
 pub mod Joining
 pub mod Owned
 pub mod Standing
+pub mod Divided

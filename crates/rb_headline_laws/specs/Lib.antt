@@ -1,1 +1,2 @@
--- The laws.
+-- The laws of whole batches and of whole programs.
+pub mod Dividing
