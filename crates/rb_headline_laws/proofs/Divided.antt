@@ -60,7 +60,7 @@ use Rattle.rb_unsplit_keeps.proofs.Admission.{block_admitted}
 use Rattle.rb_unsplit_keeps.proofs.Agreed.{Agree}
 use Rattle.rb_unsplit_keeps.proofs.Found.{batch_found}
 use Rattle.rb_unsplit_keeps.proofs.Handling.{batch_handler_fits}
-use Rattle.rb_unsplit_keeps.proofs.Parts.{batch_parts}
+use Rattle.rb_unsplit_keeps.proofs.Parts.{Begins, batch_parts}
 use Rattle.rb_unsplit_keeps.proofs.Programs.{IsTypedProgram, program_typed, batches_in}
 use Rattle.rb_unsplit_keeps.proofs.Standing.{block_lawful}
 use Rattle.rb_unsplit_keeps.proofs.Walking.{Laws}
@@ -229,7 +229,7 @@ module _ (below : Below) (p : Program) (lawful : IsLawful p) (checked : check_pr
     sends : SendsPortable f (batch_sites f o)
     sends = below.sends p lawful none (batch_sites f o) (mapped_to (batch_sites f) (program_batches f p) o among)
 
-    scene : Scene
+    abbrev scene : Scene
     scene = record {
       laws = below.laws;
       p = p;
@@ -262,3 +262,115 @@ module _ (below : Below) (p : Program) (lawful : IsLawful p) (checked : check_pr
       sent = below.sent;
       faults = λ site at sent l1 fits1 outside holds. below.faults p lawful checked service served.typed (below.classes_formed service.classes served.lawful.each) site at sent l1 fits1 outside holds l.fuel;
     }
+
+    abbrev begins : Begins x place.scope o.at interface o.root o.block place.scope
+    begins = batch_parts x place.scope o.at interface o.root o.block place.scope typed_here
+
+    block_noted : AreNotedStmts (type_at p) x scope o.block
+    block_noted = subst (λ i. AreNotedStmts (type_at p) x i o.block) (ap (scope_or place.scope) begins.judged) noted
+
+    at_first : At scene (first_refs o.root inputs) 0 first scope [] start
+    at_first =
+        let joined = joined_first below.laws below.stmts_formed below.classes_formed below.sends below.notes p lawful t none service table served o among o.at interface place agree opens place.scope typed_here noted formed l fits in
+        record {
+          walked = start.names;
+          joined = joined;
+          linked = joined.linked;
+          fits = start_fits below.laws below.stmts_formed below.classes_formed below.sends below.notes p lawful t none service table served o among o.at interface place agree opens place.scope typed_here noted formed l fits;
+          held = held_first f o place.scope (kind.Named interface) begins.free;
+          known = below.batches d o.outer place.scope (agree_named is o.outer place.scope agree) (own_scope is place.this place.scope own) o.at o.root interface o.block begins.declared_as;
+        }
+
+    all_stand : AllStand scene [] first scope begins.last o.block
+    all_stand = record {
+      script = refl;
+      typed = begins.block_typed;
+      formed = formed;
+      noted = block_noted;
+      admitted = block_admitted p x refl (batch_sites f o) no_refusal [] first scope begins.last o.block begins.block_typed block_noted (λ y c. c);
+      within = λ y c. c;
+      used = λ y c. c;
+      writes = all_written (assigned_in o.block);
+    }
+
+    -- the client begins without the root
+    client_first : at_client x scope start ≡ l
+    client_first = seen_far x place.scope l o.root (kind.Named interface) true (value.Remote service.root) fits.count (ap (λ q. q || false) begins.declared_as) ∙ own_client x place.scope l own fits.count
+
+    abbrev whole : List Object
+    whole = whole_table p service o start (begun s).server
+
+    abbrev ran : Ran
+    ran = run_steps scene.ground (block_steps p (first_refs o.root inputs) first 0 0 o.block) [] (begun s).server run.ended
+
+    abbrev replayed : Local → Replayed
+    replayed at_start = replay.replay_all p.classes l.fuel (parts.block_parts p first 0 o.block) at_start (at_node scene (begun s) ran) replay.ended
+
+    into : Extends place.scope scope
+    into = extends_with place.scope o.root (kind.Named interface) true
+
+    -- back outside, a client has all names again
+    back : (l1 client : Local) → LocalFits x place.scope (closed (length l.names) l1) → closed (length (at_client x place.scope l).names) client ≡ at_client x place.scope (closed (length l.names) l1) → closed (length l.names) client ≡ closed (length l.names) l1
+    back l1 client fits1 e =
+        ap (λ q. closed (length q.names) client) (sym (own_client x place.scope l own fits.count)) ∙ e ∙ own_client x place.scope (closed (length l.names) l1) own fits1.count
+
+    record Same (w : Outcome (Unit {0}) × Outside) (rep : Replayed) : Type 0 where
+      outcome : left (length l.names) rep.outcome ≡ (settles p (length l.names) whole w).0
+      events : rep.events ≡ (settles p (length l.names) whole w).1.events
+      table : ran.server.table ≡ (settles p (length l.names) whole w).1.server.table
+
+    same_table : ran.server.table ≡ whole
+    unfolding division
+    same_table = ap (λ q. q.table) remote_part.server
+
+    settled : (w : Outcome (Unit {0}) × Outside) (rep : Replayed) → BlockGoes scene scope begins.last w ran rep → Same w rep
+    settled (Gave u l1, s1) rep g =
+        let done = close_done scene place.scope scope into l fits begins.last (stmts_extends x o.block scope begins.last begins.block_typed) l1 g.fits in
+        record {
+          outcome = ap (left (length l.names)) g.outcome ∙ ap (Gave tt) (back l1 (at_client x begins.last l1) (close_fits scene place.scope scope into l fits l1 done.0) done.1);
+          events = g.events;
+          table = ap (λ q. q.table) g.server;
+        }
+    settled (Faulted r l1, s1) rep g = record {
+      outcome = ap (left (length l.names)) g.ends ∙ ap (Faulted (with_side p r)) (back l1 g.local (close_fits scene place.scope scope into l fits l1 g.state) (close_client scene place.scope scope into l fits l1 g.local g.state g.fronts));
+      events = g.events;
+      table = by (with_side p r).remote refl;
+    }
+      where
+        by : (far : Truth) → (with_side p r).remote ≡ far → ran.server.table ≡ cond (with_side p r).remote s1.server.table whole
+        by true e = ap (λ q. q.table) (g.far e).1 ∙ sym (ap (λ q. cond q s1.server.table whole) e)
+        by false e = same_table ∙ sym (ap (λ q. cond q s1.server.table whole) e)
+
+    pub keeps_meaning : KeepsMeaning p service o l s
+    unfolding division
+    keeps_meaning =
+        let goes = block_goes scene o.block [] first scope begins.last all_stand (first_refs o.root inputs) 0 0 [] start (begun s) at_first served.fits in
+        let same = settled (handle (in_batch p service) (performs_all (bodies_of p.classes l.fuel) l.fuel o.block start) (begun s)) (replayed (at_client x scope start)) goes in
+        let at_l = subst (λ q. Same (handle (in_batch p service) (performs_all (bodies_of p.classes l.fuel) l.fuel o.block start) (begun s)) (replayed q)) client_first same in
+        record { outcome = at_l.outcome; events = at_l.events; table = at_l.table }
+
+-- each batch that code asks for
+pub dividing_keeps : Below → DividingKeepsMeaning
+dividing_keeps below p lawful checked none zero_free service s served at l site asked o found =
+    let t = program_typed p checked in
+    let d = of_program p in
+    let known = batches_in p lawful t (below.notes p lawful) site asked.may in
+    let q = known.begun in
+    let same : q ≡ o = one_only q o (sym (batch_found p lawful q known.among) ∙ ap (batch_at p) (known.at ∙ asked.here) ∙ found) in
+    let here : check_stmt (context d site.place) site.place.scope (Batch q.at site.interface q.root q.block) ≡ Ok site.place.scope =
+        subst (λ i. check_stmt (context d site.place) site.place.scope (Batch i site.interface q.root q.block) ≡ Ok site.place.scope) (sym known.at)
+        (subst (λ r. check_stmt (context d site.place) site.place.scope (Batch site.at site.interface r q.block) ≡ Ok site.place.scope) (sym known.root)
+        (subst (λ k. check_stmt (context d site.place) site.place.scope (Batch site.at site.interface site.root k) ≡ Ok site.place.scope) (sym known.block) asked.typed)) in
+    let noted : IsNotedStmt (type_at p) (context d site.place) site.place.scope (Batch q.at site.interface q.root q.block) =
+        subst (λ i. IsNotedStmt (type_at p) (context d site.place) site.place.scope (Batch i site.interface q.root q.block)) (sym known.at)
+        (subst (λ r. IsNotedStmt (type_at p) (context d site.place) site.place.scope (Batch site.at site.interface r q.block)) (sym known.root)
+        (subst (λ k. IsNotedStmt (type_at p) (context d site.place) site.place.scope (Batch site.at site.interface site.root k)) (sym known.block) known.noted)) in
+    let formed : AreFormedStmts q.block = subst AreFormedStmts (sym known.block) (below.stmts_formed site.block (block_lawful site.block known.lawful.2)) in
+    let declared' = declared below.laws below.stmts_formed below.classes_formed below.sends below.notes p lawful t none service s.server.table served in
+    let remote : PerformsRemotePart p service q l s.server.table =
+        below.scripts p lawful checked none service s.server.table served site asked.may q (ap (batch_at p) (sym known.at) ∙ batch_found p lawful q known.among) l asked.fits in
+    subst (λ r. KeepsMeaning p service r l s) same
+    (keeps_meaning below p lawful checked none zero_free service s served q known.among site.interface site.place known.agree (program_sited p t site asked.may).opens here noted formed (program_owned p declared' t site asked.may) l asked.fits remote)
+  where
+    one_only : (a c : Outermost) → Some a ≡ Some c → a ≡ c
+    one_only a c e = cc (e)
