@@ -14,3 +14,4 @@ pub mod Joining
 pub mod Owned
 pub mod Standing
 pub mod Divided
+pub mod Clients
