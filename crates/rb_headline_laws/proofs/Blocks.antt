@@ -1,12 +1,11 @@
 -- How a block of a batch, its steps and its parts go on to their ends, and what is left behind a block.
-use Rattle.std.proofs.Common.{◌≡◌, ◌≤◌, refl, sym, ap, ◌∙◌, subst, ℕ, List, [], ◌∷◌, length, take, Bool as Truth, true, false, Option, Some, None}
+use Rattle.std.proofs.Common.{◌≡◌, ◌≤◌, ap, ◌∙◌, ℕ, List, [], length, true, Some, None}
 use Rattle.rb_trees.specs.declared.outcomes.Raised.{Raised}
 use Rattle.rb_trees.specs.mirror.Forests.{Node}
 use Rattle.rb_meaning_types.specs.Scopes as typed
 use Rattle.rb_meaning_types.specs.Fits.{classes_of}
 use Rattle.rb_meaning_code.specs.State.{Local, closed}
-use Rattle.rb_meaning_code.specs.Dialogue.{Outcome, Gave, Faulted, handle}
-use Rattle.rb_meaning_code.specs.Statements.{closes}
+use Rattle.rb_meaning_code.specs.Dialogue.{Outcome, Gave, Faulted}
 use Rattle.rb_meaning_code.specs.ScriptRun.{Vars, Ran}
 use Rattle.rb_meaning_flow.specs.Scopes.{Scope}
 use Rattle.rb_meaning.specs.State.{Event, Outside}

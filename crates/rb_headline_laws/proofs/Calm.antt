@@ -1,5 +1,5 @@
 -- A portable expression without a remote call never ends for want of fuel.
-use Rattle.std.proofs.Common.{◌≡◌, refl, sym, ap, ◌∙◌, subst, ℕ, ◌==◌, List, [], ◌∷◌, ◌++◌, length, nat_lt, ℤ, Bool as Truth, true, false, not, cond, ◌&&◌, ◌||◌, Option, Some, None, Result, Ok, Err}
+use Rattle.std.proofs.Common.{◌≡◌, refl, sym, subst, ℕ, ◌==◌, ◌++◌, length, nat_lt, ℤ, Bool as Truth, true, false, cond, ◌&&◌, ◌||◌, Option, Some, None, Result, Ok, Err}
 use Rattle.std.proofs.lemmas.Bool.{and_parts}
 use Rattle.std.specs.Prelude.{pos, int_rem}
 use Rattle.std.specs.Int.{int_wrapping_div, w64}
@@ -15,11 +15,11 @@ use Rattle.rb_trees.specs.declared.values.Value.TheOpen.{Value-F}
 use Rattle.rb_trees.specs.declared.values.Value.TheViews.{out-Value}
 use Rattle.rb_trees.specs.declared.values.Fault.{Fault}
 use Rattle.rb_trees.specs.declared.outcomes.Raised.{Raised}
-use Rattle.rb_trees.specs.mirror.Code.{Expr, Exprs, Lit, Name, This, Unary, Binary, Field, Call, Index, New, Items, Taken}
+use Rattle.rb_trees.specs.mirror.Code.{Expr, Lit, Name, This, Unary, Binary, Field, Call, Index, New, Items, Taken}
 use Rattle.rb_meaning_code.specs.Faults.{fuel_used, kind, raises}
-use Rattle.rb_meaning_code.specs.Operators.{negation, opposite, count, as_text, on_one, plus, joined_text, joined_list, on_numbers, divided, quotient, remainder, equal, truth_by, on_truths, on_two, conjunct, disjunct, by_left}
+use Rattle.rb_meaning_code.specs.Operators.{negation, opposite, count, as_text, on_one, plus, on_numbers, divided, quotient, remainder, equal, truth_by, on_truths, on_two, conjunct, disjunct, by_left}
 use Rattle.rb_meaning_code.specs.State.{Local}
-use Rattle.rb_meaning_code.specs.Dialogue.{Outcome, Gave, Faulted, Done, Run, Handler, handle, on, next, gives, end}
+use Rattle.rb_meaning_code.specs.Dialogue.{Outcome, Gave, Faulted, Run, Handler, handle, on, next, gives, end}
 use Rattle.rb_meaning_code.specs.Calls.{Bodies}
 use Rattle.rb_meaning_code.specs.Expressions.{value_of, decided_or, evaluates}
 use Rattle.rb_meaning_flow.specs.Facts.{Facts, is_remote}

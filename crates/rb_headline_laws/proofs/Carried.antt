@@ -1,34 +1,26 @@
 -- Carried vals and remote expressions alone: where they stand, in the script and in the replay.
-use Rattle.std.proofs.Common.{◌≡◌, ◌⊎◌, inl, inr, refl, sym, ap, ◌∙◌, subst, ℕ, suc, List, [], ◌∷◌, ◌++◌, Bool as Truth, true, false, cond, nat_eq, ◌&&◌, ◌||◌, Option, Some, None, Ok}
-use Rattle.std.specs.List.{Contains}
-use Rattle.std.proofs.lemmas.Bool.{and_parts}
-use Rattle.std.proofs.lemmas.List.Elements.{Contains-append_left}
+use Rattle.std.proofs.Common.{◌≡◌, inl, inr, refl, sym, ap, ◌∙◌, subst, ℕ, suc, List, [], ◌∷◌, Bool as Truth, true, false, cond, ◌||◌, Some, None}
 use Rattle.rb_trees.specs.declared.values.Value.{Value}
 use Rattle.rb_trees.specs.declared.values.Fault.{Fault}
 use Rattle.rb_trees.specs.declared.outcomes.Raised.{Raised}
 use Rattle.rb_trees.specs.declared.forests.NodeFault.{NodeFault}
-use Rattle.rb_trees.specs.mirror.Code.{Expr, expr_at, Stmt, Val, Run as RunStmt}
+use Rattle.rb_trees.specs.mirror.Code.{Expr}
 use Rattle.rb_trees.specs.mirror.Forests as forest
 use Rattle.rb_trees.specs.mirror.Forests.{Node, Holds as Held, NoEntries, MoreEntries}
 use Rattle.rb_trees.specs.mirror.Remainders as part
-use Rattle.rb_trees.specs.mirror.Scripts as script
-use Rattle.rb_trees.specs.mirror.Scripts.{Steps, MoreSteps}
 use Rattle.rb_meaning_types.specs.Kinds.{Kind, is_primitive}
 use Rattle.rb_meaning_types.specs.Scopes as typed
-use Rattle.rb_meaning_types.specs.Expressions.{type_of}
-use Rattle.rb_meaning_types.specs.Notes.{type_at}
 use Rattle.rb_meaning_types.specs.Fits.{Fits}
 use Rattle.rb_meaning_code.specs.Faults.{raised_remotely}
 use Rattle.rb_meaning_code.specs.State.{Local, bound}
 use Rattle.rb_meaning_code.specs.Dialogue.{Outcome, Gave, Faulted, handle, on}
 use Rattle.rb_meaning_code.specs.Expressions.{evaluates}
-use Rattle.rb_meaning_code.specs.Statements.{nothing, performs}
+use Rattle.rb_meaning_code.specs.Statements.{nothing}
 use Rattle.rb_meaning_code.specs.Remote.{Server, Reply, Got, Stopped, and_then}
 use Rattle.rb_meaning_code.specs.ScriptRun as run
 use Rattle.rb_meaning_code.specs.ScriptRun.{Vars, Ran, in_front, kept, on_reply, with_entry, with_kept, run_steps}
 use Rattle.rb_meaning_flow.specs.declared.scopes.Role.{Role}
 use Rattle.rb_meaning_flow.specs.Scopes.{Scope, with_variable}
-use Rattle.rb_meaning_flow.specs.Sites.{Around}
 use Rattle.rb_meaning.specs.State.{Outside}
 use Rattle.rb_meaning.specs.Unsplit.{stands_remote}
 use Rattle.rb_meaning_split.specs.Refs.{Refs, with_var}
@@ -38,18 +30,18 @@ use Rattle.rb_types_keep.specs.Own.{IsFarKind}
 use Rattle.rb_unsplit_keeps.proofs.Positions.{same_position}
 use Rattle.rb_split_laws.proofs.Alike.{kept_got}
 use Rattle.rb_split_laws.proofs.Joined.{fits_primitive}
-use Rattle.rb_split_laws.proofs.Later.{Later, fault_in, AllLater, none_here}
+use Rattle.rb_split_laws.proofs.Later.{AllLater, none_here}
 use Rattle.rb_split_laws.proofs.NoUnit.{NoUnit}
-use Rattle.rb_local_laws.specs.Shown.{at_client, SameNames, FellSame, Fronts}
+use Rattle.rb_local_laws.specs.Shown.{at_client, SameNames, FellSame}
 use Rattle.rb_local_laws.specs.Local.{HoldsTable, IsLocalAt}
 use Rattle.rb_local_laws.specs.Admitted.{AreKnownScopes}
 use Rattle.rb_local_laws.specs.Meets.{far_side, Met}
-use Rattle.rb_local_laws.proofs.Meeting.{handle_seq, none_among}
+use Rattle.rb_local_laws.proofs.Meeting.{none_among}
 use Rattle.rb_local_laws.proofs.Names.{seen_bound, fronts_same}
 use Rattle.rb_division_laws.specs.Faults.{EachFault, IsRemote}
 use Rattle.rb_headline_laws.proofs.Calm.{OtherThanFuel}
-use Rattle.rb_headline_laws.proofs.Scene.{Scene, d, is, f, x, h, code, Holds, At}
-use Rattle.rb_headline_laws.proofs.Goes.{Onward, side_far, side_near, Went, Arrived, Goes, at_node}
+use Rattle.rb_headline_laws.proofs.Scene.{Scene, d, is, x, h, code, Holds, At}
+use Rattle.rb_headline_laws.proofs.Goes.{Onward, side_far, Went, Arrived, Goes, at_node}
 use Rattle.rb_headline_laws.proofs.Worth.{Worth, seen_far, primitive_near, other_far, at_bound}
 
 -- ---- nodes that stopped at a step

@@ -1,32 +1,26 @@
 -- An `if` of a batch whose branches hold a remote operation: where it stands, in the script and in the replay.
-use Rattle.std.proofs.Common.{◌≡◌, ◌≤◌, refl, sym, ap, ◌∙◌, subst, ℕ, suc, List, [], ◌∷◌, ◌++◌, length, Bool as Truth, true, false, cond, ◌&&◌, Option, Some, None, Ok}
-use Rattle.std.specs.List.{Contains}
-use Rattle.std.proofs.lemmas.List.Elements.{Contains-append_right}
+use Rattle.std.proofs.Common.{◌≡◌, ◌≤◌, refl, sym, ap, ◌∙◌, subst, ℕ, length, Bool as Truth, true, false, cond, Some, Ok}
 use Rattle.rb_trees.specs.declared.values.Value.{Value}
 use Rattle.rb_trees.specs.declared.values.Value.TheOpen.{Value-F}
 use Rattle.rb_trees.specs.declared.values.Value.TheViews.{out-Value}
 use Rattle.rb_trees.specs.declared.values.Fault.{Fault}
-use Rattle.rb_trees.specs.declared.outcomes.Raised.{Raised}
-use Rattle.rb_trees.specs.mirror.Code.{Expr, Stmt, Stmts, If}
+use Rattle.rb_trees.specs.mirror.Code.{Stmts}
 use Rattle.rb_trees.specs.mirror.Forests as forest
 use Rattle.rb_trees.specs.mirror.Forests.{Node, Holds as Held, NoEntries, MoreEntries}
 use Rattle.rb_trees.specs.mirror.Remainders as part
-use Rattle.rb_trees.specs.mirror.Scripts as script
-use Rattle.rb_trees.specs.mirror.Scripts.{Steps, MoreSteps}
+use Rattle.rb_trees.specs.mirror.Scripts.{Steps}
 use Rattle.rb_meaning_types.specs.Kinds as kind
 use Rattle.rb_meaning_types.specs.Scopes as typed
-use Rattle.rb_meaning_types.specs.Notes.{type_at}
 use Rattle.rb_meaning_types.specs.Fits.{IsBoolValue}
 use Rattle.rb_meaning_code.specs.Faults.{raises, raised_remotely}
 use Rattle.rb_meaning_code.specs.State.{Local, closed}
 use Rattle.rb_meaning_code.specs.Dialogue.{Outcome, Gave, Faulted, Run, handle, on, next, end}
-use Rattle.rb_meaning_code.specs.Expressions.{evaluates}
-use Rattle.rb_meaning_code.specs.Statements.{closes, block, truth_of, either, by_truth, performs, performs_all}
-use Rattle.rb_meaning_code.specs.Remote.{Server, Reply, Got, Stopped, and_then, replies}
+use Rattle.rb_meaning_code.specs.Statements.{closes, block, truth_of, either, by_truth, performs_all}
+use Rattle.rb_meaning_code.specs.Remote.{Server, Reply, and_then, replies}
 use Rattle.rb_meaning_code.specs.ScriptRun as run
 use Rattle.rb_meaning_code.specs.ScriptRun.{Vars, Ran, in_front, condition, on_reply, goes_on, chosen, branched, run_steps}
 use Rattle.rb_meaning_flow.specs.Scopes.{Scope}
-use Rattle.rb_meaning.specs.State.{Event, Outside}
+use Rattle.rb_meaning.specs.State.{Outside}
 use Rattle.rb_meaning_split.specs.Refs.{Refs}
 use Rattle.rb_meaning_split.specs.Replay as replay
 use Rattle.rb_meaning_split.specs.Replay.{Seen, Replayed}
@@ -38,7 +32,7 @@ use Rattle.rb_local_laws.proofs.Portable.{local_of}
 use Rattle.rb_division_laws.specs.Faults.{EachFault, IsRemote}
 use Rattle.rb_headline_laws.proofs.Overs.{Onto, over_take}
 use Rattle.rb_headline_laws.proofs.Written.{InScript}
-use Rattle.rb_headline_laws.proofs.Scene.{Scene, f, is, x, h, code, Holds, At, at_moved}
+use Rattle.rb_headline_laws.proofs.Scene.{Scene, x, h, code, Holds, At, at_moved}
 use Rattle.rb_headline_laws.proofs.Goes.{Onward, Went, Goes, at_node}
 use Rattle.rb_headline_laws.proofs.Worth.{Worth}
 use Rattle.rb_headline_laws.proofs.Carried.{stop, stops_here, stop_went}
@@ -150,13 +144,13 @@ module _ (c : Scene) (refs : Refs) (m : ℕ) (vs : Scope) (ws : typed.Scope) (va
     if_goes o (Gave v l1, s1) reply worth far first second =
         let t = bool_truth (out-Value v) worth.3 in
         let got : if_ran reply ≡ whole_ran t.truth s1.server =
-            ap (λ q. on_reply n (and_then q (condition position)) (λ holds s1. whole_ran holds s1)) worth.1 ∙ ap (λ q. on_reply n (replies position q s1.server) (λ holds s1. whole_ran holds s1)) t.is in
+        ap (λ q. on_reply n (and_then q (condition position)) (λ holds s1. whole_ran holds s1)) worth.1 ∙ ap (λ q. on_reply n (replies position q s1.server) (λ holds s1. whole_ran holds s1)) t.is in
         subst (λ z. Goes c refs m' vs ws ws (handle (h c) (decides v z) s1) (if_ran reply) (replay.replay c.p.classes c.gas branch_part client (at_node c o (if_ran reply)) ke) go ke) (sym worth.0)
         (subst (λ q. Goes c refs m' vs ws ws (handle (h c) (next (end l (raises position q)) (λ holds l1. either holds (block (performs_all (code c) c.gas a)) (block (performs_all (code c) c.gas b)) l1)) s1) (if_ran reply)
-            (replay.replay c.p.classes c.gas branch_part client (at_node c o (if_ran reply)) ke) go ke) (sym t.is)
+        (replay.replay c.p.classes c.gas branch_part client (at_node c o (if_ran reply)) ke) go ke) (sym t.is)
         (subst (λ q. Goes c refs m' vs ws ws (handle (h c) (either t.truth (block (performs_all (code c) c.gas a)) (block (performs_all (code c) c.gas b)) l) s1) q (replay.replay c.p.classes c.gas branch_part client (at_node c o q) ke) go ke) (sym got)
         (subst (λ q. Goes c refs m' vs ws ws (handle (h c) (either t.truth (block (performs_all (code c) c.gas a)) (block (performs_all (code c) c.gas b)) l) s1) (whole_ran t.truth s1.server)
-            (replay.replay c.p.classes c.gas branch_part client (record { events = q; node = (whole_ran t.truth s1.server).node }) ke) go ke) worth.2
+        (replay.replay c.p.classes c.gas branch_part client (record { events = q; node = (whole_ran t.truth s1.server).node }) ke) go ke) worth.2
         (one_goes t.truth s1 (first s1 worth.4) (second s1 worth.4)))))
     if_goes o (Faulted r l1, s1) reply worth far first second =
         let ran = run.stopped n r.at r.fault s1.server in

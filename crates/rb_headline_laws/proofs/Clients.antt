@@ -1,9 +1,6 @@
 -- A client runs a program's code as the program itself does, batch by batch.
-use Rattle.std.proofs.Common.{◌≡◌, refl, sym, ap, ◌∙◌, subst, ℕ, List, [], ◌∷◌, ◌++◌, append_assoc, append-nil, Option, Some, None, Result, Ok, Err}
-use Rattle.std.specs.List.{Contains}
-use Rattle.rb_trees.specs.declared.values.Value.{Value}
+use Rattle.std.proofs.Common.{◌≡◌, refl, sym, ap, ◌∙◌, subst, ℕ, List, [], ◌∷◌, ◌++◌, append_assoc, append-nil, Option, Some, None, Ok}
 use Rattle.rb_trees.specs.declared.values.Value.TheVariants as value
-use Rattle.rb_trees.specs.declared.outcomes.Raised.{Raised}
 use Rattle.rb_trees.specs.declared.services.Object.{Object}
 use Rattle.rb_trees.specs.mirror.Declarations.{Program}
 use Rattle.rb_trees.specs.mirror.Services.{Service}
@@ -13,14 +10,13 @@ use Rattle.rb_meaning_types.specs.Lawful.{IsLawful}
 use Rattle.rb_meaning_types.specs.Programs.{check_program}
 use Rattle.rb_meaning_types.specs.Fits.{TableFits}
 use Rattle.rb_meaning_code.specs.State.{Local}
-use Rattle.rb_meaning_code.specs.Dialogue.{Question, Line, Taken, Invoke, Turn, ListTurn, Outcome, Gave, Faulted, Dialogue, Done, Ask, AskBatch, Handler, handle}
-use Rattle.rb_meaning_flow.specs.Facts.{facts_of}
-use Rattle.rb_meaning_flow.specs.Outermost.{Outermost, program_batches}
+use Rattle.rb_meaning_code.specs.Dialogue.{Question, Line, Taken, Invoke, Turn, ListTurn, Outcome, Dialogue, Done, Ask, AskBatch, Handler, handle}
+use Rattle.rb_meaning_flow.specs.Outermost.{Outermost}
 use Rattle.rb_meaning.specs.State as state
 use Rattle.rb_meaning.specs.State.{Event, Outside, shows}
 use Rattle.rb_meaning.specs.Unsplit.{batch_at, performs_batch}
 use Rattle.rb_meaning.specs.Links.{IsTyped}
-use Rattle.rb_meaning.specs.Meaning.{local_answer, performs_found, in_main, runs_main, at_start, outside_of, ending_of}
+use Rattle.rb_meaning.specs.Meaning.{performs_found, in_main, runs_main, at_start, outside_of, ending_of}
 use Rattle.rb_meaning_split.specs.Division.{Division, division}
 use Rattle.rb_meaning_split.specs.Client.{Sent, Waiting, answers_waiting, sent_for, begins, replays, replays_next, performs_divided, in_client, client}
 use Rattle.rb_flow.specs.Program.{HasNoRefusal}
@@ -32,11 +28,11 @@ use Rattle.rb_types_keep.specs.Code.{TypesKeep}
 use Rattle.rb_unsplit_keeps.specs.Batches.{program_sites}
 use Rattle.rb_unsplit_keeps.proofs.Admitted.{whole_fits}
 use Rattle.rb_unsplit_keeps.proofs.Found.{batch_found}
-use Rattle.rb_unsplit_keeps.proofs.Programs.{IsTypedProgram, program_typed, batches_in}
+use Rattle.rb_unsplit_keeps.proofs.Programs.{program_typed, batches_in}
 use Rattle.rb_unsplit_keeps.proofs.Whole.{MainEnds, main_handler_fits, main_keeps}
 use Rattle.rb_split_laws.specs.Remote.{script_run}
 use Rattle.rb_headline_laws.specs.Dividing.{KeepsMeaning, NothingAtZero}
-use Rattle.rb_headline_laws.specs.Clients.{sent_run, ScriptsGive, MeansTheProgram, HasNodes, ClientsMeanWhatProgramsMean}
+use Rattle.rb_headline_laws.specs.Clients.{sent_run, ScriptsGive, ClientsMeanWhatProgramsMean}
 use Rattle.rb_headline_laws.proofs.Divided.{Below, dividing_keeps}
 
 same_tail : {A : Type 0} (xs ys zs : List A) → xs ++ ys ≡ xs ++ zs → ys ≡ zs
@@ -185,7 +181,7 @@ module _ (below : Below) (p : Program) (lawful : IsLawful p) (checked : check_pr
               let there = behind (main.batch s at l).1 (w.sent ++ sent_now b l ∷ []) ns in
               let same : reached ≡ ((main.batch s at l).0, there) = batch_same s w at l b n ns found e keeps both.0 is in
               let sent_on : (handle waiting (go (main.batch s at l).0) there).1.sent ≡ there.sent ++ grown.more =
-                  sym (ap (λ z. (handle waiting (go z.0) z.1).1.sent) same) ∙ grown.same ∙ ap (λ q. q ++ grown.more) reached_sent in
+              sym (ap (λ z. (handle waiting (go z.0) z.1).1.sent) same) ∙ grown.same ∙ ap (λ q. q ++ grown.more) reached_sent in
               subst (λ z. Alike (handle waiting (go z.0) z.1) (handle main (go (main.batch s at l).0) (main.batch s at l).1) after) (sym same)
               (next (main.batch s at l).1 there refl holds1 grown.more after sent_on (subst (λ q. ScriptsGive service q grown.more ns after) (table_same s at l b found keeps) both.1))
 
@@ -246,11 +242,13 @@ clients_mean below conditions exprs_formed types_keep p lawful checked none zero
     let keeps = main_keeps below.laws.calls exprs_formed below.stmts_formed below.classes_formed types_keep p lawful t none service table served whole (below.notes p lawful) fuel in
     let run = runs_main p.classes fuel p.body (at_start fuel) in
     let ends = MainEnds below.laws.calls exprs_formed below.stmts_formed below.classes_formed types_keep p lawful t none service table served whole (below.notes p lawful) in
-    let made = nodes_exist below p lawful checked none zero_free service table served fits ends run keeps (outside_of table) served.fits [] in
-    (record {
-      nodes = made.nodes;
-      after = (handle (in_main p service) run (outside_of table)).1.server.table;
-      given = subst (λ q. ScriptsGive service table q made.nodes (handle (in_main p service) run (outside_of table)).1.server.table) (sym made.sent) made.given;
-    }, λ nodes after given.
-        let alike = runs_alike below p lawful checked none zero_free service table served fits ends run keeps (outside_of table) (record { events = []; sent = []; nodes = nodes }) refl served.fits (client p fuel nodes).sent after refl given in
-        record { ending = ap ending_of alike.same; events = alike.events; table = alike.table })
+    let made = nodes_exist below p lawful checked none zero_free service table served fits ends run keeps (outside_of table) served.fits [] in (
+      record {
+        nodes = made.nodes;
+        after = (handle (in_main p service) run (outside_of table)).1.server.table;
+        given = subst (λ q. ScriptsGive service table q made.nodes (handle (in_main p service) run (outside_of table)).1.server.table) (sym made.sent) made.given;
+      },
+      λ nodes after given.
+          let alike = runs_alike below p lawful checked none zero_free service table served fits ends run keeps (outside_of table) (record { events = []; sent = []; nodes = nodes }) refl served.fits (client p fuel nodes).sent after refl given in
+          record { ending = ap ending_of alike.same; events = alike.events; table = alike.table },
+    )

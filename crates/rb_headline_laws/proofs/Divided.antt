@@ -1,21 +1,19 @@
 -- A batch that is divided means what it means where it stands.
-use Rattle.std.proofs.Common.{◌≡◌, ◌⊎◌, inl, inr, refl, sym, ap, ◌∙◌, subst, ℕ, suc, List, [], ◌∷◌, ◌++◌, map, length, Bool as Truth, true, false, not, cond, ◌&&◌, ◌||◌, Option, Some, None, is_none, Ok}
+use Rattle.std.proofs.Common.{◌≡◌, ◌⊎◌, inl, inr, refl, sym, ap, ◌∙◌, subst, ℕ, suc, List, [], ◌∷◌, length, Bool as Truth, true, false, not, cond, ◌&&◌, ◌||◌, Option, Some, None, is_none, Ok}
 use Rattle.std.specs.List.{Contains}
 use Rattle.std.specs.Str.{bytes_eq}
 use Rattle.rb_trees.specs.Named.{lookup}
-use Rattle.rb_trees.specs.declared.values.Value.{Value}
 use Rattle.rb_trees.specs.declared.values.Value.TheVariants as value
-use Rattle.rb_trees.specs.declared.outcomes.Raised.{Raised}
 use Rattle.rb_trees.specs.declared.services.Object.{Object}
 use Rattle.rb_trees.specs.declared.refusals.Refusal.{Refusal}
-use Rattle.rb_trees.specs.mirror.Code.{Stmt, Stmts, Batch}
+use Rattle.rb_trees.specs.mirror.Code.{Batch}
 use Rattle.rb_trees.specs.mirror.Declarations.{Program, Interface}
 use Rattle.rb_trees.specs.mirror.Services.{Service}
 use Rattle.rb_meaning_types.specs.Kinds as kind
-use Rattle.rb_meaning_types.specs.Names.{is_new, interface_named}
+use Rattle.rb_meaning_types.specs.Names.{is_new}
 use Rattle.rb_meaning_types.specs.Declared.{Declarations, Context, of_program}
 use Rattle.rb_meaning_types.specs.Scopes as typed
-use Rattle.rb_meaning_types.specs.Statements.{check_stmt, check_stmts}
+use Rattle.rb_meaning_types.specs.Statements.{check_stmt}
 use Rattle.rb_meaning_types.specs.Notes.{scope_or, type_at}
 use Rattle.rb_meaning_types.specs.Lawful.{IsLawful}
 use Rattle.rb_meaning_types.specs.Programs.{check_program}
@@ -28,22 +26,21 @@ use Rattle.rb_meaning_code.specs.ScriptRun as run
 use Rattle.rb_meaning_code.specs.ScriptRun.{Ground, Ran, run_steps}
 use Rattle.rb_meaning_flow.specs.Facts.{Facts, facts_of}
 use Rattle.rb_meaning_flow.specs.declared.scopes.Role.{Role}
-use Rattle.rb_meaning_flow.specs.declared.scopes.Variable.{Variable}
 use Rattle.rb_meaning_flow.specs.Scopes as flow
 use Rattle.rb_meaning_flow.specs.Scopes.{Scope, variable_named, role_in, role_of, is_constant_role, assigned_in, role_with, variable_with, scope_with, opened}
 use Rattle.rb_meaning_flow.specs.Refusals.{IsRefusal}
 use Rattle.rb_meaning_flow.specs.Outermost.{Outermost, batch_sites, program_batches}
 use Rattle.rb_meaning.specs.State.{Outside}
-use Rattle.rb_meaning.specs.Unsplit.{in_batch, with_side, begun, batch_at, settles, whole_table, table_after, performs_batch}
+use Rattle.rb_meaning.specs.Unsplit.{in_batch, with_side, begun, batch_at, settles, whole_table}
 use Rattle.rb_meaning.specs.Links.{IsTyped}
-use Rattle.rb_meaning_split.specs.Refs.{Ref, Root, Input, Refs}
+use Rattle.rb_meaning_split.specs.Refs.{Root, Input}
 use Rattle.rb_meaning_split.specs.Inputs.{used_in, first_uses}
 use Rattle.rb_meaning_split.specs.Division.{numbered, first_refs, division}
 use Rattle.rb_meaning_split.specs.Steps.{block_steps}
 use Rattle.rb_meaning_split.specs.Parts as parts
 use Rattle.rb_meaning_split.specs.Replay as replay
 use Rattle.rb_meaning_split.specs.Replay.{Replayed}
-use Rattle.rb_meaning_split.specs.Client.{input_values, left, replays}
+use Rattle.rb_meaning_split.specs.Client.{input_values, left}
 use Rattle.rb_flow.specs.Program.{HasNoRefusal}
 use Rattle.rb_flow.specs.Laws.{SendsPortable, AdmittedSendPortable}
 use Rattle.rb_flow.proofs.Among.{mapped_to}
@@ -53,9 +50,7 @@ use Rattle.rb_types_keep.specs.Own.{IsOwnScope}
 use Rattle.rb_types_keep.specs.Formed.{AreFormedStmts, LawfulStmtsAreFormed, LawfulClassesAreFormed}
 use Rattle.rb_types_keep.specs.Noted.{IsNotedStmt, AreNotedStmts}
 use Rattle.rb_types_keep.specs.Ends.{Place, context, LocalFits, FitsPlace}
-use Rattle.rb_types_keep.specs.Asked.{Side, Own, Site, IsAskedBatch}
 use Rattle.rb_unsplit_keeps.specs.Noted.{LawfulAreNoted}
-use Rattle.rb_unsplit_keeps.specs.Batches.{program_sites}
 use Rattle.rb_unsplit_keeps.proofs.Admission.{block_admitted}
 use Rattle.rb_unsplit_keeps.proofs.Agreed.{Agree}
 use Rattle.rb_unsplit_keeps.proofs.Found.{batch_found}
@@ -64,16 +59,16 @@ use Rattle.rb_unsplit_keeps.proofs.Parts.{Begins, batch_parts}
 use Rattle.rb_unsplit_keeps.proofs.Programs.{IsTypedProgram, program_typed, batches_in}
 use Rattle.rb_unsplit_keeps.proofs.Standing.{block_lawful}
 use Rattle.rb_unsplit_keeps.proofs.Walking.{Laws}
-use Rattle.rb_split_laws.specs.Remote.{PerformsRemotePart, ScriptsPerformRemoteParts, script_run}
+use Rattle.rb_split_laws.specs.Remote.{PerformsRemotePart, ScriptsPerformRemoteParts}
 use Rattle.rb_split_laws.proofs.Covered.{block_constant}
 use Rattle.rb_split_laws.proofs.Inputs.{input_used}
 use Rattle.rb_split_laws.proofs.Kept.{OpenScope}
-use Rattle.rb_split_laws.proofs.Law.{declared, service_formed, joined_first, start_fits}
+use Rattle.rb_split_laws.proofs.Law.{declared, joined_first, start_fits}
 use Rattle.rb_split_laws.proofs.Linked.{IsFound}
 use Rattle.rb_split_laws.proofs.Lookups.{same_bytes, bytes_same, first_or, lookup_more, first_new}
 use Rattle.rb_split_laws.proofs.Sited.{program_sited}
-use Rattle.rb_local_laws.specs.Shown.{is_far, shown, seen, at_client, named}
-use Rattle.rb_local_laws.specs.Local.{HoldsTable, IsLocalAt, LocalCodeDoesTheSame}
+use Rattle.rb_local_laws.specs.Shown.{is_far, shown, at_client, named}
+use Rattle.rb_local_laws.specs.Local.{LocalCodeDoesTheSame}
 use Rattle.rb_local_laws.specs.Admitted.{AreNamed, AdmittedAreParted, BatchesBeginKnown, TurnsBeginKnown, TypesAreKnown}
 use Rattle.rb_local_laws.specs.Marked.{AdmittedArePlaced}
 use Rattle.rb_local_laws.proofs.Names.{Extends}
@@ -81,12 +76,12 @@ use Rattle.rb_local_laws.proofs.Closing.{extends_with}
 use Rattle.rb_local_laws.proofs.Origins.{own_near}
 use Rattle.rb_local_laws.proofs.Statements.{stmts_extends}
 use Rattle.rb_division_laws.specs.Faults.{SentIsRemote, SentFaultsAreRemote}
-use Rattle.rb_headline_laws.specs.Dividing.{replay_of, KeepsMeaning, NothingAtZero, DividingKeepsMeaning}
+use Rattle.rb_headline_laws.specs.Dividing.{KeepsMeaning, NothingAtZero, DividingKeepsMeaning}
 use Rattle.rb_headline_laws.proofs.Written.{Fixed, Held, InScript, all_written}
 use Rattle.rb_headline_laws.proofs.Scene.{Scene, At, AllStand}
-use Rattle.rb_headline_laws.proofs.Goes.{Went, at_node}
+use Rattle.rb_headline_laws.proofs.Goes.{at_node}
 use Rattle.rb_headline_laws.proofs.Worth.{seen_far}
-use Rattle.rb_headline_laws.proofs.Blocks.{Done, BlockGoes, close_fits, close_client, close_done}
+use Rattle.rb_headline_laws.proofs.Blocks.{BlockGoes, close_fits, close_client, close_done}
 use Rattle.rb_headline_laws.proofs.Joining.{block_goes}
 use Rattle.rb_headline_laws.proofs.Owned.{program_owned}
 use Rattle.rb_headline_laws.proofs.Standing.{placed_classes, batch_marks, calls_portable}
@@ -358,17 +353,17 @@ dividing_keeps below p lawful checked none zero_free service s served at l site 
     let q = known.begun in
     let same : q ≡ o = one_only q o (sym (batch_found p lawful q known.among) ∙ ap (batch_at p) (known.at ∙ asked.here) ∙ found) in
     let here : check_stmt (context d site.place) site.place.scope (Batch q.at site.interface q.root q.block) ≡ Ok site.place.scope =
-        subst (λ i. check_stmt (context d site.place) site.place.scope (Batch i site.interface q.root q.block) ≡ Ok site.place.scope) (sym known.at)
-        (subst (λ r. check_stmt (context d site.place) site.place.scope (Batch site.at site.interface r q.block) ≡ Ok site.place.scope) (sym known.root)
-        (subst (λ k. check_stmt (context d site.place) site.place.scope (Batch site.at site.interface site.root k) ≡ Ok site.place.scope) (sym known.block) asked.typed)) in
+    subst (λ i. check_stmt (context d site.place) site.place.scope (Batch i site.interface q.root q.block) ≡ Ok site.place.scope) (sym known.at)
+    (subst (λ r. check_stmt (context d site.place) site.place.scope (Batch site.at site.interface r q.block) ≡ Ok site.place.scope) (sym known.root)
+    (subst (λ k. check_stmt (context d site.place) site.place.scope (Batch site.at site.interface site.root k) ≡ Ok site.place.scope) (sym known.block) asked.typed)) in
     let noted : IsNotedStmt (type_at p) (context d site.place) site.place.scope (Batch q.at site.interface q.root q.block) =
-        subst (λ i. IsNotedStmt (type_at p) (context d site.place) site.place.scope (Batch i site.interface q.root q.block)) (sym known.at)
-        (subst (λ r. IsNotedStmt (type_at p) (context d site.place) site.place.scope (Batch site.at site.interface r q.block)) (sym known.root)
-        (subst (λ k. IsNotedStmt (type_at p) (context d site.place) site.place.scope (Batch site.at site.interface site.root k)) (sym known.block) known.noted)) in
+    subst (λ i. IsNotedStmt (type_at p) (context d site.place) site.place.scope (Batch i site.interface q.root q.block)) (sym known.at)
+    (subst (λ r. IsNotedStmt (type_at p) (context d site.place) site.place.scope (Batch site.at site.interface r q.block)) (sym known.root)
+    (subst (λ k. IsNotedStmt (type_at p) (context d site.place) site.place.scope (Batch site.at site.interface site.root k)) (sym known.block) known.noted)) in
     let formed : AreFormedStmts q.block = subst AreFormedStmts (sym known.block) (below.stmts_formed site.block (block_lawful site.block known.lawful.2)) in
     let declared' = declared below.laws below.stmts_formed below.classes_formed below.sends below.notes p lawful t none service s.server.table served in
     let remote : PerformsRemotePart p service q l s.server.table =
-        below.scripts p lawful checked none service s.server.table served site asked.may q (ap (batch_at p) (sym known.at) ∙ batch_found p lawful q known.among) l asked.fits in
+    below.scripts p lawful checked none service s.server.table served site asked.may q (ap (batch_at p) (sym known.at) ∙ batch_found p lawful q known.among) l asked.fits in
     subst (λ r. KeepsMeaning p service r l s) same
     (keeps_meaning below p lawful checked none zero_free service s served q known.among site.interface site.place known.agree (program_sited p t site asked.may).opens here noted formed (program_owned p declared' t site asked.may) l asked.fits remote)
   where

@@ -1,32 +1,26 @@
 -- How the code of a batch, its script and its replay go on together; and those of a statement that stays with the client.
-use Rattle.std.proofs.Common.{◌≡◌, ◌⊎◌, inl, inr, refl, sym, ap, ◌∙◌, subst, ℕ, suc, List, [], ◌∷◌, ◌++◌, Bool as Truth, true, false, cond, ◌||◌, Option, Some, None, Ok}
+use Rattle.std.proofs.Common.{◌≡◌, inl, inr, refl, sym, ap, ◌∙◌, subst, ℕ, suc, List, [], ◌∷◌, ◌++◌, true, false, cond, ◌||◌, Some}
 use Rattle.std.specs.List.{AllByRecursion, Contains, flat_map}
-use Rattle.std.proofs.lemmas.Bool.{and_parts}
-use Rattle.std.proofs.lemmas.List.Elements.{Contains-append_left, Contains-append_right}
-use Rattle.rb_trees.specs.declared.values.Value.{Value}
+use Rattle.std.proofs.lemmas.List.Elements.{Contains-append_left}
 use Rattle.rb_trees.specs.declared.outcomes.Raised.{Raised}
-use Rattle.rb_trees.specs.mirror.Code.{Expr, expr_at, Stmt, Stmts, Val, Var, Assign, Run as RunStmt, Print, Throw, If, While, For, Try, Batch}
+use Rattle.rb_trees.specs.mirror.Code.{Expr, expr_at, Stmt, Val, Var, Assign, Run as RunStmt, Print, Throw, If, While, For, Try, Batch}
 use Rattle.rb_trees.specs.mirror.Forests as forest
-use Rattle.rb_trees.specs.mirror.Scripts as script
-use Rattle.rb_trees.specs.mirror.Scripts.{Steps, NoSteps, MoreSteps}
+use Rattle.rb_trees.specs.mirror.Scripts.{Steps, NoSteps}
 use Rattle.rb_meaning_types.specs.Kinds.{Kind, is_primitive}
 use Rattle.rb_meaning_types.specs.Scopes as typed
-use Rattle.rb_meaning_types.specs.Expressions.{type_of}
 use Rattle.rb_meaning_types.specs.Notes.{type_at}
-use Rattle.rb_meaning_types.specs.Fits.{classes_of, Fits}
+use Rattle.rb_meaning_types.specs.Fits.{classes_of}
 use Rattle.rb_meaning_code.specs.State.{Local}
 use Rattle.rb_meaning_code.specs.Dialogue.{Outcome, Gave, Faulted, handle}
 use Rattle.rb_meaning_code.specs.Expressions.{evaluates}
-use Rattle.rb_meaning_code.specs.Statements.{performs, performs_all}
+use Rattle.rb_meaning_code.specs.Statements.{performs}
 use Rattle.rb_meaning_code.specs.Remote.{Server, Reply, Got, Stopped, and_then}
 use Rattle.rb_meaning_code.specs.ScriptRun as run
 use Rattle.rb_meaning_code.specs.ScriptRun.{Vars, Ran, kept, on_reply, with_entry, run_steps}
 use Rattle.rb_meaning_flow.specs.declared.scopes.Role.{Role}
-use Rattle.rb_meaning_flow.specs.Facts.{over_rows}
 use Rattle.rb_meaning_flow.specs.Scopes.{Scope, with_variable}
-use Rattle.rb_meaning_flow.specs.Portable.{portable, branches_hold}
-use Rattle.rb_meaning_flow.specs.Marks.{is_portable_call}
-use Rattle.rb_meaning_flow.specs.Sites.{Around, StmtSite, stmt_site, site, scope_after}
+use Rattle.rb_meaning_flow.specs.Portable.{portable}
+use Rattle.rb_meaning_flow.specs.Sites.{Around, stmt_site, site, scope_after}
 use Rattle.rb_meaning.specs.State.{Outside}
 use Rattle.rb_meaning.specs.Unsplit.{stands_remote, with_side}
 use Rattle.rb_meaning.specs.RemoteExprs.{remote_of}
@@ -37,7 +31,7 @@ use Rattle.rb_meaning_split.specs.Steps.{keeps}
 use Rattle.rb_meaning_split.specs.Parts as parts
 use Rattle.rb_meaning_split.specs.Replay as replay
 use Rattle.rb_meaning_split.specs.Replay.{Seen, in_replay, Replayed}
-use Rattle.rb_types_keep.specs.Ends.{Place, context, LocalFits, LocalHolds, Ends, Nothing, FitsPlace}
+use Rattle.rb_types_keep.specs.Ends.{Place, context, LocalHolds, Ends, Nothing, FitsPlace}
 use Rattle.rb_types_keep.specs.Formed.{IsFormedExpr}
 use Rattle.rb_types_keep.specs.Noted.{IsNotedExpr}
 use Rattle.rb_types_keep.specs.Code.{HasKind}
@@ -45,19 +39,19 @@ use Rattle.rb_unsplit_keeps.proofs.Admission.{stmt_first}
 use Rattle.rb_unsplit_keeps.proofs.Standing.{Within, within_left, within_right}
 use Rattle.rb_split_laws.proofs.Values.{value_same}
 use Rattle.rb_split_laws.proofs.Covered.{closed_of}
-use Rattle.rb_split_laws.proofs.Kept.{IsKept, Sent', kept_sent}
+use Rattle.rb_split_laws.proofs.Kept.{IsKept, kept_sent}
 use Rattle.rb_split_laws.proofs.Sent.{Sent}
 use Rattle.rb_local_laws.specs.Shown.{at_client, Fronts, LeftSeen}
-use Rattle.rb_local_laws.specs.Local.{HoldsTable, IsLocalAt, Stand, IsLocalStmt}
+use Rattle.rb_local_laws.specs.Local.{HoldsTable, IsLocalAt, Stand}
 use Rattle.rb_local_laws.specs.Admitted.{StaysWhole}
 use Rattle.rb_local_laws.specs.Meets.{far_side, keeping, FromOne, Met}
-use Rattle.rb_local_laws.specs.Wanted.{Wanted, AllWanted}
+use Rattle.rb_local_laws.specs.Wanted.{AllWanted}
 use Rattle.rb_local_laws.proofs.Portable.{local_of}
-use Rattle.rb_division_laws.specs.Faults.{EachFault, IsRemote, IsSent, StandsRemote, sent_of}
+use Rattle.rb_division_laws.specs.Faults.{EachFault, IsRemote, StandsRemote, sent_of}
 use Rattle.rb_division_laws.proofs.Lists.{each}
 use Rattle.rb_headline_laws.proofs.Overs.{Onto}
 use Rattle.rb_headline_laws.proofs.Written.{InScript}
-use Rattle.rb_headline_laws.proofs.Scene.{Scene, d, is, f, ss, x, place, h, code, Holds, admitted, At, Stands, stmt_ends, stmt_leaves, at_after}
+use Rattle.rb_headline_laws.proofs.Scene.{Scene, d, f, ss, x, place, h, code, Holds, admitted, At, Stands, stmt_ends, stmt_leaves, at_after}
 
 -- what follows in the script
 abbrev pub Onward : Type 0
@@ -173,11 +167,13 @@ module _ (c : Scene) where
       wanted : (es : List Expr) → AllByRecursion (SentHere vs ws) es → Within (flat_map (constants vs) es) c.inputs → AllWanted c.p c.service c.ground refs vars (HoldsTable c.service) (x c) ws l.names es
       wanted [] sent w = tt
       wanted (e ∷ es) sent w =
-          let one = sent.0 in
-          (record {
-            reads = λ step o holds. reads_same e one.sent one.formed (within_left (constants vs e) (flat_map (constants vs) es) c.inputs w) step o.server;
-            primitive = λ k t. let same : one.kind ≡ k = cc (sym one.typed_here ∙ t) in subst (λ q. is_primitive q ≡ true) same one.primitive;
-          }, wanted es sent.1 (within_right (constants vs e) (flat_map (constants vs) es) c.inputs w))
+          let one = sent.0 in (
+            record {
+              reads = λ step o holds. reads_same e one.sent one.formed (within_left (constants vs e) (flat_map (constants vs) es) c.inputs w) step o.server;
+              primitive = λ k t. let same : one.kind ≡ k = cc (sym one.typed_here ∙ t) in subst (λ q. is_primitive q ≡ true) same one.primitive;
+            },
+            wanted es sent.1 (within_right (constants vs e) (flat_map (constants vs) es) c.inputs w),
+          )
 
       -- a fault of what is kept is remote
       one_remote : (whole : StaysWhole (f c) vs s) (r : Raised) → FromOne c.p c.service c.ground refs vars c.gas (HoldsTable c.service) (IsLocalAt c.p) (remote_of (f c) vs s) r → IsRemote c.p r
@@ -193,18 +189,18 @@ module _ (c : Scene) where
       plain_goes whole n rest kr ke o holds =
           let go : Onward = λ vars1 s1. run_steps c.ground rest vars1 s1 kr in
           let local = (c.local c.p c.service c.fits here c.near).statements s after n l
-              (record {
-                typed = (stands.typed, stands.formed);
-                noted = (stands.noted, stands.admitted);
-                parted = (c.parted c.p c.fits.declared (ss c) (admitted c) (place c ws) c.near around vs s after
-                    (record { script = stands.script; typed = stands.typed; noted = stands.noted; within = stands.within; kinds = at.known.kinds; carries = at.known.carries })).parted whole;
-                placed = c.placed c.p (ss c) (admitted c) c.marks around vs s stands.within whole;
-              })
-              at.fits (wanted (remote_of (f c) vs s) (all_sent whole) (used_kept whole)) in
+          (record {
+            typed = (stands.typed, stands.formed);
+            noted = (stands.noted, stands.admitted);
+            parted = (c.parted c.p c.fits.declared (ss c) (admitted c) (place c ws) c.near around vs s after
+                (record { script = stands.script; typed = stands.typed; noted = stands.noted; within = stands.within; kinds = at.known.kinds; carries = at.known.carries })).parted whole;
+            placed = c.placed c.p (ss c) (admitted c) c.marks around vs s stands.within whole;
+          })
+          at.fits (wanted (remote_of (f c) vs s) (all_sent whole) (used_kept whole)) in
           let ends = stmt_ends c around vs ws after s stands refs m vars l at o holds in
           let inner = keeping c.p c.service c.ground refs vars c.gas (HoldsTable c.service) (IsLocalAt c.p) n (remote_of (f c) vs s) o.server go in
           subst (λ ran. Goes refs m (scope_after (f c) [] vs s) ws after (handle (h c) (performs (code c) c.gas s l) o) ran
-              (replay.replay c.p.classes c.gas (parts.plain c.p vs n s) (at_client (x c) ws l) (at_node o ran) ke) go ke)
+          (replay.replay c.p.classes c.gas (parts.plain c.p vs n s) (at_client (x c) ws l) (at_node o ran) ke) go ke)
           (sym (keeps_rest refs (remote_of (f c) vs s) n rest vars o.server kr))
           (by go (handle (h c) (performs (code c) c.gas s l) o) _ inner ends.0 ends.1 (stmt_leaves c around vs ws after s stands refs m vars l at o) (local.met o.events o.server go holds))
         where

@@ -1,9 +1,8 @@
 -- The code of a batch, its script and its replay go on together, statement by statement.
-use Rattle.std.proofs.Common.{◌≡◌, ◌≤◌, ◌⊎◌, inl, inr, refl, sym, ap, ◌∙◌, subst, ℕ, suc, ◌-◌, List, [], ◌∷◌, ◌++◌, Bool as Truth, true, false, cond, ◌&&◌, Some, Ok}
+use Rattle.std.proofs.Common.{◌≡◌, ◌≤◌, ◌⊎◌, inl, inr, refl, sym, ap, ◌∙◌, subst, ℕ, suc, ◌-◌, List, [], ◌∷◌, ◌++◌, Bool as Truth, true, false, cond, ◌&&◌, Ok}
 use Rattle.std.specs.List.{Contains}
 use Rattle.std.proofs.lemmas.List.Elements.{Contains-append_right}
 use Rattle.rb_trees.specs.Outcome.{◌>>=◌}
-use Rattle.rb_trees.specs.declared.values.Value.{Value}
 use Rattle.rb_trees.specs.declared.values.Value.TheViews.{out-Value}
 use Rattle.rb_trees.specs.mirror.Code.{Expr, expr_at, Stmt, Stmts, Val, Var, Assign, Run as RunStmt, Print, Throw, If, While, For, Try, Batch, NoStmts, MoreStmts}
 use Rattle.rb_trees.specs.mirror.Declarations.{Interface}
@@ -13,7 +12,7 @@ use Rattle.rb_trees.specs.mirror.Scripts.{Steps, MoreSteps}
 use Rattle.rb_meaning_types.specs.Kinds as kind
 use Rattle.rb_meaning_types.specs.Kinds.{Kind, is_primitive}
 use Rattle.rb_meaning_types.specs.Scopes as typed
-use Rattle.rb_meaning_types.specs.Statements.{placed, loop_scope, check_stmt, check_stmts}
+use Rattle.rb_meaning_types.specs.Statements.{placed, loop_scope, check_stmt}
 use Rattle.rb_meaning_types.specs.Notes.{scope_or, type_at}
 use Rattle.rb_meaning_bytes.specs.Fits.{is_kept}
 use Rattle.rb_meaning_code.specs.State.{Local, bound}
@@ -29,15 +28,15 @@ use Rattle.rb_meaning_flow.specs.Portable.{portable, branches_hold}
 use Rattle.rb_meaning_flow.specs.Marks.{is_remote_whole}
 use Rattle.rb_meaning_flow.specs.Sites.{Around, Branch, Turn, is_script_place, own, stmt_site, scope_after, sites, block_sites}
 use Rattle.rb_meaning.specs.State.{Outside}
-use Rattle.rb_meaning.specs.CallKinds.{kind_noted, call_kind}
+use Rattle.rb_meaning.specs.CallKinds.{kind_noted}
 use Rattle.rb_meaning.specs.RemoteExprs.{remote_of}
 use Rattle.rb_meaning_split.specs.Refs.{Refs, with_var, sexpr}
 use Rattle.rb_meaning_split.specs.Inputs.{constants, used, used_in, kept_constants}
 use Rattle.rb_meaning_split.specs.Numbers.{kept_after, step_after, steps_after, var_after, vars_after}
-use Rattle.rb_meaning_split.specs.Steps.{refs_after, keeps, steps, block_steps}
+use Rattle.rb_meaning_split.specs.Steps.{refs_after, keeps, block_steps}
 use Rattle.rb_meaning_split.specs.Parts as parts
 use Rattle.rb_meaning_split.specs.Replay as replay
-use Rattle.rb_types_keep.specs.Own.{IsFarItem, IsFarKind}
+use Rattle.rb_types_keep.specs.Own.{IsFarItem}
 use Rattle.rb_types_keep.specs.Noted.{AreNotedStmts}
 use Rattle.rb_types_keep.specs.Admitted.{AreAdmittedStmts}
 use Rattle.rb_unsplit_keeps.proofs.Admission.{stmt_first, within_tail}
@@ -51,22 +50,21 @@ use Rattle.rb_split_laws.proofs.Later.{AllLater, later_up, fault_in, grows_block
 use Rattle.rb_split_laws.proofs.NoUnit.{NoUnit}
 use Rattle.rb_split_laws.proofs.Numbers.{le_trans, suc_le, vars_grow}
 use Rattle.rb_split_laws.proofs.Walk.{item_kind}
-use Rattle.rb_local_laws.specs.Shown.{is_far, at_client}
-use Rattle.rb_local_laws.specs.Admitted.{IsKnownKind, AreKnownScopes}
+use Rattle.rb_local_laws.specs.Shown.{at_client}
 use Rattle.rb_local_laws.proofs.Meeting.{handle_seq}
 use Rattle.rb_local_laws.proofs.Portable.{local_of}
 use Rattle.rb_local_laws.proofs.Statements.{stmt_extends, stmts_extends}
-use Rattle.rb_division_laws.specs.Faults.{EachFault, IsRemote, sent_of}
+use Rattle.rb_division_laws.specs.Faults.{sent_of}
 use Rattle.rb_division_laws.proofs.Held.{kept_rows}
-use Rattle.rb_headline_laws.proofs.Overs.{Onto, over_more, over_trans, stmts_from}
+use Rattle.rb_headline_laws.proofs.Overs.{over_more, over_trans, stmts_from}
 use Rattle.rb_headline_laws.proofs.Written.{InScript, written_left, written_right, stmt_free, stmts_free}
 use Rattle.rb_headline_laws.proofs.Scene.{Scene, d, is, f, ss, x, place, h, code, Holds, written, At, Stands, AllStand}
-use Rattle.rb_headline_laws.proofs.Goes.{Onward, Went, Goes, at_node, sent_faults, plain_goes}
-use Rattle.rb_headline_laws.proofs.Worth.{value, Worth, worth, far_here, other_far, at_bound}
+use Rattle.rb_headline_laws.proofs.Goes.{Onward, Goes, at_node, sent_faults, plain_goes}
+use Rattle.rb_headline_laws.proofs.Worth.{value, worth, far_here, other_far, at_bound}
 use Rattle.rb_headline_laws.proofs.Vals.{StmtGoes, val_goes, run_goes}
-use Rattle.rb_headline_laws.proofs.Blocks.{Done, BlockGoes, block_same, block_less, went_less, at_up}
-use Rattle.rb_headline_laws.proofs.Choices.{BranchGoes, if_goes}
-use Rattle.rb_headline_laws.proofs.Turning.{TurnGoes, each_goes}
+use Rattle.rb_headline_laws.proofs.Blocks.{Done, BlockGoes, block_same, block_less, at_up}
+use Rattle.rb_headline_laws.proofs.Choices.{if_goes}
+use Rattle.rb_headline_laws.proofs.Turning.{each_goes}
 
 item_no_unit : (interfaces : List Interface) (k : Kind) → IsFarItem interfaces k → NoUnit k
 item_no_unit interfaces kind.Int h = refl

@@ -11,17 +11,17 @@ use Rattle.rb_trees.specs.declared.values.Value.TheViews.{out-Value}
 use Rattle.rb_trees.specs.declared.values.Fault.{Fault}
 use Rattle.rb_trees.specs.declared.outcomes.Raised.{Raised}
 use Rattle.rb_trees.specs.mirror.Code.{Expr, Exprs, Lit, Name, This, Unary, Binary, Field, Call, Index, New, Items, Taken, NoExprs, MoreExprs, Stmt, Stmts, Val, Var, Assign, Run as RunStmt, Print, Throw, If, While, For, Try, Batch, NoStmts, MoreStmts}
-use Rattle.rb_trees.specs.mirror.Declarations.{Program, Method}
+use Rattle.rb_trees.specs.mirror.Declarations.{Program}
 use Rattle.rb_trees.specs.mirror.Services.{Service}
-use Rattle.rb_meaning_code.specs.Faults.{raised, raises, caught_text, is_caught}
+use Rattle.rb_meaning_code.specs.Faults.{raises, caught_text, is_caught}
 use Rattle.rb_meaning_code.specs.Operators.{on_one, on_two, by_left, shown_value}
 use Rattle.rb_meaning_code.specs.State.{Names, Local, bound, closed, spent}
 use Rattle.rb_meaning_code.specs.Dialogue as ask
 use Rattle.rb_meaning_code.specs.Dialogue.{Question, Outcome, Gave, Faulted, Done, Ask, AskBatch, Run, Handler, handle, seq, on, next, gives, end, told}
 use Rattle.rb_meaning_code.specs.Objects.{field_of, with_field_of, constructed}
 use Rattle.rb_meaning_code.specs.Calls.{Bodies, called_method, unit_due, call_fits, names_within, entered, left, call, called}
-use Rattle.rb_meaning_code.specs.Expressions.{value_of, indexed, list_of, decided_or, constructs, evaluates, evaluates_all}
-use Rattle.rb_meaning_code.specs.Statements.{Effect, nothing, closes, block, truth_of, either, by_truth, after_unit, while_turns, turns_over, list_turn, row_turn, turns, prints, throws, handles, assigned, assigns, writes, assignment, performs, performs_all}
+use Rattle.rb_meaning_code.specs.Expressions.{value_of, indexed, list_of, decided_or, evaluates, evaluates_all}
+use Rattle.rb_meaning_code.specs.Statements.{Effect, nothing, closes, block, truth_of, either, by_truth, after_unit, while_turns, turns_over, list_turn, row_turn, turns, prints, handles, assigns, writes, assignment, performs, performs_all}
 use Rattle.rb_meaning_flow.specs.Scopes.{assigned_variable, assigned_by, assigned_in}
 use Rattle.rb_meaning.specs.State.{Outside}
 use Rattle.rb_meaning.specs.Unsplit.{in_batch}

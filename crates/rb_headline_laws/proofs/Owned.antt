@@ -1,10 +1,10 @@
 -- Batches stand where all names are of the own side.
-use Rattle.std.proofs.Common.{◌≡◌, ◌⊎◌, inl, inr, ap, subst, ℕ, List, [], ◌∷◌, ◌++◌, Bool as Truth, true, false, Option, Some, None, Ok}
+use Rattle.std.proofs.Common.{◌≡◌, ◌⊎◌, inl, inr, ap, subst, ℕ, List, [], ◌∷◌, Bool as Truth, true, false, Option, Some, None, Ok}
 use Rattle.std.specs.List.{All, Contains, flat_map}
 use Rattle.std.proofs.lemmas.List.Elements.{All-head, All-tail}
 use Rattle.rb_trees.specs.Outcome.{◌>>=◌}
 use Rattle.rb_trees.specs.mirror.Code.{Stmt, Stmts, Val, Var, Assign, Run, Print, Throw, If, While, For, Try, Batch, NoStmts, MoreStmts}
-use Rattle.rb_trees.specs.mirror.Declarations.{Interface, Param, Method, Class, Program}
+use Rattle.rb_trees.specs.mirror.Declarations.{Interface, Method, Class, Program}
 use Rattle.rb_meaning_types.specs.Kinds as kind
 use Rattle.rb_meaning_types.specs.Kinds.{Kind}
 use Rattle.rb_meaning_types.specs.Names.{interface_named}
@@ -14,7 +14,7 @@ use Rattle.rb_meaning_types.specs.Scopes.{parameters}
 use Rattle.rb_meaning_types.specs.Statements.{placed, loop_scope, catch_scope, check_stmt, check_stmts}
 use Rattle.rb_meaning_types.specs.Bodies.{check_method_body, check_method_bodies, check_class_bodies}
 use Rattle.rb_meaning_types.specs.Notes.{scope_or}
-use Rattle.rb_types_keep.specs.Own.{IsOwnKind, IsOwnScope, IsOwnPlace}
+use Rattle.rb_types_keep.specs.Own.{IsOwnKind, IsOwnPlace}
 use Rattle.rb_types_keep.specs.Ends.{context}
 use Rattle.rb_types_keep.specs.Asked.{Site}
 use Rattle.rb_types_keep.specs.Batches.{sites, sites_in}

@@ -1,27 +1,22 @@
 -- Where the code of a batch stands, and what is known there.
-use Rattle.std.proofs.Common.{◌≡◌, ◌≤◌, ◌⊎◌, refl, sym, ap, ◌∙◌, subst, ℕ, List, [], ◌∷◌, ◌++◌, Bool as Truth, true, false, cond, Option, Some, None, Ok}
+use Rattle.std.proofs.Common.{◌≡◌, refl, sym, ap, subst, ℕ, List, [], Bool as Truth, true, false, cond, Option, Ok}
 use Rattle.std.specs.List.{Contains}
-use Rattle.rb_trees.specs.Named.{lookup}
 use Rattle.rb_trees.specs.declared.values.Value.{Value}
 use Rattle.rb_trees.specs.declared.refusals.Refusal.{Refusal}
 use Rattle.rb_trees.specs.mirror.Code.{Expr, Stmt, Stmts, Val, Var, Assign, Run, Print, Throw, If, While, For, Try, Batch}
 use Rattle.rb_trees.specs.mirror.Declarations.{Program, Interface}
 use Rattle.rb_trees.specs.mirror.Services.{Service}
-use Rattle.rb_meaning_types.specs.Kinds.{Kind}
-use Rattle.rb_meaning_types.specs.Violations.{Checked}
 use Rattle.rb_meaning_types.specs.Declared.{Declarations, Context, of_program}
 use Rattle.rb_meaning_types.specs.Scopes as typed
-use Rattle.rb_meaning_types.specs.Expressions.{type_of}
 use Rattle.rb_meaning_types.specs.Statements.{check_stmt, check_stmts}
 use Rattle.rb_meaning_types.specs.Notes.{type_at}
 use Rattle.rb_meaning_types.specs.Programs.{check_service}
-use Rattle.rb_meaning_types.specs.Fits.{classes_of, Fits}
+use Rattle.rb_meaning_types.specs.Fits.{classes_of}
 use Rattle.rb_meaning_code.specs.State.{Local}
-use Rattle.rb_meaning_code.specs.Dialogue.{Outcome, Gave, Faulted, Handler, handle}
+use Rattle.rb_meaning_code.specs.Dialogue.{Handler, handle}
 use Rattle.rb_meaning_code.specs.Calls.{Bodies}
-use Rattle.rb_meaning_code.specs.Statements.{performs, performs_all}
+use Rattle.rb_meaning_code.specs.Statements.{performs}
 use Rattle.rb_meaning_code.specs.Bodies.{bodies_of}
-use Rattle.rb_meaning_code.specs.Remote.{Server}
 use Rattle.rb_meaning_code.specs.ScriptRun.{Ground, Vars}
 use Rattle.rb_meaning_flow.specs.declared.scopes.Role.{Role}
 use Rattle.rb_meaning_flow.specs.Facts.{Facts, facts_of}
@@ -32,8 +27,7 @@ use Rattle.rb_meaning_flow.specs.Outermost.{Outermost, batch_sites, program_batc
 use Rattle.rb_meaning_flow.specs.Refusals.{IsRefusal}
 use Rattle.rb_meaning.specs.State.{Outside}
 use Rattle.rb_meaning.specs.Unsplit.{in_batch}
-use Rattle.rb_meaning.specs.RemotePart as part
-use Rattle.rb_meaning_split.specs.Refs.{Ref, Refs}
+use Rattle.rb_meaning_split.specs.Refs.{Refs}
 use Rattle.rb_meaning_split.specs.Inputs.{used, used_in}
 use Rattle.rb_flow.specs.Laws.{SendsPortable}
 use Rattle.rb_types_keep.specs.Formed.{IsFormedStmt, AreFormedStmts, AreFormed}
@@ -47,16 +41,16 @@ use Rattle.rb_unsplit_keeps.proofs.Parts.{val_parts, var_parts, run_parts, throw
 use Rattle.rb_unsplit_keeps.proofs.Standing.{Within}
 use Rattle.rb_unsplit_keeps.proofs.Walked.{script_scope}
 use Rattle.rb_unsplit_keeps.proofs.Walking.{Laws}
-use Rattle.rb_split_laws.proofs.Linked.{IsFound, IsRead, Linked}
+use Rattle.rb_split_laws.proofs.Linked.{IsFound, Linked}
 use Rattle.rb_split_laws.proofs.Kept.{val_no_unit, var_no_unit}
 use Rattle.rb_split_laws.proofs.Joined.{Joined, joined_plain}
 use Rattle.rb_local_laws.specs.Local.{HoldsTable, FitsService, IsNearThis, LocalCodeDoesTheSame}
-use Rattle.rb_local_laws.specs.Admitted.{IsAdmittedBatch, CallsArePortable, StaysWhole, AreKnownScopes, AdmittedAreParted, TurnsBeginKnown, TypesAreKnown, IsKnownStmt}
+use Rattle.rb_local_laws.specs.Admitted.{IsAdmittedBatch, CallsArePortable, StaysWhole, AreKnownScopes, AdmittedAreParted, TurnsBeginKnown, TypesAreKnown}
 use Rattle.rb_local_laws.specs.Marked.{HasMarks, AdmittedArePlaced}
 use Rattle.rb_local_laws.proofs.Portable.{local_of}
 use Rattle.rb_division_laws.specs.Faults.{EachFault, IsRemote, IsSent, SentIsRemote}
 use Rattle.rb_meaning_code.specs.Expressions.{evaluates}
-use Rattle.rb_headline_laws.proofs.Overs.{Onto, Unkept, over_look, stmt_from}
+use Rattle.rb_headline_laws.proofs.Overs.{Onto, over_look, stmt_from}
 use Rattle.rb_headline_laws.proofs.Written.{Written, Held, held_after, stmt_free, InScript}
 
 -- A batch of an admitted program on a service, with the laws of its code, and what its script runs on.
@@ -176,7 +170,7 @@ module _ (c : Scene) where
     pub known_after : AreKnownScopes d (scope_after f [] vs s) after
     known_after =
         let known = c.parted c.p c.fits.declared ss admitted (place ws) c.near around vs s after
-            (record { script = stands.script; typed = stands.typed; noted = stands.noted; within = stands.within; kinds = at.known.kinds; carries = at.known.carries }) in
+        (record { script = stands.script; typed = stands.typed; noted = stands.noted; within = stands.within; kinds = at.known.kinds; carries = at.known.carries }) in
         subst (λ i. AreKnownScopes d i after) (script_scope f around vs s stands.script) (record { kinds = known.kinds; carries = known.carries })
 
     plain_role : (e : Expr) → portable f vs e ≡ false → (name : List ℕ) (place : ℕ) → with_variable vs name Role.Plain place ≡ with_variable vs name (cond (portable f vs e) Role.Carried Role.Plain) place

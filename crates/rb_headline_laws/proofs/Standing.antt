@@ -6,13 +6,12 @@ use Rattle.rb_trees.specs.mirror.Code.{Expr, Exprs, Lit, Name, This, Unary, Bina
 use Rattle.rb_trees.specs.mirror.Declarations.{Body, Method, Class, Program}
 use Rattle.rb_meaning_types.specs.Lawful.{IsLawful, expr_positions, exprs_positions, return_positions}
 use Rattle.rb_meaning_flow.specs.declared.scopes.Role.{Role}
-use Rattle.rb_meaning_flow.specs.Facts.{Facts, facts_of, is_remote}
+use Rattle.rb_meaning_flow.specs.Facts.{Facts, facts_of}
 use Rattle.rb_meaning_flow.specs.Flow.{is_call}
 use Rattle.rb_meaning_flow.specs.Scopes.{Scope, with_variable, opened}
 use Rattle.rb_meaning_flow.specs.Portable.{portable, all_portable}
-use Rattle.rb_meaning_flow.specs.Sites.{Around, Branch, WhileTurn, Turn, InTry, InBatch, StmtSite, ExprSite, turn_role, stmt_site, scope_after, sites, block_sites, exprs_of}
+use Rattle.rb_meaning_flow.specs.Sites.{Around, Branch, WhileTurn, Turn, InTry, InBatch, StmtSite, turn_role, scope_after, sites, block_sites}
 use Rattle.rb_meaning_flow.specs.Outermost.{Outermost, batch_sites, program_batches}
-use Rattle.rb_meaning_flow.specs.Programs.{sites_of}
 use Rattle.rb_meaning.specs.Unsplit.{stands_remote}
 use Rattle.rb_marks.specs.Laws.{EachHasItsMark, NoMarkElsewhere}
 use Rattle.rb_flow.specs.Laws.{SendsPortable, sent_by_call, items_of}
@@ -23,7 +22,7 @@ use Rattle.rb_local_laws.specs.Placed.{PlacedExpr, PlacedExprs, PlacedStmt, Plac
 use Rattle.rb_local_laws.specs.Admitted.{CallsArePortable}
 use Rattle.rb_local_laws.specs.Marked.{HasMarks}
 use Rattle.rb_division_laws.proofs.Lists.{each, all_both, all_left, all_right}
-use Rattle.rb_division_laws.proofs.Parted.{stmt_ats, stmts_ats, free_at, free_in, free_body, free_methods, free_classes, free_ats}
+use Rattle.rb_division_laws.proofs.Parted.{stmt_ats, stmts_ats, free_at, free_in, free_body, free_methods, free_classes}
 use Rattle.rb_division_laws.proofs.Unmarked.{Unmarked, free_unmarked, block_unmarked}
 
 module _ (p : Program) where
@@ -147,7 +146,7 @@ module _ (p : Program) where
       by : (e : Expr) → s.expr ≡ e → is_call f e ≡ true → portable f s.stands.scope e ≡ true
       by (Call at a method args) same remote =
           let sent : (q : Expr) → Contains (a ∷ items_of args) q → portable f s.stands.scope q ≡ true =
-              λ q among. sends.calls s is q (subst (λ z. Contains (sent_by_call f z) q) (sym same) (subst (λ t. Contains (cond t (a ∷ items_of args) []) q) (sym remote) among)) in
+          λ q among. sends.calls s is q (subst (λ z. Contains (sent_by_call f z) q) (sym same) (subst (λ t. Contains (cond t (a ∷ items_of args) []) q) (sym remote) among)) in
           ap (λ t. (t && portable f s.stands.scope a) && all_portable f s.stands.scope args) remote
           ∙ ap (λ t. t && all_portable f s.stands.scope args) (sent a (first_contained a (items_of args)))
           ∙ all_of s.stands.scope args (λ q among. sent q (more_contained a (items_of args) q among))

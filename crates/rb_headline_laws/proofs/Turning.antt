@@ -1,5 +1,5 @@
 -- A loop over rows of a batch: where it stands, in the script and in the replay.
-use Rattle.std.proofs.Common.{◌≡◌, ◌≤◌, ◌⊎◌, inl, inr, refl, sym, ap, ◌∙◌, subst, ℕ, zero, suc, ◌-◌, List, [], ◌∷◌, ◌++◌, length, Bool as Truth, true, false, cond, ◌||◌, Option, Some, None, Result, Ok, Err, arith}
+use Rattle.std.proofs.Common.{◌≡◌, ◌≤◌, ◌⊎◌, inl, inr, refl, sym, ap, ◌∙◌, subst, ℕ, zero, suc, ◌-◌, List, [], ◌∷◌, length, Bool as Truth, true, false, Option, Some, None, arith}
 use Rattle.std.specs.List.{All}
 use Rattle.std.proofs.lemmas.List.Elements.{All-head, All-tail}
 use Rattle.rb_trees.specs.declared.values.Value.{Value}
@@ -8,7 +8,7 @@ use Rattle.rb_trees.specs.declared.values.Value.TheVariants as value
 use Rattle.rb_trees.specs.declared.values.Value.TheViews.{out-Value}
 use Rattle.rb_trees.specs.declared.values.Fault.{Fault}
 use Rattle.rb_trees.specs.declared.outcomes.Raised.{Raised}
-use Rattle.rb_trees.specs.mirror.Code.{Expr, Stmts}
+use Rattle.rb_trees.specs.mirror.Code.{Stmts}
 use Rattle.rb_trees.specs.mirror.Forests as forest
 use Rattle.rb_trees.specs.mirror.Forests.{Node, Nodes, Holds as Held, NoEntries, MoreEntries, NoNodes, MoreNodes}
 use Rattle.rb_trees.specs.mirror.Remainders as part
@@ -18,42 +18,37 @@ use Rattle.rb_meaning_types.specs.Kinds.{Kind, is_primitive}
 use Rattle.rb_meaning_types.specs.Scopes as typed
 use Rattle.rb_meaning_types.specs.Fits.{AreRows, Fits}
 use Rattle.rb_meaning_bytes.specs.Fits.{is_kept}
-use Rattle.rb_meaning_code.specs.Faults.{fuel_used, raised_remotely, raises}
+use Rattle.rb_meaning_code.specs.Faults.{fuel_used, raised_remotely}
 use Rattle.rb_meaning_code.specs.State.{Local, bound, closed}
-use Rattle.rb_meaning_code.specs.Dialogue as ask
 use Rattle.rb_meaning_code.specs.Dialogue.{Outcome, Gave, Faulted, Run, handle, on, next, told}
 use Rattle.rb_meaning_code.specs.Calls.{unit_due}
 use Rattle.rb_meaning_code.specs.Statements.{closes, block, row_turn, turns_over, turns, performs_all}
-use Rattle.rb_meaning_code.specs.Remote.{Server, Reply, Got, Stopped, and_then, replies, rows_in}
+use Rattle.rb_meaning_code.specs.Remote.{Server, Reply, Got, and_then, replies, rows_in}
 use Rattle.rb_meaning_code.specs.ScriptRun as run
 use Rattle.rb_meaning_code.specs.ScriptRun.{Vars, Ran, Turned, Why, AllDone, InTurn, NoUnit, in_front, kept, on_reply, with_entry, with_kept, rows_of, turned_on, turn_over, after_turns, walked, run_steps}
-use Rattle.rb_meaning_flow.specs.declared.scopes.Role.{Role}
-use Rattle.rb_meaning_flow.specs.Scopes.{Scope, with_variable, assigned_in}
+use Rattle.rb_meaning_flow.specs.Scopes.{Scope}
 use Rattle.rb_meaning.specs.State.{Event, Outside}
 use Rattle.rb_meaning.specs.Unsplit.{with_side, with_answer}
-use Rattle.rb_meaning.specs.RemoteAnswers.{unit_of, answer_of}
-use Rattle.rb_meaning_split.specs.Refs.{Refs, with_var}
+use Rattle.rb_meaning.specs.RemoteAnswers.{answer_of}
+use Rattle.rb_meaning_split.specs.Refs.{Refs}
 use Rattle.rb_meaning_split.specs.Replay as replay
 use Rattle.rb_meaning_split.specs.Replay.{Seen, Replayed, fault_at, taken}
-use Rattle.rb_types_keep.specs.Own.{IsFarKind}
 use Rattle.rb_types_keep.specs.Ends.{LocalFits}
-use Rattle.rb_types_keep.proofs.Stmts.{binds}
 use Rattle.rb_split_laws.proofs.Alike.{kept_got}
 use Rattle.rb_split_laws.proofs.Joined.{fits_primitive}
 use Rattle.rb_split_laws.proofs.Later.{AllLater, none_here}
 use Rattle.rb_local_laws.specs.Shown.{is_far, at_client}
-use Rattle.rb_local_laws.specs.Admitted.{AreKnownScopes}
 use Rattle.rb_local_laws.specs.Meets.{far_side}
 use Rattle.rb_local_laws.proofs.Meeting.{handle_seq}
 use Rattle.rb_local_laws.proofs.Names.{Extends, seen_bound, fronts_same}
 use Rattle.rb_local_laws.proofs.Closing.{extends_with}
 use Rattle.rb_local_laws.proofs.Portable.{local_of}
 use Rattle.rb_division_laws.specs.Faults.{EachFault, IsRemote}
-use Rattle.rb_headline_laws.proofs.Overs.{Onto, Unkept, over_more, over_take, over_trans, stmts_from}
+use Rattle.rb_headline_laws.proofs.Overs.{Onto, over_take}
 use Rattle.rb_headline_laws.proofs.Written.{InScript}
-use Rattle.rb_headline_laws.proofs.Scene.{Scene, d, f, is, x, h, code, Holds, At, at_moved}
-use Rattle.rb_headline_laws.proofs.Goes.{Onward, side_far, Went, Goes, at_node}
-use Rattle.rb_headline_laws.proofs.Worth.{Worth, seen_far, primitive_near, at_bound}
+use Rattle.rb_headline_laws.proofs.Scene.{Scene, d, is, x, h, code, Holds, At, at_moved}
+use Rattle.rb_headline_laws.proofs.Goes.{Onward, Went, Goes, at_node}
+use Rattle.rb_headline_laws.proofs.Worth.{Worth, seen_far, primitive_near}
 use Rattle.rb_headline_laws.proofs.Carried.{stop, stops_here, unless_stops, value_front, stop_went}
 use Rattle.rb_headline_laws.proofs.Blocks.{behind_done, behind_fell, BlockGoes, at_up, close_fits, close_client, close_done}
 
@@ -264,7 +259,7 @@ module _ (c : Scene) (refs : Refs) (m : ℕ) (vs : Scope) (ws : typed.Scope) (va
             (subst (λ q. TurnsGo q (turned_on (with_kept keep row r).node r.fault r.server (run.turns run_turn rows)) (λ rest k. replays (turned_on (with_kept keep row r).node r.fault r.server (run.turns run_turn rows)).nodes (client l) o.events rest k))
             (sym (handle_seq (h c) (block (λ l2. effect (bound name row l2)) l) (on (later_turns rows)) o1 ∙ ap (λ q. handle (h c) (on (later_turns rows) q.0) q.1) (handle_seq (h c) (effect (bound name row l)) (closes (length l.names)) o1)))
             (subst (λ ev. TurnsGo (handle (h c) (on (later_turns rows) (handle (h c) (closes (length l.names) w.0) w.1).0) (handle (h c) (closes (length l.names) w.0) w.1).1) (turned_on (with_kept keep row r).node r.fault r.server (run.turns run_turn rows))
-                (λ rest k. replays (turned_on (with_kept keep row r).node r.fault r.server (run.turns run_turn rows)).nodes (client l) ev rest k)) e
+            (λ rest k. replays (turned_on (with_kept keep row r).node r.fault r.server (run.turns run_turn rows)).nodes (client l) ev rest k)) e
             (ended_turn row rows more l at o1 w (each.goes row l o1 fits at holds1) (each.over row l o1))))))
 
         by : (fuel : ℕ) → o.server.fuel ≡ fuel → TurnsGo (begun row rows l o (and_then (replies position (unit_due fuel) o.server) (λ u s1. Got value.Unit (record s1 { fuel = s1.fuel - 1 })))) (run.with_unit fuel o.server (made row rows)) (λ rest k. replays (run.with_unit fuel o.server (made row rows)).nodes (client l) o.events rest k)
@@ -344,8 +339,8 @@ module _ (c : Scene) (refs : Refs) (m : ℕ) (vs : Scope) (ws : typed.Scope) (va
           let turned' = run.turns run_turn t.rows s1.server in
           let ran = walked n position turned' (λ s2. go vars s2) in
           let got : each_ran reply ≡ ran =
-              ap (λ q. on_reply n (and_then q (rows_of position)) (λ rows s1. walked n position (run.turns run_turn rows s1) (λ s2. go vars s2))) worth.1
-              ∙ ap (λ q. on_reply n (replies position (rows_in q) s1.server) (λ rows s1. walked n position (run.turns run_turn rows s1) (λ s2. go vars s2))) t.is in
+          ap (λ q. on_reply n (and_then q (rows_of position)) (λ rows s1. walked n position (run.turns run_turn rows s1) (λ s2. go vars s2))) worth.1
+          ∙ ap (λ q. on_reply n (replies position (rows_in q) s1.server) (λ rows s1. walked n position (run.turns run_turn rows s1) (λ s2. go vars s2))) t.is in
           let went = turns_go t.rows t.fit l s1 at worth.4 in
           subst (λ z. Goes c refs m' vs ws ws (handle (h c) (loops v z) s1) (each_ran reply) (replayed_loop o (each_ran reply)) go ke) (sym worth.0)
           (subst (λ q. Goes c refs m' vs ws ws (handle (h c) (turns position name q effect l) s1) (each_ran reply) (replayed_loop o (each_ran reply)) go ke) (sym t.is)

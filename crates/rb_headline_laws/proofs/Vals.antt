@@ -1,5 +1,5 @@
 -- A val and an expression alone at a script place, carried or not.
-use Rattle.std.proofs.Common.{◌≡◌, ◌≤◌, refl, sym, ap, ◌∙◌, subst, ℕ, suc, List, [], ◌∷◌, ◌++◌, Bool as Truth, true, false, cond, ◌&&◌, Ok}
+use Rattle.std.proofs.Common.{◌≡◌, refl, sym, ap, ◌∙◌, subst, ℕ, suc, List, [], ◌∷◌, ◌++◌, Bool as Truth, true, false, cond, ◌&&◌, Ok}
 use Rattle.std.specs.List.{Contains, flat_map}
 use Rattle.std.proofs.lemmas.Bool.{and_parts}
 use Rattle.std.proofs.lemmas.List.Elements.{Contains-append_left}
@@ -17,8 +17,8 @@ use Rattle.rb_meaning_code.specs.State.{Local, bound}
 use Rattle.rb_meaning_code.specs.Dialogue.{Outcome, Gave, Faulted, handle, on}
 use Rattle.rb_meaning_code.specs.Expressions.{evaluates}
 use Rattle.rb_meaning_code.specs.Statements.{nothing, performs}
-use Rattle.rb_meaning_code.specs.Remote.{Server, Reply}
-use Rattle.rb_meaning_code.specs.ScriptRun.{Vars, Ran, run_steps}
+use Rattle.rb_meaning_code.specs.Remote.{Reply}
+use Rattle.rb_meaning_code.specs.ScriptRun.{Vars, run_steps}
 use Rattle.rb_meaning_flow.specs.declared.scopes.Role.{Role}
 use Rattle.rb_meaning_flow.specs.Scopes.{Scope, with_variable}
 use Rattle.rb_meaning_flow.specs.Portable.{portable, holds_call}
@@ -45,8 +45,8 @@ use Rattle.rb_split_laws.proofs.NoUnit.{NoUnit}
 use Rattle.rb_split_laws.proofs.Later.{AllLater}
 use Rattle.rb_split_laws.proofs.Walk.{one_remote}
 use Rattle.rb_local_laws.specs.Shown.{at_client, SameNames, FellSame}
-use Rattle.rb_local_laws.specs.Local.{HoldsTable, IsLocalAt, Stand, IsLocalExpr}
-use Rattle.rb_local_laws.specs.Admitted.{StaysWhole, AreKnownScopes}
+use Rattle.rb_local_laws.specs.Local.{HoldsTable, IsLocalAt, Stand}
+use Rattle.rb_local_laws.specs.Admitted.{AreKnownScopes}
 use Rattle.rb_local_laws.specs.Parted.{IsNear}
 use Rattle.rb_local_laws.specs.Meets.{Meets}
 use Rattle.rb_local_laws.specs.Wanted.{AllWanted}
@@ -98,13 +98,13 @@ module _ (c : Scene) (around : List Around) (vs : Scope) (ws after : typed.Scope
         let empty = nothing_taken (f c) vs e none in
         let near : IsNear (f c) vs (x c) ws e = λ k' t'. let same : k ≡ k' = cc (sym t ∙ t') in primitive_near (d c) k' (subst (λ q. is_primitive q ≡ true) same primitive) in
         let meets = (c.local c.p c.service c.fits here c.near).values e k n l
-            (record {
-              typed = (t, stands.formed);
-              noted = (stands.noted, stands.admitted);
-              parted = quiet_parted c.p c.this c.remote (typed_known (d c) c.fits.declared) c.near (ss c) (admitted c) vs ws (stmt_site around vs s) [] e among stands.noted none (if_name (f c) vs (x c) ws e near);
-              placed = quiet_placed c.p (ss c) (admitted c) c.marks (is_portable_call (f c) vs) (stmt_site around vs s) [] e among (refl, refl) none;
-            })
-            at.fits (subst (AllWanted c.p c.service c.ground refs vars (HoldsTable c.service) (x c) ws l.names) (sym empty) tt) in
+        (record {
+          typed = (t, stands.formed);
+          noted = (stands.noted, stands.admitted);
+          parted = quiet_parted c.p c.this c.remote (typed_known (d c) c.fits.declared) c.near (ss c) (admitted c) vs ws (stmt_site around vs s) [] e among stands.noted none (if_name (f c) vs (x c) ws e near);
+          placed = quiet_placed c.p (ss c) (admitted c) c.marks (is_portable_call (f c) vs) (stmt_site around vs s) [] e among (refl, refl) none;
+        })
+        at.fits (subst (AllWanted c.p c.service c.ground refs vars (HoldsTable c.service) (x c) ws l.names) (sym empty) tt) in
         let whole = subst (λ es. Meets c.p c.service c.ground refs vars c.gas (HoldsTable c.service) (IsLocalAt c.p) (SameNames (x c) ws l.names) (FellSame (x c) ws l.names) es n (evaluates (code c) e l) (evaluates (code c) (cut (f c) vs n e) client)) empty meets in
         let uncut = subst (λ q. Meets c.p c.service c.ground refs vars c.gas (HoldsTable c.service) (IsLocalAt c.p) (SameNames (x c) ws l.names) (FellSame (x c) ws l.names) [] n (evaluates (code c) e l) (evaluates (code c) q client)) (not_cut (f c) vs n e none) whole in
         uncut.met o.events o.server (λ vars1 s1. ran) holds
@@ -158,8 +158,8 @@ module _ (c : Scene) (around : List Around) (vs : Scope) (ws after : typed.Scope
             let q = val_parts (x c) ws position name e after stands.typed in
             let far = far_here c refs m vs ws vars l at e q.kind r q.typed stands.noted stands.formed in
             let known : AreKnownScopes (d c) (with_variable vs name Role.Carried position) (typed.with_variable ws name q.kind true) =
-                subst (λ b. AreKnownScopes (d c) (with_variable vs name (cond b Role.Carried Role.Plain) position) (typed.with_variable ws name q.kind true)) r
-                (subst (λ i. AreKnownScopes (d c) (scope_after (f c) [] vs s) i) (sym q.same) (known_after c around vs ws after s stands refs m vars l at)) in
+            subst (λ b. AreKnownScopes (d c) (with_variable vs name (cond b Role.Carried Role.Plain) position) (typed.with_variable ws name q.kind true)) r
+            (subst (λ i. AreKnownScopes (d c) (scope_after (f c) [] vs s) i) (sym q.same) (known_after c around vs ws after s stands refs m vars l at)) in
             let w = handle (h c) (evaluates (code c) e l) o in
             let reply = value c refs m vs ws vars l at position e o.server in
             let ends = worth c refs m vs ws vars l at e q.kind r q.typed stands.noted stands.formed (used_carried r) position o holds in

@@ -1,6 +1,5 @@
 -- Portable expressions where they stand in a batch, and names that are bound to what they give.
 use Rattle.std.proofs.Common.{◌≡◌, refl, sym, ap, ◌∙◌, subst, ℕ, suc, List, [], ◌∷◌, ◌++◌, length, Bool as Truth, true, false, cond, ◌&&◌, ◌||◌, Option, Some, None, Ok}
-use Rattle.std.specs.Str.{bytes_eq}
 use Rattle.std.proofs.lemmas.Bool.{and_parts}
 use Rattle.rb_trees.specs.Outcome.{known, must, ◌>>◌}
 use Rattle.rb_trees.specs.Named.{lookup}
@@ -10,13 +9,12 @@ use Rattle.rb_trees.specs.declared.code.UnOp.{UnOp}
 use Rattle.rb_trees.specs.declared.code.UnOp.TheVariants as un
 use Rattle.rb_trees.specs.declared.values.Value.{Value}
 use Rattle.rb_trees.specs.declared.values.Value.TheOpen.{Value-F}
-use Rattle.rb_trees.specs.declared.values.Value.TheViews.{out-Value}
-use Rattle.rb_trees.specs.mirror.Code.{Expr, Exprs, Lit, Name, This, Unary, Binary, Field, Call, Index, New, Items, Taken, expr_at}
+use Rattle.rb_trees.specs.mirror.Code.{Expr, Lit, Name, This, Unary, Binary, Field, Call, Index, New, Items, Taken, expr_at}
 use Rattle.rb_trees.specs.mirror.Declarations.{Interface}
 use Rattle.rb_meaning_types.specs.Kinds as kind
 use Rattle.rb_meaning_types.specs.Kinds.{Kind, is_primitive}
-use Rattle.rb_meaning_types.specs.Literals.{literal_form, literal_kind}
-use Rattle.rb_meaning_types.specs.Operators.{takes_operand, takes_left, unary_result, binary_result, unary_kind, binary_kind}
+use Rattle.rb_meaning_types.specs.Literals.{literal_form}
+use Rattle.rb_meaning_types.specs.Operators.{takes_operand, takes_left, unary_result, binary_result}
 use Rattle.rb_meaning_types.specs.Violations.{Placed, wanted, wrong_type}
 use Rattle.rb_meaning_types.specs.Declared.{Declarations, Context}
 use Rattle.rb_meaning_types.specs.Scopes as typed
@@ -47,7 +45,7 @@ use Rattle.rb_types_keep.proofs.Stmts.{binds}
 use Rattle.rb_types_keep.proofs.Values.{fits_more}
 use Rattle.rb_unsplit_keeps.proofs.Carried.{Carry, carry_begins}
 use Rattle.rb_unsplit_keeps.proofs.Standing.{Within}
-use Rattle.rb_split_laws.proofs.Linked.{IsFound, IsRead, Linked, Closed, linked_more}
+use Rattle.rb_split_laws.proofs.Linked.{IsFound, Closed, linked_more}
 use Rattle.rb_split_laws.proofs.Values.{value_same}
 use Rattle.rb_split_laws.proofs.Covered.{closed_of}
 use Rattle.rb_split_laws.proofs.Carrying.{carry_free}
@@ -57,10 +55,10 @@ use Rattle.rb_split_laws.proofs.Joined.{joined_more, sound_value, far_value}
 use Rattle.rb_split_laws.proofs.There.{DoesThere, value_there}
 use Rattle.rb_local_laws.specs.Shown.{is_far, shown, at_client, named}
 use Rattle.rb_local_laws.specs.Admitted.{AreKnownScopes}
-use Rattle.rb_local_laws.proofs.Names.{framed_more, seen_bound}
+use Rattle.rb_local_laws.proofs.Names.{framed_more}
 use Rattle.rb_local_laws.proofs.Uncut.{or_none}
 use Rattle.rb_division_laws.specs.Faults.{EachFault}
-use Rattle.rb_headline_laws.proofs.Written.{InScript, held_with}
+use Rattle.rb_headline_laws.proofs.Written.{held_with}
 use Rattle.rb_headline_laws.proofs.Scene.{Scene, d, is, f, x, place, h, code, Holds, written, At}
 
 none_grown : (cs : List (List ℕ)) → Grown [] cs

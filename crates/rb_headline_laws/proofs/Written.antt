@@ -3,7 +3,7 @@ use Rattle.std.proofs.Common.{◌≡◌, ◌⊎◌, inl, inr, refl, sym, ap, ◌
 use Rattle.std.specs.List.{AllByRecursion}
 use Rattle.std.specs.Str.{bytes_eq}
 use Rattle.rb_trees.specs.Named.{lookup}
-use Rattle.rb_trees.specs.mirror.Code.{Expr, Lit, Name, This, Unary, Binary, Field, Call, Index, New, Items, Taken, Stmt, Stmts, Val, Var, Assign, Run, Print, Throw, If, While, For, Try, Batch, NoStmts, MoreStmts}
+use Rattle.rb_trees.specs.mirror.Code.{Expr, Lit, Name, Stmt, Stmts, Val, Var, Assign, Run, Print, Throw, If, While, For, Try, Batch, NoStmts, MoreStmts}
 use Rattle.rb_meaning_types.specs.Kinds as kind
 use Rattle.rb_meaning_types.specs.Kinds.{Kind}
 use Rattle.rb_meaning_types.specs.Names.{is_new}
@@ -13,7 +13,7 @@ use Rattle.rb_meaning_types.specs.Statements.{is_open_variable, is_assignable, c
 use Rattle.rb_meaning_flow.specs.Scopes.{assigned_variable, assigned_by, assigned_in}
 use Rattle.rb_meaning_split.specs.Refs.{Ref, Var as VarRef, Refs, with_var}
 use Rattle.rb_local_laws.proofs.Parts.{val_parts, var_parts, run_parts, throw_parts, print_parts, assign_parts, if_parts, while_parts, for_parts, try_parts, batch_parts, stmts_parts}
-use Rattle.rb_split_laws.proofs.Lookups.{same_bytes, bytes_same, first_or, lookup_old, lookup_new, first_old, first_new}
+use Rattle.rb_split_laws.proofs.Lookups.{same_bytes, bytes_same, first_or, lookup_new, first_old, first_new}
 use Rattle.rb_split_laws.proofs.Linked.{IsFound}
 use Rattle.rb_headline_laws.proofs.Overs.{Unkept}
 
@@ -69,7 +69,7 @@ module _ (written : List (List ℕ)) (Kept : List ℕ → Type 0) where
       by (inr n) = inr n
 
   open_or : (o : Option Variable) (v : Variable) → o ≡ Some v → v.fixed ≡ true → is_open_variable o ≡ true → ⊥
-  open_or (Some u) v e fixed unfixed = let same : u ≡ v = cc (e) in cc (ap not (ap (λ q. q.fixed) same ∙ fixed) , unfixed)
+  open_or (Some u) v e fixed unfixed = let same : u ≡ v = cc (e) in cc (ap not (ap (λ q. q.fixed) same ∙ fixed), unfixed)
   open_or None v e fixed unfixed = cc (e)
 
   not_held : (ws : Scope) (y : List ℕ) → Held ws → is_open_variable (variable_named ws y) ≡ true → is_new y written ≡ false → Kept y → ⊥

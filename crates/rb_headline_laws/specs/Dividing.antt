@@ -1,5 +1,5 @@
 -- A law of the division: it keeps what a batch means.
-use Rattle.std.specs.Prelude.{◌≡◌, ℕ, List, [], ◌∷◌, ◌++◌, Some, Ok}
+use Rattle.std.specs.Prelude.{◌≡◌, ℕ, [], ◌∷◌, ◌++◌, Some, Ok}
 use Rattle.rb_trees.specs.mirror.Declarations.{Program}
 use Rattle.rb_trees.specs.mirror.Services.{Service}
 use Rattle.rb_meaning_types.specs.Declared.{of_program}
@@ -15,7 +15,7 @@ use Rattle.rb_meaning_split.specs.Division.{division}
 use Rattle.rb_meaning_split.specs.Replay.{Replayed}
 use Rattle.rb_meaning_split.specs.Client.{replays}
 use Rattle.rb_flow.specs.Program.{HasNoRefusal}
-use Rattle.rb_types_keep.specs.Asked.{Side, Own, Site, IsAskedBatch}
+use Rattle.rb_types_keep.specs.Asked.{Own, Site, IsAskedBatch}
 use Rattle.rb_unsplit_keeps.specs.Batches.{program_sites}
 use Rattle.rb_split_laws.specs.Remote.{script_run}
 use Rattle.rb_local_laws.specs.Local.{IsLocalAt}
