@@ -76,6 +76,8 @@ use Rattle.rb_local_laws.proofs.Closing.{extends_with}
 use Rattle.rb_local_laws.proofs.Origins.{own_near}
 use Rattle.rb_local_laws.proofs.Statements.{stmts_extends}
 use Rattle.rb_division_laws.specs.Faults.{SentIsRemote, SentFaultsAreRemote}
+use Rattle.rb_division_laws.proofs.Parted.{program_free}
+use Rattle.rb_division_laws.proofs.Unmarked.{unmarked}
 use Rattle.rb_headline_laws.specs.Dividing.{KeepsMeaning, NothingAtZero, DividingKeepsMeaning}
 use Rattle.rb_headline_laws.proofs.Written.{Fixed, Held, InScript, all_written}
 use Rattle.rb_headline_laws.proofs.Scene.{Scene, At, AllStand}
@@ -233,7 +235,7 @@ module _ (below : Below) (p : Program) (lawful : IsLawful p) (checked : check_pr
       service_formed = below.classes_formed service.classes served.lawful.each;
       fits = record {
         declared = declared below.laws below.stmts_formed below.classes_formed below.sends below.notes p lawful t none service table served;
-        placed = placed_classes p below.elsewhere lawful zero_free;
+        placed = placed_classes p below.elsewhere lawful (unmarked below.elsewhere p 0 (program_free p 0 zero_free));
         handler = batch_handler_fits below.laws.calls p service served.typed (below.classes_formed service.classes served.lawful.each);
       };
       this = place.this;

@@ -1,9 +1,10 @@
 -- A law of the division: it keeps what a batch means.
-use Rattle.std.specs.Prelude.{◌≡◌, ℕ, [], ◌∷◌, ◌++◌, Some, Ok}
+use Rattle.std.specs.Prelude.{◌≡◌, ℕ, [], ◌∷◌, ◌++◌, nat_eq, false, Some, Ok}
+use Rattle.std.specs.List.{AllByRecursion}
 use Rattle.rb_trees.specs.mirror.Declarations.{Program}
 use Rattle.rb_trees.specs.mirror.Services.{Service}
 use Rattle.rb_meaning_types.specs.Declared.{of_program}
-use Rattle.rb_meaning_types.specs.Lawful.{IsLawful}
+use Rattle.rb_meaning_types.specs.Lawful.{IsLawful, classes_positions, body_positions}
 use Rattle.rb_meaning_types.specs.Programs.{check_program}
 use Rattle.rb_meaning_code.specs.State.{Local}
 use Rattle.rb_meaning_flow.specs.Outermost.{Outermost}
@@ -18,7 +19,6 @@ use Rattle.rb_flow.specs.Program.{HasNoRefusal}
 use Rattle.rb_types_keep.specs.Asked.{Own, Site, IsAskedBatch}
 use Rattle.rb_unsplit_keeps.specs.Batches.{program_sites}
 use Rattle.rb_split_laws.specs.Remote.{script_run}
-use Rattle.rb_local_laws.specs.Local.{IsLocalAt}
 
 -- a batch's remainder, replayed on the node that the batch's script gave
 abbrev pub replay_of : Program → Service → Outermost → Local → Outside → Replayed
@@ -31,9 +31,9 @@ pub record KeepsMeaning (p : Program) (service : Service) (b : Outermost) (l : L
   pub events : (replay_of p service b l s).events ≡ (performs_batch p service b l s).1.events
   pub table : (script_run p service b l s.server.table).server.table ≡ (performs_batch p service b l s).1.server.table
 
--- no remote expression stands at position 0
+-- No statement and no expression stands at position 0, where a text begins with a keyword.
 abbrev pub NothingAtZero : Program → Type 0
-NothingAtZero p = IsLocalAt p 0
+NothingAtZero p = AllByRecursion (λ at. nat_eq at 0 ≡ false) (classes_positions p.classes ++ body_positions p.body)
 
 -- So it is in a lawful, typed program without refusals, on a typed service whose table fits, for each batch that code asks for.
 abbrev pub DividingKeepsMeaning : Type 0
