@@ -1,5 +1,5 @@
 -- The lemmas on divisions.
-mod Lists
+pub mod Lists
 mod Carriable
 mod Batches
 mod Numbers
@@ -10,14 +10,14 @@ mod Reading
 mod Used
 mod Known
 mod Sends
-mod Held
+pub mod Held
 mod Fitting
 mod Outer
 mod Nodes
 mod Marked
 mod RemoteFaults
 mod Falls
-mod Parted
-mod Unmarked
+pub mod Parted
+pub mod Unmarked
 mod OwnFaults
 mod SentSites

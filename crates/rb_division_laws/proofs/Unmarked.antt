@@ -145,7 +145,7 @@ module _ (f : Facts) (q : ℕ) where
   others_of (b ∷ bs) h = (other_block [] (opened b.outer b.at b.root b.block) b.block h.0, others_of bs h.1)
 
 -- a position that is none of those of batches' expressions
-unmarked : NoMarkElsewhere → (p : Program) (q : ℕ) → Apart q (batch_ats p) → stands_remote p q ≡ false
+pub unmarked : NoMarkElsewhere → (p : Program) (q : ℕ) → Apart q (batch_ats p) → stands_remote p q ≡ false
 unmarked law p q h = ap is_remote_mark (law p q no_site)
   where
     f : Facts

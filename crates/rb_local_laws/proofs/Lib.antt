@@ -1,22 +1,22 @@
 -- The lemmas on local code.
-mod TypeFacts
-mod Parts
-mod Names
-mod Meeting
-mod Near
-mod Alike
-mod Coded
-mod Portable
-mod Uncut
-mod Values
-mod Closing
-mod Effects
-mod Statements
-mod Locally
-mod Sited
-mod Refused
-mod Origins
-mod Admitting
-mod Standing
-mod Beginning
-mod Marked
+pub mod TypeFacts
+pub mod Parts
+pub mod Names
+pub mod Meeting
+pub mod Near
+pub mod Alike
+pub mod Coded
+pub mod Portable
+pub mod Uncut
+pub mod Values
+pub mod Closing
+pub mod Effects
+pub mod Statements
+pub mod Locally
+pub mod Sited
+pub mod Refused
+pub mod Origins
+pub mod Admitting
+pub mod Standing
+pub mod Beginning
+pub mod Marked

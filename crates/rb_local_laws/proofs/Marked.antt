@@ -103,7 +103,7 @@ module _ (p : Program) (ss : List StmtSite) (admitted : IsAdmittedBatch (facts_o
   -- and where nothing is taken, whatever the scope
   module _ (taken : Expr → Truth) where
     mutual
-      quiet_placed : (s : StmtSite) (above : List Over) (e : Expr) → Within (expr_sites s above e) (exprs_of ss) → Plain s above → holds_call f e ≡ false → PlacedExpr Here taken e
+      pub quiet_placed : (s : StmtSite) (above : List Over) (e : Expr) → Within (expr_sites s above e) (exprs_of ss) → Plain s above → holds_call f e ≡ false → PlacedExpr Here taken e
       quiet_placed s above (Lit at v) w plain h = tt
       quiet_placed s above (Name at name) w plain h = here s above (Name at name) w plain (no_call_whole s.scope (Name at name) refl)
       quiet_placed s above (This at) w plain h = here s above (This at) w plain refl

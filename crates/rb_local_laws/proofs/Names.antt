@@ -115,7 +115,7 @@ framed None scope name v plain e = e
 framed (Some class) scope name v plain e =
     ap (λ t. cond t (Some (record { name = this_name; kind = kind.Named class; fixed = true })) (variable_named scope name)) plain ∙ e
 
-framed_more : (this : Option (List ℕ)) (scope more : Scope) → frame_scope this (scope ++ more) ≡ frame_scope this scope ++ more
+pub framed_more : (this : Option (List ℕ)) (scope more : Scope) → frame_scope this (scope ++ more) ≡ frame_scope this scope ++ more
 framed_more None scope more = refl
 framed_more (Some class) scope more = refl
 

@@ -53,7 +53,7 @@ use Rattle.rb_local_laws.proofs.Effects.{Inner, then_value, truth_meets, block_l
 
 -- a statement's scope goes on in the one that it leads to
 module _ (x : Context) where
-  stmt_extends : (s : Stmt) (ws after : typed.Scope) → check_stmt x ws s ≡ Ok after → Extends ws after
+  pub stmt_extends : (s : Stmt) (ws after : typed.Scope) → check_stmt x ws s ≡ Ok after → Extends ws after
   stmt_extends (Val at name e) ws after t = let h = val_parts x ws at name e after t in (record { name = name; kind = h.kind; fixed = true } ∷ [], h.same)
   stmt_extends (Var at name e) ws after t = let h = var_parts x ws at name e after t in (record { name = name; kind = h.kind; fixed = false } ∷ [], h.same)
   stmt_extends (Assign at a b) ws after t = extends_same ws after (assign_parts x ws at a b after t).same
@@ -66,7 +66,7 @@ module _ (x : Context) where
   stmt_extends (Try at a name b) ws after t = extends_same ws after (try_parts x ws at a name b after t).same
   stmt_extends (Batch at interface root a) ws after t = extends_same ws after (batch_parts x ws at interface root a after t).same
 
-  stmts_extends : (ss : Stmts) (ws after : typed.Scope) → check_stmts x ws ss ≡ Ok after → Extends ws after
+  pub stmts_extends : (ss : Stmts) (ws after : typed.Scope) → check_stmts x ws ss ≡ Ok after → Extends ws after
   stmts_extends NoStmts ws after t = extends_same ws after (cc (t))
   stmts_extends (MoreStmts s ss) ws after t = let h = stmts_parts x ws s ss after t in extends_on ws h.middle after (stmt_extends s ws h.middle h.typed) (stmts_extends ss h.middle after h.rest)
 

@@ -40,7 +40,7 @@ table_fine service (Stopped at f s) h = h.1
 
 module _ (laws : Laws) (conditions : ConditionsHold) (exprs_formed : LawfulExprsAreFormed) (stmts_formed : LawfulStmtsAreFormed) (classes_formed : LawfulClassesAreFormed) (types_keep : TypesKeep) (sends : AdmittedSendPortable)
     (p : Program) (lawful : IsLawful p) (t : IsTypedProgram p) (none : HasNoRefusal p) (service : Service) (first : List Object) (served : IsTyped service first) where
-  whole_fits : AllWhole laws.calls exprs_formed stmts_formed classes_formed types_keep p lawful t none service first served
+  pub whole_fits : AllWhole laws.calls exprs_formed stmts_formed classes_formed types_keep p lawful t none service first served
   whole_fits o interface place known agree among start s h fits last block_typed noted is_interface =
       let f = facts_of p in
       let ss = batch_sites f o in

@@ -194,7 +194,7 @@ module _ (calls : CallsKeep) (exprs_formed : LawfulExprsAreFormed) (stmts_formed
     answered s (Invoke at target method args) h = h
     answered s (Turn at) h = h
 
-    main_handler_fits : HandlerFits d side Holds (in_main p service)
+    pub main_handler_fits : HandlerFits d side Holds (in_main p service)
     main_handler_fits = record {
       answers = answers;
       answered = λ s q h asked. answered s q h;
@@ -209,7 +209,7 @@ module _ (calls : CallsKeep) (exprs_formed : LawfulExprsAreFormed) (stmts_formed
     result = kind_of p.result
 
     -- how `main` ends
-    abbrev MainEnds : Outcome (Option Value) → Type 0
+    abbrev pub MainEnds : Outcome (Option Value) → Type 0
     MainEnds (Gave v l) = IsResult result v
     MainEnds (Faulted r l) = FaultFits r
 
@@ -254,7 +254,7 @@ module _ (calls : CallsKeep) (exprs_formed : LawfulExprsAreFormed) (stmts_formed
         ((types_keep d declared batches (methods_ask p)).values there e s.0 gas l (s.1, f) stands)
         (λ o ends. some_result s.0 o l scope same (subst (λ m. is_primitive m ≡ true) same primitive) ends)
 
-    main_keeps : (fuel : ℕ) → Keeps d side MainEnds (runs_main p.classes fuel p.body (at_start fuel))
+    pub main_keeps : (fuel : ℕ) → Keeps d side MainEnds (runs_main p.classes fuel p.body (at_start fuel))
     main_keeps fuel =
         let s = bind_ok (check_stmts (main_context d) [] p.body.statements) _ tt t.body in
         let code = own_stmts d declared batches (methods_ask p) place fuel tt p.body.statements s.0

@@ -1,0 +1,3 @@
+-- The laws of whole batches and of whole programs.
+pub mod Dividing
+pub mod Clients

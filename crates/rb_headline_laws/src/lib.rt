@@ -1,0 +1,68 @@
+//! Laws of whole batches and of whole programs: the division of a program's batches keeps what the program means.
+//!
+//! What a batch means where it stands is defined in `rb_meaning`, its division and its replay in `rb_meaning_split`, and
+//! the run of its script in `rb_meaning_code`. There is no code here; the laws are functions that do nothing.
+#![tactic(auto)]
+
+ghost use Rattle.rb_headline_laws.specs.Clients.{ClientsMeanWhatProgramsMean};
+ghost use Rattle.rb_headline_laws.specs.Dividing.{DividingKeepsMeaning};
+
+use rb_division_laws::{sent_code_faults_remotely, sent_expressions_are_remote};
+use rb_flow::admitted_programs_send_only_portable_parts;
+use rb_local_laws::{
+    local_code_does_the_same, local_code_is_not_marked_remote,
+    remote_expressions_stand_as_they_should, scopes_of_batches_are_known,
+};
+use rb_marks::each_expression_has_its_mark;
+use rb_split_laws::scripts_perform_remote_parts;
+use rb_types_keep::{
+    conditions_have_truths, lawful_code_is_formed, operators_keep_types, remote_calls_are_typed,
+    remote_calls_keep_tables, typed_code_keeps_types,
+};
+use rb_unsplit_keeps::lawful_programs_are_noted;
+
+/// In a lawful, typed program without refusals, on a typed service, each batch that code asks for means the same divided:
+/// its remainder, replayed on the node that its script gives, ends as the batch does where it stands, with the same local
+/// state, value or fault and the fault's side; it shows the same events; and the script leaves the same table.
+pub fn dividing_a_batch_keeps_its_meaning()
+    ensures { DividingKeepsMeaning }
+{
+    operators_keep_types();
+    remote_calls_keep_tables();
+    remote_calls_are_typed();
+    lawful_code_is_formed();
+    admitted_programs_send_only_portable_parts();
+    lawful_programs_are_noted();
+    each_expression_has_its_mark();
+    remote_expressions_stand_as_they_should();
+    local_code_is_not_marked_remote();
+    local_code_does_the_same();
+    scopes_of_batches_are_known();
+    sent_expressions_are_remote();
+    sent_code_faults_remotely();
+    scripts_perform_remote_parts();
+}
+
+/// In a lawful, typed program without refusals, on a typed service, a client whose scripts give its nodes there, one after
+/// the other, each on the table that the one before left, means what the program means: it ends so, shows the same, and the
+/// last table is the program's. There are such nodes, with whatever fuel.
+pub fn clients_mean_what_programs_mean()
+    ensures { ClientsMeanWhatProgramsMean }
+{
+    conditions_have_truths();
+    typed_code_keeps_types();
+    operators_keep_types();
+    remote_calls_keep_tables();
+    remote_calls_are_typed();
+    lawful_code_is_formed();
+    admitted_programs_send_only_portable_parts();
+    lawful_programs_are_noted();
+    each_expression_has_its_mark();
+    remote_expressions_stand_as_they_should();
+    local_code_is_not_marked_remote();
+    local_code_does_the_same();
+    scopes_of_batches_are_known();
+    sent_expressions_are_remote();
+    sent_code_faults_remotely();
+    scripts_perform_remote_parts();
+}
