@@ -1,0 +1,63 @@
+//! Runs the examples as a user would, one after the other, and prints each command with its exit status and its lines.
+#![tactic(auto)]
+
+use rb_base::{MemoryFiles, MemorySink};
+use rb_top::top;
+use rb_trees::{Memory, Seq};
+use std::alloc::Global;
+use std::rt::Files;
+use std::{fs, io, str};
+
+/// The commands, whose words single spaces part. What has a `.` in it names a file.
+const COMMANDS: [&str; 7] = [
+    "both large.rbi files.rbs",
+    "unsplit large.rbi files.rbs",
+    "both rename.rbi files.rbs",
+    "both cart.rbi shop.rbs",
+    "both report.rbi folders.rbs",
+    "check refused.rbi",
+    "both mended.rbi files.rbs",
+];
+
+fn main(rt: HostRuntime) -> io::Result<()> {
+    for command in COMMANDS {
+        println!(rt; "rbi {command}")?;
+        match outcome(&rt, command)? {
+            Ok(text) => println!(rt; "{text}")?,
+            Err(Memory) => println!(rt; "out of memory")?,
+        }
+    }
+    Ok(())
+}
+
+/// What a command prints, and its exit status behind that.
+fn outcome<R: AllocGlobal + Files>(rt: &R, command: &str) -> io::Result<Result<String, Memory>> {
+    let mut files = MemoryFiles::make(rt.alloc(), Seq::new(rt.alloc()));
+    for name in command.split(' ') {
+        if name.contains('.') {
+            let text = fs::read(rt, name)?;
+            if files.add(name, text.as_slice()).is_err() {
+                return Ok(Err(Memory));
+            }
+        }
+    }
+    Ok(answered(rt.alloc(), command, &mut files))
+}
+
+/// The words of a command.
+fn words_of(alloc: Global, command: &str) -> Result<Vec<String>, Memory> {
+    let mut words = Vec::new(alloc);
+    for word in command.split(' ') {
+        words.push(String::from_str(alloc, word)?)?;
+    }
+    Ok(words)
+}
+
+/// The same, with these files.
+fn answered(alloc: Global, command: &str, files: &mut MemoryFiles) -> Result<String, Memory> {
+    let words = words_of(alloc, command)?;
+    let mut out = MemorySink::make(alloc, Seq::new(alloc), usize::MAX);
+    let code = top(alloc, words.as_slice(), files, &mut out).code();
+    let text = str::from_utf8(out.written()).unwrap_or("not UTF-8");
+    Ok(format!(in alloc; "{text}status {code}")?)
+}
