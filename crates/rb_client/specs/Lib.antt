@@ -7,9 +7,12 @@ pub mod Walks
 pub mod Replays
 pub mod Replies
 pub mod Exchanges
+pub mod Scenes
+pub mod Servers
 pub mod Plans
 pub mod Splits
 pub mod Requests
 pub mod Clients
 pub mod Runs
+pub mod Headline
 pub mod MainRuns

@@ -1,71 +1,119 @@
--- What the run of a client leaves.
-use Rattle.std.specs.Prelude.{◌≡◌, ℕ, List, [], length, Option, Some}
-use Rattle.std.specs.Borrow.{MutBor}
+-- What the run of a client leaves, over any link.
+use Rattle.std.specs.Prelude.{◌≡◌, ℕ, List, [], ◌++◌, length, map, Option, Some, Result, Ok, Err}
 use Rattle.rb_trees.specs.declared.declarations.Program as program
 use Rattle.rb_trees.specs.declared.outcomes.Run.{Run}
+use Rattle.rb_trees.specs.declared.remainders.Split.{Split}
 use Rattle.rb_trees.specs.declared.values.Value.{Value}
 use Rattle.rb_trees.specs.mirror.Declarations.{Program, mirror_program}
 use Rattle.rb_trees.specs.mirror.Forests.{Node}
+use Rattle.rb_meaning_bytes.specs.formats.Formats.{Spells}
+use Rattle.rb_meaning_bytes.specs.formats.Scripts.{script_message}
 use Rattle.rb_meaning_code.specs.Dialogue.{Outcome, Dialogue, AskBatch}
-use Rattle.rb_meaning_code.specs.Led.{Passes}
 use Rattle.rb_meaning_code.specs.State.{Local}
-use Rattle.rb_meaning.specs.Meaning.{at_start, runs_main}
+use Rattle.rb_meaning.specs.Links.{Pair}
 use Rattle.rb_meaning.specs.Shown.{shown_events}
+use Rattle.rb_meaning.specs.State.{Event}
 use Rattle.rb_meaning.specs.Unsplit.{batch_at}
 use Rattle.rb_meaning_flow.specs.Outermost.{Outermost}
-use Rattle.rb_meaning_split.specs.Client.{Heard, Sent, client, in_client}
-use Rattle.rb_meaning_split.specs.Division.{division}
+use Rattle.rb_meaning_split.specs.Client.{Heard, Sent, Waiting, client, sent_for}
+use Rattle.rb_meaning_split.specs.Division.{Division, division, divisions, mirror_split}
+use Rattle.rb_division_laws.specs.Sendable.{HasPlaces}
+use Rattle.rb_flow.specs.Program.{HasNoRefusal}
+use Rattle.rb_headline_laws.specs.Dividing.{NothingAtZero}
+use Rattle.rb_headline_laws.specs.Reached.{ClientComesTo}
+use Rattle.rb_base.specs.Counts.{risen}
 use Rattle.rb_base.specs.Devices.{failed}
 use Rattle.rb_base.specs.Sinks.{with_bytes, WrotePrefix}
-use Rattle.rb_base.specs.declared.links.Link as links
-use Rattle.rb_base.specs.declared.sinks.Sink as sinks
-use Rattle.rb_client.specs.Clients.{GivesNone, Origin, Past, nothing_yet, origin, waiting}
-use Rattle.rb_client.specs.Exchanges.{Exchanged}
-use Rattle.rb_client.specs.Replies.{pairs_of}
-use Rattle.rb_client.specs.Worlds.{output}
+use Rattle.rb_client.specs.Exchanges.{Exchanged, Exchanges}
+use Rattle.rb_client.specs.Replies.{HasReason, more_pairs, pair_of, refused_pairs}
+use Rattle.rb_client.specs.Scenes.{Scene}
+use Rattle.rb_client.specs.Servers.{FailsAfter, NoneFails, PerformedAll}
+use Rattle.rb_client.specs.declared.stops.BadReason.{BadReason}
 use Rattle.rb_client.specs.declared.stops.RunStop.{RunStop}
 use Rattle.rb_client.specs.declared.stops.RunStop.TheVariants as stops
 
--- the client of a program, on nodes
-abbrev pub heard_on : program.Program → ℕ → List Node → Heard
-heard_on p fuel nodes = client (mirror_program p) fuel nodes
+-- A program is accepted, and its batches have these divisions in source order. Its places are those of a text: each has 32 bits,
+-- and none is 0, where a text begins with a keyword.
+pub record IsAcceptedWith (p : program.Program) (splits : List Split) : Type 0 where
+  pub none : HasNoRefusal (mirror_program p)
+  pub divided : divisions (mirror_program p) ≡ Ok (map mirror_split splits)
+  pub places : HasPlaces (mirror_program p)
+  pub zero_free : NothingAtZero (mirror_program p)
+
+-- Scripts were exchanged for nodes: the pairs that the link tells grew by one for each script. Where the link was honest it is so
+-- still, and its server performed them.
+pub record ExchangedAll (p : Program) (before after : Scene) (sent : List Sent) (nodes : List Node) : Type 0 where
+  pub exchanged : Exchanged p before.pairs after.pairs sent nodes
+  pub stays : before.honest → after.honest
+  pub served : before.honest → PerformedAll before.server after.server sent nodes
 
 -- The client ran on the nodes that were replied: it ended so, with so many exchanges; its lines were written, and its scripts
 -- were exchanged for those nodes. No exchange failed.
-pub record Ran {L W : Type 0} (gl : links.Ghosts L) (gw : sinks.Ghosts W) (p : program.Program) (fuel : ℕ) (run : Run) (link link' : L) (out out' : W) : Type 0 where
+pub record Ran (p : Program) (fuel : ℕ) (run : Run) (before after : Scene) : Type 0 where
   pub nodes : List Node
-  pub ending_so : run.ending ≡ (heard_on p fuel nodes).ending
-  pub exchanges_so : run.exchanges ≡ length (heard_on p fuel nodes).sent
-  pub written : output gw out' ≡ with_bytes (output gw out) (shown_events (heard_on p fuel nodes).events)
-  pub exchanged : Exchanged (mirror_program p) (pairs_of gl link) (pairs_of gl link') (heard_on p fuel nodes).sent nodes
-  pub faults_so : gl.faults link' ≡ gl.faults link
+  pub ending_so : run.ending ≡ (client p fuel nodes).ending
+  pub exchanges_so : run.exchanges ≡ length (client p fuel nodes).sent
+  pub written : after.out ≡ with_bytes before.out (shown_events (client p fuel nodes).events)
+  pub exchanged : ExchangedAll p before after (client p fuel nodes).sent nodes
+  pub faults_so : after.faults ≡ before.faults
 
--- A write failed in the lines of the client, on the nodes that were replied. No exchange failed.
-pub record CutInWriting {L W : Type 0} (gl : links.Ghosts L) (gw : sinks.Ghosts W) (p : program.Program) (fuel : ℕ) (link link' : L) (out out' : W) : Type 0 where
+-- A write failed in the lines of the client, on the nodes that were replied and whatever others would have followed. No exchange
+-- failed.
+pub record CutInWriting (p : Program) (fuel : ℕ) (before after : Scene) : Type 0 where
   pub nodes : List Node
   pub sent : List Sent
-  pub written : WrotePrefix (failed (output gw out)) (output gw out') (shown_events (heard_on p fuel nodes).events)
-  pub exchanged : Exchanged (mirror_program p) (pairs_of gl link) (pairs_of gl link') sent nodes
-  pub faults_so : gl.faults link' ≡ gl.faults link
+  pub written : (more : List Node) → WrotePrefix (failed before.out) after.out (shown_events (client p fuel (nodes ++ more)).events)
+  pub exchanged : ExchangedAll p before after sent nodes
+  pub faults_so : after.faults ≡ before.faults
 
--- On the nodes of its past a client reaches a batch, in this local state, and no node is left.
-pub record Reaches (p : Program) (fuel : ℕ) (h : Past) (b : Outermost) (l : Local) : Type 0 where
+-- On the nodes that were replied a client reaches a batch, in this local state, and no node is left.
+pub record Reaches (p : Program) (fuel : ℕ) (nodes : List Node) (w : Waiting) (b : Outermost) (l : Local) : Type 0 where
   pub at : ℕ
   pub go : Outcome (Unit {0}) → Dialogue (Outcome (Option Value))
   pub stands : batch_at p at ≡ Some b
-  pub passes : Passes (in_client p) (runs_main p.classes fuel p.body (at_start fuel)) (waiting nothing_yet h.nodes) (AskBatch at l go) (waiting h [])
+  pub comes : ClientComesTo p fuel nodes (AskBatch at l go) w
+
+-- The pairs grew by one for each script that was sent before, and by that of the reply that was refused, where its frame is
+-- whole. Its request is the script of this division with the values of its inputs.
+pub record ExchangedBut (p : Program) (before after : Option (List Pair)) (sent : List Sent) (nodes : List Node) (asked : Sent) (why : BadReason) (kind : ℕ) (bytes : List ℕ) : Type 0 where
+  pub pairs : List Pair
+  pub request : List ℕ
+  pub request_so : Spells script_message request asked
+  pub pairs_so : after ≡ more_pairs (refused_pairs why (pair_of request kind bytes)) (more_pairs pairs before)
+  pub exchanges : Exchanges p pairs sent nodes
+
+-- Why an exchange gave no node, after those of these scripts for these nodes: it failed, which the link counted; or its reply was
+-- refused for its reason.
+abbrev pub GivesNone : Program → Division → Local → RunStop → Scene → Scene → List Sent → List Node → Type 0
+GivesNone p d l (stops.LinkFault k) before after sent nodes =
+    (k ≡ length sent) × Exchanged p before.pairs after.pairs sent nodes × (after.faults ≡ risen before.faults)
+GivesNone p d l (stops.BadReply k why kind bytes) before after sent nodes =
+    (k ≡ length sent) × HasReason why d.remainder kind bytes
+    × ExchangedBut p before.pairs after.pairs sent nodes (sent_for d l) why kind bytes × (after.faults ≡ before.faults)
+GivesNone p d l stops.WriteFault before after sent nodes = ⊥
+GivesNone p d l stops.Memory before after sent nodes = ⊥
 
 -- At a batch that the client reached, its exchange gave no node. The lines are those before that batch.
-pub record CutAtBatch {L W : Type 0} (gl : links.Ghosts L) (gw : sinks.Ghosts W) (p : program.Program) (fuel : ℕ) (stop : RunStop) (o : Origin L W) (link' : L) (out' : W) : Type 0 where
-  pub past : Past
+pub record CutAtBatch (p : Program) (fuel : ℕ) (stop : RunStop) (before after : Scene) : Type 0 where
+  pub nodes : List Node
+  pub past : Waiting
   pub batch : Outermost
   pub local : Local
-  pub reaches : Reaches (mirror_program p) fuel past batch local
-  pub written : output gw out' ≡ with_bytes o.start (shown_events past.events)
-  pub gives_none : GivesNone gl o past (division (mirror_program p) batch) local stop link'
+  pub reaches : Reaches p fuel nodes past batch local
+  pub written : after.out ≡ with_bytes before.out (shown_events past.events)
+  pub gives_none : GivesNone p (division p batch) local stop before after past.sent nodes
 
--- what cut a run off
-abbrev pub IsCutOff : {L W : Type 0} → links.Ghosts L → sinks.Ghosts W → program.Program → ℕ → MutBor L → MutBor W → L → W → RunStop → Type 0
-IsCutOff gl gw p fuel link out link' out' stops.WriteFault = CutInWriting gl gw p fuel link.now link' out.now out'
-IsCutOff gl gw p fuel link out link' out' stops.Memory = Unit {0}
-IsCutOff gl gw p fuel link out link' out' stop = CutAtBatch gl gw p fuel stop (origin gl gw (mirror_program p) link out) link' out'
+-- A run over any link: the client ran, or was cut off. Nothing is said after want of memory.
+abbrev pub RunsOver : Program → ℕ → Result Run RunStop → Scene → Scene → Type 0
+RunsOver p fuel (Ok run) before after = Ran p fuel run before after
+RunsOver p fuel (Err stops.WriteFault) before after = CutInWriting p fuel before after
+RunsOver p fuel (Err stops.Memory) before after = Unit {0}
+RunsOver p fuel (Err stop) before after = CutAtBatch p fuel stop before after
+
+-- An exchange fails exactly where it is listed: none of those that gave a node is, and the one that failed is.
+abbrev pub FailsAsListed : Result Run RunStop → Scene → Scene → Type 0
+FailsAsListed (Ok run) before after = NoneFails run.exchanges before.server
+FailsAsListed (Err (stops.LinkFault k)) before after = NoneFails k before.server × FailsAfter k before.server
+FailsAsListed (Err (stops.BadReply k why kind bytes)) before after = NoneFails k before.server
+FailsAsListed (Err stops.WriteFault) before after = Unit {0}
+FailsAsListed (Err stops.Memory) before after = Unit {0}

@@ -133,11 +133,12 @@ fn run_plan<L: Link, W: Sink>(
     ended
 }
 
-/// Runs a typed program with so much fuel, whose batches have these divisions, over a link: `client`.
+/// Runs an accepted program with so much fuel, whose batches have these divisions, over a link: `client`.
 ///
 /// Each line goes to the output as it comes. At each batch its script is sent with the values of its inputs, and its remainder
-/// is performed on the node that is replied. After `WriteFault` a front of the lines was written; after `LinkFault` and
-/// `BadReply` the lines before that batch; after `Memory` nothing is said.
+/// is performed on the node that is replied. Over an honest link that is what the program means on the server behind it. After
+/// `WriteFault` a front of the lines was written; after `LinkFault` and `BadReply` the lines before that batch; after `Memory`
+/// nothing is said.
 pub fn run_client<L: Link, W: Sink>(
     alloc: Global,
     typed: &Typed,
@@ -146,9 +147,13 @@ pub fn run_client<L: Link, W: Sink>(
     link: &mut L,
     out: &mut W,
 ) -> Result<Run, RunStop>
-    requires { AreDivisions typed.now splits.now }
-    ensures ran { IfOk result (λ run. Ran L.Link W.Sink typed.now fuel run link.old link.new out.old out.new) }
-    ensures cut { IfErr result (IsCutOff L.Link W.Sink typed.now fuel link.entry out.entry link.new out.new) }
+    requires { IsAcceptedWith typed.now splits.now }
+    // Over any link it is the client on the nodes that are replied, one exchange a script, until it is cut off.
+    ensures runs { Between L.Link W.Sink link.old out.old link.new out.new (RunsOver (mirror_program typed.now) fuel result) }
+    // An exchange fails exactly where the link lists it.
+    ensures lists { Between L.Link W.Sink link.old out.old link.new out.new (FailsAsListed result) }
+    // Over an honest link it is what the program means, and no reply is refused.
+    ensures means { Between L.Link W.Sink link.old out.old link.new out.new (MeansWhereHonest (mirror_program typed.now) fuel result) }
 {
     let program = typed.program();
     let code = Code::make(alloc, &program.classes)?;

@@ -1,3 +1,4 @@
 -- The laws of whole batches and of whole programs.
 pub mod Dividing
 pub mod Clients
+pub mod Reached
