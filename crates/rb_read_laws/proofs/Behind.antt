@@ -20,7 +20,8 @@ later n [] = 0
 later n (t ∷ ts) = starts n ts
 
 module _ (n : ℕ) where
-  -- the number stands so often in the positions of the tree of a part, of those that begin with a keyword
+  -- The number stands at most so often in the positions of a part's tree. It is said of the parts that begin with a
+  -- keyword and have positions.
   abbrev pub Counts : (p : Nonterminal) → TreeOf p → ℕ → Type 0
   Counts s.TheProgram x k = Hits n s.TheProgram x k
   Counts s.Classes x k = Hits n s.Classes x k
@@ -41,6 +42,7 @@ module _ (n : ℕ) where
     pub counts : Counts p x own
     pub rest : R left
 
+  -- The number stands so often in the positions of the trees of such parts, where the first token takes nothing.
   abbrev pub Behind : (l : List Symbol) → Trees l → ℕ → Type 0
   Behind [] xs k = Unit {0}
   Behind (Terminal kind ∷ l) xs k = FirstTaken (AllHit n l xs.1) k

@@ -1,4 +1,4 @@
--- Where the tokens of a text start, and what is so of numbers that stand in a list no more often.
+-- Where the tokens of a text start, and lists in which some numbers don't stand.
 use Rattle.std.proofs.Common.{◌≡◌, refl, ℕ, zero, suc, ◌<◌, ◌≤◌, ◌≢◌, true, false, inl, inr, nat_eq, List, [], ◌∷◌, arith, eq-eqb, ne_eqb}
 use Rattle.std.proofs.lemmas.Bool.{cases_lt}
 use Rattle.std.specs.List.{AllByRecursion}

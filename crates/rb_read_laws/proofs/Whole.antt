@@ -17,8 +17,8 @@ module _ (source : List ℕ) (tokens : List Token) (p : Program) (t : IsTokens s
   none_behind : (n : ℕ) → 2 ^ 32 ≤ n → times n (classes_positions p.classes ++ body_positions p.body) ≤ 0
   none_behind n l =
       let h = hits source n d in
-      let behind : length source ≤ n = omega (arith, t.short) in
-      omega (arith, h.hits, h.fits, absent_behind source n 0 (length source) tokens t.stand behind)
+      let past : length source ≤ n = omega (arith, t.short) in
+      omega (arith, h.hits, h.fits, absent_behind source n 0 (length source) tokens t.stand past)
 
 pub places : ReadProgramsHavePlaces
 places source p read =
