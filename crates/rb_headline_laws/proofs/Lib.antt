@@ -15,3 +15,4 @@ pub mod Owned
 pub mod Standing
 pub mod Divided
 pub mod Clients
+pub mod Shown
