@@ -16,3 +16,5 @@ pub mod Standing
 pub mod Divided
 pub mod Clients
 pub mod Shown
+pub mod Mains
+pub mod Coming
