@@ -16,24 +16,21 @@ use Rattle.rb_meaning.specs.State as state
 use Rattle.rb_meaning.specs.State.{Event, Outside, shows}
 use Rattle.rb_meaning.specs.Unsplit.{batch_at, performs_batch}
 use Rattle.rb_meaning.specs.Links.{IsTyped}
-use Rattle.rb_meaning.specs.Meaning.{performs_found, in_main, runs_main, at_start, outside_of, ending_of}
+use Rattle.rb_meaning.specs.Meaning.{performs_found, in_main, outside_of, ending_of}
 use Rattle.rb_meaning_split.specs.Division.{Division, division}
 use Rattle.rb_meaning_split.specs.Client.{Sent, Waiting, answers_waiting, sent_for, begins, replays, replays_next, performs_divided, in_client, client}
 use Rattle.rb_flow.specs.Program.{HasNoRefusal}
-use Rattle.rb_types_keep.specs.Formed.{LawfulExprsAreFormed}
-use Rattle.rb_types_keep.specs.Operators.{ConditionsHold}
 use Rattle.rb_types_keep.specs.Asked.{Side, Own, Site, Keeps, IsAskedBatch}
 use Rattle.rb_types_keep.specs.Around.{HandlerFits}
-use Rattle.rb_types_keep.specs.Code.{TypesKeep}
 use Rattle.rb_unsplit_keeps.specs.Batches.{program_sites}
-use Rattle.rb_unsplit_keeps.proofs.Admitted.{whole_fits}
 use Rattle.rb_unsplit_keeps.proofs.Found.{batch_found}
 use Rattle.rb_unsplit_keeps.proofs.Programs.{program_typed, batches_in}
-use Rattle.rb_unsplit_keeps.proofs.Whole.{MainEnds, main_handler_fits, main_keeps}
 use Rattle.rb_split_laws.specs.Remote.{script_run}
 use Rattle.rb_headline_laws.specs.Dividing.{KeepsMeaning, NothingAtZero}
 use Rattle.rb_headline_laws.specs.Clients.{sent_run, ScriptsGive, ClientsMeanWhatProgramsMean}
+use Rattle.rb_headline_laws.specs.Reached.{main_run, with_nodes}
 use Rattle.rb_headline_laws.proofs.Divided.{Below, dividing_keeps}
+use Rattle.rb_headline_laws.proofs.Mains.{Typing, Ends, main_fits, main_kept}
 
 pub same_tail : {A : Type 0} (xs ys zs : List A) → xs ++ ys ≡ xs ++ zs → ys ≡ zs
 same_tail [] ys zs e = e
@@ -234,14 +231,12 @@ module _ (below : Below) (p : Program) (lawful : IsLawful p) (checked : check_pr
       nodes_exist (AskBatch at l go) k s holds before =
           batch_exists at l go k.0 k.1 s holds before (λ sent. nodes_exist (go (main.batch s at l).0) (k.2 (main.batch s at l).0 (fits.batches s at l k.0 holds k.1)) (main.batch s at l).1 (fits.performed s at l k.0 holds k.1) sent)
 
-pub clients_mean : Below → ConditionsHold → LawfulExprsAreFormed → TypesKeep → ClientsMeanWhatProgramsMean
-clients_mean below conditions exprs_formed types_keep p lawful checked none zero_free service table served fuel =
-    let t = program_typed p checked in
-    let whole = whole_fits below.laws conditions exprs_formed below.stmts_formed below.classes_formed types_keep below.sends p lawful t none service table served in
-    let fits = main_handler_fits below.laws.calls exprs_formed below.stmts_formed below.classes_formed types_keep p lawful t none service table served whole (below.notes p lawful) in
-    let keeps = main_keeps below.laws.calls exprs_formed below.stmts_formed below.classes_formed types_keep p lawful t none service table served whole (below.notes p lawful) fuel in
-    let run = runs_main p.classes fuel p.body (at_start fuel) in
-    let ends = MainEnds below.laws.calls exprs_formed below.stmts_formed below.classes_formed types_keep p lawful t none service table served whole (below.notes p lawful) in
+pub clients_mean : Below → Typing → ClientsMeanWhatProgramsMean
+clients_mean below typing p lawful checked none zero_free service table served fuel =
+    let fits = main_fits below typing p lawful checked none service table served in
+    let keeps = main_kept below typing p lawful checked none service table served fuel in
+    let run = main_run p fuel in
+    let ends = Ends below typing p lawful checked none service table served in
     let made = nodes_exist below p lawful checked none zero_free service table served fits ends run keeps (outside_of table) served.fits [] in (
       record {
         nodes = made.nodes;
@@ -249,6 +244,6 @@ clients_mean below conditions exprs_formed types_keep p lawful checked none zero
         given = subst (λ q. ScriptsGive service table q made.nodes (handle (in_main p service) run (outside_of table)).1.server.table) (sym made.sent) made.given;
       },
       λ nodes after given.
-          let alike = runs_alike below p lawful checked none zero_free service table served fits ends run keeps (outside_of table) (record { events = []; sent = []; nodes = nodes }) refl served.fits (client p fuel nodes).sent after refl given in
+          let alike = runs_alike below p lawful checked none zero_free service table served fits ends run keeps (outside_of table) (with_nodes nodes) refl served.fits (client p fuel nodes).sent after refl given in
           record { ending = ap ending_of alike.same; events = alike.events; table = alike.table },
     )

@@ -18,3 +18,6 @@ pub mod Clients
 pub mod Shown
 pub mod Mains
 pub mod Coming
+pub mod Sure
+pub mod Given
+pub mod Exchanged
