@@ -9,14 +9,28 @@ use std::rt::Files;
 use std::{fs, io, str};
 
 /// The commands, whose words single spaces part. What has a `.` in it names a file.
-const COMMANDS: [&str; 7] = [
+const COMMANDS: [&str; 21] = [
     "both large.rbi files.rbs",
     "unsplit large.rbi files.rbs",
+    "split large.rbi",
     "both rename.rbi files.rbs",
     "both cart.rbi shop.rbs",
     "both report.rbi folders.rbs",
+    "both local_fault.rbi files.rbs",
     "check refused.rbi",
     "both mended.rbi files.rbs",
+    "check constant.rbi",
+    "both constant_mended.rbi files.rbs",
+    "check condition.rbi",
+    "both condition_mended.rbi files.rbs",
+    "check escape.rbi",
+    "both escape_mended.rbi files.rbs",
+    "check inside.rbi",
+    "both inside_mended.rbi files.rbs",
+    "check trying.rbi",
+    "both trying_mended.rbi files.rbs",
+    "check variable.rbi",
+    "both variable_mended.rbi files.rbs",
 ];
 
 fn main(rt: HostRuntime) -> io::Result<()> {

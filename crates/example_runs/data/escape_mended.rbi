@@ -1,0 +1,16 @@
+interface File {
+    fun name(): Text;
+    fun size(): Int;
+    fun grow(by: Int);
+}
+
+interface Directory {
+    fun files(): Rows<File>;
+    fun file(i: Int): File;
+}
+
+main {
+    batch (Directory directory) {
+        print(directory.file(0).name());
+    }
+}

@@ -1,0 +1,1 @@
+../crates/example_runs/data/inside_mended.rbi

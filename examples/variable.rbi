@@ -1,0 +1,1 @@
+../crates/example_runs/data/variable.rbi
