@@ -16,26 +16,23 @@ use Rattle.rb_meaning.specs.State as state
 use Rattle.rb_meaning.specs.State.{Event, Outside, shows}
 use Rattle.rb_meaning.specs.Unsplit.{batch_at, performs_batch}
 use Rattle.rb_meaning.specs.Links.{IsTyped}
-use Rattle.rb_meaning.specs.Meaning.{performs_found, in_main, runs_main, at_start, outside_of, ending_of}
+use Rattle.rb_meaning.specs.Meaning.{performs_found, in_main, outside_of, ending_of}
 use Rattle.rb_meaning_split.specs.Division.{Division, division}
 use Rattle.rb_meaning_split.specs.Client.{Sent, Waiting, answers_waiting, sent_for, begins, replays, replays_next, performs_divided, in_client, client}
 use Rattle.rb_flow.specs.Program.{HasNoRefusal}
-use Rattle.rb_types_keep.specs.Formed.{LawfulExprsAreFormed}
-use Rattle.rb_types_keep.specs.Operators.{ConditionsHold}
 use Rattle.rb_types_keep.specs.Asked.{Side, Own, Site, Keeps, IsAskedBatch}
 use Rattle.rb_types_keep.specs.Around.{HandlerFits}
-use Rattle.rb_types_keep.specs.Code.{TypesKeep}
 use Rattle.rb_unsplit_keeps.specs.Batches.{program_sites}
-use Rattle.rb_unsplit_keeps.proofs.Admitted.{whole_fits}
 use Rattle.rb_unsplit_keeps.proofs.Found.{batch_found}
 use Rattle.rb_unsplit_keeps.proofs.Programs.{program_typed, batches_in}
-use Rattle.rb_unsplit_keeps.proofs.Whole.{MainEnds, main_handler_fits, main_keeps}
 use Rattle.rb_split_laws.specs.Remote.{script_run}
 use Rattle.rb_headline_laws.specs.Dividing.{KeepsMeaning, NothingAtZero}
 use Rattle.rb_headline_laws.specs.Clients.{sent_run, ScriptsGive, ClientsMeanWhatProgramsMean}
+use Rattle.rb_headline_laws.specs.Reached.{main_run, with_nodes}
 use Rattle.rb_headline_laws.proofs.Divided.{Below, dividing_keeps}
+use Rattle.rb_headline_laws.proofs.Mains.{Typing, Ends, main_fits, main_kept}
 
-same_tail : {A : Type 0} (xs ys zs : List A) → xs ++ ys ≡ xs ++ zs → ys ≡ zs
+pub same_tail : {A : Type 0} (xs ys zs : List A) → xs ++ ys ≡ xs ++ zs → ys ≡ zs
 same_tail [] ys zs e = e
 same_tail (x ∷ xs) ys zs e = same_tail xs ys zs (cc (e))
 
@@ -61,28 +58,28 @@ module _ (below : Below) (p : Program) (lawful : IsLawful p) (checked : check_pr
     pub more : List Sent
     pub same : w1.sent ≡ w.sent ++ more
 
-  grows_same : (w : Waiting) → Grows w w
+  pub grows_same : (w : Waiting) → Grows w w
   grows_same w = record { more = []; same = sym (append-nil w.sent) }
 
-  grows_on : (a b c : Waiting) → Grows a b → Grows b c → Grows a c
+  pub grows_on : (a b c : Waiting) → Grows a b → Grows b c → Grows a c
   grows_on a b c g h = record { more = g.more ++ h.more; same = h.same ∙ ap (λ q. q ++ h.more) g.same ∙ append_assoc a.sent g.more h.more }
 
-  answer_grows : (w : Waiting) (q : Question) → Grows w (answers_waiting w q).1
+  pub answer_grows : (w : Waiting) (q : Question) → Grows w (answers_waiting w q).1
   answer_grows w (Line at bytes) = record { more = []; same = sym (append-nil w.sent) }
   answer_grows w (Taken step) = grows_same w
   answer_grows w (Invoke at target method args) = grows_same w
   answer_grows w (Turn at) = grows_same w
   answer_grows w (ListTurn at) = grows_same w
 
-  next_grows : (v : Division) (l : Local) (w : Waiting) (nodes : List Node) → (replays_next p v l w nodes).1.sent ≡ w.sent
+  pub next_grows : (v : Division) (l : Local) (w : Waiting) (nodes : List Node) → (replays_next p v l w nodes).1.sent ≡ w.sent
   next_grows v l w [] = refl
   next_grows v l w (n ∷ ns) = refl
 
-  batch_grows : (w : Waiting) (o : Option Outermost) (at : ℕ) (l : Local) → Grows w (performs_divided p o at l w).1
+  pub batch_grows : (w : Waiting) (o : Option Outermost) (at : ℕ) (l : Local) → Grows w (performs_divided p o at l w).1
   batch_grows w None at l = grows_same w
   batch_grows w (Some b) at l = record { more = sent_for (division p b) l ∷ []; same = next_grows (division p b) l (begins (division p b) l w) w.nodes }
 
-  run_grows : {A : Type 0} (run : Dialogue A) (w : Waiting) → Grows w (handle waiting run w).1
+  pub run_grows : {A : Type 0} (run : Dialogue A) (w : Waiting) → Grows w (handle waiting run w).1
   run_grows (Done a) w = grows_same w
   run_grows (Ask q go) w = let next = answers_waiting w q in grows_on w next.1 (handle waiting (go next.0) next.1).1 (answer_grows w q) (run_grows (go next.0) next.1)
   run_grows (AskBatch at l go) w =
@@ -94,15 +91,15 @@ module _ (below : Below) (p : Program) (lawful : IsLawful p) (checked : check_pr
     pub batch : Outermost
     pub found : batch_at p at ≡ Some batch
 
-  found_at : (at : ℕ) (l : Local) (site : Site) → IsAskedBatch d side at l site → IsFoundBatch at
+  pub found_at : (at : ℕ) (l : Local) (site : Site) → IsAskedBatch d side at l site → IsFoundBatch at
   found_at at l site asked =
       let known = batches_in p lawful (program_typed p checked) (below.notes p lawful) site asked.may in
       record { batch = known.begun; found = ap (batch_at p) (sym (known.at ∙ asked.here)) ∙ batch_found p lawful known.begun known.among }
 
-  typed_now : (s : Outside) → Holds s → IsTyped service s.server.table
+  pub typed_now : (s : Outside) → Holds s → IsTyped service s.server.table
   typed_now s h = record { lawful = served.lawful; typed = served.typed; fits = h }
 
-  keeps_here : (s : Outside) → Holds s → (at : ℕ) (l : Local) (site : Site) → IsAskedBatch d side at l site → (b : Outermost) → batch_at p at ≡ Some b → KeepsMeaning p service b l s
+  pub keeps_here : (s : Outside) → Holds s → (at : ℕ) (l : Local) (site : Site) → IsAskedBatch d side at l site → (b : Outermost) → batch_at p at ≡ Some b → KeepsMeaning p service b l s
   keeps_here s h at l site asked b found = dividing_keeps below p lawful checked none zero_free service s (typed_now s h) at l site asked b found
 
   -- ---- the runs
@@ -114,20 +111,20 @@ module _ (below : Below) (p : Program) (lawful : IsLawful p) (checked : check_pr
     pub table : after ≡ u.1.server.table
 
   -- the script that is sent for a batch
-  abbrev sent_now : Outermost → Local → Sent
+  abbrev pub sent_now : Outermost → Local → Sent
   sent_now b l = sent_for (division p b) l
 
   -- the client's surroundings behind a batch
-  abbrev behind : Outside → List Sent → List Node → Waiting
+  abbrev pub behind : Outside → List Sent → List Node → Waiting
   behind s sent nodes = record { events = s.events; sent = sent; nodes = nodes }
 
-  none_given : (before after : List Object) (nodes : List Node) → ScriptsGive service before [] nodes after → after ≡ before
+  pub none_given : (before after : List Object) (nodes : List Node) → ScriptsGive service before [] nodes after → after ≡ before
   none_given before after [] h = sym h
   none_given before after (n ∷ ns) h = absurd h
 
   module _ (fits : HandlerFits d side Holds main) where
     -- what a client does on a node that its script gave is what the program does
-    batch_same : (s : Outside) (w : Waiting) (at : ℕ) (l : Local) (b : Outermost) (n : Node) (ns : List Node) → batch_at p at ≡ Some b → w.events ≡ s.events → KeepsMeaning p service b l s → (script_run p service b l s.server.table).node ≡ n → w.nodes ≡ n ∷ ns
+    pub batch_same : (s : Outside) (w : Waiting) (at : ℕ) (l : Local) (b : Outermost) (n : Node) (ns : List Node) → batch_at p at ≡ Some b → w.events ≡ s.events → KeepsMeaning p service b l s → (script_run p service b l s.server.table).node ≡ n → w.nodes ≡ n ∷ ns
         → performs_divided p (batch_at p at) at l w ≡ ((main.batch s at l).0, behind (main.batch s at l).1 (w.sent ++ sent_now b l ∷ []) ns)
     batch_same s w at l b n ns found e keeps given is =
         ap (λ z. performs_divided p z at l w) found
@@ -139,7 +136,7 @@ module _ (below : Below) (p : Program) (lawful : IsLawful p) (checked : check_pr
         ∙ ap (λ z. ((performs_found p service z at l s).0, behind (performs_found p service z at l s).1 (w.sent ++ sent_now b l ∷ []) ns)) (sym found)
 
     -- the table that the script left is the program's
-    table_same : (s : Outside) (at : ℕ) (l : Local) (b : Outermost) → batch_at p at ≡ Some b → KeepsMeaning p service b l s → (sent_run service s.server.table (sent_now b l)).server.table ≡ (main.batch s at l).1.server.table
+    pub table_same : (s : Outside) (at : ℕ) (l : Local) (b : Outermost) → batch_at p at ≡ Some b → KeepsMeaning p service b l s → (sent_run service s.server.table (sent_now b l)).server.table ≡ (main.batch s at l).1.server.table
     table_same s at l b found keeps = keeps.table ∙ ap (λ z. (performs_found p service z at l s).1.server.table) (sym found)
 
     module _ {A : Type 0} (P : A → Type 0) where
@@ -234,14 +231,12 @@ module _ (below : Below) (p : Program) (lawful : IsLawful p) (checked : check_pr
       nodes_exist (AskBatch at l go) k s holds before =
           batch_exists at l go k.0 k.1 s holds before (λ sent. nodes_exist (go (main.batch s at l).0) (k.2 (main.batch s at l).0 (fits.batches s at l k.0 holds k.1)) (main.batch s at l).1 (fits.performed s at l k.0 holds k.1) sent)
 
-pub clients_mean : Below → ConditionsHold → LawfulExprsAreFormed → TypesKeep → ClientsMeanWhatProgramsMean
-clients_mean below conditions exprs_formed types_keep p lawful checked none zero_free service table served fuel =
-    let t = program_typed p checked in
-    let whole = whole_fits below.laws conditions exprs_formed below.stmts_formed below.classes_formed types_keep below.sends p lawful t none service table served in
-    let fits = main_handler_fits below.laws.calls exprs_formed below.stmts_formed below.classes_formed types_keep p lawful t none service table served whole (below.notes p lawful) in
-    let keeps = main_keeps below.laws.calls exprs_formed below.stmts_formed below.classes_formed types_keep p lawful t none service table served whole (below.notes p lawful) fuel in
-    let run = runs_main p.classes fuel p.body (at_start fuel) in
-    let ends = MainEnds below.laws.calls exprs_formed below.stmts_formed below.classes_formed types_keep p lawful t none service table served whole (below.notes p lawful) in
+pub clients_mean : Below → Typing → ClientsMeanWhatProgramsMean
+clients_mean below typing p lawful checked none zero_free service table served fuel =
+    let fits = main_fits below typing p lawful checked none service table served in
+    let keeps = main_kept below typing p lawful checked none service table served fuel in
+    let run = main_run p fuel in
+    let ends = Ends below typing p lawful checked none service table served in
     let made = nodes_exist below p lawful checked none zero_free service table served fits ends run keeps (outside_of table) served.fits [] in (
       record {
         nodes = made.nodes;
@@ -249,6 +244,6 @@ clients_mean below conditions exprs_formed types_keep p lawful checked none zero
         given = subst (λ q. ScriptsGive service table q made.nodes (handle (in_main p service) run (outside_of table)).1.server.table) (sym made.sent) made.given;
       },
       λ nodes after given.
-          let alike = runs_alike below p lawful checked none zero_free service table served fits ends run keeps (outside_of table) (record { events = []; sent = []; nodes = nodes }) refl served.fits (client p fuel nodes).sent after refl given in
+          let alike = runs_alike below p lawful checked none zero_free service table served fits ends run keeps (outside_of table) (with_nodes nodes) refl served.fits (client p fuel nodes).sent after refl given in
           record { ending = ap ending_of alike.same; events = alike.events; table = alike.table },
     )

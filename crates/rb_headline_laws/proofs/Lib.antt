@@ -15,3 +15,9 @@ pub mod Owned
 pub mod Standing
 pub mod Divided
 pub mod Clients
+pub mod Shown
+pub mod Mains
+pub mod Coming
+pub mod Sure
+pub mod Given
+pub mod Exchanged

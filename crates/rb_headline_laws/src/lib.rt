@@ -8,7 +8,10 @@ ghost use Rattle.rb_headline_laws.specs.Clients.{ClientsMeanWhatProgramsMean};
 ghost use Rattle.rb_headline_laws.specs.Dividing.{DividingKeepsMeaning};
 ghost use Rattle.rb_headline_laws.specs.Reached.{FrontsAreShown, ProgramsComeAsFar, ReachedBatchesCanBeExchanged};
 
-use rb_division_laws::{sent_code_faults_remotely, sent_expressions_are_remote};
+use rb_division_laws::{
+    divided_scripts_can_be_sent, nodes_of_scripts_fit, sent_code_faults_remotely,
+    sent_expressions_are_remote,
+};
 use rb_flow::admitted_programs_send_only_portable_parts;
 use rb_local_laws::{
     local_code_does_the_same, local_code_is_not_marked_remote,
@@ -72,7 +75,24 @@ pub fn clients_mean_what_programs_mean()
 /// give there, the program comes as far: the same is left of it, it has shown the same, and the server has the same table.
 pub fn programs_come_as_far_as_clients()
     ensures { ProgramsComeAsFar }
-{}
+{
+    conditions_have_truths();
+    typed_code_keeps_types();
+    operators_keep_types();
+    remote_calls_keep_tables();
+    remote_calls_are_typed();
+    lawful_code_is_formed();
+    admitted_programs_send_only_portable_parts();
+    lawful_programs_are_noted();
+    each_expression_has_its_mark();
+    remote_expressions_stand_as_they_should();
+    local_code_is_not_marked_remote();
+    local_code_does_the_same();
+    scopes_of_batches_are_known();
+    sent_expressions_are_remote();
+    sent_code_faults_remotely();
+    scripts_perform_remote_parts();
+}
 
 /// What a program has shown anywhere on its way is a front of what it means to show.
 pub fn fronts_are_shown()
@@ -83,4 +103,23 @@ pub fn fronts_are_shown()
 /// node that its script gives fits its remainder.
 pub fn reached_batches_can_be_exchanged()
     ensures { ReachedBatchesCanBeExchanged }
-{}
+{
+    conditions_have_truths();
+    typed_code_keeps_types();
+    operators_keep_types();
+    remote_calls_keep_tables();
+    remote_calls_are_typed();
+    lawful_code_is_formed();
+    admitted_programs_send_only_portable_parts();
+    lawful_programs_are_noted();
+    each_expression_has_its_mark();
+    remote_expressions_stand_as_they_should();
+    local_code_is_not_marked_remote();
+    local_code_does_the_same();
+    scopes_of_batches_are_known();
+    sent_expressions_are_remote();
+    sent_code_faults_remotely();
+    scripts_perform_remote_parts();
+    nodes_of_scripts_fit();
+    divided_scripts_can_be_sent();
+}

@@ -29,4 +29,4 @@ returns c = clients_mean
       faults = c.sent_code_faults_remotely.ensures;
       scripts = c.scripts_perform_remote_parts.ensures;
     })
-    c.conditions_have_truths.ensures c.lawful_code_is_formed.ensures.exprs c.typed_code_keeps_types.ensures
+    (record { conditions = c.conditions_have_truths.ensures; exprs_formed = c.lawful_code_is_formed.ensures.exprs; types_keep = c.typed_code_keeps_types.ensures })
