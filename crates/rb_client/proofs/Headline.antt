@@ -1,5 +1,5 @@
 -- Over an honest link what a run leaves is what its program means.
-use Rattle.std.proofs.Common.{◌≡◌, ◌⊎◌, inl, inr, refl, sym, ap, ◌∙◌, subst, ℕ, List, [], ◌∷◌, ◌++◌, length}
+use Rattle.std.proofs.Common.{◌≡◌, ◌⊎◌, inl, inr, refl, sym, ap, ◌∙◌, subst, ℕ, List, [], ◌∷◌, ◌++◌}
 use Rattle.std.specs.Prelude.{Option, None, Some, Result, Ok, Err}
 use Rattle.rb_trees.specs.declared.outcomes.Raised.{Raised}
 use Rattle.rb_trees.specs.declared.outcomes.Run as runs
@@ -17,25 +17,24 @@ use Rattle.rb_meaning_code.specs.Dialogue.{Question, Outcome, Dialogue, Done, As
 use Rattle.rb_meaning_code.specs.Led.{Passes, here, answered, performed}
 use Rattle.rb_meaning_code.specs.State.{Local}
 use Rattle.rb_meaning.specs.Links.{Behind, IsTyped, TellsTyped}
-use Rattle.rb_meaning.specs.Meaning.{answers_outside, in_main, meaning, outside_of, performs_found}
+use Rattle.rb_meaning.specs.Meaning.{answers_outside, in_main, outside_of, performs_found}
 use Rattle.rb_meaning.specs.Shown.{exchanges, shown_events}
 use Rattle.rb_meaning.specs.State as state
 use Rattle.rb_meaning.specs.State.{Event, Outside}
-use Rattle.rb_meaning.specs.Unsplit.{batch_at, performs_batch, server_after}
+use Rattle.rb_meaning.specs.Unsplit.{batch_at}
 use Rattle.rb_meaning_flow.specs.Outermost.{Outermost}
 use Rattle.rb_meaning_split.specs.Client.{Sent, client, replays, sent_for}
 use Rattle.rb_meaning_split.specs.Division.{Division, division, divisions}
 use Rattle.rb_division_laws.specs.Fitting.{node_of}
 use Rattle.rb_division_laws.specs.Sendable.{HasPlaces}
-use Rattle.rb_split_laws.specs.Remote.{remote_part, script_run}
+use Rattle.rb_split_laws.specs.Remote.{script_run}
 use Rattle.rb_flow.specs.Program.{HasNoRefusal}
 use Rattle.rb_headline_laws.specs.Clients.{ClientsMeanWhatProgramsMean, ScriptsGive, sent_run}
 use Rattle.rb_headline_laws.specs.Dividing.{KeepsMeaning, NothingAtZero}
-use Rattle.rb_headline_laws.specs.Reached.{CanBeExchanged, ComesAsFar, FrontsAreShown, IsFront, ProgramComesTo, ProgramsComeAsFar, ReachedBatchesCanBeExchanged, main_run, with_nodes}
-use Rattle.rb_base.specs.Devices.{failed}
-use Rattle.rb_base.specs.Sinks.{with_bytes, WrotePrefix}
+use Rattle.rb_headline_laws.specs.Reached.{CanBeExchanged, ComesAsFar, FrontsAreShown, ProgramComesTo, ProgramsComeAsFar, ReachedBatchesCanBeExchanged, main_run, with_nodes}
+use Rattle.rb_base.specs.Sinks.{with_bytes}
 use Rattle.rb_client.specs.Clients.{FailsToWrite, Past, asked, performed_past, waiting}
-use Rattle.rb_client.specs.Headline.{EndsAsMeant, LosesBatch, MayHavePerformed, MeansProgram, MeansWhereHonest, meant_on, table_behind}
+use Rattle.rb_client.specs.Headline.{EndsAsMeant, LosesBatch, MayHavePerformed, MeansProgram, MeansWhereHonest, meant_on}
 use Rattle.rb_client.specs.MainRuns.{ComesTo, EndsAt, Leaves, StopsWriting}
 use Rattle.rb_client.specs.Remote.{ReachedPerformRemoteParts}
 use Rattle.rb_client.specs.Runs.{Ran}
@@ -47,7 +46,7 @@ use Rattle.rb_client.specs.declared.stops.RunStop.{RunStop}
 use Rattle.rb_client.specs.declared.stops.RunStop.TheVariants as stops
 use Rattle.rb_client.proofs.Answering.{front_later}
 use Rattle.rb_client.proofs.RunsOver.{client_comes, ran_so}
-use Rattle.rb_client.proofs.Serving.{LastGives, Served, last_gives, served_of}
+use Rattle.rb_client.proofs.Serving.{Served, last_gives, served_of}
 use Rattle.rb_client.proofs.Showing.{client_counted, passed_counted}
 
 -- the laws that this stands on

@@ -1,5 +1,5 @@
 -- How `main` ends over the client's World.
-use Rattle.std.proofs.Common.{◌≡◌, refl, sym, ap, ◌∙◌, subst, ℕ, List, [], ◌∷◌, ◌++◌, map, append-nil}
+use Rattle.std.proofs.Common.{◌≡◌, refl, sym, ap, ◌∙◌, subst, ℕ, List, [], ◌++◌, append-nil}
 use Rattle.std.specs.Prelude.{Option, None, Some, Result, Ok, Err}
 use Rattle.rb_trees.specs.declared.declarations.Body as body
 use Rattle.rb_trees.specs.declared.declarations.Class as class
@@ -7,12 +7,11 @@ use Rattle.rb_trees.specs.declared.outcomes.Ending.TheVariants as endings
 use Rattle.rb_trees.specs.declared.outcomes.Raised.{Raised}
 use Rattle.rb_trees.specs.declared.outcomes.Run as runs
 use Rattle.rb_trees.specs.declared.values.Value.{Value}
-use Rattle.rb_trees.specs.mirror.Declarations.{mirror_body, mirror_class, mirror_program}
 use Rattle.rb_meaning_code.specs.Dialogue.{Outcome, Gave, Faulted, Run, Done, Ask, AskBatch, Follows, handle}
 use Rattle.rb_meaning_code.specs.Led.{CutsOff, Passes}
 use Rattle.rb_meaning_code.specs.State.{Local}
 use Rattle.rb_meaning.specs.Links.{Pair, TellsTyped}
-use Rattle.rb_meaning.specs.Meaning.{at_start, ending_of, runs_main}
+use Rattle.rb_meaning.specs.Meaning.{at_start, ending_of}
 use Rattle.rb_meaning.specs.Unsplit.{batch_at}
 use Rattle.rb_meaning_flow.specs.Outermost.{Outermost}
 use Rattle.rb_meaning_split.specs.Client.{in_client}
@@ -22,7 +21,7 @@ use Rattle.rb_base.specs.declared.sinks.Sink as sinks
 use Rattle.rb_engine.specs.declared.world.Halt.{Halt}
 use Rattle.rb_engine.specs.declared.world.Halt.TheVariants as halt
 use Rattle.rb_client.specs.Clients.{Origin, Past, PerformedAs, SeesClient, first_scene, nothing_yet, scene_of, waiting}
-use Rattle.rb_client.specs.MainRuns.{ComesTo, KeepsBoth, Leads, Leaves, origin, surrounds}
+use Rattle.rb_client.specs.MainRuns.{ComesTo, KeepsBoth, Leads, Leaves, RunsMain, body_run, origin, surrounds}
 use Rattle.rb_client.specs.Replies.{more_pairs, pairs_of}
 use Rattle.rb_client.specs.Serving.{server_of}
 use Rattle.rb_client.specs.Worlds.{output}
@@ -114,10 +113,9 @@ sees_first gl gw w tells count = record {
 
 -- what `main` did, in a World in which nothing was exchanged yet
 pub main_so : {L W : Type 0} (gl : links.Ghosts L) (gw : sinks.Ghosts W) (tells : (link : L) → gl.honest link → TellsTyped (server_of gl link)) (fuel : ℕ) (w w' : ClientWorld L W) (classes : List class.Class) (b : body.Body) (l : Local) (r : Result (Result (Option Value) Raised) (Halt RunStop)) (s : Result runs.Run RunStop)
-    → w.exchanges ≡ 0 → classes ≡ w.plan.now.program.classes → b ≡ w.plan.now.program.body → l ≡ at_start fuel → ended_run w' r ≡ s → Leads gl gw (runs_main (map mirror_class classes) fuel (mirror_body b) l) w r w' → Ended gl gw (origin w) fuel w' s
+    → w.exchanges ≡ 0 → classes ≡ w.plan.now.program.classes → b ≡ w.plan.now.program.body → l ≡ at_start fuel → ended_run w' r ≡ s → Leads gl gw (body_run classes b l) w r w' → RunsMain gl gw fuel w s w'
 main_so gl gw tells fuel w w' classes b l r s count own main start is h =
     subst (λ x. Ended gl gw (origin w) fuel w' x) is
     (by_end gl gw (origin w) fuel w w' r (sees_first gl gw w (tells w.link.now) count)
-    (subst (λ x. Leads gl gw (runs_main (mirror_program w.plan.now.program).classes fuel (mirror_program w.plan.now.program).body x) w r w') start
-    (subst (λ x. Leads gl gw (runs_main (mirror_program w.plan.now.program).classes fuel (mirror_body x) l) w r w') main
-    (subst (λ cs. Leads gl gw (runs_main (map mirror_class cs) fuel (mirror_body b) l) w r w') own h))))
+    (subst (λ x. Leads gl gw (body_run w.plan.now.program.classes w.plan.now.program.body x) w r w') start
+    (subst (λ x. Leads gl gw (body_run w.plan.now.program.classes x l) w r w') main (subst (λ cs. Leads gl gw (body_run cs b l) w r w') own h))))

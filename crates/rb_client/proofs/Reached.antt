@@ -1,23 +1,13 @@
 -- A program that is under way stands on a table that fits, and asks for a batch only where one stands.
-use Rattle.std.proofs.Common.{◌≡◌, ap, ◌∙◌, ℕ, List, Option, Some, Ok}
-use Rattle.rb_trees.specs.declared.services.Object.{Object}
-use Rattle.rb_trees.specs.declared.values.Value.{Value}
-use Rattle.rb_trees.specs.mirror.Declarations.{Program}
-use Rattle.rb_trees.specs.mirror.Services.{Service}
+use Rattle.std.proofs.Common.{ap, ◌∙◌}
 use Rattle.rb_meaning_types.specs.Declared.{Declarations, of_program}
 use Rattle.rb_meaning_types.specs.Fits.{TableFits}
-use Rattle.rb_meaning_types.specs.Lawful.{IsLawful}
-use Rattle.rb_meaning_types.specs.Programs.{check_program}
-use Rattle.rb_meaning_code.specs.Dialogue.{Outcome, Dialogue, AskBatch, Handler}
+use Rattle.rb_meaning_code.specs.Dialogue.{Dialogue, AskBatch, Handler}
 use Rattle.rb_meaning_code.specs.Led.{Passes, here, answered, performed}
-use Rattle.rb_meaning_code.specs.State.{Local}
-use Rattle.rb_meaning_flow.specs.Outermost.{Outermost}
 use Rattle.rb_meaning.specs.Links.{IsTyped}
 use Rattle.rb_meaning.specs.Meaning.{in_main, outside_of}
-use Rattle.rb_meaning.specs.State.{Outside}
 use Rattle.rb_meaning.specs.Unsplit.{batch_at}
 use Rattle.rb_flow.specs.Laws.{AdmittedSendPortable}
-use Rattle.rb_flow.specs.Program.{HasNoRefusal}
 use Rattle.rb_types_keep.specs.Around.{HandlerFits}
 use Rattle.rb_types_keep.specs.Asked.{Keeps, Own, Side}
 use Rattle.rb_types_keep.specs.Code.{TypesKeep}
@@ -29,8 +19,8 @@ use Rattle.rb_unsplit_keeps.proofs.Admitted.{whole_fits}
 use Rattle.rb_unsplit_keeps.proofs.Programs.{program_typed}
 use Rattle.rb_unsplit_keeps.proofs.Walking.{Laws}
 use Rattle.rb_unsplit_keeps.proofs.Whole.{MainEnds, main_handler_fits, main_keeps}
-use Rattle.rb_split_laws.specs.Remote.{PerformsRemotePart, ScriptsPerformRemoteParts}
-use Rattle.rb_headline_laws.specs.Reached.{ProgramComesTo, main_run}
+use Rattle.rb_split_laws.specs.Remote.{ScriptsPerformRemoteParts}
+use Rattle.rb_headline_laws.specs.Reached.{main_run}
 use Rattle.rb_client.specs.Remote.{ReachedPerformRemoteParts}
 
 -- what is left of a run that keeps types keeps them, and what holds of the handler's state still does

@@ -1,5 +1,5 @@
 -- What a client shows: it only adds events, with one for each script that it sends.
-use Rattle.std.proofs.Common.{◌≡◌, refl, sym, ap, ◌∙◌, subst, arith, ℕ, ◌+◌, List, [], ◌∷◌, ◌++◌, length, length-append}
+use Rattle.std.proofs.Common.{◌≡◌, refl, ◌∙◌, arith, ℕ, ◌+◌, List, [], ◌∷◌, ◌++◌, length, length-append}
 use Rattle.std.specs.Prelude.{Option, None, Some}
 use Rattle.rb_trees.specs.mirror.Declarations.{Program}
 use Rattle.rb_trees.specs.mirror.Forests.{Node}
@@ -12,7 +12,7 @@ use Rattle.rb_meaning.specs.State as state
 use Rattle.rb_meaning.specs.State.{Event}
 use Rattle.rb_meaning.specs.Unsplit.{batch_at}
 use Rattle.rb_meaning_flow.specs.Outermost.{Outermost}
-use Rattle.rb_meaning_split.specs.Client.{Waiting, answers_waiting, begins, client, in_client, performs_divided, replays, replays_next, sent_for}
+use Rattle.rb_meaning_split.specs.Client.{Waiting, answers_waiting, begins, client, in_client, performs_divided, replays_next, sent_for}
 use Rattle.rb_meaning_split.specs.Division.{Division, division}
 use Rattle.rb_meaning_split.specs.Replay.{ended}
 use Rattle.rb_headline_laws.specs.Reached.{main_run, with_nodes}

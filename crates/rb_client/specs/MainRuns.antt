@@ -4,15 +4,16 @@ use Rattle.rb_trees.specs.declared.values.Value.{Value}
 use Rattle.rb_trees.specs.declared.outcomes.Raised.{Raised}
 use Rattle.rb_trees.specs.declared.outcomes.Run as runs
 use Rattle.rb_trees.specs.declared.code.Expr as expr
+use Rattle.rb_trees.specs.declared.declarations.Body as body
 use Rattle.rb_trees.specs.declared.declarations.Class as class
 use Rattle.rb_trees.specs.mirror.Code.{mirror_expr}
-use Rattle.rb_trees.specs.mirror.Declarations.{Program, mirror_class, mirror_program}
+use Rattle.rb_trees.specs.mirror.Declarations.{Program, mirror_body, mirror_class, mirror_program}
 use Rattle.rb_trees.specs.mirror.Forests.{Node}
 use Rattle.rb_meaning_code.specs.Bodies.{bodies_of}
 use Rattle.rb_meaning_code.specs.Dialogue.{Outcome, Gave, Faulted, Run, Dialogue, Done, Ask, AskBatch, Surroundings, Follows, handle}
 use Rattle.rb_meaning_code.specs.Led.{Passes}
 use Rattle.rb_meaning_code.specs.State.{Local}
-use Rattle.rb_meaning.specs.Meaning.{ending_of, main_result}
+use Rattle.rb_meaning.specs.Meaning.{ending_of, main_result, runs_main}
 use Rattle.rb_meaning.specs.Unsplit.{batch_at}
 use Rattle.rb_meaning_flow.specs.Outermost.{Outermost}
 use Rattle.rb_meaning_split.specs.Client.{in_client}
@@ -46,6 +47,10 @@ LeadsWithin gl gw run l w result w' = (gas : ℕ) → l.fuel ≤ gas → Leads g
 -- the run of what follows the statements of `main`
 abbrev pub result_run : List class.Class → Option expr.Expr → ℕ → Local → Run (Option Value)
 result_run classes value gas l = main_result (bodies_of (map mirror_class classes) gas) (option_map mirror_expr value) l
+
+-- the run of `main`
+abbrev pub body_run : List class.Class → body.Body → Local → Run (Option Value)
+body_run classes b l = runs_main (map mirror_class classes) l.fuel (mirror_body b) l
 
 -- This is left of `main` with this past, whatever nodes would have followed those that were replied.
 abbrev pub ComesTo : Program → ℕ → Past → Dialogue (Outcome (Option Value)) → Type 0
@@ -91,10 +96,6 @@ Leaves p fuel (Err stops.WriteFault) before after = EndsWriting p fuel before af
 Leaves p fuel (Err stops.Memory) before after = Unit {0}
 Leaves p fuel (Err stop) before after = EndsAt p fuel stop before after
 
--- This holds of the scenes of two Worlds.
-abbrev pub Across : {L W : Type 0} → links.Ghosts L → sinks.Ghosts W → ClientWorld L W → ClientWorld L W → (Scene → Scene → Type 0) → Type 0
-Across gl gw w w' Holds = Holds (scene_of gl gw w) (scene_of gl gw w')
-
 -- the program of a World, and what its run begins with
 abbrev pub program_of : {L W : Type 0} → ClientWorld L W → Program
 program_of w = mirror_program w.plan.now.program
@@ -106,3 +107,7 @@ origin w = record { program = program_of w; link = w.link; out = w.out }
 abbrev pub KeepsBoth : {L W A : Type 0} → Result A RunStop → Origin L W → ClientWorld L W → Type 0
 KeepsBoth (Err stops.Memory) o w = Unit {0}
 KeepsBoth result o w = HoldsBoth o w
+
+-- `main` was run with so much fuel in a World, which holds both still, and this is left.
+abbrev pub RunsMain : {L W : Type 0} → links.Ghosts L → sinks.Ghosts W → ℕ → ClientWorld L W → Result runs.Run RunStop → ClientWorld L W → Type 0
+RunsMain gl gw fuel w result w' = KeepsBoth result (origin w) w' × Leaves (program_of w) fuel result (scene_of gl gw w) (scene_of gl gw w')

@@ -1,11 +1,10 @@
 // The run of a client.
 
-ghost use Rattle.std.specs.Prelude.{◌≡◌, [], map};
-ghost use Rattle.rb_trees.specs.mirror.Declarations.{mirror_body, mirror_class, mirror_program};
-ghost use Rattle.rb_meaning.specs.Meaning.{runs_main};
+ghost use Rattle.std.specs.Prelude.{◌≡◌, []};
+ghost use Rattle.rb_trees.specs.mirror.Declarations.{mirror_program};
 ghost use Rattle.rb_engine.specs.Locals.{local};
 ghost use Rattle.rb_client.specs.Headline.{MeansWhereHonest};
-ghost use Rattle.rb_client.specs.MainRuns.{Across, KeepsBoth, Leads, LeadsWithin, Leaves, origin, program_of, result_run};
+ghost use Rattle.rb_client.specs.MainRuns.{Leads, LeadsWithin, Leaves, RunsMain, body_run, result_run};
 ghost use Rattle.rb_client.specs.Runs.{FailsAsListed, IsAcceptedWith, RunsOver};
 ghost use Rattle.rb_client.specs.Scenes.{Between};
 
@@ -55,7 +54,7 @@ fn run_main<L: Link, W: Sink>(
     world: &mut ClientWorld<'_, '_, '_, L, W>,
     body: &Body,
 ) -> Step<Option<Value>, RunStop>
-    ensures { Leads L.Link W.Sink (runs_main (map mirror_class code.now) state.old.fuel (mirror_body body.now) (local [] state.old)) world.old result world.new }
+    ensures { Leads L.Link W.Sink (body_run code.now body.now (local [] state.old)) world.old result world.new }
 {
     let mut frame = Frame::make(alloc);
     match exec(alloc, code, state, &mut frame, world, &body.statements) {
@@ -72,8 +71,7 @@ fn run_over<L: Link, W: Sink>(
     fuel: u64,
 ) -> Result<Run, RunStop>
     requires { world.old.exchanges ≡ 0 }
-    ensures kept { KeepsBoth result (origin world.old) world.new }
-    ensures leaves { Across L.Link W.Sink world.old world.new (Leaves (program_of world.old) fuel result) }
+    ensures { RunsMain L.Link W.Sink fuel world.old result world.new }
 {
     let code = world.plan.code();
     let program = world.plan.typed().program();
