@@ -19,7 +19,7 @@ use Rattle.rb_client.specs.Events.{More}
 use Rattle.rb_client.specs.Worlds.{CutsReplay, Prints, SeesReplay, output, replay_answers, replay_performs, replay_view, taken_meant}
 use Rattle.rb_client.specs.declared.replay_world.ReplayWorld.{ReplayWorld}
 use Rattle.rb_client.proofs.Bytes.{both_whole, fails_next, prefix_front}
-use Rattle.rb_client.proofs.Events.{replay_more, shown_append, shown_line}
+use Rattle.rb_client.proofs.Events.{adding, replay_more, shown_append, shown_line}
 use Rattle.rb_client.proofs.Told.{AnswersAs}
 
 -- a front of what is shown is one of what is shown later
@@ -38,7 +38,7 @@ pub replay_as : {W : Type 0} (g : sinks.Ghosts W) (out : MutBor W) (start : Devi
 replay_as g out start = record {
   questions = λ w w' s q r sees answered. answered out start s sees;
   batches = λ w w' s at l r sees performed. performed out start s sees;
-  later = λ A w s d c. cut_later g out start w s.events (handle in_replay d s).1.events (replay_more d s) c;
+  later = λ A w s d c. cut_later g out start w s.events (handle in_replay d s).1.events (replay_more adding d s) c;
 }
 
 -- Lines.

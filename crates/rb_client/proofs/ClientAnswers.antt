@@ -1,5 +1,5 @@
 -- The client's World answers as the surroundings of the definition do.
-use Rattle.std.proofs.Common.{◌≡◌, refl, sym, ap, ◌∙◌, subst, ℕ, ◌+◌, List, [], ◌∷◌, ◌++◌, append-nil}
+use Rattle.std.proofs.Common.{◌≡◌, refl, sym, ap, ◌∙◌, subst, ℕ, ◌+◌, List, [], length, append-nil}
 use Rattle.std.specs.Prelude.{None, Some, OnOk, Result, Ok, Err}
 use Rattle.rb_trees.specs.declared.forests.Node as node
 use Rattle.rb_trees.specs.declared.outcomes.Raised.{Raised}
@@ -9,15 +9,15 @@ use Rattle.rb_trees.specs.declared.values.Value.TheVariants as value
 use Rattle.rb_trees.specs.mirror.Declarations.{mirror_program}
 use Rattle.rb_trees.specs.mirror.Forests.{Node}
 use Rattle.rb_trees.specs.mirror.Remainders.{mirror_parts}
+use Rattle.rb_meaning_bytes.specs.formats.ScriptPayloads.{taken}
 use Rattle.rb_meaning_code.specs.Dialogue as ask
 use Rattle.rb_meaning_code.specs.Dialogue.{Question, Outcome, Gave, Faulted}
 use Rattle.rb_meaning_code.specs.Faults.{kind, raised}
 use Rattle.rb_meaning_code.specs.State.{Local, Names}
 use Rattle.rb_meaning.specs.Shown.{line, shown_events}
-use Rattle.rb_meaning.specs.State as state
 use Rattle.rb_meaning.specs.Unsplit.{batch_at}
-use Rattle.rb_meaning_split.specs.Client.{answers_waiting, performs_divided}
-use Rattle.rb_meaning_split.specs.Division.{division}
+use Rattle.rb_meaning_split.specs.Client.{Sent, answers_waiting, performs_divided}
+use Rattle.rb_meaning_split.specs.Division.{division, mirror_split}
 use Rattle.rb_base.specs.Devices.{failed}
 use Rattle.rb_base.specs.Sinks.{with_bytes, WrotePrefix}
 use Rattle.rb_base.specs.declared.links.Link as links
@@ -25,10 +25,13 @@ use Rattle.rb_base.specs.declared.sinks.Sink as sinks
 use Rattle.rb_engine.specs.Answers.{Answered, performed}
 use Rattle.rb_engine.specs.declared.world.Halt.{Halt}
 use Rattle.rb_engine.specs.declared.world.Halt.TheVariants as halt
-use Rattle.rb_client.specs.Clients.{Fetched, Fetches, Past, PerformedAs, PerformsSplit, client_answers, client_performs, waiting}
-use Rattle.rb_client.specs.Exchanges.{AreDivisions}
-use Rattle.rb_client.specs.Replies.{Trades, pairs_of}
-use Rattle.rb_client.specs.Requests.{IsRequest}
+use Rattle.rb_client.specs.Clients.{Fetched, Fetches, Origin, Past, PerformedAs, PerformsSplit, asked, client_answers, client_performs, first_scene, scene_of, waiting}
+use Rattle.rb_client.specs.Exchanges.{AreDivisions, CanBeSent}
+use Rattle.rb_client.specs.Replies.{Trades}
+use Rattle.rb_client.specs.Requests.{IsRequest, to_send}
+use Rattle.rb_client.specs.Runs.{ExchangedAll}
+use Rattle.rb_client.specs.Scenes.{scene}
+use Rattle.rb_client.specs.Serving.{Counts, server_of}
 use Rattle.rb_client.specs.Splits.{split_at}
 use Rattle.rb_client.specs.Worlds.{output}
 use Rattle.rb_client.specs.declared.client_world.ClientWorld.{ClientWorld}
@@ -45,17 +48,24 @@ module _ {L W : Type 0} (gl : links.Ghosts L) (gw : sinks.Ghosts W) where
 
   -- Lines.
 
+  -- what was done with the link stands, where only the output changed
+  exchanged_still : (o : Origin L W) (w w' : ClientWorld L W) (sent : List Sent) (nodes : List Node) → w'.link ≡ w.link → ExchangedAll o.program (first_scene gl gw o) (scene_of gl gw w) sent nodes → ExchangedAll o.program (first_scene gl gw o) (scene_of gl gw w') sent nodes
+  exchanged_still o w w' sent nodes link e =
+      subst (λ x. ExchangedAll o.program (first_scene gl gw o) (scene gl gw x.now w'.out.now) sent nodes) (sym link) (record { exchanged = e.exchanged; stays = e.stays; served = e.served })
+
   pub line_whole : (w w' : ClientWorld L W) (at : ℕ) (bytes : List ℕ) → w'.plan ≡ w.plan → w'.link ≡ w.link → w'.exchanges ≡ w.exchanges → w'.out.ghost_name ≡ w.out.ghost_name
       → output gw w'.out.now ≡ with_bytes (output gw w.out.now) (line bytes) → client_answers gl gw w (ask.Line at bytes) (Ok (Ok value.Unit)) w'
   line_whole w w' at bytes plan link count name e = λ o h sees. (
-    record { events = h.events ++ state.Line bytes ∷ []; sent = h.sent; nodes = h.nodes },
+    asked (ask.Line at bytes) h,
     record {
       program_so = ap (λ x. mirror_program x.now.program) plan ∙ sees.program_so;
-      same_output = name ∙ sees.same_output;
-      same_link = ap (λ x. x.ghost_name) link ∙ sees.same_link;
-      written = both_whole o.start (output gw w.out.now) (output gw w'.out.now) (shown_events h.events) (line bytes) sees.written e ∙ ap (with_bytes o.start) (sym (shown_line h.events bytes));
-      exchanged = record { pairs = sees.exchanged.pairs; pairs_so = ap (λ x. pairs_of gl x.now) link ∙ sees.exchanged.pairs_so; exchanges = sees.exchanged.exchanges };
-      faults_so = ap (λ x. gl.faults x.now) link ∙ sees.faults_so;
+      holds = record { same_output = name ∙ sees.holds.same_output; same_link = ap (λ x. x.ghost_name) link ∙ sees.holds.same_link };
+      done = record {
+        written = both_whole (first_scene gl gw o).out (output gw w.out.now) (output gw w'.out.now) (shown_events h.events) (line bytes) sees.done.written e ∙ ap (with_bytes (first_scene gl gw o).out) (sym (shown_line h.events bytes));
+        exchanged = exchanged_still o w w' h.sent h.nodes link sees.done.exchanged;
+        faults_so = ap (λ x. gl.faults x.now) link ∙ sees.done.faults_so;
+        counts = subst (λ x. Counts (length h.sent) (first_scene gl gw o).server (server_of gl x.now)) (sym link) sees.done.counts;
+      };
       exchanges_so = count ∙ sees.exchanges_so;
     },
     refl,
@@ -66,14 +76,12 @@ module _ {L W : Type 0} (gl : links.Ghosts L) (gw : sinks.Ghosts W) where
       → client_answers gl gw w (ask.Line at bytes) (Err stops.WriteFault) w'
   line_cut w w' at bytes link name p = λ o h sees. (
     refl,
+    record { same_output = name ∙ sees.holds.same_output; same_link = ap (λ x. x.ghost_name) link ∙ sees.holds.same_link },
     record {
-      sent = h.sent;
-      same_output = name ∙ sees.same_output;
-      same_link = ap (λ x. x.ghost_name) link ∙ sees.same_link;
-      written = subst (λ t. WrotePrefix (failed o.start) (output gw w'.out.now) t) (sym (shown_line h.events bytes))
-          (fails_next o.start (output gw w.out.now) (output gw w'.out.now) (shown_events h.events) (line bytes) sees.written p);
-      exchanged = record { pairs = sees.exchanged.pairs; pairs_so = ap (λ x. pairs_of gl x.now) link ∙ sees.exchanged.pairs_so; exchanges = sees.exchanged.exchanges };
-      faults_so = ap (λ x. gl.faults x.now) link ∙ sees.faults_so;
+      written = subst (λ t. WrotePrefix (failed (first_scene gl gw o).out) (output gw w'.out.now) t) (sym (shown_line h.events bytes))
+          (fails_next (first_scene gl gw o).out (output gw w.out.now) (output gw w'.out.now) (shown_events h.events) (line bytes) sees.done.written p);
+      exchanged = exchanged_still o w w' h.sent h.nodes link sees.done.exchanged;
+      faults_so = ap (λ x. gl.faults x.now) link ∙ sees.done.faults_so;
     },
   )
 
@@ -112,11 +120,12 @@ fetches_of gl split names w w' (Err (stops.BadReply k why number bytes)) f = f
 fetches_of gl split names w w' (Err stops.WriteFault) f = f
 fetches_of gl split names w w' (Err stops.Memory) f = tt
 
-pub fetch_so : {L W : Type 0} (gl : links.Ghosts L) (split : Split) (names : Names) (w w' : ClientWorld L W) (request slice : List ℕ) (t r : Result node.Node RunStop) → slice ≡ request → IsRequest split names request
+pub fetch_so : {L W : Type 0} (gl : links.Ghosts L) (split : Split) (names : Names) (w w' : ClientWorld L W) (request slice : List ℕ) (t r : Result node.Node RunStop) → slice ≡ request → CanBeSent (mirror_split split).script → IsRequest split names request
     → Trades gl (mirror_parts split.remainder) w.exchanges slice w.link.now t w'.link.now → w'.link.ghost_name ≡ w.link.ghost_name → w'.plan ≡ w.plan → w'.out ≡ w.out → r ≡ t → OnOk r (w'.exchanges ≡ w.exchanges + 1) → Fetches gl split names w r w'
-fetch_so gl split names w w' request slice t r same is trades link plan out ends count = fetches_of gl split names w w' r (record {
+fetch_so gl split names w w' request slice t r same sent is trades link plan out ends count = fetches_of gl split names w w' r (record {
   request = request;
   request_so = is.spells;
+  means = taken (to_send split names) is.spells sent.valid;
   trades = subst (λ x. Trades gl (mirror_parts split.remainder) w.exchanges request w.link.now x w'.link.now) (sym ends) (subst (λ x. Trades gl (mirror_parts split.remainder) w.exchanges x w.link.now t w'.link.now) same trades);
   same_link = link;
   same_plan = plan;
@@ -128,6 +137,6 @@ none_counted : (r : Result node.Node RunStop) (e : RunStop) (P : Type 0) → r �
 none_counted (Ok n) e P is = absurd (cc is)
 none_counted (Err x) e P is = tt
 
-pub fetch_stops : {L W : Type 0} (gl : links.Ghosts L) (split : Split) (names : Names) (w w' : ClientWorld L W) (request slice : List ℕ) (t r : Result node.Node RunStop) (e : RunStop) → slice ≡ request → IsRequest split names request
+pub fetch_stops : {L W : Type 0} (gl : links.Ghosts L) (split : Split) (names : Names) (w w' : ClientWorld L W) (request slice : List ℕ) (t r : Result node.Node RunStop) (e : RunStop) → slice ≡ request → CanBeSent (mirror_split split).script → IsRequest split names request
     → Trades gl (mirror_parts split.remainder) w.exchanges slice w.link.now t w'.link.now → w'.link.ghost_name ≡ w.link.ghost_name → w'.plan ≡ w.plan → w'.out ≡ w.out → t ≡ Err e → r ≡ Err e → Fetches gl split names w r w'
-fetch_stops gl split names w w' request slice t r e same is trades link plan out was ends = fetch_so gl split names w w' request slice t r same is trades link plan out (ends ∙ sym was) (none_counted r e _ ends)
+fetch_stops gl split names w w' request slice t r e same sent is trades link plan out was ends = fetch_so gl split names w w' request slice t r same sent is trades link plan out (ends ∙ sym was) (none_counted r e _ ends)

@@ -9,7 +9,7 @@ use Rattle.rb_meaning_types.specs.Names.{is_new}
 use Rattle.rb_meaning_types.specs.Declared.{Declarations, of_program}
 use Rattle.rb_meaning_types.specs.Declarations.{new_name, check_params, check_method, check_methods, check_class, check_classes, check_interfaces, check_declarations}
 use Rattle.rb_meaning_types.specs.Bodies.{check_class_bodies}
-use Rattle.rb_meaning_types.specs.Programs.{check_main, is_typed}
+use Rattle.rb_meaning_types.specs.Programs.{check_main, check_program, is_typed}
 use Rattle.rb_code.specs.Differ.{MethodsDiffer, ClassesDiffer}
 use Rattle.rb_client.proofs.Names.{same_bytes, one_name}
 
@@ -101,3 +101,11 @@ typed_differ p h =
     let d = of_program p in
     let declarations = first_passed (check_declarations d) (check_class_bodies d p.classes) (first_passed (check_declarations d >> check_class_bodies d p.classes) (check_main p) h) in
     classes_differ d (map (λ i. i.name) d.interfaces) p.classes (then_passed (check_interfaces d [] d.interfaces) (check_classes d (map (λ i. i.name) d.interfaces) d.classes) declarations)
+
+-- a typed program passes the check
+passed : {D : Type 0} (r : Result (Unit {0}) D) → is_ok r ≡ true → r ≡ Ok tt
+passed (Ok u) h = refl
+passed (Err d) h = absurd (cc h)
+
+pub typed_checked : (p : Program) → is_typed p ≡ true → check_program p ≡ Ok tt
+typed_checked p h = passed (check_program p) h

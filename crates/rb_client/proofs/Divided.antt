@@ -1,15 +1,19 @@
 -- The division that is found by its position is that of the batch there.
 use Rattle.std.proofs.Common.{◌≡◌, refl, sym, ap, ◌∙◌, subst, ℕ, List, [], ◌∷◌, length}
 use Rattle.std.specs.Prelude.{Bool, true, false, cond, nat_eq, nat_lt, map, Option, None, Some, Result, Ok, Err}
+use Rattle.std.specs.List.{Contains}
 use Rattle.rb_trees.specs.CodeSize.{code_size_of}
 use Rattle.rb_trees.specs.declared.refusals.Refusal.{Refusal}
 use Rattle.rb_trees.specs.declared.remainders.Split.{Split}
 use Rattle.rb_trees.specs.mirror.Declarations.{Program}
 use Rattle.rb_trees.specs.mirror.Scripts.{mirror_script}
+use Rattle.rb_meaning_types.specs.Lawful.{IsLawful}
 use Rattle.rb_meaning_flow.specs.Facts.{facts_of}
 use Rattle.rb_meaning_flow.specs.Outermost.{Outermost, program_batches}
 use Rattle.rb_meaning.specs.Unsplit.{batch_at, batch_within}
 use Rattle.rb_meaning_split.specs.Division.{Division, checked_code, divided, divided_all, divided_before, division, divisions, inputs_of, longest_code, most_inputs, mirror_split}
+use Rattle.rb_division_laws.specs.Sendable.{DividedCanBeSent, HasPlaces}
+use Rattle.rb_flow.proofs.Members.{first_contained, more_contained}
 use Rattle.rb_client.specs.Exchanges.{AllCanBeSent, CanBeSent}
 use Rattle.rb_client.specs.Splits.{split_at}
 
@@ -119,3 +123,15 @@ pub found_counted : (p : Program) (ss : List Split) (at : ℕ) (split : Split) �
 found_counted p ss at split h e =
     let f = some_found p ss at split h e in
     ap (λ d. d.script.inputs) f.is ∙ counted p f.batch ∙ ap (λ d. length d.inputs) (sym f.is)
+
+-- the script of each division can be sent
+all_sent_in : (p : Program) → IsLawful p → HasPlaces p → DividedCanBeSent → (bs : List Outermost) (ss : List Split) → ((b : Outermost) → Contains bs b → Contains (program_batches (facts_of p) p) b) → divided_all p bs ≡ Ok (map mirror_split ss) → AllCanBeSent ss
+all_sent_in p lawful places law bs [] within h = tt
+all_sent_in p lawful places law [] (s ∷ ss) within h = absurd (cc h)
+all_sent_in p lawful places law (b ∷ bs) (s ∷ ss) within h =
+    let parts = before (divided p b) (divided_all p bs) (mirror_split s) (map mirror_split ss) h in
+    let can = law p lawful places b (within b (first_contained b bs)) (mirror_split s) parts.first in
+    (record { formed = can.formed; valid = can.valid }, all_sent_in p lawful places law bs ss (λ c is. within c (more_contained b bs c is)) parts.others)
+
+pub all_sent : (p : Program) → IsLawful p → HasPlaces p → DividedCanBeSent → (ss : List Split) → divisions p ≡ Ok (map mirror_split ss) → AllCanBeSent ss
+all_sent p lawful places law ss h = all_sent_in p lawful places law (program_batches (facts_of p) p) ss (λ b is. is) h

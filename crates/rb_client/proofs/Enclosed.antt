@@ -27,7 +27,7 @@ use Rattle.rb_client.specs.declared.replay_world.ReplayWorld.{ReplayWorld}
 use Rattle.rb_client.proofs.Adding.{behind_more, ended_adds, on_turn_more, turns_more, unless_more}
 use Rattle.rb_client.proofs.Answering.{cut_later, sees_taken}
 use Rattle.rb_client.proofs.Dropped.{dropped_one}
-use Rattle.rb_client.proofs.Events.{no_more}
+use Rattle.rb_client.proofs.Events.{adding, no_more}
 use Rattle.rb_client.proofs.Parted.{On, all_adds, as_meant, on_as, on_begin, on_ends, on_more, on_stops}
 
 -- a World that stands on another node, with the same output
@@ -43,8 +43,8 @@ module _ {W : Type 0} (g : sinks.Ghosts W) (out : MutBor W) (start : Device (Lis
   encloses (Err (early.Raised r)) same left end (s, sees, h) =
       (record s { node = rest }, stands g out start w2 w3 s rest sees same left, λ go. ap (λ x. behind count rest x go) (h ended) ∙ ap (λ x. stopped r x (record s { node = rest })) (sym end))
   encloses (Err early.WriteFault) same left end h = λ go adds.
-      let c = h ended ended_adds in
-      let d = cut_later g out start w2 (inner ended).events (behind count rest (inner ended) go).events (behind_more count rest (inner ended) go (inner ended).events (no_more (inner ended).events) adds) c in
+      let c = h ended (ended_adds adding) in
+      let d = cut_later g out start w2 (inner ended).events (behind count rest (inner ended) go).events (behind_more adding count rest (inner ended) go (inner ended).events (no_more (inner ended).events) adds) c in
       record {
         same_output = ap (λ o. o.ghost_name) same ∙ d.same_output;
         written = subst (λ o. WrotePrefix (failed start) (output g o.now) (shown_events (behind count rest (inner ended) go).events)) (sym same) d.written;
@@ -126,11 +126,11 @@ turns_begin g classes t ns rest l w w1 same left = record {
 }
 
 turn_more : (classes : List class.Class) (t : Loop) (gas : ℕ) (n : Node) (l : Local) (s : Seen) → More s.events (turn_meant classes t gas l (record s { node = n }) ended).events
-turn_more classes t gas n l s = on_turn_more t.kept t.step t.name.now l (record s { node = n }) (λ l1 s1. all_meant classes t.body.now gas l1 s1 ended) (all_adds classes t.body.now gas ended ended_adds)
+turn_more classes t gas n l s = on_turn_more adding t.kept t.step t.name.now l (record s { node = n }) (λ l1 s1. all_meant classes t.body.now gas l1 s1 ended) (all_adds classes t.body.now gas ended (ended_adds adding))
 
 turns_add : (classes : List class.Class) (t : Loop) (ns : Nodes) (rest : Node) (gas : ℕ) (go : Rest) → Adds go → Adds (λ l s. turns_over classes t ns rest gas l s go)
 turns_add classes t ns rest gas go adds l s =
-    turns_more (λ n l1 events. turn_meant classes t gas l1 (record { events = events; node = n }) ended) ns rest l s.events go
+    turns_more adding (λ n l1 events. turn_meant classes t gas l1 (record { events = events; node = n }) ended) ns rest l s.events go
     (λ n l1 es. turn_more classes t gas n l1 (record { events = es; node = n })) adds
 
 turn_on : {W : Type 0} {g : sinks.Ghosts W} {classes : List class.Class} {t : Loop} {ns : List node.Node} {rest : Node} {i : ℕ} {l0 l : Local} {w0 w : ReplayWorld W} (n : node.Node) → i < length ns → n ≡ get_or ns i n → TurnsOn g classes t ns rest i l0 w0 l w
@@ -185,7 +185,7 @@ pub rows_so : {W : Type 0} (g : sinks.Ghosts W) (classes : List class.Class) (t 
 rows_so g classes t ns rest l l1 l' w w1 w' r q u first turned so h = on_ends (on_more (rows_begin g classes t (mirror_nodes ns) rest l w first) turned so) h
 
 pass_adds : (step gas : ℕ) (go : Rest) → Adds go → Adds (λ l s. pass_meant step gas l s go)
-pass_adds step gas go adds l s = unless_more (fault_at step s.node) far_fault l s (go l s) (adds l s)
+pass_adds step gas go adds l s = unless_more adding (fault_at step s.node) far_fault l s (go l s) (adds l s)
 
 pub rows_cut : {W : Type 0} (g : sinks.Ghosts W) (classes : List class.Class) (t : Loop) (ns : List node.Node) (rest : Node) (l l1 : Local) (w w1 : ReplayWorld W) (r q : Result (Unit {0}) Early) (e : Early) → first_rows (seen w.left) ≡ Some (mirror_nodes ns, rest)
     → Performs g (turns_meant classes t ns rest) l w r l1 w1 → r ≡ Err e → q ≡ Err e → Performs g (rows_meant classes t) l w q l1 w1

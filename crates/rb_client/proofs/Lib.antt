@@ -9,6 +9,7 @@ pub mod Parted
 pub mod Replaying
 pub mod Told
 pub mod Weight
+pub mod Serving
 pub mod Traded
 pub mod Utf8
 pub mod Divided
@@ -18,6 +19,10 @@ pub mod ClientAnswers
 pub mod MainLed
 pub mod MainEnds
 pub mod WholeRun
+pub mod Showing
+pub mod RunsOver
+pub mod Reached
+pub mod Headline
 pub mod Differ
 pub mod Names
 pub mod Requested

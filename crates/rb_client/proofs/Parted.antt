@@ -37,7 +37,7 @@ use Rattle.rb_client.specs.declared.replay_world.ReplayWorld.{ReplayWorld}
 use Rattle.rb_client.proofs.Adding.{after_more, parts_more}
 use Rattle.rb_client.proofs.Answering.{cut_later, replay_as, taken_seen, within}
 use Rattle.rb_client.proofs.Dropped.{dropped_one}
-use Rattle.rb_client.proofs.Events.{no_more}
+use Rattle.rb_client.proofs.Events.{adding, no_more}
 use Rattle.rb_client.proofs.Told.{told}
 
 pub by_result : {W : Type 0} {g : sinks.Ghosts W} {m : Meaning} {l l' : Local} {w w' : ReplayWorld W} {r r1 : Result (Unit {0}) Early} → r ≡ r1 → Performs g m l w r1 l' w' → Performs g m l w r l' w'
@@ -122,7 +122,7 @@ on_stops {g = g} {first = first} {l = l} {l1 = l1} {w1 = w1} {e = e} rest on mor
 -- Parts in order.
 
 pub all_adds : (classes : List class.Class) (ps : List part.Part) (gas : ℕ) (go : Rest) → Adds go → Adds (λ l s. all_meant classes ps gas l s go)
-all_adds classes ps gas go adds l s = parts_more (map mirror_class classes) gas (mirror_parts ps) l s go adds
+all_adds classes ps gas go adds l s = parts_more adding (map mirror_class classes) gas (mirror_parts ps) l s go adds
 
 pub on_as : {W : Type 0} {g : sinks.Ghosts W} {whole rest rest1 : Meaning} {l0 l : Local} {w0 w : ReplayWorld W} → ((gas : ℕ) (s : Seen) (go : Rest) → rest gas l s go ≡ rest1 gas l s go) → On g whole rest l0 w0 l w → On g whole rest1 l0 w0 l w
 on_as e on = record {
@@ -193,7 +193,7 @@ leads_does : {W : Type 0} (g : sinks.Ghosts W) (out : MutBor W) (start : Device 
 leads_does g out start handled (Ok u) l w h = (handled.1, h.1, λ go. after_gave handled (λ u l1 s1. go l1 s1) u l h.0)
 leads_does g out start handled (Err (early.Raised f)) l w h = (handled.1, h.1, λ go. after_faulted handled (λ u l1 s1. go l1 s1) f l h.0)
 leads_does g out start handled (Err early.WriteFault) l w h = λ go adds.
-    cut_later g out start w handled.1.events (after handled (λ u l1 s1. go l1 s1)).events (after_more handled (λ u l1 s1. go l1 s1) handled.1.events (no_more handled.1.events) (λ u. adds)) h
+    cut_later g out start w handled.1.events (after handled (λ u l1 s1. go l1 s1)).events (after_more adding handled (λ u l1 s1. go l1 s1) handled.1.events (no_more handled.1.events) (λ u. adds)) h
 leads_does g out start handled (Err early.Memory) l w h = tt
 
 -- a statement
@@ -240,7 +240,7 @@ missed_does : {W : Type 0} (g : sinks.Ghosts W) (out : MutBor W) (start : Device
 missed_does g out start name handled (early.Raised f) l w h = (handled.1, h.1, λ go. after_faulted handled (λ x l1 s1. go (bound name x l1) s1) f l h.0)
 missed_does g out start name handled early.WriteFault l w h = λ go adds.
     cut_later g out start w handled.1.events (after handled (λ x l1 s1. go (bound name x l1) s1)).events
-    (after_more handled (λ x l1 s1. go (bound name x l1) s1) handled.1.events (no_more handled.1.events) (λ x l1 s1. adds (bound name x l1) s1)) h
+    (after_more adding handled (λ x l1 s1. go (bound name x l1) s1) handled.1.events (no_more handled.1.events) (λ x l1 s1. adds (bound name x l1) s1)) h
 missed_does g out start name handled early.Memory l w h = tt
 
 both_goes : (classes : List class.Class) (l : Local) (step : ℕ) (name : List ℕ) (e : expr.Expr) (gas : ℕ) (n : Node) (s : Seen) (go : Rest) → n ≡ s.node → fault_at step n ≡ None

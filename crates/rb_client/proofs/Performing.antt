@@ -1,5 +1,5 @@
 -- A batch is performed as the definition performs it, where its division was found.
-use Rattle.std.proofs.Common.{◌≡◌, refl, sym, ap, ◌∙◌, subst, ℕ, arith, List, [], ◌∷◌, ◌++◌, map, length, length-append, append_assoc}
+use Rattle.std.proofs.Common.{◌≡◌, refl, sym, ap, ◌∙◌, subst, ℕ, suc, arith, List, [], ◌∷◌, ◌++◌, map, length, length-append, append_assoc}
 use Rattle.std.specs.Prelude.{Option, None, Some, Result, Ok, Err}
 use Rattle.rb_trees.specs.declared.declarations.Class as class
 use Rattle.rb_trees.specs.declared.forests.Node as node
@@ -10,6 +10,7 @@ use Rattle.rb_trees.specs.mirror.Forests.{Node, mirror_node}
 use Rattle.rb_trees.specs.mirror.Remainders.{mirror_parts}
 use Rattle.rb_meaning_bytes.specs.Fits.{fits}
 use Rattle.rb_meaning_bytes.specs.formats.Formats.{Spells}
+use Rattle.rb_meaning_bytes.specs.formats.ScriptPayloads.{Means}
 use Rattle.rb_meaning_bytes.specs.formats.Scripts.{script_message}
 use Rattle.rb_meaning_code.specs.Dialogue.{Outcome, Gave, Faulted}
 use Rattle.rb_meaning_code.specs.State.{Local}
@@ -24,17 +25,20 @@ use Rattle.rb_meaning_split.specs.Client.{Sent, input_values, replays, sent_for}
 use Rattle.rb_meaning_split.specs.Division.{Division, division, mirror_split}
 use Rattle.rb_meaning_split.specs.Replay.{Replayed, ended, replay_all}
 use Rattle.rb_base.specs.Counts.{risen}
-use Rattle.rb_base.specs.Devices.{failed}
-use Rattle.rb_base.specs.Sinks.{with_bytes, WrotePrefix}
+use Rattle.rb_base.specs.Sinks.{with_bytes}
 use Rattle.rb_base.specs.declared.links.Link as links
 use Rattle.rb_base.specs.declared.sinks.Sink as sinks
 use Rattle.rb_engine.specs.Answers.{Answered, performed}
 use Rattle.rb_engine.specs.declared.world.Halt.{Halt}
-use Rattle.rb_client.specs.Clients.{Fetched, Fetches, Origin, Past, PerformedAs, PerformsSplit, SeesClient, waiting}
+use Rattle.rb_client.specs.Clients.{FailsToWrite, Fetched, Fetches, HasDone, HoldsBoth, Origin, Past, PerformedAs, PerformsSplit, SeesClient, first_scene, performed_past, scene_of, waiting}
 use Rattle.rb_client.specs.Ends.{halted, stepped}
 use Rattle.rb_client.specs.Exchanges.{Exchanged, Exchanges, IsExchange}
 use Rattle.rb_client.specs.Replays.{EndsSo, Replays, outside, remainder_meant}
 use Rattle.rb_client.specs.Replies.{HasReason, more_pairs, pair_of, pairs_of, refused_pairs}
+use Rattle.rb_client.specs.Requests.{to_send}
+use Rattle.rb_client.specs.Runs.{ExchangedAll}
+use Rattle.rb_client.specs.Scenes.{Scene, scene}
+use Rattle.rb_client.specs.Serving.{GivesMisfit, server_of}
 use Rattle.rb_client.specs.Worlds.{output}
 use Rattle.rb_client.specs.declared.client_world.ClientWorld.{ClientWorld}
 use Rattle.rb_client.specs.declared.early.Early.{Early}
@@ -42,6 +46,7 @@ use Rattle.rb_client.specs.declared.early.Early.TheVariants as early
 use Rattle.rb_client.specs.declared.stops.RunStop.{RunStop}
 use Rattle.rb_client.specs.declared.stops.RunStop.TheVariants as stops
 use Rattle.rb_client.proofs.Events.{shown_batch}
+use Rattle.rb_client.proofs.Serving.{counts_more, performed_more}
 
 -- one exchange more
 exchanges_more : (p : Program) (pairs : List Pair) (sent : List Sent) (nodes : List Node) (pair : Pair) (x : Sent) (n : Node) → Exchanges p pairs sent nodes → IsExchange p pair x n → Exchanges p (pairs ++ pair ∷ []) (sent ++ x ∷ []) (nodes ++ n ∷ [])
@@ -66,8 +71,9 @@ exchanged_more p before mid after sent nodes pair x n e is i = record {
   exchanges = exchanges_more p e.pairs sent nodes pair x n e.exchanges i;
 }
 
-same_sent : (split : Split) (d : Division) (l : Local) (request : List ℕ) → mirror_split split ≡ d → Spells script_message request ((mirror_split split).script, input_values split.inputs l.names) → Spells script_message request (sent_for d l)
-same_sent split d l request is h = subst (λ x. Spells script_message request (x.script, input_values x.inputs l.names)) is h
+-- what is sent is what the division says
+sent_so : (split : Split) (d : Division) (l : Local) → mirror_split split ≡ d → to_send split l.names ≡ sent_for d l
+sent_so split d l is = ap (λ x. (x.script, input_values x.inputs l.names)) is
 
 -- the World after the exchange, and after the remainder
 pub record After {L W : Type 0} (w1 w2 : ClientWorld L W) (out : W) : Type 0 where
@@ -90,15 +96,22 @@ module _ {L W : Type 0} (gl : links.Ghosts L) (gw : sinks.Ghosts W) (split : Spl
     meant = replays o.program d l begun (mirror_node n)
 
     abbrev past : Past
-    past = record { events = meant.events; sent = h.sent ++ sent_for d l ∷ []; nodes = h.nodes ++ mirror_node n ∷ [] }
+    past = performed_past o.program d l h (mirror_node n)
 
     meant_so : remainder_meant classes split.remainder (mirror_node n) l.fuel l begun ≡ meant
     meant_so =
         ap (λ cs. outside (length l.names) (replay_all cs l.fuel (mirror_parts split.remainder) l (record { events = begun; node = mirror_node n }) ended)) (ap (map mirror_class) own ∙ ap (λ x. x.classes) sees.program_so)
         ∙ ap (λ ps. outside (length l.names) (replay_all o.program.classes l.fuel ps l (record { events = begun; node = mirror_node n }) ended)) (ap (λ x. x.remainder) is)
 
-    written_so : output gw w1.out.now ≡ with_bytes o.start (shown_events begun)
-    written_so = ap (λ x. output gw x.now) fetched.same_output ∙ sees.written ∙ ap (with_bytes o.start) (sym (shown_batch h.events))
+    abbrev first : Scene
+    first = first_scene gl gw o
+
+    -- the scene after the exchange, and after the remainder
+    abbrev last : Scene
+    last = scene gl gw w1.link.now out
+
+    written_so : output gw w1.out.now ≡ with_bytes first.out (shown_events begun)
+    written_so = ap (λ x. output gw x.now) fetched.same_output ∙ sees.done.written ∙ ap (with_bytes first.out) (sym (shown_batch h.events))
 
     exchange_so : IsExchange o.program (pair_of fetched.request forest_kind fetched.trades.reply) (sent_for d l) (mirror_node n)
     exchange_so = record {
@@ -106,57 +119,64 @@ module _ {L W : Type 0} (gl : links.Ghosts L) (gw : sinks.Ghosts W) (split : Spl
       batch = b;
       stands = stands;
       script_so = refl;
-      request = same_sent split d l fetched.request is fetched.request_so;
+      request = subst (Spells script_message fetched.request) (sent_so split d l is) fetched.request_so;
       kind = refl;
       reply = fetched.trades.forest.spells;
       fits_so = subst (λ x. fits (mirror_node n) x.remainder ≡ Ok tt) is fetched.trades.forest.fits_so;
     }
 
-    exchanged_so : Exchanged o.program o.pairs (pairs_of gl w2.link.now) past.sent past.nodes
-    exchanged_so =
-        exchanged_more o.program o.pairs (pairs_of gl w.link.now) (pairs_of gl w2.link.now) h.sent h.nodes (pair_of fetched.request forest_kind fetched.trades.reply) (sent_for d l) (mirror_node n)
-        sees.exchanged (ap (λ x. pairs_of gl x.now) after.same_link ∙ fetched.trades.pairs_so) exchange_so
+    exchanged_so : ExchangedAll o.program first last past.sent past.nodes
+    exchanged_so = record {
+      exchanged = exchanged_more o.program first.pairs (pairs_of gl w.link.now) last.pairs h.sent h.nodes (pair_of fetched.request forest_kind fetched.trades.reply) (sent_for d l) (mirror_node n)
+          sees.done.exchanged.exchanged fetched.trades.pairs_so exchange_so;
+      stays = λ honest. fetched.trades.stays (sees.done.exchanged.stays honest);
+      served = λ honest.
+          performed_more h.sent h.nodes (sent_for d l) (mirror_node n) first.server (server_of gl w.link.now) last.server (sees.done.exchanged.served honest)
+          (fetched.trades.served (sees.done.exchanged.stays honest) (sent_for d l) (subst (λ x. Means fetched.request (Ok x)) (sent_so split d l is) fetched.means));
+    }
 
-    faults_so : gl.faults w2.link.now ≡ o.faults
-    faults_so = ap (λ x. gl.faults x.now) after.same_link ∙ fetched.trades.faults_so ∙ sees.faults_so
+    longer : suc (length h.sent) ≡ length past.sent
+    longer = omega (arith, length-append h.sent (sent_for d l ∷ []))
 
-    same_output : w2.out.ghost_name ≡ o.out.ghost_name
-    same_output = after.same_output ∙ ap (λ x. x.ghost_name) fetched.same_output ∙ sees.same_output
+    done_so : output gw out ≡ with_bytes first.out (shown_events meant.events) → HasDone o.program first last past
+    done_so e = record {
+      written = e;
+      exchanged = exchanged_so;
+      faults_so = fetched.trades.faults_so ∙ sees.done.faults_so;
+      counts = counts_more (length h.sent) (length past.sent) first.server (server_of gl w.link.now) last.server longer sees.done.counts fetched.trades.counts;
+    }
 
-    same_link : w2.link.ghost_name ≡ o.link.ghost_name
-    same_link = ap (λ x. x.ghost_name) after.same_link ∙ fetched.same_link ∙ sees.same_link
+    -- of the World as it is then
+    at_last : (Holds : Scene → Type 0) → Holds last → Holds (scene_of gl gw w2)
+    at_last Holds h = subst (λ x. Holds (scene gl gw x.now w2.out.now)) (sym after.same_link) (subst (λ x. Holds (scene gl gw w1.link.now x)) (sym after.now) h)
 
-    sees_after : output gw out ≡ with_bytes o.start (shown_events meant.events) → SeesClient gl gw o w2 past
+    holds : HoldsBoth o w2
+    holds = record {
+      same_output = after.same_output ∙ ap (λ x. x.ghost_name) fetched.same_output ∙ sees.holds.same_output;
+      same_link = ap (λ x. x.ghost_name) after.same_link ∙ fetched.same_link ∙ sees.holds.same_link;
+    }
+
+    sees_after : output gw out ≡ with_bytes first.out (shown_events meant.events) → SeesClient gl gw o w2 past
     sees_after e =
         let a = after.exchanges_so in
         let c = fetched.counted in
         let s = sees.exchanges_so in
         record {
           program_so = ap (λ x. mirror_program x.now.program) (after.same_plan ∙ fetched.same_plan) ∙ sees.program_so;
-          same_output = same_output;
-          same_link = same_link;
-          written = ap (output gw) after.now ∙ e;
-          exchanged = exchanged_so;
-          faults_so = faults_so;
+          holds = holds;
+          done = at_last (λ x. HasDone o.program first x past) (done_so e);
           exchanges_so = omega (arith, a, c, s, length-append h.sent (sent_for d l ∷ []));
         }
 
-    gave : (e : Outcome (Unit {0})) → (meant.outcome ≡ e) × (output gw out ≡ with_bytes o.start (shown_events meant.events)) → PerformedAs gl gw o h (Some b) at l (Ok e) w2
+    gave : (e : Outcome (Unit {0})) → (meant.outcome ≡ e) × (output gw out ≡ with_bytes first.out (shown_events meant.events)) → PerformedAs gl gw o h (Some b) at l (Ok e) w2
     gave e (same, wrote) = (mirror_node n ∷ [], past, sees_after wrote, refl, λ more. ap (λ x. (x, waiting past more)) same)
 
-    by_end : (r : Result (Unit {0}) Early) → EndsSo gw o.start meant r l1 out → Answered (performed l1 (stepped r)) (λ e. PerformedAs gl gw o h (Some b) at l e w2)
+    by_end : (r : Result (Unit {0}) Early) → EndsSo gw first.out meant r l1 out → Answered (performed l1 (stepped r)) (λ e. PerformedAs gl gw o h (Some b) at l e w2)
     by_end (Ok u) e = gave (Gave tt l1) e
     by_end (Err (early.Raised f)) e = gave (Faulted f l1) e
     by_end (Err early.WriteFault) e = (
-      mirror_node n ∷ [],
-      record {
-        sent = past.sent;
-        same_output = same_output;
-        same_link = same_link;
-        written = subst (λ x. WrotePrefix (failed o.start) (output gw x) (shown_events meant.events)) (sym after.now) e;
-        exchanged = exchanged_so;
-        faults_so = faults_so;
-      },
+      holds,
+      (mirror_node n, at_last (λ x. FailsToWrite o.program first x past) (record { written = e; exchanged = exchanged_so; faults_so = fetched.trades.faults_so ∙ sees.done.faults_so })),
     )
     by_end (Err early.Memory) e = tt
 
@@ -174,41 +194,62 @@ module _ {L W : Type 0} (gl : links.Ghosts L) (gw : sinks.Ghosts W) (split : Spl
       subst (λ x. Answered (performed l1 x) (λ e. PerformsSplit gl gw split at w l e w2)) (sym same)
       (each r (λ o h b sees stands is.
       by_end o h b sees stands is r
-      (subst (λ x. EndsSo gw o.start x r l1 out) (meant_so o h b sees stands is)
-      (replayed.ends l.fuel (omega arith) o.start (begun o h b sees stands is) (written_so o h b sees stands is)))))
+      (subst (λ x. EndsSo gw (first_scene gl gw o).out x r l1 out) (meant_so o h b sees stands is)
+      (replayed.ends l.fuel (omega arith) (first_scene gl gw o).out (begun o h b sees stands is) (written_so o h b sees stands is)))))
 
 -- the exchange gave no node
 pub stops_so : {L W : Type 0} (gl : links.Ghosts L) (gw : sinks.Ghosts W) (split : Split) (at : ℕ) (w w1 : ClientWorld L W) (l : Local) (r : Result node.Node RunStop) (stop : RunStop) (x : Halt RunStop) → r ≡ Err stop → x ≡ halted stop → Fetches gl split l.names w r w1
     → Answered (performed {X = RunStop} l (Err x)) (λ e. PerformsSplit gl gw split at w l e w1)
-stops_so gl gw split at w w1 l r stop x is same h = subst (λ y. Answered (performed {X = RunStop} l (Err y)) (λ e. PerformsSplit gl gw split at w l e w1)) (sym same) (by_stop stop (subst (λ y. Fetches gl split l.names w y w1) is h))
+stops_so {L = L} {W = W} gl gw split at w w1 l r stop x is same h = subst (λ y. Answered (performed {X = RunStop} l (Err y)) (λ e. PerformsSplit gl gw split at w l e w1)) (sym same) (by_stop stop (subst (λ y. Fetches gl split l.names w y w1) is h))
   where
+    meant : (request : List ℕ) (d : Division) → mirror_split split ≡ d → Means request (Ok (to_send split l.names)) → Means request (Ok (sent_for d l))
+    meant request d e m = subst (λ x. Means request (Ok x)) (sent_so split d l e) m
+
+    held : (o : Origin L W) (h : Past) → SeesClient gl gw o w h → w1.out ≡ w.out → w1.link.ghost_name ≡ w.link.ghost_name → HoldsBoth o w1
+    held o h sees output link = record { same_output = ap (λ y. y.ghost_name) output ∙ sees.holds.same_output; same_link = link ∙ sees.holds.same_link }
+
     by_stop : (stop : RunStop) → Fetches gl split l.names w (Err stop) w1 → Answered (performed {X = RunStop} l (Err (halted stop))) (λ e. PerformsSplit gl gw split at w l e w1)
-    by_stop (stops.LinkFault k) f = λ o h b sees stands is. record {
-      same_output = ap (λ y. y.ghost_name) f.same_output ∙ sees.same_output;
-      same_link = f.same_link ∙ sees.same_link;
-      written = ap (λ y. output gw y.now) f.same_output ∙ sees.written;
-      gives_none = (
-        f.trades.0 ∙ sees.exchanges_so,
-        record { pairs = sees.exchanged.pairs; pairs_so = f.trades.1.pairs_so ∙ sees.exchanged.pairs_so; exchanges = sees.exchanged.exchanges },
-        f.trades.1.faults_so ∙ ap risen sees.faults_so,
-      );
-    }
-    by_stop (stops.BadReply k why kind bytes) f = λ o h b sees stands is. record {
-      same_output = ap (λ y. y.ghost_name) f.same_output ∙ sees.same_output;
-      same_link = f.same_link ∙ sees.same_link;
-      written = ap (λ y. output gw y.now) f.same_output ∙ sees.written;
-      gives_none = (
-        f.trades.0 ∙ sees.exchanges_so,
-        subst (λ y. HasReason why y.remainder kind bytes) is f.trades.1.reason_so,
-        record {
-          pairs = sees.exchanged.pairs;
-          request = f.request;
-          request_so = same_sent split (division o.program b) l f.request is f.request_so;
-          pairs_so = f.trades.1.pairs_so ∙ ap (more_pairs (refused_pairs why (pair_of f.request kind bytes))) sees.exchanged.pairs_so;
-          exchanges = sees.exchanged.exchanges;
-        },
-        f.trades.1.faults_so ∙ sees.faults_so,
-      );
-    }
+    by_stop (stops.LinkFault k) f = λ o h b sees stands is. (
+      held o h sees f.same_output f.same_link,
+      record {
+        server = server_of gl w.link.now;
+        written = ap (λ y. output gw y.now) f.same_output ∙ sees.done.written;
+        gives_none = (
+          f.trades.0 ∙ sees.exchanges_so,
+          record { pairs = sees.done.exchanged.exchanged.pairs; pairs_so = f.trades.1.pairs_so ∙ sees.done.exchanged.exchanged.pairs_so; exchanges = sees.done.exchanged.exchanged.exchanges },
+          f.trades.1.faults_so ∙ ap risen sees.done.faults_so,
+        );
+        counts = sees.done.counts;
+        served = sees.done.exchanged.served;
+        lost = (f.trades.1.counts, λ honest. f.trades.1.lost (sees.done.exchanged.stays honest) (sent_for (division o.program b) l) (meant f.request (division o.program b) is f.means));
+      },
+    )
+    by_stop (stops.BadReply k why kind bytes) f = λ o h b sees stands is. (
+      held o h sees f.same_output f.same_link,
+      record {
+        server = server_of gl w.link.now;
+        written = ap (λ y. output gw y.now) f.same_output ∙ sees.done.written;
+        gives_none = (
+          f.trades.0 ∙ sees.exchanges_so,
+          subst (λ y. HasReason why y.remainder kind bytes) is f.trades.1.reason_so,
+          record {
+            pairs = sees.done.exchanged.exchanged.pairs;
+            request = f.request;
+            request_so = subst (Spells script_message f.request) (sent_so split (division o.program b) l is) f.request_so;
+            pairs_so = f.trades.1.pairs_so ∙ ap (more_pairs (refused_pairs why (pair_of f.request kind bytes))) sees.done.exchanged.exchanged.pairs_so;
+            exchanges = sees.done.exchanged.exchanged.exchanges;
+          },
+          f.trades.1.faults_so ∙ sees.done.faults_so,
+        );
+        counts = sees.done.counts;
+        served = sees.done.exchanged.served;
+        lost = (
+          f.trades.1.counts,
+          λ honest.
+              subst (λ y. GivesMisfit (server_of gl w.link.now) (sent_for (division o.program b) l) y.remainder) is
+              (f.trades.1.misfit (sees.done.exchanged.stays honest) (sent_for (division o.program b) l) (meant f.request (division o.program b) is f.means)),
+        );
+      },
+    )
     by_stop stops.WriteFault f = absurd f.trades
     by_stop stops.Memory f = tt

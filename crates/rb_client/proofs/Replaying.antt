@@ -20,6 +20,7 @@ use Rattle.rb_client.specs.declared.early.Early.{Early}
 use Rattle.rb_client.specs.declared.early.Early.TheVariants as early
 use Rattle.rb_client.specs.declared.replay_world.ReplayWorld.{ReplayWorld}
 use Rattle.rb_client.proofs.Adding.{ended_adds}
+use Rattle.rb_client.proofs.Events.{adding}
 
 module _ {W : Type 0} (g : sinks.Ghosts W) (start : Device (List ℕ)) (count : ℕ) (m : Rest → Replayed) (l l1 : Local) (w w1 : ReplayWorld W) (new : W) where
   ends_so : (r : Result (Unit {0}) Early) → l1 ≡ closed count l → (w1.out.ghost_name ≡ w.out.ghost_name → new ≡ w1.out.now) → Does g w.out start m r l w1 → EndsSo g start (outside count (m ended)) r l1 new
@@ -32,7 +33,7 @@ module _ {W : Type 0} (g : sinks.Ghosts W) (start : Device (List ℕ)) (count : 
     ap (output g) (last sees.same_output) ∙ sees.written ∙ ap (λ x. with_bytes start (shown_events x.events)) (sym (h ended)),
   )
   ends_so (Err early.WriteFault) end last h =
-      let c = h ended ended_adds in
+      let c = h ended (ended_adds adding) in
       subst (λ x. WrotePrefix (failed start) (output g x) (shown_events (m ended).events)) (sym (last c.same_output)) c.written
   ends_so (Err early.Memory) end last h = tt
 

@@ -1,19 +1,41 @@
 -- What an exchange over a link gives.
-use Rattle.std.proofs.Common.{◌≡◌, refl, sym, ap, ◌∙◌, subst, ℕ, List, [], ◌∷◌}
-use Rattle.std.specs.Prelude.{Result, Ok, Err}
+use Rattle.std.proofs.Common.{◌≡◌, inl, inr, refl, sym, ap, ◌∙◌, subst, arith, ℕ, List, [], ◌∷◌, append-nil}
+use Rattle.std.specs.Prelude.{true, false, Option, None, Some, Result, Ok, Err}
+use Rattle.rb_trees.specs.Outcome.{Refuses}
 use Rattle.rb_trees.specs.declared.forests.Node as node
+use Rattle.rb_trees.specs.declared.services.Object.{Object}
+use Rattle.rb_trees.specs.mirror.Forests.{Node, mirror_node}
 use Rattle.rb_trees.specs.mirror.Remainders.{Parts}
-use Rattle.rb_meaning_bytes.specs.formats.Formats.{Format, FirstViolation}
+use Rattle.rb_trees.specs.mirror.Services.{Service}
+use Rattle.rb_meaning_bytes.specs.Fits.{Unfit, At, Extra, fits}
+use Rattle.rb_meaning_bytes.specs.formats.Fields.{IsBytes}
+use Rattle.rb_meaning_bytes.specs.formats.Formats.{Format, FirstViolation, Spells}
 use Rattle.rb_meaning_bytes.specs.formats.Forests.{forest_message}
-use Rattle.rb_meaning.specs.Links.{Pair}
+use Rattle.rb_meaning_bytes.specs.formats.ScriptPayloads as script
+use Rattle.rb_meaning_bytes.specs.formats.ScriptPayloads.{Refused}
+use Rattle.rb_meaning.specs.Answers.{Answers, forest_kind, performs, refusal_kind, refuses}
+use Rattle.rb_meaning.specs.Links.{Behind, Pair}
+use Rattle.rb_meaning_split.specs.Client.{Sent}
+use Rattle.rb_headline_laws.specs.Clients.{sent_run}
+use Rattle.rb_base.specs.Links.{IsListedWhereTold, KeepsCause, ServesAsTold, faults_after, pairs_after}
 use Rattle.rb_base.specs.declared.links.Link as links
+use Rattle.rb_base.specs.declared.links.LinkStop.{LinkStop}
+use Rattle.rb_base.specs.declared.links.LinkStop.TheVariants as link_stops
+use Rattle.rb_base.specs.declared.links.Reply.{Reply}
+use Rattle.rb_wire_forest.specs.Misfits.{unfit}
 use Rattle.rb_wire_forest.specs.Payloads.{Means, Violation, spelled, violated}
-use Rattle.rb_client.specs.Replies.{HasReason, Reads, Takes, Trades, more_pairs, pair_of, pairs_of, refused_pairs}
+use Rattle.rb_wire_forest.specs.declared.fitting.Misfit.{Misfit}
+use Rattle.rb_wire_forest.specs.declared.fitting.Misfit.TheVariants as amiss
+use Rattle.rb_client.specs.Replies.{GivesNoNode, HasReason, IsAlone, IsForest, IsMisfit, Reads, Takes, Trades, more_pairs, pair_of, pairs_of, refused_pairs}
+use Rattle.rb_client.specs.Servers.{PerformedAll}
+use Rattle.rb_client.specs.Serving.{CountsOne, GivesMisfit, MayPerform, server_of}
 use Rattle.rb_client.specs.declared.replies.Unread.TheVariants as unread
 use Rattle.rb_client.specs.declared.stops.BadReason.{BadReason}
 use Rattle.rb_client.specs.declared.stops.BadReason.TheVariants as reason
 use Rattle.rb_client.specs.declared.stops.RunStop.{RunStop}
 use Rattle.rb_client.specs.declared.stops.RunStop.TheVariants as stops
+
+-- What is read in a payload.
 
 -- the violation that a payload has
 violation_of : {A : Type 0} (F : Format A) (payload : List ℕ) (v : Violation) (m : Result A Violation) → m ≡ Err v → Means F payload m → FirstViolation F payload v.0 v.1
@@ -23,14 +45,49 @@ violation_of F payload v _ e (violated u w) = let same : u ≡ v = cc e in subst
 pub violates : (payload : List ℕ) (number at : ℕ) → Means forest_message payload (Err (number, at)) → FirstViolation forest_message payload number at
 violates payload number at m = violation_of forest_message payload (number, at) (Err (number, at)) refl m
 
+-- the value that a payload spells
+spelled_of : {A : Type 0} (F : Format A) (payload : List ℕ) (x : A) (m : Result A Violation) → m ≡ Ok x → Means F payload m → Spells F payload x
+spelled_of F payload x _ e (spelled y s) = let same : y ≡ x = cc e in subst (Spells F payload) same s
+spelled_of F payload x _ e (violated u w) = absurd (cc e)
+
+-- what is read of a payload is all that it comes to
+abbrev pub Only : List ℕ → Result Node Violation → Type 0
+Only payload read = (meant : Result Node Violation) → Means forest_message payload meant → meant ≡ read
+
+alone : (payload : List ℕ) (n : Node) → Only payload (Ok n) → IsAlone payload n
+alone payload n only other s = cc (only (Ok other) (spelled other s))
+
+pub forest_so : (remainder : Parts) (payload : List ℕ) (n : Node) → Means forest_message payload (Ok n) → Only payload (Ok n) → fits n remainder ≡ Ok tt → IsForest remainder forest_kind payload n × IsAlone payload n
+forest_so remainder payload n means only e = (record { kind_so = refl; spells = spelled_of forest_message payload n (Ok n) refl means; fits_so = e }, alone payload n only)
+
+pub no_node : (remainder : Parts) (payload : List ℕ) (v : Violation) → Only payload (Err v) → GivesNoNode remainder forest_kind payload
+no_node remainder payload v only n f = let e = only (Ok n) (spelled n f.spells) in absurd (cc e)
+
+unfit_so : (misfit : Misfit) (r : Result (Unit {0}) Unfit) → Refuses (unfit misfit) r → (why : Unfit) × (r ≡ Err why) × (unfit misfit ≡ Some why)
+unfit_so (amiss.At step) r e = (At step, e, refl)
+unfit_so amiss.Extra r e = (Extra, e, refl)
+
+pub misfit_so : (remainder : Parts) (payload : List ℕ) (n : Node) (misfit : Misfit) → Means forest_message payload (Ok n) → Only payload (Ok n) → Refuses (unfit misfit) (fits n remainder)
+    → IsMisfit remainder forest_kind payload (unfit misfit) × GivesNoNode remainder forest_kind payload
+misfit_so remainder payload n misfit means only e =
+    let u = unfit_so misfit (fits n remainder) e in (
+      record { node = n; why = u.0; kind_so = refl; spells = spelled_of forest_message payload n (Ok n) refl means; misfits = u.1; cause_so = u.2 },
+      λ other f.
+          let fitted : fits n remainder ≡ Ok tt = ap (λ m. fits m remainder) (sym (alone payload n only other f.spells)) ∙ f.fits_so in
+          absurd (cc (fitted, u.1)),
+    )
+
+pub refusal_no_node : (remainder : Parts) (payload : List ℕ) → GivesNoNode remainder refusal_kind payload
+refusal_no_node remainder payload n f = let e = f.kind_so in absurd (omega (arith, e))
+
 -- why a whole reply is refused
-why_so : (why : BadReason) (remainder : Parts) (kind : ℕ) (payload : List ℕ) → Reads remainder kind payload (Err (unread.Reason why)) → HasReason why remainder kind payload × (refused_pairs why (pair_of [] kind payload) ≡ pair_of [] kind payload ∷ [])
+why_so : (why : BadReason) (remainder : Parts) (kind : ℕ) (payload : List ℕ) → Reads remainder kind payload (Err (unread.Reason why)) → HasReason why remainder kind payload × GivesNoNode remainder kind payload
 why_so (reason.Cut got) remainder kind payload h = absurd h
 why_so (reason.Frame at) remainder kind payload h = absurd h
-why_so (reason.Forest number at) remainder kind payload h = (h, refl)
-why_so (reason.Misfit m) remainder kind payload h = (h, refl)
-why_so (reason.Refused number at) remainder kind payload h = (h, refl)
-why_so reason.Garbled remainder kind payload h = (h, refl)
+why_so (reason.Forest number at) remainder kind payload h = h
+why_so (reason.Misfit m) remainder kind payload h = h
+why_so (reason.Refused number at) remainder kind payload h = h
+why_so reason.Garbled remainder kind payload h = h
 
 one_refused : (why : BadReason) (remainder : Parts) (kind : ℕ) (payload : List ℕ) (pair : Pair) → Reads remainder kind payload (Err (unread.Reason why)) → refused_pairs why pair ≡ pair ∷ []
 one_refused (reason.Cut got) remainder kind payload pair h = absurd h
@@ -40,24 +97,157 @@ one_refused (reason.Misfit m) remainder kind payload pair h = refl
 one_refused (reason.Refused number at) remainder kind payload pair h = refl
 one_refused reason.Garbled remainder kind payload pair h = refl
 
--- a whole reply was read
-pub traded : {L : Type 0} (g : links.Ghosts L) (remainder : Parts) (done : ℕ) (request : List ℕ) (before after : L) (kind : ℕ) (payload : List ℕ) (r : Result node.Node RunStop)
-    → pairs_of g after ≡ more_pairs (pair_of request kind payload ∷ []) (pairs_of g before) → g.faults after ≡ g.faults before → Takes remainder done kind payload r → Trades g remainder done request before r after
-traded g remainder done request before after kind payload (Ok n) pairs faults h = record {
-  reply = payload;
-  forest = record { kind_so = refl; spells = h.spells; fits_so = h.fits_so };
-  pairs_so = pairs ∙ ap (λ k. more_pairs (pair_of request k payload ∷ []) (pairs_of g before)) h.kind_so;
-  faults_so = faults;
-}
-traded g remainder done request before after kind payload (Err (stops.LinkFault k)) pairs faults h = absurd h
-traded g remainder done request before after kind payload (Err (stops.BadReply k why kept bytes)) pairs faults h = (
-  h.0,
-  record {
-    reason_so = subst (λ x. HasReason why remainder x bytes) (sym h.1) (subst (λ x. HasReason why remainder kind x) (sym h.2) (why_so why remainder kind payload h.3).0);
-    pairs_so = pairs ∙ ap (λ x. more_pairs x (pairs_of g before)) (sym (one_refused why remainder kind payload (pair_of request kind payload) h.3))
-        ∙ ap (λ x. more_pairs (refused_pairs why (pair_of request x payload)) (pairs_of g before)) (sym h.1) ∙ ap (λ x. more_pairs (refused_pairs why (pair_of request kept x)) (pairs_of g before)) (sym h.2);
-    faults_so = faults;
-  },
-)
-traded g remainder done request before after kind payload (Err stops.WriteFault) pairs faults h = absurd h
-traded g remainder done request before after kind payload (Err stops.Memory) pairs faults h = tt
+-- What a server answers to a request that means a script.
+
+-- A payload means one thing.
+abbrev pub MeansOne : Type 0
+MeansOne = (payload : List ℕ) (meant other : Result Sent Refused) → IsBytes payload → script.Means payload meant → script.Means payload other → meant ≡ other
+
+-- its node's forest, and the table that it leaves
+record Gave (service : Service) (table : List Object) (x : Sent) (kind : ℕ) (reply : List ℕ) (after : List Object) : Type 0 where
+  kind_is : kind ≡ forest_kind
+  spells : Spells forest_message reply (sent_run service table x).node
+  leaves : after ≡ (sent_run service table x).server.table
+
+gave : MeansOne → (service : Service) (table : List Object) (request : List ℕ) (kind : ℕ) (reply : List ℕ) (after : List Object) → IsBytes request
+    → Answers service table request kind reply after → (x : Sent) → script.Means request (Ok x) → Gave service table x kind reply after
+gave once service table request _ _ _ bytes (performs y reply m s) x means =
+    let same : y ≡ x = cc (once request (Ok y) (Ok x) bytes m means) in
+    record {
+      kind_is = refl;
+      spells = subst (λ z. Spells forest_message reply (sent_run service table z).node) same s;
+      leaves = ap (λ z. (sent_run service table z).server.table) same;
+    }
+gave once service table request _ _ _ bytes (refuses wrong reply m s) x means = let same = once request (Err wrong) (Ok x) bytes m means in absurd (cc (same))
+
+-- The link's own clauses as facts of the server.
+
+counts_one : (reply : Reply) (a b : Option Behind) → IsListedWhereTold (Ok reply) a b → CountsOne false a b
+counts_one reply (Some a) (Some b) h = h
+counts_one reply (Some a) None h = absurd h
+counts_one reply None (Some b) h = absurd h
+counts_one reply None None h = tt
+
+counts_frame : (at : ℕ) (bytes : List ℕ) (a b : Option Behind) → IsListedWhereTold (Err (link_stops.Frame at bytes)) a b → CountsOne false a b
+counts_frame at bytes (Some a) (Some b) h = h
+counts_frame at bytes (Some a) None h = absurd h
+counts_frame at bytes None (Some b) h = absurd h
+counts_frame at bytes None None h = tt
+
+counts_cut : (got : ℕ) (bytes : List ℕ) (a b : Option Behind) → IsListedWhereTold (Err (link_stops.Cut got bytes)) a b → CountsOne false a b
+counts_cut got bytes (Some a) (Some b) h = h
+counts_cut got bytes (Some a) None h = absurd h
+counts_cut got bytes None (Some b) h = absurd h
+counts_cut got bytes None None h = tt
+
+counts_failed : (a b : Option Behind) → IsListedWhereTold (Err link_stops.Failed) a b → CountsOne true a b
+counts_failed (Some a) (Some b) h = h
+counts_failed (Some a) None h = absurd h
+counts_failed None (Some b) h = absurd h
+counts_failed None None h = tt
+
+no_frame : (request : List ℕ) (at : ℕ) (bytes : List ℕ) (a b : Option Behind) → ServesAsTold request (Err (link_stops.Frame at bytes)) a b → ⊥
+no_frame request at bytes (Some a) (Some b) h = h
+no_frame request at bytes (Some a) None h = h
+no_frame request at bytes None b h = h
+
+no_cut : (request : List ℕ) (got : ℕ) (bytes : List ℕ) (a b : Option Behind) → ServesAsTold request (Err (link_stops.Cut got bytes)) a b → ⊥
+no_cut request got bytes (Some a) (Some b) h = h
+no_cut request got bytes (Some a) None h = h
+no_cut request got bytes None b h = h
+
+module _ (once : MeansOne) (request : List ℕ) (bytes : IsBytes request) (x : Sent) (means : script.Means request (Ok x)) where
+  served_so : (reply : Reply) (n : Node) (a b : Option Behind) → IsAlone reply.payload.items n → CountsOne false a b → ServesAsTold request (Ok reply) a b → PerformedAll a b (x ∷ []) (n ∷ [])
+  served_so reply n (Some a) (Some b) is one h =
+      let g = gave once a.service a.table request reply.kind reply.payload.items b.table bytes h x means in
+      (one.1.service, (is (sent_run a.service a.table x).node g.spells, sym g.leaves))
+  served_so reply n (Some a) None is one h = absurd h
+  served_so reply n None b is one h = absurd h
+
+  lost_so : (a b : Option Behind) → CountsOne true a b → ServesAsTold request (Err link_stops.Failed) a b → MayPerform a b x
+  lost_so (Some a) (Some b) one (inl same) = (one.1.service, inl same)
+  lost_so (Some a) (Some b) one (inr (kind, reply, answers)) = (one.1.service, inr (gave once a.service a.table request kind reply b.table bytes answers x means).leaves)
+  lost_so (Some a) None one h = absurd h
+  lost_so None b one h = absurd h
+
+  misfit_given : (reply : Reply) (remainder : Parts) (a b : Option Behind) → GivesNoNode remainder reply.kind reply.payload.items → ServesAsTold request (Ok reply) a b → GivesMisfit a x remainder
+  misfit_given reply remainder (Some a) (Some b) none h = λ e.
+      let g = gave once a.service a.table request reply.kind reply.payload.items b.table bytes h x means in
+      none (sent_run a.service a.table x).node (record { kind_so = g.kind_is; spells = g.spells; fits_so = e })
+  misfit_given reply remainder (Some a) None none h = absurd h
+  misfit_given reply remainder None b none h = absurd h
+
+-- What an exchange gives.
+
+-- why an exchange of which so many were before has no whole reply
+abbrev pub stopped : ℕ → LinkStop → RunStop
+stopped done link_stops.Failed = stops.LinkFault done
+stopped done (link_stops.Frame at taken) = stops.BadReply done (reason.Frame at) 0 taken
+stopped done (link_stops.Cut got taken) = stops.BadReply done (reason.Cut got) 0 taken
+stopped done link_stops.Memory = stops.Memory
+
+module _ {L : Type 0} (g : links.Ghosts L) (once : MeansOne) (remainder : Parts) (done : ℕ) (request : List ℕ) (bytes : IsBytes request) (before after : L) where
+  abbrev Serves : Result Reply LinkStop → Type 0
+  Serves answer = g.honest before → ServesAsTold request answer (server_of g before) (server_of g after)
+
+  -- a whole reply was read
+  pub traded : (reply : Reply) (r : Result node.Node RunStop) → pairs_of g after ≡ more_pairs (pair_of request reply.kind reply.payload.items ∷ []) (pairs_of g before) → g.faults after ≡ g.faults before
+      → IsListedWhereTold (Ok reply) (server_of g before) (server_of g after) → Serves (Ok reply) → (g.honest before → g.honest after) → Takes remainder done reply.kind reply.payload.items r → Trades g remainder done request before r after
+  traded reply (Ok n) pairs faults listed serves stays h =
+      let one = counts_one reply (server_of g before) (server_of g after) listed in
+      record {
+        reply = reply.payload.items;
+        forest = record { kind_so = refl; spells = h.0.spells; fits_so = h.0.fits_so };
+        pairs_so = pairs ∙ ap (λ k. more_pairs (pair_of request k reply.payload.items ∷ []) (pairs_of g before)) h.0.kind_so;
+        faults_so = faults;
+        counts = one;
+        stays = stays;
+        served = λ honest x means. served_so once request bytes x means reply (mirror_node n) (server_of g before) (server_of g after) h.1 one (serves honest);
+      }
+  traded reply (Err (stops.LinkFault k)) pairs faults listed serves stays h = absurd h
+  traded reply (Err (stops.BadReply k why kept payload)) pairs faults listed serves stays h =
+      let w = why_so why remainder reply.kind reply.payload.items h.3 in (
+        h.0,
+        record {
+          reason_so = subst (λ z. HasReason why remainder z payload) (sym h.1) (subst (HasReason why remainder reply.kind) (sym h.2) w.0);
+          pairs_so = pairs ∙ ap (λ z. more_pairs z (pairs_of g before)) (sym (one_refused why remainder reply.kind reply.payload.items (pair_of request reply.kind reply.payload.items) h.3))
+              ∙ ap (λ z. more_pairs (refused_pairs why (pair_of request z reply.payload.items)) (pairs_of g before)) (sym h.1) ∙ ap (λ z. more_pairs (refused_pairs why (pair_of request kept z)) (pairs_of g before)) (sym h.2);
+          faults_so = faults;
+          counts = counts_one reply (server_of g before) (server_of g after) listed;
+          misfit = λ honest x means. misfit_given once request bytes x means reply remainder (server_of g before) (server_of g after) w.1 (serves honest);
+        },
+      )
+  traded reply (Err stops.WriteFault) pairs faults listed serves stays h = absurd h
+  traded reply (Err stops.Memory) pairs faults listed serves stays h = tt
+
+  no_pairs : (told : Option (List Pair)) → told ≡ more_pairs [] told
+  no_pairs None = refl
+  no_pairs (Some pairs) = ap Some (sym (append-nil pairs))
+
+  -- there was no whole reply
+  pub untraded : (stop : LinkStop) → KeepsCause stop → pairs_of g after ≡ pairs_after request (Err stop) (pairs_of g before) → g.faults after ≡ faults_after (Err stop) (g.faults before) → IsListedWhereTold (Err stop) (server_of g before) (server_of g after)
+      → Serves (Err stop) → Trades g remainder done request before (Err (stopped done stop)) after
+  untraded link_stops.Failed cause pairs faults listed serves =
+      let one = counts_failed (server_of g before) (server_of g after) listed in
+      (refl, record { pairs_so = pairs; faults_so = faults; counts = one; lost = λ honest x means. lost_so once request bytes x means (server_of g before) (server_of g after) one (serves honest) })
+  untraded (link_stops.Frame at taken) cause pairs faults listed serves = (
+    refl,
+    record {
+      reason_so = (refl, cause);
+      pairs_so = pairs ∙ no_pairs (pairs_of g before);
+      faults_so = faults;
+      counts = counts_frame at taken (server_of g before) (server_of g after) listed;
+      misfit = λ honest x means. absurd (no_frame request at taken (server_of g before) (server_of g after) (serves honest));
+    },
+  )
+  untraded (link_stops.Cut got taken) cause pairs faults listed serves = (
+    refl,
+    record {
+      reason_so = (refl, cause.0, cause.1);
+      pairs_so = pairs ∙ no_pairs (pairs_of g before);
+      faults_so = faults;
+      counts = counts_cut got taken (server_of g before) (server_of g after) listed;
+      misfit = λ honest x means. absurd (no_cut request got taken (server_of g before) (server_of g after) (serves honest));
+    },
+  )
+  untraded link_stops.Memory cause pairs faults listed serves = tt

@@ -1,26 +1,30 @@
--- How the code of `main` stands to what it means.
-use Rattle.std.specs.Prelude.{◌≡◌, ◌≤◌, ℕ, List, [], map, Option, option_map, Result, Ok, Err}
+-- How the code of `main` stands to what it means, and what a run leaves.
+use Rattle.std.specs.Prelude.{◌≡◌, ◌≤◌, ℕ, List, [], ◌++◌, length, map, Option, Some, option_map, Result, Ok, Err}
 use Rattle.rb_trees.specs.declared.values.Value.{Value}
-use Rattle.rb_trees.specs.declared.outcomes.Ending.{Ending}
 use Rattle.rb_trees.specs.declared.outcomes.Raised.{Raised}
+use Rattle.rb_trees.specs.declared.outcomes.Run as runs
 use Rattle.rb_trees.specs.declared.code.Expr as expr
+use Rattle.rb_trees.specs.declared.declarations.Body as body
 use Rattle.rb_trees.specs.declared.declarations.Class as class
 use Rattle.rb_trees.specs.mirror.Code.{mirror_expr}
-use Rattle.rb_trees.specs.mirror.Declarations.{Program, mirror_class}
+use Rattle.rb_trees.specs.mirror.Declarations.{Program, mirror_body, mirror_class, mirror_program}
 use Rattle.rb_trees.specs.mirror.Forests.{Node}
 use Rattle.rb_meaning_code.specs.Bodies.{bodies_of}
-use Rattle.rb_meaning_code.specs.Dialogue.{Outcome, Gave, Faulted, Run, Surroundings, Follows, handle}
+use Rattle.rb_meaning_code.specs.Dialogue.{Outcome, Gave, Faulted, Run, Dialogue, Done, Ask, AskBatch, Surroundings, Follows, handle}
+use Rattle.rb_meaning_code.specs.Led.{Passes}
 use Rattle.rb_meaning_code.specs.State.{Local}
-use Rattle.rb_meaning.specs.Meaning.{at_start, ending_of, main_result, runs_main}
+use Rattle.rb_meaning.specs.Meaning.{ending_of, main_result, runs_main}
+use Rattle.rb_meaning.specs.Unsplit.{batch_at}
 use Rattle.rb_meaning_flow.specs.Outermost.{Outermost}
 use Rattle.rb_meaning_split.specs.Client.{in_client}
 use Rattle.rb_meaning_split.specs.Division.{division}
+use Rattle.rb_headline_laws.specs.Reached.{main_run, with_nodes}
 use Rattle.rb_base.specs.declared.links.Link as links
 use Rattle.rb_base.specs.declared.sinks.Sink as sinks
 use Rattle.rb_engine.specs.declared.world.Halt.{Halt}
 use Rattle.rb_engine.specs.declared.world.Halt.TheVariants.{Memory, World}
-use Rattle.rb_client.specs.Clients.{Origin, Past, SeesClient, StopsAt, StopsWriting, client_answers, client_performs, nothing_yet, waiting}
-use Rattle.rb_client.specs.Runs.{Reaches}
+use Rattle.rb_client.specs.Clients.{FailsToWrite, HasDone, HoldsBoth, Origin, Past, StopsAt, asked, client_answers, client_performs, performed_past, scene_of, waiting}
+use Rattle.rb_client.specs.Scenes.{Scene}
 use Rattle.rb_client.specs.declared.client_world.ClientWorld.{ClientWorld}
 use Rattle.rb_client.specs.declared.stops.RunStop.{RunStop}
 use Rattle.rb_client.specs.declared.stops.RunStop.TheVariants as stops
@@ -44,42 +48,66 @@ LeadsWithin gl gw run l w result w' = (gas : ℕ) → l.fuel ≤ gas → Leads g
 abbrev pub result_run : List class.Class → Option expr.Expr → ℕ → Local → Run (Option Value)
 result_run classes value gas l = main_result (bodies_of (map mirror_class classes) gas) (option_map mirror_expr value) l
 
--- `main` with so much fuel
-abbrev pub main_run : Program → ℕ → Run (Option Value)
-main_run p fuel = runs_main p.classes fuel p.body (at_start fuel)
+-- the run of `main`
+abbrev pub body_run : List class.Class → body.Body → Local → Run (Option Value)
+body_run classes b l = runs_main (map mirror_class classes) l.fuel (mirror_body b) l
 
--- `main` ended as it means, on the nodes that were replied.
-pub record EndsWell {L W : Type 0} (gl : links.Ghosts L) (gw : sinks.Ghosts W) (o : Origin L W) (fuel : ℕ) (ending : Ending) (w : ClientWorld L W) : Type 0 where
+-- This is left of `main` with this past, whatever nodes would have followed those that were replied.
+abbrev pub ComesTo : Program → ℕ → Past → Dialogue (Outcome (Option Value)) → Type 0
+ComesTo p fuel h rest = (more : List Node) → Passes (in_client p) (main_run p fuel) (with_nodes (h.nodes ++ more)) rest (waiting h more)
+
+-- `main` ended so on the nodes that were replied.
+pub record EndsWell (p : Program) (fuel : ℕ) (run : runs.Run) (before after : Scene) : Type 0 where
   pub past : Past
   pub outcome : Outcome (Option Value)
-  pub handled : handle (in_client o.program) (main_run o.program fuel) (waiting nothing_yet past.nodes) ≡ (outcome, waiting past [])
-  pub ending_so : ending ≡ ending_of outcome
-  pub sees : SeesClient gl gw o w past
+  pub handled : handle (in_client p) (main_run p fuel) (with_nodes past.nodes) ≡ (outcome, waiting past [])
+  pub ending_so : run.ending ≡ ending_of outcome
+  pub exchanges_so : run.exchanges ≡ length past.sent
+  pub done : HasDone p before after past
 
--- A write failed in what `main` shows on the nodes that were replied.
-pub record EndsWriting {L W : Type 0} (gl : links.Ghosts L) (gw : sinks.Ghosts W) (o : Origin L W) (fuel : ℕ) (w : ClientWorld L W) : Type 0 where
-  pub nodes : List Node
-  pub stops_so : StopsWriting gl gw o w nodes (handle (in_client o.program) (main_run o.program fuel) (waiting nothing_yet nodes)).1.events
+-- A write failed in what is asked first: at a question, or in a batch, for which a node was replied.
+abbrev pub StopsWriting : Program → Past → Dialogue (Outcome (Option Value)) → Scene → Scene → Type 0
+StopsWriting p h (Done a) before after = ⊥
+StopsWriting p h (Ask q go) before after = FailsToWrite p before after (asked q h)
+StopsWriting p h (AskBatch at l go) before after = (b : Outermost) × (batch_at p at ≡ Some b) × (n : Node) × FailsToWrite p before after (performed_past p (division p b) l h n)
 
--- `main` reached a batch whose exchange gave no node.
-pub record EndsAt {L W : Type 0} (gl : links.Ghosts L) (gw : sinks.Ghosts W) (o : Origin L W) (fuel : ℕ) (stop : RunStop) (w : ClientWorld L W) : Type 0 where
+-- A write failed in what `main` came to.
+pub record EndsWriting (p : Program) (fuel : ℕ) (before after : Scene) : Type 0 where
+  pub past : Past
+  pub rest : Dialogue (Outcome (Option Value))
+  pub comes : ComesTo p fuel past rest
+  pub stops_so : StopsWriting p past rest before after
+
+-- `main` came to a batch whose exchange gave no node.
+pub record EndsAt (p : Program) (fuel : ℕ) (stop : RunStop) (before after : Scene) : Type 0 where
   pub past : Past
   pub batch : Outermost
+  pub at : ℕ
   pub local : Local
-  pub reaches : Reaches o.program fuel past batch local
-  pub stops_so : StopsAt gl gw o w past (division o.program batch) local stop
+  pub go : Outcome (Unit {0}) → Dialogue (Outcome (Option Value))
+  pub stands : batch_at p at ≡ Some batch
+  pub comes : ComesTo p fuel past (AskBatch at local go)
+  pub stops_so : StopsAt p before after past (division p batch) local stop
 
-abbrev pub Ends : {L W : Type 0} → links.Ghosts L → sinks.Ghosts W → Origin L W → ℕ → Result Ending RunStop → ClientWorld L W → Type 0
-Ends gl gw o fuel (Ok ending) w = EndsWell gl gw o fuel ending w
-Ends gl gw o fuel (Err stops.WriteFault) w = EndsWriting gl gw o fuel w
-Ends gl gw o fuel (Err stops.Memory) w = Unit {0}
-Ends gl gw o fuel (Err stop) w = EndsAt gl gw o fuel stop w
+-- What a run leaves. Nothing is said after want of memory.
+abbrev pub Leaves : Program → ℕ → Result runs.Run RunStop → Scene → Scene → Type 0
+Leaves p fuel (Ok run) before after = EndsWell p fuel run before after
+Leaves p fuel (Err stops.WriteFault) before after = EndsWriting p fuel before after
+Leaves p fuel (Err stops.Memory) before after = Unit {0}
+Leaves p fuel (Err stop) before after = EndsAt p fuel stop before after
 
--- the same, wherever the World has done nothing yet
-abbrev pub RunsMain : {L W : Type 0} → links.Ghosts L → sinks.Ghosts W → ℕ → ClientWorld L W → Result Ending RunStop → ClientWorld L W → Type 0
-RunsMain {L = L} {W = W} gl gw fuel w result w' = (o : Origin L W) → SeesClient gl gw o w nothing_yet → Ends gl gw o fuel result w'
+-- the program of a World, and what its run begins with
+abbrev pub program_of : {L W : Type 0} → ClientWorld L W → Program
+program_of w = mirror_program w.plan.now.program
 
--- The World holds the same output and the same link, unless memory ran out.
-abbrev pub KeepsBoth : {L W A : Type 0} → Result A RunStop → ClientWorld L W → ClientWorld L W → Type 0
-KeepsBoth (Err stops.Memory) w w' = Unit {0}
-KeepsBoth result w w' = (w'.link.ghost_name ≡ w.link.ghost_name) × (w'.out.ghost_name ≡ w.out.ghost_name)
+abbrev pub origin : {L W : Type 0} → ClientWorld L W → Origin L W
+origin w = record { program = program_of w; link = w.link; out = w.out }
+
+-- The World holds both, unless memory ran out.
+abbrev pub KeepsBoth : {L W A : Type 0} → Result A RunStop → Origin L W → ClientWorld L W → Type 0
+KeepsBoth (Err stops.Memory) o w = Unit {0}
+KeepsBoth result o w = HoldsBoth o w
+
+-- `main` was run with so much fuel in a World, which holds both still, and this is left.
+abbrev pub RunsMain : {L W : Type 0} → links.Ghosts L → sinks.Ghosts W → ℕ → ClientWorld L W → Result runs.Run RunStop → ClientWorld L W → Type 0
+RunsMain gl gw fuel w result w' = KeepsBoth result (origin w) w' × Leaves (program_of w) fuel result (scene_of gl gw w) (scene_of gl gw w')

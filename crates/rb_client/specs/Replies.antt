@@ -1,5 +1,5 @@
 -- What a client reads in a reply, and what an exchange gives it.
-use Rattle.std.specs.Prelude.{◌≡◌, ℕ, List, [], ◌∷◌, ◌++◌, length, Option, Some, option_map, Result, Ok, Err}
+use Rattle.std.specs.Prelude.{◌≡◌, ℕ, List, [], ◌∷◌, ◌++◌, length, true, false, Option, Some, option_map, Result, Ok, Err}
 use Rattle.rb_trees.specs.declared.forests.Node as node
 use Rattle.rb_trees.specs.mirror.Forests.{Node, mirror_node}
 use Rattle.rb_trees.specs.mirror.Remainders.{Parts}
@@ -7,12 +7,16 @@ use Rattle.rb_meaning_bytes.specs.Fits.{Unfit, fits}
 use Rattle.rb_meaning_bytes.specs.formats.Formats.{Spells, FirstViolation}
 use Rattle.rb_meaning_bytes.specs.formats.Forests.{forest_message}
 use Rattle.rb_meaning_bytes.specs.formats.Refusals.{refusal_message}
+use Rattle.rb_meaning_bytes.specs.formats.ScriptPayloads.{Means}
 use Rattle.rb_meaning.specs.Answers.{forest_kind, refusal_kind}
 use Rattle.rb_meaning.specs.Links.{Pair, pairs_told}
 use Rattle.rb_meaning.specs.Replies.{BreaksAt, IsCut}
+use Rattle.rb_meaning_split.specs.Client.{Sent}
 use Rattle.rb_base.specs.Counts.{risen}
 use Rattle.rb_base.specs.declared.links.Link as links
 use Rattle.rb_wire_forest.specs.Misfits.{unfit}
+use Rattle.rb_client.specs.Servers.{PerformedAll}
+use Rattle.rb_client.specs.Serving.{CountsOne, GivesMisfit, MayPerform, server_of}
 use Rattle.rb_client.specs.declared.replies.Unread.{Unread}
 use Rattle.rb_client.specs.declared.replies.Unread.TheVariants as unread
 use Rattle.rb_client.specs.declared.stops.BadReason.{BadReason}
@@ -44,17 +48,25 @@ HasReason (reason.Misfit misfit) remainder kind bytes = IsMisfit remainder kind 
 HasReason (reason.Refused number at) remainder kind bytes = (kind ≡ refusal_kind) × Spells refusal_message bytes (number, at)
 HasReason reason.Garbled remainder kind bytes = (kind ≡ refusal_kind) × ((x : ℕ × ℕ) → Spells refusal_message bytes x → ⊥)
 
--- What is read in a whole reply: its node, or why it is refused, which is no matter of its frame.
+-- No other node has this forest.
+abbrev pub IsAlone : List ℕ → Node → Type 0
+IsAlone payload n = (other : Node) → Spells forest_message payload other → other ≡ n
+
+-- A reply is no forest of a node that fits a remainder.
+abbrev pub GivesNoNode : Parts → ℕ → List ℕ → Type 0
+GivesNoNode remainder kind payload = (n : Node) → IsForest remainder kind payload n → ⊥
+
+-- What is read in a whole reply: its one node, or why it is refused, which is no matter of its frame.
 abbrev pub Reads : Parts → ℕ → List ℕ → Result node.Node Unread → Type 0
-Reads remainder kind payload (Ok n) = IsForest remainder kind payload (mirror_node n)
+Reads remainder kind payload (Ok n) = IsForest remainder kind payload (mirror_node n) × IsAlone payload (mirror_node n)
 Reads remainder kind payload (Err (unread.Reason (reason.Cut got))) = ⊥
 Reads remainder kind payload (Err (unread.Reason (reason.Frame at))) = ⊥
-Reads remainder kind payload (Err (unread.Reason why)) = HasReason why remainder kind payload
+Reads remainder kind payload (Err (unread.Reason why)) = HasReason why remainder kind payload × GivesNoNode remainder kind payload
 Reads remainder kind payload (Err unread.Memory) = Unit {0}
 
 -- the same as an answer after so many exchanges, which keeps the kind and the payload
 abbrev pub Takes : Parts → ℕ → ℕ → List ℕ → Result node.Node RunStop → Type 0
-Takes remainder done kind payload (Ok n) = IsForest remainder kind payload (mirror_node n)
+Takes remainder done kind payload (Ok n) = Reads remainder kind payload (Ok n)
 Takes remainder done kind payload (Err (stops.LinkFault k)) = ⊥
 Takes remainder done kind payload (Err (stops.BadReply k why kept bytes)) = (k ≡ done) × (kept ≡ kind) × (bytes ≡ payload) × Reads remainder kind payload (Err (unread.Reason why))
 Takes remainder done kind payload (Err stops.WriteFault) = ⊥
@@ -76,28 +88,35 @@ refused_pairs _ pair = pair ∷ []
 abbrev pub pairs_of : {L : Type 0} → links.Ghosts L → L → Option (List Pair)
 pairs_of g link = pairs_told (g.told link)
 
--- A node was replied, in a pair more.
+-- A node was replied, in a pair more. Over an honest link the server gave it, by the script that the request means.
 pub record GotNode {L : Type 0} (g : links.Ghosts L) (remainder : Parts) (request : List ℕ) (before after : L) (n : Node) : Type 0 where
   pub reply : List ℕ
   pub forest : IsForest remainder forest_kind reply n
   pub pairs_so : pairs_of g after ≡ more_pairs (pair_of request forest_kind reply ∷ []) (pairs_of g before)
   pub faults_so : g.faults after ≡ g.faults before
+  pub counts : CountsOne false (server_of g before) (server_of g after)
+  pub stays : g.honest before → g.honest after
+  pub served : g.honest before → (x : Sent) → Means request (Ok x) → PerformedAll (server_of g before) (server_of g after) (x ∷ []) (n ∷ [])
 
--- The exchange failed, which the link counted.
-pub record GotFault {L : Type 0} (g : links.Ghosts L) (before after : L) : Type 0 where
+-- The exchange failed, which the link counted. Over an honest link the server may have performed the script.
+pub record GotFault {L : Type 0} (g : links.Ghosts L) (request : List ℕ) (before after : L) : Type 0 where
   pub pairs_so : pairs_of g after ≡ pairs_of g before
   pub faults_so : g.faults after ≡ risen (g.faults before)
+  pub counts : CountsOne true (server_of g before) (server_of g after)
+  pub lost : g.honest before → (x : Sent) → Means request (Ok x) → MayPerform (server_of g before) (server_of g after) x
 
--- A reply was refused for this reason.
+-- A reply was refused for this reason. Over an honest link that is so only where the script gives a node that doesn't fit.
 pub record GotBad {L : Type 0} (g : links.Ghosts L) (remainder : Parts) (request : List ℕ) (before after : L) (why : BadReason) (kind : ℕ) (bytes : List ℕ) : Type 0 where
   pub reason_so : HasReason why remainder kind bytes
   pub pairs_so : pairs_of g after ≡ more_pairs (refused_pairs why (pair_of request kind bytes)) (pairs_of g before)
   pub faults_so : g.faults after ≡ g.faults before
+  pub counts : CountsOne false (server_of g before) (server_of g after)
+  pub misfit : g.honest before → (x : Sent) → Means request (Ok x) → GivesMisfit (server_of g before) x remainder
 
 -- What an exchange gives, of which so many were before it. Nothing is said after want of memory.
 abbrev pub Trades : {L : Type 0} → links.Ghosts L → Parts → ℕ → List ℕ → L → Result node.Node RunStop → L → Type 0
 Trades g remainder done request before (Ok n) after = GotNode g remainder request before after (mirror_node n)
-Trades g remainder done request before (Err (stops.LinkFault k)) after = (k ≡ done) × GotFault g before after
+Trades g remainder done request before (Err (stops.LinkFault k)) after = (k ≡ done) × GotFault g request before after
 Trades g remainder done request before (Err (stops.BadReply k why kind bytes)) after = (k ≡ done) × GotBad g remainder request before after why kind bytes
 Trades g remainder done request before (Err stops.WriteFault) after = ⊥
 Trades g remainder done request before (Err stops.Memory) after = Unit {0}

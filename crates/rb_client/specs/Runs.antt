@@ -1,5 +1,5 @@
 -- What the run of a client leaves, over any link.
-use Rattle.std.specs.Prelude.{◌≡◌, ℕ, List, [], ◌++◌, length, map, Option, Some, Result, Ok, Err}
+use Rattle.std.specs.Prelude.{◌≡◌, ℕ, List, ◌++◌, length, map, Option, Some, Result, Ok, Err}
 use Rattle.rb_trees.specs.declared.declarations.Program as program
 use Rattle.rb_trees.specs.declared.outcomes.Run.{Run}
 use Rattle.rb_trees.specs.declared.remainders.Split.{Split}
@@ -12,10 +12,9 @@ use Rattle.rb_meaning_code.specs.Dialogue.{Outcome, Dialogue, AskBatch}
 use Rattle.rb_meaning_code.specs.State.{Local}
 use Rattle.rb_meaning.specs.Links.{Pair}
 use Rattle.rb_meaning.specs.Shown.{shown_events}
-use Rattle.rb_meaning.specs.State.{Event}
 use Rattle.rb_meaning.specs.Unsplit.{batch_at}
 use Rattle.rb_meaning_flow.specs.Outermost.{Outermost}
-use Rattle.rb_meaning_split.specs.Client.{Heard, Sent, Waiting, client, sent_for}
+use Rattle.rb_meaning_split.specs.Client.{Sent, Waiting, client, sent_for}
 use Rattle.rb_meaning_split.specs.Division.{Division, division, divisions, mirror_split}
 use Rattle.rb_division_laws.specs.Sendable.{HasPlaces}
 use Rattle.rb_flow.specs.Program.{HasNoRefusal}

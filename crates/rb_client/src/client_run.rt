@@ -1,19 +1,25 @@
 // The run of a client.
 
-ghost use Rattle.std.specs.Prelude.{◌≡◌, [], map, IfErr, IfOk};
-ghost use Rattle.rb_trees.specs.mirror.Declarations.{mirror_body, mirror_class};
-ghost use Rattle.rb_meaning.specs.Meaning.{runs_main};
+ghost use Rattle.std.specs.Prelude.{◌≡◌, []};
+ghost use Rattle.rb_trees.specs.mirror.Declarations.{mirror_program};
 ghost use Rattle.rb_engine.specs.Locals.{local};
-ghost use Rattle.rb_client.specs.Exchanges.{AreDivisions};
-ghost use Rattle.rb_client.specs.MainRuns.{KeepsBoth, Leads, LeadsWithin, RunsMain, result_run};
-ghost use Rattle.rb_client.specs.Runs.{IsCutOff, Ran};
+ghost use Rattle.rb_client.specs.Headline.{MeansWhereHonest};
+ghost use Rattle.rb_client.specs.MainRuns.{Leads, LeadsWithin, Leaves, RunsMain, body_run, result_run};
+ghost use Rattle.rb_client.specs.Runs.{FailsAsListed, IsAcceptedWith, RunsOver};
+ghost use Rattle.rb_client.specs.Scenes.{Between};
 
 use crate::client_world::ClientWorld;
+use crate::laws::reached_batches_perform_remote_parts;
 use crate::plan::Plan;
 use crate::stops::RunStop;
 use rb_base::{Link, Sink};
 use rb_code::Code;
+use rb_division_laws::divided_scripts_can_be_sent;
 use rb_engine::{Frame, Halt, State, Step, eval, exec};
+use rb_headline_laws::{
+    clients_mean_what_programs_mean, fronts_are_shown, programs_come_as_far_as_clients,
+    reached_batches_can_be_exchanged,
+};
 use rb_heap::Heap;
 use rb_trees::{Body, Ending, Expr, Run, Seq, Split, Value};
 use rb_types::Typed;
@@ -48,36 +54,13 @@ fn run_main<L: Link, W: Sink>(
     world: &mut ClientWorld<'_, '_, '_, L, W>,
     body: &Body,
 ) -> Step<Option<Value>, RunStop>
-    ensures { Leads L.Link W.Sink (runs_main (map mirror_class code.now) state.old.fuel (mirror_body body.now) (local [] state.old)) world.old result world.new }
+    ensures { Leads L.Link W.Sink (body_run code.now body.now (local [] state.old)) world.old result world.new }
 {
     let mut frame = Frame::make(alloc);
     match exec(alloc, code, state, &mut frame, world, &body.statements) {
         Ok(Ok(())) => main_value(alloc, code, state, &frame, world, &body.result),
         Ok(Err(raised)) => Ok(Err(raised)),
         Err(halt) => Err(halt),
-    }
-}
-
-/// How `main` ends with so much fuel.
-fn perform_main<L: Link, W: Sink>(
-    alloc: Global,
-    world: &mut ClientWorld<'_, '_, '_, L, W>,
-    fuel: u64,
-) -> Result<Ending, RunStop>
-    ensures { RunsMain L.Link W.Sink fuel world.old result world.new }
-{
-    let code = world.plan.code();
-    let program = world.plan.typed().program();
-    let mut state = State {
-        heap: Heap::make(alloc),
-        fuel,
-        depth: 0,
-    };
-    match run_main(alloc, code, &mut state, world, &program.body) {
-        Ok(Ok(value)) => Ok(Ending::Done(value)),
-        Ok(Err(raised)) => Ok(Ending::Faulted(raised.fault, raised.at)),
-        Err(Halt::Memory) => Err(RunStop::Memory),
-        Err(Halt::World(stop)) => Err(stop),
     }
 }
 
@@ -88,16 +71,26 @@ fn run_over<L: Link, W: Sink>(
     fuel: u64,
 ) -> Result<Run, RunStop>
     requires { world.old.exchanges ≡ 0 }
-    ensures kept { KeepsBoth result world.old world.new }
-    ensures ran { IfOk result (λ run. Ran L.Link W.Sink world.old.plan.now.program fuel run world.old.link.now world.new.link.now world.old.out.now world.new.out.now) }
-    ensures cut { IfErr result (IsCutOff L.Link W.Sink world.old.plan.now.program fuel world.old.link world.old.out world.new.link.now world.new.out.now) }
+    ensures { RunsMain L.Link W.Sink fuel world.old result world.new }
 {
-    match perform_main(alloc, world, fuel) {
-        Ok(ending) => Ok(Run {
-            ending,
+    let code = world.plan.code();
+    let program = world.plan.typed().program();
+    let mut state = State {
+        heap: Heap::make(alloc),
+        fuel,
+        depth: 0,
+    };
+    match run_main(alloc, code, &mut state, world, &program.body) {
+        Ok(Ok(value)) => Ok(Run {
+            ending: Ending::Done(value),
             exchanges: world.exchanges,
         }),
-        Err(stop) => Err(stop),
+        Ok(Err(raised)) => Ok(Run {
+            ending: Ending::Faulted(raised.fault, raised.at),
+            exchanges: world.exchanges,
+        }),
+        Err(Halt::Memory) => Err(RunStop::Memory),
+        Err(Halt::World(stop)) => Err(stop),
     }
 }
 
@@ -116,8 +109,7 @@ fn run_plan<L: Link, W: Sink>(
     link: &mut L,
     out: &mut W,
 ) -> Result<Run, RunStop>
-    ensures ran { IfOk result (λ run. Ran L.Link W.Sink plan.now.program fuel run link.old link.new out.old out.new) }
-    ensures cut { IfErr result (IsCutOff L.Link W.Sink plan.now.program fuel link.entry out.entry link.new out.new) }
+    ensures { Between L.Link W.Sink link.old out.old link.new out.new (Leaves (mirror_program plan.now.program) fuel result) }
 {
     let mut world = ClientWorld::over(alloc, plan, link, out);
     let ended = run_over(alloc, &mut world, fuel);
@@ -155,6 +147,12 @@ pub fn run_client<L: Link, W: Sink>(
     // Over an honest link it is what the program means, and no reply is refused.
     ensures means { Between L.Link W.Sink link.old out.old link.new out.new (MeansWhereHonest (mirror_program typed.now) fuel result) }
 {
+    divided_scripts_can_be_sent();
+    clients_mean_what_programs_mean();
+    programs_come_as_far_as_clients();
+    fronts_are_shown();
+    reached_batches_can_be_exchanged();
+    reached_batches_perform_remote_parts();
     let program = typed.program();
     let code = Code::make(alloc, &program.classes)?;
     let plan = Plan::new(typed, splits, &code);

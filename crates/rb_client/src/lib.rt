@@ -7,6 +7,7 @@
 mod client_run;
 mod client_world;
 mod early;
+mod laws;
 mod left;
 mod lines;
 mod plan;

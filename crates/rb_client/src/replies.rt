@@ -8,6 +8,7 @@ ghost use Rattle.rb_client.specs.Replies.{Reads, Takes, Trades};
 
 use crate::stops::{BadReason, RunStop};
 use rb_base::{Link, LinkStop, Reply};
+use rb_meaning_bytes::script_payloads_mean_one_thing;
 use rb_trees::{Memory, Node, Part, Seq};
 use rb_wire_forest::{ForestStop, decode_forest, decode_refusal, fits};
 use std::alloc::Global;
@@ -100,6 +101,7 @@ pub fn trade<L: Link>(
     requires { length request.now ≤ longest_request }
     ensures { Trades L.Link (mirror_parts remainder.now) done request.now link.old result link.new }
 {
+    script_payloads_mean_one_thing();
     match link.exchange(request) {
         Ok(reply) => taken_from(alloc, &reply, remainder, done),
         Err(LinkStop::Failed) => Err(RunStop::LinkFault(done)),

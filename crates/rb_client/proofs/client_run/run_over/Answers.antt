@@ -1,34 +1,21 @@
-use Rattle.std.proofs.Common.{refl, subst}
-use Rattle.rb_trees.specs.mirror.Declarations.{mirror_program}
-use Rattle.rb_client.specs.Clients.{origin}
-use Rattle.rb_client.specs.MainRuns.{Ends}
-use Rattle.rb_client.proofs.WholeRun.{cut_kept, cut_so, ran_so, sees_first, well_kept}
+use Rattle.std.proofs.Common.{[], Ok, Err, ap, ◌∙◌}
+use Rattle.rb_client.proofs.MainEnds.{ended_run, main_so}
 use Rattle.rb_client.proofs.client_run.run_over.Goals as goal
 
-pub returns-in-Ok-clause-ran : goal.returns-in-Ok-clause-ran
-returns-in-Ok-clause-ran g c =
-    let w = c.args.world.now in
-    ran_so g.L.Link g.W.Sink w.plan.now.program w.link w.out c.args.fuel c.perform_main.new.world c.perform_main.new.world.link.now c.perform_main.new.world.out.now (λ e. refl) (λ e. refl) _ c.in-Ok.ending refl
-    (subst (λ r. Ends g.L.Link g.W.Sink (origin g.L.Link g.W.Sink (mirror_program w.plan.now.program) w.link w.out) c.args.fuel r c.perform_main.new.world) c.in-Ok.is
-    (c.perform_main.ensures (origin g.L.Link g.W.Sink (mirror_program w.plan.now.program) w.link w.out) (sees_first g.L.Link g.W.Sink w.plan.now.program w.link w.out w refl refl refl refl refl c.requires)))
+pub returns-in-Ok-Ok : goal.returns-in-Ok-Ok
+returns-in-Ok-Ok g c =
+    main_so g.L.Link g.W.Sink g.met.L.Link.honest_tells c.args.fuel c.args.world.now c.run_main.new.world c.code-code.result.now c.program-program.result.now.body _ c.run_main.result _ c.requires c.code-code.ensures
+    (ap (λ p. p.body) (c.program-program.ensures.same ∙ c.typed.ensures)) (ap (λ h. record { names = []; heap = h; fuel = c.args.fuel; depth = 0 }) c.make.ensures)
+    (ap (ended_run c.run_main.new.world) (c.in-Ok-Ok.is ∙ ap Ok c.in-Ok-Ok.field-0-is)) c.run_main.ensures
 
-pub returns-in-Err-clause-cut : goal.returns-in-Err-clause-cut
-returns-in-Err-clause-cut g c =
-    let w = c.args.world.now in
-    cut_so g.L.Link g.W.Sink w.plan.now.program w.link w.out c.args.fuel c.perform_main.new.world c.perform_main.new.world.link.now c.perform_main.new.world.out.now (λ e. refl) (λ e. refl) c.in-Err.stop
-    (subst (λ r. Ends g.L.Link g.W.Sink (origin g.L.Link g.W.Sink (mirror_program w.plan.now.program) w.link w.out) c.args.fuel r c.perform_main.new.world) c.in-Err.is
-    (c.perform_main.ensures (origin g.L.Link g.W.Sink (mirror_program w.plan.now.program) w.link w.out) (sees_first g.L.Link g.W.Sink w.plan.now.program w.link w.out w refl refl refl refl refl c.requires)))
+pub returns-in-Ok-Err : goal.returns-in-Ok-Err
+returns-in-Ok-Err g c =
+    main_so g.L.Link g.W.Sink g.met.L.Link.honest_tells c.args.fuel c.args.world.now c.run_main.new.world c.code-code.result.now c.program-program.result.now.body _ c.run_main.result _ c.requires c.code-code.ensures
+    (ap (λ p. p.body) (c.program-program.ensures.same ∙ c.typed.ensures)) (ap (λ h. record { names = []; heap = h; fuel = c.args.fuel; depth = 0 }) c.make.ensures)
+    (ap (ended_run c.run_main.new.world) (c.in-Ok-Err.is ∙ ap Ok c.in-Ok-Err.field-0-is)) c.run_main.ensures
 
-pub returns-in-Ok-clause-kept : goal.returns-in-Ok-clause-kept
-returns-in-Ok-clause-kept g c =
-    let w = c.args.world.now in
-    well_kept g.L.Link g.W.Sink w.plan.now.program w.link w.out c.args.fuel c.perform_main.new.world c.perform_main.new.world.link.now c.perform_main.new.world.out.now (λ e. refl) (λ e. refl) c.in-Ok.ending
-    (subst (λ r. Ends g.L.Link g.W.Sink (origin g.L.Link g.W.Sink (mirror_program w.plan.now.program) w.link w.out) c.args.fuel r c.perform_main.new.world) c.in-Ok.is
-    (c.perform_main.ensures (origin g.L.Link g.W.Sink (mirror_program w.plan.now.program) w.link w.out) (sees_first g.L.Link g.W.Sink w.plan.now.program w.link w.out w refl refl refl refl refl c.requires)))
-
-pub returns-in-Err-clause-kept : goal.returns-in-Err-clause-kept
-returns-in-Err-clause-kept g c =
-    let w = c.args.world.now in
-    cut_kept g.L.Link g.W.Sink w.plan.now.program w.link w.out c.args.fuel c.perform_main.new.world c.perform_main.new.world.link.now c.perform_main.new.world.out.now (λ e. refl) (λ e. refl) w c.in-Err.stop refl refl
-    (subst (λ r. Ends g.L.Link g.W.Sink (origin g.L.Link g.W.Sink (mirror_program w.plan.now.program) w.link w.out) c.args.fuel r c.perform_main.new.world) c.in-Err.is
-    (c.perform_main.ensures (origin g.L.Link g.W.Sink (mirror_program w.plan.now.program) w.link w.out) (sees_first g.L.Link g.W.Sink w.plan.now.program w.link w.out w refl refl refl refl refl c.requires)))
+pub returns : goal.returns
+returns g c =
+    main_so g.L.Link g.W.Sink g.met.L.Link.honest_tells c.args.fuel c.args.world.now c.run_main.new.world c.code-code.result.now c.program-program.result.now.body _ c.run_main.result _ c.requires c.code-code.ensures
+    (ap (λ p. p.body) (c.program-program.ensures.same ∙ c.typed.ensures)) (ap (λ h. record { names = []; heap = h; fuel = c.args.fuel; depth = 0 }) c.make.ensures)
+    (ap (ended_run c.run_main.new.world) (c.in-Err-World.is ∙ ap Err c.in-Err-World.field-0-is)) c.run_main.ensures
