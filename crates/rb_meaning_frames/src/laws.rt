@@ -1,10 +1,12 @@
 // Laws of frames and streams. They take no memory and do nothing.
 
-ghost use Rattle.rb_meaning_frames.specs.Laws.{HeadersAreSpelled, EachIsDividedOnce, IsCutAnywhere, StaysBroken};
+ghost use Rattle.rb_meaning_frames.specs.Laws.{HeadersAreSpelled, FramesAreWhole, EachIsDividedOnce, IsCutAnywhere, StaysBroken};
 
-/// A header whose first three bytes are right spells its kind and the length that it announces.
+/// A header whose first three bytes are right spells its kind and the length that it announces, and its frame stands at the
+/// front of the bytes where they are no fewer.
 pub fn headers_are_spelled()
-    ensures { HeadersAreSpelled }
+    ensures headers { HeadersAreSpelled }
+    ensures frames { FramesAreWhole }
 {}
 
 /// Each list of bytes is, in one way, whole request frames and a rest, which is empty, is cut, or breaks the form.
