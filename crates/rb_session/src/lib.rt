@@ -5,10 +5,15 @@
 
 mod answers;
 mod exchanges;
+mod frames;
 mod laws;
 mod memory_link;
+mod requests;
+mod sessions;
 
 pub use answers::answer;
 pub use exchanges::Exchange;
+pub use frames::frame_header;
 pub use laws::each_payload_has_one_answer;
 pub use memory_link::MemoryLink;
+pub use sessions::{Session, SessionStop};
