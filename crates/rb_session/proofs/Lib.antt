@@ -4,3 +4,5 @@ pub mod Joined
 pub mod Nodes
 pub mod Bounded
 pub mod Sent
+pub mod Framed
+pub mod Streamed

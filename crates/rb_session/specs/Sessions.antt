@@ -34,6 +34,11 @@ abbrev pub stop_of : Result Unit SessionStop → Option SessionStop
 stop_of (Ok u) = None
 stop_of (Err stop) = Some stop
 
+-- What breaks the form is a part of a header.
+abbrev pub IsNear : Front → Type 0
+IsNear (Broken at) = at ≤ 3
+IsNear front = Unit {0}
+
 -- the answer by what stands behind the requests that were answered, at an offset of the stream
 abbrev pub answer_by : Front → ℕ → Result Unit SessionStop
 answer_by (Whole size) offset = Err SessionSpent

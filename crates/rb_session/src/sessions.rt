@@ -2,7 +2,7 @@
 
 ghost use Rattle.std.specs.Prelude.{◌≡◌, ◌<◌, ◌^◌, ◌++◌, drop, IfOk, OnOk};
 ghost use Rattle.rb_session.specs.Answering.{IsTypedHost};
-ghost use Rattle.rb_session.specs.Sessions.{new_session, stop_of, answer_by, Feeds, UnlessSpentMemory};
+ghost use Rattle.rb_session.specs.Sessions.{new_session, stop_of, answer_by, IsNear, Feeds, UnlessSpentMemory};
 ghost use Rattle.rb_session.specs.Taking.{TakesAll};
 
 use crate::frames::Front;
@@ -131,7 +131,8 @@ fn stop_of(answer: Result<(), SessionStop>) -> Option<SessionStop>
 
 /// The answer of a session by what stands behind the requests that it answered, at an offset of its stream.
 fn answer_by(front: Front, offset: u64) -> Result<(), SessionStop>
-    requires { offset < 2 ^ 63 }
+    requires offset { offset < 2 ^ 63 }
+    requires near { IsNear front }
     ensures { result ≡ answer_by front offset }
 {
     match front {
