@@ -6,3 +6,4 @@ pub mod Bounded
 pub mod Sent
 pub mod Framed
 pub mod Streamed
+pub mod Fed
