@@ -1,5 +1,5 @@
 -- What a session does with a piece.
-use Rattle.std.proofs.Common.{◌≡◌, ℕ, ◌+◌, ◌-◌, ◌*◌, ◌<◌, ◌≤◌, List, [], ◌++◌, length, take, drop, Option, None, Some, Result, Ok, Err, refl, ap, sym, ◌∙◌, subst, arith, length-append}
+use Rattle.std.proofs.Common.{◌≡◌, ℕ, ◌+◌, ◌-◌, ◌*◌, ◌<◌, ◌≤◌, List, [], ◌++◌, length, take, drop, Option, None, Some, Result, Ok, Err, refl, ap, sym, ◌∙◌, subst, arith, append_assoc, length-append}
 use Rattle.std.proofs.lemmas.List.{length-take, length-drop}
 use Rattle.rb_meaning.specs.Answers.{longest_request}
 use Rattle.rb_meaning.specs.Replies.{header_length}
@@ -13,6 +13,7 @@ use Rattle.rb_session.specs.declared.sessions.SessionStop.TheVariants.{BadFrame,
 use Rattle.rb_session.specs.Fronts.{IsWhole, IsFront}
 use Rattle.rb_session.specs.Taking.{longest_frame, Takes, TakesAll}
 use Rattle.rb_session.specs.Sessions.{SessionSeen, IsBounded, came, stop_of, answer_by, Leaves, Goes, Answered, AnsweredUnlessMemory, Feeds}
+use Rattle.rb_session.proofs.Streamed.{takes_more, takes_longer}
 
 -- a whole frame at the front
 begins : (bytes : List ℕ) (size : ℕ) → IsWhole bytes size → BeginsWhole bytes
@@ -114,3 +115,16 @@ feeds_by host after before piece old new taken answer rest offset requests stop 
 pub as_seen : (host after : Hosted) (before self now : SessionSeen) (piece old new : List ℕ) (answer : Result Unit SessionStop) → before ≡ self
     → Feeds host after before now piece old new answer before.stop → Feeds host after self now piece old new answer self.stop
 as_seen host after before self now piece old new answer is h = subst (λ s. Feeds host after s now piece old new answer s.stop) is h
+
+-- a piece after a piece
+pub goes_on : (host between after : Hosted) (before mid now : SessionSeen) (piece next replies more : List ℕ) → between.service ≡ host.service
+    → Goes host between before mid piece replies → Goes between after mid now next more → Goes host after before now (piece ++ next) (replies ++ more)
+goes_on host between after before mid now piece next replies more same a b = record {
+  count = a.count + b.count;
+  takes = subst (λ x. Takes host after x now.rest (a.count + b.count) (replies ++ more)) (append_assoc before.rest piece next)
+      (takes_more host between after ((before.rest ++ piece) ++ next) (mid.rest ++ next) now.rest a.count b.count replies more same
+      (takes_longer host between (before.rest ++ piece) mid.rest next a.count replies a.takes) b.takes);
+  requests = let p = a.requests in let q = b.requests in omega arith;
+  few = b.few;
+  came_is = let p = a.came_is in let q = b.came_is in omega (arith, length-append piece next);
+}

@@ -5,3 +5,5 @@ pub mod Codes
 pub mod Fronts
 pub mod Taking
 pub mod Sessions
+pub mod Serving
+pub mod Pieces
