@@ -7,3 +7,4 @@ pub mod Sent
 pub mod Framed
 pub mod Streamed
 pub mod Fed
+pub mod Written

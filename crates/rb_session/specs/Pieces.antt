@@ -1,5 +1,5 @@
 -- What serving a session does, piece by piece.
-use Rattle.std.specs.Prelude.{◌≡◌, ℕ, ◌+◌, ◌≤◌, List, [], None, Result, Ok, Err}
+use Rattle.std.specs.Prelude.{◌≡◌, ◌⊎◌, ℕ, ◌+◌, ◌<◌, ◌≤◌, List, [], length, None, Result, Ok, Err}
 use Rattle.rb_base.specs.Devices.{Device, failed}
 use Rattle.rb_base.specs.Sinks.{with_bytes, WrotePrefix}
 use Rattle.rb_base.specs.Sources.{before_giving}
@@ -26,6 +26,16 @@ pub record Serving : Type 0 where
 
 abbrev pub serving : Hosted → SessionSeen → Device (List ℕ) → Serving
 serving host session sink = record { host = host; session = session; sink = sink }
+
+-- A front of some replies was written, and that is the answer.
+pub record FailsWriting (sink after : Device (List ℕ)) (replies : List ℕ) (answer : Result Unit ServeCause) : Type 0 where
+  pub fault : answer ≡ Err WriteFault
+  pub some : 0 < length replies
+  pub wrote : WrotePrefix (failed sink) after replies
+
+-- Replies were written, and the answer is the one that was wanted then; or the write failed.
+abbrev pub WritesThen : Device (List ℕ) → Device (List ℕ) → List ℕ → Result Unit ServeCause → Result Unit ServeCause → Type 0
+WritesThen sink after replies wanted answer = ((answer ≡ wanted) × (after ≡ with_bytes sink replies)) ⊎ FailsWriting sink after replies answer
 
 -- A piece was fed, and the replies to it were written. This is said of the session then.
 pub record WritesReplies (before after : Serving) (piece : List ℕ) (Says : Type 0) : Type 0 where

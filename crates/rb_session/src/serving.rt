@@ -6,7 +6,7 @@ ghost use Rattle.rb_meaning_frames.specs.Streams.{Waits};
 ghost use Rattle.rb_session.specs.Answering.{IsTypedHost};
 ghost use Rattle.rb_session.specs.Sessions.{new_session, IsBounded};
 ghost use Rattle.rb_session.specs.Serving.{ends, Serves, UnlessServedMemory};
-ghost use Rattle.rb_session.specs.Pieces.{serving, ServesPiece, EndsSo, ServesTo, UnlessErrMemory};
+ghost use Rattle.rb_session.specs.Pieces.{serving, WritesThen, ServesPiece, EndsSo, ServesTo, UnlessErrMemory};
 
 use crate::sessions::{Session, SessionStop};
 use bytes::BytesMut;
@@ -56,21 +56,6 @@ impl From<Memory> for ServeCause {
 
     fn from(_want: Memory) -> ServeCause {
         ServeCause::Memory
-    }
-}
-
-impl From<SessionStop> for ServeCause {
-    ghost use Rattle.std.specs.Prelude.{◌≡◌};
-    ghost use Rattle.rb_session.specs.Pieces.{cause_of};
-
-    ghost from_gives = { λ stop e. e ≡ cause_of stop };
-
-    fn from(stop: SessionStop) -> ServeCause {
-        match stop {
-            SessionStop::BadFrame(at) => ServeCause::BadFrame(at),
-            SessionStop::SessionSpent => ServeCause::SessionSpent,
-            SessionStop::Memory => ServeCause::Memory,
-        }
     }
 }
 
@@ -178,13 +163,28 @@ fn serve_piece<K: Sink>(
     ensures bounded { IsBounded session.new.offset session.new.requests }
 {
     out.clear();
-    let answer = session.feed(alloc, host, piece, out);
-    if let Err(SessionStop::Memory) = answer {
-        return Err(ServeCause::Memory);
+    match session.feed(alloc, host, piece, out) {
+        Ok(()) => write_then(sink, out.as_slice(), Ok(())),
+        Err(SessionStop::BadFrame(at)) => {
+            write_then(sink, out.as_slice(), Err(ServeCause::BadFrame(at)))
+        }
+        Err(SessionStop::SessionSpent) => {
+            write_then(sink, out.as_slice(), Err(ServeCause::SessionSpent))
+        }
+        Err(SessionStop::Memory) => Err(ServeCause::Memory),
     }
-    if !out.is_empty() && write_whole(sink, out.as_slice()).is_err() {
+}
+
+/// Writes the frames of replies, where there are any, and answers so then.
+fn write_then<K: Sink>(
+    sink: &mut K,
+    replies: &[u8],
+    answer: Result<(), ServeCause>,
+) -> Result<(), ServeCause>
+    ensures { WritesThen (device K.told K.faults sink.old) (device K.told K.faults sink.new) replies.now answer result }
+{
+    if !replies.is_empty() && write_whole(sink, replies).is_err() {
         return Err(ServeCause::WriteFault);
     }
-    answer?;
-    Ok(())
+    answer
 }
