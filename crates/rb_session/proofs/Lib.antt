@@ -8,3 +8,4 @@ pub mod Framed
 pub mod Streamed
 pub mod Fed
 pub mod Written
+pub mod Going

@@ -48,17 +48,6 @@ pub enum ServeCause {
     Memory,
 }
 
-impl From<Memory> for ServeCause {
-    ghost use Rattle.std.specs.Prelude.{◌≡◌};
-    ghost use Rattle.rb_session.specs.declared.serving.ServeCause.TheVariants as causes;
-
-    ghost from_gives = { λ _ e. e ≡ causes.Memory };
-
-    fn from(_want: Memory) -> ServeCause {
-        ServeCause::Memory
-    }
-}
-
 /// A session was served, but not to the end of its source behind a whole frame.
 #[derive(Debug, Drop, Error)]
 #[error("after {requests} requests: {cause}")]
@@ -87,7 +76,13 @@ pub fn serve<S: Source, K: Sink>(
     ensures service { host.new.service ≡ host.old.service }
 {
     let mut session = Session::make(alloc);
-    let answer = serve_pieces(alloc, host, &mut session, source, sink);
+    let answer = match buffer_of(alloc) {
+        Ok(mut buffer) => {
+            let buffer = buffer.as_mut_slice();
+            serve_pieces(alloc, host, &mut session, source, sink, buffer)
+        }
+        Err(Memory) => Err(ServeCause::Memory),
+    };
     let requests = session.requests();
     match answer {
         Ok(()) => Ok(Served { requests }),
@@ -102,8 +97,10 @@ fn serve_pieces<S: Source, K: Sink>(
     session: &mut Session,
     source: &mut S,
     sink: &mut K,
+    buffer: &mut [u8],
 ) -> Result<(), ServeCause>
     requires new { session.old ≡ new_session }
+    requires room { 0 < length buffer.old }
     requires typed { IsTypedHost host.old }
     ensures serves { let before = ends host.old (device S.told S.faults source.old) (device K.told K.faults sink.old) in
         let after = ends host.new (device S.told S.faults source.new) (device K.told K.faults sink.new) in
@@ -111,17 +108,19 @@ fn serve_pieces<S: Source, K: Sink>(
     ensures typed { UnlessErrMemory result (IsTypedHost host.new) }
     ensures service { host.new.service ≡ host.old.service }
 {
-    let mut buffer = buffer_of(alloc)?;
     let mut out = BytesMut::new(alloc);
     'pieces: loop {
-        let count = match source.read(buffer.as_mut_slice()) {
+        let count = match source.read(buffer) {
             Ok(count) => count,
             Err(_) => return Err(ServeCause::ReadFault),
         };
         if count == 0 {
             return ended(session);
         }
-        serve_piece(alloc, host, session, &buffer[..count], &mut out, sink)?;
+        match serve_piece(alloc, host, session, &buffer[..count], &mut out, sink) {
+            Ok(()) => {}
+            Err(cause) => return Err(cause),
+        }
     }
 }
 
