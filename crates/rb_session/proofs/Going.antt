@@ -1,21 +1,18 @@
 -- A session that is being served, piece by piece.
-use Rattle.std.proofs.Common.{◌≡◌, ◌⊎◌, ℕ, zero, suc, ◌+◌, ◌-◌, ◌*◌, ◌<◌, ◌≤◌, List, [], ◌∷◌, ◌++◌, length, take, Option, None, Some, Result, Ok, Err, refl, ap, sym, ◌∙◌, subst, arith, append_assoc, append-nil, zero-add, length-append, mul-le-mul_right, inl, inr}
+use Rattle.std.proofs.Common.{◌≡◌, ℕ, ◌+◌, ◌*◌, ◌<◌, List, [], ◌++◌, length, take, Option, None, Some, Result, Ok, Err, refl, ap, sym, ◌∙◌, subst, arith, append_assoc, append-nil, zero-add, length-append, mul-le-mul_right, inl, inr}
 use Rattle.std.proofs.Math.Seq.{take-append-add}
 use Rattle.std.proofs.lemmas.Bool.{cases_lt}
 use Rattle.rb_base.specs.Devices.{Device, failed}
 use Rattle.rb_base.specs.Sinks.{told_more, with_bytes, WrotePrefix}
-use Rattle.rb_base.specs.Sources.{told_before, before_giving, Reads, IsAtEnd}
-use Rattle.rb_meaning.specs.Answers.{longest_request}
-use Rattle.rb_meaning.specs.Replies.{header_length, announced}
+use Rattle.rb_base.specs.Sources.{told_before, before_giving, IsAtEnd}
+use Rattle.rb_meaning.specs.Replies.{header_length}
 use Rattle.rb_meaning_frames.specs.Streams.{most_requests, IsCutRequest, Waits}
-use Rattle.rb_exec.specs.Hosted.{Hosted}
 use Rattle.rb_session.specs.declared.serving.ServeCause.{ServeCause}
 use Rattle.rb_session.specs.declared.serving.ServeCause.TheVariants.{ReadFault, WriteFault, Cut, BadFrame, SessionSpent, Memory}
-use Rattle.rb_session.specs.Answering.{IsTypedHost}
 use Rattle.rb_session.specs.Taking.{longest_frame, Takes}
 use Rattle.rb_session.specs.Sessions.{SessionSeen, new_session, came, IsBounded, Goes}
-use Rattle.rb_session.specs.Serving.{Ends, ends, Took, Wrote, FailedWrite, NoneFailed, with_read_fault, EndsWhole, StopsBy}
-use Rattle.rb_session.specs.Pieces.{serving, WritesReplies, WritesFront, ServesPiece, EndsSo, ServesTo}
+use Rattle.rb_session.specs.Serving.{Ends, Wrote, with_read_fault, StopsBy}
+use Rattle.rb_session.specs.Pieces.{serving, WritesReplies, ServesPiece, EndsSo, ServesTo}
 use Rattle.rb_session.proofs.Streamed.{takes_none}
 use Rattle.rb_session.proofs.Fed.{goes_on}
 

@@ -1,19 +1,18 @@
 -- What is written of the replies to a piece.
-use Rattle.std.proofs.Common.{◌≡◌, ◌⊎◌, ℕ, zero, suc, ◌+◌, ◌-◌, ◌*◌, ◌<◌, ◌≤◌, All, List, [], ◌∷◌, ◌++◌, length, Option, None, Some, Result, Ok, Err, refl, ap, sym, ◌∙◌, subst, arith, inl, inr}
+use Rattle.std.proofs.Common.{◌≡◌, ℕ, ◌<◌, ◌≤◌, List, [], ◌++◌, length, None, Result, Ok, Err, refl, ap, sym, ◌∙◌, subst, arith, inl, inr}
 use Rattle.rb_trees.specs.declared.services.Object.{Object}
 use Rattle.rb_trees.specs.mirror.Services.{Service, mirror_service}
 use Rattle.rb_base.specs.Devices.{Device, failed}
 use Rattle.rb_base.specs.Sinks.{with_bytes, WrotePrefix}
-use Rattle.rb_meaning_frames.specs.Streams.{IsRequest, request_frames, Waits, BeginsWhole, Rest, Empty, Cut, Broken, IsRest}
+use Rattle.rb_meaning_frames.specs.Streams.{Waits, Rest, Empty, Cut, Broken, IsRest}
 use Rattle.rb_meaning_frames.specs.Served.{RepliesTo, no_more, one_more}
 use Rattle.rb_exec.specs.Hosted.{Hosted}
 use Rattle.rb_session.specs.declared.sessions.SessionStop.{SessionStop}
 use Rattle.rb_session.specs.declared.sessions.SessionStop.TheVariants as sessions
 use Rattle.rb_session.specs.declared.serving.ServeCause.{ServeCause}
-use Rattle.rb_session.specs.declared.serving.ServeCause.TheVariants.{WriteFault}
 use Rattle.rb_session.specs.Sessions.{SessionSeen, stop_of, Leaves, Goes, Answered, AnsweredUnlessMemory, Feeds}
 use Rattle.rb_session.specs.Serving.{IsLast}
-use Rattle.rb_session.specs.Pieces.{serving, cause_of, FailsWriting, WritesThen, WritesFront, ServesPiece}
+use Rattle.rb_session.specs.Pieces.{serving, cause_of, WritesThen, ServesPiece}
 
 some_payloads : (service : Service) (table after : List Object) (ps : List (List ℕ)) (bs : List ℕ) → RepliesTo service table ps bs after → 0 < length bs → 1 ≤ length ps
 some_payloads service _ _ _ _ (no_more table) some = absurd (omega arith)

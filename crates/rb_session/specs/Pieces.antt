@@ -2,7 +2,6 @@
 use Rattle.std.specs.Prelude.{◌≡◌, ◌⊎◌, ℕ, ◌+◌, ◌<◌, ◌≤◌, List, [], length, None, Result, Ok, Err}
 use Rattle.rb_base.specs.Devices.{Device, failed}
 use Rattle.rb_base.specs.Sinks.{with_bytes, WrotePrefix}
-use Rattle.rb_base.specs.Sources.{before_giving}
 use Rattle.rb_meaning_frames.specs.Streams.{most_requests, IsCutRequest, BreaksRequest, Waits, BeginsWhole}
 use Rattle.rb_exec.specs.Hosted.{Hosted}
 use Rattle.rb_session.specs.declared.serving.ServeCause.{ServeCause}
