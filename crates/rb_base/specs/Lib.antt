@@ -4,3 +4,4 @@ pub mod Sinks
 pub mod Sources
 pub mod Directories
 pub mod Links
+pub mod Listening

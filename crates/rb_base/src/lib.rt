@@ -7,6 +7,7 @@
 mod contents;
 mod files;
 mod links;
+mod listens;
 mod memory_files;
 mod memory_sink;
 mod memory_source;
@@ -18,6 +19,7 @@ mod sources;
 
 pub use files::{Files, FilesStop};
 pub use links::{Link, LinkStop, Reply};
+pub use listens::{Listen, ListenStop};
 pub use memory_files::MemoryFiles;
 pub use memory_sink::MemorySink;
 pub use memory_source::{MemorySource, SteadySource};
