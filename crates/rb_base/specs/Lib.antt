@@ -5,3 +5,4 @@ pub mod Sources
 pub mod Directories
 pub mod Links
 pub mod Listening
+pub mod MemoryListens

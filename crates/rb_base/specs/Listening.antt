@@ -3,14 +3,9 @@ use Rattle.std.specs.Prelude.{◌≡◌, ◌==◌, ℕ, ◌+◌, ◌-◌, Bool, 
 use Rattle.std.specs.List.{list_any}
 use Rattle.rb_base.specs.Counts.{risen}
 use Rattle.rb_base.specs.Devices.{Device}
+use Rattle.rb_base.specs.declared.listens.Coming.{Coming}
 use Rattle.rb_base.specs.declared.listens.ListenStop.{ListenStop}
 use Rattle.rb_base.specs.declared.listens.ListenStop.TheVariants.{Failed, Memory}
-
--- a session that comes: the bytes of its source, and the numbers of its reads and writes that fail, from 1
-pub record Coming : Type 0 where
-  pub bytes : List ℕ
-  pub reads : List ℕ
-  pub writes : List ℕ
 
 -- a session that came back, with what its two ends tell then
 pub record Back : Type 0 where

@@ -6,8 +6,17 @@ ghost use Rattle.rb_base.specs.Listening.{Listening, started, after_start, risen
 
 use crate::sinks::{Failed, Sink};
 use crate::sources::Source;
-use rb_trees::Memory;
+use rb_trees::{Memory, Seq, Word};
 use thiserror::Error;
+
+/// A session that is to come: the bytes of its source, and the numbers, counted from 1, of its reads and of its writes that
+/// fail.
+#[derive(Drop)]
+pub struct Coming {
+    pub bytes: Word,
+    pub reads: Seq<u64>,
+    pub writes: Seq<u64>,
+}
 
 /// Why no session is handed out.
 #[derive(Debug, Drop, Error)]
@@ -38,6 +47,7 @@ impl From<Memory> for ListenStop {
 /// the same listener may be used again.
 pub trait Listen {
     type S: Source + Drop;
+
     type K: Sink + Drop;
 
     /// What it tells, where it tells anything. Whether it does is kept by each call.
