@@ -4,3 +4,8 @@ pub mod Joined
 pub mod Nodes
 pub mod Bounded
 pub mod Sent
+pub mod Framed
+pub mod Streamed
+pub mod Fed
+pub mod Written
+pub mod Going

@@ -2,3 +2,8 @@ pub mod Answering
 pub mod Exchanges
 pub mod MemoryLinks
 pub mod Codes
+pub mod Fronts
+pub mod Taking
+pub mod Sessions
+pub mod Serving
+pub mod Pieces

@@ -5,10 +5,17 @@
 
 mod answers;
 mod exchanges;
+mod frames;
 mod laws;
 mod memory_link;
+mod requests;
+mod serving;
+mod sessions;
 
 pub use answers::answer;
 pub use exchanges::Exchange;
-pub use laws::each_payload_has_one_answer;
+pub use frames::frame_header;
+pub use laws::{each_payload_has_one_answer, sessions_are_fed_anywhere};
 pub use memory_link::MemoryLink;
+pub use serving::{ServeCause, ServeStop, Served, serve};
+pub use sessions::{Session, SessionStop};
