@@ -4,3 +4,4 @@ pub mod Joined
 pub mod Nodes
 pub mod Bounded
 pub mod Sent
+pub mod Failing

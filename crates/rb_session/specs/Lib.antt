@@ -1,4 +1,5 @@
 pub mod Answering
 pub mod Exchanges
 pub mod MemoryLinks
+pub mod FailingLinks
 pub mod Codes

@@ -5,10 +5,12 @@
 
 mod answers;
 mod exchanges;
+mod failing_link;
 mod laws;
 mod memory_link;
 
 pub use answers::answer;
 pub use exchanges::Exchange;
+pub use failing_link::FailingLink;
 pub use laws::each_payload_has_one_answer;
 pub use memory_link::MemoryLink;

@@ -83,6 +83,13 @@ impl MemoryLink {
         &self.first
     }
 
+    /// Whether an exchange was wanting memory.
+    pub(crate) fn is_spent(&self) -> bool
+        ensures { result ≡ self.now.spent }
+    {
+        self.spent
+    }
+
     /// The exchanges so far, in order.
     pub fn pairs(&self) -> &[Exchange]
         ensures { all_told result.now ≡ self.now.pairs }
