@@ -4,13 +4,19 @@
 #![tactic(auto)]
 
 mod answers;
+mod any_link;
+mod dials;
 mod exchanges;
 mod failing_link;
 mod laws;
 mod memory_link;
+mod targets;
 
 pub use answers::answer;
+pub use any_link::AnyLink;
+pub use dials::{Dial, DialStop};
 pub use exchanges::Exchange;
 pub use failing_link::FailingLink;
 pub use laws::each_payload_has_one_answer;
 pub use memory_link::MemoryLink;
+pub use targets::Target;
