@@ -5,3 +5,5 @@ pub mod Nodes
 pub mod Bounded
 pub mod Sent
 pub mod Failing
+pub mod FirstPlaces
+pub mod Waiting

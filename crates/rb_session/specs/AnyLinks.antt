@@ -1,7 +1,7 @@
 -- Links of two kinds.
 use Rattle.std.specs.Prelude.{ℕ, Bool, true, false, Option, Some}
 use Rattle.rb_meaning.specs.Links.{Told, server_told, TellsTyped}
-use Rattle.rb_session.specs.MemoryLinks.{LinkInMemory, told_of, IsHonest}
+use Rattle.rb_session.specs.MemoryLinks.{told_of, IsHonest}
 use Rattle.rb_session.specs.declared.any_link.AnyLink.{AnyLink}
 use Rattle.rb_session.specs.declared.any_link.AnyLink.TheVariants.{Dialled, Around}
 

@@ -1,5 +1,5 @@
 -- What a Dial tells, and what its calls do to that.
-use Rattle.std.specs.Prelude.{◌≡◌, ◌==◌, ◌<◌, ℕ, zero, suc, ◌+◌, ◌-◌, List, [], ◌∷◌, ◌++◌, Bool, true, false, Option, None, Some, option_map, Result, Ok, Err, cond}
+use Rattle.std.specs.Prelude.{◌≡◌, ◌==◌, ◌<◌, ℕ, zero, suc, ◌+◌, ◌-◌, List, [], ◌∷◌, ◌++◌, true, false, Option, None, Some, option_map, Result, Ok, Err, cond}
 use Rattle.std.specs.List.{list_any}
 use Rattle.rb_base.specs.Counts.{risen}
 use Rattle.rb_base.specs.declared.links.Link as links

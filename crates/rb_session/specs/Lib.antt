@@ -4,5 +4,8 @@ pub mod MemoryLinks
 pub mod FailingLinks
 pub mod AnyLinks
 pub mod Targets
+pub mod Places
 pub mod Dials
+pub mod MemoryDials
+pub mod DialCodes
 pub mod Codes

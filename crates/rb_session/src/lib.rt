@@ -9,7 +9,9 @@ mod dials;
 mod exchanges;
 mod failing_link;
 mod laws;
+mod memory_dial;
 mod memory_link;
+mod places;
 mod targets;
 
 pub use answers::answer;
@@ -18,5 +20,6 @@ pub use dials::{Dial, DialStop};
 pub use exchanges::Exchange;
 pub use failing_link::FailingLink;
 pub use laws::each_payload_has_one_answer;
+pub use memory_dial::MemoryDial;
 pub use memory_link::MemoryLink;
 pub use targets::Target;
