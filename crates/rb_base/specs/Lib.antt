@@ -1,5 +1,6 @@
 pub mod Counts
 pub mod Devices
 pub mod Sinks
+pub mod Sources
 pub mod Directories
 pub mod Links

@@ -9,19 +9,23 @@ mod files;
 mod links;
 mod memory_files;
 mod memory_sink;
+mod memory_source;
 mod null_sink;
 mod places;
 mod same_files;
 mod sinks;
+mod sources;
 
 pub use files::{Files, FilesStop};
 pub use links::{Link, LinkStop, Reply};
 pub use memory_files::MemoryFiles;
 pub use memory_sink::MemorySink;
+pub use memory_source::{MemorySource, SteadySource};
 pub use null_sink::NullSink;
 pub use places::place;
 pub use same_files::SameFiles;
 pub use sinks::{Failed, Sink, write_whole};
+pub use sources::Source;
 
 #[cfg(test)]
 mod tests;

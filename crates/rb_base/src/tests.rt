@@ -1,6 +1,7 @@
 // What no clause says: that calls succeed where there is memory, and places by a reader's count.
 use crate::{
-    Files, FilesStop, MemoryFiles, MemorySink, NullSink, SameFiles, Sink, place, write_whole,
+    Files, FilesStop, MemoryFiles, MemorySink, MemorySource, NullSink, SameFiles, Sink, Source,
+    SteadySource, place, write_whole,
 };
 use bytes::BytesMut;
 use rb_trees::Seq;
@@ -73,6 +74,35 @@ fn a_null_sink_takes_all(rt: HostRuntime) -> Result<(), Fail> {
     let mut sink = NullSink;
     write_whole(&mut sink, b"abc")?;
     assert_eq!(rt; sink.write(b"abc")?, 3);
+    Ok(())
+}
+
+#[test]
+fn a_source_gives_pieces_and_then_its_end(rt: HostRuntime) -> Result<(), Fail> {
+    let alloc = rt.alloc();
+    let bytes = Seq::from_slice(alloc, b"abcde")?;
+    let mut source = MemorySource::make(bytes, Seq::from_slice(alloc, &[2])?, 2);
+    let mut buffer = [b'.'; 3];
+    assert_eq!(rt; source.read(&mut buffer)?, 2);
+    assert!(rt; source.read(&mut buffer).is_err());
+    assert_eq!(rt; buffer.as_slice(), b"ab.".as_slice());
+    assert_eq!(rt; source.read(&mut buffer[..1])?, 1);
+    assert_eq!(rt; source.left(), b"de".as_slice());
+    assert_eq!(rt; source.read(&mut buffer)?, 2);
+    assert_eq!(rt; source.read(&mut buffer)?, 0);
+    assert_eq!(rt; buffer.as_slice(), b"de.".as_slice());
+    Ok(())
+}
+
+#[test]
+fn a_steady_source_fills_its_buffer(rt: HostRuntime) -> Result<(), Fail> {
+    let alloc = rt.alloc();
+    let mut source = SteadySource::make(Seq::from_slice(alloc, b"abcd")?);
+    let mut buffer = [b'.'; 3];
+    for (count, want) in [(3, b"abc"), (1, b"dbc"), (0, b"dbc")] {
+        assert_eq!(rt; source.read(&mut buffer)?, count);
+        assert_eq!(rt; buffer.as_slice(), want.as_slice());
+    }
     Ok(())
 }
 

@@ -1,0 +1,22 @@
+// Laws of frames and streams. They take no memory and do nothing.
+
+ghost use Rattle.rb_meaning_frames.specs.Laws.{HeadersAreSpelled, FramesAreWhole, EachIsDividedOnce, IsCutAnywhere, StaysBroken};
+
+/// A header whose first three bytes are right spells its kind and the length that it announces, and its frame stands at the
+/// front of the bytes where they are no fewer.
+pub fn headers_are_spelled()
+    ensures headers { HeadersAreSpelled }
+    ensures frames { FramesAreWhole }
+{}
+
+/// Each list of bytes is, in one way, whole request frames and a rest, which is empty, is cut, or breaks the form.
+pub fn each_stream_is_divided_once()
+    ensures { EachIsDividedOnce }
+{}
+
+/// A stream may come in any pieces: each is divided together with the rest of the one before. What breaks the form goes on
+/// breaking it.
+pub fn streams_are_cut_anywhere()
+    ensures cut { IsCutAnywhere }
+    ensures broken { StaysBroken }
+{}

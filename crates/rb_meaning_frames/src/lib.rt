@@ -1,0 +1,8 @@
+//! What frames, streams of requests and their replies are: the definitions that sessions and links cite.
+//!
+//! They stand in `specs/`. There is no code here but their laws, which are functions that do nothing.
+#![tactic(auto)]
+
+mod laws;
+
+pub use laws::{each_stream_is_divided_once, headers_are_spelled, streams_are_cut_anywhere};
