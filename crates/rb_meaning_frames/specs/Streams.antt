@@ -1,5 +1,5 @@
 -- What a session receives: request frames, one after the other, and a rest.
-use Rattle.std.specs.Prelude.{◌≡◌, ◌⊎◌, ℕ, ◌+◌, ◌<◌, ◌≤◌, All, List, [], ◌∷◌, ◌++◌, length}
+use Rattle.std.specs.Prelude.{◌≡◌, ◌⊎◌, ℕ, ◌+◌, ◌^◌, ◌<◌, ◌≤◌, All, List, [], ◌∷◌, ◌++◌, length}
 use Rattle.rb_meaning.specs.Answers.{longest_request}
 use Rattle.rb_meaning.specs.Replies.{header_length, announced}
 use Rattle.rb_meaning_frames.specs.Frames.{request_kind, frame_bytes, IsRightBefore, BreaksAt, is_request}
@@ -31,6 +31,10 @@ pub record IsTooLong (offset : ℕ) (bytes : List ℕ) : Type 0 where
 abbrev pub BreaksRequest : ℕ → List ℕ → Type 0
 BreaksRequest offset bytes = BreaksAt is_request offset bytes ⊎ IsTooLong offset bytes
 
+-- how many requests of a session are answered at most
+abbrev pub most_requests : ℕ
+most_requests = 2 ^ 32
+
 -- what may follow the last whole frame
 pub data Rest : Type 0 where
   Empty : Rest
@@ -47,6 +51,10 @@ pub record Divides (stream : List ℕ) (payloads : List (List ℕ)) (rest : List
   pub requests : All IsRequest payloads
   pub is : stream ≡ request_frames payloads ++ rest
   pub rest_is : IsRest rest kind
+
+-- The bytes break nothing, and no whole request frame stands at their front.
+abbrev pub Waits : List ℕ → Type 0
+Waits bytes = IsRest bytes Empty ⊎ IsRest bytes Cut
 
 -- A whole request frame stands at the front of the bytes.
 pub record BeginsWhole (bytes : List ℕ) : Type 0 where

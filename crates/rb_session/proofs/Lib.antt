@@ -7,3 +7,5 @@ pub mod Sent
 pub mod Failing
 pub mod FirstPlaces
 pub mod Waiting
+pub mod Framed
+pub mod Streamed

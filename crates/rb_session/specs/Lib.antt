@@ -9,3 +9,6 @@ pub mod Dials
 pub mod MemoryDials
 pub mod DialCodes
 pub mod Codes
+pub mod Fronts
+pub mod Taking
+pub mod Sessions

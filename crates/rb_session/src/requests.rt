@@ -1,0 +1,75 @@
+// The requests of a stream.
+
+ghost use Rattle.std.specs.Prelude.{◌≡◌, ◌≤◌, length, IfOk, OnOk};
+ghost use Rattle.rb_meaning.specs.Answers.{longest_request};
+ghost use Rattle.rb_session.specs.Answering.{IsTypedHost};
+ghost use Rattle.rb_session.specs.Taking.{GainsReply, TakesAll};
+
+use crate::answers::answer;
+use crate::frames::{Front, HEADER, front_of, put_frame};
+use bytes::BytesMut;
+use rb_exec::Host;
+use rb_trees::Memory;
+use std::alloc::Global;
+
+/// Requests that were taken from the front of a stream: how many bytes their frames have, how many they are, and what stands
+/// behind them.
+#[derive(Clone, Copy)]
+pub struct Taken {
+    pub bytes: usize,
+    pub requests: u64,
+    pub front: Front,
+}
+
+/// Answers a request, and appends the frame of the reply.
+fn answer_frame(
+    alloc: Global,
+    host: &mut Host,
+    payload: &[u8],
+    out: &mut BytesMut,
+) -> Result<(), Memory>
+    requires size { length payload.now ≤ longest_request }
+    requires typed { IsTypedHost host.old }
+    ensures gains { OnOk result (GainsReply host.old host.new payload.now out.old.items out.new.items) }
+    ensures typed { OnOk result (IsTypedHost host.new) }
+    ensures service { host.new.service ≡ host.old.service }
+{
+    let mut reply = BytesMut::new(alloc);
+    let kind = answer(alloc, host, payload, &mut reply)?;
+    put_frame(kind, reply.as_slice(), out)
+}
+
+/// Answers the requests that stand whole at the front of a stream, in order, but at most so many, and appends the frames of
+/// their replies.
+pub fn answer_whole(
+    alloc: Global,
+    host: &mut Host,
+    bytes: &[u8],
+    most: u64,
+    out: &mut BytesMut,
+) -> Result<Taken, Memory>
+    requires typed { IsTypedHost host.old }
+    ensures takes { IfOk result (TakesAll host.old host.new bytes.now most out.old.items out.new.items) }
+    ensures typed { OnOk result (IsTypedHost host.new) }
+    ensures service { host.new.service ≡ host.old.service }
+{
+    let mut at = 0;
+    let mut requests = 0;
+    loop {
+        let rest = &bytes[at..];
+        match front_of(rest) {
+            Front::Whole(size) if requests < most => {
+                answer_frame(alloc, host, &rest[HEADER..HEADER + size], out)?;
+                at += HEADER + size;
+                requests += 1;
+            }
+            front => {
+                return Ok(Taken {
+                    bytes: at,
+                    requests,
+                    front,
+                });
+            }
+        }
+    }
+}

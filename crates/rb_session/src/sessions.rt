@@ -1,0 +1,164 @@
+// Sessions: a stream of requests in pieces.
+
+ghost use Rattle.std.specs.Prelude.{◌≡◌, ◌<◌, ◌^◌, ◌++◌, drop, IfOk, OnOk};
+ghost use Rattle.rb_session.specs.Answering.{IsTypedHost};
+ghost use Rattle.rb_session.specs.Sessions.{new_session, stop_of, answer_by, IsNear, Feeds, UnlessSpentMemory};
+ghost use Rattle.rb_session.specs.Taking.{TakesAll};
+
+use crate::frames::Front;
+use crate::requests::{Taken, answer_whole};
+use bytes::BytesMut;
+use rb_exec::Host;
+use rb_trees::Memory;
+use std::alloc::Global;
+use std::marker::Model;
+use thiserror::Error;
+
+/// How many requests of a session are answered at most.
+const MOST_REQUESTS: u64 = 1 << 32;
+
+/// Why a session is answered no further.
+#[derive(Clone, Copy, Debug, Error)]
+pub enum SessionStop {
+    /// The stream breaks the form of a request frame at this offset: a byte of a header is none that may stand there, or the
+    /// length that begins there is longer than that of a request may be.
+    #[error("the stream breaks its form at offset {0}")]
+    BadFrame(u64),
+    /// So many requests were answered that a further one isn't.
+    #[error("too many requests")]
+    SessionSpent,
+    #[error("out of memory")]
+    Memory,
+}
+
+impl From<Memory> for SessionStop {
+    ghost use Rattle.std.specs.Prelude.{◌≡◌};
+    ghost use Rattle.rb_session.specs.declared.sessions.SessionStop.TheVariants as stops;
+
+    ghost from_gives = { λ _ e. e ≡ stops.Memory };
+
+    fn from(_want: Memory) -> SessionStop {
+        SessionStop::Memory
+    }
+}
+
+/// A session: request frames that come in pieces, and are answered as they become whole.
+///
+/// Contracts see it as `SessionSeen`: the bytes after the last whole frame, their offset in the stream, the number of
+/// requests answered, and why it stopped, if it did. It holds no more of the stream than these bytes.
+#[derive(Drop)]
+pub struct Session {
+    rest: BytesMut,
+    offset: u64,
+    requests: u64,
+    stop: Option<SessionStop>,
+}
+
+impl Model for Session {
+    ghost use Rattle.std.specs.Prelude.{ℕ, ◌+◌, ◌*◌, ◌≤◌};
+    ghost use Rattle.rb_meaning_frames.specs.Streams.{most_requests};
+    ghost use Rattle.rb_session.specs.Sessions.{SessionSeen, IsBounded};
+
+    ghost Value = { SessionSeen };
+
+    ghost view = { λ it. record {
+      rest = it.rest.items;
+      offset = it.offset;
+      requests = it.requests;
+      stop = it.stop;
+    } };
+
+    ghost invariant = { λ it. IsBounded it.offset it.requests };
+}
+
+impl Session {
+    /// Nothing came yet.
+    pub fn make(alloc: Global) -> Session
+        ensures { result ≡ new_session }
+    {
+        Session {
+            rest: BytesMut::new(alloc),
+            offset: 0,
+            requests: 0,
+            stop: None,
+        }
+    }
+
+    /// Takes the next piece of the stream, answers the requests that became whole, in order, and appends the frames of their
+    /// replies.
+    ///
+    /// Where the stream breaks its form, or a request more is whole than may be answered, the requests before are answered,
+    /// and the session stops. After a stop each further piece is answered by the same stop, and changes nothing. After want
+    /// of memory the buffer may have gained bytes, and nothing is said of the table.
+    pub fn feed(
+        &mut self,
+        alloc: Global,
+        host: &mut Host,
+        piece: &[u8],
+        out: &mut BytesMut,
+    ) -> Result<(), SessionStop>
+        requires { IsTypedHost host.old }
+        ensures feeds { Feeds host.old host.new self.old self.new piece.now out.old.items out.new.items result self.old.stop }
+        ensures typed { UnlessSpentMemory result (IsTypedHost host.new) }
+        ensures service { host.new.service ≡ host.old.service }
+    {
+        if let Some(stop) = self.stop {
+            return Err(stop);
+        }
+        let room = MOST_REQUESTS - self.requests;
+        let answer = match take_piece(alloc, host, &mut self.rest, piece, room, out) {
+            Ok(taken) => {
+                self.offset += taken.bytes as u64;
+                self.requests += taken.requests;
+                answer_by(taken.front, self.offset)
+            }
+            Err(Memory) => Err(SessionStop::Memory),
+        };
+        self.stop = stop_of(answer);
+        answer
+    }
+}
+
+/// The stop that an answer says.
+fn stop_of(answer: Result<(), SessionStop>) -> Option<SessionStop>
+    ensures { result ≡ stop_of answer }
+{
+    match answer {
+        Ok(()) => None,
+        Err(stop) => Some(stop),
+    }
+}
+
+/// The answer of a session by what stands behind the requests that it answered, at an offset of its stream.
+fn answer_by(front: Front, offset: u64) -> Result<(), SessionStop>
+    requires offset { offset < 2 ^ 63 }
+    requires near { IsNear front }
+    ensures { result ≡ answer_by front offset }
+{
+    match front {
+        Front::Whole(_) => Err(SessionStop::SessionSpent),
+        Front::Partial => Ok(()),
+        Front::Broken(at) => Err(SessionStop::BadFrame(offset + at as u64)),
+    }
+}
+
+/// Appends a piece to the rest of a stream, answers the requests that are whole then, at most so many, and keeps the rest.
+fn take_piece(
+    alloc: Global,
+    host: &mut Host,
+    rest: &mut BytesMut,
+    piece: &[u8],
+    most: u64,
+    out: &mut BytesMut,
+) -> Result<Taken, Memory>
+    requires { IsTypedHost host.old }
+    ensures takes { IfOk result (TakesAll host.old host.new (rest.old.items ++ piece.now) most out.old.items out.new.items) }
+    ensures rest { IfOk result (λ taken. rest.new.items ≡ drop taken.bytes (rest.old.items ++ piece.now)) }
+    ensures typed { OnOk result (IsTypedHost host.new) }
+    ensures service { host.new.service ≡ host.old.service }
+{
+    rest.extend_from_slice(piece)?;
+    let taken = answer_whole(alloc, host, rest.as_slice(), most, out)?;
+    rest.advance(taken.bytes);
+    Ok(taken)
+}
