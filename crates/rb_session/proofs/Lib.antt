@@ -9,3 +9,6 @@ pub mod FirstPlaces
 pub mod Waiting
 pub mod Framed
 pub mod Streamed
+pub mod Pieces
+pub mod Steps
+pub mod Replied

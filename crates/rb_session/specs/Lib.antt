@@ -8,6 +8,8 @@ pub mod Places
 pub mod Dials
 pub mod MemoryDials
 pub mod DialCodes
+pub mod Receiving
+pub mod FrameLinks
 pub mod Codes
 pub mod Fronts
 pub mod Taking

@@ -3,16 +3,16 @@
 ghost use Rattle.std.specs.Prelude.{◌≡◌, ◌≤◌, length, IfOk, OnOk, OnErr};
 ghost use Rattle.rb_meaning.specs.Answers.{longest_request};
 ghost use Rattle.rb_session.specs.Answering.{IsTypedHost, AnswersOn};
-ghost use Rattle.rb_session.specs.Exchanges.{pair_told, all_told, OneMore};
+ghost use Rattle.rb_session.specs.Exchanges.{all_told, OneMore};
 ghost use Rattle.rb_session.specs.MemoryLinks.{new_link, Exchanges};
 
 use crate::answers::answer;
-use crate::exchanges::Exchange;
+use crate::exchanges::{Exchange, pair_of};
 use bytes::BytesMut;
 use rb_base::{Link, LinkStop, Reply};
 use rb_exec::Host;
 use rb_heap::Heap;
-use rb_trees::{Memory, Seq};
+use rb_trees::Memory;
 use std::alloc::Global;
 use std::marker::Model;
 
@@ -96,17 +96,6 @@ impl MemoryLink {
     {
         self.pairs.as_slice()
     }
-}
-
-// A request with its reply, as a link keeps them.
-fn pair_of(alloc: Global, request: &[u8], kind: u8, reply: &[u8]) -> Result<Exchange, Memory>
-    ensures { IfOk result (λ e. pair_told e ≡ record { request = request.now; kind = kind; reply = reply.now }) }
-{
-    Ok(Exchange {
-        request: Seq::from_slice(alloc, request)?,
-        kind,
-        reply: Seq::from_slice(alloc, reply)?,
-    })
 }
 
 // Has the host answer a request, and keeps a copy of both.
