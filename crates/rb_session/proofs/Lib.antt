@@ -12,3 +12,4 @@ pub mod Streamed
 pub mod Pieces
 pub mod Steps
 pub mod Replied
+pub mod Fed

@@ -1,5 +1,5 @@
 -- Requests taken from a stream, some after others.
-use Rattle.std.proofs.Common.{◌≡◌, ℕ, zero, suc, ◌+◌, ◌-◌, ◌*◌, ◌<◌, ◌≤◌, All, List, [], ◌∷◌, ◌++◌, length, take, drop, refl, ap, sym, ◌∙◌, subst, arith, append_assoc, append-nil, length-append, drop-drop}
+use Rattle.std.proofs.Common.{◌≡◌, ℕ, zero, suc, ◌+◌, ◌-◌, ◌*◌, ◌<◌, ◌≤◌, All, List, [], ◌∷◌, ◌++◌, length, take, drop, refl, ap, sym, ◌∙◌, subst, arith, append_assoc, append-nil, length-append, drop-drop, take_all}
 use Rattle.std.proofs.lemmas.List.Elements.{All-nil, All-cons, All-append}
 use Rattle.std.proofs.lemmas.List.{length-take, length-drop}
 use Rattle.rb_trees.specs.declared.services.Object.{Object}
@@ -106,3 +106,17 @@ one_more_so_far host between after bytes most at count size old mid new same so 
       few = omega arith;
       bounded = omega arith;
     }
+
+-- the rest as a slice
+pub sliced : (at : ℕ) (bytes : List ℕ) → take (length bytes - at) (drop at bytes) ≡ drop at bytes
+sliced at bytes = take_all (length bytes - at) (drop at bytes) (omega (arith, length-drop at bytes))
+
+-- the same of slices, as code makes them
+pub one_more_sliced : (host between after : Hosted) (bytes rest : List ℕ) (most at count size n : ℕ) (old mid new : List ℕ) → between.service ≡ host.service
+    → SoFar host between bytes most at count old mid → count < most → rest ≡ drop at bytes → n ≡ size → IsWhole rest size
+    → GainsReply between after (take n (drop header_length rest)) mid new
+    → SoFar host after bytes most (at + (header_length + size)) (count + 1) old new
+one_more_sliced host between after bytes rest most at count size n old mid new same so lt is equal w g =
+    one_more_so_far host between after bytes most at count size old mid new same so lt (subst (λ r. IsWhole r size) is w)
+    (subst (λ k. GainsReply between after (take k (drop header_length (drop at bytes))) mid new) equal
+    (subst (λ r. GainsReply between after (take n (drop header_length r)) mid new) is g))

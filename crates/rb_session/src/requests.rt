@@ -48,14 +48,14 @@ pub fn answer_whole(
     most: u64,
     out: &mut BytesMut,
 ) -> Result<Taken, Memory>
-    requires typed { IsTypedHost host.old }
+    requires { IsTypedHost host.old }
     ensures takes { IfOk result (TakesAll host.old host.new bytes.now most out.old.items out.new.items) }
     ensures typed { OnOk result (IsTypedHost host.new) }
     ensures service { host.new.service ≡ host.old.service }
 {
     let mut at = 0;
     let mut requests = 0;
-    loop {
+    'whole: loop {
         let rest = &bytes[at..];
         match front_of(rest) {
             Front::Whole(size) if requests < most => {
