@@ -1,12 +1,12 @@
 -- A whole frame of a reply is the reply.
-use Rattle.std.proofs.Common.{◌≡◌, ◌≤◌, ◌+◌, ◌⊎◌, inl, inr, refl, ap, sym, ◌∙◌, subst, ℕ, zero, suc, true, List, [], ◌++◌, length, take, drop, get_or, append-nil, arith, length-drop}
+use Rattle.std.proofs.Common.{◌≡◌, ◌+◌, inl, inr, refl, ap, sym, ◌∙◌, subst, ℕ, zero, suc, true, List, ◌++◌, take, drop, get_or, append-nil, arith, length-drop}
 use Rattle.std.specs.Prelude.{◌==◌, ◌||◌}
 use Rattle.std.proofs.lemmas.List.{take_all, drop_all}
 use Rattle.std.proofs.lemmas.Bool.Decides.{nat_tests}
 use Rattle.rb_meaning_bytes.specs.formats.Fields.{IsBytes}
 use Rattle.rb_meaning.specs.Answers.{forest_kind, refusal_kind}
 use Rattle.rb_meaning.specs.Replies.{header_length, announced}
-use Rattle.rb_meaning_frames.specs.Frames.{frame_bytes, IsRightBefore}
+use Rattle.rb_meaning_frames.specs.Frames.{frame_bytes}
 use Rattle.rb_meaning_frames.specs.Laws.{FramesAreWhole}
 use Rattle.rb_base.specs.Devices.{Device}
 use Rattle.rb_base.specs.Sources.{before_giving}

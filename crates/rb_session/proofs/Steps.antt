@@ -1,6 +1,6 @@
 -- Reading a reply step by step.
-use Rattle.std.proofs.Common.{◌≡◌, ◌<◌, ◌≤◌, ◌+◌, ◌-◌, ◌⊎◌, inl, inr, refl, ap, sym, ◌∙◌, subst, ℕ, zero, suc, Bool, true, false, List, [], ◌∷◌, ◌++◌, length, take, drop, get_or, append_assoc, append-nil, arith, length-append}
-use Rattle.std.specs.Prelude.{◌==◌, ◌||◌, nat_lt, nat_le, ◌&&◌, cond, Option, Some, None, Err}
+use Rattle.std.proofs.Common.{◌≡◌, ◌<◌, ◌≤◌, ◌+◌, ◌-◌, inl, inr, refl, ap, sym, ◌∙◌, subst, ℕ, zero, suc, List, [], ◌++◌, length, take, drop, get_or, append_assoc, append-nil, arith, length-append}
+use Rattle.std.specs.Prelude.{Option, Some, None, Err}
 use Rattle.std.specs.Int.{w64, from_be_bytes}
 use Rattle.std.proofs.lemmas.List.{take-append-le, drop-append-le, length-drop}
 use Rattle.std.proofs.lemmas.Bool.{cases_lt}
@@ -8,7 +8,7 @@ use Rattle.std.proofs.lemmas.Bool.Decides.{nat_tests}
 use Rattle.rb_meaning.specs.Replies as reply
 use Rattle.rb_meaning.specs.Replies.{header_length, announced, IsCut}
 use Rattle.rb_meaning_frames.specs.Frames as frame
-use Rattle.rb_base.specs.Devices.{Device, failed}
+use Rattle.rb_base.specs.Devices.{Device}
 use Rattle.rb_base.specs.Sources.{told_before, before_giving, IsAtEnd}
 use Rattle.rb_session.specs.Fronts.{is_between}
 use Rattle.rb_base.specs.declared.links.LinkStop.{LinkStop}

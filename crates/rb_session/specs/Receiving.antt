@@ -1,5 +1,5 @@
 -- How a reply's frame is taken from a source, and a request's is written to a sink.
-use Rattle.std.specs.Prelude.{◌≡◌, ◌<◌, ◌≤◌, ◌+◌, ◌-◌, ℕ, List, [], ◌++◌, length, Result, Ok, Err, Option, cond, nat_lt}
+use Rattle.std.specs.Prelude.{◌≡◌, ◌<◌, ◌≤◌, ◌+◌, ◌-◌, ℕ, List, [], ◌++◌, length, Result, Ok, Err, cond, nat_lt}
 use Rattle.rb_meaning.specs.Replies.{header_length, announced, IsRightBefore, BreaksAt, IsCut}
 use Rattle.rb_meaning_frames.specs.Frames.{frame_bytes, request_kind}
 use Rattle.rb_base.specs.Devices.{Device, failed}

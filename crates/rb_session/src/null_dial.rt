@@ -41,9 +41,7 @@ impl Dial for NullDial {
         _target: &Target,
     ) -> Result<AnyLink<FrameLink<SteadySource, NullSink>>, DialStop> {
         let source = SteadySource::make(Seq::new(self.alloc));
-        Ok(AnyLink::Dialled(FrameLink::make(
-            self.alloc, source, NullSink,
-        )))
+        Ok(AnyLink::Dialled(FrameLink::make(self.alloc, source, NullSink)))
     }
 
     fn around(
