@@ -8,6 +8,8 @@ use Rattle.rb_meaning.specs.Links.{Pair}
 use Rattle.rb_exec.specs.Hosted.{Hosted}
 use Rattle.rb_exec.specs.Codes.{host_code}
 use Rattle.rb_session.specs.MemoryLinks.{LinkInMemory}
+use Rattle.rb_session.specs.FailingLinks.{FailingInMemory}
+use Rattle.rb_session.specs.FrameLinks.{LinkOverEnds}
 
 abbrev pub pair_code : Coded Pair
 pair_code =
@@ -24,3 +26,13 @@ link_code =
     (coded× host_code (coded× (coded_list object_code.the_row.coded) (coded× (coded_list pair_code) (coded× coded_ℕ coded_bool))))
     (λ l. (l.host, (l.first, (l.pairs, (l.made, l.spent)))))
     (λ q. record { host = q.0; first = q.1.0; pairs = q.1.1.0; made = q.1.1.1.0; spent = q.1.1.1.1 }) (λ _. refl)
+
+abbrev pub failing_code : Coded FailingInMemory
+failing_code =
+    code_by (LinkInMemory × (ℕ × (List ℕ × ℕ))) (coded× link_code (coded× coded_ℕ (coded× (coded_list coded_ℕ) coded_ℕ)))
+    (λ l. (l.link, (l.made, (l.failing, l.faults)))) (λ q. record { link = q.0; made = q.1.0; failing = q.1.1.0; faults = q.1.1.1 }) (λ _. refl)
+
+abbrev pub ends_code : {S K : Type 0} → Coded S → Coded K → Coded (LinkOverEnds S K)
+ends_code {S} {K} s k =
+    code_by (S × (K × List Pair)) (coded× s (coded× k (coded_list pair_code)))
+    (λ l. (l.source, (l.sink, l.pairs))) (λ q. record { source = q.0; sink = q.1.0; pairs = q.1.1 }) (λ _. refl)

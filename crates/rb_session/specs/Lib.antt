@@ -1,6 +1,15 @@
 pub mod Answering
 pub mod Exchanges
 pub mod MemoryLinks
+pub mod FailingLinks
+pub mod AnyLinks
+pub mod Targets
+pub mod Places
+pub mod Dials
+pub mod MemoryDials
+pub mod DialCodes
+pub mod Receiving
+pub mod FrameLinks
 pub mod Codes
 pub mod Fronts
 pub mod Taking

@@ -67,7 +67,7 @@ pub fn front_of(bytes: &[u8]) -> Front
 }
 
 /// The length of the payload that a header announces.
-fn announced(bytes: &[u8]) -> u64
+pub fn announced(bytes: &[u8]) -> u64
     requires { header_length ≤ length bytes.now }
     ensures { result ≡ announced bytes.now }
 {
@@ -77,7 +77,7 @@ fn announced(bytes: &[u8]) -> u64
 }
 
 /// The offset of the first byte of a frame that breaks its form, of which the kind is between two.
-fn wrong_at(bytes: &[u8], least: u8, most: u8) -> Option<usize>
+pub fn wrong_at(bytes: &[u8], least: u8, most: u8) -> Option<usize>
     ensures { MatchOption result (IsRightBefore (is_between least most) (length bytes.now) bytes.now) (λ at. BreaksAt (is_between least most) at bytes.now) }
 {
     let front = &bytes[..bytes.len().min(3)];

@@ -4,18 +4,34 @@
 #![tactic(auto)]
 
 mod answers;
+mod any_link;
+mod dials;
 mod exchanges;
+mod failing_link;
+mod frame_link;
 mod frames;
 mod laws;
+mod memory_dial;
 mod memory_link;
+mod null_dial;
+mod places;
+mod receiving;
 mod requests;
 mod serving;
 mod sessions;
+mod targets;
 
 pub use answers::answer;
+pub use any_link::AnyLink;
+pub use dials::{Dial, DialStop};
 pub use exchanges::Exchange;
+pub use failing_link::FailingLink;
+pub use frame_link::FrameLink;
 pub use frames::frame_header;
 pub use laws::{each_payload_has_one_answer, sessions_are_fed_anywhere};
+pub use memory_dial::MemoryDial;
 pub use memory_link::MemoryLink;
+pub use null_dial::NullDial;
 pub use serving::{ServeCause, ServeStop, Served, serve};
 pub use sessions::{Session, SessionStop};
+pub use targets::Target;

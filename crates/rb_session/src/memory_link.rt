@@ -3,16 +3,16 @@
 ghost use Rattle.std.specs.Prelude.{◌≡◌, ◌≤◌, length, IfOk, OnOk, OnErr};
 ghost use Rattle.rb_meaning.specs.Answers.{longest_request};
 ghost use Rattle.rb_session.specs.Answering.{IsTypedHost, AnswersOn};
-ghost use Rattle.rb_session.specs.Exchanges.{pair_told, all_told, OneMore};
+ghost use Rattle.rb_session.specs.Exchanges.{all_told, OneMore};
 ghost use Rattle.rb_session.specs.MemoryLinks.{new_link, Exchanges};
 
 use crate::answers::answer;
-use crate::exchanges::Exchange;
+use crate::exchanges::{Exchange, pair_of};
 use bytes::BytesMut;
 use rb_base::{Link, LinkStop, Reply};
 use rb_exec::Host;
 use rb_heap::Heap;
-use rb_trees::{Memory, Seq};
+use rb_trees::Memory;
 use std::alloc::Global;
 use std::marker::Model;
 
@@ -83,23 +83,19 @@ impl MemoryLink {
         &self.first
     }
 
+    /// Whether an exchange was wanting memory.
+    pub(crate) fn is_spent(&self) -> bool
+        ensures { result ≡ self.now.spent }
+    {
+        self.spent
+    }
+
     /// The exchanges so far, in order.
     pub fn pairs(&self) -> &[Exchange]
         ensures { all_told result.now ≡ self.now.pairs }
     {
         self.pairs.as_slice()
     }
-}
-
-// A request with its reply, as a link keeps them.
-fn pair_of(alloc: Global, request: &[u8], kind: u8, reply: &[u8]) -> Result<Exchange, Memory>
-    ensures { IfOk result (λ e. pair_told e ≡ record { request = request.now; kind = kind; reply = reply.now }) }
-{
-    Ok(Exchange {
-        request: Seq::from_slice(alloc, request)?,
-        kind,
-        reply: Seq::from_slice(alloc, reply)?,
-    })
 }
 
 // Has the host answer a request, and keeps a copy of both.

@@ -22,6 +22,10 @@ object 1: File { name = \"a\"; size = 10; }
 object 2: File { name = \"bb\"; size = 200; }
 root 0;";
 
+/// The payload of a request that calls that method.
+pub const CALL: &[u8] =
+    b"\x01\x00\x00\x00\x00\x01\x11\x00\x00\x00\x00\x00\x00\x00\x3b\x26\x00\x00\x00\x3b\x01\x00\x00\x00\x01n\x23\x00\x00\x00\x00";
+
 /// The host of a service's text.
 pub fn host_of(alloc: Global, source: &[u8]) -> Result<Host, Fail>
     ensures { IfOk result IsTypedHost }

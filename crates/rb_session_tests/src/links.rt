@@ -1,12 +1,9 @@
 // The link in memory.
 
-use crate::hosts::{NUMBER, host_of};
+use crate::hosts::{CALL, NUMBER, host_of};
 use rb_base::Link;
 use rb_session::MemoryLink;
 use std::test::Fail;
-
-const CALL: &[u8] =
-    b"\x01\x00\x00\x00\x00\x01\x11\x00\x00\x00\x00\x00\x00\x00\x3b\x26\x00\x00\x00\x3b\x01\x00\x00\x00\x01n\x23\x00\x00\x00\x00";
 
 #[test]
 fn each_exchange_is_a_pair(rt: HostRuntime) -> Result<(), Fail> {
