@@ -1,6 +1,7 @@
 -- What a session does with a piece.
-use Rattle.std.proofs.Common.{◌≡◌, ℕ, ◌+◌, ◌-◌, ◌≤◌, List, ◌++◌, take, drop, Option, None, Some, Result, Ok, Err, refl, ap, sym, ◌∙◌, subst, arith, length-append}
+use Rattle.std.proofs.Common.{◌≡◌, ℕ, ◌+◌, ◌-◌, ◌*◌, ◌<◌, ◌≤◌, List, [], ◌++◌, length, take, drop, Option, None, Some, Result, Ok, Err, refl, ap, sym, ◌∙◌, subst, arith, length-append}
 use Rattle.std.proofs.lemmas.List.{length-take, length-drop}
+use Rattle.rb_meaning.specs.Answers.{longest_request}
 use Rattle.rb_meaning.specs.Replies.{header_length}
 use Rattle.rb_meaning_frames.specs.Streams.{most_requests, BeginsWhole}
 use Rattle.rb_exec.specs.Hosted.{Hosted}
@@ -10,8 +11,8 @@ use Rattle.rb_session.specs.declared.requests.Taken.{Taken}
 use Rattle.rb_session.specs.declared.sessions.SessionStop.{SessionStop}
 use Rattle.rb_session.specs.declared.sessions.SessionStop.TheVariants.{BadFrame, SessionSpent, Memory}
 use Rattle.rb_session.specs.Fronts.{IsWhole, IsFront}
-use Rattle.rb_session.specs.Taking.{TakesAll}
-use Rattle.rb_session.specs.Sessions.{SessionSeen, IsBounded, stop_of, answer_by, Leaves, Answered, AnsweredUnlessMemory, Feeds}
+use Rattle.rb_session.specs.Taking.{longest_frame, Takes, TakesAll}
+use Rattle.rb_session.specs.Sessions.{SessionSeen, IsBounded, came, stop_of, answer_by, Leaves, Goes, Answered, AnsweredUnlessMemory, Feeds}
 
 -- a whole frame at the front
 begins : (bytes : List ℕ) (size : ℕ) → IsWhole bytes size → BeginsWhole bytes
@@ -75,9 +76,9 @@ feeds host after before now piece old new taken answer fresh bounded t is now_is
     subst (λ o. Feeds host after before now piece old new answer o) (sym fresh) (
       ap (λ s. s.stop) now_is,
       answered_unless host after before now piece old new answer
-          (subst (λ n. Answered host after before n piece old new answer) (sym now_is)
-          (subst (λ a. Answered host after before (after_taking before piece taken (stop_of a)) piece old new a) (sym is)
-          (answered host after before piece old new taken bounded t))),
+      (subst (λ n. Answered host after before n piece old new answer) (sym now_is)
+      (subst (λ a. Answered host after before (after_taking before piece taken (stop_of a)) piece old new a) (sym is)
+      (answered host after before piece old new taken bounded t))),
     )
 
 pub wants_memory : (host after : Hosted) (before now : SessionSeen) (piece old new : List ℕ) (answer : Result Unit SessionStop) → before.stop ≡ None
