@@ -1,4 +1,4 @@
-//! Tests of answers and of the link in memory.
+//! Tests of answers, of the link in memory, and of sessions.
 #![tactic(auto)]
 
 #[cfg(test)]
@@ -7,3 +7,9 @@ mod answers;
 mod hosts;
 #[cfg(test)]
 mod links;
+#[cfg(test)]
+mod serving;
+#[cfg(test)]
+mod sessions;
+#[cfg(test)]
+mod streams;
