@@ -4,3 +4,5 @@ pub mod Sinks
 pub mod Sources
 pub mod Directories
 pub mod Links
+pub mod Listening
+pub mod MemoryListens

@@ -7,7 +7,9 @@
 mod contents;
 mod files;
 mod links;
+mod listens;
 mod memory_files;
+mod memory_listen;
 mod memory_sink;
 mod memory_source;
 mod null_sink;
@@ -15,10 +17,13 @@ mod places;
 mod same_files;
 mod sinks;
 mod sources;
+mod steady_listen;
 
 pub use files::{Files, FilesStop};
 pub use links::{Link, LinkStop, Reply};
+pub use listens::{Coming, Listen, ListenStop};
 pub use memory_files::MemoryFiles;
+pub use memory_listen::MemoryListen;
 pub use memory_sink::MemorySink;
 pub use memory_source::{MemorySource, SteadySource};
 pub use null_sink::NullSink;
@@ -26,6 +31,7 @@ pub use places::place;
 pub use same_files::SameFiles;
 pub use sinks::{Failed, Sink, write_whole};
 pub use sources::Source;
+pub use steady_listen::SteadyListen;
 
 #[cfg(test)]
 mod tests;

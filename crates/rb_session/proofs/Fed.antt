@@ -1,7 +1,6 @@
 -- What a session does with a piece.
-use Rattle.std.proofs.Common.{◌≡◌, ℕ, ◌+◌, ◌-◌, ◌*◌, ◌<◌, ◌≤◌, List, [], ◌++◌, length, take, drop, Option, None, Some, Result, Ok, Err, refl, ap, sym, ◌∙◌, subst, arith, length-append}
+use Rattle.std.proofs.Common.{◌≡◌, ℕ, ◌+◌, ◌-◌, ◌≤◌, List, ◌++◌, take, drop, Option, None, Some, Result, Ok, Err, refl, ap, sym, ◌∙◌, subst, arith, append_assoc, length-append}
 use Rattle.std.proofs.lemmas.List.{length-take, length-drop}
-use Rattle.rb_meaning.specs.Answers.{longest_request}
 use Rattle.rb_meaning.specs.Replies.{header_length}
 use Rattle.rb_meaning_frames.specs.Streams.{most_requests, BeginsWhole}
 use Rattle.rb_exec.specs.Hosted.{Hosted}
@@ -11,8 +10,9 @@ use Rattle.rb_session.specs.declared.requests.Taken.{Taken}
 use Rattle.rb_session.specs.declared.sessions.SessionStop.{SessionStop}
 use Rattle.rb_session.specs.declared.sessions.SessionStop.TheVariants.{BadFrame, SessionSpent, Memory}
 use Rattle.rb_session.specs.Fronts.{IsWhole, IsFront}
-use Rattle.rb_session.specs.Taking.{longest_frame, Takes, TakesAll}
-use Rattle.rb_session.specs.Sessions.{SessionSeen, IsBounded, came, stop_of, answer_by, Leaves, Goes, Answered, AnsweredUnlessMemory, Feeds}
+use Rattle.rb_session.specs.Taking.{Takes, TakesAll}
+use Rattle.rb_session.specs.Sessions.{SessionSeen, IsBounded, stop_of, answer_by, Leaves, Goes, Answered, AnsweredUnlessMemory, Feeds}
+use Rattle.rb_session.proofs.Streamed.{takes_more, takes_longer}
 
 -- a whole frame at the front
 begins : (bytes : List ℕ) (size : ℕ) → IsWhole bytes size → BeginsWhole bytes
@@ -76,9 +76,9 @@ feeds host after before now piece old new taken answer fresh bounded t is now_is
     subst (λ o. Feeds host after before now piece old new answer o) (sym fresh) (
       ap (λ s. s.stop) now_is,
       answered_unless host after before now piece old new answer
-      (subst (λ n. Answered host after before n piece old new answer) (sym now_is)
-      (subst (λ a. Answered host after before (after_taking before piece taken (stop_of a)) piece old new a) (sym is)
-      (answered host after before piece old new taken bounded t))),
+          (subst (λ n. Answered host after before n piece old new answer) (sym now_is)
+          (subst (λ a. Answered host after before (after_taking before piece taken (stop_of a)) piece old new a) (sym is)
+          (answered host after before piece old new taken bounded t))),
     )
 
 pub wants_memory : (host after : Hosted) (before now : SessionSeen) (piece old new : List ℕ) (answer : Result Unit SessionStop) → before.stop ≡ None
@@ -114,3 +114,16 @@ feeds_by host after before piece old new taken answer rest offset requests stop 
 pub as_seen : (host after : Hosted) (before self now : SessionSeen) (piece old new : List ℕ) (answer : Result Unit SessionStop) → before ≡ self
     → Feeds host after before now piece old new answer before.stop → Feeds host after self now piece old new answer self.stop
 as_seen host after before self now piece old new answer is h = subst (λ s. Feeds host after s now piece old new answer s.stop) is h
+
+-- a piece after a piece
+pub goes_on : (host between after : Hosted) (before mid now : SessionSeen) (piece next replies more : List ℕ) → between.service ≡ host.service
+    → Goes host between before mid piece replies → Goes between after mid now next more → Goes host after before now (piece ++ next) (replies ++ more)
+goes_on host between after before mid now piece next replies more same a b = record {
+  count = a.count + b.count;
+  takes = subst (λ x. Takes host after x now.rest (a.count + b.count) (replies ++ more)) (append_assoc before.rest piece next)
+      (takes_more host between after ((before.rest ++ piece) ++ next) (mid.rest ++ next) now.rest a.count b.count replies more same
+      (takes_longer host between (before.rest ++ piece) mid.rest next a.count replies a.takes) b.takes);
+  requests = let p = a.requests in let q = b.requests in omega arith;
+  few = b.few;
+  came_is = let p = a.came_is in let q = b.came_is in omega (arith, length-append piece next);
+}

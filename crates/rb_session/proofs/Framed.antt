@@ -1,13 +1,12 @@
 -- Frames as they are written, and fronts of a stream as they are found.
-use Rattle.std.proofs.Common.{◌≡◌, ◌⊎◌, ℕ, zero, suc, ◌+◌, ◌-◌, ◌<◌, ◌≤◌, ◌^◌, Bool, true, false, ◌&&◌, List, [], ◌∷◌, ◌++◌, length, take, drop, get_or, refl, ap, sym, ◌∙◌, subst, arith, append_assoc, length-append, inl, inr, take_all}
+use Rattle.std.proofs.Common.{◌≡◌, ◌⊎◌, ℕ, zero, suc, ◌+◌, ◌<◌, ◌≤◌, Bool, false, List, [], ◌∷◌, ◌++◌, length, take, drop, get_or, refl, ap, sym, ◌∙◌, arith, append_assoc, inl, inr, take_all}
 use Rattle.std.specs.Int.{w64, to_be_bytes}
-use Rattle.std.proofs.lemmas.Bool.{cases_Bool, cases_eq, eqb-true, eq-eqb, ne_eqb, leb-true, leb-false, le-leb, lt-leb, and_parts, and_cases, and_from, and_left, and_right, cases_lt}
-use Rattle.std.proofs.lemmas.List.{length-take, length-drop}
+use Rattle.std.proofs.lemmas.Bool.{cases_eq, eqb-true, eq-eqb, ne_eqb, le-leb, lt-leb, and_from, and_left, and_right, cases_lt}
 use Rattle.rb_meaning_bytes.specs.formats.Fields.{IsBytes}
 use Rattle.rb_meaning.specs.Answers.{longest_request}
 use Rattle.rb_meaning.specs.Replies.{header_length, announced}
 use Rattle.rb_meaning_frames.specs.Frames.{header_bytes, frame_bytes, request_kind, is_request, is_kind, may_stand, IsRightBefore, BreaksAt}
-use Rattle.rb_meaning_frames.specs.Streams.{IsCutRequest, IsTooLong, BreaksRequest, Waits}
+use Rattle.rb_meaning_frames.specs.Streams.{BreaksRequest, Waits}
 use Rattle.rb_meaning_frames.specs.Laws.{HeadersAreSpelled, FramesAreWhole}
 use Rattle.rb_session.specs.Fronts.{is_between, IsHeader, IsWhole}
 

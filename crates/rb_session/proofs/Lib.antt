@@ -13,3 +13,5 @@ pub mod Pieces
 pub mod Steps
 pub mod Replied
 pub mod Fed
+pub mod Written
+pub mod Going

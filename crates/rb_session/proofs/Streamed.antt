@@ -1,12 +1,11 @@
 -- Requests taken from a stream, some after others.
-use Rattle.std.proofs.Common.{◌≡◌, ℕ, zero, suc, ◌+◌, ◌-◌, ◌*◌, ◌<◌, ◌≤◌, All, List, [], ◌∷◌, ◌++◌, length, take, drop, refl, ap, sym, ◌∙◌, subst, arith, append_assoc, append-nil, length-append, drop-drop, take_all}
+use Rattle.std.proofs.Common.{◌≡◌, ℕ, ◌+◌, ◌-◌, ◌*◌, ◌<◌, ◌≤◌, List, [], ◌∷◌, ◌++◌, length, take, drop, refl, ap, sym, ◌∙◌, subst, arith, append_assoc, append-nil, length-append, drop-drop, take_all}
 use Rattle.std.proofs.lemmas.List.Elements.{All-nil, All-cons, All-append}
 use Rattle.std.proofs.lemmas.List.{length-take, length-drop}
 use Rattle.rb_trees.specs.declared.services.Object.{Object}
 use Rattle.rb_trees.specs.mirror.Services.{Service, mirror_service}
-use Rattle.rb_meaning.specs.Answers.{longest_request}
 use Rattle.rb_meaning.specs.Replies.{header_length}
-use Rattle.rb_meaning_frames.specs.Frames.{header_bytes, frame_bytes, request_kind}
+use Rattle.rb_meaning_frames.specs.Frames.{frame_bytes, request_kind}
 use Rattle.rb_meaning_frames.specs.Streams.{IsRequest, request_frames}
 use Rattle.rb_meaning_frames.specs.Served.{RepliesTo, no_more, one_more}
 use Rattle.rb_exec.specs.Hosted.{Hosted}

@@ -14,3 +14,5 @@ pub mod Codes
 pub mod Fronts
 pub mod Taking
 pub mod Sessions
+pub mod Serving
+pub mod Pieces

@@ -61,6 +61,11 @@ pub record Goes (host after : Hosted) (before now : SessionSeen) (piece replies 
   pub few : now.requests ≤ most_requests
   pub came_is : came now ≡ came before + length piece
 
+-- Feeding a piece and then another is feeding both as one.
+abbrev pub IsFedAnywhere : Type 0
+IsFedAnywhere = (host between after : Hosted) (before mid now : SessionSeen) (piece next replies more : List ℕ) → between.service ≡ host.service
+    → Goes host between before mid piece replies → Goes between after mid now next more → Goes host after before now (piece ++ next) (replies ++ more)
+
 -- A piece came, was answered so, and the buffer has gained the replies.
 pub record Answered (host after : Hosted) (before now : SessionSeen) (piece old new : List ℕ) (answer : Result Unit SessionStop) : Type 0 where
   pub replies : List ℕ

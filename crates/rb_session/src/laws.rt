@@ -1,6 +1,7 @@
-// Laws of answers. They take no memory and do nothing.
+// Laws of answers and of sessions. They take no memory and do nothing.
 
 ghost use Rattle.rb_meaning.specs.Answers.{HasOneAnswer};
+ghost use Rattle.rb_session.specs.Sessions.{IsFedAnywhere};
 
 use rb_meaning_bytes::{
     each_forest_has_one_spelling, each_refusal_has_one_spelling, script_payloads_mean_one_thing,
@@ -14,3 +15,8 @@ pub fn each_payload_has_one_answer()
     each_forest_has_one_spelling();
     each_refusal_has_one_spelling();
 }
+
+/// Feeding a session a piece and then another is feeding it both as one: the stream may come in any pieces.
+pub fn sessions_are_fed_anywhere()
+    ensures { IsFedAnywhere }
+{}

@@ -1,9 +1,9 @@
 // Sessions: a stream of requests in pieces.
 
-ghost use Rattle.std.specs.Prelude.{◌≡◌, ◌<◌, ◌^◌, ◌++◌, drop, IfOk, OnOk};
+ghost use Rattle.std.specs.Prelude.{◌≡◌, ◌==◌, ◌<◌, ◌^◌, ◌++◌, length, drop, IfOk, OnOk};
 ghost use Rattle.rb_session.specs.Answering.{IsTypedHost};
-ghost use Rattle.rb_session.specs.Sessions.{new_session, stop_of, answer_by, IsNear, Feeds, UnlessSpentMemory};
-ghost use Rattle.rb_session.specs.Taking.{TakesAll};
+ghost use Rattle.rb_session.specs.Sessions.{new_session, came, stop_of, answer_by, IsBounded, IsNear, Feeds, UnlessSpentMemory};
+ghost use Rattle.rb_session.specs.Taking.{longest_frame, TakesAll};
 
 use crate::frames::Front;
 use crate::requests::{Taken, answer_whole};
@@ -84,6 +84,24 @@ impl Session {
         }
     }
 
+    /// How many requests were answered.
+    pub fn requests(&self) -> u64
+        ensures { result ≡ self.now.requests }
+    {
+        self.requests
+    }
+
+    /// How the stream stands that came so far, where the session hasn't stopped: how many bytes it has, and whether they end
+    /// with a whole frame.
+    pub fn came(&self) -> (u64, bool)
+        requires { length self.now.rest < longest_frame }
+        ensures bytes { result.0 ≡ came self.now }
+        ensures whole { result.1 ≡ (length self.now.rest == 0) }
+    {
+        let rest = self.rest.len();
+        (self.offset + rest as u64, rest == 0)
+    }
+
     /// Takes the next piece of the stream, answers the requests that became whole, in order, and appends the frames of their
     /// replies.
     ///
@@ -101,6 +119,7 @@ impl Session {
         ensures feeds { Feeds host.old host.new self.old self.new piece.now out.old.items out.new.items result self.old.stop }
         ensures typed { UnlessSpentMemory result (IsTypedHost host.new) }
         ensures service { host.new.service ≡ host.old.service }
+        ensures bounded { IsBounded self.new.offset self.new.requests }
     {
         if let Some(stop) = self.stop {
             return Err(stop);
