@@ -1,4 +1,4 @@
-//! Tests of answers and of the link in memory.
+//! Tests of answers, of the link in memory, and of sessions.
 #![tactic(auto)]
 
 #[cfg(test)]
@@ -13,3 +13,9 @@ mod frame_links;
 mod hosts;
 #[cfg(test)]
 mod links;
+#[cfg(test)]
+mod serving;
+#[cfg(test)]
+mod sessions;
+#[cfg(test)]
+mod streams;
