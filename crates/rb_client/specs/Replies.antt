@@ -13,8 +13,6 @@ use Rattle.rb_meaning.specs.Replies.{BreaksAt, IsCut}
 use Rattle.rb_base.specs.Counts.{risen}
 use Rattle.rb_base.specs.declared.links.Link as links
 use Rattle.rb_wire_forest.specs.Misfits.{unfit}
-use Rattle.rb_client.specs.declared.replies.Unread.{Unread}
-use Rattle.rb_client.specs.declared.replies.Unread.TheVariants as unread
 use Rattle.rb_client.specs.declared.stops.BadReason.{BadReason}
 use Rattle.rb_client.specs.declared.stops.BadReason.TheVariants as reason
 use Rattle.rb_client.specs.declared.stops.RunStop.{RunStop}
@@ -44,22 +42,6 @@ HasReason (reason.Misfit misfit) remainder kind bytes = IsMisfit remainder kind 
 HasReason (reason.Refused number at) remainder kind bytes = (kind ≡ refusal_kind) × Spells refusal_message bytes (number, at)
 HasReason reason.Garbled remainder kind bytes = (kind ≡ refusal_kind) × ((x : ℕ × ℕ) → Spells refusal_message bytes x → ⊥)
 
--- What is read in a whole reply: its node, or why it is refused, which is no matter of its frame.
-abbrev pub Reads : Parts → ℕ → List ℕ → Result node.Node Unread → Type 0
-Reads remainder kind payload (Ok n) = IsForest remainder kind payload (mirror_node n)
-Reads remainder kind payload (Err (unread.Reason (reason.Cut got))) = ⊥
-Reads remainder kind payload (Err (unread.Reason (reason.Frame at))) = ⊥
-Reads remainder kind payload (Err (unread.Reason why)) = HasReason why remainder kind payload
-Reads remainder kind payload (Err unread.Memory) = Unit {0}
-
--- the same as an answer after so many exchanges, which keeps the kind and the payload
-abbrev pub Takes : Parts → ℕ → ℕ → List ℕ → Result node.Node RunStop → Type 0
-Takes remainder done kind payload (Ok n) = IsForest remainder kind payload (mirror_node n)
-Takes remainder done kind payload (Err (stops.LinkFault k)) = ⊥
-Takes remainder done kind payload (Err (stops.BadReply k why kept bytes)) = (k ≡ done) × (kept ≡ kind) × (bytes ≡ payload) × Reads remainder kind payload (Err (unread.Reason why))
-Takes remainder done kind payload (Err stops.WriteFault) = ⊥
-Takes remainder done kind payload (Err stops.Memory) = Unit {0}
-
 -- with these pairs more, where the link tells
 abbrev pub more_pairs : List Pair → Option (List Pair) → Option (List Pair)
 more_pairs more pairs = option_map (λ ps. ps ++ more) pairs
@@ -75,29 +57,3 @@ refused_pairs _ pair = pair ∷ []
 
 abbrev pub pairs_of : {L : Type 0} → links.Ghosts L → L → Option (List Pair)
 pairs_of g link = pairs_told (g.told link)
-
--- A node was replied, in a pair more.
-pub record GotNode {L : Type 0} (g : links.Ghosts L) (remainder : Parts) (request : List ℕ) (before after : L) (n : Node) : Type 0 where
-  pub reply : List ℕ
-  pub forest : IsForest remainder forest_kind reply n
-  pub pairs_so : pairs_of g after ≡ more_pairs (pair_of request forest_kind reply ∷ []) (pairs_of g before)
-  pub faults_so : g.faults after ≡ g.faults before
-
--- The exchange failed, which the link counted.
-pub record GotFault {L : Type 0} (g : links.Ghosts L) (before after : L) : Type 0 where
-  pub pairs_so : pairs_of g after ≡ pairs_of g before
-  pub faults_so : g.faults after ≡ risen (g.faults before)
-
--- A reply was refused for this reason.
-pub record GotBad {L : Type 0} (g : links.Ghosts L) (remainder : Parts) (request : List ℕ) (before after : L) (why : BadReason) (kind : ℕ) (bytes : List ℕ) : Type 0 where
-  pub reason_so : HasReason why remainder kind bytes
-  pub pairs_so : pairs_of g after ≡ more_pairs (refused_pairs why (pair_of request kind bytes)) (pairs_of g before)
-  pub faults_so : g.faults after ≡ g.faults before
-
--- What an exchange gives, of which so many were before it. Nothing is said after want of memory.
-abbrev pub Trades : {L : Type 0} → links.Ghosts L → Parts → ℕ → List ℕ → L → Result node.Node RunStop → L → Type 0
-Trades g remainder done request before (Ok n) after = GotNode g remainder request before after (mirror_node n)
-Trades g remainder done request before (Err (stops.LinkFault k)) after = (k ≡ done) × GotFault g before after
-Trades g remainder done request before (Err (stops.BadReply k why kind bytes)) after = (k ≡ done) × GotBad g remainder request before after why kind bytes
-Trades g remainder done request before (Err stops.WriteFault) after = ⊥
-Trades g remainder done request before (Err stops.Memory) after = Unit {0}

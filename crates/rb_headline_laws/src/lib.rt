@@ -6,7 +6,6 @@
 
 ghost use Rattle.rb_headline_laws.specs.Clients.{ClientsMeanWhatProgramsMean};
 ghost use Rattle.rb_headline_laws.specs.Dividing.{DividingKeepsMeaning};
-ghost use Rattle.rb_headline_laws.specs.Reached.{FrontsAreShown, ProgramsComeAsFar, ReachedBatchesCanBeExchanged};
 
 use rb_division_laws::{sent_code_faults_remotely, sent_expressions_are_remote};
 use rb_flow::admitted_programs_send_only_portable_parts;
@@ -67,20 +66,3 @@ pub fn clients_mean_what_programs_mean()
     sent_code_faults_remotely();
     scripts_perform_remote_parts();
 }
-
-/// In a lawful, typed program without refusals, on a typed service, however far a client comes on nodes that its own scripts
-/// give there, the program comes as far: the same is left of it, it has shown the same, and the server has the same table.
-pub fn programs_come_as_far_as_clients()
-    ensures { ProgramsComeAsFar }
-{}
-
-/// What a program has shown anywhere on its way is a front of what it means to show.
-pub fn fronts_are_shown()
-    ensures { FrontsAreShown }
-{}
-
-/// Each batch that an accepted program reaches on a typed service can be exchanged: its request is within the limit, and the
-/// node that its script gives fits its remainder.
-pub fn reached_batches_can_be_exchanged()
-    ensures { ReachedBatchesCanBeExchanged }
-{}
