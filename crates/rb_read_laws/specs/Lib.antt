@@ -1,0 +1,2 @@
+-- The law of the places of a program that is read.
+pub mod Places
