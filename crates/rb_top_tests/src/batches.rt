@@ -1,4 +1,4 @@
-// What `unsplit p s` prints: each remote operation is performed where it stands.
+// What `both p s` and `unsplit p s` print of programs with batches.
 use crate::answers::{INTERFACES, answer, files_of};
 use crate::directories::{CLASSES, left, others, ran, ran_behind};
 use std::alloc::Global;
@@ -50,7 +50,7 @@ fn operations_are_performed_where_they_stand(rt: HostRuntime) -> Result<(), Fail
             200,
         ),
     ];
-    assert_eq!(rt; others(rt.alloc(), "unsplit p s", &rows)?.as_str(), "");
+    assert_eq!(rt; others(rt.alloc(), "", &rows)?.as_str(), "");
     Ok(())
 }
 
@@ -76,7 +76,7 @@ fn a_batch_sees_the_table_of_the_one_before(rt: HostRuntime) -> Result<(), Fail>
             212,
         ),
     ];
-    assert_eq!(rt; others(rt.alloc(), "unsplit p s", &rows)?.as_str(), "");
+    assert_eq!(rt; others(rt.alloc(), "", &rows)?.as_str(), "");
     Ok(())
 }
 
@@ -96,7 +96,7 @@ fn a_batch_in_a_method_is_performed_at_each_call(rt: HostRuntime) -> Result<(), 
             201,
         ),
     ];
-    assert_eq!(rt; others(rt.alloc(), "unsplit p s", &rows)?.as_str(), "");
+    assert_eq!(rt; others(rt.alloc(), "", &rows)?.as_str(), "");
     Ok(())
 }
 
@@ -116,9 +116,13 @@ fn a_batch_is_repeated_until_a_value_changes(rt: HostRuntime) -> Result<(), Fail
             320,
         ),
     ];
-    assert_eq!(rt; others(rt.alloc(), "unsplit p s", &rows)?.as_str(), "");
+    assert_eq!(rt; others(rt.alloc(), "", &rows)?.as_str(), "");
     Ok(())
 }
+
+/// Interfaces that differ from the directory's classes.
+const DIFFERING: &str =
+    "interface File { fun size(): Text; fun lost(); }\ninterface Dir { fun file(i: Int): File; }\n";
 
 #[test]
 fn a_service_that_differs_from_its_interface_faults(rt: HostRuntime) -> Result<(), Fail> {
@@ -136,28 +140,28 @@ fn a_service_that_differs_from_its_interface_faults(rt: HostRuntime) -> Result<(
             "1 fault 2 Index at 3:26\nexchanges 1\n",
         ),
     ] {
-        let interfaces =
-            "interface File { fun size(): Text; fun lost(); }\ninterface Dir { fun file(i: Int): File; }\n";
-        assert_eq!(rt;
-            ran_behind(rt.alloc(), "unsplit p s", interfaces, main)?.as_str(),
-            left(rt.alloc(), lines, 10, 200)?.as_str(),
-            "{main}"
-        );
+        let wanted = left(rt.alloc(), lines, 10, 200)?;
+        for words in ["both p s", "unsplit p s"] {
+            assert_eq!(rt;
+                ran_behind(rt.alloc(), words, DIFFERING, main)?.as_str(),
+                wanted.as_str(),
+                "{words}: {main}"
+            );
+        }
     }
     Ok(())
 }
 
 #[test]
 fn refused_programs_are_not_run(rt: HostRuntime) -> Result<(), Fail> {
-    assert_eq!(rt;
-        ran(
-            rt.alloc(),
-            "unsplit p s",
-            "main { var n = 1; batch (Dir r) { n = 2; if (n > 0) { r.file(0).grow(1); } } }"
-        )?
-        .as_str(),
-        "5 refused 3 UnderLocalCondition 3:48 3:57\n"
-    );
+    let main = "main { var n = 1; batch (Dir r) { n = 2; if (n > 0) { r.file(0).grow(1); } } }";
+    for words in ["both p s", "unsplit p s"] {
+        assert_eq!(rt;
+            ran(rt.alloc(), words, main)?.as_str(),
+            "5 refused 3 UnderLocalCondition 3:48 3:57\n",
+            "{words}"
+        );
+    }
     Ok(())
 }
 
@@ -181,15 +185,21 @@ fn large_directory(alloc: Global) -> Result<String, Fail> {
     Ok(text)
 }
 
-#[test]
-fn a_large_directory_is_walked(rt: HostRuntime) -> Result<(), Fail> {
-    let alloc = rt.alloc();
-    let main =
-        "main { var sum = 0; var shown = 0; batch (Dir r) { for (f in r.files()) { val s = f.size(); sum = sum + s; if (s > 900) { val n = f.name(); f.rename(\"big-\" + n); if (shown < 4) { print(n); shown = shown + 1; } } } } print(sum); }";
-    let program = format!(in alloc; "{INTERFACES}{main}")?;
+/// Shows the first large files of a directory, renames each, and shows the sum of all sizes.
+const RENAMES: &str =
+    "main { var sum = 0; var shown = 0; batch (Dir r) { for (f in r.files()) { val s = f.size(); sum = sum + s; if (s > 900) { val n = f.name(); f.rename(\"big-\" + n); if (shown < 4) { print(n); shown = shown + 1; } } } } print(sum); }";
+
+/// What words answer on that program and the large directory.
+fn renamed(alloc: Global, words: &str) -> Result<String, Fail> {
+    let program = format!(in alloc; "{INTERFACES}{RENAMES}")?;
     let service = large_directory(alloc)?;
     let files = files_of(alloc, Some(program.as_str()), Some(service.as_str()))?;
-    let shown = answer(alloc, "unsplit p s", files)?;
+    answer(alloc, words, files)
+}
+
+#[test]
+fn a_large_directory_is_walked(rt: HostRuntime) -> Result<(), Fail> {
+    let shown = renamed(rt.alloc(), "both p s")?;
     let lines = "0 f8\nf21\nf34\nf42\n499500\ndone\nexchanges 1\nobject 0: Dir { list = [#1, #2, ";
     assert!(rt; shown.as_str().starts_with(lines));
     assert!(rt;
@@ -198,5 +208,6 @@ fn a_large_directory_is_walked(rt: HostRuntime) -> Result<(), Fail> {
             .contains("\nobject 8: File { name = \"big-f8\"; size = 936; }\n")
     );
     assert_eq!(rt; shown.as_str().split("big-").count(), 100);
+    assert_eq!(rt; renamed(rt.alloc(), "unsplit p s")?.as_str(), shown.as_str());
     Ok(())
 }

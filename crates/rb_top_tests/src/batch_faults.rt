@@ -1,4 +1,5 @@
-// Faults of batches in what `unsplit p s` prints: remote ones, local ones, and what code around the batch catches.
+// Faults of batches in what `both p s` and `unsplit p s` print: remote ones, local ones, and what code around the batch
+// catches.
 use crate::directories::others;
 use std::test::Fail;
 
@@ -30,7 +31,7 @@ fn a_turn_over_rows_takes_a_unit_of_the_batch(rt: HostRuntime) -> Result<(), Fai
             200,
         ),
     ];
-    assert_eq!(rt; others(rt.alloc(), "unsplit p s", &rows)?.as_str(), "");
+    assert_eq!(rt; others(rt.alloc(), "", &rows)?.as_str(), "");
     Ok(())
 }
 
@@ -62,7 +63,7 @@ fn what_a_turn_does_takes_its_units_behind_that_of_the_turn(rt: HostRuntime) -> 
             200,
         ),
     ];
-    assert_eq!(rt; others(rt.alloc(), "unsplit p s", &rows)?.as_str(), "");
+    assert_eq!(rt; others(rt.alloc(), "", &rows)?.as_str(), "");
     Ok(())
 }
 
@@ -100,7 +101,7 @@ fn after_a_remote_fault_nothing_more_is_performed(rt: HostRuntime) -> Result<(),
             200,
         ),
     ];
-    assert_eq!(rt; others(rt.alloc(), "unsplit p s", &rows)?.as_str(), "");
+    assert_eq!(rt; others(rt.alloc(), "", &rows)?.as_str(), "");
     Ok(())
 }
 
@@ -132,7 +133,7 @@ fn operators_in_remote_expressions_fault_remotely(rt: HostRuntime) -> Result<(),
             200,
         ),
     ];
-    assert_eq!(rt; others(rt.alloc(), "unsplit p s", &rows)?.as_str(), "");
+    assert_eq!(rt; others(rt.alloc(), "", &rows)?.as_str(), "");
     Ok(())
 }
 
@@ -152,7 +153,7 @@ fn what_local_statements_take_faults_remotely(rt: HostRuntime) -> Result<(), Fai
             200,
         ),
     ];
-    assert_eq!(rt; others(rt.alloc(), "unsplit p s", &rows)?.as_str(), "");
+    assert_eq!(rt; others(rt.alloc(), "", &rows)?.as_str(), "");
     Ok(())
 }
 
@@ -184,7 +185,7 @@ fn a_condition_that_is_sent_faults_remotely(rt: HostRuntime) -> Result<(), Fail>
             200,
         ),
     ];
-    assert_eq!(rt; others(rt.alloc(), "unsplit p s", &rows)?.as_str(), "");
+    assert_eq!(rt; others(rt.alloc(), "", &rows)?.as_str(), "");
     Ok(())
 }
 
@@ -222,7 +223,7 @@ fn after_a_local_fault_the_whole_remote_part_stands(rt: HostRuntime) -> Result<(
             201,
         ),
     ];
-    assert_eq!(rt; others(rt.alloc(), "unsplit p s", &rows)?.as_str(), "");
+    assert_eq!(rt; others(rt.alloc(), "", &rows)?.as_str(), "");
     Ok(())
 }
 
@@ -260,7 +261,7 @@ fn the_whole_remote_part_stands_wherever_local_code_faults(rt: HostRuntime) -> R
             200,
         ),
     ];
-    assert_eq!(rt; others(rt.alloc(), "unsplit p s", &rows)?.as_str(), "");
+    assert_eq!(rt; others(rt.alloc(), "", &rows)?.as_str(), "");
     Ok(())
 }
 
@@ -280,7 +281,7 @@ fn the_whole_remote_part_stands_in_loops_and_branches(rt: HostRuntime) -> Result
             200,
         ),
     ];
-    assert_eq!(rt; others(rt.alloc(), "unsplit p s", &rows)?.as_str(), "");
+    assert_eq!(rt; others(rt.alloc(), "", &rows)?.as_str(), "");
     Ok(())
 }
 
@@ -306,7 +307,7 @@ fn so_it_does_where_a_turn_faults(rt: HostRuntime) -> Result<(), Fail> {
             202,
         ),
     ];
-    assert_eq!(rt; others(rt.alloc(), "unsplit p s", &rows)?.as_str(), "");
+    assert_eq!(rt; others(rt.alloc(), "", &rows)?.as_str(), "");
     Ok(())
 }
 
@@ -356,7 +357,7 @@ fn faults_of_a_batch_are_caught_around_it(rt: HostRuntime) -> Result<(), Fail> {
             201,
         ),
     ];
-    assert_eq!(rt; others(rt.alloc(), "unsplit p s", &rows)?.as_str(), "");
+    assert_eq!(rt; others(rt.alloc(), "", &rows)?.as_str(), "");
     Ok(())
 }
 
@@ -400,7 +401,7 @@ fn what_follows_a_caught_fault_sees_the_table_that_is_left(rt: HostRuntime) -> R
             201,
         ),
     ];
-    assert_eq!(rt; others(rt.alloc(), "unsplit p s", &rows)?.as_str(), "");
+    assert_eq!(rt; others(rt.alloc(), "", &rows)?.as_str(), "");
     Ok(())
 }
 
@@ -432,7 +433,7 @@ fn want_of_fuel_in_a_batch_is_caught(rt: HostRuntime) -> Result<(), Fail> {
             200,
         ),
     ];
-    assert_eq!(rt; others(rt.alloc(), "unsplit p s", &rows)?.as_str(), "");
+    assert_eq!(rt; others(rt.alloc(), "", &rows)?.as_str(), "");
     Ok(())
 }
 
@@ -460,6 +461,6 @@ fn want_of_its_own_fuel_is_not_caught_and_leaves_the_whole_remote_part(
             201,
         ),
     ];
-    assert_eq!(rt; others(rt.alloc(), "unsplit p s 3", &rows)?.as_str(), "");
+    assert_eq!(rt; others(rt.alloc(), " 3", &rows)?.as_str(), "");
     Ok(())
 }
