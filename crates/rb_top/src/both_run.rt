@@ -33,7 +33,7 @@ fn link_to(alloc: Global, service: Service, table: Heap) -> Result<MemoryLink, M
 /// Runs a program with so much fuel over a link in memory, prints its lines, and answers how it ended.
 ///
 /// No exchange over such a link fails, and no reply of its server is refused.
-fn run_client_there<W: Sink>(
+fn run_client_over<W: Sink>(
     alloc: Global,
     program: &Accepted<'_>,
     fuel: u64,
@@ -71,7 +71,7 @@ fn run_over<W: Sink>(
     ensures prints { Across W.Sink out.old out.new (PrintsRunOf program.now fuel (served_by link.old) result) }
     ensures exchanges { OnOk result (ExchangesEachBatch (accepted_program program.now) fuel link.old link.new) }
 {
-    let run = run_client_there(alloc, program, fuel, link, out)?;
+    let run = run_client_over(alloc, program, fuel, link, out)?;
     print_run_end(alloc, program.text, run, link.host().table(), out)
 }
 

@@ -6,11 +6,11 @@ ghost use Rattle.rb_meaning.specs.Links.{IsTyped};
 ghost use Rattle.rb_meaning.specs.Shown.{line};
 ghost use Rattle.rb_meaning_split.specs.Division.{mirror_split};
 ghost use Rattle.rb_shown.specs.Views.{shown_divisions};
-ghost use Rattle.rb_top.specs.Accepted.{HasPlacesOfText, IsAccepted};
+ghost use Rattle.rb_top.specs.Accepted.{HasPlacesOfText, IsAdmitted, IsAccepted};
 ghost use Rattle.rb_top.specs.Answers.{Ends, Says, ChecksTold, SplitsTold, RunsTold};
 ghost use Rattle.rb_top.specs.Commands.{EndsBatchRefused, EndsRefused, EndsRefusedService, EndsRunOf, EndsUntyped, EndsUnread, LoadsProgram, GoesOnTyped, DividesWith, GoesOnWith, RunsOnWith, run_answer, status_after, stopped_status};
 ghost use Rattle.rb_top.specs.Scene.{output, Across, Between};
-ghost use Rattle.rb_top.specs.Sources.{text_of, program_of, admitted_program, HasOwnMarks};
+ghost use Rattle.rb_top.specs.Sources.{text_of, program_of};
 ghost use Rattle.rb_top.specs.Texts.{WithinLength};
 ghost use Rattle.rb_top.specs.Words.{texts, asked, asked_by};
 ghost use Rattle.rb_top.specs.declared.status.Status.TheVariants.{Done};
@@ -287,8 +287,7 @@ fn go_on_admitted<F: Files, W: Sink>(
     files: &mut F,
     out: &mut W,
 ) -> Status
-    requires marks { HasOwnMarks admitted.now }
-    requires places { HasPlacesOfText (admitted_program admitted.now) }
+    requires admitted { IsAdmitted admitted.now }
     requires short { WithinLength text.now }
     ensures { Between F.Files W.Sink files.old out.old files.new out.new (DividesWith text.now admitted.now (asked_by command.now) result) }
 {
