@@ -1,0 +1,4 @@
+-- The lemmas on places.
+mod Behind
+mod Starts
+mod Whole
