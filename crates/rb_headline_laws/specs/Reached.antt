@@ -46,9 +46,9 @@ abbrev pub ProgramComesTo : Program → Service → List Object → ℕ → Dial
 ProgramComesTo p service table fuel rest s = Passes (in_main p service) (main_run p fuel) (outside_of table) rest s
 
 -- A program comes as far as its client did: it has shown the same by then, and the server has this table.
-pub record ComesAsFar (p : Program) (service : Service) (table : List Object) (fuel : ℕ) (rest : Dialogue (Outcome (Option Value))) (w : Waiting) (now : List Object) : Type 0 where
+pub record ComesAsFar (p : Program) (service : Service) (before : List Object) (fuel : ℕ) (rest : Dialogue (Outcome (Option Value))) (w : Waiting) (now : List Object) : Type 0 where
   pub outside : Outside
-  pub comes : ProgramComesTo p service table fuel rest outside
+  pub comes : ProgramComesTo p service before fuel rest outside
   pub events : outside.events ≡ w.events
   pub table : outside.server.table ≡ now
 
