@@ -1,27 +1,14 @@
--- Values in contracts, and names that compare alike.
+-- Names that compare alike.
 use Rattle.std.proofs.lemmas.Bool.{and_parts}
-use Rattle.std.proofs.Common.{◌≡◌, ℕ, ℤ, List, [], ◌∷◌, true, ap, sym, ◌∙◌, refl, arith}
+use Rattle.std.proofs.Common.{◌≡◌, ℕ, List, [], ◌∷◌, true, ap, sym, ◌∙◌, refl, arith}
 use Rattle.std.specs.Prelude.{nat_eq}
 use Rattle.std.proofs.lemmas.Bool.Decides.{nat_tests}
 use Rattle.std.specs.Str.{bytes_eq}
 use Rattle.std.proofs.lemmas.Grind.{common_steps}
-use Rattle.rb_trees.specs.declared.values.Value.{out-Value}
-use Rattle.rb_trees.specs.declared.values.Value.TheOpen.{Value-F}
-use Rattle.rb_trees.specs.declared.values.Value.TheVariants as value
-use Rattle.rb_trees.specs.declared.values.Value.TheViews as views
-
-pub int_out : (n : ℤ) → out-Value (value.Int n) ≡ Value-F.Int n
-int_out n = ap out-Value (sym (value.rolls-Int n)) ∙ views.out-roll-Value (Value-F.Int n)
-
-pub remote_out : (n : ℕ) → out-Value (value.Remote n) ≡ Value-F.Remote n
-remote_out n = ap out-Value (sym (value.rolls-Remote n)) ∙ views.out-roll-Value (Value-F.Remote n)
 
 pub same_bytes : (xs : List ℕ) → bytes_eq xs xs ≡ true
 same_bytes [] = refl
 same_bytes (x ∷ xs) = grind (arith, common_steps, same_bytes xs)
-
-pub same_number : (a : ℕ) → nat_eq a a ≡ true
-same_number a = grind (arith, nat_tests)
 
 -- names that compare alike are one
 pub one_name : (a b : List ℕ) → bytes_eq a b ≡ true → a ≡ b

@@ -23,13 +23,12 @@ use Rattle.rb_parse.specs.Outcomes.{AtMostOne}
 use Rattle.rb_top.specs.Loads.{FindsTooLong}
 use Rattle.rb_top.specs.Runs.{Served, run_status, run_text}
 use Rattle.rb_top.specs.Scene.{Scene}
-use Rattle.rb_top.specs.Texts.{WithinLength, TooLong, IsUntyped, IsRefused, IsUndivided, IsProgram, IsBuilt, IsService}
+use Rattle.rb_top.specs.Texts.{WithinLength, TooLong, IsUntyped, IsRefused, IsUndivided, IsProgram, IsService}
 use Rattle.rb_top.specs.Words.{Asked, Check, Split, Run, program_name}
 use Rattle.rb_top.specs.declared.status.Status.{Status}
 use Rattle.rb_top.specs.declared.status.Status.TheVariants.{Done, Memory}
 use Rattle.rb_top.specs.declared.words.Way.{Way}
-use Rattle.rb_top.specs.declared.words.Way.TheVariants.{Both}
-use Rattle.rb_top.specs.Answers.{Answers, words, program_fault, program_too_long, program_refused, program_untyped, program_not_admitted, program_not_divided, program_accepted, program_viewed, program_form, service_fault, service_too_long, service_refused, run, Ends, Says, answered, starved_first, starved_running, read_times, IsTold, ToldAccepted, ToldRun, ChecksTold, SplitsTold, RunsTold}
+use Rattle.rb_top.specs.Answers.{Answers, words, program_fault, program_too_long, program_refused, program_untyped, program_not_admitted, program_not_divided, program_accepted, program_viewed, service_fault, service_too_long, service_refused, run, Ends, Says, answered, starved_first, starved_running, read_times, IsTold, ToldAccepted, ToldRun, ChecksTold, SplitsTold, RunsTold}
 use Rattle.rb_top.proofs.Ended.{starved_at_once}
 
 abbrev found_or_none : Option (List ℕ) → List ℕ
@@ -68,11 +67,6 @@ abbrev fuel_asked : Asked → ℕ
 fuel_asked (Check p) = 0
 fuel_asked (Split p) = 0
 fuel_asked (Run way p s fuel) = fuel
-
-abbrev way_asked : Asked → Way
-way_asked (Check p) = Both
-way_asked (Split p) = Both
-way_asked (Run way p s fuel) = way
 
 -- what is asked is one thing
 same_asked : (a b : Asked) → Some a ≡ Some b → a ≡ b
@@ -157,11 +151,10 @@ checked_once one files left asked p text program status shown w t (program_not_d
     absurd (never_undivided one files.told p text found program other refusal t.finds t.is (subst (λ m. Finds files.told m found) (named a (Check p) w) f) x)
 checked_once one files left asked p text program status shown w t (program_accepted p' found other h) = (refl, refl)
 checked_once one files left asked p text program status shown w t (program_viewed p' found other ds h d) = no_view p p' w
-checked_once one files left asked p text program status shown w t (program_form p' s' found fuel' other h n) = no_check Both p p' s' fuel' w
-checked_once one files left asked p text program status shown w t (service_fault way p' s' found fuel' other h b g) = no_check way p p' s' fuel' w
-checked_once one files left asked p text program status shown w t (service_too_long way p' s' found fuel' other h b l) = no_check way p p' s' fuel' w
-checked_once one files left asked p text program status shown w t (service_refused way p' s' found next fuel' other error h b g n) = no_check way p p' s' fuel' w
-checked_once one files left asked p text program status shown w t (run way p' s' found next fuel' other served h b g j) = no_check way p p' s' fuel' w
+checked_once one files left asked p text program status shown w t (service_fault way p' s' found fuel' other h g) = no_check way p p' s' fuel' w
+checked_once one files left asked p text program status shown w t (service_too_long way p' s' found fuel' other h l) = no_check way p p' s' fuel' w
+checked_once one files left asked p text program status shown w t (service_refused way p' s' found next fuel' other error h g n) = no_check way p p' s' fuel' w
+checked_once one files left asked p text program status shown w t (run way p' s' found next fuel' other served h g j) = no_check way p p' s' fuel' w
 
 -- a program is divided in one way
 one_division : (p q : Program) (ds es : List Division) → p ≡ q → divisions p ≡ Ok ds → divisions q ≡ Ok es → ds ≡ es
@@ -191,11 +184,10 @@ viewed_once one files left asked p text program ds status shown w t v (program_v
     let same = found_once files.told p text found t.finds here in
     let it = one_division other program es ds (one_program one files.told p text found program other t.finds t.is.read here h.is.read) d v in
     (refl, ap (λ x. shown_divisions x es) same ∙ ap (shown_divisions text) it)
-viewed_once one files left asked p text program ds status shown w t v (program_form p' s' found fuel' other h n) = no_run_view Both p p' s' fuel' w
-viewed_once one files left asked p text program ds status shown w t v (service_fault way p' s' found fuel' other h b g) = no_run_view way p p' s' fuel' w
-viewed_once one files left asked p text program ds status shown w t v (service_too_long way p' s' found fuel' other h b l) = no_run_view way p p' s' fuel' w
-viewed_once one files left asked p text program ds status shown w t v (service_refused way p' s' found next fuel' other error h b g n) = no_run_view way p p' s' fuel' w
-viewed_once one files left asked p text program ds status shown w t v (run way p' s' found next fuel' other served h b g j) = no_run_view way p p' s' fuel' w
+viewed_once one files left asked p text program ds status shown w t v (service_fault way p' s' found fuel' other h g) = no_run_view way p p' s' fuel' w
+viewed_once one files left asked p text program ds status shown w t v (service_too_long way p' s' found fuel' other h l) = no_run_view way p p' s' fuel' w
+viewed_once one files left asked p text program ds status shown w t v (service_refused way p' s' found next fuel' other error h g n) = no_run_view way p p' s' fuel' w
+viewed_once one files left asked p text program ds status shown w t v (run way p' s' found next fuel' other served h g j) = no_run_view way p p' s' fuel' w
 
 -- no source is two services, or one and none
 abbrev OneService : Type 0
@@ -220,7 +212,7 @@ service_short : (text : List ℕ) (served : Served) → IsService text served �
 service_short text served i = text_short text (Ok served) i refl
 
 -- `both P S FUEL` or `unsplit P S FUEL`, where the files tell a program and a service for it
-run_once : OneSource → OneService → (files left : Device Directory) (asked : Option Asked) (way : Way) (p s text other : List ℕ) (fuel : ℕ) (program : Program) (served : Served) (status : Status) (shown : List ℕ) → asked ≡ Some (Run way p s fuel) → ToldRun files.told way p s text other program served → Answers files asked status shown left → Is (run_status fuel program served) (run_text text fuel program served) status shown
+run_once : OneSource → OneService → (files left : Device Directory) (asked : Option Asked) (way : Way) (p s text other : List ℕ) (fuel : ℕ) (program : Program) (served : Served) (status : Status) (shown : List ℕ) → asked ≡ Some (Run way p s fuel) → ToldRun files.told p s text other program served → Answers files asked status shown left → Is (run_status fuel program served) (run_text text fuel program served) status shown
 run_once one services files left asked way p s text other fuel program served status shown w t words = absurd (cc w)
 run_once one services files left asked way p s text other fuel program served status shown w t (program_fault a f) =
     absurd (never_fails files.told p text t.finds (subst (FailsNext files.told) (named a (Run way p s fuel) w) f))
@@ -236,21 +228,17 @@ run_once one services files left asked way p s text other fuel program served st
     absurd (never_undivided one files.told p text found program program' refusal t.finds t.is (subst (λ m. Finds files.told m found) (named a (Run way p s fuel) w) f) x)
 run_once one services files left asked way p s text other fuel program served status shown w t (program_accepted p' found program' h) = no_run way p s p' fuel w
 run_once one services files left asked way p s text other fuel program served status shown w t (program_viewed p' found program' ds h d) = no_view_run way p s p' fuel w
-run_once one services files left asked way p s text other fuel program served status shown w t (program_form p' s' found fuel' program' h n) =
-    let e = same_asked (Run Both p' s' fuel') (Run way p s fuel) w in
-    let same_program = one_program one files.told p text found program program' t.finds t.is.read (subst (λ m. Finds files.told m found) (ap program_name e) h.finds) h.is.read in
-    absurd (n (subst (IsBuilt Both) (sym same_program) (subst (λ x. IsBuilt x program) (sym (ap way_asked e)) t.built)))
-run_once one services files left asked way p s text other fuel program served status shown w t (service_fault way' p' s' found fuel' program' h b g) =
+run_once one services files left asked way p s text other fuel program served status shown w t (service_fault way' p' s' found fuel' program' h g) =
     let e = same_asked (Run way' p' s' fuel') (Run way p s fuel) w in
     absurd (never_fails (told_after files.told) s other t.finds_next (subst (FailsNext (told_after files.told)) (ap service_name e) g))
-run_once one services files left asked way p s text other fuel program served status shown w t (service_too_long way' p' s' found fuel' program' h b l) =
+run_once one services files left asked way p s text other fuel program served status shown w t (service_too_long way' p' s' found fuel' program' h l) =
     let e = same_asked (Run way' p' s' fuel') (Run way p s fuel) w in
     absurd (never_too_long (told_after files.told) s other t.finds_next (service_short other served t.is_service) (subst (FindsTooLong (told_after files.told)) (ap service_name e) l))
-run_once one services files left asked way p s text other fuel program served status shown w t (service_refused way' p' s' found next fuel' program' error h b g n) =
+run_once one services files left asked way p s text other fuel program served status shown w t (service_refused way' p' s' found next fuel' program' error h g n) =
     let e = same_asked (Run way' p' s' fuel') (Run way p s fuel) w in
     let same = found_once (told_after files.told) s other next t.finds_next (subst (λ m. Finds (told_after files.told) m next) (ap service_name e) g.0) in
     absurd (never_a_service services other served n.refusal t.is_service (subst (λ x. ReadsAsService x (Err n.refusal)) same n.is))
-run_once one services files left asked way p s text other fuel program served status shown w t (run way' p' s' found next fuel' program' served' h b g j) =
+run_once one services files left asked way p s text other fuel program served status shown w t (run way' p' s' found next fuel' program' served' h g j) =
     let e = same_asked (Run way' p' s' fuel') (Run way p s fuel) w in
     let here = subst (λ m. Finds files.told m found) (ap program_name e) h.finds in
     let same = found_once files.told p text found t.finds here in
@@ -275,7 +263,7 @@ checks_by : OneSource → (asked : Option Asked) (p text : List ℕ) (program : 
 checks_by one asked p text program result before after w t (answered status shown a e) =
     ends_so Done (line (codes "accepted")) result before after status shown (checked_once one before.files after.files asked p text program status shown w t a) e
 checks_by one asked p text program result before after w t (starved_first count r f) = ends_starved Done (line (codes "accepted")) result count before after r f
-checks_by one asked p text program result before after w t (starved_running way p' s' found fuel program' e h b r f) = no_check way p p' s' fuel (sym e ∙ w)
+checks_by one asked p text program result before after w t (starved_running way p' s' found fuel program' e h r f) = no_check way p p' s' fuel (sym e ∙ w)
 
 pub checks_told : OneSource → (asked : Option Asked) (result : Status) (before after : Scene) → Says asked result before after → ChecksTold asked result before after
 checks_told one asked result before after h = λ p text program w t. checks_by one asked p text program result before after w t h
@@ -285,18 +273,18 @@ splits_by : OneSource → (asked : Option Asked) (p text : List ℕ) (program : 
 splits_by one asked p text program ds result before after w t v (answered status shown a e) =
     ends_so Done (shown_divisions text ds) result before after status shown (viewed_once one before.files after.files asked p text program ds status shown w t v a) e
 splits_by one asked p text program ds result before after w t v (starved_first count r f) = ends_starved Done (shown_divisions text ds) result count before after r f
-splits_by one asked p text program ds result before after w t v (starved_running way p' s' found fuel program' e h b r f) = no_run_view way p p' s' fuel (sym e ∙ w)
+splits_by one asked p text program ds result before after w t v (starved_running way p' s' found fuel program' e h r f) = no_run_view way p p' s' fuel (sym e ∙ w)
 
 pub splits_told : OneSource → (asked : Option Asked) (result : Status) (before after : Scene) → Says asked result before after → SplitsTold asked result before after
 splits_told one asked result before after h = λ p text program ds w t v. splits_by one asked p text program ds result before after w t v h
 
-runs_by : OneSource → OneService → (asked : Option Asked) (way : Way) (p s text other : List ℕ) (fuel : ℕ) (program : Program) (served : Served) (result : Status) (before after : Scene) → asked ≡ Some (Run way p s fuel) → ToldRun before.files.told way p s text other program served → Says asked result before after
+runs_by : OneSource → OneService → (asked : Option Asked) (way : Way) (p s text other : List ℕ) (fuel : ℕ) (program : Program) (served : Served) (result : Status) (before after : Scene) → asked ≡ Some (Run way p s fuel) → ToldRun before.files.told p s text other program served → Says asked result before after
     → Ends (run_status fuel program served) (run_text text fuel program served) result before.out after.out ⊎ (result ≡ Memory)
 runs_by one services asked way p s text other fuel program served result before after w t (answered status shown a e) =
     inl (ends_so (run_status fuel program served) (run_text text fuel program served) result before after status shown (run_once one services before.files after.files asked way p s text other fuel program served status shown w t a) e)
 runs_by one services asked way p s text other fuel program served result before after w t (starved_first count r f) =
     inl (ends_starved (run_status fuel program served) (run_text text fuel program served) result count before after r f)
-runs_by one services asked way p s text other fuel program served result before after w t (starved_running way' p' s' found fuel' program' e h b r f) = inr r
+runs_by one services asked way p s text other fuel program served result before after w t (starved_running way' p' s' found fuel' program' e h r f) = inr r
 
 pub runs_told : OneSource → OneService → (asked : Option Asked) (result : Status) (before after : Scene) → Says asked result before after → RunsTold asked result before after
 runs_told one services asked result before after h = λ way p s text other fuel program served w t. runs_by one services asked way p s text other fuel program served result before after w t h

@@ -64,26 +64,3 @@ prints_next (Err stop) old mid new a b e h = stops_next stop old mid new a b e h
 -- two pieces were printed whole
 pub both_whole : (old mid new : Device (List ℕ)) (a b : List ℕ) → mid ≡ with_bytes old a → new ≡ with_bytes mid b → new ≡ with_bytes old (a ++ b)
 both_whole old mid new a b e f = f ∙ ap (λ m. with_bytes m b) e ∙ bytes_twice old a b
-
--- So much of the whole was written that the rest is left.
-pub record Printed (old new : Device (List ℕ)) (whole rest : List ℕ) : Type 0 where
-  pub front : List ℕ
-  pub is : whole ≡ front ++ rest
-  pub written : new ≡ with_bytes old front
-
-pub printed_none : (old : Device (List ℕ)) (whole : List ℕ) → Printed old old whole whole
-printed_none old whole = record { front = []; is = refl; written = sym (bytes_none old) }
-
-pub printed_more : (old new newer : Device (List ℕ)) (whole rest a more : List ℕ) → Printed old new whole rest → rest ≡ a ++ more → newer ≡ with_bytes new a → Printed old newer whole more
-printed_more old new newer whole rest a more p e written = record {
-  front = p.front ++ a;
-  is = p.is ∙ ap (λ l. p.front ++ l) e ∙ sym (append_assoc p.front a more);
-  written = both_whole old new newer p.front a p.written written;
-}
-
-pub printed_all : (old new : Device (List ℕ)) (whole rest : List ℕ) → Printed old new whole rest → rest ≡ [] → new ≡ with_bytes old whole
-printed_all old new whole rest p e = p.written ∙ ap (with_bytes old) (sym (p.is ∙ ap (λ l. p.front ++ l) e ∙ append-nil p.front))
-
-pub printed_stop : (stop : PrintStop) (old new newer : Device (List ℕ)) (whole rest a more : List ℕ) → Printed old new whole rest → rest ≡ a ++ more → WrotePrefix (stopped stop new) newer a → WrotePrefix (stopped stop old) newer whole
-printed_stop stop old new newer whole rest a more p e w =
-    subst (WrotePrefix (stopped stop old) newer) (sym (p.is ∙ ap (λ l. p.front ++ l) e)) (stops_next stop old new newer p.front (a ++ more) p.written (stops_first stop new newer a more w))

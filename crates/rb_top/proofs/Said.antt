@@ -29,8 +29,7 @@ use Rattle.rb_top.specs.declared.status.Status.TheVariants.{Done, Words, FileFau
 use Rattle.rb_top.specs.declared.source.Source.{Source}
 use Rattle.rb_top.specs.declared.words.Job.{Job}
 use Rattle.rb_top.specs.declared.words.Way.{Way}
-use Rattle.rb_top.specs.declared.words.Way.TheVariants.{Both, Unsplit}
-use Rattle.rb_top.specs.Answers.{Answers, words, program_fault, program_too_long, program_refused, program_untyped, program_not_admitted, program_not_divided, program_accepted, program_viewed, program_form, service_fault, service_too_long, service_refused, run, Ends, Says, answered, starved_first, starved_running, read_times, fault_line, too_long_line}
+use Rattle.rb_top.specs.Answers.{Answers, words, program_fault, program_too_long, program_refused, program_untyped, program_not_admitted, program_not_divided, program_accepted, program_viewed, service_fault, service_too_long, service_refused, run, Ends, Says, answered, starved_first, starved_running, read_times, fault_line, too_long_line}
 use Rattle.rb_top.specs.BatchRefusals.{shown_batch_refusal}
 use Rattle.rb_top.specs.Commands.{Starves, EndsUnread, EndsWith, EndsRefused, EndsRefusedService, EndsUntyped, EndsBatchRefused, EndsRun, LoadsProgram, GoesOn, GoesOnAdmitted, GoesOnTyped}
 use Rattle.rb_top.specs.Loads.{Unread, HoldsText, HoldsProgram}
@@ -39,7 +38,7 @@ use Rattle.rb_top.specs.Runs.{Served, run_status, run_text}
 use Rattle.rb_top.specs.Scene.{Scene}
 use Rattle.rb_top.specs.Sources.{text_of, program_of}
 use Rattle.rb_top.specs.ServiceRefusals.{shown_service_refusal}
-use Rattle.rb_top.specs.Texts.{IsBuilt, IsService}
+use Rattle.rb_top.specs.Texts.{IsService}
 use Rattle.rb_top.specs.Words.{Asked, Check, Split, Run, program_name, asked_job}
 
 -- an answer, said over a scene whose files were left so
@@ -134,12 +133,6 @@ pub goes_split : (text p : List ℕ) (program : Program) (ds : List Division) (r
 goes_split text p program ds result before after d e f = λ first b h.
     says (Some (Split p)) Done result (shown_divisions text ds) (read_once first) (at_first before first) after (program_viewed p text program ds h d) (f ∙ b) e
 
--- the rest of a run, where none of the program is built in its way
-pub goes_form : (way : Way) (text p s : List ℕ) (fuel : ℕ) (program : Program) (result : Status) (before after : Scene) → ¬ IsBuilt way program → Ends (SourceRefused sources.NotBuilt) (line (codes "not built")) result before.out after.out → after.files ≡ before.files → GoesOn text program (Run way p s fuel) result before after
-goes_form Unsplit text p s fuel program result before after n e f = absurd (n (inl tt))
-goes_form Both text p s fuel program result before after n e f = λ first b h.
-    says (Some (Run Both p s fuel)) (SourceRefused sources.NotBuilt) result (line (codes "not built")) (read_once first) (at_first before first) after (program_form p s text fuel program h n) (f ∙ b) e
-
 -- what is said over the scene in the middle with the files before is said over the one before
 pub says_from : (asked : Option Asked) (result : Status) (before middle after : Scene) → middle ≡ record before { files = read_once before.files } → Says asked result (record middle { files = before.files }) after → Says asked result before after
 says_from asked result before middle after m h = subst (λ s. Says asked result (record s { files = before.files }) after) m h
@@ -147,17 +140,17 @@ says_from asked result before middle after m h = subst (λ s. Says asked result 
 again : (first before after : Device Directory) → before ≡ read_once first → after ≡ read_once before → after ≡ read_once (read_once first)
 again first before after b a = a ∙ ap read_once b
 
-pub service_unread : (text : List ℕ) (program : Program) (way : Way) (p s : List ℕ) (fuel : ℕ) (stop : TextStop) (result : Status) (before after : Scene) → IsBuilt way program → Unread stop s before.files after.files → EndsUnread stop s result before.out after.out → GoesOn text program (Run way p s fuel) result before after
-service_unread text program way p s fuel stop result before after i u e = λ first b h.
+pub service_unread : (text : List ℕ) (program : Program) (way : Way) (p s : List ℕ) (fuel : ℕ) (stop : TextStop) (result : Status) (before after : Scene) → Unread stop s before.files after.files → EndsUnread stop s result before.out after.out → GoesOn text program (Run way p s fuel) result before after
+service_unread text program way p s fuel stop result before after u e = λ first b h.
     unread first h (again first before.files after.files b) stop (subst (λ d. Unread stop s d after.files) b u) e
   where
     unread : (first : Device Directory) → HoldsProgram first.told p text program → (after.files ≡ read_once before.files → after.files ≡ read_once (read_once first)) → (t : TextStop) → Unread t s (read_once first) after.files → EndsUnread t s result before.out after.out → Says (Some (Run way p s fuel)) result (at_first before first) after
-    unread first h twice stops.FileFault u e = says (Some (Run way p s fuel)) (FileFault s) result (fault_line s) (failed (read_once (read_once first))) (at_first before first) after (service_fault way p s text fuel program h i u.0) u.1 e
-    unread first h twice stops.TooLong u e = says (Some (Run way p s fuel)) (FileTooLong s) result (too_long_line s) (read_once (read_once first)) (at_first before first) after (service_too_long way p s text fuel program h i u.0) u.1 e
+    unread first h twice stops.FileFault u e = says (Some (Run way p s fuel)) (FileFault s) result (fault_line s) (failed (read_once (read_once first))) (at_first before first) after (service_fault way p s text fuel program h u.0) u.1 e
+    unread first h twice stops.TooLong u e = says (Some (Run way p s fuel)) (FileTooLong s) result (too_long_line s) (read_once (read_once first)) (at_first before first) after (service_too_long way p s text fuel program h u.0) u.1 e
     unread first h twice stops.Memory u e = starves (Some (Run way p s fuel)) result (at_first before first) after 2 e u
 
-pub no_service : (text : List ℕ) (program : Program) (way : Way) (p s other : List ℕ) (fuel : ℕ) (error : StoreError) (result : Status) (before after : Scene) → IsBuilt way program → HoldsText before.files.told s other → after.files ≡ read_once before.files → Refused (ReadsAsService other) (store_refusal error) → EndsRefusedService other error result before.out after.out → GoesOn text program (Run way p s fuel) result before after
-no_service text program way p s other fuel error result before after i t a n e = λ first b h.
+pub no_service : (text : List ℕ) (program : Program) (way : Way) (p s other : List ℕ) (fuel : ℕ) (error : StoreError) (result : Status) (before after : Scene) → HoldsText before.files.told s other → after.files ≡ read_once before.files → Refused (ReadsAsService other) (store_refusal error) → EndsRefusedService other error result before.out after.out → GoesOn text program (Run way p s fuel) result before after
+no_service text program way p s other fuel error result before after t a n e = λ first b h.
     by_refusal first b h (store_refusal error) refl n e
   where
     by_refusal : (first : Device Directory) → before.files ≡ read_once first → HoldsProgram first.told p text program → (o : Option StoreRefusal) → store_refusal error ≡ o → Refused (ReadsAsService other) o
@@ -165,15 +158,15 @@ no_service text program way p s other fuel error result before after i t a n e =
     by_refusal first b h None told n e = starves (Some (Run way p s fuel)) result (at_first before first) after 2 e (again first before.files after.files b a)
     by_refusal first b h (Some refusal) told n e =
         says (Some (Run way p s fuel)) (ServiceRefused error) result (line (shown_service_refusal other error)) (read_once (read_once first)) (at_first before first) after
-        (service_refused way p s text other fuel program error h i (subst (λ d. HoldsText d.told s other) b t) (record { refusal = refusal; told = told; is = n })) (again first before.files after.files b a) e
+        (service_refused way p s text other fuel program error h (subst (λ d. HoldsText d.told s other) b t) (record { refusal = refusal; told = told; is = n })) (again first before.files after.files b a) e
 
-pub run_ended : (text : List ℕ) (program : Program) (job : Job) (other : List ℕ) (served : Served) (result : Status) (before after : Scene) → IsBuilt job.way program → HoldsText before.files.told job.service.now other → after.files ≡ read_once before.files → IsService other served
-    → EndsRun text program job served result before.out after.out → GoesOn text program (asked_job job) result before after
-run_ended text program job other served result before after i t a is (inl e) = λ first b h.
+pub run_ended : (text : List ℕ) (program : Program) (job : Job) (other : List ℕ) (served : Served) (result : Status) (before after : Scene) → HoldsText before.files.told job.service.now other → after.files ≡ read_once before.files → IsService other served
+    → EndsRun text program job.fuel served result before.out after.out → GoesOn text program (asked_job job) result before after
+run_ended text program job other served result before after t a is (inl e) = λ first b h.
     says (Some (asked_job job)) (run_status job.fuel program served) result (run_text text job.fuel program served) (read_once (read_once first)) (at_first before first) after
-    (run job.way job.program.now job.service.now text other job.fuel program served h i (subst (λ d. HoldsText d.told job.service.now other) b t).0 is) (again first before.files after.files b a) e
-run_ended text program job other served result before after i t a is (inr e) = λ first b h.
-    starved_running job.way job.program.now job.service.now text job.fuel program refl h e.0 e.1 (again first before.files after.files b a)
+    (run job.way job.program.now job.service.now text other job.fuel program served h (subst (λ d. HoldsText d.told job.service.now other) b t).0 is) (again first before.files after.files b a) e
+run_ended text program job other served result before after t a is (inr e) = λ first b h.
+    starved_running job.way job.program.now job.service.now text job.fuel program refl h e (again first before.files after.files b a)
 
 pub not_understood : (asked : Option Asked) (result : Status) (before after : Scene) → None ≡ asked → Ends Words (line (codes "words not understood")) result before.out after.out → after.files ≡ before.files → Says asked result before after
 not_understood asked result before after n e f = subst (λ a. Says a result before after) n (says None Words result (line (codes "words not understood")) before.files before after words f e)

@@ -19,13 +19,12 @@ use Rattle.rb_top.specs.Refusals.{shown_refusal, shown_violation}
 use Rattle.rb_top.specs.Runs.{Served, run_status, run_text}
 use Rattle.rb_top.specs.Scene.{Scene}
 use Rattle.rb_top.specs.ServiceRefusals.{shown_service_refusal}
-use Rattle.rb_top.specs.Texts.{IsUntyped, IsRefused, IsUndivided, IsProgram, RunsUnsplit, IsBuilt, IsService, IsNoService}
+use Rattle.rb_top.specs.Texts.{IsUntyped, IsRefused, IsUndivided, IsProgram, IsService, IsNoService}
 use Rattle.rb_top.specs.Words.{Asked, Check, Split, Run, program_name}
 use Rattle.rb_top.specs.declared.status.SourceError.TheVariants as sources
 use Rattle.rb_top.specs.declared.status.Status.{Status}
 use Rattle.rb_top.specs.declared.status.Status.TheVariants.{Done, Words, FileFault, SourceRefused, BatchRefused, ServiceRefused, WriteFault, Memory, FileTooLong}
 use Rattle.rb_top.specs.declared.words.Way.{Way}
-use Rattle.rb_top.specs.declared.words.Way.TheVariants.{Both}
 
 -- the line of a file that can't be read, and of one that has too many bytes
 abbrev pub fault_line : List ℕ → List ℕ
@@ -58,19 +57,17 @@ pub data Answers (files : Device Directory) : Option Asked → Status → List �
       → Answers files (Some (Check p)) Done (line (codes "accepted")) (read_once files)
   program_viewed : (p text : List ℕ) (program : Program) (ds : List Division) → HoldsProgram files.told p text program
       → divisions program ≡ Ok ds → Answers files (Some (Split p)) Done (shown_divisions text ds) (read_once files)
-  program_form : (p s text : List ℕ) (fuel : ℕ) (program : Program) → HoldsProgram files.told p text program → ¬ IsBuilt Both program
-      → Answers files (Some (Run Both p s fuel)) (SourceRefused sources.NotBuilt) (line (codes "not built")) (read_once files)
   service_fault : (way : Way) (p s text : List ℕ) (fuel : ℕ) (program : Program) → HoldsProgram files.told p text program
-      → IsBuilt way program → FailsNext (told_after files.told) s
+      → FailsNext (told_after files.told) s
       → Answers files (Some (Run way p s fuel)) (FileFault s) (fault_line s) (failed (read_once (read_once files)))
   service_too_long : (way : Way) (p s text : List ℕ) (fuel : ℕ) (program : Program) → HoldsProgram files.told p text program
-      → IsBuilt way program → FindsTooLong (told_after files.told) s
+      → FindsTooLong (told_after files.told) s
       → Answers files (Some (Run way p s fuel)) (FileTooLong s) (too_long_line s) (read_once (read_once files))
   service_refused : (way : Way) (p s text other : List ℕ) (fuel : ℕ) (program : Program) (error : StoreError)
-      → HoldsProgram files.told p text program → IsBuilt way program → HoldsText (told_after files.told) s other → IsNoService other error
+      → HoldsProgram files.told p text program → HoldsText (told_after files.told) s other → IsNoService other error
       → Answers files (Some (Run way p s fuel)) (ServiceRefused error) (line (shown_service_refusal other error)) (read_once (read_once files))
   run : (way : Way) (p s text other : List ℕ) (fuel : ℕ) (program : Program) (served : Served) → HoldsProgram files.told p text program
-      → IsBuilt way program → Finds (told_after files.told) s other → IsService other served
+      → Finds (told_after files.told) s other → IsService other served
       → Answers files (Some (Run way p s fuel)) (run_status fuel program served) (run_text text fuel program served) (read_once (read_once files))
 
 -- The call was to print this text and to answer this status. It did, and no write failed; or a front of the text was
@@ -86,15 +83,14 @@ read_times zero files = files
 read_times (suc count) files = read_once (read_times count files)
 
 -- What is asked is answered with this status, and the scene is left so. Want of memory may come before the answer is known;
--- then nothing was printed, and no read failed. Where it comes while a program is run as it stands, nothing is said of what
--- was printed.
+-- then nothing was printed, and no read failed. Where it comes while a program is run, nothing is said of what was printed.
 pub data Says (asked : Option Asked) (result : Status) (before after : Scene) : Type 0 where
   answered : (status : Status) (text : List ℕ) → Answers before.files asked status text after.files
       → Ends status text result before.out after.out → Says asked result before after
   starved_first : (count : ℕ) → result ≡ Memory → after ≡ record before { files = read_times count before.files }
       → Says asked result before after
   starved_running : (way : Way) (p s text : List ℕ) (fuel : ℕ) (program : Program) → asked ≡ Some (Run way p s fuel)
-      → HoldsProgram before.files.told p text program → RunsUnsplit way program
+      → HoldsProgram before.files.told p text program
       → result ≡ Memory → after.files ≡ read_once (read_once before.files) → Says asked result before after
 
 -- The files tell that the next read of this name finds this text.
@@ -107,12 +103,10 @@ pub record ToldAccepted (told : Option Directory) (p text : List ℕ) (program :
   pub finds : IsTold told p text
   pub is : IsProgram text program
 
--- The files tell a program whose runs in this way are built and a service with its table, under these names, read one after the
--- other.
-pub record ToldRun (told : Option Directory) (way : Way) (p s text other : List ℕ) (program : Program) (served : Served) : Type 0 where
+-- The files tell an accepted program and a service with its table, under these names, read one after the other.
+pub record ToldRun (told : Option Directory) (p s text other : List ℕ) (program : Program) (served : Served) : Type 0 where
   pub finds : IsTold told p text
   pub is : IsProgram text program
-  pub built : IsBuilt way program
   pub finds_next : IsTold (told_after told) s other
   pub is_service : IsService other served
 
@@ -133,5 +127,5 @@ SplitsTold asked result before after = (p text : List ℕ) (program : Program) (
 -- printed and the answer is how it ends, unless the output fails or memory is wanting.
 abbrev pub RunsTold : Option Asked → Status → Scene → Scene → Type 0
 RunsTold asked result before after = (way : Way) (p s text other : List ℕ) (fuel : ℕ) (program : Program) (served : Served)
-    → asked ≡ Some (Run way p s fuel) → ToldRun before.files.told way p s text other program served
+    → asked ≡ Some (Run way p s fuel) → ToldRun before.files.told p s text other program served
     → Ends (run_status fuel program served) (run_text text fuel program served) result before.out after.out ⊎ (result ≡ Memory)

@@ -18,14 +18,14 @@ use Rattle.rb_top.specs.Loads.{HoldsTyped, HoldsProgram}
 use Rattle.rb_top.specs.Refusals.{shown_refusal, shown_violation}
 use Rattle.rb_top.specs.Runs.{Served, run_status, run_text}
 use Rattle.rb_top.specs.Scene.{Scene}
-use Rattle.rb_top.specs.Sources.{text_of, program_of, Admitted, admitted_program}
+use Rattle.rb_top.specs.Sources.{text_of, program_of, Admitted, admitted_program, accepted_program}
 use Rattle.rb_top.specs.ServiceRefusals.{shown_service_refusal}
-use Rattle.rb_top.specs.Texts.{RunsUnsplit}
 use Rattle.rb_top.specs.Words.{Asked, program_name, asked_job}
 use Rattle.rb_top.specs.declared.loading.TextStop.{TextStop}
 use Rattle.rb_top.specs.declared.loading.TextStop.TheVariants as stops
 use Rattle.rb_top.specs.declared.printing.PrintStop.{PrintStop}
 use Rattle.rb_top.specs.declared.printing.PrintStop.TheVariants as print
+use Rattle.rb_top.specs.declared.source.Accepted.{Accepted}
 use Rattle.rb_top.specs.declared.source.Source.{Source}
 use Rattle.rb_top.specs.declared.status.SourceError.TheVariants as sources
 use Rattle.rb_top.specs.declared.status.Status.{Status}
@@ -109,17 +109,16 @@ GoesOn text program a result before after =
 abbrev pub DividesWith : List ℕ → Admitted → Asked → Status → Scene → Scene → Type 0
 DividesWith text admitted = GoesOnAdmitted text (admitted_program admitted)
 
-abbrev pub GoesOnWith : List ℕ → Admitted → Asked → Status → Scene → Scene → Type 0
-GoesOnWith text admitted = GoesOn text (admitted_program admitted)
+abbrev pub GoesOnWith : Accepted → Asked → Status → Scene → Scene → Type 0
+GoesOnWith x = GoesOn x.text.now (accepted_program x)
 
 -- The same, of the run that a job asks for.
-abbrev pub RunsOnWith : List ℕ → Admitted → Job → Status → Scene → Scene → Type 0
-RunsOnWith text admitted job = GoesOnWith text admitted (asked_job job)
+abbrev pub RunsOnWith : Accepted → Job → Status → Scene → Scene → Type 0
+RunsOnWith x job = GoesOnWith x (asked_job job)
 
--- The run of a program was printed, and its status answered; or memory was wanting while it was run as it stands.
-abbrev pub EndsRun : List ℕ → Program → Job → Served → Status → Device (List ℕ) → Device (List ℕ) → Type 0
-EndsRun text p job served result before after =
-    Ends (run_status job.fuel p served) (run_text text job.fuel p served) result before after ⊎ (RunsUnsplit job.way p × (result ≡ Memory))
+-- The run of a program was printed, and its status answered; or memory was wanting while it was run.
+abbrev pub EndsRun : List ℕ → Program → ℕ → Served → Status → Device (List ℕ) → Device (List ℕ) → Type 0
+EndsRun text p fuel served result before after = Ends (run_status fuel p served) (run_text text fuel p served) result before after ⊎ (result ≡ Memory)
 
-abbrev pub EndsRunOf : List ℕ → Admitted → Job → Served → Status → Device (List ℕ) → Device (List ℕ) → Type 0
-EndsRunOf text admitted = EndsRun text (admitted_program admitted)
+abbrev pub EndsRunOf : Accepted → ℕ → Served → Status → Device (List ℕ) → Device (List ℕ) → Type 0
+EndsRunOf x = EndsRun x.text.now (accepted_program x)

@@ -31,11 +31,12 @@ abbrev pub PrintsAnswering : {A : Type 0} → A → List ℕ → Result A PrintS
 PrintsAnswering wanted text (Ok a) before after = (a ≡ wanted) × (after ≡ with_bytes before text)
 PrintsAnswering wanted text (Err stop) before after = WrotePrefix (stopped stop before) after text
 
--- The whole text was printed, with this result; or a front of it, and a write failed. Of want of memory nothing is said.
-abbrev pub PrintsUnlessStarved : {A : Type 0} → A → List ℕ → Result A PrintStop → Device (List ℕ) → Device (List ℕ) → Type 0
-PrintsUnlessStarved wanted text (Ok a) before after = (a ≡ wanted) × (after ≡ with_bytes before text)
-PrintsUnlessStarved wanted text (Err WriteFault) before after = WrotePrefix (failed before) after text
-PrintsUnlessStarved wanted text (Err Memory) before after = Unit {0}
+-- The whole text was printed, and what is answered is such; or a front of it, and a write failed. Of want of memory nothing is
+-- said.
+abbrev pub PrintsUnlessStarved : {A : Type 0} → (A → Type 0) → List ℕ → Result A PrintStop → Device (List ℕ) → Device (List ℕ) → Type 0
+PrintsUnlessStarved IsSuch text (Ok a) before after = IsSuch a × (after ≡ with_bytes before text)
+PrintsUnlessStarved IsSuch text (Err WriteFault) before after = WrotePrefix (failed before) after text
+PrintsUnlessStarved IsSuch text (Err Memory) before after = Unit {0}
 
 -- what follows the lines of a run: how it ended, how often it exchanged, and the table
 abbrev pub end_text : List ℕ → Ending → ℕ → List Object → List ℕ

@@ -1,5 +1,5 @@
--- A run of a program of a form that is built, on a service and its table.
-use Rattle.std.specs.Prelude.{ℕ, List, Result}
+-- A run of a program on a service and its table.
+use Rattle.std.specs.Prelude.{◌≡◌, ℕ, List, Result}
 use Rattle.rb_trees.specs.mirror.Declarations.{Program}
 use Rattle.rb_trees.specs.mirror.Services.{Service}
 use Rattle.rb_trees.specs.declared.services.Object.{Object}
@@ -9,7 +9,9 @@ use Rattle.rb_meaning.specs.Meaning.{meaning}
 use Rattle.rb_meaning.specs.Shown.{shown}
 use Rattle.rb_base.specs.Devices.{Device}
 use Rattle.rb_top.specs.Printing.{PrintsUnlessStarved}
+use Rattle.rb_top.specs.Sources.{accepted_program}
 use Rattle.rb_top.specs.declared.printing.PrintStop.{PrintStop}
+use Rattle.rb_top.specs.declared.source.Accepted.{Accepted}
 use Rattle.rb_top.specs.declared.status.Status.{Status}
 use Rattle.rb_top.specs.declared.status.Status.TheVariants.{Done, Faulted}
 
@@ -32,4 +34,8 @@ run_status fuel p served = ended_status (meaning p served.0 served.1 fuel).endin
 
 -- What the program shows on the service was printed, and how it ended was answered. Of want of memory nothing is said.
 abbrev pub PrintsRun : List ℕ → ℕ → Program → Served → Result Status PrintStop → Device (List ℕ) → Device (List ℕ) → Type 0
-PrintsRun text fuel p served = PrintsUnlessStarved (run_status fuel p served) (run_text text fuel p served)
+PrintsRun text fuel p served = PrintsUnlessStarved (λ status. status ≡ run_status fuel p served) (run_text text fuel p served)
+
+-- the same of an accepted program
+abbrev pub PrintsRunOf : Accepted → ℕ → Served → Result Status PrintStop → Device (List ℕ) → Device (List ℕ) → Type 0
+PrintsRunOf x fuel served = PrintsRun x.text.now fuel (accepted_program x) served

@@ -1,4 +1,4 @@
--- A typed program as it was loaded, and as it was admitted.
+-- A typed program as it was loaded, as it was admitted, and as it was accepted.
 use Rattle.std.specs.Prelude.{◌≡◌, ℕ, List}
 use Rattle.std.specs.Ordering.{nat_cmp}
 use Rattle.std.specs.FinMap.{FinMap}
@@ -7,6 +7,7 @@ use Rattle.rb_trees.specs.declared.marks.Mark.{Mark}
 use Rattle.rb_trees.specs.declared.marks.Place.{Place}
 use Rattle.rb_trees.specs.mirror.Declarations.{Program, mirror_program}
 use Rattle.rb_meaning_flow.specs.Programs.{program_marks}
+use Rattle.rb_top.specs.declared.source.Accepted.{Accepted}
 use Rattle.rb_top.specs.declared.source.Source.{Source}
 
 -- the text that it was read from
@@ -27,3 +28,7 @@ admitted_program a = mirror_program a.0
 -- The marks are those of the program.
 abbrev pub HasOwnMarks : Admitted → Type 0
 HasOwnMarks a = a.1.0 ≡ program_marks (admitted_program a)
+
+-- the program that was accepted
+abbrev pub accepted_program : Accepted → Program
+accepted_program x = admitted_program x.admitted.now

@@ -1,5 +1,5 @@
 -- The texts of programs and services.
-use Rattle.std.specs.Prelude.{◌≡◌, ◌⊎◌, ℕ, ◌<◌, ◌≤◌, List, Some, Ok, Err, length, IsTrue}
+use Rattle.std.specs.Prelude.{◌≡◌, ℕ, ◌<◌, ◌≤◌, List, Some, Ok, Err, length, IsTrue}
 use Rattle.rb_trees.specs.declared.refusals.Refusal.{Refusal}
 use Rattle.rb_trees.specs.declared.stores.StoreError.{StoreError}
 use Rattle.rb_trees.specs.declared.typing.TypeError.{TypeError}
@@ -7,17 +7,13 @@ use Rattle.rb_trees.specs.mirror.Declarations.{Program}
 use Rattle.rb_meaning_bytes.specs.tokens.Texts.{longest_text}
 use Rattle.rb_meaning_bytes.specs.grammar.Sources.{ReadSource}
 use Rattle.rb_meaning_types.specs.Violations.{Violation, violation_of}
-use Rattle.rb_meaning_types.specs.Batches.{batch_count}
 use Rattle.rb_meaning_types.specs.Stores.{StoreRefusal, store_refusal}
 use Rattle.rb_meaning_types.specs.Programs.{check_program, is_typed}
 use Rattle.rb_meaning_flow.specs.Programs.{IsAnswerOf}
 use Rattle.rb_meaning.specs.ServiceSources.{ReadsAsService}
 use Rattle.rb_meaning_split.specs.Division.{Division, divisions}
 use Rattle.rb_flow.specs.Program.{HasNoRefusal}
-use Rattle.rb_top.specs.FirstForm.{FirstProgram}
 use Rattle.rb_top.specs.Runs.{Served}
-use Rattle.rb_top.specs.declared.words.Way.{Way}
-use Rattle.rb_top.specs.declared.words.Way.TheVariants.{Both, Unsplit}
 
 -- The text has at most as many bytes as a text may have.
 abbrev pub WithinLength : List ℕ → Type 0
@@ -57,19 +53,6 @@ pub record IsProgram (text : List ℕ) (p : Program) : Type 0 where
   pub typed : IsTrue (is_typed p)
   pub admitted : HasNoRefusal p
   pub divided : IsDivided p
-
--- The program has no batch.
-abbrev pub HasNoBatch : Program → Type 0
-HasNoBatch p = batch_count p ≡ 0
-
--- The program is run as it stands, without a script: `unsplit` does so always, and `both` where there is no batch.
-abbrev pub RunsUnsplit : Way → Program → Type 0
-RunsUnsplit Unsplit p = Unit {0}
-RunsUnsplit Both p = HasNoBatch p
-
--- Runs of the program in this way are built: it is run as it stands, or it is of the first form.
-abbrev pub IsBuilt : Way → Program → Type 0
-IsBuilt way p = RunsUnsplit way p ⊎ FirstProgram p
 
 -- The text is this service with this table.
 abbrev pub IsService : List ℕ → Served → Type 0

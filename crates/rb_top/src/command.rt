@@ -1,44 +1,41 @@
 // The commands, from their words to what they print.
 
-ghost use Rattle.std.specs.Prelude.{◌≡◌, ◌++◌, ℕ, map, Some, Ok, IfOk};
-ghost use Rattle.rb_meaning.specs.Shown.{line};
-ghost use Rattle.rb_meaning_split.specs.Division.{divisions, mirror_split};
-ghost use Rattle.rb_shown.specs.Views.{shown_divisions};
-ghost use Rattle.rb_top.specs.Answers.{Ends, Says, ChecksTold, SplitsTold, RunsTold};
-ghost use Rattle.rb_top.specs.declared.status.Status.TheVariants.{Done};
+ghost use Rattle.std.specs.Prelude.{◌≡◌, ◌++◌, map, Some, IfOk};
 ghost use Rattle.rb_trees.specs.mirror.Services.{mirror_service};
 ghost use Rattle.rb_meaning.specs.Links.{IsTyped};
-ghost use Rattle.rb_session.specs.MemoryLinks.{new_link};
+ghost use Rattle.rb_meaning.specs.Shown.{line};
+ghost use Rattle.rb_meaning_split.specs.Division.{mirror_split};
+ghost use Rattle.rb_shown.specs.Views.{shown_divisions};
+ghost use Rattle.rb_top.specs.Accepted.{HasPlacesOfText, IsAdmitted, IsAccepted};
+ghost use Rattle.rb_top.specs.Answers.{Ends, Says, ChecksTold, SplitsTold, RunsTold};
 ghost use Rattle.rb_top.specs.Commands.{EndsBatchRefused, EndsRefused, EndsRefusedService, EndsRunOf, EndsUntyped, EndsUnread, LoadsProgram, GoesOnTyped, DividesWith, GoesOnWith, RunsOnWith, run_answer, status_after, stopped_status};
-ghost use Rattle.rb_top.specs.FirstForm.{FirstProgram};
 ghost use Rattle.rb_top.specs.Scene.{output, Across, Between};
-ghost use Rattle.rb_top.specs.Sources.{text_of, HasOwnMarks, admitted_program};
-ghost use Rattle.rb_top.specs.Texts.{WithinLength, IsBuilt};
+ghost use Rattle.rb_top.specs.Sources.{text_of, program_of};
+ghost use Rattle.rb_top.specs.Texts.{WithinLength};
 ghost use Rattle.rb_top.specs.Words.{texts, asked, asked_by};
-ghost use Rattle.rb_top.specs.declared.words.Job.{Job};
+ghost use Rattle.rb_top.specs.declared.status.Status.TheVariants.{Done};
 
 use crate::admission::admission;
 use crate::batch_refusals::batch_refusal_line;
-use crate::batch_run::run_batch;
+use crate::both_run::run_both;
 use crate::divisions::divisions_text;
 use crate::loading::{TextStop, load_text};
 use crate::printing::{PrintStop, print_text};
 use crate::refusals::{is_memory, is_no_violation, refusal_line, violation_line};
 use crate::service_refusals::{is_no_store_refusal, service_refusal_line};
-use crate::source::{Source, is_built, runs_unsplit};
+use crate::source::{Accepted, Source};
 use crate::status::{SourceError, Status};
 use crate::unsplit_run::run_unsplit;
-use crate::words::{Command, Job, command_of};
+use crate::words::{Command, Job, Way, command_of};
 use bytes::BytesMut;
 use rb_base::{Files, Sink};
-use rb_exec::Host;
 use rb_flow::{AdmitStop, Admitted};
 use rb_heap::Heap;
 use rb_parse::{parse_program, sources_have_one_outcome};
-use rb_session::MemoryLink;
+use rb_read_laws::read_programs_have_places;
 use rb_split::{SplitStop, split_all};
 use rb_store::{read_service, sources_have_one_outcome_as_services};
-use rb_trees::{Memory, ReadError, Refusal, Seq, Service, Split, StoreError, TypeError};
+use rb_trees::{ReadError, Refusal, Seq, Service, Split, StoreError, TypeError};
 use rb_types::check as check_types;
 use std::alloc::{AllocError, Global};
 
@@ -164,9 +161,11 @@ fn loaded_program<F: Files, W: Sink>(
     files: &mut F,
     out: &mut W,
 ) -> Result<Source, Status>
+    ensures places { IfOk result (λ source. HasPlacesOfText (program_of source)) }
     ensures short { IfOk result (λ source. WithinLength (text_of source)) }
     ensures loads { Between F.Files W.Sink files.old out.old files.new out.new (LoadsProgram name.now result) }
 {
+    read_programs_have_places();
     match load_text(alloc, name, files) {
         Err(stop) => Err(say_unread(alloc, stop, name, out)),
         Ok(text) => {
@@ -206,72 +205,37 @@ fn run_answer(answered: Result<Status, PrintStop>) -> Status
     }
 }
 
-/// A link to a server with a service and its table.
-fn link_to(alloc: Global, service: Service, table: Heap) -> Result<MemoryLink, Memory>
-    requires { IsTyped (mirror_service service) table }
-    ensures { IfOk result (λ link. link ≡ new_link (record { service = service; table = table })) }
-{
-    let host = Host::make(alloc, service, table)?;
-    MemoryLink::make(alloc, host)
-}
-
-/// Runs a program of the first form over a link to a server with a service and its table.
-fn run_there<W: Sink>(
-    alloc: Global,
-    text: &[u8],
-    admitted: &Admitted<'_>,
-    service: Service,
-    table: Heap,
-    out: &mut W,
-) -> Status
-    requires first { FirstProgram (admitted_program admitted.now) }
-    requires typed { IsTyped (mirror_service service) table }
-    requires short { WithinLength text.now }
-    ensures { (job : Job) → Across W.Sink out.old out.new (EndsRunOf text.now admitted.now job (mirror_service service, table) result) }
-{
-    match link_to(alloc, service, table) {
-        Ok(mut link) => run_answer(run_batch(alloc, text, admitted, &mut link, out)),
-        Err(Memory) => Status::Memory,
-    }
-}
-
 /// Runs a program on a service and its table as a job asks, and prints what it means there.
 fn run_program<W: Sink>(
     alloc: Global,
-    text: &[u8],
-    admitted: &Admitted<'_>,
+    program: &Accepted<'_>,
     job: &Job,
     service: Service,
     table: Heap,
     out: &mut W,
 ) -> Status
-    requires built { IsBuilt job.now.way (admitted_program admitted.now) }
-    requires marks { HasOwnMarks admitted.now }
+    requires accepted { IsAccepted program.now }
     requires typed { IsTyped (mirror_service service) table }
-    requires short { WithinLength text.now }
-    ensures { Across W.Sink out.old out.new (EndsRunOf text.now admitted.now job.now (mirror_service service, table) result) }
+    ensures { Across W.Sink out.old out.new (EndsRunOf program.now job.now.fuel (mirror_service service, table) result) }
 {
-    if runs_unsplit(job.way, admitted) {
-        let ran = run_unsplit(alloc, text, admitted, &service, table, job.fuel, out);
-        run_answer(ran)
-    } else {
-        run_there(alloc, text, admitted, service, table, out)
+    match job.way {
+        Way::Both => run_answer(run_both(alloc, program, service, table, job.fuel, out)),
+        Way::Unsplit => run_answer(run_unsplit(
+            alloc, program, &service, table, job.fuel, out,
+        )),
     }
 }
 
 /// Runs a program as a job asks, on the service in its file.
 fn run_on<F: Files, W: Sink>(
     alloc: Global,
-    text: &[u8],
-    admitted: &Admitted<'_>,
+    program: &Accepted<'_>,
     job: &Job,
     files: &mut F,
     out: &mut W,
 ) -> Status
-    requires built { IsBuilt job.now.way (admitted_program admitted.now) }
-    requires marks { HasOwnMarks admitted.now }
-    requires short { WithinLength text.now }
-    ensures { Between F.Files W.Sink files.old out.old files.new out.new (RunsOnWith text.now admitted.now job.now result) }
+    requires { IsAccepted program.now }
+    ensures { Between F.Files W.Sink files.old out.old files.new out.new (RunsOnWith program.now job.now result) }
 {
     match load_text(alloc, job.service, files) {
         Err(stop) => say_unread(alloc, stop, job.service, out),
@@ -279,9 +243,7 @@ fn run_on<F: Files, W: Sink>(
             let other = other_text.as_slice();
             match read_service(alloc, other) {
                 Err(error) => refuse_service(alloc, other, error, out),
-                Ok((service, table)) => {
-                    run_program(alloc, text, admitted, job, service, table, out)
-                }
+                Ok((service, table)) => run_program(alloc, program, job, service, table, out),
             }
         }
     }
@@ -301,32 +263,18 @@ fn say_divided<W: Sink>(alloc: Global, text: &[u8], splits: &[Split], out: &mut 
 /// Carries out the rest of a command, once its program is known to be accepted.
 fn fulfil<F: Files, W: Sink>(
     alloc: Global,
-    text: &[u8],
-    admitted: &Admitted<'_>,
-    splits: &[Split],
+    program: &Accepted<'_>,
     command: &Command,
     files: &mut F,
     out: &mut W,
 ) -> Status
-    requires marks { HasOwnMarks admitted.now }
-    requires short { WithinLength text.now }
-    requires divided { divisions (admitted_program admitted.now) ≡ Ok (map mirror_split splits.now) }
-    ensures { Between F.Files W.Sink files.old out.old files.new out.new (GoesOnWith text.now admitted.now (asked_by command.now) result) }
+    requires { IsAccepted program.now }
+    ensures { Between F.Files W.Sink files.old out.old files.new out.new (GoesOnWith program.now (asked_by command.now) result) }
 {
     match command {
         Command::Check(_) => say(Status::Done, b"accepted\n", out),
-        Command::Split(_) => say_divided(alloc, text, splits, out),
-        Command::Run(job) => {
-            if is_built(job.way, admitted) {
-                run_on(alloc, text, admitted, job, files, out)
-            } else {
-                say(
-                    Status::SourceRefused(SourceError::NotBuilt),
-                    b"not built\n",
-                    out,
-                )
-            }
-        }
+        Command::Split(_) => say_divided(alloc, program.text, program.splits.as_slice(), out),
+        Command::Run(job) => run_on(alloc, program, job, files, out),
     }
 }
 
@@ -339,20 +287,19 @@ fn go_on_admitted<F: Files, W: Sink>(
     files: &mut F,
     out: &mut W,
 ) -> Status
-    requires marks { HasOwnMarks admitted.now }
+    requires admitted { IsAdmitted admitted.now }
     requires short { WithinLength text.now }
     ensures { Between F.Files W.Sink files.old out.old files.new out.new (DividesWith text.now admitted.now (asked_by command.now) result) }
 {
     match split_all(alloc, admitted) {
-        Ok(splits) => fulfil(
-            alloc,
-            text,
-            admitted,
-            splits.as_slice(),
-            command,
-            files,
-            out,
-        ),
+        Ok(splits) => {
+            let program = Accepted {
+                text,
+                admitted,
+                splits: &splits,
+            };
+            fulfil(alloc, &program, command, files, out)
+        }
         Err(SplitStop::Refused(refusal)) => refuse_batch(alloc, text, refusal, out),
         Err(SplitStop::Memory) => Status::Memory,
     }
@@ -366,7 +313,8 @@ fn go_on<F: Files, W: Sink>(
     files: &mut F,
     out: &mut W,
 ) -> Status
-    requires { WithinLength (text_of source.now) }
+    requires places { HasPlacesOfText (program_of source.now) }
+    requires short { WithinLength (text_of source.now) }
     ensures { Between F.Files W.Sink files.old out.old files.new out.new (GoesOnTyped source.now (asked_by command.now) result) }
 {
     let text = source.text.as_slice();

@@ -3,12 +3,9 @@
 
 mod admission;
 mod batch_refusals;
-mod batch_run;
+mod both_run;
 mod command;
 mod divisions;
-mod exchange;
-mod first_form;
-mod first_script;
 mod fuel;
 mod loading;
 mod printing;
@@ -20,5 +17,4 @@ mod unsplit_run;
 mod words;
 
 pub use command::top;
-pub use first_form::is_first_program;
 pub use status::{SourceError, Status};

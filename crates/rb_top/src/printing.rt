@@ -1,19 +1,20 @@
 // Lines on the output, each handed over whole with its line feed, and those of a table in one piece.
 
-ghost use Rattle.std.specs.Prelude.{◌≡◌, ◌++◌, codes, IfOk};
-ghost use Rattle.std.specs.String.{string_bytes};
-ghost use Rattle.std.specs.Fmt.{decimal, signed_decimal};
+ghost use Rattle.std.specs.Prelude.{◌≡◌, ◌++◌, codes};
+ghost use Rattle.std.specs.Fmt.{decimal};
 ghost use Rattle.rb_meaning.specs.Shown.{line, shown_ending, shown_table};
-ghost use Rattle.rb_top.specs.Printing.{Prints, end_text};
+ghost use Rattle.rb_top.specs.Printing.{Prints, PrintsAnswering, end_text};
+ghost use Rattle.rb_top.specs.Runs.{ended_status};
 ghost use Rattle.rb_top.specs.Scene.{output};
 ghost use Rattle.rb_top.specs.Texts.{WithinLength};
 
+use crate::status::{Status, status_of};
 use rb_base::{Failed, Sink, write_whole};
 use rb_heap::Heap;
 use rb_plain::PlainStop;
 use rb_shown::{ending_line, exchanges_line};
 use rb_store::print_table;
-use rb_trees::{Ending, Memory};
+use rb_trees::{Ending, Memory, Run};
 use std::alloc::{AllocError, Global};
 
 /// Why a line wasn't printed whole: a write failed, or no memory was left to make it.
@@ -80,23 +81,6 @@ pub fn print_text<W: Sink>(text: &[u8], out: &mut W) -> Result<(), PrintStop>
     }
 }
 
-/// The line of a number.
-fn number_line(alloc: Global, n: i64) -> Result<String, AllocError>
-    ensures { IfOk result (λ text. string_bytes text ≡ line (signed_decimal n)) }
-{
-    format!(in alloc; "{n}\n")
-}
-
-/// Prints a number.
-pub fn print_number<W: Sink>(alloc: Global, n: i64, out: &mut W) -> Result<(), PrintStop>
-    ensures { Prints (line (signed_decimal n)) result (output W.Sink out.old) (output W.Sink out.new) }
-{
-    match number_line(alloc, n) {
-        Ok(text) => print_text(text.as_bytes(), out),
-        Err(_) => Err(PrintStop::Memory),
-    }
-}
-
 /// Prints the line that tells how a run ended.
 fn print_ending<W: Sink>(
     alloc: Global,
@@ -134,7 +118,7 @@ fn print_objects<W: Sink>(alloc: Global, table: &Heap, out: &mut W) -> Result<()
 }
 
 /// Prints what follows the lines of a run: how it ended, how often it exchanged, and the table.
-pub fn print_end<W: Sink>(
+fn print_end<W: Sink>(
     alloc: Global,
     source: &[u8],
     ending: &Ending,
@@ -148,4 +132,19 @@ pub fn print_end<W: Sink>(
     print_ending(alloc, source, ending, out)?;
     print_exchanges(alloc, exchanges, out)?;
     print_objects(alloc, table, out)
+}
+
+/// Prints what follows the lines of a run that left a table, and answers how it ended.
+pub fn print_run_end<W: Sink>(
+    alloc: Global,
+    source: &[u8],
+    run: Run,
+    table: &Heap,
+    out: &mut W,
+) -> Result<Status, PrintStop>
+    requires { WithinLength source.now }
+    ensures { PrintsAnswering (ended_status run.ending) (end_text source.now run.ending run.exchanges table.now) result (output W.Sink out.old) (output W.Sink out.new) }
+{
+    print_end(alloc, source, &run.ending, run.exchanges, table, out)?;
+    Ok(status_of(run.ending))
 }

@@ -10,9 +10,6 @@ use thiserror::Error;
 /// Why a program's text is refused.
 #[derive(Debug, Drop, Error)]
 pub enum SourceError {
-    /// The program is not of the form that is built.
-    #[error("not built")]
-    NotBuilt,
     /// The text isn't read. This holds no Memory, nor does its `Lex`.
     #[error("{0}")]
     Read(ReadError),
@@ -27,7 +24,7 @@ pub enum Status {
     Done,
     /// The program ended by a fault at a position.
     Faulted(Fault, u32),
-    /// The words are of no form that is built.
+    /// The words are no command.
     Words,
     /// The file of this name can't be read.
     FileFault(Word),

@@ -12,7 +12,7 @@ const DEFAULT_FUEL: u64 = 1_000_000;
 /// How a program is run.
 #[derive(Clone, Copy, Drop)]
 pub enum Way {
-    /// `both`: the script of a batch goes over a link.
+    /// `both`: the script of each batch goes over a link, and the rest of the batch runs on the reply.
     Both,
     /// `unsplit`: each remote operation is performed where it stands.
     Unsplit,

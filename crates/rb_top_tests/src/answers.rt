@@ -5,13 +5,10 @@ use rb_trees::{Memory, Seq};
 use std::alloc::Global;
 use std::test::Fail;
 
-/// A program of the form that is built.
+/// A program of one batch.
 pub const PROGRAM: &str = "interface D { fun n(): Int; } main { batch (D r) { print(r.n()); } }";
 
-/// A typed program that isn't of a form that is built.
-pub const OTHER: &str = "interface D { fun n(): Int; } main { batch (D r) { r.n(); } }";
-
-/// A service for both.
+/// A service for it.
 pub const SERVICE: &str = "class D { fun n(): Int { return 7; } } object 0: D { } root 0;";
 
 /// What follows the lines of a run.

@@ -39,18 +39,28 @@ pub fn left(alloc: Global, lines: &str, one: u32, two: u32) -> Result<String, Fa
     Ok(whole)
 }
 
-/// The rows that answer otherwise, each with what it answers. A row is a text behind the interfaces, the status and the lines
-/// that words answer on it before the table, and the sizes of the two files then.
-pub fn others(alloc: Global, words: &str, rows: &[(&str, &str, u32, u32)]) -> Result<String, Fail> {
+/// A text behind the interfaces, the status and the lines that a run of it answers before the table, and the sizes of the two
+/// files then.
+type Row<'a> = (&'a str, &'a str, u32, u32);
+
+/// The rows that words answer otherwise, each with what they answer.
+fn answered_otherwise(alloc: Global, words: &str, rows: &[Row<'_>]) -> Result<String, Fail> {
     let mut text = String::new(alloc);
     for (main, lines, one, two) in rows {
         let answered = ran(alloc, words, main)?;
         let wanted = left(alloc, lines, *one, *two)?;
         if answered.as_str() != wanted.as_str() {
-            text.push_str(main)?;
-            text.push_str("\n")?;
-            text.push_str(answered.as_str())?;
+            text.push_str(format!(in alloc; "{words}: {main}\n{answered}")?.as_str())?;
         }
     }
     Ok(text)
+}
+
+/// The rows that a run answers otherwise, with so much fuel, each with what it answers.
+pub fn others(alloc: Global, fuel: &str, rows: &[Row<'_>]) -> Result<String, Fail> {
+    let both = answered_otherwise(alloc, format!(in alloc; "both p s{fuel}")?.as_str(), rows)?;
+    let unsplit =
+        answered_otherwise(alloc, format!(in alloc; "unsplit p s{fuel}")?.as_str(), rows)?;
+    let all = format!(in alloc; "{both}{unsplit}")?;
+    Ok(all)
 }

@@ -1,5 +1,5 @@
 // What the commands answer where files, words or the output fail.
-use crate::answers::{OTHER, PROGRAM, SERVICE, answer, answer_over, files_of, shown, words_of};
+use crate::answers::{PROGRAM, SERVICE, answer, answer_over, files_of, shown, words_of};
 use bytes::BytesMut;
 use rb_base::{Files, FilesStop, MemoryFiles, MemorySink};
 use rb_top::top;
@@ -15,7 +15,6 @@ fn long_files_are_named(rt: HostRuntime) -> Result<(), Fail> {
     for (program, service, wanted) in [
         (Some(text), None, "13 file too long p\n"),
         (Some(PROGRAM), Some(text), "13 file too long s\n"),
-        (Some(OTHER), Some(text), "4 not built\n"),
     ] {
         assert_eq!(rt; shown(alloc, program, service)?.as_str(), wanted);
     }
@@ -28,7 +27,6 @@ fn missing_files_are_named_in_order(rt: HostRuntime) -> Result<(), Fail> {
         (None, Some(SERVICE), "3 file fault p\n"),
         (None, None, "3 file fault p\n"),
         (Some(PROGRAM), None, "3 file fault s\n"),
-        (Some(OTHER), None, "4 not built\n"),
     ] {
         assert_eq!(rt; shown(rt.alloc(), program, service)?.as_str(), wanted);
     }
@@ -41,11 +39,10 @@ fn missing_files_are_named_in_order(rt: HostRuntime) -> Result<(), Fail> {
 }
 
 #[test]
-fn unsplit_reads_a_service_for_each_admitted_program(rt: HostRuntime) -> Result<(), Fail> {
+fn unsplit_reads_a_service_for_each_accepted_program(rt: HostRuntime) -> Result<(), Fail> {
     for (program, service, wanted) in [
         (None, None, "3 file fault p\n"),
         (Some(PROGRAM), None, "3 file fault s\n"),
-        (Some(OTHER), None, "3 file fault s\n"),
         (Some("main { }"), None, "3 file fault s\n"),
         (Some("$"), Some(SERVICE), "4 lex 1 BadByte at 1:1\n"),
         (
@@ -53,7 +50,7 @@ fn unsplit_reads_a_service_for_each_admitted_program(rt: HostRuntime) -> Result<
             Some(SERVICE),
             "5 refused 4 Escapes 1:58\n",
         ),
-        (Some(OTHER), Some("$"), "6 service lex 1 BadByte at 1:1\n"),
+        (Some(PROGRAM), Some("$"), "6 service lex 1 BadByte at 1:1\n"),
     ] {
         let files = files_of(rt.alloc(), program, service)?;
         assert_eq!(rt; answer(rt.alloc(), "unsplit p s", files)?.as_str(), wanted);

@@ -6,6 +6,10 @@ mod admissions;
 #[cfg(test)]
 mod answers;
 #[cfg(test)]
+mod batch_faults;
+#[cfg(test)]
+mod batches;
+#[cfg(test)]
 mod checks;
 #[cfg(test)]
 mod directories;
@@ -25,7 +29,3 @@ mod runs;
 mod service_classes;
 #[cfg(test)]
 mod types;
-#[cfg(test)]
-mod unsplit_faults;
-#[cfg(test)]
-mod unsplit_runs;

@@ -29,26 +29,61 @@ fn a_batch_prints_its_lines_and_the_end(rt: HostRuntime) -> Result<(), Fail> {
     Ok(())
 }
 
-/// Programs that are typed, and aren't of the form that is built.
-const NOT_BUILT: &str = "\
-interface D { fun n(): Int; } main { batch (D r) { print(1); } }\n\
-interface D { fun n(): Int; } main { batch (D r) { r.n(); } }\n\
-interface D { fun n(): Int; } main { batch (D D) { print(D.n()); } }\n\
-interface D { fun n(): Text; } main { batch (D r) { print(r.n()); } }\n\
-interface D { fun n(a: Int): Int; } main { batch (D r) { print(r.n(1)); } }\n\
-interface D { fun n(): Int; } class C { } main { batch (D r) { print(r.n()); } }\n\
-interface D { fun n(): Int; } interface E { } main { batch (D r) { print(r.n()); } }\n\
-interface D { fun n(): Int; } main: Int { batch (D r) { print(r.n()); } return 1; }\n\
-interface D { fun n(): Int; } main { batch (D r) { } batch (D r) { } }\n\
-interface D { fun n(): Int; } main { if (true) { batch (D r) { } } }\n\
-interface D { fun n(): Int; } class C { remote fun f() { batch (D r) { } } } main { }";
+/// Programs of other forms, each with its answer on `SERVICE` before the table.
+static FORMS: [(&str, &str); 11] = [
+    (
+        "interface D { fun n(): Int; } main { batch (D r) { print(1); } }",
+        "0 1\ndone\nexchanges 1\n",
+    ),
+    (
+        "interface D { fun n(): Int; } main { batch (D r) { r.n(); } }",
+        "0 done\nexchanges 1\n",
+    ),
+    (
+        "interface D { fun n(): Int; } main { batch (D D) { print(D.n()); } }",
+        "0 7\ndone\nexchanges 1\n",
+    ),
+    (
+        "interface D { fun n(): Text; } main { batch (D r) { print(r.n()); } }",
+        "1 fault 11 WrongKind at 1:61\nexchanges 1\n",
+    ),
+    (
+        "interface D { fun n(a: Int): Int; } main { batch (D r) { print(r.n(1)); } }",
+        "1 fault 10 BadArguments at 1:66\nexchanges 1\n",
+    ),
+    (
+        "interface D { fun n(): Int; } class C { } main { batch (D r) { print(r.n()); } }",
+        "0 7\ndone\nexchanges 1\n",
+    ),
+    (
+        "interface D { fun n(): Int; } interface E { } main { batch (D r) { print(r.n()); } }",
+        "0 7\ndone\nexchanges 1\n",
+    ),
+    (
+        "interface D { fun n(): Int; } main: Int { batch (D r) { print(r.n()); } return 1; }",
+        "0 7\ndone 1\nexchanges 1\n",
+    ),
+    (
+        "interface D { fun n(): Int; } main { batch (D r) { } batch (D r) { } }",
+        "0 done\nexchanges 2\n",
+    ),
+    (
+        "interface D { fun n(): Int; } main { if (true) { batch (D r) { } } }",
+        "0 done\nexchanges 1\n",
+    ),
+    (
+        "interface D { fun n(): Int; } class C { remote fun f() { batch (D r) { } } } main { }",
+        "0 done\nexchanges 0\n",
+    ),
+];
 
 #[test]
-fn programs_of_other_forms_are_not_built(rt: HostRuntime) -> Result<(), Fail> {
-    for program in NOT_BUILT.split('\n') {
+fn programs_of_any_form_are_run(rt: HostRuntime) -> Result<(), Fail> {
+    for (program, lines) in FORMS {
+        let wanted = format!(in rt.alloc(); "{lines}object 0: D {{ }}\n")?;
         assert_eq!(rt;
             shown(rt.alloc(), Some(program), Some(SERVICE))?.as_str(),
-            "4 not built\n",
+            wanted.as_str(),
             "{program}"
         );
     }
