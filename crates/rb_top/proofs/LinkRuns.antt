@@ -1,30 +1,29 @@
 -- A client's run over a link in memory.
-use Rattle.std.proofs.Common.{◌≡◌, ℕ, zero, suc, List, [], ◌∷◌, ◌++◌, false, Some, length, ap, sym, ◌∙◌, refl}
-use Rattle.std.specs.Prelude.{◌==◌}
-use Rattle.std.specs.List.{list_any}
+use Rattle.std.proofs.Common.{◌≡◌, ℕ, suc, List, [], ◌∷◌, ◌++◌, Some, Ok, length, ap, sym, ◌∙◌, refl, subst}
+use Rattle.rb_trees.specs.declared.outcomes.Run.{Run}
 use Rattle.rb_trees.specs.mirror.Declarations.{Program}
 use Rattle.rb_trees.specs.mirror.Forests.{Node}
-use Rattle.rb_meaning.specs.Links.{Pair, Behind}
+use Rattle.rb_meaning.specs.Links.{Pair}
 use Rattle.rb_meaning.specs.Shown.{exchanges}
 use Rattle.rb_meaning_split.specs.Client.{Sent}
-use Rattle.rb_base.specs.Counts.{risen}
 use Rattle.rb_client.specs.Exchanges.{Exchanged, Exchanges}
-use Rattle.rb_client.specs.Servers.{FailsAfter, PerformedAll, fails_after, later}
+use Rattle.rb_client.specs.Headline.{MeansProgram, meant_on}
+use Rattle.rb_client.specs.Scenes.{Scene}
+use Rattle.rb_client.specs.Servers.{IsServer, PerformedAll}
 use Rattle.rb_session.specs.MemoryLinks.{LinkInMemory, behind}
-use Rattle.rb_top.specs.LinkRuns.{ExchangesEachBatch, meant_over}
+use Rattle.rb_top.specs.LinkRuns.{ExchangesEachBatch, RunsAsMeant, meant_over}
 
-later_failing : (n : ℕ) (b : Behind) → (later n b).failing ≡ b.failing
-later_failing zero b = refl
-later_failing (suc n) b = later_failing n b
-
--- no exchange over such a link is listed to fail
-none_listed : (n : ℕ) (l : LinkInMemory) → fails_after n (behind l) ≡ false
-none_listed n l = ap (list_any (λ k. k == risen (later n (behind l)).made)) (later_failing n (behind l))
-
-pub never_fails : {A : Type 0} (n : ℕ) (l : LinkInMemory) → FailsAfter n (Some (behind l)) → A
-never_fails n l h =
-    let e = sym (none_listed n l) ∙ h in
-    absurd (cc e)
+-- what an honest client's run left is what the program means on the server behind the link
+pub as_meant : (p : Program) (fuel : ℕ) (l left : LinkInMemory) (run : Run) (before after : Scene) → after.server ≡ Some (behind left) → MeansProgram p fuel (behind l) run before after
+    → RunsAsMeant p fuel l left (Ok run) before.out after.out
+as_meant p fuel l left run before after e m = (
+      record {
+        ending_so = m.ending_so;
+        exchanges_so = m.exchanges_so;
+        table_so = (subst (λ s. IsServer s (behind l).service (meant_on p fuel (behind l)).table) e m.table_so).1;
+      },
+      m.written,
+    )
 
 -- there is a pair for each script that was sent
 as_many : (p : Program) (pairs : List Pair) (sent : List Sent) (nodes : List Node) → Exchanges p pairs sent nodes → length pairs ≡ length sent

@@ -19,7 +19,7 @@ returns-in-Split g c =
     (goes_split c.args.program.now.text.now c.in-Split.field-0.now (accepted_program c.args.program.now) (map mirror_split c.as_slice.result.now) c.say_divided.result _ _
     (rw c.as_slice.ensures c.requires.accepted.divided) c.say_divided.ensures refl)
 
-pub returns : goal.returns
-returns g c =
+pub returns-in-Run : goal.returns-in-Run
+returns-in-Run g c =
     subst (λ k. GoesOnWith c.args.program.now (asked_by k) c.run_on.result (outside g.F.Files g.W.Sink c.args.files.now c.args.out.now) (outside g.F.Files g.W.Sink c.run_on.new.files c.run_on.new.out)) (sym c.in-Run.is)
     c.run_on.ensures

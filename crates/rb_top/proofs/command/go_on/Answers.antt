@@ -1,11 +1,20 @@
-use Rattle.std.proofs.Common.{refl, subst}
+use Rattle.std.proofs.Common.{refl, sym, subst}
 use Rattle.rb_trees.specs.mirror.Declarations.{mirror_program}
+use Rattle.rb_flow.specs.Program.{HasNoRefusal}
+use Rattle.rb_top.specs.Accepted.{HasPlacesOfText}
 use Rattle.rb_top.specs.Commands.{EndsBatchRefused, GoesOnAdmitted}
 use Rattle.rb_top.specs.Scene.{output, outside}
 use Rattle.rb_top.specs.Sources.{program_of}
 use Rattle.rb_top.specs.Words.{asked_by}
 use Rattle.rb_top.proofs.Said.{goes_admitted, goes_refused, goes_starved}
 use Rattle.rb_top.proofs.command.go_on.Goals as goal
+
+pub go_on_admitted-requires-clause-admitted : goal.go_on_admitted-requires-clause-admitted
+go_on_admitted-requires-clause-admitted g c = record {
+  none = subst (λ q. HasNoRefusal (mirror_program q)) (sym c.in-Ok.ensures.typed) c.in-Ok.ensures.admission;
+  marks = c.in-Ok.ensures.marks;
+  places = subst (λ q. HasPlacesOfText (mirror_program q)) (sym c.in-Ok.ensures.typed) c.requires.places;
+}
 
 pub returns-in-Ok : goal.returns-in-Ok
 returns-in-Ok g c =

@@ -13,8 +13,9 @@ returns-in-Ok g c =
 
 pub returns-in-Err-Refused : goal.returns-in-Err-Refused
 returns-in-Err-Refused g c =
-    goes_undivided c.args.text.now (admitted_program c.args.admitted.now) (asked_by c.args.command.now) c.in-Err-Refused.refusal c.refuse_batch.result _ _
-    (rw c.in-Err-Refused.field-0-is at c.in-Err-Refused.ensures.divided) c.refuse_batch.ensures refl
+    goes_undivided c.args.text.now (admitted_program c.args.admitted.now) (asked_by c.args.command.now) c.in-Err-Refused.refusal c.refuse_batch.result
+    (outside g.F.Files g.W.Sink c.args.files.now c.args.out.now) (outside g.F.Files g.W.Sink c.args.files.now c.refuse_batch.new.out)
+    (rw c.in-Err-Refused.field-0-is at c.in-Err-Refused.ensures.divided) (rw c.in-Err-Refused.field-0-is at c.refuse_batch.ensures) refl
 
 pub returns-in-Err-Memory : goal.returns-in-Err-Memory
 returns-in-Err-Memory g c =

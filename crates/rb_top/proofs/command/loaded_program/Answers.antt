@@ -4,6 +4,7 @@ use Rattle.std.specs.Result.{is_ok}
 use Rattle.rb_trees.specs.mirror.Declarations.{mirror_program}
 use Rattle.rb_meaning_bytes.specs.grammar.Sources.{ReadSource}
 use Rattle.rb_meaning_types.specs.Programs.{is_typed}
+use Rattle.rb_top.specs.Accepted.{HasPlacesOfText}
 use Rattle.rb_top.specs.Loads.{HoldsText}
 use Rattle.rb_top.proofs.Said.{program_unread, program_not_read, program_not_typed, program_loaded}
 use Rattle.rb_top.proofs.command.loaded_program.Goals as goal
@@ -28,3 +29,8 @@ returns-in-Ok-check_types-clause-loads g c =
     (subst (λ t. ReadSource t (Ok (mirror_program c.in-Ok-parse_program.program))) c.as_slice-source.ensures c.in-Ok-parse_program.ensures.read))
     (subst (λ q. IsTrue (is_typed (mirror_program q))) (sym c.in-Ok-check_types.ensures.same) (subst (λ o. IsTrue (is_ok o)) (sym c.in-Ok-check_types.ensures.gives) refl))
     c.in-Ok.ensures.1 refl
+
+pub returns-in-Ok-check_types-clause-places : goal.returns-in-Ok-check_types-clause-places
+returns-in-Ok-check_types-clause-places g c =
+    let places = c.read_programs_have_places.ensures c.as_slice-source.result.now (mirror_program c.in-Ok-parse_program.program) c.in-Ok-parse_program.ensures.read in
+    subst (λ q. HasPlacesOfText (mirror_program q)) (sym c.in-Ok-check_types.ensures.same) (record { zero_free = places.0; places = places.1 })

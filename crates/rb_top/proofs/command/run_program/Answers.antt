@@ -9,4 +9,4 @@ returns-in-Both g c =
 
 pub returns-in-Unsplit : goal.returns-in-Unsplit
 returns-in-Unsplit g c =
-    run_ended c.args.program.now.text.now (accepted_program c.args.program.now) c.args.job.now.fuel (mirror_service c.args.service, c.args.table) c.run_unsplit.result c.run_answer.result _ _ c.run_answer.ensures c.run_unsplit.ensures
+    run_ended c.args.program.now.text.now (accepted_program c.args.program.now) c.args.job.now.fuel (mirror_service c.args.service, c.args.table) c.run_unsplit.result c.run_answer-in-Unsplit.result _ _ c.run_answer-in-Unsplit.ensures c.run_unsplit.ensures
