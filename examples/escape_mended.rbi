@@ -1,1 +1,16 @@
-../crates/example_runs/data/escape_mended.rbi
+interface File {
+    fun name(): Text;
+    fun size(): Int;
+    fun grow(by: Int);
+}
+
+interface Directory {
+    fun files(): Rows<File>;
+    fun file(i: Int): File;
+}
+
+main {
+    batch (Directory directory) {
+        print(directory.file(0).name());
+    }
+}

@@ -1,1 +1,19 @@
-../crates/example_runs/data/inside_mended.rbi
+interface File {
+    fun name(): Text;
+    fun size(): Int;
+    fun grow(by: Int);
+}
+
+interface Directory {
+    fun files(): Rows<File>;
+    fun file(i: Int): File;
+}
+
+main {
+    batch (Directory directory) {
+        print(directory.file(0).name());
+    }
+    batch (Directory other) {
+        print(other.file(0).name());
+    }
+}

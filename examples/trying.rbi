@@ -1,1 +1,20 @@
-../crates/example_runs/data/trying.rbi
+interface File {
+    fun name(): Text;
+    fun size(): Int;
+    fun grow(by: Int);
+}
+
+interface Directory {
+    fun files(): Rows<File>;
+    fun file(i: Int): File;
+}
+
+main {
+    batch (Directory directory) {
+        try {
+            directory.file(9).grow(1);
+        } catch (problem) {
+            print(problem);
+        }
+    }
+}

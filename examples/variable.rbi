@@ -1,1 +1,17 @@
-../crates/example_runs/data/variable.rbi
+interface File {
+    fun name(): Text;
+    fun size(): Int;
+    fun grow(by: Int);
+}
+
+interface Directory {
+    fun files(): Rows<File>;
+    fun file(i: Int): File;
+}
+
+main {
+    batch (Directory directory) {
+        var first = directory.file(0);
+        print(first.name());
+    }
+}

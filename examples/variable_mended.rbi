@@ -1,1 +1,17 @@
-../crates/example_runs/data/variable_mended.rbi
+interface File {
+    fun name(): Text;
+    fun size(): Int;
+    fun grow(by: Int);
+}
+
+interface Directory {
+    fun files(): Rows<File>;
+    fun file(i: Int): File;
+}
+
+main {
+    batch (Directory directory) {
+        val first = directory.file(0);
+        print(first.name());
+    }
+}
