@@ -1,4 +1,4 @@
--- The classes of a typed program differ by name, and so do the methods of each.
+-- The classes of a typed service differ by name, and so do the methods of each.
 use Rattle.std.proofs.Common.{◌≡◌, ℕ, List, [], ◌∷◌, ◌++◌, map, Bool, true, false, None, Some, Result, Ok, Err, cond, ap, sym, ◌∙◌, refl}
 use Rattle.std.specs.Str.{bytes_eq}
 use Rattle.std.specs.Result.{is_ok}
@@ -6,12 +6,12 @@ use Rattle.rb_trees.specs.Named.{first_named}
 use Rattle.rb_trees.specs.Outcome.{◌>>◌, must}
 use Rattle.rb_trees.specs.declared.services.Object.{Object}
 use Rattle.rb_trees.specs.mirror.Services.{Service}
-use Rattle.rb_trees.specs.mirror.Declarations.{Class, Method, Program}
+use Rattle.rb_trees.specs.mirror.Declarations.{Class, Method}
 use Rattle.rb_meaning_types.specs.Names.{is_new}
-use Rattle.rb_meaning_types.specs.Declared.{Declarations, of_program, of_service}
+use Rattle.rb_meaning_types.specs.Declared.{Declarations, of_service}
 use Rattle.rb_meaning_types.specs.Declarations.{new_name, check_params, check_method, check_methods, check_class, check_classes, check_interfaces, check_declarations}
 use Rattle.rb_meaning_types.specs.Bodies.{check_class_bodies}
-use Rattle.rb_meaning_types.specs.Programs.{check_main, is_typed, is_typed_service}
+use Rattle.rb_meaning_types.specs.Programs.{is_typed_service}
 use Rattle.rb_meaning.specs.Links.{IsTyped}
 use Rattle.rb_code.specs.Differ.{MethodsDiffer, ClassesDiffer}
 use Rattle.rb_top.proofs.Names.{same_bytes, one_name}
@@ -98,14 +98,7 @@ classes_differ d before (c ∷ cs) h =
       classes_differ d (before ++ c.name ∷ []) cs (then_passed (name >> check_class d c) rest h),
     )
 
--- the classes of a typed program are those that `Code` takes
-pub typed_differ : (p : Program) → is_typed p ≡ true → ClassesDiffer p.classes
-typed_differ p h =
-    let d = of_program p in
-    let declarations = first_passed (check_declarations d) (check_class_bodies d p.classes) (first_passed (check_declarations d >> check_class_bodies d p.classes) (check_main p) h) in
-    classes_differ d (map (λ i. i.name) d.interfaces) p.classes (then_passed (check_interfaces d [] d.interfaces) (check_classes d (map (λ i. i.name) d.interfaces) d.classes) declarations)
-
--- and so are those of a typed service
+-- the classes of a typed service are those that `Code` takes
 service_classes_differ : (cs : List Class) → is_typed_service cs ≡ true → ClassesDiffer cs
 service_classes_differ cs h =
     let d = of_service cs in

@@ -17,13 +17,13 @@ use Rattle.rb_top.specs.LinkRuns.{ExchangesEachBatch, RunsAsMeant, meant_over}
 pub as_meant : (p : Program) (fuel : ℕ) (l left : LinkInMemory) (run : Run) (before after : Scene) → after.server ≡ Some (behind left) → MeansProgram p fuel (behind l) run before after
     → RunsAsMeant p fuel l left (Ok run) before.out after.out
 as_meant p fuel l left run before after e m = (
-      record {
-        ending_so = m.ending_so;
-        exchanges_so = m.exchanges_so;
-        table_so = (subst (λ s. IsServer s (behind l).service (meant_on p fuel (behind l)).table) e m.table_so).1;
-      },
-      m.written,
-    )
+  record {
+    ending_so = m.ending_so;
+    exchanges_so = m.exchanges_so;
+    table_so = (subst (λ s. IsServer s (behind l).service (meant_on p fuel (behind l)).table) e m.table_so).1;
+  },
+  m.written,
+)
 
 -- there is a pair for each script that was sent
 as_many : (p : Program) (pairs : List Pair) (sent : List Sent) (nodes : List Node) → Exchanges p pairs sent nodes → length pairs ≡ length sent

@@ -50,10 +50,10 @@ follows text m run table l =
 pub run_told : (text : List ℕ) (m : Meaning) (run : Run) (table : List Object) (r : Result Status PrintStop) (before mid after : Device (List ℕ)) → RunsMeaning m table (Ok run) before mid
     → PrintsAnswering (ended_status run.ending) (end_text text run.ending run.exchanges table) r mid after → PrintsMeaning text m r before after
 run_told text m run table (Ok status) before mid after h printed = (
-      printed.0 ∙ ap ended_status h.0.ending_so,
-      both_whole before mid after (shown_events m.events) (ending_text text m) h.1 (printed.1 ∙ ap (with_bytes mid) (follows text m run table h.0))
-          ∙ ap (with_bytes before) (sym (shown_so text m)),
-    )
+  printed.0 ∙ ap ended_status h.0.ending_so,
+  both_whole before mid after (shown_events m.events) (ending_text text m) h.1 (printed.1 ∙ ap (with_bytes mid) (follows text m run table h.0))
+      ∙ ap (with_bytes before) (sym (shown_so text m)),
+)
 run_told text m run table (Err print.WriteFault) before mid after h printed =
     subst (λ t. WrotePrefix (failed before) after t) (sym (shown_so text m))
     (stops_next print.WriteFault before mid after (shown_events m.events) (ending_text text m) h.1 (subst (WrotePrefix (failed mid) after) (follows text m run table h.0) printed))

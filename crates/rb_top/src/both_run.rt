@@ -7,7 +7,7 @@ ghost use Rattle.rb_session.specs.MemoryLinks.{new_link, IsHonest};
 ghost use Rattle.rb_top.specs.Accepted.{IsAccepted};
 ghost use Rattle.rb_top.specs.LinkRuns.{ExchangesEachBatch, RunsAsMeant, served_by};
 ghost use Rattle.rb_top.specs.Runs.{PrintsRunOf};
-ghost use Rattle.rb_top.specs.Scene.{output, Across};
+ghost use Rattle.rb_top.specs.Scene.{Across};
 ghost use Rattle.rb_top.specs.Sources.{accepted_program};
 
 use crate::printing::{PrintStop, print_run_end};

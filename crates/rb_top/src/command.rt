@@ -220,9 +220,7 @@ fn run_program<W: Sink>(
 {
     match job.way {
         Way::Both => run_answer(run_both(alloc, program, service, table, job.fuel, out)),
-        Way::Unsplit => run_answer(run_unsplit(
-            alloc, program, &service, table, job.fuel, out,
-        )),
+        Way::Unsplit => run_answer(run_unsplit(alloc, program, &service, table, job.fuel, out)),
     }
 }
 

@@ -4,7 +4,7 @@ ghost use Rattle.rb_trees.specs.mirror.Services.{mirror_service};
 ghost use Rattle.rb_meaning.specs.Links.{IsTyped};
 ghost use Rattle.rb_top.specs.Accepted.{IsAccepted};
 ghost use Rattle.rb_top.specs.Runs.{PrintsRunOf};
-ghost use Rattle.rb_top.specs.Scene.{output, Across};
+ghost use Rattle.rb_top.specs.Scene.{Across};
 
 use crate::printing::{PrintStop, print_run_end};
 use crate::source::Accepted;

@@ -1,4 +1,4 @@
-use Rattle.std.proofs.Common.{Some, Ok, refl, subst}
+use Rattle.std.proofs.Common.{Ok, refl, subst}
 use Rattle.rb_trees.specs.mirror.Declarations.{mirror_program}
 use Rattle.rb_meaning.specs.Shown.{shown_events}
 use Rattle.rb_meaning_split.specs.Client.{client}

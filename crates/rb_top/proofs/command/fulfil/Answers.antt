@@ -1,4 +1,4 @@
-use Rattle.std.proofs.Common.{refl, sym, subst, ◌∙◌}
+use Rattle.std.proofs.Common.{refl, sym, subst}
 use Rattle.std.specs.Prelude.{map}
 use Rattle.rb_meaning_split.specs.Division.{mirror_split}
 use Rattle.rb_top.specs.Commands.{GoesOnWith}
