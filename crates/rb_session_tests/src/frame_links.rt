@@ -15,6 +15,9 @@ const SENT: &[u8] =
 const RECEIVED: &[u8] =
     b"RB\x02\x00\x00\x00\x00\x00\x00\x00\x10\x01\x00\x00\x00\x01\x31\x01\x00\x00\x00\x00\x00\x00\x00\x07\x00R";
 
+/// The payload of that reply.
+const REPLY: &[u8] = b"\x01\x00\x00\x00\x01\x31\x01\x00\x00\x00\x00\x00\x00\x00\x07\x00";
+
 /// A link whose source has these bytes. Its ends take and give so many bytes at once, and their listed calls fail.
 fn link_over(
     alloc: Global,
@@ -37,7 +40,7 @@ fn an_exchange_writes_one_frame_and_takes_one(rt: HostRuntime) -> Result<(), Fai
         let mut link = link_over(alloc, RECEIVED, most, &[], &[])?;
         let reply = link.exchange(CALL)?;
         assert_eq!(rt; reply.kind, 2);
-        assert_eq!(rt; reply.payload.as_slice(), &RECEIVED[11..27]);
+        assert_eq!(rt; reply.payload.as_slice(), REPLY);
         assert_eq!(rt; link.sink().written(), SENT);
         assert_eq!(rt; link.source().left(), b"R".as_slice());
         assert_eq!(rt; link.pairs().len(), 1);
@@ -117,7 +120,8 @@ fn a_fault_of_an_end_is_one_of_the_link(rt: HostRuntime) -> Result<(), Fail> {
                 assert!(rt; false, "a reply");
             }
         }
-        assert_eq!(rt; link.sink().written(), &SENT[..written]);
+        assert_eq!(rt; link.sink().written().len(), written);
+        assert!(rt; SENT.starts_with(link.sink().written()));
         assert_eq!(rt; link.pairs().len(), 0);
     }
     Ok(())
