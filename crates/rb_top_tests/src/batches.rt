@@ -208,6 +208,9 @@ fn a_large_directory_is_walked(rt: HostRuntime) -> Result<(), Fail> {
             .contains("\nobject 8: File { name = \"big-f8\"; size = 936; }\n")
     );
     assert_eq!(rt; shown.as_str().split("big-").count(), 100);
-    assert_eq!(rt; renamed(rt.alloc(), "unsplit p s")?.as_str(), shown.as_str());
+    assert_eq!(rt;
+        renamed(rt.alloc(), "unsplit p s")?.as_str(),
+        shown.as_str()
+    );
     Ok(())
 }

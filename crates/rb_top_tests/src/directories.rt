@@ -59,8 +59,11 @@ fn answered_otherwise(alloc: Global, words: &str, rows: &[Row<'_>]) -> Result<St
 /// The rows that a run answers otherwise, with so much fuel, each with what it answers.
 pub fn others(alloc: Global, fuel: &str, rows: &[Row<'_>]) -> Result<String, Fail> {
     let both = answered_otherwise(alloc, format!(in alloc; "both p s{fuel}")?.as_str(), rows)?;
-    let unsplit =
-        answered_otherwise(alloc, format!(in alloc; "unsplit p s{fuel}")?.as_str(), rows)?;
+    let unsplit = answered_otherwise(
+        alloc,
+        format!(in alloc; "unsplit p s{fuel}")?.as_str(),
+        rows,
+    )?;
     let all = format!(in alloc; "{both}{unsplit}")?;
     Ok(all)
 }
