@@ -1,7 +1,5 @@
 //! The server's side of an exchange: the answer to a request, and a link whose server is in the same process.
 //!
-//! Beside them stand the other links, over frames or with exchanges that fail, and the Dials that links are had from.
-//!
 //! What an answer is stands in `specs/Answers` of `rb_meaning`, and what a link tells in `specs/Links` there.
 #![tactic(auto)]
 
