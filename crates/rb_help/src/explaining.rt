@@ -8,7 +8,7 @@ use crate::blocks::blocks;
 use crate::outside_help::say_outside;
 use crate::page::Page;
 use crate::pieces::Pieces;
-use crate::positions::positions;
+use crate::placing::positions;
 use crate::reading_help::say_read;
 use crate::refusal_help::say_refusal;
 use crate::run_help::say_fault;

@@ -3,7 +3,7 @@
 use crate::page::Page;
 use crate::texts;
 use crate::trouble::Trouble;
-use crate::usage::usage;
+use crate::commands::usage;
 use rb_trees::Memory;
 use std::alloc::Global;
 

@@ -34,18 +34,26 @@ fn goes_on(byte: Option<&u8>) -> bool {
     }
 }
 
+/// A place, or the one before it where a character would be cut.
+fn one_back(line: &[u8], at: usize) -> usize
+    ensures before { result ≤ at }
+    ensures near { at ≤ result + 1 }
+{
+    if at > 0 && goes_on(line.get(at)) {
+        at - 1
+    } else {
+        at
+    }
+}
+
 /// A place at most three bytes before another, at which no character is cut if the text is UTF-8.
 fn uncut(line: &[u8], at: usize) -> usize
     ensures before { result ≤ at }
     ensures near { at ≤ result + 3 }
 {
-    let mut place = at;
-    for _ in 0..3 {
-        if place > 0 && goes_on(line.get(place)) {
-            place -= 1;
-        }
-    }
-    place
+    let once = one_back(line, at);
+    let twice = one_back(line, once);
+    one_back(line, twice)
 }
 
 /// A line, cut around a place of it: `IsCut`.

@@ -176,7 +176,7 @@ pub const NO_VALUE: Help = Help {
     mend: b"Let the method give one, or write the call as a statement of its own.",
 };
 pub const WRONG_NAME: &[u8] = b"`@` is of type `#`, and another type is wanted here.";
-pub const WRONG_CALL: &[u8] = b"`@` gives a `#`, and another type is wanted here.";
+pub const WRONG_CALL: &[u8] = b"`@` gives a value of type `#`, and another type is wanted here.";
 pub const WRONG_VALUE: &[u8] = b"This is of type `#`, and another type is wanted here.";
 pub const FROM_INT: &[u8] =
     b"Where a Text is wanted, `str` makes one of it; where a Bool is, compare it, as by `> 0`.";

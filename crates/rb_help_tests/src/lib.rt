@@ -2,6 +2,22 @@
 #![tactic(auto)]
 
 #[cfg(test)]
-mod scratch;
+mod faults;
+#[cfg(test)]
+mod names;
+#[cfg(test)]
+mod outside;
+#[cfg(test)]
+mod quotes;
+#[cfg(test)]
+mod readings;
+#[cfg(test)]
+mod refusals;
 #[cfg(test)]
 mod said;
+#[cfg(test)]
+mod services;
+#[cfg(test)]
+mod statements;
+#[cfg(test)]
+mod types;

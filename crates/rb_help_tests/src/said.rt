@@ -4,10 +4,19 @@ use rb_help::{Trouble, explain};
 use rb_trees::{Fault, Memory, ReadError, Refusal, Seq, StoreError, TypeError};
 use std::alloc::Global;
 
-/// What is said of a trouble.
-pub fn said(alloc: Global, source: &str, trouble: &Trouble<'_>) -> Result<String, Memory> {
-    let text = explain(alloc, source.as_bytes(), trouble)?;
+/// What is said of a trouble in a text.
+pub fn said_of_bytes(
+    alloc: Global,
+    source: &[u8],
+    trouble: &Trouble<'_>,
+) -> Result<String, Memory> {
+    let text = explain(alloc, source, trouble)?;
     Ok(String::from_utf8_lossy(alloc, text.as_slice())?)
+}
+
+/// What is said of a trouble in a text that is UTF-8.
+pub fn said(alloc: Global, source: &str, trouble: &Trouble<'_>) -> Result<String, Memory> {
+    said_of_bytes(alloc, source.as_bytes(), trouble)
 }
 
 /// The place where a word first stands in a text, or the first place where it stands nowhere.
