@@ -2,7 +2,7 @@
 use Rattle.std.proofs.Common.{◌≡◌, ℕ, List, [], ◌∷◌, ◌++◌, Bool, true, false, cond, refl, sym, subst, append_assoc, append-nil, ◌+◌, ◌<◌, ◌≤◌, length, drop, get_or}
 use Rattle.std.specs.Prelude.{Option, None, Some}
 use Rattle.std.proofs.lemmas.List.{drop_more, drop_all}
-use Rattle.rb_help.specs.Quotes.{IsQuote, Holds, Within, QuotesAll, Quotes, shares, quoted_places}
+use Rattle.rb_help.specs.Quotes.{IsQuote, Within, QuotesAll, Quotes, shares, quoted_places}
 
 -- text before
 pub quotes-prepend : (source ats x text : List ℕ) → QuotesAll source ats text → QuotesAll source ats (x ++ text)

@@ -1,5 +1,5 @@
 -- The lines of a text that are quoted.
-use Rattle.std.specs.Prelude.{◌≡◌, ◌==◌, ℕ, ◌+◌, ◌≤◌, List, [], ◌∷◌, ◌++◌, Bool, true, false, ◌&&◌, cond, length, nat_le, Option, None, Some, codes}
+use Rattle.std.specs.Prelude.{◌≡◌, ◌==◌, ℕ, ◌+◌, ◌≤◌, List, [], ◌∷◌, ◌++◌, Bool, false, ◌&&◌, cond, length, nat_le, Option, None, Some, codes}
 use Rattle.std.specs.Fmt.{decimal}
 use Rattle.rb_meaning.specs.Place.{line_of}
 use Rattle.rb_help.specs.Lines.{before_place, line_at}

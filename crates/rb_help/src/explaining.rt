@@ -36,11 +36,7 @@ fn say(
 }
 
 /// The sentences on a trouble.
-fn sentences(
-    alloc: Global,
-    pieces: &Pieces<'_>,
-    trouble: &Trouble<'_>,
-) -> Result<Word, Memory> {
+fn sentences(alloc: Global, pieces: &Pieces<'_>, trouble: &Trouble<'_>) -> Result<Word, Memory> {
     let mut page = Page::new(alloc);
     say(alloc, &mut page, pieces, trouble)?;
     Ok(page.into_word())

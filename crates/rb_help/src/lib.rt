@@ -7,6 +7,7 @@
 
 mod blocks;
 mod carets;
+mod commands;
 mod declarations;
 mod explaining;
 mod labels;
@@ -25,12 +26,11 @@ mod texts;
 mod trouble;
 mod type_words;
 mod typing_help;
-mod commands;
 mod wrong_types;
 
+pub use commands::{USAGE, usage};
 pub use explaining::explain;
 pub use lines::{Line, line_at, line_number};
 pub use placing::positions;
 pub use showing::shown;
 pub use trouble::Trouble;
-pub use commands::usage;

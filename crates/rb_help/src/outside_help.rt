@@ -1,9 +1,9 @@
 // What is said of what stands around a program: words, files, links, output and memory.
 
+use crate::commands::usage;
 use crate::page::Page;
 use crate::texts;
 use crate::trouble::Trouble;
-use crate::commands::usage;
 use rb_trees::Memory;
 use std::alloc::Global;
 
@@ -15,11 +15,7 @@ fn say_words(alloc: Global, page: &mut Page) -> Result<(), Memory> {
 }
 
 /// What is said of what stands around a program, and nothing of its text.
-pub fn say_outside(
-    alloc: Global,
-    page: &mut Page,
-    trouble: &Trouble<'_>,
-) -> Result<(), Memory> {
+pub fn say_outside(alloc: Global, page: &mut Page, trouble: &Trouble<'_>) -> Result<(), Memory> {
     match trouble {
         Trouble::Words => say_words(alloc, page),
         Trouble::FileFault(name) => page.say_name(&texts::FILE_FAULT, name),

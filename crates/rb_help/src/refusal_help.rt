@@ -53,11 +53,7 @@ fn say_inside(page: &mut Page, pieces: &Pieces<'_>, at: u32) -> Result<(), Memor
 }
 
 /// What is said where a batch is refused.
-pub fn say_refusal(
-    page: &mut Page,
-    pieces: &Pieces<'_>,
-    refusal: &Refusal,
-) -> Result<(), Memory> {
+pub fn say_refusal(page: &mut Page, pieces: &Pieces<'_>, refusal: &Refusal) -> Result<(), Memory> {
     match refusal {
         Refusal::Flow(chain) => say_flow(page, pieces, chain.as_slice()),
         Refusal::NotConstant(at) => say_not_constant(page, pieces, *at),

@@ -76,7 +76,14 @@ fn say_count(page: &mut Page, pieces: &Pieces<'_>, at: u32) -> Result<(), Memory
         return say_counted(page, pieces, class, help, texts::NEW_LINE, Declared::Type);
     }
     let help = &texts::CALL_COUNT;
-    say_counted(page, pieces, index, help, texts::CALL_LINE, Declared::Method)
+    say_counted(
+        page,
+        pieces,
+        index,
+        help,
+        texts::CALL_LINE,
+        Declared::Method,
+    )
 }
 
 fn say_not_assignable(page: &mut Page, pieces: &Pieces<'_>, at: u32) -> Result<(), Memory> {
@@ -133,9 +140,7 @@ pub fn say_types(
             let name = pieces.text(pieces.index_of(*at));
             page.say_name(&texts::NO_RETURN, name)
         }
-        TypeError::TypeNotHere(at) => {
-            page.say_plain(types_around(pieces, pieces.index_of(*at)))
-        }
+        TypeError::TypeNotHere(at) => { page.say_plain(types_around(pieces, pieces.index_of(*at))) }
         TypeError::NotAllowedHere(at) => {
             let index = pieces.index_of(*at);
             page.say_name(not_allowed(pieces, index, is_service), pieces.text(index))

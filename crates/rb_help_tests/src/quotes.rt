@@ -28,7 +28,7 @@ fn wide_characters_take_two_columns(rt: HostRuntime) -> Result<(), Fail> {
     let text = quoted(rt.alloc(), source.as_bytes(), 18)?;
     assert_eq!(rt;
         text.as_str(),
-        "1 | print(\"\u{65e5}\u{672c}e\u{301}\" + x);\n  |              ^\n"
+        "1 | print(\"\u{65e5}\u{672c}e\u{301}\" + x);\n  |               ^\n"
     );
     Ok(())
 }

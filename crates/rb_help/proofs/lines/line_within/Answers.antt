@@ -1,6 +1,4 @@
-use Rattle.std.proofs.Common.{◌≡◌, ◌-◌, length, not, take, drop, arith}
-use Rattle.std.specs.List.{suffix_len, position_or_len}
-use Rattle.rb_meaning.specs.Place.{is_line_feed}
+use Rattle.std.proofs.Common.{arith}
 use Rattle.rb_help.proofs.Ranges.{range_of_line}
 use Rattle.rb_help.proofs.lines.line_within.Goals as goal
 
