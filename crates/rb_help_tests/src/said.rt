@@ -1,22 +1,18 @@
-// What is said of troubles, as texts for tests.
+// What is said of troubles, compared with what is to be said.
 
 use rb_help::{Trouble, explain};
 use rb_trees::{Fault, Memory, ReadError, Refusal, Seq, StoreError, TypeError};
 use std::alloc::Global;
 
-/// What is said of a trouble in a text.
-pub fn said_of_bytes(
+/// Whether this is said of a trouble in a text.
+pub fn says(
     alloc: Global,
-    source: &[u8],
+    source: &str,
     trouble: &Trouble<'_>,
-) -> Result<String, Memory> {
-    let text = explain(alloc, source, trouble)?;
-    Ok(String::from_utf8_lossy(alloc, text.as_slice())?)
-}
-
-/// What is said of a trouble in a text that is UTF-8.
-pub fn said(alloc: Global, source: &str, trouble: &Trouble<'_>) -> Result<String, Memory> {
-    said_of_bytes(alloc, source.as_bytes(), trouble)
+    expected: &str,
+) -> Result<bool, Memory> {
+    let text = explain(alloc, source.as_bytes(), trouble)?;
+    Ok(text.as_slice() == expected.as_bytes())
 }
 
 /// The place where a word first stands in a text, or the first place where it stands nowhere.
@@ -27,28 +23,62 @@ pub fn place(source: &str, word: &str) -> u32 {
     }
 }
 
-/// What is said of a program that isn't read.
-pub fn unread(alloc: Global, source: &str, error: ReadError) -> Result<String, Memory> {
-    said(alloc, source, &Trouble::Unread(&error))
+/// Whether this is said of a program that isn't read.
+pub fn unread(
+    alloc: Global,
+    source: &str,
+    error: ReadError,
+    expected: &str,
+) -> Result<bool, Memory> {
+    says(alloc, source, &Trouble::Unread(&error), expected)
 }
 
-/// What is said of a program that isn't typed.
-pub fn untyped(alloc: Global, source: &str, error: TypeError) -> Result<String, Memory> {
-    said(alloc, source, &Trouble::Untyped(&error))
+/// Whether this is said of a program that isn't typed.
+pub fn untyped(
+    alloc: Global,
+    source: &str,
+    error: TypeError,
+    expected: &str,
+) -> Result<bool, Memory> {
+    says(alloc, source, &Trouble::Untyped(&error), expected)
 }
 
-/// What is said of a batch that is refused.
-pub fn refused(alloc: Global, source: &str, refusal: Refusal) -> Result<String, Memory> {
-    said(alloc, source, &Trouble::Refused(&refusal))
+/// Whether this is said of a batch that is refused.
+pub fn refused(
+    alloc: Global,
+    source: &str,
+    refusal: Refusal,
+    expected: &str,
+) -> Result<bool, Memory> {
+    says(alloc, source, &Trouble::Refused(&refusal), expected)
 }
 
-/// What is said of a service's text that is refused.
-pub fn unserved(alloc: Global, source: &str, error: StoreError) -> Result<String, Memory> {
-    said(alloc, source, &Trouble::Unserved(&error))
+/// Whether this is said of a flow through these places.
+pub fn flow(alloc: Global, source: &str, chain: &[u32], expected: &str) -> Result<bool, Memory> {
+    let chain = Seq::from_slice(alloc, chain)?;
+    refused(alloc, source, Refusal::Flow(chain), expected)
 }
 
-/// What is said of a fault of a run.
-pub fn faulted(alloc: Global, source: &str, code: u8, at: u32) -> Result<String, Memory> {
+/// Whether this is said of a service's text that is refused.
+pub fn unserved(
+    alloc: Global,
+    source: &str,
+    error: StoreError,
+    expected: &str,
+) -> Result<bool, Memory> {
+    says(alloc, source, &Trouble::Unserved(&error), expected)
+}
+
+/// Whether this is said of a fault with the text `Big`, at the place of a word.
+pub fn faulted(
+    alloc: Global,
+    source: &str,
+    code: u8,
+    word: &str,
+    expected: &str,
+) -> Result<bool, Memory> {
     let text = Seq::from_slice(alloc, b"Big")?;
-    said(alloc, source, &Trouble::Faulted(&Fault { code, text }, at))
+    let fault = Fault { code, text };
+    let trouble = Trouble::Faulted(&fault, place(source, word));
+    says(alloc, source, &trouble, expected)
 }
