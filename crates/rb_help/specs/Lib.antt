@@ -1,0 +1,5 @@
+pub mod Lines
+pub mod Characters
+pub mod Positions
+pub mod Quotes
+pub mod Appends

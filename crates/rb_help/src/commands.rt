@@ -1,0 +1,40 @@
+// The forms of the commands.
+
+ghost use Rattle.std.specs.Prelude.{◌≡◌, IfOk};
+ghost use Rattle.std.specs.List.{flat_map};
+
+use rb_trees::{Memory, Seq, Word};
+use std::alloc::Global;
+
+/// The lines that tell the forms of the commands, one for each command between the first and the last.
+pub static USAGE: [&[u8]; 10] = [
+    b"The commands, where P is the file of a program and S that of a service:\n",
+    b"  check P                tell whether the program P is accepted\n",
+    b"  split P                show how each batch of P is divided\n",
+    b"  unsplit P S [FUEL]     run P as it stands on the service S, and send nothing\n",
+    b"  both P S [FUEL]        run P, and S beside it in the same process\n",
+    b"  run ADDRESS P [FUEL]   run P with the server at ADDRESS\n",
+    b"  pair P S [FUEL]        run P, and S in a process of its own\n",
+    b"  serve ADDRESS S COUNT  serve S at ADDRESS to COUNT clients, one after the other\n",
+    b"  child S                serve S to one client, by standard input and output\n",
+    b"FUEL is how many calls and turns of loops the program may make, 1000000 where it is left out.\n",
+];
+
+/// Lines one after the other.
+#[tactic(auto, using(crate::proofs::Appended::pieces))]
+fn joined(alloc: Global, lines: &[&[u8]]) -> Result<Word, Memory>
+    ensures { IfOk result (λ text. text ≡ flat_map (λ line. line.now) lines.now) }
+{
+    let mut text = Seq::new(alloc);
+    for line in lines {
+        text.extend_from_slice(line)?;
+    }
+    Ok(text)
+}
+
+/// The forms of the commands, a line each with what they do: the lines of `USAGE`.
+pub fn usage(alloc: Global) -> Result<Word, Memory>
+    ensures { IfOk result (λ text. text ≡ flat_map (λ line. line.now) USAGE) }
+{
+    joined(alloc, &USAGE)
+}

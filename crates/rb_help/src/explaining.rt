@@ -1,0 +1,58 @@
+// What a person is told of a trouble.
+
+ghost use Rattle.std.specs.Prelude.{IfOk};
+ghost use Rattle.rb_help.specs.Positions.{positions_of};
+ghost use Rattle.rb_help.specs.Quotes.{Quotes};
+
+use crate::blocks::blocks;
+use crate::outside_help::say_outside;
+use crate::page::Page;
+use crate::pieces::Pieces;
+use crate::placing::positions;
+use crate::reading_help::say_read;
+use crate::refusal_help::say_refusal;
+use crate::run_help::say_fault;
+use crate::service_help::say_service;
+use crate::trouble::Trouble;
+use crate::typing_help::say_types;
+use rb_trees::{Memory, Word};
+use std::alloc::Global;
+
+/// What is said of a trouble below the lines that are quoted.
+fn say(
+    alloc: Global,
+    page: &mut Page,
+    pieces: &Pieces<'_>,
+    trouble: &Trouble<'_>,
+) -> Result<(), Memory> {
+    match trouble {
+        Trouble::Faulted(fault, at) => say_fault(page, pieces, fault, *at),
+        Trouble::Unread(error) => say_read(page, pieces, error),
+        Trouble::Untyped(error) => say_types(alloc, page, pieces, error, false),
+        Trouble::Refused(refusal) => say_refusal(page, pieces, refusal),
+        Trouble::Unserved(error) => say_service(alloc, page, pieces, error),
+        _ => say_outside(alloc, page, trouble),
+    }
+}
+
+/// The sentences on a trouble.
+fn sentences(alloc: Global, pieces: &Pieces<'_>, trouble: &Trouble<'_>) -> Result<Word, Memory> {
+    let mut page = Page::new(alloc);
+    say(alloc, &mut page, pieces, trouble)?;
+    Ok(page.into_word())
+}
+
+/// What a person is told of a trouble in a text: the lines at its positions with a caret under each place, what is wrong,
+/// and what to do. Any text and any trouble will do; a position behind the end is the end.
+///
+/// The lines that are quoted are those of the text at the trouble's positions, in their order (`Quotes`).
+pub fn explain(alloc: Global, source: &[u8], trouble: &Trouble<'_>) -> Result<Word, Memory>
+    ensures { IfOk result (λ text. Quotes source.now (positions_of trouble.now) text) }
+{
+    let pieces = Pieces::make(alloc, source)?;
+    let ats = positions(alloc, trouble)?;
+    let mut text = blocks(alloc, source, &pieces, trouble, ats.as_slice())?;
+    let said = sentences(alloc, &pieces, trouble)?;
+    text.extend_from_slice(said.as_slice())?;
+    Ok(text)
+}

@@ -1,0 +1,449 @@
+// All sentences. `@` stands for a name or sign of the text at hand, and `#` for a number or a type.
+
+/// What is wrong, and what to do.
+#[derive(Clone, Copy)]
+pub struct Help {
+    pub wrong: &'static [u8],
+    pub mend: &'static [u8],
+}
+
+// Tokens.
+
+pub const NO_TOKEN: Help = Help {
+    wrong: b"`@` begins nothing in this language.",
+    mend: b"Take it out; other signs than the language's own stand in text literals and comments alone.",
+};
+
+pub const HALF_SIGN: Help = Help {
+    wrong: b"A single `@` means nothing here.",
+    mend: b"Write `@@`.",
+};
+
+pub const BAD_ESCAPE: Help = Help {
+    wrong: b"In a text literal a backslash stands only in `\\n`, `\\\"` and `\\\\`.",
+    mend: b"Write `\\\\` where the text is to have a backslash.",
+};
+
+pub const OPEN_TEXT: Help = Help {
+    wrong: b"This text literal isn't closed on its line.",
+    mend: b"Close it by `\"`; a line feed in it is written `\\n`.",
+};
+
+pub const LARGE_NUMBER: Help = Help {
+    wrong: b"@ is no Int: the greatest is 9223372036854775807, and the least -9223372036854775808.",
+    mend: b"Write a number between them.",
+};
+
+pub const NOT_UTF8: Help = Help {
+    wrong: b"The text isn't UTF-8 from here on.",
+    mend: b"Save the file as UTF-8.",
+};
+
+pub const LONG_SOURCE: Help = Help {
+    wrong: b"The text goes on here, behind the 1048576 bytes that it may have.",
+    mend: b"Shorten it.",
+};
+
+pub const LONG_LITERAL: Help = Help {
+    wrong: b"This text literal has more than the 4096 bytes that a Text may have.",
+    mend: b"Shorten it, or print it in several pieces.",
+};
+
+// Reading.
+
+pub const ENDS_EARLY: Help = Help {
+    wrong: b"The text ends here, and something is missing.",
+    mend: b"See whether each `{` has its `}`, and whether `main` stands at the end.",
+};
+
+pub const KEYWORD_AS_NAME: Help = Help {
+    wrong: b"A name is wanted here, and `@` is a word of the language.",
+    mend: b"Choose another name.",
+};
+
+pub const NAME_WANTED: Help = Help {
+    wrong: b"A name is wanted here, and `@` is none.",
+    mend: b"Write a name: a letter or `_`, and then letters, digits and `_`.",
+};
+
+pub const UNEXPECTED: Help = Help {
+    wrong: b"`@` can't stand here.",
+    mend: b"See whether something is missing before it, such as a `;`, a `)` or a `}`.",
+};
+
+pub const BLOCKS_NESTED: Help = Help {
+    wrong: b"64 blocks are open before this one, and no more may be.",
+    mend: b"Move inner blocks into a method of their own.",
+};
+
+pub const NESTED: Help = Help {
+    wrong: b"This is nested too deep: an expression has at most 200 operators, dots, brackets and parentheses, \
+and a type or list at most 64 brackets within each other.",
+    mend: b"Give parts of it names of their own by `val`.",
+};
+
+// Types.
+
+pub const NO_CLASS: Help = Help {
+    wrong: b"There is no class `@`.",
+    mend: b"Declare it by `class @ { .. }`, or write the name of a class that is declared.",
+};
+
+pub const NO_INTERFACE: Help = Help {
+    wrong: b"There is no interface `@`.",
+    mend: b"Declare it by `interface @ { .. }`, or write the name of an interface that is declared.",
+};
+
+pub const NO_TYPE: Help = Help {
+    wrong: b"There is no class or interface `@`.",
+    mend: b"Declare it, or write the name of one that is declared.",
+};
+
+pub const NO_THIS: Help = Help {
+    wrong: b"`this` is known in methods alone.",
+    mend: b"Name the object by a variable.",
+};
+
+pub const NO_METHOD: Help = Help {
+    wrong: b"What stands before the dot has no method `@`.",
+    mend: b"Declare `fun @` in its class or interface, or call a method that is declared there.",
+};
+
+pub const NO_FIELD: Help = Help {
+    wrong: b"What stands before the dot has no field `@`.",
+    mend: b"Declare `@` in its class, or read a field that is declared there.",
+};
+
+pub const NO_VARIABLE: Help = Help {
+    wrong: b"`@` isn't declared here.",
+    mend: b"Declare it before, in this block or in one around it, by `val @ = ..;` or `var @ = ..;`.",
+};
+
+pub const TAKEN: Help = Help {
+    wrong: b"`@` is taken: it is declared in line # already.",
+    mend: b"Choose another name.",
+};
+
+pub const TAKEN_SOMEWHERE: Help = Help {
+    wrong: b"`@` is taken already.",
+    mend: b"Choose another name.",
+};
+
+pub const NOT_A_VAR: Help = Help {
+    wrong: b"`@` can't be assigned, since it isn't a `var`.",
+    mend: b"Declare it by `var`; or copy its value into a `var`, and assign that.",
+};
+
+pub const NOT_A_PLACE: Help = Help {
+    wrong: b"What stands left of this `=` can't be assigned.",
+    mend: b"Assign a `var`, or a field of an object.",
+};
+
+pub const NO_RETURN: Help = Help {
+    wrong: b"`@` promises a value and doesn't return one.",
+    mend: b"End its body by `return ..;`, or take the type behind the colon away.",
+};
+
+pub const CALL_COUNT: Help = Help {
+    wrong: b"`@` takes another number of arguments than the # that are written here.",
+    mend: b"Write one for each parameter of the method.",
+};
+
+pub const CALL_LINE: &[u8] = b"Write one for each parameter of `fun @` in line #.";
+
+pub const NEW_COUNT: Help = Help {
+    wrong: b"`new @` takes another number of values than the # that are written here.",
+    mend: b"Write one for each field of the class, in their order.",
+};
+
+pub const NEW_LINE: &[u8] = b"Write one for each field of `class @` in line #, in their order.";
+
+// Types that may not stand where they do.
+
+pub const TYPE_OF_INTERFACE: Help = Help {
+    wrong: b"A method of an interface can't take or give this type.",
+    mend: b"It takes Int, Bool, Text and interfaces, and gives these or Rows of them.",
+};
+
+pub const TYPE_OF_CLASS: Help = Help {
+    wrong: b"A class can't have this type here.",
+    mend: b"Its fields, parameters and lists are of Int, Bool, Text, classes and Lists; its methods give these.",
+};
+
+pub const TYPE_OF_MAIN: Help = Help {
+    wrong: b"`main` can't have this type here.",
+    mend: b"It gives Int, Bool, Text or nothing; a List in it is of these, classes and Lists.",
+};
+
+// Statements and calls that may not stand where they do.
+
+pub const NO_PRINT: Help = Help {
+    wrong: b"A service prints nothing.",
+    mend: b"Let the method give the value, and print it in the program.",
+};
+
+pub const NO_BATCH: Help = Help {
+    wrong: b"A service has no batches.",
+    mend: b"Let the program hold the batch.",
+};
+
+pub const NO_REMOTE: Help = Help {
+    wrong: b"A method of a service can't be a `remote fun`.",
+    mend: b"Take the word `remote` away.",
+};
+
+pub const BATCH_PLACE: Help = Help {
+    wrong: b"A `batch` stands in `main` or in a `remote fun` alone.",
+    mend: b"Declare this method by `remote fun`.",
+};
+
+pub const REMOTE_CALL: Help = Help {
+    wrong: b"`@` is a `remote fun`, and is called from `main` or a `remote fun` alone.",
+    mend: b"Declare the method that calls it by `remote fun`.",
+};
+
+// Types that are found where others are wanted.
+
+pub const NO_VALUE: Help = Help {
+    wrong: b"`@` gives no value, and one is wanted here.",
+    mend: b"Let the method give one, or write the call as a statement of its own.",
+};
+
+pub const WRONG_NAME: &[u8] = b"`@` is of type `#`, and another type is wanted here.";
+
+pub const WRONG_CALL: &[u8] = b"`@` gives a value of type `#`, and another type is wanted here.";
+
+pub const WRONG_VALUE: &[u8] = b"This is of type `#`, and another type is wanted here.";
+
+pub const FROM_INT: &[u8] =
+    b"Where a Text is wanted, `str` makes one of it; where a Bool is, compare it, as by `> 0`.";
+
+pub const FROM_BOOL: &[u8] =
+    b"Where a Text is wanted, `str` makes one of it; where an Int is, decide by `if`.";
+
+pub const FROM_TEXT: &[u8] =
+    b"A Text is joined by `+`, compared by `==` and `!=` and measured by `len`; nothing makes a number of it.";
+
+pub const FROM_LIST: &[u8] =
+    b"Take an item of it by `[..]`, the number of its items by `len`, or go over it by `for`.";
+
+pub const FROM_ROWS: &[u8] = b"Go over the rows by `for`, within the batch.";
+
+pub const FROM_OBJECT: &[u8] = b"Take a field of it, or call a method that gives what is wanted.";
+
+// Refusals of batches.
+
+pub const FLOW: Help = Help {
+    wrong: b"A batch is sent before its results come back, so what local code makes of a result can't go into it again.",
+    mend: b"Make what flows `val`s of results and operators alone, so that the server keeps them; \
+or end the batch in between, and begin a second one.",
+};
+
+pub const FLOW_OF_VAR: Help = Help {
+    wrong: b"A batch is sent before its results come back, so what local code puts into `@` can't go into it again.",
+    mend: b"Make `@` a `val`, so that the server keeps it; or end the batch in between, and begin a second one.",
+};
+
+pub const NOT_CONSTANT: Help = Help {
+    wrong: b"This isn't known when the batch begins, and what a batch sends has to be.",
+    mend: b"Put the Int, Bool or Text that is meant into a `val` before the batch, and write that here.",
+};
+
+pub const NAME_NOT_CONSTANT: Help = Help {
+    wrong: b"`@` isn't known when the batch begins, and what a batch sends has to be.",
+    mend: b"Put the Int, Bool or Text that is meant into a `val` before the batch, and write that here.",
+};
+
+pub const LOCAL_CONDITION: Help = Help {
+    wrong: b"Local code decides whether the call is made, and it runs only when the batch has come back.",
+    mend: b"Decide by literals, results of calls, and `val`s of these or from outside; or put the batch inside.",
+};
+
+pub const ESCAPES: Help = Help {
+    wrong: b"A remote object, or rows, can't be used here: they stay at the server.",
+    mend: b"Call a method that gives an Int, a Bool or a Text, or go over the rows by `for`.",
+};
+
+pub const BATCH_INSIDE: Help = Help {
+    wrong: b"A batch can't stand in a batch.",
+    mend: b"End the first one before this one begins.",
+};
+
+pub const BATCH_CALLED_INSIDE: Help = Help {
+    wrong: b"`@` is a `remote fun`, and can't be called in a batch.",
+    mend: b"Call it before the batch or behind it.",
+};
+
+pub const IN_TRY: Help = Help {
+    wrong: b"This is performed at the server, and can't stand in a `try` of the batch.",
+    mend: b"Put the whole batch into the `try`.",
+};
+
+pub const REMOTE_VAR: Help = Help {
+    wrong: b"`@` would hold a remote object or rows, and a `var` can't.",
+    mend: b"Write `val @` in place of `var @`.",
+};
+
+pub const MANY_INPUTS: Help = Help {
+    wrong: b"This batch sends # variables from outside, and 255 is the most.",
+    mend: b"Divide it into two batches.",
+};
+
+pub const LARGE_SCRIPT: Help = Help {
+    wrong: b"What this batch sends would have # bytes, and 4194304 is the most.",
+    mend: b"Divide it into two batches.",
+};
+
+// Faults of a run.
+
+pub const DIV_ZERO: Help = Help {
+    wrong: b"This divides by 0.",
+    mend: b"Test the divisor before, or catch the fault by `try`.",
+};
+
+pub const INDEX: Help = Help {
+    wrong: b"The index is below 0, or not below the number of items.",
+    mend: b"Compare it with `len` of the list before, or catch the fault by `try`.",
+};
+
+pub const TEXT_TOO_LONG: Help = Help {
+    wrong: b"The joined text would have more than 4096 bytes.",
+    mend: b"Keep the pieces in a List, or print them one by one.",
+};
+
+pub const LIST_TOO_LONG: Help = Help {
+    wrong: b"The list would have more than 10000 items.",
+    mend: b"Keep the items in several lists.",
+};
+
+pub const HEAP_FULL: Help = Help {
+    wrong: b"There are 100000 objects already, and no more can be made.",
+    mend: b"Use objects again rather than making new ones.",
+};
+
+pub const TOO_DEEP: Help = Help {
+    wrong: b"32 calls are under way here already, and no deeper one can be made.",
+    mend: b"Let a `while` do what the method does by calling itself.",
+};
+
+pub const FUEL_USED: Help = Help {
+    wrong: b"The fuel is used up: each call of a method and each turn of a loop takes one unit.",
+    mend: b"See whether the loop ends. A run is given more by its last word; a batch has 1000000 units at the server.",
+};
+
+pub const THROWN: Help = Help {
+    wrong: b"The program threw \"@\", and nothing caught it.",
+    mend: b"Catch it by `try { .. } catch (e) { .. }`, or see why it is thrown.",
+};
+
+pub const OBJECT_LACKS: Help = Help {
+    wrong: b"At the server the object isn't there, or its class has no method `@`.",
+    mend: b"Compare the interface in the program with the class in the service.",
+};
+
+pub const BAD_ARGUMENTS: Help = Help {
+    wrong: b"At the server the method `@` takes other arguments.",
+    mend: b"Compare the interface in the program with the class in the service.",
+};
+
+pub const WRONG_KIND: Help = Help {
+    wrong: b"At the server the method `@` gave another kind of value than the interface promises.",
+    mend: b"Compare the interface in the program with the class in the service.",
+};
+
+pub const KIND: Help = Help {
+    wrong: b"A value is of a kind that can't be used here.",
+    mend: b"No program that is accepted does this by itself; see whether the server is the one that is meant.",
+};
+
+pub const OTHER_FAULT: Help = Help {
+    wrong: b"The program ended here, by a fault without a name.",
+    mend: b"See whether the server is the one that is meant.",
+};
+
+// Objects of services.
+
+pub const NO_ROOT: Help = Help {
+    wrong: b"The root's number is that of no object.",
+    mend: b"Write an object with that number, or name another one behind `root`.",
+};
+
+pub const BAD_REFERENCE: Help = Help {
+    wrong: b"A value of object # names an object that isn't there.",
+    mend: b"Write that object, or name one that is written.",
+};
+
+pub const FIELD_MISSING: Help = Help {
+    wrong: b"The fields of object # aren't those of its class in their order.",
+    mend: b"Give each field of the class a value, in the order of the class.",
+};
+
+pub const FIELD_KIND: Help = Help {
+    wrong: b"A value of object # isn't of its field's type, or is a list of more than 10000 items.",
+    mend: b"Give each field a value of the type that the class says.",
+};
+
+pub const OBJECT_NUMBER: Help = Help {
+    wrong: b"Where object # is due, another number is written.",
+    mend: b"Number the objects 0, 1, 2 and so on, in their order.",
+};
+
+// What stands around a program.
+
+pub const FILE_FAULT: Help = Help {
+    wrong: b"The file `@` can't be read.",
+    mend: b"See whether its name is right, and whether it may be read.",
+};
+
+pub const FILE_TOO_LONG: Help = Help {
+    wrong: b"The file `@` has more than 1048576 bytes.",
+    mend: b"Shorten it.",
+};
+
+pub const LINK_FAULT: Help = Help {
+    wrong: b"The link to the server broke, after # exchanges.",
+    mend: b"See whether the server still runs. What it did before stays done, and maybe the last batch too.",
+};
+
+pub const BAD_REPLY: Help = Help {
+    wrong: b"The server sent a reply that can't be understood, after # exchanges.",
+    mend: b"See whether the server is the one that is meant, and of the same version.",
+};
+
+pub const DIAL_FAULT: Help = Help {
+    wrong: b"No link to `@` came about.",
+    mend: b"See whether the server is there, and whether it listens.",
+};
+
+pub const LISTEN_FAULT: Help = Help {
+    wrong: b"`@` can't be listened on.",
+    mend: b"See whether the address is one of this machine, and whether another program uses it.",
+};
+
+pub const OUTPUT_FAULT: Help = Help {
+    wrong: b"The output can't be written.",
+    mend: b"See whether what reads it still runs, and whether the disk is full.",
+};
+
+pub const WANT_OF_MEMORY: Help = Help {
+    wrong: b"No memory was left.",
+    mend: b"Give the program more, or less to do.",
+};
+
+pub const NO_COMMAND: &[u8] = b"The words are those of no command.";
+
+// Labels beside carets.
+
+pub const THIS_RESULT: &[u8] = b"this call's result";
+
+pub const FLOWS_INTO: &[u8] = b"flows into `@` here";
+
+pub const FLOWS_INTO_FIELD: &[u8] = b"flows into the field `@` here";
+
+pub const FLOWS_INTO_OBJECT: &[u8] = b"flows into an object here";
+
+pub const SENT_BACK: &[u8] = b"and is sent back here";
+
+pub const DECIDED_HERE: &[u8] = b"local code decides this";
+
+pub const WAITS_HERE: &[u8] = b"and this would wait for it";

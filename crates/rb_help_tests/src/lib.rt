@@ -1,0 +1,23 @@
+//! Tests of what a person is told of troubles: each sentence once.
+#![tactic(auto)]
+
+#[cfg(test)]
+mod faults;
+#[cfg(test)]
+mod names;
+#[cfg(test)]
+mod outside;
+#[cfg(test)]
+mod quotes;
+#[cfg(test)]
+mod readings;
+#[cfg(test)]
+mod refusals;
+#[cfg(test)]
+mod said;
+#[cfg(test)]
+mod services;
+#[cfg(test)]
+mod statements;
+#[cfg(test)]
+mod types;

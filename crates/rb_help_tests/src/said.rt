@@ -1,0 +1,84 @@
+// What is said of troubles, compared with what is to be said.
+
+use rb_help::{Trouble, explain};
+use rb_trees::{Fault, Memory, ReadError, Refusal, Seq, StoreError, TypeError};
+use std::alloc::Global;
+
+/// Whether this is said of a trouble in a text.
+pub fn says(
+    alloc: Global,
+    source: &str,
+    trouble: &Trouble<'_>,
+    expected: &str,
+) -> Result<bool, Memory> {
+    let text = explain(alloc, source.as_bytes(), trouble)?;
+    Ok(text.as_slice() == expected.as_bytes())
+}
+
+/// The place where a word first stands in a text, or the first place where it stands nowhere.
+pub fn place(source: &str, word: &str) -> u32 {
+    match source.find(word) {
+        Some(at) if at < 1_000_000 => at as u32,
+        _ => 0,
+    }
+}
+
+/// Whether this is said of a program that isn't read.
+pub fn unread(
+    alloc: Global,
+    source: &str,
+    error: ReadError,
+    expected: &str,
+) -> Result<bool, Memory> {
+    says(alloc, source, &Trouble::Unread(&error), expected)
+}
+
+/// Whether this is said of a program that isn't typed.
+pub fn untyped(
+    alloc: Global,
+    source: &str,
+    error: TypeError,
+    expected: &str,
+) -> Result<bool, Memory> {
+    says(alloc, source, &Trouble::Untyped(&error), expected)
+}
+
+/// Whether this is said of a batch that is refused.
+pub fn refused(
+    alloc: Global,
+    source: &str,
+    refusal: Refusal,
+    expected: &str,
+) -> Result<bool, Memory> {
+    says(alloc, source, &Trouble::Refused(&refusal), expected)
+}
+
+/// Whether this is said of a flow through these places.
+pub fn flow(alloc: Global, source: &str, chain: &[u32], expected: &str) -> Result<bool, Memory> {
+    let chain = Seq::from_slice(alloc, chain)?;
+    refused(alloc, source, Refusal::Flow(chain), expected)
+}
+
+/// Whether this is said of a service's text that is refused.
+pub fn unserved(
+    alloc: Global,
+    source: &str,
+    error: StoreError,
+    expected: &str,
+) -> Result<bool, Memory> {
+    says(alloc, source, &Trouble::Unserved(&error), expected)
+}
+
+/// Whether this is said of a fault with the text `Big`, at the place of a word.
+pub fn faulted(
+    alloc: Global,
+    source: &str,
+    code: u8,
+    word: &str,
+    expected: &str,
+) -> Result<bool, Memory> {
+    let text = Seq::from_slice(alloc, b"Big")?;
+    let fault = Fault { code, text };
+    let trouble = Trouble::Faulted(&fault, place(source, word));
+    says(alloc, source, &trouble, expected)
+}

@@ -1,0 +1,85 @@
+// Texts that are no services.
+
+use crate::said::{place, unserved};
+use rb_trees::{ReadError, StoreError};
+use std::test::Fail;
+
+#[test]
+fn the_text_is_that_of_the_service(rt: HostRuntime) -> Result<(), Fail> {
+    let alloc = rt.alloc();
+    let source = "class A { } object 0 A { } root 0;";
+    assert!(rt;
+        unserved(
+            alloc,
+            source,
+            StoreError::Read(ReadError::Unexpected(place(source, "A { } root"))),
+            "1 | class A { } object 0 A { } root 0;
+  |                      ^
+`A` can't stand here.
+See whether something is missing before it, such as a `;`, a `)` or a `}`.
+"
+        )?
+    );
+    let source = "class A { } object 0: A { } root 0;";
+    assert!(rt;
+        unserved(
+            alloc,
+            source,
+            StoreError::NoRoot,
+            "The root's number is that of no object.
+Write an object with that number, or name another one behind `root`.
+"
+        )?
+    );
+    Ok(())
+}
+
+#[test]
+fn objects_are_named_by_their_numbers(rt: HostRuntime) -> Result<(), Fail> {
+    let alloc = rt.alloc();
+    let source = "class A { } object 0: A { } root 0;";
+    assert!(rt;
+        unserved(
+            alloc,
+            source,
+            StoreError::BadReference(3),
+            "A value of object 3 names an object that isn't there.
+Write that object, or name one that is written.
+"
+        )?
+    );
+    let source = "class A { } object 0: A { } root 0;";
+    assert!(rt;
+        unserved(
+            alloc,
+            source,
+            StoreError::FieldMissing(3),
+            "The fields of object 3 aren't those of its class in their order.
+Give each field of the class a value, in the order of the class.
+"
+        )?
+    );
+    let source = "class A { } object 0: A { } root 0;";
+    assert!(rt;
+        unserved(
+            alloc,
+            source,
+            StoreError::FieldKind(3),
+            "A value of object 3 isn't of its field's type, or is a list of more than 10000 items.
+Give each field a value of the type that the class says.
+"
+        )?
+    );
+    let source = "class A { } object 0: A { } root 0;";
+    assert!(rt;
+        unserved(
+            alloc,
+            source,
+            StoreError::ObjectNumber(3),
+            "Where object 3 is due, another number is written.
+Number the objects 0, 1, 2 and so on, in their order.
+"
+        )?
+    );
+    Ok(())
+}

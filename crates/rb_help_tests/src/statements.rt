@@ -1,0 +1,230 @@
+// Calls, assignments, types and statements that can't stand where they do.
+
+use crate::said::{place, unserved, untyped};
+use rb_trees::{StoreError, TypeError};
+use std::test::Fail;
+
+#[test]
+fn counts_of_arguments(rt: HostRuntime) -> Result<(), Fail> {
+    let alloc = rt.alloc();
+    let source = "class A {\n  fun m(a: Int) { }\n}\nmain { new A().m(f(1, 2), 3); }";
+    assert!(rt;
+        untyped(
+            alloc,
+            source,
+            TypeError::WrongCount(place(source, "m(f")),
+            "4 | main { new A().m(f(1, 2), 3); }
+  |                ^
+`m` takes another number of arguments than the 2 that are written here.
+Write one for each parameter of `fun m` in line 2.
+"
+        )?
+    );
+    let source = "class A { fun m(a: Int) { } } class B { fun m() { } } main { new A().m (); }";
+    assert!(rt;
+        untyped(
+            alloc,
+            source,
+            TypeError::WrongCount(place(source, "m ()")),
+            "1 | class A { fun m(a: Int) { } } class B { fun m() { } } main { new A().m (); }
+  |                                                                      ^
+`m` takes another number of arguments than the 0 that are written here.
+Write one for each parameter of the method.
+"
+        )?
+    );
+    let source = "class A { a: Int; }\nmain { val a = new A(); }";
+    assert!(rt;
+        untyped(
+            alloc,
+            source,
+            TypeError::WrongCount(place(source, "new")),
+            "2 | main { val a = new A(); }
+  |                ^
+`new A` takes another number of values than the 0 that are written here.
+Write one for each field of `class A` in line 1, in their order.
+"
+        )?
+    );
+    let source = "main { val a = new A(1); }";
+    assert!(rt;
+        untyped(
+            alloc,
+            source,
+            TypeError::WrongCount(place(source, "new")),
+            "1 | main { val a = new A(1); }
+  |                ^
+`new A` takes another number of values than the 1 that are written here.
+Write one for each field of the class, in their order.
+"
+        )?
+    );
+    Ok(())
+}
+
+#[test]
+fn what_cannot_be_assigned(rt: HostRuntime) -> Result<(), Fail> {
+    let alloc = rt.alloc();
+    let source = "main { val s = 1; s = 2; }";
+    assert!(rt;
+        untyped(
+            alloc,
+            source,
+            TypeError::NotAssignable(place(source, "= 2")),
+            "1 | main { val s = 1; s = 2; }
+  |                     ^
+`s` can't be assigned, since it isn't a `var`.
+Declare it by `var`; or copy its value into a `var`, and assign that.
+"
+        )?
+    );
+    let source = "main { a.m() = 2; }";
+    assert!(rt;
+        untyped(
+            alloc,
+            source,
+            TypeError::NotAssignable(place(source, "= 2")),
+            "1 | main { a.m() = 2; }
+  |              ^
+What stands left of this `=` can't be assigned.
+Assign a `var`, or a field of an object.
+"
+        )?
+    );
+    let source = "class A { fun m(): Int { } } main { }";
+    assert!(rt;
+        untyped(
+            alloc,
+            source,
+            TypeError::MissingReturn(place(source, "m()")),
+            "1 | class A { fun m(): Int { } } main { }
+  |               ^
+`m` promises a value and doesn't return one.
+End its body by `return ..;`, or take the type behind the colon away.
+"
+        )?
+    );
+    Ok(())
+}
+
+#[test]
+fn types_that_cannot_stand_here(rt: HostRuntime) -> Result<(), Fail> {
+    let alloc = rt.alloc();
+    let source = "interface D { fun m(a: List<Int>); } main { }";
+    assert!(rt;
+        untyped(
+            alloc,
+            source,
+            TypeError::TypeNotHere(place(source, "List")),
+            "1 | interface D { fun m(a: List<Int>); } main { }
+  |                        ^
+A method of an interface can't take or give this type.
+It takes Int, Bool, Text and interfaces, and gives these or Rows of them.
+"
+        )?
+    );
+    let source = "interface D { } class A { d: D; } main { }";
+    assert!(rt;
+        untyped(
+            alloc,
+            source,
+            TypeError::TypeNotHere(place(source, "D;")),
+            "1 | interface D { } class A { d: D; } main { }
+  |                              ^
+A class can't have this type here.
+Its fields, parameters and lists are of Int, Bool, Text, classes and Lists; its methods give these.
+"
+        )?
+    );
+    let source = "main: Unit { }";
+    assert!(rt;
+        untyped(
+            alloc,
+            source,
+            TypeError::TypeNotHere(place(source, "Unit")),
+            "1 | main: Unit { }
+  |       ^
+`main` can't have this type here.
+It gives Int, Bool, Text or nothing; a List in it is of these, classes and Lists.
+"
+        )?
+    );
+    Ok(())
+}
+
+#[test]
+fn statements_of_other_places(rt: HostRuntime) -> Result<(), Fail> {
+    let alloc = rt.alloc();
+    let source = "class A { fun m() { batch (D r) { } } } main { }";
+    assert!(rt;
+        untyped(
+            alloc,
+            source,
+            TypeError::NotAllowedHere(place(source, "batch")),
+            "1 | class A { fun m() { batch (D r) { } } } main { }
+  |                     ^
+A `batch` stands in `main` or in a `remote fun` alone.
+Declare this method by `remote fun`.
+"
+        )?
+    );
+    let source = "class A { remote fun b() { } fun m() { this.b (); } } main { }";
+    assert!(rt;
+        untyped(
+            alloc,
+            source,
+            TypeError::NotAllowedHere(place(source, "b ()")),
+            "1 | class A { remote fun b() { } fun m() { this.b (); } } main { }
+  |                                             ^
+`b` is a `remote fun`, and is called from `main` or a `remote fun` alone.
+Declare the method that calls it by `remote fun`.
+"
+        )?
+    );
+    Ok(())
+}
+
+#[test]
+fn statements_that_a_service_lacks(rt: HostRuntime) -> Result<(), Fail> {
+    let alloc = rt.alloc();
+    let source = "class A { fun m() { print(1); } }";
+    assert!(rt;
+        unserved(
+            alloc,
+            source,
+            StoreError::Types(TypeError::NotAllowedHere(place(source, "print"))),
+            "1 | class A { fun m() { print(1); } }
+  |                     ^
+A service prints nothing.
+Let the method give the value, and print it in the program.
+"
+        )?
+    );
+    let source = "class A { fun m() { batch (D r) { } } }";
+    assert!(rt;
+        unserved(
+            alloc,
+            source,
+            StoreError::Types(TypeError::NotAllowedHere(place(source, "batch"))),
+            "1 | class A { fun m() { batch (D r) { } } }
+  |                     ^
+A service has no batches.
+Let the program hold the batch.
+"
+        )?
+    );
+    let source = "class A { remote fun m() { } }";
+    assert!(rt;
+        unserved(
+            alloc,
+            source,
+            StoreError::Types(TypeError::NotAllowedHere(place(source, "m()"))),
+            "1 | class A { remote fun m() { } }
+  |                      ^
+A method of a service can't be a `remote fun`.
+Take the word `remote` away.
+"
+        )?
+    );
+    Ok(())
+}
