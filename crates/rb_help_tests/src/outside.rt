@@ -119,10 +119,6 @@ The commands, where P is the file of a program and S that of a service:
   split P                show how each batch of P is divided
   unsplit P S [FUEL]     run P as it stands on the service S, and send nothing
   both P S [FUEL]        run P, and S beside it in the same process
-  run ADDRESS P [FUEL]   run P with the server at ADDRESS
-  pair P S [FUEL]        run P, and S in a process of its own
-  serve ADDRESS S COUNT  serve S at ADDRESS to COUNT clients, one after the other
-  child S                serve S to one client, by standard input and output
 FUEL is how many calls and turns of loops the program may make, 1000000 where it is left out.
 "
         )?

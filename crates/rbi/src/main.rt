@@ -1,6 +1,7 @@
 //! The program: the commands of the product over the system's files and standard output.
 #![tactic(auto)]
 
+mod help;
 mod real_files;
 mod standard_output;
 
@@ -14,21 +15,22 @@ use std::{env, io};
 
 fn main(rt: HostRuntime) -> ExitCode {
     let status = run(&rt);
-    if matches!(status, Status::Words) {
-        let _ = eprintln!(rt; "usage: rbi check PROGRAM | rbi both PROGRAM SERVICE");
-    }
     ExitCode::from(status.code())
 }
 
-/// Carries out what the words say.
+/// Carries out what the words say, and tells what went wrong.
 fn run<R: Files + Env + Print + AllocGlobal>(rt: &R) -> Status {
     match words(rt) {
-        Ok(words) => top(
-            rt.alloc(),
-            words.as_slice(),
-            &mut RealFiles::make(rt),
-            &mut StandardOutput::make(rt),
-        ),
+        Ok(words) => {
+            let status = top(
+                rt.alloc(),
+                words.as_slice(),
+                &mut RealFiles::make(rt),
+                &mut StandardOutput::make(rt),
+            );
+            help::tell(rt, words.as_slice(), &status);
+            status
+        }
         Err(Memory) => Status::Memory,
     }
 }
