@@ -4,12 +4,6 @@
 #[cfg(test)]
 mod answers;
 #[cfg(test)]
-mod dials;
-#[cfg(test)]
-mod failing_links;
-#[cfg(test)]
-mod frame_links;
-#[cfg(test)]
 mod hosts;
 #[cfg(test)]
 mod links;

@@ -107,14 +107,11 @@ fn a_session_that_stopped_answers_the_same_stop(rt: HostRuntime) -> Result<(), F
     let mut host = host_of(alloc, FILES)?;
     let mut session = Session::make(alloc);
     let mut out = BytesMut::new(alloc);
-    for piece in [b"RB\x00".as_slice(), EMPTY] {
-        match session.feed(alloc, &mut host, piece, &mut out) {
-            Err(SessionStop::BadFrame(at)) => assert_eq!(rt; at, 2),
-            Err(stop) => return Err(Fail::from(stop)),
-            Ok(()) => return Err(Fail::new("the stream breaks its form")),
-        }
-        assert!(rt; out.is_empty());
-    }
+    let first = session.feed(alloc, &mut host, b"RB\x00", &mut out);
+    assert!(rt; matches!(first, Err(SessionStop::BadFrame(2))));
+    let second = session.feed(alloc, &mut host, EMPTY, &mut out);
+    assert!(rt; matches!(second, Err(SessionStop::BadFrame(2))));
+    assert!(rt; out.is_empty());
     Ok(())
 }
 

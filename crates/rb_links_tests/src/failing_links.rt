@@ -1,6 +1,6 @@
 // The link in memory of which chosen exchanges fail.
 
-use crate::hosts::{CALL, NUMBER, host_of};
+use crate::hosts::{CALL, number_host};
 use rb_base::{Link, LinkStop};
 use rb_session::FailingLink;
 use rb_trees::Seq;
@@ -10,7 +10,7 @@ use std::test::Fail;
 fn a_listed_exchange_fails_and_leaves_no_pair(rt: HostRuntime) -> Result<(), Fail> {
     let alloc = rt.alloc();
     let failing = Seq::from_slice(alloc, &[2])?;
-    let mut link = FailingLink::make(alloc, host_of(alloc, NUMBER)?, failing)?;
+    let mut link = FailingLink::make(alloc, number_host(alloc)?, failing)?;
     for (fails, pairs, faults) in [(false, 1, 0), (true, 1, 1), (false, 2, 1)] {
         let failed = match link.exchange(CALL) {
             Err(LinkStop::Failed) => true,
