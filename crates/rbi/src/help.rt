@@ -24,7 +24,7 @@ fn trouble_of(status: &Status) -> Option<(Trouble<'_>, usize)> {
 
 /// Writes to standard error what went wrong, with the lines of the text. What can't be read or written is left out: it
 /// changes neither output nor status.
-pub fn tell<R: AllocGlobal + Files + Print>(rt: &R, words: &[String], status: &Status) {
+pub fn tell<R: AllocGlobal + Files + Eprint>(rt: &R, words: &[String], status: &Status) {
     let Some((trouble, number)) = trouble_of(status) else {
         return;
     };

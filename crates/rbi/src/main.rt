@@ -19,7 +19,7 @@ fn main(rt: HostRuntime) -> ExitCode {
 }
 
 /// Carries out what the words say, and tells what went wrong.
-fn run<R: Files + Env + Print + AllocGlobal>(rt: &R) -> Status {
+fn run<R: Files + Env + Print + Eprint + AllocGlobal>(rt: &R) -> Status {
     match words(rt) {
         Ok(words) => {
             let status = top(
