@@ -1,11 +1,15 @@
+pub mod Complete
 pub mod Differ
 pub mod Ended
+pub mod Going
 pub mod LinkRuns
 pub mod Lines
 pub mod Loaded
 pub mod Names
-pub mod OneAnswer
 pub mod Printed
-pub mod Said
 pub mod RunEnds
+pub mod Serving
+pub mod ServedTold
+pub mod Telling
 pub mod UnsplitRuns
+pub mod Usable

@@ -28,7 +28,7 @@ pub wrote_none : (old : Device (List ℕ)) (text : List ℕ) → WrotePrefix old
 wrote_none old text = record { count = 0; within = omega arith; is = sym (bytes_none old) }
 
 -- a front of a piece is a front of a longer one
-prefix_front : (old new : Device (List ℕ)) (a b : List ℕ) → WrotePrefix old new a → WrotePrefix old new (a ++ b)
+pub prefix_front : (old new : Device (List ℕ)) (a b : List ℕ) → WrotePrefix old new a → WrotePrefix old new (a ++ b)
 prefix_front old new a b w = record {
   count = w.count;
   within = let h = w.within in omega (arith, length-append a b);
@@ -36,7 +36,7 @@ prefix_front old new a b w = record {
 }
 
 -- a front of what follows a whole piece
-prefix_after : (old mid new : Device (List ℕ)) (a b : List ℕ) → mid ≡ with_bytes old a → WrotePrefix mid new b → WrotePrefix old new (a ++ b)
+pub prefix_after : (old mid new : Device (List ℕ)) (a b : List ℕ) → mid ≡ with_bytes old a → WrotePrefix mid new b → WrotePrefix old new (a ++ b)
 prefix_after old mid new a b e w = record {
   count = length a + w.count;
   within = let h = w.within in omega (arith, length-append a b);

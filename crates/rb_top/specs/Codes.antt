@@ -1,7 +1,7 @@
 -- The exit status of each answer.
 use Rattle.std.specs.Prelude.{ℕ}
 use Rattle.rb_top.specs.declared.status.Status.{Status}
-use Rattle.rb_top.specs.declared.status.Status.TheVariants.{Done, Faulted, Words, FileFault, SourceRefused, BatchRefused, ServiceRefused, WriteFault, Memory, FileTooLong}
+use Rattle.rb_top.specs.declared.status.Status.TheVariants.{Done, Faulted, Words, FileFault, SourceRefused, BatchRefused, ServiceRefused, LinkFault, BadReply, WriteFault, Memory, DialFault, ListenFault, FileTooLong}
 
 abbrev pub code_of : Status → ℕ
 code_of Done = 0
@@ -11,6 +11,10 @@ code_of (FileFault name) = 3
 code_of (SourceRefused error) = 4
 code_of (BatchRefused refusal) = 5
 code_of (ServiceRefused error) = 6
+code_of (LinkFault done) = 7
+code_of (BadReply done reason kind bytes) = 8
 code_of WriteFault = 9
 code_of Memory = 10
+code_of DialFault = 11
+code_of ListenFault = 12
 code_of (FileTooLong name) = 13

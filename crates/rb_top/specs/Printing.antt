@@ -38,7 +38,10 @@ PrintsUnlessStarved IsSuch text (Ok a) before after = IsSuch a × (after ≡ wit
 PrintsUnlessStarved IsSuch text (Err WriteFault) before after = WrotePrefix (failed before) after text
 PrintsUnlessStarved IsSuch text (Err Memory) before after = Unit {0}
 
--- what follows the lines of a run: how it ended, how often it exchanged, and the table
+-- what follows the lines of a run: how it ended, and how often it exchanged
+abbrev pub run_end_text : List ℕ → Ending → ℕ → List ℕ
+run_end_text source ending count = line (shown_ending source ending) ++ line (codes "exchanges " ++ decimal count)
+
+-- the same, and the table
 abbrev pub end_text : List ℕ → Ending → ℕ → List Object → List ℕ
-end_text source ending count table =
-    line (shown_ending source ending) ++ line (codes "exchanges " ++ decimal count) ++ shown_table 0 table
+end_text source ending count table = run_end_text source ending count ++ shown_table 0 table

@@ -1,19 +1,23 @@
 -- A run of a program on a service and its table.
-use Rattle.std.specs.Prelude.{◌≡◌, ℕ, List, Result}
+use Rattle.std.specs.Prelude.{◌≡◌, ℕ, List, ◌++◌, Result}
 use Rattle.rb_trees.specs.mirror.Declarations.{Program}
 use Rattle.rb_trees.specs.mirror.Services.{Service}
 use Rattle.rb_trees.specs.declared.services.Object.{Object}
 use Rattle.rb_trees.specs.declared.outcomes.Ending.{Ending}
 use Rattle.rb_trees.specs.declared.outcomes.Ending.TheVariants as endings
-use Rattle.rb_meaning.specs.Meaning.{meaning}
-use Rattle.rb_meaning.specs.Shown.{shown}
+use Rattle.rb_meaning.specs.Meaning.{Meaning, meaning}
+use Rattle.rb_meaning.specs.Shown.{exchanges, shown, shown_events}
 use Rattle.rb_base.specs.Devices.{Device}
-use Rattle.rb_top.specs.Printing.{PrintsUnlessStarved}
+use Rattle.rb_top.specs.Printing.{PrintsUnlessStarved, run_end_text}
 use Rattle.rb_top.specs.Sources.{accepted_program}
 use Rattle.rb_top.specs.declared.printing.PrintStop.{PrintStop}
 use Rattle.rb_top.specs.declared.source.Accepted.{Accepted}
 use Rattle.rb_top.specs.declared.status.Status.{Status}
 use Rattle.rb_top.specs.declared.status.Status.TheVariants.{Done, Faulted}
+
+-- what a program shows by its meaning, but for the table
+abbrev pub shown_lines : List ℕ → Meaning → List ℕ
+shown_lines source m = shown_events m.events ++ run_end_text source m.ending (exchanges m.events)
 
 -- a service, and the table of its objects
 abbrev pub Served : Type 0
@@ -22,6 +26,10 @@ Served = Service × List Object
 -- what the program shows by its meaning on the service, its table and a fuel
 abbrev pub run_text : List ℕ → ℕ → Program → Served → List ℕ
 run_text source fuel p served = shown source (meaning p served.0 served.1 fuel)
+
+-- the same, but for the table
+abbrev pub far_text : List ℕ → ℕ → Program → Served → List ℕ
+far_text source fuel p served = shown_lines source (meaning p served.0 served.1 fuel)
 
 -- the status of how a program ended
 abbrev pub ended_status : Ending → Status

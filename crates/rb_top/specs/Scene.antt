@@ -4,11 +4,19 @@ use Rattle.rb_base.specs.declared.files.Files as files
 use Rattle.rb_base.specs.declared.sinks.Sink as sinks
 use Rattle.rb_base.specs.Devices.{Device, device}
 use Rattle.rb_base.specs.Directories.{Directory}
+use Rattle.rb_base.specs.Listening.{Listening}
+use Rattle.rb_session.specs.Dials.{DialSeen}
 
 -- the files and the output
 pub record Scene : Type 0 where
   pub files : Device Directory
   pub out : Device (List ℕ)
+
+-- the files and the output; where links are dialled; and where sessions come from
+pub record Outside (L : Type 0) : Type 0 where
+  pub scene : Scene
+  pub dial : DialSeen L
+  pub listen : Device Listening
 
 abbrev pub directory : {F : Type 0} → files.Ghosts F → F → Device Directory
 directory f fs = device f.told f.faults fs
@@ -16,13 +24,16 @@ directory f fs = device f.told f.faults fs
 abbrev pub output : {W : Type 0} → sinks.Ghosts W → W → Device (List ℕ)
 output w out = device w.told w.faults out
 
-abbrev pub outside : {F W : Type 0} → files.Ghosts F → sinks.Ghosts W → F → W → Scene
-outside f w fs out = record { files = directory f fs; out = output w out }
+abbrev pub scene : {F W : Type 0} → files.Ghosts F → sinks.Ghosts W → F → W → Scene
+scene f w fs out = record { files = directory f fs; out = output w out }
+
+abbrev pub outside : {L : Type 0} → Scene → DialSeen L → Device Listening → Outside L
+outside scene dial listen = record { scene = scene; dial = dial; listen = listen }
 
 -- This holds of the output before and after.
 abbrev pub Across : {W : Type 0} → sinks.Ghosts W → W → W → (Device (List ℕ) → Device (List ℕ) → Type 0) → Type 0
 Across w out out' Holds = Holds (output w out) (output w out')
 
--- This holds of the scenes before and after.
+-- This holds of the files and the output before and after.
 abbrev pub Between : {F W : Type 0} → files.Ghosts F → sinks.Ghosts W → F → W → F → W → (Scene → Scene → Type 0) → Type 0
-Between f w fs out fs' out' Holds = Holds (outside f w fs out) (outside f w fs' out')
+Between f w fs out fs' out' Holds = Holds (scene f w fs out) (scene f w fs' out')

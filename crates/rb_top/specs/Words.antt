@@ -1,4 +1,4 @@
--- What the words of a command ask for: `check P` or `split P`, or `both P S` or `unsplit P S`, with a fuel or without.
+-- What the words of a command ask for: something of a program, or of a server.
 use Rattle.std.specs.Prelude.{ℕ, List, [], ◌∷◌, Bool, ◌&&◌, Option, None, Some, option_and_then, option_map, cond, codes, length, map, nat_lt, nat_le}
 use Rattle.std.specs.List.{list_all}
 use Rattle.std.specs.Str.{bytes_eq}
@@ -6,22 +6,39 @@ use Rattle.std.specs.String.{string_bytes}
 use Rattle.std.specs.declared.string.String.{String}
 use Rattle.rb_trees.specs.Spelling.{is_digit}
 use Rattle.rb_meaning_bytes.specs.tokens.Values.{number_value}
+use Rattle.rb_top.specs.declared.words.Call as call
 use Rattle.rb_top.specs.declared.words.Command.{Command}
 use Rattle.rb_top.specs.declared.words.Command.TheVariants as commands
 use Rattle.rb_top.specs.declared.words.Job.{Job}
+use Rattle.rb_top.specs.declared.words.Serving as serving
+use Rattle.rb_top.specs.declared.words.Task.{Task}
+use Rattle.rb_top.specs.declared.words.Task.TheVariants as tasks
 use Rattle.rb_top.specs.declared.words.Way.{Way}
-use Rattle.rb_top.specs.declared.words.Way.TheVariants.{Both, Unsplit}
+use Rattle.rb_top.specs.declared.words.Way.TheVariants.{Both, Unsplit, Pair}
 
 -- the bytes of each word
 abbrev pub texts : {Z : Type 0} → List (String Z) → List (List ℕ)
 texts words = map string_bytes words
 
--- what is asked for: a check of the program in a file, the view of its division, or its run in some way on the service in
--- another, with so much fuel
+-- what is asked of a program: a check of the program in a file; the view of its division; its run in some way on the service in
+-- another file, with so much fuel; or its run over a link to the server at an address
 pub data Asked : Type 0 where
   Check : (p : List ℕ) → Asked
   Split : (p : List ℕ) → Asked
   Run : (way : Way) (p s : List ℕ) (fuel : ℕ) → Asked
+  Call : (address p : List ℕ) (fuel : ℕ) → Asked
+
+-- what is asked of a server: the address that it listens at, the file of its service, and how many sessions it serves at most
+pub record Serving : Type 0 where
+  pub address : List ℕ
+  pub service : List ℕ
+  pub count : ℕ
+
+-- what words ask for: something of a program, a server, or a server over one session that prints nothing
+pub data Wanted : Type 0 where
+  OfProgram : (a : Asked) → Wanted
+  Serve : (v : Serving) → Wanted
+  Child : (s : List ℕ) → Wanted
 
 -- the fuel of a run, where the words name none, and the most that words may name
 unfoldable pub default_fuel : ℕ
@@ -30,49 +47,90 @@ default_fuel = 1000000
 unfoldable pub most_fuel : ℕ
 most_fuel = 1000000000
 
--- the most digits of a fuel
+-- the most sessions that words may name
+unfoldable pub most_count : ℕ
+most_count = 1000000
+
+-- the most digits of a number
 abbrev pub most_digits : ℕ
 most_digits = 10
 
--- whether a word names a fuel: one to ten digits, of no more than the most
-abbrev pub is_fuel : List ℕ → Bool
-is_fuel word =
-    list_all is_digit word && (nat_lt 0 (length word) && (nat_le (length word) most_digits && nat_le (number_value word) most_fuel))
+-- whether a word names a number of at least and at most so much, by one to ten digits
+abbrev pub is_within : ℕ → ℕ → List ℕ → Bool
+is_within least most word =
+    list_all is_digit word && (nat_lt 0 (length word) && (nat_le (length word) most_digits && (nat_le least (number_value word) && nat_le (number_value word) most)))
+
+abbrev pub number_within : ℕ → ℕ → List ℕ → Option ℕ
+number_within least most word = cond (is_within least most word) (Some (number_value word)) None
 
 abbrev pub fuel_of : List ℕ → Option ℕ
-fuel_of word = cond (is_fuel word) (Some (number_value word)) None
+fuel_of word = number_within 0 most_fuel word
 
--- what is asked for by a word and a program, if they are understood
-abbrev pub view_of : List ℕ → List ℕ → Option Asked
-view_of command p = cond (bytes_eq command (codes "check")) (Some (Check p)) (cond (bytes_eq command (codes "split")) (Some (Split p)) None)
+abbrev pub count_of : List ℕ → Option ℕ
+count_of word = number_within 1 most_count word
+
+-- `serve ADDRESS S COUNT`
+abbrev pub serve_of : List ℕ → List ℕ → ℕ → Serving
+serve_of address s count = record { address = address; service = s; count = count }
+
+-- `child S` serves as `serve - S 1` does
+abbrev pub child_of : List ℕ → Serving
+child_of s = serve_of (codes "-") s 1
+
+-- what is asked for by a word and a file, if they are understood
+abbrev pub view_of : List ℕ → List ℕ → Option Wanted
+view_of command f =
+    cond (bytes_eq command (codes "check")) (Some (OfProgram (Check f)))
+    (cond (bytes_eq command (codes "split")) (Some (OfProgram (Split f)))
+    (cond (bytes_eq command (codes "child")) (Some (Child f)) None))
 
 -- the way of a run that a word names
 abbrev pub way_of : List ℕ → Option Way
-way_of command = cond (bytes_eq command (codes "both")) (Some Both) (cond (bytes_eq command (codes "unsplit")) (Some Unsplit) None)
+way_of command =
+    cond (bytes_eq command (codes "both")) (Some Both) (cond (bytes_eq command (codes "unsplit")) (Some Unsplit) (cond (bytes_eq command (codes "pair")) (Some Pair) None))
 
--- what is asked for by the words of a run, if they are understood
-unfoldable pub run_of : List ℕ → List ℕ → List ℕ → Option ℕ → Option Asked
-run_of command p s fuel = option_and_then (λ way. option_map (Run way p s) fuel) (way_of command)
+-- what is asked of a program by the words of a run with so much fuel, if they are understood
+unfoldable pub run_of : List ℕ → List ℕ → List ℕ → ℕ → Option Asked
+run_of command a b fuel = cond (bytes_eq command (codes "run")) (Some (Call a b fuel)) (option_map (λ way. Run way a b fuel) (way_of command))
+
+-- what is asked for by three words and a number, if they are understood
+unfoldable pub run_or_serve_of : List ℕ → List ℕ → List ℕ → List ℕ → Option Wanted
+run_or_serve_of command a b number =
+    cond (bytes_eq command (codes "serve")) (option_map (λ count. Serve (serve_of a b count)) (count_of number))
+    (option_map OfProgram (option_and_then (run_of command a b) (fuel_of number)))
 
 -- what words ask for, if they are understood
-abbrev pub asked : List (List ℕ) → Option Asked
-asked (command ∷ p ∷ []) = view_of command p
-asked (command ∷ p ∷ s ∷ []) = run_of command p s (Some default_fuel)
-asked (command ∷ p ∷ s ∷ fuel ∷ []) = run_of command p s (fuel_of fuel)
-asked _ = None
+abbrev pub wanted : List (List ℕ) → Option Wanted
+wanted (command ∷ f ∷ []) = view_of command f
+wanted (command ∷ a ∷ b ∷ []) = option_map OfProgram (run_of command a b default_fuel)
+wanted (command ∷ a ∷ b ∷ number ∷ []) = run_or_serve_of command a b number
+wanted _ = None
 
 -- the name of the file of the program
 abbrev pub program_name : Asked → List ℕ
 program_name (Check p) = p
 program_name (Split p) = p
 program_name (Run way p s fuel) = p
+program_name (Call address p fuel) = p
 
--- what a job asks for
+-- what a job, a call and a task ask for
 abbrev pub asked_job : Job → Asked
 asked_job job = Run job.way job.program.now job.service.now job.fuel
 
--- what a command asks for
-abbrev pub asked_by : Command → Asked
-asked_by (commands.Check p) = Check p.now
-asked_by (commands.Split p) = Split p.now
-asked_by (commands.Run job) = asked_job job
+abbrev pub asked_call : call.Call → Asked
+asked_call c = Call c.address.now c.program.now c.fuel
+
+abbrev pub asked_by : Task → Asked
+asked_by (tasks.Check p) = Check p.now
+asked_by (tasks.Split p) = Split p.now
+asked_by (tasks.Run job) = asked_job job
+asked_by (tasks.Call c) = asked_call c
+
+-- what is asked of a server, and what a command asks for
+abbrev pub serving_by : serving.Serving → Serving
+serving_by v = record { address = v.address.now; service = v.service.now; count = v.count }
+
+abbrev pub wanted_by : Command → Wanted
+wanted_by (commands.Program task) = OfProgram (asked_by task)
+wanted_by (commands.Serve v) = Serve (serving_by v)
+wanted_by (commands.Child s) = Child s.now

@@ -1,23 +1,25 @@
 // A run of a program over a link in memory: each batch is one exchange, and what the program shows is printed.
 
-ghost use Rattle.std.specs.Prelude.{◌≡◌, IfOk, OnOk};
+ghost use Rattle.std.specs.Prelude.{◌≡◌, IfOk};
 ghost use Rattle.rb_trees.specs.mirror.Services.{mirror_service};
 ghost use Rattle.rb_meaning.specs.Links.{IsTyped};
-ghost use Rattle.rb_session.specs.MemoryLinks.{new_link, IsHonest};
+ghost use Rattle.rb_session.specs.Dials.{seen};
+ghost use Rattle.rb_session.specs.MemoryLinks.{new_link};
 ghost use Rattle.rb_top.specs.Accepted.{IsAccepted};
-ghost use Rattle.rb_top.specs.LinkRuns.{ExchangesEachBatch, RunsAsMeant, served_by};
-ghost use Rattle.rb_top.specs.Runs.{PrintsRunOf};
+ghost use Rattle.rb_top.specs.DialRuns.{RunsInMemory};
+ghost use Rattle.rb_top.specs.LinkRuns.{EndsOver, IsNew, PrintsAsMeant, behind_of, served_by};
 ghost use Rattle.rb_top.specs.Scene.{Across};
 ghost use Rattle.rb_top.specs.Sources.{accepted_program};
 
-use crate::printing::{PrintStop, print_run_end};
+use crate::printing::{PrintStop, print_run_end_with_table};
+use crate::saying::{run_answer, stopped};
 use crate::source::Accepted;
 use crate::status::Status;
-use rb_base::Sink;
+use rb_base::{Link, Sink};
 use rb_client::{RunStop, run_client};
 use rb_exec::Host;
 use rb_heap::Heap;
-use rb_session::MemoryLink;
+use rb_session::{Dial, MemoryLink};
 use rb_trees::{Memory, Run, Service};
 use std::alloc::Global;
 
@@ -30,20 +32,20 @@ fn link_to(alloc: Global, service: Service, table: Heap) -> Result<MemoryLink, M
     MemoryLink::make(alloc, host)
 }
 
-/// Runs a program with so much fuel over a link in memory, prints its lines, and answers how it ended.
+/// Runs a program with so much fuel over a new link, of which no exchange fails, prints its lines, and answers how it ended.
 ///
-/// No exchange over such a link fails, and no reply of its server is refused.
-fn run_client_over<W: Sink>(
+/// No reply of an honest link is refused.
+fn run_client_over<L: Link, W: Sink>(
     alloc: Global,
     program: &Accepted<'_>,
     fuel: u64,
-    link: &mut MemoryLink,
+    link: &mut L,
     out: &mut W,
 ) -> Result<Run, PrintStop>
     requires accepted { IsAccepted program.now }
-    requires honest { IsHonest link.old }
-    ensures means { Across W.Sink out.old out.new (RunsAsMeant (accepted_program program.now) fuel link.old link.new result) }
-    ensures exchanges { OnOk result (ExchangesEachBatch (accepted_program program.now) fuel link.old link.new) }
+    requires new { IsNew L.Link (behind_of (L.told link.old)) link.old }
+    ensures { let served = served_by (behind_of (L.told link.old)) in
+        Across W.Sink out.old out.new (PrintsAsMeant L.Link (accepted_program program.now) fuel served link.new result) }
 {
     let typed = program.admitted.typed();
     match run_client(alloc, typed, program.splits, fuel, link, out) {
@@ -55,40 +57,62 @@ fn run_client_over<W: Sink>(
     }
 }
 
-/// Runs a program with so much fuel over a link in memory, prints what it means there, and answers how it ended.
+/// Runs a program with so much fuel over a new link, of which no exchange fails, and prints what it means on the server behind it.
 ///
 /// The program's lines and its ending come from what the link's server replies: over the link one script was exchanged for each
 /// batch that the program begins, and nothing else was.
-fn run_over<W: Sink>(
+fn run_over<L: Link, W: Sink>(
     alloc: Global,
     program: &Accepted<'_>,
     fuel: u64,
-    link: &mut MemoryLink,
+    link: &mut L,
     out: &mut W,
-) -> Result<Status, PrintStop>
+) -> Status
     requires accepted { IsAccepted program.now }
-    requires honest { IsHonest link.old }
-    ensures prints { Across W.Sink out.old out.new (PrintsRunOf program.now fuel (served_by link.old) result) }
-    ensures exchanges { OnOk result (ExchangesEachBatch (accepted_program program.now) fuel link.old link.new) }
+    requires new { IsNew L.Link (behind_of (L.told link.old)) link.old }
+    ensures { let x = program.now in let served = served_by (behind_of (L.told link.old)) in
+        Across W.Sink out.old out.new (EndsOver L.Link x.text.now (accepted_program x) fuel served link.new result) }
 {
-    let run = run_client_over(alloc, program, fuel, link, out)?;
-    print_run_end(alloc, program.text, run, link.host().table(), out)
+    match run_client_over(alloc, program, fuel, link, out) {
+        Err(stop) => stopped(stop),
+        Ok(run) => match link.table() {
+            None => unreachable!(),
+            Some(table) => run_answer(print_run_end_with_table(
+                alloc,
+                program.text,
+                run,
+                table,
+                out,
+            )),
+        },
+    }
 }
 
-/// Runs a program with so much fuel over a link to a server with a service and its table, prints what it means there, and answers
-/// how it ended.
-pub fn run_both<W: Sink>(
+/// Runs a program with so much fuel over a link in memory to a service and its table, which is made a link of a Dial's and is given
+/// back to it.
+pub fn run_both<W: Sink, D: Dial>(
     alloc: Global,
     program: &Accepted<'_>,
     service: Service,
     table: Heap,
     fuel: u64,
+    dial: &mut D,
     out: &mut W,
-) -> Result<Status, PrintStop>
+) -> Status
     requires accepted { IsAccepted program.now }
     requires typed { IsTyped (mirror_service service) table }
-    ensures { Across W.Sink out.old out.new (PrintsRunOf program.now fuel (mirror_service service, table) result) }
+    ensures { let x = program.now in let dialled = seen D.told D.faults D.broken in let served = (mirror_service service, table) in
+        Across W.Sink out.old out.new (RunsInMemory D.L.Link x.text.now (accepted_program x) fuel served result (dialled dial.old) (dialled dial.new)) }
 {
-    let mut link = link_to(alloc, service, table)?;
-    run_over(alloc, program, fuel, &mut link, out)
+    let Ok(inner) = link_to(alloc, service, table) else {
+        return Status::Memory;
+    };
+    match dial.around(inner) {
+        Err(Memory) => Status::Memory,
+        Ok(mut link) => {
+            let status = run_over(alloc, program, fuel, &mut link, out);
+            dial.back(link);
+            status
+        }
+    }
 }

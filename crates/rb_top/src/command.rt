@@ -1,249 +1,126 @@
 // The commands, from their words to what they print.
 
-ghost use Rattle.std.specs.Prelude.{◌≡◌, ◌++◌, map, Some, IfOk};
+ghost use Rattle.std.specs.Prelude.{◌≡◌, map, option_map};
 ghost use Rattle.rb_trees.specs.mirror.Services.{mirror_service};
 ghost use Rattle.rb_meaning.specs.Links.{IsTyped};
-ghost use Rattle.rb_meaning.specs.Shown.{line};
 ghost use Rattle.rb_meaning_split.specs.Division.{mirror_split};
 ghost use Rattle.rb_shown.specs.Views.{shown_divisions};
+ghost use Rattle.rb_base.specs.Devices.{device};
+ghost use Rattle.rb_session.specs.Dials.{seen};
+ghost use Rattle.rb_session.specs.declared.targets.Target.TheVariants as targets;
 ghost use Rattle.rb_top.specs.Accepted.{HasPlacesOfText, IsAdmitted, IsAccepted};
-ghost use Rattle.rb_top.specs.Answers.{Ends, Says, ChecksTold, SplitsTold, RunsTold};
-ghost use Rattle.rb_top.specs.Commands.{EndsBatchRefused, EndsRefused, EndsRefusedService, EndsRunOf, EndsUntyped, EndsUnread, LoadsProgram, GoesOnTyped, DividesWith, GoesOnWith, RunsOnWith, run_answer, status_after, stopped_status};
-ghost use Rattle.rb_top.specs.Scene.{output, Across, Between};
+ghost use Rattle.rb_top.specs.Answers.{Says, SaysOfProgram};
+ghost use Rattle.rb_top.specs.Commands.{DialsWith, DividesWith, GoesOnTyped, GoesWith, RunsWith};
+ghost use Rattle.rb_top.specs.Completeness.{CallsTold, ChecksTold, PairsTold, RunsTold, ServesTold, SplitsTold};
+ghost use Rattle.rb_top.specs.Ends.{Ends};
+ghost use Rattle.rb_top.specs.Scene.{output, Across, Between, scene, outside};
 ghost use Rattle.rb_top.specs.Sources.{text_of, program_of};
 ghost use Rattle.rb_top.specs.Texts.{WithinLength};
-ghost use Rattle.rb_top.specs.Words.{texts, asked, asked_by};
+ghost use Rattle.rb_top.specs.Words.{texts, wanted, wanted_by, asked_by, asked_job, asked_call};
 ghost use Rattle.rb_top.specs.declared.status.Status.TheVariants.{Done};
 
 use crate::admission::admission;
-use crate::batch_refusals::batch_refusal_line;
 use crate::both_run::run_both;
+use crate::dial_run::run_dialled;
 use crate::divisions::divisions_text;
-use crate::loading::{TextStop, load_text};
-use crate::printing::{PrintStop, print_text};
-use crate::refusals::{is_memory, is_no_violation, refusal_line, violation_line};
-use crate::service_refusals::{is_no_store_refusal, service_refusal_line};
+use crate::loaded::{loaded_program, loaded_service};
+use crate::refusing::refuse_batch;
+use crate::saying::{run_answer, say};
+use crate::server::{run_child, run_server};
 use crate::source::{Accepted, Source};
-use crate::status::{SourceError, Status};
+use crate::status::Status;
 use crate::unsplit_run::run_unsplit;
-use crate::words::{Command, Job, Way, command_of};
-use bytes::BytesMut;
-use rb_base::{Files, Sink};
+use crate::words::{Call, Command, Job, Task, Way, command_of};
+use rb_base::{Files, Listen, Sink};
 use rb_flow::{AdmitStop, Admitted};
 use rb_heap::Heap;
-use rb_parse::{parse_program, sources_have_one_outcome};
-use rb_read_laws::read_programs_have_places;
+use rb_parse::sources_have_one_outcome;
+use rb_session::{Dial, Target};
 use rb_split::{SplitStop, split_all};
-use rb_store::{read_service, sources_have_one_outcome_as_services};
-use rb_trees::{ReadError, Refusal, Seq, Service, Split, StoreError, TypeError};
-use rb_types::check as check_types;
-use std::alloc::{AllocError, Global};
+use rb_store::sources_have_one_outcome_as_services;
+use rb_trees::{Seq, Service, Split};
+use std::alloc::Global;
 
-/// The status where not all was printed.
-fn stopped(stop: PrintStop) -> Status
-    ensures { result ≡ stopped_status stop }
-{
-    match stop {
-        PrintStop::WriteFault => Status::WriteFault,
-        PrintStop::Memory => Status::Memory,
-    }
-}
-
-/// The status after a text was printed, or wasn't.
-fn ended(status: Status, printed: Result<(), PrintStop>) -> Status
-    ensures { result ≡ status_after status printed }
-{
-    match printed {
-        Ok(()) => status,
-        Err(stop) => stopped(stop),
-    }
-}
-
-/// Prints a text and answers the status, or why the text wasn't printed whole.
-fn say<W: Sink>(status: Status, text: &[u8], out: &mut W) -> Status
-    ensures { Ends status text.now result (output W.Sink out.old) (output W.Sink out.new) }
-{
-    let printed = print_text(text, out);
-    ended(status, printed)
-}
-
-/// The line of what is told of a file.
-fn line_of(alloc: Global, what: &[u8], name: &str) -> Result<Vec<u8>, AllocError>
-    ensures { IfOk result (λ text. text.items ≡ line (what.now ++ name.now)) }
-{
-    let mut text = Vec::from_slice(alloc, what)?;
-    text.extend_from_slice(name.as_bytes())?;
-    text.extend_from_slice(b"\n")?;
-    Ok(text)
-}
-
-/// Says what is told of a file.
-fn say_of<W: Sink>(alloc: Global, status: Status, what: &[u8], name: &str, out: &mut W) -> Status
-    ensures { Ends status (line (what.now ++ name.now)) result (output W.Sink out.old) (output W.Sink out.new) }
-{
-    match line_of(alloc, what, name) {
-        Ok(text) => say(status, text.as_slice(), out),
-        Err(_) => Status::Memory,
-    }
-}
-
-/// Says why no text is read from a file.
-fn say_unread<W: Sink>(alloc: Global, stop: TextStop, name: &str, out: &mut W) -> Status
-    ensures { EndsUnread stop name.now result (output W.Sink out.old) (output W.Sink out.new) }
-{
-    let Ok(word) = Seq::from_slice(alloc, name.as_bytes()) else {
-        return Status::Memory;
-    };
-    match stop {
-        TextStop::FileFault => say_of(alloc, Status::FileFault(word), b"file fault ", name, out),
-        TextStop::TooLong => say_of(
-            alloc,
-            Status::FileTooLong(word),
-            b"file too long ",
-            name,
-            out,
-        ),
-        TextStop::Memory => Status::Memory,
-    }
-}
-
-/// Says why a text is refused.
-fn refuse<W: Sink>(alloc: Global, text: &[u8], error: ReadError, out: &mut W) -> Status
-    requires { WithinLength text.now }
-    ensures { EndsRefused text.now error result (output W.Sink out.old) (output W.Sink out.new) }
-{
-    if is_memory(&error) {
-        return Status::Memory;
-    }
-    match refusal_line(alloc, text, &error) {
-        Ok(line) => say(
-            Status::SourceRefused(SourceError::Read(error)),
-            line.as_slice(),
-            out,
-        ),
-        Err(_) => Status::Memory,
-    }
-}
-
-/// Says why a program isn't typed.
-fn refuse_types<W: Sink>(alloc: Global, text: &[u8], error: TypeError, out: &mut W) -> Status
-    requires { WithinLength text.now }
-    ensures { EndsUntyped text.now error result (output W.Sink out.old) (output W.Sink out.new) }
-{
-    if is_no_violation(&error) {
-        return Status::Memory;
-    }
-    match violation_line(alloc, text, &error) {
-        Ok(line) => say(
-            Status::SourceRefused(SourceError::Types(error)),
-            line.as_slice(),
-            out,
-        ),
-        Err(_) => Status::Memory,
-    }
-}
-
-/// Says why a program isn't admitted.
-fn refuse_batch<W: Sink>(alloc: Global, text: &[u8], refusal: Refusal, out: &mut W) -> Status
-    requires { WithinLength text.now }
-    ensures { EndsBatchRefused text.now refusal result (output W.Sink out.old) (output W.Sink out.new) }
-{
-    match batch_refusal_line(alloc, text, &refusal) {
-        Ok(line) => say(Status::BatchRefused(refusal), line.as_slice(), out),
-        Err(_) => Status::Memory,
-    }
-}
-
-/// The typed program in a file, or the status after it was said why there is none.
-fn loaded_program<F: Files, W: Sink>(
+/// Runs a program over a link to the server at the address of a call.
+fn run_call<W: Sink, D: Dial>(
     alloc: Global,
-    name: &str,
-    files: &mut F,
+    program: &Accepted<'_>,
+    call: &Call,
+    dial: &mut D,
     out: &mut W,
-) -> Result<Source, Status>
-    ensures places { IfOk result (λ source. HasPlacesOfText (program_of source)) }
-    ensures short { IfOk result (λ source. WithinLength (text_of source)) }
-    ensures loads { Between F.Files W.Sink files.old out.old files.new out.new (LoadsProgram name.now result) }
+) -> Status
+    requires { IsAccepted program.now }
+    ensures { let dialled = seen D.told D.faults D.broken in let target = targets.Address call.now.address.now in
+        Across W.Sink out.old out.new (DialsWith D.L.Link program.now call.now.fuel target result (dialled dial.old) (dialled dial.new)) }
 {
-    read_programs_have_places();
-    match load_text(alloc, name, files) {
-        Err(stop) => Err(say_unread(alloc, stop, name, out)),
-        Ok(text) => {
-            let source = text.as_slice();
-            match parse_program(alloc, source) {
-                Err(error) => Err(refuse(alloc, source, error, out)),
-                Ok(program) => match check_types(alloc, program) {
-                    Err(error) => Err(refuse_types(alloc, source, error, out)),
-                    Ok(typed) => Ok(Source { text, typed }),
-                },
-            }
+    match Seq::from_slice(alloc, call.address.as_bytes()) {
+        Ok(address) => {
+            let target = Target::Address(address);
+            run_dialled(alloc, program, call.fuel, &target, dial, out)
         }
-    }
-}
-
-/// Says why a service's text is refused.
-fn refuse_service<W: Sink>(alloc: Global, text: &[u8], error: StoreError, out: &mut W) -> Status
-    requires { WithinLength text.now }
-    ensures { EndsRefusedService text.now error result (output W.Sink out.old) (output W.Sink out.new) }
-{
-    if is_no_store_refusal(&error) {
-        return Status::Memory;
-    }
-    match service_refusal_line(alloc, text, &error) {
-        Ok(line) => say(Status::ServiceRefused(error), line.as_slice(), out),
         Err(_) => Status::Memory,
     }
 }
 
-/// The status that a run answered, or that of its stop.
-fn run_answer(answered: Result<Status, PrintStop>) -> Status
-    ensures { result ≡ run_answer answered }
+/// Runs a program as a job asks over a link to a child that serves the job's service.
+fn run_pair<W: Sink, D: Dial>(
+    alloc: Global,
+    program: &Accepted<'_>,
+    job: &Job,
+    dial: &mut D,
+    out: &mut W,
+) -> Status
+    requires { IsAccepted program.now }
+    ensures { let dialled = seen D.told D.faults D.broken in let target = targets.Child job.now.service.now in
+        Across W.Sink out.old out.new (DialsWith D.L.Link program.now job.now.fuel target result (dialled dial.old) (dialled dial.new)) }
 {
-    match answered {
-        Ok(status) => status,
-        Err(stop) => stopped(stop),
+    match Seq::from_slice(alloc, job.service.as_bytes()) {
+        Ok(service) => {
+            let target = Target::Child(service);
+            run_dialled(alloc, program, job.fuel, &target, dial, out)
+        }
+        Err(_) => Status::Memory,
     }
 }
 
 /// Runs a program on a service and its table as a job asks, and prints what it means there.
-fn run_program<W: Sink>(
+fn run_program<W: Sink, D: Dial>(
     alloc: Global,
     program: &Accepted<'_>,
     job: &Job,
     service: Service,
     table: Heap,
+    dial: &mut D,
     out: &mut W,
 ) -> Status
     requires accepted { IsAccepted program.now }
     requires typed { IsTyped (mirror_service service) table }
-    ensures { Across W.Sink out.old out.new (EndsRunOf program.now job.now.fuel (mirror_service service, table) result) }
+    ensures { let dialled = seen D.told D.faults D.broken in let served = (mirror_service service, table) in
+        Across W.Sink out.old out.new (RunsWith D.L.Link program.now job.now served result (dialled dial.old) (dialled dial.new)) }
 {
     match job.way {
-        Way::Both => run_answer(run_both(alloc, program, service, table, job.fuel, out)),
+        Way::Both => run_both(alloc, program, service, table, job.fuel, dial, out),
         Way::Unsplit => run_answer(run_unsplit(alloc, program, &service, table, job.fuel, out)),
+        Way::Pair => run_pair(alloc, program, job, dial, out),
     }
 }
 
 /// Runs a program as a job asks, on the service in its file.
-fn run_on<F: Files, W: Sink>(
+fn run_on<F: Files, W: Sink, D: Dial>(
     alloc: Global,
     program: &Accepted<'_>,
     job: &Job,
     files: &mut F,
+    dial: &mut D,
     out: &mut W,
 ) -> Status
     requires { IsAccepted program.now }
-    ensures { Between F.Files W.Sink files.old out.old files.new out.new (RunsOnWith program.now job.now result) }
+    ensures { let dialled = seen D.told D.faults D.broken in
+        Between F.Files W.Sink files.old out.old files.new out.new (GoesWith D.L.Link program.now (asked_job job.now) result (dialled dial.old) (dialled dial.new)) }
 {
-    match load_text(alloc, job.service, files) {
-        Err(stop) => say_unread(alloc, stop, job.service, out),
-        Ok(other_text) => {
-            let other = other_text.as_slice();
-            match read_service(alloc, other) {
-                Err(error) => refuse_service(alloc, other, error, out),
-                Ok((service, table)) => run_program(alloc, program, job, service, table, out),
-            }
-        }
+    match loaded_service(alloc, job.service, files, out) {
+        Err(status) => status,
+        Ok((service, table)) => run_program(alloc, program, job, service, table, dial, out),
     }
 }
 
@@ -258,36 +135,41 @@ fn say_divided<W: Sink>(alloc: Global, text: &[u8], splits: &[Split], out: &mut 
     }
 }
 
-/// Carries out the rest of a command, once its program is known to be accepted.
-fn fulfil<F: Files, W: Sink>(
+/// Carries out the rest of a task, once its program is known to be accepted.
+fn fulfil<F: Files, W: Sink, D: Dial>(
     alloc: Global,
     program: &Accepted<'_>,
-    command: &Command,
+    task: &Task,
     files: &mut F,
+    dial: &mut D,
     out: &mut W,
 ) -> Status
     requires { IsAccepted program.now }
-    ensures { Between F.Files W.Sink files.old out.old files.new out.new (GoesOnWith program.now (asked_by command.now) result) }
+    ensures { let dialled = seen D.told D.faults D.broken in
+        Between F.Files W.Sink files.old out.old files.new out.new (GoesWith D.L.Link program.now (asked_by task.now) result (dialled dial.old) (dialled dial.new)) }
 {
-    match command {
-        Command::Check(_) => say(Status::Done, b"accepted\n", out),
-        Command::Split(_) => say_divided(alloc, program.text, program.splits.as_slice(), out),
-        Command::Run(job) => run_on(alloc, program, job, files, out),
+    match task {
+        Task::Check(_) => say(Status::Done, b"accepted\n", out),
+        Task::Split(_) => say_divided(alloc, program.text, program.splits.as_slice(), out),
+        Task::Run(job) => run_on(alloc, program, job, files, dial, out),
+        Task::Call(call) => run_call(alloc, program, call, dial, out),
     }
 }
 
-/// Carries out the rest of a command, once its program is known to be admitted: its batches are divided first.
-fn go_on_admitted<F: Files, W: Sink>(
+/// Carries out the rest of a task, once its program is known to be admitted: its batches are divided first.
+fn go_on_admitted<F: Files, W: Sink, D: Dial>(
     alloc: Global,
     text: &[u8],
     admitted: &Admitted<'_>,
-    command: &Command,
+    task: &Task,
     files: &mut F,
+    dial: &mut D,
     out: &mut W,
 ) -> Status
     requires admitted { IsAdmitted admitted.now }
     requires short { WithinLength text.now }
-    ensures { Between F.Files W.Sink files.old out.old files.new out.new (DividesWith text.now admitted.now (asked_by command.now) result) }
+    ensures { let dialled = seen D.told D.faults D.broken in
+        Between F.Files W.Sink files.old out.old files.new out.new (DividesWith D.L.Link text.now admitted.now (asked_by task.now) result (dialled dial.old) (dialled dial.new)) }
 {
     match split_all(alloc, admitted) {
         Ok(splits) => {
@@ -296,72 +178,95 @@ fn go_on_admitted<F: Files, W: Sink>(
                 admitted,
                 splits: &splits,
             };
-            fulfil(alloc, &program, command, files, out)
+            fulfil(alloc, &program, task, files, dial, out)
         }
         Err(SplitStop::Refused(refusal)) => refuse_batch(alloc, text, refusal, out),
         Err(SplitStop::Memory) => Status::Memory,
     }
 }
 
-/// Carries out the rest of a command, once its program is known to be typed: it is admitted first.
-fn go_on<F: Files, W: Sink>(
+/// Carries out the rest of a task, once its program is known to be typed: it is admitted first.
+fn go_on<F: Files, W: Sink, D: Dial>(
     alloc: Global,
     source: &Source,
-    command: &Command,
+    task: &Task,
     files: &mut F,
+    dial: &mut D,
     out: &mut W,
 ) -> Status
     requires places { HasPlacesOfText (program_of source.now) }
     requires short { WithinLength (text_of source.now) }
-    ensures { Between F.Files W.Sink files.old out.old files.new out.new (GoesOnTyped source.now (asked_by command.now) result) }
+    ensures { let dialled = seen D.told D.faults D.broken in
+        Between F.Files W.Sink files.old out.old files.new out.new (GoesOnTyped D.L.Link source.now (asked_by task.now) result (dialled dial.old) (dialled dial.new)) }
 {
     let text = source.text.as_slice();
     match admission(alloc, &source.typed) {
-        Ok(admitted) => go_on_admitted(alloc, text, &admitted, command, files, out),
+        Ok(admitted) => go_on_admitted(alloc, text, &admitted, task, files, dial, out),
         Err(AdmitStop::Refused(refusal)) => refuse_batch(alloc, text, refusal, out),
         Err(AdmitStop::Memory) => Status::Memory,
     }
 }
 
-/// Carries out a command: its program is read, typed and admitted first.
-fn carry_out<F: Files, W: Sink>(
+/// Carries out what is asked of a program, which is read, typed, admitted and divided first.
+fn carry_out_task<F: Files, W: Sink, D: Dial>(
     alloc: Global,
-    command: &Command,
+    task: &Task,
     files: &mut F,
+    dial: &mut D,
     out: &mut W,
 ) -> Status
-    ensures { Between F.Files W.Sink files.old out.old files.new out.new (Says (Some (asked_by command.now)) result) }
+    ensures { let dialled = seen D.told D.faults D.broken in
+        Between F.Files W.Sink files.old out.old files.new out.new (SaysOfProgram D.L.Link (asked_by task.now) result (dialled dial.old) (dialled dial.new)) }
 {
-    match loaded_program(alloc, command.program(), files, out) {
+    match loaded_program(alloc, task.program(), files, out) {
         Err(status) => status,
         Ok(source) => {
-            let status = go_on(alloc, &source, command, files, out);
+            let status = go_on(alloc, &source, task, files, dial, out);
             drop(source);
             status
         }
     }
 }
 
+/// Carries out a command.
+fn carry_out<F: Files, W: Sink, D: Dial, N: Listen>(
+    alloc: Global,
+    command: Option<Command<'_>>,
+    files: &mut F,
+    out: &mut W,
+    dial: &mut D,
+    listen: &mut N,
+) -> Status
+    ensures { let dialled = seen D.told D.faults D.broken in let listener = device N.told N.faults in
+        Says D.L.Link (option_map wanted_by command) result (outside (scene F.Files W.Sink files.old out.old) (dialled dial.old) (listener listen.old)) (outside (scene F.Files W.Sink files.new out.new) (dialled dial.new) (listener listen.new)) }
+{
+    match command {
+        None => say(Status::Words, b"words not understood\n", out),
+        Some(Command::Program(task)) => carry_out_task(alloc, &task, files, dial, out),
+        Some(Command::Serve(serving)) => run_server(alloc, &serving, files, out, listen),
+        Some(Command::Child(service)) => run_child(alloc, service, files, listen),
+    }
+}
+
 /// Runs the command that the words are.
 ///
-/// Each answer has its cause in the words and the files, as far as they tell: `Says` and `Answers`
-/// state them, the order in which they count, and what is left of the files and the output. The
-/// files' count of faults rises exactly where a file can't be read, and the output's exactly where
-/// the answer is `WriteFault`.
-pub fn top<F: Files, W: Sink>(alloc: Global, words: &[String], files: &mut F, out: &mut W) -> Status
-    // What is answered and printed is what the words and the files mean.
-    ensures answer { Between F.Files W.Sink files.old out.old files.new out.new (Says (asked (texts words.now)) result) }
-    // An accepted program that the files tell is checked, unless the output fails or memory is wanting.
-    ensures checks { Between F.Files W.Sink files.old out.old files.new out.new (ChecksTold (asked (texts words.now)) result) }
-    // The division of such a program is shown, unless the output fails or memory is wanting.
-    ensures splits { Between F.Files W.Sink files.old out.old files.new out.new (SplitsTold (asked (texts words.now)) result) }
-    // A program that the files tell is run on a service that they tell, unless the output fails or memory is wanting.
-    ensures runs { Between F.Files W.Sink files.old out.old files.new out.new (RunsTold (asked (texts words.now)) result) }
+/// Each answer has its cause in the words, the files, the links that are dialled and the sessions that come, as far as they tell:
+/// `Says` states them, the order in which they count, and what is left of the outside. The files' count of faults rises exactly where
+/// a file can't be read, and the output's exactly where the answer is `WriteFault`. Each link and each session that was had is given
+/// back.
+pub fn top<F: Files, W: Sink, D: Dial, N: Listen>(
+    alloc: Global,
+    words: &[String],
+    files: &mut F,
+    out: &mut W,
+    dial: &mut D,
+    listen: &mut N,
+) -> Status
+    // What is answered and printed is what the words and the outside mean.
+    ensures answer { let dialled = seen D.told D.faults D.broken in let listener = device N.told N.faults in
+        Says D.L.Link (wanted (texts words.now)) result (outside (scene F.Files W.Sink files.old out.old) (dialled dial.old) (listener listen.old)) (outside (scene F.Files W.Sink files.new out.new) (dialled dial.new) (listener listen.new)) }
 {
     sources_have_one_outcome();
     sources_have_one_outcome_as_services();
-    match command_of(words) {
-        Some(command) => carry_out(alloc, &command, files, out),
-        None => say(Status::Words, b"words not understood\n", out),
-    }
+    carry_out(alloc, command_of(words), files, out, dial, listen)
 }

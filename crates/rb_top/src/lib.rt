@@ -2,15 +2,22 @@
 #![tactic(auto)]
 
 mod admission;
+mod bad_replies;
 mod batch_refusals;
 mod both_run;
 mod command;
+mod dial_run;
 mod divisions;
-mod fuel;
+mod loaded;
 mod loading;
+mod numbers;
 mod printing;
 mod refusals;
+mod refusing;
+mod saying;
+mod server;
 mod service_refusals;
+mod session_lines;
 mod source;
 mod status;
 mod unsplit_run;

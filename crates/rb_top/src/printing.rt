@@ -3,7 +3,7 @@
 ghost use Rattle.std.specs.Prelude.{◌≡◌, ◌++◌, codes};
 ghost use Rattle.std.specs.Fmt.{decimal};
 ghost use Rattle.rb_meaning.specs.Shown.{line, shown_ending, shown_table};
-ghost use Rattle.rb_top.specs.Printing.{Prints, PrintsAnswering, end_text};
+ghost use Rattle.rb_top.specs.Printing.{Prints, PrintsAnswering, end_text, run_end_text};
 ghost use Rattle.rb_top.specs.Runs.{ended_status};
 ghost use Rattle.rb_top.specs.Scene.{output};
 ghost use Rattle.rb_top.specs.Texts.{WithinLength};
@@ -108,7 +108,7 @@ fn print_exchanges<W: Sink>(alloc: Global, count: u64, out: &mut W) -> Result<()
 }
 
 /// Prints the lines of the objects of a table as one piece.
-fn print_objects<W: Sink>(alloc: Global, table: &Heap, out: &mut W) -> Result<(), PrintStop>
+pub fn print_objects<W: Sink>(alloc: Global, table: &Heap, out: &mut W) -> Result<(), PrintStop>
     ensures { Prints (shown_table 0 table.now) result (output W.Sink out.old) (output W.Sink out.new) }
 {
     match print_table(alloc, table) {
@@ -117,25 +117,38 @@ fn print_objects<W: Sink>(alloc: Global, table: &Heap, out: &mut W) -> Result<()
     }
 }
 
-/// Prints what follows the lines of a run: how it ended, how often it exchanged, and the table.
+/// Prints how a run ended, and how often it exchanged.
 fn print_end<W: Sink>(
     alloc: Global,
     source: &[u8],
     ending: &Ending,
     exchanges: u64,
-    table: &Heap,
     out: &mut W,
 ) -> Result<(), PrintStop>
     requires { WithinLength source.now }
-    ensures { Prints (end_text source.now ending.now exchanges table.now) result (output W.Sink out.old) (output W.Sink out.new) }
+    ensures { Prints (run_end_text source.now ending.now exchanges) result (output W.Sink out.old) (output W.Sink out.new) }
 {
     print_ending(alloc, source, ending, out)?;
-    print_exchanges(alloc, exchanges, out)?;
-    print_objects(alloc, table, out)
+    print_exchanges(alloc, exchanges, out)
+}
+
+/// Prints what follows the lines of a run over a link, and answers how it ended.
+pub fn print_run_end<W: Sink>(
+    alloc: Global,
+    source: &[u8],
+    run: Run,
+    out: &mut W,
+) -> Result<Status, PrintStop>
+    requires { WithinLength source.now }
+    ensures { let said = run_end_text source.now run.ending run.exchanges in
+        PrintsAnswering (ended_status run.ending) said result (output W.Sink out.old) (output W.Sink out.new) }
+{
+    print_end(alloc, source, &run.ending, run.exchanges, out)?;
+    Ok(status_of(run.ending))
 }
 
 /// Prints what follows the lines of a run that left a table, and answers how it ended.
-pub fn print_run_end<W: Sink>(
+pub fn print_run_end_with_table<W: Sink>(
     alloc: Global,
     source: &[u8],
     run: Run,
@@ -143,8 +156,10 @@ pub fn print_run_end<W: Sink>(
     out: &mut W,
 ) -> Result<Status, PrintStop>
     requires { WithinLength source.now }
-    ensures { PrintsAnswering (ended_status run.ending) (end_text source.now run.ending run.exchanges table.now) result (output W.Sink out.old) (output W.Sink out.new) }
+    ensures { let said = end_text source.now run.ending run.exchanges table.now in
+        PrintsAnswering (ended_status run.ending) said result (output W.Sink out.old) (output W.Sink out.new) }
 {
-    print_end(alloc, source, &run.ending, run.exchanges, table, out)?;
-    Ok(status_of(run.ending))
+    let status = print_run_end(alloc, source, run, out)?;
+    print_objects(alloc, table, out)?;
+    Ok(status)
 }

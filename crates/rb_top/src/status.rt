@@ -4,7 +4,8 @@ ghost use Rattle.std.specs.Prelude.{◌≡◌};
 ghost use Rattle.rb_top.specs.Codes.{code_of};
 ghost use Rattle.rb_top.specs.Runs.{ended_status};
 
-use rb_trees::{Ending, Fault, ReadError, Refusal, StoreError, TypeError, Word};
+use rb_client::BadReason;
+use rb_trees::{Ending, Fault, ReadError, Refusal, Seq, StoreError, TypeError, Word};
 use thiserror::Error;
 
 /// Why a program's text is refused.
@@ -33,9 +34,23 @@ pub enum Status {
     BatchRefused(Refusal),
     /// The service's text is refused. This holds no Memory.
     ServiceRefused(StoreError),
+    /// The exchange after so many failed.
+    LinkFault(u64),
+    /// The reply after so many was refused. Its kind and its payload are kept; or kind 0 and the bytes that were taken, where
+    /// its frame is broken or cut.
+    BadReply {
+        done: u64,
+        reason: BadReason,
+        kind: u8,
+        bytes: Seq<u8>,
+    },
     /// The output failed.
     WriteFault,
     Memory,
+    /// The server can't be reached.
+    DialFault,
+    /// The address can't be listened at, or no further session can be had there.
+    ListenFault,
     /// The file of this name has more than 1,048,576 bytes.
     FileTooLong(Word),
 }
@@ -53,8 +68,12 @@ impl Status {
             Status::SourceRefused(_) => 4,
             Status::BatchRefused(_) => 5,
             Status::ServiceRefused(_) => 6,
+            Status::LinkFault(_) => 7,
+            Status::BadReply { .. } => 8,
             Status::WriteFault => 9,
             Status::Memory => 10,
+            Status::DialFault => 11,
+            Status::ListenFault => 12,
             Status::FileTooLong(_) => 13,
         }
     }

@@ -6,7 +6,7 @@ ghost use Rattle.rb_top.specs.Accepted.{IsAccepted};
 ghost use Rattle.rb_top.specs.Runs.{PrintsRunOf};
 ghost use Rattle.rb_top.specs.Scene.{Across};
 
-use crate::printing::{PrintStop, print_run_end};
+use crate::printing::{PrintStop, print_run_end_with_table};
 use crate::source::Accepted;
 use crate::status::Status;
 use rb_base::Sink;
@@ -40,5 +40,5 @@ pub fn run_unsplit<W: Sink>(
         fuel,
         out,
     )?;
-    print_run_end(alloc, program.text, run, &left, out)
+    print_run_end_with_table(alloc, program.text, run, &left, out)
 }

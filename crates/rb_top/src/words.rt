@@ -2,20 +2,22 @@
 
 ghost use Rattle.std.specs.Prelude.{◌≡◌};
 ghost use Rattle.std.specs.Option.{option_map};
-ghost use Rattle.rb_top.specs.Words.{texts, asked, asked_by, program_name, view_of, run_of, way_of, default_fuel};
+ghost use Rattle.rb_top.specs.Words.{OfProgram, texts, wanted, wanted_by, asked_by, program_name, view_of, run_of, run_or_serve_of, way_of, child_of, serving_by, default_fuel};
 
-use crate::fuel::fuel_of;
+use crate::numbers::{count_of, fuel_of};
 
 /// The fuel of a run, where the words name none.
 const DEFAULT_FUEL: u64 = 1_000_000;
 
-/// How a program is run.
+/// How a program is run on a service in a file.
 #[derive(Clone, Copy, Drop)]
 pub enum Way {
-    /// `both`: the script of each batch goes over a link, and the rest of the batch runs on the reply.
+    /// `both`: the script of each batch goes over a link in memory, and the rest of the batch runs on the reply.
     Both,
     /// `unsplit`: each remote operation is performed where it stands.
     Unsplit,
+    /// `pair`: as `both`, over a link to a child process that serves the service.
+    Pair,
 }
 
 /// A run that is asked for: the way, the names of the files of the program and of the service, and the fuel.
@@ -27,39 +29,84 @@ pub struct Job<'w> {
     pub fuel: u64,
 }
 
-/// A command that was understood, with the names of its files.
+/// A run over a link that is asked for: the address of the server, the name of the program's file, and the fuel.
 #[derive(Drop)]
-pub enum Command<'w> {
+pub struct Call<'w> {
+    pub address: &'w str,
+    pub program: &'w str,
+    pub fuel: u64,
+}
+
+/// What is asked of a program, with the names of its files.
+#[derive(Drop)]
+pub enum Task<'w> {
     /// `check P`: says whether the program in the file P is accepted.
     Check(&'w str),
     /// `split P`: shows how the batches of the program in the file P are divided.
     Split(&'w str),
-    /// `both P S [FUEL]` and `unsplit P S [FUEL]`: runs the program in the file P on the service in the file S, with so much
-    /// fuel.
+    /// `both P S [FUEL]`, `unsplit P S [FUEL]` and `pair P S [FUEL]`: runs the program in the file P on the service in the file
+    /// S, with so much fuel.
     Run(Job<'w>),
+    /// `run ADDRESS P [FUEL]`: runs the program in the file P over a link to the server at an address, with so much fuel.
+    Call(Call<'w>),
 }
 
-impl Command<'_> {
+/// What is asked of a server: the address that it listens at, the name of the file of its service, and how many sessions it serves
+/// at most.
+#[derive(Drop)]
+pub struct Serving<'w> {
+    pub address: &'w str,
+    pub service: &'w str,
+    pub count: u64,
+}
+
+/// A command that was understood.
+#[derive(Drop)]
+pub enum Command<'w> {
+    Program(Task<'w>),
+    /// `serve ADDRESS S COUNT`: serves the service in the file S over the sessions that come at an address.
+    Serve(Serving<'w>),
+    /// `child S`: serves the service in the file S over one session at `-`, and prints nothing.
+    Child(&'w str),
+}
+
+impl Task<'_> {
     /// The name of the program's file.
     pub fn program(&self) -> &str
         ensures { result.now ≡ program_name (asked_by self.now) }
     {
         match self {
-            Command::Check(program) => program,
-            Command::Split(program) => program,
-            Command::Run(job) => job.program,
+            Task::Check(program) => program,
+            Task::Split(program) => program,
+            Task::Run(job) => job.program,
+            Task::Call(call) => call.program,
+        }
+    }
+}
+
+impl<'w> Serving<'w> {
+    /// What is asked of the server of `child S`: one session at `-`.
+    pub fn of_child(service: &'w str) -> Serving<'w>
+        ensures { serving_by result ≡ child_of service.now }
+    {
+        Serving {
+            address: "-",
+            service,
+            count: 1,
         }
     }
 }
 
 /// The command of two words.
-fn view_command<'w>(command: &str, program: &'w str) -> Option<Command<'w>>
-    ensures { option_map asked_by result ≡ view_of command.now program.now }
+fn view_command<'w>(command: &str, file: &'w str) -> Option<Command<'w>>
+    ensures { option_map wanted_by result ≡ view_of command.now file.now }
 {
     if command == "check" {
-        Some(Command::Check(program))
+        Some(Command::Program(Task::Check(file)))
     } else if command == "split" {
-        Some(Command::Split(program))
+        Some(Command::Program(Task::Split(file)))
+    } else if command == "child" {
+        Some(Command::Child(file))
     } else {
         None
     }
@@ -73,50 +120,80 @@ fn way_of(word: &str) -> Option<Way>
         Some(Way::Both)
     } else if word == "unsplit" {
         Some(Way::Unsplit)
+    } else if word == "pair" {
+        Some(Way::Pair)
     } else {
         None
     }
 }
 
-/// The command of three words, or of four, of which the last names a fuel.
+/// What is asked of a program by a word and two more, with so much fuel.
 #[tactic(auto, unfolding(crate::specs::Words::run_of))]
-fn run_command<'w>(
-    command: &str,
-    program: &'w str,
-    service: &'w str,
-    fuel: Option<u64>,
-) -> Option<Command<'w>>
-    ensures { option_map asked_by result ≡ run_of command.now program.now service.now fuel }
+fn run_task<'w>(command: &str, first: &'w str, second: &'w str, fuel: u64) -> Option<Task<'w>>
+    ensures { option_map asked_by result ≡ run_of command.now first.now second.now fuel }
 {
-    match (way_of(command), fuel) {
-        (Some(way), Some(fuel)) => Some(Command::Run(Job {
-            way,
-            program,
-            service,
+    if command == "run" {
+        return Some(Task::Call(Call {
+            address: first,
+            program: second,
             fuel,
-        })),
-        _ => None,
+        }));
     }
+    let way = way_of(command)?;
+    Some(Task::Run(Job {
+        way,
+        program: first,
+        service: second,
+        fuel,
+    }))
+}
+
+/// The command of four words, of which the last is a number.
+#[tactic(auto, unfolding(crate::specs::Words::run_or_serve_of))]
+fn numbered_command<'w>(
+    command: &str,
+    first: &'w str,
+    second: &'w str,
+    number: &str,
+) -> Option<Command<'w>>
+    ensures { option_map wanted_by result ≡ run_or_serve_of command.now first.now second.now number.now }
+{
+    if command == "serve" {
+        let count = count_of(number)?;
+        return Some(Command::Serve(Serving {
+            address: first,
+            service: second,
+            count,
+        }));
+    }
+    let fuel = fuel_of(number)?;
+    let task = run_task(command, first, second, fuel)?;
+    Some(Command::Program(task))
+}
+
+/// The command of three words.
+#[tactic(auto, unfolding(crate::specs::Words::default_fuel))]
+fn run_command<'w>(command: &str, first: &'w str, second: &'w str) -> Option<Command<'w>>
+    ensures { option_map wanted_by result ≡ option_map OfProgram (run_of command.now first.now second.now default_fuel) }
+{
+    let task = run_task(command, first, second, DEFAULT_FUEL)?;
+    Some(Command::Program(task))
 }
 
 /// The command that the words are, or None where they are none.
-#[tactic(auto, unfolding(crate::specs::Words::default_fuel))]
 pub fn command_of(words: &[String]) -> Option<Command<'_>>
-    ensures { option_map asked_by result ≡ asked (texts words.now) }
+    ensures { option_map wanted_by result ≡ wanted (texts words.now) }
 {
     match words {
-        [command, program] => view_command(command.as_str(), program.as_str()),
-        [command, program, service] => run_command(
+        [command, file] => view_command(command.as_str(), file.as_str()),
+        [command, first, second] => {
+            run_command(command.as_str(), first.as_str(), second.as_str())
+        }
+        [command, first, second, number] => numbered_command(
             command.as_str(),
-            program.as_str(),
-            service.as_str(),
-            Some(DEFAULT_FUEL),
-        ),
-        [command, program, service, fuel] => run_command(
-            command.as_str(),
-            program.as_str(),
-            service.as_str(),
-            fuel_of(fuel.as_str()),
+            first.as_str(),
+            second.as_str(),
+            number.as_str(),
         ),
         _ => None,
     }

@@ -6,7 +6,9 @@ mod real_files;
 mod standard_output;
 
 use rb_top::{Status, top};
-use rb_trees::Memory;
+use rb_base::SteadyListen;
+use rb_session::NullDial;
+use rb_trees::{Memory, Seq};
 use real_files::RealFiles;
 use standard_output::StandardOutput;
 use std::process::ExitCode;
@@ -27,6 +29,8 @@ fn run<R: Files + Env + Print + Eprint + AllocGlobal>(rt: &R) -> Status {
                 words.as_slice(),
                 &mut RealFiles::make(rt),
                 &mut StandardOutput::make(rt),
+                &mut NullDial::make(rt.alloc()),
+                &mut SteadyListen::make(rt.alloc(), Seq::new(rt.alloc())),
             );
             help::tell(rt, words.as_slice(), &status);
             status

@@ -1,13 +1,17 @@
-use Rattle.std.proofs.Common.{Ok, ap, sym, subst, ◌∙◌}
-use Rattle.rb_top.specs.LinkRuns.{meant_over}
-use Rattle.rb_top.specs.Scene.{output}
+use Rattle.rb_top.specs.LinkRuns.{behind_of, served_by}
 use Rattle.rb_top.specs.Sources.{accepted_program}
-use Rattle.rb_top.proofs.RunEnds.{RunsMeaning, run_told}
+use Rattle.rb_top.proofs.LinkRuns.{cut_over, ended_over, none_lent}
 use Rattle.rb_top.proofs.both_run.run_over.Goals as goal
 
-pub returns-clause-prints : goal.returns-clause-prints
-returns-clause-prints g c =
-    let m = meant_over (accepted_program c.args.program.now) c.args.fuel c.args.link.now in
-    run_told c.args.program.now.text.now m c.in_ok-run.run' c.table.result.now c.print_run_end.result (output g.W.Sink c.args.out.now) (output g.W.Sink c.run_client_over.new.out) (output g.W.Sink c.print_run_end.new.out)
-    (subst (λ t. RunsMeaning m t (Ok c.in_ok-run.run') (output g.W.Sink c.args.out.now) (output g.W.Sink c.run_client_over.new.out)) (sym (c.table.ensures ∙ ap (λ h. h.table) c.host.ensures)) c.in_ok-run.ensures.means)
-    c.print_run_end.ensures
+pub returns-in-Err : goal.returns-in-Err
+returns-in-Err g c =
+    cut_over g.L.Link c.args.program.now.text.now (accepted_program c.args.program.now) c.args.fuel (served_by (behind_of (g.L.Link.told c.args.link.now))) c.run_client_over.new.link c.in-Err.stop c.stopped.result _ _
+    c.stopped.ensures c.in-Err.ensures
+
+pub unreachable-requires-in-None : goal.unreachable-requires-in-None
+unreachable-requires-in-None g c = none_lent _ _ _ _ c.in-Ok.ensures.0.lends c.in-Ok.ensures.0.carries.table c.in-None.ensures
+
+pub returns-in-Some : goal.returns-in-Some
+returns-in-Some g c =
+    ended_over g.L.Link c.args.program.now.text.now (accepted_program c.args.program.now) c.args.fuel (served_by (behind_of (g.L.Link.told c.args.link.now))) c.run_client_over.new.link c.in-Ok.run' c.in-Some.table.now
+    c.print_run_end_with_table.result c.run_answer.result _ _ _ c.run_answer.ensures c.in-Ok.ensures c.in-Some.ensures c.print_run_end_with_table.ensures

@@ -1,25 +1,19 @@
 use Rattle.std.proofs.Common.{refl, sym, subst}
 use Rattle.std.specs.Prelude.{map}
 use Rattle.rb_meaning_split.specs.Division.{mirror_split}
-use Rattle.rb_top.specs.Commands.{GoesOnWith}
-use Rattle.rb_top.specs.Scene.{outside}
-use Rattle.rb_top.specs.Sources.{accepted_program}
-use Rattle.rb_top.specs.Words.{asked_by}
-use Rattle.rb_top.proofs.Said.{goes_check, goes_split}
+use Rattle.rb_top.specs.Answers.{called, checked, viewed}
 use Rattle.rb_top.proofs.command.fulfil.Goals as goal
 
 pub returns-in-Check : goal.returns-in-Check
-returns-in-Check g c =
-    subst (λ k. GoesOnWith c.args.program.now (asked_by k) c.say.result (outside g.F.Files g.W.Sink c.args.files.now c.args.out.now) (outside g.F.Files g.W.Sink c.args.files.now c.say.new.out)) (sym c.in-Check.is)
-    (goes_check c.args.program.now.text.now c.in-Check.field-0.now (accepted_program c.args.program.now) c.say.result _ _ c.say.ensures refl)
+returns-in-Check g c = rw c.in-Check.is in checked c.in-Check.field-0.now c.say.ensures refl refl
 
 pub returns-in-Split : goal.returns-in-Split
 returns-in-Split g c =
-    subst (λ k. GoesOnWith c.args.program.now (asked_by k) c.say_divided.result (outside g.F.Files g.W.Sink c.args.files.now c.args.out.now) (outside g.F.Files g.W.Sink c.args.files.now c.say_divided.new.out)) (sym c.in-Split.is)
-    (goes_split c.args.program.now.text.now c.in-Split.field-0.now (accepted_program c.args.program.now) (map mirror_split c.as_slice.result.now) c.say_divided.result _ _
-    (rw c.as_slice.ensures c.requires.accepted.divided) c.say_divided.ensures refl)
+    rw c.in-Split.is in
+    viewed c.in-Split.field-0.now (map mirror_split c.as_slice.result.now) (rw c.as_slice.ensures in c.requires.accepted.divided) c.say_divided.ensures refl refl
 
 pub returns-in-Run : goal.returns-in-Run
-returns-in-Run g c =
-    subst (λ k. GoesOnWith c.args.program.now (asked_by k) c.run_on.result (outside g.F.Files g.W.Sink c.args.files.now c.args.out.now) (outside g.F.Files g.W.Sink c.run_on.new.files c.run_on.new.out)) (sym c.in-Run.is)
-    c.run_on.ensures
+returns-in-Run g c = rw c.in-Run.is in c.run_on.ensures
+
+pub returns-in-Call : goal.returns-in-Call
+returns-in-Call g c = rw c.in-Call.is in called c.in-Call.call.now.address.now c.in-Call.call.now.program.now c.in-Call.call.now.fuel c.run_call.ensures refl

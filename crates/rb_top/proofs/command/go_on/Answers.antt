@@ -3,10 +3,10 @@ use Rattle.rb_trees.specs.mirror.Declarations.{mirror_program}
 use Rattle.rb_flow.specs.Program.{HasNoRefusal}
 use Rattle.rb_top.specs.Accepted.{HasPlacesOfText}
 use Rattle.rb_top.specs.Commands.{EndsBatchRefused, GoesOnAdmitted}
-use Rattle.rb_top.specs.Scene.{output, outside}
+use Rattle.rb_top.specs.Scene.{output}
 use Rattle.rb_top.specs.Sources.{program_of}
 use Rattle.rb_top.specs.Words.{asked_by}
-use Rattle.rb_top.proofs.Said.{goes_admitted, goes_refused, goes_starved}
+use Rattle.rb_top.proofs.Going.{goes_admitted, goes_refused, goes_starved}
 use Rattle.rb_top.proofs.command.go_on.Goals as goal
 
 pub go_on_admitted-requires-clause-admitted : goal.go_on_admitted-requires-clause-admitted
@@ -18,14 +18,14 @@ go_on_admitted-requires-clause-admitted g c = record {
 
 pub returns-in-Ok : goal.returns-in-Ok
 returns-in-Ok g c =
-    goes_admitted c.args.source.now (asked_by c.args.command.now) c.go_on_admitted.result _ _ c.in-Ok.ensures.admission
-    (subst (λ t. GoesOnAdmitted t (program_of c.args.source.now) (asked_by c.args.command.now) c.go_on_admitted.result (outside g.F.Files g.W.Sink c.args.files.now c.args.out.now) (outside g.F.Files g.W.Sink c.go_on_admitted.new.files c.go_on_admitted.new.out)) c.as_slice-text.ensures
-    (subst (λ q. GoesOnAdmitted c.as_slice-text.result.now (mirror_program q) (asked_by c.args.command.now) c.go_on_admitted.result (outside g.F.Files g.W.Sink c.args.files.now c.args.out.now) (outside g.F.Files g.W.Sink c.go_on_admitted.new.files c.go_on_admitted.new.out)) c.in-Ok.ensures.typed c.go_on_admitted.ensures))
+    goes_admitted g.D.L.Link c.args.source.now (asked_by c.args.task.now) c.go_on_admitted.result _ _ _ _ c.in-Ok.ensures.admission
+    (subst (λ t. GoesOnAdmitted g.D.L.Link t (program_of c.args.source.now) (asked_by c.args.task.now) c.go_on_admitted.result _ _ _ _) c.as_slice-text.ensures
+    (subst (λ q. GoesOnAdmitted g.D.L.Link c.as_slice-text.result.now (mirror_program q) (asked_by c.args.task.now) c.go_on_admitted.result _ _ _ _) c.in-Ok.ensures.typed c.go_on_admitted.ensures))
 
 pub returns-in-Err-Refused : goal.returns-in-Err-Refused
 returns-in-Err-Refused g c =
-    goes_refused c.args.source.now (asked_by c.args.command.now) c.in-Err-Refused.refusal c.refuse_batch.result _ _ (rw c.in-Err-Refused.field-0-is at c.in-Err-Refused.ensures.admission)
+    goes_refused g.D.L.Link c.args.source.now (asked_by c.args.task.now) c.in-Err-Refused.refusal c.refuse_batch.result _ _ _ (rw c.in-Err-Refused.field-0-is at c.in-Err-Refused.ensures.admission)
     (subst (λ t. EndsBatchRefused t c.in-Err-Refused.refusal c.refuse_batch.result (output g.W.Sink c.args.out.now) (output g.W.Sink c.refuse_batch.new.out)) c.as_slice-text.ensures c.refuse_batch.ensures) refl
 
 pub returns-in-Err-Memory : goal.returns-in-Err-Memory
-returns-in-Err-Memory g c = goes_starved c.args.source.now (asked_by c.args.command.now) (outside g.F.Files g.W.Sink c.args.files.now c.args.out.now)
+returns-in-Err-Memory g c = goes_starved g.D.L.Link c.args.source.now (asked_by c.args.task.now) _ _

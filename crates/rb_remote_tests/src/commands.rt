@@ -1,0 +1,75 @@
+// Commands over a Dial and a listener in memory, with what they answer and print.
+
+use crate::texts::FILES;
+use rb_base::{Listen, MemoryFiles, MemorySink, SteadyListen};
+use rb_session::{Dial, NullDial};
+use rb_top::top;
+use rb_trees::Seq;
+use std::alloc::Global;
+use std::test::Fail;
+
+/// The words of a text, which single spaces part.
+fn words_of(alloc: Global, text: &str) -> Result<Vec<String>, Fail> {
+    let mut words = Vec::new(alloc);
+    for word in text.split(' ') {
+        words.push(String::from_str(alloc, word)?)?;
+    }
+    Ok(words)
+}
+
+/// Files of these names and texts.
+pub fn files_of(alloc: Global, texts: &[(&str, &str)]) -> Result<MemoryFiles, Fail> {
+    let mut files = MemoryFiles::make(alloc, Seq::new(alloc));
+    for (name, text) in texts {
+        files.add(name, text.as_bytes())?;
+    }
+    Ok(files)
+}
+
+/// The program of these lines behind the interfaces of files.
+pub fn on_files(alloc: Global, main: &str) -> Result<String, Fail> {
+    Ok(format!(in alloc; "{FILES}{main}")?)
+}
+
+/// The exit status of a command, before what it prints on an output, over a Dial and a listener.
+pub fn answer_on<D: Dial, N: Listen>(
+    alloc: Global,
+    words: &str,
+    texts: &[(&str, &str)],
+    mut out: MemorySink,
+    dial: &mut D,
+    listen: &mut N,
+) -> Result<String, Fail> {
+    let words = words_of(alloc, words)?;
+    let mut files = files_of(alloc, texts)?;
+    let code = top(alloc, words.as_slice(), &mut files, &mut out, dial, listen).code();
+    let text = str::from_utf8(out.written())?;
+    Ok(format!(in alloc; "{code} {text}")?)
+}
+
+/// An output that never fails.
+pub fn steady_output(alloc: Global) -> MemorySink {
+    MemorySink::make(alloc, Seq::new(alloc), usize::MAX)
+}
+
+/// What a command answers and prints over a Dial, where no session comes.
+pub fn answer_over<D: Dial>(
+    alloc: Global,
+    words: &str,
+    texts: &[(&str, &str)],
+    dial: &mut D,
+) -> Result<String, Fail> {
+    let mut listen = SteadyListen::make(alloc, Seq::new(alloc));
+    answer_on(alloc, words, texts, steady_output(alloc), dial, &mut listen)
+}
+
+/// What a command answers and prints over a listener, where nothing is dialled.
+pub fn served_over<N: Listen>(
+    alloc: Global,
+    words: &str,
+    texts: &[(&str, &str)],
+    listen: &mut N,
+) -> Result<String, Fail> {
+    let mut dial = NullDial::make(alloc);
+    answer_on(alloc, words, texts, steady_output(alloc), &mut dial, listen)
+}

@@ -1,0 +1,245 @@
+-- What is answered where the outside tells all that a command needs.
+use Rattle.std.proofs.Common.{◌≡◌, ◌⊎◌, ℕ, true, false, List, [], ◌++◌, Option, None, Some, Result, Ok, Err, codes, ap, sym, ◌∙◌, refl, subst, inl, inr}
+use Rattle.rb_trees.specs.declared.outcomes.Run.{Run}
+use Rattle.rb_trees.specs.mirror.Declarations.{Program}
+use Rattle.rb_meaning.specs.Links.{Behind, server_told}
+use Rattle.rb_meaning.specs.Meaning.{Meaning}
+use Rattle.rb_meaning.specs.Shown.{exchanges, line, shown_events}
+use Rattle.rb_meaning_split.specs.Division.{Division, divisions}
+use Rattle.rb_shown.specs.Views.{shown_divisions}
+use Rattle.rb_base.specs.Devices.{Device, failed}
+use Rattle.rb_base.specs.Directories.{Directory, read_once, told_after}
+use Rattle.rb_base.specs.Sinks.{with_bytes, WrotePrefix}
+use Rattle.rb_base.specs.declared.links.Link as links
+use Rattle.rb_client.specs.Runs.{FailsAsListed}
+use Rattle.rb_client.specs.Servers.{FailsAfter, fails_after}
+use Rattle.rb_client.specs.declared.stops.RunStop.{RunStop}
+use Rattle.rb_client.specs.declared.stops.RunStop.TheVariants as stops
+use Rattle.rb_client.specs.Headline.{MeansWhereHonest, EndsAsMeant, meant_on}
+use Rattle.rb_session.specs.Dials.{DialSeen, Dialling, TakesNext, next_link}
+use Rattle.rb_session.specs.declared.dials.DialStop.{DialStop}
+use Rattle.rb_session.specs.declared.dials.DialStop.TheVariants as dials
+use Rattle.rb_session.specs.declared.targets.Target.{Target}
+use Rattle.rb_session.specs.declared.targets.Target.TheVariants as targets
+use Rattle.rb_top.specs.Answers as answers
+use Rattle.rb_top.specs.Answers.{EndsRun, Goes, RunsBy, SaysOfProgram, Says, once_read}
+use Rattle.rb_top.specs.Completeness.{CallsTold, ChecksTold, ComesToBatch, DialsHonest, EndsFar, IsNear, PairsTold, RunsTold, SplitsTold, ToldAccepted, ToldRun, ToldService}
+use Rattle.rb_top.specs.DialRuns.{Dials, RunsInMemory, not_dialled, ran_in_memory, ran_over_link, starved_dialling, starved_for_link}
+use Rattle.rb_top.specs.Ends as ends
+use Rattle.rb_top.specs.Ends.{Ends, Tells, read_times}
+use Rattle.rb_top.specs.LinkRuns as runs
+use Rattle.rb_top.specs.LinkRuns.{EndsOver, RunsOverLink, SaysRun, over, served_by}
+use Rattle.rb_top.specs.Printing.{run_end_text}
+use Rattle.rb_top.specs.Runs.{Served, ended_status, far_text, run_status, run_text}
+use Rattle.rb_top.specs.Scene.{Scene, Outside}
+use Rattle.rb_top.specs.Unusable.{NoProgram, NoService, TellsNoProgram, TellsNoService}
+use Rattle.rb_top.specs.Words.{Asked, Check, Split, Run, Call, Wanted, OfProgram, Serve, Child, Serving, program_name}
+use Rattle.rb_top.specs.declared.status.Status.{Status}
+use Rattle.rb_top.specs.declared.status.Status.TheVariants.{Done, Memory}
+use Rattle.rb_top.specs.declared.words.Way.{Way}
+use Rattle.rb_top.specs.declared.words.Way.TheVariants.{Both, Unsplit, Pair}
+use Rattle.rb_top.proofs.Ended.{starved_at_once}
+use Rattle.rb_top.proofs.Printed.{prefix_front}
+use Rattle.rb_top.proofs.Serving.{ends_behind}
+use Rattle.rb_top.proofs.Usable.{OneService, OneSource, accepted_is_usable, found_is_told, held_is_told, service_is_usable}
+
+-- what can't be told wasn't: memory was wanting, and nothing was said
+only_starved : (Is : ends.Said) (result : Status) (before after : Scene) → ((status : Status) (text : List ℕ) (left : Device Directory) → Is status text left → ⊥) → Tells Is result before after → (result ≡ Memory) × (after.out ≡ before.out)
+only_starved Is result before after none (ends.said status text is e) = absurd (none status text after.files is)
+only_starved Is result before after none (ends.starved_first count r f) = (r, ap (λ s. s.out) f)
+
+ends_starved : (status : Status) (text : List ℕ) (result : Status) (before after : Device (List ℕ)) → (result ≡ Memory) × (after ≡ before) → Ends status text result before after
+ends_starved status text result before after s =
+    subst (λ r. Ends status text r before after) (sym s.0) (subst (Ends status text Memory before) (sym s.1) (starved_at_once status text before))
+
+-- the name of the service's file, where one is asked for
+abbrev service_of : Asked → List ℕ
+service_of (Run way p s fuel) = s
+service_of a = []
+
+one_wanted : (a b : Asked) (w : Option Wanted) → w ≡ Some (OfProgram a) → w ≡ Some (OfProgram b) → a ≡ b
+one_wanted a b w e f =
+    let both = sym e ∙ f in
+    cc both
+
+module _ {L : Type 0} (g : links.Ghosts L) where
+  -- What is said of a program that is told: memory was wanting before anything was said, or what was asked of it went on.
+  of_told : OneSource → (a : Asked) (text : List ℕ) (program : Program) (result : Status) (dial dial' : DialSeen L) (before after : Scene) → ToldAccepted before.files.told (program_name a) text program → SaysOfProgram g a result dial dial' before after
+      → ((result ≡ Memory) × (after.out ≡ before.out)) ⊎ Goes g text program result dial dial' (once_read before) after a
+  of_told one a text program result dial dial' before after t (answers.no_program tells same) =
+      inl (only_starved (NoProgram before.files (program_name a)) result before after (accepted_is_usable one before.files (program_name a) text program t) tells)
+  of_told one a text program result dial dial' before after t (answers.goes found other holds on) =
+      let is = held_is_told one before.files.told (program_name a) text found program other t holds in
+      inr (subst (λ x. Goes g x program result dial dial' (once_read before) after a) is.0 (subst (λ q. Goes g found q result dial dial' (once_read before) after a) is.1 on))
+
+  -- what is said of a program where it is wanted
+  of_wanted : (a : Asked) (wanted : Option Wanted) (result : Status) (before after : Outside L) → wanted ≡ Some (OfProgram a) → Says g wanted result before after → SaysOfProgram g a result before.dial after.dial before.scene after.scene
+  of_wanted a wanted result before after w (answers.not_understood n e f) = absurd (cc (sym n ∙ w))
+  of_wanted a wanted result before after w (answers.of_program b x said same) =
+      subst (λ y. SaysOfProgram g y result before.dial after.dial before.scene after.scene) (one_wanted b a wanted x w) said
+  of_wanted a wanted result before after w (answers.serves v x said same) = absurd (cc (sym x ∙ w))
+  of_wanted a wanted result before after w (answers.serves_child s x said same) = absurd (cc (sym x ∙ w))
+
+  -- `check P`
+  went_checked : (text : List ℕ) (program : Program) (p : List ℕ) (a : Asked) (result : Status) (dial dial' : DialSeen L) (before after : Scene) → a ≡ Check p → Goes g text program result dial dial' before after a → Ends Done (line (codes "accepted")) result before.out after.out
+  went_checked text program p a result dial dial' before after w (answers.checked name e same f) = e
+  went_checked text program p a result dial dial' before after w (answers.viewed name ds d e same f) = absurd (cc w)
+  went_checked text program p a result dial dial' before after w (answers.called address name fuel d f) = absurd (cc w)
+  went_checked text program p a result dial dial' before after w (answers.no_service way name s fuel t same) = absurd (cc w)
+  went_checked text program p a result dial dial' before after w (answers.ran way name s other fuel served f i r e) = absurd (cc w)
+
+  pub checks_told : OneSource → (wanted : Option Wanted) (result : Status) (before after : Outside L) → Says g wanted result before after → ChecksTold wanted result before.scene after.scene
+  checks_told one wanted result before after said = λ p text program w t.
+      by_case p text program (of_told one (Check p) text program result before.dial after.dial before.scene after.scene t (of_wanted (Check p) wanted result before after w said))
+    where
+      by_case : (p text : List ℕ) (program : Program) → ((result ≡ Memory) × (after.scene.out ≡ before.scene.out)) ⊎ Goes g text program result before.dial after.dial (once_read before.scene) after.scene (Check p)
+          → Ends Done (line (codes "accepted")) result before.scene.out after.scene.out
+      by_case p text program (inl s) = ends_starved Done (line (codes "accepted")) result before.scene.out after.scene.out s
+      by_case p text program (inr on) = went_checked text program p (Check p) result before.dial after.dial (once_read before.scene) after.scene refl on
+
+  -- `split P`
+  went_viewed : (text : List ℕ) (program : Program) (ds : List Division) (p : List ℕ) (a : Asked) (result : Status) (dial dial' : DialSeen L) (before after : Scene) → divisions program ≡ Ok ds → a ≡ Split p → Goes g text program result dial dial' before after a → Ends Done (shown_divisions text ds) result before.out after.out
+  went_viewed text program ds p a result dial dial' before after v w (answers.checked name e same f) = absurd (cc w)
+  went_viewed text program ds p a result dial dial' before after v w (answers.viewed name es d e same f) =
+      subst (λ xs. Ends Done (shown_divisions text xs) result before.out after.out) (one_division es (sym d ∙ v)) e
+    where
+      one_division : (es : List Division) → Ok es ≡ Ok ds → es ≡ ds
+      one_division es q = cc q
+  went_viewed text program ds p a result dial dial' before after v w (answers.called address name fuel d f) = absurd (cc w)
+  went_viewed text program ds p a result dial dial' before after v w (answers.no_service way name s fuel t same) = absurd (cc w)
+  went_viewed text program ds p a result dial dial' before after v w (answers.ran way name s other fuel served f i r e) = absurd (cc w)
+
+  pub splits_told : OneSource → (wanted : Option Wanted) (result : Status) (before after : Outside L) → Says g wanted result before after → SplitsTold wanted result before.scene after.scene
+  splits_told one wanted result before after said = λ p text program ds w t v.
+      by_case p text program ds v (of_told one (Split p) text program result before.dial after.dial before.scene after.scene t (of_wanted (Split p) wanted result before after w said))
+    where
+      by_case : (p text : List ℕ) (program : Program) (ds : List Division) → divisions program ≡ Ok ds → ((result ≡ Memory) × (after.scene.out ≡ before.scene.out)) ⊎ Goes g text program result before.dial after.dial (once_read before.scene) after.scene (Split p)
+          → Ends Done (shown_divisions text ds) result before.scene.out after.scene.out
+      by_case p text program ds v (inl s) = ends_starved Done (shown_divisions text ds) result before.scene.out after.scene.out s
+      by_case p text program ds v (inr on) = went_viewed text program ds p (Split p) result before.dial after.dial (once_read before.scene) after.scene v refl on
+
+  -- what was run over a link to an address, as is asked
+  abbrev CallsAs : List ℕ → Program → Status → DialSeen L → DialSeen L → Scene → Scene → Asked → Type 0
+  CallsAs text program result dial dial' before after (Call address name fuel) = Dials g text program fuel (targets.Address address) result dial dial' before.out after.out
+  CallsAs text program result dial dial' before after a = Unit {0}
+
+  -- what was run as is asked, on a service
+  abbrev RunsAs : List ℕ → Program → Status → DialSeen L → DialSeen L → Scene → Scene → Served → Asked → Type 0
+  RunsAs text program result dial dial' before after x (Run way name s fuel) = RunsBy g way s text program fuel x result dial dial' before.out after.out
+  RunsAs text program result dial dial' before after x a = Unit {0}
+
+  -- What was run on a service that is told: memory was wanting before anything was said, or it was run there.
+  went_run : OneService → (text : List ℕ) (program : Program) (way : Way) (p s other : List ℕ) (fuel : ℕ) (served : Served) (a : Asked) (result : Status) (dial dial' : DialSeen L) (before after : Scene) → a ≡ Run way p s fuel → ToldService before.files.told s other served
+      → Goes g text program result dial dial' before after a → ((result ≡ Memory) × (after.out ≡ before.out)) ⊎ RunsBy g way s text program fuel served result dial dial' before.out after.out
+  went_run one text program way p s other fuel served a result dial dial' before after w t (answers.checked name e same f) = absurd (cc w)
+  went_run one text program way p s other fuel served a result dial dial' before after w t (answers.viewed name ds d e same f) = absurd (cc w)
+  went_run one text program way p s other fuel served a result dial dial' before after w t (answers.called address name fuel' d f) = absurd (cc w)
+  went_run one text program way p s other fuel served a result dial dial' before after w t (answers.no_service way' name s' fuel' tells same) =
+      inl (only_starved (NoService before.files s') result before after (subst (λ n. (status : Status) (shown : List ℕ) (left : Device Directory) → NoService before.files n status shown left → ⊥) (sym (ap service_of w)) (service_is_usable one before.files s other served t)) tells)
+  went_run one text program way p s other fuel served a result dial dial' before after w t (answers.ran way' name s' found fuel' served' f i r e) =
+      let here = subst (λ n. ToldService before.files.told n other served) (sym (ap service_of w)) t in
+      let is = found_is_told one before.files.told s' other found served served' here f i in
+      inr (subst (λ x. RunsBy g way s text program fuel x result dial dial' before.out after.out) is (subst (RunsAs text program result dial dial' before after served') w r))
+
+  -- `both P S FUEL` and `unsplit P S FUEL`
+  ended_near : (text : List ℕ) (p : Program) (fuel : ℕ) (served : Served) (link : L) (result : Status) (before after : Device (List ℕ)) → EndsOver g text p fuel served link result before after → EndsRun text p fuel served result before after
+  ended_near text p fuel served link result before after (runs.whole r o x) = inl (ends.whole r o)
+  ended_near text p fuel served link result before after (runs.cut r w) = inl (ends.cut r w)
+  ended_near text p fuel served link result before after (runs.starved r) = inr r
+
+  in_memory : (text : List ℕ) (p : Program) (fuel : ℕ) (served : Served) (result : Status) (dial dial' : DialSeen L) (before after : Device (List ℕ)) → RunsInMemory g text p fuel served result dial dial' before after → EndsRun text p fuel served result before after
+  in_memory text p fuel served result dial dial' before after (ran_in_memory link e b) = ended_near text p fuel served link result before after e
+  in_memory text p fuel served result dial dial' before after (starved_for_link r d o) = inr r
+
+  run_near : (way : Way) (s text : List ℕ) (p : Program) (fuel : ℕ) (served : Served) (result : Status) (dial dial' : DialSeen L) (before after : Device (List ℕ)) → IsNear way → RunsBy g way s text p fuel served result dial dial' before after → EndsRun text p fuel served result before after
+  run_near Both s text p fuel served result dial dial' before after n r = in_memory text p fuel served result dial dial' before after r
+  run_near Unsplit s text p fuel served result dial dial' before after n r = r.0
+  run_near Pair s text p fuel served result dial dial' before after n r = absurd n
+
+  -- what was asked of a program and a service that are told: memory was wanting, or it was run
+  run_told : OneSource → OneService → (wanted : Option Wanted) (result : Status) (before after : Outside L) → Says g wanted result before after → (way : Way) (p s text other : List ℕ) (fuel : ℕ) (program : Program) (served : Served) → wanted ≡ Some (OfProgram (Run way p s fuel))
+      → ToldRun before.scene.files.told p s text other program served → (result ≡ Memory) ⊎ RunsBy g way s text program fuel served result before.dial after.dial before.scene.out after.scene.out
+  run_told one services wanted result before after said way p s text other fuel program served w t =
+      first (of_told one (Run way p s fuel) text program result before.dial after.dial before.scene after.scene t.accepted (of_wanted (Run way p s fuel) wanted result before after w said))
+    where
+      then : ((result ≡ Memory) × (after.scene.out ≡ before.scene.out)) ⊎ RunsBy g way s text program fuel served result before.dial after.dial before.scene.out after.scene.out
+          → (result ≡ Memory) ⊎ RunsBy g way s text program fuel served result before.dial after.dial before.scene.out after.scene.out
+      then (inl x) = inl x.0
+      then (inr r) = inr r
+
+      first : ((result ≡ Memory) × (after.scene.out ≡ before.scene.out)) ⊎ Goes g text program result before.dial after.dial (once_read before.scene) after.scene (Run way p s fuel)
+          → (result ≡ Memory) ⊎ RunsBy g way s text program fuel served result before.dial after.dial before.scene.out after.scene.out
+      first (inl x) = inl x.0
+      first (inr on) = then (went_run services text program way p s other fuel served (Run way p s fuel) result before.dial after.dial (once_read before.scene) after.scene refl t.service on)
+
+  pub runs_told : OneSource → OneService → (wanted : Option Wanted) (result : Status) (before after : Outside L) → Says g wanted result before after → RunsTold wanted result before.scene after.scene
+  runs_told one services wanted result before after said = λ way p s text other fuel program served w near t.
+      by_case way s text fuel program served near (run_told one services wanted result before after said way p s text other fuel program served w t)
+    where
+      by_case : (way : Way) (s text : List ℕ) (fuel : ℕ) (program : Program) (served : Served) → IsNear way → (result ≡ Memory) ⊎ RunsBy g way s text program fuel served result before.dial after.dial before.scene.out after.scene.out
+          → EndsRun text program fuel served result before.scene.out after.scene.out
+      by_case way s text fuel program served near (inl r) = inr r
+      by_case way s text fuel program served near (inr r) = run_near way s text program fuel served result before.dial after.dial before.scene.out after.scene.out near r
+
+  -- a run over an honest link, of which no exchange fails
+  far_by : (text : List ℕ) (p : Program) (fuel : ℕ) (b : Behind) (link left : L) (result : Status) (before lines after : Device (List ℕ)) (answer : Result Run RunStop) → ((k : ℕ) → ComesToBatch p fuel (served_by b) k → fails_after k b ≡ false) → server_told (g.told link) ≡ Some b
+      → EndsAsMeant p fuel b answer (over g link before) (over g left lines) → FailsAsListed answer (over g link before) (over g left lines) → SaysRun text answer result lines after → EndsFar text p fuel b result before after
+  far_by text p fuel b link left result before lines after (Ok run) none e means lists says =
+      let m = meant_on p fuel b in
+      let said = ends_behind (ended_status run.ending) (shown_events m.events) (run_end_text text run.ending run.exchanges) result before lines after means.written says in
+      inl (subst (λ n. Ends (ended_status m.ending) (shown_events m.events ++ run_end_text text m.ending n) result before after) means.exchanges_so
+      (subst (λ x. Ends (ended_status x) (shown_events m.events ++ run_end_text text x run.exchanges) result before after) means.ending_so said))
+  far_by text p fuel b link left result before lines after (Err (stops.LinkFault k)) none e means lists says =
+      let fails = subst (FailsAfter k) e lists.1 in
+      let never = none k (record { at = means.at; local = means.local; go = means.go; outside = means.outside; comes = means.comes; count = means.count }) in
+      absurd (cc (sym fails ∙ never))
+  far_by text p fuel b link left result before lines after (Err (stops.BadReply k why kind bytes)) none e means lists says = absurd means
+  far_by text p fuel b link left result before lines after (Err stops.WriteFault) none e means lists says =
+      let m = meant_on p fuel b in
+      inl (ends.cut says.0 (prefix_front (failed before) after (shown_events m.events) (run_end_text text m.ending (exchanges m.events)) (subst (λ o. WrotePrefix (failed before) o (shown_events m.events)) (sym says.1) means)))
+  far_by text p fuel b link left result before lines after (Err stops.Memory) none e means lists says = inr says
+
+  one_link : (a b : L) (o : Option L) → o ≡ Some a → o ≡ Some b → b ≡ a
+  one_link a b o e f =
+      let both = sym f ∙ e in
+      cc both
+
+  dialled_far : (text : List ℕ) (p : Program) (fuel : ℕ) (target : Target) (b : Behind) (result : Status) (dial dial' : DialSeen L) (before after : Device (List ℕ)) → DialsHonest g target p fuel b dial.told
+      → Dials g text p fuel target result dial dial' before after → EndsFar text p fuel b result before after
+  dialled_far text p fuel target b result dial dial' before after h (ran_over_link link left takes dialled run back) =
+      let same = one_link h.link link (next_link h.dialling target) h.next (subst (TakesNext target (Ok link)) h.tells takes) in
+      let tells = ap (λ l. server_told (g.told l)) same ∙ h.server in
+      far_by text p fuel b link left result before run.lines after run.answer h.none_fails tells (run.means (subst g.honest (sym same) h.honest) b tells) run.lists run.says
+  dialled_far text p fuel target b result dial dial' before after h (not_dialled takes said back) =
+      absurd (cc (sym h.next ∙ subst (TakesNext target (Err dials.Failed)) h.tells takes))
+  dialled_far text p fuel target b result dial dial' before after h (starved_dialling r had o) = inr r
+
+  -- `run ADDRESS P FUEL`
+  went_called : (text : List ℕ) (program : Program) (address p : List ℕ) (fuel : ℕ) (a : Asked) (result : Status) (dial dial' : DialSeen L) (before after : Scene) → a ≡ Call address p fuel → Goes g text program result dial dial' before after a
+      → Dials g text program fuel (targets.Address address) result dial dial' before.out after.out
+  went_called text program address p fuel a result dial dial' before after w (answers.checked name e same f) = absurd (cc w)
+  went_called text program address p fuel a result dial dial' before after w (answers.viewed name ds d e same f) = absurd (cc w)
+  went_called text program address p fuel a result dial dial' before after w (answers.called address' name fuel' d f) = subst (CallsAs text program result dial dial' before after) w d
+  went_called text program address p fuel a result dial dial' before after w (answers.no_service way name s fuel' t same) = absurd (cc w)
+  went_called text program address p fuel a result dial dial' before after w (answers.ran way name s other fuel' served f i r e) = absurd (cc w)
+
+  pub calls_told : OneSource → (wanted : Option Wanted) (result : Status) (before after : Outside L) → Says g wanted result before after → CallsTold g wanted result before after
+  calls_told one wanted result before after said = λ address p text fuel program b w t h.
+      by_case address p text fuel program b h (of_told one (Call address p fuel) text program result before.dial after.dial before.scene after.scene t (of_wanted (Call address p fuel) wanted result before after w said))
+    where
+      by_case : (address p text : List ℕ) (fuel : ℕ) (program : Program) (b : Behind) → DialsHonest g (targets.Address address) program fuel b before.dial.told
+          → ((result ≡ Memory) × (after.scene.out ≡ before.scene.out)) ⊎ Goes g text program result before.dial after.dial (once_read before.scene) after.scene (Call address p fuel) → EndsFar text program fuel b result before.scene.out after.scene.out
+      by_case address p text fuel program b h (inl s) = inr s.0
+      by_case address p text fuel program b h (inr on) =
+          dialled_far text program fuel (targets.Address address) b result before.dial after.dial before.scene.out after.scene.out h
+          (went_called text program address p fuel (Call address p fuel) result before.dial after.dial (once_read before.scene) after.scene refl on)
+
+  -- `pair P S FUEL`
+  pub pairs_told : OneSource → OneService → (wanted : Option Wanted) (result : Status) (before after : Outside L) → Says g wanted result before after → PairsTold g wanted result before after
+  pairs_told one services wanted result before after said = λ p s text other fuel program served b w t h.
+      by_case s text fuel program b h (run_told one services wanted result before after said Pair p s text other fuel program served w t)
+    where
+      by_case : (s text : List ℕ) (fuel : ℕ) (program : Program) (b : Behind) → DialsHonest g (targets.Child s) program fuel b before.dial.told
+          → (result ≡ Memory) ⊎ Dials g text program fuel (targets.Child s) result before.dial after.dial before.scene.out after.scene.out → EndsFar text program fuel b result before.scene.out after.scene.out
+      by_case s text fuel program b h (inl r) = inr r
+      by_case s text fuel program b h (inr d) = dialled_far text program fuel (targets.Child s) b result before.dial after.dial before.scene.out after.scene.out h d

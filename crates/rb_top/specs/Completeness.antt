@@ -1,0 +1,135 @@
+-- What is answered where the outside tells all that a command needs, and no call of it fails but for a write.
+use Rattle.std.specs.Prelude.{◌≡◌, ◌⊎◌, ℕ, List, [], ◌++◌, false, Option, None, Some, Ok, codes}
+use Rattle.rb_trees.specs.declared.services.Object.{Object}
+use Rattle.rb_trees.specs.declared.services.Service as service
+use Rattle.rb_trees.specs.declared.values.Value.{Value}
+use Rattle.rb_trees.specs.mirror.Declarations.{Program}
+use Rattle.rb_trees.specs.mirror.Services.{mirror_service}
+use Rattle.rb_meaning.specs.Links.{Behind, server_told}
+use Rattle.rb_meaning.specs.Shown.{exchanges, line}
+use Rattle.rb_meaning.specs.State.{Outside}
+use Rattle.rb_meaning_code.specs.Dialogue.{Outcome, Dialogue, AskBatch}
+use Rattle.rb_meaning_code.specs.State.{Local}
+use Rattle.rb_meaning_split.specs.Division.{Division, divisions}
+use Rattle.rb_headline_laws.specs.Reached.{ProgramComesTo}
+use Rattle.rb_shown.specs.Views.{shown_divisions}
+use Rattle.rb_base.specs.Devices.{Device}
+use Rattle.rb_base.specs.Directories.{Directory, next_read, told_after}
+use Rattle.rb_base.specs.Listening.{Listening}
+use Rattle.rb_base.specs.declared.links.Link as links
+use Rattle.rb_client.specs.Servers.{fails_after}
+use Rattle.rb_session.specs.Dials.{Dialling, DialSeen, next_link}
+use Rattle.rb_session.specs.declared.targets.Target.{Target}
+use Rattle.rb_session.specs.declared.targets.Target.TheVariants as targets
+use Rattle.rb_top.specs.Answers.{EndsRun}
+use Rattle.rb_top.specs.Ends.{Ends}
+use Rattle.rb_top.specs.LinkRuns.{served_by}
+use Rattle.rb_top.specs.Runs.{Served, far_text, run_status, run_text}
+use Rattle.rb_top.specs.Scene as scenes
+use Rattle.rb_top.specs.Texts.{IsProgram, IsService}
+use Rattle.rb_top.specs.Words.{Asked, Check, Split, Run, Call, Serving, Wanted, OfProgram, Serve, Child, child_of}
+use Rattle.rb_top.specs.declared.status.Status.{Status}
+use Rattle.rb_top.specs.declared.status.Status.TheVariants.{Done, WriteFault, Memory}
+use Rattle.rb_top.specs.declared.words.Way.{Way}
+use Rattle.rb_top.specs.declared.words.Way.TheVariants.{Both, Unsplit, Pair}
+
+-- The files tell that the next read of this name finds this text.
+abbrev pub IsTold : Option Directory → List ℕ → List ℕ → Type 0
+IsTold None name text = ⊥
+IsTold (Some directory) name text = next_read directory name ≡ Some text
+
+-- The files tell an accepted program under this name.
+pub record ToldAccepted (told : Option Directory) (p text : List ℕ) (program : Program) : Type 0 where
+  pub finds : IsTold told p text
+  pub is : IsProgram text program
+
+-- The files tell a service with its table under this name.
+pub record ToldService (told : Option Directory) (s text : List ℕ) (served : Served) : Type 0 where
+  pub finds : IsTold told s text
+  pub is : IsService text served
+
+-- The files tell an accepted program and a service with its table, under these names, read one after the other.
+pub record ToldRun (told : Option Directory) (p s text other : List ℕ) (program : Program) (served : Served) : Type 0 where
+  pub accepted : ToldAccepted told p text program
+  pub service : ToldService (told_after told) s other served
+
+-- Where `check P` is asked, and the files tell an accepted program under this name, `accepted` is printed and the answer is Done,
+-- unless the output fails or memory is wanting.
+abbrev pub ChecksTold : Option Wanted → Status → scenes.Scene → scenes.Scene → Type 0
+ChecksTold wanted result before after = (p text : List ℕ) (program : Program) → wanted ≡ Some (OfProgram (Check p)) → ToldAccepted before.files.told p text program
+    → Ends Done (line (codes "accepted")) result before.out after.out
+
+-- Where `split P` is asked, and the files tell an accepted program under this name, the view of its division is printed and the
+-- answer is Done, unless the output fails or memory is wanting.
+abbrev pub SplitsTold : Option Wanted → Status → scenes.Scene → scenes.Scene → Type 0
+SplitsTold wanted result before after = (p text : List ℕ) (program : Program) (ds : List Division) → wanted ≡ Some (OfProgram (Split p))
+    → ToldAccepted before.files.told p text program → divisions program ≡ Ok ds
+    → Ends Done (shown_divisions text ds) result before.out after.out
+
+-- The way is one in which a program is run on a service in the same process.
+abbrev pub IsNear : Way → Type 0
+IsNear Both = Unit {0}
+IsNear Unsplit = Unit {0}
+IsNear Pair = ⊥
+
+-- Where `both P S FUEL` or `unsplit P S FUEL` is asked, and the files tell a program and a service under these names, its run is
+-- printed and the answer is how it ends, unless the output fails or memory is wanting.
+abbrev pub RunsTold : Option Wanted → Status → scenes.Scene → scenes.Scene → Type 0
+RunsTold wanted result before after = (way : Way) (p s text other : List ℕ) (fuel : ℕ) (program : Program) (served : Served)
+    → wanted ≡ Some (OfProgram (Run way p s fuel)) → IsNear way → ToldRun before.files.told p s text other program served
+    → EndsRun text program fuel served result before.out after.out
+
+-- A program on the service behind a link comes to its batch after so many.
+pub record ComesToBatch (p : Program) (fuel : ℕ) (served : Served) (k : ℕ) : Type 0 where
+  pub at : ℕ
+  pub local : Local
+  pub go : Outcome (Unit {0}) → Dialogue (Outcome (Option Value))
+  pub outside : Outside
+  pub comes : ProgramComesTo p served.0 served.1 fuel (AskBatch at local go) outside
+  pub count : k ≡ exchanges outside.events
+
+-- The Dial tells that the next link of a target is honest, with this server behind it, and that none of the exchanges of the
+-- program's run fails.
+pub record DialsHonest {L : Type 0} (g : links.Ghosts L) (target : Target) (p : Program) (fuel : ℕ) (b : Behind) (told : Option (Dialling L)) : Type 0 where
+  pub dialling : Dialling L
+  pub link : L
+  pub tells : told ≡ Some dialling
+  pub next : next_link dialling target ≡ Some link
+  pub server : server_told (g.told link) ≡ Some b
+  pub honest : g.honest link
+  pub none_fails : (k : ℕ) → ComesToBatch p fuel (served_by b) k → fails_after k b ≡ false
+
+-- what a run over a dialled link is to print, and to answer, unless the output fails or memory is wanting
+abbrev pub EndsFar : List ℕ → Program → ℕ → Behind → Status → Device (List ℕ) → Device (List ℕ) → Type 0
+EndsFar text p fuel b result before after =
+    Ends (run_status fuel p (served_by b)) (far_text text fuel p (served_by b)) result before after ⊎ (result ≡ Memory)
+
+-- Where `run ADDRESS P FUEL` is asked, the files tell an accepted program under this name, and the Dial an honest link to the
+-- address, what the program means on the server behind that link is printed, but for the table, and the answer is how it ends.
+abbrev pub CallsTold : {L : Type 0} → links.Ghosts L → Option Wanted → Status → scenes.Outside L → scenes.Outside L → Type 0
+CallsTold g wanted result before after = (address p text : List ℕ) (fuel : ℕ) (program : Program) (b : Behind) → wanted ≡ Some (OfProgram (Call address p fuel))
+    → ToldAccepted before.scene.files.told p text program → DialsHonest g (targets.Address address) program fuel b before.dial.told
+    → EndsFar text program fuel b result before.scene.out after.scene.out
+
+-- The same of `pair P S FUEL`, where the files tell a service too, and the Dial an honest link to the child that serves it.
+abbrev pub PairsTold : {L : Type 0} → links.Ghosts L → Option Wanted → Status → scenes.Outside L → scenes.Outside L → Type 0
+PairsTold g wanted result before after = (p s text other : List ℕ) (fuel : ℕ) (program : Program) (served : Served) (b : Behind)
+    → wanted ≡ Some (OfProgram (Run Pair p s fuel)) → ToldRun before.scene.files.told p s text other program served
+    → DialsHonest g (targets.Child s) program fuel b before.dial.told → EndsFar text program fuel b result before.scene.out after.scene.out
+
+-- The listener tells the sessions of an address, and no call of it fails.
+pub record ListensWhole (address : List ℕ) (told : Option Listening) : Type 0 where
+  pub listening : Listening
+  pub tells : told ≡ Some listening
+  pub none_fails : listening.failing ≡ []
+  pub is_there : listening.addresses address ≡ None → ⊥
+
+-- The answer is Done, unless the output fails or memory is wanting.
+abbrev pub IsDone : Status → Type 0
+IsDone result = (result ≡ Done) ⊎ (result ≡ WriteFault) ⊎ (result ≡ Memory)
+
+-- Where a server is asked for, the files tell its service, and the listener tells its address, the answer is Done, unless the output
+-- fails or memory is wanting.
+abbrev pub ServesTold : {L : Type 0} → Option Wanted → Status → scenes.Outside L → Type 0
+ServesTold wanted result before = (v : Serving) (text : List ℕ) (served : Served) → (wanted ≡ Some (Serve v)) ⊎ ((wanted ≡ Some (Child v.service)) × (v ≡ child_of v.service))
+    → ToldService before.scene.files.told v.service text served → ListensWhole v.address before.listen.told → IsDone result

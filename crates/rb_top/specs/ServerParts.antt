@@ -1,0 +1,54 @@
+-- What the parts of a server do.
+use Rattle.std.specs.Prelude.{◌≡◌, ℕ, List, Bool, true, false, Option, None, Some, Result, Ok, Err, IfSome, ◌<◌}
+use Rattle.rb_meaning.specs.Shown.{line}
+use Rattle.rb_base.specs.Devices.{Device, failed}
+use Rattle.rb_base.specs.Directories.{Directory}
+use Rattle.rb_base.specs.Listening.{Listening}
+use Rattle.rb_base.specs.Sinks.{with_bytes, WrotePrefix}
+use Rattle.rb_exec.specs.Hosted.{Hosted}
+use Rattle.rb_session.specs.declared.serving.Served.{Served}
+use Rattle.rb_session.specs.declared.serving.ServeStop.{ServeStop}
+use Rattle.rb_top.specs.Ends.{Ends}
+use Rattle.rb_top.specs.SessionLines.{shown_session}
+use Rattle.rb_top.specs.Sessions.{Listener, FailsToGive, GivesNone, ServesSession, is_starved, listen_line}
+use Rattle.rb_top.specs.Servers.{Listens, ServesAs, nothing_kept}
+use Rattle.rb_top.specs.Words.{Serving, child_of}
+use Rattle.rb_top.specs.declared.status.Status.{Status}
+use Rattle.rb_top.specs.declared.status.Status.TheVariants.{ListenFault, Memory, WriteFault}
+
+-- A session is out, as far as the listener tells.
+abbrev pub HasSessionOut : Option Listening → Type 0
+HasSessionOut told = IfSome told (λ l. 0 < l.out)
+
+-- The line of a session was printed; or a front of it, and a write failed; or memory was wanting, in the session or for its line.
+pub data SaysSession (number : ℕ) (answer : Result Served ServeStop) (before after : Device (List ℕ)) : Result Unit Status → Type 0 where
+  line_said : is_starved answer ≡ false → after ≡ with_bytes before (line (shown_session number answer)) → SaysSession number answer before after (Ok tt)
+  line_cut : is_starved answer ≡ false → WrotePrefix (failed before) after (line (shown_session number answer)) → SaysSession number answer before after (Err WriteFault)
+  line_starved : SaysSession number answer before after (Err Memory)
+
+-- The next session, with a number, was served and said; or none comes; or it can't be had, and that was said; or a write failed, or
+-- memory was wanting.
+pub data ServesNext (number : ℕ) (host left : Hosted) (listen after_it : Listener) (before after : Device (List ℕ)) : Result Bool Status → Type 0 where
+  served : (answer : Result Served ServeStop) → ServesSession answer host left listen after_it → is_starved answer ≡ false
+      → after ≡ with_bytes before (line (shown_session number answer)) → ServesNext number host left listen after_it before after (Ok true)
+  none_comes : GivesNone listen after_it → left ≡ host → after ≡ before → ServesNext number host left listen after_it before after (Ok false)
+  not_given : (status : Status) → FailsToGive listen after_it → Ends ListenFault listen_line status before after
+      → ServesNext number host left listen after_it before after (Err status)
+  write_cut : (answer : Result Served ServeStop) → ServesSession answer host left listen after_it → is_starved answer ≡ false
+      → WrotePrefix (failed before) after (line (shown_session number answer)) → ServesNext number host left listen after_it before after (Err WriteFault)
+  starved : ServesNext number host left listen after_it before after (Err Memory)
+
+abbrev pub SaysSessionAs : ℕ → Result Served ServeStop → Result Unit Status → Device (List ℕ) → Device (List ℕ) → Type 0
+SaysSessionAs number answer result before after = SaysSession number answer before after result
+
+abbrev pub ServesNextAs : ℕ → Hosted → Hosted → Listener → Listener → Result Bool Status → Device (List ℕ) → Device (List ℕ) → Type 0
+ServesNextAs number host left listen after_it result before after = ServesNext number host left listen after_it before after result
+
+-- The server of a service listens as is asked of it.
+abbrev pub ListensAs : Hosted → Serving → Status → Listener → Listener → Device (List ℕ) → Device (List ℕ) → Type 0
+ListensAs host v = Listens host v.address v.count
+
+-- A file was served over one session at `-`, over an output that keeps nothing.
+abbrev pub ChildServes : List ℕ → Status → Listener → Listener → Device Directory → Device Directory → Type 0
+ChildServes s result listen after_it before after =
+    ServesAs (child_of s) result listen after_it (record { files = before; out = nothing_kept }) (record { files = after; out = nothing_kept })

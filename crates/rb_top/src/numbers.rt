@@ -1,0 +1,64 @@
+// Numbers as words name them.
+
+ghost use Rattle.std.specs.Prelude.{◌≡◌, ◌&&◌, cond, nat_le, None, Some};
+ghost use Rattle.std.specs.List.{list_all};
+ghost use Rattle.rb_trees.specs.Spelling.{is_digit};
+ghost use Rattle.rb_top.specs.Words.{number_within, count_of, fuel_of, least_count, most_count, most_fuel};
+
+use rb_lex::capped_value;
+
+/// The most digits of a number.
+const MOST_DIGITS: usize = 10;
+
+/// The most fuel that a run may be given.
+const MOST_FUEL: u64 = 1_000_000_000;
+
+/// The most sessions that a server may be asked to serve.
+const MOST_COUNT: u64 = 1_000_000;
+
+/// Whether all bytes are digits.
+#[tactic(auto, using(std::proofs::lemmas::Bool::Decides::nat_tests), unfolding(rb_trees::specs::Spelling::is_digit))]
+fn are_digits(bytes: &[u8]) -> bool
+    ensures { result ≡ list_all is_digit bytes.now }
+{
+    for byte in bytes {
+        if !(*byte).is_ascii_digit() {
+            return false;
+        }
+    }
+    true
+}
+
+/// The number that a word names: one to ten digits, of at least and at most so much.
+#[tactic(auto, using(std::proofs::lemmas::Bool::Decides::nat_tests))]
+fn number_within(word: &str, least: u64, most: u64) -> Option<u64>
+    requires { most < 2 ^ 63 }
+    ensures { result ≡ number_within least most word.now }
+{
+    let digits = word.as_bytes();
+    if !are_digits(digits) || digits.is_empty() || digits.len() > MOST_DIGITS {
+        return None;
+    }
+    let number = capped_value(digits);
+    if number < least || number > most {
+        None
+    } else {
+        Some(number)
+    }
+}
+
+/// The fuel that a word names: one to ten digits, of at most 1,000,000,000.
+#[tactic(auto, unfolding(crate::specs::Words::most_fuel))]
+pub fn fuel_of(word: &str) -> Option<u64>
+    ensures { result ≡ fuel_of word.now }
+{
+    number_within(word, 0, MOST_FUEL)
+}
+
+/// The count of sessions that a word names: one to ten digits, of 1 to 1,000,000.
+#[tactic(auto, unfolding(crate::specs::Words::most_count))]
+pub fn count_of(word: &str) -> Option<u64>
+    ensures { result ≡ count_of word.now }
+{
+    number_within(word, 1, MOST_COUNT)
+}
