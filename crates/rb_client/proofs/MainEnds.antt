@@ -102,6 +102,7 @@ sees_first gl gw w tells count = record {
     written = sym (bytes_none (output gw w.out.now));
     exchanged = record {
       exchanged = record { pairs = []; pairs_so = no_pairs (pairs_of gl w.link.now); exchanges = tt };
+      lends_so = refl;
       stays = λ honest. honest;
       served = λ honest. performed_none (server_of gl w.link.now) (tells honest);
     };

@@ -129,6 +129,7 @@ module _ {L W : Type 0} (gl : links.Ghosts L) (gw : sinks.Ghosts W) (split : Spl
     exchanged_so = record {
       exchanged = exchanged_more o.program first.pairs (pairs_of gl w.link.now) last.pairs h.sent h.nodes (pair_of fetched.request forest_kind fetched.trades.reply) (sent_for d l) (mirror_node n)
           sees.done.exchanged.exchanged fetched.trades.pairs_so exchange_so;
+      lends_so = fetched.trades.lends_so ∙ sees.done.exchanged.lends_so;
       stays = λ honest. fetched.trades.stays (sees.done.exchanged.stays honest);
       served = λ honest.
           performed_more h.sent h.nodes (sent_for d l) (mirror_node n) first.server (server_of gl w.link.now) last.server (sees.done.exchanged.served honest)
@@ -219,6 +220,7 @@ stops_so {L = L} {W = W} gl gw split at w w1 l r stop x is same h = subst (λ y.
           record { pairs = sees.done.exchanged.exchanged.pairs; pairs_so = f.trades.1.pairs_so ∙ sees.done.exchanged.exchanged.pairs_so; exchanges = sees.done.exchanged.exchanged.exchanges },
           f.trades.1.faults_so ∙ ap risen sees.done.faults_so,
         );
+        lends_so = f.trades.1.lends_so ∙ sees.done.exchanged.lends_so;
         counts = sees.done.counts;
         served = sees.done.exchanged.served;
         lost = (f.trades.1.counts, λ honest. f.trades.1.lost (sees.done.exchanged.stays honest) (sent_for (division o.program b) l) (meant f.request (division o.program b) is f.means));
@@ -241,6 +243,7 @@ stops_so {L = L} {W = W} gl gw split at w w1 l r stop x is same h = subst (λ y.
           },
           f.trades.1.faults_so ∙ sees.done.faults_so,
         );
+        lends_so = f.trades.1.lends_so ∙ sees.done.exchanged.lends_so;
         counts = sees.done.counts;
         served = sees.done.exchanged.served;
         lost = (

@@ -99,6 +99,7 @@ module _ (p : Program) (fuel : ℕ) (before after : Scene) where
     reaches = record { at = e.at; go = e.go; stands = e.stands; comes = client_comes p fuel e.past (AskBatch e.at e.local e.go) e.comes };
     written = e.stops_so.written;
     gives_none = e.stops_so.gives_none;
+    lends_so = e.stops_so.lends_so;
   }
 
   pub runs_over : (r : Result runs.Run RunStop) → Leaves p fuel r before after → RunsOver p fuel r before after

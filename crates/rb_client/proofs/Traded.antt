@@ -191,21 +191,22 @@ module _ {L : Type 0} (g : links.Ghosts L) (once : MeansOne) (remainder : Parts)
   Serves answer = g.honest before → ServesAsTold request answer (server_of g before) (server_of g after)
 
   -- a whole reply was read
-  pub traded : (reply : Reply) (r : Result node.Node RunStop) → pairs_of g after ≡ more_pairs (pair_of request reply.kind reply.payload.items ∷ []) (pairs_of g before) → g.faults after ≡ g.faults before
+  pub traded : (reply : Reply) (r : Result node.Node RunStop) → pairs_of g after ≡ more_pairs (pair_of request reply.kind reply.payload.items ∷ []) (pairs_of g before) → g.faults after ≡ g.faults before → g.lends after ≡ g.lends before
       → IsListedWhereTold (Ok reply) (server_of g before) (server_of g after) → Serves (Ok reply) → (g.honest before → g.honest after) → Takes remainder done reply.kind reply.payload.items r → Trades g remainder done request before r after
-  traded reply (Ok n) pairs faults listed serves stays h =
+  traded reply (Ok n) pairs faults lends listed serves stays h =
       let one = counts_one reply (server_of g before) (server_of g after) listed in
       record {
         reply = reply.payload.items;
         forest = record { kind_so = refl; spells = h.0.spells; fits_so = h.0.fits_so };
         pairs_so = pairs ∙ ap (λ k. more_pairs (pair_of request k reply.payload.items ∷ []) (pairs_of g before)) h.0.kind_so;
         faults_so = faults;
+        lends_so = lends;
         counts = one;
         stays = stays;
         served = λ honest x means. served_so once request bytes x means reply (mirror_node n) (server_of g before) (server_of g after) h.1 one (serves honest);
       }
-  traded reply (Err (stops.LinkFault k)) pairs faults listed serves stays h = absurd h
-  traded reply (Err (stops.BadReply k why kept payload)) pairs faults listed serves stays h =
+  traded reply (Err (stops.LinkFault k)) pairs faults lends listed serves stays h = absurd h
+  traded reply (Err (stops.BadReply k why kept payload)) pairs faults lends listed serves stays h =
       let w = why_so why remainder reply.kind reply.payload.items h.3 in (
         h.0,
         record {
@@ -213,41 +214,44 @@ module _ {L : Type 0} (g : links.Ghosts L) (once : MeansOne) (remainder : Parts)
           pairs_so = pairs ∙ ap (λ z. more_pairs z (pairs_of g before)) (sym (one_refused why remainder reply.kind reply.payload.items (pair_of request reply.kind reply.payload.items) h.3))
               ∙ ap (λ z. more_pairs (refused_pairs why (pair_of request z reply.payload.items)) (pairs_of g before)) (sym h.1) ∙ ap (λ z. more_pairs (refused_pairs why (pair_of request kept z)) (pairs_of g before)) (sym h.2);
           faults_so = faults;
+          lends_so = lends;
           counts = counts_one reply (server_of g before) (server_of g after) listed;
           misfit = λ honest x means. misfit_given once request bytes x means reply remainder (server_of g before) (server_of g after) w.1 (serves honest);
         },
       )
-  traded reply (Err stops.WriteFault) pairs faults listed serves stays h = absurd h
-  traded reply (Err stops.Memory) pairs faults listed serves stays h = tt
+  traded reply (Err stops.WriteFault) pairs faults lends listed serves stays h = absurd h
+  traded reply (Err stops.Memory) pairs faults lends listed serves stays h = tt
 
   no_pairs : (told : Option (List Pair)) → told ≡ more_pairs [] told
   no_pairs None = refl
   no_pairs (Some pairs) = ap Some (sym (append-nil pairs))
 
   -- there was no whole reply
-  pub untraded : (stop : LinkStop) → KeepsCause stop → pairs_of g after ≡ pairs_after request (Err stop) (pairs_of g before) → g.faults after ≡ faults_after (Err stop) (g.faults before) → IsListedWhereTold (Err stop) (server_of g before) (server_of g after)
+  pub untraded : (stop : LinkStop) → KeepsCause stop → pairs_of g after ≡ pairs_after request (Err stop) (pairs_of g before) → g.faults after ≡ faults_after (Err stop) (g.faults before) → g.lends after ≡ g.lends before → IsListedWhereTold (Err stop) (server_of g before) (server_of g after)
       → Serves (Err stop) → Trades g remainder done request before (Err (stopped done stop)) after
-  untraded link_stops.Failed cause pairs faults listed serves =
+  untraded link_stops.Failed cause pairs faults lends listed serves =
       let one = counts_failed (server_of g before) (server_of g after) listed in
-      (refl, record { pairs_so = pairs; faults_so = faults; counts = one; lost = λ honest x means. lost_so once request bytes x means (server_of g before) (server_of g after) one (serves honest) })
-  untraded (link_stops.Frame at taken) cause pairs faults listed serves = (
+      (refl, record { pairs_so = pairs; faults_so = faults; lends_so = lends; counts = one; lost = λ honest x means. lost_so once request bytes x means (server_of g before) (server_of g after) one (serves honest) })
+  untraded (link_stops.Frame at taken) cause pairs faults lends listed serves = (
     refl,
     record {
       reason_so = (refl, cause);
       pairs_so = pairs ∙ no_pairs (pairs_of g before);
       faults_so = faults;
+      lends_so = lends;
       counts = counts_frame at taken (server_of g before) (server_of g after) listed;
       misfit = λ honest x means. absurd (no_frame request at taken (server_of g before) (server_of g after) (serves honest));
     },
   )
-  untraded (link_stops.Cut got taken) cause pairs faults listed serves = (
+  untraded (link_stops.Cut got taken) cause pairs faults lends listed serves = (
     refl,
     record {
       reason_so = (refl, cause.0, cause.1);
       pairs_so = pairs ∙ no_pairs (pairs_of g before);
       faults_so = faults;
+      lends_so = lends;
       counts = counts_cut got taken (server_of g before) (server_of g after) listed;
       misfit = λ honest x means. absurd (no_cut request got taken (server_of g before) (server_of g after) (serves honest));
     },
   )
-  untraded link_stops.Memory cause pairs faults listed serves = tt
+  untraded link_stops.Memory cause pairs faults lends listed serves = tt

@@ -79,11 +79,13 @@ Lost Honest d l (stops.BadReply k why kind bytes) server after = CountsOne false
 Lost Honest d l stops.WriteFault server after = ⊥
 Lost Honest d l stops.Memory server after = ⊥
 
--- At a batch that was reached with this past the exchange gave no node. Nothing was written since.
+-- At a batch that was reached with this past the exchange gave no node. Nothing was written since. Whether the link lends a table
+-- is kept.
 pub record StopsAt (p : Program) (before after : Scene) (h : Past) (d : Division) (l : Local) (stop : RunStop) : Type 0 where
   pub server : Option Behind
   pub written : after.out ≡ with_bytes before.out (shown_events h.events)
   pub gives_none : GivesNone p d l stop before after h.sent h.nodes
+  pub lends_so : after.lends ≡ before.lends
   pub counts : Counts (length h.sent) before.server server
   pub served : before.honest → PerformedAll before.server server h.sent h.nodes
   pub lost : Lost before.honest d l stop server after.server

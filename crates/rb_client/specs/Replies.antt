@@ -88,28 +88,34 @@ refused_pairs _ pair = pair ∷ []
 abbrev pub pairs_of : {L : Type 0} → links.Ghosts L → L → Option (List Pair)
 pairs_of g link = pairs_told (g.told link)
 
--- A node was replied, in a pair more. Over an honest link the server gave it, by the script that the request means.
+-- A node was replied, in a pair more. Whether the link lends a table is kept. Over an honest link the server gave it, by the
+-- script that the request means.
 pub record GotNode {L : Type 0} (g : links.Ghosts L) (remainder : Parts) (request : List ℕ) (before after : L) (n : Node) : Type 0 where
   pub reply : List ℕ
   pub forest : IsForest remainder forest_kind reply n
   pub pairs_so : pairs_of g after ≡ more_pairs (pair_of request forest_kind reply ∷ []) (pairs_of g before)
   pub faults_so : g.faults after ≡ g.faults before
+  pub lends_so : g.lends after ≡ g.lends before
   pub counts : CountsOne false (server_of g before) (server_of g after)
   pub stays : g.honest before → g.honest after
   pub served : g.honest before → (x : Sent) → Means request (Ok x) → PerformedAll (server_of g before) (server_of g after) (x ∷ []) (n ∷ [])
 
--- The exchange failed, which the link counted. Over an honest link the server may have performed the script.
+-- The exchange failed, which the link counted. Whether it lends a table is kept. Over an honest link the server may have
+-- performed the script.
 pub record GotFault {L : Type 0} (g : links.Ghosts L) (request : List ℕ) (before after : L) : Type 0 where
   pub pairs_so : pairs_of g after ≡ pairs_of g before
   pub faults_so : g.faults after ≡ risen (g.faults before)
+  pub lends_so : g.lends after ≡ g.lends before
   pub counts : CountsOne true (server_of g before) (server_of g after)
   pub lost : g.honest before → (x : Sent) → Means request (Ok x) → MayPerform (server_of g before) (server_of g after) x
 
--- A reply was refused for this reason. Over an honest link that is so only where the script gives a node that doesn't fit.
+-- A reply was refused for this reason. Whether the link lends a table is kept. Over an honest link that is so only where the
+-- script gives a node that doesn't fit.
 pub record GotBad {L : Type 0} (g : links.Ghosts L) (remainder : Parts) (request : List ℕ) (before after : L) (why : BadReason) (kind : ℕ) (bytes : List ℕ) : Type 0 where
   pub reason_so : HasReason why remainder kind bytes
   pub pairs_so : pairs_of g after ≡ more_pairs (refused_pairs why (pair_of request kind bytes)) (pairs_of g before)
   pub faults_so : g.faults after ≡ g.faults before
+  pub lends_so : g.lends after ≡ g.lends before
   pub counts : CountsOne false (server_of g before) (server_of g after)
   pub misfit : g.honest before → (x : Sent) → Means request (Ok x) → GivesMisfit (server_of g before) x remainder
 

@@ -39,10 +39,11 @@ pub record IsAcceptedWith (p : program.Program) (splits : List Split) : Type 0 w
   pub places : HasPlaces (mirror_program p)
   pub zero_free : NothingAtZero (mirror_program p)
 
--- Scripts were exchanged for nodes: the pairs that the link tells grew by one for each script. Where the link was honest it is so
--- still, and its server performed them.
+-- Scripts were exchanged for nodes: the pairs that the link tells grew by one for each script. Whether the link lends a table is
+-- kept. Where it was honest it is so still, and its server performed them.
 pub record ExchangedAll (p : Program) (before after : Scene) (sent : List Sent) (nodes : List Node) : Type 0 where
   pub exchanged : Exchanged p before.pairs after.pairs sent nodes
+  pub lends_so : after.lends ≡ before.lends
   pub stays : before.honest → after.honest
   pub served : before.honest → PerformedAll before.server after.server sent nodes
 
@@ -92,7 +93,8 @@ GivesNone p d l (stops.BadReply k why kind bytes) before after sent nodes =
 GivesNone p d l stops.WriteFault before after sent nodes = ⊥
 GivesNone p d l stops.Memory before after sent nodes = ⊥
 
--- At a batch that the client reached, its exchange gave no node. The lines are those before that batch.
+-- At a batch that the client reached, its exchange gave no node. The lines are those before that batch. Whether the link lends a
+-- table is kept.
 pub record CutAtBatch (p : Program) (fuel : ℕ) (stop : RunStop) (before after : Scene) : Type 0 where
   pub nodes : List Node
   pub past : Waiting
@@ -101,6 +103,7 @@ pub record CutAtBatch (p : Program) (fuel : ℕ) (stop : RunStop) (before after 
   pub reaches : Reaches p fuel nodes past batch local
   pub written : after.out ≡ with_bytes before.out (shown_events past.events)
   pub gives_none : GivesNone p (division p batch) local stop before after past.sent nodes
+  pub lends_so : after.lends ≡ before.lends
 
 -- A run over any link: the client ran, or was cut off. Nothing is said after want of memory.
 abbrev pub RunsOver : Program → ℕ → Result Run RunStop → Scene → Scene → Type 0

@@ -129,8 +129,8 @@ fn run_plan<L: Link, W: Sink>(
 ///
 /// Each line goes to the output as it comes. At each batch its script is sent with the values of its inputs, and its remainder
 /// is performed on the node that is replied. Over an honest link that is what the program means on the server behind it. After
-/// `WriteFault` a front of the lines was written; after `LinkFault` and `BadReply` the lines before that batch; after `Memory`
-/// nothing is said.
+/// `WriteFault` a front of the lines was written; after `LinkFault` and `BadReply` the lines before that batch. Whether the link
+/// lends a table is kept. After `Memory` nothing is said.
 pub fn run_client<L: Link, W: Sink>(
     alloc: Global,
     typed: &Typed,

@@ -26,17 +26,18 @@ use Rattle.rb_unsplit_keeps.specs.Batches.{program_sites}
 use Rattle.rb_unsplit_keeps.proofs.Found.{batch_found}
 use Rattle.rb_unsplit_keeps.proofs.Programs.{program_typed, batches_in}
 use Rattle.rb_split_laws.specs.Remote.{script_run}
+use Rattle.rb_headline_laws.specs.Below.{LawsBelow}
 use Rattle.rb_headline_laws.specs.Dividing.{KeepsMeaning, NothingAtZero}
 use Rattle.rb_headline_laws.specs.Clients.{sent_run, ScriptsGive, ClientsMeanWhatProgramsMean}
 use Rattle.rb_headline_laws.specs.Reached.{main_run, with_nodes}
-use Rattle.rb_headline_laws.proofs.Divided.{Below, dividing_keeps}
-use Rattle.rb_headline_laws.proofs.Mains.{Typing, Ends, main_fits, main_kept}
+use Rattle.rb_headline_laws.proofs.Divided.{dividing_keeps}
+use Rattle.rb_headline_laws.proofs.Mains.{Ends, main_fits, main_kept}
 
 pub same_tail : {A : Type 0} (xs ys zs : List A) → xs ++ ys ≡ xs ++ zs → ys ≡ zs
 same_tail [] ys zs e = e
 same_tail (x ∷ xs) ys zs e = same_tail xs ys zs (cc (e))
 
-module _ (below : Below) (p : Program) (lawful : IsLawful p) (checked : check_program p ≡ Ok tt) (none : HasNoRefusal p) (zero_free : NothingAtZero p) (service : Service) (origin : List Object) (served : IsTyped service origin) where
+module _ (below : LawsBelow) (p : Program) (lawful : IsLawful p) (checked : check_program p ≡ Ok tt) (none : HasNoRefusal p) (zero_free : NothingAtZero p) (service : Service) (origin : List Object) (served : IsTyped service origin) where
   abbrev d : Declarations
   d = of_program p
 
@@ -231,12 +232,12 @@ module _ (below : Below) (p : Program) (lawful : IsLawful p) (checked : check_pr
       nodes_exist (AskBatch at l go) k s holds before =
           batch_exists at l go k.0 k.1 s holds before (λ sent. nodes_exist (go (main.batch s at l).0) (k.2 (main.batch s at l).0 (fits.batches s at l k.0 holds k.1)) (main.batch s at l).1 (fits.performed s at l k.0 holds k.1) sent)
 
-pub clients_mean : Below → Typing → ClientsMeanWhatProgramsMean
-clients_mean below typing p lawful checked none zero_free service table served fuel =
-    let fits = main_fits below typing p lawful checked none service table served in
-    let keeps = main_kept below typing p lawful checked none service table served fuel in
+pub clients_mean : LawsBelow → ClientsMeanWhatProgramsMean
+clients_mean below p lawful checked none zero_free service table served fuel =
+    let fits = main_fits below p lawful checked none service table served in
+    let keeps = main_kept below p lawful checked none service table served fuel in
     let run = main_run p fuel in
-    let ends = Ends below typing p lawful checked none service table served in
+    let ends = Ends below p lawful checked none service table served in
     let made = nodes_exist below p lawful checked none zero_free service table served fits ends run keeps (outside_of table) served.fits [] in (
       record {
         nodes = made.nodes;

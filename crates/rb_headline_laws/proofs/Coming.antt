@@ -24,14 +24,14 @@ use Rattle.rb_flow.specs.Program.{HasNoRefusal}
 use Rattle.rb_types_keep.specs.Asked.{Side, Own, Site, Keeps, IsAskedBatch}
 use Rattle.rb_types_keep.specs.Around.{HandlerFits}
 use Rattle.rb_unsplit_keeps.specs.Batches.{program_sites}
+use Rattle.rb_headline_laws.specs.Below.{LawsBelow}
 use Rattle.rb_headline_laws.specs.Dividing.{KeepsMeaning, NothingAtZero}
 use Rattle.rb_headline_laws.specs.Clients.{ScriptsGive}
 use Rattle.rb_headline_laws.specs.Reached.{main_run, with_nodes, ProgramsComeAsFar}
-use Rattle.rb_headline_laws.proofs.Divided.{Below}
 use Rattle.rb_headline_laws.proofs.Clients.{same_tail, none_given, Grows, grows_same, grows_on, answer_grows, batch_grows, next_grows, found_at, keeps_here, behind, batch_same, table_same}
-use Rattle.rb_headline_laws.proofs.Mains.{Typing, Ends, main_fits, main_kept}
+use Rattle.rb_headline_laws.proofs.Mains.{Ends, main_fits, main_kept}
 
-module _ (below : Below) (p : Program) (lawful : IsLawful p) (checked : check_program p ≡ Ok tt) (none : HasNoRefusal p) (zero_free : NothingAtZero p) (service : Service) (origin : List Object) (served : IsTyped service origin) where
+module _ (below : LawsBelow) (p : Program) (lawful : IsLawful p) (checked : check_program p ≡ Ok tt) (none : HasNoRefusal p) (zero_free : NothingAtZero p) (service : Service) (origin : List Object) (served : IsTyped service origin) where
   abbrev d : Declarations
   d = of_program p
 
@@ -134,8 +134,8 @@ module _ (below : Below) (p : Program) (lawful : IsLawful p) (checked : check_pr
     comes _ _ _ _ (performed at l go w w1 rest way) s k e holds more sent given =
         batch_comes at l go w w1 rest way (comes (go (waiting.batch w at l).0) rest (waiting.batch w at l).1 w1 way) k.0 k.1 s (k.2 (main.batch s at l).0 (fits.batches s at l k.0 holds k.1)) (fits.performed s at l k.0 holds k.1) e holds more sent given
 
-pub come_as_far : Below → Typing → ProgramsComeAsFar
-come_as_far below typing p lawful checked none zero_free service table served fuel nodes rest w now client given =
-    let after = comes below p lawful checked none zero_free service table served (main_fits below typing p lawful checked none service table served) (Ends below typing p lawful checked none service table served) now
-    (main_run p fuel) rest (with_nodes nodes) w client.passes (outside_of table) (main_kept below typing p lawful checked none service table served fuel) refl served.fits w.sent refl given in
+pub come_as_far : LawsBelow → ProgramsComeAsFar
+come_as_far below p lawful checked none zero_free service table served fuel nodes rest w now client given =
+    let after = comes below p lawful checked none zero_free service table served (main_fits below p lawful checked none service table served) (Ends below p lawful checked none service table served) now
+    (main_run p fuel) rest (with_nodes nodes) w client.passes (outside_of table) (main_kept below p lawful checked none service table served fuel) refl served.fits w.sent refl given in
     record { outside = after.outside; comes = after.way; events = after.events; table = after.table }

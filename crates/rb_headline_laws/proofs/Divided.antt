@@ -42,15 +42,13 @@ use Rattle.rb_meaning_split.specs.Replay as replay
 use Rattle.rb_meaning_split.specs.Replay.{Replayed}
 use Rattle.rb_meaning_split.specs.Client.{input_values, left}
 use Rattle.rb_flow.specs.Program.{HasNoRefusal}
-use Rattle.rb_flow.specs.Laws.{SendsPortable, AdmittedSendPortable}
+use Rattle.rb_flow.specs.Laws.{SendsPortable}
 use Rattle.rb_flow.proofs.Among.{mapped_to}
 use Rattle.rb_flow.proofs.Members.{first_contained, more_contained}
-use Rattle.rb_marks.specs.Laws.{EachHasItsMark, NoMarkElsewhere}
 use Rattle.rb_types_keep.specs.Own.{IsOwnScope}
-use Rattle.rb_types_keep.specs.Formed.{AreFormedStmts, LawfulStmtsAreFormed, LawfulClassesAreFormed}
+use Rattle.rb_types_keep.specs.Formed.{AreFormedStmts}
 use Rattle.rb_types_keep.specs.Noted.{IsNotedStmt, AreNotedStmts}
 use Rattle.rb_types_keep.specs.Ends.{Place, context, LocalFits, FitsPlace}
-use Rattle.rb_unsplit_keeps.specs.Noted.{LawfulAreNoted}
 use Rattle.rb_unsplit_keeps.proofs.Admission.{block_admitted}
 use Rattle.rb_unsplit_keeps.proofs.Agreed.{Agree}
 use Rattle.rb_unsplit_keeps.proofs.Found.{batch_found}
@@ -59,7 +57,7 @@ use Rattle.rb_unsplit_keeps.proofs.Parts.{Begins, batch_parts}
 use Rattle.rb_unsplit_keeps.proofs.Programs.{IsTypedProgram, program_typed, batches_in}
 use Rattle.rb_unsplit_keeps.proofs.Standing.{block_lawful}
 use Rattle.rb_unsplit_keeps.proofs.Walking.{Laws}
-use Rattle.rb_split_laws.specs.Remote.{PerformsRemotePart, ScriptsPerformRemoteParts}
+use Rattle.rb_split_laws.specs.Remote.{PerformsRemotePart}
 use Rattle.rb_split_laws.proofs.Covered.{block_constant}
 use Rattle.rb_split_laws.proofs.Inputs.{input_used}
 use Rattle.rb_split_laws.proofs.Kept.{OpenScope}
@@ -68,16 +66,14 @@ use Rattle.rb_split_laws.proofs.Linked.{IsFound}
 use Rattle.rb_split_laws.proofs.Lookups.{same_bytes, bytes_same, first_or, lookup_more, first_new}
 use Rattle.rb_split_laws.proofs.Sited.{program_sited}
 use Rattle.rb_local_laws.specs.Shown.{is_far, shown, at_client, named}
-use Rattle.rb_local_laws.specs.Local.{LocalCodeDoesTheSame}
-use Rattle.rb_local_laws.specs.Admitted.{AreNamed, AdmittedAreParted, BatchesBeginKnown, TurnsBeginKnown, TypesAreKnown}
-use Rattle.rb_local_laws.specs.Marked.{AdmittedArePlaced}
+use Rattle.rb_local_laws.specs.Admitted.{AreNamed}
 use Rattle.rb_local_laws.proofs.Names.{Extends}
 use Rattle.rb_local_laws.proofs.Closing.{extends_with}
 use Rattle.rb_local_laws.proofs.Origins.{own_near}
 use Rattle.rb_local_laws.proofs.Statements.{stmts_extends}
-use Rattle.rb_division_laws.specs.Faults.{SentIsRemote, SentFaultsAreRemote}
 use Rattle.rb_division_laws.proofs.Parted.{program_free}
 use Rattle.rb_division_laws.proofs.Unmarked.{unmarked}
+use Rattle.rb_headline_laws.specs.Below.{LawsBelow}
 use Rattle.rb_headline_laws.specs.Dividing.{KeepsMeaning, NothingAtZero, DividingKeepsMeaning}
 use Rattle.rb_headline_laws.proofs.Written.{Fixed, Held, InScript, all_written}
 use Rattle.rb_headline_laws.proofs.Scene.{Scene, At, AllStand}
@@ -163,26 +159,18 @@ held_first f o ws k free y found = by (bytes_eq o.root y) refl (subst IsFound (l
     by true e h = inl (record { variable = v; found = subst (λ q. typed.variable_named (typed.with_variable ws o.root k true) q ≡ Some v) (same_bytes o.root y e) here; fixed = refl })
     by false e h = inr (constant_unwritten (assigned_in o.block) (flow.with_variable o.outer o.root Role.Root o.at) y (block_constant f (opened o.outer o.at o.root o.block) o.block y (input_used [] names y (numbered_among 0 inputs y h))))
 
--- what the laws of the crates below say
-pub record Below : Type 0 where
-  pub laws : Laws
-  pub stmts_formed : LawfulStmtsAreFormed
-  pub classes_formed : LawfulClassesAreFormed
-  pub sends : AdmittedSendPortable
-  pub notes : LawfulAreNoted
-  pub marks : EachHasItsMark
-  pub elsewhere : NoMarkElsewhere
-  pub parted : AdmittedAreParted
-  pub placed : AdmittedArePlaced
-  pub local : LocalCodeDoesTheSame
-  pub batches : BatchesBeginKnown
-  pub turns : TurnsBeginKnown
-  pub types : TypesAreKnown
-  pub sent : SentIsRemote
-  pub faults : SentFaultsAreRemote
-  pub scripts : ScriptsPerformRemoteParts
+-- those of the laws that a walk through code stands on
+abbrev pub walking : LawsBelow → Laws
+walking below = record {
+  one = below.one;
+  two = below.two;
+  left = below.left;
+  calls = below.calls;
+  sent = below.bounded;
+  given = below.given;
+}
 
-module _ (below : Below) (p : Program) (lawful : IsLawful p) (checked : check_program p ≡ Ok tt) (none : HasNoRefusal p) (zero_free : NothingAtZero p) (service : Service) (s : Outside) (served : IsTyped service s.server.table) where
+module _ (below : LawsBelow) (p : Program) (lawful : IsLawful p) (checked : check_program p ≡ Ok tt) (none : HasNoRefusal p) (zero_free : NothingAtZero p) (service : Service) (s : Outside) (served : IsTyped service s.server.table) where
   abbrev d : Declarations
   d = of_program p
 
@@ -228,15 +216,15 @@ module _ (below : Below) (p : Program) (lawful : IsLawful p) (checked : check_pr
 
     abbrev scene : Scene
     scene = record {
-      laws = below.laws;
+      laws = walking below;
       p = p;
       service = service;
       service_typed = served.typed;
       service_formed = below.classes_formed service.classes served.lawful.each;
       fits = record {
-        declared = declared below.laws below.stmts_formed below.classes_formed below.sends below.notes p lawful t none service table served;
+        declared = declared (walking below) below.stmts_formed below.classes_formed below.sends below.notes p lawful t none service table served;
         placed = placed_classes p below.elsewhere lawful (unmarked below.elsewhere p 0 (program_free p 0 zero_free));
-        handler = batch_handler_fits below.laws.calls p service served.typed (below.classes_formed service.classes served.lawful.each);
+        handler = batch_handler_fits below.calls p service served.typed (below.classes_formed service.classes served.lawful.each);
       };
       this = place.this;
       remote = place.remote;
@@ -268,12 +256,12 @@ module _ (below : Below) (p : Program) (lawful : IsLawful p) (checked : check_pr
 
     at_first : At scene (first_refs o.root inputs) 0 first scope [] start
     at_first =
-        let joined = joined_first below.laws below.stmts_formed below.classes_formed below.sends below.notes p lawful t none service table served o among o.at interface place agree opens place.scope typed_here noted formed l fits in
+        let joined = joined_first (walking below) below.stmts_formed below.classes_formed below.sends below.notes p lawful t none service table served o among o.at interface place agree opens place.scope typed_here noted formed l fits in
         record {
           walked = start.names;
           joined = joined;
           linked = joined.linked;
-          fits = start_fits below.laws below.stmts_formed below.classes_formed below.sends below.notes p lawful t none service table served o among o.at interface place agree opens place.scope typed_here noted formed l fits;
+          fits = start_fits (walking below) below.stmts_formed below.classes_formed below.sends below.notes p lawful t none service table served o among o.at interface place agree opens place.scope typed_here noted formed l fits;
           held = held_first f o place.scope (kind.Named interface) begins.free;
           known = below.batches d o.outer place.scope (agree_named is o.outer place.scope agree) (own_scope is place.this place.scope own) o.at o.root interface o.block begins.declared_as;
         }
@@ -347,7 +335,7 @@ module _ (below : Below) (p : Program) (lawful : IsLawful p) (checked : check_pr
         record { outcome = at_l.outcome; events = at_l.events; table = at_l.table }
 
 -- each batch that code asks for
-pub dividing_keeps : Below → DividingKeepsMeaning
+pub dividing_keeps : LawsBelow → DividingKeepsMeaning
 dividing_keeps below p lawful checked none zero_free service s served at l site asked o found =
     let t = program_typed p checked in
     let d = of_program p in
@@ -363,7 +351,7 @@ dividing_keeps below p lawful checked none zero_free service s served at l site 
     (subst (λ r. IsNotedStmt (type_at p) (context d site.place) site.place.scope (Batch site.at site.interface r q.block)) (sym known.root)
     (subst (λ k. IsNotedStmt (type_at p) (context d site.place) site.place.scope (Batch site.at site.interface site.root k)) (sym known.block) known.noted)) in
     let formed : AreFormedStmts q.block = subst AreFormedStmts (sym known.block) (below.stmts_formed site.block (block_lawful site.block known.lawful.2)) in
-    let declared' = declared below.laws below.stmts_formed below.classes_formed below.sends below.notes p lawful t none service s.server.table served in
+    let declared' = declared (walking below) below.stmts_formed below.classes_formed below.sends below.notes p lawful t none service s.server.table served in
     let remote : PerformsRemotePart p service q l s.server.table =
     below.scripts p lawful checked none service s.server.table served site asked.may q (ap (batch_at p) (sym known.at) ∙ batch_found p lawful q known.among) l asked.fits in
     subst (λ r. KeepsMeaning p service r l s) same

@@ -23,9 +23,10 @@ use Rattle.rb_unsplit_keeps.proofs.Found.{batch_found}
 use Rattle.rb_unsplit_keeps.proofs.Programs.{program_typed, batches_in}
 use Rattle.rb_division_laws.specs.Fitting.{NodesFit}
 use Rattle.rb_division_laws.specs.Sendable.{CanBeSent, DividedCanBeSent}
+use Rattle.rb_headline_laws.specs.Below.{LawsBelow}
 use Rattle.rb_headline_laws.specs.Reached.{main_run, ReachedBatchesCanBeExchanged}
-use Rattle.rb_headline_laws.proofs.Divided.{Below, dividing_keeps}
-use Rattle.rb_headline_laws.proofs.Mains.{Typing, Ends, main_fits, main_kept}
+use Rattle.rb_headline_laws.proofs.Divided.{dividing_keeps}
+use Rattle.rb_headline_laws.proofs.Mains.{Ends, main_fits, main_kept}
 use Rattle.rb_headline_laws.proofs.Sure.{Sure, batches_sure}
 use Rattle.rb_headline_laws.proofs.Given.{inputs_given}
 
@@ -67,20 +68,20 @@ each_divided p (q ∷ bs) ds h b c =
 one_only : (a c : Outermost) → Some a ≡ Some c → a ≡ c
 one_only a c e = cc (e)
 
-pub exchanged : Below → Typing → NodesFit → DividedCanBeSent → ReachedBatchesCanBeExchanged
-exchanged below typing nodes sendable p lawful checked none zero_free places ds divides service table served fuel at l go s passes =
+pub exchanged : LawsBelow → NodesFit → DividedCanBeSent → ReachedBatchesCanBeExchanged
+exchanged below nodes sendable p lawful checked none zero_free places ds divides service table served fuel at l go s passes =
     let side = Own (program_sites p) in
     let t = program_typed p checked in
-    let fits = main_fits below typing p lawful checked none service table served in
-    let reached = reaches (of_program p) side _ (in_main p service) fits (Ends below typing p lawful checked none service table served) (main_run p fuel) (AskBatch at l go) (outside_of table) s passes
-    (main_kept below typing p lawful checked none service table served fuel) served.fits in
+    let fits = main_fits below p lawful checked none service table served in
+    let reached = reaches (of_program p) side _ (in_main p service) fits (Ends below p lawful checked none service table served) (main_run p fuel) (AskBatch at l go) (outside_of table) s passes
+    (main_kept below p lawful checked none service table served fuel) served.fits in
     let site = reached.0.0 in
     let asked : IsAskedBatch (of_program p) side at l site = reached.0.1 in
     let served_now : IsTyped service s.server.table = record { lawful = served.lawful; typed = served.typed; fits = reached.1 } in
     let known = batches_in p lawful t (below.notes p lawful) site asked.may in
     let b = known.begun in
     let found : batch_at p at ≡ Some b = ap (batch_at p) (sym (known.at ∙ asked.here)) ∙ batch_found p lawful b known.among in
-    let sure = batches_sure typing.exprs_formed p lawful t (below.notes p lawful) site asked.may in
+    let sure = batches_sure below.exprs_formed p lawful t (below.notes p lawful) site asked.may in
     let same : sure.begun ≡ b = one_only sure.begun b (sym (batch_found p lawful sure.begun sure.among) ∙ ap (batch_at p) (sure.at ∙ asked.here) ∙ found) in
     let inputs = inputs_given p b site.place l (subst (λ q. Sure q.outer site.place.scope) same sure.sure) asked.fits in
     let sent : CanBeSent (division p b).script = sendable p lawful places b known.among (division p b) (each_divided p (program_batches (facts_of p) p) ds divides b known.among) in

@@ -13,25 +13,17 @@ use Rattle.rb_meaning.specs.State.{Outside}
 use Rattle.rb_meaning.specs.Links.{IsTyped}
 use Rattle.rb_meaning.specs.Meaning.{in_main}
 use Rattle.rb_flow.specs.Program.{HasNoRefusal}
-use Rattle.rb_types_keep.specs.Formed.{LawfulExprsAreFormed}
-use Rattle.rb_types_keep.specs.Operators.{ConditionsHold}
 use Rattle.rb_types_keep.specs.Asked.{Side, Own, Keeps}
 use Rattle.rb_types_keep.specs.Around.{HandlerFits}
-use Rattle.rb_types_keep.specs.Code.{TypesKeep}
 use Rattle.rb_unsplit_keeps.specs.Batches.{program_sites}
 use Rattle.rb_unsplit_keeps.proofs.Admitted.{whole_fits}
 use Rattle.rb_unsplit_keeps.proofs.Programs.{IsTypedProgram, program_typed}
 use Rattle.rb_unsplit_keeps.proofs.Whole.{AllWhole, MainEnds, main_handler_fits, main_keeps}
+use Rattle.rb_headline_laws.specs.Below.{LawsBelow}
 use Rattle.rb_headline_laws.specs.Reached.{main_run}
-use Rattle.rb_headline_laws.proofs.Divided.{Below}
+use Rattle.rb_headline_laws.proofs.Divided.{walking}
 
--- what the laws say of typed code
-pub record Typing : Type 0 where
-  pub conditions : ConditionsHold
-  pub exprs_formed : LawfulExprsAreFormed
-  pub types_keep : TypesKeep
-
-module _ (below : Below) (typing : Typing) (p : Program) (lawful : IsLawful p) (checked : check_program p ≡ Ok tt) (none : HasNoRefusal p) (service : Service) (table : List Object) (served : IsTyped service table) where
+module _ (below : LawsBelow) (p : Program) (lawful : IsLawful p) (checked : check_program p ≡ Ok tt) (none : HasNoRefusal p) (service : Service) (table : List Object) (served : IsTyped service table) where
   abbrev t : IsTypedProgram p
   t = program_typed p checked
 
@@ -41,15 +33,15 @@ module _ (below : Below) (typing : Typing) (p : Program) (lawful : IsLawful p) (
   abbrev Holds : Outside → Type 0
   Holds s = TableFits service.classes service.root s.server.table
 
-  pub whole : AllWhole below.laws.calls typing.exprs_formed below.stmts_formed below.classes_formed typing.types_keep p lawful t none service table served
-  whole = whole_fits below.laws typing.conditions typing.exprs_formed below.stmts_formed below.classes_formed typing.types_keep below.sends p lawful t none service table served
+  pub whole : AllWhole below.calls below.exprs_formed below.stmts_formed below.classes_formed below.types_keep p lawful t none service table served
+  whole = whole_fits (walking below) below.conditions below.exprs_formed below.stmts_formed below.classes_formed below.types_keep below.sends p lawful t none service table served
 
   pub main_fits : HandlerFits (of_program p) side Holds (in_main p service)
-  main_fits = main_handler_fits below.laws.calls typing.exprs_formed below.stmts_formed below.classes_formed typing.types_keep p lawful t none service table served whole (below.notes p lawful)
+  main_fits = main_handler_fits below.calls below.exprs_formed below.stmts_formed below.classes_formed below.types_keep p lawful t none service table served whole (below.notes p lawful)
 
   -- how `main` ends
   abbrev pub Ends : Outcome (Option Value) → Type 0
-  Ends = MainEnds below.laws.calls typing.exprs_formed below.stmts_formed below.classes_formed typing.types_keep p lawful t none service table served whole (below.notes p lawful)
+  Ends = MainEnds below.calls below.exprs_formed below.stmts_formed below.classes_formed below.types_keep p lawful t none service table served whole (below.notes p lawful)
 
   pub main_kept : (fuel : ℕ) → Keeps (of_program p) side Ends (main_run p fuel)
-  main_kept fuel = main_keeps below.laws.calls typing.exprs_formed below.stmts_formed below.classes_formed typing.types_keep p lawful t none service table served whole (below.notes p lawful) fuel
+  main_kept fuel = main_keeps below.calls below.exprs_formed below.stmts_formed below.classes_formed below.types_keep p lawful t none service table served whole (below.notes p lawful) fuel

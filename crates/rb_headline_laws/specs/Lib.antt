@@ -1,4 +1,5 @@
 -- The laws of whole batches and of whole programs.
+pub mod Below
 pub mod Dividing
 pub mod Clients
 pub mod Reached

@@ -4,6 +4,7 @@
 //! the run of its script in `rb_meaning_code`. There is no code here; the laws are functions that do nothing.
 #![tactic(auto)]
 
+ghost use Rattle.rb_headline_laws.specs.Below.{LawsBelow};
 ghost use Rattle.rb_headline_laws.specs.Clients.{ClientsMeanWhatProgramsMean};
 ghost use Rattle.rb_headline_laws.specs.Dividing.{DividingKeepsMeaning};
 ghost use Rattle.rb_headline_laws.specs.Reached.{FrontsAreShown, ProgramsComeAsFar, ReachedBatchesCanBeExchanged};
@@ -25,12 +26,12 @@ use rb_types_keep::{
 };
 use rb_unsplit_keeps::lawful_programs_are_noted;
 
-/// In a lawful, typed program without refusals, on a typed service, each batch that code asks for means the same divided:
-/// its remainder, replayed on the node that its script gives, ends as the batch does where it stands, with the same local
-/// state, value or fault and the fault's side; it shows the same events; and the script leaves the same table.
-pub fn dividing_a_batch_keeps_its_meaning()
-    ensures { DividingKeepsMeaning }
+// What the laws of the crates below say, which those of this crate stand on.
+fn laws_below()
+    ensures { LawsBelow }
 {
+    conditions_have_truths();
+    typed_code_keeps_types();
     operators_keep_types();
     remote_calls_keep_tables();
     remote_calls_are_typed();
@@ -45,6 +46,15 @@ pub fn dividing_a_batch_keeps_its_meaning()
     sent_expressions_are_remote();
     sent_code_faults_remotely();
     scripts_perform_remote_parts();
+}
+
+/// In a lawful, typed program without refusals, on a typed service, each batch that code asks for means the same divided:
+/// its remainder, replayed on the node that its script gives, ends as the batch does where it stands, with the same local
+/// state, value or fault and the fault's side; it shows the same events; and the script leaves the same table.
+pub fn dividing_a_batch_keeps_its_meaning()
+    ensures { DividingKeepsMeaning }
+{
+    laws_below();
 }
 
 /// In a lawful, typed program without refusals, on a typed service, a client whose scripts give its nodes there, one after
@@ -53,22 +63,7 @@ pub fn dividing_a_batch_keeps_its_meaning()
 pub fn clients_mean_what_programs_mean()
     ensures { ClientsMeanWhatProgramsMean }
 {
-    conditions_have_truths();
-    typed_code_keeps_types();
-    operators_keep_types();
-    remote_calls_keep_tables();
-    remote_calls_are_typed();
-    lawful_code_is_formed();
-    admitted_programs_send_only_portable_parts();
-    lawful_programs_are_noted();
-    each_expression_has_its_mark();
-    remote_expressions_stand_as_they_should();
-    local_code_is_not_marked_remote();
-    local_code_does_the_same();
-    scopes_of_batches_are_known();
-    sent_expressions_are_remote();
-    sent_code_faults_remotely();
-    scripts_perform_remote_parts();
+    laws_below();
 }
 
 /// In a lawful, typed program without refusals, on a typed service, however far a client comes on nodes that its own scripts
@@ -76,22 +71,7 @@ pub fn clients_mean_what_programs_mean()
 pub fn programs_come_as_far_as_clients()
     ensures { ProgramsComeAsFar }
 {
-    conditions_have_truths();
-    typed_code_keeps_types();
-    operators_keep_types();
-    remote_calls_keep_tables();
-    remote_calls_are_typed();
-    lawful_code_is_formed();
-    admitted_programs_send_only_portable_parts();
-    lawful_programs_are_noted();
-    each_expression_has_its_mark();
-    remote_expressions_stand_as_they_should();
-    local_code_is_not_marked_remote();
-    local_code_does_the_same();
-    scopes_of_batches_are_known();
-    sent_expressions_are_remote();
-    sent_code_faults_remotely();
-    scripts_perform_remote_parts();
+    laws_below();
 }
 
 /// What a program has shown anywhere on its way is a front of what it means to show.
@@ -104,22 +84,7 @@ pub fn fronts_are_shown()
 pub fn reached_batches_can_be_exchanged()
     ensures { ReachedBatchesCanBeExchanged }
 {
-    conditions_have_truths();
-    typed_code_keeps_types();
-    operators_keep_types();
-    remote_calls_keep_tables();
-    remote_calls_are_typed();
-    lawful_code_is_formed();
-    admitted_programs_send_only_portable_parts();
-    lawful_programs_are_noted();
-    each_expression_has_its_mark();
-    remote_expressions_stand_as_they_should();
-    local_code_is_not_marked_remote();
-    local_code_does_the_same();
-    scopes_of_batches_are_known();
-    sent_expressions_are_remote();
-    sent_code_faults_remotely();
-    scripts_perform_remote_parts();
+    laws_below();
     nodes_of_scripts_fit();
     divided_scripts_can_be_sent();
 }

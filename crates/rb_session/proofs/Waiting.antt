@@ -1,13 +1,13 @@
 -- Links that wait, as the links that are dialled.
 use Rattle.std.proofs.Common.{◌≡◌, refl, ap, sym, ◌∙◌, subst, ℕ, ◌+◌, Bool, true, false, List, [], ◌∷◌, ◌++◌, take, drop, get_or}
-use Rattle.std.specs.Prelude.{◌==◌, All, Option, Some, None, option_map, cond, map}
+use Rattle.std.specs.Prelude.{◌==◌, Option, Some, None, option_map, cond, map}
 use Rattle.std.specs.List.{list_any}
 use Rattle.std.proofs.lemmas.List.Elements.{All-append, All-take, All-drop}
 use Rattle.rb_base.specs.Counts.{risen}
 use Rattle.rb_session.specs.Targets.{same_target, first_under, without_first}
 use Rattle.rb_session.specs.Places.{StandsAt}
 use Rattle.rb_session.specs.Dials.{next_link}
-use Rattle.rb_session.specs.MemoryDials.{DialInMemory, as_dialled, dialling_of, TakesAt, IsNext}
+use Rattle.rb_session.specs.MemoryDials.{DialInMemory, AreWhole, as_dialled, dialling_of, TakesAt, IsNext}
 use Rattle.rb_session.specs.declared.targets.Target.{Target}
 use Rattle.rb_session.specs.declared.any_link.AnyLink.TheVariants.{Dialled}
 
@@ -47,10 +47,6 @@ pub takes_it : {X : Type 0} (d : DialInMemory X) (t : Target) (place : ℕ) (lin
     → ((p : Target × X) → link ≡ (get_or ws place p).1) → next_link (dialling_of d) t ≡ Some (Dialled link)
 takes_it {X} d t place link ws h same is =
     h.is (t, link) ∙ ap (λ (qs : List (Target × X)). Some (Dialled (get_or {A = Target × X} qs place (t, link)).1)) (sym same) ∙ ap (λ (x : X). Some (Dialled x)) (sym (is (t, link)))
-
--- None of these links has a fault.
-abbrev pub AreWhole : {X : Type 0} → (X → ℕ) → List (Target × X) → Type 0
-AreWhole {X} faults ps = All (λ (p : Target × X). faults p.1 ≡ 0) ps
 
 pub still_whole : {X : Type 0} (faults : X → ℕ) (all new : List (Target × X)) (place : ℕ) → new ≡ take place all ++ drop (place + 1) all
     → AreWhole faults all → AreWhole faults new

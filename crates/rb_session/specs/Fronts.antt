@@ -1,8 +1,8 @@
 -- What stands at the front of the bytes that a session has.
-use Rattle.std.specs.Prelude.{◌≡◌, ℕ, ◌+◌, ◌≤◌, Bool, true, ◌&&◌, nat_le, List, ◌++◌, length, take, drop}
+use Rattle.std.specs.Prelude.{◌≡◌, ℕ, ◌+◌, ◌≤◌, Bool, true, ◌&&◌, nat_le, List, ◌++◌, length, take, drop, Option, MatchOption}
 use Rattle.rb_meaning.specs.Answers.{longest_request}
 use Rattle.rb_meaning.specs.Replies.{header_length}
-use Rattle.rb_meaning_frames.specs.Frames.{header_bytes, frame_bytes, request_kind, is_kind}
+use Rattle.rb_meaning_frames.specs.Frames.{header_bytes, frame_bytes, request_kind, is_kind, IsRightBefore, BreaksAt}
 use Rattle.rb_meaning_frames.specs.Streams.{BreaksRequest, Waits}
 use Rattle.rb_session.specs.declared.frames.Front.{Front}
 use Rattle.rb_session.specs.declared.frames.Front.TheVariants.{Whole, Partial, Broken}
@@ -10,6 +10,10 @@ use Rattle.rb_session.specs.declared.frames.Front.TheVariants.{Whole, Partial, B
 -- a test of kinds
 abbrev pub is_between : ℕ → ℕ → ℕ → Bool
 is_between least most kind = nat_le least kind && nat_le kind most
+
+-- The first byte that breaks the form of a frame, whose kind passes this test, is at this offset; or none does.
+abbrev pub IsFirstWrong : (ℕ → Bool) → List ℕ → Option ℕ → Type 0
+IsFirstWrong kind bytes wrong = MatchOption wrong (IsRightBefore kind (length bytes) bytes) (λ at. BreaksAt kind at bytes)
 
 -- The header is that of this kind and this length.
 pub record IsHeader (header : List ℕ) (kind size : ℕ) : Type 0 where

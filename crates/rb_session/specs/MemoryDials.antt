@@ -1,5 +1,5 @@
 -- Dials in memory.
-use Rattle.std.specs.Prelude.{◌≡◌, ◌<◌, ℕ, ◌+◌, List, [], ◌∷◌, ◌++◌, length, take, drop, fold, map, slice_index_or, Option, None, Some}
+use Rattle.std.specs.Prelude.{◌≡◌, ◌<◌, ℕ, ◌+◌, All, List, [], ◌∷◌, ◌++◌, length, take, drop, fold, map, slice_index_or, Option, None, Some}
 use Rattle.rb_session.specs.Targets.{without_first}
 use Rattle.rb_session.specs.Dials.{Dialling, next_link, broken_after}
 use Rattle.rb_session.specs.declared.targets.Target.{Target}
@@ -14,6 +14,10 @@ pub record DialInMemory (X : Type 0) : Type 0 where
   pub faults : ℕ
   pub out : ℕ
   pub back : List (AnyLink X)
+
+-- None of these links, each under its target, has counted a fault.
+abbrev pub AreWhole : {X : Type 0} → (X → ℕ) → List (Target × X) → Type 0
+AreWhole {X} faults ps = All (λ (p : Target × X). faults p.1 ≡ 0) ps
 
 -- no link waits, and nothing was dialled
 abbrev pub new_dial : {X : Type 0} → List ℕ → DialInMemory X

@@ -2,13 +2,18 @@
 use Rattle.std.specs.Prelude.{◌≡◌, ◌<◌, ◌≤◌, ◌+◌, ◌-◌, ℕ, List, [], ◌++◌, length, Result, Ok, Err, cond, nat_lt}
 use Rattle.rb_meaning.specs.Replies.{header_length, announced, IsRightBefore, BreaksAt, IsCut}
 use Rattle.rb_meaning_frames.specs.Frames.{frame_bytes, request_kind}
-use Rattle.rb_base.specs.Devices.{Device, failed}
+use Rattle.rb_base.specs.Devices.{Device, device, failed}
 use Rattle.rb_base.specs.Sources.{before_giving, IsAtEnd}
 use Rattle.rb_base.specs.Sinks.{with_bytes, WrotePrefix}
 use Rattle.rb_base.specs.Links.{IsReplyKind}
 use Rattle.rb_base.specs.declared.links.Reply.{Reply}
 use Rattle.rb_base.specs.declared.links.LinkStop.{LinkStop}
 use Rattle.rb_base.specs.declared.links.LinkStop.TheVariants.{Failed, Frame, Cut, Memory}
+use Rattle.rb_base.specs.declared.sources.Source as sources
+
+-- This holds of the source before and after.
+abbrev pub Across : {S : Type 0} → sources.Ghosts S → S → S → (Device (List ℕ) → Device (List ℕ) → Type 0) → Type 0
+Across g source source' Holds = Holds (device g.told g.faults source) (device g.told g.faults source')
 
 -- The frame of a request was written and nothing else; or a front of it, and there is one fault more; or nothing, for want
 -- of memory.

@@ -1,9 +1,9 @@
 // Frames: their headers, and what stands at the front of a stream.
 
-ghost use Rattle.std.specs.Prelude.{◌≡◌, ◌≤◌, ◌++◌, length, IfOk, IfErr, OnOk, MatchOption};
+ghost use Rattle.std.specs.Prelude.{◌≡◌, ◌≤◌, ◌++◌, length, IfOk, IfErr, OnOk};
 ghost use Rattle.rb_meaning.specs.Replies.{header_length, announced};
-ghost use Rattle.rb_meaning_frames.specs.Frames.{frame_bytes, is_kind, IsRightBefore, BreaksAt, may_stand};
-ghost use Rattle.rb_session.specs.Fronts.{is_between, IsHeader, IsFront};
+ghost use Rattle.rb_meaning_frames.specs.Frames.{frame_bytes, is_kind, BreaksAt, may_stand};
+ghost use Rattle.rb_session.specs.Fronts.{is_between, IsFirstWrong, IsHeader, IsFront};
 
 use bytes::{BufMut, BytesMut};
 use rb_meaning_frames::headers_are_spelled;
@@ -78,7 +78,7 @@ pub fn announced(bytes: &[u8]) -> u64
 
 /// The offset of the first byte of a frame that breaks its form, of which the kind is between two.
 pub fn wrong_at(bytes: &[u8], least: u8, most: u8) -> Option<usize>
-    ensures { MatchOption result (IsRightBefore (is_between least most) (length bytes.now) bytes.now) (λ at. BreaksAt (is_between least most) at bytes.now) }
+    ensures { IsFirstWrong (is_between least most) bytes.now result }
 {
     let front = &bytes[..bytes.len().min(3)];
     for (at, byte) in front.iter().enumerate() {

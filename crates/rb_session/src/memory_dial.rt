@@ -31,9 +31,9 @@ pub struct MemoryDial<X: Link> {
 }
 
 impl<X: Link> Model for MemoryDial<X> {
-    ghost use Rattle.std.specs.Prelude.{◌≡◌, ◌≤◌, ◌+◌, All, vec_len, vec_capacity};
+    ghost use Rattle.std.specs.Prelude.{◌≡◌, ◌≤◌, ◌+◌, vec_len, vec_capacity};
     ghost use Rattle.rb_session.specs.DialCodes.{dial_code};
-    ghost use Rattle.rb_session.specs.MemoryDials.{DialInMemory};
+    ghost use Rattle.rb_session.specs.MemoryDials.{AreWhole, DialInMemory};
 
     ghost Value = { DialInMemory X };
 
@@ -48,7 +48,7 @@ impl<X: Link> Model for MemoryDial<X> {
       back = it.back.items;
     } };
 
-    ghost invariant = { λ it. (vec_len it.back + it.out ≤ vec_capacity it.back) × All (λ p. X.faults p.1 ≡ 0) it.waiting.items };
+    ghost invariant = { λ it. (vec_len it.back + it.out ≤ vec_capacity it.back) × AreWhole X.faults it.waiting.items };
 }
 
 impl<X: Link> MemoryDial<X> {

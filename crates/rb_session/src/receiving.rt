@@ -5,7 +5,7 @@ ghost use Rattle.rb_meaning_bytes.specs.formats.Fields.{IsBytes};
 ghost use Rattle.rb_meaning.specs.Replies.{header_length};
 ghost use Rattle.rb_base.specs.Devices.{device};
 ghost use Rattle.rb_base.specs.Sources.{IsAtEnd};
-ghost use Rattle.rb_session.specs.Receiving.{Sends, lacking, ReadsPiece, StepsOn, TakesNone, TakesWhole, Receives};
+ghost use Rattle.rb_session.specs.Receiving.{Across, Sends, lacking, ReadsPiece, StepsOn, TakesNone, TakesWhole, Receives};
 
 use crate::frames::{HEADER, announced, put_frame, wrong_at};
 use bytes::BytesMut;
@@ -61,7 +61,7 @@ fn make_room(taken: &mut BytesMut, more: usize) -> Result<(), Memory>
 // Reads once, at most so many bytes, and appends them.
 fn read_piece<S: Source>(source: &mut S, taken: &mut BytesMut, most: u64) -> Result<usize, LinkStop>
     requires { 0 < most }
-    ensures reads { ReadsPiece most taken.old.items taken.new.items result (device S.told S.faults source.old) (device S.told S.faults source.new) }
+    ensures reads { Across S.Source source.old source.new (ReadsPiece most taken.old.items taken.new.items result) }
     ensures end { result ≡ Ok 0 → IsAtEnd (S.told source.old) }
 {
     let before = taken.len();
@@ -78,7 +78,7 @@ fn read_piece<S: Source>(source: &mut S, taken: &mut BytesMut, most: u64) -> Res
 // Reads once, at most so many bytes, and looks at all that were taken: the reply may have ended, or break its form.
 fn take_more<S: Source>(source: &mut S, taken: &mut BytesMut, most: u64) -> Result<(), LinkStop>
     requires { 0 < most }
-    ensures { StepsOn most taken.old.items taken.new.items result (device S.told S.faults source.old) (device S.told S.faults source.new) }
+    ensures { Across S.Source source.old source.new (StepsOn most taken.old.items taken.new.items result) }
 {
     let alloc = *taken.allocator();
     if read_piece(source, taken, most)? == 0 {
@@ -98,8 +98,8 @@ fn take_more<S: Source>(source: &mut S, taken: &mut BytesMut, most: u64) -> Resu
 
 // Takes the frame of a reply from a source.
 fn take_frame<S: Source>(alloc: Global, source: &mut S) -> Result<BytesMut, LinkStop>
-    ensures whole { IfOk result (λ taken. TakesWhole taken.items (device S.told S.faults source.old) (device S.told S.faults source.new)) }
-    ensures none { IfErr result (λ stop. TakesNone stop (device S.told S.faults source.old) (device S.told S.faults source.new)) }
+    ensures whole { IfOk result (λ taken. Across S.Source source.old source.new (TakesWhole taken.items)) }
+    ensures none { IfErr result (λ stop. Across S.Source source.old source.new (TakesNone stop)) }
 {
     let mut taken = BytesMut::new(alloc);
     let mut most = lacking(taken.as_slice());

@@ -171,7 +171,8 @@ fn take_piece(
     out: &mut BytesMut,
 ) -> Result<Taken, Memory>
     requires { IsTypedHost host.old }
-    ensures takes { IfOk result (TakesAll host.old host.new (rest.old.items ++ piece.now) most out.old.items out.new.items) }
+    ensures takes { let bytes = rest.old.items ++ piece.now in
+        IfOk result (TakesAll host.old host.new bytes most out.old.items out.new.items) }
     ensures rest { IfOk result (λ taken. rest.new.items ≡ drop taken.bytes (rest.old.items ++ piece.now)) }
     ensures typed { OnOk result (IsTypedHost host.new) }
     ensures service { host.new.service ≡ host.old.service }

@@ -3,30 +3,4 @@ use Rattle.rb_headline_laws.proofs.Exchanged.{exchanged}
 use Rattle.rb_headline_laws.proofs.reached_batches_can_be_exchanged.Goals as goal
 
 pub returns : goal.returns
-returns c = exchanged
-    (record {
-      laws = record {
-        one = c.operators_keep_types.ensures.one;
-        two = c.operators_keep_types.ensures.two;
-        left = c.operators_keep_types.ensures.left;
-        calls = c.remote_calls_keep_tables.ensures;
-        sent = c.remote_calls_are_typed.ensures.sent;
-        given = c.remote_calls_are_typed.ensures.given;
-      };
-      stmts_formed = c.lawful_code_is_formed.ensures.stmts;
-      classes_formed = c.lawful_code_is_formed.ensures.classes;
-      sends = c.admitted_programs_send_only_portable_parts.ensures;
-      notes = c.lawful_programs_are_noted.ensures;
-      marks = c.each_expression_has_its_mark.ensures.there;
-      elsewhere = c.each_expression_has_its_mark.ensures.elsewhere;
-      parted = c.remote_expressions_stand_as_they_should.ensures;
-      placed = c.local_code_is_not_marked_remote.ensures;
-      local = c.local_code_does_the_same.ensures;
-      batches = c.scopes_of_batches_are_known.ensures.batches;
-      turns = c.scopes_of_batches_are_known.ensures.turns;
-      types = c.scopes_of_batches_are_known.ensures.types;
-      sent = c.sent_expressions_are_remote.ensures;
-      faults = c.sent_code_faults_remotely.ensures;
-      scripts = c.scripts_perform_remote_parts.ensures;
-    })
-    (record { conditions = c.conditions_have_truths.ensures; exprs_formed = c.lawful_code_is_formed.ensures.exprs; types_keep = c.typed_code_keeps_types.ensures }) c.nodes_of_scripts_fit.ensures c.divided_scripts_can_be_sent.ensures
+returns c = exchanged c.laws_below.ensures c.nodes_of_scripts_fit.ensures c.divided_scripts_can_be_sent.ensures

@@ -8,24 +8,24 @@ use Rattle.rb_client.proofs.replies.trade.Goals as goal
 pub returns-in-Ok : goal.returns-in-Ok
 returns-in-Ok g c =
     traded g.L.Link c.script_payloads_mean_one_thing.ensures.alone (mirror_parts c.args.remainder.now) c.args.done c.args.request.now (λ i. Fits-lt-pow (c.type_inv.request i)) c.args.link.now c.exchange.new.self c.in-Ok.reply c.taken_from.result
-    c.in-Ok.ensures.pairs c.in-Ok.ensures.faults c.in-Ok.ensures.listed c.in-Ok.ensures.serves c.in-Ok.ensures.stays c.taken_from.ensures
+    c.in-Ok.ensures.pairs c.in-Ok.ensures.faults c.in-Ok.ensures.lends c.in-Ok.ensures.listed c.in-Ok.ensures.serves c.in-Ok.ensures.stays c.taken_from.ensures
 
 pub returns-in-Err-Failed : goal.returns-in-Err-Failed
 returns-in-Err-Failed g c =
     subst (λ s. Trades g.L.Link (mirror_parts c.args.remainder.now) c.args.done c.args.request.now c.args.link.now (Err (stopped c.args.done s)) c.exchange.new.self) c.in-Err-Failed.field-0-is
     (untraded g.L.Link c.script_payloads_mean_one_thing.ensures.alone (mirror_parts c.args.remainder.now) c.args.done c.args.request.now (λ i. Fits-lt-pow (c.type_inv.request i)) c.args.link.now c.exchange.new.self c.in-Err-Failed.field-0
-    c.in-Err-Failed.ensures.cause c.in-Err-Failed.ensures.pairs c.in-Err-Failed.ensures.faults c.in-Err-Failed.ensures.listed c.in-Err-Failed.ensures.serves)
+    c.in-Err-Failed.ensures.cause c.in-Err-Failed.ensures.pairs c.in-Err-Failed.ensures.faults c.in-Err-Failed.ensures.lends c.in-Err-Failed.ensures.listed c.in-Err-Failed.ensures.serves)
 
 pub returns-in-Err-Frame : goal.returns-in-Err-Frame
 returns-in-Err-Frame g c =
     rw c.in-Err-Frame.field-0-is
     (subst (λ s. Trades g.L.Link (mirror_parts c.args.remainder.now) c.args.done c.args.request.now c.args.link.now (Err (stopped c.args.done s)) c.exchange.new.self) c.in-Err-Frame.field-0-is
     (untraded g.L.Link c.script_payloads_mean_one_thing.ensures.alone (mirror_parts c.args.remainder.now) c.args.done c.args.request.now (λ i. Fits-lt-pow (c.type_inv.request i)) c.args.link.now c.exchange.new.self c.in-Err-Frame.field-0
-    c.in-Err-Frame.ensures.cause c.in-Err-Frame.ensures.pairs c.in-Err-Frame.ensures.faults c.in-Err-Frame.ensures.listed c.in-Err-Frame.ensures.serves))
+    c.in-Err-Frame.ensures.cause c.in-Err-Frame.ensures.pairs c.in-Err-Frame.ensures.faults c.in-Err-Frame.ensures.lends c.in-Err-Frame.ensures.listed c.in-Err-Frame.ensures.serves))
 
 pub returns-in-Err-Cut : goal.returns-in-Err-Cut
 returns-in-Err-Cut g c =
     rw c.in-Err-Cut.field-0-is
     (subst (λ s. Trades g.L.Link (mirror_parts c.args.remainder.now) c.args.done c.args.request.now c.args.link.now (Err (stopped c.args.done s)) c.exchange.new.self) c.in-Err-Cut.field-0-is
     (untraded g.L.Link c.script_payloads_mean_one_thing.ensures.alone (mirror_parts c.args.remainder.now) c.args.done c.args.request.now (λ i. Fits-lt-pow (c.type_inv.request i)) c.args.link.now c.exchange.new.self c.in-Err-Cut.field-0
-    c.in-Err-Cut.ensures.cause c.in-Err-Cut.ensures.pairs c.in-Err-Cut.ensures.faults c.in-Err-Cut.ensures.listed c.in-Err-Cut.ensures.serves))
+    c.in-Err-Cut.ensures.cause c.in-Err-Cut.ensures.pairs c.in-Err-Cut.ensures.faults c.in-Err-Cut.ensures.lends c.in-Err-Cut.ensures.listed c.in-Err-Cut.ensures.serves))
