@@ -1,7 +1,8 @@
 //! Runs the examples as a user would, one after the other, and prints each command with its exit status and its lines.
 #![tactic(auto)]
 
-use rb_base::{MemoryFiles, MemorySink};
+use rb_base::{MemoryFiles, MemorySink, SteadyListen};
+use rb_session::NullDial;
 use rb_top::top;
 use rb_trees::{Memory, Seq};
 use std::alloc::Global;
@@ -71,7 +72,17 @@ fn words_of(alloc: Global, command: &str) -> Result<Vec<String>, Memory> {
 fn answered(alloc: Global, command: &str, files: &mut MemoryFiles) -> Result<String, Memory> {
     let words = words_of(alloc, command)?;
     let mut out = MemorySink::make(alloc, Seq::new(alloc), usize::MAX);
-    let code = top(alloc, words.as_slice(), files, &mut out).code();
+    let mut dial = NullDial::make(alloc);
+    let mut listen = SteadyListen::make(alloc, Seq::new(alloc));
+    let status = top(
+        alloc,
+        words.as_slice(),
+        files,
+        &mut out,
+        &mut dial,
+        &mut listen,
+    );
+    let code = status.code();
     let text = str::from_utf8(out.written()).unwrap_or("not UTF-8");
     Ok(format!(in alloc; "{text}status {code}")?)
 }

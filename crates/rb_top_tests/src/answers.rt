@@ -1,5 +1,6 @@
 // What the commands answer on texts, and rows of such answers.
-use rb_base::{MemoryFiles, MemorySink};
+use rb_base::{MemoryFiles, MemorySink, SteadyListen};
+use rb_session::NullDial;
 use rb_top::top;
 use rb_trees::{Memory, Seq};
 use std::alloc::Global;
@@ -53,8 +54,20 @@ pub fn answer_over(
     mut out: MemorySink,
 ) -> Result<String, Fail> {
     let words = words_of(alloc, words)?;
-    let code = top(alloc, words.as_slice(), &mut files, &mut out).code();
+    let code = code_of(alloc, words.as_slice(), &mut files, &mut out);
     answer_text(alloc, code, out.written())
+}
+
+/// The exit status of the command that the words are, where nothing is dialled and no session comes.
+pub fn code_of(
+    alloc: Global,
+    words: &[String],
+    files: &mut MemoryFiles,
+    out: &mut MemorySink,
+) -> u8 {
+    let mut dial = NullDial::make(alloc);
+    let mut listen = SteadyListen::make(alloc, Seq::new(alloc));
+    top(alloc, words, files, out, &mut dial, &mut listen).code()
 }
 
 /// An exit status before what was printed.

@@ -1,8 +1,7 @@
 // What the commands answer where files, words or the output fail.
-use crate::answers::{PROGRAM, SERVICE, answer, answer_over, files_of, shown, words_of};
+use crate::answers::{PROGRAM, SERVICE, answer, answer_over, code_of, files_of, shown, words_of};
 use bytes::BytesMut;
 use rb_base::{Files, FilesStop, MemoryFiles, MemorySink};
-use rb_top::top;
 use rb_trees::Seq;
 use std::alloc::Global;
 use std::test::Fail;
@@ -66,10 +65,7 @@ fn no_service_is_read_without_a_program(rt: HostRuntime) -> Result<(), Fail> {
     let mut files = MemoryFiles::make(alloc, Seq::from_slice(alloc, &[2])?);
     files.add("s", SERVICE.as_bytes())?;
     let mut out = MemorySink::make(alloc, Seq::new(alloc), usize::MAX);
-    assert_eq!(rt;
-        top(alloc, words.as_slice(), &mut files, &mut out).code(),
-        3
-    );
+    assert_eq!(rt; code_of(alloc, words.as_slice(), &mut files, &mut out), 3);
     assert_eq!(rt; out.written(), b"file fault p\n".as_slice());
     let mut text = BytesMut::new(alloc);
     assert!(rt; matches!(files.read("s", 99, &mut text), Err(FilesStop::Failed)));
@@ -80,7 +76,7 @@ fn no_service_is_read_without_a_program(rt: HostRuntime) -> Result<(), Fail> {
 
 /// Words that are no command.
 const OTHER_WORDS: &str =
-    "both p,both,Both p s,both p s s,p both s,check,check p s,Check p,both p s 1000000001,both p s 01000000000,both p s -1,both p s 1x,check p 1,both p s 1 2,unsplit,unsplit p,Unsplit p s,p unsplit s,unsplit p s s,unsplit p s 1 2";
+    "both p,both,Both p s,both p s s,p both s,check,check p s,Check p,both p s 1000000001,both p s 01000000000,both p s -1,both p s 1x,check p 1,both p s 1 2,unsplit,unsplit p,Unsplit p s,p unsplit s,unsplit p s s,unsplit p s 1 2,run,run a,run a p s,run a p 1 2,Run a p,pair,pair p,pair p s s,pair p s 1 2,child,child s 1,Child s,serve,serve a,serve a s,serve a s 1 2";
 
 #[test]
 fn other_words_are_not_understood(rt: HostRuntime) -> Result<(), Fail> {
