@@ -2,13 +2,10 @@
 #![tactic(auto)]
 
 mod help;
-mod real_files;
-mod standard_output;
 
+use rb_devices::{RealFiles, StandardOutput};
 use rb_top::{Status, top};
 use rb_trees::Memory;
-use real_files::RealFiles;
-use standard_output::StandardOutput;
 use std::process::ExitCode;
 use std::rt::{Env, Files};
 use std::{env, io};
