@@ -2,6 +2,7 @@
 
 ghost use Rattle.std.specs.Prelude.{◌≡◌, IfOk};
 ghost use Rattle.rb_session.specs.Dials.{broken_after};
+ghost use Rattle.rb_devices.specs.DialCounts.{new_counts};
 
 use crate::connections::ends_of;
 use crate::counts::count_one;
@@ -10,6 +11,7 @@ use crate::real_source::RealSource;
 use rb_session::{AnyLink, Dial, DialStop, FrameLink, MemoryLink, Target};
 use rb_trees::Memory;
 use std::io::ErrorKind;
+use std::marker::Model;
 use std::net::{Net, TcpListener, TcpStream};
 use std::process::{Command, Processes, Stdio, SystemProcess};
 use std::{io, str};
@@ -19,7 +21,8 @@ pub type RealLink = AnyLink<FrameLink<RealSource, RealSink>>;
 
 /// A Dial of the system: an address is connected to over TCP, and for a child this program is started again.
 ///
-/// It tells nothing: what stands behind a link that was dialled is the system's.
+/// It tells nothing: what stands behind a link that was dialled is the system's. Contracts see it as its two counts,
+/// `DialCounts`.
 #[derive(Drop)]
 pub struct RealDial<'a, R> {
     runtime: &'a R,
@@ -29,11 +32,18 @@ pub struct RealDial<'a, R> {
     broken: u64,
 }
 
+impl<'a, R> Model for RealDial<'a, R> {
+    ghost use Rattle.rb_devices.specs.DialCounts.{DialCounts};
+
+    ghost Value = { DialCounts };
+
+    ghost view = { λ it. record { faults = it.faults; broken = it.broken } };
+}
+
 impl<'a, R> RealDial<'a, R> {
     /// A Dial of which no dial failed so far and no link came back. A child is started by this program's name.
     pub fn make(runtime: &'a R, program: &'a str) -> RealDial<'a, R>
-        ensures faults { result.faults ≡ 0 }
-        ensures broken { result.broken ≡ 0 }
+        ensures { result ≡ new_counts }
     {
         RealDial {
             runtime,

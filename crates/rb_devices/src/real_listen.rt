@@ -28,7 +28,7 @@ enum Started {
 ///
 /// It tells nothing: which sessions come is the system's. Contracts see it as its count of faults.
 #[derive(Drop)]
-pub struct RealListen<'a, R: Net<Listener = TcpListener, Stream = TcpStream>> {
+pub struct RealListen<'a, R> {
     net: &'a R,
     input: Stdin,
     output: Stdout,
@@ -36,7 +36,7 @@ pub struct RealListen<'a, R: Net<Listener = TcpListener, Stream = TcpStream>> {
     faults: u64,
 }
 
-impl<'a, R: Net<Listener = TcpListener, Stream = TcpStream>> Model for RealListen<'a, R> {
+impl<'a, R> Model for RealListen<'a, R> {
     ghost use Rattle.std.specs.Prelude.{ℕ};
 
     ghost Value = { ℕ };
@@ -44,7 +44,7 @@ impl<'a, R: Net<Listener = TcpListener, Stream = TcpStream>> Model for RealListe
     ghost view = { λ it. it.faults };
 }
 
-impl<'a, R: Net<Listener = TcpListener, Stream = TcpStream>> RealListen<'a, R> {
+impl<'a, R> RealListen<'a, R> {
     /// A listener with nothing started, of which no call failed so far.
     pub fn make(net: &'a R, input: Stdin, output: Stdout) -> RealListen<'a, R>
         ensures { result ≡ 0 }
