@@ -17,7 +17,8 @@ fn trouble_of(status: &Status) -> Option<(Trouble<'_>, usize)> {
         Status::SourceRefused(SourceError::Types(error)) => Some((Trouble::Untyped(error), 1)),
         Status::BatchRefused(refusal) => Some((Trouble::Refused(refusal), 1)),
         Status::ServiceRefused(error) => Some((Trouble::Unserved(error), 2)),
-        Status::LinkFault(_) | Status::BadReply { .. } | Status::DialFault | Status::ListenFault => None,
+        Status::LinkFault(_) | Status::BadReply { .. } | Status::DialFault | Status::ListenFault =>
+            None,
         Status::WriteFault => Some((Trouble::OutputFault, 0)),
         Status::Memory => Some((Trouble::Memory, 0)),
     }

@@ -1,17 +1,14 @@
-//! The program: the commands of the product over the system's files and standard output.
+//! The program: the commands of the product over the system's devices.
 #![tactic(auto)]
 
 mod help;
-mod real_files;
-mod standard_output;
 
+use rb_devices::{RealDial, RealFiles, RealListen, StandardOutput};
 use rb_top::{Status, top};
-use rb_base::SteadyListen;
-use rb_session::NullDial;
-use rb_trees::{Memory, Seq};
-use real_files::RealFiles;
-use standard_output::StandardOutput;
-use std::process::ExitCode;
+use rb_trees::Memory;
+use std::io::StdinLock;
+use std::net::{Net, TcpListener, TcpStream};
+use std::process::{ExitCode, Processes, SystemProcess};
 use std::rt::{Env, Files};
 use std::{env, io};
 
@@ -21,16 +18,25 @@ fn main(rt: HostRuntime) -> ExitCode {
 }
 
 /// Carries out what the words say, and tells what went wrong.
-fn run<R: Files + Env + Print + Eprint + AllocGlobal>(rt: &R) -> Status {
+fn run<
+    R: Files
+        + Env
+        + Net<Listener = TcpListener, Stream = TcpStream>
+        + Processes<Started = SystemProcess>
+        + Input<Reader = StdinLock<'static>>
+        + Print
+        + Eprint
+        + AllocGlobal,
+>(rt: &R) -> Status {
     match words(rt) {
-        Ok(words) => {
+        Ok(Words { program, words }) => {
             let status = top(
                 rt.alloc(),
                 words.as_slice(),
                 &mut RealFiles::make(rt),
                 &mut StandardOutput::make(rt),
-                &mut NullDial::make(rt.alloc()),
-                &mut SteadyListen::make(rt.alloc(), Seq::new(rt.alloc())),
+                &mut RealDial::make(rt, program.as_str()),
+                &mut RealListen::make(rt, io::stdin(rt), io::stdout(rt)),
             );
             help::tell(rt, words.as_slice(), &status);
             status
@@ -39,18 +45,28 @@ fn run<R: Files + Env + Print + Eprint + AllocGlobal>(rt: &R) -> Status {
     }
 }
 
-/// The words behind the program's own name. Where one isn't UTF-8 there are none, since no command
-/// has such a word.
-fn words<R: Env + AllocGlobal>(rt: &R) -> Result<Vec<String>, Memory> {
+/// The name that the program was started by, and the words behind it.
+#[derive(Drop)]
+struct Words {
+    program: String,
+    words: Vec<String>,
+}
+
+/// The words that the program was started with. Where one isn't UTF-8 there are none, since no command has such a word.
+fn words<R: Env + AllocGlobal>(rt: &R) -> Result<Words, Memory> {
     let mut words = Vec::new(rt.alloc());
+    let mut program = String::new(rt.alloc());
     match env::args(rt) {
-        Ok(all) => {
-            for word in all.skip(1) {
+        Ok(mut all) => {
+            if let Some(name) = all.next() {
+                program = name;
+            }
+            for word in all {
                 words.push(word)?;
             }
-            Ok(words)
+            Ok(Words { program, words })
         }
         Err(error) if error.kind() == io::ErrorKind::OutOfMemory => Err(Memory),
-        Err(_) => Ok(words),
+        Err(_) => Ok(Words { program, words }),
     }
 }

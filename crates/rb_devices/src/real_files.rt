@@ -3,24 +3,34 @@
 ghost use Rattle.std.specs.Prelude.{◌≡◌, ◌+◌, ◌≤◌, length, OnOk, IfOk, OnErr};
 ghost use Rattle.std.specs.Io.{StartsWith};
 
+use crate::counts::count_one;
 use bytes::BytesMut;
 use rb_base::{Files, FilesStop};
 use std::io::Read;
+use std::marker::Model;
 use std::{fs, rt};
 
 /// The files of the system, by their paths.
 ///
-/// They tell nothing: what a read finds is the system's.
+/// They tell nothing: what a read finds is the system's. Contracts see them as their count of faults.
 #[derive(Drop)]
-pub struct RealFiles<'a, R: rt::Files> {
+pub struct RealFiles<'a, R> {
     runtime: &'a R,
     faults: u64,
 }
 
-impl<'a, R: rt::Files> RealFiles<'a, R> {
+impl<'a, R> Model for RealFiles<'a, R> {
+    ghost use Rattle.std.specs.Prelude.{ℕ};
+
+    ghost Value = { ℕ };
+
+    ghost view = { λ it. it.faults };
+}
+
+impl<'a, R> RealFiles<'a, R> {
     /// The files of a runtime, of which no read failed so far.
     pub fn make(runtime: &'a R) -> RealFiles<'a, R>
-        ensures { result.faults ≡ 0 }
+        ensures { result ≡ 0 }
     {
         RealFiles { runtime, faults: 0 }
     }
@@ -31,7 +41,7 @@ impl<R: rt::Files> Files for RealFiles<'_, R> {
 
     ghost told = { λ it. None };
 
-    ghost faults = { λ it. it.faults };
+    ghost faults = { λ it. it };
 
     /// Fails where the file can't be opened, or where one of its reads fails.
     #[tactic(auto, using(crate::proofs::Fronts::reads_file))]
@@ -42,7 +52,7 @@ impl<R: rt::Files> Files for RealFiles<'_, R> {
             into.truncate(before);
         }
         if let Err(FilesStop::Failed) = &answer {
-            self.faults = self.faults.saturating_add(1);
+            count_one(&mut self.faults);
         }
         answer
     }

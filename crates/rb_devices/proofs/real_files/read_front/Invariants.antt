@@ -1,6 +1,6 @@
 use Rattle.std.proofs.Common.{◌+◌, ◌≤◌, length}
 use Rattle.std.specs.Io.{StartsWith}
-use Rattle.rbi.proofs.real_files.read_front.Given as goal
+use Rattle.rb_devices.proofs.real_files.read_front.Given as goal
 
 abbrev pub invariant-loop : goal.invariant-loop
 invariant-loop g l = record {

@@ -1,0 +1,170 @@
+// Links to servers that are dialled over the system.
+
+ghost use Rattle.std.specs.Prelude.{◌≡◌, IfOk};
+ghost use Rattle.rb_session.specs.Dials.{broken_after};
+ghost use Rattle.rb_devices.specs.DialCounts.{new_counts};
+
+use crate::connections::ends_of;
+use crate::counts::count_one;
+use crate::real_sink::RealSink;
+use crate::real_source::RealSource;
+use rb_session::{AnyLink, Dial, DialStop, FrameLink, MemoryLink, Target};
+use rb_trees::Memory;
+use std::io::ErrorKind;
+use std::marker::Model;
+use std::net::{Net, TcpListener, TcpStream};
+use std::process::{Command, Processes, Stdio, SystemProcess};
+use std::{io, str};
+
+/// A link of a real Dial.
+pub type RealLink = AnyLink<FrameLink<RealSource, RealSink>>;
+
+/// A Dial of the system: an address is connected to over TCP, and for a child this program is started again.
+///
+/// It tells nothing: what stands behind a link that was dialled is the system's. Contracts see it as its two counts,
+/// `DialCounts`.
+#[derive(Drop)]
+pub struct RealDial<'a, R> {
+    runtime: &'a R,
+    /// The name by which this program was started.
+    program: &'a str,
+    faults: u64,
+    broken: u64,
+}
+
+impl<'a, R> Model for RealDial<'a, R> {
+    ghost use Rattle.rb_devices.specs.DialCounts.{DialCounts};
+
+    ghost Value = { DialCounts };
+
+    ghost view = { λ it. record { faults = it.faults; broken = it.broken } };
+}
+
+impl<'a, R> RealDial<'a, R> {
+    /// A Dial of which no dial failed so far and no link came back. A child is started by this program's name.
+    pub fn make(runtime: &'a R, program: &'a str) -> RealDial<'a, R>
+        ensures { result ≡ new_counts }
+    {
+        RealDial {
+            runtime,
+            program,
+            faults: 0,
+            broken: 0,
+        }
+    }
+}
+
+impl<
+    R: Net<Listener = TcpListener, Stream = TcpStream>
+        + Processes<Started = SystemProcess>
+        + AllocGlobal,
+> Dial for RealDial<'_, R> {
+    type L = RealLink;
+
+    ghost use Rattle.std.specs.Prelude.{None};
+
+    ghost told = { λ it. None };
+
+    ghost faults = { λ it. it.faults };
+
+    ghost broken = { λ it. it.broken };
+
+    /// Fails where the address can't be connected to, or the child can't be started.
+    fn dial(&mut self, target: &Target) -> Result<RealLink, DialStop> {
+        match reach(self.runtime, self.program, target) {
+            Ok((source, sink)) => {
+                let link = FrameLink::make(self.runtime.alloc(), source, sink);
+                Ok(AnyLink::Dialled(link))
+            }
+            Err(DialStop::Failed) => {
+                count_one(&mut self.faults);
+                Err(DialStop::Failed)
+            }
+            Err(DialStop::Memory) => Err(DialStop::Memory),
+        }
+    }
+
+    fn around(&mut self, link: MemoryLink) -> Result<RealLink, Memory> {
+        Ok(AnyLink::Around(link))
+    }
+
+    fn back(&mut self, link: RealLink) {
+        if let AnyLink::Dialled(link) = link {
+            let (source, sink) = link.into_ends();
+            let faults = source.faults().saturating_add(sink.faults());
+            count_broken(faults, &mut self.broken);
+            // A child that still writes ends by this, so that it can be waited for.
+            drop(source);
+            sink.close();
+        }
+    }
+}
+
+/// Counts a link that came back, of which so many exchanges failed, where it is broken.
+fn count_broken(faults: u64, broken: &mut u64)
+    ensures { broken.new ≡ broken_after faults broken.old }
+{
+    if faults > 0 {
+        count_one(broken);
+    }
+}
+
+/// The two ends of a new way to a target.
+fn reach<
+    R: Net<Listener = TcpListener, Stream = TcpStream>
+        + Processes<Started = SystemProcess>
+        + AllocGlobal,
+>(runtime: &R, program: &str, target: &Target) -> Result<(RealSource, RealSink), DialStop>
+    ensures source { IfOk result (λ ends. ends.0 ≡ 0) }
+    ensures sink { IfOk result (λ ends. ends.1 ≡ 0) }
+{
+    let (Target::Address(word) | Target::Child(word)) = target;
+    let Ok(word) = str::from_utf8(word.as_slice()) else {
+        return Err(DialStop::Failed);
+    };
+    let reached = match target {
+        Target::Address(_) => connect(runtime, word),
+        Target::Child(_) => start(runtime, program, word),
+    };
+    match reached {
+        Ok(ends) => Ok(ends),
+        Err(error) if error.kind() == ErrorKind::OutOfMemory => Err(DialStop::Memory),
+        Err(_) => Err(DialStop::Failed),
+    }
+}
+
+/// The two ends of a new connection to an address.
+fn connect<R: Net<Listener = TcpListener, Stream = TcpStream>>(
+    net: &R,
+    address: &str,
+) -> io::Result<(RealSource, RealSink)>
+    ensures source { IfOk result (λ ends. ends.0 ≡ 0) }
+    ensures sink { IfOk result (λ ends. ends.1 ≡ 0) }
+{
+    ends_of(TcpStream::connect(net, address)?)
+}
+
+/// The two ends of a new child: this program, which serves a file.
+fn start<R: Processes<Started = SystemProcess> + AllocGlobal>(
+    runtime: &R,
+    program: &str,
+    file: &str,
+) -> io::Result<(RealSource, RealSink)>
+    ensures source { IfOk result (λ ends. ends.0 ≡ 0) }
+    ensures sink { IfOk result (λ ends. ends.1 ≡ 0) }
+{
+    let mut command = Command::new(runtime.alloc(), program)?;
+    command.arg("child")?.arg(file)?;
+    command.stdin(Stdio::piped()).stdout(Stdio::piped());
+    let mut child = command.spawn(runtime)?;
+    match (child.stdin.take(), child.stdout.take()) {
+        (Some(input), Some(output)) => {
+            let source = RealSource::of_child(output);
+            Ok((source, RealSink::to_child(child, input)))
+        }
+        _ => {
+            let _ = child.wait();
+            Err(io::Error::from(ErrorKind::BrokenPipe))
+        }
+    }
+}
