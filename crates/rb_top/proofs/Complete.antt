@@ -1,23 +1,21 @@
 -- What is answered where the outside tells all that a command needs.
-use Rattle.std.proofs.Common.{◌≡◌, ◌⊎◌, ℕ, true, false, List, [], ◌++◌, Option, None, Some, Result, Ok, Err, codes, ap, sym, ◌∙◌, refl, subst, inl, inr}
-use Rattle.rb_trees.specs.declared.outcomes.Run.{Run}
+use Rattle.std.proofs.Common.{◌≡◌, ◌⊎◌, ℕ, false, List, [], ◌++◌, Option, None, Some, Result, Ok, Err, codes, ap, sym, ◌∙◌, refl, subst, inl, inr}
+use Rattle.rb_trees.specs.declared.outcomes.Run as outcome
 use Rattle.rb_trees.specs.mirror.Declarations.{Program}
 use Rattle.rb_meaning.specs.Links.{Behind, server_told}
-use Rattle.rb_meaning.specs.Meaning.{Meaning}
 use Rattle.rb_meaning.specs.Shown.{exchanges, line, shown_events}
 use Rattle.rb_meaning_split.specs.Division.{Division, divisions}
 use Rattle.rb_shown.specs.Views.{shown_divisions}
 use Rattle.rb_base.specs.Devices.{Device, failed}
-use Rattle.rb_base.specs.Directories.{Directory, read_once, told_after}
-use Rattle.rb_base.specs.Sinks.{with_bytes, WrotePrefix}
+use Rattle.rb_base.specs.Directories.{Directory}
+use Rattle.rb_base.specs.Sinks.{WrotePrefix}
 use Rattle.rb_base.specs.declared.links.Link as links
 use Rattle.rb_client.specs.Runs.{FailsAsListed}
 use Rattle.rb_client.specs.Servers.{FailsAfter, fails_after}
 use Rattle.rb_client.specs.declared.stops.RunStop.{RunStop}
 use Rattle.rb_client.specs.declared.stops.RunStop.TheVariants as stops
-use Rattle.rb_client.specs.Headline.{MeansWhereHonest, EndsAsMeant, meant_on}
-use Rattle.rb_session.specs.Dials.{DialSeen, Dialling, TakesNext, next_link}
-use Rattle.rb_session.specs.declared.dials.DialStop.{DialStop}
+use Rattle.rb_client.specs.Headline.{EndsAsMeant, meant_on}
+use Rattle.rb_session.specs.Dials.{DialSeen, TakesNext, next_link}
 use Rattle.rb_session.specs.declared.dials.DialStop.TheVariants as dials
 use Rattle.rb_session.specs.declared.targets.Target.{Target}
 use Rattle.rb_session.specs.declared.targets.Target.TheVariants as targets
@@ -30,12 +28,12 @@ use Rattle.rb_top.specs.Ends.{Ends, Tells, read_times}
 use Rattle.rb_top.specs.LinkRuns as runs
 use Rattle.rb_top.specs.LinkRuns.{EndsOver, RunsOverLink, SaysRun, over, served_by}
 use Rattle.rb_top.specs.Printing.{run_end_text}
-use Rattle.rb_top.specs.Runs.{Served, ended_status, far_text, run_status, run_text}
+use Rattle.rb_top.specs.Runs.{Served, ended_status}
 use Rattle.rb_top.specs.Scene.{Scene, Outside}
-use Rattle.rb_top.specs.Unusable.{NoProgram, NoService, TellsNoProgram, TellsNoService}
-use Rattle.rb_top.specs.Words.{Asked, Check, Split, Run, Call, Wanted, OfProgram, Serve, Child, Serving, program_name}
+use Rattle.rb_top.specs.Unusable.{NoProgram, NoService}
+use Rattle.rb_top.specs.Words.{Asked, Check, Split, Run, Call, Wanted, OfProgram, program_name}
 use Rattle.rb_top.specs.declared.status.Status.{Status}
-use Rattle.rb_top.specs.declared.status.Status.TheVariants.{Done, Memory}
+use Rattle.rb_top.specs.declared.status.Status.TheVariants.{Done, Memory, Words}
 use Rattle.rb_top.specs.declared.words.Way.{Way}
 use Rattle.rb_top.specs.declared.words.Way.TheVariants.{Both, Unsplit, Pair}
 use Rattle.rb_top.proofs.Ended.{starved_at_once}
@@ -44,13 +42,19 @@ use Rattle.rb_top.proofs.Serving.{ends_behind}
 use Rattle.rb_top.proofs.Usable.{OneService, OneSource, accepted_is_usable, found_is_told, held_is_told, service_is_usable}
 
 -- what can't be told wasn't: memory was wanting, and nothing was said
-only_starved : (Is : ends.Said) (result : Status) (before after : Scene) → ((status : Status) (text : List ℕ) (left : Device Directory) → Is status text left → ⊥) → Tells Is result before after → (result ≡ Memory) × (after.out ≡ before.out)
+pub only_starved : (Is : ends.Said) (result : Status) (before after : Scene) → ((status : Status) (text : List ℕ) (left : Device Directory) → Is status text left → ⊥) → Tells Is result before after → (result ≡ Memory) × (after.out ≡ before.out)
 only_starved Is result before after none (ends.said status text is e) = absurd (none status text after.files is)
 only_starved Is result before after none (ends.starved_first count r f) = (r, ap (λ s. s.out) f)
 
 ends_starved : (status : Status) (text : List ℕ) (result : Status) (before after : Device (List ℕ)) → (result ≡ Memory) × (after ≡ before) → Ends status text result before after
 ends_starved status text result before after s =
     subst (λ r. Ends status text r before after) (sym s.0) (subst (Ends status text Memory before) (sym s.1) (starved_at_once status text before))
+
+-- a program is divided in one way
+one_division : (p : Program) (es ds : List Division) → divisions p ≡ Ok es → divisions p ≡ Ok ds → es ≡ ds
+one_division p es ds d v =
+    let both : Ok es ≡ Ok ds = sym d ∙ v in
+    cc both
 
 -- the name of the service's file, where one is asked for
 abbrev service_of : Asked → List ℕ
@@ -71,6 +75,15 @@ module _ {L : Type 0} (g : links.Ghosts L) where
   of_told one a text program result dial dial' before after t (answers.goes found other holds on) =
       let is = held_is_told one before.files.told (program_name a) text found program other t holds in
       inr (subst (λ x. Goes g x program result dial dial' (once_read before) after a) is.0 (subst (λ q. Goes g found q result dial dial' (once_read before) after a) is.1 on))
+
+  -- what is said of what was understood is said of the words
+  pub said_as : (understood wanted : Option Wanted) (result : Status) (before after : Outside L) → understood ≡ wanted → Says g understood result before after → Says g wanted result before after
+  said_as understood wanted result before after e h = subst (λ w. Says g w result before after) e h
+
+  -- the words weren't understood
+  pub said_nothing : (wanted : Option Wanted) (result : Status) (before : Outside L) (out : Device (List ℕ)) → None ≡ wanted → Ends Words (line (codes "words not understood")) result before.scene.out out
+      → Says g wanted result before (record before { scene = record before.scene { out = out } })
+  said_nothing wanted result before out n e = answers.not_understood (sym n) e refl
 
   -- what is said of a program where it is wanted
   of_wanted : (a : Asked) (wanted : Option Wanted) (result : Status) (before after : Outside L) → wanted ≡ Some (OfProgram a) → Says g wanted result before after → SaysOfProgram g a result before.dial after.dial before.scene after.scene
@@ -101,10 +114,7 @@ module _ {L : Type 0} (g : links.Ghosts L) where
   went_viewed : (text : List ℕ) (program : Program) (ds : List Division) (p : List ℕ) (a : Asked) (result : Status) (dial dial' : DialSeen L) (before after : Scene) → divisions program ≡ Ok ds → a ≡ Split p → Goes g text program result dial dial' before after a → Ends Done (shown_divisions text ds) result before.out after.out
   went_viewed text program ds p a result dial dial' before after v w (answers.checked name e same f) = absurd (cc w)
   went_viewed text program ds p a result dial dial' before after v w (answers.viewed name es d e same f) =
-      subst (λ xs. Ends Done (shown_divisions text xs) result before.out after.out) (one_division es (sym d ∙ v)) e
-    where
-      one_division : (es : List Division) → Ok es ≡ Ok ds → es ≡ ds
-      one_division es q = cc q
+      subst (λ xs. Ends Done (shown_divisions text xs) result before.out after.out) (one_division program es ds d v) e
   went_viewed text program ds p a result dial dial' before after v w (answers.called address name fuel d f) = absurd (cc w)
   went_viewed text program ds p a result dial dial' before after v w (answers.no_service way name s fuel t same) = absurd (cc w)
   went_viewed text program ds p a result dial dial' before after v w (answers.ran way name s other fuel served f i r e) = absurd (cc w)
@@ -182,7 +192,7 @@ module _ {L : Type 0} (g : links.Ghosts L) where
       by_case way s text fuel program served near (inr r) = run_near way s text program fuel served result before.dial after.dial before.scene.out after.scene.out near r
 
   -- a run over an honest link, of which no exchange fails
-  far_by : (text : List ℕ) (p : Program) (fuel : ℕ) (b : Behind) (link left : L) (result : Status) (before lines after : Device (List ℕ)) (answer : Result Run RunStop) → ((k : ℕ) → ComesToBatch p fuel (served_by b) k → fails_after k b ≡ false) → server_told (g.told link) ≡ Some b
+  far_by : (text : List ℕ) (p : Program) (fuel : ℕ) (b : Behind) (link left : L) (result : Status) (before lines after : Device (List ℕ)) (answer : Result outcome.Run RunStop) → ((k : ℕ) → ComesToBatch p fuel (served_by b) k → fails_after k b ≡ false) → server_told (g.told link) ≡ Some b
       → EndsAsMeant p fuel b answer (over g link before) (over g left lines) → FailsAsListed answer (over g link before) (over g left lines) → SaysRun text answer result lines after → EndsFar text p fuel b result before after
   far_by text p fuel b link left result before lines after (Ok run) none e means lists says =
       let m = meant_on p fuel b in

@@ -11,8 +11,9 @@ use Rattle.rb_top.specs.declared.status.Status.{Status}
 use Rattle.rb_top.specs.declared.status.Status.TheVariants.{Memory}
 use Rattle.rb_top.specs.Printing.{Prints}
 use Rattle.rb_top.specs.Runs.{Served, PrintsRun}
-use Rattle.rb_top.specs.Answers.{Ends, whole, cut, starved, fault_line, too_long_line}
-use Rattle.rb_top.specs.Commands.{run_answer, status_after, EndsUnread, EndsWith, EndsRun}
+use Rattle.rb_top.specs.Answers.{EndsRun}
+use Rattle.rb_top.specs.Ends.{Ends, whole, cut, starved, fault_line, too_long_line}
+use Rattle.rb_top.specs.Commands.{run_answer, status_after, EndsUnread, EndsWith}
 use Rattle.rb_top.proofs.Printed.{wrote_none}
 
 pub ends_by : {A : Type 0} (status : Status) (text : List ℕ) (before after : Device (List ℕ)) (r : Result A PrintStop) (result : Status) → result ≡ status_after status r → Prints text r before after → Ends status text result before after

@@ -1,5 +1,5 @@
 -- How what is asked of a program goes on, once it was read.
-use Rattle.std.proofs.Common.{◌≡◌, ℕ, List, Option, None, Some, Ok, Err, codes, ap, sym, ◌∙◌, refl, subst}
+use Rattle.std.proofs.Common.{◌≡◌, ℕ, List, Ok, Err, ap, ◌∙◌, refl, subst}
 use Rattle.rb_trees.specs.declared.refusals.Refusal.{Refusal}
 use Rattle.rb_trees.specs.mirror.Declarations.{Program}
 use Rattle.rb_meaning.specs.Shown.{line}
@@ -10,18 +10,20 @@ use Rattle.rb_base.specs.Directories.{Directory, read_once}
 use Rattle.rb_base.specs.declared.links.Link as links
 use Rattle.rb_flow.specs.Program.{HasNoRefusal}
 use Rattle.rb_session.specs.Dials.{DialSeen}
-use Rattle.rb_top.specs.Answers.{Goes, SaysOfProgram, no_program, goes, once_read}
+use Rattle.rb_top.specs.Answers.{Goes, RunsBy, SaysOfProgram, no_program, goes, once_read, ran}
 use Rattle.rb_top.specs.BatchRefusals.{shown_batch_refusal}
 use Rattle.rb_top.specs.Commands.{EndsBatchRefused, GoesOnAdmitted, GoesOnTyped}
-use Rattle.rb_top.specs.Ends.{Tells}
-use Rattle.rb_top.specs.Loads.{HoldsTyped, HoldsProgram}
+use Rattle.rb_top.specs.Loads.{HoldsText}
+use Rattle.rb_top.specs.Runs.{Served}
 use Rattle.rb_top.specs.Scene.{Scene}
 use Rattle.rb_top.specs.Sources.{text_of, program_of}
-use Rattle.rb_top.specs.Unusable.{NoProgram, not_admitted, not_divided}
-use Rattle.rb_top.specs.Words.{Asked, program_name}
+use Rattle.rb_top.specs.Texts.{IsService}
+use Rattle.rb_top.specs.Unusable.{NoProgram, TellsNoProgram, not_admitted, not_divided}
+use Rattle.rb_top.specs.Words.{Asked, Run, program_name}
 use Rattle.rb_top.specs.declared.source.Source.{Source}
 use Rattle.rb_top.specs.declared.status.Status.{Status}
 use Rattle.rb_top.specs.declared.status.Status.TheVariants.{BatchRefused, Memory}
+use Rattle.rb_top.specs.declared.words.Way.{Way}
 use Rattle.rb_top.proofs.Telling.{tells, starves}
 
 -- the scene before, with the files before the program was read
@@ -33,9 +35,21 @@ read_then : (before : Scene) (first : Device Directory) → before.files ≡ rea
 read_then before first b = ap (λ d. record { files = d; out = before.out }) b
 
 module _ {L : Type 0} (g : links.Ghosts L) where
+  -- where there is no accepted program, of which the name is told
+  pub tells_of : (a : Asked) (name : List ℕ) (result : Status) (dial : DialSeen L) (before after : Scene) → name ≡ program_name a → TellsNoProgram name result before after → SaysOfProgram g a result dial dial before after
+  tells_of a name result dial before after e t = no_program (subst (λ n. TellsNoProgram n result before after) e t) refl
+
+  -- a run on a service that was loaded
+  pub ran_loaded : (text : List ℕ) (program : Program) (way : Way) (name s other : List ℕ) (fuel : ℕ) (served : Served) (result : Status) (dial dial' : DialSeen L) (before mid : Scene) (out : Device (List ℕ)) → HoldsText before.files.told s other → IsService other served
+      → mid ≡ record before { files = read_once before.files } → RunsBy g way s text program fuel served result dial dial' mid.out out → Goes g text program result dial dial' before (record { files = mid.files; out = out }) (Run way name s fuel)
+  ran_loaded text program way name s other fuel served result dial dial' before mid out h i e r =
+      ran way name s other fuel served h.0 i (subst (λ o. RunsBy g way s text program fuel served result dial dial' o out) (ap (λ x. x.out) e) r) (ap (λ x. x.files) e)
+
   -- the rest, where the program is admitted
-  pub goes_admitted : (source : Source) (a : Asked) (result : Status) (dial dial' : DialSeen L) (before after : Scene) → HasNoRefusal (program_of source) → GoesOnAdmitted g (text_of source) (program_of source) a result dial dial' before after → GoesOnTyped g source a result dial dial' before after
-  goes_admitted source a result dial dial' before after none on = λ first b h. on first b h none
+  pub goes_admitted : (source : Source) (a : Asked) (result : Status) (dial dial' : DialSeen L) (before after : Scene) (text : List ℕ) (program : Program) → text ≡ text_of source → program ≡ program_of source → HasNoRefusal (program_of source)
+      → GoesOnAdmitted g text program a result dial dial' before after → GoesOnTyped g source a result dial dial' before after
+  goes_admitted source a result dial dial' before after text program t p none on = λ first b h.
+      subst (λ x. GoesOnAdmitted g x (program_of source) a result dial dial' before after) t (subst (λ q. GoesOnAdmitted g text q a result dial dial' before after) p on) first b h none
 
   -- where its batches are divided
   pub goes_divided : (text : List ℕ) (program : Program) (ds : List Division) (a : Asked) (result : Status) (dial dial' : DialSeen L) (before after : Scene) → divisions program ≡ Ok ds → Goes g text program result dial dial' before after a → GoesOnAdmitted g text program a result dial dial' before after

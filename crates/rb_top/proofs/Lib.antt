@@ -4,7 +4,6 @@ pub mod Ended
 pub mod Going
 pub mod LinkRuns
 pub mod Lines
-pub mod Loaded
 pub mod Names
 pub mod Printed
 pub mod RunEnds
@@ -13,3 +12,4 @@ pub mod ServedTold
 pub mod Telling
 pub mod UnsplitRuns
 pub mod Usable
+pub mod WholeTexts

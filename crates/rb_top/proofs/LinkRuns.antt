@@ -1,18 +1,18 @@
 -- Runs over a link that is new and honest.
-use Rattle.std.proofs.Common.{◌≡◌, ℕ, zero, suc, List, [], ◌∷◌, ◌++◌, length, Bool, true, false, Option, None, Some, option_map, Result, Ok, Err, ap, sym, ◌∙◌, refl, subst, arith}
+use Rattle.std.proofs.Common.{◌≡◌, ℕ, zero, suc, List, [], ◌∷◌, length, Bool, true, false, Option, None, Some, option_map, Result, Ok, Err, ap, sym, ◌∙◌, refl, subst, arith}
+use Rattle.std.specs.Prelude.{◌==◌}
+use Rattle.std.specs.List.{list_any}
 use Rattle.rb_trees.specs.declared.outcomes.Run.{Run}
 use Rattle.rb_trees.specs.declared.services.Object.{Object}
-use Rattle.rb_trees.specs.declared.services.Service as service
 use Rattle.rb_trees.specs.mirror.Declarations.{Program}
 use Rattle.rb_trees.specs.mirror.Forests.{Node}
-use Rattle.rb_trees.specs.mirror.Services.{Service, mirror_service}
-use Rattle.rb_meaning.specs.Links.{Pair, Behind, Told, pairs_told, server_told}
-use Rattle.rb_meaning.specs.Shown.{exchanges, shown_events}
+use Rattle.rb_trees.specs.mirror.Services.{Service}
+use Rattle.rb_meaning.specs.Links.{Pair, Behind, pairs_told, server_told}
 use Rattle.rb_meaning_split.specs.Client.{Sent, client}
 use Rattle.rb_headline_laws.specs.Clients.{ScriptsGive}
-use Rattle.rb_base.specs.Devices.{Device, failed}
+use Rattle.rb_base.specs.Counts.{risen}
+use Rattle.rb_base.specs.Devices.{Device}
 use Rattle.rb_base.specs.Links.{Lends}
-use Rattle.rb_base.specs.Sinks.{with_bytes, WrotePrefix}
 use Rattle.rb_base.specs.declared.links.Link as links
 use Rattle.rb_client.specs.Exchanges.{Exchanges}
 use Rattle.rb_client.specs.Headline.{MeansProgram}
@@ -20,13 +20,12 @@ use Rattle.rb_client.specs.Replies.{more_pairs}
 use Rattle.rb_client.specs.Runs.{Ran}
 use Rattle.rb_client.specs.Servers.{FailsAfter, IsServer, PerformedAll, fails_after, later}
 use Rattle.rb_exec.specs.Hosted.{Hosted}
-use Rattle.rb_plain.specs.Unsplit.{Leaves}
 use Rattle.rb_session.specs.Answering.{IsTypedHost}
 use Rattle.rb_session.specs.Dials.{Dialling, GoesOn, HasOneOut, one_more_out, told_after_dial}
 use Rattle.rb_session.specs.declared.targets.Target.{Target}
 use Rattle.rb_session.specs.MemoryLinks.{IsHonest, LinkInMemory, behind, new_link, told_of}
 use Rattle.rb_top.specs.Commands.{run_answer, stopped_status}
-use Rattle.rb_top.specs.LinkRuns.{Carries, EndsOver, IsNew, PrintsAsMeant, RunsAsMeant, behind_of, cut, meant_over, over, served_by, starved, whole}
+use Rattle.rb_top.specs.LinkRuns.{Carries, EndsOver, IsNew, PrintsAsMeant, behind_of, cut, meant_over, over, served_by, starved, whole}
 use Rattle.rb_top.specs.Printing.{PrintsAnswering, end_text}
 use Rattle.rb_top.specs.Runs.{PrintsRun, Served, ended_status}
 use Rattle.rb_top.specs.declared.printing.PrintStop.{PrintStop}
@@ -67,10 +66,14 @@ later_failing : (k : ℕ) (b : Behind) → (later k b).failing ≡ b.failing
 later_failing zero b = refl
 later_failing (suc k) b = later_failing k b
 
+listed_nowhere : (n : ℕ) (ns : List ℕ) → ns ≡ [] → list_any (λ m. m == n) ns ≡ true → ⊥
+listed_nowhere n [] e h = absurd (cc h)
+listed_nowhere n (m ∷ ms) e h = absurd (cc e)
+
 never_fails : (k : ℕ) (b : Behind) → b.failing ≡ [] → fails_after k b ≡ true → ⊥
 never_fails k b none h =
     let e = later_failing k b ∙ none in
-    absurd (cc (sym h ∙ rw e in refl))
+    absurd (listed_nowhere (risen (later k b).made) (later k b).failing e h)
 
 module _ {L : Type 0} (g : links.Ghosts L) where
   pub never_lost : (b : Behind) (link : L) (k : ℕ) → IsNew g b link → FailsAfter k (server_told (g.told link)) → ⊥
@@ -143,6 +146,11 @@ module _ {L : Type 0} (g : links.Ghosts L) where
   -- the server that it tells is the one that it was made for
   pub its_behind : (host : Hosted) (inner : LinkInMemory) (link : L) → inner ≡ new_link host → GoesOn g inner link → behind_of (g.told link) ≡ behind (new_link host)
   its_behind host inner link e on = ap behind_of (on.told ∙ ap (λ l. Some (told_of l)) e)
+
+  -- a run over it is one over the link that it was made of
+  pub ends_behind : (host : Hosted) (inner : LinkInMemory) (link left : L) (text : List ℕ) (p : Program) (fuel : ℕ) (result : Status) (before after : Device (List ℕ)) → inner ≡ new_link host → GoesOn g inner link
+      → EndsOver g text p fuel (served_by (behind_of (g.told link))) left result before after → EndsOver g text p fuel (served_by (behind (new_link host))) left result before after
+  ends_behind host inner link left text p fuel result before after e on h = subst (λ b. EndsOver g text p fuel (served_by b) left result before after) (its_behind host inner link e on) h
 
 -- a link is out, once one more is
 pub one_is_out : {L : Type 0} (told : Option (Dialling L)) → HasOneOut (option_map one_more_out told)

@@ -1,10 +1,10 @@
 -- What a server answers where its service and its address are told, and no call of the listener fails.
-use Rattle.std.proofs.Common.{◌≡◌, ◌⊎◌, ℕ, true, false, List, [], Bool, Option, None, Some, Result, Ok, Err, ap, sym, ◌∙◌, refl, subst, inl, inr}
-use Rattle.std.specs.Prelude.{IfSome, is_some, option_map}
-use Rattle.rb_trees.specs.mirror.Services.{mirror_service}
+use Rattle.std.proofs.Common.{◌≡◌, ◌⊎◌, ℕ, true, false, List, [], Option, None, Some, Result, Ok, Err, ap, sym, ◌∙◌, refl, subst, inl, inr}
+use Rattle.std.specs.Prelude.{IfSome, cond, is_some, option_map, ◌==◌}
+use Rattle.std.specs.List.{list_any}
+use Rattle.rb_base.specs.Counts.{risen}
 use Rattle.rb_base.specs.Devices.{Device}
-use Rattle.rb_base.specs.Directories.{Directory}
-use Rattle.rb_base.specs.Listening.{Back, Gives, GivesWhereTold, Listening, after_start, call_fails, started, with_back}
+use Rattle.rb_base.specs.Listening.{Back, GivesWhereTold, Listening, after_start, call_fails, started, with_back}
 use Rattle.rb_base.specs.declared.listens.Coming.{Coming}
 use Rattle.rb_base.specs.declared.links.Link as links
 use Rattle.rb_base.specs.declared.listens.ListenStop.TheVariants as stops
@@ -29,10 +29,10 @@ use Rattle.rb_top.specs.declared.status.Status.TheVariants.{Done}
 use Rattle.rb_top.proofs.Complete.{only_starved}
 use Rattle.rb_top.proofs.Usable.{OneService, service_is_usable}
 
--- The listener tells what it holds, and no call of it is one that fails.
-record NeverFails (l : Listener) : Type 0 where
+-- It is told what the listener holds, and no call of it is one that fails.
+record NeverFails (told : Option Listening) : Type 0 where
   it : Listening
-  tells : l.told ≡ Some it
+  tells : told ≡ Some it
   none : it.failing ≡ []
 
 ends_done : (text : List ℕ) (result : Status) (before after : Device (List ℕ)) → Ends Done text result before after → IsDone result
@@ -42,43 +42,43 @@ ends_done text result before after (ends.starved r w) = inr (inr r)
 
 -- a call doesn't fail
 no_call_fails : (l : Listening) → l.failing ≡ [] → call_fails l ≡ false
-no_call_fails l e = rw e in refl
+no_call_fails l e = ap (list_any (λ n. n == risen l.calls)) e
 
 -- a session was given
-still_after_giving : (first : Back) (before : Listening) (told : Option Listening) → before.failing ≡ [] → GivesWhereTold (Ok (Some first)) (Some before) told → (l : Listening) × (told ≡ Some l) × (l.failing ≡ [])
+still_after_giving : (first : Back) (before : Listening) (told : Option Listening) → before.failing ≡ [] → GivesWhereTold (Ok (Some first)) (Some before) told → NeverFails told
 still_after_giving first before None e g = absurd g
-still_after_giving first before (Some l) e g = (l, refl, ap (λ x. x.failing) g.1.is ∙ e)
+still_after_giving first before (Some l) e g = record { it = l; tells = refl; none = ap (λ x. x.failing) g.1.is ∙ e }
 
-still_one : (answer : Result session.Served ServeStop) (host left : Hosted) (before after : Listener) → NeverFails before → sessions.ServesSession answer host left before after → NeverFails after
+still_one : (answer : Result session.Served ServeStop) (host left : Hosted) (before after : Listener) → NeverFails before.told → sessions.ServesSession answer host left before after → NeverFails after.told
 still_one answer host left before after n s =
     let given = still_after_giving s.first n.it s.given.told n.none (subst (λ t. GivesWhereTold (Ok (Some s.first)) t s.given.told) n.tells s.gives.gives) in
     record {
-      it = with_back s.served.last given.0;
-      tells = ap (λ l. l.told) s.served.back ∙ ap (option_map (with_back s.served.last)) given.1.0;
-      none = given.1.1;
+      it = with_back s.served.last given.it;
+      tells = ap (λ l. l.told) s.served.back ∙ ap (option_map (with_back s.served.last)) given.tells;
+      none = given.none;
     }
 
 -- however many were served
-still : (host left : Hosted) (listen last : Listener) (n : ℕ) (lines : List ℕ) → NeverFails listen → ServedSome host listen n lines left last → NeverFails last
-still host left listen last n lines w sessions.none = w
-still host left listen last n lines w (sessions.one_more k more mid after before it answer s session fresh) = still_one answer mid after before it (still host mid listen before k more w s) session
+still : (host : Hosted) (listen : Listener) (left : Hosted) (last : Listener) (n : ℕ) (lines : List ℕ) → NeverFails listen.told → ServedSome host listen n lines left last → NeverFails last.told
+still host listen left last n lines w sessions.none = w
+still host listen left last n lines w (sessions.one_more k more mid after before it answer s session fresh) = still_one answer mid after before it (still host listen mid before k more w s) session
 
-never_none : (l : Listener) (after : Listener) → NeverFails l → FailsToGive l after → ⊥
+never_none : (l : Listener) (after : Listener) → NeverFails l.told → FailsToGive l after → ⊥
 never_none l after n f = by_told after.told (subst (λ t. GivesWhereTold (Err stops.Failed) t after.told) n.tells f.gives)
   where
     by_told : (told : Option Listening) → GivesWhereTold (Err stops.Failed) (Some n.it) told → ⊥
     by_told None g = g
     by_told (Some x) g = absurd (cc (sym g.0 ∙ no_call_fails n.it n.none))
 
-sessions_done : (host : Hosted) (count : ℕ) (result : Status) (listen last : Listener) (before after : Device (List ℕ)) → NeverFails listen → ServesSessions host count result listen last before after → IsDone result
+sessions_done : (host : Hosted) (count : ℕ) (result : Status) (listen last : Listener) (before after : Device (List ℕ)) → NeverFails listen.told → ServesSessions host count result listen last before after → IsDone result
 sessions_done host count result listen last before after n (sessions.all lines left some e) = ends_done _ result before after e
 sessions_done host count result listen last before after n (sessions.fewer k lines left mid few some gives e) = ends_done _ result before after e
-sessions_done host count result listen last before after n (sessions.fault k lines left mid few some fails e) = absurd (never_none mid last (still host left listen mid k lines n some) fails)
+sessions_done host count result listen last before after n (sessions.fault k lines left mid few some fails e) = absurd (never_none mid last (still host listen left mid k lines n some) fails)
 sessions_done host count result listen last before after n (sessions.cut k lines left some r w) = inr (inl r)
 sessions_done host count result listen last before after n (sessions.starved r) = inr (inr r)
 
 -- the address is started
-started_whole : (address : List ℕ) (listen begun : Listener) → ListensWhole address listen.told → Starts address true listen begun → NeverFails begun
+started_whole : (address : List ℕ) (listen begun : Listener) → ListensWhole address listen.told → Starts address true listen begun → NeverFails begun.told
 started_whole address listen begun w s = record {
   it = after_start address w.listening;
   tells = ap (λ l. l.told) s.after_is ∙ ap (option_map (after_start address)) w.tells;
@@ -94,7 +94,7 @@ never_unstarted address listen after w s =
     let told = subst (λ t. IfSome t (λ l. false ≡ is_some (started l address))) w.tells s.as_told in
     let fine = no_call_fails w.listening w.none_fails in
     let there = some_address (w.listening.addresses address) w.is_there in
-    absurd (cc (told ∙ (rw fine in there)))
+    absurd (cc (told ∙ subst (λ b. is_some (cond b None (w.listening.addresses address)) ≡ true) (sym fine) there))
 
 listens_done : (host : Hosted) (address : List ℕ) (count : ℕ) (result : Status) (listen last : Listener) (before after : Device (List ℕ)) → ListensWhole address listen.told → Listens host address count result listen last before after → IsDone result
 listens_done host address count result listen last before after w (servers.begins begun starts serves) = sessions_done host count result begun last before after (started_whole address listen begun w starts) serves

@@ -12,7 +12,7 @@ use Rattle.rb_meaning.specs.Shown.{line}
 use Rattle.rb_meaning.specs.ServiceSources.{ReadsAsService}
 use Rattle.rb_meaning_bytes.specs.grammar.Sources.{ReadSource}
 use Rattle.rb_meaning_types.specs.Programs.{check_program, is_typed}
-use Rattle.rb_meaning_types.specs.Stores.{StoreRefusal, store_refusal}
+use Rattle.rb_meaning_types.specs.Stores.{store_refusal}
 use Rattle.rb_meaning_types.specs.Violations.{violation_of}
 use Rattle.rb_base.specs.Devices.{Device, failed}
 use Rattle.rb_base.specs.Directories.{Directory, read_once, Finds}

@@ -1,15 +1,14 @@
 -- Where the files tell an accepted program, or a service, it is the one that is found.
-use Rattle.std.proofs.Common.{◌≡◌, ◌⊎◌, ℕ, true, List, [], Option, None, Some, Ok, Err, ap, sym, ◌∙◌, refl, subst, arith}
-use Rattle.std.specs.Prelude.{IsTrue}
+use Rattle.std.proofs.Common.{◌≡◌, ℕ, true, List, [], Option, None, Some, Ok, Err, ap, sym, ◌∙◌, refl, subst, arith}
 use Rattle.std.specs.Result.{is_ok}
 use Rattle.rb_trees.specs.declared.services.Object.{Object}
 use Rattle.rb_trees.specs.mirror.Declarations.{Program}
 use Rattle.rb_trees.specs.mirror.Services.{Service}
 use Rattle.rb_meaning.specs.ServiceSources.{ReadsAsService, unread, of_text}
 use Rattle.rb_meaning_bytes.specs.grammar.Sources.{ReadSource}
-use Rattle.rb_meaning_split.specs.Division.{Division, divisions}
-use Rattle.rb_meaning_types.specs.Programs.{check_program, is_typed}
-use Rattle.rb_meaning_types.specs.Stores.{StoreRefusal, Stored}
+use Rattle.rb_meaning_split.specs.Division.{divisions}
+use Rattle.rb_meaning_types.specs.Programs.{check_program}
+use Rattle.rb_meaning_types.specs.Stores.{Stored}
 use Rattle.rb_meaning_types.specs.Violations.{Checked, Violation}
 use Rattle.rb_base.specs.Devices.{Device}
 use Rattle.rb_base.specs.Directories.{Directory, Finds, FailsNext}
@@ -18,7 +17,7 @@ use Rattle.rb_parse.specs.Outcomes.{AtMostOne}
 use Rattle.rb_top.specs.Completeness.{IsTold, ToldAccepted, ToldService}
 use Rattle.rb_top.specs.Loads.{FindsTooLong, HoldsProgram}
 use Rattle.rb_top.specs.Runs.{Served}
-use Rattle.rb_top.specs.Texts.{WithinLength, TooLong, IsProgram, IsService}
+use Rattle.rb_top.specs.Texts.{WithinLength, TooLong, IsService}
 use Rattle.rb_top.specs.Unusable.{NoProgram, NoService, program_fault, program_too_long, not_read, untyped, not_admitted, not_divided, service_fault, service_too_long, service_refused}
 use Rattle.rb_top.specs.declared.status.Status.{Status}
 

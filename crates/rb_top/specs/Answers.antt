@@ -1,5 +1,5 @@
 -- What the commands answer: the status, the text on the output, and what is left of the outside.
-use Rattle.std.specs.Prelude.{◌≡◌, ◌⊎◌, ℕ, List, ◌++◌, Option, None, Some, Ok, codes}
+use Rattle.std.specs.Prelude.{◌≡◌, ◌⊎◌, ℕ, List, Option, None, Some, Ok, codes}
 use Rattle.rb_trees.specs.mirror.Declarations.{Program}
 use Rattle.rb_meaning.specs.Shown.{line}
 use Rattle.rb_meaning_split.specs.Division.{Division, divisions}

@@ -1,5 +1,5 @@
 -- What the parts of the commands answer.
-use Rattle.std.specs.Prelude.{◌≡◌, ◌⊎◌, ℕ, List, Option, None, Some, Result, Ok, Err}
+use Rattle.std.specs.Prelude.{◌≡◌, ℕ, List, Option, None, Some, Result, Ok, Err}
 use Rattle.rb_trees.specs.declared.reading.ReadError.{ReadError}
 use Rattle.rb_trees.specs.declared.refusals.Refusal.{Refusal}
 use Rattle.rb_trees.specs.declared.services.Object.{Object}
@@ -23,9 +23,9 @@ use Rattle.rb_top.specs.Answers.{Goes, RunsBy, SaysOfProgram}
 use Rattle.rb_top.specs.BatchRefusals.{shown_batch_refusal}
 use Rattle.rb_top.specs.DialRuns.{Dials}
 use Rattle.rb_top.specs.Ends.{Ends, fault_line, too_long_line}
-use Rattle.rb_top.specs.Loads.{HoldsText, HoldsTyped, HoldsProgram}
+use Rattle.rb_top.specs.Loads.{HoldsText, HoldsTyped}
 use Rattle.rb_top.specs.Refusals.{shown_refusal, shown_violation}
-use Rattle.rb_top.specs.Runs.{Served}
+use Rattle.rb_top.specs.Runs.{Served, served_on}
 use Rattle.rb_top.specs.Scene.{Scene}
 use Rattle.rb_top.specs.Sources.{text_of, program_of, Admitted, admitted_program, accepted_program}
 use Rattle.rb_top.specs.ServiceRefusals.{shown_service_refusal}
@@ -95,10 +95,16 @@ LoadsProgram p (Ok source) before after =
     HoldsTyped before.files.told p (text_of source) (program_of source) × (after ≡ record before { files = read_once before.files })
 LoadsProgram p (Err status) before after = TellsNoProgram p status before after
 
+-- The file of the name holds this service with its table, and was read.
+pub record LoadedService (s : List ℕ) (loaded : service.Service × List Object) (before after : Scene) : Type 0 where
+  pub text : List ℕ
+  pub holds : HoldsText before.files.told s text
+  pub is : IsService text (served_on loaded.0 loaded.1)
+  pub left : after ≡ record before { files = read_once before.files }
+
 -- The file of the name was read as a service with its table; or it was said why there is none.
 abbrev pub LoadsService : List ℕ → Result (service.Service × List Object) Status → Scene → Scene → Type 0
-LoadsService s (Ok loaded) before after =
-    (text : List ℕ) × HoldsText before.files.told s text × IsService text (mirror_service loaded.0, loaded.1) × (after ≡ record before { files = read_once before.files })
+LoadsService s (Ok loaded) before after = LoadedService s loaded before after
 LoadsService s (Err status) before after = TellsNoService s status before after
 
 -- A service that was loaded is typed, and its table fits it.

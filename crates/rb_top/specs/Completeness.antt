@@ -1,10 +1,7 @@
 -- What is answered where the outside tells all that a command needs, and no call of it fails but for a write.
-use Rattle.std.specs.Prelude.{◌≡◌, ◌⊎◌, ℕ, List, [], ◌++◌, false, Option, None, Some, Ok, codes}
-use Rattle.rb_trees.specs.declared.services.Object.{Object}
-use Rattle.rb_trees.specs.declared.services.Service as service
+use Rattle.std.specs.Prelude.{◌≡◌, ◌⊎◌, ℕ, List, [], false, Option, None, Some, Ok, codes}
 use Rattle.rb_trees.specs.declared.values.Value.{Value}
 use Rattle.rb_trees.specs.mirror.Declarations.{Program}
-use Rattle.rb_trees.specs.mirror.Services.{mirror_service}
 use Rattle.rb_meaning.specs.Links.{Behind, server_told}
 use Rattle.rb_meaning.specs.Shown.{exchanges, line}
 use Rattle.rb_meaning.specs.State.{Outside}
@@ -18,16 +15,16 @@ use Rattle.rb_base.specs.Directories.{Directory, next_read, told_after}
 use Rattle.rb_base.specs.Listening.{Listening}
 use Rattle.rb_base.specs.declared.links.Link as links
 use Rattle.rb_client.specs.Servers.{fails_after}
-use Rattle.rb_session.specs.Dials.{Dialling, DialSeen, next_link}
+use Rattle.rb_session.specs.Dials.{Dialling, next_link}
 use Rattle.rb_session.specs.declared.targets.Target.{Target}
 use Rattle.rb_session.specs.declared.targets.Target.TheVariants as targets
 use Rattle.rb_top.specs.Answers.{EndsRun}
 use Rattle.rb_top.specs.Ends.{Ends}
 use Rattle.rb_top.specs.LinkRuns.{served_by}
-use Rattle.rb_top.specs.Runs.{Served, far_text, run_status, run_text}
+use Rattle.rb_top.specs.Runs.{Served, far_text, run_status}
 use Rattle.rb_top.specs.Scene as scenes
 use Rattle.rb_top.specs.Texts.{IsProgram, IsService}
-use Rattle.rb_top.specs.Words.{Asked, Check, Split, Run, Call, Serving, Wanted, OfProgram, Serve, Child, child_of}
+use Rattle.rb_top.specs.Words.{Check, Split, Run, Call, Serving, Wanted, OfProgram, Serve, Child, child_of}
 use Rattle.rb_top.specs.declared.status.Status.{Status}
 use Rattle.rb_top.specs.declared.status.Status.TheVariants.{Done, WriteFault, Memory}
 use Rattle.rb_top.specs.declared.words.Way.{Way}

@@ -1,5 +1,5 @@
 -- How a call that prints a text ends.
-use Rattle.std.specs.Prelude.{◌≡◌, ◌⊎◌, ℕ, zero, suc, List, ◌++◌, codes}
+use Rattle.std.specs.Prelude.{◌≡◌, ℕ, zero, suc, List, ◌++◌, codes}
 use Rattle.rb_meaning.specs.Shown.{line}
 use Rattle.rb_base.specs.Devices.{Device, failed}
 use Rattle.rb_base.specs.Directories.{Directory, read_once}

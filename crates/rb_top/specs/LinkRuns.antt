@@ -1,10 +1,8 @@
 -- Runs of a program over a link: one in memory, begun on a service and its table; and one that was dialled.
-use Rattle.std.specs.Prelude.{◌≡◌, ◌⊎◌, ℕ, List, [], ◌∷◌, ◌++◌, length, true, Option, None, Some, option_map, unwrap_or, Result, Ok, Err}
+use Rattle.std.specs.Prelude.{◌≡◌, ℕ, List, [], length, true, Option, Some, unwrap_or, Result, Ok, Err}
 use Rattle.rb_trees.specs.declared.outcomes.Run.{Run}
-use Rattle.rb_trees.specs.declared.services.Object.{Object}
 use Rattle.rb_trees.specs.mirror.Declarations.{Program}
 use Rattle.rb_trees.specs.mirror.Forests.{Node}
-use Rattle.rb_trees.specs.mirror.Services.{Service}
 use Rattle.rb_meaning.specs.Links.{Pair, Behind, Told, pairs_told, server_told}
 use Rattle.rb_meaning.specs.Meaning.{Meaning, meaning}
 use Rattle.rb_meaning.specs.Shown.{exchanges, line, shown_events}
@@ -20,7 +18,6 @@ use Rattle.rb_client.specs.Scenes as scenes
 use Rattle.rb_client.specs.Servers.{IsServer}
 use Rattle.rb_client.specs.declared.stops.RunStop.{RunStop}
 use Rattle.rb_client.specs.declared.stops.RunStop.TheVariants as stops
-use Rattle.rb_plain.specs.Unsplit.{Leaves}
 use Rattle.rb_top.specs.BadReplies.{shown_bad_reply, shown_link_fault}
 use Rattle.rb_top.specs.Ends.{Ends}
 use Rattle.rb_top.specs.Printing.{PrintsUnlessStarved, run_end_text}

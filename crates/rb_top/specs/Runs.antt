@@ -1,7 +1,8 @@
 -- A run of a program on a service and its table.
 use Rattle.std.specs.Prelude.{◌≡◌, ℕ, List, ◌++◌, Result}
 use Rattle.rb_trees.specs.mirror.Declarations.{Program}
-use Rattle.rb_trees.specs.mirror.Services.{Service}
+use Rattle.rb_trees.specs.declared.services.Service as service
+use Rattle.rb_trees.specs.mirror.Services.{Service, mirror_service}
 use Rattle.rb_trees.specs.declared.services.Object.{Object}
 use Rattle.rb_trees.specs.declared.outcomes.Ending.{Ending}
 use Rattle.rb_trees.specs.declared.outcomes.Ending.TheVariants as endings
@@ -22,6 +23,10 @@ shown_lines source m = shown_events m.events ++ run_end_text source m.ending (ex
 -- a service, and the table of its objects
 abbrev pub Served : Type 0
 Served = Service × List Object
+
+-- a service as it was read, with its table
+abbrev pub served_on : service.Service → List Object → Served
+served_on s table = (mirror_service s, table)
 
 -- what the program shows by its meaning on the service, its table and a fuel
 abbrev pub run_text : List ℕ → ℕ → Program → Served → List ℕ

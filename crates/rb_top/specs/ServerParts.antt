@@ -1,5 +1,5 @@
 -- What the parts of a server do.
-use Rattle.std.specs.Prelude.{◌≡◌, ℕ, List, Bool, true, false, Option, None, Some, Result, Ok, Err, IfSome, ◌<◌}
+use Rattle.std.specs.Prelude.{◌≡◌, ℕ, List, Bool, true, false, Option, Result, Ok, Err, IfSome, ◌<◌}
 use Rattle.rb_meaning.specs.Shown.{line}
 use Rattle.rb_base.specs.Devices.{Device, failed}
 use Rattle.rb_base.specs.Directories.{Directory}
@@ -21,8 +21,8 @@ abbrev pub HasSessionOut : Option Listening → Type 0
 HasSessionOut told = IfSome told (λ l. 0 < l.out)
 
 -- The line of a session was printed; or a front of it, and a write failed; or memory was wanting, in the session or for its line.
-pub data SaysSession (number : ℕ) (answer : Result Served ServeStop) (before after : Device (List ℕ)) : Result Unit Status → Type 0 where
-  line_said : is_starved answer ≡ false → after ≡ with_bytes before (line (shown_session number answer)) → SaysSession number answer before after (Ok tt)
+pub data SaysSession (number : ℕ) (answer : Result Served ServeStop) (before after : Device (List ℕ)) : Result Bool Status → Type 0 where
+  line_said : is_starved answer ≡ false → after ≡ with_bytes before (line (shown_session number answer)) → SaysSession number answer before after (Ok true)
   line_cut : is_starved answer ≡ false → WrotePrefix (failed before) after (line (shown_session number answer)) → SaysSession number answer before after (Err WriteFault)
   line_starved : SaysSession number answer before after (Err Memory)
 
@@ -38,7 +38,7 @@ pub data ServesNext (number : ℕ) (host left : Hosted) (listen after_it : Liste
       → WrotePrefix (failed before) after (line (shown_session number answer)) → ServesNext number host left listen after_it before after (Err WriteFault)
   starved : ServesNext number host left listen after_it before after (Err Memory)
 
-abbrev pub SaysSessionAs : ℕ → Result Served ServeStop → Result Unit Status → Device (List ℕ) → Device (List ℕ) → Type 0
+abbrev pub SaysSessionAs : ℕ → Result Served ServeStop → Result Bool Status → Device (List ℕ) → Device (List ℕ) → Type 0
 SaysSessionAs number answer result before after = SaysSession number answer before after result
 
 abbrev pub ServesNextAs : ℕ → Hosted → Hosted → Listener → Listener → Result Bool Status → Device (List ℕ) → Device (List ℕ) → Type 0

@@ -1,5 +1,5 @@
 -- What is said where a server is asked for.
-use Rattle.std.specs.Prelude.{◌≡◌, ◌⊎◌, ℕ, List, [], true, false, Option, None, Some}
+use Rattle.std.specs.Prelude.{◌≡◌, ℕ, List, true, false, None}
 use Rattle.rb_trees.specs.declared.services.Object.{Object}
 use Rattle.rb_trees.specs.declared.services.Service as service
 use Rattle.rb_trees.specs.mirror.Services.{mirror_service}
@@ -15,6 +15,10 @@ use Rattle.rb_top.specs.Words.{Serving}
 use Rattle.rb_top.specs.declared.status.Status.{Status}
 use Rattle.rb_top.specs.declared.status.Status.TheVariants.{ListenFault, Memory}
 
+-- the server of a service with a table
+abbrev pub host_on : service.Service → List Object → Hosted
+host_on s table = record { service = s; table = table }
+
 -- The server of this service, with this table, listens at an address, and serves so many sessions at most; or it can't listen there,
 -- and that was said.
 pub data Listens (host : Hosted) (address : List ℕ) (count : ℕ) (result : Status) (listen after_it : Listener) (before after : Device (List ℕ)) : Type 0 where
@@ -27,7 +31,7 @@ pub data Listens (host : Hosted) (address : List ℕ) (count : ℕ) (result : St
 pub data ServesAs (v : Serving) (result : Status) (listen after_it : Listener) (before after : Scene) : Type 0 where
   no_service : TellsNoService v.service result before after → after_it ≡ listen → ServesAs v result listen after_it before after
   listens : (text : List ℕ) (s : service.Service) (table : List Object) → Finds before.files.told v.service text → IsService text (mirror_service s, table)
-      → Listens (record { service = s; table = table }) v.address v.count result listen after_it before.out after.out → after.files ≡ read_once before.files
+      → Listens (host_on s table) v.address v.count result listen after_it before.out after.out → after.files ≡ read_once before.files
       → ServesAs v result listen after_it before after
 
 -- an output that keeps nothing and never fails

@@ -1,9 +1,8 @@
 -- Serving the sessions that come at an address, one after the other.
-use Rattle.std.specs.Prelude.{◌≡◌, ◌<◌, ℕ, suc, List, [], ◌++◌, Bool, true, false, cond, Option, None, Some, option_map, is_some, Result, Ok, Err, IfSome, codes}
+use Rattle.std.specs.Prelude.{◌≡◌, ◌<◌, ℕ, suc, List, [], ◌++◌, Bool, true, false, cond, None, Some, option_map, is_some, Result, Ok, Err, IfSome, codes}
 use Rattle.rb_meaning.specs.Shown.{line, shown_table}
 use Rattle.rb_base.specs.Counts.{risen}
 use Rattle.rb_base.specs.Devices.{Device, failed}
-use Rattle.rb_base.specs.Directories.{Directory}
 use Rattle.rb_base.specs.Listening.{Back, Listening, GivesWhereTold, IsFresh, after_start, started, with_back}
 use Rattle.rb_base.specs.Sinks.{WrotePrefix}
 use Rattle.rb_base.specs.declared.listens.ListenStop.TheVariants as stops

@@ -1,6 +1,6 @@
 -- Why there is no accepted program in a file, or no service: what is told then, and how the files are left. Where several causes
 -- hold, the first counts, in the order of these cases.
-use Rattle.std.specs.Prelude.{◌≡◌, ℕ, List, Ok, Err}
+use Rattle.std.specs.Prelude.{ℕ, List, Err}
 use Rattle.rb_trees.specs.declared.reading.ReadError.{ReadError}
 use Rattle.rb_trees.specs.declared.refusals.Refusal.{Refusal}
 use Rattle.rb_trees.specs.declared.stores.StoreError.{StoreError}

@@ -37,17 +37,27 @@ fn reason_text(alloc: Global, reason: &BadReason) -> Result<String, AllocError>
 
 /// The line that says that the reply after so many was refused, and why.
 #[tactic(auto, using(crate::proofs::Lines::pieces))]
-pub fn bad_reply_line(alloc: Global, done: u64, reason: &BadReason) -> Result<String, AllocError>
-    ensures { IfOk result (λ text. string_bytes text ≡ line (shown_bad_reply done reason.now)) }
+pub fn bad_reply_line(alloc: Global, done: u64, reason: &BadReason) -> Result<Vec<u8>, AllocError>
+    ensures { IfOk result (λ text. text.items ≡ line (shown_bad_reply done reason.now)) }
 {
+    let number = format!(in alloc; "{done}")?;
     let why = reason_text(alloc, reason)?;
-    format!(in alloc; "bad reply {done} {why}\n")
+    let mut text = Vec::from_slice(alloc, b"bad reply ")?;
+    text.extend_from_slice(number.as_bytes())?;
+    text.extend_from_slice(b" ")?;
+    text.extend_from_slice(why.as_bytes())?;
+    text.extend_from_slice(b"\n")?;
+    Ok(text)
 }
 
 /// The line that says that the exchange after so many failed.
 #[tactic(auto, using(crate::proofs::Lines::pieces))]
-pub fn link_fault_line(alloc: Global, done: u64) -> Result<String, AllocError>
-    ensures { IfOk result (λ text. string_bytes text ≡ line (shown_link_fault done)) }
+pub fn link_fault_line(alloc: Global, done: u64) -> Result<Vec<u8>, AllocError>
+    ensures { IfOk result (λ text. text.items ≡ line (shown_link_fault done)) }
 {
-    format!(in alloc; "link fault {done}\n")
+    let number = format!(in alloc; "{done}")?;
+    let mut text = Vec::from_slice(alloc, b"link fault ")?;
+    text.extend_from_slice(number.as_bytes())?;
+    text.extend_from_slice(b"\n")?;
+    Ok(text)
 }

@@ -8,6 +8,7 @@ ghost use Rattle.rb_session.specs.MemoryLinks.{new_link};
 ghost use Rattle.rb_top.specs.Accepted.{IsAccepted};
 ghost use Rattle.rb_top.specs.DialRuns.{RunsInMemory};
 ghost use Rattle.rb_top.specs.LinkRuns.{EndsOver, IsNew, PrintsAsMeant, behind_of, served_by};
+ghost use Rattle.rb_top.specs.Runs.{served_on};
 ghost use Rattle.rb_top.specs.Scene.{Across};
 ghost use Rattle.rb_top.specs.Sources.{accepted_program};
 
@@ -101,7 +102,7 @@ pub fn run_both<W: Sink, D: Dial>(
 ) -> Status
     requires accepted { IsAccepted program.now }
     requires typed { IsTyped (mirror_service service) table }
-    ensures { let x = program.now in let dialled = seen D.told D.faults D.broken in let served = (mirror_service service, table) in
+    ensures { let x = program.now in let dialled = seen D.told D.faults D.broken in let served = served_on service table in
         Across W.Sink out.old out.new (RunsInMemory D.L.Link x.text.now (accepted_program x) fuel served result (dialled dial.old) (dialled dial.new)) }
 {
     let Ok(inner) = link_to(alloc, service, table) else {

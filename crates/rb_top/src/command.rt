@@ -1,6 +1,6 @@
 // The commands, from their words to what they print.
 
-ghost use Rattle.std.specs.Prelude.{◌≡◌, map, option_map};
+ghost use Rattle.std.specs.Prelude.{◌≡◌, Some, map};
 ghost use Rattle.rb_trees.specs.mirror.Services.{mirror_service};
 ghost use Rattle.rb_meaning.specs.Links.{IsTyped};
 ghost use Rattle.rb_meaning_split.specs.Division.{mirror_split};
@@ -13,6 +13,7 @@ ghost use Rattle.rb_top.specs.Answers.{Says, SaysOfProgram};
 ghost use Rattle.rb_top.specs.Commands.{DialsWith, DividesWith, GoesOnTyped, GoesWith, RunsWith};
 ghost use Rattle.rb_top.specs.Completeness.{CallsTold, ChecksTold, PairsTold, RunsTold, ServesTold, SplitsTold};
 ghost use Rattle.rb_top.specs.Ends.{Ends};
+ghost use Rattle.rb_top.specs.Runs.{served_on};
 ghost use Rattle.rb_top.specs.Scene.{output, Across, Between, scene, outside};
 ghost use Rattle.rb_top.specs.Sources.{text_of, program_of};
 ghost use Rattle.rb_top.specs.Texts.{WithinLength};
@@ -95,7 +96,7 @@ fn run_program<W: Sink, D: Dial>(
 ) -> Status
     requires accepted { IsAccepted program.now }
     requires typed { IsTyped (mirror_service service) table }
-    ensures { let dialled = seen D.told D.faults D.broken in let served = (mirror_service service, table) in
+    ensures { let dialled = seen D.told D.faults D.broken in let served = served_on service table in
         Across W.Sink out.old out.new (RunsWith D.L.Link program.now job.now served result (dialled dial.old) (dialled dial.new)) }
 {
     match job.way {
@@ -231,20 +232,21 @@ fn carry_out_task<F: Files, W: Sink, D: Dial>(
 /// Carries out a command.
 fn carry_out<F: Files, W: Sink, D: Dial, N: Listen>(
     alloc: Global,
-    command: Option<Command<'_>>,
+    command: &Command<'_>,
     files: &mut F,
     out: &mut W,
     dial: &mut D,
     listen: &mut N,
 ) -> Status
     ensures { let dialled = seen D.told D.faults D.broken in let listener = device N.told N.faults in
-        Says D.L.Link (option_map wanted_by command) result (outside (scene F.Files W.Sink files.old out.old) (dialled dial.old) (listener listen.old)) (outside (scene F.Files W.Sink files.new out.new) (dialled dial.new) (listener listen.new)) }
+        let before = outside (scene F.Files W.Sink files.old out.old) (dialled dial.old) (listener listen.old) in
+        let after = outside (scene F.Files W.Sink files.new out.new) (dialled dial.new) (listener listen.new) in
+        Says D.L.Link (Some (wanted_by command.now)) result before after }
 {
     match command {
-        None => say(Status::Words, b"words not understood\n", out),
-        Some(Command::Program(task)) => carry_out_task(alloc, &task, files, dial, out),
-        Some(Command::Serve(serving)) => run_server(alloc, &serving, files, out, listen),
-        Some(Command::Child(service)) => run_child(alloc, service, files, listen),
+        Command::Program(task) => carry_out_task(alloc, task, files, dial, out),
+        Command::Serve(serving) => run_server(alloc, serving, files, out, listen),
+        Command::Child(service) => run_child(alloc, service, files, listen),
     }
 }
 
@@ -264,9 +266,35 @@ pub fn top<F: Files, W: Sink, D: Dial, N: Listen>(
 ) -> Status
     // What is answered and printed is what the words and the outside mean.
     ensures answer { let dialled = seen D.told D.faults D.broken in let listener = device N.told N.faults in
-        Says D.L.Link (wanted (texts words.now)) result (outside (scene F.Files W.Sink files.old out.old) (dialled dial.old) (listener listen.old)) (outside (scene F.Files W.Sink files.new out.new) (dialled dial.new) (listener listen.new)) }
+        let before = outside (scene F.Files W.Sink files.old out.old) (dialled dial.old) (listener listen.old) in
+        let after = outside (scene F.Files W.Sink files.new out.new) (dialled dial.new) (listener listen.new) in
+        Says D.L.Link (wanted (texts words.now)) result before after }
+    // An accepted program that the files tell is checked, unless the output fails or memory is wanting.
+    ensures checks { Between F.Files W.Sink files.old out.old files.new out.new (ChecksTold (wanted (texts words.now)) result) }
+    // The division of such a program is shown, unless the output fails or memory is wanting.
+    ensures splits { Between F.Files W.Sink files.old out.old files.new out.new (SplitsTold (wanted (texts words.now)) result) }
+    // A program that the files tell is run on a service that they tell, unless the output fails or memory is wanting.
+    ensures runs { Between F.Files W.Sink files.old out.old files.new out.new (RunsTold (wanted (texts words.now)) result) }
+    // Over an honest link that the Dial tells a program is run as it means on the server behind that link.
+    ensures calls { let dialled = seen D.told D.faults D.broken in let listener = device N.told N.faults in
+        let before = outside (scene F.Files W.Sink files.old out.old) (dialled dial.old) (listener listen.old) in
+        let after = outside (scene F.Files W.Sink files.new out.new) (dialled dial.new) (listener listen.new) in
+        CallsTold D.L.Link (wanted (texts words.now)) result before after }
+    // So is a program over an honest link to the child.
+    ensures pairs { let dialled = seen D.told D.faults D.broken in let listener = device N.told N.faults in
+        let before = outside (scene F.Files W.Sink files.old out.old) (dialled dial.old) (listener listen.old) in
+        let after = outside (scene F.Files W.Sink files.new out.new) (dialled dial.new) (listener listen.new) in
+        PairsTold D.L.Link (wanted (texts words.now)) result before after }
+    // A server whose service and address are told serves to its end.
+    ensures serves { let dialled = seen D.told D.faults D.broken in let listener = device N.told N.faults in
+        let before = outside (scene F.Files W.Sink files.old out.old) (dialled dial.old) (listener listen.old) in
+        let after = outside (scene F.Files W.Sink files.new out.new) (dialled dial.new) (listener listen.new) in
+        ServesTold (wanted (texts words.now)) result before }
 {
     sources_have_one_outcome();
     sources_have_one_outcome_as_services();
-    carry_out(alloc, command_of(words), files, out, dial, listen)
+    match command_of(words) {
+        Some(command) => carry_out(alloc, &command, files, out, dial, listen),
+        None => say(Status::Words, b"words not understood\n", out),
+    }
 }

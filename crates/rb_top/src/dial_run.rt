@@ -29,7 +29,7 @@ fn say_link_fault<W: Sink>(alloc: Global, done: u64, out: &mut W) -> Status
     ensures { Ends (LinkFault done) (line (shown_link_fault done)) result (output W.Sink out.old) (output W.Sink out.new) }
 {
     match link_fault_line(alloc, done) {
-        Ok(line) => say(Status::LinkFault(done), line.as_bytes(), out),
+        Ok(line) => say(Status::LinkFault(done), line.as_slice(), out),
         Err(_) => Status::Memory,
     }
 }
@@ -54,7 +54,7 @@ fn say_bad_reply<W: Sink>(
                 kind,
                 bytes,
             };
-            say(status, line.as_bytes(), out)
+            say(status, line.as_slice(), out)
         }
         Err(_) => Status::Memory,
     }

@@ -1,9 +1,9 @@
 // Numbers as words name them.
 
-ghost use Rattle.std.specs.Prelude.{◌≡◌, ◌&&◌, cond, nat_le, None, Some};
+ghost use Rattle.std.specs.Prelude.{◌≡◌, ◌<◌, ◌^◌};
 ghost use Rattle.std.specs.List.{list_all};
 ghost use Rattle.rb_trees.specs.Spelling.{is_digit};
-ghost use Rattle.rb_top.specs.Words.{number_within, count_of, fuel_of, least_count, most_count, most_fuel};
+ghost use Rattle.rb_top.specs.Words.{number_within, count_of, fuel_of, most_count, most_fuel};
 
 use rb_lex::capped_value;
 

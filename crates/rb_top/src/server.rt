@@ -11,7 +11,7 @@ ghost use Rattle.rb_session.specs.Serving.{UnlessServedMemory};
 ghost use Rattle.rb_top.specs.Ends.{Ends};
 ghost use Rattle.rb_top.specs.Scene.{directory, output, Across, Between};
 ghost use Rattle.rb_top.specs.ServerParts.{ChildServes, HasSessionOut, ListensAs, SaysSessionAs, ServesNextAs};
-ghost use Rattle.rb_top.specs.Servers.{ServesAs};
+ghost use Rattle.rb_top.specs.Servers.{ServesAs, host_on};
 ghost use Rattle.rb_top.specs.Sessions as sessions;
 ghost use Rattle.rb_top.specs.Sessions.{ServesEnds, ServesSessions};
 ghost use Rattle.rb_top.specs.Words.{serving_by};
@@ -40,13 +40,14 @@ fn is_starved(answer: &Result<Served, ServeStop>) -> bool
     }
 }
 
-/// Says how the session of a number was served; or the status where that wasn't said whole, or memory was wanting in the session.
+/// Says how the session of a number was served, and answers true; or the status where that wasn't said whole, or memory was wanting
+/// in the session.
 fn say_session<W: Sink>(
     alloc: Global,
     number: u64,
     answer: &Result<Served, ServeStop>,
     out: &mut W,
-) -> Result<(), Status>
+) -> Result<bool, Status>
     ensures { Across W.Sink out.old out.new (SaysSessionAs number answer.now result) }
 {
     if is_starved(answer) {
@@ -54,8 +55,8 @@ fn say_session<W: Sink>(
     }
     match session_line(alloc, number, answer) {
         Err(_) => Err(Status::Memory),
-        Ok(line) => match print_text(line.as_bytes(), out) {
-            Ok(()) => Ok(()),
+        Ok(line) => match print_text(line.as_slice(), out) {
+            Ok(()) => Ok(true),
             Err(stop) => Err(stopped(stop)),
         },
     }
@@ -99,8 +100,7 @@ fn serve_next<W: Sink, N: Listen>(
     match listen.next() {
         Ok(Some((source, sink))) => {
             let answer = serve_session(alloc, host, source, sink, listen);
-            say_session(alloc, number, &answer, out)?;
-            Ok(true)
+            say_session(alloc, number, &answer, out)
         }
         Ok(None) => Ok(false),
         Err(ListenStop::Failed) => Err(say(Status::ListenFault, b"listen fault\n", out)),
@@ -149,7 +149,11 @@ fn listen_and_serve<W: Sink, N: Listen>(
     serving: &Serving<'_>,
     out: &mut W,
     listen: &mut N,
-) -> Status {
+) -> Status
+    requires { IsTyped (mirror_service service) table }
+    ensures { let listener = device N.told N.faults in let host = host_on service table in
+        Across W.Sink out.old out.new (ListensAs host (serving_by serving.now) result (listener listen.old) (listener listen.new)) }
+{
     let Ok(mut host) = Host::make(alloc, service, table) else {
         return Status::Memory;
     };
@@ -182,7 +186,10 @@ pub fn run_child<F: Files, N: Listen>(
     service: &str,
     files: &mut F,
     listen: &mut N,
-) -> Status {
+) -> Status
+    ensures { let listener = device N.told N.faults in
+        ChildServes service.now result (listener listen.old) (listener listen.new) (directory F.Files files.old) (directory F.Files files.new) }
+{
     run_server(
         alloc,
         &Serving::of_child(service),

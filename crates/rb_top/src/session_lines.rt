@@ -1,7 +1,6 @@
 // The lines of sessions.
 
 ghost use Rattle.std.specs.Prelude.{◌≡◌, IfOk};
-ghost use Rattle.std.specs.String.{string_bytes};
 ghost use Rattle.rb_meaning.specs.Shown.{line};
 ghost use Rattle.rb_top.specs.SessionLines as lines;
 ghost use Rattle.rb_top.specs.SessionLines.{shown_cause, shown_end, shown_session};
@@ -49,10 +48,18 @@ pub fn session_line(
     alloc: Global,
     number: u64,
     answer: &Result<Served, ServeStop>,
-) -> Result<String, AllocError>
-    ensures { IfOk result (λ text. string_bytes text ≡ line (shown_session number answer.now)) }
+) -> Result<Vec<u8>, AllocError>
+    ensures { IfOk result (λ text. text.items ≡ line (shown_session number answer.now)) }
 {
     let requests = requests_of(answer);
-    let end = end_text(answer);
-    format!(in alloc; "session {number} requests {requests} {end}\n")
+    let number = format!(in alloc; "{number}")?;
+    let requests = format!(in alloc; "{requests}")?;
+    let mut text = Vec::from_slice(alloc, b"session ")?;
+    text.extend_from_slice(number.as_bytes())?;
+    text.extend_from_slice(b" requests ")?;
+    text.extend_from_slice(requests.as_bytes())?;
+    text.extend_from_slice(b" ")?;
+    text.extend_from_slice(end_text(answer).as_bytes())?;
+    text.extend_from_slice(b"\n")?;
+    Ok(text)
 }

@@ -36,7 +36,7 @@ fn run<
                 &mut RealFiles::make(rt),
                 &mut StandardOutput::make(rt),
                 &mut RealDial::make(rt, program.as_str()),
-                &mut RealListen::make(rt, io::stdin(rt), io::stdout(rt)),
+                &mut RealListen::make(rt, rt.stdin(), rt.stdout()),
             );
             help::tell(rt, words.as_slice(), &status);
             status

@@ -22,9 +22,9 @@ returns-in-Err-WriteFault g c =
     subst (λ q. WrotePrefix (failed (output g.W.Sink c.args.out.now)) (output g.W.Sink c.run_client.new.out) (shown_events (meant_over (mirror_program q) c.args.fuel (served_by b)).events)) c.typed-typed.ensures.same
     (rw c.in-Err-WriteFault.field-0-is at (c.in-Err-WriteFault.ensures.means c.requires.new.honest b (ap server_told c.requires.new.tells)))
 
-pub unreachable-requires-in-Err-LinkFault : goal.unreachable-requires-in-Err-LinkFault
-unreachable-requires-in-Err-LinkFault g c =
-    absurd (never_lost g.L.Link (behind_of (g.L.Link.told c.args.link.now)) c.args.link.now _ c.requires.new (rw c.in-Err-LinkFault.field-0-is at c.in-Err-LinkFault.ensures.lists).1)
+pub unreachable-requires : goal.unreachable-requires
+unreachable-requires g c =
+    never_lost g.L.Link (behind_of (g.L.Link.told c.args.link.now)) c.args.link.now c.in-Err-LinkFault.field-0-0 c.requires.new (rw c.in-Err-LinkFault.field-0-is at c.in-Err-LinkFault.ensures.lists).1
 
 pub unreachable-requires-in-Err-BadReply : goal.unreachable-requires-in-Err-BadReply
 unreachable-requires-in-Err-BadReply g c =

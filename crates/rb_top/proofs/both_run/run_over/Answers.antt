@@ -1,15 +1,7 @@
 use Rattle.rb_top.specs.LinkRuns.{behind_of, served_by}
 use Rattle.rb_top.specs.Sources.{accepted_program}
-use Rattle.rb_top.proofs.LinkRuns.{cut_over, ended_over, none_lent}
+use Rattle.rb_top.proofs.LinkRuns.{ended_over}
 use Rattle.rb_top.proofs.both_run.run_over.Goals as goal
-
-pub returns-in-Err : goal.returns-in-Err
-returns-in-Err g c =
-    cut_over g.L.Link c.args.program.now.text.now (accepted_program c.args.program.now) c.args.fuel (served_by (behind_of (g.L.Link.told c.args.link.now))) c.run_client_over.new.link c.in-Err.stop c.stopped.result _ _
-    c.stopped.ensures c.in-Err.ensures
-
-pub unreachable-requires-in-None : goal.unreachable-requires-in-None
-unreachable-requires-in-None g c = none_lent _ _ _ _ c.in-Ok.ensures.0.lends c.in-Ok.ensures.0.carries.table c.in-None.ensures
 
 pub returns-in-Some : goal.returns-in-Some
 returns-in-Some g c =

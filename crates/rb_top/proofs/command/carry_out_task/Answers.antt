@@ -1,14 +1,12 @@
-use Rattle.std.proofs.Common.{refl, sym, ap, subst}
-use Rattle.rb_top.specs.Answers.{no_program}
+use Rattle.std.proofs.Common.{ap, subst}
 use Rattle.rb_top.specs.Loads.{HoldsTyped}
 use Rattle.rb_top.specs.Sources.{text_of, program_of}
-use Rattle.rb_top.specs.Unusable.{TellsNoProgram}
 use Rattle.rb_top.specs.Words.{asked_by}
-use Rattle.rb_top.proofs.Going.{says_from}
+use Rattle.rb_top.proofs.Going.{says_from, tells_of}
 use Rattle.rb_top.proofs.command.carry_out_task.Goals as goal
 
 pub returns-in-Err : goal.returns-in-Err
-returns-in-Err g c = no_program (subst (λ p. TellsNoProgram p _ _ _) c.program.ensures c.in-Err.ensures.loads) refl
+returns-in-Err g c = tells_of g.D.L.Link (asked_by c.args.task.now) c.program.result.now c.in-Err.status _ _ _ c.program.ensures c.in-Err.ensures.loads
 
 pub returns-in-Ok : goal.returns-in-Ok
 returns-in-Ok g c =

@@ -1,10 +1,9 @@
-use Rattle.std.proofs.Common.{refl, sym, subst}
+use Rattle.std.proofs.Common.{ap, refl, sym, subst}
 use Rattle.rb_trees.specs.mirror.Declarations.{mirror_program}
 use Rattle.rb_flow.specs.Program.{HasNoRefusal}
 use Rattle.rb_top.specs.Accepted.{HasPlacesOfText}
-use Rattle.rb_top.specs.Commands.{EndsBatchRefused, GoesOnAdmitted}
+use Rattle.rb_top.specs.Commands.{EndsBatchRefused}
 use Rattle.rb_top.specs.Scene.{output}
-use Rattle.rb_top.specs.Sources.{program_of}
 use Rattle.rb_top.specs.Words.{asked_by}
 use Rattle.rb_top.proofs.Going.{goes_admitted, goes_refused, goes_starved}
 use Rattle.rb_top.proofs.command.go_on.Goals as goal
@@ -18,9 +17,8 @@ go_on_admitted-requires-clause-admitted g c = record {
 
 pub returns-in-Ok : goal.returns-in-Ok
 returns-in-Ok g c =
-    goes_admitted g.D.L.Link c.args.source.now (asked_by c.args.task.now) c.go_on_admitted.result _ _ _ _ c.in-Ok.ensures.admission
-    (subst (λ t. GoesOnAdmitted g.D.L.Link t (program_of c.args.source.now) (asked_by c.args.task.now) c.go_on_admitted.result _ _ _ _) c.as_slice-text.ensures
-    (subst (λ q. GoesOnAdmitted g.D.L.Link c.as_slice-text.result.now (mirror_program q) (asked_by c.args.task.now) c.go_on_admitted.result _ _ _ _) c.in-Ok.ensures.typed c.go_on_admitted.ensures))
+    goes_admitted g.D.L.Link c.args.source.now (asked_by c.args.task.now) c.go_on_admitted.result _ _ _ _ c.as_slice-text.result.now (mirror_program c.in-Ok.admitted.0) c.as_slice-text.ensures (ap mirror_program c.in-Ok.ensures.typed) c.in-Ok.ensures.admission
+    c.go_on_admitted.ensures
 
 pub returns-in-Err-Refused : goal.returns-in-Err-Refused
 returns-in-Err-Refused g c =

@@ -1,9 +1,8 @@
-use Rattle.std.proofs.Common.{ap, refl, subst}
-use Rattle.rb_trees.specs.mirror.Services.{mirror_service}
-use Rattle.rb_base.specs.Directories.{read_once}
-use Rattle.rb_top.specs.Answers.{RunsBy, no_service, ran}
-use Rattle.rb_top.specs.Commands.{RunsWith}
-use Rattle.rb_top.specs.Scene.{output}
+use Rattle.std.proofs.Common.{refl}
+use Rattle.rb_top.specs.Answers.{no_service}
+use Rattle.rb_top.specs.Runs.{served_on}
+use Rattle.rb_top.specs.Sources.{accepted_program}
+use Rattle.rb_top.proofs.Going.{ran_loaded}
 use Rattle.rb_top.proofs.command.run_on.Goals as goal
 
 pub returns-in-Err : goal.returns-in-Err
@@ -12,6 +11,5 @@ returns-in-Err g c = no_service c.args.job.now.way c.args.job.now.program.now c.
 pub returns-in-Ok : goal.returns-in-Ok
 returns-in-Ok g c =
     let loads = c.in-Ok.ensures.loads in
-    ran c.args.job.now.way c.args.job.now.program.now c.args.job.now.service.now loads.0 c.args.job.now.fuel (mirror_service c.in-Ok.service, c.in-Ok.table) loads.1.0.0 loads.1.1.0
-    (subst (λ o. RunsWith g.D.L.Link c.args.program.now c.args.job.now (mirror_service c.in-Ok.service, c.in-Ok.table) c.run_program.result _ _ o _) (ap (λ s. s.out) loads.1.1.1) c.run_program.ensures)
-    (ap (λ s. s.files) loads.1.1.1)
+    ran_loaded g.D.L.Link c.args.program.now.text.now (accepted_program c.args.program.now) c.args.job.now.way c.args.job.now.program.now c.args.job.now.service.now loads.text c.args.job.now.fuel (served_on c.in-Ok.service c.in-Ok.table) c.run_program.result _ _ _ _ _
+    loads.holds loads.is loads.left c.run_program.ensures

@@ -1,6 +1,6 @@
 use Rattle.std.proofs.Common.{◌∙◌, ◌+◌, ◌++◌, ap, refl, take, arith}
 use Rattle.rb_meaning_bytes.specs.tokens.Texts.{longest_text}
-use Rattle.rb_top.proofs.Loaded.{read_whole, read_front}
+use Rattle.rb_top.proofs.WholeTexts.{read_whole, read_front}
 use Rattle.rb_top.proofs.loading.load_text.Goals as goal
 
 pub returns-then-len-gt-LONGEST_TEXT : goal.returns-then-len-gt-LONGEST_TEXT

@@ -1,10 +1,13 @@
 use Rattle.rb_base.specs.Listening.{ends_of}
 use Rattle.rb_base.specs.Devices.{device}
+use Rattle.rb_top.proofs.Serving.{came_back_so}
 use Rattle.rb_top.proofs.server.serve_session.Goals as goal
 
 pub returns-clause-serves : goal.returns-clause-serves
-returns-clause-serves g c = record {
-  last = ends_of (device g.N.S.told g.N.S.faults) (device g.N.K.told g.N.K.faults) c.serve.new.source c.serve.new.sink;
-  serves = c.serve-answer.ensures.serves;
-  back = _;
-}
+returns-clause-serves g c =
+    let last = ends_of (device g.N.S.Source.told g.N.S.Source.faults) (device g.N.K.Sink.told g.N.K.Sink.faults) c.serve-answer.new.source c.serve-answer.new.sink in
+    record {
+      last = last;
+      serves = c.serve-answer.ensures.serves;
+      back = came_back_so last (device g.N.Listen.told g.N.Listen.faults c.args.listen.now) (g.N.Listen.told c.back.new.self) (g.N.Listen.faults c.back.new.self) c.back.ensures.after c.back.ensures.faults;
+    }

@@ -16,5 +16,5 @@ returns-in_err-run g c =
 
 pub returns : goal.returns
 returns g c =
-    run_ended c.args.program.now.text.now c.args.fuel (accepted_program c.args.program.now) c.args.service.now c.in_ok-code.code c.args.table c.in_ok-run.run' c.unsplit.new.table c.print_run_end.result (output g.W.Sink c.args.out.now) (output g.W.Sink c.unsplit.new.out) (output g.W.Sink c.print_run_end.new.out) c.in_ok-code.ensures
-    (c.in_ok-run.ensures.left, c.in_ok-run.ensures.written) c.print_run_end.ensures
+    run_ended c.args.program.now.text.now c.args.fuel (accepted_program c.args.program.now) c.args.service.now c.in_ok-code.code c.args.table c.in_ok-run.run' c.unsplit.new.table c.print_run_end_with_table.result (output g.W.Sink c.args.out.now) (output g.W.Sink c.unsplit.new.out) (output g.W.Sink c.print_run_end_with_table.new.out) c.in_ok-code.ensures
+    (c.in_ok-run.ensures.left, c.in_ok-run.ensures.written) c.print_run_end_with_table.ensures
