@@ -103,7 +103,8 @@ pub fn run_both<W: Sink, D: Dial>(
     requires accepted { IsAccepted program.now }
     requires typed { IsTyped (mirror_service service) table }
     ensures { let x = program.now in let dialled = seen D.told D.faults D.broken in let served = served_on service table in
-        Across W.Sink out.old out.new (RunsInMemory D.L.Link x.text.now (accepted_program x) fuel served result (dialled dial.old) (dialled dial.new)) }
+        Across W.Sink out.old out.new
+        (RunsInMemory D.L.Link x.text.now (accepted_program x) fuel served result (dialled dial.old) (dialled dial.new)) }
 {
     let Ok(inner) = link_to(alloc, service, table) else {
         return Status::Memory;

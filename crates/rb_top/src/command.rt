@@ -52,7 +52,8 @@ fn run_call<W: Sink, D: Dial>(
 ) -> Status
     requires { IsAccepted program.now }
     ensures { let dialled = seen D.told D.faults D.broken in let target = targets.Address call.now.address.now in
-        Across W.Sink out.old out.new (DialsWith D.L.Link program.now call.now.fuel target result (dialled dial.old) (dialled dial.new)) }
+        Across W.Sink out.old out.new
+        (DialsWith D.L.Link program.now call.now.fuel target result (dialled dial.old) (dialled dial.new)) }
 {
     match Seq::from_slice(alloc, call.address.as_bytes()) {
         Ok(address) => {
@@ -73,7 +74,8 @@ fn run_pair<W: Sink, D: Dial>(
 ) -> Status
     requires { IsAccepted program.now }
     ensures { let dialled = seen D.told D.faults D.broken in let target = targets.Child job.now.service.now in
-        Across W.Sink out.old out.new (DialsWith D.L.Link program.now job.now.fuel target result (dialled dial.old) (dialled dial.new)) }
+        Across W.Sink out.old out.new
+        (DialsWith D.L.Link program.now job.now.fuel target result (dialled dial.old) (dialled dial.new)) }
 {
     match Seq::from_slice(alloc, job.service.as_bytes()) {
         Ok(service) => {
@@ -97,7 +99,8 @@ fn run_program<W: Sink, D: Dial>(
     requires accepted { IsAccepted program.now }
     requires typed { IsTyped (mirror_service service) table }
     ensures { let dialled = seen D.told D.faults D.broken in let served = served_on service table in
-        Across W.Sink out.old out.new (RunsWith D.L.Link program.now job.now served result (dialled dial.old) (dialled dial.new)) }
+        Across W.Sink out.old out.new
+        (RunsWith D.L.Link program.now job.now served result (dialled dial.old) (dialled dial.new)) }
 {
     match job.way {
         Way::Both => run_both(alloc, program, service, table, job.fuel, dial, out),
@@ -117,7 +120,8 @@ fn run_on<F: Files, W: Sink, D: Dial>(
 ) -> Status
     requires { IsAccepted program.now }
     ensures { let dialled = seen D.told D.faults D.broken in
-        Between F.Files W.Sink files.old out.old files.new out.new (GoesWith D.L.Link program.now (asked_job job.now) result (dialled dial.old) (dialled dial.new)) }
+        Between F.Files W.Sink files.old out.old files.new out.new
+        (GoesWith D.L.Link program.now (asked_job job.now) result (dialled dial.old) (dialled dial.new)) }
 {
     match loaded_service(alloc, job.service, files, out) {
         Err(status) => status,
@@ -147,7 +151,8 @@ fn fulfil<F: Files, W: Sink, D: Dial>(
 ) -> Status
     requires { IsAccepted program.now }
     ensures { let dialled = seen D.told D.faults D.broken in
-        Between F.Files W.Sink files.old out.old files.new out.new (GoesWith D.L.Link program.now (asked_by task.now) result (dialled dial.old) (dialled dial.new)) }
+        Between F.Files W.Sink files.old out.old files.new out.new
+        (GoesWith D.L.Link program.now (asked_by task.now) result (dialled dial.old) (dialled dial.new)) }
 {
     match task {
         Task::Check(_) => say(Status::Done, b"accepted\n", out),
@@ -170,7 +175,8 @@ fn go_on_admitted<F: Files, W: Sink, D: Dial>(
     requires admitted { IsAdmitted admitted.now }
     requires short { WithinLength text.now }
     ensures { let dialled = seen D.told D.faults D.broken in
-        Between F.Files W.Sink files.old out.old files.new out.new (DividesWith D.L.Link text.now admitted.now (asked_by task.now) result (dialled dial.old) (dialled dial.new)) }
+        Between F.Files W.Sink files.old out.old files.new out.new
+        (DividesWith D.L.Link text.now admitted.now (asked_by task.now) result (dialled dial.old) (dialled dial.new)) }
 {
     match split_all(alloc, admitted) {
         Ok(splits) => {
@@ -198,7 +204,8 @@ fn go_on<F: Files, W: Sink, D: Dial>(
     requires places { HasPlacesOfText (program_of source.now) }
     requires short { WithinLength (text_of source.now) }
     ensures { let dialled = seen D.told D.faults D.broken in
-        Between F.Files W.Sink files.old out.old files.new out.new (GoesOnTyped D.L.Link source.now (asked_by task.now) result (dialled dial.old) (dialled dial.new)) }
+        Between F.Files W.Sink files.old out.old files.new out.new
+        (GoesOnTyped D.L.Link source.now (asked_by task.now) result (dialled dial.old) (dialled dial.new)) }
 {
     let text = source.text.as_slice();
     match admission(alloc, &source.typed) {
@@ -217,7 +224,8 @@ fn carry_out_task<F: Files, W: Sink, D: Dial>(
     out: &mut W,
 ) -> Status
     ensures { let dialled = seen D.told D.faults D.broken in
-        Between F.Files W.Sink files.old out.old files.new out.new (SaysOfProgram D.L.Link (asked_by task.now) result (dialled dial.old) (dialled dial.new)) }
+        Between F.Files W.Sink files.old out.old files.new out.new
+        (SaysOfProgram D.L.Link (asked_by task.now) result (dialled dial.old) (dialled dial.new)) }
 {
     match loaded_program(alloc, task.program(), files, out) {
         Err(status) => status,

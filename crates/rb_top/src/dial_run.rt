@@ -109,7 +109,8 @@ pub fn run_dialled<W: Sink, D: Dial>(
 ) -> Status
     requires { IsAccepted program.now }
     ensures { let dialled = seen D.told D.faults D.broken in
-        Across W.Sink out.old out.new (DialsWith D.L.Link program.now fuel target.now result (dialled dial.old) (dialled dial.new)) }
+        Across W.Sink out.old out.new
+        (DialsWith D.L.Link program.now fuel target.now result (dialled dial.old) (dialled dial.new)) }
 {
     match dial.dial(target) {
         Ok(mut link) => {

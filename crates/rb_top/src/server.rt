@@ -94,7 +94,8 @@ fn serve_next<W: Sink, N: Listen>(
 ) -> Result<bool, Status>
     requires { IsTypedHost host.old }
     ensures serves { let listener = device N.told N.faults in
-        Across W.Sink out.old out.new (ServesNextAs number host.old host.new (listener listen.old) (listener listen.new) result) }
+        Across W.Sink out.old out.new
+        (ServesNextAs number host.old host.new (listener listen.old) (listener listen.new) result) }
     ensures typed { OnOk result (IsTypedHost host.new) }
 {
     match listen.next() {
@@ -152,7 +153,8 @@ fn listen_and_serve<W: Sink, N: Listen>(
 ) -> Status
     requires { IsTyped (mirror_service service) table }
     ensures { let listener = device N.told N.faults in let host = host_on service table in
-        Across W.Sink out.old out.new (ListensAs host (serving_by serving.now) result (listener listen.old) (listener listen.new)) }
+        Across W.Sink out.old out.new
+        (ListensAs host (serving_by serving.now) result (listener listen.old) (listener listen.new)) }
 {
     let Ok(mut host) = Host::make(alloc, service, table) else {
         return Status::Memory;
@@ -172,7 +174,8 @@ pub fn run_server<F: Files, W: Sink, N: Listen>(
     listen: &mut N,
 ) -> Status
     ensures { let listener = device N.told N.faults in
-        Between F.Files W.Sink files.old out.old files.new out.new (ServesAs (serving_by serving.now) result (listener listen.old) (listener listen.new)) }
+        Between F.Files W.Sink files.old out.old files.new out.new
+        (ServesAs (serving_by serving.now) result (listener listen.old) (listener listen.new)) }
 {
     match loaded_service(alloc, serving.service, files, out) {
         Err(status) => status,
