@@ -4,9 +4,10 @@ use Rattle.rb_trees.specs.declared.values.Value.{Value}
 use Rattle.rb_trees.specs.declared.outcomes.Ending.{Ending}
 use Rattle.rb_trees.specs.declared.outcomes.Raised.{Raised}
 use Rattle.rb_trees.specs.declared.code.Expr as expr
+use Rattle.rb_trees.specs.declared.declarations.Body as body
 use Rattle.rb_trees.specs.declared.declarations.Class as class
 use Rattle.rb_trees.specs.mirror.Code.{mirror_expr}
-use Rattle.rb_trees.specs.mirror.Declarations.{mirror_class}
+use Rattle.rb_trees.specs.mirror.Declarations.{mirror_body, mirror_class}
 use Rattle.rb_meaning_code.specs.Bodies.{bodies_of}
 use Rattle.rb_meaning_code.specs.Dialogue.{Outcome, Gave, Faulted, Run, Surroundings, Follows, handle}
 use Rattle.rb_meaning_code.specs.State.{Local}
@@ -41,6 +42,10 @@ LeadsWithin g run l w result w' = (gas : ℕ) → l.fuel ≤ gas → Leads g (ru
 -- the run of what follows the statements of `main`
 abbrev pub result_run : List class.Class → Option expr.Expr → ℕ → Local → Run (Option Value)
 result_run classes value gas l = main_result (bodies_of (map mirror_class classes) gas) (option_map mirror_expr value) l
+
+-- the run of `main`
+abbrev pub body_run : List class.Class → body.Body → Local → Run (Option Value)
+body_run classes b l = runs_main (map mirror_class classes) l.fuel (mirror_body b) l
 
 -- `main` with so much fuel, by the surroundings of the unsplit meaning
 abbrev pub main_meant : {W : Type 0} → OuterWorld W → ℕ → Outside → Outcome (Option Value) × Outside

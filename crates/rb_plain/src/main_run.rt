@@ -1,10 +1,8 @@
 // The run of `main`.
 
-ghost use Rattle.std.specs.Prelude.{[], map};
-ghost use Rattle.rb_trees.specs.mirror.Declarations.{mirror_body, mirror_class};
-ghost use Rattle.rb_meaning.specs.Meaning.{runs_main};
+ghost use Rattle.std.specs.Prelude.{[]};
 ghost use Rattle.rb_engine.specs.Locals.{local};
-ghost use Rattle.rb_plain.specs.MainRuns.{Leads, LeadsWithin, RunsMain, result_run};
+ghost use Rattle.rb_plain.specs.MainRuns.{Leads, LeadsWithin, RunsMain, body_run, result_run};
 
 use crate::outer_world::OuterWorld;
 use crate::run::PlainStop;
@@ -44,7 +42,7 @@ fn run_main<W: Sink>(
     world: &mut OuterWorld<'_, '_, '_, '_, W>,
     body: &Body,
 ) -> Step<Option<Value>, Failed>
-    ensures { Leads W.Sink (runs_main (map mirror_class code.now) state.old.fuel (mirror_body body.now) (local [] state.old)) world.old result world.new }
+    ensures { Leads W.Sink (body_run code.now body.now (local [] state.old)) world.old result world.new }
 {
     let mut frame = Frame::make(alloc);
     match exec(alloc, code, state, &mut frame, world, &body.statements) {

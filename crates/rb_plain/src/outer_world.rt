@@ -84,7 +84,9 @@ fn perform<W: Sink>(
 ) -> Step<(), Failed>
     ensures fuel { state.new.fuel ≤ state.old.fuel }
     ensures depth { state.new.depth ≡ state.old.depth }
-    ensures performs { Answered (performed (local frame.new state.new) result) (λ o. PerformsBatch W.Sink root.now batch.now world.old (local frame.old state.old) o world.new) }
+    ensures performs { let before = local frame.old state.old in
+        let ended = performed (local frame.new state.new) result in
+        Answered ended (λ o. PerformsBatch W.Sink root.now batch.now world.old before o world.new) }
 {
     let code = world.inner.remote.stage.code();
     let count = frame.len();

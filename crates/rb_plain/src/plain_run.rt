@@ -36,7 +36,8 @@ fn run_on<'a, 'b, 'p, W: Sink>(
 ) -> Result<Run, PlainStop>
     requires { AreBatchesOf (program_of stage) batches.now }
     ensures left { IfOk result (λ run. Leaves (staged_meaning stage.entry table.old fuel) run table.new) }
-    ensures written { WritesUnlessStarved (shown_events (staged_meaning stage.entry table.old fuel).events) result (output W.Sink out.old) (output W.Sink out.new) }
+    ensures written { let text = shown_events (staged_meaning stage.entry table.old fuel).events in
+        WritesUnlessStarved text result (output W.Sink out.old) (output W.Sink out.new) }
 {
     let first = mem::replace(table, Heap::make(alloc));
     let mut world = OuterWorld::over(alloc, batches, stage, first, out);
@@ -70,7 +71,8 @@ fn run_typed<'a, W: Sink>(
     requires code { code.now ≡ typed.now.classes }
     requires marks { marks.now.0 ≡ program_marks (mirror_program typed.now) }
     ensures left { IfOk result (λ run. Leaves (meant typed.now service.now root table.old fuel) run table.new) }
-    ensures written { WritesUnlessStarved (shown_events (meant typed.now service.now root table.old fuel).events) result (output W.Sink out.old) (output W.Sink out.new) }
+    ensures written { let text = shown_events (meant typed.now service.now root table.old fuel).events in
+        WritesUnlessStarved text result (output W.Sink out.old) (output W.Sink out.new) }
 {
     let batches = Batches::of(alloc, typed)?;
     let stage = Stage::new(typed, marks, code, service, root);
@@ -94,7 +96,8 @@ pub fn unsplit<W: Sink>(
 ) -> Result<Run, PlainStop>
     requires marks { admitted.now.1.0 ≡ program_marks (mirror_program admitted.now.0) }
     ensures left { IfOk result (λ run. Leaves (meant admitted.now.0 code.now root table.old fuel) run table.new) }
-    ensures written { WritesUnlessStarved (shown_events (meant admitted.now.0 code.now root table.old fuel).events) result (output W.Sink out.old) (output W.Sink out.new) }
+    ensures written { let text = shown_events (meant admitted.now.0 code.now root table.old fuel).events in
+        WritesUnlessStarved text result (output W.Sink out.old) (output W.Sink out.new) }
 {
     let typed = admitted.typed();
     let program = typed.program();

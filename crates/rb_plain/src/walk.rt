@@ -79,7 +79,8 @@ fn perform_carried(
     name: &Word,
     expr: &Expr,
 ) -> Result<(), Miss>
-    ensures walked { Walked (carried_meant world.old name.now expr.now frame.old) frame.old result world.old frame.new world.new }
+    ensures walked { let meant = carried_meant world.old name.now expr.now frame.old in
+        Walked meant frame.old result world.old frame.new world.new }
     ensures scope { OnOk result (scope.new ≡ with_variable scope.old name.now Role.Carried at) }
 {
     let value = value_of(alloc, world, frame, expr)?;
@@ -100,7 +101,8 @@ fn perform_plain(
     name: &Word,
     expr: &Expr,
 ) -> Result<(), Miss>
-    ensures walked { Walked (plain_meant world.old scope.old expr.now frame.now) frame.now result world.old frame.now world.new }
+    ensures walked { let meant = plain_meant world.old scope.old expr.now frame.now in
+        Walked meant frame.now result world.old frame.now world.new }
     ensures scope { OnOk result (scope.new ≡ with_variable scope.old name.now Role.Plain at) }
 {
     perform_in(alloc, world, scope, frame, expr)?;
@@ -119,7 +121,8 @@ fn perform_val(
     name: &Word,
     expr: &Expr,
 ) -> Result<(), Miss>
-    ensures walked { Walked (val_meant world.old scope.old at name.now expr.now frame.old) frame.old result world.old frame.new world.new }
+    ensures walked { let meant = val_meant world.old scope.old at name.now expr.now frame.old in
+        Walked meant frame.old result world.old frame.new world.new }
     ensures scope { OnOk result (scope.new ≡ val_scope world.old scope.old at name.now expr.now) }
 {
     if is_portable(world.stage.typed(), scope, expr) {
@@ -138,7 +141,8 @@ fn perform_all(
     frame: &mut Frame,
     stmts: &[Stmt],
 ) -> Result<(), Miss>
-    ensures walked { Walked (stmts_meant world.old scope.old stmts.now frame.old) frame.old result world.old frame.new world.new }
+    ensures walked { let meant = stmts_meant world.old scope.old stmts.now frame.old in
+        Walked meant frame.old result world.old frame.new world.new }
     ensures scope { OnOk result (Kept scope.old scope.new) }
 {
     'stmts: for stmt in stmts {
@@ -179,7 +183,8 @@ fn perform_stmt(
     frame: &mut Frame,
     stmt: &Stmt,
 ) -> Result<(), Miss>
-    ensures walked { Walked (stmt_meant world.old scope.old stmt.now frame.old) frame.old result world.old frame.new world.new }
+    ensures walked { let meant = stmt_meant world.old scope.old stmt.now frame.old in
+        Walked meant frame.old result world.old frame.new world.new }
     ensures scope { OnOk result (scope.new ≡ scope_behind world.old scope.old stmt.now) }
 {
     let at = stmt.at;
@@ -218,7 +223,8 @@ fn perform_if(
     yes: &Seq<Stmt>,
     no: &Seq<Stmt>,
 ) -> Result<(), Miss>
-    ensures walked { Walked (if_meant world.old scope.old at condition.now yes.now no.now frame.old) frame.old result world.old frame.new world.new }
+    ensures walked { let meant = if_meant world.old scope.old at condition.now yes.now no.now frame.old in
+        Walked meant frame.old result world.old frame.new world.new }
     ensures scope { OnOk result (scope.new ≡ scope.old) }
 {
     if branches_hold(world.stage.typed(), yes.as_slice(), no.as_slice()) {
@@ -240,7 +246,8 @@ fn perform_branch(
     yes: &Seq<Stmt>,
     no: &Seq<Stmt>,
 ) -> Result<(), Miss>
-    ensures walked { Walked (branch_meant world.old scope.old at condition.now yes.now no.now frame.old) frame.old result world.old frame.new world.new }
+    ensures walked { let meant = branch_meant world.old scope.old at condition.now yes.now no.now frame.old in
+        Walked meant frame.old result world.old frame.new world.new }
     ensures scope { OnOk result (scope.new ≡ scope.old) }
 {
     let value = value_of(alloc, world, frame, condition)?;
@@ -260,7 +267,8 @@ fn perform_for(
     turns: &Loop<'_>,
     list: &Expr,
 ) -> Result<(), Miss>
-    ensures walked { Walked (for_meant world.old scope.old turns.now list.now frame.old) frame.old result world.old frame.new world.new }
+    ensures walked { let meant = for_meant world.old scope.old turns.now list.now frame.old in
+        Walked meant frame.old result world.old frame.new world.new }
     ensures scope { OnOk result (scope.new ≡ scope.old) }
 {
     if over_rows(world.stage.typed(), list) {
@@ -280,7 +288,8 @@ fn perform_rows(
     turns: &Loop<'_>,
     list: &Expr,
 ) -> Result<(), Miss>
-    ensures walked { Walked (rows_meant world.old scope.old turns.now list.now frame.old) frame.old result world.old frame.new world.new }
+    ensures walked { let meant = rows_meant world.old scope.old turns.now list.now frame.old in
+        Walked meant frame.old result world.old frame.new world.new }
     ensures scope { OnOk result (scope.new ≡ scope.old) }
 {
     let value = value_of(alloc, world, frame, list)?;
