@@ -10,10 +10,11 @@ use crate::real_sink::RealSink;
 use crate::real_source::RealSource;
 use rb_session::{AnyLink, Dial, DialStop, FrameLink, MemoryLink, Target};
 use rb_trees::Memory;
+use std::alloc::{AllocError, Global};
 use std::io::ErrorKind;
 use std::marker::Model;
 use std::net::{Net, TcpListener, TcpStream};
-use std::process::{Command, Processes, Stdio, SystemProcess};
+use std::process::{Child, Command, Processes, Stdio, SystemProcess};
 use std::{io, str};
 
 /// A link of a real Dial.
@@ -153,10 +154,23 @@ fn start<R: Processes<Started = SystemProcess> + AllocGlobal>(
     ensures source { IfOk result (λ ends. ends.0 ≡ 0) }
     ensures sink { IfOk result (λ ends. ends.1 ≡ 0) }
 {
-    let mut command = Command::new(runtime.alloc(), program)?;
+    let mut command = command_of(runtime.alloc(), program, file)?;
+    ends_of_child(command.spawn(runtime)?)
+}
+
+/// How a child is started that serves a file: its standard input and output are pipes of this process.
+fn command_of(alloc: Global, program: &str, file: &str) -> Result<Command, AllocError> {
+    let mut command = Command::new(alloc, program)?;
     command.arg("child")?.arg(file)?;
     command.stdin(Stdio::piped()).stdout(Stdio::piped());
-    let mut child = command.spawn(runtime)?;
+    Ok(command)
+}
+
+/// The two ends of a child. One that has no pipes is waited for.
+fn ends_of_child(mut child: Child) -> io::Result<(RealSource, RealSink)>
+    ensures source { IfOk result (λ ends. ends.0 ≡ 0) }
+    ensures sink { IfOk result (λ ends. ends.1 ≡ 0) }
+{
     match (child.stdin.take(), child.stdout.take()) {
         (Some(input), Some(output)) => {
             let source = RealSource::of_child(output);
