@@ -1,4 +1,4 @@
-// All sentences. `@` stands for a name or sign of the text at hand, and `#` for a number or a type.
+// The sentences on texts and on runs. `@` stands for a name or sign of the text at hand, and `#` for a number or a type.
 
 /// What is wrong, and what to do.
 #[derive(Clone, Copy)]
@@ -388,49 +388,10 @@ pub const OBJECT_NUMBER: Help = Help {
     mend: b"Number the objects 0, 1, 2 and so on, in their order.",
 };
 
-// What stands around a program.
-
-pub const FILE_FAULT: Help = Help {
-    wrong: b"The file `@` can't be read.",
-    mend: b"See whether its name is right, and whether it may be read.",
-};
-
-pub const FILE_TOO_LONG: Help = Help {
-    wrong: b"The file `@` has more than 1048576 bytes.",
-    mend: b"Shorten it.",
-};
-
-pub const LINK_FAULT: Help = Help {
-    wrong: b"The link to the server broke, after # exchanges.",
-    mend: b"See whether the server still runs. What it did before stays done, and maybe the last batch too.",
-};
-
-pub const BAD_REPLY: Help = Help {
-    wrong: b"The server sent a reply that can't be understood, after # exchanges.",
-    mend: b"See whether the server is the one that is meant, and of the same version.",
-};
-
-pub const DIAL_FAULT: Help = Help {
-    wrong: b"No link to `@` came about.",
-    mend: b"See whether the server is there, and whether it listens.",
-};
-
-pub const LISTEN_FAULT: Help = Help {
-    wrong: b"`@` can't be listened on.",
-    mend: b"See whether the address is one of this machine, and whether another program uses it.",
-};
-
-pub const OUTPUT_FAULT: Help = Help {
-    wrong: b"The output can't be written.",
-    mend: b"See whether what reads it still runs, and whether the disk is full.",
-};
-
 pub const WANT_OF_MEMORY: Help = Help {
     wrong: b"No memory was left.",
     mend: b"Give the program more, or less to do.",
 };
-
-pub const NO_COMMAND: &[u8] = b"The words are those of no command.";
 
 // Labels beside carets.
 

@@ -1,7 +1,9 @@
 // What a person is told on standard error, behind the answer's line.
 
-use rb_help::{Trouble, explain};
+use rb_help::{Trouble, coloured, explain};
 use rb_top::{SourceError, Status};
+use rb_trees::{Memory, Word};
+use std::alloc::Global;
 use std::rt::Files;
 use std::{fs, str};
 
@@ -22,9 +24,29 @@ fn trouble_of(status: &Status) -> Option<(Trouble<'_>, usize)> {
     }
 }
 
-/// Writes to standard error what went wrong, with the lines of the text. What can't be read or written is left out: it
-/// changes neither output nor status.
-pub fn tell<R: AllocGlobal + Files + Eprint>(rt: &R, words: &[String], status: &Status) {
+/// What a person is told of a trouble in a text, in colours or plain.
+fn told(
+    alloc: Global,
+    text: &[u8],
+    trouble: &Trouble<'_>,
+    in_colours: bool,
+) -> Result<Word, Memory> {
+    let plain = explain(alloc, text, trouble)?;
+    if in_colours {
+        coloured(alloc, plain.as_slice())
+    } else {
+        Ok(plain)
+    }
+}
+
+/// Writes to standard error what went wrong, with the lines of the text, in colours or plain. What can't be read or written
+/// is left out: it changes neither output nor status.
+pub fn tell<R: AllocGlobal + Files + Eprint>(
+    rt: &R,
+    words: &[String],
+    status: &Status,
+    in_colours: bool,
+) {
     let Some((trouble, number)) = trouble_of(status) else {
         return;
     };
@@ -35,7 +57,7 @@ pub fn tell<R: AllocGlobal + Files + Eprint>(rt: &R, words: &[String], status: &
     let Ok(text) = text else {
         return;
     };
-    if let Ok(told) = explain(rt.alloc(), text.as_slice(), &trouble) {
+    if let Ok(told) = told(rt.alloc(), text.as_slice(), &trouble, in_colours) {
         if let Ok(lines) = str::from_utf8(told.as_slice()) {
             let _ = eprint!(rt; "{lines}");
         }

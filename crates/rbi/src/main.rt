@@ -9,17 +9,25 @@ use rb_top::{Status, top};
 use rb_trees::Memory;
 use real_files::RealFiles;
 use standard_output::StandardOutput;
+use std::env::VarError;
+use std::io::IsTerminal;
 use std::process::ExitCode;
 use std::rt::{Env, Files};
 use std::{env, io};
 
 fn main(rt: HostRuntime) -> ExitCode {
-    let status = run(&rt);
+    let in_colours = rt.stderr().is_terminal() && !has_no_colour(&rt);
+    let status = run(&rt, in_colours);
     ExitCode::from(status.code())
 }
 
+/// Whether the environment asks for no colours.
+fn has_no_colour<R: Env + AllocGlobal>(rt: &R) -> bool {
+    !matches!(env::var(rt, "NO_COLOR"), Err(VarError::NotPresent))
+}
+
 /// Carries out what the words say, and tells what went wrong.
-fn run<R: Files + Env + Print + Eprint + AllocGlobal>(rt: &R) -> Status {
+fn run<R: Files + Env + Print + Eprint + AllocGlobal>(rt: &R, in_colours: bool) -> Status {
     match words(rt) {
         Ok(words) => {
             let status = top(
@@ -28,7 +36,7 @@ fn run<R: Files + Env + Print + Eprint + AllocGlobal>(rt: &R) -> Status {
                 &mut RealFiles::make(rt),
                 &mut StandardOutput::make(rt),
             );
-            help::tell(rt, words.as_slice(), &status);
+            help::tell(rt, words.as_slice(), &status, in_colours);
             status
         }
         Err(Memory) => Status::Memory,
