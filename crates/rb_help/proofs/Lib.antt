@@ -1,3 +1,4 @@
 pub mod Appended
+pub mod Painting
 pub mod Quoting
 pub mod Ranges

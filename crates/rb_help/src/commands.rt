@@ -6,14 +6,19 @@ ghost use Rattle.std.specs.List.{flat_map};
 use rb_trees::{Memory, Seq, Word};
 use std::alloc::Global;
 
-/// The lines that tell the forms of the commands, one for each command between the first and the last.
-pub static USAGE: [&[u8]; 6] = [
+/// The lines that tell the forms of the commands, one for each command, and what their words are.
+pub static USAGE: [&[u8]; 11] = [
     b"The commands, where P is the file of a program and S that of a service:\n",
     b"  check P                tell whether the program P is accepted\n",
     b"  split P                show how each batch of P is divided\n",
     b"  unsplit P S [FUEL]     run P as it stands on the service S, and send nothing\n",
     b"  both P S [FUEL]        run P, and S beside it in the same process\n",
+    b"  run ADDRESS P [FUEL]   run P on the server that listens at ADDRESS\n",
+    b"  pair P S [FUEL]        run P, and S beside it in a child process\n",
+    b"  serve ADDRESS S COUNT  serve S at ADDRESS to COUNT clients, one after the other\n",
+    b"  child S                serve S to one client over standard input and output\n",
     b"FUEL is how many calls and turns of loops the program may make, 1000000 where it is left out.\n",
+    b"ADDRESS is a host and a port, such as 127.0.0.1:4000, and COUNT is 1 to 1000000.\n",
 ];
 
 /// Lines one after the other.

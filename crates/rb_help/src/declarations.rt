@@ -85,6 +85,24 @@ pub fn declared_once(pieces: &Pieces<'_>, name: &[u8], declared: Declared) -> Op
     }
 }
 
+/// How many fields the class that a piece names has, by the colons that stand in its braces and in no others.
+pub fn fields_behind(pieces: &Pieces<'_>, index: usize) -> u64 {
+    let mut open = 0usize;
+    let mut count = 0u64;
+    for place in index..pieces.len() {
+        match pieces.text(place) {
+            b"{" | b"(" => open = open.saturating_add(1),
+            b"}" | b")" if open <= 1 => return count,
+            b"}" | b")" => open -= 1,
+            b":" if open == 1 && !pieces.is_earlier(place, 1, b")") => {
+                count = count.saturating_add(1);
+            }
+            _ => {}
+        }
+    }
+    count
+}
+
 /// How many arguments stand in the parentheses behind a piece, by its commas.
 pub fn arguments_behind(pieces: &Pieces<'_>, index: usize) -> u64 {
     let first = index.saturating_add(1);

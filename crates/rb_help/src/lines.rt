@@ -35,7 +35,7 @@ fn start_of_last(text: &[u8]) -> usize
 }
 
 /// How long the first line of a text is, without its line feed.
-fn length_of_first(text: &[u8]) -> usize
+pub fn length_of_first(text: &[u8]) -> usize
     ensures within { result ≤ length text.now }
     ensures count { result ≡ position_or_len is_line_feed text.now }
 {

@@ -1,8 +1,10 @@
 // What is said of what stands around a program: words, files, links, output and memory.
 
 use crate::commands::usage;
+use crate::link_help::{say_bad_reply, say_dial_fault, say_link_fault};
+use crate::outside_texts as texts;
 use crate::page::Page;
-use crate::texts;
+use crate::texts::WANT_OF_MEMORY;
 use crate::trouble::Trouble;
 use rb_trees::Memory;
 use std::alloc::Global;
@@ -20,12 +22,12 @@ pub fn say_outside(alloc: Global, page: &mut Page, trouble: &Trouble<'_>) -> Res
         Trouble::Words => say_words(alloc, page),
         Trouble::FileFault(name) => page.say_name(&texts::FILE_FAULT, name),
         Trouble::FileTooLong(name) => page.say_name(&texts::FILE_TOO_LONG, name),
-        Trouble::LinkFault(exchanges) => page.say_number(&texts::LINK_FAULT, b"", *exchanges),
-        Trouble::BadReply(exchanges) => page.say_number(&texts::BAD_REPLY, b"", *exchanges),
-        Trouble::DialFault(target) => page.say_name(&texts::DIAL_FAULT, target),
+        Trouble::LinkFault(server, done) => say_link_fault(page, server, *done),
+        Trouble::BadReply(server, done, flaw) => say_bad_reply(alloc, page, server, *done, flaw),
+        Trouble::DialFault(server) => say_dial_fault(page, server),
         Trouble::ListenFault(address) => page.say_name(&texts::LISTEN_FAULT, address),
         Trouble::OutputFault => page.say_plain(&texts::OUTPUT_FAULT),
-        Trouble::Memory => page.say_plain(&texts::WANT_OF_MEMORY),
+        Trouble::Memory => page.say_plain(&WANT_OF_MEMORY),
         Trouble::Faulted(_, _)
         | Trouble::Unread(_)
         | Trouble::Untyped(_)

@@ -75,10 +75,16 @@ impl Page {
         self.add(b"\n")
     }
 
-    /// The same with a number.
-    pub fn sentence_of(&mut self, text: &[u8], name: &[u8], number: u64) -> Result<(), Memory> {
+    /// Adds a text with the name in place of each `@`, and the number in decimal in place of each `#`.
+    pub fn fill_of(&mut self, text: &[u8], name: &[u8], number: u64) -> Result<(), Memory> {
         let digits = format!(in self.alloc; "{number}")?;
-        self.sentence(text, name, digits.as_bytes())
+        self.fill(text, name, digits.as_bytes())
+    }
+
+    /// Adds a sentence with a number on a line of its own.
+    pub fn sentence_of(&mut self, text: &[u8], name: &[u8], number: u64) -> Result<(), Memory> {
+        self.fill_of(text, name, number)?;
+        self.add(b"\n")
     }
 
     /// Adds what is wrong and what to do, of a name and a number or type.

@@ -2,6 +2,7 @@
 
 ghost use Rattle.std.specs.Prelude.{◌+◌, ◌^◌, ◌<◌};
 
+use crate::lines::line_number;
 use rb_trees::Memory;
 use std::alloc::Global;
 
@@ -154,6 +155,12 @@ impl<'a> Pieces<'a> {
             Some(piece) => piece.start,
             None => self.source.len(),
         }
+    }
+
+    /// The number of the line in which a piece begins.
+    pub fn line(&self, index: usize) -> u64 {
+        let start = self.start(index).min(u32::MAX as usize);
+        line_number(self.source, start as u32) as u64
     }
 
     /// The bytes of a piece, or none where there is no such piece.

@@ -109,8 +109,8 @@ pub fn positions(alloc: Global, trouble: &Trouble<'_>) -> Result<Seq<u32>, Memor
         Trouble::Words
         | Trouble::FileFault(_)
         | Trouble::FileTooLong(_)
-        | Trouble::LinkFault(_)
-        | Trouble::BadReply(_)
+        | Trouble::LinkFault(_, _)
+        | Trouble::BadReply(_, _, _)
         | Trouble::DialFault(_)
         | Trouble::ListenFault(_)
         | Trouble::OutputFault

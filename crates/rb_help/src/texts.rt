@@ -1,10 +1,20 @@
-// All sentences. `@` stands for a name or sign of the text at hand, and `#` for a number or a type.
+// The sentences on texts and on runs. `@` stands for a name or sign of the text at hand, and `#` for a number or a type.
 
 /// What is wrong, and what to do.
 #[derive(Clone, Copy)]
 pub struct Help {
     pub wrong: &'static [u8],
     pub mend: &'static [u8],
+}
+
+/// What is wrong with a count of arguments, and what to do: where the declaration isn't known, where it is, and where it
+/// wants none.
+#[derive(Clone, Copy)]
+pub struct Count {
+    pub wrong: &'static [u8],
+    pub mend: &'static [u8],
+    pub one_for_each: &'static [u8],
+    pub write_none: &'static [u8],
 }
 
 // Tokens.
@@ -144,19 +154,21 @@ pub const NO_RETURN: Help = Help {
     mend: b"End its body by `return ..;`, or take the type behind the colon away.",
 };
 
-pub const CALL_COUNT: Help = Help {
-    wrong: b"`@` takes another number of arguments than the # that are written here.",
+pub const CALL_COUNT: Count = Count {
+    wrong: b"`@` takes another number of arguments than #.",
     mend: b"Write one for each parameter of the method.",
+    one_for_each: b"one for each parameter of `fun @` in line #.",
+    write_none: b"Write none, since `fun @` in line # has no parameters.",
 };
 
-pub const CALL_LINE: &[u8] = b"Write one for each parameter of `fun @` in line #.";
-
-pub const NEW_COUNT: Help = Help {
-    wrong: b"`new @` takes another number of values than the # that are written here.",
+pub const NEW_COUNT: Count = Count {
+    wrong: b"`new @` takes another number of values than #.",
     mend: b"Write one for each field of the class, in their order.",
+    one_for_each: b"one for each field of `class @` in line #, in their order.",
+    write_none: b"Write none, since `class @` in line # has no fields.",
 };
 
-pub const NEW_LINE: &[u8] = b"Write one for each field of `class @` in line #, in their order.";
+pub const WRITE_SO_MANY: &[u8] = b"Write #, ";
 
 // Types that may not stand where they do.
 
@@ -256,7 +268,8 @@ pub const NAME_NOT_CONSTANT: Help = Help {
 
 pub const LOCAL_CONDITION: Help = Help {
     wrong: b"Local code decides whether the call is made, and it runs only when the batch has come back.",
-    mend: b"Decide by literals, results of calls, and `val`s of these or from outside; or put the batch inside.",
+    mend: b"Decide by results of calls, and by variables from before the batch that it doesn't assign; \
+or let the batch begin inside.",
 };
 
 pub const ESCAPES: Help = Help {
@@ -328,11 +341,11 @@ pub const TOO_DEEP: Help = Help {
 
 pub const FUEL_USED: Help = Help {
     wrong: b"The fuel is used up: each call of a method and each turn of a loop takes one unit.",
-    mend: b"See whether the loop ends. A run is given more by its last word; a batch has 1000000 units at the server.",
+    mend: b"See whether it ends. The last word of a command gives a run more; at the server each batch has 1000000 units.",
 };
 
 pub const THROWN: Help = Help {
-    wrong: b"The program threw \"@\", and nothing caught it.",
+    wrong: b"\"@\" was thrown, and nothing caught it.",
     mend: b"Catch it by `try { .. } catch (e) { .. }`, or see why it is thrown.",
 };
 
@@ -364,73 +377,34 @@ pub const OTHER_FAULT: Help = Help {
 // Objects of services.
 
 pub const NO_ROOT: Help = Help {
-    wrong: b"The root's number is that of no object.",
+    wrong: b"The root's number in line @ is that of no object.",
     mend: b"Write an object with that number, or name another one behind `root`.",
 };
 
 pub const BAD_REFERENCE: Help = Help {
-    wrong: b"A value of object # names an object that isn't there.",
+    wrong: b"A value of object # in line @ names an object that isn't there.",
     mend: b"Write that object, or name one that is written.",
 };
 
 pub const FIELD_MISSING: Help = Help {
-    wrong: b"The fields of object # aren't those of its class in their order.",
+    wrong: b"The fields of object # in line @ aren't those of its class in their order.",
     mend: b"Give each field of the class a value, in the order of the class.",
 };
 
 pub const FIELD_KIND: Help = Help {
-    wrong: b"A value of object # isn't of its field's type, or is a list of more than 10000 items.",
+    wrong: b"A value of object # in line @ isn't of its field's type, or is a list of more than 10000 items.",
     mend: b"Give each field a value of the type that the class says.",
 };
 
 pub const OBJECT_NUMBER: Help = Help {
-    wrong: b"Where object # is due, another number is written.",
+    wrong: b"In line @ object # is due, and another number is written.",
     mend: b"Number the objects 0, 1, 2 and so on, in their order.",
-};
-
-// What stands around a program.
-
-pub const FILE_FAULT: Help = Help {
-    wrong: b"The file `@` can't be read.",
-    mend: b"See whether its name is right, and whether it may be read.",
-};
-
-pub const FILE_TOO_LONG: Help = Help {
-    wrong: b"The file `@` has more than 1048576 bytes.",
-    mend: b"Shorten it.",
-};
-
-pub const LINK_FAULT: Help = Help {
-    wrong: b"The link to the server broke, after # exchanges.",
-    mend: b"See whether the server still runs. What it did before stays done, and maybe the last batch too.",
-};
-
-pub const BAD_REPLY: Help = Help {
-    wrong: b"The server sent a reply that can't be understood, after # exchanges.",
-    mend: b"See whether the server is the one that is meant, and of the same version.",
-};
-
-pub const DIAL_FAULT: Help = Help {
-    wrong: b"No link to `@` came about.",
-    mend: b"See whether the server is there, and whether it listens.",
-};
-
-pub const LISTEN_FAULT: Help = Help {
-    wrong: b"`@` can't be listened on.",
-    mend: b"See whether the address is one of this machine, and whether another program uses it.",
-};
-
-pub const OUTPUT_FAULT: Help = Help {
-    wrong: b"The output can't be written.",
-    mend: b"See whether what reads it still runs, and whether the disk is full.",
 };
 
 pub const WANT_OF_MEMORY: Help = Help {
     wrong: b"No memory was left.",
     mend: b"Give the program more, or less to do.",
 };
-
-pub const NO_COMMAND: &[u8] = b"The words are those of no command.";
 
 // Labels beside carets.
 

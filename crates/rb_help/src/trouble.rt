@@ -2,6 +2,34 @@
 
 use rb_trees::{Fault, ReadError, Refusal, StoreError, TypeError};
 
+/// The server that a client speaks to.
+#[derive(Clone, Copy)]
+pub enum Server<'a> {
+    /// The one that listens at this address.
+    Address(&'a [u8]),
+    /// The child process that serves the file of this name.
+    Child(&'a [u8]),
+}
+
+/// What is wrong with a server's reply. Bytes are counted from 0.
+#[derive(Clone, Copy)]
+pub enum ReplyFlaw {
+    /// It ends after so many bytes.
+    Cut(u64),
+    /// It has a byte here that no reply has there.
+    Frame(u64),
+    /// It holds no results, by this number in the list of what payloads may break, and first at this byte.
+    Forest(u8, u64),
+    /// Its results lack what this step of the batch's script gives.
+    Misfit(u32),
+    /// Its results are more than the batch's script gives.
+    Extra,
+    /// It refuses the batch's script, by a refusal with this number at this place.
+    Refused(u8, u32),
+    /// It is a refusal that can't be read.
+    Garbled,
+}
+
 /// What went wrong in a command, borrowed from what its status holds. Positions are byte offsets of the text that the
 /// trouble speaks of: of the service for `Unserved`, and of the program for all others.
 #[derive(Drop)]
@@ -23,11 +51,11 @@ pub enum Trouble<'a> {
     /// The service's text is refused.
     Unserved(&'a StoreError),
     /// An exchange with the server failed, after so many that didn't.
-    LinkFault(u64),
-    /// The server's reply isn't one, after so many that were.
-    BadReply(u64),
-    /// No link to what is named so came about.
-    DialFault(&'a [u8]),
+    LinkFault(Server<'a>, u64),
+    /// The server's reply can't be used, after so many that could.
+    BadReply(Server<'a>, u64, ReplyFlaw),
+    /// No link to the server came about.
+    DialFault(Server<'a>),
     /// What is named so can't be listened on.
     ListenFault(&'a [u8]),
     /// The output can't be written.

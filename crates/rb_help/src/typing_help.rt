@@ -2,21 +2,15 @@
 
 use crate::declarations::{
     Declared, arguments_behind, bound_name, declared_at, declared_before, declared_once,
+    fields_behind,
 };
-use crate::lines::line_number;
 use crate::page::Page;
 use crate::pieces::Pieces;
 use crate::texts;
-use crate::texts::Help;
+use crate::texts::{Count, Help};
 use crate::wrong_types::say_wrong_type;
 use rb_trees::{Memory, TypeError};
 use std::alloc::Global;
-
-/// The number of the line in which a piece stands.
-fn line_of(pieces: &Pieces<'_>, index: usize) -> u64 {
-    let start = pieces.start(index);
-    line_number(pieces.source(), start.min(u32::MAX as usize) as u32) as u64
-}
 
 /// What is unknown at a piece that is no word of the language.
 fn unknown(pieces: &Pieces<'_>, index: usize) -> &'static Help {
@@ -43,28 +37,40 @@ fn say_taken(page: &mut Page, pieces: &Pieces<'_>, at: u32) -> Result<(), Memory
     let index = bound_name(pieces, statement);
     let name = pieces.text(index);
     match declared_before(pieces, statement, name, declared_at(pieces, index)) {
-        Some(earlier) => page.say_number(&texts::TAKEN, name, line_of(pieces, earlier)),
+        Some(earlier) => page.say_number(&texts::TAKEN, name, pieces.line(earlier)),
         None => page.say_name(&texts::TAKEN_SOMEWHERE, name),
     }
 }
 
-/// What is said of a count, with the line of the declaration where there is one of that name alone.
+/// What is said of the arguments behind a name, of which another number is wanted.
 fn say_counted(
     page: &mut Page,
     pieces: &Pieces<'_>,
     counted: usize,
-    help: &Help,
-    behind: &[u8],
+    help: &Count,
     declared: Declared,
 ) -> Result<(), Memory> {
     let name = pieces.text(counted);
     let count = arguments_behind(pieces, counted);
-    match declared_once(pieces, name, declared) {
-        None => page.say_number(help, name, count),
-        Some(declaration) => {
-            page.sentence_of(help.wrong, name, count)?;
-            page.sentence_of(behind, name, line_of(pieces, declaration))
+    page.sentence_of(help.wrong, name, count)?;
+    let Some(declaration) = declared_once(pieces, name, declared) else {
+        return page.sentence(help.mend, b"", b"");
+    };
+    let line = pieces.line(declaration);
+    match wanted_by(pieces, declaration, declared) {
+        0 => page.sentence_of(help.write_none, name, line),
+        wanted => {
+            page.fill_of(texts::WRITE_SO_MANY, b"", wanted)?;
+            page.sentence_of(help.one_for_each, name, line)
         }
+    }
+}
+
+/// How many arguments a declaration wants: of a method its parameters, and of a class its fields.
+fn wanted_by(pieces: &Pieces<'_>, declaration: usize, declared: Declared) -> u64 {
+    match declared {
+        Declared::Type => fields_behind(pieces, declaration),
+        _ => arguments_behind(pieces, declaration),
     }
 }
 
@@ -72,18 +78,10 @@ fn say_count(page: &mut Page, pieces: &Pieces<'_>, at: u32) -> Result<(), Memory
     let index = pieces.index_of(at);
     if pieces.is_later(index, 0, b"new") {
         let class = index.saturating_add(1);
-        let help = &texts::NEW_COUNT;
-        return say_counted(page, pieces, class, help, texts::NEW_LINE, Declared::Type);
+        say_counted(page, pieces, class, &texts::NEW_COUNT, Declared::Type)
+    } else {
+        say_counted(page, pieces, index, &texts::CALL_COUNT, Declared::Method)
     }
-    let help = &texts::CALL_COUNT;
-    say_counted(
-        page,
-        pieces,
-        index,
-        help,
-        texts::CALL_LINE,
-        Declared::Method,
-    )
 }
 
 fn say_not_assignable(page: &mut Page, pieces: &Pieces<'_>, at: u32) -> Result<(), Memory> {

@@ -106,7 +106,7 @@ Let a `while` do what the method does by calling itself.
             "1 | main { while (true) { } }
   |        ^
 The fuel is used up: each call of a method and each turn of a loop takes one unit.
-See whether the loop ends. A run is given more by its last word; a batch has 1000000 units at the server.
+See whether it ends. The last word of a command gives a run more; at the server each batch has 1000000 units.
 "
         )?
     );
@@ -119,7 +119,7 @@ See whether the loop ends. A run is given more by its last word; a batch has 100
             "throw",
             "1 | main { throw \"Big\"; }
   |        ^
-The program threw \"Big\", and nothing caught it.
+\"Big\" was thrown, and nothing caught it.
 Catch it by `try { .. } catch (e) { .. }`, or see why it is thrown.
 "
         )?

@@ -2,7 +2,11 @@
 #![tactic(auto)]
 
 #[cfg(test)]
+mod colours;
+#[cfg(test)]
 mod faults;
+#[cfg(test)]
+mod links;
 #[cfg(test)]
 mod names;
 #[cfg(test)]
@@ -13,6 +17,8 @@ mod quotes;
 mod readings;
 #[cfg(test)]
 mod refusals;
+#[cfg(test)]
+mod replies;
 #[cfg(test)]
 mod said;
 #[cfg(test)]

@@ -55,56 +55,6 @@ Give the program more, or less to do.
 }
 
 #[test]
-fn links_are_told_with_what_was_tried(rt: HostRuntime) -> Result<(), Fail> {
-    let alloc = rt.alloc();
-    let trouble = Trouble::LinkFault(2);
-    assert!(rt;
-        says(
-            alloc,
-            "main { }",
-            &trouble,
-            "The link to the server broke, after 2 exchanges.
-See whether the server still runs. What it did before stays done, and maybe the last batch too.
-"
-        )?
-    );
-    let trouble = Trouble::BadReply(0);
-    assert!(rt;
-        says(
-            alloc,
-            "main { }",
-            &trouble,
-            "The server sent a reply that can't be understood, after 0 exchanges.
-See whether the server is the one that is meant, and of the same version.
-"
-        )?
-    );
-    let trouble = Trouble::DialFault(b"host:99");
-    assert!(rt;
-        says(
-            alloc,
-            "main { }",
-            &trouble,
-            "No link to `host:99` came about.
-See whether the server is there, and whether it listens.
-"
-        )?
-    );
-    let trouble = Trouble::ListenFault(b"host:99");
-    assert!(rt;
-        says(
-            alloc,
-            "main { }",
-            &trouble,
-            "`host:99` can't be listened on.
-See whether the address is one of this machine, and whether another program uses it.
-"
-        )?
-    );
-    Ok(())
-}
-
-#[test]
 fn the_forms_of_the_commands_are_told(rt: HostRuntime) -> Result<(), Fail> {
     let alloc = rt.alloc();
     let trouble = Trouble::Words;
@@ -119,7 +69,12 @@ The commands, where P is the file of a program and S that of a service:
   split P                show how each batch of P is divided
   unsplit P S [FUEL]     run P as it stands on the service S, and send nothing
   both P S [FUEL]        run P, and S beside it in the same process
+  run ADDRESS P [FUEL]   run P on the server that listens at ADDRESS
+  pair P S [FUEL]        run P, and S beside it in a child process
+  serve ADDRESS S COUNT  serve S at ADDRESS to COUNT clients, one after the other
+  child S                serve S to one client over standard input and output
 FUEL is how many calls and turns of loops the program may make, 1000000 where it is left out.
+ADDRESS is a host and a port, such as 127.0.0.1:4000, and COUNT is 1 to 1000000.
 "
         )?
     );

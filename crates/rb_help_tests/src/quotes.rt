@@ -134,7 +134,7 @@ fn places_on_a_short_line_share_it(rt: HostRuntime) -> Result<(), Fail> {
   | ^ local code decides this
   |   ^ and this would wait for it
 Local code decides whether the call is made, and it runs only when the batch has come back.
-Decide by literals, results of calls, and `val`s of these or from outside; or put the batch inside.
+Decide by results of calls, and by variables from before the batch that it doesn't assign; or let the batch begin inside.
 "
         )?
     );
@@ -151,7 +151,7 @@ Decide by literals, results of calls, and `val`s of these or from outside; or pu
 1 | aaaaaaaaaaaaaaaaaaaaaaaaaaaaaaaaaaaaaaaaaaaaaaaaaaaaaaaaaaaaaa...
   |   ^ and this would wait for it
 Local code decides whether the call is made, and it runs only when the batch has come back.
-Decide by literals, results of calls, and `val`s of these or from outside; or put the batch inside.
+Decide by results of calls, and by variables from before the batch that it doesn't assign; or let the batch begin inside.
 "
         )?
     );

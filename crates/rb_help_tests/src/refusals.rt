@@ -125,7 +125,7 @@ Put the Int, Bool or Text that is meant into a `val` before the batch, and write
   |         ^ local code decides this
   |                  ^ and this would wait for it
 Local code decides whether the call is made, and it runs only when the batch has come back.
-Decide by literals, results of calls, and `val`s of these or from outside; or put the batch inside.
+Decide by results of calls, and by variables from before the batch that it doesn't assign; or let the batch begin inside.
 "
         )?
     );

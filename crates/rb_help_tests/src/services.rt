@@ -20,13 +20,13 @@ See whether something is missing before it, such as a `;`, a `)` or a `}`.
 "
         )?
     );
-    let source = "class A { } object 0: A { } root 0;";
+    let source = "class A { }\nobject 0: A { }\nroot 1;";
     assert!(rt;
         unserved(
             alloc,
             source,
             StoreError::NoRoot,
-            "The root's number is that of no object.
+            "The root's number in line 3 is that of no object.
 Write an object with that number, or name another one behind `root`.
 "
         )?
@@ -37,46 +37,46 @@ Write an object with that number, or name another one behind `root`.
 #[test]
 fn objects_are_named_by_their_numbers(rt: HostRuntime) -> Result<(), Fail> {
     let alloc = rt.alloc();
-    let source = "class A { } object 0: A { } root 0;";
+    let source = "class A { } // object\nobject 0: A { }\n\nobject 1: A { } root 0;";
     assert!(rt;
         unserved(
             alloc,
             source,
-            StoreError::BadReference(3),
-            "A value of object 3 names an object that isn't there.
+            StoreError::BadReference(1),
+            "A value of object 1 in line 4 names an object that isn't there.
 Write that object, or name one that is written.
 "
         )?
     );
-    let source = "class A { } object 0: A { } root 0;";
+    let source = "class A { } // object\nobject 0: A { }\n\nobject 1: A { } root 0;";
     assert!(rt;
         unserved(
             alloc,
             source,
-            StoreError::FieldMissing(3),
-            "The fields of object 3 aren't those of its class in their order.
+            StoreError::FieldMissing(1),
+            "The fields of object 1 in line 4 aren't those of its class in their order.
 Give each field of the class a value, in the order of the class.
 "
         )?
     );
-    let source = "class A { } object 0: A { } root 0;";
+    let source = "class A { } // object\nobject 0: A { }\n\nobject 1: A { } root 0;";
     assert!(rt;
         unserved(
             alloc,
             source,
-            StoreError::FieldKind(3),
-            "A value of object 3 isn't of its field's type, or is a list of more than 10000 items.
+            StoreError::FieldKind(1),
+            "A value of object 1 in line 4 isn't of its field's type, or is a list of more than 10000 items.
 Give each field a value of the type that the class says.
 "
         )?
     );
-    let source = "class A { } object 0: A { } root 0;";
+    let source = "class A { } // object\nobject 0: A { }\n\nobject 1: A { } root 0;";
     assert!(rt;
         unserved(
             alloc,
             source,
-            StoreError::ObjectNumber(3),
-            "Where object 3 is due, another number is written.
+            StoreError::ObjectNumber(1),
+            "In line 4 object 1 is due, and another number is written.
 Number the objects 0, 1, 2 and so on, in their order.
 "
         )?

@@ -15,8 +15,8 @@ fn counts_of_arguments(rt: HostRuntime) -> Result<(), Fail> {
             TypeError::WrongCount(place(source, "m(f")),
             "4 | main { new A().m(f(1, 2), 3); }
   |                ^
-`m` takes another number of arguments than the 2 that are written here.
-Write one for each parameter of `fun m` in line 2.
+`m` takes another number of arguments than 2.
+Write 1, one for each parameter of `fun m` in line 2.
 "
         )?
     );
@@ -28,11 +28,17 @@ Write one for each parameter of `fun m` in line 2.
             TypeError::WrongCount(place(source, "m ()")),
             "1 | class A { fun m(a: Int) { } } class B { fun m() { } } main { new A().m (); }
   |                                                                      ^
-`m` takes another number of arguments than the 0 that are written here.
+`m` takes another number of arguments than 0.
 Write one for each parameter of the method.
 "
         )?
     );
+    Ok(())
+}
+
+#[test]
+fn counts_of_values(rt: HostRuntime) -> Result<(), Fail> {
+    let alloc = rt.alloc();
     let source = "class A { a: Int; }\nmain { val a = new A(); }";
     assert!(rt;
         untyped(
@@ -41,8 +47,47 @@ Write one for each parameter of the method.
             TypeError::WrongCount(place(source, "new")),
             "2 | main { val a = new A(); }
   |                ^
-`new A` takes another number of values than the 0 that are written here.
-Write one for each field of `class A` in line 1, in their order.
+`new A` takes another number of values than 0.
+Write 1, one for each field of `class A` in line 1, in their order.
+"
+        )?
+    );
+    let source = "class A { fun m(a: Int): Int { return a; } }\nmain { val a = new A(1); }";
+    assert!(rt;
+        untyped(
+            alloc,
+            source,
+            TypeError::WrongCount(place(source, "new")),
+            "2 | main { val a = new A(1); }
+  |                ^
+`new A` takes another number of values than 1.
+Write none, since `class A` in line 1 has no fields.
+"
+        )?
+    );
+    let source =
+        "class A { a: Int; fun m(b: Int): Int { return b; } c: Int; fun n() { } }\nmain { new A(1).n(2); val a = new A(1); }";
+    assert!(rt;
+        untyped(
+            alloc,
+            source,
+            TypeError::WrongCount(place(source, "new A(1);")),
+            "2 | main { new A(1).n(2); val a = new A(1); }
+  |                               ^
+`new A` takes another number of values than 1.
+Write 2, one for each field of `class A` in line 1, in their order.
+"
+        )?
+    );
+    assert!(rt;
+        untyped(
+            alloc,
+            source,
+            TypeError::WrongCount(place(source, "n(2)")),
+            "2 | main { new A(1).n(2); val a = new A(1); }
+  |                 ^
+`n` takes another number of arguments than 1.
+Write none, since `fun n` in line 1 has no parameters.
 "
         )?
     );
@@ -54,7 +99,7 @@ Write one for each field of `class A` in line 1, in their order.
             TypeError::WrongCount(place(source, "new")),
             "1 | main { val a = new A(1); }
   |                ^
-`new A` takes another number of values than the 1 that are written here.
+`new A` takes another number of values than 1.
 Write one for each field of the class, in their order.
 "
         )?

@@ -6,15 +6,22 @@ mod help;
 use rb_devices::{RealDial, RealFiles, RealListen, StandardOutput};
 use rb_top::{Status, top};
 use rb_trees::Memory;
-use std::io::StdinLock;
+use std::env::VarError;
+use std::io::{IsTerminal, StdinLock};
 use std::net::{Net, TcpListener, TcpStream};
 use std::process::{ExitCode, Processes, SystemProcess};
 use std::rt::{Env, Files};
 use std::{env, io};
 
 fn main(rt: HostRuntime) -> ExitCode {
-    let status = run(&rt);
+    let in_colours = rt.stderr().is_terminal() && !has_no_colour(&rt);
+    let status = run(&rt, in_colours);
     ExitCode::from(status.code())
+}
+
+/// Whether the environment asks for no colours.
+fn has_no_colour<R: Env + AllocGlobal>(rt: &R) -> bool {
+    !matches!(env::var(rt, "NO_COLOR"), Err(VarError::NotPresent))
 }
 
 /// Carries out what the words say, and tells what went wrong.
@@ -27,7 +34,7 @@ fn run<
         + Print
         + Eprint
         + AllocGlobal,
->(rt: &R) -> Status {
+>(rt: &R, in_colours: bool) -> Status {
     match words(rt) {
         Ok(Words { program, words }) => {
             let status = top(
@@ -38,7 +45,7 @@ fn run<
                 &mut RealDial::make(rt, program.as_str()),
                 &mut RealListen::make(rt, rt.stdin(), rt.stdout()),
             );
-            help::tell(rt, words.as_slice(), &status);
+            help::tell(rt, words.as_slice(), &status, in_colours);
             status
         }
         Err(Memory) => Status::Memory,
