@@ -10,28 +10,28 @@ use std::rt::Files;
 use std::{fs, str};
 
 /// The word of a number, or nothing where there is none.
-fn word(words: &[String], number: usize) -> &[u8] {
+fn word(words: &[String], number: usize) -> &str {
     match words.get(number) {
-        Some(word) => word.as_bytes(),
-        None => b"",
+        Some(word) => word.as_str(),
+        None => "",
     }
 }
 
 /// The numbers of the words that name the program and the service.
 fn names(words: &[String]) -> (usize, usize) {
     match word(words, 0) {
-        b"run" => (2, 0),
-        b"child" => (0, 1),
+        "run" => (2, 0),
+        "child" => (0, 1),
         _ => (1, 2),
     }
 }
 
 /// The server that a client of these words speaks to.
 fn server(words: &[String]) -> Server<'_> {
-    if word(words, 0) == b"run" {
-        Server::Address(word(words, 1))
+    if word(words, 0) == "run" {
+        Server::Address(word(words, 1).as_bytes())
     } else {
-        Server::Child(word(words, 2))
+        Server::Child(word(words, 2).as_bytes())
     }
 }
 
@@ -68,18 +68,18 @@ fn trouble_of<'a>(words: &'a [String], status: &'a Status) -> Option<(Trouble<'a
             Some((Trouble::BadReply(server(words), *done, flaw(reason)), 0))
         }
         Status::DialFault => Some((Trouble::DialFault(server(words)), 0)),
-        Status::ListenFault => Some((Trouble::ListenFault(listened(words)), 0)),
+        Status::ListenFault => Some((Trouble::ListenFault(listened(words).as_bytes()), 0)),
         Status::WriteFault => Some((Trouble::OutputFault, 0)),
         Status::Memory => Some((Trouble::Memory, 0)),
     }
 }
 
 /// What a server of these words listens at.
-fn listened(words: &[String]) -> &[u8] {
-    if word(words, 0) == b"serve" {
+fn listened(words: &[String]) -> &str {
+    if word(words, 0) == "serve" {
         word(words, 1)
     } else {
-        b"-"
+        "-"
     }
 }
 

@@ -7,7 +7,7 @@ use rb_devices::{RealDial, RealFiles, RealListen, StandardOutput};
 use rb_top::{Status, top};
 use rb_trees::Memory;
 use std::env::VarError;
-use std::io::{IsTerminal, StdinLock};
+use std::io::{IsTerminal, Stdin, Stdout};
 use std::net::{Net, TcpListener, TcpStream};
 use std::process::{ExitCode, Processes, SystemProcess};
 use std::rt::{Env, Files};
@@ -15,7 +15,7 @@ use std::{env, io};
 
 fn main(rt: HostRuntime) -> ExitCode {
     let in_colours = rt.stderr().is_terminal() && !has_no_colour(&rt);
-    let status = run(&rt, in_colours);
+    let status = run(&rt, (rt.stdin(), rt.stdout()), in_colours);
     ExitCode::from(status.code())
 }
 
@@ -24,17 +24,16 @@ fn has_no_colour<R: Env + AllocGlobal>(rt: &R) -> bool {
     !matches!(env::var(rt, "NO_COLOR"), Err(VarError::NotPresent))
 }
 
-/// Carries out what the words say, and tells what went wrong.
+/// Carries out what the words say, and tells what went wrong. The session at `-` is over the standard streams.
 fn run<
     R: Files
         + Env
         + Net<Listener = TcpListener, Stream = TcpStream>
         + Processes<Started = SystemProcess>
-        + Input<Reader = StdinLock<'static>>
         + Print
         + Eprint
         + AllocGlobal,
->(rt: &R, in_colours: bool) -> Status {
+>(rt: &R, standard: (Stdin, Stdout), in_colours: bool) -> Status {
     match words(rt) {
         Ok(Words { program, words }) => {
             let status = top(
@@ -43,7 +42,7 @@ fn run<
                 &mut RealFiles::make(rt),
                 &mut StandardOutput::make(rt),
                 &mut RealDial::make(rt, program.as_str()),
-                &mut RealListen::make(rt, rt.stdin(), rt.stdout()),
+                &mut RealListen::make(rt, standard.0, standard.1),
             );
             help::tell(rt, words.as_slice(), &status, in_colours);
             status
