@@ -34,7 +34,8 @@ fn main_value<L: Link, W: Sink>(
     world: &mut ClientWorld<'_, '_, '_, L, W>,
     value: &Option<Expr>,
 ) -> Step<Option<Value>, RunStop>
-    ensures { LeadsWithin L.Link W.Sink (result_run code.now value.now) (local frame.now state.old) world.old result world.new }
+    ensures { let meant = result_run code.now value.now in
+        LeadsWithin L.Link W.Sink meant (local frame.now state.old) world.old result world.new }
 {
     let Some(expr) = value else {
         return Ok(Ok(None));
@@ -145,7 +146,8 @@ pub fn run_client<L: Link, W: Sink>(
     // An exchange fails exactly where the link lists it.
     ensures lists { Between L.Link W.Sink link.old out.old link.new out.new (FailsAsListed result) }
     // Over an honest link it is what the program means, and no reply is refused.
-    ensures means { Between L.Link W.Sink link.old out.old link.new out.new (MeansWhereHonest (mirror_program typed.now) fuel result) }
+    ensures means { let program = mirror_program typed.now in
+        Between L.Link W.Sink link.old out.old link.new out.new (MeansWhereHonest program fuel result) }
 {
     divided_scripts_can_be_sent();
     clients_mean_what_programs_mean();

@@ -136,7 +136,9 @@ fn perform<L: Link, W: Sink>(
     requires counted { (mirror_split split.now).script.inputs ≡ length split.now.inputs }
     ensures fuel { state.new.fuel ≤ state.old.fuel }
     ensures depth { state.new.depth ≡ state.old.depth }
-    ensures performs { Answered (performed (local frame.new state.new) result) (λ e. PerformsSplit L.Link W.Sink split.now at world.old (local frame.old state.old) e world.new) }
+    ensures performs { let before = local frame.old state.old in
+        let ended = performed (local frame.new state.new) result in
+        Answered ended (λ e. PerformsSplit L.Link W.Sink split.now at world.old before e world.new) }
 {
     let code = world.plan.code();
     match fetch(alloc, world, split, frame) {

@@ -51,7 +51,8 @@ fn perform_plain<W: Sink>(
     world: &mut ReplayWorld<'_, '_, W>,
     stmt: &Stmt,
 ) -> Result<(), Early>
-    ensures { Performs W.Sink (plain_meant code.now stmt.now) (local frame.old state.old) world.old result (local frame.new state.new) world.new }
+    ensures { let meant = plain_meant code.now stmt.now in
+        Performs W.Sink meant (local frame.old state.old) world.old result (local frame.new state.new) world.new }
 {
     flat(exec_slice(alloc, code, state, frame, world, slice::from_ref(stmt)))
 }
@@ -65,7 +66,8 @@ fn perform_pass<W: Sink>(
     world: &ReplayWorld<'_, '_, W>,
     step: u32,
 ) -> Result<(), Early>
-    ensures { Performs W.Sink (pass_meant step) (local frame.now state.now) world.now result (local frame.now state.now) world.now }
+    ensures { let meant = pass_meant step in
+        Performs W.Sink meant (local frame.now state.now) world.now result (local frame.now state.now) world.now }
 {
     match world.left.fault_at(step) {
         Some(fault) => Err(Early::Raised(far_fault(alloc, fault)?)),
@@ -83,7 +85,8 @@ fn perform_bind<W: Sink>(
     step: u32,
     name: &Word,
 ) -> Result<(), Early>
-    ensures { Performs W.Sink (bind_meant step name.now) (local frame.old state.now) world.old result (local frame.new state.now) world.new }
+    ensures { let meant = bind_meant step name.now in
+        Performs W.Sink meant (local frame.old state.now) world.old result (local frame.new state.now) world.new }
 {
     let value = world.take(step)?;
     let word = copy_word(alloc, name)?;
@@ -103,7 +106,8 @@ fn perform_both<W: Sink>(
     name: &Word,
     expr: &Expr,
 ) -> Result<(), Early>
-    ensures { Performs W.Sink (both_meant code.now step name.now expr.now) (local frame.old state.old) world.old result (local frame.new state.new) world.new }
+    ensures { let meant = both_meant code.now step name.now expr.now in
+        Performs W.Sink meant (local frame.old state.old) world.old result (local frame.new state.new) world.new }
 {
     if let Some(fault) = world.left.fault_at(step) {
         return Err(Early::Raised(own_fault(alloc, fault)?));
@@ -125,7 +129,8 @@ fn perform_part<W: Sink>(
     world: &mut ReplayWorld<'_, '_, W>,
     part: &Part,
 ) -> Result<(), Early>
-    ensures { Performs W.Sink (part_meant code.now part.now) (local frame.old state.old) world.old result (local frame.new state.new) world.new }
+    ensures { let meant = part_meant code.now part.now in
+        Performs W.Sink meant (local frame.old state.old) world.old result (local frame.new state.new) world.new }
 {
     match part {
         Part::Plain(stmt, _) => perform_plain(alloc, code, state, frame, world, stmt),
@@ -168,7 +173,8 @@ pub fn perform_all<W: Sink>(
     world: &mut ReplayWorld<'_, '_, W>,
     parts: &[Part],
 ) -> Result<(), Early>
-    ensures { Performs W.Sink (all_meant code.now parts.now) (local frame.old state.old) world.old result (local frame.new state.new) world.new }
+    ensures { let meant = all_meant code.now parts.now in
+        Performs W.Sink meant (local frame.old state.old) world.old result (local frame.new state.new) world.new }
 {
     'parts: for part in parts {
         perform_part(alloc, code, state, frame, world, part)?;
@@ -189,7 +195,8 @@ fn perform_block<'n, W: Sink>(
     node: &'n Node,
     rest: Left<'n>,
 ) -> Result<(), Early>
-    ensures { Performs W.Sink (enclosed (all_meant code.now parts.now) (mirror_node node.now) (seen rest.entry)) (local frame.old state.old) world.old result (local frame.new state.new) world.new }
+    ensures { let meant = enclosed (all_meant code.now parts.now) (mirror_node node.now) (seen rest.entry) in
+        Performs W.Sink meant (local frame.old state.old) world.old result (local frame.new state.new) world.new }
 {
     let count = frame.len();
     world.left = Left::of(node);
@@ -212,7 +219,8 @@ fn perform_branch<W: Sink>(
     yes: &Seq<Part>,
     no: &Seq<Part>,
 ) -> Result<(), Early>
-    ensures { Performs W.Sink (branch_meant code.now step yes.now no.now) (local frame.old state.old) world.old result (local frame.new state.new) world.new }
+    ensures { let meant = branch_meant code.now step yes.now no.now in
+        Performs W.Sink meant (local frame.old state.old) world.old result (local frame.new state.new) world.new }
 {
     let Some((holds, node, rest)) = world.left.first_branch() else {
         return Err(Early::Raised(world.left.missed(alloc, step)?));
@@ -241,7 +249,8 @@ fn perform_rows<W: Sink>(
     world: &mut ReplayWorld<'_, '_, W>,
     turns: &Loop<'_>,
 ) -> Result<(), Early>
-    ensures { Performs W.Sink (rows_meant code.now turns.now) (local frame.old state.old) world.old result (local frame.new state.new) world.new }
+    ensures { let meant = rows_meant code.now turns.now in
+        Performs W.Sink meant (local frame.old state.old) world.old result (local frame.new state.new) world.new }
 {
     let Some((nodes, rest)) = world.left.first_rows() else {
         return Err(Early::Raised(world.left.missed(alloc, turns.step)?));
@@ -263,7 +272,8 @@ fn perform_turns<'n, W: Sink>(
     nodes: &'n [Node],
     rest: Left<'n>,
 ) -> Result<(), Early>
-    ensures { Performs W.Sink (turns_meant code.now turns.now nodes.now (seen rest.entry)) (local frame.old state.old) world.old result (local frame.new state.new) world.new }
+    ensures { let meant = turns_meant code.now turns.now nodes.now (seen rest.entry) in
+        Performs W.Sink meant (local frame.old state.old) world.old result (local frame.new state.new) world.new }
 {
     world.left = rest;
     'nodes: for node in nodes {
@@ -285,7 +295,8 @@ fn perform_turn<'n, W: Sink>(
     node: &'n Node,
     rest: Left<'n>,
 ) -> Result<(), Early>
-    ensures performs { Performs W.Sink (enclosed (turn_meant code.now turns.now) (mirror_node node.now) (seen rest.entry)) (local frame.old state.old) world.old result (local frame.new state.new) world.new }
+    ensures performs { let meant = enclosed (turn_meant code.now turns.now) (mirror_node node.now) (seen rest.entry) in
+        Performs W.Sink meant (local frame.old state.old) world.old result (local frame.new state.new) world.new }
     ensures left { seen world.new.left ≡ seen rest.entry }
 {
     let count = frame.len();
@@ -307,7 +318,8 @@ fn perform_row<W: Sink>(
     world: &mut ReplayWorld<'_, '_, W>,
     turns: &Loop<'_>,
 ) -> Result<(), Early>
-    ensures { Performs W.Sink (turn_meant code.now turns.now) (local frame.old state.old) world.old result (local frame.new state.new) world.new }
+    ensures { let meant = turn_meant code.now turns.now in
+        Performs W.Sink meant (local frame.old state.old) world.old result (local frame.new state.new) world.new }
 {
     if turns.kept {
         perform_bind(alloc, state, frame, world, turns.step, turns.name)?;
@@ -329,7 +341,8 @@ pub fn perform_remainder<W: Sink>(
     remainder: &Seq<Part>,
     out: &mut W,
 ) -> Result<(), Early>
-    ensures { Replays W.Sink (remainder_meant code.now remainder.now (mirror_node node.now)) (local frame.old state.old) out.old result (local frame.new state.new) out.new }
+    ensures { let meant = remainder_meant code.now remainder.now (mirror_node node.now) in
+        Replays W.Sink meant (local frame.old state.old) out.old result (local frame.new state.new) out.new }
 {
     let count = frame.len();
     let mut world = ReplayWorld::over(alloc, node, out);
