@@ -1,62 +1,62 @@
 // What is dialled over loopback.
 
-use crate::frames::{RECEIVED, REPLY, SENT};
+use crate::frames::{RECEIVED, REPLY, SENT, all_of};
 use crate::hosts::CALL;
-use rb_base::{Link, LinkStop};
-use rb_devices::RealDial;
+use rb_base::{Link, LinkStop, Reply};
+use rb_devices::{RealDial, RealLink};
 use rb_session::{Dial, DialStop, Target};
 use rb_trees::Seq;
 use std::alloc::Global;
-use std::io::{Read, Write};
-use std::net::TcpListener;
+use std::io::Write;
+use std::net::{TcpListener, TcpStream};
 use std::test::Fail;
 
-/// A listener on this machine, and its address as a target.
-fn listening(rt: &HostRuntime) -> Result<(TcpListener, Target), Fail> {
-    let alloc = rt.alloc();
+/// A link to a peer on this machine, which has already sent these bytes.
+///
+/// So one thread does for both: what is sent waits at the other side.
+fn met(
+    rt: &HostRuntime,
+    dial: &mut RealDial<HostRuntime>,
+    bytes: &[u8],
+) -> Result<(RealLink, TcpStream), Fail> {
     let listener = TcpListener::bind(rt, "127.0.0.1:0")?;
+    let target = target_of(rt.alloc(), &listener)?;
+    let link = dial.dial(&target)?;
+    let (mut peer, _) = listener.accept()?;
+    peer.write_all(bytes)?;
+    Ok((link, peer))
+}
+
+/// The address of a listener.
+fn target_of(alloc: Global, listener: &TcpListener) -> Result<Target, Fail> {
     let address = listener.local_addr()?;
     let address = format!(in alloc; "{address}")?;
-    let target = Target::Address(Seq::from_slice(alloc, address.as_bytes())?);
-    Ok((listener, target))
+    Ok(Target::Address(Seq::from_slice(alloc, address.as_bytes())?))
 }
 
 #[test]
 fn an_exchange_goes_over_loopback(rt: HostRuntime) -> Result<(), Fail> {
-    let (listener, target) = listening(&rt)?;
     let mut dial = RealDial::make(&rt, "/");
-    let mut link = dial.dial(&target)?;
-    // The reply waits before it is asked for, so that one thread does for both.
-    let (mut peer, _) = listener.accept()?;
-    peer.write_all(RECEIVED)?;
+    let (mut link, mut peer) = met(&rt, &mut dial, RECEIVED)?;
     let reply = link.exchange(CALL)?;
-    assert_eq!(rt; reply.kind, 2);
     assert_eq!(rt; reply.payload.as_slice(), REPLY);
     dial.back(link);
-    let mut request = Vec::new(rt.alloc());
-    peer.read_to_end(&mut request)?;
-    assert_eq!(rt; request.as_slice(), SENT);
+    assert_eq!(rt; all_of(rt.alloc(), &mut peer)?.as_slice(), SENT);
     Ok(())
+}
+
+/// Whether an exchange was cut after so many bytes.
+fn is_cut_after(answer: &Result<Reply, LinkStop>, count: u64) -> bool {
+    matches!(answer, Err(LinkStop::Cut { got, bytes: _ }) if *got == count)
 }
 
 #[test]
 fn a_peer_that_closes_early_cuts_the_reply(rt: HostRuntime) -> Result<(), Fail> {
-    let (listener, target) = listening(&rt)?;
     let mut dial = RealDial::make(&rt, "/");
-    let mut link = dial.dial(&target)?;
-    let (mut peer, _) = listener.accept()?;
-    peer.write_all(&RECEIVED[..5])?;
+    let (mut link, peer) = met(&rt, &mut dial, &RECEIVED[..5])?;
     drop(peer);
-    match link.exchange(CALL) {
-        Err(LinkStop::Cut { got, bytes }) => {
-            assert_eq!(rt; got, 5);
-            assert_eq!(rt; bytes.as_slice(), &RECEIVED[..5]);
-        }
-        answer => {
-            answer?;
-            assert!(rt; false, "a reply");
-        }
-    }
+    let answer = link.exchange(CALL);
+    assert!(rt; is_cut_after(&answer, 5));
     dial.back(link);
     Ok(())
 }
