@@ -349,6 +349,39 @@ pub const THROWN: Help = Help {
     mend: b"Catch it by `try { .. } catch (e) { .. }`, or see why it is thrown.",
 };
 
+pub const SERVER_DIV_ZERO: Help = Help {
+    wrong: b"At the server `@` came to a division by 0.",
+    mend: CATCH_OUTSIDE,
+};
+
+pub const SERVER_INDEX: Help = Help {
+    wrong: b"At the server `@` came to an index below 0, or not below the number of items.",
+    mend: CATCH_OUTSIDE,
+};
+
+pub const SERVER_TEXT_TOO_LONG: Help = Help {
+    wrong: b"At the server `@` came to a Text of more than 4096 bytes.",
+    mend: CATCH_OUTSIDE,
+};
+
+pub const SERVER_LIST_TOO_LONG: Help = Help {
+    wrong: b"At the server `@` came to a List of more than 10000 items.",
+    mend: CATCH_OUTSIDE,
+};
+
+pub const SERVER_HEAP_FULL: Help = Help {
+    wrong: b"At the server `@` would make an object, and there are 100000 already.",
+    mend: CATCH_OUTSIDE,
+};
+
+pub const SERVER_THROWN: Help = Help {
+    wrong: b"\"@\" was thrown at the server, and nothing caught it.",
+    mend: CATCH_OUTSIDE,
+};
+
+pub const CATCH_OUTSIDE: &[u8] =
+    b"See why in the service; or catch the fault by a `try` around the whole batch.";
+
 pub const OBJECT_LACKS: Help = Help {
     wrong: b"At the server the object isn't there, or its class has no method `@`.",
     mend: b"Compare the interface in the program with the class in the service.",

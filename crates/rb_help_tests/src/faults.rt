@@ -1,6 +1,8 @@
 // Faults of runs.
 
 use crate::said::faulted;
+use rb_trees::Memory;
+use std::alloc::Global;
 use std::test::Fail;
 
 #[test]
@@ -197,6 +199,89 @@ No program that is accepted does this by itself; see whether the server is the o
   |                        ^
 The program ended here, by a fault without a name.
 See whether the server is the one that is meant.
+"
+        )?
+    );
+    Ok(())
+}
+
+/// Whether this is said of a fault with the text `Big` at a remote call.
+fn faults_remotely(alloc: Global, code: u8, expected: &str) -> Result<bool, Memory> {
+    faulted(
+        alloc,
+        "main { batch (D r) { r.m(); } }",
+        code,
+        "m();",
+        expected,
+    )
+}
+
+#[test]
+fn code_at_the_server_faults(rt: HostRuntime) -> Result<(), Fail> {
+    let alloc = rt.alloc();
+    assert!(rt;
+        faults_remotely(
+            alloc,
+            1,
+            "1 | main { batch (D r) { r.m(); } }
+  |                        ^
+At the server `m` came to a division by 0.
+See why in the service; or catch the fault by a `try` around the whole batch.
+"
+        )?
+    );
+    assert!(rt;
+        faults_remotely(
+            alloc,
+            2,
+            "1 | main { batch (D r) { r.m(); } }
+  |                        ^
+At the server `m` came to an index below 0, or not below the number of items.
+See why in the service; or catch the fault by a `try` around the whole batch.
+"
+        )?
+    );
+    assert!(rt;
+        faults_remotely(
+            alloc,
+            3,
+            "1 | main { batch (D r) { r.m(); } }
+  |                        ^
+At the server `m` came to a Text of more than 4096 bytes.
+See why in the service; or catch the fault by a `try` around the whole batch.
+"
+        )?
+    );
+    assert!(rt;
+        faults_remotely(
+            alloc,
+            4,
+            "1 | main { batch (D r) { r.m(); } }
+  |                        ^
+At the server `m` came to a List of more than 10000 items.
+See why in the service; or catch the fault by a `try` around the whole batch.
+"
+        )?
+    );
+    assert!(rt;
+        faults_remotely(
+            alloc,
+            5,
+            "1 | main { batch (D r) { r.m(); } }
+  |                        ^
+At the server `m` would make an object, and there are 100000 already.
+See why in the service; or catch the fault by a `try` around the whole batch.
+"
+        )?
+    );
+    assert!(rt;
+        faults_remotely(
+            alloc,
+            8,
+            "1 | main { batch (D r) { r.m(); } }
+  |                        ^
+\"Big\" was thrown at the server, and nothing caught it.
+See why in the service; or catch the fault by a `try` around the whole batch.
 "
         )?
     );
