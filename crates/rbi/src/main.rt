@@ -34,8 +34,8 @@ fn run<
         + Eprint
         + AllocGlobal,
 >(rt: &R, standard: (Stdin, Stdout), in_colours: bool) -> Status {
-    match words(rt) {
-        Ok(Words { program, words }) => {
+    match called(rt) {
+        Ok(Call { program, words }) => {
             let status = top(
                 rt.alloc(),
                 words.as_slice(),
@@ -53,13 +53,13 @@ fn run<
 
 /// The name that the program was started by, and the words behind it.
 #[derive(Drop)]
-struct Words {
+struct Call {
     program: String,
     words: Vec<String>,
 }
 
 /// The words that the program was started with. Where one isn't UTF-8 there are none, since no command has such a word.
-fn words<R: Env + AllocGlobal>(rt: &R) -> Result<Words, Memory> {
+fn called<R: Env + AllocGlobal>(rt: &R) -> Result<Call, Memory> {
     let mut words = Vec::new(rt.alloc());
     let mut program = String::new(rt.alloc());
     match env::args(rt) {
@@ -70,9 +70,9 @@ fn words<R: Env + AllocGlobal>(rt: &R) -> Result<Words, Memory> {
             for word in all {
                 words.push(word)?;
             }
-            Ok(Words { program, words })
+            Ok(Call { program, words })
         }
         Err(error) if error.kind() == io::ErrorKind::OutOfMemory => Err(Memory),
-        Err(_) => Ok(Words { program, words }),
+        Err(_) => Ok(Call { program, words }),
     }
 }
