@@ -7,7 +7,7 @@ use rb_devices::RealListen;
 use rb_session::serve;
 use std::alloc::Global;
 use std::io::Write;
-use std::net::{OpenListener, Shutdown, TcpListener, TcpStream};
+use std::net::{Shutdown, TcpListener, TcpStream};
 use std::test::Fail;
 
 /// An address of this machine at which nobody listens.
