@@ -32,6 +32,3 @@ pub use same_files::SameFiles;
 pub use sinks::{Failed, Sink, write_whole};
 pub use sources::Source;
 pub use steady_listen::SteadyListen;
-
-#[cfg(test)]
-mod tests;
