@@ -31,7 +31,7 @@ unary_form t {op = op} {at = at} a is = ap mirror_sexpr is ∙ sexprs.form_Unary
 pub binary_form : (t : SExpr) {op : BinOp} {at : ℕ} (a b : SExpr) → t ≡ sexpr.Binary op at a b → mirror_sexpr t ≡ script.Binary op at (mirror_sexpr a) (mirror_sexpr b)
 binary_form t {op = op} {at = at} a b is = ap mirror_sexpr is ∙ sexprs.form_Binary op at a b
 
-pub call_form : (t : SExpr) {at kind : ℕ} {method : List ℕ} (a : SExpr) (args : List SExpr) → t ≡ sexpr.Call at kind method a args
+pub call_form : (t : SExpr) {at kind : ℕ} {method : List ℕ} (a : SExpr) (args : List SExpr) → t ≡ sexpr.Call kind at method a args
     → mirror_sexpr t ≡ script.Call at kind method (mirror_sexpr a) (mirror_sexprs args)
 call_form t {at = at} {kind = kind} {method = method} a args is = ap mirror_sexpr is ∙ sexprs.form_Call at kind method a args
 

@@ -4,6 +4,7 @@ use crate::boxes::Boxed;
 use crate::code::{BinOp, UnOp};
 use crate::sequence::{Seq, Word};
 use crate::values::Value;
+use std::mem::size_of;
 
 /// A script: the number of its inputs, and its steps.
 #[derive(Drop)]
@@ -59,13 +60,15 @@ pub enum SExpr {
     Root,
     Unary(UnOp, u32, Boxed<SExpr>),
     Binary(BinOp, u32, Boxed<SExpr>, Boxed<SExpr>),
-    /// A remote call. Its kind, from 0 to 8, says what its result must be. Its parts are boxed, so that an expression stays
-    /// small: a hostile script may have one for each of its bytes.
+    /// A remote call. Its kind, from 0 to 8, says what its result must be. Its parts are boxed and its small fields come
+    /// first, so that an expression has 32 bytes: a hostile script may have one for each of its bytes.
     Call {
-        at: u32,
         kind: u8,
+        at: u32,
         method: Boxed<Word>,
         target: Boxed<SExpr>,
         args: Boxed<Seq<SExpr>>,
     },
 }
+
+const _: () = prove!(size_of::<SExpr>() <= 32);

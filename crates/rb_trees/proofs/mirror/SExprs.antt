@@ -38,8 +38,8 @@ pub form_Binary : (op : BinOp) (at : ℕ) (a : tree.SExpr) (b : tree.SExpr) → 
 unfolding mirror_sexpr
 form_Binary op at a b = ap mirror_sexpr (sym (form.rolls-Binary op at a b)) ∙ fold-roll-SExpr SExpr sexpr_step (SExpr-F.Binary op at a b)
 
-pub form_Call : (at : ℕ) (kind : ℕ) (method : List ℕ) (target : tree.SExpr) (args : List tree.SExpr) → mirror_sexpr (form.Call at kind method target args) ≡ Call at kind method (mirror_sexpr target) (mirror_sexprs args)
+pub form_Call : (at : ℕ) (kind : ℕ) (method : List ℕ) (target : tree.SExpr) (args : List tree.SExpr) → mirror_sexpr (form.Call kind at method target args) ≡ Call at kind method (mirror_sexpr target) (mirror_sexprs args)
 unfolding mirror_sexpr
-form_Call at kind method target args = ap mirror_sexpr (sym (form.rolls-Call at kind method target args)) ∙ fold-roll-SExpr SExpr sexpr_step (SExpr-F.Call at kind method target args) ∙ ap (λ x. Call at kind method (mirror_sexpr target) x) (sexprs_lists args)
+form_Call at kind method target args = ap mirror_sexpr (sym (form.rolls-Call kind at method target args)) ∙ fold-roll-SExpr SExpr sexpr_step (SExpr-F.Call kind at method target args) ∙ ap (λ x. Call at kind method (mirror_sexpr target) x) (sexprs_lists args)
 
 pub ruleset sexprs = (form_Lit, form_Input, form_Var, form_Root, form_Unary, form_Binary, form_Call)
