@@ -7,7 +7,6 @@ use crate::counts::count_one;
 use crate::real_sink::RealSink;
 use crate::real_source::RealSource;
 use rb_base::{Failed, Listen, ListenStop};
-use std::io;
 use std::io::{ErrorKind, Stdin, Stdout};
 use std::marker::Model;
 use std::net::{Net, TcpListener, TcpStream};
