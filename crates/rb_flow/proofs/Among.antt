@@ -115,7 +115,7 @@ classes_collected x bs (c ∷ cs) =
     ∙ ap (λ ds. ds ++ map begun (flat_map (class_batches x) cs)) (methods_collected x bs c.methods)
     ∙ joined_batches bs (class_batches x c) (flat_map (class_batches x) cs)
 
-program_collected : (x : Facts) (p : Program) → program_begun x p ≡ map begun (program_batches x p)
+pub program_collected : (x : Facts) (p : Program) → program_begun x p ≡ map begun (program_batches x p)
 program_collected x p =
     block_collected x [] (classes_begun x [] p.classes) p.body.statements
     ∙ ap (λ cs. cs ++ map begun (outermost_in x [] p.body.statements)) (classes_collected x [] p.classes)

@@ -12,9 +12,9 @@ use Rattle.rb_meaning_flow.specs.Scopes.{Scope, assigned_in, opened, variable_wi
 use Rattle.rb_meaning.specs.Unsplit.{batch_at, batch_within}
 use Rattle.rb_flow.specs.Begun.{begun, begun_of, program_begun}
 use Rattle.rb_flow.specs.declared.outermost.OpenBatch.{OpenBatch}
+use Rattle.rb_flow.proofs.Among.{program_collected}
 use Rattle.rb_plain.specs.Batches.{AreBatchesOf, Notes, found, place_in, root_of, stands_at}
 use Rattle.rb_plain.specs.declared.batches.Batches.{Batches}
-use Rattle.rb_plain.proofs.Collected.{program_collected}
 use Rattle.rb_plain.proofs.Dropped.{dropped_one}
 
 got_at : {A : Type 0} (ys : List A) (y x : A) (n m : ℕ) → n ≡ suc m → slice_get ys m ≡ Some x → slice_get (y ∷ ys) n ≡ Some x

@@ -2,7 +2,6 @@ pub mod Answering
 pub mod Asked
 pub mod BatchTold
 pub mod BatchWhole
-pub mod Collected
 pub mod Dropped
 pub mod Evaluated
 pub mod Events

@@ -5,6 +5,7 @@ pub mod Found
 pub mod Agreed
 pub mod Standing
 pub mod Programs
+pub mod EachSite
 pub mod Admission
 pub mod OfKinds
 pub mod Handling

@@ -23,6 +23,7 @@ use Rattle.rb_types_keep.specs.Asked.{Site}
 use Rattle.rb_types_keep.specs.Batches.{sites, sites_in}
 use Rattle.rb_types_keep.proofs.Parts.{val_parts, var_parts, assign_parts, run_parts, print_parts, throw_parts, if_parts, while_parts, for_parts, try_parts, batch_parts, stmts_parts}
 use Rattle.rb_types_keep.proofs.TypeFacts.{kind_here, primitive_fact, items_fact}
+use Rattle.rb_types_keep.proofs.SitesWithin.{Within, within_left, within_right}
 use Rattle.rb_unsplit_keeps.proofs.Agreed.{Agree, agree_added, outer_far}
 
 pub block_lawful : (ss : Stmts) → IsLawfulBlock ss → AreLawfulStmts ss
