@@ -1,20 +1,14 @@
 -- A front of a piece is written, and the rest is to come.
-use Rattle.std.proofs.Common.{◌≡◌, ℕ, ◌-◌, List, ◌++◌, Option, None, Some, length, take, drop, refl, ap, sym, ◌∙◌, append_assoc, take-append-drop, take_at, take_all, length-drop, arith, length-append}
+use Rattle.std.proofs.Common.{◌≡◌, ℕ, ◌-◌, List, ◌++◌, length, take, drop, refl, ap, sym, ◌∙◌, append_assoc, take-append-drop, take_at, take_all, length-drop, arith, length-append}
 use Rattle.rb_base.specs.Devices.{Device, failed}
-use Rattle.rb_base.specs.Sinks.{told_more, with_bytes, WrotePrefix}
+use Rattle.rb_base.specs.Sinks.{with_bytes, WrotePrefix}
+use Rattle.rb_base.proofs.Pieces.{bytes_twice}
 
 -- What is told has grown by the front of the piece that stands before the rest.
 pub record HasFront (old new : Device (List ℕ)) (piece rest : List ℕ) : Type 0 where
   pub front : List ℕ
   pub whole : piece ≡ front ++ rest
   pub is : new ≡ with_bytes old front
-
-told_twice : (old : Option (List ℕ)) (xs ys : List ℕ) → told_more (told_more old xs) ys ≡ told_more old (xs ++ ys)
-told_twice None xs ys = refl
-told_twice (Some written) xs ys = ap Some (append_assoc written xs ys)
-
-bytes_twice : (old : Device (List ℕ)) (xs ys : List ℕ) → with_bytes (with_bytes old xs) ys ≡ with_bytes old (xs ++ ys)
-bytes_twice old xs ys = ap (λ t. record old { told = t }) (told_twice old.told xs ys)
 
 -- one more call that took some of the rest
 pub HasFront-more : (old new newer : Device (List ℕ)) (piece rest : List ℕ) (count : ℕ) →

@@ -14,11 +14,11 @@ use Rattle.rb_base.specs.Devices.{Device, failed}
 use Rattle.rb_base.specs.Sinks.{with_bytes, WrotePrefix}
 use Rattle.rb_base.specs.declared.sinks.Failed.{Failed}
 use Rattle.rb_base.specs.declared.sinks.Sink as sinks
+use Rattle.rb_base.proofs.Pieces.{both_whole, fails_next, prefix_front}
 use Rattle.rb_client.specs.Lefts.{seen}
 use Rattle.rb_client.specs.Events.{More}
 use Rattle.rb_client.specs.Worlds.{CutsReplay, Prints, SeesReplay, output, replay_answers, replay_performs, replay_view, taken_meant}
 use Rattle.rb_client.specs.declared.replay_world.ReplayWorld.{ReplayWorld}
-use Rattle.rb_client.proofs.Bytes.{both_whole, fails_next, prefix_front}
 use Rattle.rb_client.proofs.Events.{adding, replay_more, shown_append, shown_line}
 use Rattle.rb_client.proofs.Told.{AnswersAs}
 

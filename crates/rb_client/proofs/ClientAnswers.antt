@@ -22,6 +22,7 @@ use Rattle.rb_base.specs.Devices.{failed}
 use Rattle.rb_base.specs.Sinks.{with_bytes, WrotePrefix}
 use Rattle.rb_base.specs.declared.links.Link as links
 use Rattle.rb_base.specs.declared.sinks.Sink as sinks
+use Rattle.rb_base.proofs.Pieces.{both_whole, fails_next}
 use Rattle.rb_engine.specs.Answers.{Answered, performed}
 use Rattle.rb_engine.specs.declared.world.Halt.{Halt}
 use Rattle.rb_engine.specs.declared.world.Halt.TheVariants as halt
@@ -37,7 +38,6 @@ use Rattle.rb_client.specs.Worlds.{output}
 use Rattle.rb_client.specs.declared.client_world.ClientWorld.{ClientWorld}
 use Rattle.rb_client.specs.declared.stops.RunStop.{RunStop}
 use Rattle.rb_client.specs.declared.stops.RunStop.TheVariants as stops
-use Rattle.rb_client.proofs.Bytes.{both_whole, fails_next}
 use Rattle.rb_client.proofs.Divided.{none_found, some_found}
 use Rattle.rb_client.proofs.Events.{shown_line}
 

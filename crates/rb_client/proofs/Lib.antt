@@ -1,6 +1,5 @@
 pub mod Adding
 pub mod Answering
-pub mod Bytes
 pub mod Dropped
 pub mod Enclosed
 pub mod Events
@@ -23,6 +22,5 @@ pub mod Showing
 pub mod RunsOver
 pub mod Reached
 pub mod Headline
-pub mod Differ
-pub mod Names
+pub mod Typed
 pub mod Requested

@@ -18,6 +18,7 @@ use Rattle.rb_meaning_split.specs.Client.{in_client}
 use Rattle.rb_headline_laws.specs.Reached.{main_run, with_nodes}
 use Rattle.rb_base.specs.declared.links.Link as links
 use Rattle.rb_base.specs.declared.sinks.Sink as sinks
+use Rattle.rb_base.proofs.Pieces.{bytes_none}
 use Rattle.rb_engine.specs.declared.world.Halt.{Halt}
 use Rattle.rb_engine.specs.declared.world.Halt.TheVariants as halt
 use Rattle.rb_client.specs.Clients.{Origin, Past, PerformedAs, SeesClient, first_scene, nothing_yet, scene_of, waiting}
@@ -28,7 +29,6 @@ use Rattle.rb_client.specs.Worlds.{output}
 use Rattle.rb_client.specs.declared.client_world.ClientWorld.{ClientWorld}
 use Rattle.rb_client.specs.declared.stops.RunStop.{RunStop}
 use Rattle.rb_client.specs.declared.stops.RunStop.TheVariants as stops
-use Rattle.rb_client.proofs.Bytes.{bytes_none}
 use Rattle.rb_client.proofs.ClientRuns.{Cut, cuts, ends}
 use Rattle.rb_client.proofs.Serving.{counts_none, performed_none}
 

@@ -34,10 +34,10 @@ use Rattle.rb_types_keep.specs.Formed.{IsFormedExpr, IsFormedStmt, AreFormedStmt
 use Rattle.rb_types_keep.specs.Noted.{IsNotedExpr, IsNotedStmt, AreNotedStmts}
 use Rattle.rb_types_keep.specs.Operators.{ConditionsHold}
 use Rattle.rb_types_keep.specs.Code.{AreTyped}
-use Rattle.rb_unsplit_keeps.proofs.Parts.{val_parts, var_parts, assign_parts, run_parts, print_parts, throw_parts, if_parts, while_parts, for_parts, try_parts, batch_parts, stmts_parts}
-use Rattle.rb_unsplit_keeps.proofs.TypeFacts.{kind_here}
-use Rattle.rb_unsplit_keeps.proofs.Standing.{Within, within_left, within_right}
-use Rattle.rb_unsplit_keeps.proofs.Admission.{within_tail}
+use Rattle.rb_types_keep.proofs.Parts.{val_parts, var_parts, assign_parts, run_parts, print_parts, throw_parts, if_parts, while_parts, for_parts, try_parts, batch_parts, stmts_parts}
+use Rattle.rb_types_keep.proofs.TypeFacts.{kind_here}
+use Rattle.rb_types_keep.proofs.TypeFacts.{items_fact}
+use Rattle.rb_types_keep.proofs.SitesWithin.{Within, within_left, within_right, within_tail}
 use Rattle.rb_unsplit_keeps.proofs.Conditions.{condition_portable}
 use Rattle.rb_trees.specs.mirror.Code.{Expr, expr_at, Stmt, Stmts, Val, Var, Assign, Run, Print, Throw, If, While, For, Try, Batch, NoStmts, MoreStmts}
 use Rattle.rb_trees.specs.declared.services.Object.{Object}
@@ -59,7 +59,6 @@ use Rattle.rb_meaning_split.specs.Steps.{refs_after, keeps_val, keeps, steps, bl
 use Rattle.rb_meaning_split.specs.Parts.{takes, plain, carried, row_kind, part, block_parts}
 use Rattle.rb_unsplit_keeps.proofs.Walking.{Laws}
 use Rattle.rb_unsplit_keeps.proofs.Walked.{Ready, script_scope, rows_fair, one_ready, remote_ready, loop_portable, rows_only, script_inside}
-use Rattle.rb_unsplit_keeps.proofs.TypeFacts.{items_fact}
 use Rattle.rb_division_laws.proofs.Lists.{all_both, all_left, all_right, recursively}
 use Rattle.rb_division_laws.proofs.Numbers.{grows_all, whole_remote, one_step}
 use Rattle.rb_division_laws.proofs.Reading.{later_less, Reader, Rests, parts_rest, taking, takes_rest, then_reads, first_part, first_taken, standing, over, raises_here, walks_same, Walks, walks_stopped, walks_passed, walks_value, walks_branch, TurnWalks, turns_walk, walks_turns}

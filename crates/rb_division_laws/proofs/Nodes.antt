@@ -43,6 +43,7 @@ use Rattle.rb_types_keep.specs.Asked.{Site, Own, IsAskedBatch}
 use Rattle.rb_types_keep.specs.Code.{TypesKeep}
 use Rattle.rb_types_keep.proofs.Served.{remote_out}
 use Rattle.rb_types_keep.proofs.Stmts.{binds}
+use Rattle.rb_types_keep.proofs.Parts.{batch_parts}
 use Rattle.rb_flow.specs.Program.{HasNoRefusal}
 use Rattle.rb_flow.specs.Laws.{AdmittedSendPortable}
 use Rattle.rb_flow.proofs.Among.{mapped_to}
@@ -50,7 +51,6 @@ use Rattle.rb_unsplit_keeps.specs.Noted.{LawfulAreNoted}
 use Rattle.rb_unsplit_keeps.specs.Batches.{program_sites}
 use Rattle.rb_unsplit_keeps.proofs.Found.{batch_found}
 use Rattle.rb_unsplit_keeps.proofs.Agreed.{Agree, agree_added, agree_with}
-use Rattle.rb_unsplit_keeps.proofs.Parts.{batch_parts}
 use Rattle.rb_unsplit_keeps.proofs.Standing.{block_lawful, IsBatchOf}
 use Rattle.rb_unsplit_keeps.proofs.Programs.{program_typed, batches_in}
 use Rattle.rb_unsplit_keeps.proofs.Carried.{Carry, carry_begins, carry_look}

@@ -31,7 +31,7 @@ use Rattle.rb_marks.specs.Laws.{InBatches, EachHasItsMark, NoMarkElsewhere, Remo
 use Rattle.rb_flow.specs.Program.{HasNoRefusal}
 use Rattle.rb_flow.proofs.Members.{first_contained, more_contained}
 use Rattle.rb_flow.proofs.Among.{mapped_to}
-use Rattle.rb_unsplit_keeps.proofs.Admission.{exprs_among}
+use Rattle.rb_types_keep.proofs.SitesWithin.{exprs_among}
 use Rattle.rb_division_laws.specs.Faults.{StandsElsewhere, OwnFaultsStandElsewhere}
 use Rattle.rb_division_laws.proofs.Lists.{each, all_both, all_left, all_right}
 use Rattle.rb_division_laws.proofs.Marked.{Inside}

@@ -43,7 +43,6 @@ use Rattle.rb_types_keep.specs.Operators.{IfDecided}
 use Rattle.rb_types_keep.specs.Code.{AreTyped}
 use Rattle.rb_types_keep.proofs.Checks.{bind_ok, known_ok, placed_ok}
 use Rattle.rb_types_keep.proofs.Exprs.{literal_fits}
-use Rattle.rb_unsplit_keeps.proofs.TypeFacts.{kind_here, object_fact}
 use Rattle.rb_unsplit_keeps.proofs.Handling.{Fine, invoke_fine}
 use Rattle.std.specs.Str.{bytes_eq}
 use Rattle.rb_trees.specs.Named.{first_named, lookup}
@@ -55,6 +54,7 @@ use Rattle.rb_marks.specs.Laws.{EachHasItsMark}
 use Rattle.rb_types_keep.specs.Ends.{Grown, Place, context, FitsPlace}
 use Rattle.rb_types_keep.specs.Formed.{LawfulClassesAreFormed}
 use Rattle.rb_types_keep.proofs.Values.{fits_more}
+use Rattle.rb_types_keep.proofs.TypeFacts.{kind_here, object_fact}
 use Rattle.rb_unsplit_keeps.proofs.Programs.{program_typed}
 use Rattle.rb_unsplit_keeps.proofs.Walking.{Laws, handle_seq, rest_typed, object_named, there}
 use Rattle.rb_division_laws.specs.Faults.{EachFault, IsRemote, SentFaultsAreRemote}

@@ -35,7 +35,7 @@ use Rattle.rb_types_keep.specs.Operators.{IfDecided}
 use Rattle.rb_types_keep.specs.Code.{AreTyped}
 use Rattle.rb_types_keep.proofs.Checks.{bind_ok, known_ok, placed_ok}
 use Rattle.rb_types_keep.proofs.Exprs.{literal_fits}
-use Rattle.rb_unsplit_keeps.proofs.TypeFacts.{kind_here, object_fact}
+use Rattle.rb_types_keep.proofs.TypeFacts.{kind_here, object_fact}
 use Rattle.rb_unsplit_keeps.proofs.Handling.{Fine, invoke_fine}
 use Rattle.rb_trees.specs.Named.{lookup}
 use Rattle.rb_trees.specs.declared.values.Value.TheVariants as value

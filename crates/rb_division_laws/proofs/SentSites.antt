@@ -10,7 +10,7 @@ use Rattle.rb_meaning_flow.specs.Outermost.{batch_sites, program_batches}
 use Rattle.rb_meaning.specs.RemoteExprs.{whole_or, remote_in, all_remote_in, remote_of}
 use Rattle.rb_flow.proofs.Members.{first_contained, more_contained, contained_cases, none_contained, given_by}
 use Rattle.rb_flow.proofs.Among.{mapped_to}
-use Rattle.rb_unsplit_keeps.proofs.Admission.{exprs_among, site_first}
+use Rattle.rb_types_keep.proofs.SitesWithin.{exprs_among, site_first}
 use Rattle.rb_division_laws.specs.Faults.{StandsRemote, SentIsRemote}
 use Rattle.rb_division_laws.proofs.Marked.{Inside}
 

@@ -49,11 +49,11 @@ use Rattle.rb_types_keep.specs.Own.{IsOwnScope}
 use Rattle.rb_types_keep.specs.Formed.{AreFormedStmts}
 use Rattle.rb_types_keep.specs.Noted.{IsNotedStmt, AreNotedStmts}
 use Rattle.rb_types_keep.specs.Ends.{Place, context, LocalFits, FitsPlace}
+use Rattle.rb_types_keep.proofs.Parts.{Begins, batch_parts}
 use Rattle.rb_unsplit_keeps.proofs.Admission.{block_admitted}
 use Rattle.rb_unsplit_keeps.proofs.Agreed.{Agree}
 use Rattle.rb_unsplit_keeps.proofs.Found.{batch_found}
 use Rattle.rb_unsplit_keeps.proofs.Handling.{batch_handler_fits}
-use Rattle.rb_unsplit_keeps.proofs.Parts.{Begins, batch_parts}
 use Rattle.rb_unsplit_keeps.proofs.Programs.{IsTypedProgram, program_typed, batches_in}
 use Rattle.rb_unsplit_keeps.proofs.Standing.{block_lawful}
 use Rattle.rb_unsplit_keeps.proofs.Walking.{Laws}

@@ -35,8 +35,7 @@ use Rattle.rb_types_keep.specs.Ends.{Place, context, LocalHolds, Ends, Nothing, 
 use Rattle.rb_types_keep.specs.Formed.{IsFormedExpr}
 use Rattle.rb_types_keep.specs.Noted.{IsNotedExpr}
 use Rattle.rb_types_keep.specs.Code.{HasKind}
-use Rattle.rb_unsplit_keeps.proofs.Admission.{stmt_first}
-use Rattle.rb_unsplit_keeps.proofs.Standing.{Within, within_left, within_right}
+use Rattle.rb_types_keep.proofs.SitesWithin.{Within, within_left, within_right, stmt_first}
 use Rattle.rb_split_laws.proofs.Values.{value_same}
 use Rattle.rb_split_laws.proofs.Covered.{closed_of}
 use Rattle.rb_split_laws.proofs.Kept.{IsKept, kept_sent}

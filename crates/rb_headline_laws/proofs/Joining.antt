@@ -39,11 +39,10 @@ use Rattle.rb_meaning_split.specs.Replay as replay
 use Rattle.rb_types_keep.specs.Own.{IsFarItem}
 use Rattle.rb_types_keep.specs.Noted.{AreNotedStmts}
 use Rattle.rb_types_keep.specs.Admitted.{AreAdmittedStmts}
-use Rattle.rb_unsplit_keeps.proofs.Admission.{stmt_first, within_tail}
+use Rattle.rb_types_keep.proofs.Parts.{Branches, Loops, if_parts, for_parts, stmts_parts}
+use Rattle.rb_types_keep.proofs.TypeFacts.{kind_here, items_fact, rows_fact}
+use Rattle.rb_types_keep.proofs.SitesWithin.{Within, within_left, within_right, within_tail, stmt_first}
 use Rattle.rb_unsplit_keeps.proofs.Conditions.{condition_portable}
-use Rattle.rb_unsplit_keeps.proofs.Parts.{Branches, Loops, if_parts, for_parts, stmts_parts}
-use Rattle.rb_unsplit_keeps.proofs.Standing.{Within, within_left, within_right}
-use Rattle.rb_unsplit_keeps.proofs.TypeFacts.{kind_here, items_fact, rows_fact}
 use Rattle.rb_unsplit_keeps.proofs.Walked.{script_scope}
 use Rattle.rb_flow.proofs.Members.{first_contained}
 use Rattle.rb_split_laws.proofs.Later.{AllLater, later_up, fault_in, grows_block, later_block}

@@ -22,7 +22,7 @@ use Rattle.rb_types_keep.specs.Code.{AreTyped}
 use Rattle.rb_types_keep.proofs.Checks.{bind_ok, then_ok}
 use Rattle.rb_types_keep.proofs.Known.{Known, typed_known, IsOwnMethod, IsOwnClass}
 use Rattle.rb_types_keep.proofs.OwnKinds.{own_parameters, place_added, type_own}
-use Rattle.rb_unsplit_keeps.proofs.Parts.{val_parts, var_parts, assign_parts, run_parts, print_parts, throw_parts, if_parts, while_parts, for_parts, try_parts, batch_parts, stmts_parts}
+use Rattle.rb_types_keep.proofs.Parts.{val_parts, var_parts, assign_parts, run_parts, print_parts, throw_parts, if_parts, while_parts, for_parts, try_parts, batch_parts, stmts_parts}
 use Rattle.rb_unsplit_keeps.proofs.Standing.{nothing, each_of, the_one}
 use Rattle.rb_unsplit_keeps.proofs.Programs.{IsTypedProgram}
 use Rattle.rb_unsplit_keeps.specs.Batches.{method_sites, class_sites, program_sites}

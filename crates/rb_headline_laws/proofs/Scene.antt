@@ -37,12 +37,11 @@ use Rattle.rb_types_keep.specs.Ends.{Place, LocalFits, Ends, Nothing, FitsPlace}
 use Rattle.rb_types_keep.specs.Around.{EndsHandled}
 use Rattle.rb_types_keep.specs.Code.{OfBatchCode}
 use Rattle.rb_types_keep.proofs.InSurroundings.{batches_keep_handled}
-use Rattle.rb_unsplit_keeps.proofs.Parts.{val_parts, var_parts, run_parts, throw_parts, print_parts, assign_parts, if_parts, while_parts, for_parts, try_parts, batch_parts}
-use Rattle.rb_unsplit_keeps.proofs.Standing.{Within}
+use Rattle.rb_types_keep.proofs.Parts.{val_parts, var_parts, run_parts, throw_parts, print_parts, assign_parts, if_parts, while_parts, for_parts, try_parts, batch_parts}
+use Rattle.rb_types_keep.proofs.SitesWithin.{Within}
 use Rattle.rb_unsplit_keeps.proofs.Walked.{script_scope}
 use Rattle.rb_unsplit_keeps.proofs.Walking.{Laws}
 use Rattle.rb_split_laws.proofs.Linked.{IsFound, Linked}
-use Rattle.rb_split_laws.proofs.Kept.{val_no_unit, var_no_unit}
 use Rattle.rb_split_laws.proofs.Joined.{Joined, joined_plain}
 use Rattle.rb_local_laws.specs.Local.{HoldsTable, FitsService, IsNearThis, LocalCodeDoesTheSame}
 use Rattle.rb_local_laws.specs.Admitted.{IsAdmittedBatch, CallsArePortable, StaysWhole, AreKnownScopes, AdmittedAreParted, TurnsBeginKnown, TypesAreKnown}
@@ -187,11 +186,11 @@ module _ (c : Scene) where
             let q = val_parts x ws place name e after typed' in
             subst (λ i. Joined is c.ground c.inputs refs m (with_variable vs name (cond (portable f vs e) Role.Carried Role.Plain) place) i at.walked vars) q.same
             (subst (λ i. Joined is c.ground c.inputs refs m i (typed.with_variable ws name q.kind true) at.walked vars) (plain_role e whole name place)
-            (joined_plain is c.ground c.inputs refs m vs ws at.walked vars name place q.kind true at.joined (val_no_unit x ws after place name e typed' q.kind q.typed)))
+            (joined_plain is c.ground c.inputs refs m vs ws at.walked vars name place q.kind true at.joined q.no_unit))
         by (Var place name e) same typed' whole =
             let q = var_parts x ws place name e after typed' in
             subst (λ i. Joined is c.ground c.inputs refs m (with_variable vs name Role.Plain place) i at.walked vars) q.same
-            (joined_plain is c.ground c.inputs refs m vs ws at.walked vars name place q.kind false at.joined (var_no_unit x ws after place name e typed' q.kind q.typed))
+            (joined_plain is c.ground c.inputs refs m vs ws at.walked vars name place q.kind false at.joined q.no_unit)
         by (Assign place a b) same typed' whole = subst (λ i. Joined is c.ground c.inputs refs m vs i at.walked vars) (assign_parts x ws place a b after typed').same at.joined
         by (Run place e) same typed' whole = subst (λ i. Joined is c.ground c.inputs refs m vs i at.walked vars) (run_parts x ws place e after typed').same at.joined
         by (Print place e) same typed' whole = subst (λ i. Joined is c.ground c.inputs refs m vs i at.walked vars) (print_parts x ws place e after typed').same at.joined

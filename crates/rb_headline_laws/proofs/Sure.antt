@@ -26,12 +26,13 @@ use Rattle.rb_types_keep.specs.Noted.{IsNotedStmt, AreNotedStmts}
 use Rattle.rb_types_keep.specs.Asked.{Site}
 use Rattle.rb_types_keep.specs.Batches.{sites, sites_in}
 use Rattle.rb_types_keep.proofs.Checks.{bind_ok, then_ok}
+use Rattle.rb_types_keep.proofs.Parts.{val_parts, var_parts, assign_parts, run_parts, print_parts, throw_parts, if_parts, while_parts, for_parts, try_parts, batch_parts, stmts_parts}
+use Rattle.rb_types_keep.proofs.TypeFacts.{kind_here, primitive_fact, items_fact}
+use Rattle.rb_types_keep.proofs.SitesWithin.{Within, within_left, within_right}
 use Rattle.rb_unsplit_keeps.specs.Noted.{IsNotedMethod, IsNotedClass, IsNotedProgram}
 use Rattle.rb_unsplit_keeps.specs.Batches.{method_sites, class_sites, program_sites}
-use Rattle.rb_unsplit_keeps.proofs.Parts.{val_parts, var_parts, assign_parts, run_parts, print_parts, throw_parts, if_parts, while_parts, for_parts, try_parts, batch_parts, stmts_parts}
 use Rattle.rb_unsplit_keeps.proofs.Programs.{IsTypedProgram}
-use Rattle.rb_unsplit_keeps.proofs.Standing.{block_lawful, Within, within_left, within_right, nothing, each_of, the_one}
-use Rattle.rb_unsplit_keeps.proofs.TypeFacts.{kind_here, primitive_fact, items_fact}
+use Rattle.rb_unsplit_keeps.proofs.Standing.{block_lawful, nothing, each_of, the_one}
 
 -- Both scopes have the same names in order, none of them `this`, and what counts as constant is of a primitive type.
 abbrev pub Sure : Scope → typed.Scope → Type 0

@@ -36,11 +36,10 @@ use Rattle.rb_meaning_split.specs.Parts as parts
 use Rattle.rb_meaning_split.specs.Replay as replay
 use Rattle.rb_types_keep.specs.Own.{IsFarKind}
 use Rattle.rb_types_keep.proofs.Known.{typed_known}
-use Rattle.rb_unsplit_keeps.proofs.Parts.{val_parts, run_parts}
-use Rattle.rb_unsplit_keeps.proofs.Standing.{Within, within_left}
-use Rattle.rb_unsplit_keeps.proofs.TypeFacts.{kind_here, primitive_fact}
+use Rattle.rb_types_keep.proofs.Parts.{val_parts, run_parts}
+use Rattle.rb_types_keep.proofs.TypeFacts.{kind_here, primitive_fact}
+use Rattle.rb_types_keep.proofs.SitesWithin.{Within, within_left, first_among}
 use Rattle.rb_flow.proofs.Members.{first_contained}
-use Rattle.rb_split_laws.proofs.Kept.{val_no_unit}
 use Rattle.rb_split_laws.proofs.NoUnit.{NoUnit}
 use Rattle.rb_split_laws.proofs.Later.{AllLater}
 use Rattle.rb_split_laws.proofs.Walk.{one_remote}
@@ -53,7 +52,6 @@ use Rattle.rb_local_laws.specs.Wanted.{AllWanted}
 use Rattle.rb_local_laws.proofs.Meeting.{handle_seq}
 use Rattle.rb_local_laws.proofs.Admitting.{if_name, quiet_parted}
 use Rattle.rb_local_laws.proofs.Marked.{quiet_placed}
-use Rattle.rb_local_laws.proofs.Sited.{first_among}
 use Rattle.rb_local_laws.proofs.Uncut.{nothing_taken, not_cut}
 use Rattle.rb_division_laws.specs.Faults.{EachFault, IsRemote, sent_of}
 use Rattle.rb_headline_laws.proofs.Calm.{value_calm}
@@ -168,7 +166,7 @@ module _ (c : Scene) (around : List Around) (vs : Scope) (ws after : typed.Scope
             subst (λ i. Goes c (with_var refs name m) (suc m) (with_variable vs name Role.Carried position) ws i (handle (h c) (performs (code c) c.gas s l) o) ran (replay.replay c.p.classes c.gas (parts.carried c.p n position name e) client (at_node c o ran) ke) go ke) q.same
             (subst (λ i. Goes c (with_var refs name m) (suc m) (with_variable vs name Role.Carried position) ws (typed.with_variable ws name q.kind true) i ran (replay.replay c.p.classes c.gas (parts.carried c.p n position name e) client (at_node c o ran) ke) go ke)
             (sym (handle_seq (h c) (evaluates (code c) e l) (on (λ v l1. nothing (bound name v l1))) o))
-            (cases r q.kind far q.free known q.typed (val_no_unit (x c) ws after position name e stands.typed q.kind q.typed) fact ends later' (holds_call (f c) e) ((f c).primitive (expr_at e)) refl refl))
+            (cases r q.kind far q.free known q.typed q.no_unit fact ends later' (holds_call (f c) e) ((f c).primitive (expr_at e)) refl refl))
 
         by : (b : Truth) → portable (f c) vs e ≡ b → AllLater (cond b (suc n) (kept_after (f c) vs s n)) go
             → let ran = run_steps c.ground (cond b (MoreSteps (script.Let n position m (keeps_val c.p e) (sexpr c.p refs e)) rest) (keeps c.p refs n (remote_of (f c) vs s) rest)) vars o.server kr in

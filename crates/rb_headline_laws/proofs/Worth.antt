@@ -43,8 +43,8 @@ use Rattle.rb_types_keep.specs.Noted.{IsNotedExpr}
 use Rattle.rb_types_keep.proofs.Checks.{then_ok, must_ok, placed_ok}
 use Rattle.rb_types_keep.proofs.Stmts.{binds}
 use Rattle.rb_types_keep.proofs.Values.{fits_more}
+use Rattle.rb_types_keep.proofs.SitesWithin.{Within}
 use Rattle.rb_unsplit_keeps.proofs.Carried.{Carry, carry_begins}
-use Rattle.rb_unsplit_keeps.proofs.Standing.{Within}
 use Rattle.rb_split_laws.proofs.Linked.{IsFound, Closed, linked_more}
 use Rattle.rb_split_laws.proofs.Values.{value_same}
 use Rattle.rb_split_laws.proofs.Covered.{closed_of}

@@ -12,7 +12,7 @@ use Rattle.rb_meaning_types.specs.Scopes.{Variable, Scope, variable_named, is_fr
 use Rattle.rb_meaning_types.specs.Statements.{is_open_variable, is_assignable, check_stmt, check_stmts}
 use Rattle.rb_meaning_flow.specs.Scopes.{assigned_variable, assigned_by, assigned_in}
 use Rattle.rb_meaning_split.specs.Refs.{Ref, Var as VarRef, Refs, with_var}
-use Rattle.rb_local_laws.proofs.Parts.{val_parts, var_parts, run_parts, throw_parts, print_parts, assign_parts, if_parts, while_parts, for_parts, try_parts, batch_parts, stmts_parts}
+use Rattle.rb_types_keep.proofs.Parts.{val_parts, var_parts, run_parts, throw_parts, print_parts, assign_parts, if_parts, while_parts, for_parts, try_parts, batch_parts, stmts_parts}
 use Rattle.rb_split_laws.proofs.Lookups.{same_bytes, bytes_same, first_or, lookup_new, first_old, first_new}
 use Rattle.rb_split_laws.proofs.Linked.{IsFound}
 use Rattle.rb_headline_laws.proofs.Overs.{Unkept}

@@ -21,12 +21,12 @@ use Rattle.rb_meaning_flow.specs.Sites.{StmtSite, Over, site, under, right_under
 use Rattle.rb_meaning_flow.specs.Refusals.{has_remote_type, is_and_or, frame_condition, may_be_remote, operand_condition, while_condition, StandsFirst}
 use Rattle.rb_types_keep.specs.Noted.{IsNotedExpr, AreNotedExprs}
 use Rattle.rb_types_keep.proofs.Known.{Known}
+use Rattle.rb_types_keep.proofs.TypeFacts.{kind_here, object_fact, rows_fact}
+use Rattle.rb_types_keep.proofs.SitesWithin.{Within, within_left, within_right, within_tail, site_first}
 use Rattle.rb_local_laws.specs.Shown.{is_far}
 use Rattle.rb_local_laws.specs.Parted.{IsNear, Parted, AllParted}
 use Rattle.rb_local_laws.specs.Admitted.{Carries, IsAdmittedBatch}
-use Rattle.rb_local_laws.proofs.TypeFacts.{kind_here, object_fact, rows_fact}
 use Rattle.rb_local_laws.proofs.Uncut.{or_none}
-use Rattle.rb_local_laws.proofs.Sited.{Within, within_left, within_right, within_tail, site_first}
 use Rattle.rb_local_laws.proofs.Refused.{refuted, Bad, no_call}
 
 -- a variable of an object of the service or of rows has a portable role

@@ -1,6 +1,4 @@
 -- The lemmas on local code.
-pub mod TypeFacts
-pub mod Parts
 pub mod Names
 pub mod Meeting
 pub mod Near
@@ -13,7 +11,6 @@ pub mod Closing
 pub mod Effects
 pub mod Statements
 pub mod Locally
-pub mod Sited
 pub mod Refused
 pub mod Origins
 pub mod Admitting

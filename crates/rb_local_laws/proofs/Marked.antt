@@ -17,7 +17,7 @@ use Rattle.rb_local_laws.specs.Local.{IsLocalAt}
 use Rattle.rb_local_laws.specs.Admitted.{IsAdmittedBatch, StaysWhole}
 use Rattle.rb_local_laws.specs.Marked.{HasMarks, AdmittedArePlaced}
 use Rattle.rb_local_laws.proofs.Uncut.{or_none}
-use Rattle.rb_local_laws.proofs.Sited.{Within, within_left, within_right, within_tail, site_first, stmt_first, own_among, first_among}
+use Rattle.rb_types_keep.proofs.SitesWithin.{Within, within_left, within_right, within_tail, site_first, stmt_first, own_among, first_among}
 use Rattle.rb_local_laws.proofs.Refused.{no_operations}
 use Rattle.rb_local_laws.proofs.Standing.{no_right}
 

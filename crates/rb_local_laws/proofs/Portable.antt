@@ -38,8 +38,8 @@ use Rattle.rb_meaning.specs.RemotePart.{with_names, in_remote_part}
 use Rattle.rb_types_keep.specs.Ends.{Place, FitsPlace}
 use Rattle.rb_types_keep.specs.Around.{EndsHandled}
 use Rattle.rb_types_keep.specs.Code.{OfBatchCode, EndsIn, EndsInAll}
+use Rattle.rb_types_keep.proofs.TypeFacts.{kind_here, object_fact}
 use Rattle.rb_local_laws.proofs.Meeting.{handle_seq, Ended}
-use Rattle.rb_local_laws.proofs.TypeFacts.{kind_here, object_fact}
 use Rattle.rb_local_laws.proofs.Coded.{Code, Codes, unary_code, binary_code, call_code, first_code}
 
 -- the outcome with another local state

@@ -10,7 +10,7 @@ use Rattle.rb_meaning_flow.specs.Scopes.{Scope, with_variable}
 use Rattle.rb_meaning_flow.specs.Portable.{holds_call, any_holds_call, holds_operation, block_holds}
 use Rattle.rb_meaning_flow.specs.Sites.{Around, Branch, WhileTurn, Turn, InTry, InBatch, StmtSite, Over, site, expr_sites, exprs_sites, all_sites, own, turn_role, scope_after, stmt_site, sites, block_sites, exprs_of}
 use Rattle.rb_meaning_flow.specs.Refusals.{operand_condition, while_condition, frame_condition, any_try, is_try, StandsFirst, IsRefusal}
-use Rattle.rb_local_laws.proofs.Sited.{Within, within_left, within_right, within_tail, site_first, stmt_first, own_among, first_among}
+use Rattle.rb_types_keep.proofs.SitesWithin.{Within, within_left, within_right, within_tail, site_first, stmt_first, own_among, first_among}
 
 or_cases : (a b : Truth) → (a || b) ≡ true → (a ≡ true) ⊎ (b ≡ true)
 or_cases true b h = inl refl

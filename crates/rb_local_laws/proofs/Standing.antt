@@ -22,13 +22,13 @@ use Rattle.rb_meaning_flow.specs.Refusals.{StandsFirst, frame_condition, whole_m
 use Rattle.rb_types_keep.specs.Noted.{IsNotedExpr, IsNotedStmt, AreNotedStmts}
 use Rattle.rb_types_keep.proofs.Checks.{bind_ok, known_ok}
 use Rattle.rb_types_keep.proofs.Known.{Known, typed_known}
+use Rattle.rb_types_keep.proofs.Parts.{val_parts, var_parts, assign_parts, run_parts, print_parts, throw_parts, if_parts, while_parts, for_parts, try_parts, batch_parts, stmts_parts}
+use Rattle.rb_types_keep.proofs.TypeFacts.{kind_here, object_fact, rows_fact}
+use Rattle.rb_types_keep.proofs.SitesWithin.{Within, within_left, within_right, within_tail, site_first, stmt_first, own_among, first_among}
 use Rattle.rb_local_laws.specs.Shown.{is_far}
 use Rattle.rb_local_laws.specs.Parted.{IsNear, Parted, HasNearItems, PartedStmt, PartedStmts}
 use Rattle.rb_local_laws.specs.Admitted.{IsKnownKind, AreKnownKinds, Carries, IsAdmittedBatch, StaysWhole, AdmittedAreParted}
-use Rattle.rb_local_laws.proofs.TypeFacts.{kind_here, object_fact, rows_fact}
-use Rattle.rb_local_laws.proofs.Parts.{val_parts, var_parts, assign_parts, run_parts, print_parts, throw_parts, if_parts, while_parts, for_parts, try_parts, batch_parts, stmts_parts}
 use Rattle.rb_local_laws.proofs.Uncut.{or_none}
-use Rattle.rb_local_laws.proofs.Sited.{Within, within_left, within_right, within_tail, site_first, stmt_first, own_among, first_among}
 use Rattle.rb_local_laws.proofs.Refused.{refuted, no_call, no_operations}
 use Rattle.rb_local_laws.proofs.Origins.{own_near, item_own, known_added, IsOrigin, origin, kind_known}
 use Rattle.rb_local_laws.proofs.Admitting.{carries_role, carries_added, IfName, if_name, far_type, near_site, quiet_parted, script_parted}

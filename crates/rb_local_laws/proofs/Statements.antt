@@ -36,13 +36,13 @@ use Rattle.rb_types_keep.specs.Around.{EndsHandled}
 use Rattle.rb_types_keep.specs.Code.{AreTyped, LeadsTo, LeadTo, OfBatchCode, IsBatchStmt, AreBatchStmts}
 use Rattle.rb_types_keep.proofs.Checks.{bind_ok, known_ok}
 use Rattle.rb_types_keep.proofs.Steps.{holds_less}
+use Rattle.rb_types_keep.proofs.Parts.{val_parts, var_parts, assign_parts, run_parts, print_parts, throw_parts, if_parts, while_parts, for_parts, try_parts, batch_parts, stmts_parts}
+use Rattle.rb_types_keep.proofs.TypeFacts.{kind_here, rows_fact}
 use Rattle.rb_local_laws.specs.Shown.{is_far, at_client, Fronts, LeftSeen}
 use Rattle.rb_local_laws.specs.Wanted.{AllWanted}
 use Rattle.rb_local_laws.specs.Parted.{PartedStmt, PartedStmts}
 use Rattle.rb_local_laws.specs.Placed.{PlacedStmt, PlacedStmts, PlacedClasses}
 use Rattle.rb_local_laws.specs.Meets.{Meets}
-use Rattle.rb_local_laws.proofs.TypeFacts.{kind_here, rows_fact}
-use Rattle.rb_local_laws.proofs.Parts.{val_parts, var_parts, assign_parts, run_parts, print_parts, throw_parts, if_parts, while_parts, for_parts, try_parts, batch_parts, stmts_parts}
 use Rattle.rb_local_laws.proofs.Names.{Extends, extends_same, seen_bound, fronts_same, fronts_less}
 use Rattle.rb_local_laws.proofs.Meeting.{Ended, then_meets, seq_meets, gives_meet, falls_meet, told_otherwise}
 use Rattle.rb_local_laws.proofs.Coded.{Code, field_code}

@@ -58,12 +58,12 @@ use Rattle.rb_types_keep.proofs.OwnKinds.{IsCall, IsFarCall, call_how}
 use Rattle.rb_types_keep.proofs.Objects.{arguments_do}
 use Rattle.rb_types_keep.proofs.Exprs.{call_runs}
 use Rattle.rb_types_keep.proofs.Bodies.{AskKnown, bodies_keep}
+use Rattle.rb_types_keep.proofs.TypeFacts.{kind_here, object_fact}
 use Rattle.rb_local_laws.specs.Shown.{is_far, seen, at_client, SameNames, FellSame}
 use Rattle.rb_local_laws.specs.Wanted.{Wanted, AllWanted}
 use Rattle.rb_local_laws.specs.Parted.{Parted, AllParted}
 use Rattle.rb_local_laws.specs.Placed.{PlacedExpr, PlacedExprs, PlacedClasses}
 use Rattle.rb_local_laws.specs.Meets.{Rest, Met, Meets}
-use Rattle.rb_local_laws.proofs.TypeFacts.{kind_here, object_fact}
 use Rattle.rb_local_laws.proofs.Names.{begins_fit, seen_value, seen_this}
 use Rattle.rb_local_laws.proofs.Meeting.{Ended, then_meets, gives_meet, end_meets, after_check}
 use Rattle.rb_local_laws.proofs.Alike.{call_meets}

@@ -11,6 +11,7 @@ use Rattle.rb_base.specs.Devices.{Device, failed}
 use Rattle.rb_base.specs.Sinks.{with_bytes, WrotePrefix}
 use Rattle.rb_base.specs.declared.sinks.Failed.{Failed}
 use Rattle.rb_base.specs.declared.sinks.Sink as sinks
+use Rattle.rb_base.proofs.Pieces.{both_whole, fails_next, prefix_front}
 use Rattle.rb_engine.specs.Answers.{Answer, Answered, as_value}
 use Rattle.rb_engine.specs.declared.world.Halt.{Halt}
 use Rattle.rb_engine.specs.declared.world.Halt.TheVariants as halt
@@ -20,7 +21,6 @@ use Rattle.rb_plain.specs.Staged.{program_of, service_of}
 use Rattle.rb_plain.specs.Worlds.{CutsBatch, Prints, batch_answers, batch_performs, batch_view, inner, outer, outer_answers, outer_view, output}
 use Rattle.rb_plain.specs.declared.batch_world.BatchWorld.{BatchWorld}
 use Rattle.rb_plain.specs.declared.outer_world.OuterWorld.{OuterWorld}
-use Rattle.rb_plain.proofs.Bytes.{both_whole, fails_next, prefix_front}
 use Rattle.rb_plain.proofs.Events.{More, batch_more, exchanges_line, outer_more, shown_append, shown_line}
 use Rattle.rb_plain.proofs.Told.{AnswersAs}
 

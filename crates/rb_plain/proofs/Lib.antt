@@ -2,9 +2,7 @@ pub mod Answering
 pub mod Asked
 pub mod BatchTold
 pub mod BatchWhole
-pub mod Bytes
 pub mod Collected
-pub mod Differ
 pub mod Dropped
 pub mod Evaluated
 pub mod Events
@@ -12,7 +10,6 @@ pub mod Found
 pub mod Fronts
 pub mod Looked
 pub mod MainLed
-pub mod Names
 pub mod Replies
 pub mod Skimmed
 pub mod Stepped

@@ -8,6 +8,7 @@ use Rattle.rb_meaning.specs.Shown.{exchanges, shown_events}
 use Rattle.rb_base.specs.Devices.{failed}
 use Rattle.rb_base.specs.Sinks.{with_bytes, WrotePrefix}
 use Rattle.rb_base.specs.declared.sinks.Sink as sinks
+use Rattle.rb_base.proofs.Pieces.{bytes_none}
 use Rattle.rb_plain.specs.Batches.{AreBatchesOf}
 use Rattle.rb_plain.specs.MainRuns.{Ends, RunsMain, main_meant}
 use Rattle.rb_plain.specs.Staged.{Staged, program_of}
@@ -17,7 +18,6 @@ use Rattle.rb_trees.specs.declared.outcomes.Run.{Run}
 use Rattle.rb_plain.specs.declared.outer_world.OuterWorld.{OuterWorld}
 use Rattle.rb_plain.specs.declared.run.PlainStop.{PlainStop}
 use Rattle.rb_plain.specs.declared.run.PlainStop.TheVariants as stops
-use Rattle.rb_plain.proofs.Bytes.{bytes_none}
 
 -- nothing was shown yet
 pub sees_first : {W : Type 0} (g : sinks.Ghosts W) (w : OuterWorld W) (table : List Object) → w.inner.remote.server ≡ record { table = table; fuel = 0 } → w.exchanges ≡ 0

@@ -19,7 +19,7 @@ use Rattle.rb_meaning_split.specs.Inputs.{constants, all_constants, kept_constan
 use Rattle.rb_meaning_split.specs.Steps.{refs_after}
 use Rattle.rb_flow.proofs.Members.{first_contained, given_by, cond_contained, none_contained}
 use Rattle.rb_types_keep.specs.Formed.{IsFormedExpr, AreFormedExprs}
-use Rattle.rb_unsplit_keeps.proofs.Standing.{Within, within_left, within_right}
+use Rattle.rb_types_keep.proofs.SitesWithin.{Within, within_left, within_right}
 use Rattle.rb_split_laws.proofs.Lookups.{first_or, lookup_old, lookup_new, first_old, first_new}
 use Rattle.rb_split_laws.proofs.Linked.{IsFound, Closed, AllClosed}
 

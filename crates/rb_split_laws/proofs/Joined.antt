@@ -30,8 +30,8 @@ use Rattle.rb_types_keep.specs.Own.{IsFarKind}
 use Rattle.rb_types_keep.specs.Formed.{IsFormedExpr, AreFormed}
 use Rattle.rb_types_keep.specs.Noted.{IsNotedExpr}
 use Rattle.rb_types_keep.specs.Code.{AreTyped}
+use Rattle.rb_types_keep.proofs.SitesWithin.{Within}
 use Rattle.rb_unsplit_keeps.proofs.Agreed.{Agree, agree_added}
-use Rattle.rb_unsplit_keeps.proofs.Standing.{Within}
 use Rattle.rb_unsplit_keeps.proofs.Carried.{Carry, carry_more, carry_skip}
 use Rattle.rb_unsplit_keeps.proofs.Walking.{Laws, value_fine}
 use Rattle.rb_split_laws.proofs.Linked.{Linked, Fresh, fresh_up, fresh_with, linked_more}

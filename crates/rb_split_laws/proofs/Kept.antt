@@ -1,20 +1,20 @@
 -- The remote expressions of a statement of an admitted batch that has no step of its own are primitive.
-use Rattle.std.proofs.Common.{◌≡◌, ◌⊎◌, inl, inr, refl, sym, ap, ◌∙◌, subst, ℕ, List, [], ◌∷◌, ◌++◌, Bool as Truth, true, false, not, cond, Option, Some, Ok}
+use Rattle.std.proofs.Common.{◌≡◌, ◌⊎◌, inl, inr, refl, ap, subst, ℕ, List, [], ◌∷◌, ◌++◌, Bool as Truth, true, false, not, cond, Option, Some, Ok}
 use Rattle.std.specs.Str.{bytes_eq}
 use Rattle.std.specs.List.{AllByRecursion, flat_map}
 use Rattle.std.proofs.lemmas.Bool.{and_parts}
-use Rattle.rb_trees.specs.Outcome.{◌>>=◌, ◌>>◌, known, must}
+use Rattle.rb_trees.specs.Outcome.{known}
 use Rattle.rb_trees.specs.declared.refusals.Refusal.{Refusal}
 use Rattle.rb_trees.specs.declared.refusals.Refusal.TheVariants as refusal
 use Rattle.rb_trees.specs.mirror.Code.{Expr, Lit, Name, This, Unary, Binary, Field, Call, Index, New, Items, Taken, expr_at, Stmt, Val, Var, Assign, Run, Print, Throw, If, While, For, Try, Batch}
 use Rattle.rb_trees.specs.mirror.Declarations.{Program, Interface}
 use Rattle.rb_meaning_types.specs.Kinds as kind
 use Rattle.rb_meaning_types.specs.Kinds.{Kind, is_unit}
-use Rattle.rb_meaning_types.specs.Violations.{Checked, Placed, UnknownName, NotAssignable, NameTaken, wanted, wrong_type}
+use Rattle.rb_meaning_types.specs.Violations.{Checked, UnknownName, wanted}
 use Rattle.rb_meaning_types.specs.Declared.{Declarations, Context, of_program}
 use Rattle.rb_meaning_types.specs.Scopes as typed
 use Rattle.rb_meaning_types.specs.Expressions.{type_of}
-use Rattle.rb_meaning_types.specs.Statements.{is_open_variable, is_assignable, is_printable, declare, placed, check_stmt}
+use Rattle.rb_meaning_types.specs.Statements.{is_open_variable, is_assignable, is_printable, check_stmt}
 use Rattle.rb_meaning_types.specs.Notes.{type_at}
 use Rattle.rb_meaning_flow.specs.Facts.{Facts, facts_of, over_rows}
 use Rattle.rb_meaning_flow.specs.Scopes.{Scope}
@@ -28,12 +28,10 @@ use Rattle.rb_types_keep.specs.Far.{RemoteCallsGiveFar}
 use Rattle.rb_types_keep.specs.Formed.{IsFormedExpr, IsFormedStmt}
 use Rattle.rb_types_keep.specs.Noted.{IsNotedExpr, IsNotedStmt}
 use Rattle.rb_types_keep.specs.Code.{AreTyped}
-use Rattle.rb_types_keep.proofs.Checks.{bind_ok, then_ok, known_ok, must_ok, placed_ok, wanted_ok}
+use Rattle.rb_types_keep.proofs.Checks.{bind_ok, then_ok, known_ok, placed_ok, wanted_ok}
+use Rattle.rb_types_keep.proofs.Parts.{val_parts, var_parts, assign_parts, run_parts, print_parts, if_parts, while_parts, for_parts}
+use Rattle.rb_types_keep.proofs.SitesWithin.{Within, within_left, within_right, site_first, stmt_first, own_among, first_among}
 use Rattle.rb_unsplit_keeps.proofs.Agreed.{Agree}
-use Rattle.rb_unsplit_keeps.proofs.Parts.{val_parts, var_parts, run_parts, print_parts, if_parts, while_parts, for_parts}
-use Rattle.rb_unsplit_keeps.proofs.Admission.{site_first, stmt_first, exprs_among}
-use Rattle.rb_unsplit_keeps.proofs.Conditions.{own_within}
-use Rattle.rb_unsplit_keeps.proofs.Standing.{Within, within_left, within_right}
 use Rattle.rb_unsplit_keeps.proofs.Walked.{all_append}
 use Rattle.rb_split_laws.proofs.NoUnit.{NoUnit, field_kind_no_unit}
 use Rattle.rb_split_laws.proofs.Sent.{Sent, not_remote, remote_sent}
@@ -47,25 +45,6 @@ open_more ws name k fixed h last = all_append (λ w. w.fixed ≡ false → NoUni
 
 pub open_fixed : (ws : typed.Scope) (name : List ℕ) (k : Kind) → OpenScope ws → OpenScope (typed.with_variable ws name k true)
 open_fixed ws name k h = open_more ws name k true h (λ e. absurd (cc (e)))
-
-declared_no_unit : (x : Context) (ws after : typed.Scope) (at : ℕ) (name : List ℕ) (fixed : Truth) (e : Expr) → (placed x ws e >>= λ q. declare ws at name fixed q) ≡ Ok after → (k : Kind) → type_of x ws e ≡ Ok k → NoUnit k
-declared_no_unit x ws after at name fixed e h k has =
-    let s = placed_ok (expr_at e) (type_of x ws e) _ after h in
-    let q : Placed = record { at = expr_at e; kind = s.0 } in
-    let t = then_ok (must (typed.is_free ws name) (NameTaken at) >> must (not (is_unit s.0)) (wrong_type q)) (Ok (typed.with_variable ws name s.0 fixed)) after s.2 in
-    let u = then_ok (must (typed.is_free ws name) (NameTaken at)) (must (not (is_unit s.0)) (wrong_type q)) tt t.0 in
-    let same : s.0 ≡ k = cc (sym s.1 ∙ has) in
-    subst NoUnit same (by (is_unit s.0) (must_ok (not (is_unit s.0)) (wrong_type q) u.1))
-  where
-    by : (t : Truth) → not t ≡ true → t ≡ false
-    by false h = refl
-    by true h = absurd (cc (h))
-
-pub val_no_unit : (x : Context) (ws after : typed.Scope) (at : ℕ) (name : List ℕ) (e : Expr) → check_stmt x ws (Val at name e) ≡ Ok after → (k : Kind) → type_of x ws e ≡ Ok k → NoUnit k
-val_no_unit x ws after at name e h = declared_no_unit x ws after at name true e h
-
-pub var_no_unit : (x : Context) (ws after : typed.Scope) (at : ℕ) (name : List ℕ) (e : Expr) → check_stmt x ws (Var at name e) ≡ Ok after → (k : Kind) → type_of x ws e ≡ Ok k → NoUnit k
-var_no_unit x ws after at name e h = declared_no_unit x ws after at name false e h
 
 open_named : (ws : typed.Scope) (name : List ℕ) → OpenScope ws → is_open_variable (typed.variable_named ws name) ≡ true → (w : typed.Variable) → typed.variable_named ws name ≡ Some w → NoUnit w.kind
 open_named [] name h o w e = absurd (cc (e))
@@ -183,44 +162,39 @@ module _ (given : RemoteCallsGiveFar) (p : Program) (declared : AreTyped (of_pro
     pub kept_sent : OpenScope ws → (after : typed.Scope) (s : Stmt) → check_stmt x ws s ≡ Ok after → IsNotedStmt types x ws s → IsFormedStmt s → Within (sites f around vs s) ss → IsKept f vs s → AllByRecursion (Sent' vs ws) (remote_of f vs s)
     kept_sent opens after (Val at name e) t n g w kept =
         let c = val_parts x ws at name e after t in
-        one_sent (Val at name e) e c.kind (own_within f ss around vs (Val at name e) e [] refl w) c.typed n g
+        one_sent (Val at name e) e c.kind (first_among f ss around vs (Val at name e) e [] refl w) c.typed n g
         (λ whole. absurd (cc (kept, (and_parts (portable f vs e) (holds_call f e) whole).0)))
     kept_sent opens after (Var at name e) t n g w kept =
         let c = var_parts x ws at name e after t in
-        one_sent (Var at name e) e c.kind (own_within f ss around vs (Var at name e) e [] refl w) c.typed n g
-        (λ whole. (var_no_unit x ws after at name e t c.kind c.typed, var_plain at name e w))
+        one_sent (Var at name e) e c.kind (first_among f ss around vs (Var at name e) e [] refl w) c.typed n g
+        (λ whole. (c.no_unit, var_plain at name e w))
     kept_sent opens after (Assign at a b) t n g w kept =
         let st = stmt_site around vs (Assign at a b) in
-        let q = placed_ok (expr_at a) (type_of x ws a) _ after t in
-        let r = placed_ok (expr_at b) (type_of x ws b) _ after q.2 in
-        let right : Placed = record { at = expr_at b; kind = r.0 } in
-        let u = then_ok (must (is_assignable ws a) (NotAssignable at) >> wanted q.0 right) (Ok ws) after r.2 in
-        let v = then_ok (must (is_assignable ws a) (NotAssignable at)) (wanted q.0 right) tt u.0 in
-        let open_left = must_ok (is_assignable ws a) (NotAssignable at) v.0 in
-        let unit = subst NoUnit (wanted_ok q.0 right v.1) (assignable_no_unit opens a q.0 open_left q.1) in
-        let all : Within (all_sites st (own (Assign at a b))) (exprs_of ss) = exprs_among ss st (w st (stmt_first f around vs (Assign at a b))) in
+        let q = assign_parts x ws at a b after t in
+        let unit = subst NoUnit q.alike (assignable_no_unit opens a q.left q.assignable q.left_typed) in
+        let all : Within (all_sites st (own (Assign at a b))) (exprs_of ss) = own_among f ss around vs (Assign at a b) w in
         let wb : Within (expr_sites st [] b) (exprs_of ss) = within_left (expr_sites st [] b) [] _ (within_right (expr_sites st [] a) (all_sites st (b ∷ [])) _ all) in
         all_append (Sent' vs ws) (remote_in f vs a) (remote_in f vs b ++ [])
-        (root_sent (Assign at a b) a q.0 (own_within f ss around vs (Assign at a b) a (b ∷ []) refl w) q.1 n.0 g.0 (assignable_may a q.0 open_left))
-        (plain_sent (Assign at a b) b r.0 wb r.1 n.1 g.1 refl unit)
+        (root_sent (Assign at a b) a q.left (first_among f ss around vs (Assign at a b) a (b ∷ []) refl w) q.left_typed n.0 g.0 (assignable_may a q.left q.assignable))
+        (plain_sent (Assign at a b) b q.right wb q.right_typed n.1 g.1 refl unit)
     kept_sent opens after (Run at e) t n g w kept =
         let c = run_parts x ws at e after t in
-        one_sent (Run at e) e c.kind (own_within f ss around vs (Run at e) e [] refl w) c.typed n g (λ whole. absurd (cc (kept, whole)))
+        one_sent (Run at e) e c.kind (first_among f ss around vs (Run at e) e [] refl w) c.typed n g (λ whole. absurd (cc (kept, whole)))
     kept_sent opens after (Print at e) t n g w kept =
         let c = print_parts x ws at e after t in
-        plain_sent (Print at e) e c.kind (own_within f ss around vs (Print at e) e [] refl w) c.typed n g refl (printable_no_unit d c.kind c.printable)
+        plain_sent (Print at e) e c.kind (first_among f ss around vs (Print at e) e [] refl w) c.typed n g refl (printable_no_unit d c.kind c.printable)
     kept_sent opens after (Throw at e) t n g w kept =
         let q = placed_ok (expr_at e) (type_of x ws e) _ after t in
         let u = then_ok (wanted kind.Text (record { at = expr_at e; kind = q.0 })) (Ok ws) after q.2 in
-        plain_sent (Throw at e) e q.0 (own_within f ss around vs (Throw at e) e [] refl w) q.1 n g refl (subst NoUnit (wanted_ok kind.Text (record { at = expr_at e; kind = q.0 }) u.0) refl)
+        plain_sent (Throw at e) e q.0 (first_among f ss around vs (Throw at e) e [] refl w) q.1 n g refl (subst NoUnit (wanted_ok kind.Text (record { at = expr_at e; kind = q.0 }) u.0) refl)
     kept_sent opens after (If at c a b) t n g w kept =
         let q = if_parts x ws at c a b after t in
-        plain_sent (If at c a b) c kind.Bool (own_within f ss around vs (If at c a b) c [] refl w) q.typed n.0 g.0 refl refl
+        plain_sent (If at c a b) c kind.Bool (first_among f ss around vs (If at c a b) c [] refl w) q.typed n.0 g.0 refl refl
     kept_sent opens after (While at c a) t n g w kept =
         let q = while_parts x ws at c a after t in
-        plain_sent (While at c a) c kind.Bool (own_within f ss around vs (While at c a) c [] refl w) q.typed n.0 g.0 refl refl
+        plain_sent (While at c a) c kind.Bool (first_among f ss around vs (While at c a) c [] refl w) q.typed n.0 g.0 refl refl
     kept_sent opens after (For at name e a) t n g w kept =
         let q = for_parts x ws at name e a after t in
-        plain_sent (For at name e a) e q.list (own_within f ss around vs (For at name e a) e [] refl w) q.typed n.0 g.0 kept (over_no_unit q.list q.item q.over)
+        plain_sent (For at name e a) e q.list (first_among f ss around vs (For at name e a) e [] refl w) q.typed n.0 g.0 kept (over_no_unit q.list q.item q.over)
     kept_sent opens after (Try at a name b) t n g w kept = tt
     kept_sent opens after (Batch at interface root a) t n g w kept = tt

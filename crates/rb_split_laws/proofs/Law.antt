@@ -40,11 +40,11 @@ use Rattle.rb_types_keep.specs.Asked.{Site}
 use Rattle.rb_types_keep.specs.Code.{AreTyped}
 use Rattle.rb_types_keep.proofs.Served.{remote_out}
 use Rattle.rb_types_keep.proofs.Stmts.{binds}
+use Rattle.rb_types_keep.proofs.Parts.{batch_parts}
 use Rattle.rb_unsplit_keeps.specs.Noted.{LawfulAreNoted}
 use Rattle.rb_unsplit_keeps.specs.Batches.{program_sites}
 use Rattle.rb_unsplit_keeps.proofs.Agreed.{Agree, agree_added, agree_with}
 use Rattle.rb_unsplit_keeps.proofs.Found.{batch_found}
-use Rattle.rb_unsplit_keeps.proofs.Parts.{batch_parts}
 use Rattle.rb_unsplit_keeps.proofs.Standing.{block_lawful}
 use Rattle.rb_unsplit_keeps.proofs.Programs.{IsTypedProgram, program_typed, batches_in}
 use Rattle.rb_unsplit_keeps.proofs.Carried.{Carry, carry_begins}

@@ -42,10 +42,9 @@ use Rattle.rb_types_keep.specs.Formed.{IsFormedExpr, AreFormedExprs}
 use Rattle.rb_types_keep.specs.Noted.{IsNotedExpr, AreNotedExprs}
 use Rattle.rb_types_keep.specs.Code.{AreTyped}
 use Rattle.rb_types_keep.proofs.Checks.{bind_ok, then_ok, known_ok, placed_ok}
+use Rattle.rb_types_keep.proofs.TypeFacts.{kind_here, object_fact, rows_fact}
+use Rattle.rb_types_keep.proofs.SitesWithin.{Within, within_left, within_right, within_tail, site_first}
 use Rattle.rb_unsplit_keeps.proofs.Agreed.{Agree}
-use Rattle.rb_unsplit_keeps.proofs.Admission.{within_tail, site_first}
-use Rattle.rb_unsplit_keeps.proofs.Standing.{Within, within_left, within_right}
-use Rattle.rb_unsplit_keeps.proofs.TypeFacts.{kind_here, object_fact, rows_fact}
 use Rattle.rb_unsplit_keeps.proofs.Walking.{object_named, there}
 use Rattle.rb_unsplit_keeps.proofs.Walked.{all_append}
 use Rattle.rb_split_laws.proofs.NoUnit.{NoUnit, AllNoUnit, operand_no_unit, operands_no_unit, index_no_unit, field_kind_no_unit, new_no_unit, items_no_unit, own_call_no_unit, called_no_unit, first_typed}

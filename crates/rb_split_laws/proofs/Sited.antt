@@ -15,11 +15,11 @@ use Rattle.rb_types_keep.specs.Ends.{context}
 use Rattle.rb_types_keep.specs.Asked.{Site}
 use Rattle.rb_types_keep.specs.Batches.{sites, sites_in}
 use Rattle.rb_types_keep.proofs.Checks.{bind_ok, then_ok}
-use Rattle.rb_unsplit_keeps.proofs.Parts.{val_parts, var_parts, assign_parts, run_parts, print_parts, throw_parts, if_parts, while_parts, for_parts, try_parts, batch_parts, stmts_parts}
+use Rattle.rb_types_keep.proofs.Parts.{val_parts, var_parts, assign_parts, run_parts, print_parts, throw_parts, if_parts, while_parts, for_parts, try_parts, batch_parts, stmts_parts}
 use Rattle.rb_unsplit_keeps.proofs.Standing.{nothing, each_of, the_one}
 use Rattle.rb_unsplit_keeps.proofs.Programs.{IsTypedProgram}
 use Rattle.rb_unsplit_keeps.specs.Batches.{method_sites, class_sites, program_sites}
-use Rattle.rb_split_laws.proofs.Kept.{OpenScope, open_more, open_fixed, var_no_unit}
+use Rattle.rb_split_laws.proofs.Kept.{OpenScope, open_more, open_fixed}
 
 -- a batch that is typed where it stands
 pub record IsTypedSite (d : Declarations) (b : Site) : Type 0 where
@@ -39,7 +39,7 @@ module _ (d : Declarations) (this : Option (List ℕ)) (remote : Truth) where
   open_after ws after (Val at name e) t h = let q = val_parts x ws at name e after t in subst OpenScope q.same (open_fixed ws name q.kind h)
   open_after ws after (Var at name e) t h =
       let q = var_parts x ws at name e after t in
-      subst OpenScope q.same (open_more ws name q.kind false h (λ e'. var_no_unit x ws after at name e t q.kind q.typed))
+      subst OpenScope q.same (open_more ws name q.kind false h (λ e'. q.no_unit))
   open_after ws after (Assign at a b) t h = subst OpenScope (assign_parts x ws at a b after t).same h
   open_after ws after (Run at e) t h = subst OpenScope (run_parts x ws at e after t).same h
   open_after ws after (Print at e) t h = subst OpenScope (print_parts x ws at e after t).same h

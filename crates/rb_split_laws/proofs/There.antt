@@ -43,7 +43,7 @@ use Rattle.rb_types_keep.specs.Formed.{IsFormedExpr, AreFormedExprs, AreFormed}
 use Rattle.rb_types_keep.specs.Noted.{IsNotedExpr, AreNotedExprs}
 use Rattle.rb_types_keep.specs.Code.{AreTyped}
 use Rattle.rb_types_keep.proofs.Checks.{bind_ok, placed_ok}
-use Rattle.rb_unsplit_keeps.proofs.TypeFacts.{kind_here, object_fact}
+use Rattle.rb_types_keep.proofs.TypeFacts.{kind_here, object_fact}
 use Rattle.rb_unsplit_keeps.proofs.Walking.{Laws, handle_seq, rest_typed, object_named, there}
 use Rattle.rb_split_laws.proofs.Linked.{ref_value, IsRead, Linked, IsFound, Closed, AllClosed}
 use Rattle.rb_split_laws.proofs.Values.{value_same}

@@ -48,16 +48,15 @@ use Rattle.rb_types_keep.specs.Own.{IsFarItem, IsFarKind}
 use Rattle.rb_types_keep.specs.Formed.{IsFormedExpr, IsFormedStmt, AreFormedStmts, AreFormed}
 use Rattle.rb_types_keep.specs.Noted.{IsNotedExpr, IsNotedStmt, AreNotedStmts}
 use Rattle.rb_types_keep.specs.Code.{AreTyped}
-use Rattle.rb_unsplit_keeps.proofs.Parts.{val_parts, var_parts, assign_parts, run_parts, print_parts, throw_parts, if_parts, while_parts, for_parts, try_parts, batch_parts, stmts_parts}
-use Rattle.rb_unsplit_keeps.proofs.TypeFacts.{kind_here, primitive_fact, items_fact, rows_fact}
-use Rattle.rb_unsplit_keeps.proofs.Standing.{Within, within_left, within_right}
-use Rattle.rb_unsplit_keeps.proofs.Admission.{within_tail, stmt_first}
+use Rattle.rb_types_keep.proofs.Parts.{val_parts, var_parts, assign_parts, run_parts, print_parts, throw_parts, if_parts, while_parts, for_parts, try_parts, batch_parts, stmts_parts}
+use Rattle.rb_types_keep.proofs.TypeFacts.{kind_here, primitive_fact, items_fact, rows_fact}
+use Rattle.rb_types_keep.proofs.SitesWithin.{Within, within_left, within_right, within_tail, stmt_first}
 use Rattle.rb_unsplit_keeps.proofs.Conditions.{condition_portable}
 use Rattle.rb_unsplit_keeps.proofs.Walking.{Laws}
 use Rattle.rb_unsplit_keeps.proofs.Walked.{script_scope}
 use Rattle.rb_split_laws.proofs.Numbers.{var_grows, vars_grow}
 use Rattle.rb_split_laws.proofs.Sent.{Sent}
-use Rattle.rb_split_laws.proofs.Kept.{val_no_unit, var_no_unit, kept_sent}
+use Rattle.rb_split_laws.proofs.Kept.{kept_sent}
 use Rattle.rb_split_laws.proofs.Alike.{Table, Sound, then_sound, rule_sound, kept_same, and_then_after, Alike, reply_alike, entry_alike, kept_alike, branch_alike, turns_alike, turn_alike}
 use Rattle.rb_split_laws.proofs.Joined.{fits_primitive, Joined, joined_up, joined_more, joined_plain, same_value, sound_value, far_value}
 
@@ -252,7 +251,7 @@ module _ (laws : Laws) (p : Program) (service : Service) (service_typed : check_
           let q = val_parts x ws at name e after t in
           skims_alike refs m vs ws ns vars j (Val at name e) n srv go rest kr
           (kept_sent laws.given p declared this remote ss none sends around vs ws j.agree j.opens after (Val at name e) t noted formed w r) u' table (λ s1 t1.
-          more' ns s1 vars (subst (λ i. At refs m (with_variable vs name Role.Plain at) i ns vars) q.same (joined_plain is g inputs refs m vs ws ns vars name at q.kind true j (val_no_unit x ws after at name e t q.kind q.typed))) t1)
+          more' ns s1 vars (subst (λ i. At refs m (with_variable vs name Role.Plain at) i ns vars) q.same (joined_plain is g inputs refs m vs ws ns vars name at q.kind true j q.no_unit)) t1)
 
   -- an expression alone, by whether it is remote
   run_alike : (around : List Around) (vs : Scope) (ws after : typed.Scope) (at : ℕ) (e : Expr) (ns : Names) (srv : Server) (go : Rest) (refs : Refs) (n m : ℕ) (vars : Vars) (rest : Steps) (kr : Vars → Server → Ran)
@@ -337,7 +336,7 @@ module _ (laws : Laws) (p : Program) (service : Service) (service_typed : check_
     stmt_alike around place vs ws after (Var at name e) ns srv go refs n m vars rest kr t noted formed w u j table more =
         let q = var_parts x ws at name e after t in
         skims_alike refs m vs ws ns vars j (Var at name e) n srv go rest kr (kept_sent laws.given p declared this remote ss none sends around vs ws j.agree j.opens after (Var at name e) t noted formed w tt) u table (λ s1 t1.
-        more ns s1 vars (subst (λ i. At refs m (with_variable vs name Role.Plain at) i ns vars) q.same (joined_plain is g inputs refs m vs ws ns vars name at q.kind false j (var_no_unit x ws after at name e t q.kind q.typed))) t1)
+        more ns s1 vars (subst (λ i. At refs m (with_variable vs name Role.Plain at) i ns vars) q.same (joined_plain is g inputs refs m vs ws ns vars name at q.kind false j q.no_unit)) t1)
     stmt_alike around place vs ws after (Assign at a b) ns srv go refs n m vars rest kr t noted formed w u j table more =
         skims_alike refs m vs ws ns vars j (Assign at a b) n srv go rest kr (kept_sent laws.given p declared this remote ss none sends around vs ws j.agree j.opens after (Assign at a b) t noted formed w tt) u table
         (on_same refs m vs ws after go rest kr ns vars (assign_parts x ws at a b after t).same more j)

@@ -10,6 +10,7 @@ use Rattle.rb_base.specs.Devices.{Device, failed}
 use Rattle.rb_base.specs.Directories.{Directory}
 use Rattle.rb_base.specs.Sinks.{WrotePrefix}
 use Rattle.rb_base.specs.declared.links.Link as links
+use Rattle.rb_base.proofs.Pieces.{prefix_front}
 use Rattle.rb_client.specs.Runs.{FailsAsListed}
 use Rattle.rb_client.specs.Servers.{FailsAfter, fails_after}
 use Rattle.rb_client.specs.declared.stops.RunStop.{RunStop}
@@ -37,7 +38,6 @@ use Rattle.rb_top.specs.declared.status.Status.TheVariants.{Done, Memory, Words}
 use Rattle.rb_top.specs.declared.words.Way.{Way}
 use Rattle.rb_top.specs.declared.words.Way.TheVariants.{Both, Unsplit, Pair}
 use Rattle.rb_top.proofs.Ended.{starved_at_once}
-use Rattle.rb_top.proofs.Printed.{prefix_front}
 use Rattle.rb_top.proofs.Serving.{ends_behind}
 use Rattle.rb_top.proofs.Usable.{OneService, OneSource, accepted_is_usable, found_is_told, held_is_told, service_is_usable}
 

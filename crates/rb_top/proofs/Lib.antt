@@ -4,7 +4,6 @@ pub mod Ended
 pub mod Going
 pub mod LinkRuns
 pub mod Lines
-pub mod Names
 pub mod Printed
 pub mod RunEnds
 pub mod Serving

@@ -7,13 +7,14 @@ use Rattle.rb_meaning.specs.Meaning.{Meaning}
 use Rattle.rb_meaning.specs.Shown.{line, exchanges, shown, shown_ending, shown_events, shown_table}
 use Rattle.rb_base.specs.Devices.{Device, failed}
 use Rattle.rb_base.specs.Sinks.{with_bytes, WrotePrefix}
+use Rattle.rb_base.proofs.Pieces.{both_whole}
 use Rattle.rb_plain.specs.Unsplit.{Leaves}
 use Rattle.rb_top.specs.Printing.{PrintsAnswering, PrintsUnlessStarved, end_text}
 use Rattle.rb_top.specs.Runs.{ended_status}
 use Rattle.rb_top.specs.declared.printing.PrintStop.{PrintStop}
 use Rattle.rb_top.specs.declared.printing.PrintStop.TheVariants as print
 use Rattle.rb_top.specs.declared.status.Status.{Status}
-use Rattle.rb_top.proofs.Printed.{both_whole, stops_first, stops_next}
+use Rattle.rb_top.proofs.Printed.{stops_first, stops_next}
 
 -- what follows the lines of a meaning
 abbrev ending_text : List ℕ → Meaning → List ℕ

@@ -9,6 +9,7 @@ use Rattle.rb_base.specs.Devices.{Device, failed}
 use Rattle.rb_base.specs.Listening.{Back, GivesWhereTold, Listening, after_start, risen_on_err, started, with_back}
 use Rattle.rb_base.specs.declared.sinks.Failed.{Failed}
 use Rattle.rb_base.specs.Sinks.{with_bytes, WrotePrefix}
+use Rattle.rb_base.proofs.Pieces.{both_whole, prefix_after}
 use Rattle.rb_exec.specs.Hosted.{Hosted}
 use Rattle.rb_session.specs.Serving.{UnlessMemory, UnlessServedMemory}
 use Rattle.rb_session.specs.declared.serving.Served.{Served}
@@ -29,7 +30,6 @@ use Rattle.rb_top.specs.declared.printing.PrintStop.{PrintStop}
 use Rattle.rb_top.specs.declared.printing.PrintStop.TheVariants as print
 use Rattle.rb_top.specs.declared.status.Status.{Status}
 use Rattle.rb_top.specs.declared.status.Status.TheVariants.{Done, ListenFault}
-use Rattle.rb_top.proofs.Printed.{both_whole, prefix_after}
 
 -- what was served and said so far
 pub record SoFar (host left : Hosted) (listen last : Listener) (before after : Device (List ℕ)) (n : ℕ) : Type 0 where

@@ -1,6 +1,6 @@
 pub mod Fronts
 pub mod LastNotes
-pub mod Guided
+pub mod Viewed
 pub mod Kept
 pub mod ExprSteps
 pub mod StmtSteps

@@ -5,7 +5,7 @@ ghost use Rattle.rb_trees.specs.mirror.Declarations.{mirror_param, mirror_method
 ghost use Rattle.rb_meaning_types.specs.Names.{class_named, field_named, method_named};
 ghost use Rattle.rb_types.specs.Views.{found};
 
-use crate::words::Words;
+use rb_names::Names;
 use rb_trees::{Class, Memory, Method, Param, Seq, Word, copy_word};
 use std::alloc::Global;
 use std::marker::Model;
@@ -16,9 +16,9 @@ use std::marker::Model;
 pub struct IndexedClass<'a> {
     class: &'a Class,
     // the names of its fields
-    fields: Words,
+    fields: Names,
     // the names of its methods
-    methods: Words,
+    methods: Names,
 }
 
 impl<'a> Model for IndexedClass<'a> {
@@ -36,10 +36,10 @@ impl<'a> Model for IndexedClass<'a> {
     ghost invariant = { λ c. (c.fields ≡ names_of_fields c.class.now) × (c.methods ≡ names_of_methods c.class.now) };
 }
 
-fn field_names(alloc: Global, fields: &[Param]) -> Result<Words, Memory>
+fn field_names(alloc: Global, fields: &[Param]) -> Result<Names, Memory>
     ensures { IfOk result (λ names. names ≡ map (λ f. f.name) fields.now) }
 {
-    let mut names = Words::new(alloc);
+    let mut names = Names::new(alloc);
     for field in fields {
         let name = copy_word(alloc, &field.name)?;
         names.push(alloc, name)?;
@@ -47,10 +47,10 @@ fn field_names(alloc: Global, fields: &[Param]) -> Result<Words, Memory>
     Ok(names)
 }
 
-fn method_names(alloc: Global, methods: &[Method]) -> Result<Words, Memory>
+fn method_names(alloc: Global, methods: &[Method]) -> Result<Names, Memory>
     ensures { IfOk result (λ names. names ≡ map (λ m. m.signature.name) methods.now) }
 {
-    let mut names = Words::new(alloc);
+    let mut names = Names::new(alloc);
     for method in methods {
         let name = copy_word(alloc, &method.signature.name)?;
         names.push(alloc, name)?;
@@ -80,7 +80,7 @@ impl<'a> IndexedClass<'a> {
     }
 
     /// The first field of a name.
-    #[tactic(auto, using(crate::proofs::Guided::field_viewed))]
+    #[tactic(auto, using(crate::proofs::Viewed::field_viewed))]
     pub fn find_field(&self, name: &Word) -> Option<&Param>
         ensures { found mirror_param result ≡ field_named (map mirror_param self.now.fields) name.now }
     {
@@ -91,7 +91,7 @@ impl<'a> IndexedClass<'a> {
     }
 
     /// The first method of a name.
-    #[tactic(auto, using(crate::proofs::Guided::method_viewed))]
+    #[tactic(auto, using(crate::proofs::Viewed::method_viewed))]
     pub fn find_method(&self, name: &Word) -> Option<&Method>
         ensures { found mirror_method result ≡ method_named (map mirror_method self.now.methods) name.now }
     {
@@ -108,7 +108,7 @@ impl<'a> IndexedClass<'a> {
 pub struct Classes<'a> {
     items: Seq<IndexedClass<'a>>,
     // their names
-    names: Words,
+    names: Names,
 }
 
 impl<'a> Model for Classes<'a> {
@@ -132,7 +132,7 @@ impl<'a> Classes<'a> {
         ensures { IfOk result (λ all. all ≡ classes.now) }
     {
         let mut items = Seq::new(alloc);
-        let mut names = Words::new(alloc);
+        let mut names = Names::new(alloc);
         for class in classes {
             let name = copy_word(alloc, &class.name)?;
             names.push(alloc, name)?;
@@ -150,7 +150,7 @@ impl<'a> Classes<'a> {
     }
 
     /// The first class of a name.
-    #[tactic(auto, using(crate::proofs::Guided::class_viewed))]
+    #[tactic(auto, using(crate::proofs::Viewed::class_viewed))]
     pub fn find(&self, name: &Word) -> Option<&IndexedClass<'a>>
         ensures { found mirror_class result ≡ class_named (map mirror_class self.now) name.now }
     {

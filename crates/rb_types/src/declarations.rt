@@ -2,7 +2,6 @@
 
 ghost use Rattle.std.specs.Prelude.{◌≡◌, [], ◌∷◌, ◌++◌, map, OnOk};
 ghost use Rattle.rb_trees.specs.mirror.Declarations.{mirror_param, mirror_signature, mirror_interface, mirror_method, mirror_class};
-ghost use Rattle.rb_meaning_types.specs.Names as naming;
 ghost use Rattle.rb_meaning_types.specs.Declarations as declarations;
 ghost use Rattle.rb_types.specs.Checks.{Passes};
 ghost use Rattle.rb_types.specs.Views.{declarations_of};
@@ -11,23 +10,16 @@ use crate::classes::IndexedClass;
 use crate::context::Declarations;
 use crate::interfaces::IndexedInterface;
 use crate::places::{parameter_type, result_type};
-use crate::words::Words;
+use rb_names::Names;
 use rb_trees::{Class, Method, Param, Signature, TypeError, Word, copy_word};
 use std::alloc::Global;
 
-#[tactic(auto, using(crate::proofs::Guided::new_place))]
-fn is_new(names: &Words, name: &Word) -> bool
-    ensures { result ≡ naming.is_new name.now names.now }
-{
-    names.find(name).is_none()
-}
-
 /// Adds a name that differs from those before.
-fn add_name(alloc: Global, names: &mut Words, at: u32, name: &Word) -> Result<(), TypeError>
+fn add_name(alloc: Global, names: &mut Names, at: u32, name: &Word) -> Result<(), TypeError>
     ensures gives { Passes result (declarations.new_name names.old at name.now) }
     ensures added { OnOk result (names.new ≡ names.old ++ name.now ∷ []) }
 {
-    if !is_new(names, name) {
+    if names.has(name) {
         return Err(TypeError::NameTaken(at));
     }
     let word = copy_word(alloc, name)?;
@@ -43,7 +35,7 @@ fn check_params(
 ) -> Result<(), TypeError>
     ensures { Passes result (declarations.check_params remote (declarations_of d.now) [] (map mirror_param params.now)) }
 {
-    let mut names = Words::new(alloc);
+    let mut names = Names::new(alloc);
     for param in params {
         add_name(alloc, &mut names, param.at, &param.name)?;
         parameter_type(remote, d, &param.kind)?;
@@ -70,7 +62,7 @@ fn check_signatures(
 ) -> Result<(), TypeError>
     ensures { Passes result (declarations.check_signatures (declarations_of d.now) [] (map mirror_signature signatures.now)) }
 {
-    let mut names = Words::new(alloc);
+    let mut names = Names::new(alloc);
     for s in signatures {
         add_name(alloc, &mut names, s.at, &s.name)?;
         check_signature(alloc, true, d, s)?;
@@ -91,7 +83,7 @@ fn check_method(alloc: Global, d: &Declarations, m: &Method) -> Result<(), TypeE
 fn check_methods(alloc: Global, d: &Declarations, methods: &[Method]) -> Result<(), TypeError>
     ensures { Passes result (declarations.check_methods (declarations_of d.now) [] (map mirror_method methods.now)) }
 {
-    let mut names = Words::new(alloc);
+    let mut names = Names::new(alloc);
     for m in methods {
         add_name(alloc, &mut names, m.signature.at, &m.signature.name)?;
         check_method(alloc, d, m)?;
@@ -108,7 +100,7 @@ fn check_class(alloc: Global, d: &Declarations, class: &Class) -> Result<(), Typ
 
 fn check_interfaces(
     alloc: Global,
-    names: &mut Words,
+    names: &mut Names,
     d: &Declarations,
     items: &[IndexedInterface],
 ) -> Result<(), TypeError>
@@ -125,7 +117,7 @@ fn check_interfaces(
 
 fn check_classes(
     alloc: Global,
-    names: &mut Words,
+    names: &mut Names,
     d: &Declarations,
     items: &[IndexedClass],
 ) -> Result<(), TypeError>
@@ -143,7 +135,7 @@ fn check_classes(
 pub fn check_declarations(alloc: Global, d: &Declarations) -> Result<(), TypeError>
     ensures { Passes result (declarations.check_declarations (declarations_of d.now)) }
 {
-    let mut names = Words::new(alloc);
+    let mut names = Names::new(alloc);
     check_interfaces(alloc, &mut names, d, d.interfaces.as_slice())?;
     check_classes(alloc, &mut names, d, d.classes.as_slice())
 }

@@ -5,7 +5,7 @@ ghost use Rattle.rb_trees.specs.mirror.Declarations.{mirror_signature, mirror_in
 ghost use Rattle.rb_meaning_types.specs.Names.{interface_named, signature_named};
 ghost use Rattle.rb_types.specs.Views.{found};
 
-use crate::words::Words;
+use rb_names::Names;
 use rb_trees::{Interface, Memory, Seq, Signature, Word, copy_word};
 use std::alloc::Global;
 use std::marker::Model;
@@ -16,7 +16,7 @@ use std::marker::Model;
 pub struct IndexedInterface<'a> {
     interface: &'a Interface,
     // the names of its methods
-    methods: Words,
+    methods: Names,
 }
 
 impl<'a> Model for IndexedInterface<'a> {
@@ -33,10 +33,10 @@ impl<'a> Model for IndexedInterface<'a> {
     ghost invariant = { λ i. i.methods ≡ map (λ s. s.name) i.interface.now.methods };
 }
 
-fn signature_names(alloc: Global, signatures: &[Signature]) -> Result<Words, Memory>
+fn signature_names(alloc: Global, signatures: &[Signature]) -> Result<Names, Memory>
     ensures { IfOk result (λ names. names ≡ map (λ s. s.name) signatures.now) }
 {
-    let mut names = Words::new(alloc);
+    let mut names = Names::new(alloc);
     for signature in signatures {
         let name = copy_word(alloc, &signature.name)?;
         names.push(alloc, name)?;
@@ -61,7 +61,7 @@ impl<'a> IndexedInterface<'a> {
     }
 
     /// The method of a name.
-    #[tactic(auto, using(crate::proofs::Guided::signature_viewed))]
+    #[tactic(auto, using(crate::proofs::Viewed::signature_viewed))]
     pub fn find_method(&self, name: &Word) -> Option<&Signature>
         ensures { found mirror_signature result ≡ signature_named (map mirror_signature self.now.methods) name.now }
     {
@@ -78,7 +78,7 @@ impl<'a> IndexedInterface<'a> {
 pub struct Interfaces<'a> {
     items: Seq<IndexedInterface<'a>>,
     // their names
-    names: Words,
+    names: Names,
 }
 
 impl<'a> Model for Interfaces<'a> {
@@ -103,7 +103,7 @@ impl<'a> Interfaces<'a> {
     {
         Interfaces {
             items: Seq::new(alloc),
-            names: Words::new(alloc),
+            names: Names::new(alloc),
         }
     }
 
@@ -112,7 +112,7 @@ impl<'a> Interfaces<'a> {
         ensures { IfOk result (λ all. all ≡ interfaces.now) }
     {
         let mut items = Seq::new(alloc);
-        let mut names = Words::new(alloc);
+        let mut names = Names::new(alloc);
         for interface in interfaces {
             let name = copy_word(alloc, &interface.name)?;
             names.push(alloc, name)?;
@@ -130,7 +130,7 @@ impl<'a> Interfaces<'a> {
     }
 
     /// The first interface of a name.
-    #[tactic(auto, using(crate::proofs::Guided::interface_viewed))]
+    #[tactic(auto, using(crate::proofs::Viewed::interface_viewed))]
     pub fn find(&self, name: &Word) -> Option<&IndexedInterface<'a>>
         ensures { found mirror_interface result ≡ interface_named (map mirror_interface self.now) name.now }
     {

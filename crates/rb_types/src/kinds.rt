@@ -13,7 +13,7 @@ ghost use Rattle.rb_trees.specs.Outcome.{Refuses};
 ghost use Rattle.rb_types.specs.Checks.{Passes, Types};
 ghost use Rattle.rb_types.specs.Views.{placed_of};
 
-use crate::names::same_word;
+use rb_names::same_name;
 use rb_trees::{TypeError, TypeForm, TypeTree, Value, Word, copy_type_form};
 use std::alloc::Global;
 
@@ -107,7 +107,7 @@ fn is_named(name: &Word, kind: &TypeForm) -> bool
     ensures { result ≡ kinds.is_named name.now (kind_of_form kind.now) }
 {
     match kind {
-        TypeForm::Named(other) => same_word(name, other),
+        TypeForm::Named(other) => same_name(name, other),
         TypeForm::Int
         | TypeForm::Bool
         | TypeForm::Text

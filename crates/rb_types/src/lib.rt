@@ -12,14 +12,12 @@ mod index;
 mod interfaces;
 mod kinds;
 mod members;
-mod names;
 mod operators;
 mod places;
 mod programs;
 mod scope;
 mod statements;
 mod typed;
-mod words;
 
 pub use programs::check_service;
 pub use typed::{Typed, check};

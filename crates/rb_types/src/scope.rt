@@ -5,7 +5,7 @@ ghost use Rattle.rb_meaning_types.specs.Kinds.{kind_of_form};
 ghost use Rattle.rb_meaning_types.specs.Scopes as scopes;
 ghost use Rattle.rb_types.specs.Views.{variable_of, scope_of, found};
 
-use crate::words::Words;
+use rb_names::Names;
 use rb_trees::{Memory, Seq, TypeForm, Word, copy_word};
 use std::alloc::Global;
 use std::marker::Model;
@@ -23,7 +23,7 @@ pub struct Variable {
 pub struct Scope {
     variables: Seq<Variable>,
     // their names, by which a variable is found
-    names: Words,
+    names: Names,
 }
 
 impl Model for Scope {
@@ -48,12 +48,12 @@ impl Scope {
     {
         Scope {
             variables: Seq::new(alloc),
-            names: Words::new(alloc),
+            names: Names::new(alloc),
         }
     }
 
     /// The variable of a name.
-    #[tactic(auto, using(crate::proofs::Guided::variable_viewed))]
+    #[tactic(auto, using(crate::proofs::Viewed::variable_viewed))]
     pub fn find(&self, name: &Word) -> Option<&Variable>
         ensures { found variable_of result ≡ scopes.variable_named (scope_of self.now) name.now }
     {

@@ -1,5 +1,8 @@
 -- The lemmas on typed code.
 pub mod Checks
+pub mod Parts
+pub mod TypeFacts
+pub mod SitesWithin
 pub mod Values
 pub mod Faults
 pub mod Results

@@ -1,7 +1,7 @@
 -- The code of a batch without refusals is admitted.
-use Rattle.std.proofs.Common.{◌≡◌, ◌⊎◌, inl, inr, refl, sym, ap, ◌∙◌, subst, ℕ, List, [], ◌∷◌, ◌++◌, Bool as Truth, true, false, not, ◌&&◌, ◌||◌, Option, Some, Ok}
+use Rattle.std.proofs.Common.{◌≡◌, inl, inr, refl, sym, ap, ◌∙◌, subst, ℕ, List, [], ◌∷◌, Bool as Truth, true, false, not, ◌&&◌, ◌||◌, Option, Some, Ok}
 use Rattle.std.specs.List.{Contains}
-use Rattle.std.proofs.lemmas.List.Elements.{Contains-append_left, Contains-append_right}
+use Rattle.std.proofs.lemmas.List.Elements.{Contains-append_left}
 use Rattle.rb_trees.specs.Outcome.{◌>>=◌}
 use Rattle.rb_trees.specs.declared.refusals.Refusal.{Refusal}
 use Rattle.rb_trees.specs.declared.refusals.Refusal.TheVariants as refusal
@@ -19,52 +19,11 @@ use Rattle.rb_meaning_flow.specs.Facts.{Facts, facts_of, is_object, is_rows, has
 use Rattle.rb_meaning_flow.specs.Scopes.{Scope, with_variable}
 use Rattle.rb_meaning_flow.specs.Sites.{Around, Branch, WhileTurn, Turn, InTry, StmtSite, Over, site, under, right_under, expr_sites, exprs_sites, own, all_sites, turn_role, scope_after, stmt_site, sites, block_sites, exprs_of}
 use Rattle.rb_meaning_flow.specs.Refusals.{has_remote_type, calls_remote_method, IsRefusal}
-use Rattle.rb_flow.proofs.Members.{first_contained, more_contained, contained_cases, none_contained}
 use Rattle.rb_types_keep.specs.Noted.{IsNotedExpr, AreNotedExprs, IsNotedStmt, AreNotedStmts}
 use Rattle.rb_types_keep.specs.Admitted.{CallsNoRemote, IsAdmittedExpr, AreAdmittedExprs, IsAdmittedStmt, AreAdmittedStmts}
-use Rattle.rb_unsplit_keeps.proofs.Parts.{print_parts, if_parts, while_parts, for_parts, try_parts, stmts_parts}
-use Rattle.rb_unsplit_keeps.proofs.Standing.{Within, within_left, within_right}
-use Rattle.rb_unsplit_keeps.proofs.TypeFacts.{kind_here, object_fact, rows_fact, method_fact}
-
-pub within_tail : {A : Type 0} (x : A) (xs all : List A) → Within (x ∷ xs) all → Within xs all
-within_tail x xs all h o is = h o (more_contained x xs o is)
-
--- the expressions of a statement are among those of all
-pub exprs_among : (ss : List StmtSite) (s : StmtSite) → Contains ss s → Within (all_sites s (own s.stmt)) (exprs_of ss)
-exprs_among [] s h = absurd (none_contained s h)
-exprs_among (t ∷ ss) s h = by (contained_cases t ss s h) (exprs_among ss s)
-  where
-    by : (t ≡ s) ⊎ Contains ss s → (Contains ss s → Within (all_sites s (own s.stmt)) (exprs_of ss)) → Within (all_sites s (own s.stmt)) (all_sites t (own t.stmt) ++ exprs_of ss)
-    by (inl e) rest o is = Contains-append_left (all_sites t (own t.stmt)) (exprs_of ss) o (subst (λ u. Contains (all_sites u (own u.stmt)) o) (sym e) is)
-    by (inr m) rest o is = Contains-append_right (all_sites t (own t.stmt)) (exprs_of ss) o (rest m o is)
-
--- an expression is the first of its sites
-pub site_first : (s : StmtSite) (above : List Over) (e : Expr) → Contains (expr_sites s above e) (site s above e)
-site_first s above (Lit at value) = first_contained (site s above (Lit at value)) []
-site_first s above (Name at name) = first_contained (site s above (Name at name)) []
-site_first s above (This at) = first_contained (site s above (This at)) []
-site_first s above (Unary at op a) = first_contained (site s above (Unary at op a)) _
-site_first s above (Binary at op a b) = first_contained (site s above (Binary at op a b)) _
-site_first s above (Field at a name) = first_contained (site s above (Field at a name)) _
-site_first s above (Call at a method args) = first_contained (site s above (Call at a method args)) _
-site_first s above (Index at a b) = first_contained (site s above (Index at a b)) _
-site_first s above (New at class args) = first_contained (site s above (New at class args)) _
-site_first s above (Items at item items) = first_contained (site s above (Items at item items)) _
-site_first s above (Taken at step) = first_contained (site s above (Taken at step)) []
-
--- a statement is the first of its sites
-pub stmt_first : (f : Facts) (around : List Around) (scope : Scope) (s : Stmt) → Contains (sites f around scope s) (stmt_site around scope s)
-stmt_first f around scope (Val at name e) = first_contained (stmt_site around scope (Val at name e)) []
-stmt_first f around scope (Var at name e) = first_contained (stmt_site around scope (Var at name e)) []
-stmt_first f around scope (Assign at a b) = first_contained (stmt_site around scope (Assign at a b)) []
-stmt_first f around scope (Run at e) = first_contained (stmt_site around scope (Run at e)) []
-stmt_first f around scope (Print at e) = first_contained (stmt_site around scope (Print at e)) []
-stmt_first f around scope (Throw at e) = first_contained (stmt_site around scope (Throw at e)) []
-stmt_first f around scope (If at c a b) = first_contained (stmt_site around scope (If at c a b)) _
-stmt_first f around scope (While at c a) = first_contained (stmt_site around scope (While at c a)) _
-stmt_first f around scope (For at name e a) = first_contained (stmt_site around scope (For at name e a)) _
-stmt_first f around scope (Try at a name b) = first_contained (stmt_site around scope (Try at a name b)) _
-stmt_first f around scope (Batch at interface root a) = first_contained (stmt_site around scope (Batch at interface root a)) _
+use Rattle.rb_types_keep.proofs.Parts.{print_parts, if_parts, while_parts, for_parts, try_parts, stmts_parts}
+use Rattle.rb_types_keep.proofs.TypeFacts.{kind_here, object_fact, rows_fact, method_fact}
+use Rattle.rb_types_keep.proofs.SitesWithin.{Within, within_left, within_right, within_tail, site_first, stmt_first, own_among, first_among}
 
 module _ (p : Program) (x : Context) (same : x.declared ≡ of_program p) (ss : List StmtSite) (none : (r : Refusal) → IsRefusal (facts_of p) ss r → ⊥) where
   abbrev f : Facts
@@ -146,27 +105,22 @@ module _ (p : Program) (x : Context) (same : x.declared ≡ of_program p) (ss : 
       by (kind.RowsOf row) same h = absurd (refused (or_true (f.object (expr_at e)) (f.rows (expr_at e)) (rows_fact p (expr_at e) k noted ∙ ap is_rows same)))
 
   -- the outermost expression of a statement
-  outermost_within : (around : List Around) (vs : Scope) (s : Stmt) → Within (sites f around vs s) ss → Within (all_sites (stmt_site around vs s) (own s)) (exprs_of ss)
-  outermost_within around vs s w = exprs_among ss (stmt_site around vs s) (w (stmt_site around vs s) (stmt_first f around vs s))
-
   one_admitted : (around : List Around) (vs : Scope) (ws : typed.Scope) (s : Stmt) (e : Expr) (es : List Expr) → own s ≡ e ∷ es → Within (sites f around vs s) ss → IsNotedExpr types x ws e → IsAdmittedExpr x ws e
-  one_admitted around vs ws s e es first w n =
-      let t = subst (λ own_exprs. Within (all_sites (stmt_site around vs s) own_exprs) (exprs_of ss)) first (outermost_within around vs s w) in
-      expr_admitted (stmt_site around vs s) [] ws e (within_left (expr_sites (stmt_site around vs s) [] e) (all_sites (stmt_site around vs s) es) _ t) n
+  one_admitted around vs ws s e es first w n = expr_admitted (stmt_site around vs s) [] ws e (first_among f ss around vs s e es first w) n
 
   mutual
     stmt_admitted : (around : List Around) (vs : Scope) (ws after : typed.Scope) (s : Stmt) → check_stmt x ws s ≡ Ok after → IsNotedStmt types x ws s → Within (sites f around vs s) ss → IsAdmittedStmt x ws s
     stmt_admitted around vs ws after (Val at name e) t n w = one_admitted around vs ws (Val at name e) e [] refl w n
     stmt_admitted around vs ws after (Var at name e) t n w = one_admitted around vs ws (Var at name e) e [] refl w n
     stmt_admitted around vs ws after (Assign at a b) t n w =
-        let all = outermost_within around vs (Assign at a b) w in
+        let all = own_among f ss around vs (Assign at a b) w in
         let s = stmt_site around vs (Assign at a b) in
         (one_admitted around vs ws (Assign at a b) a (b ∷ []) refl w n.0, expr_admitted s [] ws b (within_left (expr_sites s [] b) [] _ (within_right (expr_sites s [] a) (all_sites s (b ∷ [])) _ all)) n.1)
     stmt_admitted around vs ws after (Run at e) t n w = one_admitted around vs ws (Run at e) e [] refl w n
     stmt_admitted around vs ws after (Print at e) t n w =
         let h = print_parts x ws at e after t in
         let s = stmt_site around vs (Print at e) in
-        let is = outermost_within around vs (Print at e) w (site s [] e) (Contains-append_left (expr_sites s [] e) [] _ (site_first s [] e)) in
+        let is = own_among f ss around vs (Print at e) w (site s [] e) (Contains-append_left (expr_sites s [] e) [] _ (site_first s [] e)) in
         let primitive = printed around vs at e h.kind is (kind_here types x ws e h.kind n h.typed) (subst (λ d'. is_printable d' h.kind ≡ true) same h.printable) in
         (one_admitted around vs ws (Print at e) e [] refl w n, λ k typed. let e' : h.kind ≡ k = cc (h.typed, typed) in subst (λ m. is_primitive m ≡ true) e' primitive)
     stmt_admitted around vs ws after (Throw at e) t n w = one_admitted around vs ws (Throw at e) e [] refl w n

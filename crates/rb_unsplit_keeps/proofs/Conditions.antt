@@ -10,8 +10,7 @@ use Rattle.rb_meaning_flow.specs.Scopes.{Scope, with_variable}
 use Rattle.rb_meaning_flow.specs.Portable.{portable, holds_call, any_holds_call, holds_operation, block_holds, branches_hold}
 use Rattle.rb_meaning_flow.specs.Sites.{Around, Branch, WhileTurn, Turn, InTry, InBatch, StmtSite, Over, site, under, right_under, expr_sites, exprs_sites, own, all_sites, turn_role, scope_after, stmt_site, sites, block_sites, exprs_of}
 use Rattle.rb_meaning_flow.specs.Refusals.{operand_condition, while_condition, frame_condition, expr_conditions, stmt_conditions, StandsFirst, IsRefusal}
-use Rattle.rb_unsplit_keeps.proofs.Standing.{Within, within_left, within_right}
-use Rattle.rb_unsplit_keeps.proofs.Admission.{within_tail, exprs_among, site_first, stmt_first}
+use Rattle.rb_types_keep.proofs.SitesWithin.{Within, within_left, within_right, within_tail, site_first, stmt_first, own_among, first_among}
 
 or_cases : (a b : Truth) → (a || b) ≡ true → (a ≡ true) ⊎ (b ≡ true)
 or_cases true b h = inl refl
@@ -23,13 +22,6 @@ NonEmpty xs = (q : ℕ) × StandsFirst q xs
 some_more : (xs ys : List ℕ) → NonEmpty ys → NonEmpty (xs ++ ys)
 some_more [] ys h = h
 some_more (x ∷ xs) ys h = (x, refl)
-
--- the outermost expression of a statement
-pub own_within : (f : Facts) (ss : List StmtSite) (around : List Around) (vs : Scope) (s : Stmt) (e : Expr) (es : List Expr) → own s ≡ e ∷ es → Within (sites f around vs s) ss → Within (expr_sites (stmt_site around vs s) [] e) (exprs_of ss)
-own_within f ss around vs s e es first w =
-    let st = stmt_site around vs s in
-    let all = exprs_among ss st (w st (stmt_first f around vs s)) in
-    within_left (expr_sites st [] e) (all_sites st es) _ (subst (λ own_exprs. Within (all_sites st own_exprs) (exprs_of ss)) first all)
 
 module _ (f : Facts) (ss : List StmtSite) (none : (r : Refusal) → IsRefusal f ss r → ⊥) where
   -- a local condition stands around
@@ -84,7 +76,7 @@ module _ (f : Facts) (ss : List StmtSite) (none : (r : Refusal) → IsRefusal f 
     ]
 
   one_refused : (around : List Around) (vs : Scope) (s : Stmt) (e : Expr) (es : List Expr) → own s ≡ e ∷ es → Under around → Within (sites f around vs s) ss → holds_call f e ≡ true → ⊥
-  one_refused around vs s e es first u w h = expr_refused (stmt_site around vs s) [] e u (own_within f ss around vs s e es first w) h
+  one_refused around vs s e es first u w h = expr_refused (stmt_site around vs s) [] e u (first_among f ss around vs s e es first w) h
 
   loop_refused : (around : List Around) (vs : Scope) (at : ℕ) (name : List ℕ) (e : Expr) (a : Stmts) → Under around → Within (sites f around vs (For at name e a)) ss → over_rows f e ≡ true → ⊥
   loop_refused around vs at name e a u w h =
@@ -97,7 +89,7 @@ module _ (f : Facts) (ss : List StmtSite) (none : (r : Refusal) → IsRefusal f 
     stmt_refused around vs (Var at name e) u w h = one_refused around vs (Var at name e) e [] refl u w h
     stmt_refused around vs (Assign at a b) u w h =
         let s = stmt_site around vs (Assign at a b) in
-        let all = exprs_among ss s (w s (stmt_first f around vs (Assign at a b))) in
+        let all = own_among f ss around vs (Assign at a b) w in
         elim (or_cases (holds_call f a) (holds_call f b) h) [
           | inl l ↦ one_refused around vs (Assign at a b) a (b ∷ []) refl u w l
           | inr r ↦ expr_refused s [] b u (within_left (expr_sites s [] b) [] _ (within_right (expr_sites s [] a) (all_sites s (b ∷ [])) _ all)) r

@@ -3,8 +3,6 @@ pub mod Positions
 pub mod Notes
 pub mod Found
 pub mod Agreed
-pub mod Parts
-pub mod TypeFacts
 pub mod Standing
 pub mod Programs
 pub mod Admission

@@ -21,10 +21,11 @@ use Rattle.rb_meaning_flow.specs.Outermost.{Outermost, outermost_in, method_batc
 use Rattle.rb_types_keep.specs.Asked.{Site}
 use Rattle.rb_types_keep.specs.Batches.{sites_in, MethodsAsk}
 use Rattle.rb_types_keep.proofs.Checks.{bind_ok, then_ok}
+use Rattle.rb_types_keep.proofs.SitesWithin.{Within, within_left, within_right}
 use Rattle.rb_unsplit_keeps.specs.Noted.{IsNotedMethod, IsNotedClass, IsNotedProgram}
 use Rattle.rb_unsplit_keeps.specs.Batches.{method_sites, class_sites, program_sites}
 use Rattle.rb_unsplit_keeps.proofs.Agreed.{agree_parameters}
-use Rattle.rb_unsplit_keeps.proofs.Standing.{block_lawful, IsBatchOf, Within, within_left, within_right, nothing, each_of, stmts_in}
+use Rattle.rb_unsplit_keeps.proofs.Standing.{block_lawful, IsBatchOf, nothing, each_of, stmts_in}
 
 named_within : {A B : Type 0} (name_of : A → List ℕ) (f : A → List B) (xs : List A) (n : List ℕ) (y : A) → first_named name_of xs n ≡ Some y → Within (f y) (flat_map f xs)
 named_within name_of f [] n y h = absurd (cc (h))

@@ -1,7 +1,7 @@
 -- Each batch of a program as admission knows it: with its scope there, and with what is noted and lawful of it.
 use Rattle.std.proofs.Common.{◌≡◌, ◌⊎◌, inl, inr, refl, ap, subst, ℕ, List, [], ◌∷◌, ◌++◌, Bool as Truth, true, false, Option, Ok}
 use Rattle.std.specs.List.{Contains}
-use Rattle.std.proofs.lemmas.List.Elements.{Contains-append_left, Contains-append_right, Contains-append_cases}
+use Rattle.std.proofs.lemmas.List.Elements.{Contains-append_cases}
 use Rattle.rb_trees.specs.Outcome.{◌>>=◌}
 use Rattle.rb_trees.specs.mirror.Code.{Stmt, Stmts, Val, Var, Assign, Run, Print, Throw, If, While, For, Try, Batch, NoStmts, MoreStmts, expr_at}
 use Rattle.rb_trees.specs.mirror.Declarations.{Program, Interface}
@@ -21,9 +21,9 @@ use Rattle.rb_types_keep.specs.Noted.{IsNotedStmt, AreNotedStmts}
 use Rattle.rb_types_keep.specs.Ends.{context}
 use Rattle.rb_types_keep.specs.Asked.{Site}
 use Rattle.rb_types_keep.specs.Batches.{sites, sites_in}
+use Rattle.rb_types_keep.proofs.Parts.{val_parts, var_parts, assign_parts, run_parts, print_parts, throw_parts, if_parts, while_parts, for_parts, try_parts, batch_parts, stmts_parts}
+use Rattle.rb_types_keep.proofs.TypeFacts.{kind_here, primitive_fact, items_fact}
 use Rattle.rb_unsplit_keeps.proofs.Agreed.{Agree, agree_added, outer_far}
-use Rattle.rb_unsplit_keeps.proofs.Parts.{val_parts, var_parts, assign_parts, run_parts, print_parts, throw_parts, if_parts, while_parts, for_parts, try_parts, batch_parts, stmts_parts}
-use Rattle.rb_unsplit_keeps.proofs.TypeFacts.{kind_here, primitive_fact, items_fact}
 
 pub block_lawful : (ss : Stmts) → IsLawfulBlock ss → AreLawfulStmts ss
 block_lawful NoStmts h = tt
@@ -39,15 +39,6 @@ pub record IsBatchOf (p : Program) (all : List Outermost) (b : Site) : Type 0 wh
   pub agree : Agree p.interfaces begun.outer b.place.scope
   pub noted : IsNotedStmt (type_at p) (context (of_program p) b.place) b.place.scope (Batch b.at b.interface b.root b.block)
   pub lawful : IsLawfulStmt (Batch b.at b.interface b.root b.block)
-
-abbrev pub Within : {A : Type 0} → List A → List A → Type 0
-Within {A = A} xs all = (o : A) → Contains xs o → Contains all o
-
-pub within_left : {A : Type 0} (xs ys all : List A) → Within (xs ++ ys) all → Within xs all
-within_left xs ys all h o is = h o (Contains-append_left xs ys o is)
-
-pub within_right : {A : Type 0} (xs ys all : List A) → Within (xs ++ ys) all → Within ys all
-within_right xs ys all h o is = h o (Contains-append_right xs ys o is)
 
 pub nothing : {A : Type 0} {B : Type 0} (b : A) → Contains [] b → B
 nothing b is = absurd (none_contained b is)

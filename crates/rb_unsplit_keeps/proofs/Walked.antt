@@ -43,10 +43,9 @@ use Rattle.rb_types_keep.specs.Noted.{IsNotedExpr, AreNotedExprs, IsNotedStmt, A
 use Rattle.rb_types_keep.specs.Operators.{ConditionsHold}
 use Rattle.rb_types_keep.specs.Code.{AreTyped}
 use Rattle.rb_types_keep.proofs.Checks.{bind_ok, placed_ok}
-use Rattle.rb_unsplit_keeps.proofs.Parts.{val_parts, var_parts, assign_parts, run_parts, print_parts, throw_parts, if_parts, while_parts, for_parts, try_parts, batch_parts, stmts_parts}
-use Rattle.rb_unsplit_keeps.proofs.TypeFacts.{kind_here, rows_fact}
-use Rattle.rb_unsplit_keeps.proofs.Standing.{Within, within_left, within_right}
-use Rattle.rb_unsplit_keeps.proofs.Admission.{within_tail, stmt_first}
+use Rattle.rb_types_keep.proofs.Parts.{val_parts, var_parts, assign_parts, run_parts, print_parts, throw_parts, if_parts, while_parts, for_parts, try_parts, batch_parts, stmts_parts}
+use Rattle.rb_types_keep.proofs.TypeFacts.{kind_here, rows_fact}
+use Rattle.rb_types_keep.proofs.SitesWithin.{Within, within_left, within_right, within_tail, stmt_first}
 use Rattle.rb_unsplit_keeps.proofs.Conditions.{condition_portable}
 use Rattle.rb_unsplit_keeps.proofs.Carried.{Carry, carry_more, carry_skip}
 use Rattle.rb_unsplit_keeps.proofs.Handling.{Fine, unit_fine}

@@ -47,7 +47,7 @@ use Rattle.rb_types_keep.specs.Remote.{CallsKeep}
 use Rattle.rb_types_keep.specs.Code.{AreTyped}
 use Rattle.rb_types_keep.proofs.Checks.{bind_ok, known_ok, placed_ok}
 use Rattle.rb_types_keep.proofs.Exprs.{literal_fits}
-use Rattle.rb_unsplit_keeps.proofs.TypeFacts.{kind_here, object_fact}
+use Rattle.rb_types_keep.proofs.TypeFacts.{kind_here, object_fact}
 use Rattle.rb_unsplit_keeps.proofs.Carried.{Carry, carry_look}
 use Rattle.rb_unsplit_keeps.proofs.Handling.{Fine, invoke_fine}
 

@@ -60,13 +60,13 @@ use Rattle.rb_types_keep.proofs.Steps.{keeps_seq, Within, left_taken, holds_less
 use Rattle.rb_types_keep.proofs.Stmts.{binds, within_added}
 use Rattle.rb_types_keep.proofs.Bodies.{own_stmts, far_stmts}
 use Rattle.rb_types_keep.proofs.InSurroundings.{handled}
+use Rattle.rb_types_keep.proofs.Parts.{batch_parts}
 use Rattle.std.proofs.lemmas.List.Elements.{Contains-append_right}
 use Rattle.rb_unsplit_keeps.specs.Noted.{IsNotedProgram}
 use Rattle.rb_unsplit_keeps.specs.Batches.{class_sites, program_sites}
 use Rattle.rb_unsplit_keeps.specs.Kept.{IsResult, EndsWell, MeansWell}
 use Rattle.rb_unsplit_keeps.proofs.Found.{batch_found}
 use Rattle.rb_unsplit_keeps.proofs.Agreed.{Agree}
-use Rattle.rb_unsplit_keeps.proofs.Parts.{batch_parts}
 use Rattle.rb_unsplit_keeps.proofs.Standing.{block_lawful, IsBatchOf}
 use Rattle.rb_unsplit_keeps.proofs.Programs.{methods_ask, IsTypedProgram, batches_in}
 use Rattle.rb_unsplit_keeps.proofs.Admission.{block_admitted}

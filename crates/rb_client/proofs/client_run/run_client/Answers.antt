@@ -2,9 +2,10 @@ use Rattle.std.proofs.Common.{◌≡◌, true, sym, subst, map}
 use Rattle.rb_trees.specs.mirror.Declarations.{mirror_program}
 use Rattle.rb_meaning_types.specs.Programs.{is_typed}
 use Rattle.rb_meaning_split.specs.Division.{mirror_split}
+use Rattle.rb_differ.proofs.Differ.{typed_differ}
 use Rattle.rb_client.specs.MainRuns.{Leaves}
 use Rattle.rb_client.specs.Scenes.{scene}
-use Rattle.rb_client.proofs.Differ.{typed_checked, typed_differ}
+use Rattle.rb_client.proofs.Typed.{typed_checked}
 use Rattle.rb_client.proofs.Divided.{all_sent}
 use Rattle.rb_client.proofs.Headline.{means_so}
 use Rattle.rb_client.proofs.RunsOver.{fails_as_listed, runs_over}

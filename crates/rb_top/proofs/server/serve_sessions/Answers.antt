@@ -1,7 +1,7 @@
 use Rattle.std.proofs.Common.{sym, arith}
 use Rattle.rb_base.specs.Devices.{device}
+use Rattle.rb_base.proofs.Pieces.{bytes_none}
 use Rattle.rb_top.specs.Scene.{output}
-use Rattle.rb_top.proofs.Printed.{bytes_none}
 use Rattle.rb_top.proofs.Serving.{all_served, cut_serving, fewer_served, none_so_far, one_so_far}
 use Rattle.rb_top.proofs.server.serve_sessions.Goals as goal
 

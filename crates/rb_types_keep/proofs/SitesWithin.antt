@@ -1,22 +1,11 @@
 -- The sites of statements and of expressions among those of a batch.
-use Rattle.std.proofs.Common.{◌≡◌, ◌⊎◌, inl, inr, refl, sym, subst, zero, suc, List, [], ◌∷◌, ◌++◌, arith}
+use Rattle.std.proofs.Common.{◌≡◌, refl, sym, subst, zero, suc, List, [], ◌∷◌, ◌++◌, arith}
 use Rattle.std.specs.List.{Contains}
 use Rattle.std.proofs.lemmas.List.Elements.{Contains-append_left, Contains-append_right}
 use Rattle.rb_trees.specs.mirror.Code.{Expr, Lit, Name, This, Unary, Binary, Field, Call, Index, New, Items, Taken, Stmt, Val, Var, Assign, Run, Print, Throw, If, While, For, Try, Batch}
 use Rattle.rb_meaning_flow.specs.Facts.{Facts}
 use Rattle.rb_meaning_flow.specs.Scopes.{Scope}
 use Rattle.rb_meaning_flow.specs.Sites.{Around, StmtSite, Over, site, expr_sites, own, all_sites, stmt_site, sites, exprs_of}
-use Rattle.rb_local_laws.proofs.Meeting.{none_among}
-
-pub first_contained : {A : Type 0} (x : A) (xs : List A) → Contains (x ∷ xs) x
-first_contained x xs = (zero, omega arith, refl)
-
-more_contained : {A : Type 0} (y : A) (xs : List A) (x : A) → Contains xs x → Contains (y ∷ xs) x
-more_contained y xs x h = (suc h.0, omega (arith, h.1), h.2)
-
-contained_cases : {A : Type 0} (y : A) (xs : List A) (x : A) → Contains (y ∷ xs) x → (y ≡ x) ⊎ Contains xs x
-contained_cases y xs x (zero, l, e) = inl e
-contained_cases y xs x (suc k, l, e) = inr (k, omega (arith, l), e)
 
 abbrev pub Within : {A : Type 0} → List A → List A → Type 0
 Within {A = A} xs all = (o : A) → Contains xs o → Contains all o
@@ -28,16 +17,16 @@ pub within_right : {A : Type 0} (xs ys all : List A) → Within (xs ++ ys) all �
 within_right xs ys all h o is = h o (Contains-append_right xs ys o is)
 
 pub within_tail : {A : Type 0} (x : A) (xs all : List A) → Within (x ∷ xs) all → Within xs all
-within_tail x xs all h o is = h o (more_contained x xs o is)
+within_tail x xs all h = within_right (x ∷ []) xs all h
 
 -- the expressions of a statement are among those of all
-exprs_among : (ss : List StmtSite) (s : StmtSite) → Contains ss s → Within (all_sites s (own s.stmt)) (exprs_of ss)
-exprs_among [] s h = absurd (none_among s h)
-exprs_among (t ∷ ss) s h = by (contained_cases t ss s h) (exprs_among ss s)
-  where
-    by : (t ≡ s) ⊎ Contains ss s → (Contains ss s → Within (all_sites s (own s.stmt)) (exprs_of ss)) → Within (all_sites s (own s.stmt)) (all_sites t (own t.stmt) ++ exprs_of ss)
-    by (inl e) rest o is = Contains-append_left (all_sites t (own t.stmt)) (exprs_of ss) o (subst (λ u. Contains (all_sites u (own u.stmt)) o) (sym e) is)
-    by (inr m) rest o is = Contains-append_right (all_sites t (own t.stmt)) (exprs_of ss) o (rest m o is)
+pub exprs_among : (ss : List StmtSite) (s : StmtSite) → Contains ss s → Within (all_sites s (own s.stmt)) (exprs_of ss)
+exprs_among [] s (k, l, e) o is = absurd (omega (arith, l))
+exprs_among (t ∷ ss) s (zero, l, e) o is = Contains-append_left (all_sites t (own t.stmt)) (exprs_of ss) o (subst (λ u. Contains (all_sites u (own u.stmt)) o) (sym e) is)
+exprs_among (t ∷ ss) s (suc k, l, e) o is = Contains-append_right (all_sites t (own t.stmt)) (exprs_of ss) o (exprs_among ss s (k, omega (arith, l), e) o is)
+
+first_contained : {A : Type 0} (x : A) (xs : List A) → Contains (x ∷ xs) x
+first_contained x xs = (zero, omega arith, refl)
 
 -- an expression is the first of its sites
 pub site_first : (s : StmtSite) (above : List Over) (e : Expr) → Contains (expr_sites s above e) (site s above e)

@@ -1,4 +1,4 @@
--- What a sink tells while lines are written one after the other.
+-- What a sink tells while pieces are written one after the other.
 use Rattle.std.proofs.Common.{◌≡◌, ℕ, ◌+◌, List, [], ◌++◌, Option, None, Some, length, take, ap, sym, ◌∙◌, refl, arith, append_assoc, append-nil, length-append}
 use Rattle.std.proofs.Math.Seq.{take-append-add}
 use Rattle.std.proofs.lemmas.List.{take-append-le}
@@ -13,7 +13,7 @@ told_none : (old : Option (List ℕ)) → told_more old [] ≡ old
 told_none None = refl
 told_none (Some written) = ap Some (append-nil written)
 
-bytes_twice : (old : Device (List ℕ)) (a b : List ℕ) → with_bytes (with_bytes old a) b ≡ with_bytes old (a ++ b)
+pub bytes_twice : (old : Device (List ℕ)) (a b : List ℕ) → with_bytes (with_bytes old a) b ≡ with_bytes old (a ++ b)
 bytes_twice old a b = ap (λ t. record old { told = t }) (told_twice old.told a b)
 
 pub bytes_none : (old : Device (List ℕ)) → with_bytes old [] ≡ old
@@ -32,7 +32,7 @@ prefix_front old new a b w = record {
 }
 
 -- a front of what follows a whole piece
-prefix_after : (old mid new : Device (List ℕ)) (a b : List ℕ) → mid ≡ with_bytes old a → WrotePrefix mid new b → WrotePrefix old new (a ++ b)
+pub prefix_after : (old mid new : Device (List ℕ)) (a b : List ℕ) → mid ≡ with_bytes old a → WrotePrefix mid new b → WrotePrefix old new (a ++ b)
 prefix_after old mid new a b e w = record {
   count = length a + w.count;
   within = let h = w.within in omega (arith, length-append a b);

@@ -1,5 +1,6 @@
 -- What it tells of the parts of a statement that it is typed.
 use Rattle.std.proofs.Common.{◌≡◌, ◌⊎◌, inl, inr, refl, sym, ap, ◌∙◌, subst, ℕ, List, Bool as Truth, true, false, not, Ok, Err}
+use Rattle.std.proofs.lemmas.Bool.{not-true}
 use Rattle.rb_trees.specs.Outcome.{◌>>=◌, ◌>>◌, must}
 use Rattle.rb_trees.specs.mirror.Code.{Expr, Stmt, Stmts, Val, Var, Assign, Run, Print, Throw, If, While, For, Try, Batch, MoreStmts, expr_at}
 use Rattle.rb_meaning_types.specs.Kinds as kind
@@ -26,6 +27,7 @@ module _ (x : Context) (scope : Scope) where
     pub kind : Kind
     pub typed : type_of x scope e ≡ Ok kind
     pub free : is_free scope name ≡ true
+    pub no_unit : is_unit kind ≡ false
     pub same : with_variable scope name kind fixed ≡ after
 
   declared : (at : ℕ) (name : List ℕ) (fixed : Truth) (e : Expr) (after : Scope) → (placed x scope e >>= λ p. declare scope at name fixed p) ≡ Ok after → Declares name fixed e after
@@ -34,7 +36,13 @@ module _ (x : Context) (scope : Scope) where
       let p : Placed = record { at = expr_at e; kind = s.0 } in
       let t = then_ok (must (is_free scope name) (NameTaken at) >> must (not (is_unit s.0)) (wrong_type p)) (Ok (with_variable scope name s.0 fixed)) after s.2 in
       let u = then_ok (must (is_free scope name) (NameTaken at)) (must (not (is_unit s.0)) (wrong_type p)) tt t.0 in
-      record { kind = s.0; typed = s.1; free = must_ok (is_free scope name) (NameTaken at) u.0; same = cc (t.1) }
+      record {
+        kind = s.0;
+        typed = s.1;
+        free = must_ok (is_free scope name) (NameTaken at) u.0;
+        no_unit = not-true (is_unit s.0) (must_ok (not (is_unit s.0)) (wrong_type p) u.1);
+        same = cc (t.1);
+      }
 
   pub val_parts : (at : ℕ) (name : List ℕ) (e : Expr) (after : Scope) → check_stmt x scope (Val at name e) ≡ Ok after → Declares name true e after
   val_parts at name e after h = declared at name true e after h
@@ -77,15 +85,17 @@ module _ (x : Context) (scope : Scope) where
     pub left_typed : type_of x scope a ≡ Ok left
     pub right_typed : type_of x scope b ≡ Ok right
     pub assignable : is_assignable scope a ≡ true
+    pub alike : left ≡ right
     pub same : scope ≡ after
 
   pub assign_parts : (at : ℕ) (a b : Expr) (after : Scope) → check_stmt x scope (Assign at a b) ≡ Ok after → Assigns a b after
   assign_parts at a b after h =
       let s = placed_ok (expr_at a) (type_of x scope a) _ after h in
       let t = placed_ok (expr_at b) (type_of x scope b) _ after s.2 in
-      let u = then_ok (must (is_assignable scope a) (NotAssignable at) >> wanted s.0 (record { at = expr_at b; kind = t.0 })) (Ok scope) after t.2 in
-      let w = then_ok (must (is_assignable scope a) (NotAssignable at)) (wanted s.0 (record { at = expr_at b; kind = t.0 })) tt u.0 in
-      record { left = s.0; right = t.0; left_typed = s.1; right_typed = t.1; assignable = must_ok (is_assignable scope a) (NotAssignable at) w.0; same = cc (u.1) }
+      let p : Placed = record { at = expr_at b; kind = t.0 } in
+      let u = then_ok (must (is_assignable scope a) (NotAssignable at) >> wanted s.0 p) (Ok scope) after t.2 in
+      let w = then_ok (must (is_assignable scope a) (NotAssignable at)) (wanted s.0 p) tt u.0 in
+      record { left = s.0; right = t.0; left_typed = s.1; right_typed = t.1; assignable = must_ok (is_assignable scope a) (NotAssignable at) w.0; alike = wanted_ok s.0 p w.1; same = cc (u.1) }
 
   pub record Branches (c : Expr) (a b : Stmts) (after : Scope) : Type 0 where
     pub typed : type_of x scope c ≡ Ok kind.Bool

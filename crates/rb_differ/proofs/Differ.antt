@@ -1,17 +1,17 @@
--- The classes of a typed program differ by name, and so do the methods of each.
+-- The classes of a typed program or service differ by name, and so do the methods of each.
 use Rattle.std.proofs.Common.{◌≡◌, ℕ, List, [], ◌∷◌, ◌++◌, map, Bool, true, false, None, Some, Result, Ok, Err, cond, ap, sym, ◌∙◌, refl}
 use Rattle.std.specs.Str.{bytes_eq}
 use Rattle.std.specs.Result.{is_ok}
+use Rattle.std.proofs.lemmas.Slice.Eq.{bytes_eq-Decides}
 use Rattle.rb_trees.specs.Named.{first_named}
 use Rattle.rb_trees.specs.Outcome.{◌>>◌, must}
 use Rattle.rb_trees.specs.mirror.Declarations.{Class, Method, Program}
 use Rattle.rb_meaning_types.specs.Names.{is_new}
-use Rattle.rb_meaning_types.specs.Declared.{Declarations, of_program}
+use Rattle.rb_meaning_types.specs.Declared.{Declarations, of_program, of_service}
 use Rattle.rb_meaning_types.specs.Declarations.{new_name, check_params, check_method, check_methods, check_class, check_classes, check_interfaces, check_declarations}
 use Rattle.rb_meaning_types.specs.Bodies.{check_class_bodies}
-use Rattle.rb_meaning_types.specs.Programs.{check_main, is_typed}
+use Rattle.rb_meaning_types.specs.Programs.{check_main, is_typed, is_typed_service}
 use Rattle.rb_code.specs.Differ.{MethodsDiffer, ClassesDiffer}
-use Rattle.rb_plain.proofs.Names.{same_bytes, one_name}
 
 -- where one check and then another is passed, each is
 first_passed : {B D : Type 0} (a : Result (Unit {0}) D) (b : Result B D) → is_ok (a >> b) ≡ true → is_ok a ≡ true
@@ -42,7 +42,7 @@ old_among_more name (other ∷ others) more h = by_name (bytes_eq other name) re
 
 -- the last name isn't new
 last_is_old : (name : List ℕ) (before : List (List ℕ)) → is_new name (before ++ name ∷ []) ≡ false
-last_is_old name [] = ap (λ c. cond c false true) (same_bytes name)
+last_is_old name [] = ap (λ c. cond c false true) ((bytes_eq-Decides name name).1 refl)
 last_is_old name (other ∷ others) = by_name (bytes_eq other name) refl (last_is_old name others)
   where
     by_name : (b : Bool) → bytes_eq other name ≡ b → is_new name (others ++ name ∷ []) ≡ false → is_new name (other ∷ (others ++ name ∷ [])) ≡ false
@@ -55,7 +55,7 @@ none_behind name_of before [] name f h = refl
 none_behind name_of before (x ∷ xs) name f h = by_name (bytes_eq (name_of x) name) refl (none_behind name_of (before ++ name_of x ∷ []) xs name f.1 (old_among_more name before (name_of x ∷ []) h))
   where
     by_name : (b : Bool) → bytes_eq (name_of x) name ≡ b → first_named name_of xs name ≡ None → first_named name_of (x ∷ xs) name ≡ None
-    by_name true e rest = let g = sym f.0 ∙ ap (λ n. is_new n before) (one_name (name_of x) name e) ∙ h in absurd (cc g)
+    by_name true e rest = let g = sym f.0 ∙ ap (λ n. is_new n before) ((bytes_eq-Decides (name_of x) name).0 e) ∙ h in absurd (cc g)
     by_name false e rest = ap (λ c. cond c (Some x) (first_named name_of xs name)) e ∙ rest
 
 -- no later one has the name of one before
@@ -95,9 +95,14 @@ classes_differ d before (c ∷ cs) h =
       classes_differ d (before ++ c.name ∷ []) cs (then_passed (name >> check_class d c) rest h),
     )
 
--- the classes of a typed program are those that `Code` takes
+-- so the classes of what passes the check of declarations are those that `Code` takes
+declared_differ : (d : Declarations) → is_ok (check_declarations d) ≡ true → ClassesDiffer d.classes
+declared_differ d h = let names = map (λ i. i.name) d.interfaces in classes_differ d names d.classes (then_passed (check_interfaces d [] d.interfaces) (check_classes d names d.classes) h)
+
 pub typed_differ : (p : Program) → is_typed p ≡ true → ClassesDiffer p.classes
 typed_differ p h =
     let d = of_program p in
-    let declarations = first_passed (check_declarations d) (check_class_bodies d p.classes) (first_passed (check_declarations d >> check_class_bodies d p.classes) (check_main p) h) in
-    classes_differ d (map (λ i. i.name) d.interfaces) p.classes (then_passed (check_interfaces d [] d.interfaces) (check_classes d (map (λ i. i.name) d.interfaces) d.classes) declarations)
+    declared_differ d (first_passed (check_declarations d) (check_class_bodies d p.classes) (first_passed (check_declarations d >> check_class_bodies d p.classes) (check_main p) h))
+
+pub service_classes_differ : (cs : List Class) → is_typed_service cs ≡ true → ClassesDiffer cs
+service_classes_differ cs h = let d = of_service cs in declared_differ d (first_passed (check_declarations d) (check_class_bodies d cs) h)
