@@ -1,7 +1,7 @@
 // Links over frames, with both ends in memory.
 
 use crate::hosts::CALL;
-use rb_base::{Link, LinkStop, MemorySink, MemorySource};
+use rb_base::{Link, LinkStop, MemorySink, MemorySource, Reply};
 use rb_session::FrameLink;
 use rb_trees::Seq;
 use std::alloc::Global;
@@ -33,27 +33,96 @@ fn link_over(
     Ok(FrameLink::make(alloc, source, sink))
 }
 
+/// What an exchange came to.
+#[derive(Debug, Drop, PartialEq)]
+enum Outcome {
+    /// A reply of this kind.
+    Reply(u8),
+    /// A fault of an end.
+    Failed,
+    /// The end of the source behind so many bytes.
+    Cut(u64),
+    /// A wrong byte at this place.
+    Frame(u64),
+}
+
+/// What an exchange came to, with the bytes that it took of its reply: all of them, or of a reply the payload.
+fn outcome_of(alloc: Global, answer: Result<Reply, LinkStop>) -> Result<(Outcome, Seq<u8>), Fail> {
+    match answer {
+        Ok(reply) => {
+            let payload = Seq::from_slice(alloc, reply.payload.as_slice())?;
+            Ok((Outcome::Reply(reply.kind), payload))
+        }
+        Err(LinkStop::Cut { got, bytes }) => Ok((Outcome::Cut(got), bytes)),
+        Err(LinkStop::Frame { at, bytes }) => Ok((Outcome::Frame(at), bytes)),
+        Err(LinkStop::Failed) => Ok((Outcome::Failed, Seq::new(alloc))),
+        Err(LinkStop::Memory) => Err(Fail::new("out of memory")),
+    }
+}
+
+/// What is seen of a link after one exchange.
+#[derive(Drop)]
+struct Seen {
+    outcome: Outcome,
+    taken: Seq<u8>,
+    pairs: usize,
+    written: Seq<u8>,
+    left: Seq<u8>,
+}
+
+/// What is seen of a link over which one call went.
+fn seen_of(
+    alloc: Global,
+    link: &FrameLink<MemorySource, MemorySink>,
+    (outcome, taken): (Outcome, Seq<u8>),
+) -> Result<Seen, Fail> {
+    Ok(Seen {
+        outcome,
+        taken,
+        pairs: link.pairs().len(),
+        written: Seq::from_slice(alloc, link.sink().written())?,
+        left: Seq::from_slice(alloc, link.source().left())?,
+    })
+}
+
+/// What is seen after one exchange of the call over a link with such ends.
+fn exchanged(
+    alloc: Global,
+    bytes: &[u8],
+    most: usize,
+    reads: &[u64],
+    writes: &[u64],
+) -> Result<Seen, Fail> {
+    let mut link = link_over(alloc, bytes, most, reads, writes)?;
+    let answer = outcome_of(alloc, link.exchange(CALL))?;
+    seen_of(alloc, &link, answer)
+}
+
 #[test]
 fn an_exchange_writes_one_frame_and_takes_one(rt: HostRuntime) -> Result<(), Fail> {
-    let alloc = rt.alloc();
     for most in [1, 7, usize::MAX] {
-        let mut link = link_over(alloc, RECEIVED, most, &[], &[])?;
-        let reply = link.exchange(CALL)?;
-        assert_eq!(rt; reply.kind, 2);
-        assert_eq!(rt; reply.payload.as_slice(), REPLY);
-        assert_eq!(rt; link.sink().written(), SENT);
-        assert_eq!(rt; link.source().left(), b"R".as_slice());
-        assert_eq!(rt; link.pairs().len(), 1);
-        assert!(rt; link.table().is_none());
-        let (source, _) = link.into_ends();
-        assert_eq!(rt; source.left(), b"R".as_slice());
+        let seen = exchanged(rt.alloc(), RECEIVED, most, &[], &[])?;
+        assert_eq!(rt; seen.outcome, Outcome::Reply(2));
+        assert_eq!(rt; seen.taken.as_slice(), REPLY);
+        assert_eq!(rt; seen.written.as_slice(), SENT);
+        assert_eq!(rt; seen.left.as_slice(), b"R".as_slice());
+        assert_eq!(rt; seen.pairs, 1);
     }
     Ok(())
 }
 
 #[test]
+fn the_ends_of_a_link_come_back(rt: HostRuntime) -> Result<(), Fail> {
+    let link = link_over(rt.alloc(), RECEIVED, 1, &[], &[])?;
+    assert!(rt; link.table().is_none());
+    let (source, sink) = link.into_ends();
+    assert_eq!(rt; source.left(), RECEIVED);
+    assert_eq!(rt; sink.written(), b"".as_slice());
+    Ok(())
+}
+
+#[test]
 fn a_reply_breaks_its_form_at_its_first_wrong_byte(rt: HostRuntime) -> Result<(), Fail> {
-    let alloc = rt.alloc();
     for (bytes, want) in [
         (b"B".as_slice(), 0),
         (b"RC\x02".as_slice(), 1),
@@ -61,25 +130,16 @@ fn a_reply_breaks_its_form_at_its_first_wrong_byte(rt: HostRuntime) -> Result<()
         (b"RB\x04".as_slice(), 2),
         (b"XX\x02".as_slice(), 0),
     ] {
-        let mut link = link_over(alloc, bytes, 64, &[], &[])?;
-        match link.exchange(CALL) {
-            Err(LinkStop::Frame { at, bytes: taken }) => {
-                assert_eq!(rt; at, want, "{bytes:?}");
-                assert_eq!(rt; taken.as_slice(), bytes);
-            }
-            answer => {
-                answer?;
-                assert!(rt; false, "a reply to {bytes:?}");
-            }
-        }
-        assert_eq!(rt; link.pairs().len(), 0);
+        let seen = exchanged(rt.alloc(), bytes, 64, &[], &[])?;
+        assert_eq!(rt; seen.outcome, Outcome::Frame(want), "{bytes:?}");
+        assert_eq!(rt; seen.taken.as_slice(), bytes);
+        assert_eq!(rt; seen.pairs, 0);
     }
     Ok(())
 }
 
 #[test]
 fn a_reply_that_ends_too_early_is_cut(rt: HostRuntime) -> Result<(), Fail> {
-    let alloc = rt.alloc();
     for (bytes, want) in [
         (b"".as_slice(), 0),
         (b"RB".as_slice(), 2),
@@ -88,41 +148,26 @@ fn a_reply_that_ends_too_early_is_cut(rt: HostRuntime) -> Result<(), Fail> {
         // The greatest length, and then the end.
         (b"RB\x02\xff\xff\xff\xff\xff\xff\xff\xff".as_slice(), 11),
     ] {
-        let mut link = link_over(alloc, bytes, 4, &[], &[])?;
-        match link.exchange(CALL) {
-            Err(LinkStop::Cut { got, bytes: taken }) => {
-                assert_eq!(rt; got, want, "{bytes:?}");
-                assert_eq!(rt; taken.as_slice(), bytes);
-            }
-            answer => {
-                answer?;
-                assert!(rt; false, "a reply to {bytes:?}");
-            }
-        }
+        let seen = exchanged(rt.alloc(), bytes, 4, &[], &[])?;
+        assert_eq!(rt; seen.outcome, Outcome::Cut(want), "{bytes:?}");
+        assert_eq!(rt; seen.taken.as_slice(), bytes);
     }
     Ok(())
 }
 
 #[test]
 fn a_fault_of_an_end_is_one_of_the_link(rt: HostRuntime) -> Result<(), Fail> {
-    let alloc = rt.alloc();
     // The second read, the first write, and the second.
     for (reads, writes, written) in [
         ([2].as_slice(), [].as_slice(), 42),
         ([].as_slice(), [1].as_slice(), 0),
         ([].as_slice(), [2].as_slice(), 20),
     ] {
-        let mut link = link_over(alloc, RECEIVED, 20, reads, writes)?;
-        match link.exchange(CALL) {
-            Err(LinkStop::Failed) => {}
-            answer => {
-                answer?;
-                assert!(rt; false, "a reply");
-            }
-        }
-        assert_eq!(rt; link.sink().written().len(), written);
-        assert!(rt; SENT.starts_with(link.sink().written()));
-        assert_eq!(rt; link.pairs().len(), 0);
+        let seen = exchanged(rt.alloc(), RECEIVED, 20, reads, writes)?;
+        assert_eq!(rt; seen.outcome, Outcome::Failed);
+        assert_eq!(rt; seen.written.len(), written);
+        assert!(rt; SENT.starts_with(seen.written.as_slice()));
+        assert_eq!(rt; seen.pairs, 0);
     }
     Ok(())
 }

@@ -1,52 +1,59 @@
 // `run ADDRESS P`, over links in memory.
 
-use crate::commands::{answer_over, on_files};
+use crate::commands::{answer_over, exchanges_back, on_files};
 use crate::texts::{NAMES, OTHER_SERVICE, SERVICE, host_of};
-use rb_session::{AnyLink, FailingLink, MemoryDial, Target};
+use rb_session::{FailingLink, MemoryDial, Target};
 use rb_trees::Seq;
 use std::alloc::Global;
 use std::test::Fail;
 
-/// A Dial with one link, under the address `a`, to a server of a service; the exchanges of these numbers fail.
-fn dial_to(alloc: Global, service: &str, failing: &[u64]) -> Result<MemoryDial<FailingLink>, Fail> {
-    let mut dial = MemoryDial::make(alloc, Seq::new(alloc));
-    let link = FailingLink::make(
-        alloc,
-        host_of(alloc, service)?,
-        Seq::from_slice(alloc, failing)?,
-    )?;
+/// A Dial with one link, under the address `a`, to a server of a service; the dials and exchanges of these numbers fail.
+fn dial_to(
+    alloc: Global,
+    service: &str,
+    dials: &[u64],
+    exchanges: &[u64],
+) -> Result<MemoryDial<FailingLink>, Fail> {
+    let mut dial = MemoryDial::make(alloc, Seq::from_slice(alloc, dials)?);
+    let failing = Seq::from_slice(alloc, exchanges)?;
+    let link = FailingLink::make(alloc, host_of(alloc, service)?, failing)?;
     dial.add(Target::Address(Seq::from_slice(alloc, b"a")?), link)?;
     Ok(dial)
 }
 
+/// What a command says of a program over such a Dial, whose dials don't fail, and how many exchanges the link that came back had.
+fn called(
+    alloc: Global,
+    words: &str,
+    main: &str,
+    service: &str,
+    exchanges: &[u64],
+) -> Result<(String, Option<usize>), Fail> {
+    let program = on_files(alloc, main)?;
+    let mut dial = dial_to(alloc, service, &[], exchanges)?;
+    let shown = answer_over(alloc, words, &[("p", program.as_str())], &mut dial)?;
+    Ok((shown, exchanges_back(&dial)))
+}
+
 #[test]
 fn a_program_runs_on_a_service_that_it_is_never_given(rt: HostRuntime) -> Result<(), Fail> {
-    let alloc = rt.alloc();
-    let mut dial = dial_to(alloc, OTHER_SERVICE, &[])?;
-    let program = on_files(alloc, NAMES)?;
-    let shown = answer_over(alloc, "run a p", &[("p", program.as_str())], &mut dial)?;
+    let (shown, exchanges) = called(rt.alloc(), "run a p", NAMES, OTHER_SERVICE, &[])?;
     assert_eq!(rt; shown.as_str(), "0 x\ny\ndone\nexchanges 1\n");
-    let [AnyLink::Dialled(link)] = dial.came_back() else {
-        return Err(Fail::new("no one link came back"));
-    };
-    assert_eq!(rt; link.pairs().len(), 1);
+    assert_eq!(rt; exchanges, Some(1));
     Ok(())
 }
 
 #[test]
 fn a_target_that_is_not_there_is_a_fault(rt: HostRuntime) -> Result<(), Fail> {
-    let alloc = rt.alloc();
-    let program = on_files(alloc, NAMES)?;
     for (words, want) in [
         ("run b p", "11 dial fault\n"),
         ("run q p 5", "11 dial fault\n"),
         // A text is refused before anything is dialled.
         ("run b q", "3 file fault q\n"),
     ] {
-        let mut dial = dial_to(alloc, SERVICE, &[])?;
-        let shown = answer_over(alloc, words, &[("p", program.as_str())], &mut dial)?;
+        let (shown, exchanges) = called(rt.alloc(), words, NAMES, SERVICE, &[])?;
         assert_eq!(rt; shown.as_str(), want);
-        assert_eq!(rt; dial.came_back().len(), 0);
+        assert_eq!(rt; exchanges, None);
     }
     Ok(())
 }
@@ -55,9 +62,7 @@ fn a_target_that_is_not_there_is_a_fault(rt: HostRuntime) -> Result<(), Fail> {
 fn a_dial_that_is_listed_fails(rt: HostRuntime) -> Result<(), Fail> {
     let alloc = rt.alloc();
     let program = on_files(alloc, NAMES)?;
-    let mut dial: MemoryDial<FailingLink> = MemoryDial::make(alloc, Seq::from_slice(alloc, &[1])?);
-    let link = FailingLink::make(alloc, host_of(alloc, SERVICE)?, Seq::new(alloc))?;
-    dial.add(Target::Address(Seq::from_slice(alloc, b"a")?), link)?;
+    let mut dial = dial_to(alloc, SERVICE, &[1], &[])?;
     for want in ["11 dial fault\n", "0 a\nbb\ndone\nexchanges 1\n"] {
         let shown = answer_over(alloc, "run a p", &[("p", program.as_str())], &mut dial)?;
         assert_eq!(rt; shown.as_str(), want);
@@ -67,27 +72,22 @@ fn a_dial_that_is_listed_fails(rt: HostRuntime) -> Result<(), Fail> {
 
 #[test]
 fn the_lines_before_an_exchange_that_fails_are_printed(rt: HostRuntime) -> Result<(), Fail> {
-    let alloc = rt.alloc();
-    let program = on_files(
-        alloc,
-        "main { batch (Dir r) { print(r.file(0).size()); } print(5); batch (Dir r) { print(6); } }",
-    )?;
-    for (failing, want) in [
-        (&[2][..], "7 10\n5\nlink fault 1\n"),
-        (&[1][..], "7 link fault 0\n"),
-        (&[3][..], "0 10\n5\n6\ndone\nexchanges 2\n"),
+    let main =
+        "main { batch (Dir r) { print(r.file(0).size()); } print(5); batch (Dir r) { print(6); } }";
+    for (failing, want, came) in [
+        (&[2][..], "7 10\n5\nlink fault 1\n", 1),
+        (&[1][..], "7 link fault 0\n", 0),
+        (&[3][..], "0 10\n5\n6\ndone\nexchanges 2\n", 2),
     ] {
-        let mut dial = dial_to(alloc, SERVICE, failing)?;
-        let shown = answer_over(alloc, "run a p", &[("p", program.as_str())], &mut dial)?;
+        let (shown, exchanges) = called(rt.alloc(), "run a p", main, SERVICE, failing)?;
         assert_eq!(rt; shown.as_str(), want);
-        assert_eq!(rt; dial.came_back().len(), 1);
+        assert_eq!(rt; exchanges, Some(came));
     }
     Ok(())
 }
 
 #[test]
 fn fuel_and_faults_are_those_of_the_program(rt: HostRuntime) -> Result<(), Fail> {
-    let alloc = rt.alloc();
     for (words, main, want) in [
         (
             "run a p 0",
@@ -100,9 +100,7 @@ fn fuel_and_faults_are_those_of_the_program(rt: HostRuntime) -> Result<(), Fail>
             "1 a\nbb\nfault 8 Thrown \"Big\" at 3:66\nexchanges 1\n",
         ),
     ] {
-        let mut dial = dial_to(alloc, SERVICE, &[])?;
-        let program = on_files(alloc, main)?;
-        let shown = answer_over(alloc, words, &[("p", program.as_str())], &mut dial)?;
+        let (shown, _exchanges) = called(rt.alloc(), words, main, SERVICE, &[])?;
         assert_eq!(rt; shown.as_str(), want);
     }
     Ok(())

@@ -2,7 +2,7 @@
 
 use crate::texts::FILES;
 use rb_base::{Listen, MemoryFiles, MemorySink, SteadyListen};
-use rb_session::{Dial, NullDial};
+use rb_session::{AnyLink, Dial, FailingLink, MemoryDial, NullDial};
 use rb_top::top;
 use rb_trees::Seq;
 use std::alloc::Global;
@@ -72,4 +72,26 @@ pub fn served_over<N: Listen>(
 ) -> Result<String, Fail> {
     let mut dial = NullDial::make(alloc);
     answer_on(alloc, words, texts, steady_output(alloc), &mut dial, listen)
+}
+
+/// How many exchanges the one link had that came back, or None where none did.
+pub fn exchanges_back(dial: &MemoryDial<FailingLink>) -> Option<usize> {
+    match dial.came_back() {
+        [AnyLink::Dialled(link)] => Some(link.pairs().len()),
+        [AnyLink::Around(link)] => Some(link.pairs().len()),
+        _ => None,
+    }
+}
+
+/// Whether the one link that came back had just one exchange, of this request and this reply.
+pub fn had_exchange(dial: &MemoryDial<FailingLink>, request: &[u8], reply: &[u8]) -> bool {
+    let pairs = match dial.came_back() {
+        [AnyLink::Dialled(link)] => link.pairs(),
+        [AnyLink::Around(link)] => link.pairs(),
+        _ => return false,
+    };
+    match pairs {
+        [pair] => pair.request.as_slice() == request && pair.reply.as_slice() == reply,
+        _ => false,
+    }
 }

@@ -1,9 +1,9 @@
 // `both P S` over a Dial in memory, which gets the link back.
 
-use crate::commands::{answer_on, answer_over};
+use crate::commands::{answer_on, answer_over, exchanges_back, had_exchange};
 use crate::texts::{CALL, CALL_REPLY, CALL_REQUEST, NUMBER};
 use rb_base::{MemorySink, SteadyListen};
-use rb_session::{AnyLink, FailingLink, MemoryDial};
+use rb_session::{FailingLink, MemoryDial};
 use rb_trees::Seq;
 use std::alloc::Global;
 use std::test::Fail;
@@ -20,32 +20,29 @@ fn the_link_in_memory_comes_back(rt: HostRuntime) -> Result<(), Fail> {
     let texts = [("p", CALL), ("s", NUMBER)];
     let shown = answer_over(alloc, "both p s", texts.as_slice(), &mut dial)?;
     assert_eq!(rt; shown.as_str(), "0 7\ndone\nexchanges 1\nobject 0: D { }\n");
-    let [AnyLink::Around(link)] = dial.came_back() else {
-        return Err(Fail::new("no one link came back"));
-    };
-    let [pair] = link.pairs() else {
-        return Err(Fail::new("not one exchange"));
-    };
-    assert_eq!(rt; pair.request.as_slice(), CALL_REQUEST);
-    assert_eq!(rt; pair.reply.as_slice(), CALL_REPLY);
+    assert!(rt; had_exchange(&dial, CALL_REQUEST, CALL_REPLY));
     Ok(())
+}
+
+/// How many exchanges the link had that a command took, if it took one.
+fn exchanges_of(alloc: Global, words: &str) -> Result<Option<usize>, Fail> {
+    let mut dial = failing_dial(alloc)?;
+    let texts = [("p", CALL), ("s", NUMBER)];
+    let _shown = answer_over(alloc, words, texts.as_slice(), &mut dial)?;
+    Ok(exchanges_back(&dial))
 }
 
 #[test]
 fn other_commands_take_no_link(rt: HostRuntime) -> Result<(), Fail> {
-    let alloc = rt.alloc();
     for words in ["unsplit p s", "check p", "split p", "both p q", "words"] {
-        let mut dial = failing_dial(alloc)?;
-        let texts = [("p", CALL), ("s", NUMBER)];
-        let _shown = answer_over(alloc, words, texts.as_slice(), &mut dial)?;
-        assert_eq!(rt; dial.came_back().len(), 0);
+        assert_eq!(rt; exchanges_of(rt.alloc(), words)?, None);
     }
+    assert_eq!(rt; exchanges_of(rt.alloc(), "both p s")?, Some(1));
     Ok(())
 }
 
-#[test]
-fn the_link_comes_back_after_a_write_fault(rt: HostRuntime) -> Result<(), Fail> {
-    let alloc = rt.alloc();
+/// What `both p s` says, where the second write fails, and how many exchanges the link had that came back.
+fn cut_off(alloc: Global) -> Result<(String, Option<usize>), Fail> {
     let mut dial = failing_dial(alloc)?;
     let mut listen = SteadyListen::make(alloc, Seq::new(alloc));
     let out = MemorySink::make(alloc, Seq::from_slice(alloc, &[2])?, usize::MAX);
@@ -58,7 +55,13 @@ fn the_link_comes_back_after_a_write_fault(rt: HostRuntime) -> Result<(), Fail> 
         &mut dial,
         &mut listen,
     )?;
+    Ok((shown, exchanges_back(&dial)))
+}
+
+#[test]
+fn the_link_comes_back_after_a_write_fault(rt: HostRuntime) -> Result<(), Fail> {
+    let (shown, exchanges) = cut_off(rt.alloc())?;
     assert_eq!(rt; shown.as_str(), "9 7\n");
-    assert_eq!(rt; dial.came_back().len(), 1);
+    assert_eq!(rt; exchanges, Some(1));
     Ok(())
 }

@@ -1,8 +1,8 @@
 // `pair P S`, over links in memory in the place of a child.
 
-use crate::commands::answer_over;
+use crate::commands::{answer_over, exchanges_back, had_exchange};
 use crate::texts::{CALL, CALL_REPLY, CALL_REQUEST, NUMBER, host_of};
-use rb_session::{AnyLink, FailingLink, MemoryDial, Target};
+use rb_session::{FailingLink, MemoryDial, Target};
 use rb_trees::Seq;
 use std::alloc::Global;
 use std::test::Fail;
@@ -22,31 +22,34 @@ fn a_pair_exchanges_with_its_child(rt: HostRuntime) -> Result<(), Fail> {
     let texts = [("p", CALL), ("s", NUMBER)];
     let shown = answer_over(alloc, "pair p s", texts.as_slice(), &mut dial)?;
     assert_eq!(rt; shown.as_str(), "0 7\ndone\nexchanges 1\n");
-    let [AnyLink::Dialled(link)] = dial.came_back() else {
-        return Err(Fail::new("no one link came back"));
-    };
-    let [pair] = link.pairs() else {
-        return Err(Fail::new("not one exchange"));
-    };
-    assert_eq!(rt; pair.request.as_slice(), CALL_REQUEST);
-    assert_eq!(rt; pair.reply.as_slice(), CALL_REPLY);
+    assert!(rt; had_exchange(&dial, CALL_REQUEST, CALL_REPLY));
     Ok(())
+}
+
+/// What a command says over that Dial, and how many exchanges the link had that came back.
+fn paired(
+    alloc: Global,
+    words: &str,
+    program: &str,
+    service: &str,
+) -> Result<(String, Option<usize>), Fail> {
+    let mut dial = dial_to_child(alloc)?;
+    let texts = [("p", program), ("s", service)];
+    let shown = answer_over(alloc, words, texts.as_slice(), &mut dial)?;
+    Ok((shown, exchanges_back(&dial)))
 }
 
 #[test]
 fn texts_are_refused_before_a_child_is_started(rt: HostRuntime) -> Result<(), Fail> {
-    let alloc = rt.alloc();
     for (words, program, service, want) in [
         ("pair p s", "$", NUMBER, "4 lex 1 BadByte at 1:1\n"),
         ("pair p s", CALL, "$", "6 service lex 1 BadByte at 1:1\n"),
         ("pair p q", CALL, NUMBER, "3 file fault q\n"),
         ("pair q s", CALL, NUMBER, "3 file fault q\n"),
     ] {
-        let mut dial = dial_to_child(alloc)?;
-        let texts = [("p", program), ("s", service)];
-        let shown = answer_over(alloc, words, texts.as_slice(), &mut dial)?;
+        let (shown, exchanges) = paired(rt.alloc(), words, program, service)?;
         assert_eq!(rt; shown.as_str(), want);
-        assert_eq!(rt; dial.came_back().len(), 0);
+        assert_eq!(rt; exchanges, None);
     }
     Ok(())
 }

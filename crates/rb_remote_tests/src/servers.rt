@@ -42,19 +42,56 @@ fn sessions_of(alloc: Global, all: &[&[u8]]) -> Result<Seq<Coming>, Fail> {
     Ok(sessions)
 }
 
+/// What a command says of a service and these sessions, of which no call fails, and what was written in each session that came back.
+fn served(
+    alloc: Global,
+    words: &str,
+    service: &str,
+    mut listen: MemoryListen,
+) -> Result<(String, Seq<Seq<u8>>), Fail> {
+    let shown = served_over(alloc, words, &[("s", service)], &mut listen)?;
+    Ok((shown, written_to(alloc, &listen)?))
+}
+
+/// What was written in each session that came back to a listener.
+fn written_to(alloc: Global, listen: &MemoryListen) -> Result<Seq<Seq<u8>>, Fail> {
+    let mut all = Seq::new(alloc);
+    for (_source, sink) in listen.returned() {
+        all.push(Seq::from_slice(alloc, sink.written())?)?;
+    }
+    Ok(all)
+}
+
+/// A listener with sessions of these bytes under an address, whose calls of these numbers fail.
+fn listen_at(
+    alloc: Global,
+    address: &[u8],
+    sessions: &[&[u8]],
+    failing: &[u64],
+) -> Result<MemoryListen, Fail> {
+    listen_to(
+        alloc,
+        address,
+        sessions_of(alloc, sessions)?,
+        failing,
+        usize::MAX,
+    )
+}
+
 #[test]
 fn sessions_are_served_one_after_the_other(rt: HostRuntime) -> Result<(), Fail> {
     let alloc = rt.alloc();
-    let sessions = sessions_of(alloc, &[NOTHING, &NOTHING[..5]])?;
-    let mut listen = listen_to(alloc, b"a", sessions, &[], usize::MAX)?;
-    let shown = served_over(alloc, "serve a s 3", &[("s", SERVICE)], &mut listen)?;
+    let listen = listen_at(alloc, b"a", &[NOTHING, &NOTHING[..5]], &[])?;
+    let (shown, written) = served(alloc, "serve a s 3", SERVICE, listen)?;
     let want = format!(in alloc; "0 session 1 requests 1 end\nsession 2 requests 0 cut\n{TABLE}")?;
     assert_eq!(rt; shown, want);
-    let [(_, first), (_, second)] = listen.returned() else {
-        return Err(Fail::new("not two sessions came back"));
-    };
-    assert_eq!(rt; first.written(), NOTHING_REPLY);
-    assert_eq!(rt; second.written(), b"".as_slice());
+    assert_eq!(rt; written.len(), 2);
+    assert!(rt;
+        written
+            .get(0)
+            .is_some_and(|it| it.as_slice() == NOTHING_REPLY)
+    );
+    assert!(rt; written.get(1).is_some_and(|it| it.is_empty()));
     Ok(())
 }
 
@@ -78,9 +115,8 @@ fn no_more_sessions_are_served_than_are_asked_for(rt: HostRuntime) -> Result<(),
         ("serve a q 1", "3 file fault q\n"),
         ("serve b s 1", "12 listen fault\n"),
     ] {
-        let sessions = sessions_of(alloc, &[NOTHING, b"", NOTHING])?;
-        let mut listen = listen_to(alloc, b"a", sessions, &[], usize::MAX)?;
-        let shown = served_over(alloc, words, &[("s", NUMBER)], &mut listen)?;
+        let listen = listen_at(alloc, b"a", &[NOTHING, b"", NOTHING], &[])?;
+        let (shown, _written) = served(alloc, words, NUMBER, listen)?;
         assert_eq!(rt; shown.as_str(), want);
     }
     Ok(())
@@ -98,24 +134,32 @@ fn a_listener_that_fails_is_a_fault(rt: HostRuntime) -> Result<(), Fail> {
             "0 session 1 requests 1 end\nsession 2 requests 1 end\nobject 0: D { }\n",
         ),
     ] {
-        let sessions = sessions_of(alloc, &[NOTHING, NOTHING])?;
-        let mut listen = listen_to(alloc, b"a", sessions, failing, usize::MAX)?;
-        let shown = served_over(alloc, "serve a s 2", &[("s", NUMBER)], &mut listen)?;
+        let listen = listen_at(alloc, b"a", &[NOTHING, NOTHING], failing)?;
+        let (shown, _written) = served(alloc, "serve a s 2", NUMBER, listen)?;
         assert_eq!(rt; shown.as_str(), want);
     }
     Ok(())
 }
 
+/// A session of a wrong byte, three sessions of which a read or a write fails, and one that ends.
+fn ending_sessions(alloc: Global) -> Result<Seq<Coming>, Fail> {
+    let mut sessions = sessions_of(alloc, &[b"RB\x02"])?;
+    for (reads, writes) in [
+        (&[1][..], &[][..]),
+        (&[2][..], &[][..]),
+        (&[][..], &[1][..]),
+        (&[][..], &[][..]),
+    ] {
+        sessions.push(session_of(alloc, NOTHING, reads, writes)?)?;
+    }
+    Ok(sessions)
+}
+
 #[test]
 fn each_session_says_how_it_ended(rt: HostRuntime) -> Result<(), Fail> {
     let alloc = rt.alloc();
-    let mut sessions = sessions_of(alloc, &[b"RB\x02"])?;
-    sessions.push(session_of(alloc, NOTHING, &[1], &[])?)?;
-    sessions.push(session_of(alloc, NOTHING, &[2], &[])?)?;
-    sessions.push(session_of(alloc, NOTHING, &[], &[1])?)?;
-    sessions.push(session_of(alloc, NOTHING, &[], &[])?)?;
-    let mut listen = listen_to(alloc, b"a", sessions, &[], usize::MAX)?;
-    let shown = served_over(alloc, "serve a s 9", &[("s", NUMBER)], &mut listen)?;
+    let listen = listen_to(alloc, b"a", ending_sessions(alloc)?, &[], usize::MAX)?;
+    let (shown, _written) = served(alloc, "serve a s 9", NUMBER, listen)?;
     assert_eq!(rt;
         shown.as_str(),
         "0 session 1 requests 0 bad frame\nsession 2 requests 0 read fault\nsession 3 requests 1 read fault\nsession 4 requests 1 write fault\nsession 5 requests 1 end\nobject 0: D { }\n"
@@ -123,25 +167,28 @@ fn each_session_says_how_it_ended(rt: HostRuntime) -> Result<(), Fail> {
     Ok(())
 }
 
+/// Bytes, and then the same again.
+fn twice(alloc: Global, bytes: &[u8]) -> Result<Seq<u8>, Fail> {
+    let mut all = Seq::from_slice(alloc, bytes)?;
+    all.extend_from_slice(bytes)?;
+    Ok(all)
+}
+
 #[test]
 fn a_session_is_the_same_however_its_bytes_come(rt: HostRuntime) -> Result<(), Fail> {
     let alloc = rt.alloc();
-    let mut twice = Vec::from_slice(alloc, NOTHING)?;
-    twice.extend_from_slice(NOTHING)?;
-    let mut replies = Vec::from_slice(alloc, NOTHING_REPLY)?;
-    replies.extend_from_slice(NOTHING_REPLY)?;
+    let requests = twice(alloc, NOTHING)?;
+    let replies = twice(alloc, NOTHING_REPLY)?;
     for most in [1, 7, usize::MAX] {
-        let sessions = sessions_of(alloc, &[twice.as_slice()])?;
-        let mut listen = listen_to(alloc, b"a", sessions, &[], most)?;
-        let shown = served_over(alloc, "serve a s 1", &[("s", NUMBER)], &mut listen)?;
+        let sessions = sessions_of(alloc, &[requests.as_slice()])?;
+        let listen = listen_to(alloc, b"a", sessions, &[], most)?;
+        let (shown, written) = served(alloc, "serve a s 1", NUMBER, listen)?;
         assert_eq!(rt;
             shown.as_str(),
             "0 session 1 requests 2 end\nobject 0: D { }\n"
         );
-        let [(_, sink)] = listen.returned() else {
-            return Err(Fail::new("not one session came back"));
-        };
-        assert_eq!(rt; sink.written(), replies.as_slice());
+        assert_eq!(rt; written.len(), 1);
+        assert!(rt; written.get(0).is_some_and(|it| *it == replies));
     }
     Ok(())
 }
@@ -149,26 +196,19 @@ fn a_session_is_the_same_however_its_bytes_come(rt: HostRuntime) -> Result<(), F
 #[test]
 fn a_child_prints_nothing(rt: HostRuntime) -> Result<(), Fail> {
     let alloc = rt.alloc();
-    for (words, bytes, want) in [
-        ("child s", NOTHING, "0 "),
-        ("child s", &NOTHING[..5], "0 "),
-        ("child q", NOTHING, "3 "),
+    for (words, bytes, want, replied) in [
+        ("child s", NOTHING, "0 ", 17),
+        ("child s", &NOTHING[..5], "0 ", 0),
+        ("child q", NOTHING, "3 ", 0),
     ] {
-        let mut listen = listen_to(alloc, b"-", sessions_of(alloc, &[bytes])?, &[], usize::MAX)?;
-        let shown = served_over(alloc, words, &[("s", NUMBER)], &mut listen)?;
+        let (shown, written) = served(
+            alloc,
+            words,
+            NUMBER,
+            listen_at(alloc, b"-", &[bytes], &[])?,
+        )?;
         assert_eq!(rt; shown.as_str(), want);
-        let replies = match listen.returned() {
-            [(_, sink)] => sink.written().len(),
-            _ => 0,
-        };
-        assert_eq!(rt;
-            replies,
-            if want == "0 " && bytes.len() > 5 {
-                17
-            } else {
-                0
-            }
-        );
+        assert_eq!(rt; written.get(0).map_or(0, |it| it.len()), replied);
     }
     Ok(())
 }
@@ -181,17 +221,32 @@ fn a_child_that_can_not_serve_says_so_by_its_status(rt: HostRuntime) -> Result<(
         (NUMBER, &[1][..], "12 "),
         (NUMBER, &[2][..], "12 "),
     ] {
-        let sessions = sessions_of(alloc, &[NOTHING])?;
-        let mut listen = listen_to(alloc, b"-", sessions, failing, usize::MAX)?;
-        let shown = served_over(alloc, "child s", &[("s", service)], &mut listen)?;
+        let listen = listen_at(alloc, b"-", &[NOTHING], failing)?;
+        let (shown, _written) = served(alloc, "child s", service, listen)?;
         assert_eq!(rt; shown.as_str(), want);
     }
     Ok(())
 }
 
+/// What `serve a s 2` says where the writes of these numbers fail, and how many sessions came back.
+fn served_on(alloc: Global, failing: &[u64]) -> Result<(String, usize), Fail> {
+    let mut listen = listen_at(alloc, b"a", &[NOTHING, NOTHING], &[])?;
+    let out = MemorySink::make(alloc, Seq::from_slice(alloc, failing)?, usize::MAX);
+    let mut dial = NullDial::make(alloc);
+    let texts = [("s", NUMBER)];
+    let shown = answer_on(
+        alloc,
+        "serve a s 2",
+        texts.as_slice(),
+        out,
+        &mut dial,
+        &mut listen,
+    )?;
+    Ok((shown, listen.returned().len()))
+}
+
 #[test]
 fn after_a_write_fault_no_session_is_served(rt: HostRuntime) -> Result<(), Fail> {
-    let alloc = rt.alloc();
     for (failing, want, count) in [
         (&[1][..], "9 ", 1),
         (&[2][..], "9 session 1 requests 1 end\n", 2),
@@ -201,21 +256,9 @@ fn after_a_write_fault_no_session_is_served(rt: HostRuntime) -> Result<(), Fail>
             2,
         ),
     ] {
-        let sessions = sessions_of(alloc, &[NOTHING, NOTHING])?;
-        let mut listen = listen_to(alloc, b"a", sessions, &[], usize::MAX)?;
-        let out = MemorySink::make(alloc, Seq::from_slice(alloc, failing)?, usize::MAX);
-        let mut dial = NullDial::make(alloc);
-        let texts = [("s", NUMBER)];
-        let shown = answer_on(
-            alloc,
-            "serve a s 2",
-            texts.as_slice(),
-            out,
-            &mut dial,
-            &mut listen,
-        )?;
+        let (shown, came) = served_on(rt.alloc(), failing)?;
         assert_eq!(rt; shown.as_str(), want);
-        assert_eq!(rt; listen.returned().len(), count);
+        assert_eq!(rt; came, count);
     }
     Ok(())
 }
