@@ -2,8 +2,8 @@
 //!
 //! [`explain`] quotes the lines of the text at the positions of a [`Trouble`], each with a caret under the place, and
 //! adds a sentence that says what is wrong, in the words of the text, and one that says what to do. What a quote is
-//! stands in `specs/Quotes`. [`usage`] tells the forms of the commands. All sentences stand in `texts.rt`
-//! and `outside_texts.rt`. [`coloured`] paints what is told for a terminal.
+//! stands in `specs/Quotes`. [`usage`] tells the forms of the commands. All sentences stand in `texts.rt`,
+//! `type_texts.rt` and `outside_texts.rt`. [`coloured`] paints what is told for a terminal.
 #![tactic(auto)]
 
 mod blocks;
@@ -26,10 +26,15 @@ mod refusal_help;
 mod run_help;
 mod service_help;
 mod showing;
+mod spans;
+mod standing;
 mod texts;
 mod trouble;
+mod type_mends;
+mod type_texts;
 mod type_words;
 mod typing_help;
+mod wanted;
 mod wrong_types;
 
 pub use colours::coloured;

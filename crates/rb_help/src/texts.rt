@@ -214,35 +214,6 @@ pub const REMOTE_CALL: Help = Help {
     mend: b"Declare the method that calls it by `remote fun`.",
 };
 
-// Types that are found where others are wanted.
-
-pub const NO_VALUE: Help = Help {
-    wrong: b"`@` gives no value, and one is wanted here.",
-    mend: b"Let the method give one, or write the call as a statement of its own.",
-};
-
-pub const WRONG_NAME: &[u8] = b"`@` is of type `#`, and another type is wanted here.";
-
-pub const WRONG_CALL: &[u8] = b"`@` gives a value of type `#`, and another type is wanted here.";
-
-pub const WRONG_VALUE: &[u8] = b"This is of type `#`, and another type is wanted here.";
-
-pub const FROM_INT: &[u8] =
-    b"Where a Text is wanted, `str` makes one of it; where a Bool is, compare it, as by `> 0`.";
-
-pub const FROM_BOOL: &[u8] =
-    b"Where a Text is wanted, `str` makes one of it; where an Int is, decide by `if`.";
-
-pub const FROM_TEXT: &[u8] =
-    b"A Text is joined by `+`, compared by `==` and `!=` and measured by `len`; nothing makes a number of it.";
-
-pub const FROM_LIST: &[u8] =
-    b"Take an item of it by `[..]`, the number of its items by `len`, or go over it by `for`.";
-
-pub const FROM_ROWS: &[u8] = b"Go over the rows by `for`, within the batch.";
-
-pub const FROM_OBJECT: &[u8] = b"Take a field of it, or call a method that gives what is wanted.";
-
 // Refusals of batches.
 
 pub const FLOW: Help = Help {

@@ -2,40 +2,100 @@
 
 use crate::page::Page;
 use crate::pieces::Pieces;
-use crate::texts;
-use crate::type_words::type_word;
+use crate::type_mends::mend;
+use crate::type_texts;
+use crate::type_words::{type_word, written_word};
+use crate::wanted::{Want, Wanted, wanted_at, written_at};
 use rb_trees::{Memory, TypeForm};
 use std::alloc::Global;
-
-/// What can be made of a value of a type.
-fn use_of(found: &TypeForm) -> &'static [u8] {
-    match found {
-        TypeForm::Int => texts::FROM_INT,
-        TypeForm::Bool => texts::FROM_BOOL,
-        TypeForm::Text => texts::FROM_TEXT,
-        TypeForm::Named(_) => texts::FROM_OBJECT,
-        TypeForm::ListOf(_) => texts::FROM_LIST,
-        TypeForm::RowsOf(_) => texts::FROM_ROWS,
-        TypeForm::Unit => texts::NO_VALUE.mend,
-    }
-}
 
 /// What is said of an expression's type, by the piece at its place: a name, a call or anything else.
 fn found_text(pieces: &Pieces<'_>, index: usize) -> &'static [u8] {
     match pieces.text(index).first() {
         Some(b'a'..=b'z' | b'A'..=b'Z' | b'_') if pieces.is_later(index, 1, b"(") => {
-            texts::WRONG_CALL
+            type_texts::CALL_GIVES
         }
         Some(b'a'..=b'z' | b'A'..=b'Z' | b'_') if !is_keyword(pieces.text(index)) => {
-            texts::WRONG_NAME
+            type_texts::NAME_IS
         }
-        _ => texts::WRONG_VALUE,
+        _ => type_texts::THIS_IS,
     }
 }
 
 /// Whether an expression begins with a word of the language that isn't its name.
 fn is_keyword(text: &[u8]) -> bool {
     matches!(text, b"new" | b"List")
+}
+
+/// What is said of what is wanted.
+fn wanted_text(what: Wanted) -> &'static [u8] {
+    match what {
+        Wanted::Untold => type_texts::ANOTHER_TYPE,
+        Wanted::Int => type_texts::AN_INT,
+        Wanted::Bool => type_texts::A_BOOL,
+        Wanted::Text => type_texts::A_TEXT,
+        Wanted::Printed => type_texts::PRINTED,
+        Wanted::Turns => type_texts::TURNS,
+        Wanted::Measured => type_texts::MEASURED,
+        Wanted::Spelled => type_texts::SPELLED,
+        Wanted::Joined => type_texts::JOINED,
+        Wanted::Compared => type_texts::COMPARED,
+        Wanted::LikeLeft => type_texts::LIKE_LEFT,
+        Wanted::Indexed => type_texts::INDEXED,
+        Wanted::Receiver => type_texts::RECEIVER,
+        Wanted::Owner => type_texts::OWNER,
+        Wanted::Parameter => type_texts::PARAMETER,
+        Wanted::Field => type_texts::FIELD,
+        Wanted::Item => type_texts::ITEMS,
+        Wanted::Result => type_texts::METHOD,
+        Wanted::MainResult => type_texts::MAIN,
+        Wanted::NoResult => type_texts::METHOD_GIVES_NONE,
+        Wanted::NoMainResult => type_texts::MAIN_GIVES_NONE,
+        Wanted::Variable => type_texts::VARIABLE,
+        Wanted::SomeVariable => type_texts::SOME_VARIABLE,
+        Wanted::SomeField => type_texts::SOME_FIELD,
+    }
+}
+
+/// What is said behind that of a type that is written, and nothing where none is.
+fn written_text(what: Wanted) -> &'static [u8] {
+    match what {
+        Wanted::Parameter | Wanted::Field => type_texts::IS_OF_TYPE,
+        Wanted::Item => type_texts::ARE_OF_TYPE,
+        Wanted::Result | Wanted::MainResult => type_texts::PROMISES,
+        _ => b"",
+    }
+}
+
+/// Adds what is found.
+fn add_found(
+    alloc: Global,
+    page: &mut Page,
+    pieces: &Pieces<'_>,
+    index: usize,
+    found: &TypeForm,
+) -> Result<(), Memory> {
+    let name = pieces.text(index);
+    if let TypeForm::Unit = found {
+        return page.fill(type_texts::GIVES_NOTHING, name, b"");
+    }
+    let spelled = type_word(alloc, found)?;
+    page.fill(found_text(pieces, index), name, spelled.as_slice())
+}
+
+/// Says what is wanted, and as what type that is written.
+fn say_wanted(
+    page: &mut Page,
+    pieces: &Pieces<'_>,
+    want: &Want<'_>,
+    written: &[u8],
+    found: &TypeForm,
+) -> Result<(), Memory> {
+    match (want.what, found) {
+        (Wanted::Untold, TypeForm::Unit) => page.add(type_texts::ONE)?,
+        (what, _) => page.fill_of(wanted_text(what), want.name, pieces.line(want.declaration))?,
+    }
+    page.sentence(written_text(want.what), b"", written)
 }
 
 /// What is said where an expression has another type than is wanted.
@@ -46,12 +106,9 @@ pub fn say_wrong_type(
     at: u32,
     found: &TypeForm,
 ) -> Result<(), Memory> {
-    let index = pieces.index_of(at);
-    let name = pieces.text(index);
-    if let TypeForm::Unit = found {
-        return page.say_name(&texts::NO_VALUE, name);
-    }
-    let spelled = type_word(alloc, found)?;
-    page.sentence(found_text(pieces, index), name, spelled.as_slice())?;
-    page.sentence(use_of(found), b"", b"")
+    let want = wanted_at(pieces, at);
+    let written = written_word(alloc, pieces, written_at(pieces, &want))?;
+    add_found(alloc, page, pieces, pieces.index_of(at), found)?;
+    say_wanted(page, pieces, &want, written.as_slice(), found)?;
+    page.sentence(mend(want.what, written.as_slice(), found), b"", b"")
 }

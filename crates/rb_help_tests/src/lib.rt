@@ -10,6 +10,8 @@ mod links;
 #[cfg(test)]
 mod names;
 #[cfg(test)]
+mod operands;
+#[cfg(test)]
 mod outside;
 #[cfg(test)]
 mod quotes;
@@ -27,3 +29,5 @@ mod services;
 mod statements;
 #[cfg(test)]
 mod types;
+#[cfg(test)]
+mod wanted;

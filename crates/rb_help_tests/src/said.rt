@@ -1,7 +1,9 @@
 // What is said of troubles, compared with what is to be said.
 
 use rb_help::{Trouble, explain};
-use rb_trees::{Fault, Memory, ReadError, Refusal, Seq, StoreError, TypeError};
+use rb_trees::{
+    Boxed, Fault, Memory, ReadError, Refusal, Seq, StoreError, TypeError, TypeForm, TypeTree,
+};
 use std::alloc::Global;
 
 /// Whether this is said of a trouble in a text.
@@ -81,4 +83,50 @@ pub fn faulted(
     let fault = Fault { code, text };
     let trouble = Trouble::Faulted(&fault, place(source, word));
     says(alloc, source, &trouble, expected)
+}
+
+/// The type that is found.
+#[derive(Clone, Copy)]
+pub enum Found {
+    Int,
+    Bool,
+    Text,
+    Unit,
+    /// `List<Int>`.
+    List,
+    /// `Rows<Int>`.
+    Rows,
+    /// The class or interface `A`.
+    Object,
+}
+
+/// That type.
+fn form_of(alloc: Global, found: Found) -> Result<TypeForm, Memory> {
+    let int = TypeTree {
+        at: 0,
+        form: TypeForm::Int,
+    };
+    match found {
+        Found::Int => Ok(TypeForm::Int),
+        Found::Bool => Ok(TypeForm::Bool),
+        Found::Text => Ok(TypeForm::Text),
+        Found::Unit => Ok(TypeForm::Unit),
+        Found::List => Ok(TypeForm::ListOf(Boxed::new(alloc, int)?)),
+        Found::Rows => Ok(TypeForm::RowsOf(Boxed::new(alloc, int)?)),
+        Found::Object => Ok(TypeForm::Named(Seq::from_slice(alloc, b"A")?)),
+    }
+}
+
+/// Whether this is said below the caret at the place of a word, where this type is found.
+pub fn tells(
+    alloc: Global,
+    source: &str,
+    word: &str,
+    found: Found,
+    said: &str,
+) -> Result<bool, Memory> {
+    let error = TypeError::WrongType(place(source, word), form_of(alloc, found)?);
+    let text = explain(alloc, source.as_bytes(), &Trouble::Untyped(&error))?;
+    let expected = format!(in alloc; "^\n{said}\n")?;
+    Ok(text.as_slice().ends_with(expected.as_bytes()))
 }

@@ -15,8 +15,8 @@ fn plain_types_are_spelled(rt: HostRuntime) -> Result<(), Fail> {
             TypeError::WrongType(place(source, "n)"), TypeForm::Int),
             "1 | main { val n = 1; print(\"n\" + n); }
   |                               ^
-`n` is of type `Int`, and another type is wanted here.
-Where a Text is wanted, `str` makes one of it; where a Bool is, compare it, as by `> 0`.
+`n` is of type `Int`, and `+` wants the type of its left operand here.
+If the left operand is a Text, `str` makes one of this.
 "
         )?
     );
@@ -28,8 +28,8 @@ Where a Text is wanted, `str` makes one of it; where a Bool is, compare it, as b
             TypeError::WrongType(place(source, "<"), TypeForm::Bool),
             "1 | main { print(\"n\" + (1 < 2)); }
   |                       ^
-This is of type `Bool`, and another type is wanted here.
-Where a Text is wanted, `str` makes one of it; where an Int is, decide by `if`.
+This is of type `Bool`, and `+` wants the type of its left operand here.
+If the left operand is a Text, `str` makes one of this.
 "
         )?
     );
@@ -41,8 +41,8 @@ Where a Text is wanted, `str` makes one of it; where an Int is, decide by `if`.
             TypeError::WrongType(place(source, "\"yes"), TypeForm::Text),
             "1 | main { if (\"yes\") { } }
   |            ^
-This is of type `Text`, and another type is wanted here.
-A Text is joined by `+`, compared by `==` and `!=` and measured by `len`; nothing makes a number of it.
+This is of type `Text`, and `if` wants a Bool.
+Compare it by `==` or `!=`.
 "
         )?
     );
@@ -54,7 +54,7 @@ A Text is joined by `+`, compared by `==` and `!=` and measured by `len`; nothin
             TypeError::WrongType(place(source, "m());"), TypeForm::Unit),
             "1 | class A { fun m() { } } main { print(new A().m()); }
   |                                              ^
-`m` gives no value, and one is wanted here.
+`m` gives no value, and `print` wants an Int, a Bool, a Text, Rows or an object of an interface.
 Let the method give one, or write the call as a statement of its own.
 "
         )?
@@ -74,7 +74,7 @@ fn types_of_several_words_are_spelled(rt: HostRuntime) -> Result<(), Fail> {
             TypeError::WrongType(place(source, "new"), class),
             "1 | class A { } main { print(new A()); }
   |                          ^
-This is of type `A`, and another type is wanted here.
+This is of type `A`, and `print` wants an Int, a Bool, a Text, Rows or an object of an interface.
 Take a field of it, or call a method that gives what is wanted.
 "
         )?
@@ -92,7 +92,7 @@ Take a field of it, or call a method that gives what is wanted.
             TypeError::WrongType(place(source, "a);"), list),
             "1 | main { val a = List<Int>(1); print(a); }
   |                                    ^
-`a` is of type `List<Int>`, and another type is wanted here.
+`a` is of type `List<Int>`, and `print` wants an Int, a Bool, a Text, Rows or an object of an interface.
 Take an item of it by `[..]`, the number of its items by `len`, or go over it by `for`.
 "
         )?
@@ -110,7 +110,7 @@ Take an item of it by `[..]`, the number of its items by `len`, or go over it by
             TypeError::WrongType(place(source, "names"), rows),
             "1 | main { batch (D r) { print(len(r.names())); } }
   |                                  ^
-`names` gives a value of type `Rows<Text>`, and another type is wanted here.
+`names` gives a value of type `Rows<Text>`, and `len` wants a Text or a List.
 Go over the rows by `for`, within the batch.
 "
         )?
