@@ -110,3 +110,30 @@ pub fn ended(alloc: Global, text: &str) -> Result<String, Fail> {
     let whole = format!(in alloc; "{text}exchanges 0\nobject 0: D {{ }}\n")?;
     Ok(whole)
 }
+
+/// Fails unless a program is answered as is wanted.
+pub fn expect(alloc: Global, program: &str, answered: &str, wanted: &str) -> Result<(), Fail> {
+    if answered == wanted {
+        return Ok(());
+    }
+    Err(Fail::new(format!(in alloc; "{program}\nis answered\n{answered}\nand not\n{wanted}")?))
+}
+
+/// Fails unless `check p` answers on each program, behind the interfaces, the line that stands beside it.
+pub fn admissions_are(alloc: Global, rows: &[(&str, &str)]) -> Result<(), Fail> {
+    for (program, wanted) in rows {
+        let answered = admission(alloc, program)?;
+        expect(alloc, program, answered.as_str().trim_end(), wanted)?;
+    }
+    Ok(())
+}
+
+/// Fails unless each of the words answers on its program what stands beside them, before what follows a run without a batch.
+pub fn runs_are(alloc: Global, rows: &[(&str, &str, &str)]) -> Result<(), Fail> {
+    for (words, program, lines) in rows {
+        let answered = ran(alloc, words, program)?;
+        let wanted = ended(alloc, lines)?;
+        expect(alloc, program, answered.as_str(), wanted.as_str())?;
+    }
+    Ok(())
+}

@@ -1,5 +1,5 @@
 // How the batches of a program are divided: what `split p` shows, and what is refused.
-use crate::answers::{INTERFACES, answer, checked, files_of};
+use crate::answers::{INTERFACES, answer, checked, expect, files_of};
 use std::alloc::Global;
 use std::test::Fail;
 
@@ -18,20 +18,32 @@ fn viewed(alloc: Global, interfaces: &str, program: &str) -> Result<String, Fail
     )
 }
 
+/// Fails unless `split p` answers on each program, behind interfaces, what stands beside it.
+fn views_are(alloc: Global, interfaces: &str, rows: &[(&str, &str)]) -> Result<(), Fail> {
+    for (program, wanted) in rows {
+        let answered = viewed(alloc, interfaces, program)?;
+        expect(alloc, program, answered.as_str(), wanted)?;
+    }
+    Ok(())
+}
+
 #[test]
 fn kept_values_are_bound(rt: HostRuntime) -> Result<(), Fail> {
-    for (program, wanted) in [
-        (
-            r#"main { batch (Dir r) { } }"#,
-            r#"0 batch 3:8
+    views_are(
+        rt.alloc(),
+        INTERFACES,
+        &[
+            (
+                r#"main { batch (Dir r) { } }"#,
+                r#"0 batch 3:8
 inputs
 script
 remainder
 "#,
-        ),
-        (
-            r#"main { batch (Dir r) { val s = r.file(0).size(); r.file(1).grow(s + 1); } }"#,
-            r#"0 batch 3:8
+            ),
+            (
+                r#"main { batch (Dir r) { val s = r.file(0).size(); r.file(1).grow(s + 1); } }"#,
+                r#"0 batch 3:8
 inputs
 script
   0 let v0 keep = root.file(0).size()
@@ -40,23 +52,20 @@ remainder
   val s = <0>;
   pass <1>;
 "#,
-        ),
-    ] {
-        assert_eq!(rt;
-            viewed(rt.alloc(), INTERFACES, program)?.as_str(),
-            wanted,
-            "{program}"
-        );
-    }
-    Ok(())
+            ),
+        ],
+    )
 }
 
 #[test]
 fn values_without_a_call_stand_on_both_sides(rt: HostRuntime) -> Result<(), Fail> {
-    for (program, wanted) in [
-        (
-            r#"main { val a = 1; val b = 0; batch (Dir r) { r.file(0).grow(1); val k = a / b; r.file(1).grow(k); } }"#,
-            r#"0 batch 3:30
+    views_are(
+        rt.alloc(),
+        INTERFACES,
+        &[
+            (
+                r#"main { val a = 1; val b = 0; batch (Dir r) { r.file(0).grow(1); val k = a / b; r.file(1).grow(k); } }"#,
+                r#"0 batch 3:30
 inputs a b
 script
   0 do root.file(0).grow(1)
@@ -67,10 +76,10 @@ remainder
   val k = a / b; // <1>
   pass <2>;
 "#,
-        ),
-        (
-            r#"main { batch (Dir r) { val f = r.file(0); val g = f; g.grow(1); val n = 7; f.grow(n); } }"#,
-            r#"0 batch 3:8
+            ),
+            (
+                r#"main { batch (Dir r) { val f = r.file(0); val g = f; g.grow(1); val n = 7; f.grow(n); } }"#,
+                r#"0 batch 3:8
 inputs
 script
   0 let v0 = root.file(0)
@@ -85,22 +94,19 @@ remainder
   val n = 7; // <3>
   pass <4>;
 "#,
-        ),
-    ] {
-        assert_eq!(rt;
-            viewed(rt.alloc(), INTERFACES, program)?.as_str(),
-            wanted,
-            "{program}"
-        );
-    }
-    Ok(())
+            ),
+        ],
+    )
 }
 
 #[test]
 fn inputs_stand_in_order_of_first_use(rt: HostRuntime) -> Result<(), Fail> {
-    for (program, wanted) in [(
-        r#"main { val unused = 3; val n = 1; val t = "x"; batch (Dir r) { r.file(n).rename(t + "y"); r.file(n).grow(n); } }"#,
-        r#"0 batch 3:48
+    views_are(
+        rt.alloc(),
+        INTERFACES,
+        &[(
+            r#"main { val unused = 3; val n = 1; val t = "x"; batch (Dir r) { r.file(n).rename(t + "y"); r.file(n).grow(n); } }"#,
+            r#"0 batch 3:48
 inputs n t
 script
   0 do root.file(in0).rename(add(in1, "y"))
@@ -109,21 +115,18 @@ remainder
   pass <0>;
   pass <1>;
 "#,
-    )] {
-        assert_eq!(rt;
-            viewed(rt.alloc(), INTERFACES, program)?.as_str(),
-            wanted,
-            "{program}"
-        );
-    }
-    Ok(())
+        )],
+    )
 }
 
 #[test]
 fn loops_nest(rt: HostRuntime) -> Result<(), Fail> {
-    for (program, wanted) in [(
-        r#"main { batch (Dir r) { for (a in r.files()) { for (b in r.files()) { var n = 0; for (c in r.files()) { n = n + a.size() + b.size() + c.size(); } print(n); } } } }"#,
-        r#"0 batch 3:8
+    views_are(
+        rt.alloc(),
+        INTERFACES,
+        &[(
+            r#"main { batch (Dir r) { for (a in r.files()) { for (b in r.files()) { var n = 0; for (c in r.files()) { n = n + a.size() + b.size() + c.size(); } print(n); } } } }"#,
+            r#"0 batch 3:8
 inputs
 script
   0 each v0 in root.files()
@@ -143,21 +146,18 @@ remainder
     }
   }
 "#,
-    )] {
-        assert_eq!(rt;
-            viewed(rt.alloc(), INTERFACES, program)?.as_str(),
-            wanted,
-            "{program}"
-        );
-    }
-    Ok(())
+        )],
+    )
 }
 
 #[test]
 fn branches_stand_in_loops(rt: HostRuntime) -> Result<(), Fail> {
-    for (program, wanted) in [(
-        r#"main { batch (Dir r) { for (f in r.files()) { if (f.size() > 100) { print(f.name()); f.grow(5); } else { f.grow(1); print("small"); } } } }"#,
-        r#"0 batch 3:8
+    views_are(
+        rt.alloc(),
+        INTERFACES,
+        &[(
+            r#"main { batch (Dir r) { for (f in r.files()) { if (f.size() > 100) { print(f.name()); f.grow(5); } else { f.grow(1); print("small"); } } } }"#,
+            r#"0 batch 3:8
 inputs
 script
   0 each v0 in root.files()
@@ -177,21 +177,18 @@ remainder
     }
   }
 "#,
-    )] {
-        assert_eq!(rt;
-            viewed(rt.alloc(), INTERFACES, program)?.as_str(),
-            wanted,
-            "{program}"
-        );
-    }
-    Ok(())
+        )],
+    )
 }
 
 #[test]
 fn an_empty_branch_may_stand_first(rt: HostRuntime) -> Result<(), Fail> {
-    for (program, wanted) in [(
-        r#"main { batch (Dir r) { if (r.file(0).size() > 1) { } else { r.burn(2); } if (r.file(0).size() > 1) { print("big"); } } }"#,
-        r#"0 batch 3:8
+    views_are(
+        rt.alloc(),
+        INTERFACES,
+        &[(
+            r#"main { batch (Dir r) { if (r.file(0).size() > 1) { } else { r.burn(2); } if (r.file(0).size() > 1) { print("big"); } } }"#,
+            r#"0 batch 3:8
 inputs
 script
   0 if gt(root.file(0).size(), 1)
@@ -207,21 +204,18 @@ remainder
     print("big");
   }
 "#,
-    )] {
-        assert_eq!(rt;
-            viewed(rt.alloc(), INTERFACES, program)?.as_str(),
-            wanted,
-            "{program}"
-        );
-    }
-    Ok(())
+        )],
+    )
 }
 
 #[test]
 fn primitive_rows_are_kept(rt: HostRuntime) -> Result<(), Fail> {
-    for (program, wanted) in [(
-        r#"main { batch (Dir r) { for (n in r.file(0).sizes()) { print(n); } for (t in r.file(0).tags()) { print(t); } for (b in r.file(0).flags()) { if (b) { r.file(0).set(1, b, "q"); } } } }"#,
-        r#"0 batch 3:8
+    views_are(
+        rt.alloc(),
+        WIDE,
+        &[(
+            r#"main { batch (Dir r) { for (n in r.file(0).sizes()) { print(n); } for (t in r.file(0).tags()) { print(t); } for (b in r.file(0).flags()) { if (b) { r.file(0).set(1, b, "q"); } } } }"#,
+            r#"0 batch 3:8
 inputs
 script
   0 each v0 keep in root.file(0).sizes()
@@ -242,21 +236,18 @@ remainder
     }
   }
 "#,
-    )] {
-        assert_eq!(rt;
-            viewed(rt.alloc(), WIDE, program)?.as_str(),
-            wanted,
-            "{program}"
-        );
-    }
-    Ok(())
+        )],
+    )
 }
 
 #[test]
 fn operators_and_literals_have_their_words(rt: HostRuntime) -> Result<(), Fail> {
-    for (program, wanted) in [(
-        r#"main { val n = 2; val b = true; val t = "a\n\"\\"; batch (Dir r) { print(!r.file(0).ok()); print(-r.file(n).size()); print(len(r.file(0).name())); print(str(r.file(0).size())); r.file(1 + 2 - 3 * 4).set(5 / n % 6, n == 1 && t != "u" || b, t); print(r.file(0).size() < 1 == (r.file(0).size() <= 2)); print(r.file(0).size() > 1 == (r.file(0).size() >= 2)); r.file(-9223372036854775808).set(-1, false, ""); } }"#,
-        r#"0 batch 3:52
+    views_are(
+        rt.alloc(),
+        WIDE,
+        &[(
+            r#"main { val n = 2; val b = true; val t = "a\n\"\\"; batch (Dir r) { print(!r.file(0).ok()); print(-r.file(n).size()); print(len(r.file(0).name())); print(str(r.file(0).size())); r.file(1 + 2 - 3 * 4).set(5 / n % 6, n == 1 && t != "u" || b, t); print(r.file(0).size() < 1 == (r.file(0).size() <= 2)); print(r.file(0).size() > 1 == (r.file(0).size() >= 2)); r.file(-9223372036854775808).set(-1, false, ""); } }"#,
+            r#"0 batch 3:52
 inputs n t b
 script
   0 keep not(root.file(0).ok())
@@ -277,22 +268,19 @@ remainder
   print(<6>);
   pass <7>;
 "#,
-    )] {
-        assert_eq!(rt;
-            viewed(rt.alloc(), WIDE, program)?.as_str(),
-            wanted,
-            "{program}"
-        );
-    }
-    Ok(())
+        )],
+    )
 }
 
 #[test]
 fn local_statements_keep_what_they_take(rt: HostRuntime) -> Result<(), Fail> {
-    for (program, wanted) in [
-        (
-            r#"main { batch (Dir r) { print(List<Int>(r.file(0).size(), 2, r.file(1).size())[r.file(2).size()]); var s = 0; s = s + r.file(0).size() * 2; throw r.file(0).name() + "!"; } }"#,
-            r#"0 batch 3:8
+    views_are(
+        rt.alloc(),
+        WIDE,
+        &[
+            (
+                r#"main { batch (Dir r) { print(List<Int>(r.file(0).size(), 2, r.file(1).size())[r.file(2).size()]); var s = 0; s = s + r.file(0).size() * 2; throw r.file(0).name() + "!"; } }"#,
+                r#"0 batch 3:8
 inputs
 script
   0 keep root.file(0).size()
@@ -306,10 +294,10 @@ remainder
   s = s + <3>;
   throw <4>;
 "#,
-        ),
-        (
-            r#"class Box { v: Int; fun add(n: Int): Int { return this.v + n; } } main { val o = new Box(1); batch (Dir r) { print(o.add(r.file(0).size())); o.v = r.file(0).size() + o.v; print(new Box(r.file(0).size()).v); } }"#,
-            r#"0 batch 3:94
+            ),
+            (
+                r#"class Box { v: Int; fun add(n: Int): Int { return this.v + n; } } main { val o = new Box(1); batch (Dir r) { print(o.add(r.file(0).size())); o.v = r.file(0).size() + o.v; print(new Box(r.file(0).size()).v); } }"#,
+                r#"0 batch 3:94
 inputs
 script
   0 keep root.file(0).size()
@@ -320,22 +308,19 @@ remainder
   o.v = <1> + o.v;
   print(new Box(<2>).v);
 "#,
-        ),
-    ] {
-        assert_eq!(rt;
-            viewed(rt.alloc(), WIDE, program)?.as_str(),
-            wanted,
-            "{program}"
-        );
-    }
-    Ok(())
+            ),
+        ],
+    )
 }
 
 #[test]
 fn local_blocks_stay_as_they_are(rt: HostRuntime) -> Result<(), Fail> {
-    for (program, wanted) in [(
-        r#"main { batch (Dir r) { var n = r.file(0).size(); while (n > 0) { n = n - 1; } for (x in List<Int>(r.file(0).size())) { print(x); } try { print(1 / n); } catch (e) { print(e); } val q = n + 1; print(q); } }"#,
-        r#"0 batch 3:8
+    views_are(
+        rt.alloc(),
+        WIDE,
+        &[(
+            r#"main { batch (Dir r) { var n = r.file(0).size(); while (n > 0) { n = n - 1; } for (x in List<Int>(r.file(0).size())) { print(x); } try { print(1 / n); } catch (e) { print(e); } val q = n + 1; print(q); } }"#,
+            r#"0 batch 3:8
 inputs
 script
   0 keep root.file(0).size()
@@ -356,21 +341,18 @@ remainder
   val q = n + 1;
   print(q);
 "#,
-    )] {
-        assert_eq!(rt;
-            viewed(rt.alloc(), WIDE, program)?.as_str(),
-            wanted,
-            "{program}"
-        );
-    }
-    Ok(())
+        )],
+    )
 }
 
 #[test]
 fn calls_nest(rt: HostRuntime) -> Result<(), Fail> {
-    for (program, wanted) in [(
-        r#"main { batch (Dir r) { r.best(r.file(0)).set(r.file(1).size(), true, r.file(2).name()); r.file(0).next().next(); print(r.best(r.file(0).next()).name()); } }"#,
-        r#"0 batch 3:8
+    views_are(
+        rt.alloc(),
+        WIDE,
+        &[(
+            r#"main { batch (Dir r) { r.best(r.file(0)).set(r.file(1).size(), true, r.file(2).name()); r.file(0).next().next(); print(r.best(r.file(0).next()).name()); } }"#,
+            r#"0 batch 3:8
 inputs
 script
   0 do root.best(root.file(0)).set(root.file(1).size(), true, root.file(2).name())
@@ -381,22 +363,19 @@ remainder
   pass <1>;
   print(<2>);
 "#,
-    )] {
-        assert_eq!(rt;
-            viewed(rt.alloc(), WIDE, program)?.as_str(),
-            wanted,
-            "{program}"
-        );
-    }
-    Ok(())
+        )],
+    )
 }
 
 #[test]
 fn batches_stand_in_source_order(rt: HostRuntime) -> Result<(), Fail> {
-    for (program, wanted) in [
-        (
-            r#"main { val n = 1; batch (Dir r) { print(r.file(n).size()); } if (true) { batch (Dir q) { val m = n * 2; print(q.file(m).size()); } } }"#,
-            r#"0 batch 3:19
+    views_are(
+        rt.alloc(),
+        WIDE,
+        &[
+            (
+                r#"main { val n = 1; batch (Dir r) { print(r.file(n).size()); } if (true) { batch (Dir q) { val m = n * 2; print(q.file(m).size()); } } }"#,
+                r#"0 batch 3:19
 inputs n
 script
   0 keep root.file(in0).size()
@@ -411,26 +390,20 @@ remainder
   val m = n * 2; // <0>
   print(<1>);
 "#,
-        ),
-        (
-            r#"class Job { n: Int; remote fun go(k: Int) { batch (Dir d) { print(d.file(k).size() + this.n); } } } main { new Job(1).go(2); }"#,
-            r#"0 batch 3:45
+            ),
+            (
+                r#"class Job { n: Int; remote fun go(k: Int) { batch (Dir d) { print(d.file(k).size() + this.n); } } } main { new Job(1).go(2); }"#,
+                r#"0 batch 3:45
 inputs k
 script
   0 keep root.file(in0).size()
 remainder
   print(<0> + this.n);
 "#,
-        ),
-        (r#"main { print(1); }"#, r#"0 "#),
-    ] {
-        assert_eq!(rt;
-            viewed(rt.alloc(), WIDE, program)?.as_str(),
-            wanted,
-            "{program}"
-        );
-    }
-    Ok(())
+            ),
+            (r#"main { print(1); }"#, r#"0 "#),
+        ],
+    )
 }
 
 /// What `check p` answers on a batch of so many calls, each with a hundred literals: 1,025 bytes of code a call.
