@@ -1,7 +1,6 @@
 // Where names of a text are declared.
 
 use crate::pieces::Pieces;
-use crate::spans::closing;
 
 /// What a name is declared as.
 #[derive(Clone, Copy, PartialEq, Eq)]
@@ -124,39 +123,6 @@ pub fn arguments_behind(pieces: &Pieces<'_>, index: usize) -> u64 {
     count
 }
 
-/// The number of the piece that names a method's parameter or a class's field, by its number from 0.
-pub fn part_of(pieces: &Pieces<'_>, declaration: usize, number: usize) -> Option<usize> {
-    let mut left = number;
-    for place in declaration..pieces.len() {
-        match pieces.text(place) {
-            b")" | b"}" | b"fun" | b"remote" => return None,
-            b":" if left == 0 => return place.checked_sub(1),
-            b":" => left -= 1,
-            _ => {}
-        }
-    }
-    None
-}
-
-/// Whether a piece declares a field.
-fn is_field(pieces: &Pieces<'_>, index: usize) -> bool {
-    pieces.is_later(index, 1, b":") && matches!(pieces.earlier(index, 1), b"{" | b";")
-}
-
-/// The number of the one piece that declares a field of this name, or none where several do.
-pub fn field_once(pieces: &Pieces<'_>, name: &[u8]) -> Option<usize> {
-    let mut found = None;
-    for place in 0..pieces.len() {
-        if pieces.is_later(place, 0, name) && is_field(pieces, place) {
-            if found.is_some() {
-                return None;
-            }
-            found = Some(place);
-        }
-    }
-    found
-}
-
 /// The number of the `fun` or `main` whose body a piece stands in.
 pub fn head_before(pieces: &Pieces<'_>, index: usize) -> usize {
     let mut head = index;
@@ -166,18 +132,4 @@ pub fn head_before(pieces: &Pieces<'_>, index: usize) -> usize {
         }
     }
     head
-}
-
-/// The number of the first piece of the type of the result behind a `fun` or `main`, where it gives one.
-pub fn result_of(pieces: &Pieces<'_>, head: usize) -> Option<usize> {
-    let last = if pieces.is_later(head, 0, b"fun") {
-        closing(pieces, head.saturating_add(2))
-    } else {
-        head
-    };
-    if pieces.is_later(last, 1, b":") && !pieces.is_later(last, 2, b"Unit") {
-        Some(last.saturating_add(2))
-    } else {
-        None
-    }
 }

@@ -108,7 +108,7 @@ pub fn slot_around(pieces: &Pieces<'_>, index: usize) -> Option<Slot> {
 }
 
 /// The piece that opens the bracket that a piece closes.
-fn opening(pieces: &Pieces<'_>, index: usize) -> usize {
+pub fn opening(pieces: &Pieces<'_>, index: usize) -> usize {
     match slot_around(pieces, index) {
         Some(slot) => slot.open,
         None => index,
@@ -164,7 +164,7 @@ pub fn is_group(pieces: &Pieces<'_>, open: usize) -> bool {
 }
 
 /// The first piece of what stands before a parenthesis that isn't a group: of a `new` that word, of a list its `List`.
-fn head_of(pieces: &Pieces<'_>, open: usize) -> usize {
+pub fn head_of(pieces: &Pieces<'_>, open: usize) -> usize {
     match list_before(pieces, open) {
         Some(word) => word,
         None if pieces.is_earlier(open, 2, b"new") => open.saturating_sub(2),
@@ -190,7 +190,7 @@ fn part_before(pieces: &Pieces<'_>, last: usize) -> usize {
 }
 
 /// The first piece of the operand, without signs before it, that ends with a piece.
-fn operand_first(pieces: &Pieces<'_>, last: usize) -> usize {
+pub fn operand_first(pieces: &Pieces<'_>, last: usize) -> usize {
     let mut end = last;
     for _ in 0..pieces.len() {
         let first = part_before(pieces, end);
@@ -267,7 +267,7 @@ fn first_prefix(pieces: &Pieces<'_>, first: usize) -> usize {
 }
 
 /// The first piece of what stands left of a sign between operands.
-fn left_first(pieces: &Pieces<'_>, sign: &Sign) -> usize {
+pub fn left_first(pieces: &Pieces<'_>, sign: &Sign) -> usize {
     let mut behind = sign.first;
     for _ in 0..pieces.len() {
         let operand = operand_first(pieces, behind.saturating_sub(1));
@@ -278,6 +278,32 @@ fn left_first(pieces: &Pieces<'_>, sign: &Sign) -> usize {
         }
     }
     sign.first
+}
+
+/// The looser of two signs, of which the second stands before the first.
+fn looser(sign: Option<Sign>, earlier: Sign) -> Option<Sign> {
+    match sign {
+        Some(later) if later.level <= earlier.level => Some(later),
+        _ => Some(earlier),
+    }
+}
+
+/// The sign that is performed last in an expression: the loosest of those between its operands, of like ones the last.
+pub fn root_sign(pieces: &Pieces<'_>, span: &Span) -> Option<Sign> {
+    let mut root = None;
+    let mut last = span.last;
+    for _ in 0..pieces.len() {
+        let first = first_prefix(pieces, operand_first(pieces, last));
+        if first <= span.first {
+            return root;
+        }
+        let Some(sign) = sign_before(pieces, first) else {
+            return root;
+        };
+        root = looser(root, sign);
+        last = sign.first.saturating_sub(1);
+    }
+    root
 }
 
 /// The last piece of what stands right of a sign between operands.

@@ -49,7 +49,8 @@ fn aim_of(what: Wanted, written: &[u8]) -> Aim {
         Wanted::Indexed => Aim::Indexed,
         Wanted::Receiver | Wanted::Owner => Aim::Member,
         Wanted::Parameter | Wanted::Field | Wanted::Item => aim_at(written),
-        Wanted::Result | Wanted::MainResult => aim_at(written),
+        Wanted::Result | Wanted::MainResult | Wanted::LeftType => aim_at(written),
+        Wanted::EachParameter | Wanted::EachField | Wanted::VariableType => aim_at(written),
         _ => Aim::Any,
     }
 }
@@ -130,11 +131,22 @@ fn mend_of(what: Wanted, aim: Aim, found: &TypeForm) -> &'static [u8] {
     }
 }
 
+/// Whether `str` takes values of a type.
+fn is_spelled(written: &[u8]) -> bool {
+    matches!(written, b"Int" | b"Bool")
+}
+
+/// Whether a type is Text.
+fn is_text(found: &TypeForm) -> bool {
+    matches!(found, TypeForm::Text)
+}
+
 /// What to do with a value of a type where another is wanted, and maybe written.
 pub fn mend(what: Wanted, written: &[u8], found: &TypeForm) -> &'static [u8] {
     match what {
         Wanted::NoMainResult => returned_by_main(found),
         Wanted::NoResult => returned_by_method(found),
+        Wanted::LeftType if is_spelled(written) && is_text(found) => type_texts::STR_OF_LEFT_TYPE,
         _ => mend_of(what, aim_of(what, written), found),
     }
 }

@@ -38,6 +38,10 @@ pub const COMPARED: &[u8] = b"`@` wants an Int, a Bool or a Text.";
 
 pub const LIKE_LEFT: &[u8] = b"`@` wants the type of its left operand here.";
 
+pub const LEFT_TYPE: &[u8] = b"`@` wants a value";
+
+pub const AS_LEFT_IS: &[u8] = b" of type `#`, as its left operand is.";
+
 pub const INDEXED: &[u8] = b"a List is wanted before `[`.";
 
 pub const RECEIVER: &[u8] = b"an object of a class or an interface is wanted before `.@`.";
@@ -47,6 +51,12 @@ pub const OWNER: &[u8] = b"an object of a class is wanted before `.@`.";
 pub const PARAMETER: &[u8] = b"the parameter `@` in line #";
 
 pub const FIELD: &[u8] = b"the field `@` in line #";
+
+pub const EACH_PARAMETER: &[u8] = b"every `fun @` takes a value";
+
+pub const OF_TYPE_HERE: &[u8] = b" of type `#` here.";
+
+pub const EACH_FIELD: &[u8] = b"every field `@`";
 
 pub const IS_OF_TYPE: &[u8] = b" is of type `#`.";
 
@@ -65,6 +75,8 @@ pub const METHOD_GIVES_NONE: &[u8] = b"`fun @` in line # returns nothing.";
 pub const MAIN_GIVES_NONE: &[u8] = b"`main` in line # returns nothing.";
 
 pub const VARIABLE: &[u8] = b"the type of `@`, declared in line #, is wanted here.";
+
+pub const VARIABLE_TYPE: &[u8] = b"`@`, declared in line #,";
 
 pub const SOME_VARIABLE: &[u8] = b"the type of `@` is wanted here.";
 
@@ -101,6 +113,8 @@ pub const STR_OF_THIS: &[u8] = b"If the left operand is a Text, `str` makes one 
 
 pub const STR_OF_LEFT: &[u8] =
     b"If the left operand is an Int or a Bool, `str` makes a Text of that.";
+
+pub const STR_OF_LEFT_TYPE: &[u8] = b"`str` makes a Text of the left operand.";
 
 pub const COMPARE_INT: &[u8] = b"Compare it, as by `> 0`.";
 

@@ -1,5 +1,6 @@
 // The spelling of types.
 
+use crate::known_types::Written;
 use crate::pieces::Pieces;
 use crate::spans::is_word;
 use rb_trees::{Memory, Seq, TypeForm, Word};
@@ -48,18 +49,32 @@ fn type_end(pieces: &Pieces<'_>, first: usize) -> usize {
     pieces.len()
 }
 
-/// The type that is written from a piece on, without blanks and comments, or nothing where there is no such piece.
-pub fn written_word(
-    alloc: Global,
-    pieces: &Pieces<'_>,
-    first: Option<usize>,
-) -> Result<Word, Memory> {
+/// Whether the types that begin at two pieces are the same.
+pub fn is_same_type(pieces: &Pieces<'_>, one: usize, other: usize) -> bool {
+    let end = type_end(pieces, one);
+    let count = end.saturating_sub(one);
+    if type_end(pieces, other) != other.saturating_add(count) {
+        return false;
+    }
+    for number in 0..count {
+        if pieces.later(one, number) != pieces.later(other, number) {
+            return false;
+        }
+    }
+    true
+}
+
+/// A type as it is written, without blanks and comments, or nothing where it isn't known.
+pub fn written_word(alloc: Global, pieces: &Pieces<'_>, written: Written) -> Result<Word, Memory> {
     let mut word = Seq::new(alloc);
-    let Some(first) = first else {
-        return Ok(word);
-    };
-    for place in first..type_end(pieces, first) {
-        word.extend_from_slice(pieces.text(place))?;
+    match written {
+        Written::Nowhere => {}
+        Written::Named(name) => word.extend_from_slice(name)?,
+        Written::From(first) => {
+            for place in first..type_end(pieces, first) {
+                word.extend_from_slice(pieces.text(place))?;
+            }
+        }
     }
     Ok(word)
 }

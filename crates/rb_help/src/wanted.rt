@@ -1,10 +1,10 @@
 // What is wanted where an expression stands, as far as the pieces around it tell.
 
-use crate::declarations::{
-    Declared, declared_before, declared_once, field_once, head_before, part_of, result_of,
-};
+use crate::declarations::{Declared, declared_before, declared_once, head_before};
+use crate::known_types::{Written, known_type, name_of, variable_type};
+use crate::members::{Part, agreed_type, member_in, member_once, part_of, result_of};
 use crate::pieces::Pieces;
-use crate::spans::Sign;
+use crate::spans::{Sign, Span, left_first, operand_first};
 use crate::standing::{Standing, standing_at};
 
 /// What may be wanted.
@@ -27,8 +27,9 @@ pub enum Wanted {
     Joined,
     /// What `==` and `!=` take on their left.
     Compared,
-    /// The type of a left operand.
+    /// The type of a left operand, and the same where that type is known.
     LikeLeft,
+    LeftType,
     /// A list of which an item is taken.
     Indexed,
     /// An object of which a method is called.
@@ -41,46 +42,56 @@ pub enum Wanted {
     Item,
     Result,
     MainResult,
+    /// The type of a parameter or of a field that all methods or fields of a name write alike.
+    EachParameter,
+    EachField,
     /// Nothing, since a method or `main` gives no result.
     NoResult,
     NoMainResult,
-    /// The type of a variable whose declaration is known, and of one or of a field for which it isn't.
+    /// The type of a variable whose declaration is known, the same where the type is known too, and the type of a variable or
+    /// a field whose declaration isn't known.
     Variable,
+    VariableType,
     SomeVariable,
     SomeField,
 }
 
-/// What is wanted: by what sign or word or under what name, and the piece that declares that name.
+/// What is wanted: by what sign or word or under what name, the piece that declares that name, and the type.
 #[derive(Clone, Copy)]
 pub struct Want<'a> {
     pub what: Wanted,
     pub name: &'a [u8],
     pub declaration: usize,
+    pub written: Written,
 }
 
 /// What is wanted by a sign or a word.
 fn by<'a>(what: Wanted, name: &'a [u8]) -> Want<'a> {
+    typed(what, name, Written::Nowhere)
+}
+
+/// A type that is wanted by a sign or a word, or of all that has a name.
+fn typed<'a>(what: Wanted, name: &'a [u8], written: Written) -> Want<'a> {
     Want {
         what,
         name,
         declaration: 0,
+        written,
     }
 }
 
-/// What is wanted by the declaration of a name.
-fn declared<'a>(pieces: &Pieces<'a>, what: Wanted, declaration: usize) -> Want<'a> {
+/// What is wanted by the declaration of a name, and the type that is written there.
+fn declared<'a>(
+    pieces: &Pieces<'a>,
+    what: Wanted,
+    declaration: usize,
+    written: Written,
+) -> Want<'a> {
     Want {
         what,
         name: pieces.text(declaration),
         declaration,
-    }
-}
-
-/// The same where there is such a declaration.
-fn if_declared<'a>(pieces: &Pieces<'a>, what: Wanted, found: Option<usize>) -> Want<'a> {
-    match found {
-        Some(declaration) => declared(pieces, what, declaration),
-        None => by(Wanted::Untold, b""),
+        written,
     }
 }
 
@@ -116,7 +127,17 @@ fn left_of<'a>(pieces: &Pieces<'a>, sign: &Sign) -> Want<'a> {
 /// What a sign wants on its right.
 fn right_of<'a>(pieces: &Pieces<'a>, sign: &Sign) -> Want<'a> {
     let text = sign_text(pieces, sign);
-    by(on_both_sides(text).unwrap_or(Wanted::LikeLeft), text)
+    if let Some(what) = on_both_sides(text) {
+        return by(what, text);
+    }
+    let left = Span {
+        first: left_first(pieces, sign),
+        last: sign.first.saturating_sub(1),
+    };
+    match known_type(pieces, left) {
+        Written::Nowhere => by(Wanted::LikeLeft, text),
+        written => typed(Wanted::LeftType, text, written),
+    }
 }
 
 /// What a sign before an operand wants.
@@ -149,12 +170,14 @@ fn in_parentheses(word: &[u8]) -> Want<'_> {
 /// What the body around a `return` gives.
 fn returned<'a>(pieces: &Pieces<'a>, index: usize) -> Want<'a> {
     let head = head_before(pieces, index);
-    let gives = result_of(pieces, head).is_some();
-    match pieces.text(head) {
-        b"main" if gives => declared(pieces, Wanted::MainResult, head),
-        b"main" => declared(pieces, Wanted::NoMainResult, head),
-        b"fun" if gives => declared(pieces, Wanted::Result, head.saturating_add(1)),
-        b"fun" => declared(pieces, Wanted::NoResult, head.saturating_add(1)),
+    let name = head.saturating_add(1);
+    match (pieces.text(head), result_of(pieces, head)) {
+        (b"main", Some(first)) => {
+            declared(pieces, Wanted::MainResult, head, Written::From(first))
+        }
+        (b"main", None) => declared(pieces, Wanted::NoMainResult, head, Written::Nowhere),
+        (b"fun", Some(first)) => declared(pieces, Wanted::Result, name, Written::From(first)),
+        (b"fun", None) => declared(pieces, Wanted::NoResult, name, Written::Nowhere),
         _ => by(Wanted::Untold, b""),
     }
 }
@@ -168,34 +191,83 @@ fn behind_word<'a>(pieces: &Pieces<'a>, word: usize) -> Want<'a> {
     }
 }
 
-/// What the parameter or field of this number wants, of the one declaration of a name.
+/// What the parameter or field of this number wants, of a declaration.
 fn part_wanted<'a>(
     pieces: &Pieces<'a>,
-    name: usize,
-    kind: Declared,
+    declaration: Option<usize>,
     number: usize,
     what: Wanted,
-) -> Want<'a> {
-    match declared_once(pieces, pieces.text(name), kind) {
-        Some(declaration) => if_declared(pieces, what, part_of(pieces, declaration, number)),
-        None => by(Wanted::Untold, b""),
+) -> Option<Want<'a>> {
+    let place = part_of(pieces, declaration?, number)?;
+    let written = Written::From(place.saturating_add(2));
+    Some(declared(pieces, what, place, written))
+}
+
+/// The piece that declares the member whose name a piece is, behind a dot: by the type of what stands before the dot, or since
+/// there is no other of this name.
+fn member_at(pieces: &Pieces<'_>, index: usize, part: Part) -> Option<usize> {
+    let last = index.saturating_sub(2);
+    let owner = known_type(
+        pieces,
+        Span {
+            first: operand_first(pieces, last),
+            last,
+        },
+    );
+    let name = pieces.text(index);
+    match member_in(pieces, name_of(pieces, owner), name, part) {
+        Some(declaration) => Some(declaration),
+        None => member_once(pieces, name, part),
     }
 }
 
+/// What a type wants that all members of a name write alike.
+fn wanted_by_all<'a>(
+    pieces: &Pieces<'a>,
+    name: usize,
+    part: Part,
+    what: Wanted,
+) -> Option<Want<'a>> {
+    let written = agreed_type(pieces, pieces.text(name), part)?;
+    Some(typed(what, pieces.text(name), Written::From(written)))
+}
+
+/// What a method wants as its argument of this number.
+fn in_call<'a>(pieces: &Pieces<'a>, name: usize, number: usize) -> Want<'a> {
+    let part = Part::Parameter(number);
+    let declaration = member_at(pieces, name, part);
+    part_wanted(pieces, declaration, number, Wanted::Parameter)
+        .or_else(|| wanted_by_all(pieces, name, part, Wanted::EachParameter))
+        .unwrap_or(by(Wanted::Untold, b""))
+}
+
+/// What a `new` wants as its value of this number.
+fn in_new<'a>(pieces: &Pieces<'a>, name: usize, number: usize) -> Want<'a> {
+    let class = declared_once(pieces, pieces.text(name), Declared::Type);
+    part_wanted(pieces, class, number, Wanted::Field).unwrap_or(by(Wanted::Untold, b""))
+}
+
 /// What a field wants that is assigned.
-fn into_field<'a>(pieces: &Pieces<'a>, name: &'a [u8]) -> Want<'a> {
-    match field_once(pieces, name) {
-        Some(declaration) => declared(pieces, Wanted::Field, declaration),
-        None => by(Wanted::SomeField, name),
+fn into_field<'a>(pieces: &Pieces<'a>, name: usize) -> Want<'a> {
+    if let Some(declaration) = member_at(pieces, name, Part::Field) {
+        let written = Written::From(declaration.saturating_add(2));
+        return declared(pieces, Wanted::Field, declaration, written);
     }
+    wanted_by_all(pieces, name, Part::Field, Wanted::EachField).unwrap_or(by(
+        Wanted::SomeField,
+        pieces.text(name),
+    ))
 }
 
 /// What a variable wants that is assigned where it is named.
 fn into_variable<'a>(pieces: &Pieces<'a>, index: usize) -> Want<'a> {
     let name = pieces.text(index);
     match declared_before(pieces, index, name, Declared::Variable) {
-        Some(declaration) if pieces.is_earlier(declaration, 1, b"var") => {
-            declared(pieces, Wanted::Variable, declaration)
+        Some(place) if pieces.is_earlier(place, 1, b"var") => {
+            match variable_type(pieces, place) {
+                Written::Nowhere => declared(pieces, Wanted::Variable, place, Written::Nowhere),
+                written => declared(pieces, Wanted::VariableType, place, written),
+            }
         }
         _ => by(Wanted::SomeVariable, name),
     }
@@ -207,7 +279,7 @@ fn behind_assign<'a>(pieces: &Pieces<'a>, index: usize) -> Want<'a> {
     let name = pieces.text(place);
     match pieces.earlier(place, 1) {
         b"val" | b"var" => by(Wanted::Untold, b""),
-        b"." => into_field(pieces, name),
+        b"." => into_field(pieces, place),
         _ => match name.first() {
             Some(b'a'..=b'z' | b'A'..=b'Z' | b'_') => into_variable(pieces, place),
             _ => by(Wanted::Untold, b""),
@@ -226,13 +298,12 @@ fn wanted_by<'a>(pieces: &Pieces<'a>, standing: &Standing) -> Want<'a> {
         Standing::InIndex => by(Wanted::Int, b"[..]"),
         Standing::BehindWord(word) => behind_word(pieces, *word),
         Standing::InParentheses(word) => in_parentheses(pieces.text(*word)),
-        Standing::Argument(name, number) => {
-            part_wanted(pieces, *name, Declared::Method, *number, Wanted::Parameter)
+        Standing::Argument(name, number) => in_call(pieces, *name, *number),
+        Standing::FieldValue(name, number) => in_new(pieces, *name, *number),
+        Standing::Item(list) => {
+            let written = Written::From(list.saturating_add(2));
+            declared(pieces, Wanted::Item, *list, written)
         }
-        Standing::FieldValue(name, number) => {
-            part_wanted(pieces, *name, Declared::Type, *number, Wanted::Field)
-        }
-        Standing::Item(list) => declared(pieces, Wanted::Item, *list),
         Standing::BehindAssign(sign) => behind_assign(pieces, *sign),
         Standing::Nowhere => by(Wanted::Untold, b""),
     }
@@ -245,17 +316,5 @@ pub fn wanted_at<'a>(pieces: &Pieces<'a>, at: u32) -> Want<'a> {
         wanted_by(pieces, &standing_at(pieces, index))
     } else {
         by(Wanted::Untold, b"")
-    }
-}
-
-/// The first piece of the type that is written for what is wanted.
-pub fn written_at(pieces: &Pieces<'_>, want: &Want<'_>) -> Option<usize> {
-    match want.what {
-        Wanted::Parameter | Wanted::Field | Wanted::Item => Some(
-            want.declaration.saturating_add(2),
-        ),
-        Wanted::MainResult => result_of(pieces, want.declaration),
-        Wanted::Result => result_of(pieces, want.declaration.saturating_sub(1)),
-        _ => None,
     }
 }

@@ -5,7 +5,7 @@ use crate::pieces::Pieces;
 use crate::type_mends::mend;
 use crate::type_texts;
 use crate::type_words::{type_word, written_word};
-use crate::wanted::{Want, Wanted, wanted_at, written_at};
+use crate::wanted::{Want, Wanted, wanted_at};
 use rb_trees::{Memory, TypeForm};
 use std::alloc::Global;
 
@@ -41,6 +41,7 @@ fn wanted_text(what: Wanted) -> &'static [u8] {
         Wanted::Joined => type_texts::JOINED,
         Wanted::Compared => type_texts::COMPARED,
         Wanted::LikeLeft => type_texts::LIKE_LEFT,
+        Wanted::LeftType => type_texts::LEFT_TYPE,
         Wanted::Indexed => type_texts::INDEXED,
         Wanted::Receiver => type_texts::RECEIVER,
         Wanted::Owner => type_texts::OWNER,
@@ -49,9 +50,12 @@ fn wanted_text(what: Wanted) -> &'static [u8] {
         Wanted::Item => type_texts::ITEMS,
         Wanted::Result => type_texts::METHOD,
         Wanted::MainResult => type_texts::MAIN,
+        Wanted::EachParameter => type_texts::EACH_PARAMETER,
+        Wanted::EachField => type_texts::EACH_FIELD,
         Wanted::NoResult => type_texts::METHOD_GIVES_NONE,
         Wanted::NoMainResult => type_texts::MAIN_GIVES_NONE,
         Wanted::Variable => type_texts::VARIABLE,
+        Wanted::VariableType => type_texts::VARIABLE_TYPE,
         Wanted::SomeVariable => type_texts::SOME_VARIABLE,
         Wanted::SomeField => type_texts::SOME_FIELD,
     }
@@ -60,7 +64,11 @@ fn wanted_text(what: Wanted) -> &'static [u8] {
 /// What is said behind that of a type that is written, and nothing where none is.
 fn written_text(what: Wanted) -> &'static [u8] {
     match what {
-        Wanted::Parameter | Wanted::Field => type_texts::IS_OF_TYPE,
+        Wanted::Parameter | Wanted::Field | Wanted::EachField | Wanted::VariableType => {
+            type_texts::IS_OF_TYPE
+        }
+        Wanted::EachParameter => type_texts::OF_TYPE_HERE,
+        Wanted::LeftType => type_texts::AS_LEFT_IS,
         Wanted::Item => type_texts::ARE_OF_TYPE,
         Wanted::Result | Wanted::MainResult => type_texts::PROMISES,
         _ => b"",
@@ -107,7 +115,7 @@ pub fn say_wrong_type(
     found: &TypeForm,
 ) -> Result<(), Memory> {
     let want = wanted_at(pieces, at);
-    let written = written_word(alloc, pieces, written_at(pieces, &want))?;
+    let written = written_word(alloc, pieces, want.written)?;
     add_found(alloc, page, pieces, pieces.index_of(at), found)?;
     say_wanted(page, pieces, &want, written.as_slice(), found)?;
     page.sentence(mend(want.what, written.as_slice(), found), b"", b"")

@@ -6,6 +6,8 @@ mod colours;
 #[cfg(test)]
 mod faults;
 #[cfg(test)]
+mod known;
+#[cfg(test)]
 mod links;
 #[cfg(test)]
 mod names;

@@ -117,16 +117,24 @@ fn form_of(alloc: Global, found: Found) -> Result<TypeForm, Memory> {
     }
 }
 
-/// Whether this is said below the caret at the place of a word, where this type is found.
-pub fn tells(
-    alloc: Global,
-    source: &str,
-    word: &str,
-    found: Found,
-    said: &str,
-) -> Result<bool, Memory> {
+/// A program, a word in it, the type that is found at that word's place, and what is said below the caret there.
+pub type Row = (&'static str, &'static str, Found, &'static str);
+
+/// Whether that is said.
+fn is_said(alloc: Global, row: Row) -> Result<bool, Memory> {
+    let (source, word, found, said) = row;
     let error = TypeError::WrongType(place(source, word), form_of(alloc, found)?);
     let text = explain(alloc, source.as_bytes(), &Trouble::Untyped(&error))?;
     let expected = format!(in alloc; "^\n{said}\n")?;
     Ok(text.as_slice().ends_with(expected.as_bytes()))
+}
+
+/// The first of these programs of which another thing is said.
+pub fn first_unlike(alloc: Global, rows: &[Row]) -> Result<Option<&'static str>, Memory> {
+    for row in rows {
+        if !is_said(alloc, *row)? {
+            return Ok(Some(row.0));
+        }
+    }
+    Ok(None)
 }

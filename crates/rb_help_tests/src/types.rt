@@ -15,8 +15,8 @@ fn plain_types_are_spelled(rt: HostRuntime) -> Result<(), Fail> {
             TypeError::WrongType(place(source, "n)"), TypeForm::Int),
             "1 | main { val n = 1; print(\"n\" + n); }
   |                               ^
-`n` is of type `Int`, and `+` wants the type of its left operand here.
-If the left operand is a Text, `str` makes one of this.
+`n` is of type `Int`, and `+` wants a value of type `Text`, as its left operand is.
+`str` makes a Text of it.
 "
         )?
     );
@@ -28,8 +28,8 @@ If the left operand is a Text, `str` makes one of this.
             TypeError::WrongType(place(source, "<"), TypeForm::Bool),
             "1 | main { print(\"n\" + (1 < 2)); }
   |                       ^
-This is of type `Bool`, and `+` wants the type of its left operand here.
-If the left operand is a Text, `str` makes one of this.
+This is of type `Bool`, and `+` wants a value of type `Text`, as its left operand is.
+`str` makes a Text of it.
 "
         )?
     );
