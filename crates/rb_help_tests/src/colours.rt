@@ -1,35 +1,33 @@
 // What is told in colours.
 
+use crate::said::same;
 use rb_help::coloured;
-use rb_trees::Memory;
 use std::alloc::Global;
 use std::test::Fail;
 
-/// Whether a text is this in colours.
-fn shows(alloc: Global, text: &str, expected: &str) -> Result<bool, Memory> {
+/// Fails unless a text is this in colours.
+fn shows(alloc: Global, text: &str, expected: &str) -> Result<(), Fail> {
     let shown = coloured(alloc, text.as_bytes())?;
-    Ok(shown.as_slice() == expected.as_bytes())
+    same(shown.as_slice(), expected)
 }
 
 #[test]
 fn margins_carets_and_the_first_sentence_are_painted(rt: HostRuntime) -> Result<(), Fail> {
     let alloc = rt.alloc();
-    assert!(rt;
-        shows(
-            alloc,
-            " 9 | val a = b;\n   | ^ here\n12 | a || b\n   |   ^\nIt is wrong.\nMend it.\n",
-            "\x1b[1;34m 9 |\x1b[0m val a = b;\n\x1b[1;34m   |\x1b[0m\x1b[1;31m ^ here\x1b[0m\n\
-\x1b[1;34m12 |\x1b[0m a || b\n\x1b[1;34m   |\x1b[0m\x1b[1;31m   ^\x1b[0m\n\x1b[1mIt is wrong.\x1b[0m\nMend it.\n"
-        )?
-    );
+    shows(
+        alloc,
+        " 9 | val a = b;\n   | ^ here\n12 | a || b\n   |   ^\nIt is wrong.\nMend it.\n",
+        "\x1b[1;34m 9 |\x1b[0m val a = b;\n\x1b[1;34m   |\x1b[0m\x1b[1;31m ^ here\x1b[0m\n\
+\x1b[1;34m12 |\x1b[0m a || b\n\x1b[1;34m   |\x1b[0m\x1b[1;31m   ^\x1b[0m\n\x1b[1mIt is wrong.\x1b[0m\nMend it.\n",
+    )?;
     Ok(())
 }
 
 #[test]
 fn texts_may_end_anywhere(rt: HostRuntime) -> Result<(), Fail> {
     let alloc = rt.alloc();
-    assert!(rt; shows(alloc, "", "")?);
-    assert!(rt; shows(alloc, "32 calls", "\x1b[1m32 calls\x1b[0m")?);
-    assert!(rt; shows(alloc, "7 |", "\x1b[1;34m7 |\x1b[0m")?);
+    shows(alloc, "", "")?;
+    shows(alloc, "32 calls", "\x1b[1m32 calls\x1b[0m")?;
+    shows(alloc, "7 |", "\x1b[1;34m7 |\x1b[0m")?;
     Ok(())
 }

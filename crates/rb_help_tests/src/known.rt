@@ -1,25 +1,21 @@
 // Which type `+`, `==` and `!=` are said to want on their right: that of their left operand, where the text tells it.
 
-use crate::said::{Found, first_unlike};
-use rb_trees::Memory;
+use crate::said::{Found, all_told};
 use std::alloc::Global;
 use std::test::Fail;
 
-/// The first of these programs in which another thing is said of a word, where this type is found.
-fn first_other(
+/// Fails unless in each of these programs this is said of a word, where this type is found.
+fn all_say(
     alloc: Global,
     programs: &[&'static str],
     word: &'static str,
     found: Found,
     said: &'static str,
-) -> Result<Option<&'static str>, Memory> {
+) -> Result<(), Fail> {
     for program in programs {
-        let unlike = first_unlike(alloc, &[(*program, word, found, said)])?;
-        if unlike.is_some() {
-            return Ok(unlike);
-        }
+        all_told(alloc, &[(*program, word, found, said)])?;
     }
-    Ok(None)
+    Ok(())
 }
 
 /// The left operand is a Text, and 77 stands on the right.
@@ -43,11 +39,7 @@ fn texts_on_the_left_are_known(rt: HostRuntime) -> Result<(), Fail> {
     let said =
         "This is of type `Int`, and `+` wants a value of type `Text`, as its left operand is.\n\
 `str` makes a Text of it.";
-    assert_eq!(rt;
-        first_other(rt.alloc(), &TEXTS, "77", Found::Int, said)?,
-        None
-    );
-    Ok(())
+    all_say(rt.alloc(), &TEXTS, "77", Found::Int, said)
 }
 
 /// The left operand is an Int, and a text stands on the right.
@@ -67,11 +59,7 @@ fn numbers_on_the_left_are_known(rt: HostRuntime) -> Result<(), Fail> {
     let said =
         "This is of type `Text`, and `==` wants a value of type `Int`, as its left operand is.\n\
 `str` makes a Text of the left operand.";
-    assert_eq!(rt;
-        first_other(rt.alloc(), &INTS, "\"a", Found::Text, said)?,
-        None
-    );
-    Ok(())
+    all_say(rt.alloc(), &INTS, "\"a", Found::Text, said)
 }
 
 /// The left operand is a Bool, and 77 stands on the right.
@@ -89,11 +77,7 @@ fn conditions_on_the_left_are_known(rt: HostRuntime) -> Result<(), Fail> {
     let said =
         "This is of type `Int`, and `!=` wants a value of type `Bool`, as its left operand is.\n\
 Compare it, as by `> 0`.";
-    assert_eq!(rt;
-        first_other(rt.alloc(), &BOOLS, "77", Found::Int, said)?,
-        None
-    );
-    Ok(())
+    all_say(rt.alloc(), &BOOLS, "77", Found::Int, said)
 }
 
 #[test]
@@ -105,11 +89,7 @@ A List is made by `List<T>(..)`, with the type of its items in place of `T`.";
         "main { print(List<Bool>(true) + 77); }",
         "main { val l = List<List<Bool>>(); for (x in l) { print(x + List<Bool>() + 77); } }",
     ];
-    assert_eq!(rt;
-        first_other(rt.alloc(), &programs, "77", Found::Int, said)?,
-        None
-    );
-    Ok(())
+    all_say(rt.alloc(), &programs, "77", Found::Int, said)
 }
 
 /// The text doesn't tell what is on the left.
@@ -125,16 +105,9 @@ const UNKNOWN: [&str; 5] = [
 fn what_is_not_known_on_the_left_is_not_said(rt: HostRuntime) -> Result<(), Fail> {
     let said = "This is of type `Int`, and `+` wants the type of its left operand here.\n\
 If the left operand is a Text, `str` makes one of this.";
-    assert_eq!(rt;
-        first_other(rt.alloc(), &UNKNOWN, "77", Found::Int, said)?,
-        None
-    );
+    all_say(rt.alloc(), &UNKNOWN, "77", Found::Int, said)?;
     let said = "This is of type `Text`, and `!=` wants the type of its left operand here.\n\
 If the left operand is an Int or a Bool, `str` makes a Text of that.";
     let programs = ["main { print(q != \"a\"); }"];
-    assert_eq!(rt;
-        first_other(rt.alloc(), &programs, "\"a", Found::Text, said)?,
-        None
-    );
-    Ok(())
+    all_say(rt.alloc(), &programs, "\"a", Found::Text, said)
 }

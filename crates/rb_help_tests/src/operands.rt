@@ -1,6 +1,6 @@
 // What operators and members are said to want where another type is found.
 
-use crate::said::{Found, Row, first_unlike};
+use crate::said::{Found, Row, all_told};
 use std::test::Fail;
 
 /// One operand of each kind of operator, and what is in `len`, `str` and `[..]`.
@@ -100,8 +100,7 @@ Take an item of it by `[..]`, the number of its items by `len`, or go over it by
 
 #[test]
 fn operators_say_what_they_take(rt: HostRuntime) -> Result<(), Fail> {
-    assert_eq!(rt; first_unlike(rt.alloc(), &OPERATORS)?, None);
-    Ok(())
+    all_told(rt.alloc(), &OPERATORS)
 }
 
 /// Operands with several operators around them.
@@ -177,8 +176,7 @@ Take a field of it, or call a method that gives what is wanted.",
 
 #[test]
 fn the_tighter_operator_counts(rt: HostRuntime) -> Result<(), Fail> {
-    assert_eq!(rt; first_unlike(rt.alloc(), &LEVELS)?, None);
-    Ok(())
+    all_told(rt.alloc(), &LEVELS)
 }
 
 /// What stands before a dot.
@@ -215,6 +213,5 @@ Only objects have fields and methods.",
 
 #[test]
 fn receivers_are_objects(rt: HostRuntime) -> Result<(), Fail> {
-    assert_eq!(rt; first_unlike(rt.alloc(), &RECEIVERS)?, None);
-    Ok(())
+    all_told(rt.alloc(), &RECEIVERS)
 }

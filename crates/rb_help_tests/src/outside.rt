@@ -8,49 +8,41 @@ use std::test::Fail;
 fn files_are_named(rt: HostRuntime) -> Result<(), Fail> {
     let alloc = rt.alloc();
     let trouble = Trouble::FileFault(b"none.rbi");
-    assert!(rt;
-        says(
-            alloc,
-            "main { }",
-            &trouble,
-            "The file `none.rbi` can't be read.
+    says(
+        alloc,
+        "main { }",
+        &trouble,
+        "The file `none.rbi` can't be read.
 See whether its name is right, and whether it may be read.
-"
-        )?
-    );
+",
+    )?;
     let trouble = Trouble::FileTooLong(b"long.rbi");
-    assert!(rt;
-        says(
-            alloc,
-            "main { }",
-            &trouble,
-            "The file `long.rbi` has more than 1048576 bytes.
+    says(
+        alloc,
+        "main { }",
+        &trouble,
+        "The file `long.rbi` has more than 1048576 bytes.
 Shorten it.
-"
-        )?
-    );
+",
+    )?;
     let trouble = Trouble::OutputFault;
-    assert!(rt;
-        says(
-            alloc,
-            "main { }",
-            &trouble,
-            "The output can't be written.
+    says(
+        alloc,
+        "main { }",
+        &trouble,
+        "The output can't be written.
 See whether what reads it still runs, and whether the disk is full.
-"
-        )?
-    );
+",
+    )?;
     let trouble = Trouble::Memory;
-    assert!(rt;
-        says(
-            alloc,
-            "main { }",
-            &trouble,
-            "No memory was left.
+    says(
+        alloc,
+        "main { }",
+        &trouble,
+        "No memory was left.
 Give the program more, or less to do.
-"
-        )?
-    );
+",
+    )?;
     Ok(())
 }
 
@@ -58,12 +50,11 @@ Give the program more, or less to do.
 fn the_forms_of_the_commands_are_told(rt: HostRuntime) -> Result<(), Fail> {
     let alloc = rt.alloc();
     let trouble = Trouble::Words;
-    assert!(rt;
-        says(
-            alloc,
-            "",
-            &trouble,
-            "The words are those of no command.
+    says(
+        alloc,
+        "",
+        &trouble,
+        "The words are those of no command.
 The commands, where P is the file of a program and S that of a service:
   check P                tell whether the program P is accepted
   split P                show how each batch of P is divided
@@ -75,8 +66,7 @@ The commands, where P is the file of a program and S that of a service:
   child S                serve S to one client over standard input and output
 FUEL is how many calls and turns of loops the program may make, 1000000 where it is left out.
 ADDRESS is a host and a port, such as 127.0.0.1:4000, and COUNT is 1 to 1000000.
-"
-        )?
-    );
+",
+    )?;
     Ok(())
 }

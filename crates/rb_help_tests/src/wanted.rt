@@ -1,6 +1,6 @@
 // What statements, bodies, methods, classes and variables are said to want where another type is found.
 
-use crate::said::{Found, Row, first_unlike};
+use crate::said::{Found, Row, all_told};
 use std::test::Fail;
 
 /// What statements take.
@@ -54,8 +54,7 @@ Let the method give one, or write the call as a statement of its own.",
 
 #[test]
 fn statements_say_what_they_take(rt: HostRuntime) -> Result<(), Fail> {
-    assert_eq!(rt; first_unlike(rt.alloc(), &STATEMENTS)?, None);
-    Ok(())
+    all_told(rt.alloc(), &STATEMENTS)
 }
 
 /// What is returned.
@@ -119,8 +118,7 @@ Write the call as a statement of its own.",
 
 #[test]
 fn returns_say_what_is_promised(rt: HostRuntime) -> Result<(), Fail> {
-    assert_eq!(rt; first_unlike(rt.alloc(), &RETURNS)?, None);
-    Ok(())
+    all_told(rt.alloc(), &RETURNS)
 }
 
 /// Arguments of methods, values of fields and items of lists.
@@ -213,8 +211,7 @@ A List is made by `List<T>(..)`, with the type of its items in place of `T`.",
 
 #[test]
 fn arguments_say_what_is_declared(rt: HostRuntime) -> Result<(), Fail> {
-    assert_eq!(rt; first_unlike(rt.alloc(), &ARGUMENTS)?, None);
-    Ok(())
+    all_told(rt.alloc(), &ARGUMENTS)
 }
 
 /// What is assigned.
@@ -278,8 +275,7 @@ Where a Text is wanted, `str` makes one of it; where a Bool is, compare it, as b
 
 #[test]
 fn what_is_assigned_says_where_it_goes(rt: HostRuntime) -> Result<(), Fail> {
-    assert_eq!(rt; first_unlike(rt.alloc(), &ASSIGNED)?, None);
-    Ok(())
+    all_told(rt.alloc(), &ASSIGNED)
 }
 
 /// Where the text doesn't tell what is wanted.
@@ -333,6 +329,5 @@ Where a Text is wanted, `str` makes one of it; where a Bool is, compare it, as b
 
 #[test]
 fn what_is_not_known_is_not_said(rt: HostRuntime) -> Result<(), Fail> {
-    assert_eq!(rt; first_unlike(rt.alloc(), &UNKNOWN)?, None);
-    Ok(())
+    all_told(rt.alloc(), &UNKNOWN)
 }
