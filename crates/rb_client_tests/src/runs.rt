@@ -18,6 +18,7 @@ use rb_split::split_all;
 use rb_trees::{Seq, Split};
 use rb_types::{Typed, check};
 use std::alloc::Global;
+use std::fmt::Debug;
 use std::test::Fail;
 
 /// The interfaces of a directory of files, which are the first two lines of each program.
@@ -127,4 +128,31 @@ pub fn replied_forest(alloc: Global, main: &str, payload: &[u8]) -> Result<Strin
     bytes.extend_from_slice(&(payload.len() as u64).to_be_bytes())?;
     bytes.extend_from_slice(payload)?;
     replied(alloc, main, bytes.as_slice())
+}
+
+/// What a link replies, and what is answered to it.
+pub type Row<'a> = (&'a [u8], &'a str);
+
+/// Fails where the answer to a row isn't the one that is wanted.
+pub fn same_answer<D: Debug>(row: &D, answer: &str, want: &str) -> Result<(), Fail> {
+    if answer == want {
+        return Ok(());
+    }
+    Err(Fail::new(format_args!("{answer:?} in place of {want:?}, to {row:?}")))
+}
+
+/// Fails at the first reply to which `main` answers otherwise.
+pub fn expect_replies(alloc: Global, main: &str, rows: &[Row<'_>]) -> Result<(), Fail> {
+    for (bytes, want) in rows {
+        same_answer(bytes, replied(alloc, main, bytes)?.as_str(), want)?;
+    }
+    Ok(())
+}
+
+/// Fails at the first forest, or what else has these bytes, to which `main` answers otherwise.
+pub fn expect_forests(alloc: Global, main: &str, rows: &[Row<'_>]) -> Result<(), Fail> {
+    for (bytes, want) in rows {
+        same_answer(bytes, replied_forest(alloc, main, bytes)?.as_str(), want)?;
+    }
+    Ok(())
 }

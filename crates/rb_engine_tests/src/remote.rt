@@ -1,6 +1,7 @@
 // Remote calls: the kinds of results, the order of the checks, and where faults stand.
 
 use crate::service::{Call, answered};
+use std::alloc::Global;
 use std::test::Fail;
 
 /// Methods that take nothing, and of which of the kinds from 0 to 9 their results are.
@@ -18,71 +19,92 @@ static KINDS: [(&[u8], &[u8]); 11] = [
     (b"mixed", b".........."),
 ];
 
+/// Fails where a call isn't answered by this code.
+fn expect_code(alloc: Global, call: &Call<'_>, want: u8) -> Result<(), Fail> {
+    let code = answered(alloc, call)?;
+    if code == want {
+        return Ok(());
+    }
+    let method = str::from_utf8(call.method)?;
+    Err(Fail::new(format_args!(
+        "code {code} in place of {want}, at {method} with {:?}, kind {}",
+        call.arguments, call.kind
+    )))
+}
+
+/// Fails at the first kind that a method's result is of and shouldn't be, or the other way round.
+fn expect_kinds(alloc: Global, method: &[u8], kinds: &[u8]) -> Result<(), Fail> {
+    for kind in 0..10u8 {
+        let call = Call {
+            kind,
+            ..Call::of(method)
+        };
+        let fits = kinds.get(usize::from(kind)) == Some(&b'y');
+        expect_code(alloc, &call, if fits { 0 } else { 11 })?;
+    }
+    Ok(())
+}
+
 #[test]
 fn results_are_of_one_kind(rt: HostRuntime) -> Result<(), Fail> {
     for (method, kinds) in KINDS.iter() {
-        for kind in 0..10u8 {
-            let call = Call {
-                kind,
-                ..Call::of(method)
-            };
-            let code = answered(rt.alloc(), &call)?;
-            let fits = kinds.get(usize::from(kind)) == Some(&b'y');
-            assert_eq!(rt; code, if fits { 0 } else { 11 });
-        }
+        expect_kinds(rt.alloc(), method, kinds)?;
     }
     Ok(())
 }
+
+/// Calls, each with the code of the first check that fails: the receiver, the method, the arguments, the fuel, the code.
+static CHECKS: [(Option<u32>, &[u8], &[u8], u64, u8); 11] = [
+    (None, b"nosuch", b"i", 0, 12),
+    (Some(9), b"add", b"t", 0, 9),
+    (Some(0), b"nosuch", b"t", 0, 9),
+    (Some(0), b"add", b"t", 0, 10),
+    (Some(0), b"add", b"", 0, 10),
+    (Some(0), b"add", b"ii", 0, 10),
+    (Some(0), b"add", b"i", 0, 7),
+    (Some(0), b"add", b"i", 1, 11),
+    (Some(0), b"fails", b"", 9, 1),
+    (Some(0), b"deep", b"", 99, 6),
+    (Some(0), b"loops", b"", 99, 7),
+];
 
 #[test]
 fn the_first_check_that_fails_is_told(rt: HostRuntime) -> Result<(), Fail> {
-    let alloc = rt.alloc();
-    // the receiver, the method, the arguments, the fuel, the body, the kind
-    for (object, method, arguments, fuel, code) in [
-        (None, b"nosuch".as_slice(), b"i".as_slice(), 0u64, 12u8),
-        (Some(9u32), b"add", b"t", 0, 9),
-        (Some(0), b"nosuch", b"t", 0, 9),
-        (Some(0), b"add", b"t", 0, 10),
-        (Some(0), b"add", b"", 0, 10),
-        (Some(0), b"add", b"ii", 0, 10),
-        (Some(0), b"add", b"i", 0, 7),
-        (Some(0), b"add", b"i", 1, 11),
-        (Some(0), b"fails", b"", 9, 1),
-        (Some(0), b"deep", b"", 99, 6),
-        (Some(0), b"loops", b"", 99, 7),
-    ] {
+    for (object, method, arguments, fuel, code) in CHECKS.iter() {
         let call = Call {
-            object,
+            object: *object,
             arguments,
-            fuel,
+            fuel: *fuel,
             ..Call::of(method)
         };
-        assert_eq!(rt; answered(alloc, &call)?, code);
+        expect_code(rt.alloc(), &call, *code)?;
     }
     Ok(())
 }
 
+/// Methods and arguments, each with the code of the answer.
+static ARGUMENTS: [(&[u8], &[u8], u8); 10] = [
+    (b"add", b"i", 0),
+    (b"not", b"b", 0),
+    (b"say", b"t", 0),
+    (b"same", b"o", 0),
+    (b"same", b"p", 10),
+    (b"same", b"q", 10),
+    (b"same", b"i", 10),
+    (b"count", b"r", 10),
+    (b"pick", b"ibto", 0),
+    (b"pick", b"ibot", 10),
+];
+
 #[test]
 fn arguments_are_taken_by_their_types(rt: HostRuntime) -> Result<(), Fail> {
-    let alloc = rt.alloc();
-    for (method, arguments, code) in [
-        (b"add".as_slice(), b"i".as_slice(), 0u8),
-        (b"not", b"b", 0),
-        (b"say", b"t", 0),
-        (b"same", b"o", 0),
-        (b"same", b"p", 10),
-        (b"same", b"q", 10),
-        (b"same", b"i", 10),
-        (b"count", b"r", 10),
-        (b"pick", b"ibto", 0),
-        (b"pick", b"ibot", 10),
-    ] {
+    for (method, arguments, code) in ARGUMENTS.iter() {
         let call = Call {
             arguments,
-            kind: if code == 0 { kind_of(method) } else { 0 },
+            kind: if *code == 0 { kind_of(method) } else { 0 },
             ..Call::of(method)
         };
-        assert_eq!(rt; answered(alloc, &call)?, code);
+        expect_code(rt.alloc(), &call, *code)?;
     }
     Ok(())
 }

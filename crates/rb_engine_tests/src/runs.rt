@@ -47,12 +47,22 @@ fn run(
     }
 }
 
-/// What a program's `main` asks.
-pub fn asked(alloc: Global, text: &str, fuel: u64) -> Result<Record, Fail> {
+/// Fails where a program's `main`, with so much fuel, asks other lines than are wanted.
+pub fn expect_asked(alloc: Global, text: &str, fuel: u64, want: &[u8]) -> Result<(), Fail> {
     let program = parse_program(alloc, text.as_bytes())?;
     let mut record = Record::make(alloc);
     match run(alloc, &program, fuel, &mut record) {
-        Ok(()) => Ok(record),
+        Ok(()) => same_lines(record.lines(), want),
         Err(_) => Err(Memory)?,
     }
+}
+
+/// Fails where lines aren't those that are wanted.
+fn same_lines(lines: &[u8], want: &[u8]) -> Result<(), Fail> {
+    if lines == want {
+        return Ok(());
+    }
+    let lines = str::from_utf8(lines)?;
+    let want = str::from_utf8(want)?;
+    Err(Fail::new(format_args!("{lines:?} in place of {want:?}")))
 }

@@ -1,5 +1,6 @@
 // A copy of a part of a program that was read is printed as the part is.
 
+use crate::texts::expect;
 use rb_parse::parse_program;
 use rb_trees::{Word, copy_type, print_program};
 use std::alloc::Global;
@@ -14,8 +15,7 @@ fn printed_by_copy(alloc: Global, source: &[u8]) -> Result<Word, Fail> {
 
 #[test]
 fn a_copied_type_is_the_same(rt: HostRuntime) -> Result<(), Fail> {
-    let source = b"main: List<Rows<Item>> {\n}\n";
-    let text = printed_by_copy(rt.alloc(), source)?;
-    assert_eq!(rt; text.as_slice(), source.as_slice());
-    Ok(())
+    let source = "main: List<Rows<Item>> {\n}\n";
+    let text = printed_by_copy(rt.alloc(), source.as_bytes())?;
+    expect(source, str::from_utf8(text.as_slice())?, source)
 }

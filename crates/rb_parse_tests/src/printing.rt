@@ -1,10 +1,11 @@
 // Texts that are read, and how they are printed.
 
-use crate::texts::printed;
+use crate::texts::{printed, printed_is};
+use std::alloc::Global;
 use std::test::Fail;
 
 /// Texts that are read: each form of the grammar once, and two that print what they compute.
-static READ: [&str; 10] = [
+const READ: &[&str] = &[
     "main{}",
     "main: Int { return 1; }",
     "interface I { fun a(); fun b(x: Int, y: List<Rows<I>>): Text; } main { }",
@@ -19,7 +20,7 @@ static READ: [&str; 10] = [
 
 /// Expressions and how they are printed: operators bind by their levels and group to the left, and parentheses stand
 /// where they are needed alone.
-static EXPRESSIONS: [(&str, &str); 14] = [
+const EXPRESSIONS: &[(&str, &str)] = &[
     ("(1 - 2) - 3", "1 - 2 - 3"),
     ("1 - (2 - 3)", "1 - (2 - 3)"),
     ("1 + (2 * 3)", "1 + 2 * 3"),
@@ -78,31 +79,36 @@ main: Text {
 }
 ";
 
+/// Fails unless each text is printed as it is printed once more.
+fn prints_stay(alloc: Global, sources: &[&str]) -> Result<(), Fail> {
+    for source in sources {
+        let once = printed(alloc, source.as_bytes())?;
+        printed_is(alloc, str::from_utf8(once.as_slice())?, once.as_slice())?;
+    }
+    Ok(())
+}
+
 #[test]
 fn what_is_printed_is_read_and_printed_alike(rt: HostRuntime) -> Result<(), Fail> {
-    for source in READ {
-        let once = printed(rt.alloc(), source.as_bytes())?;
-        let again = printed(rt.alloc(), once.as_slice())?;
-        assert_eq!(rt; again.as_slice(), once.as_slice(), "{source}");
+    prints_stay(rt.alloc(), READ)
+}
+
+/// Fails unless each expression is printed as the one beside it.
+fn expressions_are(alloc: Global, rows: &[(&str, &str)]) -> Result<(), Fail> {
+    for (expr, wanted) in rows {
+        let source = format!(in alloc; "main {{ print({expr}); }}")?;
+        let wanted = format!(in alloc; "main {{\n  print({wanted});\n}}\n")?;
+        printed_is(alloc, source.as_str(), wanted.as_bytes())?;
     }
     Ok(())
 }
 
 #[test]
 fn operators_bind_by_their_levels_and_group_to_the_left(rt: HostRuntime) -> Result<(), Fail> {
-    let alloc = rt.alloc();
-    for (expr, wanted) in EXPRESSIONS {
-        let source = format!(in alloc; "main {{ print({expr}); }}")?;
-        let wanted = format!(in alloc; "main {{\n  print({wanted});\n}}\n")?;
-        let text = printed(alloc, source.as_bytes())?;
-        assert_eq!(rt; text.as_slice(), wanted.as_bytes());
-    }
-    Ok(())
+    expressions_are(rt.alloc(), EXPRESSIONS)
 }
 
 #[test]
 fn a_text_as_it_is_printed_is_printed_alike(rt: HostRuntime) -> Result<(), Fail> {
-    let text = printed(rt.alloc(), WHOLE.as_bytes())?;
-    assert_eq!(rt; text.as_slice(), WHOLE.as_bytes());
-    Ok(())
+    printed_is(rt.alloc(), WHOLE, WHOLE.as_bytes())
 }

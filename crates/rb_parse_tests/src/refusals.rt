@@ -1,9 +1,10 @@
 // Texts that aren't read: each with the first violation, and its place.
 
-use crate::texts::refusal;
+use crate::texts::refusal_is;
+use std::alloc::Global;
 use std::test::Fail;
 
-static REFUSED: [(&str, &str); 16] = [
+const REFUSED: &[(&str, &str)] = &[
     ("", "the token at offset 0 isn't expected there"),
     ("main", "the token at offset 4 isn't expected there"),
     ("main {", "the token at offset 6 isn't expected there"),
@@ -55,11 +56,15 @@ static REFUSED: [(&str, &str); 16] = [
     ),
 ];
 
-#[test]
-fn what_the_grammar_lacks_is_refused(rt: HostRuntime) -> Result<(), Fail> {
-    for (source, wanted) in REFUSED {
-        let found = refusal(rt.alloc(), source)?;
-        assert_eq!(rt; found.as_str(), wanted, "{source}");
+/// Fails unless each text isn't read for the reason beside it.
+fn refusals_are(alloc: Global, rows: &[(&str, &str)]) -> Result<(), Fail> {
+    for (source, wanted) in rows {
+        refusal_is(alloc, source, wanted)?;
     }
     Ok(())
+}
+
+#[test]
+fn what_the_grammar_lacks_is_refused(rt: HostRuntime) -> Result<(), Fail> {
+    refusals_are(rt.alloc(), REFUSED)
 }

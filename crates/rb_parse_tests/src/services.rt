@@ -1,14 +1,14 @@
 // Texts of services: each form of a literal, what isn't read, and how deep lists nest.
 
 use crate::nesting::repeated;
-use crate::texts::service_refusal;
+use crate::texts::{expect, service_refusal_is};
 use rb_parse::parse_service;
 use rb_trees::{Literal, ServiceText};
 use std::alloc::Global;
 use std::test::Fail;
 
 /// Each form of a literal, with what it is read as; of a list how many items it has.
-static LITERALS: [(&str, &str); 14] = [
+const LITERALS: &[(&str, &str)] = &[
     ("0", "Int 0"),
     ("-1", "Int -1"),
     ("- 007", "Int -7"),
@@ -26,7 +26,7 @@ static LITERALS: [(&str, &str); 14] = [
 ];
 
 /// Texts that aren't read: each with the first violation, and its place.
-static REFUSED: [(&str, &str); 30] = [
+const REFUSED: &[(&str, &str)] = &[
     ("", "the token at offset 0 isn't expected there"),
     (
         "object 1: A { }",
@@ -149,68 +149,91 @@ fn first_literal(service: &ServiceText) -> Option<&Literal> {
     Some(&field.1)
 }
 
-#[test]
-fn each_form_of_a_literal_is_read(rt: HostRuntime) -> Result<(), Fail> {
-    let alloc = rt.alloc();
-    for (literal, wanted) in LITERALS {
+/// What the first field of a service's text is, as a text.
+fn first_shown(alloc: Global, source: &str) -> Result<String, Fail> {
+    let service = parse_service(alloc, source.as_bytes())?;
+    match first_literal(&service) {
+        Some(found) => shown(alloc, found),
+        None => Err(Fail::new("no field")),
+    }
+}
+
+/// Fails unless each literal is read as what stands beside it.
+fn literals_are(alloc: Global, rows: &[(&str, &str)]) -> Result<(), Fail> {
+    for (literal, wanted) in rows {
         let source = format!(in alloc; "object 1: A {{ f = {literal}; }} root 1;")?;
-        let service = parse_service(alloc, source.as_bytes())?;
-        match first_literal(&service) {
-            Some(found) => {
-                let text = shown(alloc, found)?;
-                assert_eq!(rt; text.as_str(), wanted);
-            }
-            None => assert_eq!(rt; "no field", wanted),
-        }
+        expect(
+            literal,
+            first_shown(alloc, source.as_str())?.as_str(),
+            wanted,
+        )?;
     }
     Ok(())
+}
+
+#[test]
+fn each_form_of_a_literal_is_read(rt: HostRuntime) -> Result<(), Fail> {
+    literals_are(rt.alloc(), LITERALS)
+}
+
+/// How many classes and objects the text of a service has, and the number of its root.
+fn counts(alloc: Global, source: &str) -> Result<(usize, usize, u64), Fail> {
+    let service = parse_service(alloc, source.as_bytes())?;
+    Ok((service.classes.len(), service.objects.len(), service.root))
 }
 
 #[test]
 fn classes_objects_and_the_root_are_read(rt: HostRuntime) -> Result<(), Fail> {
     let source =
         "class A { v: Int; remote fun f(): Int { return -this.v; } } class B { } object 7: A { v = 1; } object 2: B { } root 7;";
-    let service = parse_service(rt.alloc(), source.as_bytes())?;
-    assert_eq!(rt; service.classes.len(), 2);
-    assert_eq!(rt; service.objects.len(), 2);
-    assert_eq!(rt; service.root, 7);
+    let counts = counts(rt.alloc(), source)?;
+    assert_eq!(rt; counts, (2, 2, 7));
+    Ok(())
+}
+
+/// Fails unless each text isn't read for the reason beside it.
+fn refusals_are(alloc: Global, rows: &[(&str, &str)]) -> Result<(), Fail> {
+    for (source, wanted) in rows {
+        service_refusal_is(alloc, source, wanted)?;
+    }
     Ok(())
 }
 
 #[test]
 fn what_the_grammar_of_services_lacks_is_refused(rt: HostRuntime) -> Result<(), Fail> {
-    for (source, wanted) in REFUSED {
-        let found = service_refusal(rt.alloc(), source)?;
-        assert_eq!(rt; found.as_str(), wanted, "{source}");
-    }
-    Ok(())
+    refusals_are(rt.alloc(), REFUSED)
+}
+
+/// Two lists that nest as deep as they may.
+fn two_lists(alloc: Global, head: &str) -> Result<String, Fail> {
+    let open = repeated(alloc, head, "[", 64, "")?;
+    let once = repeated(alloc, open.as_str(), "]", 64, "; g = ")?;
+    let again = repeated(alloc, once.as_str(), "[", 64, "-1")?;
+    repeated(alloc, again.as_str(), "]", 64, "; } root 1;")
 }
 
 #[test]
 fn lists_nest_as_deep_as_they_may(rt: HostRuntime) -> Result<(), Fail> {
     let alloc = rt.alloc();
     let head = "object 1: A { f = ";
-    let open = repeated(alloc, head, "[", 64, "")?;
-    let once = repeated(alloc, open.as_str(), "]", 64, "; g = ")?;
-    let again = repeated(alloc, once.as_str(), "[", 64, "-1")?;
-    let text = repeated(alloc, again.as_str(), "]", 64, "; } root 1;")?;
-    let found = service_refusal(alloc, text.as_str())?;
-    assert_eq!(rt; found.as_str(), "");
+    service_refusal_is(alloc, two_lists(alloc, head)?.as_str(), "")?;
     let deeper = repeated(alloc, head, "[", 65, "")?;
-    let found = service_refusal(alloc, deeper.as_str())?;
-    assert_eq!(rt; found.as_str(), "the token at offset 82 nests too deep");
-    Ok(())
+    service_refusal_is(
+        alloc,
+        deeper.as_str(),
+        "the token at offset 82 nests too deep",
+    )
 }
 
 #[test]
 fn signs_of_literals_are_no_marks_of_expressions(rt: HostRuntime) -> Result<(), Fail> {
     let alloc = rt.alloc();
-    let head = "object 1: A { f = [-1";
-    let text = repeated(alloc, head, ", -1", 200, "]; } root 1;")?;
-    let found = service_refusal(alloc, text.as_str())?;
-    assert_eq!(rt; found.as_str(), "");
+    let text = repeated(alloc, "object 1: A { f = [-1", ", -1", 200, "]; } root 1;")?;
+    service_refusal_is(alloc, text.as_str(), "")?;
     let text = repeated(alloc, "class A { fun f() { ", "-", 201, "")?;
-    let found = service_refusal(alloc, text.as_str())?;
-    assert_eq!(rt; found.as_str(), "the token at offset 220 nests too deep");
-    Ok(())
+    service_refusal_is(
+        alloc,
+        text.as_str(),
+        "the token at offset 220 nests too deep",
+    )
 }

@@ -12,7 +12,7 @@ pub(crate) fn printed(alloc: Global, source: &[u8]) -> Result<Word, Fail> {
 }
 
 /// Why a text isn't read; nothing where it is read.
-pub(crate) fn refusal(alloc: Global, source: &str) -> Result<String, Fail> {
+fn refusal(alloc: Global, source: &str) -> Result<String, Fail> {
     match parse_program(alloc, source.as_bytes()) {
         Ok(_) => Ok(String::new(alloc)),
         Err(error) => Ok(format!(in alloc; "{error}")?),
@@ -20,9 +20,37 @@ pub(crate) fn refusal(alloc: Global, source: &str) -> Result<String, Fail> {
 }
 
 /// Why a text isn't read as the text of a service; nothing where it is.
-pub(crate) fn service_refusal(alloc: Global, source: &str) -> Result<String, Fail> {
+fn service_refusal(alloc: Global, source: &str) -> Result<String, Fail> {
     match parse_service(alloc, source.as_bytes()) {
         Ok(_) => Ok(String::new(alloc)),
         Err(error) => Ok(format!(in alloc; "{error}")?),
     }
+}
+
+/// Fails unless what a text gives is what is wanted of it.
+pub(crate) fn expect(source: &str, found: &str, wanted: &str) -> Result<(), Fail> {
+    if found == wanted {
+        return Ok(());
+    }
+    Err(Fail::new(format_args!("{found:?} in place of {wanted:?}, of {source}")))
+}
+
+/// Fails unless a text isn't read for the reason that is wanted, or is where that is nothing.
+pub(crate) fn refusal_is(alloc: Global, source: &str, wanted: &str) -> Result<(), Fail> {
+    expect(source, refusal(alloc, source)?.as_str(), wanted)
+}
+
+/// The same of the text of a service.
+pub(crate) fn service_refusal_is(alloc: Global, source: &str, wanted: &str) -> Result<(), Fail> {
+    expect(source, service_refusal(alloc, source)?.as_str(), wanted)
+}
+
+/// Fails unless a text is printed as is wanted.
+pub(crate) fn printed_is(alloc: Global, source: &str, wanted: &[u8]) -> Result<(), Fail> {
+    let text = printed(alloc, source.as_bytes())?;
+    expect(
+        source,
+        str::from_utf8(text.as_slice())?,
+        str::from_utf8(wanted)?,
+    )
 }

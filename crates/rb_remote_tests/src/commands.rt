@@ -1,6 +1,6 @@
 // Commands over a Dial and a listener in memory, with what they answer and print.
 
-use crate::texts::FILES;
+use crate::texts::{CALL, CALL_REPLY, CALL_REQUEST, FILES, NUMBER};
 use rb_base::{Listen, MemoryFiles, MemorySink, SteadyListen};
 use rb_session::{AnyLink, Dial, FailingLink, MemoryDial, NullDial};
 use rb_top::top;
@@ -94,4 +94,44 @@ pub fn had_exchange(dial: &MemoryDial<FailingLink>, request: &[u8], reply: &[u8]
         [pair] => pair.request.as_slice() == request && pair.reply.as_slice() == reply,
         _ => false,
     }
+}
+
+/// Fails where a command shows something else than is wanted.
+pub fn same_shown(words: &str, shown: &str, want: &str) -> Result<(), Fail> {
+    if shown == want {
+        return Ok(());
+    }
+    Err(Fail::new(format_args!("{shown:?} in place of {want:?}, by {words}")))
+}
+
+/// Fails where a command shows something else than is wanted, or where the link that came back had another number of exchanges.
+pub fn same_called(
+    words: &str,
+    called: &(String, Option<usize>),
+    want: &str,
+    exchanges: Option<usize>,
+) -> Result<(), Fail> {
+    if called.1 != exchanges {
+        return Err(Fail::new(format_args!(
+            "{:?} exchanges in place of {exchanges:?}, by {words}",
+            called.1
+        )));
+    }
+    same_shown(words, called.0.as_str(), want)
+}
+
+/// Fails where a command, on the program of one call and its service, shows something else than is wanted, or where the link
+/// that came back had other exchanges than that of the call.
+pub fn expect_call(
+    alloc: Global,
+    words: &str,
+    dial: &mut MemoryDial<FailingLink>,
+    want: &str,
+) -> Result<(), Fail> {
+    let shown = answer_over(alloc, words, &[("p", CALL), ("s", NUMBER)], dial)?;
+    same_shown(words, shown.as_str(), want)?;
+    if had_exchange(dial, CALL_REQUEST, CALL_REPLY) {
+        return Ok(());
+    }
+    Err(Fail::new("the link that came back had other exchanges"))
 }

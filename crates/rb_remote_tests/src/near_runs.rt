@@ -1,7 +1,7 @@
 // `both P S` over a Dial in memory, which gets the link back.
 
-use crate::commands::{answer_on, answer_over, exchanges_back, had_exchange};
-use crate::texts::{CALL, CALL_REPLY, CALL_REQUEST, NUMBER};
+use crate::commands::{answer_on, answer_over, exchanges_back, expect_call, same_called};
+use crate::texts::{CALL, NUMBER};
 use rb_base::{MemorySink, SteadyListen};
 use rb_session::{FailingLink, MemoryDial};
 use rb_trees::Seq;
@@ -15,13 +15,9 @@ fn failing_dial(alloc: Global) -> Result<MemoryDial<FailingLink>, Fail> {
 
 #[test]
 fn the_link_in_memory_comes_back(rt: HostRuntime) -> Result<(), Fail> {
-    let alloc = rt.alloc();
-    let mut dial = failing_dial(alloc)?;
-    let texts = [("p", CALL), ("s", NUMBER)];
-    let shown = answer_over(alloc, "both p s", texts.as_slice(), &mut dial)?;
-    assert_eq!(rt; shown.as_str(), "0 7\ndone\nexchanges 1\nobject 0: D { }\n");
-    assert!(rt; had_exchange(&dial, CALL_REQUEST, CALL_REPLY));
-    Ok(())
+    let mut dial = failing_dial(rt.alloc())?;
+    let want = "0 7\ndone\nexchanges 1\nobject 0: D { }\n";
+    expect_call(rt.alloc(), "both p s", &mut dial, want)
 }
 
 /// How many exchanges the link had that a command took, if it took one.
@@ -32,13 +28,30 @@ fn exchanges_of(alloc: Global, words: &str) -> Result<Option<usize>, Fail> {
     Ok(exchanges_back(&dial))
 }
 
+/// Fails at the first command whose link had another number of exchanges, or that took one where none is wanted.
+fn expect_exchanges(alloc: Global, rows: &[(&str, Option<usize>)]) -> Result<(), Fail> {
+    for (words, want) in rows {
+        let found = exchanges_of(alloc, words)?;
+        if found != *want {
+            return Err(Fail::new(format_args!("{found:?} in place of {want:?}, by {words}")));
+        }
+    }
+    Ok(())
+}
+
 #[test]
 fn other_commands_take_no_link(rt: HostRuntime) -> Result<(), Fail> {
-    for words in ["unsplit p s", "check p", "split p", "both p q", "words"] {
-        assert_eq!(rt; exchanges_of(rt.alloc(), words)?, None);
-    }
-    assert_eq!(rt; exchanges_of(rt.alloc(), "both p s")?, Some(1));
-    Ok(())
+    expect_exchanges(
+        rt.alloc(),
+        &[
+            ("unsplit p s", None),
+            ("check p", None),
+            ("split p", None),
+            ("both p q", None),
+            ("words", None),
+            ("both p s", Some(1)),
+        ],
+    )
 }
 
 /// What `both p s` says, where the second write fails, and how many exchanges the link had that came back.
@@ -60,8 +73,5 @@ fn cut_off(alloc: Global) -> Result<(String, Option<usize>), Fail> {
 
 #[test]
 fn the_link_comes_back_after_a_write_fault(rt: HostRuntime) -> Result<(), Fail> {
-    let (shown, exchanges) = cut_off(rt.alloc())?;
-    assert_eq!(rt; shown.as_str(), "9 7\n");
-    assert_eq!(rt; exchanges, Some(1));
-    Ok(())
+    same_called("both p s", &cut_off(rt.alloc())?, "9 7\n", Some(1))
 }

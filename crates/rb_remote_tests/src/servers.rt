@@ -1,6 +1,6 @@
 // `serve ADDRESS S COUNT` and `child S`, over sessions in memory.
 
-use crate::commands::{answer_on, served_over};
+use crate::commands::{answer_on, same_shown, served_over};
 use crate::texts::{NOTHING, NOTHING_REPLY, NUMBER, SERVICE, TABLE};
 use rb_base::{Coming, MemoryListen, MemorySink};
 use rb_session::NullDial;
@@ -78,67 +78,108 @@ fn listen_at(
     )
 }
 
+/// Fails where a service shows something else to these sessions than is wanted, or where other bytes were written in each
+/// session that came back.
+fn expect_served(
+    alloc: Global,
+    words: &str,
+    service: &str,
+    listen: MemoryListen,
+    want: &str,
+    replies: &[&[u8]],
+) -> Result<(), Fail> {
+    let (shown, written) = served(alloc, words, service, listen)?;
+    if !same_replies(written.as_slice(), replies) {
+        return Err(Fail::new(format_args!(
+            "other sessions came back than {}, by {words}",
+            replies.len()
+        )));
+    }
+    same_shown(words, shown.as_str(), want)
+}
+
+/// Whether these bytes were written, in as many sessions.
+fn same_replies(written: &[Seq<u8>], replies: &[&[u8]]) -> bool {
+    written.len() == replies.len()
+        && written
+            .iter()
+            .zip(replies)
+            .all(|(one, other)| one.as_slice() == *other)
+}
+
 #[test]
 fn sessions_are_served_one_after_the_other(rt: HostRuntime) -> Result<(), Fail> {
     let alloc = rt.alloc();
-    let listen = listen_at(alloc, b"a", &[NOTHING, &NOTHING[..5]], &[])?;
-    let (shown, written) = served(alloc, "serve a s 3", SERVICE, listen)?;
     let want = format!(in alloc; "0 session 1 requests 1 end\nsession 2 requests 0 cut\n{TABLE}")?;
-    assert_eq!(rt; shown, want);
-    assert_eq!(rt; written.len(), 2);
-    assert!(rt;
-        written
-            .get(0)
-            .is_some_and(|it| it.as_slice() == NOTHING_REPLY)
-    );
-    assert!(rt; written.get(1).is_some_and(|it| it.is_empty()));
+    let listen = listen_at(alloc, b"a", &[NOTHING, &NOTHING[..5]], &[])?;
+    expect_served(
+        alloc,
+        "serve a s 3",
+        SERVICE,
+        listen,
+        want.as_str(),
+        &[NOTHING_REPLY, b""],
+    )
+}
+
+/// Fails at the first command that shows something else to three sessions than is wanted.
+fn expect_shown(alloc: Global, rows: &[(&str, &str)]) -> Result<(), Fail> {
+    for (words, want) in rows {
+        let listen = listen_at(alloc, b"a", &[NOTHING, b"", NOTHING], &[])?;
+        let (shown, _written) = served(alloc, words, NUMBER, listen)?;
+        same_shown(words, shown.as_str(), want)?;
+    }
     Ok(())
 }
 
 #[test]
 fn no_more_sessions_are_served_than_are_asked_for(rt: HostRuntime) -> Result<(), Fail> {
-    let alloc = rt.alloc();
-    for (words, want) in [
-        (
-            "serve a s 1",
-            "0 session 1 requests 1 end\nobject 0: D { }\n",
-        ),
-        (
-            "serve a s 0000000002",
-            "0 session 1 requests 1 end\nsession 2 requests 0 end\nobject 0: D { }\n",
-        ),
-        ("serve a s 0", "2 words not understood\n"),
-        ("serve a s 1000001", "2 words not understood\n"),
-        ("serve a s 00000000001", "2 words not understood\n"),
-        ("serve a s", "2 words not understood\n"),
-        ("serve a s x", "2 words not understood\n"),
-        ("serve a q 1", "3 file fault q\n"),
-        ("serve b s 1", "12 listen fault\n"),
-    ] {
-        let listen = listen_at(alloc, b"a", &[NOTHING, b"", NOTHING], &[])?;
-        let (shown, _written) = served(alloc, words, NUMBER, listen)?;
-        assert_eq!(rt; shown.as_str(), want);
+    expect_shown(
+        rt.alloc(),
+        &[
+            (
+                "serve a s 1",
+                "0 session 1 requests 1 end\nobject 0: D { }\n",
+            ),
+            (
+                "serve a s 0000000002",
+                "0 session 1 requests 1 end\nsession 2 requests 0 end\nobject 0: D { }\n",
+            ),
+            ("serve a s 0", "2 words not understood\n"),
+            ("serve a s 1000001", "2 words not understood\n"),
+            ("serve a s 00000000001", "2 words not understood\n"),
+            ("serve a s", "2 words not understood\n"),
+            ("serve a s x", "2 words not understood\n"),
+            ("serve a q 1", "3 file fault q\n"),
+            ("serve b s 1", "12 listen fault\n"),
+        ],
+    )
+}
+
+/// Fails at the first calls of a listener that, where they fail, have `serve a s 2` show something else than is wanted.
+fn expect_listen_faults(alloc: Global, rows: &[(&[u64], &str)]) -> Result<(), Fail> {
+    for (failing, want) in rows {
+        let listen = listen_at(alloc, b"a", &[NOTHING, NOTHING], failing)?;
+        let (shown, _written) = served(alloc, "serve a s 2", NUMBER, listen)?;
+        same_shown("serve a s 2", shown.as_str(), want)?;
     }
     Ok(())
 }
 
 #[test]
 fn a_listener_that_fails_is_a_fault(rt: HostRuntime) -> Result<(), Fail> {
-    let alloc = rt.alloc();
-    for (failing, want) in [
-        (&[1][..], "12 listen fault\n"),
-        (&[2][..], "12 listen fault\n"),
-        (&[3][..], "12 session 1 requests 1 end\nlisten fault\n"),
-        (
-            &[4][..],
-            "0 session 1 requests 1 end\nsession 2 requests 1 end\nobject 0: D { }\n",
-        ),
-    ] {
-        let listen = listen_at(alloc, b"a", &[NOTHING, NOTHING], failing)?;
-        let (shown, _written) = served(alloc, "serve a s 2", NUMBER, listen)?;
-        assert_eq!(rt; shown.as_str(), want);
-    }
-    Ok(())
+    expect_listen_faults(
+        rt.alloc(),
+        &[
+            (&[1], "12 listen fault\n"),
+            (&[2], "12 listen fault\n"),
+            (&[3], "12 session 1 requests 1 end\nlisten fault\n"),
+            (
+                &[4],
+                "0 session 1 requests 1 end\nsession 2 requests 1 end\nobject 0: D { }\n",
+            ),
+        ],
+    )
 }
 
 /// A session of a wrong byte, three sessions of which a read or a write fails, and one that ends.
@@ -160,11 +201,11 @@ fn each_session_says_how_it_ended(rt: HostRuntime) -> Result<(), Fail> {
     let alloc = rt.alloc();
     let listen = listen_to(alloc, b"a", ending_sessions(alloc)?, &[], usize::MAX)?;
     let (shown, _written) = served(alloc, "serve a s 9", NUMBER, listen)?;
-    assert_eq!(rt;
+    same_shown(
+        "serve a s 9",
         shown.as_str(),
-        "0 session 1 requests 0 bad frame\nsession 2 requests 0 read fault\nsession 3 requests 1 read fault\nsession 4 requests 1 write fault\nsession 5 requests 1 end\nobject 0: D { }\n"
-    );
-    Ok(())
+        "0 session 1 requests 0 bad frame\nsession 2 requests 0 read fault\nsession 3 requests 1 read fault\nsession 4 requests 1 write fault\nsession 5 requests 1 end\nobject 0: D { }\n",
+    )
 }
 
 /// Bytes, and then the same again.
@@ -174,58 +215,80 @@ fn twice(alloc: Global, bytes: &[u8]) -> Result<Seq<u8>, Fail> {
     Ok(all)
 }
 
-#[test]
-fn a_session_is_the_same_however_its_bytes_come(rt: HostRuntime) -> Result<(), Fail> {
-    let alloc = rt.alloc();
+/// Fails where a session of two requests, whose bytes come so many at once, has other replies than theirs.
+fn expect_two_replies(alloc: Global, most: usize) -> Result<(), Fail> {
     let requests = twice(alloc, NOTHING)?;
     let replies = twice(alloc, NOTHING_REPLY)?;
+    let sessions = sessions_of(alloc, &[requests.as_slice()])?;
+    let listen = listen_to(alloc, b"a", sessions, &[], most)?;
+    expect_served(
+        alloc,
+        "serve a s 1",
+        NUMBER,
+        listen,
+        "0 session 1 requests 2 end\nobject 0: D { }\n",
+        &[replies.as_slice()],
+    )
+}
+
+#[test]
+fn a_session_is_the_same_however_its_bytes_come(rt: HostRuntime) -> Result<(), Fail> {
     for most in [1, 7, usize::MAX] {
-        let sessions = sessions_of(alloc, &[requests.as_slice()])?;
-        let listen = listen_to(alloc, b"a", sessions, &[], most)?;
-        let (shown, written) = served(alloc, "serve a s 1", NUMBER, listen)?;
-        assert_eq!(rt;
-            shown.as_str(),
-            "0 session 1 requests 2 end\nobject 0: D { }\n"
-        );
-        assert_eq!(rt; written.len(), 1);
-        assert!(rt; written.get(0).is_some_and(|it| *it == replies));
+        expect_two_replies(rt.alloc(), most)?;
+    }
+    Ok(())
+}
+
+/// Fails at the first child that shows something else to a session of these bytes than is wanted, or writes another number
+/// of bytes in it.
+fn expect_child(alloc: Global, rows: &[(&str, &[u8], &str, usize)]) -> Result<(), Fail> {
+    for (words, bytes, want, replied) in rows {
+        let listen = listen_at(alloc, b"-", &[*bytes], &[])?;
+        let (shown, written) = served(alloc, words, NUMBER, listen)?;
+        let count = written.get(0).map_or(0, |it| it.len());
+        if count != *replied {
+            return Err(Fail::new(format_args!(
+                "{count} bytes in place of {replied}, by {words}, to {bytes:?}"
+            )));
+        }
+        same_shown(words, shown.as_str(), want)?;
     }
     Ok(())
 }
 
 #[test]
 fn a_child_prints_nothing(rt: HostRuntime) -> Result<(), Fail> {
-    let alloc = rt.alloc();
-    for (words, bytes, want, replied) in [
-        ("child s", NOTHING, "0 ", 17),
-        ("child s", &NOTHING[..5], "0 ", 0),
-        ("child q", NOTHING, "3 ", 0),
-    ] {
-        let (shown, written) = served(
-            alloc,
-            words,
-            NUMBER,
-            listen_at(alloc, b"-", &[bytes], &[])?,
-        )?;
-        assert_eq!(rt; shown.as_str(), want);
-        assert_eq!(rt; written.get(0).map_or(0, |it| it.len()), replied);
+    expect_child(
+        rt.alloc(),
+        &[
+            ("child s", NOTHING, "0 ", 17),
+            ("child s", b"RB\x01\x00\x00", "0 ", 0),
+            ("child q", NOTHING, "3 ", 0),
+        ],
+    )
+}
+
+/// Fails at the first service, served by a child whose listener's calls of these numbers fail, that shows something else than
+/// is wanted.
+fn expect_child_faults(alloc: Global, rows: &[(&str, &[u64], &str)]) -> Result<(), Fail> {
+    for (service, failing, want) in rows {
+        let listen = listen_at(alloc, b"-", &[NOTHING], failing)?;
+        let (shown, _written) = served(alloc, "child s", service, listen)?;
+        same_shown("child s", shown.as_str(), want)?;
     }
     Ok(())
 }
 
 #[test]
 fn a_child_that_can_not_serve_says_so_by_its_status(rt: HostRuntime) -> Result<(), Fail> {
-    let alloc = rt.alloc();
-    for (service, failing, want) in [
-        ("$", &[][..], "6 "),
-        (NUMBER, &[1][..], "12 "),
-        (NUMBER, &[2][..], "12 "),
-    ] {
-        let listen = listen_at(alloc, b"-", &[NOTHING], failing)?;
-        let (shown, _written) = served(alloc, "child s", service, listen)?;
-        assert_eq!(rt; shown.as_str(), want);
-    }
-    Ok(())
+    expect_child_faults(
+        rt.alloc(),
+        &[
+            ("$", &[], "6 "),
+            (NUMBER, &[1], "12 "),
+            (NUMBER, &[2], "12 "),
+        ],
+    )
 }
 
 /// What `serve a s 2` says where the writes of these numbers fail, and how many sessions came back.
@@ -245,20 +308,33 @@ fn served_on(alloc: Global, failing: &[u64]) -> Result<(String, usize), Fail> {
     Ok((shown, listen.returned().len()))
 }
 
-#[test]
-fn after_a_write_fault_no_session_is_served(rt: HostRuntime) -> Result<(), Fail> {
-    for (failing, want, count) in [
-        (&[1][..], "9 ", 1),
-        (&[2][..], "9 session 1 requests 1 end\n", 2),
-        (
-            &[3][..],
-            "9 session 1 requests 1 end\nsession 2 requests 1 end\n",
-            2,
-        ),
-    ] {
-        let (shown, came) = served_on(rt.alloc(), failing)?;
-        assert_eq!(rt; shown.as_str(), want);
-        assert_eq!(rt; came, count);
+/// Fails at the first writes that, where they fail, have `serve a s 2` show something else than is wanted, or let another
+/// number of sessions come back.
+fn expect_write_faults(alloc: Global, rows: &[(&[u64], &str, usize)]) -> Result<(), Fail> {
+    for (failing, want, count) in rows {
+        let (shown, came) = served_on(alloc, failing)?;
+        if came != *count {
+            return Err(Fail::new(format_args!(
+                "{came} sessions in place of {count}, at {failing:?}"
+            )));
+        }
+        same_shown("serve a s 2", shown.as_str(), want)?;
     }
     Ok(())
+}
+
+#[test]
+fn after_a_write_fault_no_session_is_served(rt: HostRuntime) -> Result<(), Fail> {
+    expect_write_faults(
+        rt.alloc(),
+        &[
+            (&[1], "9 ", 1),
+            (&[2], "9 session 1 requests 1 end\n", 2),
+            (
+                &[3],
+                "9 session 1 requests 1 end\nsession 2 requests 1 end\n",
+                2,
+            ),
+        ],
+    )
 }

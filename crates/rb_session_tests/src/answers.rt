@@ -21,56 +21,64 @@ fn reply_of(alloc: Global, source: &[u8], payload: &[u8]) -> Result<(u8, BytesMu
     Ok((kind, reply))
 }
 
-#[test]
-fn a_kept_call_gives_its_value(rt: HostRuntime) -> Result<(), Fail> {
-    let request =
-        b"\x01\x00\x00\x00\x00\x01\x11\x00\x00\x00\x00\x00\x00\x00\x3b\x26\x00\x00\x00\x3b\x01\x00\x00\x00\x01n\x23\x00\x00\x00\x00";
-    let (kind, reply) = reply_of(rt.alloc(), NUMBER, request)?;
-    assert_eq!(rt; kind, 2);
-    assert_eq!(rt;
-        reply.as_slice(),
-        b"\x01\x00\x00\x00\x01\x31\x01\x00\x00\x00\x00\x00\x00\x00\x07\x00".as_slice()
-    );
+/// Fails at the first payload whose reply, on the host of a text, isn't of this kind with this payload.
+fn expect_replies(alloc: Global, source: &[u8], rows: &[(&[u8], u8, &[u8])]) -> Result<(), Fail> {
+    for (payload, kind, want) in rows {
+        let (found, reply) = reply_of(alloc, source, payload)?;
+        if found != *kind || reply.as_slice() != *want {
+            return Err(Fail::new(format_args!(
+                "kind {found}, {reply:?}, not kind {kind}, {want:?}, to {payload:?}"
+            )));
+        }
+    }
     Ok(())
 }
 
 #[test]
-fn hostile_payloads_leave_the_table(rt: HostRuntime) -> Result<(), Fail> {
-    for (payload, kind, want) in [
-        // A variable that nothing binds, in the first step.
-        (
-            b"\x01\x00\x00\x00\x00\x01\x10\x00\x00\x00\x00\x00\x00\x00\x00\x22\x00\x00\x00\x05".as_slice(),
-            3,
-            b"\x01\x0b\x00\x00\x00\x00".as_slice(),
-        ),
-        // The same behind a step that would have a file grow.
-        (
-            b"\x01\x00\x00\x00\x00\x02\x10\x00\x00\x00\x00\x00\x00\x00\x00\x26\x00\x00\x00\x00\x00\x00\x00\x00\x04grow\x26\x00\x00\x00\x00\x04\x00\x00\x00\x04file\x23\x00\x00\x00\x01\x20\x01\x00\x00\x00\x00\x00\x00\x00\x00\x00\x00\x00\x01\x20\x01\x00\x00\x00\x00\x00\x00\x00\x05\x10\x00\x00\x00\x01\x00\x00\x00\x00\x22\x00\x00\x00\x05".as_slice(),
-            3,
-            b"\x01\x0b\x00\x00\x00\x01".as_slice(),
-        ),
-        // A byte behind the message.
-        (
-            b"\x01\x00\x00\x00\x00\x00\x00".as_slice(),
-            3,
-            b"\x01\x06\x00\x00\x00\x06".as_slice(),
-        ),
-        // No version.
-        (
-            b"\x07".as_slice(),
-            3,
-            b"\x01\x02\x00\x00\x00\x00".as_slice(),
-        ),
-        // A valid script that faults: `!` of a number.
-        (
-            b"\x01\x00\x00\x00\x00\x01\x11\x00\x00\x00\x00\x00\x00\x00\x09\x24\x01\x00\x00\x00\x09\x20\x01\x00\x00\x00\x00\x00\x00\x00\x07".as_slice(),
+fn a_kept_call_gives_its_value(rt: HostRuntime) -> Result<(), Fail> {
+    expect_replies(
+        rt.alloc(),
+        NUMBER,
+        &[(
+            b"\x01\x00\x00\x00\x00\x01\x11\x00\x00\x00\x00\x00\x00\x00\x3b\x26\x00\x00\x00\x3b\x01\x00\x00\x00\x01n\x23\x00\x00\x00\x00",
             2,
-            b"\x01\x00\x00\x00\x00\x01\x00\x00\x00\x00\x00\x00\x00\x09\x0c".as_slice(),
-        ),
-    ] {
-        let (got, reply) = reply_of(rt.alloc(), FILES, payload)?;
-        assert_eq!(rt; got, kind, "kind of the reply to {payload:?}");
-        assert_eq!(rt; reply.as_slice(), want, "reply to {payload:?}");
-    }
-    Ok(())
+            b"\x01\x00\x00\x00\x01\x31\x01\x00\x00\x00\x00\x00\x00\x00\x07\x00",
+        )],
+    )
+}
+
+#[test]
+fn hostile_payloads_leave_the_table(rt: HostRuntime) -> Result<(), Fail> {
+    expect_replies(
+        rt.alloc(),
+        FILES,
+        &[
+            // A variable that nothing binds, in the first step.
+            (
+                b"\x01\x00\x00\x00\x00\x01\x10\x00\x00\x00\x00\x00\x00\x00\x00\x22\x00\x00\x00\x05",
+                3,
+                b"\x01\x0b\x00\x00\x00\x00",
+            ),
+            // The same behind a step that would have a file grow.
+            (
+                b"\x01\x00\x00\x00\x00\x02\x10\x00\x00\x00\x00\x00\x00\x00\x00\x26\x00\x00\x00\x00\x00\x00\x00\x00\x04grow\x26\x00\x00\x00\x00\x04\x00\x00\x00\x04file\x23\x00\x00\x00\x01\x20\x01\x00\x00\x00\x00\x00\x00\x00\x00\x00\x00\x00\x01\x20\x01\x00\x00\x00\x00\x00\x00\x00\x05\x10\x00\x00\x00\x01\x00\x00\x00\x00\x22\x00\x00\x00\x05",
+                3,
+                b"\x01\x0b\x00\x00\x00\x01",
+            ),
+            // A byte behind the message.
+            (
+                b"\x01\x00\x00\x00\x00\x00\x00",
+                3,
+                b"\x01\x06\x00\x00\x00\x06",
+            ),
+            // No version.
+            (b"\x07", 3, b"\x01\x02\x00\x00\x00\x00"),
+            // A valid script that faults: `!` of a number.
+            (
+                b"\x01\x00\x00\x00\x00\x01\x11\x00\x00\x00\x00\x00\x00\x00\x09\x24\x01\x00\x00\x00\x09\x20\x01\x00\x00\x00\x00\x00\x00\x00\x07",
+                2,
+                b"\x01\x00\x00\x00\x00\x01\x00\x00\x00\x00\x00\x00\x00\x09\x0c",
+            ),
+        ],
+    )
 }

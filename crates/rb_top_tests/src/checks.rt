@@ -1,5 +1,5 @@
 // Which texts are programs, and what refuses the others, by rows of texts.
-use crate::answers::{checked, shown};
+use crate::answers::{checked, expect, shown};
 use std::alloc::Global;
 use std::test::Fail;
 
@@ -56,30 +56,86 @@ const CHECKED: &str = r#"0 accepted|main { }
 0 accepted|main { val a = true || false && 1 == 2; val b = "g" != "h"; val c = 1 < 2; val d = 3 >= 4; }
 0 accepted|main { val a = 1 <= 2 == (3 > 4); val b = 1 + 2 - 3 * 4 / 5 % 6; val c = !a; }"#;
 
-#[test]
-fn texts_are_admitted_or_refused_at_their_first_fault(rt: HostRuntime) -> Result<(), Fail> {
-    for row in CHECKED.split('\n') {
+/// Fails unless `check` answers on a text, but for the end of its line, what is wanted; it is named by its row.
+fn text_is_checked(alloc: Global, row: &str, text: &[u8], wanted: &str) -> Result<(), Fail> {
+    let answer = checked(alloc, text)?;
+    expect(alloc, row, answer.as_str().trim_end(), wanted)
+}
+
+/// Fails unless `check` answers on the text of each row what stands before its bar.
+fn rows_are_checked(alloc: Global, rows: &str) -> Result<(), Fail> {
+    for row in rows.split('\n') {
         let Some((wanted, row)) = row.split_once('|') else {
             return Err(Fail::from("a row lacks its bar"));
         };
-        let text = text_of(rt.alloc(), row)?;
-        let answer = checked(rt.alloc(), text.as_slice())?;
-        assert_eq!(rt; answer.as_str().trim_end(), wanted, "{row}");
+        let text = text_of(alloc, row)?;
+        text_is_checked(alloc, row, text.as_slice(), wanted)?;
+    }
+    Ok(())
+}
+
+#[test]
+fn texts_are_admitted_or_refused_at_their_first_fault(rt: HostRuntime) -> Result<(), Fail> {
+    rows_are_checked(rt.alloc(), CHECKED)
+}
+
+/// Fails unless `check` answers on each text the line beside it.
+fn lines_are_answered(alloc: Global, rows: &[(&[u8], &str)]) -> Result<(), Fail> {
+    for (text, wanted) in rows {
+        expect(alloc, wanted, checked(alloc, text)?.as_str(), wanted)?;
     }
     Ok(())
 }
 
 #[test]
 fn lines_and_bytes_count(rt: HostRuntime) -> Result<(), Fail> {
-    for (text, wanted) in [
-        (b"main \xff".as_slice(), "4 lex 4 NotUtf8 at 1:6\n"),
-        (b"main {\n  val a = 1\n}", "4 parse 6 Unexpected at 3:1\n"),
-        (
-            b"main {\n  val a = 1;\n  print(a + b);\n}",
-            "4 types 1 UnknownName at 3:13\n",
-        ),
-    ] {
-        assert_eq!(rt; checked(rt.alloc(), text)?.as_str(), wanted, "{wanted}");
+    lines_are_answered(
+        rt.alloc(),
+        &[
+            (b"main \xff", "4 lex 4 NotUtf8 at 1:6\n"),
+            (b"main {\n  val a = 1\n}", "4 parse 6 Unexpected at 3:1\n"),
+            (
+                b"main {\n  val a = 1;\n  print(a + b);\n}",
+                "4 types 1 UnknownName at 3:13\n",
+            ),
+        ],
+    )
+}
+
+/// Programs that are refused, each with its line.
+const REFUSED: &[(&str, &str)] = &[
+    (
+        "interface D { fun n(): Int; } main { batch (D r) { print(r.n()); } } }",
+        "4 parse 6 Unexpected at 1:70\n",
+    ),
+    ("$", "4 lex 1 BadByte at 1:1\n"),
+    (
+        "interface D { fun n(): Int; } main { batch (D r) { print(r.n(1)); } }",
+        "4 types 4 WrongCount at 1:60\n",
+    ),
+    (
+        "interface D { fun n(): Int; fun n(): Int; } main { batch (D r) { print(r.n()); } }",
+        "4 types 2 NameTaken at 1:33\n",
+    ),
+    (
+        "interface D { fun n(): Int; } main { batch (E r) { print(r.n()); } }",
+        "4 types 1 UnknownName at 1:38\n",
+    ),
+    (
+        "interface D { fun n(): Int; } main { batch (D r) { print(r.n()); } return 1; }",
+        "4 types 3 WrongType at 1:75\n",
+    ),
+    (
+        "interface D { fun n(): Int; } main { batch (D r) { print(r); } }",
+        "5 refused 4 Escapes 1:58\n",
+    ),
+];
+
+/// Fails unless `both p s` answers on each program, without a service, the line beside it.
+fn refusals_are(alloc: Global, rows: &[(&str, &str)]) -> Result<(), Fail> {
+    for (program, wanted) in rows {
+        let answered = shown(alloc, Some(*program), None)?;
+        expect(alloc, program, answered.as_str(), wanted)?;
     }
     Ok(())
 }
@@ -88,34 +144,5 @@ fn lines_and_bytes_count(rt: HostRuntime) -> Result<(), Fail> {
 fn programs_that_are_not_read_typed_or_admitted_are_refused_first(
     rt: HostRuntime,
 ) -> Result<(), Fail> {
-    for (program, wanted) in [
-        (
-            "interface D { fun n(): Int; } main { batch (D r) { print(r.n()); } } }",
-            "4 parse 6 Unexpected at 1:70\n",
-        ),
-        ("$", "4 lex 1 BadByte at 1:1\n"),
-        (
-            "interface D { fun n(): Int; } main { batch (D r) { print(r.n(1)); } }",
-            "4 types 4 WrongCount at 1:60\n",
-        ),
-        (
-            "interface D { fun n(): Int; fun n(): Int; } main { batch (D r) { print(r.n()); } }",
-            "4 types 2 NameTaken at 1:33\n",
-        ),
-        (
-            "interface D { fun n(): Int; } main { batch (E r) { print(r.n()); } }",
-            "4 types 1 UnknownName at 1:38\n",
-        ),
-        (
-            "interface D { fun n(): Int; } main { batch (D r) { print(r.n()); } return 1; }",
-            "4 types 3 WrongType at 1:75\n",
-        ),
-        (
-            "interface D { fun n(): Int; } main { batch (D r) { print(r); } }",
-            "5 refused 4 Escapes 1:58\n",
-        ),
-    ] {
-        assert_eq!(rt; shown(rt.alloc(), Some(program), None)?.as_str(), wanted);
-    }
-    Ok(())
+    refusals_are(rt.alloc(), REFUSED)
 }

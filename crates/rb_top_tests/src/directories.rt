@@ -1,5 +1,5 @@
 // What commands answer on a directory of two files, by rows.
-use crate::answers::{INTERFACES, answer, files_of};
+use crate::answers::{INTERFACES, answer, expect, files_of};
 use std::alloc::Global;
 use std::test::Fail;
 
@@ -43,27 +43,21 @@ pub fn left(alloc: Global, lines: &str, one: u32, two: u32) -> Result<String, Fa
 /// files then.
 type Row<'a> = (&'a str, &'a str, u32, u32);
 
-/// The rows that words answer otherwise, each with what they answer.
-fn answered_otherwise(alloc: Global, words: &str, rows: &[Row<'_>]) -> Result<String, Fail> {
-    let mut text = String::new(alloc);
+/// Fails unless words answer each row as it says.
+fn rows_are_answered(alloc: Global, words: &str, rows: &[Row<'_>]) -> Result<(), Fail> {
     for (main, lines, one, two) in rows {
         let answered = ran(alloc, words, main)?;
         let wanted = left(alloc, lines, *one, *two)?;
-        if answered.as_str() != wanted.as_str() {
-            text.push_str(format!(in alloc; "{words}: {main}\n{answered}")?.as_str())?;
-        }
+        expect(alloc, main, answered.as_str(), wanted.as_str())?;
     }
-    Ok(text)
+    Ok(())
 }
 
-/// The rows that a run answers otherwise, with so much fuel, each with what it answers.
-pub fn others(alloc: Global, fuel: &str, rows: &[Row<'_>]) -> Result<String, Fail> {
-    let both = answered_otherwise(alloc, format!(in alloc; "both p s{fuel}")?.as_str(), rows)?;
-    let unsplit = answered_otherwise(
-        alloc,
-        format!(in alloc; "unsplit p s{fuel}")?.as_str(),
-        rows,
-    )?;
-    let all = format!(in alloc; "{both}{unsplit}")?;
-    Ok(all)
+/// Fails unless a run, divided and undivided, answers each row as it says, with so much fuel.
+pub fn files_are_left(alloc: Global, fuel: &str, rows: &[Row<'_>]) -> Result<(), Fail> {
+    for command in ["both p s", "unsplit p s"] {
+        let words = format!(in alloc; "{command}{fuel}")?;
+        rows_are_answered(alloc, words.as_str(), rows)?;
+    }
+    Ok(())
 }

@@ -426,15 +426,23 @@ fn wide_calls(alloc: Global, count: u32) -> Result<String, Fail> {
     checked(alloc, text.as_bytes())
 }
 
+/// Fails unless `check p` answers on a batch of each number of such calls the line beside it.
+fn wide_calls_are(alloc: Global, rows: &[(u32, &str)]) -> Result<(), Fail> {
+    for (count, wanted) in rows {
+        expect(alloc, wanted, wide_calls(alloc, *count)?.as_str(), wanted)?;
+    }
+    Ok(())
+}
+
 #[test]
 fn a_script_has_at_most_four_megabytes(rt: HostRuntime) -> Result<(), Fail> {
-    let alloc = rt.alloc();
-    assert_eq!(rt; wide_calls(alloc, 4092)?.as_str(), "0 accepted\n");
-    assert_eq!(rt;
-        wide_calls(alloc, 4093)?.as_str(),
-        "5 refused 9 ScriptTooLarge 2:8 4195329\n"
-    );
-    Ok(())
+    wide_calls_are(
+        rt.alloc(),
+        &[
+            (4092, "0 accepted\n"),
+            (4093, "5 refused 9 ScriptTooLarge 2:8 4195329\n"),
+        ],
+    )
 }
 
 /// What `check p` answers where a batch sends so many constant variables, each in a call of its own, behind a text.
@@ -453,15 +461,27 @@ fn many_inputs(alloc: Global, first: &str, count: u32) -> Result<String, Fail> {
     checked(alloc, text.as_bytes())
 }
 
+/// Fails unless `check p` answers on a batch that sends each number of variables, behind a text, the line beside them.
+fn many_inputs_are(alloc: Global, rows: &[(&str, u32, &str)]) -> Result<(), Fail> {
+    for (first, count, wanted) in rows {
+        let answered = many_inputs(alloc, first, *count)?;
+        expect(alloc, wanted, answered.as_str(), wanted)?;
+    }
+    Ok(())
+}
+
 #[test]
 fn a_batch_has_at_most_255_inputs(rt: HostRuntime) -> Result<(), Fail> {
-    let alloc = rt.alloc();
-    assert_eq!(rt; many_inputs(alloc, "", 255)?.as_str(), "0 accepted\n");
-    assert_eq!(rt;
-        many_inputs(alloc, "", 256)?.as_str(),
-        "5 refused 8 TooManyInputs 4:1 256\n"
-    );
-    let behind = many_inputs(alloc, "batch (Dir q) { q.burn(1); } ", 257)?;
-    assert_eq!(rt; behind.as_str(), "5 refused 8 TooManyInputs 4:1 257\n");
-    Ok(())
+    many_inputs_are(
+        rt.alloc(),
+        &[
+            ("", 255, "0 accepted\n"),
+            ("", 256, "5 refused 8 TooManyInputs 4:1 256\n"),
+            (
+                "batch (Dir q) { q.burn(1); } ",
+                257,
+                "5 refused 8 TooManyInputs 4:1 257\n",
+            ),
+        ],
+    )
 }

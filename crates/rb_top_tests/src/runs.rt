@@ -1,36 +1,53 @@
 // Which programs are run on which services, and what is printed.
-use crate::answers::{PROGRAM, SERVICE, TAIL, shown};
+use crate::answers::{PROGRAM, SERVICE, TAIL, expect, shown};
 use std::alloc::Global;
 use std::test::Fail;
 
-#[test]
-fn a_batch_prints_its_lines_and_the_end(rt: HostRuntime) -> Result<(), Fail> {
-    for (prints, lines) in [
-        ("print(r.n());", "7\n"),
-        ("", ""),
-        (
-            "// in order\nprint(r.m()); print(r.n()); print(r.m()); print(r.z());",
-            "12\n7\n12\n0\n",
-        ),
-    ] {
-        let alloc = rt.alloc();
+/// Fails unless a batch of each text prints the lines beside it.
+fn prints_are(alloc: Global, rows: &[(&str, &str)]) -> Result<(), Fail> {
+    let service =
+        "class D { fun z(): Int { return 0; } fun k(): Int { return 5; } fun n(): Int { return 7; } fun m(): Int { return 12; } } object 0: D { } root 0;";
+    for (prints, lines) in rows {
         let program = format!(in alloc;
             "interface D {{ fun n(): Int; fun m(): Int; fun z(): Int; }}\nmain {{ batch (D r) {{ {prints} }} }}\n"
         )?;
-        let service =
-            "class D { fun z(): Int { return 0; } fun k(): Int { return 5; } fun n(): Int { return 7; } fun m(): Int { return 12; } } object 0: D { } root 0;";
         let wanted = format!(in alloc; "0 {lines}{TAIL}")?;
-        assert_eq!(rt;
-            shown(alloc, Some(program.as_str()), Some(service))?.as_str(),
-            wanted.as_str(),
-            "{prints}"
-        );
+        answer_is(alloc, program.as_str(), service, wanted.as_str())?;
+    }
+    Ok(())
+}
+
+#[test]
+fn a_batch_prints_its_lines_and_the_end(rt: HostRuntime) -> Result<(), Fail> {
+    prints_are(
+        rt.alloc(),
+        &[
+            ("print(r.n());", "7\n"),
+            ("", ""),
+            (
+                "// in order\nprint(r.m()); print(r.n()); print(r.m()); print(r.z());",
+                "12\n7\n12\n0\n",
+            ),
+        ],
+    )
+}
+
+/// Fails unless `both p s` answers on a program and a service what is wanted.
+fn answer_is(alloc: Global, program: &str, service: &str, wanted: &str) -> Result<(), Fail> {
+    let answered = shown(alloc, Some(program), Some(service))?;
+    expect(alloc, service, answered.as_str(), wanted)
+}
+
+/// Fails unless `both p s` answers on a program, and on each service, what stands beside that.
+fn services_are(alloc: Global, program: &str, rows: &[(&str, &str)]) -> Result<(), Fail> {
+    for (service, wanted) in rows {
+        answer_is(alloc, program, service, wanted)?;
     }
     Ok(())
 }
 
 /// Programs of other forms, each with its answer on `SERVICE` before the table.
-static FORMS: [(&str, &str); 11] = [
+const FORMS: &[(&str, &str)] = &[
     (
         "interface D { fun n(): Int; } main { batch (D r) { print(1); } }",
         "0 1\ndone\nexchanges 1\n",
@@ -77,21 +94,23 @@ static FORMS: [(&str, &str); 11] = [
     ),
 ];
 
-#[test]
-fn programs_of_any_form_are_run(rt: HostRuntime) -> Result<(), Fail> {
-    for (program, lines) in FORMS {
-        let wanted = format!(in rt.alloc(); "{lines}object 0: D {{ }}\n")?;
-        assert_eq!(rt;
-            shown(rt.alloc(), Some(program), Some(SERVICE))?.as_str(),
-            wanted.as_str(),
-            "{program}"
-        );
+/// Fails unless each program answers on `SERVICE` what stands beside it, before the table.
+fn forms_are(alloc: Global, rows: &[(&str, &str)]) -> Result<(), Fail> {
+    for (program, lines) in rows {
+        let answered = shown(alloc, Some(*program), Some(SERVICE))?;
+        let wanted = format!(in alloc; "{lines}object 0: D {{ }}\n")?;
+        expect(alloc, program, answered.as_str(), wanted.as_str())?;
     }
     Ok(())
 }
 
+#[test]
+fn programs_of_any_form_are_run(rt: HostRuntime) -> Result<(), Fail> {
+    forms_are(rt.alloc(), FORMS)
+}
+
 /// Services that `PROGRAM` runs on, each with its answer.
-static SERVICES: [(&str, &str); 9] = [
+const SERVICES: &[(&str, &str)] = &[
     (
         "class D { fun m(): Int { return 7; } } object 0: D { } root 0;",
         "1 fault 9 NoMethod at 1:60\nexchanges 1\nobject 0: D { }\n",
@@ -132,42 +151,31 @@ static SERVICES: [(&str, &str); 9] = [
 
 #[test]
 fn a_batch_runs_on_any_service(rt: HostRuntime) -> Result<(), Fail> {
-    for (service, wanted) in SERVICES {
-        assert_eq!(rt;
-            shown(rt.alloc(), Some(PROGRAM), Some(service))?.as_str(),
-            wanted,
-            "{service}"
-        );
-    }
-    Ok(())
+    services_are(rt.alloc(), PROGRAM, SERVICES)
 }
 
 #[test]
 fn a_batch_has_its_own_fuel(rt: HostRuntime) -> Result<(), Fail> {
-    let service =
-        "class D { fun n(): Int { var i = 0; while (true) { i = i + 1; } return i; } } object 0: D { } root 0;";
-    assert_eq!(rt;
-        shown(rt.alloc(), Some(PROGRAM), Some(service))?.as_str(),
-        "1 fault 7 FuelUsed at 1:60\nexchanges 1\nobject 0: D { }\n"
-    );
-    Ok(())
+    answer_is(
+        rt.alloc(),
+        PROGRAM,
+        "class D { fun n(): Int { var i = 0; while (true) { i = i + 1; } return i; } } object 0: D { } root 0;",
+        "1 fault 7 FuelUsed at 1:60\nexchanges 1\nobject 0: D { }\n",
+    )
 }
 
 #[test]
 fn a_fault_stands_behind_the_lines_before_it(rt: HostRuntime) -> Result<(), Fail> {
-    let program =
-        "interface D { fun n(): Int; } main { batch (D r) { print(r.n()); print(r.n()); print(r.n()); } }";
-    let service =
-        "class D { k: Int; fun n(): Int { this.k = this.k - 1; return 6 / this.k; } } object 0: D { k = 2; } root 0;";
-    assert_eq!(rt;
-        shown(rt.alloc(), Some(program), Some(service))?.as_str(),
-        "1 6\nfault 1 DivZero at 1:74\nexchanges 1\nobject 0: D { k = 0; }\n"
-    );
-    Ok(())
+    answer_is(
+        rt.alloc(),
+        "interface D { fun n(): Int; } main { batch (D r) { print(r.n()); print(r.n()); print(r.n()); } }",
+        "class D { k: Int; fun n(): Int { this.k = this.k - 1; return 6 / this.k; } } object 0: D { k = 2; } root 0;",
+        "1 6\nfault 1 DivZero at 1:74\nexchanges 1\nobject 0: D { k = 0; }\n",
+    )
 }
 
 /// Texts that are no service, each with its line.
-static REFUSED: [(&str, &str); 12] = [
+const REFUSED: &[(&str, &str)] = &[
     ("class D { } $", "6 service lex 1 BadByte at 1:13\n"),
     ("", "6 service parse 6 Unexpected at 1:1\n"),
     (
@@ -211,27 +219,16 @@ static REFUSED: [(&str, &str); 12] = [
 
 #[test]
 fn texts_that_are_no_service_are_refused(rt: HostRuntime) -> Result<(), Fail> {
-    for (service, wanted) in REFUSED {
-        for program in [PROGRAM, "main { }"] {
-            assert_eq!(rt;
-                shown(rt.alloc(), Some(program), Some(service))?.as_str(),
-                wanted,
-                "{service}"
-            );
-        }
-    }
-    Ok(())
+    services_are(rt.alloc(), PROGRAM, REFUSED)?;
+    services_are(rt.alloc(), "main { }", REFUSED)
 }
 
 #[test]
 fn the_greatest_number_is_printed_whole(rt: HostRuntime) -> Result<(), Fail> {
-    let alloc = rt.alloc();
-    let service =
-        "class D { fun n(): Int { return 9223372036854775807; } } object 0: D { } root 0;";
-    let wanted = format!(in alloc; "0 9223372036854775807\n{TAIL}")?;
-    assert_eq!(rt;
-        shown(alloc, Some(PROGRAM), Some(service))?.as_str(),
-        wanted.as_str()
-    );
-    Ok(())
+    answer_is(
+        rt.alloc(),
+        PROGRAM,
+        "class D { fun n(): Int { return 9223372036854775807; } } object 0: D { } root 0;",
+        "0 9223372036854775807\ndone\nexchanges 1\nobject 0: D { }\n",
+    )
 }

@@ -7,7 +7,7 @@ use std::test::Fail;
 
 /// Texts of classes, each with the number of its first violation as a service's and the violation's offset; both are 0
 /// where the classes are typed.
-static CLASSES: [(&str, u32, u32); 14] = [
+const CLASSES: &[(&str, u32, u32)] = &[
     (
         "class C { v: Int; w: List<C>; fun f(a: C): Int { throw \"x\"; return a.v; } }",
         0,
@@ -58,14 +58,21 @@ fn violation(alloc: Global, text: &str) -> Result<(u32, u32), Fail> {
     }
 }
 
-#[test]
-fn classes_of_services_have_no_remote_code_and_no_prints(rt: HostRuntime) -> Result<(), Fail> {
-    let alloc = rt.alloc();
-    for (classes, number, at) in CLASSES {
+/// Fails unless the first violation of each text of classes has the number and the place beside it.
+fn violations_are(alloc: Global, rows: &[(&str, u32, u32)]) -> Result<(), Fail> {
+    for (classes, number, at) in rows {
         let text = format!(in alloc; "{classes} main {{ }}")?;
-        let (found, place) = violation(alloc, text.as_str())?;
-        assert_eq!(rt; found, number, "{classes}");
-        assert_eq!(rt; place, at, "{classes}");
+        let found = violation(alloc, text.as_str())?;
+        if found != (*number, *at) {
+            return Err(Fail::new(format_args!(
+                "violation and place {found:?} in place of {number}, {at} of {classes}"
+            )));
+        }
     }
     Ok(())
+}
+
+#[test]
+fn classes_of_services_have_no_remote_code_and_no_prints(rt: HostRuntime) -> Result<(), Fail> {
+    violations_are(rt.alloc(), CLASSES)
 }

@@ -1,28 +1,23 @@
 // Which programs are typed, and which violation is the first, by rows of texts.
-use crate::answers::checked;
+use crate::answers::{checked, expect};
 use std::alloc::Global;
 use std::test::Fail;
 
-/// The rows, each with what `check` answers to its text before its bar.
-fn answered(alloc: Global, rows: &str) -> Result<String, Fail> {
-    let mut lines = String::new(alloc);
+/// Fails unless `check` answers on the text of each row what stands before its bar.
+fn rows_are_answered(alloc: Global, rows: &str) -> Result<(), Fail> {
     for row in rows.split_terminator('\n') {
         match row.split_once('|') {
-            Some((_wanted, text)) => append_row(alloc, text, &mut lines)?,
+            Some((wanted, text)) => row_is_answered(alloc, text, wanted)?,
             None => return Err(Fail::from("a row lacks its bar")),
         }
     }
-    Ok(lines)
+    Ok(())
 }
 
-/// Appends the row of a text, with what `check` answers before its bar.
-fn append_row(alloc: Global, text: &str, lines: &mut String) -> Result<(), Fail> {
+/// Fails unless `check` answers on a text what is wanted.
+fn row_is_answered(alloc: Global, text: &str, wanted: &str) -> Result<(), Fail> {
     let answer = checked(alloc, text.as_bytes())?;
-    lines.push_str(answer.as_str().trim_end())?;
-    lines.push_str("|")?;
-    lines.push_str(text)?;
-    lines.push_str("\n")?;
-    Ok(())
+    expect(alloc, text, answer.as_str().trim_end(), wanted)
 }
 
 /// Names that are taken, and names that differ enough.
@@ -49,11 +44,7 @@ const NAMES_ARE_DECLARED_ONCE: &str =
 
 #[test]
 fn names_are_declared_once(rt: HostRuntime) -> Result<(), Fail> {
-    assert_eq!(rt;
-        answered(rt.alloc(), NAMES_ARE_DECLARED_ONCE)?.as_str(),
-        NAMES_ARE_DECLARED_ONCE
-    );
-    Ok(())
+    rows_are_answered(rt.alloc(), NAMES_ARE_DECLARED_ONCE)
 }
 
 /// Names that nothing is known of, and names that are declared later.
@@ -78,11 +69,7 @@ const NAMES_ARE_KNOWN: &str = r#"4 types 1 UnknownName at 1:14|main { print(x); 
 
 #[test]
 fn names_are_known(rt: HostRuntime) -> Result<(), Fail> {
-    assert_eq!(rt;
-        answered(rt.alloc(), NAMES_ARE_KNOWN)?.as_str(),
-        NAMES_ARE_KNOWN
-    );
-    Ok(())
+    rows_are_answered(rt.alloc(), NAMES_ARE_KNOWN)
 }
 
 /// Types at places where they may not stand, and types that may.
@@ -112,11 +99,7 @@ const TYPES_STAND_AT_THEIR_PLACES: &str =
 
 #[test]
 fn types_stand_at_their_places(rt: HostRuntime) -> Result<(), Fail> {
-    assert_eq!(rt;
-        answered(rt.alloc(), TYPES_STAND_AT_THEIR_PLACES)?.as_str(),
-        TYPES_STAND_AT_THEIR_PLACES
-    );
-    Ok(())
+    rows_are_answered(rt.alloc(), TYPES_STAND_AT_THEIR_PLACES)
 }
 
 /// Expressions of a type that isn't wanted where they stand, and expressions of the type wanted.
@@ -150,11 +133,7 @@ const EXPRESSIONS_HAVE_THE_TYPES_OF_THEIR_PLACES: &str =
 
 #[test]
 fn expressions_have_the_types_of_their_places(rt: HostRuntime) -> Result<(), Fail> {
-    assert_eq!(rt;
-        answered(rt.alloc(), EXPRESSIONS_HAVE_THE_TYPES_OF_THEIR_PLACES)?.as_str(),
-        EXPRESSIONS_HAVE_THE_TYPES_OF_THEIR_PLACES
-    );
-    Ok(())
+    rows_are_answered(rt.alloc(), EXPRESSIONS_HAVE_THE_TYPES_OF_THEIR_PLACES)
 }
 
 /// Operands of a type that isn't wanted, and operands of the type wanted.
@@ -185,11 +164,7 @@ const OPERANDS_HAVE_THEIR_TYPES: &str = r#"4 types 3 WrongType at 1:20|main { va
 
 #[test]
 fn operands_have_their_types(rt: HostRuntime) -> Result<(), Fail> {
-    assert_eq!(rt;
-        answered(rt.alloc(), OPERANDS_HAVE_THEIR_TYPES)?.as_str(),
-        OPERANDS_HAVE_THEIR_TYPES
-    );
-    Ok(())
+    rows_are_answered(rt.alloc(), OPERANDS_HAVE_THEIR_TYPES)
 }
 
 /// Counts of arguments, assignments, returns, and what may be remote.
@@ -223,11 +198,7 @@ const CALLS_ASSIGNMENTS_AND_RETURNS_ARE_JUDGED: &str =
 
 #[test]
 fn calls_assignments_and_returns_are_judged(rt: HostRuntime) -> Result<(), Fail> {
-    assert_eq!(rt;
-        answered(rt.alloc(), CALLS_ASSIGNMENTS_AND_RETURNS_ARE_JUDGED)?.as_str(),
-        CALLS_ASSIGNMENTS_AND_RETURNS_ARE_JUDGED
-    );
-    Ok(())
+    rows_are_answered(rt.alloc(), CALLS_ASSIGNMENTS_AND_RETURNS_ARE_JUDGED)
 }
 
 /// Names behind the block that they were declared in.
@@ -256,11 +227,7 @@ const SCOPES_END_WITH_THEIR_BLOCKS: &str =
 
 #[test]
 fn scopes_end_with_their_blocks(rt: HostRuntime) -> Result<(), Fail> {
-    assert_eq!(rt;
-        answered(rt.alloc(), SCOPES_END_WITH_THEIR_BLOCKS)?.as_str(),
-        SCOPES_END_WITH_THEIR_BLOCKS
-    );
-    Ok(())
+    rows_are_answered(rt.alloc(), SCOPES_END_WITH_THEIR_BLOCKS)
 }
 
 /// Nodes with two violations.
@@ -291,11 +258,7 @@ const THE_FIRST_VIOLATION_OF_A_NODE_COUNTS: &str =
 
 #[test]
 fn the_first_violation_of_a_node_counts(rt: HostRuntime) -> Result<(), Fail> {
-    assert_eq!(rt;
-        answered(rt.alloc(), THE_FIRST_VIOLATION_OF_A_NODE_COUNTS)?.as_str(),
-        THE_FIRST_VIOLATION_OF_A_NODE_COUNTS
-    );
-    Ok(())
+    rows_are_answered(rt.alloc(), THE_FIRST_VIOLATION_OF_A_NODE_COUNTS)
 }
 
 /// Texts with two violations.
@@ -327,9 +290,5 @@ const THE_FIRST_VIOLATION_OF_A_TEXT_COUNTS: &str =
 
 #[test]
 fn the_first_violation_of_a_text_counts(rt: HostRuntime) -> Result<(), Fail> {
-    assert_eq!(rt;
-        answered(rt.alloc(), THE_FIRST_VIOLATION_OF_A_TEXT_COUNTS)?.as_str(),
-        THE_FIRST_VIOLATION_OF_A_TEXT_COUNTS
-    );
-    Ok(())
+    rows_are_answered(rt.alloc(), THE_FIRST_VIOLATION_OF_A_TEXT_COUNTS)
 }
