@@ -1,6 +1,6 @@
 // Faults of batches in what `both p s` and `unsplit p s` print: remote ones, local ones, and what code around the batch
 // catches.
-use crate::directories::files_are_left;
+use crate::directories::{Row, files_are_left};
 use std::test::Fail;
 
 #[test]
@@ -331,56 +331,55 @@ fn so_it_does_where_a_turn_faults(rt: HostRuntime) -> Result<(), Fail> {
     )
 }
 
+/// Programs that catch a fault around a batch, each with its lines and the sizes of the two files that it leaves.
+const CAUGHT: &[Row<'static>] = &[
+    (
+        "main { try { batch (Dir r) { for (f in r.files()) { print(f.name()); f.check(100); f.grow(1); } } } catch (e) { print(e); } }",
+        "0 a\nbb\nBig\ndone\nexchanges 1\n",
+        11,
+        200,
+    ),
+    (
+        "main { val b = 0; try { batch (Dir r) { if (1 / b > 0) { r.file(0).grow(1); } r.file(0).grow(1); } } catch (e) { print(e); } }",
+        "0 DivZero\ndone\nexchanges 1\n",
+        10,
+        200,
+    ),
+    (
+        "main { try { batch (Dir r) { r.file(7).grow(1); r.file(0).grow(1); } } catch (e) { print(e); } }",
+        "0 Index\ndone\nexchanges 1\n",
+        10,
+        200,
+    ),
+    (
+        "main { try { batch (Dir r) { var z = 0; print(1 / z); r.file(0).grow(1); r.file(1).grow(1); } } catch (e) { print(e); } }",
+        "0 DivZero\ndone\nexchanges 1\n",
+        11,
+        201,
+    ),
+    (
+        "main { try { batch (Dir r) { var z = 0; r.file(0).grow(1); print(1 / z); r.file(1).grow(1); } } catch (e) { print(e); } }",
+        "0 DivZero\ndone\nexchanges 1\n",
+        11,
+        201,
+    ),
+    (
+        "main { try { batch (Dir r) { var z = 0; r.file(0).grow(1); r.file(1).grow(1); print(1 / z); } } catch (e) { print(e); } }",
+        "0 DivZero\ndone\nexchanges 1\n",
+        11,
+        201,
+    ),
+    (
+        "main { try { batch (Dir r) { for (f in r.files()) { if (f.size() > 100) { throw \"no\"; } print(f.name()); f.grow(1); } } } catch (e) { print(e); } }",
+        "0 a\nno\ndone\nexchanges 1\n",
+        11,
+        201,
+    ),
+];
+
 #[test]
 fn faults_of_a_batch_are_caught_around_it(rt: HostRuntime) -> Result<(), Fail> {
-    files_are_left(
-        rt.alloc(),
-        "",
-        &[
-            (
-                "main { try { batch (Dir r) { for (f in r.files()) { print(f.name()); f.check(100); f.grow(1); } } } catch (e) { print(e); } }",
-                "0 a\nbb\nBig\ndone\nexchanges 1\n",
-                11,
-                200,
-            ),
-            (
-                "main { val b = 0; try { batch (Dir r) { if (1 / b > 0) { r.file(0).grow(1); } r.file(0).grow(1); } } catch (e) { print(e); } }",
-                "0 DivZero\ndone\nexchanges 1\n",
-                10,
-                200,
-            ),
-            (
-                "main { try { batch (Dir r) { r.file(7).grow(1); r.file(0).grow(1); } } catch (e) { print(e); } }",
-                "0 Index\ndone\nexchanges 1\n",
-                10,
-                200,
-            ),
-            (
-                "main { try { batch (Dir r) { var z = 0; print(1 / z); r.file(0).grow(1); r.file(1).grow(1); } } catch (e) { print(e); } }",
-                "0 DivZero\ndone\nexchanges 1\n",
-                11,
-                201,
-            ),
-            (
-                "main { try { batch (Dir r) { var z = 0; r.file(0).grow(1); print(1 / z); r.file(1).grow(1); } } catch (e) { print(e); } }",
-                "0 DivZero\ndone\nexchanges 1\n",
-                11,
-                201,
-            ),
-            (
-                "main { try { batch (Dir r) { var z = 0; r.file(0).grow(1); r.file(1).grow(1); print(1 / z); } } catch (e) { print(e); } }",
-                "0 DivZero\ndone\nexchanges 1\n",
-                11,
-                201,
-            ),
-            (
-                "main { try { batch (Dir r) { for (f in r.files()) { if (f.size() > 100) { throw \"no\"; } print(f.name()); f.grow(1); } } } catch (e) { print(e); } }",
-                "0 a\nno\ndone\nexchanges 1\n",
-                11,
-                201,
-            ),
-        ],
-    )
+    files_are_left(rt.alloc(), "", CAUGHT)
 }
 
 #[test]

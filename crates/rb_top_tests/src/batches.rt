@@ -1,59 +1,58 @@
 // What `both p s` and `unsplit p s` print of programs with batches.
 use crate::answers::{INTERFACES, answer, expect, files_of};
-use crate::directories::{CLASSES, files_are_left, left, ran, ran_behind};
+use crate::directories::{CLASSES, Row, files_are_left, left, ran, ran_behind};
 use std::alloc::Global;
 use std::test::Fail;
 
+/// Programs of one batch, each with its lines and the sizes of the two files that it leaves.
+const OPERATIONS: &[Row<'static>] = &[
+    (
+        "main { batch (Dir r) { } }",
+        "0 done\nexchanges 1\n",
+        10,
+        200,
+    ),
+    (
+        "main { batch (Dir r) { print(r.file(0).name()); print(r.file(1).name()); } }",
+        "0 a\nbb\ndone\nexchanges 1\n",
+        10,
+        200,
+    ),
+    (
+        "main { batch (Dir r) { for (f in r.files()) { print(f.size()); f.grow(1); } } }",
+        "0 10\n200\ndone\nexchanges 1\n",
+        11,
+        201,
+    ),
+    (
+        "main { batch (Dir r) { for (f in r.files()) { if (f.size() > 100) { print(f.name()); f.grow(5); } } } }",
+        "0 bb\ndone\nexchanges 1\n",
+        10,
+        205,
+    ),
+    (
+        "main { batch (Dir r) { val s = r.file(0).size(); r.file(1).grow(s + 1); } }",
+        "0 done\nexchanges 1\n",
+        10,
+        211,
+    ),
+    (
+        "main { var n = 1; batch (Dir r) { if (n > 0) { r.file(0).grow(1); } } }",
+        "0 done\nexchanges 1\n",
+        11,
+        200,
+    ),
+    (
+        "main { batch (Dir r) { for (a in r.files()) { for (b in r.files()) { var n = 0; for (c in r.files()) { n = n + a.size() + b.size() + c.size(); } print(n); } } } }",
+        "0 250\n630\n630\n1010\ndone\nexchanges 1\n",
+        10,
+        200,
+    ),
+];
+
 #[test]
 fn operations_are_performed_where_they_stand(rt: HostRuntime) -> Result<(), Fail> {
-    files_are_left(
-        rt.alloc(),
-        "",
-        &[
-            (
-                "main { batch (Dir r) { } }",
-                "0 done\nexchanges 1\n",
-                10,
-                200,
-            ),
-            (
-                "main { batch (Dir r) { print(r.file(0).name()); print(r.file(1).name()); } }",
-                "0 a\nbb\ndone\nexchanges 1\n",
-                10,
-                200,
-            ),
-            (
-                "main { batch (Dir r) { for (f in r.files()) { print(f.size()); f.grow(1); } } }",
-                "0 10\n200\ndone\nexchanges 1\n",
-                11,
-                201,
-            ),
-            (
-                "main { batch (Dir r) { for (f in r.files()) { if (f.size() > 100) { print(f.name()); f.grow(5); } } } }",
-                "0 bb\ndone\nexchanges 1\n",
-                10,
-                205,
-            ),
-            (
-                "main { batch (Dir r) { val s = r.file(0).size(); r.file(1).grow(s + 1); } }",
-                "0 done\nexchanges 1\n",
-                10,
-                211,
-            ),
-            (
-                "main { var n = 1; batch (Dir r) { if (n > 0) { r.file(0).grow(1); } } }",
-                "0 done\nexchanges 1\n",
-                11,
-                200,
-            ),
-            (
-                "main { batch (Dir r) { for (a in r.files()) { for (b in r.files()) { var n = 0; for (c in r.files()) { n = n + a.size() + b.size() + c.size(); } print(n); } } } }",
-                "0 250\n630\n630\n1010\ndone\nexchanges 1\n",
-                10,
-                200,
-            ),
-        ],
-    )
+    files_are_left(rt.alloc(), "", OPERATIONS)
 }
 
 #[test]

@@ -41,7 +41,7 @@ pub fn left(alloc: Global, lines: &str, one: u32, two: u32) -> Result<String, Fa
 
 /// A text behind the interfaces, the status and the lines that a run of it answers before the table, and the sizes of the two
 /// files then.
-type Row<'a> = (&'a str, &'a str, u32, u32);
+pub type Row<'a> = (&'a str, &'a str, u32, u32);
 
 /// Fails unless words answer each row as it says.
 fn rows_are_answered(alloc: Global, words: &str, rows: &[Row<'_>]) -> Result<(), Fail> {
