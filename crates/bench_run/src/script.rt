@@ -1,6 +1,8 @@
 // The script: a loop over the files of the root, in whose body ten steps stand again and again.
 
-use rb_trees::{BinOp, Boxed, Memory, SExpr, Script, Seq, Step, StepForm, UnOp, Value};
+use rb_trees::{
+    BinOp, Boxed, Invocation, Memory, Operands, SExpr, Script, Seq, Step, StepForm, UnOp, Value,
+};
 use std::alloc::Global;
 
 /// The variable of the row.
@@ -106,7 +108,7 @@ fn add_growth(alloc: Global, body: &mut Block) -> Result<(), Memory> {
 
 /// Keeps the file's name if it was large, else its size at first.
 fn add_choice(alloc: Global, body: &mut Block) -> Result<(), Memory> {
-    let limit = SExpr::Lit(Value::Int(LARGE_SIZE));
+    let limit = number(alloc, LARGE_SIZE)?;
     let large = binary(alloc, BinOp::Gt, SExpr::Var(SIZE), limit)?;
     body.add(bound(LARGE, large))?;
     let named = StepForm::Keep(call_of_file(alloc, TEXT, b"name", None)?);
@@ -117,7 +119,7 @@ fn add_choice(alloc: Global, body: &mut Block) -> Result<(), Memory> {
 
 /// Checks that the file isn't too large, and keeps whether it has grown.
 fn add_checks(alloc: Global, body: &mut Block) -> Result<(), Memory> {
-    let room = SExpr::Lit(Value::Int(ROOM));
+    let room = number(alloc, ROOM)?;
     let most = binary(alloc, BinOp::Add, SExpr::Var(SIZE), room)?;
     body.add(StepForm::Do(call_of_file(alloc, UNIT, b"check", Some(most))?))?;
     let wanted = binary(alloc, BinOp::Add, SExpr::Var(SIZE), SExpr::Input(0))?;
@@ -187,17 +189,22 @@ fn call(
     if let Some(argument) = argument {
         args.push(argument)?;
     }
-    Ok(SExpr::Call {
-        at: 0,
-        kind,
-        method: Boxed::new(alloc, Seq::from_slice(alloc, method)?)?,
-        target: Boxed::new(alloc, target)?,
-        args: Boxed::new(alloc, args)?,
-    })
+    let call = Invocation {
+        method: Seq::from_slice(alloc, method)?,
+        target,
+        args,
+    };
+    let call = Boxed::new(alloc, call)?;
+    Ok(SExpr::Call { kind, at: 0, call })
 }
 
 /// An operator with two operands.
 fn binary(alloc: Global, op: BinOp, left: SExpr, right: SExpr) -> Result<SExpr, Memory> {
-    let left = Boxed::new(alloc, left)?;
-    Ok(SExpr::Binary(op, 0, left, Boxed::new(alloc, right)?))
+    let operands = Operands { left, right };
+    Ok(SExpr::Binary(op, 0, Boxed::new(alloc, operands)?))
+}
+
+/// A literal number.
+fn number(alloc: Global, value: i64) -> Result<SExpr, Memory> {
+    Ok(SExpr::Lit(Boxed::new(alloc, Value::Int(value))?))
 }

@@ -1,6 +1,6 @@
 // Sums of words, bytes and scripts, which depend on their order.
 
-use rb_trees::{BinOp, SExpr, Script, Seq, Step, StepForm, UnOp, Value};
+use rb_trees::{BinOp, Invocation, Operands, SExpr, Script, Seq, Step, StepForm, UnOp, Value};
 
 /// A sum of words.
 #[derive(Clone, Copy)]
@@ -76,7 +76,7 @@ impl Sum {
     #[cycle(exprs)]
     fn add_expr(&mut self, expr: &SExpr) {
         match expr {
-            SExpr::Lit(value) => self.add_value(value),
+            SExpr::Lit(value) => self.add_value(value.get()),
             SExpr::Input(number) => self.add_two(100, u32::from(*number)),
             SExpr::Var(number) => self.add_two(101, *number),
             SExpr::Root => self.add(102),
@@ -84,22 +84,22 @@ impl Sum {
                 self.add_two(unary_code(*op), *at);
                 self.add_expr(operand.get());
             }
-            SExpr::Binary(op, at, left, right) => {
+            SExpr::Binary(op, at, operands) => {
+                let Operands { left, right } = operands.get();
                 self.add_two(binary_code(*op), *at);
-                self.add_expr(left.get());
-                self.add_expr(right.get());
+                self.add_expr(left);
+                self.add_expr(right);
             }
-            SExpr::Call {
-                at,
-                kind,
-                method,
-                target,
-                args,
-            } => {
+            SExpr::Call { kind, at, call } => {
+                let Invocation {
+                    method,
+                    target,
+                    args,
+                } = call.get();
                 self.add_two(*at, u32::from(*kind));
-                self.add_bytes(method.get().as_slice());
-                self.add_expr(target.get());
-                self.add_exprs(args.get());
+                self.add_bytes(method.as_slice());
+                self.add_expr(target);
+                self.add_exprs(args);
             }
         }
     }

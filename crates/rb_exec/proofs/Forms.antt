@@ -4,6 +4,8 @@ use Rattle.std.specs.Prelude.{Bool}
 use Rattle.rb_trees.specs.declared.values.Value.{Value}
 use Rattle.rb_trees.specs.declared.code.UnOp.{UnOp}
 use Rattle.rb_trees.specs.declared.code.BinOp.{BinOp}
+use Rattle.rb_trees.specs.declared.scripts.Operands.{Operands}
+use Rattle.rb_trees.specs.declared.scripts.Invocation.{Invocation}
 use Rattle.rb_trees.specs.declared.scripts.SExpr.{SExpr}
 use Rattle.rb_trees.specs.declared.scripts.SExpr.TheVariants as sexpr
 use Rattle.rb_trees.specs.declared.scripts.Step.{Step}
@@ -28,12 +30,13 @@ root_form t is = ap mirror_sexpr is ∙ sexprs.form_Root
 pub unary_form : (t : SExpr) {op : UnOp} {at : ℕ} (a : SExpr) → t ≡ sexpr.Unary op at a → mirror_sexpr t ≡ script.Unary op at (mirror_sexpr a)
 unary_form t {op = op} {at = at} a is = ap mirror_sexpr is ∙ sexprs.form_Unary op at a
 
-pub binary_form : (t : SExpr) {op : BinOp} {at : ℕ} (a b : SExpr) → t ≡ sexpr.Binary op at a b → mirror_sexpr t ≡ script.Binary op at (mirror_sexpr a) (mirror_sexpr b)
-binary_form t {op = op} {at = at} a b is = ap mirror_sexpr is ∙ sexprs.form_Binary op at a b
+pub binary_form : (t : SExpr) {op : BinOp} {at : ℕ} (operands : Operands SExpr) → t ≡ sexpr.Binary op at operands
+    → mirror_sexpr t ≡ script.Binary op at (mirror_sexpr operands.left) (mirror_sexpr operands.right)
+binary_form t {op = op} {at = at} operands is = ap mirror_sexpr is ∙ sexprs.form_Binary op at operands
 
-pub call_form : (t : SExpr) {at kind : ℕ} {method : List ℕ} (a : SExpr) (args : List SExpr) → t ≡ sexpr.Call kind at method a args
-    → mirror_sexpr t ≡ script.Call at kind method (mirror_sexpr a) (mirror_sexprs args)
-call_form t {at = at} {kind = kind} {method = method} a args is = ap mirror_sexpr is ∙ sexprs.form_Call at kind method a args
+pub call_form : (t : SExpr) {at kind : ℕ} (call : Invocation SExpr) → t ≡ sexpr.Call kind at call
+    → mirror_sexpr t ≡ script.Call at kind call.method (mirror_sexpr call.target) (mirror_sexprs call.args)
+call_form t {at = at} {kind = kind} call is = ap mirror_sexpr is ∙ sexprs.form_Call at kind call
 
 pub do_form : (t : Step) {e : SExpr} → t.form ≡ form.Do e → mirror_step t ≡ script.Do t.id t.at (mirror_sexpr e)
 do_form t {e = e} is = steps.at_Step t ∙ ap (λ f. mirror_step_form f t.id t.at) is ∙ steps.form_Do e t.id t.at

@@ -1,5 +1,7 @@
 -- A weight of scripts, which falls at each step into them.
 use Rattle.std.proofs.Common.{ℕ, zero, suc, ◌+◌, ◌<◌, ◌≤◌, max, arith, List, [], ◌∷◌, length, get_or}
+use Rattle.rb_trees.specs.declared.scripts.Operands.{Operands}
+use Rattle.rb_trees.specs.declared.scripts.Invocation.{Invocation}
 use Rattle.rb_trees.specs.declared.scripts.SExpr as sexpr
 use Rattle.rb_trees.specs.declared.scripts.Step as step
 use Rattle.rb_trees.specs.mirror.Scripts as script
@@ -37,6 +39,12 @@ weight_of e = expr_weight (mirror_sexpr e)
 
 abbrev pub weights_of : List sexpr.SExpr → ℕ
 weights_of es = exprs_weight (mirror_sexprs es)
+
+abbrev pub operands_of : Operands sexpr.SExpr → ℕ
+operands_of operands = max (weight_of operands.left) (weight_of operands.right)
+
+abbrev pub invocation_of : Invocation sexpr.SExpr → ℕ
+invocation_of call = max (weight_of call.target) (weights_of call.args)
 
 abbrev pub step_of : step.Step → ℕ
 step_of s = step_weight (mirror_step s)

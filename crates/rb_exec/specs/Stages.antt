@@ -3,6 +3,8 @@ use Rattle.std.specs.Prelude.{ℕ, List, [], ◌∷◌, map, Bool}
 use Rattle.rb_trees.specs.declared.values.Value.{Value}
 use Rattle.rb_trees.specs.declared.code.UnOp.{UnOp}
 use Rattle.rb_trees.specs.declared.code.BinOp.{BinOp}
+use Rattle.rb_trees.specs.declared.scripts.Operands.{Operands}
+use Rattle.rb_trees.specs.declared.scripts.Invocation.{Invocation}
 use Rattle.rb_trees.specs.declared.scripts.SExpr.{SExpr}
 use Rattle.rb_trees.specs.declared.scripts.Step.{Step}
 use Rattle.rb_trees.specs.declared.declarations.Class as class
@@ -33,12 +35,13 @@ values_run st at vars es s = values_of (ground st) at vars (mirror_sexprs es) s
 abbrev pub unary_run : Stage → ℕ → Vars → UnOp → ℕ → SExpr → Server → Reply Value
 unary_run st at vars op place a s = value_of (ground st) at vars (script.Unary op place (mirror_sexpr a)) s
 
-abbrev pub binary_run : Stage → ℕ → Vars → BinOp → ℕ → SExpr → SExpr → Server → Reply Value
-binary_run st at vars op place a b s = value_of (ground st) at vars (script.Binary op place (mirror_sexpr a) (mirror_sexpr b)) s
+abbrev pub binary_run : Stage → ℕ → Vars → BinOp → ℕ → Operands SExpr → Server → Reply Value
+binary_run st at vars op place operands s =
+    value_of (ground st) at vars (script.Binary op place (mirror_sexpr operands.left) (mirror_sexpr operands.right)) s
 
-abbrev pub call_run : Stage → ℕ → Vars → ℕ → ℕ → List ℕ → SExpr → List SExpr → Server → Reply Value
-call_run st at vars place kind method target args s =
-    value_of (ground st) at vars (script.Call place kind method (mirror_sexpr target) (mirror_sexprs args)) s
+abbrev pub call_run : Stage → ℕ → Vars → ℕ → ℕ → Invocation SExpr → Server → Reply Value
+call_run st at vars place kind call s =
+    value_of (ground st) at vars (script.Call place kind call.method (mirror_sexpr call.target) (mirror_sexprs call.args)) s
 
 abbrev pub step_run : Stage → Step → Vars → Server → Meaning
 step_run st step vars s go = run_step (ground st) (mirror_step step) vars s go

@@ -10,7 +10,7 @@ use crate::rules::{input, variable};
 use crate::stage::Stage;
 use crate::variables::Variables;
 use rb_engine::{Miss, Server, at_place, binary, by_left, unary};
-use rb_trees::{BinOp, SExpr, Seq, UnOp, Value, Word, copy_value};
+use rb_trees::{BinOp, Invocation, Operands, SExpr, Seq, UnOp, Value, copy_value};
 use std::alloc::Global;
 
 /// The value of an expression in a step at a position.
@@ -27,14 +27,14 @@ pub fn value_of(
     ensures { Replied (value_run stage.now at variables.now expr.now server.old) result server.new }
 {
     match expr {
-        SExpr::Lit(value) => Ok(copy_value(value)?),
+        SExpr::Lit(value) => Ok(copy_value(value.get())?),
         SExpr::Input(number) => at_place(at, input(alloc, stage.inputs, *number)),
         SExpr::Var(number) => at_place(at, variable(alloc, variables, *number)),
         SExpr::Root => Ok(Value::Remote(stage.root)),
         SExpr::Unary(op, place, a) => {
             unary_value(alloc, stage, server, variables, at, *op, *place, a.get())
         }
-        SExpr::Binary(op, place, a, b) => {
+        SExpr::Binary(op, place, operands) => {
             binary_value(
                 alloc,
                 stage,
@@ -43,16 +43,13 @@ pub fn value_of(
                 at,
                 *op,
                 *place,
-                a.get(),
-                b.get(),
+                operands.get(),
             )
         }
         SExpr::Call {
             at: place,
             kind,
-            method,
-            target,
-            args,
+            call,
         } => {
             call_value(
                 alloc,
@@ -62,9 +59,7 @@ pub fn value_of(
                 at,
                 *place,
                 *kind,
-                method.get(),
-                target.get(),
-                args.get(),
+                call.get(),
             )
         }
     }
@@ -100,17 +95,16 @@ fn binary_value(
     at: u32,
     op: BinOp,
     place: u32,
-    a: &SExpr,
-    b: &SExpr,
+    operands: &Operands<SExpr>,
 ) -> Result<Value, Miss>
-    ensures { Replied (binary_run stage.now at variables.now op place a.now b.now server.old) result server.new }
+    ensures { Replied (binary_run stage.now at variables.now op place operands.now server.old) result server.new }
 {
-    let left = value_of(alloc, stage, server, variables, at, a)?;
+    let left = value_of(alloc, stage, server, variables, at, &operands.left)?;
     let decided = at_place(place, by_left(alloc, op, &left))?;
     match decided {
         Some(value) => Ok(value),
         None => {
-            let right = value_of(alloc, stage, server, variables, at, b)?;
+            let right = value_of(alloc, stage, server, variables, at, &operands.right)?;
             at_place(place, binary(alloc, op, left, right))
         }
     }
@@ -127,21 +121,19 @@ fn call_value(
     at: u32,
     place: u32,
     kind: u8,
-    method: &Word,
-    target: &SExpr,
-    args: &Seq<SExpr>,
+    call: &Invocation<SExpr>,
 ) -> Result<Value, Miss>
-    ensures { Replied (call_run stage.now at variables.now place kind method.now target.now args.now server.old) result server.new }
+    ensures { Replied (call_run stage.now at variables.now place kind call.now server.old) result server.new }
 {
-    let receiver = value_of(alloc, stage, server, variables, at, target)?;
-    let values = values_of(alloc, stage, server, variables, at, args.as_slice())?;
+    let receiver = value_of(alloc, stage, server, variables, at, &call.target)?;
+    let values = values_of(alloc, stage, server, variables, at, call.args.as_slice())?;
     server.invoke(
         alloc,
         stage.code,
         place,
         kind,
         receiver,
-        method.as_slice(),
+        call.method.as_slice(),
         values,
     )
 }

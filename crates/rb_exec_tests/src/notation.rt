@@ -6,7 +6,10 @@
 // C arguments and of kind K, the receiver first. Operators and calls stand at the positions from 1 on, in order.
 
 use crate::reader::Reader;
-use rb_trees::{BinOp, Boxed, Memory, SExpr, Seq, Shared, Step, StepForm, UnOp, Value, Word};
+use rb_trees::{
+    BinOp, Boxed, Invocation, Memory, Operands, SExpr, Seq, Shared, Step, StepForm, UnOp, Value,
+    Word,
+};
 use std::alloc::Global;
 
 /// The most steps of a block.
@@ -68,20 +71,23 @@ pub fn text_value(alloc: Global, word: &str) -> Result<Value, Memory> {
     Ok(Value::Text(Shared::new(alloc, bytes(alloc, word)?)?))
 }
 
-/// The literal of a word without a mark.
-fn literal(word: &str) -> SExpr {
+/// The value of a word without a mark.
+fn plain_value(word: &str) -> Value {
     match word {
-        "root" => SExpr::Root,
-        "true" => SExpr::Lit(Value::Bool(true)),
-        "false" => SExpr::Lit(Value::Bool(false)),
-        _ => SExpr::Lit(Value::Int(word.parse::<i64>().unwrap_or(0))),
+        "true" => Value::Bool(true),
+        "false" => Value::Bool(false),
+        _ => Value::Int(word.parse::<i64>().unwrap_or(0)),
     }
+}
+
+fn literal(alloc: Global, value: Value) -> Result<SExpr, Memory> {
+    Ok(SExpr::Lit(Boxed::new(alloc, value)?))
 }
 
 /// An expression of one word.
 fn single(alloc: Global, word: &str) -> Result<SExpr, Memory> {
     if let Some(rest) = word.strip_prefix('\'') {
-        return Ok(SExpr::Lit(text_value(alloc, rest)?));
+        return literal(alloc, text_value(alloc, rest)?);
     }
     if let Some(variable) = word.strip_prefix('$') {
         return Ok(SExpr::Var(variable.parse::<u32>().unwrap_or(0)));
@@ -89,12 +95,10 @@ fn single(alloc: Global, word: &str) -> Result<SExpr, Memory> {
     if let Some(input) = word.strip_prefix('%') {
         return Ok(SExpr::Input(input.parse::<u8>().unwrap_or(0)));
     }
-    Ok(literal(word))
-}
-
-#[cycle(exprs)]
-fn boxed(alloc: Global, reader: &mut Reader<'_>, depth: u32) -> Result<Boxed<SExpr>, Memory> {
-    Boxed::new(alloc, expr(alloc, reader, depth)?)
+    if word == "root" {
+        return Ok(SExpr::Root);
+    }
+    literal(alloc, plain_value(word))
 }
 
 #[cycle(exprs)]
@@ -103,15 +107,15 @@ fn call(alloc: Global, reader: &mut Reader<'_>, depth: u32) -> Result<SExpr, Mem
     let count = reader.number();
     let kind = reader.word().parse::<u8>().unwrap_or(0);
     let method = bytes(alloc, reader.word())?;
-    let target = boxed(alloc, reader, depth)?;
+    let target = expr(alloc, reader, depth)?;
     let args = exprs(alloc, reader, count, depth)?;
-    Ok(SExpr::Call {
-        at,
-        kind,
-        method: Boxed::new(alloc, method)?,
+    let call = Invocation {
+        method,
         target,
-        args: Boxed::new(alloc, args)?,
-    })
+        args,
+    };
+    let call = Boxed::new(alloc, call)?;
+    Ok(SExpr::Call { kind, at, call })
 }
 
 #[cycle(exprs)]
@@ -131,15 +135,17 @@ fn exprs(
 #[cycle(exprs)]
 fn unary(alloc: Global, reader: &mut Reader<'_>, op: UnOp, depth: u32) -> Result<SExpr, Memory> {
     let at = reader.place();
-    Ok(SExpr::Unary(op, at, boxed(alloc, reader, depth)?))
+    let operand = expr(alloc, reader, depth)?;
+    Ok(SExpr::Unary(op, at, Boxed::new(alloc, operand)?))
 }
 
 #[cycle(exprs)]
 fn binary(alloc: Global, reader: &mut Reader<'_>, op: BinOp, depth: u32) -> Result<SExpr, Memory> {
     let at = reader.place();
-    let left = boxed(alloc, reader, depth)?;
-    let right = boxed(alloc, reader, depth)?;
-    Ok(SExpr::Binary(op, at, left, right))
+    let left = expr(alloc, reader, depth)?;
+    let right = expr(alloc, reader, depth)?;
+    let operands = Operands { left, right };
+    Ok(SExpr::Binary(op, at, Boxed::new(alloc, operands)?))
 }
 
 #[cycle(exprs)]

@@ -1,6 +1,9 @@
 // Steps of scripts, added to a block for tests.
 
-use rb_trees::{BinOp, Boxed, Memory, SExpr, Seq, Shared, Step, StepForm, UnOp, Value, Word};
+use rb_trees::{
+    BinOp, Boxed, Invocation, Memory, Operands, SExpr, Seq, Shared, Step, StepForm, UnOp, Value,
+    Word,
+};
 use std::alloc::Global;
 
 /// A word of this text.
@@ -19,13 +22,18 @@ pub fn add_do(expr: SExpr, into: &mut Seq<Step>) -> Result<(), Memory> {
     add(StepForm::Do(expr), into)
 }
 
+/// Adds a step that performs a literal.
+fn add_literal(alloc: Global, value: Value, into: &mut Seq<Step>) -> Result<(), Memory> {
+    add_do(SExpr::Lit(Boxed::new(alloc, value)?), into)
+}
+
 /// Adds a step for each literal and each name.
 pub fn add_literals(alloc: Global, into: &mut Seq<Step>) -> Result<(), Memory> {
     let text = Shared::new(alloc, word(alloc, "a \"b\"\n")?)?;
-    add_do(SExpr::Lit(Value::Text(text)), into)?;
-    add_do(SExpr::Lit(Value::Int(-7)), into)?;
-    add_do(SExpr::Lit(Value::Int(i64::MIN)), into)?;
-    add_do(SExpr::Lit(Value::Bool(true)), into)?;
+    add_literal(alloc, Value::Text(text), into)?;
+    add_literal(alloc, Value::Int(-7), into)?;
+    add_literal(alloc, Value::Int(i64::MIN), into)?;
+    add_literal(alloc, Value::Bool(true), into)?;
     add_do(SExpr::Input(12), into)?;
     add_do(SExpr::Var(3), into)?;
     add_do(SExpr::Root, into)
@@ -57,23 +65,27 @@ pub fn add_binary(alloc: Global, into: &mut Seq<Step>) -> Result<(), Memory> {
         BinOp::And,
         BinOp::Or,
     ] {
-        let left = Boxed::new(alloc, SExpr::Var(1))?;
-        let right = Boxed::new(alloc, SExpr::Input(2))?;
-        add_do(SExpr::Binary(op, 1, left, right), into)?;
+        let operands = Operands {
+            left: SExpr::Var(1),
+            right: SExpr::Input(2),
+        };
+        add_do(SExpr::Binary(op, 1, Boxed::new(alloc, operands)?), into)?;
     }
     Ok(())
 }
 
 /// A call on the root with these arguments.
 pub fn call(alloc: Global, method: &str, args: Seq<SExpr>) -> Result<SExpr, Memory> {
-    let args = Boxed::new(alloc, args)?;
-    let method = Boxed::new(alloc, word(alloc, method)?)?;
-    Ok(SExpr::Call {
-        at: 1,
-        kind: 0,
-        method,
-        target: Boxed::new(alloc, SExpr::Root)?,
+    let call = Invocation {
+        method: word(alloc, method)?,
+        target: SExpr::Root,
         args,
+    };
+    let call = Boxed::new(alloc, call)?;
+    Ok(SExpr::Call {
+        kind: 0,
+        at: 1,
+        call,
     })
 }
 

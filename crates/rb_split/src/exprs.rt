@@ -12,7 +12,8 @@ ghost use Rattle.rb_split.specs.Views.{all_in_script, in_script, ref_of};
 use crate::kinds::call_kind;
 use crate::refs::{Refs, Target};
 use rb_trees::{
-    BinOp, Boxed, Expr, ExprForm, Memory, SExpr, Seq, UnOp, Word, copy_value, copy_word,
+    BinOp, Boxed, Expr, ExprForm, Invocation, Memory, Operands, SExpr, Seq, UnOp, Word, copy_value,
+    copy_word,
 };
 use rb_types::Typed;
 use std::alloc::Global;
@@ -40,16 +41,13 @@ fn call_of(
 ) -> Result<SExpr, Memory>
     ensures { IfOk result (λ e. mirror_sexpr e ≡ script.Call at kind method.now (mirror_sexpr target) (mirror_sexprs args)) }
 {
-    let target = Boxed::new(alloc, target)?;
-    let args = Boxed::new(alloc, args)?;
-    let method = Boxed::new(alloc, copy_word(alloc, method)?)?;
-    Ok(SExpr::Call {
-        at,
-        kind,
-        method,
+    let call = Invocation {
+        method: copy_word(alloc, method)?,
         target,
         args,
-    })
+    };
+    let call = Boxed::new(alloc, call)?;
+    Ok(SExpr::Call { kind, at, call })
 }
 
 // An operator whose operand is made already.
@@ -64,9 +62,8 @@ fn unary_of(alloc: Global, op: UnOp, at: u32, a: SExpr) -> Result<SExpr, Memory>
 fn binary_of(alloc: Global, op: BinOp, at: u32, a: SExpr, b: SExpr) -> Result<SExpr, Memory>
     ensures { IfOk result (λ e. mirror_sexpr e ≡ script.Binary op at (mirror_sexpr a) (mirror_sexpr b)) }
 {
-    let a = Boxed::new(alloc, a)?;
-    let b = Boxed::new(alloc, b)?;
-    Ok(SExpr::Binary(op, at, a, b))
+    let operands = Operands { left: a, right: b };
+    Ok(SExpr::Binary(op, at, Boxed::new(alloc, operands)?))
 }
 
 /// A portable expression in a script: `sexpr`.
@@ -75,7 +72,7 @@ pub fn script_expr(alloc: Global, x: &Typed, refs: &Refs, e: &Expr) -> Result<SE
     ensures { IfOk result (λ s. mirror_sexpr s ≡ in_script x.now refs.now e.now) }
 {
     match &e.form {
-        ExprForm::Lit(value) => Ok(SExpr::Lit(copy_value(value)?)),
+        ExprForm::Lit(value) => Ok(SExpr::Lit(Boxed::new(alloc, copy_value(value)?)?)),
         ExprForm::Name(name) => Ok(of_target(refs.find(name))),
         ExprForm::Unary(op, a) => {
             let a = script_expr(alloc, x, refs, a.get())?;

@@ -3,7 +3,7 @@
 // A step is its number, its form and its expression, as `3 let v0! r.file(i0,L)`, where `!` says that its value is kept. An input
 // is `i0`, a variable `v0`, the root `r`, and a literal `L`. Before a call's name stands its kind.
 
-use rb_trees::{Memory, SExpr, Seq, Step, StepForm, Word};
+use rb_trees::{Invocation, Memory, Operands, SExpr, Seq, Step, StepForm, Word};
 use std::alloc::Global;
 
 /// Adds a number behind a letter.
@@ -23,22 +23,22 @@ fn add_expr(alloc: Global, e: &SExpr, into: &mut Word) -> Result<(), Memory> {
             into.push(b'~')?;
             add_expr(alloc, a.get(), into)
         }
-        SExpr::Binary(_, _, a, b) => {
-            add_expr(alloc, a.get(), into)?;
+        SExpr::Binary(_, _, operands) => {
+            let Operands { left, right } = operands.get();
+            add_expr(alloc, left, into)?;
             into.push(b'+')?;
-            add_expr(alloc, b.get(), into)
+            add_expr(alloc, right, into)
         }
-        SExpr::Call {
-            kind,
-            method,
-            target,
-            args,
-            ..
-        } => {
-            add_expr(alloc, target.get(), into)?;
+        SExpr::Call { kind, call, .. } => {
+            let Invocation {
+                method,
+                target,
+                args,
+            } = call.get();
+            add_expr(alloc, target, into)?;
             add_number(alloc, ".", u32::from(*kind), into)?;
-            into.extend_from_slice(method.get().as_slice())?;
-            add_exprs(alloc, args.get(), into)
+            into.extend_from_slice(method.as_slice())?;
+            add_exprs(alloc, args, into)
         }
     }
 }

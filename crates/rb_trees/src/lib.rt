@@ -45,7 +45,7 @@ pub use printing::{print_expr, print_program, print_stmt, two_more};
 pub use reading::{LexError, ReadError};
 pub use refusals::Refusal;
 pub use remainders::{Part, Split};
-pub use scripts::{SExpr, Script, Step, StepForm};
+pub use scripts::{Invocation, Operands, SExpr, Script, Step, StepForm};
 pub use sequence::{Seq, Word};
 pub use services::{Literal, Object, ObjectText, Service, ServiceText};
 pub use shared::Shared;

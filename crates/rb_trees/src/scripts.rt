@@ -47,11 +47,29 @@ pub enum StepForm {
     },
 }
 
+/// Both operands of an operator.
+#[derive(Drop)]
+pub struct Operands<E> {
+    pub left: E,
+    pub right: E,
+}
+
+/// What a remote call names: the method, the object that has it, and the arguments.
+#[derive(Drop)]
+pub struct Invocation<E> {
+    pub method: Word,
+    pub target: E,
+    pub args: Seq<E>,
+}
+
 /// An expression of a script. Operators and calls have their position in the source.
+///
+/// What is larger than a number stands in one box, and small fields come first, so that an expression has 16 bytes: a hostile
+/// script may have one for each of its bytes.
 #[derive(Drop)]
 pub enum SExpr {
     /// A literal: an Int, a Bool or a Text.
-    Lit(Value),
+    Lit(Boxed<Value>),
     /// An input, by its number from 0.
     Input(u8),
     /// A variable of the script, by its number.
@@ -59,16 +77,13 @@ pub enum SExpr {
     /// The root object of the service.
     Root,
     Unary(UnOp, u32, Boxed<SExpr>),
-    Binary(BinOp, u32, Boxed<SExpr>, Boxed<SExpr>),
-    /// A remote call. Its kind, from 0 to 8, says what its result must be. Its parts are boxed and its small fields come
-    /// first, so that an expression has 32 bytes: a hostile script may have one for each of its bytes.
+    Binary(BinOp, u32, Boxed<Operands<SExpr>>),
+    /// A remote call. Its kind, from 0 to 8, says what its result must be.
     Call {
         kind: u8,
         at: u32,
-        method: Boxed<Word>,
-        target: Boxed<SExpr>,
-        args: Boxed<Seq<SExpr>>,
+        call: Boxed<Invocation<SExpr>>,
     },
 }
 
-const _: () = prove!(size_of::<SExpr>() <= 32);
+const _: () = prove!(size_of::<SExpr>() <= 16);

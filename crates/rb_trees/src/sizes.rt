@@ -4,7 +4,7 @@ ghost use Rattle.std.specs.Prelude.{◌≡◌};
 ghost use Rattle.rb_trees.specs.mirror.Scripts.{mirror_sexpr, mirror_sexprs, mirror_step, mirror_steps, mirror_script};
 ghost use Rattle.rb_trees.specs.CodeSize.{capped, value_size, expr_size, exprs_size, step_size, block_size, code_size_of};
 
-use crate::scripts::{SExpr, Script, Step, StepForm};
+use crate::scripts::{Invocation, Operands, SExpr, Script, Step, StepForm};
 use crate::values::Value;
 
 #[tactic(auto, using(crate::proofs::rules::Sizes::values))]
@@ -25,25 +25,28 @@ fn size_of_expr(expr: &SExpr) -> u64
     ensures { result ≡ capped (expr_size (mirror_sexpr expr.now)) }
 {
     match expr {
-        SExpr::Lit(value) => size_of_value(value).saturating_add(1),
+        SExpr::Lit(value) => size_of_value(value.get()).saturating_add(1),
         SExpr::Input(_) => 2,
         SExpr::Var(_) => 5,
         SExpr::Root => 1,
         SExpr::Unary(_, _, operand) => size_of_expr(operand.get()).saturating_add(6),
-        SExpr::Binary(_, _, left, right) => size_of_expr(left.get())
-            .saturating_add(size_of_expr(right.get()))
-            .saturating_add(6),
-        SExpr::Call {
-            method,
-            target,
-            args,
-            ..
-        } => {
-            let args = size_of_exprs(args.get().as_slice());
-            size_of_expr(target.get())
+        SExpr::Binary(_, _, operands) => {
+            let Operands { left, right } = operands.get();
+            size_of_expr(left)
+                .saturating_add(size_of_expr(right))
+                .saturating_add(6)
+        }
+        SExpr::Call { call, .. } => {
+            let Invocation {
+                method,
+                target,
+                args,
+            } = call.get();
+            let args = size_of_exprs(args.as_slice());
+            size_of_expr(target)
                 .saturating_add(args)
                 .saturating_add(14)
-                .saturating_add(method.get().len() as u64)
+                .saturating_add(method.len() as u64)
         }
     }
 }

@@ -5,7 +5,7 @@ ghost use Rattle.rb_trees.specs.mirror.Scripts.{mirror_sexpr, mirror_sexprs, mir
 ghost use Rattle.rb_trees.specs.Validity.{has, first, nested_blocks, expr_refusals, exprs_refusals, whole_refusals, step_numbers, steps_numbers, step_lets, steps_lets, step_refusals, steps_refusals, verdict};
 ghost use Rattle.rb_trees.specs.Scopes.{seen, bound};
 
-use crate::scripts::{SExpr, Script, Step, StepForm};
+use crate::scripts::{Invocation, Operands, SExpr, Script, Step, StepForm};
 use thiserror::Error;
 
 /// The greatest number of blocks within each other.
@@ -153,13 +153,15 @@ fn check_expr(
             }
         }
         SExpr::Unary(_, _, operand) => check_expr(operand.get(), inputs, scope, step, depth + 1),
-        SExpr::Binary(_, _, left, right) => {
-            check_expr(left.get(), inputs, scope, step, depth + 1)?;
-            check_expr(right.get(), inputs, scope, step, depth + 1)
+        SExpr::Binary(_, _, operands) => {
+            let Operands { left, right } = operands.get();
+            check_expr(left, inputs, scope, step, depth + 1)?;
+            check_expr(right, inputs, scope, step, depth + 1)
         }
-        SExpr::Call { target, args, .. } => {
-            check_expr(target.get(), inputs, scope, step, depth + 1)?;
-            check_exprs(args.get().as_slice(), inputs, scope, step, depth + 1)
+        SExpr::Call { call, .. } => {
+            let Invocation { target, args, .. } = call.get();
+            check_expr(target, inputs, scope, step, depth + 1)?;
+            check_exprs(args.as_slice(), inputs, scope, step, depth + 1)
         }
     }
 }

@@ -8,7 +8,7 @@ ghost use Rattle.rb_trees.specs.Validity.{has, first, nested_blocks, expr_refusa
 ghost use Rattle.rb_wire_script.specs.Stops.{rule_of};
 
 use crate::numbers::Numbers;
-use rb_trees::{Memory, SExpr, Script, ScriptRefusal, Step, StepForm};
+use rb_trees::{Invocation, Memory, Operands, SExpr, Script, ScriptRefusal, Step, StepForm};
 use std::alloc::Global;
 
 /// The greatest number of blocks within each other.
@@ -79,13 +79,15 @@ fn check_expr(
             }
         }
         SExpr::Unary(_, _, operand) => check_expr(operand.get(), inputs, bound, step, depth + 1),
-        SExpr::Binary(_, _, left, right) => {
-            check_expr(left.get(), inputs, bound, step, depth + 1)?;
-            check_expr(right.get(), inputs, bound, step, depth + 1)
+        SExpr::Binary(_, _, operands) => {
+            let Operands { left, right } = operands.get();
+            check_expr(left, inputs, bound, step, depth + 1)?;
+            check_expr(right, inputs, bound, step, depth + 1)
         }
-        SExpr::Call { target, args, .. } => {
-            check_expr(target.get(), inputs, bound, step, depth + 1)?;
-            check_exprs(args.get().as_slice(), inputs, bound, step, depth + 1)
+        SExpr::Call { call, .. } => {
+            let Invocation { target, args, .. } = call.get();
+            check_expr(target, inputs, bound, step, depth + 1)?;
+            check_exprs(args.as_slice(), inputs, bound, step, depth + 1)
         }
     }
 }

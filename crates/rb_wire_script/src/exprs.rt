@@ -10,7 +10,7 @@ ghost use Rattle.rb_wire_fields.specs.Stops.{fault_of};
 
 use crate::names::name;
 use crate::operators::{binary_op, kind, unary_op};
-use rb_trees::{Boxed, SExpr, Seq};
+use rb_trees::{Boxed, Invocation, Operands, SExpr, Seq};
 use rb_wire_fields::fields::{bad_tag, byte, number, too_deep};
 use rb_wire_fields::stop::Stop;
 use rb_wire_fields::texts::value;
@@ -30,7 +30,7 @@ pub(crate) fn expr(alloc: Global, left: usize, bytes: &[u8]) -> Result<(SExpr, &
     match tag {
         0x20 => {
             let (value, rest) = value(alloc, rest)?;
-            Ok((SExpr::Lit(value), rest))
+            Ok((SExpr::Lit(Boxed::new(alloc, value)?), rest))
         }
         0x21 => {
             let (input, rest) = byte(rest)?;
@@ -70,10 +70,13 @@ fn binary(alloc: Global, left: usize, bytes: &[u8]) -> Result<(SExpr, &[u8]), St
 {
     let (op, rest) = binary_op(bytes)?;
     let (at, rest) = number(rest)?;
-    let (a, rest) = expr(alloc, left, rest)?;
-    let (b, rest) = expr(alloc, left, rest)?;
-    let (a, b) = (Boxed::new(alloc, a)?, Boxed::new(alloc, b)?);
-    Ok((SExpr::Binary(op, at, a, b), rest))
+    let (first, rest) = expr(alloc, left, rest)?;
+    let (second, rest) = expr(alloc, left, rest)?;
+    let operands = Operands {
+        left: first,
+        right: second,
+    };
+    Ok((SExpr::Binary(op, at, Boxed::new(alloc, operands)?), rest))
 }
 
 /// A call, in whose target and arguments at most so many are within each other.
@@ -89,14 +92,13 @@ fn call(alloc: Global, left: usize, bytes: &[u8]) -> Result<(SExpr, &[u8]), Stop
     let (target, rest) = expr(alloc, left, rest)?;
     let (count, rest) = number(rest)?;
     let (args, rest) = exprs(alloc, left, count, rest)?;
-    let call = SExpr::Call {
-        at,
-        kind,
-        method: Boxed::new(alloc, method)?,
-        target: Boxed::new(alloc, target)?,
-        args: Boxed::new(alloc, args)?,
+    let call = Invocation {
+        method,
+        target,
+        args,
     };
-    Ok((call, rest))
+    let call = Boxed::new(alloc, call)?;
+    Ok((SExpr::Call { kind, at, call }, rest))
 }
 
 /// So many expressions.

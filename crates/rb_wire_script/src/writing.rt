@@ -8,7 +8,7 @@ ghost use Rattle.rb_wire_fields.specs.Buffers.{Keeps};
 
 use crate::codes::{code_of_binary, code_of_unary};
 use bytes::{BufMut, BytesMut};
-use rb_trees::{Memory, SExpr, Step, StepForm};
+use rb_trees::{Invocation, Memory, Operands, SExpr, Step, StepForm};
 use rb_wire_fields::puts::{put_count, put_number, put_text, put_truth, put_value};
 
 /// What an operation begins with: its tag, the code of its operator and its position.
@@ -46,7 +46,7 @@ fn put_expr(e: &SExpr, into: &mut BytesMut) -> Result<(), Memory>
     match e {
         SExpr::Lit(value) => {
             into.put_u8(0x20)?;
-            put_value(value, into)?;
+            put_value(value.get(), into)?;
             Ok(())
         }
         SExpr::Input(number) => {
@@ -68,23 +68,23 @@ fn put_expr(e: &SExpr, into: &mut BytesMut) -> Result<(), Memory>
             put_expr(a.get(), into)?;
             Ok(())
         }
-        SExpr::Binary(op, at, a, b) => {
+        SExpr::Binary(op, at, operands) => {
+            let Operands { left, right } = operands.get();
             put_operator(0x25, code_of_binary(*op), *at, into)?;
-            put_expr(a.get(), into)?;
-            put_expr(b.get(), into)?;
+            put_expr(left, into)?;
+            put_expr(right, into)?;
             Ok(())
         }
-        SExpr::Call {
-            at,
-            kind,
-            method,
-            target,
-            args,
-        } => {
-            put_method(*at, *kind, method.get().as_slice(), into)?;
-            put_expr(target.get(), into)?;
-            put_count(args.get().len(), into)?;
-            put_exprs(args.get().as_slice(), into)?;
+        SExpr::Call { kind, at, call } => {
+            let Invocation {
+                method,
+                target,
+                args,
+            } = call.get();
+            put_method(*at, *kind, method.as_slice(), into)?;
+            put_expr(target, into)?;
+            put_count(args.len(), into)?;
+            put_exprs(args.as_slice(), into)?;
             Ok(())
         }
     }

@@ -8,7 +8,7 @@ ghost use Rattle.rb_shown.specs.Views.{unary_name, binary_name, shown_variable, 
 
 use crate::literals::add_literal;
 use crate::primitives::add_number;
-use rb_trees::{BinOp, Memory, SExpr, UnOp, Word};
+use rb_trees::{BinOp, Invocation, Memory, Operands, SExpr, UnOp, Word};
 use std::alloc::Global;
 
 // The name of an operator with one operand.
@@ -78,7 +78,7 @@ pub fn add_sexpr(alloc: Global, expr: &SExpr, into: &mut Word) -> Result<(), Mem
     ensures { Appends (shown_sexpr (mirror_sexpr expr.now)) into.old result into.new }
 {
     match expr {
-        SExpr::Lit(value) => add_literal(alloc, value, into),
+        SExpr::Lit(value) => add_literal(alloc, value.get(), into),
         SExpr::Input(number) => add_input(alloc, *number, into),
         SExpr::Var(number) => add_variable(alloc, *number, into),
         SExpr::Root => into.extend_from_slice(b"root"),
@@ -86,20 +86,21 @@ pub fn add_sexpr(alloc: Global, expr: &SExpr, into: &mut Word) -> Result<(), Mem
             add_opened(name_of_unary(*op), into)?;
             add_last(alloc, operand.get(), into)
         }
-        SExpr::Binary(op, _, left, right) => {
+        SExpr::Binary(op, _, operands) => {
+            let Operands { left, right } = operands.get();
             add_opened(name_of_binary(*op), into)?;
-            add_sexpr(alloc, left.get(), into)?;
+            add_sexpr(alloc, left, into)?;
             into.extend_from_slice(b", ")?;
-            add_last(alloc, right.get(), into)
+            add_last(alloc, right, into)
         }
-        SExpr::Call {
-            method,
-            target,
-            args,
-            ..
-        } => {
-            add_sexpr(alloc, target.get(), into)?;
-            add_call(alloc, method.get(), args.get().as_slice(), into)
+        SExpr::Call { call, .. } => {
+            let Invocation {
+                method,
+                target,
+                args,
+            } = call.get();
+            add_sexpr(alloc, target, into)?;
+            add_call(alloc, method, args.as_slice(), into)
         }
     }
 }

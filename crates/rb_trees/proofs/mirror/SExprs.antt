@@ -3,6 +3,8 @@ use Rattle.std.proofs.Common.{◌≡◌, ℕ, List, [], ◌∷◌, map, ap, sym,
 use Rattle.rb_trees.specs.declared.values.Value.{Value}
 use Rattle.rb_trees.specs.declared.code.UnOp.{UnOp}
 use Rattle.rb_trees.specs.declared.code.BinOp.{BinOp}
+use Rattle.rb_trees.specs.declared.scripts.Operands.{Operands}
+use Rattle.rb_trees.specs.declared.scripts.Invocation.{Invocation}
 use Rattle.rb_trees.specs.declared.scripts.SExpr as tree
 use Rattle.rb_trees.specs.declared.scripts.SExpr.TheVariants as form
 use Rattle.rb_trees.specs.declared.scripts.SExpr.TheOpen.{SExpr-F}
@@ -34,12 +36,12 @@ pub form_Unary : (op : UnOp) (at : ℕ) (a : tree.SExpr) → mirror_sexpr (form.
 unfolding mirror_sexpr
 form_Unary op at a = ap mirror_sexpr (sym (form.rolls-Unary op at a)) ∙ fold-roll-SExpr SExpr sexpr_step (SExpr-F.Unary op at a)
 
-pub form_Binary : (op : BinOp) (at : ℕ) (a : tree.SExpr) (b : tree.SExpr) → mirror_sexpr (form.Binary op at a b) ≡ Binary op at (mirror_sexpr a) (mirror_sexpr b)
+pub form_Binary : (op : BinOp) (at : ℕ) (operands : Operands tree.SExpr) → mirror_sexpr (form.Binary op at operands) ≡ Binary op at (mirror_sexpr operands.left) (mirror_sexpr operands.right)
 unfolding mirror_sexpr
-form_Binary op at a b = ap mirror_sexpr (sym (form.rolls-Binary op at a b)) ∙ fold-roll-SExpr SExpr sexpr_step (SExpr-F.Binary op at a b)
+form_Binary op at operands = ap mirror_sexpr (sym (form.rolls-Binary op at operands)) ∙ fold-roll-SExpr SExpr sexpr_step (SExpr-F.Binary op at operands)
 
-pub form_Call : (at : ℕ) (kind : ℕ) (method : List ℕ) (target : tree.SExpr) (args : List tree.SExpr) → mirror_sexpr (form.Call kind at method target args) ≡ Call at kind method (mirror_sexpr target) (mirror_sexprs args)
+pub form_Call : (at : ℕ) (kind : ℕ) (call : Invocation tree.SExpr) → mirror_sexpr (form.Call kind at call) ≡ Call at kind call.method (mirror_sexpr call.target) (mirror_sexprs call.args)
 unfolding mirror_sexpr
-form_Call at kind method target args = ap mirror_sexpr (sym (form.rolls-Call kind at method target args)) ∙ fold-roll-SExpr SExpr sexpr_step (SExpr-F.Call kind at method target args) ∙ ap (λ x. Call at kind method (mirror_sexpr target) x) (sexprs_lists args)
+form_Call at kind call = ap mirror_sexpr (sym (form.rolls-Call kind at call)) ∙ fold-roll-SExpr SExpr sexpr_step (SExpr-F.Call kind at call) ∙ ap (λ x. Call at kind call.method (mirror_sexpr call.target) x) (sexprs_lists call.args)
 
 pub ruleset sexprs = (form_Lit, form_Input, form_Var, form_Root, form_Unary, form_Binary, form_Call)

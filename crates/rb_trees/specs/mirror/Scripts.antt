@@ -52,8 +52,8 @@ sexpr_step (SExpr-F.Input number) = Input number
 sexpr_step (SExpr-F.Var number) = Var number
 sexpr_step SExpr-F.Root = Root
 sexpr_step (SExpr-F.Unary op at a) = Unary op at a
-sexpr_step (SExpr-F.Binary op at a b) = Binary op at a b
-sexpr_step (SExpr-F.Call kind at method target args) = Call at kind method target (sexprs_from args)
+sexpr_step (SExpr-F.Binary op at operands) = Binary op at operands.left operands.right
+sexpr_step (SExpr-F.Call kind at call) = Call at kind call.method call.target (sexprs_from call.args)
 
 -- an expression of a script in the mirror
 unfoldable pub mirror_sexpr : expr.SExpr → SExpr

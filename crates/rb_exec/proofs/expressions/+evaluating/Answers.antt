@@ -3,17 +3,17 @@ use Rattle.std.proofs.Common.{refl, arith, ap, sym}
 use Rattle.rb_meaning_code.specs.Remote.{Got}
 use Rattle.rb_exec.proofs.Forms.{lit_form, input_form, var_form, root_form, unary_form, binary_form, call_form}
 use Rattle.rb_exec.proofs.Replies.{given, ruled, of_form}
-use Rattle.rb_exec.proofs.Weight.{expr_weight, weight_of, weights_of, expr_in}
+use Rattle.rb_exec.proofs.Weight.{expr_weight, weight_of, operands_of, invocation_of, expr_in}
 use Rattle.rb_exec.proofs.expressions.+evaluating.Goals as goal
 
 pub value_of-unary_value-requires : goal.value_of-unary_value-requires
 value_of-unary_value-requires t c = let w = ap expr_weight (unary_form c.args.expr.now c.in-Unary.a c.in-Unary.is) in let e = ap weight_of c.get.ensures in omega arith
 
 pub value_of-binary_value-requires : goal.value_of-binary_value-requires
-value_of-binary_value-requires t c = let w = ap expr_weight (binary_form c.args.expr.now c.in-Binary.a c.in-Binary.b c.in-Binary.is) in let e = ap weight_of c.get-in-Binary.ensures in let f = ap weight_of c.get-in-Binary-2.ensures in omega arith
+value_of-binary_value-requires t c = let w = ap expr_weight (binary_form c.args.expr.now c.in-Binary.operands c.in-Binary.is) in let e = ap operands_of c.get-in-Binary.ensures in omega arith
 
 pub value_of-call_value-requires : goal.value_of-call_value-requires
-value_of-call_value-requires t c = let w = ap expr_weight (call_form c.args.expr.now c.in-Call.target c.in-Call.args c.in-Call.is) in let e = ap weight_of c.get-in-Call-2.ensures in let f = ap weights_of c.get-in-Call-3.ensures in omega arith
+value_of-call_value-requires t c = let w = ap expr_weight (call_form c.args.expr.now c.in-Call.call c.in-Call.is) in let e = ap invocation_of c.get-in-Call.ensures in omega arith
 
 pub value_of-returns-in_ok-copy_value-in-Lit : goal.value_of-returns-in_ok-copy_value-in-Lit
 value_of-returns-in_ok-copy_value-in-Lit t c =
@@ -32,10 +32,10 @@ pub value_of-returns-in-Unary : goal.value_of-returns-in-Unary
 value_of-returns-in-Unary t c = of_form c.args.stage.now c.args.at c.args.variables.now c.args.server.now c.args.expr.now (unary_form c.args.expr.now _ c.in-Unary.is) (rw (← c.get.ensures) c.unary_value.ensures)
 
 pub value_of-returns-in-Binary : goal.value_of-returns-in-Binary
-value_of-returns-in-Binary t c = of_form c.args.stage.now c.args.at c.args.variables.now c.args.server.now c.args.expr.now (binary_form c.args.expr.now _ _ c.in-Binary.is) (rw (← c.get-in-Binary.ensures, ← c.get-in-Binary-2.ensures) c.binary_value.ensures)
+value_of-returns-in-Binary t c = of_form c.args.stage.now c.args.at c.args.variables.now c.args.server.now c.args.expr.now (binary_form c.args.expr.now _ c.in-Binary.is) (rw (← c.get-in-Binary.ensures) c.binary_value.ensures)
 
 pub value_of-returns-in-Call : goal.value_of-returns-in-Call
-value_of-returns-in-Call t c = of_form c.args.stage.now c.args.at c.args.variables.now c.args.server.now c.args.expr.now (call_form c.args.expr.now _ _ c.in-Call.is) (rw (← c.get-in-Call.ensures, ← c.get-in-Call-2.ensures, ← c.get-in-Call-3.ensures) c.call_value.ensures)
+value_of-returns-in-Call t c = of_form c.args.stage.now c.args.at c.args.variables.now c.args.server.now c.args.expr.now (call_form c.args.expr.now _ c.in-Call.is) (rw (← c.get-in-Call.ensures) c.call_value.ensures)
 
 pub values_of-value_of-requires : goal.values_of-value_of-requires
 values_of-value_of-requires t c = let w = expr_in c.args.exprs.now c.exprs.expr-index c.expr-item.result (omega arith) in let e = ap weight_of c.expr-item.is in omega arith
