@@ -37,7 +37,9 @@ pub fn payload_of(alloc: Global, shape: Shape, most: u32) -> Result<BytesMut, Me
         Shape::Blocks => put_blocks(most, &mut into)?,
         Shape::Deep => put_deep(alloc, most, &mut into)?,
         Shape::Wide => put_wide(most, &mut into)?,
-        Shape::Narrow => put_narrow(most, &mut into)?,
+        Shape::Narrow => put_call_of(b"\x23", most, &mut into)?,
+        Shape::Truths => put_call_of(b"\x20\x02\x01", most, &mut into)?,
+        Shape::Empties => put_call_of(b"\x20\x03\x00\x00\x00\x00", most, &mut into)?,
         Shape::Texts => put_texts(alloc, most, &mut into)?,
         Shape::Repeated => put_repeated(most, &mut into)?,
         Shape::Unbound => put_unbound(most, &mut into)?,
@@ -152,10 +154,10 @@ fn put_wide(most: u32, into: &mut BytesMut) -> Result<(), Memory> {
     Ok(())
 }
 
-/// A call with roots as arguments.
-fn put_narrow(most: u32, into: &mut BytesMut) -> Result<(), Memory> {
+/// A call with arguments that are all the same.
+fn put_call_of(argument: &[u8], most: u32, into: &mut BytesMut) -> Result<(), Memory> {
     put_one_call(into)?;
-    put_copies(most, b"\x23", into)
+    put_copies(most, argument, into)
 }
 
 /// A piece as often as it fits, behind the count.

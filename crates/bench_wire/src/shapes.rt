@@ -17,6 +17,10 @@ pub enum Shape {
     Wide,
     /// A call with many arguments that are a byte each.
     Narrow,
+    /// A call with many truths as arguments.
+    Truths,
+    /// A call with many texts without a byte as arguments.
+    Empties,
     /// Many steps with texts as long as texts may be.
     Texts,
     /// Many small steps, of which the last one has the number of the first.
@@ -28,7 +32,7 @@ pub enum Shape {
 }
 
 /// All shapes.
-pub static SHAPES: [Shape; 11] = [
+pub static SHAPES: [Shape; 13] = [
     Shape::Steps,
     Shape::Scattered,
     Shape::Variables,
@@ -36,6 +40,8 @@ pub static SHAPES: [Shape; 11] = [
     Shape::Deep,
     Shape::Wide,
     Shape::Narrow,
+    Shape::Truths,
+    Shape::Empties,
     Shape::Texts,
     Shape::Repeated,
     Shape::Unbound,
@@ -53,6 +59,8 @@ impl Shape {
             Shape::Deep => "deep",
             Shape::Wide => "wide",
             Shape::Narrow => "narrow",
+            Shape::Truths => "truths",
+            Shape::Empties => "empties",
             Shape::Texts => "texts",
             Shape::Repeated => "repeated",
             Shape::Unbound => "unbound",

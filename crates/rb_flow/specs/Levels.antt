@@ -1,5 +1,6 @@
 -- What the search by levels computes.
 use Rattle.std.specs.Prelude.{◌≡◌, ℕ, zero, suc, ◌+◌, ◌<◌, ◌≤◌, ◌⊎◌, List, [], ◌∷◌, ◌++◌, length, cond, nat_eq, Option, Some, None, slice_get, slice_set, slice_index_or}
+use Rattle.std.specs.List.{flat_map}
 use Rattle.std.specs.HashMap.{get, HashMap}
 use Rattle.std.specs.declared.hash.FoldHasher.{FoldHasher}
 use Rattle.std.specs.declared.hash.BuildHasherDefault.{BuildHasherDefault}
@@ -82,6 +83,14 @@ read_after writers (Some w) = readers_from 0 writers w.writes
 -- the places of the writers that read what the writer at this place writes
 abbrev pub after : List Writer → ℕ → List ℕ
 after writers place = read_after writers (slice_get writers place)
+
+-- the same for the writers at some places
+abbrev pub after_all : List Writer → List ℕ → List ℕ
+after_all writers places = flat_map (after writers) places
+
+-- the levels and the newest places, before and after each of some places got this level
+abbrev pub Reaches : ℕ → List ℕ → (levels next new_levels new_next : List ℕ) → Type 0
+Reaches level places levels next new_levels new_next = so_far new_levels new_next ≡ expanded level places (so_far levels next)
 
 -- the level of the writer at a place
 abbrev pub level_at : List ℕ → ℕ → ℕ

@@ -3,9 +3,10 @@
 #![tactic(auto, using(crate::proofs::WalkRules::walk_rules))]
 
 ghost use Rattle.std.specs.Prelude.{◌≡◌, IfOk, OnOk};
-ghost use Rattle.rb_trees.specs.mirror.Code.{mirror_expr, mirror_stmts};
+ghost use Rattle.rb_trees.specs.mirror.Code.{mirror_expr};
 ghost use Rattle.rb_meaning_flow.specs.Sites as sites;
 ghost use Rattle.rb_flow.specs.Readings as readings;
+ghost use Rattle.rb_flow.specs.ByTrees as trees;
 ghost use Rattle.rb_flow.specs.Views.{facts};
 ghost use Rattle.rb_flow.specs.Walked as words;
 
@@ -44,7 +45,7 @@ pub fn while_inside(standing: &Standing, c: &Expr) -> Inside
 
 /// What the role of a `val` is.
 pub fn val_role(x: &Typed, standing: &Standing, scope: &Scope, e: &Expr) -> Role
-    ensures { result ≡ words.val_role_in (facts x.now) standing.now scope.now (mirror_expr e.now) }
+    ensures { result ≡ trees.val_role x.now standing.now scope.now e.now }
 {
     if standing.script && is_portable(x, scope, e) {
         Role::Carried
@@ -69,7 +70,7 @@ pub fn branch_standing(
     a: &[Stmt],
     b: &[Stmt],
 ) -> Result<Standing, Memory>
-    ensures { IfOk result (λ s. s ≡ words.branch_standing (facts x.now) scope.now standing.now (mirror_expr c.now) (mirror_stmts a.now) (mirror_stmts b.now)) }
+    ensures { IfOk result (λ s. s ≡ trees.branch_standing x.now scope.now standing.now c.now a.now b.now) }
 {
     let around = read_around(alloc, x, scope, &standing.around, c)?;
     Ok(Standing {
@@ -129,7 +130,7 @@ pub fn try_standing(
     name: &Word,
     b: &Seq<Stmt>,
 ) -> Result<Standing, Memory>
-    ensures standing { IfOk result (λ s. s ≡ words.try_standing (facts x.now) scope.old standing.now at (mirror_stmts a.now) name.now (mirror_stmts b.now)) }
+    ensures standing { IfOk result (λ s. s ≡ trees.try_standing x.now scope.old standing.now at a.now name.now b.now) }
     ensures scope { OnOk result (scope.new ≡ scope.old) }
 {
     let mut around = Reading::new(alloc);

@@ -1,8 +1,7 @@
 // A search through the writers by levels.
 
 ghost use Rattle.std.specs.Prelude.{◌≡◌, ℕ, ◌≤◌, [], map, IfOk, OnOk};
-ghost use Rattle.std.specs.List.{flat_map};
-ghost use Rattle.rb_flow.specs.Levels.{bucket, taken_out, Serves, first_level, started, so_far, expanded, after, Certificate};
+ghost use Rattle.rb_flow.specs.Levels.{bucket, taken_out, Serves, first_level, started, after, after_all, Reaches, Certificate};
 
 use crate::readers::index_readers;
 use rb_trees::{Memory, Seq, Writer};
@@ -16,7 +15,7 @@ fn reach(
     level: usize,
     places: &[usize],
 ) -> Result<(), Memory>
-    ensures { OnOk result (so_far levels.new.items next.new.items ≡ expanded level places.now (so_far levels.old.items next.old.items)) }
+    ensures { OnOk result (Reaches level places.now levels.old.items next.old.items levels.new.items next.new.items) }
 {
     for place in places {
         let place = *place;
@@ -54,7 +53,7 @@ fn reach_after(
 ) -> Result<(), Memory>
     requires positive { 1 ≤ level }
     requires serves { Serves (bucket readers.old) writers.now levels.old.items }
-    ensures reached { OnOk result (so_far levels.new.items next.new.items ≡ expanded level (after writers.now place) (so_far levels.old.items next.old.items)) }
+    ensures reached { OnOk result (Reaches level (after writers.now place) levels.old.items next.old.items levels.new.items next.new.items) }
     ensures serves { OnOk result (Serves (bucket readers.new) writers.now levels.new.items) }
 {
     match writers.get(place) {
@@ -79,7 +78,7 @@ fn reach_all(
 ) -> Result<(), Memory>
     requires positive { 1 ≤ level }
     requires serves { Serves (bucket readers.old) writers.now levels.old.items }
-    ensures reached { OnOk result (so_far levels.new.items next.new.items ≡ expanded level (flat_map (after writers.now) frontier.now) (so_far levels.old.items next.old.items)) }
+    ensures reached { OnOk result (Reaches level (after_all writers.now frontier.now) levels.old.items next.old.items levels.new.items next.new.items) }
     ensures serves { OnOk result (Serves (bucket readers.new) writers.now levels.new.items) }
 {
     for place in frontier {

@@ -5,12 +5,13 @@
 ghost use Rattle.std.specs.Prelude.{◌≡◌, [], ◌++◌, map, take, length, IfOk, OnOk};
 ghost use Rattle.rb_trees.specs.mirror.Types.{mirror_type};
 ghost use Rattle.rb_trees.specs.mirror.Code.{mirror_stmt, mirror_stmts};
-ghost use Rattle.rb_trees.specs.mirror.Declarations.{mirror_param, mirror_method, mirror_class, mirror_program};
+ghost use Rattle.rb_trees.specs.mirror.Declarations.{mirror_param, mirror_program};
 ghost use Rattle.rb_meaning_types.specs.Kinds as kinds;
 ghost use Rattle.rb_meaning_flow.specs.Scopes as scopes;
 ghost use Rattle.rb_meaning_flow.specs.Outermost as outermost;
 ghost use Rattle.rb_flow.specs.Begun as begun;
 ghost use Rattle.rb_flow.specs.Begun.{begun_of};
+ghost use Rattle.rb_flow.specs.ByTrees.{stmt_begun, block_begun, methods_begun, classes_begun};
 ghost use Rattle.rb_flow.specs.Views.{facts};
 
 use crate::scope::bind;
@@ -129,7 +130,7 @@ fn collect_stmt<'p>(
     batches: &mut Seq<OpenBatch<'p>>,
     s: &'p Stmt,
 ) -> Result<(), Memory>
-    ensures batches { OnOk result (map begun_of batches.new ≡ begun.stmt_begun (facts x.now) scope.old (map begun_of batches.old) (mirror_stmt s.now)) }
+    ensures batches { OnOk result (map begun_of batches.new ≡ stmt_begun x.now scope.old batches.old s.now) }
     ensures scope { OnOk result (scope.new ≡ outermost.outer_after (facts x.now) scope.old (mirror_stmt s.now)) }
 {
     match &s.form {
@@ -167,7 +168,7 @@ fn collect_block<'p>(
     batches: &mut Seq<OpenBatch<'p>>,
     ss: &'p [Stmt],
 ) -> Result<(), Memory>
-    ensures batches { OnOk result (map begun_of batches.new ≡ begun.block_begun (facts x.now) scope.old (map begun_of batches.old) (mirror_stmts ss.now)) }
+    ensures batches { OnOk result (map begun_of batches.new ≡ block_begun x.now scope.old batches.old ss.now) }
     ensures scope { OnOk result (scope.new ≡ scope.old) }
 {
     let count = scope.len();
@@ -188,7 +189,7 @@ fn collect_opened<'p>(
     node: u32,
     ss: &'p [Stmt],
 ) -> Result<(), Memory>
-    ensures batches { OnOk result (map begun_of batches.new ≡ begun.block_begun (facts x.now) (scopes.with_variable scope.old name.now role node) (map begun_of batches.old) (mirror_stmts ss.now)) }
+    ensures batches { OnOk result (map begun_of batches.new ≡ block_begun x.now (scopes.with_variable scope.old name.now role node) batches.old ss.now) }
     ensures scope { OnOk result (scope.new ≡ scope.old) }
 {
     let count = scope.len();
@@ -206,7 +207,7 @@ fn collect_stmts<'p>(
     batches: &mut Seq<OpenBatch<'p>>,
     ss: &'p [Stmt],
 ) -> Result<(), Memory>
-    ensures batches { OnOk result (map begun_of batches.new ≡ begun.block_begun (facts x.now) scope.old (map begun_of batches.old) (mirror_stmts ss.now)) }
+    ensures batches { OnOk result (map begun_of batches.new ≡ block_begun x.now scope.old batches.old ss.now) }
     ensures kept { OnOk result (take (length scope.old) scope.new ≡ scope.old) }
 {
     for s in ss {
@@ -221,7 +222,7 @@ fn collect_methods<'p>(
     batches: &mut Seq<OpenBatch<'p>>,
     methods: &'p [Method],
 ) -> Result<(), Memory>
-    ensures { OnOk result (map begun_of batches.new ≡ begun.methods_begun (facts x.now) (map begun_of batches.old) (map mirror_method methods.now)) }
+    ensures { OnOk result (map begun_of batches.new ≡ methods_begun x.now batches.old methods.now) }
 {
     for m in methods {
         let mut scope = parameters(alloc, m.signature.params.as_slice())?;
@@ -236,7 +237,7 @@ fn collect_classes<'p>(
     batches: &mut Seq<OpenBatch<'p>>,
     classes: &'p [Class],
 ) -> Result<(), Memory>
-    ensures { OnOk result (map begun_of batches.new ≡ begun.classes_begun (facts x.now) (map begun_of batches.old) (map mirror_class classes.now)) }
+    ensures { OnOk result (map begun_of batches.new ≡ classes_begun x.now batches.old classes.now) }
 {
     for class in classes {
         collect_methods(alloc, x, batches, class.methods.as_slice())?;

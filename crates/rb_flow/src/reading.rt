@@ -3,10 +3,11 @@
 #![tactic(auto, using(crate::proofs::ReadRules::read_rules))]
 
 ghost use Rattle.std.specs.Prelude.{◌≡◌, ◌++◌, take, length, OnOk};
-ghost use Rattle.rb_trees.specs.mirror.Code.{mirror_expr, mirror_exprs, mirror_stmt, mirror_stmts};
+ghost use Rattle.rb_trees.specs.mirror.Code.{mirror_expr, mirror_exprs, mirror_stmt};
 ghost use Rattle.rb_meaning_flow.specs.declared.scopes.Role.{Role};
 ghost use Rattle.rb_meaning_flow.specs.Scopes.{with_variable};
 ghost use Rattle.rb_meaning_flow.specs.Flow as flow;
+ghost use Rattle.rb_flow.specs.ByTrees.{block_read};
 ghost use Rattle.rb_flow.specs.Views.{facts, node_list};
 ghost use Rattle.rb_flow.specs.Readings as words;
 
@@ -217,7 +218,7 @@ pub fn read_block(
     reading: &mut Reading,
     ss: &[Stmt],
 ) -> Result<(), Memory>
-    ensures reads { OnOk result (reading.new ≡ words.block_read (facts x.now) scope.old reading.old (mirror_stmts ss.now)) }
+    ensures reads { OnOk result (reading.new ≡ block_read x.now scope.old reading.old ss.now) }
     ensures scope { OnOk result (scope.new ≡ scope.old) }
 {
     let count = scope.len();
@@ -238,7 +239,7 @@ pub fn read_opened(
     node: u32,
     ss: &[Stmt],
 ) -> Result<(), Memory>
-    ensures reads { OnOk result (reading.new ≡ words.block_read (facts x.now) (with_variable scope.old name.now Role.Plain node) reading.old (mirror_stmts ss.now)) }
+    ensures reads { OnOk result (reading.new ≡ block_read x.now (with_variable scope.old name.now Role.Plain node) reading.old ss.now) }
     ensures scope { OnOk result (scope.new ≡ scope.old) }
 {
     let count = scope.len();
@@ -257,7 +258,7 @@ fn read_stmts(
     reading: &mut Reading,
     ss: &[Stmt],
 ) -> Result<(), Memory>
-    ensures reads { OnOk result (reading.new ≡ words.block_read (facts x.now) scope.old reading.old (mirror_stmts ss.now)) }
+    ensures reads { OnOk result (reading.new ≡ block_read x.now scope.old reading.old ss.now) }
     ensures kept { OnOk result (take (length scope.old) scope.new ≡ scope.old) }
 {
     for s in ss {

@@ -3,10 +3,11 @@
 #![tactic(auto, using(crate::proofs::WalkRules::walk_stmt_rules))]
 
 ghost use Rattle.std.specs.Prelude.{◌≡◌, true, take, length, IfOk, OnOk};
-ghost use Rattle.rb_trees.specs.mirror.Code.{mirror_expr, mirror_stmt, mirror_stmts};
+ghost use Rattle.rb_trees.specs.mirror.Code.{mirror_expr, mirror_stmt};
 ghost use Rattle.rb_meaning_flow.specs.declared.scopes.Role.{Role};
 ghost use Rattle.rb_meaning_flow.specs.Scopes.{with_variable};
 ghost use Rattle.rb_meaning_flow.specs.Sites as sites;
+ghost use Rattle.rb_flow.specs.ByTrees.{whole_walked, block_walked, branch_standing, val_role};
 ghost use Rattle.rb_flow.specs.Views.{facts};
 ghost use Rattle.rb_flow.specs.Walked as words;
 
@@ -47,7 +48,7 @@ fn walk_whole(
     may: bool,
     e: &Expr,
 ) -> Result<(), Memory>
-    ensures { OnOk result (found.new ≡ words.expr_walked (facts x.now) scope.now standing.now.around (words.whole_inside standing.now may) found.old (mirror_expr e.now)) }
+    ensures { OnOk result (found.new ≡ whole_walked x.now standing.now scope.now may found.old e.now) }
 {
     let inside = whole_inside(standing, may);
     walk_expr(alloc, x, scope, &standing.around, &inside, found, e)
@@ -65,7 +66,7 @@ fn walk_val(
     e: &Expr,
 ) -> Result<(), Memory>
     ensures found { OnOk result (found.new ≡ words.own_walked (facts x.now) standing.now scope.old standing.now.script found.old (mirror_expr e.now)) }
-    ensures scope { OnOk result (scope.new ≡ with_variable scope.old name.now (words.val_role_in (facts x.now) standing.now scope.old (mirror_expr e.now)) at) }
+    ensures scope { OnOk result (scope.new ≡ with_variable scope.old name.now (val_role x.now standing.now scope.old e.now) at) }
 {
     walk_whole(alloc, x, standing, scope, found, standing.script, e)?;
     let role = val_role(x, standing, scope, e);
@@ -118,7 +119,7 @@ fn enter_if(
     b: &Seq<Stmt>,
 ) -> Result<Standing, Memory>
     ensures found { OnOk result (found.new ≡ words.condition_walked (facts x.now) standing.now scope.now found.old (mirror_expr c.now)) }
-    ensures within { IfOk result (λ s. s ≡ words.branch_standing (facts x.now) scope.now standing.now (mirror_expr c.now) (mirror_stmts a.now) (mirror_stmts b.now)) }
+    ensures within { IfOk result (λ s. s ≡ branch_standing x.now scope.now standing.now c.now a.now b.now) }
 {
     let within = branch_standing(alloc, x, scope, standing, c, a.as_slice(), b.as_slice())?;
     let inside = whole_inside(standing, false);
@@ -236,7 +237,7 @@ fn walk_block(
     found: &mut Findings,
     ss: &[Stmt],
 ) -> Result<(), Memory>
-    ensures found { OnOk result (found.new ≡ words.block_walked (facts x.now) standing.now scope.old found.old (mirror_stmts ss.now)) }
+    ensures found { OnOk result (found.new ≡ block_walked x.now standing.now scope.old found.old ss.now) }
     ensures scope { OnOk result (scope.new ≡ scope.old) }
 {
     let count = scope.len();
@@ -258,7 +259,7 @@ fn walk_opened(
     node: u32,
     ss: &Seq<Stmt>,
 ) -> Result<(), Memory>
-    ensures found { OnOk result (found.new ≡ words.block_walked (facts x.now) standing.now (with_variable scope.old name.now role node) found.old (mirror_stmts ss.now)) }
+    ensures found { OnOk result (found.new ≡ block_walked x.now standing.now (with_variable scope.old name.now role node) found.old ss.now) }
     ensures scope { OnOk result (scope.new ≡ scope.old) }
 {
     let count = scope.len();
@@ -278,7 +279,7 @@ pub fn walk_stmts(
     found: &mut Findings,
     ss: &[Stmt],
 ) -> Result<(), Memory>
-    ensures found { OnOk result (found.new ≡ words.block_walked (facts x.now) standing.now scope.old found.old (mirror_stmts ss.now)) }
+    ensures found { OnOk result (found.new ≡ block_walked x.now standing.now scope.old found.old ss.now) }
     ensures kept { OnOk result (take (length scope.old) scope.new ≡ scope.old) }
 {
     for s in ss {

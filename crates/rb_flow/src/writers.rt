@@ -5,6 +5,7 @@
 ghost use Rattle.std.specs.Prelude.{◌≡◌, ◌++◌, IfOk, OnOk};
 ghost use Rattle.rb_trees.specs.mirror.Code.{mirror_expr, mirror_stmt, mirror_stmts};
 ghost use Rattle.rb_meaning_flow.specs.Flow as flow;
+ghost use Rattle.rb_flow.specs.ByTrees.{assignment_read, assignment_writer};
 ghost use Rattle.rb_flow.specs.Views.{facts, node_list};
 ghost use Rattle.rb_flow.specs.Readings as readings;
 ghost use Rattle.rb_flow.specs.Walked as words;
@@ -126,7 +127,7 @@ fn read_assignment(
     a: &Expr,
     b: &Expr,
 ) -> Result<Reading, Memory>
-    ensures { IfOk result (λ r. r ≡ readings.joined (words.assign_read (facts x.now) scope.now (mirror_expr a.now) (mirror_expr b.now)) around.now) }
+    ensures { IfOk result (λ r. r ≡ assignment_read x.now scope.now around.now a.now b.now) }
 {
     let mut reading = Reading::new(alloc);
     read_left(x, scope, &mut reading, a)?;
@@ -174,7 +175,7 @@ fn push_assignment(
     a: &Expr,
     b: &Expr,
 ) -> Result<(), Memory>
-    ensures { OnOk result (writers.new ≡ writers.old ++ words.assignment_writer (facts x.now) scope.now around.now at (mirror_expr a.now) (mirror_expr b.now)) }
+    ensures { OnOk result (writers.new ≡ writers.old ++ assignment_writer x.now scope.now around.now at a.now b.now) }
 {
     let reading = read_assignment(alloc, x, scope, around, a, b)?;
     push_some(writers, at, assigned_node(scope, a), reading)

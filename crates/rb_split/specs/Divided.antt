@@ -3,14 +3,17 @@ use Rattle.std.specs.Prelude.{ℕ, List, [], length, nat_lt, cond, Result, Ok, E
 use Rattle.rb_trees.specs.declared.refusals.Refusal.{Refusal}
 use Rattle.rb_trees.specs.declared.refusals.Refusal.TheVariants.{TooManyInputs}
 use Rattle.rb_trees.specs.Outcome.{◌>>=◌}
-use Rattle.rb_trees.specs.mirror.Code.{Stmts}
-use Rattle.rb_trees.specs.mirror.Declarations.{Program}
+use Rattle.rb_trees.specs.declared.code.Stmt as stmt
+use Rattle.rb_trees.specs.declared.declarations.Program as program
+use Rattle.rb_trees.specs.mirror.Code.{Stmts, mirror_stmts}
+use Rattle.rb_trees.specs.mirror.Declarations.{Program, mirror_program}
 use Rattle.rb_meaning_flow.specs.Facts.{facts_of}
 use Rattle.rb_meaning_flow.specs.Scopes.{Scope}
 use Rattle.rb_meaning_split.specs.Inputs.{first_uses, used_in}
 use Rattle.rb_meaning_split.specs.Steps.{block_steps}
 use Rattle.rb_meaning_split.specs.Parts.{block_parts}
 use Rattle.rb_meaning_split.specs.Division.{Division, checked_code, first_refs, most_inputs}
+use Rattle.rb_split.specs.declared.division.Place.{Place}
 
 -- the number of inputs, where there aren't too many
 abbrev pub counted_inputs : ℕ → List (List ℕ) → Result ℕ Refusal
@@ -32,3 +35,10 @@ module _ (p : Program) where
 
   abbrev pub divided_from : ℕ → List ℕ → Scope → Stmts → Result Division Refusal
   divided_from at root scope block = divided_with at root scope block (first_uses [] (used_in (facts_of p) scope block))
+
+-- the division of the batch at a place with these inputs, and what comes of the batch, by the trees of the code
+abbrev pub division_at : program.Program → Place → Scope → List stmt.Stmt → List (List ℕ) → Division
+division_at p place scope block inputs = division_with (mirror_program p) place.at place.root.now scope (mirror_stmts block) inputs
+
+abbrev pub divided_at : program.Program → Place → Scope → List stmt.Stmt → Result Division Refusal
+divided_at p place scope block = divided_from (mirror_program p) place.at place.root.now scope (mirror_stmts block)

@@ -3,6 +3,7 @@ pub mod Views
 pub mod Uses
 pub mod Cutting
 pub mod Drafts
+pub mod Drafting
 pub mod Divided
 pub mod Numbers
 pub mod Seen

@@ -7,7 +7,8 @@ use Rattle.rb_trees.specs.mirror.Declarations.{Program}
 use Rattle.rb_trees.specs.mirror.Remainders.{mirror_parts}
 use Rattle.rb_trees.specs.mirror.Scripts.{mirror_script}
 use Rattle.rb_meaning_flow.specs.Outermost.{Outermost}
-use Rattle.rb_meaning_split.specs.Division.{Division, divided, divisions}
+use Rattle.rb_meaning_split.specs.Division.{Division, divided, divided_all, divisions}
+use Rattle.rb_flow.specs.Begun.{Begun, begun}
 use Rattle.rb_split.specs.Numbers.{batch_of}
 use Rattle.rb_split.specs.declared.stops.SplitStop.{SplitStop}
 use Rattle.rb_split.specs.declared.stops.SplitStop.TheVariants as stops
@@ -20,6 +21,14 @@ seen s = record { at = s.at; inputs = s.inputs; script = mirror_script s.script;
 abbrev pub refusal_of : SplitStop → Option Refusal
 refusal_of (stops.Refused r) = Some r
 refusal_of stops.Memory = None
+
+-- the answer is the division of a batch that begins so, or its refusal
+abbrev pub DividesBegun : Program → Begun → Result Split SplitStop → Type 0
+DividesBegun p first result = (b : Outermost) → first ≡ begun b → Gives seen refusal_of result (divided p b)
+
+-- the answer is the divisions of batches that begin so, or the first refusal
+abbrev pub DividesAllBegun : Program → List Begun → Result (List Split) SplitStop → Type 0
+DividesAllBegun p firsts result = (bs : List Outermost) → firsts ≡ map begun bs → Gives (λ ss. map seen ss) refusal_of result (divided_all p bs)
 
 -- the answer is the division of the batch of a number, or its refusal
 abbrev pub DividesBatch : Program → ℕ → Result Split SplitStop → Type 0

@@ -2,13 +2,11 @@
 
 ghost use Rattle.std.specs.Prelude.{◌≡◌, ◌≤◌, length, IfOk};
 ghost use Rattle.rb_trees.specs.Outcome.{Gives};
-ghost use Rattle.rb_trees.specs.mirror.Code.{mirror_stmts};
 ghost use Rattle.rb_trees.specs.mirror.Declarations.{mirror_program};
-ghost use Rattle.rb_meaning_flow.specs.Outermost.{Outermost};
 ghost use Rattle.rb_meaning_split.specs.Division as meant;
-ghost use Rattle.rb_flow.specs.Begun.{begun, begun_of};
-ghost use Rattle.rb_split.specs.Divided.{counted_inputs, divided_from, division_with};
-ghost use Rattle.rb_split.specs.Seen.{refusal_of, seen};
+ghost use Rattle.rb_flow.specs.Begun.{begun_of};
+ghost use Rattle.rb_split.specs.Divided.{counted_inputs, divided_at, division_at};
+ghost use Rattle.rb_split.specs.Seen.{DividesBegun, refusal_of, seen};
 ghost use Rattle.rb_split.specs.Views.{refs_of};
 
 use crate::drafts::Draft;
@@ -87,7 +85,7 @@ fn write(
     count: u8,
 ) -> Result<Split, Memory>
     requires { count ≡ length inputs }
-    ensures divided { IfOk result (λ s. seen s ≡ division_with (mirror_program x.now) place.now.at place.now.root.now scope.old (mirror_stmts block.now) inputs) }
+    ensures divided { IfOk result (λ s. seen s ≡ division_at x.now place.now scope.old block.now inputs) }
     ensures number { IfOk result (λ s. s.batch ≡ place.now.number) }
 {
     let mut refs = first_refs(alloc, place.root, inputs.as_slice())?;
@@ -112,7 +110,7 @@ fn divide_from(
     scope: &mut Scope,
     block: &[Stmt],
 ) -> Result<Split, SplitStop>
-    ensures divided { Gives seen refusal_of result (divided_from (mirror_program x.now) place.now.at place.now.root.now scope.old (mirror_stmts block.now)) }
+    ensures divided { Gives seen refusal_of result (divided_at x.now place.now scope.old block.now) }
     ensures number { IfOk result (λ s. s.batch ≡ place.now.number) }
 {
     let inputs = inputs_of(alloc, x, scope, block)?;
@@ -129,7 +127,7 @@ pub fn divide(
     number: u32,
     batch: &OpenBatch<'_>,
 ) -> Result<Split, SplitStop>
-    ensures divided { (b : Outermost) → begun_of batch.now ≡ begun b → Gives seen refusal_of result (meant.divided (mirror_program x.now) b) }
+    ensures divided { DividesBegun (mirror_program x.now) (begun_of batch.now) result }
     ensures number { IfOk result (λ s. s.batch ≡ number) }
 {
     let Some(root) = batch.scope.as_slice().last() else {

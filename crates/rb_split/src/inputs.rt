@@ -4,11 +4,11 @@
 
 ghost use Rattle.std.specs.Prelude.{◌≡◌, [], take, length, IfOk, OnOk};
 ghost use Rattle.std.specs.List.{flat_map};
-ghost use Rattle.rb_trees.specs.mirror.Code.{mirror_expr, mirror_exprs, mirror_stmt, mirror_stmts};
+ghost use Rattle.rb_trees.specs.mirror.Code.{mirror_expr, mirror_exprs, mirror_stmt};
 ghost use Rattle.rb_meaning_flow.specs.declared.scopes.Role.{Role};
 ghost use Rattle.rb_meaning_flow.specs.Scopes.{is_constant_role, with_variable};
 ghost use Rattle.rb_meaning_split.specs.Inputs as meant;
-ghost use Rattle.rb_split.specs.Uses.{constant_variable, noted};
+ghost use Rattle.rb_split.specs.Uses.{constant_variable, noted, used_by};
 ghost use Rattle.rb_split.specs.Views.{facts, trees};
 
 use crate::remote::remote_of;
@@ -163,7 +163,7 @@ fn note_block(
     uses: &mut Uses,
     ss: &[Stmt],
 ) -> Result<(), Memory>
-    ensures uses { OnOk result (uses.new ≡ noted uses.old (meant.used_in (facts x.now) scope.old (mirror_stmts ss.now))) }
+    ensures uses { OnOk result (uses.new ≡ noted uses.old (used_by x.now scope.old ss.now)) }
     ensures scope { OnOk result (scope.new ≡ scope.old) }
 {
     let count = scope.len();
@@ -183,7 +183,7 @@ fn note_turn(
     at: u32,
     ss: &[Stmt],
 ) -> Result<(), Memory>
-    ensures uses { OnOk result (uses.new ≡ noted uses.old (meant.used_in (facts x.now) (with_variable scope.old name.now Role.Row at) (mirror_stmts ss.now))) }
+    ensures uses { OnOk result (uses.new ≡ noted uses.old (used_by x.now (with_variable scope.old name.now Role.Row at) ss.now)) }
     ensures scope { OnOk result (scope.new ≡ scope.old) }
 {
     let count = scope.len();
@@ -201,7 +201,7 @@ fn note_stmts(
     uses: &mut Uses,
     ss: &[Stmt],
 ) -> Result<(), Memory>
-    ensures uses { OnOk result (uses.new ≡ noted uses.old (meant.used_in (facts x.now) scope.old (mirror_stmts ss.now))) }
+    ensures uses { OnOk result (uses.new ≡ noted uses.old (used_by x.now scope.old ss.now)) }
     ensures kept { OnOk result (take (length scope.old) scope.new ≡ scope.old) }
 {
     'stmts: for s in ss {
@@ -218,7 +218,7 @@ pub fn inputs_of(
     scope: &mut Scope,
     block: &[Stmt],
 ) -> Result<Seq<Word>, Memory>
-    ensures inputs { IfOk result (λ names. names ≡ meant.first_uses [] (meant.used_in (facts x.now) scope.old (mirror_stmts block.now))) }
+    ensures inputs { IfOk result (λ names. names ≡ meant.first_uses [] (used_by x.now scope.old block.now)) }
     ensures scope { OnOk result (scope.new ≡ scope.old) }
 {
     let mut uses = Uses::new(alloc);

@@ -3,12 +3,11 @@
 #![tactic(auto, using(crate::proofs::Steps::step_rules))]
 
 ghost use Rattle.std.specs.Prelude.{◌≡◌, IfOk, OnOk};
-ghost use Rattle.rb_trees.specs.mirror.Code.{mirror_expr};
 ghost use Rattle.rb_trees.specs.mirror.Declarations.{mirror_program};
 ghost use Rattle.rb_meaning_split.specs.Parts as meant;
-ghost use Rattle.rb_split.specs.Drafts as words;
 ghost use Rattle.rb_split.specs.Drafts.{drafted};
-ghost use Rattle.rb_split.specs.Views.{refs_of, trees};
+ghost use Rattle.rb_split.specs.Drafting.{with_all_kept, with_one_kept};
+ghost use Rattle.rb_split.specs.Views.{trees};
 
 use crate::drafts::Draft;
 use crate::exprs::script_expr;
@@ -21,7 +20,7 @@ use std::alloc::Global;
 
 // Adds a step that keeps the value of an expression.
 fn keep(alloc: Global, x: &Typed, refs: &Refs, draft: &mut Draft, e: &Expr) -> Result<(), Memory>
-    ensures { OnOk result (drafted draft.new ≡ words.one_kept (mirror_program x.now) (refs_of refs.now) (drafted draft.old) (mirror_expr e.now)) }
+    ensures { OnOk result (drafted draft.new ≡ with_one_kept x.now refs.now draft.old e.now) }
 {
     let id = draft.step;
     let after = next(id)?;
@@ -43,7 +42,7 @@ pub fn keep_all(
     draft: &mut Draft,
     found: &[&Expr],
 ) -> Result<Seq<(u32, u8)>, Memory>
-    ensures drafted { OnOk result (drafted draft.new ≡ words.all_kept (mirror_program x.now) (refs_of refs.now) (drafted draft.old) (trees found.now)) }
+    ensures drafted { OnOk result (drafted draft.new ≡ with_all_kept x.now refs.now draft.old found.now) }
     ensures takes { IfOk result (λ takes. takes ≡ meant.takes (mirror_program x.now) draft.old.step (trees found.now)) }
 {
     let mut takes = Seq::new(alloc);

@@ -1,14 +1,11 @@
 // The division of a program's batches.
 
-ghost use Rattle.std.specs.Prelude.{◌≡◌, ◌<◌, List, map, IfOk};
-ghost use Rattle.rb_trees.specs.Outcome.{Gives};
+ghost use Rattle.std.specs.Prelude.{◌≡◌, ◌<◌, map, IfOk};
 ghost use Rattle.rb_trees.specs.mirror.Declarations.{mirror_program};
-ghost use Rattle.rb_meaning_flow.specs.Outermost.{Outermost};
-ghost use Rattle.rb_meaning_split.specs.Division as meant;
-ghost use Rattle.rb_flow.specs.Begun.{begun, begun_of};
+ghost use Rattle.rb_flow.specs.Begun.{begun_of};
 ghost use Rattle.rb_split.specs.Numbers as numbers;
 ghost use Rattle.rb_split.specs.Numbers.{AreNumbered};
-ghost use Rattle.rb_split.specs.Seen.{DividesAll, DividesBatch, refusal_of, seen};
+ghost use Rattle.rb_split.specs.Seen.{DividesAll, DividesAllBegun, DividesBatch};
 
 use crate::batches::batches_of;
 use crate::division::divide;
@@ -21,7 +18,7 @@ use std::alloc::Global;
 
 // The divisions of batches, which are numbered from 0 in order, or the first refusal.
 fn divide_all(alloc: Global, x: &Typed, batches: &[OpenBatch<'_>]) -> Result<Seq<Split>, SplitStop>
-    ensures divided { (bs : List Outermost) → map begun_of batches.now ≡ map begun bs → Gives (λ ss. map seen ss) refusal_of result (meant.divided_all (mirror_program x.now) bs) }
+    ensures divided { DividesAllBegun (mirror_program x.now) (map begun_of batches.now) result }
     ensures numbered { IfOk result AreNumbered }
 {
     let mut splits = Seq::new(alloc);

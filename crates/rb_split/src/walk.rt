@@ -3,15 +3,14 @@
 #![tactic(auto, using(crate::proofs::Steps::step_rules))]
 
 ghost use Rattle.std.specs.Prelude.{◌≡◌, suc, take, length, IfOk, OnOk};
-ghost use Rattle.rb_trees.specs.mirror.Code.{mirror_expr, mirror_stmt, mirror_stmts};
+ghost use Rattle.rb_trees.specs.mirror.Code.{mirror_expr};
 ghost use Rattle.rb_trees.specs.mirror.Declarations.{mirror_program};
 ghost use Rattle.rb_trees.specs.mirror.Remainders.{mirror_part};
-ghost use Rattle.rb_trees.specs.mirror.Scripts.{mirror_step, mirror_steps};
+ghost use Rattle.rb_trees.specs.mirror.Scripts.{mirror_step};
 ghost use Rattle.rb_meaning_split.specs.Parts as meant;
 ghost use Rattle.rb_meaning_split.specs.Steps.{keeps_val};
-ghost use Rattle.rb_split.specs.Drafts as words;
-ghost use Rattle.rb_split.specs.Drafts.{drafted, fresh};
-ghost use Rattle.rb_split.specs.Views.{refs_of};
+ghost use Rattle.rb_split.specs.Drafts.{drafted};
+ghost use Rattle.rb_split.specs.Drafting.{let_of, do_of, if_of, each_of, with_plain, with_carried, with_do, with_branch, with_turns, with_stmt, with_stmts, block_draft, turn_draft};
 
 use crate::drafts::Draft;
 use crate::exprs::script_expr;
@@ -40,7 +39,7 @@ fn draft_plain(
     draft: &mut Draft,
     s: &Stmt,
 ) -> Result<(), Memory>
-    ensures { OnOk result (drafted draft.new ≡ words.plain_drafted (mirror_program x.now) (refs_of refs.now) scope.now (drafted draft.old) (mirror_stmt s.now)) }
+    ensures { OnOk result (drafted draft.new ≡ with_plain x.now refs.now scope.now draft.old s.now) }
 {
     let stmt = cut_stmt(alloc, x, scope, draft.step, s)?;
     let found = remote_of(alloc, x, scope, s)?;
@@ -93,7 +92,7 @@ fn let_step(
     at: u32,
     e: &Expr,
 ) -> Result<Step, Memory>
-    ensures { IfOk result (λ s. mirror_step s ≡ words.let_of (mirror_program x.now) (refs_of refs.now) id var at (mirror_expr e.now)) }
+    ensures { IfOk result (λ s. mirror_step s ≡ let_of x.now refs.now id var at e.now) }
 {
     let value = script_expr(alloc, x, refs, e)?;
     let keep = keeps_value(x, e);
@@ -114,7 +113,7 @@ fn draft_carried(
     name: &Word,
     e: &Expr,
 ) -> Result<(), Memory>
-    ensures { OnOk result (drafted draft.new ≡ words.carried_drafted (mirror_program x.now) (refs_of refs.now) (drafted draft.old) at name.now (mirror_expr e.now)) }
+    ensures { OnOk result (drafted draft.new ≡ with_carried x.now refs.now draft.old at name.now e.now) }
 {
     let (id, var) = (draft.step, draft.var);
     let after = next(id)?;
@@ -134,7 +133,7 @@ fn do_step(
     at: u32,
     e: &Expr,
 ) -> Result<Step, Memory>
-    ensures { IfOk result (λ s. mirror_step s ≡ words.do_of (mirror_program x.now) (refs_of refs.now) id at (mirror_expr e.now)) }
+    ensures { IfOk result (λ s. mirror_step s ≡ do_of x.now refs.now id at e.now) }
 {
     let expr = script_expr(alloc, x, refs, e)?;
     Ok(Step {
@@ -153,7 +152,7 @@ fn draft_do(
     at: u32,
     e: &Expr,
 ) -> Result<(), Memory>
-    ensures { OnOk result (drafted draft.new ≡ words.do_drafted (mirror_program x.now) (refs_of refs.now) (drafted draft.old) at (mirror_expr e.now)) }
+    ensures { OnOk result (drafted draft.new ≡ with_do x.now refs.now draft.old at e.now) }
 {
     let id = draft.step;
     let after = next(id)?;
@@ -173,7 +172,7 @@ fn if_step(
     yes: Seq<Step>,
     no: Seq<Step>,
 ) -> Result<Step, Memory>
-    ensures { IfOk result (λ s. mirror_step s ≡ words.if_of (mirror_program x.now) (refs_of refs.now) id at (mirror_expr c.now) (mirror_steps yes) (mirror_steps no)) }
+    ensures { IfOk result (λ s. mirror_step s ≡ if_of x.now refs.now id at c.now yes no) }
 {
     let condition = script_expr(alloc, x, refs, c)?;
     Ok(Step {
@@ -194,7 +193,7 @@ fn close_branch(
     yes: Draft,
     no: Draft,
 ) -> Result<(), Memory>
-    ensures { OnOk result (drafted draft.new ≡ words.closed_branch (mirror_program x.now) (refs_of refs.now) (drafted draft.old) at (mirror_expr c.now) (drafted yes) (drafted no)) }
+    ensures { OnOk result (drafted draft.new ≡ with_branch x.now refs.now draft.old at c.now yes no) }
 {
     let id = draft.step;
     let (after, var) = (no.step, no.var);
@@ -218,7 +217,7 @@ fn each_step(
     e: &Expr,
     body: Seq<Step>,
 ) -> Result<Step, Memory>
-    ensures { IfOk result (λ s. mirror_step s ≡ words.each_of (mirror_program x.now) (refs_of refs.now) id var at (mirror_expr e.now) (mirror_steps body)) }
+    ensures { IfOk result (λ s. mirror_step s ≡ each_of x.now refs.now id var at e.now body) }
 {
     let rows = script_expr(alloc, x, refs, e)?;
     let keep = has_primitive_items(x, e.at);
@@ -245,7 +244,7 @@ fn close_turns(
     e: &Expr,
     body: Draft,
 ) -> Result<(), Memory>
-    ensures { OnOk result (drafted draft.new ≡ words.closed_turns (mirror_program x.now) (refs_of refs.now) (drafted draft.old) at name.now (mirror_expr e.now) (drafted body)) }
+    ensures { OnOk result (drafted draft.new ≡ with_turns x.now refs.now draft.old at name.now e.now body) }
 {
     let (id, var) = (draft.step, draft.var);
     let (after, later) = (body.step, body.var);
@@ -270,7 +269,7 @@ fn draft_stmt(
     draft: &mut Draft,
     s: &Stmt,
 ) -> Result<(), Memory>
-    ensures drafted { OnOk result (drafted draft.new ≡ words.stmt_drafted (mirror_program x.now) (refs_of refs.old) scope.old (drafted draft.old) (mirror_stmt s.now)) }
+    ensures drafted { OnOk result (drafted draft.new ≡ with_stmt x.now refs.old scope.old draft.old s.now) }
     ensures scope { OnOk result (scope.new ≡ scope.old) }
     ensures refs { OnOk result (refs.new ≡ refs.old) }
 {
@@ -331,7 +330,7 @@ pub fn draft_block(
     var: u32,
     ss: &[Stmt],
 ) -> Result<Draft, Memory>
-    ensures drafted { IfOk result (λ d. drafted d ≡ words.block_drafted (mirror_program x.now) (refs_of refs.old) scope.old (fresh step var) (mirror_stmts ss.now)) }
+    ensures drafted { IfOk result (λ d. drafted d ≡ block_draft x.now refs.old scope.old step var ss.now) }
     ensures scope { OnOk result (scope.new ≡ scope.old) }
     ensures refs { OnOk result (refs.new ≡ refs.old) }
 {
@@ -358,7 +357,7 @@ fn draft_turn(
     at: u32,
     ss: &[Stmt],
 ) -> Result<Draft, Memory>
-    ensures drafted { IfOk result (λ d. drafted d ≡ words.turn_drafted (mirror_program x.now) (refs_of refs.old) scope.old step var at name.now (mirror_stmts ss.now)) }
+    ensures drafted { IfOk result (λ d. drafted d ≡ turn_draft x.now refs.old scope.old step var at name.now ss.now) }
     ensures scope { OnOk result (scope.new ≡ scope.old) }
     ensures refs { OnOk result (refs.new ≡ refs.old) }
 {
@@ -385,7 +384,7 @@ fn draft_all(
     draft: &mut Draft,
     ss: &[Stmt],
 ) -> Result<(), Memory>
-    ensures drafted { OnOk result (drafted draft.new ≡ words.block_drafted (mirror_program x.now) (refs_of refs.old) scope.old (drafted draft.old) (mirror_stmts ss.now)) }
+    ensures drafted { OnOk result (drafted draft.new ≡ with_stmts x.now refs.old scope.old draft.old ss.now) }
     ensures scope { OnOk result (take (length scope.old) scope.new ≡ scope.old) }
     ensures refs { OnOk result (take (length refs.old) refs.new ≡ refs.old) }
 {

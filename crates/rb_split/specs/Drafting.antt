@@ -1,0 +1,68 @@
+-- What a draft holds once something is added, by the values that the code has.
+use Rattle.std.specs.Prelude.{ℕ, List}
+use Rattle.std.specs.Borrow.{Bor}
+use Rattle.rb_trees.specs.declared.code.Expr as expr
+use Rattle.rb_trees.specs.declared.code.Stmt as stmt
+use Rattle.rb_trees.specs.declared.declarations.Program as program
+use Rattle.rb_trees.specs.declared.scripts.Step as step
+use Rattle.rb_trees.specs.mirror.Code.{mirror_expr, mirror_stmt, mirror_stmts}
+use Rattle.rb_trees.specs.mirror.Declarations.{mirror_program}
+use Rattle.rb_trees.specs.mirror.Scripts.{Step, mirror_steps}
+use Rattle.rb_meaning_flow.specs.Scopes.{Scope}
+use Rattle.rb_split.specs.declared.drafts.Draft.{Draft}
+use Rattle.rb_split.specs.declared.refs.Known.{Known}
+use Rattle.rb_split.specs.Drafts as words
+use Rattle.rb_split.specs.Drafts.{Drafted, drafted, fresh}
+use Rattle.rb_split.specs.Views.{refs_of, trees}
+
+module _ (p : program.Program) (refs : List Known) where
+  -- the step of a carried val, of a remote expression alone, of a carried `if`, and of a loop over rows
+  abbrev pub let_of : (id var at : ℕ) → expr.Expr → Step
+  let_of id var at e = words.let_of (mirror_program p) (refs_of refs) id var at (mirror_expr e)
+
+  abbrev pub do_of : (id at : ℕ) → expr.Expr → Step
+  do_of id at e = words.do_of (mirror_program p) (refs_of refs) id at (mirror_expr e)
+
+  abbrev pub if_of : (id at : ℕ) → expr.Expr → (yes no : List step.Step) → Step
+  if_of id at c yes no = words.if_of (mirror_program p) (refs_of refs) id at (mirror_expr c) (mirror_steps yes) (mirror_steps no)
+
+  abbrev pub each_of : (id var at : ℕ) → expr.Expr → List step.Step → Step
+  each_of id var at e body = words.each_of (mirror_program p) (refs_of refs) id var at (mirror_expr e) (mirror_steps body)
+
+  -- the draft with a step that keeps the value of an expression, and with one for each of some
+  abbrev pub with_one_kept : Draft → expr.Expr → Drafted
+  with_one_kept d e = words.one_kept (mirror_program p) (refs_of refs) (drafted d) (mirror_expr e)
+
+  abbrev pub with_all_kept : Draft → List (Bor expr.Expr) → Drafted
+  with_all_kept d found = words.all_kept (mirror_program p) (refs_of refs) (drafted d) (trees found)
+
+  -- the draft with a statement that is left to the client, a carried val, a remote expression alone
+  abbrev pub with_plain : Scope → Draft → stmt.Stmt → Drafted
+  with_plain scope d s = words.plain_drafted (mirror_program p) (refs_of refs) scope (drafted d) (mirror_stmt s)
+
+  abbrev pub with_carried : Draft → ℕ → List ℕ → expr.Expr → Drafted
+  with_carried d at name e = words.carried_drafted (mirror_program p) (refs_of refs) (drafted d) at name (mirror_expr e)
+
+  abbrev pub with_do : Draft → ℕ → expr.Expr → Drafted
+  with_do d at e = words.do_drafted (mirror_program p) (refs_of refs) (drafted d) at (mirror_expr e)
+
+  -- the draft with a carried `if`, or a loop over rows, whose blocks are drafted already
+  abbrev pub with_branch : Draft → ℕ → expr.Expr → (yes no : Draft) → Drafted
+  with_branch d at c yes no = words.closed_branch (mirror_program p) (refs_of refs) (drafted d) at (mirror_expr c) (drafted yes) (drafted no)
+
+  abbrev pub with_turns : Draft → ℕ → List ℕ → expr.Expr → Draft → Drafted
+  with_turns d at name e body = words.closed_turns (mirror_program p) (refs_of refs) (drafted d) at name (mirror_expr e) (drafted body)
+
+  -- the draft with a statement at a script place, and with those of a block
+  abbrev pub with_stmt : Scope → Draft → stmt.Stmt → Drafted
+  with_stmt scope d s = words.stmt_drafted (mirror_program p) (refs_of refs) scope (drafted d) (mirror_stmt s)
+
+  abbrev pub with_stmts : Scope → Draft → List stmt.Stmt → Drafted
+  with_stmts scope d ss = words.block_drafted (mirror_program p) (refs_of refs) scope (drafted d) (mirror_stmts ss)
+
+  -- the draft of a block, and of that of a loop over rows, whose first step and variable have these numbers
+  abbrev pub block_draft : Scope → (n m : ℕ) → List stmt.Stmt → Drafted
+  block_draft scope n m ss = words.block_drafted (mirror_program p) (refs_of refs) scope (fresh n m) (mirror_stmts ss)
+
+  abbrev pub turn_draft : Scope → (n m at : ℕ) → List ℕ → List stmt.Stmt → Drafted
+  turn_draft scope n m at name ss = words.turn_drafted (mirror_program p) (refs_of refs) scope n m at name (mirror_stmts ss)
