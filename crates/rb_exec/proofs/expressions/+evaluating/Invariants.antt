@@ -1,7 +1,7 @@
-use Rattle.std.proofs.Common.{◌≡◌, ◌+◌, max, drop}
+use Rattle.std.proofs.Common.{◌≡◌, ◌+◌, drop}
 use Rattle.rb_exec.specs.Stages.{values_run}
 use Rattle.rb_exec.proofs.Replies.{after}
-use Rattle.rb_exec.proofs.Weight.{weight_of, weights_of}
+use Rattle.rb_exec.proofs.Weight.{weight_of, weights_of, operands_of, invocation_of}
 use Rattle.rb_exec.proofs.expressions.+evaluating.Given as goal
 
 abbrev pub decreases-value_of : goal.decreases-value_of
@@ -11,10 +11,10 @@ abbrev pub decreases-unary_value : goal.decreases-unary_value
 decreases-unary_value l = weight_of l.a.now + 1
 
 abbrev pub decreases-binary_value : goal.decreases-binary_value
-decreases-binary_value l = max (weight_of l.a.now) (weight_of l.b.now) + 1
+decreases-binary_value l = operands_of l.operands.now + 1
 
 abbrev pub decreases-call_value : goal.decreases-call_value
-decreases-call_value l = max (weight_of l.target.now) (weights_of l.args.now) + 2
+decreases-call_value l = invocation_of l.call.now + 2
 
 abbrev pub decreases-values_of : goal.decreases-values_of
 decreases-values_of l = weights_of l.exprs.now + 1
