@@ -1,5 +1,5 @@
 -- Each form of an expression gives what it means.
-use Rattle.std.proofs.Common.{refl, arith, ap, sym}
+use Rattle.std.proofs.Common.{refl, arith, ap, sym, ◌∙◌}
 use Rattle.rb_meaning_code.specs.Remote.{Got}
 use Rattle.rb_exec.proofs.Forms.{lit_form, input_form, var_form, root_form, unary_form, binary_form, call_form}
 use Rattle.rb_exec.proofs.Replies.{given, ruled, of_form}
@@ -7,7 +7,7 @@ use Rattle.rb_exec.proofs.Weight.{expr_weight, weight_of, operands_of, invocatio
 use Rattle.rb_exec.proofs.expressions.+evaluating.Goals as goal
 
 pub value_of-unary_value-requires : goal.value_of-unary_value-requires
-value_of-unary_value-requires t c = let w = ap expr_weight (unary_form c.args.expr.now c.in-Unary.a c.in-Unary.is) in let e = ap weight_of c.get.ensures in omega arith
+value_of-unary_value-requires t c = let w = ap expr_weight (unary_form c.args.expr.now c.in-Unary.a c.in-Unary.is) in let e = ap weight_of c.get-in-Unary.ensures in omega arith
 
 pub value_of-binary_value-requires : goal.value_of-binary_value-requires
 value_of-binary_value-requires t c = let w = ap expr_weight (binary_form c.args.expr.now c.in-Binary.operands c.in-Binary.is) in let e = ap operands_of c.get-in-Binary.ensures in omega arith
@@ -17,7 +17,7 @@ value_of-call_value-requires t c = let w = ap expr_weight (call_form c.args.expr
 
 pub value_of-returns-in_ok-copy_value-in-Lit : goal.value_of-returns-in_ok-copy_value-in-Lit
 value_of-returns-in_ok-copy_value-in-Lit t c =
-    of_form c.args.stage.now c.args.at c.args.variables.now c.args.server.now c.args.expr.now (lit_form c.args.expr.now c.in-Lit.is) (given (ap (λ v. Got v c.args.server.now) (sym c.in_ok-copy_value-in-Lit.ensures)))
+    of_form c.args.stage.now c.args.at c.args.variables.now c.args.server.now c.args.expr.now (lit_form c.args.expr.now c.in-Lit.is) (given (ap (λ v. Got v c.args.server.now) (sym c.get.ensures ∙ sym c.in_ok-copy_value-in-Lit.ensures)))
 
 pub value_of-returns-in-Input : goal.value_of-returns-in-Input
 value_of-returns-in-Input t c = of_form c.args.stage.now c.args.at c.args.variables.now c.args.server.now c.args.expr.now (input_form c.args.expr.now c.in-Input.is) (ruled c.args.at _ _ c.input.ensures c.at_place.ensures)
@@ -29,7 +29,7 @@ pub value_of-returns-in-Root : goal.value_of-returns-in-Root
 value_of-returns-in-Root t c = of_form c.args.stage.now c.args.at c.args.variables.now c.args.server.now c.args.expr.now (root_form c.args.expr.now c.in-Root.is) (given refl)
 
 pub value_of-returns-in-Unary : goal.value_of-returns-in-Unary
-value_of-returns-in-Unary t c = of_form c.args.stage.now c.args.at c.args.variables.now c.args.server.now c.args.expr.now (unary_form c.args.expr.now _ c.in-Unary.is) (rw (← c.get.ensures) c.unary_value.ensures)
+value_of-returns-in-Unary t c = of_form c.args.stage.now c.args.at c.args.variables.now c.args.server.now c.args.expr.now (unary_form c.args.expr.now _ c.in-Unary.is) (rw (← c.get-in-Unary.ensures) c.unary_value.ensures)
 
 pub value_of-returns-in-Binary : goal.value_of-returns-in-Binary
 value_of-returns-in-Binary t c = of_form c.args.stage.now c.args.at c.args.variables.now c.args.server.now c.args.expr.now (binary_form c.args.expr.now _ c.in-Binary.is) (rw (← c.get-in-Binary.ensures) c.binary_value.ensures)
