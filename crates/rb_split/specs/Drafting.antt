@@ -23,8 +23,8 @@ module _ (p : program.Program) (refs : List Known) where
   abbrev pub do_of : (id at : ℕ) → expr.Expr → Step
   do_of id at e = words.do_of (mirror_program p) (refs_of refs) id at (mirror_expr e)
 
-  abbrev pub if_of : (id at : ℕ) → expr.Expr → (yes no : List step.Step) → Step
-  if_of id at c yes no = words.if_of (mirror_program p) (refs_of refs) id at (mirror_expr c) (mirror_steps yes) (mirror_steps no)
+  abbrev pub if_of : (id at : ℕ) → expr.Expr → (a b : List step.Step) → Step
+  if_of id at c a b = words.if_of (mirror_program p) (refs_of refs) id at (mirror_expr c) (mirror_steps a) (mirror_steps b)
 
   abbrev pub each_of : (id var at : ℕ) → expr.Expr → List step.Step → Step
   each_of id var at e body = words.each_of (mirror_program p) (refs_of refs) id var at (mirror_expr e) (mirror_steps body)
@@ -47,8 +47,8 @@ module _ (p : program.Program) (refs : List Known) where
   with_do d at e = words.do_drafted (mirror_program p) (refs_of refs) (drafted d) at (mirror_expr e)
 
   -- the draft with a carried `if`, or a loop over rows, whose blocks are drafted already
-  abbrev pub with_branch : Draft → ℕ → expr.Expr → (yes no : Draft) → Drafted
-  with_branch d at c yes no = words.closed_branch (mirror_program p) (refs_of refs) (drafted d) at (mirror_expr c) (drafted yes) (drafted no)
+  abbrev pub with_branch : Draft → ℕ → expr.Expr → (one two : Draft) → Drafted
+  with_branch d at c one two = words.closed_branch (mirror_program p) (refs_of refs) (drafted d) at (mirror_expr c) (drafted one) (drafted two)
 
   abbrev pub with_turns : Draft → ℕ → List ℕ → expr.Expr → Draft → Drafted
   with_turns d at name e body = words.closed_turns (mirror_program p) (refs_of refs) (drafted d) at name (mirror_expr e) (drafted body)
