@@ -1,6 +1,6 @@
 // What a client reads in a reply.
 
-ghost use Rattle.std.specs.Prelude.{◌≡◌, ◌≤◌, length};
+ghost use Rattle.std.specs.Prelude.{◌≤◌, length};
 ghost use Rattle.rb_trees.specs.mirror.Remainders.{mirror_parts};
 ghost use Rattle.rb_meaning.specs.Answers.{forest_kind, longest_request, refusal_kind};
 ghost use Rattle.rb_base.specs.Links.{IsReplyKind};

@@ -52,7 +52,6 @@ pub struct Admitted<'a> {
 }
 
 impl<'a> Model for Admitted<'a> {
-    ghost use Rattle.std.specs.Prelude.{ℕ};
     ghost use Rattle.std.specs.Ordering.{nat_cmp};
     ghost use Rattle.std.specs.Coded.{coded×, coded_ℕ};
     ghost use Rattle.std.specs.FinMap as map;

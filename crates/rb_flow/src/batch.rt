@@ -1,6 +1,6 @@
 // The answer for one batch.
 
-ghost use Rattle.std.specs.Prelude.{◌≡◌, [], IfOk, OnOk};
+ghost use Rattle.std.specs.Prelude.{◌≡◌, [], IfOk};
 ghost use Rattle.rb_trees.specs.mirror.Code.{mirror_stmts};
 ghost use Rattle.rb_meaning_flow.specs.Chains.{PositionsDiffer};
 ghost use Rattle.rb_meaning_flow.specs.Sites.{block_sites};

@@ -1,9 +1,9 @@
 // The chain that is named: a walk back from a bad part, always to the first writer of what is read.
 
-ghost use Rattle.std.specs.Prelude.{◌≡◌, ℕ, ◌+◌, ◌<◌, ◌≤◌, List, [], ◌∷◌, ◌++◌, nat_eq, IfOk, OnOk, IfSome, IfNone};
+ghost use Rattle.std.specs.Prelude.{◌≡◌, ℕ, ◌+◌, ◌<◌, List, [], ◌∷◌, nat_eq, IfOk, OnOk, IfSome, IfNone};
 ghost use Rattle.std.specs.HashMap.{get};
 ghost use Rattle.rb_meaning_flow.specs.Chains.{PositionsDiffer, IsChain, IsLeastChain};
-ghost use Rattle.rb_flow.specs.Walks.{Guides, Stands, IsWayTo, Walked, Ended};
+ghost use Rattle.rb_flow.specs.Walks.{Guides, Stands, IsWayTo, Ended};
 
 use crate::levels::levels_of;
 use crate::origins::{Origin, first_of, index_origins, least_of};

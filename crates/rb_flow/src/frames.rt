@@ -4,8 +4,6 @@
 
 ghost use Rattle.std.specs.Prelude.{◌≡◌, IfOk, OnOk};
 ghost use Rattle.rb_trees.specs.mirror.Code.{mirror_expr};
-ghost use Rattle.rb_meaning_flow.specs.Sites as sites;
-ghost use Rattle.rb_flow.specs.Readings as readings;
 ghost use Rattle.rb_flow.specs.ByTrees as trees;
 ghost use Rattle.rb_flow.specs.Views.{facts};
 ghost use Rattle.rb_flow.specs.Walked as words;

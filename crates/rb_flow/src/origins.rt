@@ -1,8 +1,7 @@
 // The first writer of each node, and the least of some numbers.
 
-ghost use Rattle.std.specs.Prelude.{◌≡◌, ℕ, [], nat_eq, IfOk, OnOk};
+ghost use Rattle.std.specs.Prelude.{◌≡◌, ℕ, nat_eq, IfOk, OnOk};
 ghost use Rattle.std.specs.HashMap.{get};
-ghost use Rattle.rb_flow.specs.Levels.{level_at};
 ghost use Rattle.rb_flow.specs.Origins as words;
 
 use rb_trees::{Memory, Writer};

@@ -2,8 +2,7 @@
 
 #![tactic(auto, using(crate::proofs::OuterRules::outer_rules))]
 
-ghost use Rattle.std.specs.Prelude.{◌≡◌, [], ◌++◌, map, take, length, IfOk, OnOk};
-ghost use Rattle.rb_trees.specs.mirror.Types.{mirror_type};
+ghost use Rattle.std.specs.Prelude.{◌≡◌, map, take, length, IfOk, OnOk};
 ghost use Rattle.rb_trees.specs.mirror.Code.{mirror_stmt, mirror_stmts};
 ghost use Rattle.rb_trees.specs.mirror.Declarations.{mirror_param, mirror_program};
 ghost use Rattle.rb_meaning_types.specs.Kinds as kinds;

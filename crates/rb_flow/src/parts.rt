@@ -2,7 +2,7 @@
 
 #![tactic(auto, using(crate::proofs::Given::fact_rules))]
 
-ghost use Rattle.std.specs.Prelude.{◌≡◌, IfOk, OnOk, cond, nat_lt, true};
+ghost use Rattle.std.specs.Prelude.{◌≡◌, IfOk, OnOk, cond, true};
 ghost use Rattle.rb_trees.specs.mirror.Code.{mirror_expr, mirror_exprs, mirror_stmt};
 ghost use Rattle.rb_flow.specs.Views.{facts};
 ghost use Rattle.rb_flow.specs.Walked as words;

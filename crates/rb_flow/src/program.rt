@@ -2,7 +2,6 @@
 
 ghost use Rattle.std.specs.Prelude.{◌≡◌, map, IfOk};
 ghost use Rattle.rb_trees.specs.mirror.Declarations.{mirror_program};
-ghost use Rattle.rb_meaning_flow.specs.Facts.{facts_of};
 ghost use Rattle.rb_flow.specs.Begun.{begun_of, begun_sites};
 ghost use Rattle.rb_flow.specs.Answers.{SitesDiffer, IsBatchAnswer};
 ghost use Rattle.rb_flow.specs.Program as words;

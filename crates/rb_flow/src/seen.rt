@@ -2,7 +2,7 @@
 
 #![tactic(auto, using(crate::proofs::First::found_rules))]
 
-ghost use Rattle.std.specs.Prelude.{◌≡◌, OnOk, not, ◌&&◌};
+ghost use Rattle.std.specs.Prelude.{◌≡◌, OnOk, ◌&&◌};
 ghost use Rattle.rb_trees.specs.mirror.Code.{mirror_expr, mirror_stmt};
 ghost use Rattle.rb_meaning_flow.specs.Refusals as refusals;
 ghost use Rattle.rb_flow.specs.Earliest.{earliest};

@@ -1,7 +1,6 @@
 // How a batch begins, and what a local fault in it leaves.
 
 ghost use Rattle.std.specs.Prelude.{◌≡◌, IfOk, OnOk};
-ghost use Rattle.rb_plain.specs.Staged.{program_of};
 ghost use Rattle.rb_plain.specs.BatchRuns.{Begins, IsOver, SetsTable, Settles, sided, whole_table};
 
 use crate::remote_world::RemoteWorld;

@@ -1,7 +1,6 @@
 // What a run stands on.
 
 ghost use Rattle.std.specs.Prelude.{◌≡◌};
-ghost use Rattle.std.specs.FinMap.{get};
 ghost use Rattle.rb_trees.specs.mirror.Declarations.{mirror_program};
 ghost use Rattle.rb_meaning_flow.specs.Programs.{program_marks};
 ghost use Rattle.rb_meaning.specs.Unsplit as meant;

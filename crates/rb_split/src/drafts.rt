@@ -2,14 +2,11 @@
 
 #![tactic(auto, using(crate::proofs::Steps::step_rules))]
 
-ghost use Rattle.std.specs.Prelude.{◌≡◌, IfOk, OnOk};
-ghost use Rattle.rb_trees.specs.mirror.Code.{mirror_expr};
-ghost use Rattle.rb_trees.specs.mirror.Declarations.{mirror_program};
+ghost use Rattle.std.specs.Prelude.{◌≡◌, OnOk};
 ghost use Rattle.rb_trees.specs.mirror.Remainders.{mirror_part};
 ghost use Rattle.rb_trees.specs.mirror.Scripts.{mirror_step};
 ghost use Rattle.rb_split.specs.Drafts as words;
 ghost use Rattle.rb_split.specs.Drafts.{drafted};
-ghost use Rattle.rb_split.specs.Views.{refs_of};
 
 use rb_trees::{Memory, Part, Seq, Step};
 use std::alloc::Global;

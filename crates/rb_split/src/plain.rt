@@ -6,6 +6,7 @@ ghost use Rattle.std.specs.Prelude.{◌≡◌, IfOk};
 ghost use Rattle.rb_trees.specs.mirror.Code as code;
 ghost use Rattle.rb_trees.specs.mirror.Code.{mirror_expr, mirror_stmt, mirror_stmts};
 ghost use Rattle.rb_meaning_split.specs.Cuts as meant;
+ghost use Rattle.rb_split.specs.Cutting.{assignment_cut};
 ghost use Rattle.rb_split.specs.Views.{facts};
 
 use crate::cuts::cut;
@@ -121,7 +122,7 @@ fn cut_sides(
     a: &Expr,
     b: &Expr,
 ) -> Result<Stmt, Memory>
-    ensures { IfOk result (λ c. mirror_stmt c ≡ meant.cut_stmt (facts x.now) scope.now number (code.Assign at (mirror_expr a.now) (mirror_expr b.now))) }
+    ensures { IfOk result (λ c. mirror_stmt c ≡ assignment_cut x.now scope.now number at a.now b.now) }
 {
     let mut number = number;
     let a = cut(alloc, x, scope, &mut number, a)?;

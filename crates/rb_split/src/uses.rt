@@ -1,6 +1,6 @@
 // The names of the inputs of a batch, in order of first use.
 
-ghost use Rattle.std.specs.Prelude.{◌≡◌, [], length, OnOk};
+ghost use Rattle.std.specs.Prelude.{◌≡◌, [], OnOk};
 ghost use Rattle.rb_split.specs.Uses.{with_use};
 
 use rb_names::Names;

@@ -2,7 +2,7 @@
 
 #![tactic(auto, using(crate::proofs::Steps::step_rules))]
 
-ghost use Rattle.std.specs.Prelude.{◌≡◌, suc, take, length, IfOk, OnOk};
+ghost use Rattle.std.specs.Prelude.{◌≡◌, take, length, IfOk, OnOk};
 ghost use Rattle.rb_trees.specs.mirror.Code.{mirror_expr};
 ghost use Rattle.rb_trees.specs.mirror.Declarations.{mirror_program};
 ghost use Rattle.rb_trees.specs.mirror.Remainders.{mirror_part};

@@ -1,6 +1,6 @@
 // The commands, from their words to what they print.
 
-ghost use Rattle.std.specs.Prelude.{◌≡◌, Some, map};
+ghost use Rattle.std.specs.Prelude.{Some, map};
 ghost use Rattle.rb_trees.specs.mirror.Services.{mirror_service};
 ghost use Rattle.rb_meaning.specs.Links.{IsTyped};
 ghost use Rattle.rb_meaning_split.specs.Division.{mirror_split};
@@ -17,7 +17,7 @@ ghost use Rattle.rb_top.specs.Runs.{served_on};
 ghost use Rattle.rb_top.specs.Scene.{output, Across, Between, scene, outside};
 ghost use Rattle.rb_top.specs.Sources.{text_of, program_of};
 ghost use Rattle.rb_top.specs.Texts.{WithinLength};
-ghost use Rattle.rb_top.specs.Words.{texts, wanted, wanted_by, asked_by, asked_job, asked_call};
+ghost use Rattle.rb_top.specs.Words.{texts, wanted, wanted_by, asked_by, asked_job};
 ghost use Rattle.rb_top.specs.declared.status.Status.TheVariants.{Done};
 
 use crate::admission::admission;
