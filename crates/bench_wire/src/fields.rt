@@ -10,6 +10,9 @@ pub const DO: u32 = 9;
 /// The bytes of a step that binds a variable, before the value.
 pub const LET: u32 = 14;
 
+/// The bytes of a step that branches on the root, before its blocks.
+pub const BRANCH: u32 = 10;
+
 /// The bytes of the root.
 pub const ROOT: u32 = 1;
 
@@ -44,6 +47,13 @@ pub fn put_let(id: u32, variable: u32, into: &mut BytesMut) -> Result<(), Memory
     put_number(variable, into)?;
     into.put_u8(0)?;
     Ok(())
+}
+
+/// A branch on the root, up to its blocks.
+pub fn put_branch(id: u32, into: &mut BytesMut) -> Result<(), Memory> {
+    into.put_u8(0x13)?;
+    put_place(id, into)?;
+    put_root(into)
 }
 
 /// A loop over the rows that are the root, up to its block.

@@ -1,8 +1,8 @@
 // Payloads of shapes.
 
 use crate::fields::{
-    DO, INT, LET, ROOT, VARIABLE, put_call, put_do, put_each, put_header, put_keep, put_let,
-    put_negation, put_root, put_variable,
+    BRANCH, DO, INT, LET, ROOT, VARIABLE, put_branch, put_call, put_do, put_each, put_header,
+    put_keep, put_let, put_negation, put_root, put_variable,
 };
 use crate::shapes::Shape;
 use bytes::{BufMut, BytesMut};
@@ -35,6 +35,7 @@ pub fn payload_of(alloc: Global, shape: Shape, most: u32) -> Result<BytesMut, Me
         Shape::Scattered => put_steps(most, 2_654_435_769, &mut into)?,
         Shape::Variables => put_variables(most, &mut into)?,
         Shape::Blocks => put_blocks(most, &mut into)?,
+        Shape::Branches => put_branches(most, &mut into)?,
         Shape::Deep => put_deep(alloc, most, &mut into)?,
         Shape::Wide => put_wide(most, &mut into)?,
         Shape::Narrow => put_call_of(b"\x23", most, &mut into)?,
@@ -120,6 +121,22 @@ fn put_blocks(most: u32, into: &mut BytesMut) -> Result<(), Memory> {
     for number in 0..count {
         put_do(number.saturating_add(MOST_BLOCKS), into)?;
         put_variable(0, into)?;
+    }
+    Ok(())
+}
+
+/// Steps that branch, with a small step in each block.
+fn put_branches(most: u32, into: &mut BytesMut) -> Result<(), Memory> {
+    let count = fitting(most, 0, BRANCH + 2 * (COUNT + DO + ROOT), into);
+    put_number(count, into)?;
+    for place in 0..count {
+        let number = place.wrapping_mul(3);
+        put_branch(number, into)?;
+        for block in 1..3 {
+            put_number(1, into)?;
+            put_do(number.wrapping_add(block), into)?;
+            put_root(into)?;
+        }
     }
     Ok(())
 }

@@ -11,6 +11,8 @@ pub enum Shape {
     Variables,
     /// Blocks within each other, as many as may be open, and many steps in the innermost one.
     Blocks,
+    /// Many steps that branch, with a small step in each block.
+    Branches,
     /// A call with many arguments, each of as many expressions within each other as may be.
     Deep,
     /// A call with many numbers as arguments.
@@ -32,11 +34,12 @@ pub enum Shape {
 }
 
 /// All shapes.
-pub static SHAPES: [Shape; 13] = [
+pub static SHAPES: [Shape; 14] = [
     Shape::Steps,
     Shape::Scattered,
     Shape::Variables,
     Shape::Blocks,
+    Shape::Branches,
     Shape::Deep,
     Shape::Wide,
     Shape::Narrow,
@@ -56,6 +59,7 @@ impl Shape {
             Shape::Scattered => "scattered",
             Shape::Variables => "variables",
             Shape::Blocks => "blocks",
+            Shape::Branches => "branches",
             Shape::Deep => "deep",
             Shape::Wide => "wide",
             Shape::Narrow => "narrow",
