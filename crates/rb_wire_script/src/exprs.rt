@@ -8,6 +8,7 @@ ghost use Rattle.rb_meaning_bytes.specs.formats.Scripts as format;
 ghost use Rattle.rb_trees.specs.Outcome.{Gives};
 ghost use Rattle.rb_wire_fields.specs.Stops.{fault_of};
 
+use crate::lists::fitted;
 use crate::names::name;
 use crate::operators::{binary_op, kind, unary_op};
 use rb_trees::{Boxed, Invocation, Operands, SExpr, Seq};
@@ -115,5 +116,5 @@ fn exprs(alloc: Global, left: usize, count: u32, bytes: &[u8]) -> Result<(Seq<SE
         items.push(item)?;
         rest = behind;
     }
-    Ok((items, rest))
+    Ok((fitted(items), rest))
 }

@@ -10,6 +10,7 @@ mod codes;
 mod decoding;
 mod encoding;
 mod exprs;
+mod lists;
 mod message;
 mod names;
 mod numbers;

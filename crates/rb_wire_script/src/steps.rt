@@ -9,6 +9,7 @@ ghost use Rattle.rb_trees.specs.Outcome.{Gives};
 ghost use Rattle.rb_wire_fields.specs.Stops.{fault_of};
 
 use crate::exprs::expr;
+use crate::lists::fitted;
 use rb_trees::{SExpr, Seq, Step, StepForm};
 use rb_wire_fields::fields::{bad_tag, byte, number, too_deep, truth};
 use rb_wire_fields::stop::Stop;
@@ -54,7 +55,7 @@ fn steps(alloc: Global, left: usize, count: u32, bytes: &[u8]) -> Result<(Seq<St
         items.push(item)?;
         rest = behind;
     }
-    Ok((items, rest))
+    Ok((fitted(items), rest))
 }
 
 /// A step, whose blocks have at most so many within each other.
