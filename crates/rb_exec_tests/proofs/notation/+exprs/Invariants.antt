@@ -4,9 +4,6 @@ use Rattle.rb_exec_tests.proofs.notation.+exprs.Given as goal
 abbrev pub decreases-expr : goal.decreases-expr
 decreases-expr l = 4 * l.depth
 
-abbrev pub decreases-boxed : goal.decreases-boxed
-decreases-boxed l = 4 * l.depth + 1
-
 abbrev pub decreases-exprs : goal.decreases-exprs
 decreases-exprs l = 4 * l.depth + 1
 
