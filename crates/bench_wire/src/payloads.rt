@@ -40,7 +40,7 @@ pub fn payload_of(alloc: Global, shape: Shape, most: u32) -> Result<BytesMut, Me
         Shape::Wide => put_wide(most, &mut into)?,
         Shape::Narrow => put_call_of(b"\x23", most, &mut into)?,
         Shape::Truths => put_call_of(b"\x20\x02\x01", most, &mut into)?,
-        Shape::Empties => put_call_of(b"\x20\x03\x00\x00\x00\x00", most, &mut into)?,
+        Shape::Letters => put_call_of(b"\x20\x03\x00\x00\x00\x01a", most, &mut into)?,
         Shape::Texts => put_texts(alloc, most, &mut into)?,
         Shape::Repeated => put_repeated(most, &mut into)?,
         Shape::Unbound => put_unbound(most, &mut into)?,

@@ -21,8 +21,8 @@ pub enum Shape {
     Narrow,
     /// A call with many truths as arguments.
     Truths,
-    /// A call with many texts without a byte as arguments.
-    Empties,
+    /// A call with many texts of a byte each as arguments.
+    Letters,
     /// Many steps with texts as long as texts may be.
     Texts,
     /// Many small steps, of which the last one has the number of the first.
@@ -44,7 +44,7 @@ pub static SHAPES: [Shape; 14] = [
     Shape::Wide,
     Shape::Narrow,
     Shape::Truths,
-    Shape::Empties,
+    Shape::Letters,
     Shape::Texts,
     Shape::Repeated,
     Shape::Unbound,
@@ -64,7 +64,7 @@ impl Shape {
             Shape::Wide => "wide",
             Shape::Narrow => "narrow",
             Shape::Truths => "truths",
-            Shape::Empties => "empties",
+            Shape::Letters => "letters",
             Shape::Texts => "texts",
             Shape::Repeated => "repeated",
             Shape::Unbound => "unbound",
