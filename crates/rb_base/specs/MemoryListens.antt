@@ -1,10 +1,13 @@
 -- Listeners in memory.
-use Rattle.std.specs.Prelude.{◌≡◌, ℕ, ◌+◌, ◌<◌, ◌≤◌, List, [], ◌∷◌, map, Option, None, Some, option_map, get_or, drop, position}
+use Rattle.std.specs.Prelude.{◌≡◌, ℕ, ◌+◌, ◌-◌, ◌^◌, ◌<◌, ◌≤◌, Bool, true, false, List, [], ◌∷◌, ◌++◌, map, Option, None, Some, option_map, unwrap_or, Result, Ok, Err, get_or, drop, position}
 use Rattle.std.specs.Str.{bytes_eq}
 use Rattle.rb_base.specs.declared.listens.Coming.{Coming}
-use Rattle.rb_base.specs.Sinks.{SinkInMemory}
-use Rattle.rb_base.specs.Sources.{SourceInMemory}
-use Rattle.rb_base.specs.Listening.{Back, Listening}
+use Rattle.rb_base.specs.declared.listens.ListenStop.{ListenStop}
+use Rattle.rb_base.specs.declared.listens.ListenStop.TheVariants.{Failed, Memory}
+use Rattle.rb_base.specs.Counts.{risen}
+use Rattle.rb_base.specs.Sinks.{SinkInMemory, new_sink}
+use Rattle.rb_base.specs.Sources.{SourceInMemory, new_source}
+use Rattle.rb_base.specs.Listening.{Back, Listening, call_fails, risen_on_err, started}
 
 -- the addresses, each with its sessions
 abbrev pub Addresses : Type 0
@@ -63,6 +66,49 @@ abbrev pub IsNext : List Coming → List Coming → Option Coming → Type 0
 IsNext coming others None = coming ≡ []
 IsNext coming others (Some session) = coming ≡ session ∷ others
 
+-- The two ends of a session in memory, as they are handed out. The source gives the session's bytes and fails at the reads
+-- that the session lists. Nothing was written to the sink, which fails at the writes that the session lists.
+abbrev pub new_pair : Coming → ℕ → SourceInMemory × SinkInMemory
+new_pair session most = (new_source session.bytes session.reads most, new_sink session.writes most)
+
+-- the listener after a call that is numbered and changes nothing else
+abbrev pub numbered : ListenerInMemory → ListenerInMemory
+numbered l = record l { calls = risen l.calls }
+
+-- the listener after a call that failed
+abbrev pub failed_in_memory : ListenerInMemory → ListenerInMemory
+failed_in_memory l = record (numbered l) { faults = risen l.faults }
+
+-- the listener after an address was to be started, which was answered so
+abbrev pub started_in_memory : {A E : Type 0} → List ℕ → Result A E → ListenerInMemory → ListenerInMemory
+started_in_memory address answer l = record (numbered l) {
+  coming = unwrap_or (started (listening_of l) address) l.coming;
+  faults = risen_on_err answer l.faults;
+}
+
+-- the listener after the two ends of a session came back
+abbrev pub with_pair_back : SourceInMemory × SinkInMemory → ListenerInMemory → ListenerInMemory
+with_pair_back ends l = record l { out = l.out - 1; back = l.back ++ ends ∷ [] }
+
+-- The first of the sessions that come is out, with these ends.
+pub record HandsOut (ends : SourceInMemory × SinkInMemory) (before after : ListenerInMemory) : Type 0 where
+  pub first : Coming
+  pub was_first : before.coming ≡ first ∷ after.coming
+  pub ends_are : ends ≡ new_pair first before.most
+  pub is : after ≡ record (numbered before) { coming = after.coming; out = before.out + 1 }
+
+-- whether the next call is one of those that fail
+abbrev pub is_listed : ListenerInMemory → Bool
+is_listed l = call_fails (listening_of l)
+
+-- What the next call of a listener in memory gives: the ends of the first session, or None where none comes. It fails exactly
+-- where it is listed, and want of memory leaves the sessions as they were.
+abbrev pub GivesInMemory : Result (Option (SourceInMemory × SinkInMemory)) ListenStop → ListenerInMemory → ListenerInMemory → Type 0
+GivesInMemory (Ok (Some ends)) before after = (is_listed before ≡ false) × HandsOut ends before after
+GivesInMemory (Ok None) before after = (is_listed before ≡ false) × (before.coming ≡ []) × (after ≡ numbered before)
+GivesInMemory (Err Failed) before after = (is_listed before ≡ true) × (after ≡ failed_in_memory before)
+GivesInMemory (Err Memory) before after = after ≡ numbered before
+
 -- There is room for the ends of all sessions that are out, and a call of a session moves something.
 pub record IsSound (returned out room most : ℕ) : Type 0 where
   pub fits : returned + out ≤ room
@@ -101,3 +147,17 @@ steady_listening l = record {
 -- nothing started yet
 abbrev pub new_steady : List (List ℕ) → SteadyListener
 new_steady sessions = record { sessions = sessions; coming = []; out = 0; back = []; calls = 0 }
+
+-- The first of the sessions that come is out, with these ends: no write to the sink fails but for want of memory.
+pub record HandsOutSteady (ends : List ℕ × SinkInMemory) (before after : SteadyListener) : Type 0 where
+  pub was_first : before.coming ≡ ends.0 ∷ after.coming
+  pub sink_is : ends.1 ≡ new_sink [] (2 ^ 64 - 1)
+  pub is : after ≡ record before { coming = after.coming; out = before.out + 1; calls = risen before.calls }
+
+-- What the next call of a listener that never fails gives: the ends of the first session, or None where none comes. Want of
+-- memory leaves the sessions as they were.
+abbrev pub GivesSteady : Result (Option (List ℕ × SinkInMemory)) ListenStop → SteadyListener → SteadyListener → Type 0
+GivesSteady (Ok (Some ends)) before after = HandsOutSteady ends before after
+GivesSteady (Ok None) before after = (before.coming ≡ []) × (after ≡ record before { calls = risen before.calls })
+GivesSteady (Err Failed) before after = ⊥
+GivesSteady (Err Memory) before after = after ≡ record before { calls = risen before.calls }

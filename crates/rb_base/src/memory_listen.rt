@@ -1,10 +1,11 @@
 // A listener in memory.
 
-ghost use Rattle.std.specs.Prelude.{◌≡◌, ◌+◌, ◌^◌, ◌<◌, ◌≤◌, vec_len, vec_capacity, OnSome, IfOk, OnOk, OnErr};
+ghost use Rattle.std.specs.Prelude.{◌≡◌, ◌+◌, ◌^◌, ◌<◌, ◌≤◌, vec_len, vec_capacity, is_ok, is_some, OnSome, IfOk, OnOk, OnErr};
 ghost use Rattle.std.specs.Option.{option_copied};
+ghost use Rattle.rb_base.specs.Listening.{started};
 ghost use Rattle.rb_base.specs.Sinks.{new_sink};
 ghost use Rattle.rb_base.specs.Sources.{new_source};
-ghost use Rattle.rb_base.specs.MemoryListens.{position_of, coming_at, new_listener, IsNext};
+ghost use Rattle.rb_base.specs.MemoryListens.{position_of, coming_at, new_listener, listening_of, started_in_memory, with_pair_back, IsNext, GivesInMemory};
 
 use crate::listens::{Coming, Listen, ListenStop};
 use crate::memory_sink::MemorySink;
@@ -102,7 +103,10 @@ impl Listen for MemoryListen {
     ghost faults = { λ it. it.faults };
 
     /// Fails exactly where the call's number is listed or there is no such address. Each call is numbered.
-    fn start(&mut self, address: &str) -> Result<(), Failed> {
+    fn start(&mut self, address: &str) -> Result<(), Failed>
+        ensures answer { is_ok result ≡ is_some (started (listening_of self.old) address.now) }
+        ensures after { self.new ≡ started_in_memory address.now result self.old }
+    {
         self.calls = self.calls.saturating_add(1);
         let listed = self.failing.as_slice().contains(&self.calls);
         match find(self.addresses.as_slice(), address.as_bytes()) {
@@ -119,7 +123,9 @@ impl Listen for MemoryListen {
     }
 
     /// Fails exactly where the call's number is listed, unless memory is wanting. Each call is numbered.
-    fn next(&mut self) -> Result<Option<(MemorySource, MemorySink)>, ListenStop> {
+    fn next(&mut self) -> Result<Option<(MemorySource, MemorySink)>, ListenStop>
+        ensures gives { GivesInMemory result self.old self.new }
+    {
         self.calls = self.calls.saturating_add(1);
         if self.failing.as_slice().contains(&self.calls) {
             self.faults = self.faults.saturating_add(1);
@@ -134,7 +140,10 @@ impl Listen for MemoryListen {
         Ok(Some(ends))
     }
 
-    fn back(&mut self, source: MemorySource, sink: MemorySink) {
+    fn back(&mut self, source: MemorySource, sink: MemorySink)
+        requires { 0 < self.old.out }
+        ensures { self.new ≡ with_pair_back (source, sink) self.old }
+    {
         self.out -= 1;
         self.returned.push_reserved((source, sink));
     }

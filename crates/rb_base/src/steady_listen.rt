@@ -2,7 +2,7 @@
 
 ghost use Rattle.std.specs.Prelude.{◌≡◌, ◌+◌, ◌≤◌, [], ◌-◌, ◌^◌, vec_len, vec_capacity, IfOk, OnOk, OnErr};
 ghost use Rattle.rb_base.specs.Sinks.{new_sink};
-ghost use Rattle.rb_base.specs.MemoryListens.{new_steady};
+ghost use Rattle.rb_base.specs.MemoryListens.{new_steady, GivesSteady};
 
 use crate::listens::{Listen, ListenStop};
 use crate::memory_sink::MemorySink;
@@ -85,7 +85,9 @@ impl Listen for SteadyListen {
         Ok(())
     }
 
-    fn next(&mut self) -> Result<Option<(SteadySource, MemorySink)>, ListenStop> {
+    fn next(&mut self) -> Result<Option<(SteadySource, MemorySink)>, ListenStop>
+        ensures { GivesSteady result self.old self.new }
+    {
         self.calls = self.calls.saturating_add(1);
         if self.handed == self.sessions.len() {
             return Ok(None);
