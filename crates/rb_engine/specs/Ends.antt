@@ -16,6 +16,14 @@ abbrev pub fault_of : Refusal → Option Fault
 fault_of (refusal.Fault fault) = Some fault
 fault_of refusal.Memory = None
 
+-- Memory is wanting only where this holds.
+abbrev pub WantsOnlyWhere : {T : Type 0} → Type 0 → Result T Refusal → Type 0
+WantsOnlyWhere Holds result = result ≡ Err refusal.Memory → Holds
+
+-- Memory is never wanting.
+abbrev pub NeverWants : {T : Type 0} → Result T Refusal → Type 0
+NeverWants result = WantsOnlyWhere ⊥ result
+
 -- what a rule at a position gives to code
 abbrev pub lifted : {T X : Type 0} → ℕ → Result T Refusal → Result T (End X)
 lifted at (Ok value) = Ok value

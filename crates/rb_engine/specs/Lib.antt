@@ -3,6 +3,7 @@ pub mod Code
 pub mod Ends
 pub mod Kinds
 pub mod Locals
+pub mod Makes
 pub mod Meets
 pub mod Misses
 pub mod Numbers

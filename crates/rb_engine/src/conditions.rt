@@ -7,7 +7,7 @@ ghost use Rattle.rb_trees.specs.declared.values.Value.{out-Value};
 ghost use Rattle.rb_meaning_code.specs.Faults as faults;
 ghost use Rattle.rb_meaning_code.specs.Faults.{caught_text};
 ghost use Rattle.rb_meaning_code.specs.Statements as rules;
-ghost use Rattle.rb_engine.specs.Ends.{fault_of, UnlessMemory};
+ghost use Rattle.rb_engine.specs.Ends.{fault_of, UnlessMemory, NeverWants};
 ghost use Rattle.rb_engine.specs.Shown.{remote_form, shown_or_kind, name_of_code};
 
 use crate::ends::{End, Refusal};
@@ -19,7 +19,8 @@ use rb_trees::{Fault, Memory, Raised, Seq, Value, Word, copy_word};
 use std::alloc::Global;
 
 fn truth_in(alloc: Global, value: &Value) -> Result<bool, Refusal>
-    ensures { Gives (λ holds. holds) fault_of result (rules.truth_of (out-Value value.now)) }
+    ensures gives { Gives (λ holds. holds) fault_of result (rules.truth_of (out-Value value.now)) }
+    ensures memory { NeverWants result }
 {
     match value {
         Value::Bool(holds) => Ok(*holds),
@@ -30,7 +31,8 @@ fn truth_in(alloc: Global, value: &Value) -> Result<bool, Refusal>
 /// The truth of a condition: `truth_of`.
 #[inline(never)]
 pub fn truth_of(alloc: Global, value: Value) -> Result<bool, Refusal>
-    ensures { Gives (λ holds. holds) fault_of result (rules.truth_of (out-Value value)) }
+    ensures gives { Gives (λ holds. holds) fault_of result (rules.truth_of (out-Value value)) }
+    ensures memory { NeverWants result }
 {
     truth_in(alloc, &value)
 }

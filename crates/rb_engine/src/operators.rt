@@ -1,12 +1,13 @@
 // What operators on one operand give, and the texts of values.
 #![tactic(auto, using(crate::proofs::Values::values))]
 
-ghost use Rattle.std.specs.Prelude.{◌≡◌, pos, length, IfOk};
+ghost use Rattle.std.specs.Prelude.{◌≡◌, true, pos, length, IfOk};
 ghost use Rattle.std.specs.Fmt.{signed_decimal};
 ghost use Rattle.rb_trees.specs.Outcome.{Gives};
 ghost use Rattle.rb_trees.specs.declared.values.Value.{out-Value};
 ghost use Rattle.rb_meaning_code.specs.Operators as rules;
-ghost use Rattle.rb_engine.specs.Ends.{fault_of};
+ghost use Rattle.rb_engine.specs.Ends.{fault_of, WantsOnlyWhere, NeverWants};
+ghost use Rattle.rb_engine.specs.Makes.{is_plain, one_makes};
 
 use crate::ends::Refusal;
 use crate::faults::kind;
@@ -55,7 +56,8 @@ fn list_length(items: &[Value]) -> i64
 }
 
 fn negation(alloc: Global, a: &Value) -> Result<Value, Refusal>
-    ensures { Gives (λ v. v) fault_of result (rules.negation (out-Value a.now)) }
+    ensures gives { Gives (λ v. v) fault_of result (rules.negation (out-Value a.now)) }
+    ensures memory { NeverWants result }
 {
     match a {
         Value::Bool(truth) => Ok(Value::Bool(!*truth)),
@@ -64,7 +66,8 @@ fn negation(alloc: Global, a: &Value) -> Result<Value, Refusal>
 }
 
 fn opposite(alloc: Global, a: &Value) -> Result<Value, Refusal>
-    ensures { Gives (λ v. v) fault_of result (rules.opposite (out-Value a.now)) }
+    ensures gives { Gives (λ v. v) fault_of result (rules.opposite (out-Value a.now)) }
+    ensures memory { NeverWants result }
 {
     match a {
         Value::Int(number) => Ok(Value::Int(negated(*number))),
@@ -73,7 +76,8 @@ fn opposite(alloc: Global, a: &Value) -> Result<Value, Refusal>
 }
 
 fn count(alloc: Global, a: &Value) -> Result<Value, Refusal>
-    ensures { Gives (λ v. v) fault_of result (rules.count (out-Value a.now)) }
+    ensures gives { Gives (λ v. v) fault_of result (rules.count (out-Value a.now)) }
+    ensures memory { NeverWants result }
 {
     match a {
         Value::Text(text) => Ok(Value::Int(text_length(text.get().as_slice()))),
@@ -83,7 +87,8 @@ fn count(alloc: Global, a: &Value) -> Result<Value, Refusal>
 }
 
 fn as_text(alloc: Global, a: &Value) -> Result<Value, Refusal>
-    ensures { Gives (λ v. v) fault_of result (rules.as_text (out-Value a.now)) }
+    ensures gives { Gives (λ v. v) fault_of result (rules.as_text (out-Value a.now)) }
+    ensures memory { WantsOnlyWhere (is_plain (out-Value a.now) ≡ true) result }
 {
     match a {
         Value::Int(number) => Ok(text_value(alloc, number_text(alloc, *number)?)?),
@@ -93,7 +98,8 @@ fn as_text(alloc: Global, a: &Value) -> Result<Value, Refusal>
 }
 
 fn on_one(alloc: Global, op: UnOp, a: &Value) -> Result<Value, Refusal>
-    ensures { Gives (λ v. v) fault_of result (rules.on_one op (out-Value a.now)) }
+    ensures gives { Gives (λ v. v) fault_of result (rules.on_one op (out-Value a.now)) }
+    ensures memory { WantsOnlyWhere (one_makes op (out-Value a.now) ≡ true) result }
 {
     match op {
         UnOp::Not => negation(alloc, a),
@@ -106,7 +112,8 @@ fn on_one(alloc: Global, op: UnOp, a: &Value) -> Result<Value, Refusal>
 /// What an operator on one operand gives: `on_one`.
 #[inline(never)]
 pub fn unary(alloc: Global, op: UnOp, a: Value) -> Result<Value, Refusal>
-    ensures { Gives (λ v. v) fault_of result (rules.on_one op (out-Value a)) }
+    ensures gives { Gives (λ v. v) fault_of result (rules.on_one op (out-Value a)) }
+    ensures memory { WantsOnlyWhere (one_makes op (out-Value a) ≡ true) result }
 {
     on_one(alloc, op, &a)
 }

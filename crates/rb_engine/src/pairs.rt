@@ -1,12 +1,13 @@
 // What operators on two operands give.
 #![tactic(auto, using(crate::proofs::Values::values))]
 
-ghost use Rattle.std.specs.Prelude.{◌≡◌, ◌++◌, OnOk};
+ghost use Rattle.std.specs.Prelude.{◌≡◌, ◌++◌, true, OnOk};
 ghost use Rattle.rb_trees.specs.Outcome.{Gives};
 ghost use Rattle.rb_trees.specs.declared.values.Value.{out-Value};
 ghost use Rattle.rb_meaning_code.specs.Expressions as places;
 ghost use Rattle.rb_meaning_code.specs.Operators as rules;
-ghost use Rattle.rb_engine.specs.Ends.{fault_of};
+ghost use Rattle.rb_engine.specs.Ends.{fault_of, WantsOnlyWhere, NeverWants};
+ghost use Rattle.rb_engine.specs.Makes.{are_joined, two_make};
 ghost use Rattle.rb_engine.specs.Numbers.{both_numbers, number_rule, truth_rule};
 
 use crate::ends::Refusal;
@@ -58,7 +59,8 @@ fn joined_list(alloc: Global, a: &Seq<Value>, b: &Seq<Value>) -> Result<Value, R
 }
 
 fn plus(alloc: Global, a: &Value, b: &Value) -> Result<Value, Refusal>
-    ensures { Gives (λ v. v) fault_of result (rules.plus (out-Value a.now) (out-Value b.now)) }
+    ensures gives { Gives (λ v. v) fault_of result (rules.plus (out-Value a.now) (out-Value b.now)) }
+    ensures memory { WantsOnlyWhere (are_joined (out-Value a.now) (out-Value b.now) ≡ true) result }
 {
     match (a, b) {
         (Value::Int(x), Value::Int(y)) => Ok(Value::Int(sum(*x, *y))),
@@ -69,7 +71,8 @@ fn plus(alloc: Global, a: &Value, b: &Value) -> Result<Value, Refusal>
 }
 
 fn quotient(alloc: Global, a: i64, b: i64) -> Result<Value, Refusal>
-    ensures { Gives (λ v. v) fault_of result (rules.quotient a b) }
+    ensures gives { Gives (λ v. v) fault_of result (rules.quotient a b) }
+    ensures memory { NeverWants result }
 {
     if b == 0 {
         return Err(division_by_zero(alloc));
@@ -78,7 +81,8 @@ fn quotient(alloc: Global, a: i64, b: i64) -> Result<Value, Refusal>
 }
 
 fn remainder(alloc: Global, a: i64, b: i64) -> Result<Value, Refusal>
-    ensures { Gives (λ v. v) fault_of result (rules.remainder a b) }
+    ensures gives { Gives (λ v. v) fault_of result (rules.remainder a b) }
+    ensures memory { NeverWants result }
 {
     if b == 0 {
         return Err(division_by_zero(alloc));
@@ -87,7 +91,8 @@ fn remainder(alloc: Global, a: i64, b: i64) -> Result<Value, Refusal>
 }
 
 fn equal(alloc: Global, a: &Value, b: &Value) -> Result<bool, Refusal>
-    ensures { Gives (λ same. same) fault_of result (rules.equal (out-Value a.now) (out-Value b.now)) }
+    ensures gives { Gives (λ same. same) fault_of result (rules.equal (out-Value a.now) (out-Value b.now)) }
+    ensures memory { NeverWants result }
 {
     match (a, b) {
         (Value::Int(x), Value::Int(y)) => Ok(x == y),
@@ -109,7 +114,8 @@ fn numbers(a: &Value, b: &Value) -> Option<(i64, i64)>
 
 // What an operator gives on two numbers.
 fn on_ints(alloc: Global, op: BinOp, a: i64, b: i64) -> Result<Value, Refusal>
-    ensures { Gives (λ v. v) fault_of result (number_rule op a b) }
+    ensures gives { Gives (λ v. v) fault_of result (number_rule op a b) }
+    ensures memory { NeverWants result }
 {
     match op {
         BinOp::Sub => Ok(Value::Int(difference(a, b))),
@@ -126,7 +132,8 @@ fn on_ints(alloc: Global, op: BinOp, a: i64, b: i64) -> Result<Value, Refusal>
 
 #[tactic(auto, using(crate::proofs::BothNumbers::number_steps))]
 fn on_numbers(alloc: Global, op: BinOp, a: &Value, b: &Value) -> Result<Value, Refusal>
-    ensures { Gives (λ v. v) fault_of result (rules.on_numbers (number_rule op) (out-Value a.now) (out-Value b.now)) }
+    ensures gives { Gives (λ v. v) fault_of result (rules.on_numbers (number_rule op) (out-Value a.now) (out-Value b.now)) }
+    ensures memory { NeverWants result }
 {
     match numbers(a, b) {
         Some((x, y)) => on_ints(alloc, op, x, y),
@@ -136,7 +143,8 @@ fn on_numbers(alloc: Global, op: BinOp, a: &Value, b: &Value) -> Result<Value, R
 
 // `&&` and `||` where the left operand doesn't decide.
 fn on_truths(alloc: Global, op: BinOp, a: &Value, b: &Value) -> Result<Value, Refusal>
-    ensures { Gives (λ v. v) fault_of result (rules.on_truths (truth_rule op) (out-Value a.now) (out-Value b.now)) }
+    ensures gives { Gives (λ v. v) fault_of result (rules.on_truths (truth_rule op) (out-Value a.now) (out-Value b.now)) }
+    ensures memory { NeverWants result }
 {
     match (a, b) {
         (Value::Bool(x), Value::Bool(y)) => Ok(Value::Bool(both_or_either(op, *x, *y))),
@@ -154,7 +162,8 @@ fn both_or_either(op: BinOp, a: bool, b: bool) -> bool
 }
 
 fn on_two(alloc: Global, op: BinOp, a: &Value, b: &Value) -> Result<Value, Refusal>
-    ensures { Gives (λ v. v) fault_of result (rules.on_two op (out-Value a.now) (out-Value b.now)) }
+    ensures gives { Gives (λ v. v) fault_of result (rules.on_two op (out-Value a.now) (out-Value b.now)) }
+    ensures memory { WantsOnlyWhere (two_make op (out-Value a.now) (out-Value b.now) ≡ true) result }
 {
     match op {
         BinOp::Add => plus(alloc, a, b),
@@ -175,7 +184,8 @@ fn on_two(alloc: Global, op: BinOp, a: &Value, b: &Value) -> Result<Value, Refus
 /// The value that the left operand decides alone, or None where the right one counts too: `by_left`.
 #[inline(never)]
 pub fn by_left(alloc: Global, op: BinOp, a: &Value) -> Result<Option<Value>, Refusal>
-    ensures { Gives (λ v. v) fault_of result (rules.by_left op (out-Value a.now)) }
+    ensures gives { Gives (λ v. v) fault_of result (rules.by_left op (out-Value a.now)) }
+    ensures memory { NeverWants result }
 {
     match op {
         BinOp::And => conjunct(alloc, a),
@@ -185,7 +195,8 @@ pub fn by_left(alloc: Global, op: BinOp, a: &Value) -> Result<Option<Value>, Ref
 }
 
 fn conjunct(alloc: Global, a: &Value) -> Result<Option<Value>, Refusal>
-    ensures { Gives (λ v. v) fault_of result (rules.conjunct (out-Value a.now)) }
+    ensures gives { Gives (λ v. v) fault_of result (rules.conjunct (out-Value a.now)) }
+    ensures memory { NeverWants result }
 {
     match a {
         Value::Bool(true) => Ok(None),
@@ -195,7 +206,8 @@ fn conjunct(alloc: Global, a: &Value) -> Result<Option<Value>, Refusal>
 }
 
 fn disjunct(alloc: Global, a: &Value) -> Result<Option<Value>, Refusal>
-    ensures { Gives (λ v. v) fault_of result (rules.disjunct (out-Value a.now)) }
+    ensures gives { Gives (λ v. v) fault_of result (rules.disjunct (out-Value a.now)) }
+    ensures memory { NeverWants result }
 {
     match a {
         Value::Bool(true) => Ok(Some(Value::Bool(true))),
@@ -239,7 +251,8 @@ pub fn list_of(alloc: Global, items: Seq<Value>) -> Result<Value, Refusal>
 /// What an operator on two operands gives: `on_two`.
 #[inline(never)]
 pub fn binary(alloc: Global, op: BinOp, a: Value, b: Value) -> Result<Value, Refusal>
-    ensures { Gives (λ v. v) fault_of result (rules.on_two op (out-Value a) (out-Value b)) }
+    ensures gives { Gives (λ v. v) fault_of result (rules.on_two op (out-Value a) (out-Value b)) }
+    ensures memory { WantsOnlyWhere (two_make op (out-Value a) (out-Value b) ≡ true) result }
 {
     on_two(alloc, op, &a, &b)
 }

@@ -77,25 +77,25 @@ pub expressions::unary_value-returns-in_err-value : goal.expressions::unary_valu
 expressions::unary_value-returns-in_err-value g t c = cut _ c.value_of.ensures c.in_err-value.was (search rules)
 
 pub expressions::unary_value-returns : goal.expressions::unary_value-returns
-expressions::unary_value-returns g t c = gave _ c.value_of.ensures c.in_ok-value.was (helped_end _ _ _ c.unary.ensures c.lift.ensures)
+expressions::unary_value-returns g t c = gave _ c.value_of.ensures c.in_ok-value.was (helped_end _ _ _ c.unary.ensures.gives c.lift.ensures)
 
 pub expressions::binary_value-returns-in_err-left : goal.expressions::binary_value-returns-in_err-left
 expressions::binary_value-returns-in_err-left g t c = cut _ c.value_of.ensures c.in_err-left.was (search rules)
 
 pub expressions::binary_value-returns-in_err-decided : goal.expressions::binary_value-returns-in_err-decided
-expressions::binary_value-returns-in_err-decided g t c = gave _ c.value_of.ensures c.in_ok-left.was (unhelped (λ v. v) c.args.at c.by_left.result _ _ c.by_left.ensures c.lift.ensures c.in_err-decided.was (search rules))
+expressions::binary_value-returns-in_err-decided g t c = gave _ c.value_of.ensures c.in_ok-left.was (unhelped (λ v. v) c.args.at c.by_left.result _ _ c.by_left.ensures.gives c.lift.ensures c.in_err-decided.was (search rules))
 
 pub expressions::binary_value-returns-in-Some : goal.expressions::binary_value-returns-in-Some
-expressions::binary_value-returns-in-Some g t c = gave _ c.value_of.ensures c.in_ok-left.was (helped (λ v. v) c.args.at c.by_left.result _ _ _ c.by_left.ensures c.lift.ensures (c.in_ok-decided.was ∙ ap Ok c.in-Some.is) (ended _))
+expressions::binary_value-returns-in-Some g t c = gave _ c.value_of.ensures c.in_ok-left.was (helped (λ v. v) c.args.at c.by_left.result _ _ _ c.by_left.ensures.gives c.lift.ensures (c.in_ok-decided.was ∙ ap Ok c.in-Some.is) (ended _))
 
 pub expressions::binary_value-value_of-requires-in-None : goal.expressions::binary_value-value_of-requires-in-None
 expressions::binary_value-value_of-requires-in-None g t c κs within = (let d = ap (room (map mirror_class c.args.code.now)) c.value_of.ensures.depth in omega arith, within)
 
 pub expressions::binary_value-returns-in_err-right-in-None : goal.expressions::binary_value-returns-in_err-right-in-None
-expressions::binary_value-returns-in_err-right-in-None g t c = gave _ c.value_of.ensures c.in_ok-left.was (helped (λ v. v) c.args.at c.by_left.result _ _ _ c.by_left.ensures c.lift.ensures (c.in_ok-decided.was ∙ ap Ok c.in-None.is) (cut _ c.value_of-in-None.ensures c.in_err-right-in-None.was (search rules)))
+expressions::binary_value-returns-in_err-right-in-None g t c = gave _ c.value_of.ensures c.in_ok-left.was (helped (λ v. v) c.args.at c.by_left.result _ _ _ c.by_left.ensures.gives c.lift.ensures (c.in_ok-decided.was ∙ ap Ok c.in-None.is) (cut _ c.value_of-in-None.ensures c.in_err-right-in-None.was (search rules)))
 
 pub expressions::binary_value-returns-in_ok-right-in-None : goal.expressions::binary_value-returns-in_ok-right-in-None
-expressions::binary_value-returns-in_ok-right-in-None g t c = gave _ c.value_of.ensures c.in_ok-left.was (helped (λ v. v) c.args.at c.by_left.result _ _ _ c.by_left.ensures c.lift.ensures (c.in_ok-decided.was ∙ ap Ok c.in-None.is) (gave _ c.value_of-in-None.ensures c.in_ok-right-in-None.was (helped_end _ _ _ c.binary.ensures c.lift-in-None.ensures)))
+expressions::binary_value-returns-in_ok-right-in-None g t c = gave _ c.value_of.ensures c.in_ok-left.was (helped (λ v. v) c.args.at c.by_left.result _ _ _ c.by_left.ensures.gives c.lift.ensures (c.in_ok-decided.was ∙ ap Ok c.in-None.is) (gave _ c.value_of-in-None.ensures c.in_ok-right-in-None.was (helped_end _ _ _ c.binary.ensures.gives c.lift-in-None.ensures)))
 
 pub expressions::field_value-returns-in_err-object : goal.expressions::field_value-returns-in_err-object
 expressions::field_value-returns-in_err-object g t c = cut _ c.value_of.ensures c.in_err-object.was (search rules)
@@ -347,19 +347,19 @@ pub control::run_if-returns-in_err-value : goal.control::run_if-returns-in_err-v
 control::run_if-returns-in_err-value g t c = cut _ c.value_of.ensures c.in_err-value.was (search rules)
 
 pub control::run_if-returns-in_err-holds : goal.control::run_if-returns-in_err-holds
-control::run_if-returns-in_err-holds g t c = gave _ c.value_of.ensures c.in_ok-value.was (unhelped (λ b. b) c.args.at c.truth_of.result (truth_of (out-Value c.in_ok-value.value)) _ c.truth_of.ensures c.lift.ensures c.in_err-holds.was (search rules))
+control::run_if-returns-in_err-holds g t c = gave _ c.value_of.ensures c.in_ok-value.was (unhelped (λ b. b) c.args.at c.truth_of.result (truth_of (out-Value c.in_ok-value.value)) _ c.truth_of.ensures.gives c.lift.ensures c.in_err-holds.was (search rules))
 
 pub control::run_if-run_scope-requires : goal.control::run_if-run_scope-requires
 control::run_if-run_scope-requires g t c κs within = (let d = ap (room (map mirror_class c.args.code.now)) c.value_of.ensures.depth in omega arith, within)
 
 pub control::run_if-returns-then-holds : goal.control::run_if-returns-then-holds
-control::run_if-returns-then-holds g t c = gave _ c.value_of.ensures c.in_ok-value.was (helped (λ b. b) c.args.at c.truth_of.result (truth_of (out-Value c.in_ok-value.value)) _ _ c.truth_of.ensures c.lift.ensures c.in_ok-holds.was (rw c.if-holds.true (plain_block _ _ _ c.len-count.ensures c.run_scope.ensures)))
+control::run_if-returns-then-holds g t c = gave _ c.value_of.ensures c.in_ok-value.was (helped (λ b. b) c.args.at c.truth_of.result (truth_of (out-Value c.in_ok-value.value)) _ _ c.truth_of.ensures.gives c.lift.ensures c.in_ok-holds.was (rw c.if-holds.true (plain_block _ _ _ c.len-count.ensures c.run_scope.ensures)))
 
 pub control::run_if-run_scope-requires-2 : goal.control::run_if-run_scope-requires-2
 control::run_if-run_scope-requires-2 g t c κs within = (let d = ap (room (map mirror_class c.args.code.now)) c.value_of.ensures.depth in omega arith, within)
 
 pub control::run_if-returns : goal.control::run_if-returns
-control::run_if-returns g t c = gave _ c.value_of.ensures c.in_ok-value.was (helped (λ b. b) c.args.at c.truth_of.result (truth_of (out-Value c.in_ok-value.value)) _ _ c.truth_of.ensures c.lift.ensures c.in_ok-holds.was (rw c.if-holds.false (plain_block _ _ _ c.len-count.ensures c.run_scope-2.ensures)))
+control::run_if-returns g t c = gave _ c.value_of.ensures c.in_ok-value.was (helped (λ b. b) c.args.at c.truth_of.result (truth_of (out-Value c.in_ok-value.value)) _ _ c.truth_of.ensures.gives c.lift.ensures c.in_ok-holds.was (rw c.if-holds.false (plain_block _ _ _ c.len-count.ensures c.run_scope-2.ensures)))
 
 pub control::run_while-turns-init : goal.control::run_while-turns-init
 control::run_while-turns-init g t c = record { depth = refl; fuel = omega arith; leads = λ gas le. (gas, le, leads_to_itself) }
@@ -371,13 +371,13 @@ pub control::run_while-returns-in_err-value : goal.control::run_while-returns-in
 control::run_while-returns-in_err-value g t c = by_result (search rules) (unfixed (λ gas le. let i = c.turns.invariant.leads gas le in let f = c.turns.invariant.fuel in i.2.by _ _ (while_fails i.0 c.args.at (value_run c.args.code.now c.args.condition.now gas) (block (stmts_run c.args.code.now c.args.block.now gas)) (fixed gas (omega arith) c.value_of.ensures) c.in_err-value.was)))
 
 pub control::run_while-returns-in_err-holds : goal.control::run_while-returns-in_err-holds
-control::run_while-returns-in_err-holds g t c = by_result (search rules) (unfixed (λ gas le. let i = c.turns.invariant.leads gas le in let f = c.turns.invariant.fuel in i.2.by _ _ (while_unclear i.0 c.args.at (value_run c.args.code.now c.args.condition.now gas) (block (stmts_run c.args.code.now c.args.block.now gas)) c.truth_of.result (fixed gas (omega arith) c.value_of.ensures) c.in_ok-value.was c.truth_of.ensures c.lift.ensures c.in_err-holds.was)))
+control::run_while-returns-in_err-holds g t c = by_result (search rules) (unfixed (λ gas le. let i = c.turns.invariant.leads gas le in let f = c.turns.invariant.fuel in i.2.by _ _ (while_unclear i.0 c.args.at (value_run c.args.code.now c.args.condition.now gas) (block (stmts_run c.args.code.now c.args.block.now gas)) c.truth_of.result (fixed gas (omega arith) c.value_of.ensures) c.in_ok-value.was c.truth_of.ensures.gives c.lift.ensures c.in_err-holds.was)))
 
 pub control::run_while-returns-then-not-holds : goal.control::run_while-returns-then-not-holds
-control::run_while-returns-then-not-holds g t c = unfixed (λ gas le. let i = c.turns.invariant.leads gas le in let f = c.turns.invariant.fuel in i.2.by _ _ (while_false i.0 c.args.at (value_run c.args.code.now c.args.condition.now gas) (block (stmts_run c.args.code.now c.args.block.now gas)) c.truth_of.result (fixed gas (omega arith) c.value_of.ensures) c.in_ok-value.was c.truth_of.ensures c.lift.ensures (c.in_ok-holds.was ∙ ap Ok c.if-not-holds.true)))
+control::run_while-returns-then-not-holds g t c = unfixed (λ gas le. let i = c.turns.invariant.leads gas le in let f = c.turns.invariant.fuel in i.2.by _ _ (while_false i.0 c.args.at (value_run c.args.code.now c.args.condition.now gas) (block (stmts_run c.args.code.now c.args.block.now gas)) c.truth_of.result (fixed gas (omega arith) c.value_of.ensures) c.in_ok-value.was c.truth_of.ensures.gives c.lift.ensures (c.in_ok-holds.was ∙ ap Ok c.if-not-holds.true)))
 
 pub control::run_while-returns-in_err-lift : goal.control::run_while-returns-in_err-lift
-control::run_while-returns-in_err-lift g t c = by_result (search rules) (unfixed (λ gas le. let i = c.turns.invariant.leads gas le in let f = c.turns.invariant.fuel in i.2.by _ _ (while_true i.0 c.args.at (value_run c.args.code.now c.args.condition.now gas) (block (stmts_run c.args.code.now c.args.block.now gas)) c.truth_of.result (fixed gas (omega arith) c.value_of.ensures) c.in_ok-value.was c.truth_of.ensures c.lift.ensures (c.in_ok-holds.was ∙ ap Ok c.if-not-holds.false) (unit_missing c.args.at (block (stmts_run c.args.code.now c.args.block.now gas)) (while_turns i.0 c.args.at (value_run c.args.code.now c.args.condition.now gas) (block (stmts_run c.args.code.now c.args.block.now gas))) c.check_unit.result c.check_unit.ensures c.lift-in-turns.ensures c.in_err-lift.was))))
+control::run_while-returns-in_err-lift g t c = by_result (search rules) (unfixed (λ gas le. let i = c.turns.invariant.leads gas le in let f = c.turns.invariant.fuel in i.2.by _ _ (while_true i.0 c.args.at (value_run c.args.code.now c.args.condition.now gas) (block (stmts_run c.args.code.now c.args.block.now gas)) c.truth_of.result (fixed gas (omega arith) c.value_of.ensures) c.in_ok-value.was c.truth_of.ensures.gives c.lift.ensures (c.in_ok-holds.was ∙ ap Ok c.if-not-holds.false) (unit_missing c.args.at (block (stmts_run c.args.code.now c.args.block.now gas)) (while_turns i.0 c.args.at (value_run c.args.code.now c.args.condition.now gas) (block (stmts_run c.args.code.now c.args.block.now gas))) c.check_unit.result c.check_unit.ensures c.lift-in-turns.ensures c.in_err-lift.was))))
 
 pub control::run_while-overflow_sub-state : goal.control::run_while-overflow_sub-state
 control::run_while-overflow_sub-state g t c = let low = (fuel_left c.args.at c.value_of.new.state.fuel c.check_unit.result c.check_unit.ensures c.lift-in-turns.ensures c.in_ok-lift.was) in omega arith
@@ -386,13 +386,13 @@ pub control::run_while-run_scope-requires : goal.control::run_while-run_scope-re
 control::run_while-run_scope-requires g t c κs within = (let d = ap (room (map mirror_class c.args.code.now)) (c.value_of.ensures.depth ∙ c.turns.invariant.depth) in omega arith, within)
 
 pub control::run_while-returns-in_err-run_scope : goal.control::run_while-returns-in_err-run_scope
-control::run_while-returns-in_err-run_scope g t c = by_result (search rules) (unfixed (λ gas le. let i = c.turns.invariant.leads gas le in let f = c.turns.invariant.fuel in i.2.by _ _ (while_true i.0 c.args.at (value_run c.args.code.now c.args.condition.now gas) (block (stmts_run c.args.code.now c.args.block.now gas)) c.truth_of.result (fixed gas (omega arith) c.value_of.ensures) c.in_ok-value.was c.truth_of.ensures c.lift.ensures (c.in_ok-holds.was ∙ ap Ok c.if-not-holds.false) (unit_wasted c.args.at (block (stmts_run c.args.code.now c.args.block.now gas)) (while_turns i.0 c.args.at (value_run c.args.code.now c.args.condition.now gas) (block (stmts_run c.args.code.now c.args.block.now gas))) c.check_unit.result c.check_unit.ensures c.lift-in-turns.ensures c.in_ok-lift.was (fixed gas (let x = c.value_of.ensures.fuel in omega arith) (plain_block _ _ _ c.len-count.ensures c.run_scope.ensures)) c.in_err-run_scope.was))))
+control::run_while-returns-in_err-run_scope g t c = by_result (search rules) (unfixed (λ gas le. let i = c.turns.invariant.leads gas le in let f = c.turns.invariant.fuel in i.2.by _ _ (while_true i.0 c.args.at (value_run c.args.code.now c.args.condition.now gas) (block (stmts_run c.args.code.now c.args.block.now gas)) c.truth_of.result (fixed gas (omega arith) c.value_of.ensures) c.in_ok-value.was c.truth_of.ensures.gives c.lift.ensures (c.in_ok-holds.was ∙ ap Ok c.if-not-holds.false) (unit_wasted c.args.at (block (stmts_run c.args.code.now c.args.block.now gas)) (while_turns i.0 c.args.at (value_run c.args.code.now c.args.condition.now gas) (block (stmts_run c.args.code.now c.args.block.now gas))) c.check_unit.result c.check_unit.ensures c.lift-in-turns.ensures c.in_ok-lift.was (fixed gas (let x = c.value_of.ensures.fuel in omega arith) (plain_block _ _ _ c.len-count.ensures c.run_scope.ensures)) c.in_err-run_scope.was))))
 
 pub control::run_while-turns-smaller : goal.control::run_while-turns-smaller
 control::run_while-turns-smaller g t c = let low = (fuel_left c.args.at c.value_of.new.state.fuel c.check_unit.result c.check_unit.ensures c.lift-in-turns.ensures c.in_ok-lift.was) in let x = c.value_of.ensures.fuel in let y = c.run_scope.ensures.fuel in omega arith
 
 pub control::run_while-turns-preserved : goal.control::run_while-turns-preserved
-control::run_while-turns-preserved g t c = record { depth = c.run_scope.ensures.depth ∙ c.value_of.ensures.depth ∙ c.turns.invariant.depth; fuel = (let f = c.turns.invariant.fuel in let x = c.value_of.ensures.fuel in let y = c.run_scope.ensures.fuel in omega arith); leads = λ gas le. let i = c.turns.invariant.leads gas le in let f = c.turns.invariant.fuel in let x = c.value_of.ensures.fuel in let y = c.run_scope.ensures.fuel in let low = (fuel_left c.args.at c.value_of.new.state.fuel c.check_unit.result c.check_unit.ensures c.lift-in-turns.ensures c.in_ok-lift.was) in let n = turn_more i.0 c.value_of.new.state.fuel c.args.at (value_run c.args.code.now c.args.condition.now gas) (block (stmts_run c.args.code.now c.args.block.now gas)) (local c.run_scope.new.frame c.run_scope.new.state) low (omega arith) in (n.0, omega arith, record { by = λ r s m. i.2.by r s (while_true i.0 c.args.at (value_run c.args.code.now c.args.condition.now gas) (block (stmts_run c.args.code.now c.args.block.now gas)) c.truth_of.result (fixed gas (omega arith) c.value_of.ensures) c.in_ok-value.was c.truth_of.ensures c.lift.ensures (c.in_ok-holds.was ∙ ap Ok c.if-not-holds.false) (unit_taken c.args.at (block (stmts_run c.args.code.now c.args.block.now gas)) (while_turns i.0 c.args.at (value_run c.args.code.now c.args.condition.now gas) (block (stmts_run c.args.code.now c.args.block.now gas))) c.check_unit.result c.check_unit.ensures c.lift-in-turns.ensures c.in_ok-lift.was (fixed gas (let x = c.value_of.ensures.fuel in omega arith) (plain_block _ _ _ c.len-count.ensures c.run_scope.ensures)) c.in_ok-run_scope.was (at_run (λ any. n.2) m))) }) }
+control::run_while-turns-preserved g t c = record { depth = c.run_scope.ensures.depth ∙ c.value_of.ensures.depth ∙ c.turns.invariant.depth; fuel = (let f = c.turns.invariant.fuel in let x = c.value_of.ensures.fuel in let y = c.run_scope.ensures.fuel in omega arith); leads = λ gas le. let i = c.turns.invariant.leads gas le in let f = c.turns.invariant.fuel in let x = c.value_of.ensures.fuel in let y = c.run_scope.ensures.fuel in let low = (fuel_left c.args.at c.value_of.new.state.fuel c.check_unit.result c.check_unit.ensures c.lift-in-turns.ensures c.in_ok-lift.was) in let n = turn_more i.0 c.value_of.new.state.fuel c.args.at (value_run c.args.code.now c.args.condition.now gas) (block (stmts_run c.args.code.now c.args.block.now gas)) (local c.run_scope.new.frame c.run_scope.new.state) low (omega arith) in (n.0, omega arith, record { by = λ r s m. i.2.by r s (while_true i.0 c.args.at (value_run c.args.code.now c.args.condition.now gas) (block (stmts_run c.args.code.now c.args.block.now gas)) c.truth_of.result (fixed gas (omega arith) c.value_of.ensures) c.in_ok-value.was c.truth_of.ensures.gives c.lift.ensures (c.in_ok-holds.was ∙ ap Ok c.if-not-holds.false) (unit_taken c.args.at (block (stmts_run c.args.code.now c.args.block.now gas)) (while_turns i.0 c.args.at (value_run c.args.code.now c.args.condition.now gas) (block (stmts_run c.args.code.now c.args.block.now gas))) c.check_unit.result c.check_unit.ensures c.lift-in-turns.ensures c.in_ok-lift.was (fixed gas (let x = c.value_of.ensures.fuel in omega arith) (plain_block _ _ _ c.len-count.ensures c.run_scope.ensures)) c.in_ok-run_scope.was (at_run (λ any. n.2) m))) }) }
 
 pub control::run_for-returns-in_err-value : goal.control::run_for-returns-in_err-value
 control::run_for-returns-in_err-value g t c = cut _ c.value_of.ensures c.in_err-value.was (search rules)

@@ -41,7 +41,7 @@ pub steps::run_if-returns-then-stopped : goal.steps::run_if-returns-then-stopped
 steps::run_if-returns-then-stopped t c =
     if_so c.args.stage.now c.args.id c.args.at c.args.condition.now c.args.yes.now c.args.no.now c.args.variables.now c.args.server.now
     (on_value c.args.id _ c.value_of.ensures c.at_step.ensures c.in_ok-value.was
-    (on_value c.args.id _ (ruled c.args.at _ _ c.truth_of.ensures c.at_place.ensures) c.at_step-2.ensures c.in_ok-holds.was
+    (on_value c.args.id _ (ruled c.args.at _ _ c.truth_of.ensures.gives c.at_place.ensures) c.at_step-2.ensures c.in_ok-holds.was
     (back_to (c.in_ok-node.ensures.closes [] c.args.variables.now refl c.count-count.ensures)
     (branch_stopped c.in_ok-holds.holds _ _
     (branch_run c.args.stage.now c.in_ok-holds.holds c.args.yes.now c.args.no.now c.chosen-steps.result.now c.new.result c.args.variables.now c.value_of.new.server c.run_block.new.server _ c.chosen-steps.ensures c.new.ensures c.in_ok-node.ensures.runs)
@@ -51,7 +51,7 @@ pub steps::run_if-returns : goal.steps::run_if-returns
 steps::run_if-returns t c =
     if_so c.args.stage.now c.args.id c.args.at c.args.condition.now c.args.yes.now c.args.no.now c.args.variables.now c.args.server.now
     (on_value c.args.id _ c.value_of.ensures c.at_step.ensures c.in_ok-value.was
-    (on_value c.args.id _ (ruled c.args.at _ _ c.truth_of.ensures c.at_place.ensures) c.at_step-2.ensures c.in_ok-holds.was
+    (on_value c.args.id _ (ruled c.args.at _ _ c.truth_of.ensures.gives c.at_place.ensures) c.at_step-2.ensures c.in_ok-holds.was
     (back_to (c.in_ok-node.ensures.closes [] c.args.variables.now refl c.count-count.ensures)
     (branch_went c.in_ok-holds.holds _ _
     (branch_run c.args.stage.now c.in_ok-holds.holds c.args.yes.now c.args.no.now c.chosen-steps.result.now c.new.result c.args.variables.now c.value_of.new.server c.run_block.new.server _ c.chosen-steps.ensures c.new.ensures c.in_ok-node.ensures.runs)

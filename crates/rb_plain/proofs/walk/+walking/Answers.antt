@@ -32,7 +32,7 @@ pub perform_branch-returns-clause-walked : goal.perform_branch-returns-clause-wa
 perform_branch-returns-clause-walked t c =
     branch_so c.args.scope.now c.args.at c.args.condition.now c.args.yes.now c.args.no.now c.perform_block.ensures.names
     (went _ c.value_of.ensures c.in_ok-value.was
-    (went _ (ruled c.args.at _ _ c.truth_of.ensures c.at_place.ensures) c.in_ok-holds.was
+    (went _ (ruled c.args.at _ _ c.truth_of.ensures.gives c.at_place.ensures) c.in_ok-holds.was
     (chosen_so c.args.world.now c.in_ok-holds.holds c.args.scope.now c.args.yes.now c.args.no.now c.chosen-block.result.now c.args.frame.now c.chosen-block.ensures
     (same_by c.value_of.ensures c.in_ok-value.was) (rw c.as_slice.ensures at c.perform_block.ensures.ended))))
 
