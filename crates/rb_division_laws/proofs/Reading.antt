@@ -14,7 +14,7 @@ use Rattle.rb_trees.specs.mirror.Remainders.{Part, Parts, NoParts, MoreParts}
 use Rattle.rb_meaning_bytes.specs.Fits.{form_has_kind, Walk, step_of, begun, leaves, behind, raised, raised_or, passed, demanded, went, value_read, values_read, row_read, turns_read, turns_done, part_read, parts_read}
 use Rattle.rb_meaning_code.specs.Faults.{fuel_used}
 use Rattle.rb_meaning_code.specs.Remote.{Server}
-use Rattle.rb_meaning_code.specs.ScriptRun.{Ran, stopped, in_front, with_entry, goes_on, Why, AllDone, InTurn, NoUnit, Turned, with_unit, turned_on, turns, after_turns}
+use Rattle.rb_meaning_code.specs.ScriptRun.{PlacedFault, Ran, stopped, in_front, with_entry, goes_on, Why, AllDone, InTurn, NoUnit, Turned, with_unit, turned_on, turns, after_turns}
 
 -- ---- walks
 
@@ -96,7 +96,7 @@ raises_here n other = ap (λ (t : Truth). cond t (Ok (over NoEntries None)) othe
 
 module _ (Fit : List Object → Type 0) where
   -- The reader reads the node of a run to its end, and is stopped as the run is; what the run leaves fits, if it goes on.
-  pub record WalksOf (n : ℕ) (R : Reader) (nd : Node) (fault : Option Fault) (server : Server) : Type 0 where
+  pub record WalksOf (n : ℕ) (R : Reader) (nd : Node) (fault : Option PlacedFault) (server : Server) : Type 0 where
     pub later : Later n nd
     pub last : Walk
     pub read : R (begun nd false) ≡ Ok last
@@ -105,7 +105,7 @@ module _ (Fit : List Object → Type 0) where
     pub table : fault ≡ None → Fit server.table
 
   -- by another reader that reads the same
-  pub walks_same : (n : ℕ) (R R' : Reader) (nd : Node) (fault : Option Fault) (server : Server) → ((w : Walk) → w.stopped ≡ false → R w ≡ R' w) → WalksOf n R' nd fault server → WalksOf n R nd fault server
+  pub walks_same : (n : ℕ) (R R' : Reader) (nd : Node) (fault : Option PlacedFault) (server : Server) → ((w : Walk) → w.stopped ≡ false → R w ≡ R' w) → WalksOf n R' nd fault server → WalksOf n R nd fault server
   walks_same n R R' nd fault server same h =
       record { later = h.later; last = h.last; read = same (begun nd false) (begins nd) ∙ h.read; left = h.left; same = h.same; table = h.table }
 
@@ -117,7 +117,7 @@ module _ (Fit : List Object → Type 0) where
   walks_stopped n id at f s R l h = record { later = l; last = over NoEntries None; read = h; left = refl; same = refl; table = λ e. absurd (cc e) }
 
   -- a step that gives no entry
-  pub walks_passed : (n id after : ℕ) (ps : Parts) (nd : Node) (fault : Option Fault) (s : Server) (p : Part) → ((w : Walk) → part_read p w ≡ passed id w) → n ≤ id → suc id ≤ after
+  pub walks_passed : (n id after : ℕ) (ps : Parts) (nd : Node) (fault : Option PlacedFault) (s : Server) (p : Part) → ((w : Walk) → part_read p w ≡ passed id w) → n ≤ id → suc id ≤ after
       → WalksOf after (λ w. parts_read ps w) nd fault s → WalksOf n (λ w. parts_read (MoreParts p ps) w) nd fault s
   walks_passed n id after ps (Holds es f) fault s p is l k h = record {
     later = later_fault n after f (omega arith) h.later;
@@ -130,7 +130,7 @@ module _ (Fit : List Object → Type 0) where
   }
 
   -- a value of a kind, and what follows it
-  pub walks_value : (n id after kind : ℕ) (v : Value) (R : Reader) (nd : Node) (fault : Option Fault) (s : Server) → n ≤ after → form_has_kind kind (out-Value v) ≡ true
+  pub walks_value : (n id after kind : ℕ) (v : Value) (R : Reader) (nd : Node) (fault : Option PlacedFault) (s : Server) → n ≤ after → form_has_kind kind (out-Value v) ≡ true
       → WalksOf after R nd fault s → WalksOf n (λ w. value_read id kind w >>= R) (in_front (forest.Value v) nd) fault s
   walks_value n id after kind v R (Holds es f) fault s l held h = record {
     later = later_fault n after f l h.later;
@@ -158,11 +158,11 @@ module _ (Fit : List Object → Type 0) where
         subst (λ q. ((q >>= λ i. Ok (behind w es i)) >>= λ x. parts_read ps x) ≡ o) (sym read)
         (subst (λ q. parts_read ps q ≡ o) (sym (behind_is (MoreEntries (forest.Branch holds nd) es) es (step_of f) inner t left s)) h)
 
-    walks_behind : (nd2 : Node) (fault : Option Fault) (s : Server) → inner.stopped ≡ false → n ≤ after → WalksOf after (λ w. parts_read ps w) nd2 fault s
+    walks_behind : (nd2 : Node) (fault : Option PlacedFault) (s : Server) → inner.stopped ≡ false → n ≤ after → WalksOf after (λ w. parts_read ps w) nd2 fault s
         → WalksOf n (λ w. parts_read (MoreParts (part.Branch id a b) ps) w) (in_front (forest.Branch holds nd) nd2) fault s
     walks_behind (Holds es f) fault s e l h = record { later = later_fault n after f l h.later; last = h.last; read = branch_read es f false (Ok h.last) e h.read; left = h.left; same = h.same; table = h.table }
 
-    pub walks_branch : (fl : Option Fault) (s : Server) (go : Server → Ran) → inner.stopped ≡ is_some fl → n ≤ after → (fl ≡ None → Walks after (λ w. parts_read ps w) (go s))
+    pub walks_branch : (fl : Option PlacedFault) (s : Server) (go : Server → Ran) → inner.stopped ≡ is_some fl → n ≤ after → (fl ≡ None → Walks after (λ w. parts_read ps w) (go s))
         → Walks n (λ w. parts_read (MoreParts (part.Branch id a b) ps) w) (with_entry (forest.Branch holds nd) (goes_on fl s go))
     walks_branch None s go e l h = walks_behind (go s).node (go s).fault (go s).server e l (h refl)
     walks_branch (Some f) s go e l h = record {
@@ -204,7 +204,7 @@ module _ (Fit : List Object → Type 0) where
         (subst (λ q. turns_read id kind (λ i. parts_read body i) ns q ≡ o) (sym (behind_is es es f last t left s)) h)
 
     module _ (P : Value → Type 0) (turn : Value → Server → Ran) (each : (row : Value) (s : Server) → P row → Fit s.table → TurnWalks id kind body (turn row s)) where
-      turned : (nd : Node) (fault : Option Fault) (s : Server) (go : Server → Turned) (last : Walk) → (row_read id kind (begun nd false) >>= λ row. parts_read body row) ≡ Ok last → leaves last ≡ false → last.stopped ≡ is_some fault
+      turned : (nd : Node) (fault : Option PlacedFault) (s : Server) (go : Server → Turned) (last : Walk) → (row_read id kind (begun nd false) >>= λ row. parts_read body row) ≡ Ok last → leaves last ≡ false → last.stopped ≡ is_some fault
           → (fault ≡ None → TurnsWalk id kind body (go s).nodes (go s).why (go s).server)
           → TurnsWalk id kind body (turned_on nd fault s go).nodes (turned_on nd fault s go).why (turned_on nd fault s go).server
       turned nd None s go last read left same h =
@@ -233,7 +233,7 @@ module _ (Fit : List Object → Type 0) where
           → parts_read (MoreParts (part.Turns id name kind body) ps) (begun (Holds (MoreEntries (forest.Rows nodes) es) f) false) ≡ o
       turns_read_by nodes es f w1 o e h = subst (λ q. ((q >>= λ x. turns_done id x) >>= λ x. parts_read ps x) ≡ o) (sym e) h
 
-      walks_done : (nodes : Nodes) (nd : Node) (fault : Option Fault) (s : Server) → ((es : Entries) (f : Option ℕ) → turns_read id kind (λ inner. parts_read body inner) nodes (standing es f) ≡ Ok (standing es f))
+      walks_done : (nodes : Nodes) (nd : Node) (fault : Option PlacedFault) (s : Server) → ((es : Entries) (f : Option ℕ) → turns_read id kind (λ inner. parts_read body inner) nodes (standing es f) ≡ Ok (standing es f))
           → WalksOf after (λ w. parts_read ps w) nd fault s → WalksOf n (λ w. parts_read (MoreParts (part.Turns id name kind body) ps) w) (in_front (forest.Rows nodes) nd) fault s
       walks_done nodes (Holds es f) fault s read h = record {
         later = later_fault n after f (omega arith) h.later;

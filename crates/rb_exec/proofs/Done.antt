@@ -13,7 +13,7 @@ use Rattle.rb_trees.specs.mirror.Forests.{mirror_node}
 use Rattle.rb_trees.specs.mirror.Scripts as script
 use Rattle.rb_trees.specs.mirror.Scripts.{Steps, mirror_step, mirror_steps}
 use Rattle.rb_meaning_code.specs.Remote.{Server, Reply, Got, Stopped, and_then, replies}
-use Rattle.rb_meaning_code.specs.ScriptRun.{Ground, Vars, Ran, ended, stopped, halted, with_entry, with_kept, on_reply, may_keep, kept, goes_on, chosen, branched, condition, rows_of, walked, run_step, run_steps}
+use Rattle.rb_meaning_code.specs.ScriptRun.{Ground, Vars, PlacedFault, Ran, ended, stopped, halted, with_entry, with_kept, on_reply, may_keep, kept, goes_on, chosen, branched, condition, rows_of, walked, run_step, run_steps}
 use Rattle.rb_exec.specs.Blocks.{with_entries, Does, Extends, Binds, Did, Closes, IsRun, Finished, kept_entries}
 use Rattle.rb_engine.specs.Misses.{Means, Replied}
 use Rattle.rb_exec.specs.Ends.{at_step, UnlessMemory}
@@ -132,11 +132,11 @@ pub choice : (g : Ground) (holds : Bool) (a b : Steps) (vars : Vars) (s : Server
 choice g true a b vars s = refl
 choice g false a b vars s = refl
 
-free : (f : Option Fault) (s : Server) (go : Server → Ran) → false ≡ is_some f → goes_on f s go ≡ go s
+free : (f : Option PlacedFault) (s : Server) (go : Server → Ran) → false ≡ is_some f → goes_on f s go ≡ go s
 free None s go e = refl
 free (Some f) s go e = absurd (cc e)
 
-held : (f : Option Fault) (s : Server) → true ≡ is_some f → (x : Fault) × ((go : Server → Ran) → goes_on f s go ≡ halted x s)
+held : (f : Option PlacedFault) (s : Server) → true ≡ is_some f → (x : PlacedFault) × ((go : Server → Ran) → goes_on f s go ≡ halted x s)
 held None s e = absurd (cc e)
 held (Some f) s e = (f, λ go. refl)
 

@@ -11,7 +11,7 @@ use Rattle.rb_trees.specs.declared.forests.Entry.TheVariants as entries
 use Rattle.rb_trees.specs.mirror.Forests as forest
 use Rattle.rb_trees.specs.mirror.Forests.{Node, NoNodes, MoreNodes, mirror_node, mirror_nodes}
 use Rattle.rb_meaning_code.specs.Remote.{Server, replies}
-use Rattle.rb_meaning_code.specs.ScriptRun.{Vars, Ran, Turned, Why, AllDone, InTurn, NoUnit, with_entry, stopped, on_reply, may_keep, with_kept, with_unit, before_turns, turned_on, turns, turn_over, after_turns, walked}
+use Rattle.rb_meaning_code.specs.ScriptRun.{Vars, PlacedFault, Ran, Turned, Why, AllDone, InTurn, NoUnit, with_entry, stopped, on_reply, may_keep, with_kept, with_unit, before_turns, turned_on, turns, turn_over, after_turns, walked}
 use Rattle.rb_exec.specs.Blocks.{with_entries, Did, IsRun, AreTurns, EndsTurns, end_of, kept_entries, row_entries}
 use Rattle.rb_engine.specs.Misses.{at_place}
 use Rattle.rb_engine.specs.Servers.{TakesUnit}
@@ -38,7 +38,7 @@ node_more : (ns : List node.Node) (n : node.Node) (t : Turned) → after_nodes (
 node_more [] n t = refl
 node_more (x ∷ ns) n t = ap (before_turns (mirror_node x)) (node_more ns n t)
 
-went_turn : (n : Node) (f : Option Fault) (s : Server) (go : Server → Turned) → false ≡ is_some f → turned_on n f s go ≡ before_turns n (go s)
+went_turn : (n : Node) (f : Option PlacedFault) (s : Server) (go : Server → Turned) → false ≡ is_some f → turned_on n f s go ≡ before_turns n (go s)
 went_turn n None s go e = refl
 went_turn n (Some f) s go e = absurd (cc e)
 
@@ -94,8 +94,8 @@ turns_short turn whole ns rows i row s s1 l e spent same is =
     ∙ ap (λ n. with_unit n s (λ x. turned_on (turn row x).node (turn row x).fault (turn row x).server (turns turn (drop (i + 1) rows)))) spent)) ∙ is)
     refl refl same
 
-why_held : (f : Option Fault) (n : Node) (s : Server) (go : Server → Turned) → true ≡ is_some f
-    → (x : Fault) × (turned_on n f s go ≡ before_turns n (record { nodes = NoNodes; why = InTurn x; server = s }))
+why_held : (f : Option PlacedFault) (n : Node) (s : Server) (go : Server → Turned) → true ≡ is_some f
+    → (x : PlacedFault) × (turned_on n f s go ≡ before_turns n (record { nodes = NoNodes; why = InTurn x; server = s }))
 why_held None n s go e = absurd (cc e)
 why_held (Some f) n s go e = (f, refl)
 

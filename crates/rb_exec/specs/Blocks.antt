@@ -9,7 +9,7 @@ use Rattle.rb_trees.specs.declared.forests.Entry.TheVariants as entries
 use Rattle.rb_trees.specs.mirror.Forests.{mirror_node, mirror_nodes, mirror_entry}
 use Rattle.rb_meaning_code.specs.Faults.{fuel_used}
 use Rattle.rb_meaning_code.specs.Remote.{Server}
-use Rattle.rb_meaning_code.specs.ScriptRun.{Vars, Ran, Turned, Why, AllDone, InTurn, NoUnit, with_entry, stopped, halted, may_keep}
+use Rattle.rb_meaning_code.specs.ScriptRun.{Vars, PlacedFault, Ran, Turned, Why, AllDone, InTurn, NoUnit, with_entry, stopped, halted, may_keep}
 use Rattle.rb_exec.specs.Stages.{Rest, Meaning}
 use Rattle.rb_exec.specs.Ends.{UnlessMemory}
 use Rattle.rb_exec.specs.declared.blocks.Block.{Block}
@@ -30,7 +30,7 @@ Does meaning before (Ok u) after vars s = (go : Rest) → with_entries before (m
 Does meaning before (Err (stop.Fault f)) after vars s =
     (go : Rest) → with_entries before (meaning go) ≡ with_entries after (stopped f.step f.at f.fault s)
 Does meaning before (Err stop.Within) after vars s =
-    (f : Fault) × ((go : Rest) → with_entries before (meaning go) ≡ with_entries after (halted f s))
+    (f : PlacedFault) × ((go : Rest) → with_entries before (meaning go) ≡ with_entries after (halted f s))
 Does meaning before (Err stop.Memory) after vars s = Unit {0}
 
 -- Bindings were only added.

@@ -16,6 +16,7 @@ use Rattle.rb_meaning_split.specs.Replay.{Replayed}
 use Rattle.rb_types_keep.specs.Ends.{Grown, LocalFits, LocalHolds}
 use Rattle.rb_types_keep.proofs.Steps.{holds_less, left_taken}
 use Rattle.rb_split_laws.proofs.Joined.{joined_up}
+use Rattle.rb_local_laws.specs.Meets.{placed}
 use Rattle.rb_local_laws.specs.Shown.{at_client, Fronts}
 use Rattle.rb_local_laws.proofs.Names.{Extends, fronts_same, fronts_less, fronts_closed}
 use Rattle.rb_local_laws.proofs.Closing.{within_extends, holds_framed}
@@ -108,7 +109,7 @@ module _ (c : Scene) where
 
     -- a fault in the block, behind it
     pub close_went : (r : Raised) (l1 : Local) (s : Outside) (ran other : Ran) (rep : Replayed) (rest : Node) (go : replay.Rest) → Went c inner r l1 s ran rep
-        → ((with_side c.p r).remote ≡ true → (other.fault ≡ Some r.fault) × (other.server ≡ s.server))
+        → ((with_side c.p r).remote ≡ true → (other.fault ≡ Some (placed r)) × (other.server ≡ s.server))
         → Went c ws r (closed (length l.names) l1) s other (replay.behind (length (at_client (x c) ws l).names) rest rep go)
     close_went r l1 s ran other rep rest go t far =
         let e = behind_fell (length (at_client (x c) ws l).names) rest rep go (with_side c.p r) t.local s.events t.ends t.events in

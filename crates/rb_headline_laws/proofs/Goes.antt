@@ -43,7 +43,7 @@ use Rattle.rb_split_laws.proofs.Sent.{Sent}
 use Rattle.rb_local_laws.specs.Shown.{at_client, Fronts, LeftSeen}
 use Rattle.rb_local_laws.specs.Local.{HoldsTable, IsLocalAt, Stand}
 use Rattle.rb_local_laws.specs.Admitted.{StaysWhole}
-use Rattle.rb_local_laws.specs.Meets.{far_side, keeping, FromOne, Met}
+use Rattle.rb_local_laws.specs.Meets.{far_side, placed, keeping, FromOne, Met}
 use Rattle.rb_local_laws.specs.Wanted.{AllWanted}
 use Rattle.rb_local_laws.proofs.Portable.{local_of}
 use Rattle.rb_division_laws.specs.Faults.{EachFault, IsRemote, StandsRemote, sent_of}
@@ -73,14 +73,15 @@ pub after_fault : {A : Type 0} (w : Outcome A × Seen) (k : A → replay.Rest) (
 after_fault (o, s) k r l e = ap (λ q. replay.after (q, s) k) e
 
 module _ (c : Scene) where
-  -- Code of a batch ended by a fault. Replay ends by it, with its side, and shows the same; a remote one stopped the script.
+  -- Code of a batch ended by a fault. Replay ends by it, with its side, and shows the same; a remote one stopped the
+  -- script, at the same position.
   pub record Went (ws : typed.Scope) (r : Raised) (l : Local) (s : Outside) (ran : Ran) (rep : Replayed) : Type 0 where
     pub local : Local
     pub fronts : Fronts (x c) ws l local
     pub state : LocalHolds (x c) ws l
     pub ends : rep.outcome ≡ Faulted (with_side c.p r) local
     pub events : rep.events ≡ s.events
-    pub far : (with_side c.p r).remote ≡ true → (ran.fault ≡ Some r.fault) × (ran.server ≡ s.server)
+    pub far : (with_side c.p r).remote ≡ true → (ran.fault ≡ Some (placed r)) × (ran.server ≡ s.server)
 
   -- It went to its end. What follows sees the same in the script and in the replay, at the place behind it.
   pub record Arrived (refs : Refs) (m : ℕ) (vs : Scope) (after : typed.Scope) (l : Local) (s : Outside) (ran : Ran) (rep : Replayed) (kr : Onward) (ke : replay.Rest) : Type 0 where

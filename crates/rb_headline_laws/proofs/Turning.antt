@@ -25,7 +25,7 @@ use Rattle.rb_meaning_code.specs.Calls.{unit_due}
 use Rattle.rb_meaning_code.specs.Statements.{closes, block, row_turn, turns_over, turns, performs_all}
 use Rattle.rb_meaning_code.specs.Remote.{Server, Reply, Got, and_then, replies, rows_in}
 use Rattle.rb_meaning_code.specs.ScriptRun as run
-use Rattle.rb_meaning_code.specs.ScriptRun.{Vars, Ran, Turned, Why, AllDone, InTurn, NoUnit, in_front, kept, on_reply, with_entry, with_kept, rows_of, turned_on, turn_over, after_turns, walked, run_steps}
+use Rattle.rb_meaning_code.specs.ScriptRun.{Vars, PlacedFault, Ran, Turned, Why, AllDone, InTurn, NoUnit, in_front, kept, on_reply, with_entry, with_kept, rows_of, turned_on, turn_over, after_turns, walked, run_steps}
 use Rattle.rb_meaning_flow.specs.Scopes.{Scope}
 use Rattle.rb_meaning.specs.State.{Event, Outside}
 use Rattle.rb_meaning.specs.Unsplit.{with_side, with_answer}
@@ -38,7 +38,7 @@ use Rattle.rb_split_laws.proofs.Alike.{kept_got}
 use Rattle.rb_split_laws.proofs.Joined.{fits_primitive}
 use Rattle.rb_split_laws.proofs.Later.{AllLater, none_here}
 use Rattle.rb_local_laws.specs.Shown.{is_far, at_client}
-use Rattle.rb_local_laws.specs.Meets.{far_side}
+use Rattle.rb_local_laws.specs.Meets.{far_side, placed}
 use Rattle.rb_local_laws.proofs.Meeting.{handle_seq}
 use Rattle.rb_local_laws.proofs.Names.{Extends, seen_bound, fronts_same}
 use Rattle.rb_local_laws.proofs.Closing.{extends_with}
@@ -128,7 +128,7 @@ module _ (c : Scene) (refs : Refs) (m : ℕ) (vs : Scope) (ws : typed.Scope) (va
   pub record TurnsFell (r : Raised) (l : Local) (s : Outside) (t : Turned) (rep : Node → replay.Rest → Replayed) : Type 0 where
     pub fits : LocalFits (x c) ws l
     pub replayed : (rest : Node) (k : replay.Rest) → rep rest k ≡ record { outcome = Faulted (with_side c.p r) (client l); events = s.events }
-    pub far : (with_side c.p r).remote ≡ true → (t.why ≡ InTurn r.fault) × (t.server ≡ s.server)
+    pub far : (with_side c.p r).remote ≡ true → (t.why ≡ InTurn (placed r)) × (t.server ≡ s.server)
 
   abbrev pub TurnsGo : Outcome (Unit {0}) × Outside → Turned → (Node → replay.Rest → Replayed) → Type 0
   TurnsGo (Gave u l, s) t rep = TurnsDone l s t rep
@@ -229,7 +229,7 @@ module _ (c : Scene) (refs : Refs) (m : ℕ) (vs : Scope) (ws : typed.Scope) (va
             ∙ behind_fell (length (client l).names) rest repb k (with_side c.p q) t.local s1.events t.ends t.events
             ∙ ap (λ z. record { outcome = Faulted (with_side c.p q) z; events = s1.events }) (close_client c ws inner into l at.fits l1 t.local t.state t.fronts)
 
-        by : (z : Option Fault) (rest : Node) (k : replay.Rest) → replays (turned_on first_node z rr.server (run.turns run_turn rows)).nodes (client l) o.events rest k ≡ record { outcome = Faulted (with_side c.p q) (client (closed (length l.names) l1)); events = s1.events }
+        by : (z : Option PlacedFault) (rest : Node) (k : replay.Rest) → replays (turned_on first_node z rr.server (run.turns run_turn rows)).nodes (client l) o.events rest k ≡ record { outcome = Faulted (with_side c.p q) (client (closed (length l.names) l1)); events = s1.events }
         by None rest k = went rest (λ l2 s2. replay.turns turn (run.turns run_turn rows rr.server).nodes rest l2 s2.events k)
         by (Some z) rest k = went rest (λ l2 s2. replay.turns turn NoNodes rest l2 s2.events k)
 
@@ -304,7 +304,7 @@ module _ (c : Scene) (refs : Refs) (m : ℕ) (vs : Scope) (ws : typed.Scope) (va
             state = q.at.fits.holds;
             ends = ap (λ z. z.outcome) e ∙ ap (λ z. Faulted (with_side c.p z) (client l1)) (sym q.fault);
             events = ap (λ z. z.events) e;
-            far = λ is_far. (ap (λ z. z.fault) k ∙ ap (λ z. Some z.fault) (sym q.fault), ap (λ z. z.server) k ∙ q.server);
+            far = λ is_far. (ap (λ z. z.fault) k ∙ ap (λ z. Some (placed z)) (sym q.fault), ap (λ z. z.server) k ∙ q.server);
           }
       walked_goes (Faulted r l1, s1) t rep (inr q) =
           let e = q.replayed (on_after t).node finish in

@@ -14,7 +14,7 @@ use Rattle.rb_meaning_code.specs.Dialogue.{Outcome, Gave, Faulted, Run, handle}
 use Rattle.rb_meaning_code.specs.Expressions.{evaluates}
 use Rattle.rb_meaning_code.specs.Bodies.{bodies_of}
 use Rattle.rb_meaning_code.specs.Remote.{Server}
-use Rattle.rb_meaning_code.specs.ScriptRun.{Ground, Vars, Ran, run_steps}
+use Rattle.rb_meaning_code.specs.ScriptRun.{Ground, Vars, PlacedFault, Ran, run_steps}
 use Rattle.rb_meaning.specs.State.{Event, Outside}
 use Rattle.rb_meaning.specs.Unsplit.{in_batch}
 use Rattle.rb_meaning_split.specs.Refs.{Refs}
@@ -26,6 +26,10 @@ use Rattle.rb_types_keep.specs.Code.{HasKind, IsBatchExpr}
 -- the same fault, as one that is remote
 abbrev pub far_side : Raised → Raised
 far_side r = record r { remote = true }
+
+-- a fault that code ended by, as it stops a script: at the same position
+abbrev pub placed : Raised → PlacedFault
+placed r = record { at = r.at; fault = r.fault }
 
 -- what follows the steps of the script
 abbrev pub Rest : Type 0
@@ -61,14 +65,15 @@ module _ (p : Program) (service : Service) (g : Ground) (refs : Refs) (vars : Va
     pub fault : ran.fault ≡ rest.fault
     pub server : ran.server ≡ rest.server
 
-  -- The client ended by the same fault, as a remote one: it is one that a wanted expression raised, and it stopped the script.
+  -- The client ended by the same fault, as a remote one: it is one that a wanted expression raised, and it stopped the
+  -- script at the same position.
   pub record FellFar {A : Type 0} (related : Local → Type 0) (es : List Expr) (r : Raised) (s : Outside) (c : Outcome A × Seen) (ran : Ran) : Type 0 where
     pub local : Local
     pub relates : related local
     pub from : FromOne es r
     pub ends : c.0 ≡ Faulted (far_side r) local
     pub events : c.1.events ≡ s.events
-    pub fault : ran.fault ≡ Some r.fault
+    pub fault : ran.fault ≡ Some (placed r)
     pub server : ran.server ≡ s.server
 
   -- Nothing was taken: what follows sees the node and the server as what follows in the script does.

@@ -32,10 +32,15 @@ abbrev pub latest : Vars → ℕ → Option Value
 latest [] number = None
 latest (b ∷ bs) number = cond (nat_eq b.0 number) (Some b.1) (latest bs number)
 
--- a run: its node, the fault that stopped it, wherever in the node it stands, and the server
+-- a fault and the position that it stands at
+pub record PlacedFault : Type 0 where
+  pub at : ℕ
+  pub fault : Fault
+
+-- a run: its node, the fault that stopped it with its position, wherever in the node it stands, and the server
 pub record Ran : Type 0 where
   pub node : Node
-  pub fault : Option Fault
+  pub fault : Option PlacedFault
   pub server : Server
 
 -- the end of a block
@@ -44,10 +49,14 @@ ended vars s = record { node = Holds NoEntries None; fault = None; server = s }
 
 -- stopped in a step, by a fault at a position
 abbrev pub stopped : ℕ → ℕ → Fault → Server → Ran
-stopped id at f s = record { node = Holds NoEntries (Some (record { step = id; at = at; fault = f })); fault = Some f; server = s }
+stopped id at f s = record {
+  node = Holds NoEntries (Some (record { step = id; at = at; fault = f }));
+  fault = Some (record { at = at; fault = f });
+  server = s;
+}
 
 -- stopped by a fault that stands within the entry before
-abbrev pub halted : Fault → Server → Ran
+abbrev pub halted : PlacedFault → Server → Ran
 halted f s = record { node = Holds NoEntries None; fault = Some f; server = s }
 
 abbrev pub in_front : Entry → Node → Node
@@ -124,7 +133,7 @@ abbrev pub rows_of : ℕ → Value → Server → Reply (List Value)
 rows_of at v s = replies at (rows_in (out-Value v)) s
 
 -- goes on where nothing within the entry before stopped the run
-abbrev pub goes_on : Option Fault → Server → (Server → Ran) → Ran
+abbrev pub goes_on : Option PlacedFault → Server → (Server → Ran) → Ran
 goes_on None s go = go s
 goes_on (Some f) s go = halted f s
 
@@ -139,7 +148,7 @@ branched holds r go = with_entry (forest.Branch holds r.node) (goes_on r.fault r
 -- why turns ended: all rows had theirs, a fault within the last one, or no unit of fuel for the next one
 pub data Why : Type 0 where
   AllDone : Why
-  InTurn : Fault → Why
+  InTurn : PlacedFault → Why
   NoUnit : Why
 
 -- turns: a node for each that began, why they ended, and the server
@@ -157,7 +166,7 @@ abbrev pub before_turns : Node → Turned → Turned
 before_turns node t = record t { nodes = MoreNodes node t.nodes }
 
 -- the turns after one that ended, unless a fault ended it
-abbrev pub turned_on : Node → Option Fault → Server → (Server → Turned) → Turned
+abbrev pub turned_on : Node → Option PlacedFault → Server → (Server → Turned) → Turned
 turned_on node None s go = before_turns node (go s)
 turned_on node (Some f) s go = record { nodes = MoreNodes node NoNodes; why = InTurn f; server = s }
 

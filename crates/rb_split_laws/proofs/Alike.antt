@@ -1,4 +1,4 @@
--- A run of a script against a walk over the source: the same fault, and the same server.
+-- A run of a script against a walk over the source: the same fault at the same position, and the same server.
 use Rattle.std.proofs.Common.{◌≡◌, refl, sym, ap, subst, arith, ℕ, zero, suc, ◌-◌, List, [], ◌∷◌, Bool as Truth, true, false, cond, All, Option, Some, None, Result, Ok, Err}
 use Rattle.std.proofs.lemmas.List.Elements.{All-head, All-tail}
 use Rattle.rb_trees.specs.Outcome.{◌>>◌, must}
@@ -13,7 +13,7 @@ use Rattle.rb_meaning_types.specs.Fits.{TableFits}
 use Rattle.rb_meaning_code.specs.Faults.{fuel_used, kind}
 use Rattle.rb_meaning_code.specs.Calls.{unit_due}
 use Rattle.rb_meaning_code.specs.Remote.{Server, Reply, Got, Stopped, and_then, replies}
-use Rattle.rb_meaning_code.specs.ScriptRun.{Ran, stopped, halted, with_entry, on_reply, is_primitive, may_keep, kept, with_kept, goes_on, chosen, branched, Why, AllDone, InTurn, NoUnit, Turned, with_unit, turned_on, turn_over, after_turns, walked}
+use Rattle.rb_meaning_code.specs.ScriptRun.{PlacedFault, Ran, stopped, halted, with_entry, on_reply, is_primitive, may_keep, kept, with_kept, goes_on, chosen, branched, Why, AllDone, InTurn, NoUnit, Turned, with_unit, turned_on, turn_over, after_turns, walked}
 use Rattle.rb_meaning_code.specs.ScriptRun as run
 use Rattle.rb_meaning.specs.RemoteAnswers.{unit_of}
 use Rattle.rb_meaning.specs.RemotePart.{Walked}
@@ -92,13 +92,13 @@ module _ (service : Service) where
 
   -- turns
 
-  abbrev why_fault : Why → Option Fault
-  why_fault AllDone = None
-  why_fault (InTurn f) = Some f
-  why_fault NoUnit = Some fuel_used
+  abbrev why_fault : ℕ → Why → Option PlacedFault
+  why_fault at AllDone = None
+  why_fault at (InTurn f) = Some f
+  why_fault at NoUnit = Some (record { at = at; fault = fuel_used })
 
-  record TurnsAlike (w : Walked) (t : Turned) : Type 0 where
-    fault : why_fault t.why ≡ fault_of w
+  record TurnsAlike (at : ℕ) (w : Walked) (t : Turned) : Type 0 where
+    fault : why_fault at t.why ≡ fault_of w
     server : t.server ≡ server_after w
     table : Table (server_after w)
 
@@ -106,31 +106,31 @@ module _ (service : Service) where
   one_less n m e = omega (arith, e)
 
   -- a turn's unit of fuel
-  unit_alike : (at : ℕ) (s : Server) (k : Server → Walked) (kt : Server → Turned) → Table s → ((s1 : Server) → Table s1 → TurnsAlike (k s1) (kt s1)) → TurnsAlike (and_then (unit_of at s) (λ u s1. k s1)) (with_unit s.fuel s kt)
+  unit_alike : (at : ℕ) (s : Server) (k : Server → Walked) (kt : Server → Turned) → Table s → ((s1 : Server) → Table s1 → TurnsAlike at (k s1) (kt s1)) → TurnsAlike at (and_then (unit_of at s) (λ u s1. k s1)) (with_unit s.fuel s kt)
   unit_alike at s k kt t more = by s.fuel refl
     where
-      by : (fuel : ℕ) → s.fuel ≡ fuel → TurnsAlike (and_then (and_then (replies at (unit_due fuel) s) (λ u s1. Got value.Unit (record s1 { fuel = s1.fuel - 1 }))) (λ u s1. k s1)) (with_unit fuel s kt)
+      by : (fuel : ℕ) → s.fuel ≡ fuel → TurnsAlike at (and_then (and_then (replies at (unit_due fuel) s) (λ u s1. Got value.Unit (record s1 { fuel = s1.fuel - 1 }))) (λ u s1. k s1)) (with_unit fuel s kt)
       by zero e = record { fault = refl; server = refl; table = t }
-      by (suc n) e = subst (λ m. TurnsAlike (k (record s { fuel = m })) (kt (record s { fuel = n }))) (sym (one_less s.fuel n e)) (more (record s { fuel = n }) t)
+      by (suc n) e = subst (λ m. TurnsAlike at (k (record s { fuel = m })) (kt (record s { fuel = n }))) (sym (one_less s.fuel n e)) (more (record s { fuel = n }) t)
 
-  turned_alike : (w : Walked) (r : Ran) (k : Server → Walked) (kt : Server → Turned) → Alike w r → ((s : Server) → Table s → TurnsAlike (k s) (kt s)) → TurnsAlike (and_then w (λ u s. k s)) (turned_on r.node r.fault r.server kt)
-  turned_alike w r k kt a more = by w a.fault a.server a.table
+  turned_alike : (at : ℕ) (w : Walked) (r : Ran) (k : Server → Walked) (kt : Server → Turned) → Alike w r → ((s : Server) → Table s → TurnsAlike at (k s) (kt s)) → TurnsAlike at (and_then w (λ u s. k s)) (turned_on r.node r.fault r.server kt)
+  turned_alike at w r k kt a more = by w a.fault a.server a.table
     where
-      by : (q : Walked) → r.fault ≡ fault_of q → r.server ≡ server_after q → Table (server_after q) → TurnsAlike (and_then q (λ u s. k s)) (turned_on r.node r.fault r.server kt)
+      by : (q : Walked) → r.fault ≡ fault_of q → r.server ≡ server_after q → Table (server_after q) → TurnsAlike at (and_then q (λ u s. k s)) (turned_on r.node r.fault r.server kt)
       by (Got u s) e e1 t =
-          subst (λ o. TurnsAlike (k s) (turned_on r.node o r.server kt)) (sym e)
-          (subst (λ z. TurnsAlike (k s) (turned_on r.node None z kt)) (sym e1) (let m = more s t in record { fault = m.fault; server = m.server; table = m.table }))
-      by (Stopped at f s) e e1 t = subst (λ o. TurnsAlike (Stopped at f s) (turned_on r.node o r.server kt)) (sym e) (record { fault = refl; server = e1; table = t })
+          subst (λ o. TurnsAlike at (k s) (turned_on r.node o r.server kt)) (sym e)
+          (subst (λ z. TurnsAlike at (k s) (turned_on r.node None z kt)) (sym e1) (let m = more s t in record { fault = m.fault; server = m.server; table = m.table }))
+      by (Stopped place f s) e e1 t = subst (λ o. TurnsAlike at (Stopped place f s) (turned_on r.node o r.server kt)) (sym e) (record { fault = refl; server = e1; table = t })
 
   turns_same : (P : Value → Type 0) (at : ℕ) (turn : Value → Server → Walked) (run_turn : Value → Server → Ran) → ((row : Value) (s : Server) → P row → Table s → Alike (turn row s) (run_turn row s)) → (rows : List Value) (s : Server) → All P rows → Table s
-      → TurnsAlike (part.turns at turn rows s) (run.turns run_turn rows s)
+      → TurnsAlike at (part.turns at turn rows s) (run.turns run_turn rows s)
   turns_same P at turn run_turn each [] s h t = record { fault = refl; server = refl; table = t }
   turns_same P at turn run_turn each (row ∷ rows) s h t =
       unit_alike at s (λ s1. and_then (turn row s1) (λ v s2. part.turns at turn rows s2)) (λ s1. turned_on (run_turn row s1).node (run_turn row s1).fault (run_turn row s1).server (run.turns run_turn rows)) t (λ s1 t1.
-      turned_alike (turn row s1) (run_turn row s1) (λ s2. part.turns at turn rows s2) (run.turns run_turn rows) (each row s1 (All-head P row rows h) t1) (λ s2 t2.
+      turned_alike at (turn row s1) (run_turn row s1) (λ s2. part.turns at turn rows s2) (run.turns run_turn rows) (each row s1 (All-head P row rows h) t1) (λ s2 t2.
       turns_same P at turn run_turn each rows s2 (All-tail P row rows h) t2))
 
-  after_alike : (id at : ℕ) (w : Walked) (nodes : forest.Nodes) (why : Why) (server : Server) (k : Server → Walked) (kr : Server → Ran) → why_fault why ≡ fault_of w → server ≡ server_after w → Table (server_after w) → ((s : Server) → Table s → Alike (k s) (kr s))
+  after_alike : (id at : ℕ) (w : Walked) (nodes : forest.Nodes) (why : Why) (server : Server) (k : Server → Walked) (kr : Server → Ran) → why_fault at why ≡ fault_of w → server ≡ server_after w → Table (server_after w) → ((s : Server) → Table s → Alike (k s) (kr s))
       → Alike (and_then w (λ u s. k s)) (with_entry (forest.Rows nodes) (after_turns id at why server kr))
   after_alike id at (Got u s) nodes AllDone server k kr e e1 t more = subst (λ z. Alike (k s) (with_entry (forest.Rows nodes) (kr z))) (sym e1) (entry_alike (k s) (kr s) (forest.Rows nodes) (more s t))
   after_alike id at (Got u s) nodes (InTurn f) server k kr e e1 t more = absurd (cc (e))

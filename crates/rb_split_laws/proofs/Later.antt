@@ -2,7 +2,6 @@
 use Rattle.std.proofs.Common.{◌≡◌, ◌≤◌, refl, ap, arith, ℕ, suc, List, [], ◌∷◌, Bool, true, false, cond, Option, Some, None}
 use Rattle.std.proofs.lemmas.Bool.{ne_eqb}
 use Rattle.rb_trees.specs.declared.values.Value.{Value}
-use Rattle.rb_trees.specs.declared.values.Fault.{Fault}
 use Rattle.rb_trees.specs.declared.forests.NodeFault.{NodeFault}
 use Rattle.rb_trees.specs.mirror.Code.{Expr, expr_at, Stmt, Stmts, Val, Var, Assign, Run, Print, Throw, If, While, For, Try, Batch, NoStmts, MoreStmts}
 use Rattle.rb_trees.specs.mirror.Declarations.{Program}
@@ -12,7 +11,7 @@ use Rattle.rb_trees.specs.mirror.Scripts as script
 use Rattle.rb_trees.specs.mirror.Scripts.{Steps, MoreSteps}
 use Rattle.rb_meaning_code.specs.Remote.{Server, Reply, Got, Stopped, and_then}
 use Rattle.rb_meaning_code.specs.ScriptRun as run
-use Rattle.rb_meaning_code.specs.ScriptRun.{Ground, Vars, Ran, in_front, with_entry, on_reply, kept, with_kept, condition, rows_of, goes_on, branched, chosen, Why, AllDone, InTurn, NoUnit, after_turns, turn_over, walked, run_steps}
+use Rattle.rb_meaning_code.specs.ScriptRun.{Ground, Vars, PlacedFault, Ran, in_front, with_entry, on_reply, kept, with_kept, condition, rows_of, goes_on, branched, chosen, Why, AllDone, InTurn, NoUnit, after_turns, turn_over, walked, run_steps}
 use Rattle.rb_meaning_flow.specs.declared.scopes.Role.{Role}
 use Rattle.rb_meaning_flow.specs.Facts.{Facts, facts_of, over_rows}
 use Rattle.rb_meaning_flow.specs.Scopes.{Scope, with_variable}
@@ -99,7 +98,7 @@ pub later_reply : {A : Type 0} (n m : ℕ) (r : Reply A) (k : A → Server → R
 later_reply n m (Got a s) k h l = later_up n m (fault_in (k a s).node) h (l a s)
 later_reply n m (Stopped at f s) k h l = le_same n
 
-pub later_goes : (n : ℕ) (f : Option Fault) (s : Server) (k : Server → Ran) → ((s : Server) → IsLater n (k s)) → IsLater n (goes_on f s k)
+pub later_goes : (n : ℕ) (f : Option PlacedFault) (s : Server) (k : Server → Ran) → ((s : Server) → IsLater n (k s)) → IsLater n (goes_on f s k)
 later_goes n None s k l = l s
 later_goes n (Some f) s k l = tt
 

@@ -2,7 +2,6 @@
 use Rattle.std.specs.Prelude.{◌≡◌, List, Option, Some, None, Ok}
 use Rattle.std.specs.List.{Contains}
 use Rattle.rb_trees.specs.declared.values.Value.TheVariants as value
-use Rattle.rb_trees.specs.declared.values.Fault.{Fault}
 use Rattle.rb_trees.specs.declared.services.Object.{Object}
 use Rattle.rb_trees.specs.mirror.Declarations.{Program}
 use Rattle.rb_trees.specs.mirror.Services.{Service}
@@ -11,7 +10,7 @@ use Rattle.rb_meaning_types.specs.Lawful.{IsLawful}
 use Rattle.rb_meaning_types.specs.Programs.{check_program}
 use Rattle.rb_meaning_code.specs.State.{Local, bound}
 use Rattle.rb_meaning_code.specs.Remote.{Reply, Got, Stopped, batch_fuel}
-use Rattle.rb_meaning_code.specs.ScriptRun.{Ran, run_script}
+use Rattle.rb_meaning_code.specs.ScriptRun.{PlacedFault, Ran, run_script}
 use Rattle.rb_meaning_flow.specs.Outermost.{Outermost}
 use Rattle.rb_meaning.specs.RemotePart.{Walked, remote_only}
 use Rattle.rb_meaning.specs.Unsplit.{batch_at, server_after}
@@ -23,10 +22,10 @@ use Rattle.rb_types_keep.specs.Asked.{Site}
 use Rattle.rb_types_keep.specs.Ends.{FitsPlace}
 use Rattle.rb_unsplit_keeps.specs.Batches.{program_sites}
 
--- the fault that a reply tells, if it tells one
-abbrev pub fault_of : {A : Type 0} → Reply A → Option Fault
+-- the fault that a reply tells, with its position, if it tells one
+abbrev pub fault_of : {A : Type 0} → Reply A → Option PlacedFault
 fault_of (Got a s) = None
-fault_of (Stopped at f s) = Some f
+fault_of (Stopped at f s) = Some (record { at = at; fault = f })
 
 -- the run of a batch's script on a service and its table, with the inputs from the local state of the batch's start
 abbrev pub script_run : Program → Service → Outermost → Local → List Object → Ran
@@ -38,7 +37,8 @@ abbrev pub remote_part : Program → Service → Outermost → Local → List Ob
 remote_part p service o l table =
     remote_only p service (scope_of o) o.block (bound o.root (value.Remote service.root) l).names (record { table = table; fuel = batch_fuel })
 
--- The script is stopped by the fault of the remote part, if one stops that, and leaves the server as it does.
+-- The script is stopped by the fault of the remote part at the same position, if one stops that, and leaves the server
+-- as it does.
 pub record PerformsRemotePart (p : Program) (service : Service) (o : Outermost) (l : Local) (table : List Object) : Type 0 where
   pub fault : (script_run p service o l table).fault ≡ fault_of (remote_part p service o l table)
   pub server : (script_run p service o l table).server ≡ server_after (remote_part p service o l table)

@@ -21,7 +21,7 @@ use Rattle.rb_meaning_code.specs.Faults.{kind}
 use Rattle.rb_meaning_code.specs.Operators.{on_one, on_two, by_left}
 use Rattle.rb_meaning_code.specs.Statements.{truth_of}
 use Rattle.rb_meaning_code.specs.Remote.{Server, Reply, Got, Stopped, and_then, replies, rows_in, invoke, batch_fuel}
-use Rattle.rb_meaning_code.specs.ScriptRun.{Ground, Vars, latest, Ran, ended, in_front, with_entry, on_reply, decided_or, value_of, values_of, is_primitive, kept, with_kept, condition, rows_of, goes_on, chosen, branched, Why, AllDone, InTurn, NoUnit, Turned, with_unit, turned_on, turns, turn_over, after_turns, walked, run_step, run_steps}
+use Rattle.rb_meaning_code.specs.ScriptRun.{Ground, Vars, latest, PlacedFault, Ran, ended, in_front, with_entry, on_reply, decided_or, value_of, values_of, is_primitive, kept, with_kept, condition, rows_of, goes_on, chosen, branched, Why, AllDone, InTurn, NoUnit, Turned, with_unit, turned_on, turns, turn_over, after_turns, walked, run_step, run_steps}
 use Rattle.rb_types_keep.specs.Kept.{IsPrimitiveForm, IsPrimitive, IsBounded}
 use Rattle.rb_types_keep.specs.Formed.{AreFormed}
 use Rattle.rb_types_keep.specs.Ends.{Grown}
@@ -228,7 +228,7 @@ module _ (classes : List Class) (root : ℕ) where
     truth_given n Value-F.Unit = kind_is
     truth_given n _ = kind_is
 
-    goes_on_runs : (before : List Object) (P : Entries → Type 0) (fault : Option Fault) (s : Server) (go : Server → Ran) → P NoEntries → TableKeeps classes root before s.table → (TableFits classes root s.table → Runs s.table P (go s)) → Runs before P (goes_on fault s go)
+    goes_on_runs : (before : List Object) (P : Entries → Type 0) (fault : Option PlacedFault) (s : Server) (go : Server → Ran) → P NoEntries → TableKeeps classes root before s.table → (TableFits classes root s.table → Runs s.table P (go s)) → Runs before P (goes_on fault s go)
     goes_on_runs before P None s go ready t h = ran_on before s.table P (go s) t (h t.fits)
     goes_on_runs before P (Some f) s go ready t h = record { node = (ready, tt); table = t }
 
@@ -246,7 +246,7 @@ module _ (classes : List Class) (root : ℕ) where
       pub most : count_nodes t.nodes ≤ count
       pub table : TableKeeps classes root before t.server.table
 
-    turned_runs : (before : List Object) (P : Entries → Type 0) (count : ℕ) (node : Node) (fault : Option Fault) (s : Server) (go : Server → Turned) → IsNode P node → TableKeeps classes root before s.table
+    turned_runs : (before : List Object) (P : Entries → Type 0) (count : ℕ) (node : Node) (fault : Option PlacedFault) (s : Server) (go : Server → Turned) → IsNode P node → TableKeeps classes root before s.table
         → Turns s.table P count (go s) → Turns before P (suc count) (turned_on node fault s go)
     turned_runs before P count node None s go h t more = record { nodes = (h, more.nodes); most = omega (arith, more.most); table = keeps_on classes root before s.table (go s).server.table t more.table }
     turned_runs before P count node (Some f) s go h t more = record { nodes = (h, tt); most = omega arith; table = t }
