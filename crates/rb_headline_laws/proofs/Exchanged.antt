@@ -5,9 +5,8 @@ use Rattle.rb_trees.specs.CodeSize.{code_size_of}
 use Rattle.rb_trees.specs.declared.refusals.Refusal.{Refusal}
 use Rattle.rb_trees.specs.declared.refusals.Refusal.TheVariants.{TooManyInputs, ScriptTooLarge}
 use Rattle.rb_trees.specs.mirror.Declarations.{Program}
-use Rattle.rb_meaning_types.specs.Declared.{Declarations, of_program}
-use Rattle.rb_meaning_code.specs.Dialogue.{Dialogue, AskBatch, Handler}
-use Rattle.rb_meaning_code.specs.Led.{Passes, here, answered, performed}
+use Rattle.rb_meaning_types.specs.Declared.{of_program}
+use Rattle.rb_meaning_code.specs.Dialogue.{AskBatch}
 use Rattle.rb_meaning_flow.specs.Facts.{facts_of}
 use Rattle.rb_meaning_flow.specs.Outermost.{Outermost, program_batches}
 use Rattle.rb_meaning.specs.Unsplit.{batch_at}
@@ -16,8 +15,7 @@ use Rattle.rb_meaning.specs.Meaning.{in_main, outside_of}
 use Rattle.rb_meaning_split.specs.Client.{sent_for}
 use Rattle.rb_meaning_split.specs.Division.{Division, inputs_of, division, most_inputs, longest_code, divided, divided_before, divided_all}
 use Rattle.rb_flow.proofs.Members.{contained_cases, none_contained}
-use Rattle.rb_types_keep.specs.Asked.{Side, Own, Keeps, IsAskedBatch}
-use Rattle.rb_types_keep.specs.Around.{HandlerFits}
+use Rattle.rb_types_keep.specs.Asked.{Own, IsAskedBatch}
 use Rattle.rb_unsplit_keeps.specs.Batches.{program_sites}
 use Rattle.rb_unsplit_keeps.proofs.Found.{batch_found}
 use Rattle.rb_unsplit_keeps.proofs.Programs.{program_typed, batches_in}
@@ -26,20 +24,9 @@ use Rattle.rb_division_laws.specs.Sendable.{CanBeSent, DividedCanBeSent}
 use Rattle.rb_headline_laws.specs.Below.{LawsBelow}
 use Rattle.rb_headline_laws.specs.Reached.{main_run, ReachedBatchesCanBeExchanged}
 use Rattle.rb_headline_laws.proofs.Divided.{dividing_keeps}
-use Rattle.rb_headline_laws.proofs.Mains.{Ends, main_fits, main_kept}
+use Rattle.rb_headline_laws.proofs.Mains.{Ends, main_fits, main_kept, reaches}
 use Rattle.rb_headline_laws.proofs.Sure.{Sure, batches_sure}
 use Rattle.rb_headline_laws.proofs.Given.{inputs_given}
-
--- ---- what is reached
-
--- Typed code goes on so, from wherever it has come under a handler whose answers fit.
-reaches : {S A : Type 0} (d : Declarations) (side : Side) (Holds : S → Type 0) (h : Handler S) → HandlerFits d side Holds h → (P : A → Type 0) (run rest : Dialogue A) (s s1 : S) → Passes h run s rest s1
-    → Keeps d side P run → Holds s → Keeps d side P rest × Holds s1
-reaches d side Holds h fits P _ _ _ _ (here run s) k holds = (k, holds)
-reaches d side Holds h fits P _ _ _ _ (answered q go s s1 rest way) k holds =
-    let next = h.answer s q in reaches d side Holds h fits P (go next.0) rest next.1 s1 way (k.1 next.0 (fits.answers s q holds k.0)) (fits.answered s q holds k.0)
-reaches d side Holds h fits P _ _ _ _ (performed at l go s s1 rest way) k holds =
-    let next = h.batch s at l in reaches d side Holds h fits P (go next.0) rest next.1 s1 way (k.2 next.0 (fits.batches s at l k.0 holds k.1)) (fits.performed s at l k.0 holds k.1)
 
 -- ---- what is divided
 

@@ -21,3 +21,4 @@ pub mod Coming
 pub mod Sure
 pub mod Given
 pub mod Exchanged
+pub mod Fitting

@@ -3,3 +3,5 @@ pub mod Below
 pub mod Dividing
 pub mod Clients
 pub mod Reached
+pub mod Answered
+pub mod ScriptFaults

@@ -4,10 +4,12 @@
 //! the run of its script in `rb_meaning_code`. There is no code here; the laws are functions that do nothing.
 #![tactic(auto)]
 
+ghost use Rattle.rb_headline_laws.specs.Answered.{EachAnswerFits, EachPieceKeepsTypes, KindIsNeverCaught};
 ghost use Rattle.rb_headline_laws.specs.Below.{LawsBelow};
 ghost use Rattle.rb_headline_laws.specs.Clients.{ClientsMeanWhatProgramsMean};
 ghost use Rattle.rb_headline_laws.specs.Dividing.{DividingKeepsMeaning};
 ghost use Rattle.rb_headline_laws.specs.Reached.{FrontsAreShown, ProgramsComeAsFar, ReachedBatchesCanBeExchanged};
+ghost use Rattle.rb_headline_laws.specs.ScriptFaults.{ScriptsNeverFaultKind};
 
 use rb_division_laws::{
     divided_scripts_can_be_sent, nodes_of_scripts_fit, sent_code_faults_remotely,
@@ -87,4 +89,35 @@ pub fn reached_batches_can_be_exchanged()
     laws_below();
     nodes_of_scripts_fit();
     divided_scripts_can_be_sent();
+}
+
+/// However far an accepted program comes on a typed service, in `main` and in the batches that it comes to: what it is answered
+/// fits what it asked, a value of its type or a fault that isn't Kind, and a batch ends as a statement does where it stands.
+pub fn answers_fit_on_the_way()
+    ensures { EachAnswerFits }
+{
+    laws_below();
+}
+
+/// In the surroundings of an accepted program each typed piece of its code keeps types, in a batch or not, within a `try` or
+/// not: it ends by what is of its type or by a fault that isn't Kind.
+pub fn accepted_code_keeps_types()
+    ensures { EachPieceKeepsTypes }
+{
+    laws_below();
+}
+
+/// What a `try` of an accepted program may catch isn't Kind, in a batch or not.
+pub fn kind_is_never_caught()
+    ensures { KindIsNeverCaught }
+{
+    laws_below();
+}
+
+/// The script of a batch that an accepted program comes to isn't stopped by Kind, on the service and the table of then, with the
+/// values of its inputs.
+pub fn scripts_never_fault_kind()
+    ensures { ScriptsNeverFaultKind }
+{
+    laws_below();
 }

@@ -31,7 +31,7 @@ use Rattle.rb_unsplit_keeps.proofs.Carried.{Carry, carry_begins}
 use Rattle.rb_unsplit_keeps.proofs.Handling.{Fine}
 use Rattle.rb_unsplit_keeps.proofs.Walking.{Laws}
 use Rattle.rb_unsplit_keeps.proofs.Walked.{block_good}
-use Rattle.rb_unsplit_keeps.proofs.Whole.{declared, service_formed, AllWhole, means_well}
+use Rattle.rb_unsplit_keeps.proofs.Whole.{declared, service_formed, AllWhole, AllWalksFine, means_well}
 
 -- the table after a walk
 table_fine : (service : Service) (r : Walked) → Fine service (λ (u : Unit {0}). Unit {0}) r → TableFits service.classes service.root (server_after r).table
@@ -40,20 +40,24 @@ table_fine service (Stopped at f s) h = h.1
 
 module _ (laws : Laws) (conditions : ConditionsHold) (exprs_formed : LawfulExprsAreFormed) (stmts_formed : LawfulStmtsAreFormed) (classes_formed : LawfulClassesAreFormed) (types_keep : TypesKeep) (sends : AdmittedSendPortable)
     (p : Program) (lawful : IsLawful p) (t : IsTypedProgram p) (none : HasNoRefusal p) (service : Service) (first : List Object) (served : IsTyped service first) where
-  pub whole_fits : AllWhole laws.calls exprs_formed stmts_formed classes_formed types_keep p lawful t none service first served
-  whole_fits o interface place known agree among start s h fits last block_typed noted is_interface =
+  -- the walk over the whole remote part of each batch ends without Kind, and leaves a table that fits
+  pub walks_fine : AllWalksFine laws.calls exprs_formed stmts_formed classes_formed types_keep p lawful t none service first served
+  walks_fine o interface place known agree among start s h fits begins =
       let f = facts_of p in
       let ss = batch_sites f o in
       let is_one = mapped_to (batch_sites f) (program_batches f p) o among in
       let scope = typed.with_variable place.scope o.root (kind.Named interface) true in
       let begun = opened o.outer o.at o.root o.block in
       let agreed : Agree p.interfaces begun scope =
-      agree_with p.interfaces (assigned_in o.block) (flow.with_variable o.outer o.root Role.Root o.at) scope (agree_added p.interfaces o.outer place.scope o.root Role.Root o.at (kind.Named interface) true agree (λ r. is_interface)) in
+      agree_with p.interfaces (assigned_in o.block) (flow.with_variable o.outer o.root Role.Root o.at) scope (agree_added p.interfaces o.outer place.scope o.root Role.Root o.at (kind.Named interface) true agree (λ r. begins.declared_as)) in
       let carry : Carry p.interfaces begun scope start.names = carry_begins p.interfaces (classes_of start.heap) place.this begun scope start.names agreed fits.holds.names_fit fits.count in
-      table_fine service (remote_only p service begun o.block start.names s.server)
-      (block_good laws conditions p service served.typed (service_formed laws.calls exprs_formed stmts_formed classes_formed types_keep p lawful t none service first served)
+      block_good laws conditions p service served.typed (service_formed laws.calls exprs_formed stmts_formed classes_formed types_keep p lawful t none service first served)
       (declared laws.calls exprs_formed stmts_formed classes_formed types_keep p lawful t none service first served) place.this place.remote ss (λ r e. none r (ss, is_one, e)) (sends p lawful none ss is_one)
-      [] refl begun scope last o.block start.names s.server ended block_typed noted (stmts_formed o.block (block_lawful o.block known.lawful.2)) (λ y c. c) carry h (λ ns1 s1 t1. (tt, t1)))
+      [] refl begun scope begins.last o.block start.names s.server ended begins.typed begins.noted (stmts_formed o.block (block_lawful o.block known.lawful.2)) (λ y c. c) carry h (λ ns1 s1 t1. (tt, t1))
+
+  pub whole_fits : AllWhole laws.calls exprs_formed stmts_formed classes_formed types_keep p lawful t none service first served
+  whole_fits o interface place known agree among start s h fits begins =
+      table_fine service (remote_only p service (opened o.outer o.at o.root o.block) o.block start.names s.server) (walks_fine o interface place known agree among start s h fits begins)
 
 pub admitted_mean_well : Laws → ConditionsHold → LawfulExprsAreFormed → LawfulStmtsAreFormed → LawfulClassesAreFormed → TypesKeep → AdmittedSendPortable → LawfulAreNoted → AdmittedMeanWell
 admitted_mean_well laws conditions exprs_formed stmts_formed classes_formed types_keep sends notes p lawful typed none service table served fuel =

@@ -39,6 +39,7 @@ use Rattle.rb_meaning_flow.specs.Scopes.{opened}
 use Rattle.rb_meaning_flow.specs.Refusals.{IsRefusal}
 use Rattle.rb_meaning_flow.specs.Outermost.{Outermost, batch_sites, program_batches}
 use Rattle.rb_meaning.specs.State.{Outside}
+use Rattle.rb_meaning.specs.RemotePart.{remote_only}
 use Rattle.rb_meaning.specs.Unsplit.{batch_at, in_batch, with_side, begun, settles, whole_table, performs_batch}
 use Rattle.rb_meaning.specs.Meaning.{local_answer, shown_by, performs_found, in_main, gives_some, main_result, runs_main, ending_of, at_start, outside_of, meaning}
 use Rattle.rb_meaning.specs.Links.{IsTyped}
@@ -70,7 +71,7 @@ use Rattle.rb_unsplit_keeps.proofs.Agreed.{Agree}
 use Rattle.rb_unsplit_keeps.proofs.Standing.{block_lawful, IsBatchOf}
 use Rattle.rb_unsplit_keeps.proofs.Programs.{methods_ask, IsTypedProgram, batches_in}
 use Rattle.rb_unsplit_keeps.proofs.Admission.{block_admitted}
-use Rattle.rb_unsplit_keeps.proofs.Handling.{batch_handler_fits}
+use Rattle.rb_unsplit_keeps.proofs.Handling.{Fine, batch_handler_fits}
 
 -- a remote object fits an interface's name
 pub remote_named : (o : Option Interface) (cs : List (List ℕ)) (name : List ℕ) (w : Value-F Value) → is_some o ≡ true → IsRemoteValue w → FitsNamed o cs name w
@@ -108,12 +109,55 @@ module _ (calls : CallsKeep) (exprs_formed : LawfulExprsAreFormed) (stmts_formed
   abbrev within : Outermost → List ℕ → Place → Place
   within o interface place = record { this = place.this; remote = place.remote; scope = with_variable place.scope o.root (kind.Named interface) true }
 
+  -- the root of a batch is of its interface, its body is typed where it stands, and its types are noted
+  pub record Begins (o : Outermost) (interface : List ℕ) (place : Place) : Type 0 where
+    pub last : Scope
+    pub typed : check_stmts (context d place) (with_variable place.scope o.root (kind.Named interface) true) o.block ≡ Ok last
+    pub noted : AreNotedStmts (type_at p) (context d place) (with_variable place.scope o.root (kind.Named interface) true) o.block
+    pub declared_as : is_some (interface_named is interface) ≡ true
+
+  -- of a batch from where its root is bound
+  abbrev FromStart : (Local → Outside → Type 0) → Outermost → List ℕ → Place → Type 0
+  FromStart P o interface place = (start : Local) (s : Outside) → Holds s → FitsPlace d (within o interface place) start → Begins o interface place → P start s
+
   -- the whole remote part leaves a table that fits
   abbrev WholeFits : Outermost → List ℕ → Place → Type 0
-  WholeFits o interface place = (start : Local) (s : Outside) → Holds s → FitsPlace d (within o interface place) start
-      → (last : Scope) → check_stmts (context d place) (with_variable place.scope o.root (kind.Named interface) true) o.block ≡ Ok last
-      → AreNotedStmts (type_at p) (context d place) (with_variable place.scope o.root (kind.Named interface) true) o.block → is_some (interface_named is interface) ≡ true
-      → TableFits service.classes service.root (whole_table p service o start s.server)
+  WholeFits o interface place = FromStart (λ start s. TableFits service.classes service.root (whole_table p service o start s.server)) o interface place
+
+  -- in a batch each answer fits what is asked
+  pub batch_fits : HandlerFits d (InBatch (type_at p)) Holds (in_batch p service)
+  batch_fits = batch_handler_fits calls p service served.typed service_formed
+
+  module _ (o : Outermost) (interface : List ℕ) (place : Place) (known : IsBatchOf p (program_batches (facts_of p) p) (site_of o interface place)) (among : Contains (program_batches (facts_of p) p) o) where
+    no_refusal : (r : Refusal) → IsRefusal (facts_of p) (batch_sites (facts_of p) o) r → ⊥
+    no_refusal r h = none r (batch_sites (facts_of p) o, mapped_to (batch_sites (facts_of p)) (program_batches (facts_of p) p) o among, h)
+
+    -- The body of a batch begins in a local state that fits, and keeps types in the surroundings of a batch.
+    pub record BodyKeeps (l : Local) : Type 0 where
+      pub begins : Begins o interface place
+      pub start_fits : FitsPlace d (within o interface place) (bound o.root (value.Remote service.root) l)
+      pub sub : Within (context d place) (with_variable place.scope o.root (kind.Named interface) true) begins.last
+      pub keeps : Keeps d (InBatch (type_at p)) (Ends (context d place) (with_variable place.scope o.root (kind.Named interface) true) begins.last Nothing (classes_of l.heap))
+          (performs_all (bodies d l.fuel) l.fuel o.block (bound o.root (value.Remote service.root) l))
+
+    pub body_begins : (at : ℕ) (l : Local) → IsAskedBatch d side at l (site_of o interface place) → BodyKeeps l
+    body_begins at l asked =
+        let x = context d place in
+        let inner = within o interface place in
+        let parts = batch_parts x place.scope o.at interface o.root o.block place.scope asked.typed in
+        let start = bound o.root (value.Remote service.root) l in
+        let root_fits : Fits is (classes_of l.heap) (kind.Named interface) (value.Remote service.root) =
+        remote_named (interface_named is interface) (classes_of l.heap) interface (out-Value (value.Remote service.root)) parts.declared_as (subst IsRemoteValue (sym (remote_out service.root)) tt) in
+        let start_fits : LocalFits x inner.scope start = binds x place.scope l o.root (kind.Named interface) true (value.Remote service.root) asked.fits root_fits in
+        let noted : AreNotedStmts (type_at p) x inner.scope o.block = subst (λ i. AreNotedStmts (type_at p) x i o.block) (ap (scope_or place.scope) parts.judged) known.noted in
+        let admitted = block_admitted p x refl (batch_sites (facts_of p) o) no_refusal [] (opened o.outer o.at o.root o.block) inner.scope parts.last o.block parts.block_typed noted (λ y c. c) in
+        let code = far_stmts d declared (type_at p) inner l.fuel o.block parts.last (parts.block_typed, stmts_formed o.block (block_lawful o.block known.lawful.2)) (noted, admitted) in
+        record {
+          begins = record { last = parts.last; typed = parts.block_typed; noted = noted; declared_as = parts.declared_as };
+          start_fits = start_fits;
+          sub = code.sub;
+          keeps = (code.runs start start_fits).keeps;
+        }
 
   module _ (o : Outermost) (interface : List ℕ) (place : Place) (known : IsBatchOf p (program_batches (facts_of p) p) (site_of o interface place)) (among : Contains (program_batches (facts_of p) p) o) (whole : WholeFits o interface place) where
     abbrev x : Context
@@ -121,9 +165,6 @@ module _ (calls : CallsKeep) (exprs_formed : LawfulExprsAreFormed) (stmts_formed
 
     abbrev inner : Place
     inner = within o interface place
-
-    no_refusal : (r : Refusal) → IsRefusal (facts_of p) (batch_sites (facts_of p) o) r → ⊥
-    no_refusal r h = none r (batch_sites (facts_of p) o, mapped_to (batch_sites (facts_of p)) (program_batches (facts_of p) p) o among, h)
 
     -- back outside of the batch
     settles_well : (l : Local) (last : Scope) (table : List Object) → LocalFits x place.scope l → Within x inner.scope last → TableFits service.classes service.root table
@@ -145,23 +186,33 @@ module _ (calls : CallsKeep) (exprs_formed : LawfulExprsAreFormed) (stmts_formed
     batch_ends : (at : ℕ) (l : Local) (s : Outside) → Holds s → IsAskedBatch d side at l (site_of o interface place)
         → EndsThere d place l (performs_batch p service o l s).0 × Holds (performs_batch p service o l s).1
     batch_ends at l s h asked =
-        let parts = batch_parts x place.scope o.at interface o.root o.block place.scope asked.typed in
         let start = bound o.root (value.Remote service.root) l in
-        let root_fits : Fits is (classes_of l.heap) (kind.Named interface) (value.Remote service.root) =
-        remote_named (interface_named is interface) (classes_of l.heap) interface (out-Value (value.Remote service.root)) parts.declared_as (subst IsRemoteValue (sym (remote_out service.root)) tt) in
-        let start_fits : LocalFits x inner.scope start = binds x place.scope l o.root (kind.Named interface) true (value.Remote service.root) asked.fits root_fits in
-        let noted : AreNotedStmts (type_at p) x inner.scope o.block = subst (λ i. AreNotedStmts (type_at p) x i o.block) (ap (scope_or place.scope) parts.judged) known.noted in
-        let admitted = block_admitted p x refl (batch_sites (facts_of p) o) no_refusal [] (opened o.outer o.at o.root o.block) inner.scope parts.last o.block parts.block_typed noted (λ y c. c) in
-        let code = far_stmts d declared (type_at p) inner l.fuel o.block parts.last (parts.block_typed, stmts_formed o.block (block_lawful o.block known.lawful.2)) (noted, admitted) in
-        let run = handled d (InBatch (type_at p)) Holds (in_batch p service) (batch_handler_fits calls p service served.typed service_formed)
-        (Ends x inner.scope parts.last Nothing (classes_of l.heap)) (performs_all (bodies d l.fuel) l.fuel o.block start) ((code.runs start start_fits).keeps) (begun s) h in
-        settles_well l parts.last (whole_table p service o start (begun s).server) asked.fits code.sub (whole start (begun s) h start_fits parts.last parts.block_typed noted parts.declared_as)
+        let body = body_begins o interface place known among at l asked in
+        let run = handled d (InBatch (type_at p)) Holds (in_batch p service) batch_fits
+        (Ends x inner.scope body.begins.last Nothing (classes_of l.heap)) (performs_all (bodies d l.fuel) l.fuel o.block start) body.keeps (begun s) h in
+        settles_well l body.begins.last (whole_table p service o start (begun s).server) asked.fits body.sub (whole start (begun s) h body.start_fits body.begins)
         (handle (in_batch p service) (performs_all (bodies_of p.classes l.fuel) l.fuel o.block start) (begun s)) run.0 run.1
+
+  -- of each batch from where its root is bound
+  abbrev OfEachStart : (Outermost → Local → Outside → Type 0) → Type 0
+  OfEachStart P = (o : Outermost) (interface : List ℕ) (place : Place) → IsBatchOf p (program_batches (facts_of p) p) (site_of o interface place) → Agree is o.outer place.scope → Contains (program_batches (facts_of p) p) o
+      → FromStart (P o) o interface place
 
   -- the whole remote part of each batch leaves a table that fits
   abbrev pub AllWhole : Type 0
-  AllWhole = (o : Outermost) (interface : List ℕ) (place : Place) → IsBatchOf p (program_batches (facts_of p) p) (site_of o interface place) → Agree is o.outer place.scope → Contains (program_batches (facts_of p) p) o
-      → WholeFits o interface place
+  AllWhole = OfEachStart (λ o start s. TableFits service.classes service.root (whole_table p service o start s.server))
+
+  -- so does the walk over it, which no fault Kind ends
+  abbrev pub AllWalksFine : Type 0
+  AllWalksFine = OfEachStart (λ o start s. Fine service (λ (u : Unit {0}). Unit {0}) (remote_only p service (opened o.outer o.at o.root o.block) o.block start.names s.server))
+
+  -- the site of a batch that admission knows is the one as typing knows it
+  pub same_site : (b : Site) (known : IsBatchOf p (program_batches (facts_of p) p) b) → site_of known.begun b.interface b.place ≡ b
+  same_site b known =
+      ap (λ q. site_with q known.begun.root known.begun.block) known.at ∙ ap (λ q. site_with b.at q known.begun.block) known.root ∙ ap (λ q. site_with b.at b.root q) known.block
+    where
+      site_with : ℕ → List ℕ → Stmts → Site
+      site_with at' root' block' = record { at = at'; interface = b.interface; root = root'; block = block'; place = b.place }
 
   module _ (whole : AllWhole) (noted : IsNotedProgram p) where
     -- a batch that is asked is the one that is found
@@ -170,15 +221,11 @@ module _ (calls : CallsKeep) (exprs_formed : LawfulExprsAreFormed) (stmts_formed
     found_ends at l s b h asked =
         let known = batches_in p lawful t noted b asked.may in
         let o = known.begun in
-        let same : site_of o b.interface b.place ≡ b =
-        ap (λ q. site_with q o.root o.block) known.at ∙ ap (λ q. site_with b.at q o.block) known.root ∙ ap (λ q. site_with b.at b.root q) known.block in
+        let same = same_site b known in
         let found : batch_at p at ≡ Some o = ap (batch_at p) (sym (known.at ∙ asked.here)) ∙ batch_found p lawful o known.among in
         let ends = batch_ends o b.interface b.place (subst (IsBatchOf p (program_batches (facts_of p) p)) (sym same) known) known.among
         (whole o b.interface b.place (subst (IsBatchOf p (program_batches (facts_of p) p)) (sym same) known) known.agree known.among) at l s h (subst (IsAskedBatch d side at l) (sym same) asked) in
         subst (λ f. EndsThere d b.place l (performs_found p service f at l s).0 × Holds (performs_found p service f at l s).1) (sym found) ends
-      where
-        site_with : ℕ → List ℕ → Stmts → Site
-        site_with at' root' block' = record { at = at'; interface = b.interface; root = root'; block = block'; place = b.place }
 
     answers : (s : Outside) (q : Question) → Holds s → IsAsked d side q → IsAnswer d side q (local_answer q)
     answers s (Line at bytes) h asked = tt
