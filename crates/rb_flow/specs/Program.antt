@@ -1,11 +1,15 @@
 -- The answer for several batches, and for a program.
 use Rattle.std.specs.Prelude.{◌≡◌, List, ◌++◌, Option, Some, None, Result, Ok, Err}
 use Rattle.std.specs.List.{Contains}
+use Rattle.std.specs.FinMap.{FinMap}
+use Rattle.std.specs.Ordering.{nat_cmp}
+use Rattle.rb_trees.specs.declared.marks.Mark.{Mark}
+use Rattle.rb_trees.specs.declared.marks.Place.{Place}
 use Rattle.rb_trees.specs.declared.refusals.Refusal.{Refusal}
 use Rattle.rb_trees.specs.mirror.Declarations.{Program}
 use Rattle.rb_meaning_flow.specs.Facts.{Facts}
 use Rattle.rb_meaning_flow.specs.Refusals.{IsRefusal, IsBefore}
-use Rattle.rb_meaning_flow.specs.Programs.{IsRefusalOf, IsAnswerOf}
+use Rattle.rb_meaning_flow.specs.Programs.{IsRefusalOf, IsAnswerOf, program_marks, program_places}
 use Rattle.rb_flow.specs.Earliest.{earlier}
 use Rattle.rb_flow.specs.Begun.{Begun, begun_sites}
 use Rattle.rb_flow.specs.Answers.{SitesDiffer}
@@ -37,6 +41,15 @@ pub record TakenSo (x : Facts) (all rest : List Begun) (first : Option Refusal) 
 -- a program without refusals by admission
 abbrev pub HasNoRefusal : Program → Type 0
 HasNoRefusal p = (r : Refusal) → IsRefusalOf p r → ⊥
+
+-- The marks are those of the program's expressions, and the places those of its statements.
+abbrev pub AreMarksOf : Program → FinMap nat_cmp Mark × FinMap nat_cmp Place → Type 0
+AreMarksOf p marks = (marks.0 ≡ program_marks p) × (marks.1 ≡ program_places p)
+
+-- The program has no refusal, and the marks are its own.
+pub record IsAdmittedWith (p : Program) (marks : FinMap nat_cmp Mark × FinMap nat_cmp Place) : Type 0 where
+  pub none : HasNoRefusal p
+  pub own : AreMarksOf p marks
 
 abbrev pub IsProgramAnswer : Program → Option Refusal → Type 0
 IsProgramAnswer p None = HasNoRefusal p

@@ -4,7 +4,7 @@ ghost use Rattle.std.specs.Prelude.{◌≡◌, IfOk};
 ghost use Rattle.rb_trees.specs.mirror.Declarations.{mirror_program};
 ghost use Rattle.rb_trees.specs.Outcome.{Tells};
 ghost use Rattle.rb_flow.specs.Admission.{refusal_of};
-ghost use Rattle.rb_flow.specs.Program.{HasNoRefusal, IsAdmission};
+ghost use Rattle.rb_flow.specs.Program.{AreMarksOf, HasNoRefusal, IsAdmission};
 
 use crate::program::program_answer;
 use rb_marks::Marks;
@@ -43,7 +43,7 @@ impl From<Memory> for AdmitStop {
     }
 }
 
-/// A typed program without a refusal, with its marks. Contracts see the program and the marks; only
+/// A typed program without a refusal, with its own marks. Contracts see the program and the marks; only
 /// [`admit`] makes one.
 #[derive(Drop)]
 pub struct Admitted<'a> {
@@ -62,7 +62,7 @@ impl<'a> Model for Admitted<'a> {
     ghost use Rattle.rb_trees.specs.contracts.marks.Mark as mark_code;
     ghost use Rattle.rb_trees.specs.contracts.marks.Place as place_code;
     ghost use Rattle.rb_trees.specs.mirror.Declarations.{mirror_program};
-    ghost use Rattle.rb_flow.specs.Program.{HasNoRefusal};
+    ghost use Rattle.rb_flow.specs.Program.{IsAdmittedWith};
 
     ghost Value = { Program × (map.FinMap nat_cmp Mark × map.FinMap nat_cmp Place) };
 
@@ -70,7 +70,7 @@ impl<'a> Model for Admitted<'a> {
 
     ghost view = { λ a. (a.typed.now, a.marks) };
 
-    ghost invariant = { λ a. HasNoRefusal (mirror_program a.typed.now) };
+    ghost invariant = { λ a. IsAdmittedWith (mirror_program a.typed.now) a.marks };
 }
 
 impl<'a> Admitted<'a> {
@@ -82,17 +82,19 @@ impl<'a> Admitted<'a> {
         self.typed
     }
 
-    /// The marks that came with it.
+    /// The marks that came with it, which are the program's own.
     pub fn marks(&self) -> &Marks
-        ensures { result.now ≡ self.now.1 }
+        ensures same { result.now ≡ self.now.1 }
+        ensures own { AreMarksOf (mirror_program self.now.0) self.now.1 }
     {
         &self.marks
     }
 }
 
-/// Admits a program with its marks: Ok exactly where it has no refusal, else the refusal before which
+/// Admits a program with its own marks: Ok exactly where it has no refusal, else the refusal before which
 /// there is none. The rules stand in `specs/Refusals` and `specs/Programs` of `rb_meaning_flow`.
 pub fn admit<'a>(alloc: Global, typed: &'a Typed, marks: Marks) -> Result<Admitted<'a>, AdmitStop>
+    requires { AreMarksOf (mirror_program typed.now) marks }
     ensures admission { Tells (λ a. tt) refusal_of result (IsAdmission (mirror_program typed.now)) }
     ensures typed { IfOk result (λ a. a.0 ≡ typed.now) }
     ensures marks { IfOk result (λ a. a.1 ≡ marks) }

@@ -12,9 +12,8 @@ use crate::earliest::place;
 use crate::findings::Findings;
 use crate::standing::{Reading, Standing};
 use crate::statements::walk_stmts;
-use rb_marks::Scope;
+use rb_marks::{Facts, Scope};
 use rb_trees::{BadPart, Memory, Refusal, Seq, Stmt, Writer};
-use rb_types::Typed;
 use std::alloc::Global;
 
 // What stands around the statements of a batch itself.
@@ -41,7 +40,7 @@ fn no_findings(alloc: Global) -> Findings
 
 // What is found in a batch that begins with this scope.
 #[tactic(auto, using(crate::proofs::Answered::block_found))]
-fn find(alloc: Global, x: &Typed, scope: &mut Scope, block: &[Stmt]) -> Result<Findings, Memory>
+fn find(alloc: Global, x: &Facts<'_>, scope: &mut Scope, block: &[Stmt]) -> Result<Findings, Memory>
     ensures { IfOk result (λ f. f ≡ words.batch_found (facts x.now) (block_sites (facts x.now) [] scope.old (mirror_stmts block.now))) }
 {
     let mut found = no_findings(alloc);
@@ -105,7 +104,7 @@ fn decide(alloc: Global, found: &mut Findings) -> Result<Option<Refusal>, Memory
 /// where it has no refusal. The rules stand in `specs/Refusals` of `rb_meaning_flow`.
 pub fn answer(
     alloc: Global,
-    x: &Typed,
+    x: &Facts<'_>,
     scope: &mut Scope,
     block: &[Stmt],
 ) -> Result<Option<Refusal>, Memory>

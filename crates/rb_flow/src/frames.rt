@@ -8,15 +8,13 @@ ghost use Rattle.rb_flow.specs.ByTrees as trees;
 ghost use Rattle.rb_flow.specs.Views.{facts};
 ghost use Rattle.rb_flow.specs.Walked as words;
 
-use crate::facts::over_rows;
-use crate::portable::{branches_hold, is_portable};
+use crate::portable::is_portable;
 use crate::reading::{read_block, read_opened};
 use crate::standing::{Inside, Reading, Standing};
 use crate::writers::read_around;
-use rb_marks::Scope;
+use rb_marks::{Facts, Scope, branches_hold};
 use rb_meaning_flow::Role;
 use rb_trees::{Expr, Memory, Seq, Stmt, Word};
-use rb_types::Typed;
 use std::alloc::Global;
 
 /// How what stands around a statement bears on an expression of it.
@@ -42,7 +40,7 @@ pub fn while_inside(standing: &Standing, c: &Expr) -> Inside
 }
 
 /// What the role of a `val` is.
-pub fn val_role(x: &Typed, standing: &Standing, scope: &Scope, e: &Expr) -> Role
+pub fn val_role(x: &Facts<'_>, standing: &Standing, scope: &Scope, e: &Expr) -> Role
     ensures { result ≡ trees.val_role x.now standing.now scope.now e.now }
 {
     if standing.script && is_portable(x, scope, e) {
@@ -61,7 +59,7 @@ fn condition_unless(known: bool, outer: Option<u32>, e: &Expr) -> Option<u32>
 /// What stands around the branches of an `if`.
 pub fn branch_standing(
     alloc: Global,
-    x: &Typed,
+    x: &Facts<'_>,
     scope: &Scope,
     standing: &Standing,
     c: &Expr,
@@ -82,7 +80,7 @@ pub fn branch_standing(
 /// What stands around the block of a `while`.
 pub fn while_standing(
     alloc: Global,
-    x: &Typed,
+    x: &Facts<'_>,
     scope: &Scope,
     standing: &Standing,
     c: &Expr,
@@ -101,7 +99,7 @@ pub fn while_standing(
 /// What stands around the block of a `for`.
 pub fn turn_standing(
     alloc: Global,
-    x: &Typed,
+    x: &Facts<'_>,
     scope: &Scope,
     standing: &Standing,
     e: &Expr,
@@ -110,8 +108,8 @@ pub fn turn_standing(
 {
     let around = read_around(alloc, x, scope, &standing.around, e)?;
     Ok(Standing {
-        script: standing.script && over_rows(x, e),
-        condition: condition_unless(over_rows(x, e), standing.condition, e),
+        script: standing.script && x.over_rows(e),
+        condition: condition_unless(x.over_rows(e), standing.condition, e),
         tried: standing.tried,
         around,
     })
@@ -120,7 +118,7 @@ pub fn turn_standing(
 /// What stands around the blocks of a `try`. The scope stays.
 pub fn try_standing(
     alloc: Global,
-    x: &Typed,
+    x: &Facts<'_>,
     scope: &mut Scope,
     standing: &Standing,
     at: u32,

@@ -7,7 +7,6 @@ mod admission;
 mod batch;
 mod chain;
 mod earliest;
-mod facts;
 mod findings;
 mod frames;
 mod laws;
@@ -28,7 +27,6 @@ mod writers;
 
 pub use admission::{AdmitStop, Admitted, admit};
 pub use chain::{Reach, chain_to, least_chain, search_levels};
-pub use facts::over_rows;
 pub use laws::{admitted_programs_send_only_portable_parts, each_bad_part_has_a_refusal};
 pub use outermost::{OpenBatch, collect_batches};
-pub use portable::{branches_hold, holds_call, is_portable};
+pub use portable::is_portable;

@@ -7,16 +7,14 @@ ghost use Rattle.rb_trees.specs.mirror.Code.{mirror_expr, mirror_exprs, mirror_s
 ghost use Rattle.rb_flow.specs.Views.{facts};
 ghost use Rattle.rb_flow.specs.Walked as words;
 
-use crate::facts::{is_remote, over_rows};
 use crate::portable::is_portable;
 use crate::reading::read_expr;
 use crate::standing::Reading;
-use rb_marks::Scope;
+use rb_marks::{Facts, Scope};
 use rb_trees::{BadPart, Expr, ExprForm, Memory, Seq, Stmt, StmtForm};
-use rb_types::Typed;
 use std::alloc::Global;
 
-fn part_of(alloc: Global, x: &Typed, scope: &Scope, e: &Expr) -> Result<BadPart, Memory>
+fn part_of(alloc: Global, x: &Facts<'_>, scope: &Scope, e: &Expr) -> Result<BadPart, Memory>
     ensures { IfOk result (λ p. p ≡ words.part_of (facts x.now) scope.now (mirror_expr e.now)) }
 {
     let mut reading = Reading::new(alloc);
@@ -41,7 +39,7 @@ fn is_less(part: &Option<BadPart>, at: u32) -> bool
 // Keeps an expression as the least bad part, where it is.
 fn keep_part(
     alloc: Global,
-    x: &Typed,
+    x: &Facts<'_>,
     scope: &Scope,
     part: &mut Option<BadPart>,
     e: &Expr,
@@ -57,7 +55,7 @@ fn keep_part(
 
 fn keep_unless(
     alloc: Global,
-    x: &Typed,
+    x: &Facts<'_>,
     scope: &Scope,
     part: &mut Option<BadPart>,
     known: bool,
@@ -75,7 +73,7 @@ fn keep_unless(
 #[cycle(looks)]
 fn look(
     alloc: Global,
-    x: &Typed,
+    x: &Facts<'_>,
     scope: &Scope,
     part: &mut Option<BadPart>,
     e: &Expr,
@@ -90,7 +88,7 @@ fn look(
             look(alloc, x, scope, part, b.get())
         }
         ExprForm::Name(_) => keep_unless(alloc, x, scope, part, is_portable(x, scope, e), e),
-        ExprForm::Call(a, _, _) => keep_unless(alloc, x, scope, part, is_remote(x, a.get()), e),
+        ExprForm::Call(a, _, _) => keep_unless(alloc, x, scope, part, x.is_remote(a.get()), e),
         ExprForm::This | ExprForm::Field(_, _) => keep_part(alloc, x, scope, part, e),
         ExprForm::Index(_, _) | ExprForm::New(_, _) => keep_part(alloc, x, scope, part, e),
         ExprForm::Items(_, _) | ExprForm::Taken(_) => keep_part(alloc, x, scope, part, e),
@@ -99,7 +97,7 @@ fn look(
 
 fn look_at_all(
     alloc: Global,
-    x: &Typed,
+    x: &Facts<'_>,
     scope: &Scope,
     part: &mut Option<BadPart>,
     es: &[Expr],
@@ -115,7 +113,7 @@ fn look_at_all(
 /// Looks at the receiver and the arguments of what may be a remote call.
 pub fn look_at_call(
     alloc: Global,
-    x: &Typed,
+    x: &Facts<'_>,
     scope: &Scope,
     part: &mut Option<BadPart>,
     e: &Expr,
@@ -124,7 +122,7 @@ pub fn look_at_call(
 {
     match &e.form {
         ExprForm::Call(a, _, args) => {
-            if is_remote(x, a.get()) {
+            if x.is_remote(a.get()) {
                 look(alloc, x, scope, part, a.get())?;
                 look_at_all(alloc, x, scope, part, args.as_slice())
             } else {
@@ -141,7 +139,7 @@ pub fn look_at_call(
 #[tactic(auto, using(crate::proofs::Trees::stmt_rules))]
 pub fn look_at_loop(
     alloc: Global,
-    x: &Typed,
+    x: &Facts<'_>,
     scope: &Scope,
     part: &mut Option<BadPart>,
     s: &Stmt,
@@ -150,7 +148,7 @@ pub fn look_at_loop(
 {
     match &s.form {
         StmtForm::For(_, e, _) => {
-            if over_rows(x, e) {
+            if x.over_rows(e) {
                 look(alloc, x, scope, part, e)
             } else {
                 Ok(())

@@ -24,7 +24,7 @@ fn with_answer(first: Option<Refusal>, answer: Option<Refusal>) -> Option<Refusa
     }
 }
 
-fn answer_one(alloc: Global, x: &Typed, batch: OpenBatch) -> Result<Option<Refusal>, Memory>
+fn answer_one(alloc: Global, x: &Facts<'_>, batch: OpenBatch) -> Result<Option<Refusal>, Memory>
     requires { SitesDiffer (facts x.now) (begun_sites (facts x.now) (begun_of batch)) }
     ensures { IfOk result (IsBatchAnswer (facts x.now) (begun_sites (facts x.now) (begun_of batch.entry))) }
 {
@@ -33,7 +33,11 @@ fn answer_one(alloc: Global, x: &Typed, batch: OpenBatch) -> Result<Option<Refus
     answer(alloc, x, &mut scope, block)
 }
 
-fn answer_all(alloc: Global, x: &Typed, batches: Vec<OpenBatch>) -> Result<Option<Refusal>, Memory>
+fn answer_all(
+    alloc: Global,
+    x: &Facts<'_>,
+    batches: Vec<OpenBatch>,
+) -> Result<Option<Refusal>, Memory>
     requires { words.AllDiffer (facts x.now) (map begun_of batches.items) }
     ensures { IfOk result (words.IsAnswerAmong (facts x.now) (map begun_of batches.entry.items)) }
 {
@@ -52,5 +56,5 @@ pub fn program_answer(alloc: Global, typed: &Typed) -> Result<Option<Refusal>, M
 {
     let x = Facts::new(alloc, typed)?;
     let batches = collect_batches(alloc, &x, typed.program())?;
-    answer_all(alloc, typed, batches.into_vec())
+    answer_all(alloc, &x, batches.into_vec())
 }

@@ -11,13 +11,11 @@ ghost use Rattle.rb_flow.specs.ByTrees.{block_read};
 ghost use Rattle.rb_flow.specs.Views.{facts, node_list};
 ghost use Rattle.rb_flow.specs.Readings as words;
 
-use crate::facts::{is_call, is_remote};
 use crate::scope::{bind, node_of};
 use crate::standing::Reading;
-use rb_marks::Scope;
+use rb_marks::{Facts, Scope};
 use rb_meaning_flow::Role;
 use rb_trees::{Expr, ExprForm, Memory, Seq, Stmt, StmtForm, Word};
-use rb_types::Typed;
 use std::alloc::Global;
 
 /// The node of all objects of the own side.
@@ -43,14 +41,14 @@ impl Reading {
     }
 }
 
-fn node_read(x: &Typed, scope: &Scope, e: &Expr) -> Option<u32>
+fn node_read(x: &Facts<'_>, scope: &Scope, e: &Expr) -> Option<u32>
     ensures { node_list result ≡ flow.read_here (facts x.now) scope.now (mirror_expr e.now) }
 {
     match &e.form {
         ExprForm::Name(name) => node_of(scope, name),
         ExprForm::Field(_, _) => Some(OBJECTS),
         ExprForm::Call(a, _, _) => {
-            if is_remote(x, a.get()) {
+            if x.is_remote(a.get()) {
                 None
             } else {
                 Some(OBJECTS)
@@ -71,10 +69,10 @@ fn push_some(nodes: &mut Seq<u32>, node: Option<u32>) -> Result<(), Memory>
     }
 }
 
-fn source_here(x: &Typed, called: bool, e: &Expr) -> Option<u32>
+fn source_here(x: &Facts<'_>, called: bool, e: &Expr) -> Option<u32>
     ensures { node_list result ≡ words.source_here (facts x.now) called (mirror_expr e.now) }
 {
-    if is_call(x, e) && !called {
+    if x.is_call(e) && !called {
         Some(e.at)
     } else {
         None
@@ -82,7 +80,7 @@ fn source_here(x: &Typed, called: bool, e: &Expr) -> Option<u32>
 }
 
 fn read_itself(
-    x: &Typed,
+    x: &Facts<'_>,
     scope: &Scope,
     called: bool,
     reading: &mut Reading,
@@ -97,7 +95,7 @@ fn read_itself(
 // Adds what the parts of an expression read.
 #[cycle(exprs)]
 fn read_parts(
-    x: &Typed,
+    x: &Facts<'_>,
     scope: &Scope,
     called: bool,
     reading: &mut Reading,
@@ -131,7 +129,7 @@ fn read_parts(
 /// Adds what an expression and its parts read.
 #[cycle(exprs)]
 pub fn read_expr(
-    x: &Typed,
+    x: &Facts<'_>,
     scope: &Scope,
     called: bool,
     reading: &mut Reading,
@@ -140,13 +138,13 @@ pub fn read_expr(
     ensures { OnOk result (reading.new ≡ words.expr_read (facts x.now) scope.now called reading.old (mirror_expr e.now)) }
 {
     read_itself(x, scope, called, reading, e)?;
-    let called = is_call(x, e) || called;
+    let called = x.is_call(e) || called;
     read_parts(x, scope, called, reading, e)
 }
 
 #[cycle(exprs)]
 fn read_exprs(
-    x: &Typed,
+    x: &Facts<'_>,
     scope: &Scope,
     called: bool,
     reading: &mut Reading,
@@ -165,7 +163,7 @@ fn read_exprs(
 #[tactic(auto, using(crate::proofs::ReadRules::read_stmt_rules))]
 fn read_stmt(
     alloc: Global,
-    x: &Typed,
+    x: &Facts<'_>,
     scope: &mut Scope,
     reading: &mut Reading,
     s: &Stmt,
@@ -213,7 +211,7 @@ fn read_stmt(
 #[tactic(auto, using(crate::proofs::ReadRules::read_stmt_rules))]
 pub fn read_block(
     alloc: Global,
-    x: &Typed,
+    x: &Facts<'_>,
     scope: &mut Scope,
     reading: &mut Reading,
     ss: &[Stmt],
@@ -232,7 +230,7 @@ pub fn read_block(
 #[tactic(auto, using(crate::proofs::ReadRules::read_stmt_rules))]
 pub fn read_opened(
     alloc: Global,
-    x: &Typed,
+    x: &Facts<'_>,
     scope: &mut Scope,
     reading: &mut Reading,
     name: &Word,
@@ -253,7 +251,7 @@ pub fn read_opened(
 #[tactic(auto, using(crate::proofs::ReadRules::read_stmt_rules))]
 fn read_stmts(
     alloc: Global,
-    x: &Typed,
+    x: &Facts<'_>,
     scope: &mut Scope,
     reading: &mut Reading,
     ss: &[Stmt],

@@ -11,29 +11,27 @@ ghost use Rattle.rb_flow.specs.Views.{facts};
 ghost use Rattle.rb_flow.specs.Walked as words;
 
 use crate::earliest::{keep_if, keep_operation};
-use crate::facts::{calls_remote_method, has_remote_type, is_call, over_rows};
 use crate::findings::Findings;
 use crate::parts::{look_at_call, look_at_loop};
 use crate::standing::{Inside, Reading, Standing};
 use crate::writers::{push_expr_writer, push_stmt_writer};
-use rb_marks::Scope;
+use rb_marks::{Facts, Scope};
 use rb_trees::{Expr, Memory, Refusal, Seq, Stmt, StmtForm};
-use rb_types::Typed;
 use std::alloc::Global;
 
-fn keep_at_expr(x: &Typed, inside: &Inside, first: &mut Option<Refusal>, e: &Expr)
+fn keep_at_expr(x: &Facts<'_>, inside: &Inside, first: &mut Option<Refusal>, e: &Expr)
     ensures { first.new ≡ earliest (found_at_expr (facts x.now) inside.now (mirror_expr e.now)) first.old }
 {
-    let escapes = has_remote_type(x, e) && !inside.may;
-    keep_operation(first, is_call(x, e), inside.condition, inside.tried, e.at);
+    let escapes = x.has_remote_type(e) && !inside.may;
+    keep_operation(first, x.is_call(e), inside.condition, inside.tried, e.at);
     keep_if(first, escapes, Refusal::Escapes(e.at));
-    keep_if(first, calls_remote_method(x, e), Refusal::BatchInside(e.at));
+    keep_if(first, x.calls_remote_method(e), Refusal::BatchInside(e.at));
 }
 
 /// What is found at an expression, its parts aside.
 pub fn see_expr(
     alloc: Global,
-    x: &Typed,
+    x: &Facts<'_>,
     scope: &Scope,
     around: &Reading,
     inside: &Inside,
@@ -47,11 +45,11 @@ pub fn see_expr(
     look_at_call(alloc, x, scope, &mut found.part, e)
 }
 
-fn is_rows_loop(x: &Typed, s: &Stmt) -> bool
+fn is_rows_loop(x: &Facts<'_>, s: &Stmt) -> bool
     ensures { result ≡ refusals.is_rows_loop (facts x.now) (mirror_stmt s.now) }
 {
     match &s.form {
-        StmtForm::For(_, e, _) => over_rows(x, e),
+        StmtForm::For(_, e, _) => x.over_rows(e),
         StmtForm::Val(_, _) | StmtForm::Var(_, _) | StmtForm::Assign(_, _) => false,
         StmtForm::Run(_) | StmtForm::Print(_) | StmtForm::Throw(_) => false,
         StmtForm::If(_, _, _) | StmtForm::While(_, _) => false,
@@ -71,11 +69,11 @@ fn is_batch(s: &Stmt) -> bool
     }
 }
 
-fn is_remote_var(x: &Typed, s: &Stmt) -> bool
+fn is_remote_var(x: &Facts<'_>, s: &Stmt) -> bool
     ensures { result ≡ refusals.is_remote_var (facts x.now) (mirror_stmt s.now) }
 {
     match &s.form {
-        StmtForm::Var(_, e) => has_remote_type(x, e),
+        StmtForm::Var(_, e) => x.has_remote_type(e),
         StmtForm::Val(_, _) | StmtForm::Assign(_, _) | StmtForm::Batch(_, _, _) => false,
         StmtForm::Run(_) | StmtForm::Print(_) | StmtForm::Throw(_) => false,
         StmtForm::If(_, _, _) | StmtForm::While(_, _) => false,
@@ -83,7 +81,7 @@ fn is_remote_var(x: &Typed, s: &Stmt) -> bool
     }
 }
 
-fn keep_at_stmt(x: &Typed, standing: &Standing, first: &mut Option<Refusal>, s: &Stmt)
+fn keep_at_stmt(x: &Facts<'_>, standing: &Standing, first: &mut Option<Refusal>, s: &Stmt)
     ensures { first.new ≡ earliest (found_at_stmt (facts x.now) standing.now (mirror_stmt s.now)) first.old }
 {
     let loops = is_rows_loop(x, s);
@@ -95,7 +93,7 @@ fn keep_at_stmt(x: &Typed, standing: &Standing, first: &mut Option<Refusal>, s: 
 /// What is found at a statement, its expressions and blocks aside. The scope stays.
 pub fn see_stmt(
     alloc: Global,
-    x: &Typed,
+    x: &Facts<'_>,
     standing: &Standing,
     scope: &mut Scope,
     found: &mut Findings,

@@ -11,7 +11,6 @@ ghost use Rattle.rb_flow.specs.ByTrees.{whole_walked, block_walked, branch_stand
 ghost use Rattle.rb_flow.specs.Views.{facts};
 ghost use Rattle.rb_flow.specs.Walked as words;
 
-use crate::facts::over_rows;
 use crate::findings::Findings;
 use crate::frames::{
     batch_standing, branch_standing, try_standing, turn_standing, val_role, while_inside,
@@ -22,16 +21,15 @@ use crate::scope::bind;
 use crate::seen::see_stmt;
 use crate::standing::Standing;
 use crate::walk::walk_expr;
-use rb_marks::Scope;
+use rb_marks::{Facts, Scope};
 use rb_meaning_flow::Role;
 use rb_trees::{Expr, Memory, Seq, Stmt, StmtForm, Word};
-use rb_types::Typed;
 use std::alloc::Global;
 
-fn turn_role(x: &Typed, list: &Expr) -> Role
+fn turn_role(x: &Facts<'_>, list: &Expr) -> Role
     ensures { result ≡ sites.turn_role (facts x.now) (mirror_expr list.now) }
 {
-    if over_rows(x, list) {
+    if x.over_rows(list) {
         Role::Row
     } else {
         Role::Plain
@@ -41,7 +39,7 @@ fn turn_role(x: &Typed, list: &Expr) -> Role
 // An outermost expression, where a remote object may stand or not.
 fn walk_whole(
     alloc: Global,
-    x: &Typed,
+    x: &Facts<'_>,
     standing: &Standing,
     scope: &Scope,
     found: &mut Findings,
@@ -57,7 +55,7 @@ fn walk_whole(
 // What a `val` binds, and the variable.
 fn walk_val(
     alloc: Global,
-    x: &Typed,
+    x: &Facts<'_>,
     standing: &Standing,
     scope: &mut Scope,
     found: &mut Findings,
@@ -76,7 +74,7 @@ fn walk_val(
 // The same of a `var`.
 fn walk_var(
     alloc: Global,
-    x: &Typed,
+    x: &Facts<'_>,
     standing: &Standing,
     scope: &mut Scope,
     found: &mut Findings,
@@ -94,7 +92,7 @@ fn walk_var(
 // Both sides of an assignment.
 fn walk_sides(
     alloc: Global,
-    x: &Typed,
+    x: &Facts<'_>,
     standing: &Standing,
     scope: &Scope,
     found: &mut Findings,
@@ -110,7 +108,7 @@ fn walk_sides(
 // The condition of an `if`, and what stands around its branches.
 fn enter_if(
     alloc: Global,
-    x: &Typed,
+    x: &Facts<'_>,
     standing: &Standing,
     scope: &Scope,
     found: &mut Findings,
@@ -130,7 +128,7 @@ fn enter_if(
 // The condition of a `while`, and what stands around its block.
 fn enter_while(
     alloc: Global,
-    x: &Typed,
+    x: &Facts<'_>,
     standing: &Standing,
     scope: &Scope,
     found: &mut Findings,
@@ -148,7 +146,7 @@ fn enter_while(
 // The list or rows of a `for`, and what stands around its block.
 fn enter_for(
     alloc: Global,
-    x: &Typed,
+    x: &Facts<'_>,
     standing: &Standing,
     scope: &Scope,
     found: &mut Findings,
@@ -158,7 +156,7 @@ fn enter_for(
     ensures within { IfOk result (λ s. s ≡ words.turn_standing (facts x.now) scope.now standing.now (mirror_expr e.now)) }
 {
     let within = turn_standing(alloc, x, scope, standing, e)?;
-    let inside = whole_inside(standing, over_rows(x, e));
+    let inside = whole_inside(standing, x.over_rows(e));
     walk_expr(alloc, x, scope, &within.around, &inside, found, e)?;
     Ok(within)
 }
@@ -167,7 +165,7 @@ fn enter_for(
 #[cycle(stmts)]
 fn walk_stmt(
     alloc: Global,
-    x: &Typed,
+    x: &Facts<'_>,
     standing: &Standing,
     scope: &mut Scope,
     found: &mut Findings,
@@ -184,7 +182,7 @@ fn walk_stmt(
 #[cycle(stmts)]
 fn walk_within(
     alloc: Global,
-    x: &Typed,
+    x: &Facts<'_>,
     standing: &Standing,
     scope: &mut Scope,
     found: &mut Findings,
@@ -231,7 +229,7 @@ fn walk_within(
 #[cycle(stmts)]
 fn walk_block(
     alloc: Global,
-    x: &Typed,
+    x: &Facts<'_>,
     standing: &Standing,
     scope: &mut Scope,
     found: &mut Findings,
@@ -250,7 +248,7 @@ fn walk_block(
 #[cycle(stmts)]
 fn walk_opened(
     alloc: Global,
-    x: &Typed,
+    x: &Facts<'_>,
     standing: &Standing,
     scope: &mut Scope,
     found: &mut Findings,
@@ -273,7 +271,7 @@ fn walk_opened(
 #[cycle(stmts)]
 pub fn walk_stmts(
     alloc: Global,
-    x: &Typed,
+    x: &Facts<'_>,
     standing: &Standing,
     scope: &mut Scope,
     found: &mut Findings,

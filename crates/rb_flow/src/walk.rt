@@ -9,14 +9,12 @@ ghost use Rattle.rb_flow.specs.Found.{innermost};
 ghost use Rattle.rb_flow.specs.Views.{facts};
 ghost use Rattle.rb_flow.specs.Walked as words;
 
-use crate::facts::is_call;
 use crate::findings::Findings;
 use crate::portable::is_portable;
 use crate::seen::see_expr;
 use crate::standing::{Inside, Reading};
-use rb_marks::Scope;
+use rb_marks::{Facts, Scope};
 use rb_trees::{BinOp, Expr, ExprForm, Memory, Seq};
-use rb_types::Typed;
 use std::alloc::Global;
 
 fn is_and_or(op: BinOp) -> bool
@@ -30,7 +28,7 @@ fn is_and_or(op: BinOp) -> bool
 }
 
 // The left operand of an `&&` or `||` that isn't portable as a whole, above its right operand.
-fn left_operand(x: &Typed, scope: &Scope, right: bool, e: &Expr) -> Option<u32>
+fn left_operand(x: &Facts<'_>, scope: &Scope, right: bool, e: &Expr) -> Option<u32>
     ensures { result ≡ innermost (refusals.operand_condition (facts x.now) scope.now right (mirror_expr e.now)) }
 {
     match &e.form {
@@ -48,7 +46,7 @@ fn left_operand(x: &Typed, scope: &Scope, right: bool, e: &Expr) -> Option<u32>
 }
 
 // How what stands around bears on a part of an expression: a right operand, or another part.
-fn part_inside(x: &Typed, scope: &Scope, right: bool, inside: &Inside, e: &Expr) -> Inside
+fn part_inside(x: &Facts<'_>, scope: &Scope, right: bool, inside: &Inside, e: &Expr) -> Inside
     ensures { result ≡ words.part_inside (facts x.now) scope.now right inside.now (mirror_expr e.now) }
 {
     let condition = match left_operand(x, scope, right, e) {
@@ -58,7 +56,7 @@ fn part_inside(x: &Typed, scope: &Scope, right: bool, inside: &Inside, e: &Expr)
     Inside {
         condition,
         tried: inside.tried,
-        may: is_call(x, e),
+        may: x.is_call(e),
     }
 }
 
@@ -66,7 +64,7 @@ fn part_inside(x: &Typed, scope: &Scope, right: bool, inside: &Inside, e: &Expr)
 #[cycle(exprs)]
 fn walk_parts(
     alloc: Global,
-    x: &Typed,
+    x: &Facts<'_>,
     scope: &Scope,
     around: &Reading,
     inside: &Inside,
@@ -104,7 +102,7 @@ fn walk_parts(
 #[cycle(exprs)]
 pub fn walk_expr(
     alloc: Global,
-    x: &Typed,
+    x: &Facts<'_>,
     scope: &Scope,
     around: &Reading,
     inside: &Inside,
@@ -120,7 +118,7 @@ pub fn walk_expr(
 #[cycle(exprs)]
 fn walk_exprs(
     alloc: Global,
-    x: &Typed,
+    x: &Facts<'_>,
     scope: &Scope,
     around: &Reading,
     inside: &Inside,

@@ -10,13 +10,11 @@ ghost use Rattle.rb_flow.specs.Views.{facts, node_list};
 ghost use Rattle.rb_flow.specs.Readings as readings;
 ghost use Rattle.rb_flow.specs.Walked as words;
 
-use crate::facts::is_remote;
 use crate::reading::{OBJECTS, read_block, read_expr};
 use crate::scope::node_of;
 use crate::standing::Reading;
-use rb_marks::Scope;
+use rb_marks::{Facts, Scope};
 use rb_trees::{Expr, ExprForm, Memory, Seq, Stmt, StmtForm, Writer};
-use rb_types::Typed;
 use std::alloc::Global;
 
 fn writer_of(at: u32, node: u32, reading: Reading) -> Writer
@@ -34,7 +32,7 @@ fn writer_of(at: u32, node: u32, reading: Reading) -> Writer
 /// What an expression reads, and what is read around it.
 pub fn read_around(
     alloc: Global,
-    x: &Typed,
+    x: &Facts<'_>,
     scope: &Scope,
     around: &Reading,
     e: &Expr,
@@ -49,7 +47,7 @@ pub fn read_around(
 
 fn push_objects(
     alloc: Global,
-    x: &Typed,
+    x: &Facts<'_>,
     scope: &Scope,
     around: &Reading,
     writers: &mut Seq<Writer>,
@@ -64,7 +62,7 @@ fn push_objects(
 /// Adds the writer that an expression is, if it is one.
 pub fn push_expr_writer(
     alloc: Global,
-    x: &Typed,
+    x: &Facts<'_>,
     scope: &Scope,
     around: &Reading,
     writers: &mut Seq<Writer>,
@@ -74,7 +72,7 @@ pub fn push_expr_writer(
 {
     match &e.form {
         ExprForm::Call(a, _, _) => {
-            if is_remote(x, a.get()) {
+            if x.is_remote(a.get()) {
                 Ok(())
             } else {
                 push_objects(alloc, x, scope, around, writers, e)
@@ -102,7 +100,7 @@ fn assigned_node(scope: &Scope, left: &Expr) -> Option<u32>
 }
 
 // What the left side of an assignment reads.
-fn read_left(x: &Typed, scope: &Scope, reading: &mut Reading, left: &Expr) -> Result<(), Memory>
+fn read_left(x: &Facts<'_>, scope: &Scope, reading: &mut Reading, left: &Expr) -> Result<(), Memory>
     ensures { OnOk result (reading.new ≡ words.left_read (facts x.now) scope.now reading.old (mirror_expr left.now)) }
 {
     match &left.form {
@@ -121,7 +119,7 @@ fn read_left(x: &Typed, scope: &Scope, reading: &mut Reading, left: &Expr) -> Re
 
 fn read_assignment(
     alloc: Global,
-    x: &Typed,
+    x: &Facts<'_>,
     scope: &Scope,
     around: &Reading,
     a: &Expr,
@@ -152,7 +150,7 @@ fn push_some(
 
 fn push_variable(
     alloc: Global,
-    x: &Typed,
+    x: &Facts<'_>,
     scope: &Scope,
     around: &Reading,
     writers: &mut Seq<Writer>,
@@ -167,7 +165,7 @@ fn push_variable(
 
 fn push_assignment(
     alloc: Global,
-    x: &Typed,
+    x: &Facts<'_>,
     scope: &Scope,
     around: &Reading,
     writers: &mut Seq<Writer>,
@@ -183,7 +181,7 @@ fn push_assignment(
 
 fn push_try(
     alloc: Global,
-    x: &Typed,
+    x: &Facts<'_>,
     scope: &mut Scope,
     around: &Reading,
     writers: &mut Seq<Writer>,
@@ -203,7 +201,7 @@ fn push_try(
 #[tactic(auto, using(crate::proofs::Trees::stmt_rules))]
 pub fn push_stmt_writer(
     alloc: Global,
-    x: &Typed,
+    x: &Facts<'_>,
     scope: &mut Scope,
     around: &Reading,
     writers: &mut Seq<Writer>,

@@ -5,11 +5,12 @@ use Rattle.std.proofs.lemmas.Grind.{common_steps}
 use Rattle.rb_meaning_types.proofs.TypeForms.{kinds}
 use Rattle.rb_trees.proofs.mirror.Positions.{expr_at_tree}
 use Rattle.rb_marks.proofs.Positions.{stmt_at_tree}
-use Rattle.rb_marks.proofs.Scopes.{interface_known}
 use Rattle.rb_marks.proofs.Parts.{marked_parts}
 use Rattle.rb_marks.proofs.Fronts.{take_front, kept_then, kept_outer, take_kept}
 
-pub ruleset fact_rules = (kinds, expr_at_tree, interface_known, common_steps)
+pub ruleset fact_rules = (kinds, expr_at_tree, common_steps)
+
+pub ruleset call_rules = (exprs, kinds, expr_at_tree, common_steps)
 
 pub ruleset expr_rules = (exprs, expr_at_tree, common_steps)
 

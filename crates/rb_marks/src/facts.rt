@@ -1,18 +1,20 @@
 // What the types of a program tell of its expressions.
 #![tactic(auto, using(crate::proofs::Rules::fact_rules), unfolding(rb_meaning_flow::specs::Facts::facts_of))]
 
-ghost use Rattle.std.specs.Prelude.{◌≡◌, map, IfOk};
+ghost use Rattle.std.specs.Prelude.{◌≡◌, IfOk};
 ghost use Rattle.rb_trees.specs.mirror.Code.{mirror_expr};
 ghost use Rattle.rb_trees.specs.mirror.Declarations.{mirror_program};
 ghost use Rattle.rb_meaning_types.specs.Declared.{of_program};
 ghost use Rattle.rb_meaning_types.specs.Kinds as kinds;
 ghost use Rattle.rb_meaning_types.specs.Kinds.{kind_of_form};
+ghost use Rattle.rb_meaning_types.specs.Names.{class_named};
 ghost use Rattle.rb_meaning_flow.specs.Facts as words;
 ghost use Rattle.rb_meaning_flow.specs.Facts.{facts_of};
+ghost use Rattle.rb_meaning_flow.specs.Flow as flow;
+ghost use Rattle.rb_meaning_flow.specs.Refusals as refusals;
 
-use rb_names::Names;
-use rb_trees::{Expr, Interface, Memory, TypeForm, copy_word};
-use rb_types::Typed;
+use rb_trees::{Expr, ExprForm, Memory, TypeForm, Word};
+use rb_types::{Declarations, Typed};
 use std::alloc::Global;
 use std::marker::Model;
 
@@ -21,14 +23,17 @@ use std::marker::Model;
 #[derive(Drop)]
 pub struct Facts<'p> {
     typed: &'p Typed,
-    // the names of the interfaces
-    interfaces: Names,
+    // its interfaces and classes, which are found by name
+    declared: Declarations<'p>,
 }
 
 impl<'p> Model for Facts<'p> {
-    ghost use Rattle.std.specs.Prelude.{◌≡◌, map};
+    ghost use Rattle.std.specs.Prelude.{◌≡◌};
     ghost use Rattle.rb_trees.specs.declared.declarations.Program.{Program};
     ghost use Rattle.rb_trees.specs.contracts.declarations.Program as program_code;
+    ghost use Rattle.rb_trees.specs.mirror.Declarations.{mirror_program};
+    ghost use Rattle.rb_meaning_types.specs.Declared.{of_program};
+    ghost use Rattle.rb_types.specs.Views.{declarations_of};
 
     ghost Value = { Program };
 
@@ -36,18 +41,7 @@ impl<'p> Model for Facts<'p> {
 
     ghost view = { λ f. f.typed.now };
 
-    ghost invariant = { λ f. f.interfaces ≡ map (λ i. i.name) f.typed.now.interfaces };
-}
-
-fn interface_names(alloc: Global, interfaces: &[Interface]) -> Result<Names, Memory>
-    ensures { IfOk result (λ names. names ≡ map (λ i. i.name) interfaces.now) }
-{
-    let mut names = Names::new(alloc);
-    for interface in interfaces {
-        let name = copy_word(alloc, &interface.name)?;
-        names.push(alloc, name)?;
-    }
-    Ok(names)
+    ghost invariant = { λ f. declarations_of f.declared ≡ of_program (mirror_program f.typed.now) };
 }
 
 /// Whether a type is Int, Bool or Text.
@@ -86,8 +80,8 @@ impl<'p> Facts<'p> {
     pub fn new(alloc: Global, typed: &'p Typed) -> Result<Facts<'p>, Memory>
         ensures { IfOk result (λ facts. facts ≡ typed.now) }
     {
-        let interfaces = interface_names(alloc, typed.program().interfaces.as_slice())?;
-        Ok(Facts { typed, interfaces })
+        let declared = Declarations::of_program(alloc, typed.program())?;
+        Ok(Facts { typed, declared })
     }
 
     /// The program.
@@ -101,9 +95,40 @@ impl<'p> Facts<'p> {
         ensures { result ≡ words.is_object (of_program (mirror_program self.now)) (kind_of_form kind.now) }
     {
         match kind {
-            TypeForm::Named(name) => self.interfaces.has(name),
+            TypeForm::Named(name) => self.declared.interfaces.find(name).is_some(),
             TypeForm::Int | TypeForm::Bool | TypeForm::Text => false,
             TypeForm::Unit | TypeForm::ListOf(_) | TypeForm::RowsOf(_) => false,
+        }
+    }
+
+    fn class_has(&self, name: &Word, method: &Word) -> bool
+        ensures { result ≡ words.class_has_remote method.now (class_named (of_program (mirror_program self.now)).classes name.now) }
+    {
+        match self.declared.classes.find(name) {
+            Some(class) => match class.find_method(method) {
+                Some(method) => method.remote,
+                None => false,
+            },
+            None => false,
+        }
+    }
+
+    fn has_remote_method(&self, kind: &TypeForm, method: &Word) -> bool
+        ensures { result ≡ words.has_remote_method (of_program (mirror_program self.now)) method.now (kind_of_form kind.now) }
+    {
+        match kind {
+            TypeForm::Named(name) => self.class_has(name, method),
+            TypeForm::Int | TypeForm::Bool | TypeForm::Text => false,
+            TypeForm::Unit | TypeForm::ListOf(_) | TypeForm::RowsOf(_) => false,
+        }
+    }
+
+    fn has_remote_method_at(&self, at: u32, method: &Word) -> bool
+        ensures { result ≡ (facts_of (mirror_program self.now)).remote_method at method.now }
+    {
+        match self.typed.type_of(at) {
+            Some(kind) => self.has_remote_method(kind, method),
+            None => false,
         }
     }
 
@@ -144,6 +169,41 @@ impl<'p> Facts<'p> {
         match self.typed.type_of(list.at) {
             Some(kind) => is_rows(kind),
             None => false,
+        }
+    }
+
+    /// Whether an expression is an object of the service, or rows.
+    pub fn has_remote_type(&self, e: &Expr) -> bool
+        ensures { result ≡ refusals.has_remote_type (facts_of (mirror_program self.now)) (mirror_expr e.now) }
+    {
+        self.is_remote(e) || self.over_rows(e)
+    }
+
+    /// Whether an expression is a remote call.
+    #[tactic(auto, using(crate::proofs::Rules::call_rules), unfolding(rb_meaning_flow::specs::Facts::facts_of))]
+    pub fn is_call(&self, e: &Expr) -> bool
+        ensures { result ≡ flow.is_call (facts_of (mirror_program self.now)) (mirror_expr e.now) }
+    {
+        match &e.form {
+            ExprForm::Call(a, _, _) => self.is_remote(a.get()),
+            ExprForm::Lit(_) | ExprForm::Name(_) | ExprForm::This | ExprForm::Unary(_, _) => false,
+            ExprForm::Binary(_, _, _) | ExprForm::Field(_, _) | ExprForm::Index(_, _) => false,
+            ExprForm::New(_, _) | ExprForm::Items(_, _) | ExprForm::Taken(_) => false,
+        }
+    }
+
+    /// Whether an expression is a call of a `remote` method of a class.
+    #[tactic(auto, using(crate::proofs::Rules::call_rules), unfolding(rb_meaning_flow::specs::Facts::facts_of))]
+    pub fn calls_remote_method(&self, e: &Expr) -> bool
+        ensures { result ≡ refusals.calls_remote_method (facts_of (mirror_program self.now)) (mirror_expr e.now) }
+    {
+        match &e.form {
+            ExprForm::Call(a, method, _) => {
+                !self.is_remote(a.get()) && self.has_remote_method_at(a.get().at, method)
+            }
+            ExprForm::Lit(_) | ExprForm::Name(_) | ExprForm::This | ExprForm::Unary(_, _) => false,
+            ExprForm::Binary(_, _, _) | ExprForm::Field(_, _) | ExprForm::Index(_, _) => false,
+            ExprForm::New(_, _) | ExprForm::Items(_, _) | ExprForm::Taken(_) => false,
         }
     }
 }

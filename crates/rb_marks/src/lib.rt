@@ -21,5 +21,7 @@ pub use laws::{
     each_expression_has_its_mark, each_statement_has_its_place,
     remote_expressions_stand_in_the_script,
 };
-pub use portable::{block_holds, holds_call, holds_operation, is_constant, is_portable};
+pub use portable::{
+    block_holds, branches_hold, holds_call, holds_operation, is_constant, is_portable,
+};
 pub use scope::Scope;

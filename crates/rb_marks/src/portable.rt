@@ -131,3 +131,10 @@ pub fn block_holds(facts: &Facts, ss: &[Stmt]) -> bool
     }
     false
 }
+
+/// Whether a remote operation stands in one of the branches of an `if`.
+pub fn branches_hold(facts: &Facts, a: &[Stmt], b: &[Stmt]) -> bool
+    ensures { result ≡ words.branches_hold (told facts.now) (mirror_stmts a.now) (mirror_stmts b.now) }
+{
+    block_holds(facts, a) || block_holds(facts, b)
+}

@@ -11,7 +11,6 @@ use rb_flow::{OpenBatch, collect_batches};
 use rb_marks::Facts;
 use rb_meaning_flow::Variable;
 use rb_trees::{Memory, Seq};
-use rb_types::Typed;
 use std::alloc::Global;
 use std::collections::HashMap;
 
@@ -54,11 +53,10 @@ fn places_of(alloc: Global, batches: &[OpenBatch<'_>]) -> Result<HashMap<u32, us
 
 impl<'p> Batches<'p> {
     /// The batches of a program.
-    pub fn of(alloc: Global, typed: &'p Typed) -> Result<Batches<'p>, Memory>
-        ensures { IfOk result (λ batches. AreBatchesOf (mirror_program typed.now) batches) }
+    pub fn of(alloc: Global, facts: &Facts<'p>) -> Result<Batches<'p>, Memory>
+        ensures { IfOk result (λ batches. AreBatchesOf (mirror_program facts.now) batches) }
     {
-        let facts = Facts::new(alloc, typed)?;
-        let batches = collect_batches(alloc, &facts, typed.program())?;
+        let batches = collect_batches(alloc, facts, facts.typed().program())?;
         let places = places_of(alloc, batches.as_slice())?;
         Ok(Batches { batches, places })
     }

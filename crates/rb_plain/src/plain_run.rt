@@ -19,9 +19,8 @@ use rb_base::Sink;
 use rb_code::Code;
 use rb_flow::Admitted;
 use rb_heap::Heap;
-use rb_marks::Marks;
+use rb_marks::{Facts, Marks};
 use rb_trees::Run;
-use rb_types::Typed;
 use std::alloc::Global;
 use std::mem;
 
@@ -59,7 +58,7 @@ fn run_on<'a, 'b, 'p, W: Sink>(
 // Runs a program with its marks and the code of its classes.
 fn run_typed<'a, W: Sink>(
     alloc: Global,
-    typed: &'a Typed,
+    facts: &'a Facts<'a>,
     marks: &'a Marks,
     code: &'a Code,
     service: &'a Code,
@@ -68,21 +67,21 @@ fn run_typed<'a, W: Sink>(
     fuel: u64,
     out: &mut W,
 ) -> Result<Run, PlainStop>
-    requires code { code.now ≡ typed.now.classes }
-    requires marks { marks.now.0 ≡ program_marks (mirror_program typed.now) }
-    ensures left { IfOk result (λ run. Leaves (meant typed.now service.now root table.old fuel) run table.new) }
-    ensures written { let text = shown_events (meant typed.now service.now root table.old fuel).events in
+    requires code { code.now ≡ facts.now.classes }
+    requires marks { marks.now.0 ≡ program_marks (mirror_program facts.now) }
+    ensures left { IfOk result (λ run. Leaves (meant facts.now service.now root table.old fuel) run table.new) }
+    ensures written { let text = shown_events (meant facts.now service.now root table.old fuel).events in
         WritesUnlessStarved text result (output W.Sink out.old) (output W.Sink out.new) }
 {
-    let batches = Batches::of(alloc, typed)?;
-    let stage = Stage::new(typed, marks, code, service, root);
+    let batches = Batches::of(alloc, facts)?;
+    let stage = Stage::new(facts, marks, code, service, root);
     run_on(alloc, stage, &batches, table, fuel, out)
 }
 
 /// Runs an admitted program with so much fuel on a service, of whose classes this is the code, with this root and table:
 /// `meaning`.
 ///
-/// The marks of the program have to be its own. Each line goes to the output as it comes, and the table becomes what the
+/// Each line goes to the output as it comes, and the table becomes what the
 /// run leaves. After `WriteFault` a front of the lines was written; after `Memory` nothing is said of the output; after
 /// both nothing is said of the table.
 pub fn unsplit<W: Sink>(
@@ -94,7 +93,6 @@ pub fn unsplit<W: Sink>(
     fuel: u64,
     out: &mut W,
 ) -> Result<Run, PlainStop>
-    requires marks { admitted.now.1.0 ≡ program_marks (mirror_program admitted.now.0) }
     ensures left { IfOk result (λ run. Leaves (meant admitted.now.0 code.now root table.old fuel) run table.new) }
     ensures written { let text = shown_events (meant admitted.now.0 code.now root table.old fuel).events in
         WritesUnlessStarved text result (output W.Sink out.old) (output W.Sink out.new) }
@@ -102,6 +100,7 @@ pub fn unsplit<W: Sink>(
     let typed = admitted.typed();
     let program = typed.program();
     let own = Code::make(alloc, &program.classes)?;
+    let facts = Facts::new(alloc, typed)?;
     let marks = admitted.marks();
-    run_typed(alloc, typed, marks, &own, code, root, table, fuel, out)
+    run_typed(alloc, &facts, marks, &own, code, root, table, fuel, out)
 }

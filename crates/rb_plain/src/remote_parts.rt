@@ -11,8 +11,8 @@ ghost use Rattle.rb_plain.specs.Remote.{Ended};
 use crate::remote_world::{RemoteWorld, value_of};
 use crate::stage::Stage;
 use rb_engine::{Frame, Miss};
-use rb_flow::{holds_call, is_portable};
-use rb_marks::Scope;
+use rb_flow::is_portable;
+use rb_marks::{Scope, holds_call};
 use rb_trees::{Expr, ExprForm, Seq};
 use std::alloc::Global;
 
@@ -20,8 +20,8 @@ use std::alloc::Global;
 fn is_remote(stage: &Stage<'_>, scope: &Scope, expr: &Expr) -> bool
     ensures { result ≡ is_portable_call (facts_of (program_of stage.now)) scope.now (mirror_expr expr.now) }
 {
-    let typed = stage.typed();
-    is_portable(typed, scope, expr) && holds_call(typed, expr)
+    let facts = stage.facts();
+    is_portable(facts, scope, expr) && holds_call(facts, expr)
 }
 
 // A remote expression, whose value isn't of use.

@@ -7,7 +7,7 @@ ghost use Rattle.rb_meaning.specs.Unsplit as meant;
 ghost use Rattle.rb_plain.specs.Staged.{program_of};
 
 use rb_code::Code;
-use rb_marks::Marks;
+use rb_marks::{Facts, Marks};
 use rb_trees::Mark;
 use rb_types::Typed;
 use std::marker::Model;
@@ -16,7 +16,7 @@ use std::marker::Model;
 /// root. Contracts see the program and the service.
 #[derive(Drop)]
 pub struct Stage<'a> {
-    typed: &'a Typed,
+    facts: &'a Facts<'a>,
     marks: &'a Marks,
     code: &'a Code,
     service: &'a Code,
@@ -33,26 +33,26 @@ impl<'a> Model for Stage<'a> {
 
     ghost coded = { staged_code };
 
-    ghost view = { λ s. record { program = s.typed.now; service = record { classes = s.service.now; root = s.root } } };
+    ghost view = { λ s. record { program = s.facts.now; service = record { classes = s.service.now; root = s.root } } };
 
-    ghost invariant = { λ s. (s.code.now ≡ s.typed.now.classes) × (s.marks.now.0 ≡ program_marks (mirror_program s.typed.now)) };
+    ghost invariant = { λ s. (s.code.now ≡ s.facts.now.classes) × (s.marks.now.0 ≡ program_marks (mirror_program s.facts.now)) };
 }
 
 impl<'a> Stage<'a> {
     /// The stage of a program and a service. The code is that of the program's classes, and the marks are the program's.
     pub fn new(
-        typed: &'a Typed,
+        facts: &'a Facts<'a>,
         marks: &'a Marks,
         code: &'a Code,
         service: &'a Code,
         root: u32,
     ) -> Stage<'a>
-        requires code { code.now ≡ typed.now.classes }
-        requires marks { marks.now.0 ≡ program_marks (mirror_program typed.now) }
-        ensures { result ≡ record { program = typed.now; service = record { classes = service.now; root = root } } }
+        requires code { code.now ≡ facts.now.classes }
+        requires marks { marks.now.0 ≡ program_marks (mirror_program facts.now) }
+        ensures { result ≡ record { program = facts.now; service = record { classes = service.now; root = root } } }
     {
         Stage {
-            typed,
+            facts,
             marks,
             code,
             service,
@@ -64,7 +64,14 @@ impl<'a> Stage<'a> {
     pub fn typed(&self) -> &'a Typed
         ensures { result.now ≡ self.now.program }
     {
-        self.typed
+        self.facts.typed()
+    }
+
+    /// What the program's types tell.
+    pub fn facts(&self) -> &'a Facts<'a>
+        ensures { result.now ≡ self.now.program }
+    {
+        self.facts
     }
 
     /// The code of the program's classes.

@@ -15,8 +15,8 @@ ghost use Rattle.rb_plain.specs.Walks.{Kept, Walked, block_meant, branch_meant, 
 use crate::remote_parts::{perform_both, perform_in};
 use crate::remote_world::{RemoteWorld, value_of};
 use rb_engine::{Frame, Miss, Refusal, at_place, truth_of};
-use rb_flow::{branches_hold, is_portable, over_rows};
-use rb_marks::Scope;
+use rb_flow::is_portable;
+use rb_marks::{Scope, branches_hold};
 use rb_meaning_flow::Role;
 use rb_trees::{Expr, Fault, Seq, Shared, Stmt, StmtForm, Value, Word, copy_value, copy_word};
 use std::alloc::Global;
@@ -125,7 +125,7 @@ fn perform_val(
         Walked meant frame.old result world.old frame.new world.new }
     ensures scope { OnOk result (scope.new ≡ val_scope world.old scope.old at name.now expr.now) }
 {
-    if is_portable(world.stage.typed(), scope, expr) {
+    if is_portable(world.stage.facts(), scope, expr) {
         return perform_carried(alloc, world, scope, frame, at, name, expr);
     }
     perform_plain(alloc, world, scope, frame, at, name, expr)
@@ -227,7 +227,7 @@ fn perform_if(
         Walked meant frame.old result world.old frame.new world.new }
     ensures scope { OnOk result (scope.new ≡ scope.old) }
 {
-    if branches_hold(world.stage.typed(), yes.as_slice(), no.as_slice()) {
+    if branches_hold(world.stage.facts(), yes.as_slice(), no.as_slice()) {
         return perform_branch(alloc, world, scope, frame, at, condition, yes, no);
     }
     perform_in(alloc, world, scope, frame, condition)
@@ -271,7 +271,7 @@ fn perform_for(
         Walked meant frame.old result world.old frame.new world.new }
     ensures scope { OnOk result (scope.new ≡ scope.old) }
 {
-    if over_rows(world.stage.typed(), list) {
+    if world.stage.facts().over_rows(list) {
         return perform_rows(alloc, world, scope, frame, turns, list);
     }
     perform_in(alloc, world, scope, frame, list)

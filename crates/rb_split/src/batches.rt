@@ -9,13 +9,11 @@ ghost use Rattle.rb_split.specs.Views.{facts};
 use rb_flow::{OpenBatch, collect_batches};
 use rb_marks::Facts;
 use rb_trees::{Memory, Seq};
-use rb_types::Typed;
 use std::alloc::Global;
 
 /// The batches of a program as they begin, in source order.
-pub fn batches_of<'p>(alloc: Global, x: &'p Typed) -> Result<Seq<OpenBatch<'p>>, Memory>
+pub fn batches_of<'p>(alloc: Global, x: &Facts<'p>) -> Result<Seq<OpenBatch<'p>>, Memory>
     ensures { IfOk result (λ bs. map begun_of bs ≡ map begun (program_batches (facts x.now) (mirror_program x.now))) }
 {
-    let facts = Facts::new(alloc, x)?;
-    collect_batches(alloc, &facts, x.program())
+    collect_batches(alloc, x, x.typed().program())
 }

@@ -11,12 +11,11 @@ ghost use Rattle.rb_split.specs.Views.{facts};
 
 use crate::numbers::next;
 use crate::remote::is_remote;
-use rb_marks::Scope;
+use rb_marks::{Facts, Scope};
 use rb_trees::{
     BinOp, Boxed, Expr, ExprForm, Memory, Seq, TypeTree, UnOp, Word, copy_expr, copy_type,
     copy_word,
 };
-use rb_types::Typed;
 use std::alloc::Global;
 
 // What the step of a number kept. The number becomes the next one.
@@ -117,7 +116,7 @@ fn items_of(alloc: Global, at: u32, item: &TypeTree, items: Seq<Expr>) -> Result
 #[cycle(cuts)]
 pub fn cut(
     alloc: Global,
-    x: &Typed,
+    x: &Facts<'_>,
     scope: &Scope,
     number: &mut u32,
     e: &Expr,
@@ -135,7 +134,7 @@ pub fn cut(
 #[cycle(cuts)]
 fn cut_parts(
     alloc: Global,
-    x: &Typed,
+    x: &Facts<'_>,
     scope: &Scope,
     number: &mut u32,
     e: &Expr,
@@ -183,7 +182,7 @@ fn cut_parts(
 #[cycle(cuts)]
 fn cut_all(
     alloc: Global,
-    x: &Typed,
+    x: &Facts<'_>,
     scope: &Scope,
     number: &mut u32,
     es: &[Expr],

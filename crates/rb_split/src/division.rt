@@ -16,9 +16,8 @@ use crate::scopes::copy_scope;
 use crate::stops::SplitStop;
 use crate::walk::draft_block;
 use rb_flow::OpenBatch;
-use rb_marks::Scope;
+use rb_marks::{Facts, Scope};
 use rb_trees::{Memory, Refusal, Script, Seq, Split, Stmt, Word, code_size};
-use rb_types::Typed;
 use std::alloc::Global;
 
 /// The greatest number of inputs, which one byte counts.
@@ -77,7 +76,7 @@ fn checked(split: Split) -> Result<Split, SplitStop>
 // The division with these inputs, as many as `count` says.
 fn write(
     alloc: Global,
-    x: &Typed,
+    x: &Facts<'_>,
     place: &Place<'_>,
     scope: &mut Scope,
     block: &[Stmt],
@@ -105,7 +104,7 @@ fn write(
 // The division of a batch whose block begins in this scope.
 fn divide_from(
     alloc: Global,
-    x: &Typed,
+    x: &Facts<'_>,
     place: &Place<'_>,
     scope: &mut Scope,
     block: &[Stmt],
@@ -123,7 +122,7 @@ fn divide_from(
 /// batch's position.
 pub fn divide(
     alloc: Global,
-    x: &Typed,
+    x: &Facts<'_>,
     number: u32,
     batch: &OpenBatch<'_>,
 ) -> Result<Split, SplitStop>

@@ -11,11 +11,11 @@ ghost use Rattle.rb_split.specs.Views.{all_in_script, in_script, ref_of};
 
 use crate::kinds::call_kind;
 use crate::refs::{Refs, Target};
+use rb_marks::Facts;
 use rb_trees::{
     BinOp, Boxed, Expr, ExprForm, Invocation, Memory, Operands, SExpr, Seq, UnOp, Word, copy_value,
     copy_word,
 };
-use rb_types::Typed;
 use std::alloc::Global;
 
 // A portable variable in a script.
@@ -68,7 +68,7 @@ fn binary_of(alloc: Global, op: BinOp, at: u32, a: SExpr, b: SExpr) -> Result<SE
 
 /// A portable expression in a script: `sexpr`.
 #[cycle(portables)]
-pub fn script_expr(alloc: Global, x: &Typed, refs: &Refs, e: &Expr) -> Result<SExpr, Memory>
+pub fn script_expr(alloc: Global, x: &Facts<'_>, refs: &Refs, e: &Expr) -> Result<SExpr, Memory>
     ensures { IfOk result (λ s. mirror_sexpr s ≡ in_script x.now refs.now e.now) }
 {
     match &e.form {
@@ -94,7 +94,12 @@ pub fn script_expr(alloc: Global, x: &Typed, refs: &Refs, e: &Expr) -> Result<SE
 }
 
 #[cycle(portables)]
-fn script_exprs(alloc: Global, x: &Typed, refs: &Refs, es: &[Expr]) -> Result<Seq<SExpr>, Memory>
+fn script_exprs(
+    alloc: Global,
+    x: &Facts<'_>,
+    refs: &Refs,
+    es: &[Expr],
+) -> Result<Seq<SExpr>, Memory>
     ensures { IfOk result (λ ss. mirror_sexprs ss ≡ all_in_script x.now refs.now es.now) }
 {
     let mut made = Seq::new(alloc);

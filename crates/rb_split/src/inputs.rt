@@ -14,11 +14,10 @@ ghost use Rattle.rb_split.specs.Views.{facts, trees};
 use crate::remote::remote_of;
 use crate::scopes::bind_after;
 use crate::uses::Uses;
-use rb_flow::{branches_hold, is_portable, over_rows};
-use rb_marks::Scope;
+use rb_flow::is_portable;
+use rb_marks::{Facts, Scope, branches_hold};
 use rb_meaning_flow::Role;
 use rb_trees::{Expr, ExprForm, Memory, Seq, Stmt, StmtForm, Word};
-use rb_types::Typed;
 use std::alloc::Global;
 
 // Whether a variable of a role is constant.
@@ -96,7 +95,7 @@ fn note_found(alloc: Global, scope: &Scope, uses: &mut Uses, found: &[&Expr]) ->
 // Notes those in the remote expressions of a statement.
 fn note_kept(
     alloc: Global,
-    x: &Typed,
+    x: &Facts<'_>,
     scope: &Scope,
     uses: &mut Uses,
     s: &Stmt,
@@ -111,7 +110,7 @@ fn note_kept(
 #[cycle(used)]
 fn note_stmt(
     alloc: Global,
-    x: &Typed,
+    x: &Facts<'_>,
     scope: &mut Scope,
     uses: &mut Uses,
     s: &Stmt,
@@ -137,7 +136,7 @@ fn note_stmt(
             }
         }
         StmtForm::For(name, e, a) => {
-            if over_rows(x, e) {
+            if x.over_rows(e) {
                 note_constants(alloc, scope, uses, e)?;
                 note_turn(alloc, x, scope, uses, name, s.at, a.as_slice())
             } else {
@@ -158,7 +157,7 @@ fn note_stmt(
 #[cycle(used)]
 fn note_block(
     alloc: Global,
-    x: &Typed,
+    x: &Facts<'_>,
     scope: &mut Scope,
     uses: &mut Uses,
     ss: &[Stmt],
@@ -176,7 +175,7 @@ fn note_block(
 #[cycle(used)]
 fn note_turn(
     alloc: Global,
-    x: &Typed,
+    x: &Facts<'_>,
     scope: &mut Scope,
     uses: &mut Uses,
     name: &Word,
@@ -196,7 +195,7 @@ fn note_turn(
 #[cycle(used)]
 fn note_stmts(
     alloc: Global,
-    x: &Typed,
+    x: &Facts<'_>,
     scope: &mut Scope,
     uses: &mut Uses,
     ss: &[Stmt],
@@ -214,7 +213,7 @@ fn note_stmts(
 /// The inputs of a batch whose block begins in this scope, in order of first use.
 pub fn inputs_of(
     alloc: Global,
-    x: &Typed,
+    x: &Facts<'_>,
     scope: &mut Scope,
     block: &[Stmt],
 ) -> Result<Seq<Word>, Memory>

@@ -14,12 +14,18 @@ use crate::exprs::script_expr;
 use crate::kinds::call_kind;
 use crate::numbers::next;
 use crate::refs::Refs;
+use rb_marks::Facts;
 use rb_trees::{Expr, Memory, Seq, Step, StepForm};
-use rb_types::Typed;
 use std::alloc::Global;
 
 // Adds a step that keeps the value of an expression.
-fn keep(alloc: Global, x: &Typed, refs: &Refs, draft: &mut Draft, e: &Expr) -> Result<(), Memory>
+fn keep(
+    alloc: Global,
+    x: &Facts<'_>,
+    refs: &Refs,
+    draft: &mut Draft,
+    e: &Expr,
+) -> Result<(), Memory>
     ensures { OnOk result (drafted draft.new ≡ with_one_kept x.now refs.now draft.old e.now) }
 {
     let id = draft.step;
@@ -37,7 +43,7 @@ fn keep(alloc: Global, x: &Typed, refs: &Refs, draft: &mut Draft, e: &Expr) -> R
 /// with the kind of what it keeps.
 pub fn keep_all(
     alloc: Global,
-    x: &Typed,
+    x: &Facts<'_>,
     refs: &Refs,
     draft: &mut Draft,
     found: &[&Expr],

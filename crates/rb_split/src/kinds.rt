@@ -10,8 +10,8 @@ ghost use Rattle.rb_meaning_flow.specs.Facts as told;
 ghost use Rattle.rb_meaning.specs.CallKinds as meant;
 ghost use Rattle.rb_split.specs.Views.{facts};
 
+use rb_marks::Facts;
 use rb_trees::TypeForm;
-use rb_types::Typed;
 
 // The number of what a single value is: `item_number`.
 fn item_number(kind: &TypeForm) -> u8
@@ -39,60 +39,18 @@ fn kind_number(kind: &TypeForm) -> u8
 }
 
 /// The kind that the call at a position asks for.
-pub fn call_kind(typed: &Typed, at: u32) -> u8
-    ensures { result ≡ meant.call_kind (mirror_program typed.now) at }
+pub fn call_kind(x: &Facts<'_>, at: u32) -> u8
+    ensures { result ≡ meant.call_kind (mirror_program x.now) at }
 {
-    match typed.type_of(at) {
+    match x.typed().type_of(at) {
         Some(kind) => kind_number(kind),
         None => 0,
     }
 }
 
 /// The kind of a row of the rows at a position.
-pub fn row_kind(typed: &Typed, at: u32) -> u8
-    ensures { result ≡ meant.call_kind (mirror_program typed.now) at - 4 }
+pub fn row_kind(x: &Facts<'_>, at: u32) -> u8
+    ensures { result ≡ meant.call_kind (mirror_program x.now) at - 4 }
 {
-    call_kind(typed, at).saturating_sub(4)
-}
-
-// Whether a type is Int, Bool or Text.
-fn is_primitive_kind(kind: &TypeForm) -> bool
-    ensures { result ≡ kinds.is_primitive (kind_of_form kind.now) }
-{
-    match kind {
-        TypeForm::Int | TypeForm::Bool | TypeForm::Text => true,
-        TypeForm::Unit | TypeForm::Named(_) => false,
-        TypeForm::ListOf(_) | TypeForm::RowsOf(_) => false,
-    }
-}
-
-// Whether it is a list or rows of such.
-fn has_primitive_kind(kind: &TypeForm) -> bool
-    ensures { result ≡ told.has_primitive_items (kind_of_form kind.now) }
-{
-    match kind {
-        TypeForm::ListOf(item) | TypeForm::RowsOf(item) => is_primitive_kind(&item.get().form),
-        TypeForm::Int | TypeForm::Bool | TypeForm::Text => false,
-        TypeForm::Unit | TypeForm::Named(_) => false,
-    }
-}
-
-/// Whether the expression at a position is an Int, a Bool or a Text.
-pub fn is_primitive(typed: &Typed, at: u32) -> bool
-    ensures { result ≡ (facts typed.now).primitive at }
-{
-    match typed.type_of(at) {
-        Some(kind) => is_primitive_kind(kind),
-        None => false,
-    }
-}
-
-/// Whether it is a list or rows of such.
-pub fn has_primitive_items(typed: &Typed, at: u32) -> bool
-    ensures { result ≡ (facts typed.now).items at }
-{
-    match typed.type_of(at) {
-        Some(kind) => has_primitive_kind(kind),
-        None => false,
-    }
+    call_kind(x, at).saturating_sub(4)
 }

@@ -10,9 +10,8 @@ ghost use Rattle.rb_split.specs.Cutting.{assignment_cut};
 ghost use Rattle.rb_split.specs.Views.{facts};
 
 use crate::cuts::cut;
-use rb_marks::Scope;
+use rb_marks::{Facts, Scope};
 use rb_trees::{Expr, Memory, Seq, Stmt, StmtForm, Word, copy_stmt, copy_stmts, copy_word};
-use rb_types::Typed;
 use std::alloc::Global;
 
 // The forms whose expressions are cut already.
@@ -105,7 +104,13 @@ fn for_of(alloc: Global, at: u32, name: &Word, e: Expr, block: &Seq<Stmt>) -> Re
 }
 
 // An expression of a statement, cut.
-fn cut_one(alloc: Global, x: &Typed, scope: &Scope, number: u32, e: &Expr) -> Result<Expr, Memory>
+fn cut_one(
+    alloc: Global,
+    x: &Facts<'_>,
+    scope: &Scope,
+    number: u32,
+    e: &Expr,
+) -> Result<Expr, Memory>
     ensures { IfOk result (λ c. mirror_expr c ≡ meant.cut (facts x.now) scope.now number (mirror_expr e.now)) }
 {
     let mut number = number;
@@ -115,7 +120,7 @@ fn cut_one(alloc: Global, x: &Typed, scope: &Scope, number: u32, e: &Expr) -> Re
 // The two sides of an assignment, cut.
 fn cut_sides(
     alloc: Global,
-    x: &Typed,
+    x: &Facts<'_>,
     scope: &Scope,
     at: u32,
     number: u32,
@@ -133,7 +138,7 @@ fn cut_sides(
 /// A statement without its remote expressions, which are numbered from `number` on: `cut_stmt`.
 pub fn cut_stmt(
     alloc: Global,
-    x: &Typed,
+    x: &Facts<'_>,
     scope: &Scope,
     number: u32,
     s: &Stmt,

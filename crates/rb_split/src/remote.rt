@@ -9,14 +9,13 @@ ghost use Rattle.rb_meaning.specs.RemoteExprs as meant;
 ghost use Rattle.rb_split.specs.Cutting.{below};
 ghost use Rattle.rb_split.specs.Views.{facts, trees};
 
-use rb_flow::{holds_call, is_portable};
-use rb_marks::Scope;
+use rb_flow::is_portable;
+use rb_marks::{Facts, Scope, holds_call};
 use rb_trees::{Expr, ExprForm, Memory, Seq, Stmt, StmtForm};
-use rb_types::Typed;
 use std::alloc::Global;
 
 /// Whether an expression is portable and holds a remote call.
-pub fn is_remote(x: &Typed, scope: &Scope, e: &Expr) -> bool
+pub fn is_remote(x: &Facts<'_>, scope: &Scope, e: &Expr) -> bool
     ensures { result ≡ is_portable_call (facts x.now) scope.now (mirror_expr e.now) }
 {
     is_portable(x, scope, e) && holds_call(x, e)
@@ -25,7 +24,7 @@ pub fn is_remote(x: &Typed, scope: &Scope, e: &Expr) -> bool
 // Adds an expression, where it is a remote one as a whole, or else those in its parts.
 #[cycle(remotes)]
 fn find_in<'e>(
-    x: &Typed,
+    x: &Facts<'_>,
     scope: &Scope,
     found: &mut Seq<&'e Expr>,
     e: &'e Expr,
@@ -41,7 +40,7 @@ fn find_in<'e>(
 // Adds those in the parts of an expression.
 #[cycle(remotes)]
 fn find_below<'e>(
-    x: &Typed,
+    x: &Facts<'_>,
     scope: &Scope,
     found: &mut Seq<&'e Expr>,
     e: &'e Expr,
@@ -68,7 +67,7 @@ fn find_below<'e>(
 // Adds those in expressions, from left to right.
 #[cycle(remotes)]
 fn find_in_all<'e>(
-    x: &Typed,
+    x: &Facts<'_>,
     scope: &Scope,
     found: &mut Seq<&'e Expr>,
     es: &'e [Expr],
@@ -83,7 +82,7 @@ fn find_in_all<'e>(
 
 // Adds those of a statement.
 fn find_of<'e>(
-    x: &Typed,
+    x: &Facts<'_>,
     scope: &Scope,
     found: &mut Seq<&'e Expr>,
     s: &'e Stmt,
@@ -106,7 +105,7 @@ fn find_of<'e>(
 /// The remote expressions of a statement, in order of evaluation: `remote_of`.
 pub fn remote_of<'e>(
     alloc: Global,
-    x: &Typed,
+    x: &Facts<'_>,
     scope: &Scope,
     s: &'e Stmt,
 ) -> Result<Seq<&'e Expr>, Memory>

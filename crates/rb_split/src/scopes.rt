@@ -11,10 +11,9 @@ ghost use Rattle.rb_split.specs.Views.{facts, refs_of};
 
 use crate::refs::{Refs, Target};
 use rb_flow::is_portable;
-use rb_marks::Scope;
+use rb_marks::{Facts, Scope};
 use rb_meaning_flow::Role;
 use rb_trees::{Expr, Memory, Stmt, StmtForm};
-use rb_types::Typed;
 use std::alloc::Global;
 
 /// A copy of a scope: the same variables.
@@ -29,7 +28,7 @@ pub fn copy_scope(alloc: Global, scope: &Scope) -> Result<Scope, Memory>
 }
 
 // The role of a `val`.
-fn val_role(x: &Typed, scope: &Scope, e: &Expr) -> Role
+fn val_role(x: &Facts<'_>, scope: &Scope, e: &Expr) -> Role
     ensures { result ≡ sites.val_role (facts x.now) [] scope.now (mirror_expr e.now) }
 {
     if is_portable(x, scope, e) {
@@ -40,7 +39,7 @@ fn val_role(x: &Typed, scope: &Scope, e: &Expr) -> Role
 }
 
 /// Binds what a statement declares: `scope_after`.
-pub fn bind_after(alloc: Global, x: &Typed, scope: &mut Scope, s: &Stmt) -> Result<(), Memory>
+pub fn bind_after(alloc: Global, x: &Facts<'_>, scope: &mut Scope, s: &Stmt) -> Result<(), Memory>
     ensures { OnOk result (scope.new ≡ sites.scope_after (facts x.now) [] scope.old (mirror_stmt s.now)) }
 {
     match &s.form {
@@ -58,7 +57,7 @@ pub fn bind_after(alloc: Global, x: &Typed, scope: &mut Scope, s: &Stmt) -> Resu
 /// Binds what a statement declares in the script: `refs_after`. A carried val is the variable of this number.
 pub fn refer_after(
     alloc: Global,
-    x: &Typed,
+    x: &Facts<'_>,
     scope: &Scope,
     refs: &mut Refs,
     var: u32,

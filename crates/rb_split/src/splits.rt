@@ -12,12 +12,16 @@ use crate::division::divide;
 use crate::numbers::next;
 use crate::stops::SplitStop;
 use rb_flow::{Admitted, OpenBatch};
+use rb_marks::Facts;
 use rb_trees::{Seq, Split};
-use rb_types::Typed;
 use std::alloc::Global;
 
 // The divisions of batches, which are numbered from 0 in order, or the first refusal.
-fn divide_all(alloc: Global, x: &Typed, batches: &[OpenBatch<'_>]) -> Result<Seq<Split>, SplitStop>
+fn divide_all(
+    alloc: Global,
+    x: &Facts<'_>,
+    batches: &[OpenBatch<'_>],
+) -> Result<Seq<Split>, SplitStop>
     ensures divided { DividesAllBegun (mirror_program x.now) (map begun_of batches.now) result }
     ensures numbered { IfOk result AreNumbered }
 {
@@ -37,9 +41,9 @@ pub fn split(alloc: Global, admitted: &Admitted<'_>, batch: u32) -> Result<Split
     ensures divided { DividesBatch (mirror_program admitted.now.0) batch result }
     ensures number { IfOk result (λ s. s.batch ≡ batch) }
 {
-    let x = admitted.typed();
-    let batches = batches_of(alloc, x)?;
-    divide(alloc, x, batch, &batches.as_slice()[batch as usize])
+    let x = Facts::new(alloc, admitted.typed())?;
+    let batches = batches_of(alloc, &x)?;
+    divide(alloc, &x, batch, &batches.as_slice()[batch as usize])
 }
 
 /// The divisions of all batches in source order, each with its number, or the first refusal: `divisions` of
@@ -48,7 +52,7 @@ pub fn split_all(alloc: Global, admitted: &Admitted<'_>) -> Result<Seq<Split>, S
     ensures divided { DividesAll (mirror_program admitted.now.0) result }
     ensures numbered { IfOk result AreNumbered }
 {
-    let x = admitted.typed();
-    let batches = batches_of(alloc, x)?;
-    divide_all(alloc, x, batches.as_slice())
+    let x = Facts::new(alloc, admitted.typed())?;
+    let batches = batches_of(alloc, &x)?;
+    divide_all(alloc, &x, batches.as_slice())
 }

@@ -15,25 +15,24 @@ ghost use Rattle.rb_split.specs.Drafting.{let_of, do_of, if_of, each_of, with_pl
 use crate::drafts::Draft;
 use crate::exprs::script_expr;
 use crate::keeps::keep_all;
-use crate::kinds::{call_kind, has_primitive_items, is_primitive, row_kind};
+use crate::kinds::{call_kind, row_kind};
 use crate::numbers::next;
 use crate::plain::cut_stmt;
 use crate::refs::{Refs, Target};
 use crate::remote::{is_remote, remote_of};
 use crate::scopes::{bind_after, refer_after};
-use rb_flow::{branches_hold, holds_call, is_portable, over_rows};
-use rb_marks::Scope;
+use rb_flow::is_portable;
+use rb_marks::{Facts, Scope, branches_hold, holds_call};
 use rb_meaning_flow::Role;
 use rb_trees::{
     Expr, Memory, Part, Seq, Step, StepForm, Stmt, StmtForm, Word, copy_expr, copy_word,
 };
-use rb_types::Typed;
 use std::alloc::Global;
 
 // A statement that is left to the client, without its remote expressions.
 fn draft_plain(
     alloc: Global,
-    x: &Typed,
+    x: &Facts<'_>,
     scope: &Scope,
     refs: &Refs,
     draft: &mut Draft,
@@ -48,16 +47,16 @@ fn draft_plain(
 }
 
 // Whether the value of a carried val is kept.
-fn keeps_value(x: &Typed, e: &Expr) -> bool
+fn keeps_value(x: &Facts<'_>, e: &Expr) -> bool
     ensures { result ≡ keeps_val (mirror_program x.now) (mirror_expr e.now) }
 {
-    holds_call(x, e) && is_primitive(x, e.at)
+    holds_call(x, e) && x.is_primitive(e)
 }
 
 // The part of a carried val.
 fn carried_part(
     alloc: Global,
-    x: &Typed,
+    x: &Facts<'_>,
     step: u32,
     at: u32,
     name: &Word,
@@ -65,7 +64,7 @@ fn carried_part(
 ) -> Result<Part, Memory>
     ensures { IfOk result (λ q. mirror_part q ≡ meant.carried (mirror_program x.now) step at name.now (mirror_expr e.now)) }
 {
-    if !is_primitive(x, e.at) {
+    if !x.is_primitive(e) {
         return Ok(Part::Pass(step));
     }
     let name = copy_word(alloc, name)?;
@@ -85,7 +84,7 @@ fn carried_part(
 // The step of a carried val, with its number and that of its variable.
 fn let_step(
     alloc: Global,
-    x: &Typed,
+    x: &Facts<'_>,
     refs: &Refs,
     id: u32,
     var: u32,
@@ -106,7 +105,7 @@ fn let_step(
 // A carried val.
 fn draft_carried(
     alloc: Global,
-    x: &Typed,
+    x: &Facts<'_>,
     refs: &Refs,
     draft: &mut Draft,
     at: u32,
@@ -127,7 +126,7 @@ fn draft_carried(
 // The step of a remote expression alone.
 fn do_step(
     alloc: Global,
-    x: &Typed,
+    x: &Facts<'_>,
     refs: &Refs,
     id: u32,
     at: u32,
@@ -146,7 +145,7 @@ fn do_step(
 // A remote expression alone.
 fn draft_do(
     alloc: Global,
-    x: &Typed,
+    x: &Facts<'_>,
     refs: &Refs,
     draft: &mut Draft,
     at: u32,
@@ -164,7 +163,7 @@ fn draft_do(
 // The step of a carried `if`, with its blocks.
 fn if_step(
     alloc: Global,
-    x: &Typed,
+    x: &Facts<'_>,
     refs: &Refs,
     id: u32,
     at: u32,
@@ -185,7 +184,7 @@ fn if_step(
 // A carried `if` whose blocks are drafted already.
 fn close_branch(
     alloc: Global,
-    x: &Typed,
+    x: &Facts<'_>,
     refs: &Refs,
     draft: &mut Draft,
     at: u32,
@@ -209,7 +208,7 @@ fn close_branch(
 // The step of a loop over rows, with its block.
 fn each_step(
     alloc: Global,
-    x: &Typed,
+    x: &Facts<'_>,
     refs: &Refs,
     id: u32,
     var: u32,
@@ -220,7 +219,7 @@ fn each_step(
     ensures { IfOk result (λ s. mirror_step s ≡ each_of x.now refs.now id var at e.now body) }
 {
     let rows = script_expr(alloc, x, refs, e)?;
-    let keep = has_primitive_items(x, e.at);
+    let keep = x.has_primitive_items(e);
     Ok(Step {
         id,
         at,
@@ -236,7 +235,7 @@ fn each_step(
 // A loop over rows whose block is drafted already.
 fn close_turns(
     alloc: Global,
-    x: &Typed,
+    x: &Facts<'_>,
     refs: &Refs,
     draft: &mut Draft,
     at: u32,
@@ -263,7 +262,7 @@ fn close_turns(
 #[cycle(walking)]
 fn draft_stmt(
     alloc: Global,
-    x: &Typed,
+    x: &Facts<'_>,
     scope: &mut Scope,
     refs: &mut Refs,
     draft: &mut Draft,
@@ -299,7 +298,7 @@ fn draft_stmt(
             }
         }
         StmtForm::For(name, e, a) => {
-            if over_rows(x, e) {
+            if x.over_rows(e) {
                 let first = next(draft.step)?;
                 let (var, block) = (draft.var, a.as_slice());
                 let body = draft_turn(alloc, x, scope, refs, first, var, name, s.at, block)?;
@@ -323,7 +322,7 @@ fn draft_stmt(
 #[tactic(auto, using(crate::proofs::Walked::block_rules))]
 pub fn draft_block(
     alloc: Global,
-    x: &Typed,
+    x: &Facts<'_>,
     scope: &mut Scope,
     refs: &mut Refs,
     step: u32,
@@ -348,7 +347,7 @@ pub fn draft_block(
 #[tactic(auto, using(crate::proofs::Walked::block_rules))]
 fn draft_turn(
     alloc: Global,
-    x: &Typed,
+    x: &Facts<'_>,
     scope: &mut Scope,
     refs: &mut Refs,
     step: u32,
@@ -378,7 +377,7 @@ fn draft_turn(
 #[tactic(auto, using(crate::proofs::Walked::block_rules))]
 fn draft_all(
     alloc: Global,
-    x: &Typed,
+    x: &Facts<'_>,
     scope: &mut Scope,
     refs: &mut Refs,
     draft: &mut Draft,

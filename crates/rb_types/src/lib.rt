@@ -19,5 +19,8 @@ mod scope;
 mod statements;
 mod typed;
 
+pub use classes::{Classes, IndexedClass};
+pub use context::Declarations;
+pub use interfaces::{IndexedInterface, Interfaces};
 pub use programs::check_service;
 pub use typed::{Typed, check};

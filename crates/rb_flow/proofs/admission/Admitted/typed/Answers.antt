@@ -1,7 +1,7 @@
 use Rattle.std.proofs.Common.{subst}
 use Rattle.rb_trees.specs.mirror.Declarations.{mirror_program}
-use Rattle.rb_flow.specs.Program.{HasNoRefusal}
+use Rattle.rb_flow.specs.Program.{IsAdmittedWith}
 use Rattle.rb_flow.proofs.admission.Admitted.typed.Goals as goal
 
 pub returns-clause-admitted : goal.returns-clause-admitted
-returns-clause-admitted c = subst (λ v. HasNoRefusal (mirror_program v.0)) c.self.view_is c.self.invariant
+returns-clause-admitted c = (subst (λ v. IsAdmittedWith (mirror_program v.0) v.1) c.self.view_is c.self.invariant).none
