@@ -1,12 +1,12 @@
 -- What an answer appends, and what it makes of the host.
-use Rattle.std.specs.Prelude.{◌≡◌, ◌≤◌, ℕ, List, ◌++◌}
+use Rattle.std.specs.Prelude.{◌≡◌, ◌≤◌, ℕ, List, ◌++◌, Err}
 use Rattle.rb_trees.specs.CodeSize.{block_size}
 use Rattle.rb_trees.specs.declared.values.Value.{Value}
 use Rattle.rb_trees.specs.declared.scripts.Script.{Script}
 use Rattle.rb_trees.specs.mirror.Services.{mirror_service}
 use Rattle.rb_meaning_bytes.specs.formats.Forests.{forest_message}
 use Rattle.rb_meaning_bytes.specs.formats.Refusals.{refusal_message}
-use Rattle.rb_meaning_bytes.specs.formats.ScriptPayloads.{Sent, Refused, CanBeSent}
+use Rattle.rb_meaning_bytes.specs.formats.ScriptPayloads.{Sent, Refused, Means, CanBeSent}
 use Rattle.rb_meaning_code.specs.ScriptRun.{Ran}
 use Rattle.rb_meaning.specs.Answers.{longest_request, forest_kind, refusal_kind, performed, Answers}
 use Rattle.rb_meaning.specs.Links.{IsTyped}
@@ -21,6 +21,10 @@ IsTypedHost h = IsTyped (mirror_service h.service) h.table
 -- The server that a host is answers the payload so, and has the table of the host after.
 abbrev pub AnswersOn : Hosted → List ℕ → ℕ → List ℕ → Hosted → Type 0
 AnswersOn before payload kind reply after = Answers (mirror_service before.service) before.table payload kind reply after.table
+
+-- A payload that spells no valid script leaves the host as it was, whatever is answered.
+abbrev pub StaysWhereRefused : List ℕ → Hosted → Hosted → Type 0
+StaysWhereRefused payload before after = (wrong : Refused) → Means payload (Err wrong) → after ≡ before
 
 -- what a script with its values gives on a host
 abbrev pub performed_on : Hosted → Sent → Ran

@@ -4,7 +4,7 @@ ghost use Rattle.std.specs.Prelude.{◌≡◌, ◌≤◌, true, length, IfOk, On
 ghost use Rattle.rb_trees.specs.mirror.Scripts.{mirror_script};
 ghost use Rattle.rb_meaning.specs.Answers.{longest_request};
 ghost use Rattle.rb_meaning_bytes.specs.formats.Refusals.{is_refusal_number};
-ghost use Rattle.rb_session.specs.Answering.{IsTypedHost, IsSent, Replies, Performs, Refuses};
+ghost use Rattle.rb_session.specs.Answering.{IsTypedHost, IsSent, Replies, Performs, Refuses, StaysWhereRefused};
 
 use bytes::BytesMut;
 use rb_exec::{Host, run_script};
@@ -57,8 +57,8 @@ fn refuse(number: u8, at: u32, reply: &mut BytesMut) -> Result<u8, Memory>
 
 /// Answers a request: appends the reply's payload and answers its kind, 2 for a forest and 3 for a refusal.
 ///
-/// The reply and the table afterwards are `Answers` of the payload. After want of memory the buffer is as it was, and
-/// nothing is said of the table.
+/// The reply and the table afterwards are `Answers` of the payload. After want of memory the buffer is as it was. Of
+/// the table nothing is said then, but that a payload that spells no valid script leaves it as it was.
 pub fn answer(
     alloc: Global,
     host: &mut Host,
@@ -70,6 +70,8 @@ pub fn answer(
     ensures replies { IfOk result (Replies host.old host.new payload.now reply.old.items reply.new.items) }
     // A payload that is refused leaves the table as it was.
     ensures refused { result ≡ Ok 3 → host.new ≡ host.old }
+    // So it does where memory is wanting.
+    ensures stays { StaysWhereRefused payload.now host.old host.new }
     ensures typed { OnOk result (IsTypedHost host.new) }
     ensures service { host.new.service ≡ host.old.service }
     ensures unchanged { OnErr result (reply.new.items ≡ reply.old.items) }

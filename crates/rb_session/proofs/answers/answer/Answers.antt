@@ -18,3 +18,6 @@ returns-in-Err-Refused-clause-replies c =
     let told : Means c.args.payload.now (Err wrong) = rw c.in-Err-Refused.field-0-is at c.in-Err-Refused.ensures.told in
     let said : IfOk c.refuse.result (Refuses wrong c.args.reply.now.items c.refuse.new.reply.items) = rw c.in-Err-Refused.field-0-is at c.refuse.ensures.refuses in
     if_ok c.refuse.result _ _ (refused_replies _ _ wrong _ _ told) said
+
+pub returns-in-Ok-clause-stays : goal.returns-in-Ok-clause-stays
+returns-in-Ok-clause-stays c wrong means = let clash = c.in-Ok.ensures.alone (Err wrong) means in cc
