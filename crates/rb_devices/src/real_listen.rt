@@ -7,7 +7,7 @@ use crate::counts::count_one;
 use crate::real_sink::RealSink;
 use crate::real_source::RealSource;
 use rb_base::{Failed, Listen, ListenStop};
-use std::io::{ErrorKind, Stdin, Stdout};
+use std::io::{self, ErrorKind, Stdin, Stdout};
 use std::marker::Model;
 use std::net::{Net, TcpListener, TcpStream};
 
@@ -87,7 +87,8 @@ impl<R: Net<Listener = TcpListener, Stream = TcpStream>> Listen for RealListen<'
         }
     }
 
-    /// Waits for a connection. Fails where none can be accepted.
+    /// Waits for a connection, and passes over those that were aborted before they were accepted. Fails where none can be
+    /// accepted.
     fn next(&mut self) -> Result<Option<(RealSource, RealSink)>, ListenStop> {
         let accepted = match &self.started {
             Started::Nothing => return Ok(None),
@@ -119,8 +120,8 @@ fn accept(listener: &TcpListener) -> Result<(RealSource, RealSink), ListenStop>
     ensures source { IfOk result (λ ends. ends.0 ≡ 0) }
     ensures sink { IfOk result (λ ends. ends.1 ≡ 0) }
 {
-    let accepted = match listener.accept() {
-        Ok((stream, _)) => ends_of(stream),
+    let accepted = match connection(listener) {
+        Ok(stream) => ends_of(stream),
         Err(error) => Err(error),
     };
     match accepted {
@@ -128,4 +129,16 @@ fn accept(listener: &TcpListener) -> Result<(RealSource, RealSink), ListenStop>
         Err(error) if error.kind() == ErrorKind::OutOfMemory => Err(ListenStop::Memory),
         Err(_) => Err(ListenStop::Failed),
     }
+}
+
+/// The next connection. One that was aborted before it was accepted is passed over.
+fn connection(listener: &TcpListener) -> io::Result<TcpStream> {
+    for _ in 0..u64::MAX {
+        match listener.accept() {
+            Ok((stream, _)) => return Ok(stream),
+            Err(error) if error.kind() == ErrorKind::ConnectionAborted => {}
+            Err(error) => return Err(error),
+        }
+    }
+    Err(io::Error::from(ErrorKind::ConnectionAborted))
 }
