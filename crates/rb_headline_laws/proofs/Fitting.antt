@@ -1,6 +1,6 @@
 -- What an accepted program is answered on its way fits, each piece of its code keeps types, and no script of it faults Kind.
-use Rattle.std.proofs.Common.{◌≡◌, sym, ap, ◌∙◌, subst, ℕ, List, Option, Some, Ok}
-use Rattle.std.proofs.lemmas.List.Elements.{Contains-append_left}
+use Rattle.std.proofs.Common.{◌≡◌, sym, ap, ◌∙◌, subst, ℕ, List, [], All, Option, Some, None, Ok}
+use Rattle.std.proofs.lemmas.List.Elements.{All-nil, All-cons, Contains-append_left}
 use Rattle.rb_trees.specs.declared.values.Value.{Value}
 use Rattle.rb_trees.specs.declared.values.Value.TheVariants as value
 use Rattle.rb_trees.specs.declared.services.Object.{Object}
@@ -14,6 +14,7 @@ use Rattle.rb_meaning_types.specs.Scopes.{Scope}
 use Rattle.rb_meaning_types.specs.Statements.{catch_scope}
 use Rattle.rb_meaning_code.specs.Dialogue.{Outcome, Gave, Faulted, Dialogue, Done, Ask, AskBatch, Run, Handler}
 use Rattle.rb_meaning_code.specs.Remote.{Got, Stopped}
+use Rattle.rb_meaning_code.specs.ScriptRun.{PlacedFault}
 use Rattle.rb_meaning_code.specs.State.{Local, bound}
 use Rattle.rb_meaning_flow.specs.Facts.{facts_of}
 use Rattle.rb_meaning_flow.specs.Outermost.{Outermost, program_batches}
@@ -22,12 +23,16 @@ use Rattle.rb_meaning.specs.Meaning.{in_main, outside_of}
 use Rattle.rb_meaning.specs.RemotePart.{Walked}
 use Rattle.rb_meaning.specs.State.{Outside}
 use Rattle.rb_meaning.specs.Unsplit.{batch_at, begun, in_batch}
+use Rattle.rb_meaning_split.specs.Client.{input_values}
+use Rattle.rb_meaning_split.specs.Division.{division}
 use Rattle.rb_flow.specs.Program.{HasNoRefusal}
 use Rattle.rb_types_keep.specs.Around.{HandlerFits}
 use Rattle.rb_types_keep.specs.Asked.{Side, Own, InBatch, Site, Keeps, IsAskedBatch}
 use Rattle.rb_types_keep.specs.Batches.{sites_in}
 use Rattle.rb_types_keep.specs.Code.{AreTyped}
 use Rattle.rb_types_keep.specs.Ends.{Place, context, Ends}
+use Rattle.rb_types_keep.specs.Kept.{IsOwnFault}
+use Rattle.rb_types_keep.specs.NodeFaults.{at_most_one, NodesHoldTheFault}
 use Rattle.rb_types_keep.proofs.InSurroundings.{types_keep_handled, batches_keep_handled}
 use Rattle.rb_types_keep.proofs.Parts.{try_parts}
 use Rattle.rb_types_keep.proofs.Steps.{keeps_more}
@@ -38,7 +43,7 @@ use Rattle.rb_unsplit_keeps.proofs.Handling.{Fine}
 use Rattle.rb_unsplit_keeps.proofs.Programs.{IsTypedProgram, program_typed, batches_in, methods_ask}
 use Rattle.rb_unsplit_keeps.proofs.Standing.{IsBatchOf}
 use Rattle.rb_unsplit_keeps.proofs.Whole.{declared, batch_fits, BodyKeeps, body_begins, same_site}
-use Rattle.rb_split_laws.specs.Remote.{fault_of, remote_part}
+use Rattle.rb_split_laws.specs.Remote.{fault_of, script_run, remote_part}
 use Rattle.rb_headline_laws.specs.Answered.{EndsWithoutKind, HasFittingTable, NextFits, AlwaysStandsWell, body_run, AnswersFit, CodeKeepsTypes, NoKindIsCaught, EachAnswerFits, EachPieceKeepsTypes, KindIsNeverCaught}
 use Rattle.rb_headline_laws.specs.Below.{LawsBelow}
 use Rattle.rb_headline_laws.specs.Reached.{main_run, ProgramComesTo}
@@ -63,6 +68,11 @@ always service d side h fits P less run s k holds rest now way =
 ends_well : {A : Type 0} (x : Context) (scope after : Scope) (P : List (List ℕ) → A → Type 0) (before : List (List ℕ)) (o : Outcome A) → Ends x scope after P before o → EndsWithoutKind o
 ends_well x scope after P before (Gave a l) e = tt
 ends_well x scope after P before (Faulted r l) e = e.fault
+
+-- where a run stops without Kind, no other fault stands in its node
+none_in_node : (fault : Option PlacedFault) → StopsWithoutKind fault → All (λ f. IsOwnFault f.fault) (at_most_one fault)
+none_in_node None h = All-nil (λ x. IsOwnFault x.fault)
+none_in_node (Some f) h = All-cons (λ x. IsOwnFault x.fault) f [] h (All-nil (λ x. IsOwnFault x.fault))
 
 -- a walk over the remote part that is fine stops without Kind
 walk_stops : (service : Service) (r : Walked) → Fine service (λ (u : Unit {0}). Unit {0}) r → StopsWithoutKind (fault_of r)
@@ -166,8 +176,8 @@ module _ (below : LawsBelow) (p : Program) (lawful : IsLawful p) (checked : chec
         ends_well _ _ _ _ _ _ ends.0;
   }
 
-  script_ends : (fuel at : ℕ) (l : Local) (go : Outcome (Unit {0}) → Dialogue (Outcome (Option Value))) (s : Outside) → ProgramComesTo p service table fuel (AskBatch at l go) s → ScriptEndsWithoutKind p service at l s
-  script_ends fuel at l go s comes =
+  script_ends : NodesHoldTheFault → (fuel at : ℕ) (l : Local) (go : Outcome (Unit {0}) → Dialogue (Outcome (Option Value))) (s : Outside) → ProgramComesTo p service table fuel (AskBatch at l go) s → ScriptEndsWithoutKind p service at l s
+  script_ends nodes fuel at l go s comes =
       let r = reached fuel at l go s comes in
       let b = r.known.begun in
       let body = body_here at l s r in
@@ -175,7 +185,14 @@ module _ (below : LawsBelow) (p : Program) (lawful : IsLawful p) (checked : chec
       let walk = walks_fine (walking below) below.conditions below.exprs_formed below.stmts_formed below.classes_formed below.types_keep below.sends p lawful t none service table served
       b r.site.interface r.site.place r.here r.known.agree r.known.among (bound b.root (value.Remote service.root) l) (begun s) r.holds body.start_fits body.begins in
       let performs = below.scripts p lawful checked none service s.server.table served_now r.site r.asked.may b (ap (batch_at p) r.asked.here ∙ r.found) l r.asked.fits in
-      record { batch = b; stands = r.found; stops = subst StopsWithoutKind (sym performs.fault) (walk_stops service (remote_part p service b l s.server.table) walk) }
+      let stops = subst StopsWithoutKind (sym performs.fault) (walk_stops service (remote_part p service b l s.server.table) walk) in
+      let ran = script_run p service b l s.server.table in
+      record {
+        batch = b;
+        stands = r.found;
+        stops = stops;
+        node = subst (All (λ f. IsOwnFault f.fault)) (sym (nodes (division p b).script (input_values (division p b).inputs l.names) service.classes service.root s.server.table)) (none_in_node ran.fault stops);
+      }
 
 pub answers_fit : LawsBelow → EachAnswerFits
 answers_fit below p lawful checked none service table served fuel = answers below p lawful checked none service table served fuel
@@ -186,5 +203,5 @@ pieces_keep below p lawful checked none service table served = code below p lawf
 pub none_caught : LawsBelow → KindIsNeverCaught
 none_caught below p lawful checked none service table served = caught below p lawful checked none service table served
 
-pub scripts_end : LawsBelow → ScriptsNeverFaultKind
-scripts_end below p lawful checked none service table served fuel at l go s comes = script_ends below p lawful checked none service table served fuel at l go s comes
+pub scripts_end : LawsBelow → NodesHoldTheFault → ScriptsNeverFaultKind
+scripts_end below nodes p lawful checked none service table served fuel at l go s comes = script_ends below p lawful checked none service table served nodes fuel at l go s comes

@@ -1,5 +1,6 @@
 -- A law of scripts: the script of a batch that an accepted program comes to never faults Kind.
 use Rattle.std.specs.Prelude.{◌≡◌, ℕ, Option, None, Some}
+use Rattle.std.specs.List.{All}
 use Rattle.rb_trees.specs.declared.values.Value.{Value}
 use Rattle.rb_trees.specs.mirror.Declarations.{Program}
 use Rattle.rb_trees.specs.mirror.Services.{Service}
@@ -10,6 +11,7 @@ use Rattle.rb_meaning_flow.specs.Outermost.{Outermost}
 use Rattle.rb_meaning.specs.State.{Outside}
 use Rattle.rb_meaning.specs.Unsplit.{batch_at}
 use Rattle.rb_types_keep.specs.Kept.{IsOwnFault}
+use Rattle.rb_types_keep.specs.NodeFaults.{faults_in}
 use Rattle.rb_split_laws.specs.Remote.{script_run}
 use Rattle.rb_headline_laws.specs.Answered.{InAccepted}
 use Rattle.rb_headline_laws.specs.Reached.{ProgramComesTo}
@@ -20,11 +22,12 @@ StopsWithoutKind None = Unit {0}
 StopsWithoutKind (Some f) = IsOwnFault f.fault
 
 -- A batch that is asked for stands in the program, and no fault Kind stops the run of its script there: on the service and the
--- table of then, with the values of its inputs.
+-- table of then, with the values of its inputs. Nor does one stand in the node that the run gives.
 pub record ScriptEndsWithoutKind (p : Program) (service : Service) (at : ℕ) (l : Local) (s : Outside) : Type 0 where
   pub batch : Outermost
   pub stands : batch_at p at ≡ Some batch
   pub stops : StopsWithoutKind (script_run p service batch l s.server.table).fault
+  pub node : All (λ f. IsOwnFault f.fault) (faults_in (script_run p service batch l s.server.table).node)
 
 -- So it is with each batch that an accepted program comes to on a typed service, with whatever fuel.
 abbrev pub ScriptsNeverFaultKind : Type 0

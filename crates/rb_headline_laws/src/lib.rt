@@ -23,8 +23,8 @@ use rb_local_laws::{
 use rb_marks::each_expression_has_its_mark;
 use rb_split_laws::scripts_perform_remote_parts;
 use rb_types_keep::{
-    conditions_have_truths, lawful_code_is_formed, operators_keep_types, remote_calls_are_typed,
-    remote_calls_keep_tables, typed_code_keeps_types,
+    conditions_have_truths, lawful_code_is_formed, nodes_hold_the_fault, operators_keep_types,
+    remote_calls_are_typed, remote_calls_keep_tables, typed_code_keeps_types,
 };
 use rb_unsplit_keeps::lawful_programs_are_noted;
 
@@ -115,9 +115,10 @@ pub fn kind_is_never_caught()
 }
 
 /// The script of a batch that an accepted program comes to isn't stopped by Kind, on the service and the table of then, with the
-/// values of its inputs.
+/// values of its inputs; and in the node that it gives stands no fault Kind.
 pub fn scripts_never_fault_kind()
     ensures { ScriptsNeverFaultKind }
 {
     laws_below();
+    nodes_hold_the_fault();
 }

@@ -21,4 +21,5 @@ mod FarValues
 mod Far
 mod ScriptRuns
 mod NodeSizes
+mod NodeFaults
 mod FormedCode

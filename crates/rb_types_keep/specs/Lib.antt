@@ -14,3 +14,4 @@ pub mod Far
 pub mod Remote
 pub mod Scripts
 pub mod Nodes
+pub mod NodeFaults

@@ -17,7 +17,7 @@ pub use code::{
 pub use lawful::lawful_code_is_formed;
 pub use operators::{conditions_have_truths, operators_keep_types, texts_are_caught};
 pub use remote::{remote_calls_are_typed, remote_calls_keep_tables};
-pub use scripts::{nodes_stay_within_scripts, scripts_keep_tables};
+pub use scripts::{nodes_hold_the_fault, nodes_stay_within_scripts, scripts_keep_tables};
 pub use surrounded::{
     FittingSurroundings, StateFact, handled_code_keeps_types, led_code_keeps_types,
 };

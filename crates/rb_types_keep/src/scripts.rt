@@ -1,5 +1,6 @@
 // Laws of scripts.
 
+ghost use Rattle.rb_types_keep.specs.NodeFaults.{NodesHoldTheFault};
 ghost use Rattle.rb_types_keep.specs.Nodes.{NodesStayWithin};
 ghost use Rattle.rb_types_keep.specs.Scripts.{ScriptsKeep};
 
@@ -13,4 +14,9 @@ pub fn scripts_keep_tables()
 /// steps, and one more.
 pub fn nodes_stay_within_scripts()
     ensures { NodesStayWithin }
+{}
+
+/// In the node of any script's run stands the fault that stopped it, with its position, and no other.
+pub fn nodes_hold_the_fault()
+    ensures { NodesHoldTheFault }
 {}
