@@ -13,7 +13,7 @@ use rb_types_keep::{
 use rb_unsplit_keeps::lawful_programs_are_noted;
 
 /// In a lawful, typed program without refusals, on a typed service, the script of each batch performs just the batch's
-/// whole remote part: it is stopped by the same fault, if any, and leaves the same server.
+/// whole remote part: it is stopped by the same fault at the same position, if any, and leaves the same server.
 pub fn scripts_perform_remote_parts()
     ensures { ScriptsPerformRemoteParts }
 {
