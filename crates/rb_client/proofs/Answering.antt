@@ -14,18 +14,14 @@ use Rattle.rb_base.specs.Devices.{Device, failed}
 use Rattle.rb_base.specs.Sinks.{with_bytes, WrotePrefix}
 use Rattle.rb_base.specs.declared.sinks.Failed.{Failed}
 use Rattle.rb_base.specs.declared.sinks.Sink as sinks
-use Rattle.rb_base.proofs.Pieces.{both_whole, fails_next, prefix_front}
+use Rattle.rb_base.proofs.Pieces.{both_whole, fails_next}
 use Rattle.rb_client.specs.Lefts.{seen}
 use Rattle.rb_client.specs.Events.{More}
 use Rattle.rb_client.specs.Worlds.{CutsReplay, Prints, SeesReplay, output, replay_answers, replay_performs, replay_view, taken_meant}
 use Rattle.rb_client.specs.declared.replay_world.ReplayWorld.{ReplayWorld}
-use Rattle.rb_client.proofs.Events.{adding, replay_more, shown_append, shown_line}
+use Rattle.rb_client.proofs.Events.{adding, replay_more, shown_line}
+use Rattle.rb_client.proofs.Fronts.{front_later}
 use Rattle.rb_client.proofs.Told.{AnswersAs}
-
--- a front of what is shown is one of what is shown later
-pub front_later : (start now : Device (List ℕ)) (es fs : List Event) → More es fs → WrotePrefix (failed start) now (shown_events es) → WrotePrefix (failed start) now (shown_events fs)
-front_later start now es fs (more, e) h =
-    subst (λ t. WrotePrefix (failed start) now t) (sym (ap shown_events e ∙ shown_append es more)) (prefix_front (failed start) now (shown_events es) (shown_events more) h)
 
 pub cut_later : {W : Type 0} (g : sinks.Ghosts W) (out : MutBor W) (start : Device (List ℕ)) (w : ReplayWorld W) (es fs : List Event) → More es fs → CutsReplay g out start w es → CutsReplay g out start w fs
 cut_later g out start w es fs more c = record { same_output = c.same_output; written = front_later start (output g w.out.now) es fs more c.written }

@@ -22,7 +22,7 @@ use Rattle.rb_base.specs.Devices.{failed}
 use Rattle.rb_base.specs.Sinks.{with_bytes, WrotePrefix}
 use Rattle.rb_base.specs.declared.links.Link as links
 use Rattle.rb_base.specs.declared.sinks.Sink as sinks
-use Rattle.rb_base.proofs.Pieces.{both_whole, fails_next}
+use Rattle.rb_base.proofs.Pieces.{both_whole}
 use Rattle.rb_engine.specs.Answers.{Answered, performed}
 use Rattle.rb_engine.specs.declared.world.Halt.{Halt}
 use Rattle.rb_engine.specs.declared.world.Halt.TheVariants as halt
@@ -40,6 +40,7 @@ use Rattle.rb_client.specs.declared.stops.RunStop.{RunStop}
 use Rattle.rb_client.specs.declared.stops.RunStop.TheVariants as stops
 use Rattle.rb_client.proofs.Divided.{none_found, some_found}
 use Rattle.rb_client.proofs.Events.{shown_line}
+use Rattle.rb_client.proofs.Serving.{none_failed}
 
 module _ {L W : Type 0} (gl : links.Ghosts L) (gw : sinks.Ghosts W) where
   -- an answer after which nothing is another
@@ -78,10 +79,10 @@ module _ {L W : Type 0} (gl : links.Ghosts L) (gw : sinks.Ghosts W) where
     refl,
     record { same_output = name ∙ sees.holds.same_output; same_link = ap (λ x. x.ghost_name) link ∙ sees.holds.same_link },
     record {
-      written = subst (λ t. WrotePrefix (failed (first_scene gl gw o).out) (output gw w'.out.now) t) (sym (shown_line h.events bytes))
-          (fails_next (first_scene gl gw o).out (output gw w.out.now) (output gw w'.out.now) (shown_events h.events) (line bytes) sees.done.written p);
+      written = subst (λ d. WrotePrefix (failed d) (output gw w'.out.now) (line bytes)) sees.done.written p;
       exchanged = exchanged_still o w w' h.sent h.nodes link sees.done.exchanged;
       faults_so = ap (λ x. gl.faults x.now) link ∙ sees.done.faults_so;
+      none_listed = none_failed (length h.sent) (first_scene gl gw o).server (server_of gl w.link.now) sees.done.counts;
     },
   )
 

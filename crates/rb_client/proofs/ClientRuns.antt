@@ -1,5 +1,5 @@
 -- A run that the client's World leads is handled as the definition handles it, on the nodes that were replied.
-use Rattle.std.proofs.Common.{◌≡◌, refl, sym, ap, ◌∙◌, subst, inl, inr, List, [], ◌++◌, append_assoc, append-nil}
+use Rattle.std.proofs.Common.{◌≡◌, sym, ap, ◌∙◌, subst, inl, inr, List, [], ◌++◌, append_assoc, append-nil}
 use Rattle.std.specs.Prelude.{Ok, Err}
 use Rattle.rb_trees.specs.mirror.Forests.{Node}
 use Rattle.rb_meaning_code.specs.Dialogue.{Dialogue, Done, Ask, AskBatch, Follows, Handler, handle}
@@ -11,12 +11,6 @@ use Rattle.rb_client.specs.Clients.{Origin, Past, SeesClient, waiting}
 use Rattle.rb_client.specs.MainRuns.{surrounds}
 use Rattle.rb_client.specs.declared.client_world.ClientWorld.{ClientWorld}
 use Rattle.rb_client.specs.declared.stops.RunStop.{RunStop}
-
--- what is left of a run ends as the whole
-pub passes_whole : {S A : Type 0} (h : Handler S) (d rest : Dialogue A) (s s' : S) → Passes h d s rest s' → handle h rest s' ≡ handle h d s
-passes_whole h _ _ _ _ (here d s) = refl
-passes_whole h _ _ _ _ (answered q go s s' rest p) = passes_whole h _ rest _ s' p
-passes_whole h _ _ _ _ (performed at l go s s' rest p) = passes_whole h _ rest _ s' p
 
 module _ {L W : Type 0} (gl : links.Ghosts L) (gw : sinks.Ghosts W) (o : Origin L W) where
   abbrev H : Handler Waiting

@@ -18,12 +18,11 @@ use Rattle.rb_meaning_code.specs.Led.{Passes, here, answered, performed}
 use Rattle.rb_meaning_code.specs.State.{Local}
 use Rattle.rb_meaning.specs.Links.{Behind, IsTyped, TellsTyped}
 use Rattle.rb_meaning.specs.Meaning.{answers_outside, in_main, outside_of, performs_found}
-use Rattle.rb_meaning.specs.Shown.{exchanges, shown_events}
-use Rattle.rb_meaning.specs.State as state
+use Rattle.rb_meaning.specs.Shown.{exchanges, line, shown_events}
 use Rattle.rb_meaning.specs.State.{Event, Outside}
-use Rattle.rb_meaning.specs.Unsplit.{batch_at}
+use Rattle.rb_meaning.specs.Unsplit.{batch_at, performs_batch}
 use Rattle.rb_meaning_flow.specs.Outermost.{Outermost}
-use Rattle.rb_meaning_split.specs.Client.{Sent, client, replays, sent_for}
+use Rattle.rb_meaning_split.specs.Client.{Sent, client, sent_for}
 use Rattle.rb_meaning_split.specs.Division.{Division, division, divisions}
 use Rattle.rb_division_laws.specs.Fitting.{node_of}
 use Rattle.rb_division_laws.specs.Sendable.{HasPlaces}
@@ -32,19 +31,21 @@ use Rattle.rb_flow.specs.Program.{HasNoRefusal}
 use Rattle.rb_headline_laws.specs.Clients.{ClientsMeanWhatProgramsMean, ScriptsGive, sent_run}
 use Rattle.rb_headline_laws.specs.Dividing.{KeepsMeaning, NothingAtZero}
 use Rattle.rb_headline_laws.specs.Reached.{CanBeExchanged, ComesAsFar, FrontsAreShown, ProgramComesTo, ProgramsComeAsFar, ReachedBatchesCanBeExchanged, main_run, with_nodes}
-use Rattle.rb_base.specs.Sinks.{with_bytes}
-use Rattle.rb_client.specs.Clients.{FailsToWrite, Past, asked, performed_past, waiting}
-use Rattle.rb_client.specs.Headline.{EndsAsMeant, LosesBatch, MayHavePerformed, MeansProgram, MeansWhereHonest, meant_on}
+use Rattle.rb_base.specs.Devices.{failed}
+use Rattle.rb_base.specs.Sinks.{with_bytes, WrotePrefix}
+use Rattle.rb_client.specs.Clients.{FailsToAnswer, Past, waiting}
+use Rattle.rb_client.specs.Headline.{EndsAsMeant, LosesBatch, LosesLines, MayHavePerformed, MeansProgram, MeansWhereHonest, meant_on, table_behind}
 use Rattle.rb_client.specs.MainRuns.{ComesTo, EndsAt, Leaves, StopsWriting}
 use Rattle.rb_client.specs.Remote.{ReachedPerformRemoteParts}
-use Rattle.rb_client.specs.Runs.{Ran}
+use Rattle.rb_client.specs.Runs.{FailsInBatch, FailsToWrite, FailsWithin, Ran, with_batch}
 use Rattle.rb_client.specs.Scenes.{Scene}
 use Rattle.rb_client.specs.Servers.{IsServer, PerformedAll}
 use Rattle.rb_client.specs.Serving.{GivesMisfit, MayPerform}
 use Rattle.rb_client.specs.declared.stops.BadReason.{BadReason}
 use Rattle.rb_client.specs.declared.stops.RunStop.{RunStop}
 use Rattle.rb_client.specs.declared.stops.RunStop.TheVariants as stops
-use Rattle.rb_client.proofs.Answering.{front_later}
+use Rattle.rb_client.proofs.Events.{shown_append, shown_line}
+use Rattle.rb_client.proofs.Fronts.{front_later, front_of_all}
 use Rattle.rb_client.proofs.RunsOver.{client_comes, ran_so}
 use Rattle.rb_client.proofs.Serving.{Served, last_gives, served_of}
 use Rattle.rb_client.proofs.Showing.{client_counted, passed_counted}
@@ -62,14 +63,6 @@ passes_on : {S A : Type 0} (h : Handler S) (a b c : Dialogue A) (s s1 s2 : S) �
 passes_on h _ _ c _ _ s2 (here d s) more = more
 passes_on h _ b c _ s1 s2 (answered q go s _ _ p) more = answered q go s s2 c (passes_on h (go (h.answer s q).0) b c (h.answer s q).1 s1 s2 p more)
 passes_on h _ b c _ s1 s2 (performed at l go s _ _ p) more = performed at l go s s2 c (passes_on h (go (h.batch s at l).0) b c (h.batch s at l).1 s1 s2 p more)
-
--- a question shows the same to a program as to its client
-asked_same : (q : Question) (s : Outside) (h : Past) → s.events ≡ h.events → (answers_outside s q).1.events ≡ (asked q h).events
-asked_same (ask.Line at bytes) s h e = ap (λ es. es ++ state.Line bytes ∷ []) e
-asked_same (ask.Taken step) s h e = e
-asked_same (ask.Invoke at target method args) s h e = e
-asked_same (ask.Turn at) s h e = e
-asked_same (ask.ListTurn at) s h e = e
 
 -- a server that may have performed a script has one of two tables
 may_have : (service : Service) (table : List Object) (x : Sent) (before after : Option Behind) → IsServer before service table → MayPerform before after x
@@ -119,43 +112,87 @@ module _ (laws : Laws) (p : Program) (lawful : IsLawful p) (checked : check_prog
 
   -- A write that failed.
 
-  -- what is shown where the program came is a front of what it means to show
-  front_of_meaning : (h : Past) (rest : Rest) (s : Outside) → FailsToWrite p before after h → ProgramComesTo p b.service b.table fuel rest s → s.events ≡ h.events → EndsAsMeant p fuel b (Err stops.WriteFault) before after
-  front_of_meaning h rest s f comes e =
+  -- what was shown where the program came is a front of what it means to show
+  front_of_meaning : (rest : Rest) (s : Outside) (es : List Event) (piece : List ℕ) → ProgramComesTo p b.service b.table fuel rest s → shown_events s.events ≡ shown_events es ++ piece → FailsWithin before.out after.out es piece
+      → WrotePrefix (failed before.out) after.out (shown_events (meant_on p fuel b).events)
+  front_of_meaning rest s es piece comes e f =
       let front = laws.fronts p b.service b.table fuel rest s comes in
-      front_later before.out after.out h.events (meant_on p fuel b).events (front.more, front.is ∙ ap (λ es. es ++ front.more) e) f.written
+      front_later before.out after.out s.events (meant_on p fuel b).events (front.more, front.is) (front_of_all before.out after.out es s.events piece e f)
 
-  at_question : (h : Past) (q : Question) (go : Result Value Raised → Rest) → ComesTo p fuel h (Ask q go) → FailsToWrite p before after (asked q h) → EndsAsMeant p fuel b (Err stops.WriteFault) before after
-  at_question h q go comes f =
+  -- the program goes on behind a line, and behind a batch
+  line_passed : (at : ℕ) (bytes : List ℕ) (go : Result Value Raised → Rest) (s : Outside) → ProgramComesTo p b.service b.table fuel (Ask (ask.Line at bytes) go) s
+      → let next = answers_outside s (ask.Line at bytes) in ProgramComesTo p b.service b.table fuel (go next.0) next.1
+  line_passed at bytes go s comes =
+      let q = ask.Line at bytes in
+      let next = answers_outside s q in
+      passes_on (in_main p b.service) (main_run p fuel) (Ask q go) (go next.0) (outside_of b.table) s next.1 comes (answered q go s next.1 (go next.0) (here (go next.0) next.1))
+
+  batch_passed : (at : ℕ) (l : Local) (go : Outcome (Unit {0}) → Rest) (s : Outside) → ProgramComesTo p b.service b.table fuel (AskBatch at l go) s
+      → let next = performs_found p b.service (batch_at p at) at l s in ProgramComesTo p b.service b.table fuel (go next.0) next.1
+  batch_passed at l go s comes =
+      let next = performs_found p b.service (batch_at p at) at l s in
+      passes_on (in_main p b.service) (main_run p fuel) (AskBatch at l go) (go next.0) (outside_of b.table) s next.1 comes (performed at l go s next.1 (go next.0) (here (go next.0) next.1))
+
+  in_line : (h : Past) (at : ℕ) (bytes : List ℕ) (go : Result Value Raised → Rest) → ComesTo p fuel h (Ask (ask.Line at bytes) go) → FailsToWrite p before after h.events (line bytes) h.sent h.nodes → LosesLines p fuel b before after
+  in_line h at bytes go comes f =
       let t = served after.server h.sent h.nodes (f.exchanged.served honest) in
-      let c = far h (Ask q go) t.table comes t.given in
-      let next = answers_outside c.outside q in
-      front_of_meaning (asked q h) (go next.0) next.1 f
-      (passes_on (in_main p b.service) (main_run p fuel) (Ask q go) (go next.0) (outside_of b.table) c.outside next.1 c.comes (answered q go c.outside next.1 (go next.0) (here (go next.0) next.1)))
-      (asked_same q c.outside h c.events)
+      let c = far h (Ask (ask.Line at bytes) go) t.table comes t.given in
+      let written = subst (λ es. FailsWithin before.out after.out es (line bytes)) (sym c.events) f.written in
+      record {
+        place = inl (record { at = at; bytes = bytes; go = go; outside = c.outside; comes = c.comes; written = written; table = subst (IsServer after.server b.service) (sym c.table) t.is });
+        written = let next = answers_outside c.outside (ask.Line at bytes) in front_of_meaning (go next.0) next.1 c.outside.events (line bytes) (line_passed at bytes go c.outside c.comes) (shown_line c.outside.events bytes) written;
+      }
 
-  in_batch : (h : Past) (at : ℕ) (l : Local) (go : Outcome (Unit {0}) → Rest) (o : Outermost) (n : Node) → ComesTo p fuel h (AskBatch at l go) → batch_at p at ≡ Some o → FailsToWrite p before after (performed_past p (division p o) l h n)
-      → EndsAsMeant p fuel b (Err stops.WriteFault) before after
-  in_batch h at l go o n comes stands f =
-      let past = performed_past p (division p o) l h n in
-      let t = served after.server past.sent past.nodes (f.exchanged.served honest) in
-      let last = last_gives b.service b.table t.table h.sent h.nodes (sent_for (division p o) l) n t.given in
+  -- the table that a batch's script leaves
+  left_behind : (at : ℕ) (l : Local) (go : Outcome (Unit {0}) → Rest) (o : Outermost) (s : Outside) (table : List Object) → ProgramComesTo p b.service b.table fuel (AskBatch at l go) s → batch_at p at ≡ Some o → s.server.table ≡ table
+      → (sent_run b.service table (sent_for (division p o) l)).server.table ≡ table_behind p b.service o l s.server.table
+  left_behind at l go o s table comes stands same =
+      ap (λ t. (sent_run b.service t (sent_for (division p o) l)).server.table) (sym same) ∙ ap (λ x. x.table) (laws.remote p lawful checked none b.service b.table typed fuel at l go s comes o stands).server
+
+  in_batch : (h : Past) (at : ℕ) (l : Local) (go : Outcome (Unit {0}) → Rest) (o : Outermost) → ComesTo p fuel h (AskBatch at l go) → batch_at p at ≡ Some o → FailsInBatch p before after (division p o) l (waiting h []) h.nodes → LosesLines p fuel b before after
+  in_batch h at l go o comes stands f =
+      let d = division p o in
+      let t = served after.server (h.sent ++ sent_for d l ∷ []) (h.nodes ++ f.node ∷ []) (f.fails.exchanged.served honest) in
+      let last = last_gives b.service b.table t.table h.sent h.nodes (sent_for d l) f.node t.given in
       let c = far h (AskBatch at l go) last.table comes last.given in
-      let x = exchanged at l go c.outside c.comes in
-      let keeps = subst (λ y. KeepsMeaning p b.service y l c.outside) (same_some (batch_at p at) x.batch o x.stands stands) x.keeps in
-      let next = performs_found p b.service (batch_at p at) at l c.outside in
-      let node_so : (script_run p b.service o l c.outside.server.table).node ≡ n = ap (λ u. (script_run p b.service o l u).node) c.table ∙ last.node_so in
-      let shows : next.1.events ≡ past.events =
-      ap (λ y. (performs_found p b.service y at l c.outside).1.events) stands ∙ sym keeps.events
-      ∙ ap (λ es. (replays p (division p o) l (es ++ state.Batch ∷ []) (script_run p b.service o l c.outside.server.table).node).events) c.events
-      ∙ ap (λ m. (replays p (division p o) l (h.events ++ state.Batch ∷ []) m).events) node_so in
-      front_of_meaning past (go next.0) next.1 f
-      (passes_on (in_main p b.service) (main_run p fuel) (AskBatch at l go) (go next.0) (outside_of b.table) c.outside next.1 c.comes (performed at l go c.outside next.1 (go next.0) (here (go next.0) next.1))) shows
+      let s = c.outside in
+      let x = exchanged at l go s c.comes in
+      let keeps = subst (λ y. KeepsMeaning p b.service y l s) (same_some (batch_at p at) x.batch o x.stands stands) x.keeps in
+      let node_so : (script_run p b.service o l s.server.table).node ≡ f.node = ap (λ u. (script_run p b.service o l u).node) c.table ∙ last.node_so in
+      let own_so : (performs_batch p b.service o l s).1.events ≡ s.events ++ f.own =
+      sym keeps.events ∙ ap (λ es. with_batch p d l es (script_run p b.service o l s.server.table).node) c.events ∙ ap (with_batch p d l h.events) node_so ∙ f.own_so ∙ ap (λ es. es ++ f.own) (sym c.events) in
+      let written = subst (λ es. FailsWithin before.out after.out es (shown_events f.own)) (sym c.events) f.fails.written in
+      let next = performs_found p b.service (batch_at p at) at l s in
+      let shows : shown_events next.1.events ≡ shown_events s.events ++ shown_events f.own =
+      ap (λ y. shown_events (performs_found p b.service y at l s).1.events) stands ∙ ap shown_events own_so ∙ shown_append s.events f.own in
+      record {
+        place = inr (record {
+          at = at;
+          local = l;
+          go = go;
+          outside = s;
+          batch = o;
+          own = f.own;
+          comes = c.comes;
+          stands = stands;
+          own_so = own_so;
+          written = written;
+          table = subst (IsServer after.server b.service) (sym last.leaves ∙ left_behind at l go o s last.table c.comes stands c.table) t.is;
+        });
+        written = front_of_meaning (go next.0) next.1 s.events (shown_events f.own) (batch_passed at l go s c.comes) shows written;
+      }
 
-  writing : (h : Past) (rest : Rest) → ComesTo p fuel h rest → StopsWriting p h rest before after → EndsAsMeant p fuel b (Err stops.WriteFault) before after
+  at_question : (h : Past) (q : Question) (go : Result Value Raised → Rest) → ComesTo p fuel h (Ask q go) → FailsToAnswer p before after h q → LosesLines p fuel b before after
+  at_question h (ask.Line at bytes) go comes f = in_line h at bytes go comes f
+  at_question h (ask.Taken step) go comes f = absurd f
+  at_question h (ask.Invoke at target method args) go comes f = absurd f
+  at_question h (ask.Turn at) go comes f = absurd f
+  at_question h (ask.ListTurn at) go comes f = absurd f
+
+  writing : (h : Past) (rest : Rest) → ComesTo p fuel h rest → StopsWriting p h rest before after → LosesLines p fuel b before after
   writing h (Done a) comes s = absurd s
   writing h (Ask q go) comes f = at_question h q go comes f
-  writing h (AskBatch at l go) comes (o, stands, n, f) = in_batch h at l go o n comes stands f
+  writing h (AskBatch at l go) comes (o, stands, f) = in_batch h at l go o comes stands f
 
   -- A batch whose exchange gave no node.
 
@@ -171,9 +208,7 @@ module _ (laws : Laws) (p : Program) (lawful : IsLawful p) (checked : check_prog
 
     one_of_two : IsServer after.server b.service here_served.table ⊎ IsServer after.server b.service (sent_run b.service here_served.table x).server.table → MayHavePerformed p b e.batch e.local here_far.outside.server.table after
     one_of_two (inl i) = inl (subst (IsServer after.server b.service) (sym here_far.table) i)
-    one_of_two (inr i) =
-        let remote = laws.remote p lawful checked none b.service b.table typed fuel e.at e.local e.go here_far.outside here_far.comes e.batch e.stands in
-        inr (subst (IsServer after.server b.service) (ap (λ t. (sent_run b.service t x).server.table) (sym here_far.table) ∙ ap (λ s. s.table) remote.server) i)
+    one_of_two (inr i) = inr (subst (IsServer after.server b.service) (left_behind e.at e.local e.go e.batch here_far.outside here_served.table here_far.comes e.stands here_far.table) i)
 
     loses : LosesBatch p fuel b k before after
     loses = record {

@@ -3,6 +3,7 @@ pub mod Answering
 pub mod Dropped
 pub mod Enclosed
 pub mod Events
+pub mod Fronts
 pub mod Lefts
 pub mod Parted
 pub mod Replaying

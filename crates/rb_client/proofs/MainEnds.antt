@@ -43,7 +43,7 @@ module _ {L W : Type 0} (gl : links.Ghosts L) (gw : sinks.Ghosts W) (o : Origin 
   at_batch h None at l go stands comes stops.WriteFault t = absurd t
   at_batch h None at l go stands comes (stops.LinkFault k) t = absurd t
   at_batch h None at l go stands comes (stops.BadReply k why kind bytes) t = absurd t
-  at_batch h (Some b) at l go stands comes stops.WriteFault t = (t.0, record { past = h; rest = AskBatch at l go; comes = comes; stops_so = (b, stands, t.1.0, t.1.1) })
+  at_batch h (Some b) at l go stands comes stops.WriteFault t = (t.0, record { past = h; rest = AskBatch at l go; comes = comes; stops_so = (b, stands, t.1) })
   at_batch h (Some b) at l go stands comes (stops.LinkFault k) t = (t.0, record { past = h; batch = b; at = at; local = l; go = go; stands = stands; comes = comes; stops_so = t.1 })
   at_batch h (Some b) at l go stands comes (stops.BadReply k why kind bytes) t = (t.0, record { past = h; batch = b; at = at; local = l; go = go; stands = stands; comes = comes; stops_so = t.1 })
 

@@ -25,28 +25,32 @@ use Rattle.rb_meaning_split.specs.Client.{Sent, input_values, replays, sent_for}
 use Rattle.rb_meaning_split.specs.Division.{Division, division, mirror_split}
 use Rattle.rb_meaning_split.specs.Replay.{Replayed, ended, replay_all}
 use Rattle.rb_base.specs.Counts.{risen}
-use Rattle.rb_base.specs.Sinks.{with_bytes}
+use Rattle.rb_base.specs.Devices.{failed}
+use Rattle.rb_base.specs.Sinks.{with_bytes, WrotePrefix}
 use Rattle.rb_base.specs.declared.links.Link as links
 use Rattle.rb_base.specs.declared.sinks.Sink as sinks
+use Rattle.rb_base.proofs.Pieces.{bytes_none}
 use Rattle.rb_engine.specs.Answers.{Answered, performed}
 use Rattle.rb_engine.specs.declared.world.Halt.{Halt}
-use Rattle.rb_client.specs.Clients.{FailsToWrite, Fetched, Fetches, HasDone, HoldsBoth, Origin, Past, PerformedAs, PerformsSplit, SeesClient, first_scene, performed_past, scene_of, waiting}
+use Rattle.rb_client.specs.Clients.{Fetched, Fetches, HasDone, HoldsBoth, Origin, Past, PerformedAs, PerformsSplit, SeesClient, first_scene, performed_past, scene_of, waiting}
 use Rattle.rb_client.specs.Ends.{halted, stepped}
 use Rattle.rb_client.specs.Exchanges.{Exchanged, Exchanges, IsExchange}
 use Rattle.rb_client.specs.Replays.{EndsSo, Replays, outside, remainder_meant}
 use Rattle.rb_client.specs.Replies.{HasReason, more_pairs, pair_of, pairs_of, refused_pairs}
 use Rattle.rb_client.specs.Requests.{to_send}
-use Rattle.rb_client.specs.Runs.{ExchangedAll}
+use Rattle.rb_client.specs.Runs.{ExchangedAll, FailsInBatch}
 use Rattle.rb_client.specs.Scenes.{Scene, scene}
-use Rattle.rb_client.specs.Serving.{GivesMisfit, server_of}
+use Rattle.rb_client.specs.Serving.{Counts, GivesMisfit, server_of}
 use Rattle.rb_client.specs.Worlds.{output}
 use Rattle.rb_client.specs.declared.client_world.ClientWorld.{ClientWorld}
 use Rattle.rb_client.specs.declared.early.Early.{Early}
 use Rattle.rb_client.specs.declared.early.Early.TheVariants as early
 use Rattle.rb_client.specs.declared.stops.RunStop.{RunStop}
 use Rattle.rb_client.specs.declared.stops.RunStop.TheVariants as stops
-use Rattle.rb_client.proofs.Events.{shown_batch}
-use Rattle.rb_client.proofs.Serving.{counts_more, performed_more}
+use Rattle.rb_client.proofs.Events.{shown_append, shown_batch}
+use Rattle.rb_client.proofs.Fronts.{beyond_whole}
+use Rattle.rb_client.proofs.Serving.{counts_more, none_failed, performed_more}
+use Rattle.rb_client.proofs.Showing.{batch_more}
 
 -- one exchange more
 exchanges_more : (p : Program) (pairs : List Pair) (sent : List Sent) (nodes : List Node) (pair : Pair) (x : Sent) (n : Node) → Exchanges p pairs sent nodes → IsExchange p pair x n → Exchanges p (pairs ++ pair ∷ []) (sent ++ x ∷ []) (nodes ++ n ∷ [])
@@ -139,12 +143,15 @@ module _ {L W : Type 0} (gl : links.Ghosts L) (gw : sinks.Ghosts W) (split : Spl
     longer : suc (length h.sent) ≡ length past.sent
     longer = omega (arith, length-append h.sent (sent_for d l ∷ []))
 
+    counts_so : Counts (length past.sent) first.server last.server
+    counts_so = counts_more (length h.sent) (length past.sent) first.server (server_of gl w.link.now) last.server longer sees.done.counts fetched.trades.counts
+
     done_so : output gw out ≡ with_bytes first.out (shown_events meant.events) → HasDone o.program first last past
     done_so e = record {
       written = e;
       exchanged = exchanged_so;
       faults_so = fetched.trades.faults_so ∙ sees.done.faults_so;
-      counts = counts_more (length h.sent) (length past.sent) first.server (server_of gl w.link.now) last.server longer sees.done.counts fetched.trades.counts;
+      counts = counts_so;
     }
 
     -- of the World as it is then
@@ -172,14 +179,29 @@ module _ {L W : Type 0} (gl : links.Ghosts L) (gw : sinks.Ghosts W) (split : Spl
     gave : (e : Outcome (Unit {0})) → (meant.outcome ≡ e) × (output gw out ≡ with_bytes first.out (shown_events meant.events)) → PerformedAs gl gw o h (Some b) at l (Ok e) w2
     gave e (same, wrote) = (mirror_node n ∷ [], past, sees_after wrote, refl, λ more. ap (λ x. (x, waiting past more)) same)
 
-    by_end : (r : Result (Unit {0}) Early) → EndsSo gw first.out meant r l1 out → Answered (performed l1 (stepped r)) (λ e. PerformedAs gl gw o h (Some b) at l e w2)
-    by_end (Ok u) e = gave (Gave tt l1) e
-    by_end (Err (early.Raised f)) e = gave (Faulted f l1) e
-    by_end (Err early.WriteFault) e = (
-      holds,
-      (mirror_node n, at_last (λ x. FailsToWrite o.program first x past) (record { written = e; exchanged = exchanged_so; faults_so = fetched.trades.faults_so ∙ sees.done.faults_so })),
-    )
-    by_end (Err early.Memory) e = tt
+    -- A write failed in what was replayed: all that was shown before the batch stands.
+    failed_so : WrotePrefix (failed first.out) (output gw out) (shown_events meant.events) → (shown : List ℕ) → WrotePrefix (failed (output gw w1.out.now)) (output gw out) shown → FailsInBatch o.program first last d l (waiting h []) h.nodes
+    failed_so front shown kept =
+        let m = batch_more o.program d l h.events (mirror_node n) in
+        let shows : shown_events meant.events ≡ shown_events h.events ++ shown_events m.0 = ap shown_events m.1 ∙ shown_append h.events m.0 in
+        record {
+          node = mirror_node n;
+          own = m.0;
+          own_so = m.1;
+          fails = record {
+            written = beyond_whole first.out (output gw w1.out.now) (output gw out) (shown_events h.events) (shown_events m.0) shown
+                (written_so ∙ ap (with_bytes first.out) (shown_batch h.events)) (subst (WrotePrefix (failed first.out) (output gw out)) shows front) kept;
+            exchanged = exchanged_so;
+            faults_so = fetched.trades.faults_so ∙ sees.done.faults_so;
+            none_listed = none_failed (length past.sent) first.server last.server counts_so;
+          };
+        }
+
+    by_end : (r : Result (Unit {0}) Early) → EndsSo gw first.out meant r l1 out → (again : Replayed) → EndsSo gw (output gw w1.out.now) again r l1 out → Answered (performed l1 (stepped r)) (λ e. PerformedAs gl gw o h (Some b) at l e w2)
+    by_end (Ok u) e again kept = gave (Gave tt l1) e
+    by_end (Err (early.Raised f)) e again kept = gave (Faulted f l1) e
+    by_end (Err early.WriteFault) e again kept = (holds, at_last (λ x. FailsInBatch o.program first x d l (waiting h []) h.nodes) (failed_so e (shown_events again.events) kept))
+    by_end (Err early.Memory) e again kept = tt
 
   each : (r : Result (Unit {0}) Early)
       → ((o : Origin L W) (h : Past) (b : Outermost) → SeesClient gl gw o w h → batch_at o.program at ≡ Some b → mirror_split split ≡ division o.program b → Answered (performed l1 (stepped r)) (λ e. PerformedAs gl gw o h (Some b) at l e w2))
@@ -196,7 +218,8 @@ module _ {L W : Type 0} (gl : links.Ghosts L) (gw : sinks.Ghosts W) (split : Spl
       (each r (λ o h b sees stands is.
       by_end o h b sees stands is r
       (subst (λ x. EndsSo gw (first_scene gl gw o).out x r l1 out) (meant_so o h b sees stands is)
-      (replayed.ends l.fuel (omega arith) (first_scene gl gw o).out (begun o h b sees stands is) (written_so o h b sees stands is)))))
+      (replayed.ends l.fuel (omega arith) (first_scene gl gw o).out (begun o h b sees stands is) (written_so o h b sees stands is)))
+      (remainder_meant classes split.remainder (mirror_node n) l.fuel l []) (replayed.ends l.fuel (omega arith) (output gw w1.out.now) [] (sym (bytes_none (output gw w1.out.now))))))
 
 -- the exchange gave no node
 pub stops_so : {L W : Type 0} (gl : links.Ghosts L) (gw : sinks.Ghosts W) (split : Split) (at : ℕ) (w w1 : ClientWorld L W) (l : Local) (r : Result node.Node RunStop) (stop : RunStop) (x : Halt RunStop) → r ≡ Err stop → x ≡ halted stop → Fetches gl split l.names w r w1

@@ -1,39 +1,25 @@
 -- What a run leaves is what its contract says, over any link.
-use Rattle.std.proofs.Common.{◌≡◌, refl, sym, ap, ◌∙◌, subst, ℕ, List, [], ◌∷◌, ◌++◌, length, append_assoc, append-nil}
+use Rattle.std.proofs.Common.{◌≡◌, inl, inr, refl, sym, ap, ◌∙◌, subst, ℕ, suc, [], length, append-nil}
 use Rattle.std.specs.Prelude.{Option, Result, Ok, Err}
+use Rattle.rb_trees.specs.declared.outcomes.Raised.{Raised}
 use Rattle.rb_trees.specs.declared.outcomes.Run as runs
 use Rattle.rb_trees.specs.declared.values.Value.{Value}
 use Rattle.rb_trees.specs.mirror.Declarations.{Program}
-use Rattle.rb_trees.specs.mirror.Forests.{Node}
 use Rattle.rb_meaning_code.specs.Dialogue as ask
-use Rattle.rb_meaning_code.specs.Dialogue.{Question, Outcome, Dialogue, Done, Ask, AskBatch, handle}
+use Rattle.rb_meaning_code.specs.Dialogue.{Question, Outcome, Dialogue, Done, Ask, AskBatch}
 use Rattle.rb_meaning_code.specs.Led.{Passes}
 use Rattle.rb_meaning.specs.Shown.{shown_events}
-use Rattle.rb_meaning.specs.Unsplit.{batch_at}
-use Rattle.rb_meaning_split.specs.Client.{answers_waiting, client, heard, in_client, performs_divided}
-use Rattle.rb_meaning_split.specs.Division.{division}
+use Rattle.rb_meaning_split.specs.Client.{client, heard, in_client}
 use Rattle.rb_headline_laws.specs.Reached.{ClientComesTo, main_run, with_nodes}
 use Rattle.rb_base.specs.Sinks.{with_bytes}
-use Rattle.rb_client.specs.Clients.{FailsToWrite, Past, asked, performed_past, waiting}
-use Rattle.rb_client.specs.Events.{More}
+use Rattle.rb_client.specs.Clients.{FailsToAnswer, Past, waiting}
 use Rattle.rb_client.specs.MainRuns.{ComesTo, EndsAt, EndsWell, Leaves, StopsWriting}
 use Rattle.rb_client.specs.Runs.{CutAtBatch, CutInWriting, ExchangedAll, FailsAsListed, Ran, RunsOver}
 use Rattle.rb_client.specs.Scenes.{Scene}
 use Rattle.rb_client.specs.Servers.{FailsAfter, NoneFails}
 use Rattle.rb_client.specs.declared.stops.RunStop.{RunStop}
 use Rattle.rb_client.specs.declared.stops.RunStop.TheVariants as stops
-use Rattle.rb_client.proofs.Answering.{front_later}
-use Rattle.rb_client.proofs.ClientRuns.{passes_whole}
-use Rattle.rb_client.proofs.Serving.{failed_after, none_failed}
-use Rattle.rb_client.proofs.Showing.{client_more}
-
--- what a question shows doesn't go by the nodes that are to come
-pub asked_shows : (q : Question) (h : Past) (more : List Node) → (answers_waiting (waiting h more) q).1.events ≡ (asked q h).events
-asked_shows (ask.Line at bytes) h more = refl
-asked_shows (ask.Taken step) h more = refl
-asked_shows (ask.Invoke at target method args) h more = refl
-asked_shows (ask.Turn at) h more = refl
-asked_shows (ask.ListTurn at) h more = refl
+use Rattle.rb_client.proofs.Serving.{counts_more, failed_after, none_failed}
 
 -- With the nodes that were used a client comes so far.
 pub client_comes : (p : Program) (fuel : ℕ) (h : Past) (rest : Dialogue (Outcome (Option Value))) → ComesTo p fuel h rest → ClientComesTo p fuel h.nodes rest (waiting h [])
@@ -55,40 +41,19 @@ module _ (p : Program) (fuel : ℕ) (before after : Scene) where
         faults_so = e.done.faults_so;
       }
 
-  -- a front of what is shown, whatever nodes would have followed
-  fails_writing : (h : Past) → FailsToWrite p before after h → ((more : List Node) → More h.events (client p fuel (h.nodes ++ more)).events) → CutInWriting p fuel before after
-  fails_writing h f shows = record {
-    nodes = h.nodes;
-    sent = h.sent;
-    written = λ more. front_later before.out after.out h.events (client p fuel (h.nodes ++ more)).events (shows more) f.written;
-    exchanged = f.exchanged;
-    faults_so = f.faults_so;
-  }
-
-  -- what is left shows at the end what the whole does
-  whole_shows : (h : Past) (rest : Dialogue (Outcome (Option Value))) → ComesTo p fuel h rest → (more : List Node) → (handle (in_client p) rest (waiting h more)).1.events ≡ (client p fuel (h.nodes ++ more)).events
-  whole_shows h rest comes more = ap (λ x. x.1.events) (passes_whole (in_client p) (main_run p fuel) rest (with_nodes (h.nodes ++ more)) (waiting h more) (comes more))
+  at_line : (h : Past) (q : Question) (go : Result Value Raised → Dialogue (Outcome (Option Value))) → ComesTo p fuel h (Ask q go) → FailsToAnswer p before after h q → CutInWriting p fuel before after
+  at_line h (ask.Line at bytes) go comes f =
+      inl (record { nodes = h.nodes; past = waiting h []; at = at; bytes = bytes; go = go; comes = client_comes p fuel h (Ask (ask.Line at bytes) go) comes; fails = f })
+  at_line h (ask.Taken step) go comes f = absurd f
+  at_line h (ask.Invoke at target method args) go comes f = absurd f
+  at_line h (ask.Turn at) go comes f = absurd f
+  at_line h (ask.ListTurn at) go comes f = absurd f
 
   writing_so : (h : Past) (rest : Dialogue (Outcome (Option Value))) → ComesTo p fuel h rest → StopsWriting p h rest before after → CutInWriting p fuel before after
   writing_so h (Done a) comes s = absurd s
-  writing_so h (Ask q go) comes f = fails_writing (asked q h) f shows
-    where
-      shows : (more : List Node) → More (asked q h).events (client p fuel (h.nodes ++ more)).events
-      shows more =
-          let next = answers_waiting (waiting h more) q in
-          subst (More (asked q h).events) (whole_shows h (Ask q go) comes more)
-          (subst (λ es. More es (handle (in_client p) (go next.0) next.1).1.events) (asked_shows q h more) (client_more p (go next.0) next.1))
-  writing_so h (AskBatch at l go) comes (b, stands, n, f) = fails_writing next_past f shows
-    where
-      next_past : Past
-      next_past = performed_past p (division p b) l h n
-
-      shows : (more : List Node) → More next_past.events (client p fuel (next_past.nodes ++ more)).events
-      shows more =
-          let next = performs_divided p (batch_at p at) at l (waiting h (n ∷ more)) in
-          subst (λ ns. More next_past.events (client p fuel ns).events) (sym (append_assoc h.nodes (n ∷ []) more))
-          (subst (More next_past.events) (whole_shows h (AskBatch at l go) comes (n ∷ more))
-          (subst (λ es. More es (handle (in_client p) (go next.0) next.1).1.events) (ap (λ x. (performs_divided p x at l (waiting h (n ∷ more))).1.events) stands) (client_more p (go next.0) next.1)))
+  writing_so h (Ask q go) comes f = at_line h q go comes f
+  writing_so h (AskBatch at l go) comes (b, stands, f) =
+      inr (record { nodes = h.nodes; past = waiting h []; batch = b; local = l; reaches = record { at = at; go = go; stands = stands; comes = client_comes p fuel h (AskBatch at l go) comes }; fails = f })
 
   at_batch : (stop : RunStop) → EndsAt p fuel stop before after → CutAtBatch p fuel stop before after
   at_batch stop e = record {
@@ -122,4 +87,6 @@ module _ (p : Program) (fuel : ℕ) (before after : Scene) where
         subst (λ n. FailsAfter n before.server) count (failed_after (length e.past.sent) before.server s.server after.server s.counts s.lost.0),
       )
   fails_as_listed (Err (stops.BadReply k why kind bytes)) e =
-      let s = e.stops_so in subst (λ n. NoneFails n before.server) (sym s.gives_none.0) (none_failed (length e.past.sent) before.server s.server s.counts)
+      let s = e.stops_so in
+      let n = length e.past.sent in
+      subst (λ m. NoneFails (suc m) before.server) (sym s.gives_none.0) (none_failed (suc n) before.server after.server (counts_more n (suc n) before.server s.server after.server refl s.counts s.lost.0))

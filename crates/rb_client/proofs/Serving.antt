@@ -89,10 +89,11 @@ performed_more sent nodes x n (Some a) None c h one = absurd h
 performed_more sent nodes x n None b c h one = absurd h
 
 -- the last of the scripts, on the table that those before it leave
-pub record LastGives (service : Service) (before : List Object) (sent : List Sent) (nodes : List Node) (x : Sent) (n : Node) : Type 0 where
+pub record LastGives (service : Service) (before after : List Object) (sent : List Sent) (nodes : List Node) (x : Sent) (n : Node) : Type 0 where
   pub table : List Object
   pub given : ScriptsGive service before sent nodes table
   pub node_so : (sent_run service table x).node ≡ n
+  pub leaves : (sent_run service table x).server.table ≡ after
 
 none_at_end : (service : Service) (before after : List Object) (sent : List Sent) (x : Sent) → ScriptsGive service before (sent ++ x ∷ []) [] after → ⊥
 none_at_end service before after [] x h = h
@@ -102,13 +103,13 @@ more_than_sent : (service : Service) (before after : List Object) (nodes : List 
 more_than_sent service before after [] n h = h
 more_than_sent service before after (m ∷ ms) n h = h
 
-pub last_gives : (service : Service) (before after : List Object) (sent : List Sent) (nodes : List Node) (x : Sent) (n : Node) → ScriptsGive service before (sent ++ x ∷ []) (nodes ++ n ∷ []) after → LastGives service before sent nodes x n
-last_gives service before after [] [] x n h = record { table = before; given = refl; node_so = h.0 }
+pub last_gives : (service : Service) (before after : List Object) (sent : List Sent) (nodes : List Node) (x : Sent) (n : Node) → ScriptsGive service before (sent ++ x ∷ []) (nodes ++ n ∷ []) after → LastGives service before after sent nodes x n
+last_gives service before after [] [] x n h = record { table = before; given = refl; node_so = h.0; leaves = h.1 }
 last_gives service before after [] (m ∷ ms) x n h = absurd (more_than_sent service (sent_run service before x).server.table after ms n h.1)
 last_gives service before after (q ∷ qs) [] x n h = absurd (none_at_end service (sent_run service before q).server.table after qs x h.1)
 last_gives service before after (q ∷ qs) (m ∷ ms) x n h =
     let r = last_gives service (sent_run service before q).server.table after qs ms x n h.1 in
-    record { table = r.table; given = (h.0, r.given); node_so = r.node_so }
+    record { table = r.table; given = (h.0, r.given); node_so = r.node_so; leaves = r.leaves }
 
 -- the table that a server has, of which it is told what it performed
 pub record Served (b : Behind) (told : Option Behind) (sent : List Sent) (nodes : List Node) : Type 0 where

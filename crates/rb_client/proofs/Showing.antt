@@ -1,10 +1,10 @@
--- What a client shows: it only adds events, with one for each script that it sends.
+-- What a client shows: its batches only add events, with one for each script that it sends.
 use Rattle.std.proofs.Common.{◌≡◌, refl, ◌∙◌, arith, ℕ, ◌+◌, List, [], ◌∷◌, ◌++◌, length, length-append}
 use Rattle.std.specs.Prelude.{Option, None, Some}
 use Rattle.rb_trees.specs.mirror.Declarations.{Program}
 use Rattle.rb_trees.specs.mirror.Forests.{Node}
 use Rattle.rb_meaning_code.specs.Dialogue as ask
-use Rattle.rb_meaning_code.specs.Dialogue.{Question, Dialogue, Done, Ask, AskBatch, Handler, handle}
+use Rattle.rb_meaning_code.specs.Dialogue.{Question, Dialogue, Done, Ask, AskBatch, handle}
 use Rattle.rb_meaning_code.specs.Led.{Passes, here, answered, performed}
 use Rattle.rb_meaning_code.specs.State.{Local}
 use Rattle.rb_meaning.specs.Shown.{exchanges}
@@ -17,38 +17,17 @@ use Rattle.rb_meaning_split.specs.Division.{Division, division}
 use Rattle.rb_meaning_split.specs.Replay.{ended}
 use Rattle.rb_headline_laws.specs.Reached.{main_run, with_nodes}
 use Rattle.rb_client.specs.Events.{More}
+use Rattle.rb_client.specs.Runs.{with_batch}
 use Rattle.rb_client.proofs.Adding.{ended_adds, parts_more}
-use Rattle.rb_client.proofs.Events.{AddsEvents, Coming, adding, handled_more, more_far, no_more}
+use Rattle.rb_client.proofs.Events.{Coming, adding, more_far}
 
--- A client only adds events.
+-- A batch only adds events.
+pub batch_more : (p : Program) (d : Division) (l : Local) (events : List Event) (n : Node) → More events (with_batch p d l events n)
+batch_more p d l events n =
+    let begun = events ++ state.Batch ∷ [] in
+    more_far events begun (with_batch p d l events n) (state.Batch ∷ [], refl) (parts_more adding p.classes l.fuel d.remainder l (record { events = begun; node = n }) ended (ended_adds adding))
 
-performed_adds : (p : Program) (b : Option Outermost) (at : ℕ) (l : Local) (s : Waiting) → More s.events (performs_divided p b at l s).1.events
-performed_adds p None at l s = no_more s.events
-performed_adds p (Some b) at l s = by_nodes s.nodes
-  where
-    begun : Waiting
-    begun = begins (division p b) l s
-
-    by_nodes : (ns : List Node) → More s.events (replays_next p (division p b) l begun ns).1.events
-    by_nodes [] = (state.Batch ∷ [], refl)
-    by_nodes (n ∷ ns) =
-        more_far s.events begun.events (replays_next p (division p b) l begun (n ∷ ns)).1.events (state.Batch ∷ [], refl)
-        (parts_more adding p.classes l.fuel (division p b).remainder l (record { events = begun.events; node = n }) ended (ended_adds adding))
-
-client_adds : (p : Program) → AddsEvents adding (λ (s : Waiting). s.events) (in_client p)
-client_adds p = record { questions = by_question; batches = λ s at l. performed_adds p (batch_at p at) at l s }
-  where
-    by_question : (s : Waiting) (q : Question) → More s.events (answers_waiting s q).1.events
-    by_question s (ask.Line at bytes) = (state.Line bytes ∷ [], refl)
-    by_question s (ask.Taken step) = no_more s.events
-    by_question s (ask.Invoke at target method args) = no_more s.events
-    by_question s (ask.Turn at) = no_more s.events
-    by_question s (ask.ListTurn at) = no_more s.events
-
-pub client_more : {A : Type 0} (p : Program) (d : Dialogue A) (s : Waiting) → More s.events (handle (in_client p) d s).1.events
-client_more p d s = handled_more adding (λ (x : Waiting). x.events) (in_client p) (client_adds p) d s
-
--- It shows that a batch was begun for each script that it sends.
+-- A client shows that a batch was begun for each script that it sends.
 
 exchanges_append : (es fs : List Event) → exchanges (es ++ fs) ≡ exchanges es + exchanges fs
 exchanges_append [] fs = omega arith

@@ -8,24 +8,23 @@ use Rattle.rb_trees.specs.mirror.Forests.{Node}
 use Rattle.rb_meaning_bytes.specs.formats.Formats.{Spells}
 use Rattle.rb_meaning_bytes.specs.formats.ScriptPayloads.{Means}
 use Rattle.rb_meaning_bytes.specs.formats.Scripts.{script_message}
+use Rattle.rb_meaning_code.specs.Dialogue as ask
 use Rattle.rb_meaning_code.specs.Dialogue.{Question}
 use Rattle.rb_meaning_code.specs.State.{Local, Names}
 use Rattle.rb_meaning.specs.Links.{Behind}
-use Rattle.rb_meaning.specs.Shown.{shown_events}
-use Rattle.rb_meaning.specs.State as state
+use Rattle.rb_meaning.specs.Shown.{line, shown_events}
 use Rattle.rb_meaning.specs.State.{Event}
 use Rattle.rb_meaning.specs.Unsplit.{batch_at}
 use Rattle.rb_meaning_flow.specs.Outermost.{Outermost}
-use Rattle.rb_meaning_split.specs.Client.{Sent, Waiting, answers_waiting, performs_divided, replays, sent_for}
+use Rattle.rb_meaning_split.specs.Client.{Sent, Waiting, answers_waiting, performs_divided, sent_for}
 use Rattle.rb_meaning_split.specs.Division.{Division, division, mirror_split}
-use Rattle.rb_base.specs.Devices.{failed}
-use Rattle.rb_base.specs.Sinks.{with_bytes, WrotePrefix}
+use Rattle.rb_base.specs.Sinks.{with_bytes}
 use Rattle.rb_base.specs.declared.links.Link as links
 use Rattle.rb_base.specs.declared.sinks.Sink as sinks
 use Rattle.rb_engine.specs.Answers.{Answer, Performed}
 use Rattle.rb_client.specs.Replies.{Trades}
 use Rattle.rb_client.specs.Requests.{to_send}
-use Rattle.rb_client.specs.Runs.{ExchangedAll, GivesNone}
+use Rattle.rb_client.specs.Runs.{ExchangedAll, FailsInBatch, FailsToWrite, GivesNone, with_batch}
 use Rattle.rb_client.specs.Scenes.{Scene, scene}
 use Rattle.rb_client.specs.Servers.{PerformedAll}
 use Rattle.rb_client.specs.Serving.{Counts, CountsOne, GivesMisfit, MayPerform}
@@ -53,7 +52,7 @@ asked q h = record h { events = (answers_waiting (waiting h []) q).1.events }
 -- the past after a batch of this division, for which this node was replied
 abbrev pub performed_past : Program → Division → Local → Past → Node → Past
 performed_past p d l h n = record {
-  events = (replays p d l (h.events ++ state.Batch ∷ []) n).events;
+  events = with_batch p d l h.events n;
   sent = h.sent ++ sent_for d l ∷ [];
   nodes = h.nodes ++ n ∷ [];
 }
@@ -65,11 +64,10 @@ pub record HasDone (p : Program) (before after : Scene) (h : Past) : Type 0 wher
   pub faults_so : after.faults ≡ before.faults
   pub counts : Counts (length h.sent) before.server after.server
 
--- A write failed within what this shows. It was exchanged, and no exchange failed.
-pub record FailsToWrite (p : Program) (before after : Scene) (h : Past) : Type 0 where
-  pub written : WrotePrefix (failed before.out) after.out (shown_events h.events)
-  pub exchanged : ExchangedAll p before after h.sent h.nodes
-  pub faults_so : after.faults ≡ before.faults
+-- A write failed in what a question shows: it is a line.
+abbrev pub FailsToAnswer : Program → Scene → Scene → Past → Question → Type 0
+FailsToAnswer p before after h (ask.Line at bytes) = FailsToWrite p before after h.events (line bytes) h.sent h.nodes
+FailsToAnswer p before after h _ = ⊥
 
 -- What an exchange that gave no node did to the server: it is one of those that fail just where it failed. Over an honest link
 -- the script may have been performed where it failed, and else its node doesn't fit.
@@ -90,9 +88,9 @@ pub record StopsAt (p : Program) (before after : Scene) (h : Past) (d : Division
   pub served : before.honest → PerformedAll before.server server h.sent h.nodes
   pub lost : Lost before.honest d l stop server after.server
 
--- A batch was cut off: by a failed write in what it shows on the node that was replied, or before it by its exchange.
+-- A batch was cut off: by a failed write within its own events, or before them by its exchange.
 abbrev pub StopsIn : Program → Scene → Scene → Past → Division → Local → RunStop → Type 0
-StopsIn p before after h d l stops.WriteFault = (n : Node) × FailsToWrite p before after (performed_past p d l h n)
+StopsIn p before after h d l stops.WriteFault = FailsInBatch p before after d l (waiting h []) h.nodes
 StopsIn p before after h d l stop = StopsAt p before after h d l stop
 
 -- what a client runs with: its program, and its link and its output as they stood at the start
@@ -123,7 +121,7 @@ pub record SeesClient {L W : Type 0} (gl : links.Ghosts L) (gw : sinks.Ghosts W)
 -- What code outside of batches is answered: as the definition answers it, whatever nodes are to come; or a write failed.
 abbrev pub AnsweredAs : {L W : Type 0} → links.Ghosts L → sinks.Ghosts W → Origin L W → Past → Question → Answer RunStop → ClientWorld L W → Type 0
 AnsweredAs gl gw o h q (Ok a) w = (h1 : Past) × SeesClient gl gw o w h1 × (h1.nodes ≡ h.nodes) × ((more : List Node) → answers_waiting (waiting h more) q ≡ (a, waiting h1 more))
-AnsweredAs gl gw o h q (Err stop) w = (stop ≡ stops.WriteFault) × HoldsBoth o w × FailsToWrite o.program (first_scene gl gw o) (scene_of gl gw w) (asked q h)
+AnsweredAs gl gw o h q (Err stop) w = (stop ≡ stops.WriteFault) × HoldsBoth o w × FailsToAnswer o.program (first_scene gl gw o) (scene_of gl gw w) h q
 
 abbrev pub client_answers : {L W : Type 0} → links.Ghosts L → sinks.Ghosts W → ClientWorld L W → Question → Answer RunStop → ClientWorld L W → Type 0
 client_answers {L = L} {W = W} gl gw w q a w' = (o : Origin L W) (h : Past) → SeesClient gl gw o w h → AnsweredAs gl gw o h q a w'

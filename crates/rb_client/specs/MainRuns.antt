@@ -23,7 +23,8 @@ use Rattle.rb_base.specs.declared.links.Link as links
 use Rattle.rb_base.specs.declared.sinks.Sink as sinks
 use Rattle.rb_engine.specs.declared.world.Halt.{Halt}
 use Rattle.rb_engine.specs.declared.world.Halt.TheVariants.{Memory, World}
-use Rattle.rb_client.specs.Clients.{FailsToWrite, HasDone, HoldsBoth, Origin, Past, StopsAt, asked, client_answers, client_performs, performed_past, scene_of, waiting}
+use Rattle.rb_client.specs.Clients.{FailsToAnswer, HasDone, HoldsBoth, Origin, Past, StopsAt, client_answers, client_performs, scene_of, waiting}
+use Rattle.rb_client.specs.Runs.{FailsInBatch}
 use Rattle.rb_client.specs.Scenes.{Scene}
 use Rattle.rb_client.specs.declared.client_world.ClientWorld.{ClientWorld}
 use Rattle.rb_client.specs.declared.stops.RunStop.{RunStop}
@@ -65,11 +66,11 @@ pub record EndsWell (p : Program) (fuel : ℕ) (run : runs.Run) (before after : 
   pub exchanges_so : run.exchanges ≡ length past.sent
   pub done : HasDone p before after past
 
--- A write failed in what is asked first: at a question, or in a batch, for which a node was replied.
+-- A write failed in what is asked first: at a line, or in a batch.
 abbrev pub StopsWriting : Program → Past → Dialogue (Outcome (Option Value)) → Scene → Scene → Type 0
 StopsWriting p h (Done a) before after = ⊥
-StopsWriting p h (Ask q go) before after = FailsToWrite p before after (asked q h)
-StopsWriting p h (AskBatch at l go) before after = (b : Outermost) × (batch_at p at ≡ Some b) × (n : Node) × FailsToWrite p before after (performed_past p (division p b) l h n)
+StopsWriting p h (Ask q go) before after = FailsToAnswer p before after h q
+StopsWriting p h (AskBatch at l go) before after = (b : Outermost) × (batch_at p at ≡ Some b) × FailsInBatch p before after (division p b) l (waiting h []) h.nodes
 
 -- A write failed in what `main` came to.
 pub record EndsWriting (p : Program) (fuel : ℕ) (before after : Scene) : Type 0 where

@@ -1,6 +1,7 @@
 -- What the run of a client leaves, over any link.
-use Rattle.std.specs.Prelude.{◌≡◌, ℕ, List, ◌++◌, length, map, Option, Some, Result, Ok, Err}
+use Rattle.std.specs.Prelude.{◌≡◌, ◌⊎◌, ℕ, suc, List, [], ◌∷◌, ◌++◌, length, map, Option, Some, Result, Ok, Err}
 use Rattle.rb_trees.specs.declared.declarations.Program as program
+use Rattle.rb_trees.specs.declared.outcomes.Raised.{Raised}
 use Rattle.rb_trees.specs.declared.outcomes.Run.{Run}
 use Rattle.rb_trees.specs.declared.remainders.Split.{Split}
 use Rattle.rb_trees.specs.declared.values.Value.{Value}
@@ -8,20 +9,23 @@ use Rattle.rb_trees.specs.mirror.Declarations.{Program, mirror_program}
 use Rattle.rb_trees.specs.mirror.Forests.{Node}
 use Rattle.rb_meaning_bytes.specs.formats.Formats.{Spells}
 use Rattle.rb_meaning_bytes.specs.formats.Scripts.{script_message}
-use Rattle.rb_meaning_code.specs.Dialogue.{Outcome, Dialogue, AskBatch}
+use Rattle.rb_meaning_code.specs.Dialogue as ask
+use Rattle.rb_meaning_code.specs.Dialogue.{Outcome, Dialogue, Ask, AskBatch}
 use Rattle.rb_meaning_code.specs.State.{Local}
 use Rattle.rb_meaning.specs.Links.{Pair}
-use Rattle.rb_meaning.specs.Shown.{shown_events}
+use Rattle.rb_meaning.specs.Shown.{line, shown_events}
+use Rattle.rb_meaning.specs.State as state
+use Rattle.rb_meaning.specs.State.{Event}
 use Rattle.rb_meaning.specs.Unsplit.{batch_at}
 use Rattle.rb_meaning_flow.specs.Outermost.{Outermost}
-use Rattle.rb_meaning_split.specs.Client.{Sent, Waiting, client, sent_for}
+use Rattle.rb_meaning_split.specs.Client.{Sent, Waiting, client, replays, sent_for}
 use Rattle.rb_meaning_split.specs.Division.{Division, division, divisions, mirror_split}
 use Rattle.rb_division_laws.specs.Sendable.{HasPlaces}
 use Rattle.rb_flow.specs.Program.{HasNoRefusal}
 use Rattle.rb_headline_laws.specs.Dividing.{NothingAtZero}
 use Rattle.rb_headline_laws.specs.Reached.{ClientComesTo}
 use Rattle.rb_base.specs.Counts.{risen}
-use Rattle.rb_base.specs.Devices.{failed}
+use Rattle.rb_base.specs.Devices.{Device, failed}
 use Rattle.rb_base.specs.Sinks.{with_bytes, WrotePrefix}
 use Rattle.rb_client.specs.Exchanges.{Exchanged, Exchanges}
 use Rattle.rb_client.specs.Replies.{HasReason, more_pairs, pair_of, refused_pairs}
@@ -57,14 +61,17 @@ pub record Ran (p : Program) (fuel : ℕ) (run : Run) (before after : Scene) : T
   pub exchanged : ExchangedAll p before after (client p fuel nodes).sent nodes
   pub faults_so : after.faults ≡ before.faults
 
--- A write failed in the lines of the client, on the nodes that were replied and whatever others would have followed. No exchange
--- failed.
-pub record CutInWriting (p : Program) (fuel : ℕ) (before after : Scene) : Type 0 where
-  pub nodes : List Node
-  pub sent : List Sent
-  pub written : (more : List Node) → WrotePrefix (failed before.out) after.out (shown_events (client p fuel (nodes ++ more)).events)
+-- A write failed within the piece that comes after what these events show: all of that was written, and a front of the piece.
+abbrev pub FailsWithin : Device (List ℕ) → Device (List ℕ) → List Event → List ℕ → Type 0
+FailsWithin before after events piece = WrotePrefix (failed (with_bytes before (shown_events events))) after piece
+
+-- So a write failed. By then these scripts were exchanged for these nodes, and no other. No exchange failed, and none of those that
+-- were made is listed to fail.
+pub record FailsToWrite (p : Program) (before after : Scene) (events : List Event) (piece : List ℕ) (sent : List Sent) (nodes : List Node) : Type 0 where
+  pub written : FailsWithin before.out after.out events piece
   pub exchanged : ExchangedAll p before after sent nodes
   pub faults_so : after.faults ≡ before.faults
+  pub none_listed : NoneFails (length sent) before.server
 
 -- On the nodes that were replied a client reaches a batch, in this local state, and no node is left.
 pub record Reaches (p : Program) (fuel : ℕ) (nodes : List Node) (w : Waiting) (b : Outermost) (l : Local) : Type 0 where
@@ -72,6 +79,41 @@ pub record Reaches (p : Program) (fuel : ℕ) (nodes : List Node) (w : Waiting) 
   pub go : Outcome (Unit {0}) → Dialogue (Outcome (Option Value))
   pub stands : batch_at p at ≡ Some b
   pub comes : ClientComesTo p fuel nodes (AskBatch at l go) w
+
+-- On the nodes that were replied a client came to a line, in which a write failed. The exchanges made are those before it.
+pub record CutAtLine (p : Program) (fuel : ℕ) (before after : Scene) : Type 0 where
+  pub nodes : List Node
+  pub past : Waiting
+  pub at : ℕ
+  pub bytes : List ℕ
+  pub go : Result Value Raised → Dialogue (Outcome (Option Value))
+  pub comes : ClientComesTo p fuel nodes (Ask (ask.Line at bytes) go) past
+  pub fails : FailsToWrite p before after past.events (line bytes) past.sent nodes
+
+-- the events at the end of a batch: those before it, its own event, and those of its remainder on the node that was replied
+abbrev pub with_batch : Program → Division → Local → List Event → Node → List Event
+with_batch p d l events n = (replays p d l (events ++ state.Batch ∷ []) n).events
+
+-- A write failed within the batch's own events on a node, which was replied for its script. The exchanges made are those before the
+-- batch, for these nodes, and the batch's.
+pub record FailsInBatch (p : Program) (before after : Scene) (d : Division) (l : Local) (past : Waiting) (nodes : List Node) : Type 0 where
+  pub node : Node
+  pub own : List Event
+  pub own_so : with_batch p d l past.events node ≡ past.events ++ own
+  pub fails : FailsToWrite p before after past.events (shown_events own) (past.sent ++ sent_for d l ∷ []) (nodes ++ node ∷ [])
+
+-- So it was in a batch that the client reached.
+pub record CutInBatch (p : Program) (fuel : ℕ) (before after : Scene) : Type 0 where
+  pub nodes : List Node
+  pub past : Waiting
+  pub batch : Outermost
+  pub local : Local
+  pub reaches : Reaches p fuel nodes past batch local
+  pub fails : FailsInBatch p before after (division p batch) local past nodes
+
+-- A write failed: at a line of the client, or in what one of its batches shows.
+abbrev pub CutInWriting : Program → ℕ → Scene → Scene → Type 0
+CutInWriting p fuel before after = CutAtLine p fuel before after ⊎ CutInBatch p fuel before after
 
 -- The pairs grew by one for each script that was sent before, and by that of the reply that was refused, where its frame is
 -- whole. Its request is the script of this division with the values of its inputs.
@@ -112,10 +154,11 @@ RunsOver p fuel (Err stops.WriteFault) before after = CutInWriting p fuel before
 RunsOver p fuel (Err stops.Memory) before after = Unit {0}
 RunsOver p fuel (Err stop) before after = CutAtBatch p fuel stop before after
 
--- An exchange fails exactly where it is listed: none of those that gave a node is, and the one that failed is.
+-- An exchange fails exactly where it is listed: none of those that were replied is, and the one that failed is. A reply that was
+-- refused was one. After a write that failed the same is said of as many as were exchanged by then (`FailsToWrite`).
 abbrev pub FailsAsListed : Result Run RunStop → Scene → Scene → Type 0
 FailsAsListed (Ok run) before after = NoneFails run.exchanges before.server
 FailsAsListed (Err (stops.LinkFault k)) before after = NoneFails k before.server × FailsAfter k before.server
-FailsAsListed (Err (stops.BadReply k why kind bytes)) before after = NoneFails k before.server
+FailsAsListed (Err (stops.BadReply k why kind bytes)) before after = NoneFails (suc k) before.server
 FailsAsListed (Err stops.WriteFault) before after = Unit {0}
 FailsAsListed (Err stops.Memory) before after = Unit {0}

@@ -130,8 +130,9 @@ fn run_plan<L: Link, W: Sink>(
 ///
 /// Each line goes to the output as it comes. At each batch its script is sent with the values of its inputs, and its remainder
 /// is performed on the node that is replied. Over an honest link that is what the program means on the server behind it. After
-/// `WriteFault` a front of the lines was written; after `LinkFault` and `BadReply` the lines before that batch. Whether the link
-/// lends a table is kept. After `Memory` nothing is said.
+/// `WriteFault` all was written that comes before a line or a batch, and a front of that line or of the batch's own lines; nothing
+/// was exchanged after that. After `LinkFault` and `BadReply` the lines before that batch were written. Whether the link lends a
+/// table is kept. After `Memory` nothing is said.
 pub fn run_client<L: Link, W: Sink>(
     alloc: Global,
     typed: &Typed,
@@ -143,7 +144,7 @@ pub fn run_client<L: Link, W: Sink>(
     requires { IsAcceptedWith typed.now splits.now }
     // Over any link it is the client on the nodes that are replied, one exchange a script, until it is cut off.
     ensures runs { Between L.Link W.Sink link.old out.old link.new out.new (RunsOver (mirror_program typed.now) fuel result) }
-    // An exchange fails exactly where the link lists it.
+    // An exchange fails exactly where the link lists it; where a write failed, `runs` says so.
     ensures lists { Between L.Link W.Sink link.old out.old link.new out.new (FailsAsListed result) }
     // Over an honest link it is what the program means, and no reply is refused.
     ensures means { let program = mirror_program typed.now in
