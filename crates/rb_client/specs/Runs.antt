@@ -154,8 +154,8 @@ RunsOver p fuel (Err stops.WriteFault) before after = CutInWriting p fuel before
 RunsOver p fuel (Err stops.Memory) before after = Unit {0}
 RunsOver p fuel (Err stop) before after = CutAtBatch p fuel stop before after
 
--- An exchange fails exactly where it is listed: none of those that were replied is, and the one that failed is. A reply that was
--- refused was one. After a write that failed the same is said of as many as were exchanged by then (`FailsToWrite`).
+-- An exchange fails exactly where it is listed: none of those that got a reply is, refused or not, and the one that failed is.
+-- Where a write failed, `FailsToWrite` says so of those that were made by then.
 abbrev pub FailsAsListed : Result Run RunStop → Scene → Scene → Type 0
 FailsAsListed (Ok run) before after = NoneFails run.exchanges before.server
 FailsAsListed (Err (stops.LinkFault k)) before after = NoneFails k before.server × FailsAfter k before.server
