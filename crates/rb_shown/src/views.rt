@@ -11,20 +11,21 @@ mod expressions;
 mod parts;
 mod steps;
 
-use crate::places::add_place;
+use crate::places::add_place_in;
 use parts::add_parts;
+use rb_places::Places;
 use rb_trees::{Memory, Seq, Split, Word};
 use std::alloc::Global;
 use steps::add_steps;
 
 // Adds the line of the batch, by its place.
 #[tactic(auto, using(crate::proofs::Pieces::pieces))]
-fn add_batch(alloc: Global, source: &[u8], at: u32, into: &mut Word) -> Result<(), Memory>
-    requires { WithinLength source.now }
-    ensures { Appends (line (codes "batch " ++ line_and_column source.now at)) into.old result into.new }
+fn add_batch(alloc: Global, places: &Places<'_>, at: u32, into: &mut Word) -> Result<(), Memory>
+    requires { WithinLength places.now }
+    ensures { Appends (line (codes "batch " ++ line_and_column places.now at)) into.old result into.new }
 {
     into.extend_from_slice(b"batch ")?;
-    add_place(alloc, source, at, into)?;
+    add_place_in(alloc, places, at, into)?;
     into.push(b'\n')
 }
 
@@ -60,12 +61,12 @@ fn add_inputs(names: &[Word], into: &mut Word) -> Result<(), Memory>
 
 /// The view of a division: `shown_division`. Its place is one of the program's text.
 #[tactic(auto, using(crate::proofs::Pieces::pieces))]
-pub fn split_view(alloc: Global, source: &[u8], split: &Split) -> Result<Word, Memory>
-    requires { WithinLength source.now }
-    ensures { IfOk result (λ text. text ≡ shown_division source.now (mirror_split split.now)) }
+pub fn split_view(alloc: Global, places: &Places<'_>, split: &Split) -> Result<Word, Memory>
+    requires { WithinLength places.now }
+    ensures { IfOk result (λ text. text ≡ shown_division places.now (mirror_split split.now)) }
 {
     let mut text = Seq::new(alloc);
-    add_batch(alloc, source, split.at, &mut text)?;
+    add_batch(alloc, places, split.at, &mut text)?;
     add_inputs(split.inputs.as_slice(), &mut text)?;
     text.extend_from_slice(b"script\n")?;
     add_steps(alloc, b"  ", split.script.body.as_slice(), &mut text)?;

@@ -4,6 +4,7 @@ use crate::remainders::{add_bind, add_both, add_branch, add_local_loop, add_turn
 use crate::scripts::{
     add_binary, add_calls, add_each, add_if, add_kept, add_literals, add_unary, word,
 };
+use rb_places::Places;
 use rb_shown::split_view;
 use rb_trees::{Memory, Part, Script, Seq, Split, Step, Word};
 use std::alloc::Global;
@@ -25,7 +26,8 @@ fn split(inputs: Seq<Word>, body: Seq<Step>, remainder: Seq<Part>) -> Split {
 
 /// Whether a division has this view.
 fn views(alloc: Global, split: &Split, view: &str) -> Result<bool, Memory> {
-    let shown = split_view(alloc, SOURCE, split)?;
+    let places = Places::of(alloc, SOURCE)?;
+    let shown = split_view(alloc, &places, split)?;
     Ok(shown.as_slice() == view.as_bytes())
 }
 

@@ -1,0 +1,2 @@
+-- Places of a text that were noted.
+pub mod Noted
