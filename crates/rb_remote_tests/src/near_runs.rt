@@ -1,7 +1,7 @@
 // `both P S` over a Dial in memory, which gets the link back.
 
-use crate::commands::{answer_on, answer_over, exchanges_back, expect_call, same_called};
-use crate::texts::{CALL, NUMBER};
+use crate::commands::{answer_on, answer_over, exchanges_back, expect_call, on_files, same_called};
+use crate::texts::{CALL, NAMES, NUMBER, SERVICE};
 use rb_base::{MemorySink, SteadyListen};
 use rb_session::{FailingLink, MemoryDial};
 use rb_trees::Seq;
@@ -54,12 +54,17 @@ fn other_commands_take_no_link(rt: HostRuntime) -> Result<(), Fail> {
     )
 }
 
-/// What `both p s` says, where the second write fails, and how many exchanges the link had that came back.
-fn cut_off(alloc: Global) -> Result<(String, Option<usize>), Fail> {
+/// What `both p s` says of a program and a service, where a write fails, and how many exchanges the link had that came back.
+fn cut_off(
+    alloc: Global,
+    program: &str,
+    service: &str,
+    failing: u64,
+) -> Result<(String, Option<usize>), Fail> {
     let mut dial = failing_dial(alloc)?;
     let mut listen = SteadyListen::make(alloc, Seq::new(alloc));
-    let out = MemorySink::make(alloc, Seq::from_slice(alloc, &[2])?, usize::MAX);
-    let texts = [("p", CALL), ("s", NUMBER)];
+    let out = MemorySink::make(alloc, Seq::from_slice(alloc, &[failing])?, usize::MAX);
+    let texts = [("p", program), ("s", service)];
     let shown = answer_on(
         alloc,
         "both p s",
@@ -73,5 +78,35 @@ fn cut_off(alloc: Global) -> Result<(String, Option<usize>), Fail> {
 
 #[test]
 fn the_link_comes_back_after_a_write_fault(rt: HostRuntime) -> Result<(), Fail> {
-    same_called("both p s", &cut_off(rt.alloc())?, "9 7\n", Some(1))
+    let shown = cut_off(rt.alloc(), CALL, NUMBER, 2)?;
+    same_called("both p s", &shown, "9 7\n", Some(1))
+}
+
+/// Fails at the first write that, where it fails, has a run of two lines, on a service of three objects, show something else than
+/// is wanted.
+fn expect_cut_offs(alloc: Global, rows: &[(u64, &str)]) -> Result<(), Fail> {
+    let program = on_files(alloc, NAMES)?;
+    for (failing, want) in rows {
+        let shown = cut_off(alloc, program.as_str(), SERVICE, *failing)?;
+        same_called("both p s", &shown, want, Some(1))?;
+    }
+    Ok(())
+}
+
+#[test]
+fn each_line_of_a_table_is_written_by_itself(rt: HostRuntime) -> Result<(), Fail> {
+    expect_cut_offs(
+        rt.alloc(),
+        &[
+            (5, "9 a\nbb\ndone\nexchanges 1\n"),
+            (
+                6,
+                "9 a\nbb\ndone\nexchanges 1\nobject 0: Dir { list = [#1, #2]; }\n",
+            ),
+            (
+                7,
+                "9 a\nbb\ndone\nexchanges 1\nobject 0: Dir { list = [#1, #2]; }\nobject 1: File { name = \"a\"; size = 10; }\n",
+            ),
+        ],
+    )
 }

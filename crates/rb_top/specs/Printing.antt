@@ -1,8 +1,10 @@
 -- What a call that prints leaves of the output.
-use Rattle.std.specs.Prelude.{◌≡◌, ℕ, List, ◌++◌, Result, Ok, Err, codes}
+use Rattle.std.specs.Prelude.{◌≡◌, ℕ, suc, List, ◌++◌, Result, Ok, Err, codes, length, min}
 use Rattle.std.specs.Fmt.{decimal}
+use Rattle.std.specs.List.{position_or_len}
 use Rattle.rb_trees.specs.declared.services.Object.{Object}
 use Rattle.rb_trees.specs.declared.outcomes.Ending.{Ending}
+use Rattle.rb_meaning.specs.Place.{is_line_feed}
 use Rattle.rb_meaning.specs.Shown.{line, shown_ending, shown_table}
 use Rattle.rb_base.specs.Devices.{Device, failed}
 use Rattle.rb_base.specs.Sinks.{with_bytes, WrotePrefix}
@@ -10,6 +12,10 @@ use Rattle.rb_plain.specs.declared.run.PlainStop.{PlainStop}
 use Rattle.rb_plain.specs.declared.run.PlainStop.TheVariants as plain
 use Rattle.rb_top.specs.declared.printing.PrintStop.{PrintStop}
 use Rattle.rb_top.specs.declared.printing.PrintStop.TheVariants.{WriteFault, Memory}
+
+-- how many bytes the first line of a text has: those up to its first line feed, and that; or all where there is none
+abbrev pub first_line_length : List ℕ → ℕ
+first_line_length text = min (length text) (suc (position_or_len is_line_feed text))
 
 -- how a run that was cut off stops the printing of it
 abbrev pub stop_of : PlainStop → PrintStop

@@ -1,9 +1,10 @@
-// Lines on the output, each handed over whole with its line feed, and those of a table in one piece.
+// Lines on the output, each of which is handed over whole, with its line feed, as one piece.
 
-ghost use Rattle.std.specs.Prelude.{◌≡◌, ◌++◌, codes};
+ghost use Rattle.std.specs.Prelude.{◌≡◌, ◌++◌, ◌≤◌, length, codes};
 ghost use Rattle.std.specs.Fmt.{decimal};
+ghost use Rattle.rb_base.specs.Sinks.{Writes};
 ghost use Rattle.rb_meaning.specs.Shown.{line, shown_ending, shown_table};
-ghost use Rattle.rb_top.specs.Printing.{Prints, PrintsAnswering, end_text, run_end_text};
+ghost use Rattle.rb_top.specs.Printing.{Prints, PrintsAnswering, end_text, first_line_length, run_end_text};
 ghost use Rattle.rb_top.specs.Runs.{ended_status};
 ghost use Rattle.rb_top.specs.Scene.{output};
 ghost use Rattle.rb_top.specs.Texts.{WithinLength};
@@ -71,11 +72,37 @@ impl From<PlainStop> for PrintStop {
     }
 }
 
-/// Prints a text.
+/// How many bytes the first line of a text has, with its line feed. A last line may have none.
+fn first_line_length(text: &[u8]) -> usize
+    ensures within { result ≤ length text.now }
+    ensures count { result ≡ first_line_length text.now }
+{
+    for (count, byte) in text.iter().enumerate() {
+        if *byte == b'\n' {
+            return count + 1;
+        }
+    }
+    text.len()
+}
+
+/// Writes a text line by line: each line, with its line feed, is one piece for the sink.
+pub fn write_lines<W: Sink>(text: &[u8], out: &mut W) -> Result<(), Failed>
+    ensures { Writes text.now result (output W.Sink out.old) (output W.Sink out.new) }
+{
+    let mut rest = text;
+    while !rest.is_empty() {
+        let (line, more) = rest.split_at(first_line_length(rest));
+        write_whole(out, line)?;
+        rest = more;
+    }
+    Ok(())
+}
+
+/// Prints a text line by line.
 pub fn print_text<W: Sink>(text: &[u8], out: &mut W) -> Result<(), PrintStop>
     ensures { Prints text.now result (output W.Sink out.old) (output W.Sink out.new) }
 {
-    match write_whole(out, text) {
+    match write_lines(text, out) {
         Ok(()) => Ok(()),
         Err(Failed) => Err(PrintStop::WriteFault),
     }
@@ -107,7 +134,7 @@ fn print_exchanges<W: Sink>(alloc: Global, count: u64, out: &mut W) -> Result<()
     }
 }
 
-/// Prints the lines of the objects of a table as one piece.
+/// Prints the lines of the objects of a table.
 pub fn print_objects<W: Sink>(alloc: Global, table: &Heap, out: &mut W) -> Result<(), PrintStop>
     ensures { Prints (shown_table 0 table.now) result (output W.Sink out.old) (output W.Sink out.new) }
 {

@@ -115,20 +115,20 @@ fn other_words_are_not_understood(rt: HostRuntime) -> Result<(), Fail> {
     Ok(())
 }
 
-/// What `both p s` answers on the first example, over an output of which a write fails and that takes
-/// so many bytes at most.
-fn cut_off(alloc: Global, failing: u64, most: usize) -> Result<String, Fail> {
+/// What words answer on the first example, over an output of which a write fails and that takes so many
+/// bytes at most.
+fn cut_off(alloc: Global, words: &str, failing: u64, most: usize) -> Result<String, Fail> {
     let failing = Seq::from_slice(alloc, &[failing])?;
     let out = MemorySink::make(alloc, failing, most.max(1));
     let files = files_of(alloc, Some(PROGRAM), Some(SERVICE))?;
-    answer_over(alloc, "both p s", files, out)
+    answer_over(alloc, words, files, out)
 }
 
-/// Fails unless, where a write of the first example fails, the text beside it is answered.
-fn cut_offs_are(alloc: Global, rows: &[(u64, usize, &str)]) -> Result<(), Fail> {
+/// Fails unless words answer on the first example, where a write fails, the text beside it.
+fn cut_offs_are(alloc: Global, words: &str, rows: &[(u64, usize, &str)]) -> Result<(), Fail> {
     for (failing, most, wanted) in rows {
-        let answered = cut_off(alloc, *failing, *most)?;
-        expect(alloc, "both p s", answered.as_str(), wanted)?;
+        let answered = cut_off(alloc, words, *failing, *most)?;
+        expect(alloc, words, answered.as_str(), wanted)?;
     }
     Ok(())
 }
@@ -137,6 +137,7 @@ fn cut_offs_are(alloc: Global, rows: &[(u64, usize, &str)]) -> Result<(), Fail> 
 fn lines_before_a_failed_write_stand(rt: HostRuntime) -> Result<(), Fail> {
     cut_offs_are(
         rt.alloc(),
+        "both p s",
         &[
             (1, usize::MAX, "9 "),
             (2, usize::MAX, "9 7\n"),
@@ -145,6 +146,20 @@ fn lines_before_a_failed_write_stand(rt: HostRuntime) -> Result<(), Fail> {
             (5, usize::MAX, "0 7\ndone\nexchanges 1\nobject 0: D { }\n"),
             (99, 1, "0 7\ndone\nexchanges 1\nobject 0: D { }\n"),
             (4, 1, "9 7\nd"),
+        ],
+    )
+}
+
+#[test]
+fn each_line_of_a_view_is_written_by_itself(rt: HostRuntime) -> Result<(), Fail> {
+    cut_offs_are(
+        rt.alloc(),
+        "split p",
+        &[
+            (1, usize::MAX, "9 "),
+            (2, usize::MAX, "9 batch 1:38\n"),
+            (3, usize::MAX, "9 batch 1:38\ninputs\n"),
+            (4, usize::MAX, "9 batch 1:38\ninputs\nscript\n"),
         ],
     )
 }
