@@ -1,6 +1,5 @@
 -- What is answered where the outside tells all that a command needs.
 use Rattle.std.proofs.Common.{◌≡◌, ◌⊎◌, ℕ, false, List, [], ◌++◌, Option, None, Some, Result, Ok, Err, codes, ap, sym, ◌∙◌, refl, subst, inl, inr}
-use Rattle.rb_trees.specs.declared.outcomes.Run as outcome
 use Rattle.rb_trees.specs.mirror.Declarations.{Program}
 use Rattle.rb_meaning.specs.Links.{Behind, server_told}
 use Rattle.rb_meaning.specs.Shown.{exchanges, line, shown_events}
@@ -8,14 +7,7 @@ use Rattle.rb_meaning_split.specs.Division.{Division, divisions}
 use Rattle.rb_shown.specs.Views.{shown_divisions}
 use Rattle.rb_base.specs.Devices.{Device, failed}
 use Rattle.rb_base.specs.Directories.{Directory}
-use Rattle.rb_base.specs.Sinks.{WrotePrefix}
 use Rattle.rb_base.specs.declared.links.Link as links
-use Rattle.rb_base.proofs.Pieces.{prefix_front}
-use Rattle.rb_client.specs.Runs.{FailsAsListed}
-use Rattle.rb_client.specs.Servers.{FailsAfter, fails_after}
-use Rattle.rb_client.specs.declared.stops.RunStop.{RunStop}
-use Rattle.rb_client.specs.declared.stops.RunStop.TheVariants as stops
-use Rattle.rb_client.specs.Headline.{EndsAsMeant, meant_on}
 use Rattle.rb_session.specs.Dials.{DialSeen, TakesNext, next_link}
 use Rattle.rb_session.specs.declared.dials.DialStop.TheVariants as dials
 use Rattle.rb_session.specs.declared.targets.Target.{Target}
@@ -26,9 +18,6 @@ use Rattle.rb_top.specs.Completeness.{CallsTold, ChecksTold, ComesToBatch, Dials
 use Rattle.rb_top.specs.DialRuns.{Dials, RunsInMemory, not_dialled, ran_in_memory, ran_over_link, starved_dialling, starved_for_link}
 use Rattle.rb_top.specs.Ends as ends
 use Rattle.rb_top.specs.Ends.{Ends, Tells, read_times}
-use Rattle.rb_top.specs.LinkRuns as runs
-use Rattle.rb_top.specs.LinkRuns.{EndsOver, RunsOverLink, SaysRun, over, served_by}
-use Rattle.rb_top.specs.Printing.{run_end_text}
 use Rattle.rb_top.specs.Runs.{Served, ended_status}
 use Rattle.rb_top.specs.Scene.{Scene, Outside}
 use Rattle.rb_top.specs.Unusable.{NoProgram, NoService}
@@ -38,7 +27,7 @@ use Rattle.rb_top.specs.declared.status.Status.TheVariants.{Done, Memory, Words}
 use Rattle.rb_top.specs.declared.words.Way.{Way}
 use Rattle.rb_top.specs.declared.words.Way.TheVariants.{Both, Unsplit, Pair}
 use Rattle.rb_top.proofs.Ended.{starved_at_once}
-use Rattle.rb_top.proofs.Serving.{ends_behind}
+use Rattle.rb_top.proofs.LinkRuns.{ends_far, ends_near}
 use Rattle.rb_top.proofs.Usable.{OneService, OneSource, accepted_is_usable, found_is_told, held_is_told, service_is_usable}
 
 -- what can't be told wasn't: memory was wanting, and nothing was said
@@ -152,13 +141,8 @@ module _ {L : Type 0} (g : links.Ghosts L) where
       inr (subst (λ x. RunsBy g way s text program fuel x result dial dial' before.out after.out) is (subst (RunsAs text program result dial dial' before after served') w r))
 
   -- `both P S FUEL` and `unsplit P S FUEL`
-  ended_near : (text : List ℕ) (p : Program) (fuel : ℕ) (served : Served) (link : L) (result : Status) (before after : Device (List ℕ)) → EndsOver g text p fuel served link result before after → EndsRun text p fuel served result before after
-  ended_near text p fuel served link result before after (runs.whole r o x) = inl (ends.whole r o)
-  ended_near text p fuel served link result before after (runs.cut r w) = inl (ends.cut r w)
-  ended_near text p fuel served link result before after (runs.starved r) = inr r
-
   in_memory : (text : List ℕ) (p : Program) (fuel : ℕ) (served : Served) (result : Status) (dial dial' : DialSeen L) (before after : Device (List ℕ)) → RunsInMemory g text p fuel served result dial dial' before after → EndsRun text p fuel served result before after
-  in_memory text p fuel served result dial dial' before after (ran_in_memory link e b) = ended_near text p fuel served link result before after e
+  in_memory text p fuel served result dial dial' before after (ran_in_memory link left new run back) = ends_near g text p fuel served link left result before after new run
   in_memory text p fuel served result dial dial' before after (starved_for_link r d o) = inr r
 
   run_near : (way : Way) (s text : List ℕ) (p : Program) (fuel : ℕ) (served : Served) (result : Status) (dial dial' : DialSeen L) (before after : Device (List ℕ)) → IsNear way → RunsBy g way s text p fuel served result dial dial' before after → EndsRun text p fuel served result before after
@@ -191,24 +175,6 @@ module _ {L : Type 0} (g : links.Ghosts L) where
       by_case way s text fuel program served near (inl r) = inr r
       by_case way s text fuel program served near (inr r) = run_near way s text program fuel served result before.dial after.dial before.scene.out after.scene.out near r
 
-  -- a run over an honest link, of which no exchange fails
-  far_by : (text : List ℕ) (p : Program) (fuel : ℕ) (b : Behind) (link left : L) (result : Status) (before lines after : Device (List ℕ)) (answer : Result outcome.Run RunStop) → ((k : ℕ) → ComesToBatch p fuel (served_by b) k → fails_after k b ≡ false) → server_told (g.told link) ≡ Some b
-      → EndsAsMeant p fuel b answer (over g link before) (over g left lines) → FailsAsListed answer (over g link before) (over g left lines) → SaysRun text answer result lines after → EndsFar text p fuel b result before after
-  far_by text p fuel b link left result before lines after (Ok run) none e means lists says =
-      let m = meant_on p fuel b in
-      let said = ends_behind (ended_status run.ending) (shown_events m.events) (run_end_text text run.ending run.exchanges) result before lines after means.written says in
-      inl (subst (λ n. Ends (ended_status m.ending) (shown_events m.events ++ run_end_text text m.ending n) result before after) means.exchanges_so
-      (subst (λ x. Ends (ended_status x) (shown_events m.events ++ run_end_text text x run.exchanges) result before after) means.ending_so said))
-  far_by text p fuel b link left result before lines after (Err (stops.LinkFault k)) none e means lists says =
-      let fails = subst (FailsAfter k) e lists.1 in
-      let never = none k (record { at = means.at; local = means.local; go = means.go; outside = means.outside; comes = means.comes; count = means.count }) in
-      absurd (cc (sym fails ∙ never))
-  far_by text p fuel b link left result before lines after (Err (stops.BadReply k why kind bytes)) none e means lists says = absurd means
-  far_by text p fuel b link left result before lines after (Err stops.WriteFault) none e means lists says =
-      let m = meant_on p fuel b in
-      inl (ends.cut says.0 (prefix_front (failed before) after (shown_events m.events) (run_end_text text m.ending (exchanges m.events)) (subst (λ o. WrotePrefix (failed before) o (shown_events m.events)) (sym says.1) means)))
-  far_by text p fuel b link left result before lines after (Err stops.Memory) none e means lists says = inr says
-
   one_link : (a b : L) (o : Option L) → o ≡ Some a → o ≡ Some b → b ≡ a
   one_link a b o e f =
       let both = sym f ∙ e in
@@ -219,7 +185,7 @@ module _ {L : Type 0} (g : links.Ghosts L) where
   dialled_far text p fuel target b result dial dial' before after h (ran_over_link link left takes dialled run back) =
       let same = one_link h.link link (next_link h.dialling target) h.next (subst (TakesNext target (Ok link)) h.tells takes) in
       let tells = ap (λ l. server_told (g.told l)) same ∙ h.server in
-      far_by text p fuel b link left result before run.lines after run.answer h.none_fails tells (run.means (subst g.honest (sym same) h.honest) b tells) run.lists run.says
+      ends_far g text p fuel b link left result before after (subst g.honest (sym same) h.honest) h.none_fails tells run
   dialled_far text p fuel target b result dial dial' before after h (not_dialled takes said back) =
       absurd (cc (sym h.next ∙ subst (TakesNext target (Err dials.Failed)) h.tells takes))
   dialled_far text p fuel target b result dial dial' before after h (starved_dialling r had o) = inr r

@@ -1,156 +1,150 @@
 -- Runs over a link that is new and honest.
-use Rattle.std.proofs.Common.{◌≡◌, ℕ, zero, suc, List, [], ◌∷◌, length, Bool, true, false, Option, None, Some, option_map, Result, Ok, Err, ap, sym, ◌∙◌, refl, subst, arith}
+use Rattle.std.proofs.Common.{◌≡◌, ◌⊎◌, ℕ, zero, suc, List, [], ◌++◌, Bool, true, false, Option, None, Some, option_map, Result, Ok, Err, ap, sym, ◌∙◌, refl, subst, inl, inr, arith}
 use Rattle.std.specs.Prelude.{◌==◌}
 use Rattle.std.specs.List.{list_any}
 use Rattle.rb_trees.specs.declared.outcomes.Run.{Run}
 use Rattle.rb_trees.specs.declared.services.Object.{Object}
 use Rattle.rb_trees.specs.mirror.Declarations.{Program}
-use Rattle.rb_trees.specs.mirror.Forests.{Node}
 use Rattle.rb_trees.specs.mirror.Services.{Service}
-use Rattle.rb_meaning.specs.Links.{Pair, Behind, pairs_told, server_told}
-use Rattle.rb_meaning_split.specs.Client.{Sent, client}
-use Rattle.rb_headline_laws.specs.Clients.{ScriptsGive}
+use Rattle.rb_meaning.specs.Links.{Behind, Told, server_told}
+use Rattle.rb_meaning.specs.Shown.{exchanges, shown, shown_events}
 use Rattle.rb_base.specs.Counts.{risen}
-use Rattle.rb_base.specs.Devices.{Device}
+use Rattle.rb_base.specs.Devices.{Device, failed}
 use Rattle.rb_base.specs.Links.{Lends}
+use Rattle.rb_base.specs.Sinks.{WrotePrefix}
 use Rattle.rb_base.specs.declared.links.Link as links
-use Rattle.rb_client.specs.Exchanges.{Exchanges}
-use Rattle.rb_client.specs.Headline.{MeansProgram}
-use Rattle.rb_client.specs.Replies.{more_pairs}
-use Rattle.rb_client.specs.Runs.{Ran}
-use Rattle.rb_client.specs.Servers.{FailsAfter, IsServer, PerformedAll, fails_after, later}
+use Rattle.rb_base.proofs.Pieces.{prefix_front}
+use Rattle.rb_client.specs.Headline.{EndsAsMeant, MeansProgram, meant_on}
+use Rattle.rb_client.specs.Runs.{FailsAsListed}
+use Rattle.rb_client.specs.Servers.{FailsAfter, IsServer, fails_after, later}
+use Rattle.rb_client.specs.declared.stops.RunStop.{RunStop}
+use Rattle.rb_client.specs.declared.stops.RunStop.TheVariants as stops
 use Rattle.rb_exec.specs.Hosted.{Hosted}
 use Rattle.rb_session.specs.Answering.{IsTypedHost}
 use Rattle.rb_session.specs.Dials.{Dialling, GoesOn, HasOneOut, one_more_out, told_after_dial}
 use Rattle.rb_session.specs.declared.targets.Target.{Target}
-use Rattle.rb_session.specs.MemoryLinks.{IsHonest, LinkInMemory, behind, new_link, told_of}
-use Rattle.rb_top.specs.Commands.{run_answer, stopped_status}
-use Rattle.rb_top.specs.LinkRuns.{Carries, EndsOver, IsNew, PrintsAsMeant, behind_of, cut, meant_over, over, served_by, starved, whole}
-use Rattle.rb_top.specs.Printing.{PrintsAnswering, end_text}
-use Rattle.rb_top.specs.Runs.{PrintsRun, Served, ended_status}
+use Rattle.rb_session.specs.MemoryLinks.{IsHonest, LinkInMemory, new_link, told_of}
+use Rattle.rb_top.specs.Answers.{EndsRun}
+use Rattle.rb_top.specs.Commands.{run_answer}
+use Rattle.rb_top.specs.Completeness.{ComesToBatch, EndsFar}
+use Rattle.rb_top.specs.Ends as ends
+use Rattle.rb_top.specs.Ends.{Ends}
+use Rattle.rb_top.specs.LinkRuns.{IsNew, RunsOverLink, SaysRun, behind_of, new_server, over, run_end, run_end_with_table, served_by}
+use Rattle.rb_top.specs.Printing.{PrintsAnswering, end_text, run_end_text}
+use Rattle.rb_top.specs.Runs.{Served, ended_status, served_on}
 use Rattle.rb_top.specs.declared.printing.PrintStop.{PrintStop}
 use Rattle.rb_top.specs.declared.printing.PrintStop.TheVariants as print
 use Rattle.rb_top.specs.declared.status.Status.{Status}
-use Rattle.rb_top.proofs.RunEnds.{lines_cut, run_told}
+use Rattle.rb_top.specs.declared.status.Status.TheVariants.{Memory}
+use Rattle.rb_top.proofs.Printed.{ends_behind}
+use Rattle.rb_top.proofs.RunEnds.{ending_text, shown_so}
 
--- there is a pair for each script that was sent
-as_many : (p : Program) (pairs : List Pair) (sent : List Sent) (nodes : List Node) → Exchanges p pairs sent nodes → length pairs ≡ length sent
-as_many p [] [] [] h = refl
-as_many p [] [] (n ∷ ns) h = absurd h
-as_many p [] (x ∷ xs) nodes h = absurd h
-as_many p (y ∷ ys) [] nodes h = absurd h
-as_many p (y ∷ ys) (x ∷ xs) [] h = absurd h
-as_many p (y ∷ ys) (x ∷ xs) (n ∷ ns) h = ap suc (as_many p ys xs ns h.1)
-
--- the server performed what was sent, up to the table that it has
-performed_by : (b : Behind) (x : Option Behind) (sent : List Sent) (nodes : List Node) (table : List Object) → PerformedAll (Some b) x sent nodes → IsServer x b.service table → ScriptsGive b.service b.table sent nodes table
-performed_by b None sent nodes table p s = absurd p
-performed_by b (Some a) sent nodes table p s = subst (ScriptsGive b.service b.table sent nodes) s.1 p.1
-
--- the table that is lent is the server's
-pub lent_table : (lends : Bool) (x : Option Behind) (s : Service) (wanted : List Object) (table : List Object) → lends ≡ true → IsServer x s wanted → Lends lends x (Some table) → table ≡ wanted
-lent_table true None s wanted table e is l = absurd is
-lent_table true (Some b) s wanted table e is l = some_one table b.table l ∙ is.1
+-- the table that is lent is that of the server which the link tells
+lent_table : (lends : Bool) (told : Option Told) (table : List Object) → lends ≡ true → Lends lends (server_told told) (Some table) → table ≡ (behind_of told).table
+lent_table true told table e l = by_server (server_told told) refl l
   where
     some_one : (t u : List Object) → Some t ≡ Some u → t ≡ u
     some_one t u q = cc
-lent_table false x s wanted table e is l = absurd (cc e)
 
-pub none_lent : (lends : Bool) (x : Option Behind) (s : Service) (wanted : List Object) → lends ≡ true → IsServer x s wanted → Lends lends x None → ⊥
-none_lent true None s wanted e is l = is
-none_lent true (Some b) s wanted e is l = absurd (cc l)
-none_lent false x s wanted e is l = absurd (cc e)
+    by_server : (x : Option Behind) → server_told told ≡ x → Lends true x (Some table) → table ≡ (behind_of told).table
+    by_server None s l = absurd l
+    by_server (Some b) s l = rw s (some_one table b.table l)
+lent_table false told table e l = absurd (cc e)
+
+pub none_lent : (lends : Bool) (x : Option Behind) → lends ≡ true → Lends lends x None → ⊥
+none_lent true None e l = l
+none_lent true (Some b) e l = absurd (cc l)
+none_lent false x e l = absurd (cc e)
+
+-- what was said behind the lines of a run that ended
+said_so : (ended : Status) (text : List ℕ) (r : Result Status PrintStop) (result : Status) (before after : Device (List ℕ)) → result ≡ run_answer r → PrintsAnswering ended text r before after → Ends ended text result before after
+said_so ended text (Ok status) result before after e h = ends.whole (e ∙ h.0) h.1
+said_so ended text (Err print.WriteFault) result before after e h = ends.cut e h
+said_so ended text (Err print.Memory) result before after e h = ends.starved e h
+
+pub says_run : (text : List ℕ) (run : Run) (r : Result Status PrintStop) (result : Status) (before after : Device (List ℕ)) → result ≡ run_answer r → PrintsAnswering (ended_status run.ending) (run_end_text text run.ending run.exchanges) r before after
+    → Ends (ended_status run.ending) (run_end_text text run.ending run.exchanges) result before after
+says_run text run r result before after e h = said_so (ended_status run.ending) (run_end_text text run.ending run.exchanges) r result before after e h
 
 -- no exchange is listed, however many there were
 later_failing : (k : ℕ) (b : Behind) → (later k b).failing ≡ b.failing
 later_failing zero b = refl
 later_failing (suc k) b = later_failing k b
 
-listed_nowhere : (n : ℕ) (ns : List ℕ) → ns ≡ [] → list_any (λ m. m == n) ns ≡ true → ⊥
-listed_nowhere n [] e h = absurd (cc h)
-listed_nowhere n (m ∷ ms) e h = absurd (cc e)
+never_fails : (k : ℕ) (b : Behind) → b.failing ≡ [] → fails_after k b ≡ false
+never_fails k b none = ap (list_any (λ n. n == risen (later k b).made)) (later_failing k b ∙ none)
 
-never_fails : (k : ℕ) (b : Behind) → b.failing ≡ [] → fails_after k b ≡ true → ⊥
-never_fails k b none h =
-    let e = later_failing k b ∙ none in
-    absurd (listed_nowhere (risen (later k b).made) (later k b).failing e h)
+-- the table that an honest run left
+left_table : (told : Option Told) (s : Service) (table : List Object) → IsServer (server_told told) s table → (behind_of told).table ≡ table
+left_table told s table h = by_server (server_told told) refl h
+  where
+    by_server : (x : Option Behind) → server_told told ≡ x → IsServer x s table → (behind_of told).table ≡ table
+    by_server None e h = absurd h
+    by_server (Some b) e h = rw e h.1
 
 module _ {L : Type 0} (g : links.Ghosts L) where
-  pub never_lost : (b : Behind) (link : L) (k : ℕ) → IsNew g b link → FailsAfter k (server_told (g.told link)) → ⊥
-  never_lost b link k new h = never_fails k b new.none_fails (subst (FailsAfter k) (ap server_told new.tells) h)
+  -- what is said behind the lines of a run that ended over a link that lends its table, with the table that it lends
+  pub says_with_table : (text : List ℕ) (left : L) (run : Run) (table : List Object) (r : Result Status PrintStop) (result : Status) (before after : Device (List ℕ)) → g.lends left ≡ true → Lends (g.lends left) (server_told (g.told left)) (Some table)
+      → result ≡ run_answer r → PrintsAnswering (ended_status run.ending) (end_text text run.ending run.exchanges table) r before after → SaysRun (run_end_with_table g text left) (Ok run) result before after
+  says_with_table text left run table r result before after lends lent e h =
+      let same = lent_table (g.lends left) (g.told left) table lends lent in
+      subst (λ t. Ends (ended_status run.ending) (end_text text run.ending run.exchanges t) result before after) same
+      (said_so (ended_status run.ending) (end_text text run.ending run.exchanges table) r result before after e h)
 
-  carried : (p : Program) (fuel : ℕ) (b : Behind) (link left : L) (run : Run) (out out' : Device (List ℕ)) → IsNew g b link → Ran p fuel run (over g link out) (over g left out')
-      → MeansProgram p fuel b run (over g link out) (over g left out') → Carries g p fuel (served_by b) left
-  carried p fuel b link left run out out' new ran means =
-      let sent = (client p fuel ran.nodes).sent in
-      let x = ran.exchanged.exchanged in
-      record {
-        pairs = x.pairs;
-        sent = sent;
-        nodes = ran.nodes;
-        tells = x.pairs_so ∙ ap (λ t. more_pairs x.pairs (pairs_told t)) new.tells;
-        count = as_many p x.pairs sent ran.nodes x.exchanges ∙ sym ran.exchanges_so ∙ means.exchanges_so;
-        exchanges_so = x.exchanges;
-        performed = performed_by b (server_told (g.told left)) sent ran.nodes (meant_over p fuel (served_by b)).table
-            (subst (λ t. PerformedAll (server_told t) (server_told (g.told left)) sent ran.nodes) new.tells (ran.exchanged.served new.honest)) means.table_so;
-        table = means.table_so;
-        whole = ran.faults_so ∙ new.whole;
-      }
+  -- A write failed in the lines: a front of them was written.
+  lines_cut : (p : Program) (fuel : ℕ) (b : Behind) (link left : L) (before lines : Device (List ℕ)) → EndsAsMeant p fuel b (Err stops.WriteFault) (over g link before) (over g left lines)
+      → WrotePrefix (failed before) lines (shown_events (meant_on p fuel b).events)
+  lines_cut p fuel b link left before lines means = means
 
-  -- what an honest client's run left is what the program means on the server behind the link
-  pub as_meant : (p : Program) (fuel : ℕ) (b : Behind) (link left : L) (run : Run) (out out' : Device (List ℕ)) → IsNew g b link → Ran p fuel run (over g link out) (over g left out')
-      → MeansProgram p fuel b run (over g link out) (over g left out') → PrintsAsMeant g p fuel (served_by b) left (Ok run) out out'
-  as_meant p fuel b link left run out out' new ran means = (
-    record {
-      ending_so = means.ending_so;
-      exchanges_so = means.exchanges_so;
-      lends = ran.exchanged.lends_so ∙ new.lends;
-      carries = carried p fuel b link left run out out' new ran means;
-    },
-    means.written,
-  )
+  -- A run over an honest link, of which no exchange fails, with what is said behind its lines where it ends as the program means.
+  as_meant : (closing : Run → List ℕ) (said : List ℕ) (p : Program) (fuel : ℕ) (b : Behind) (link left : L) (result : Status) (before lines after : Device (List ℕ)) (answer : Result Run RunStop)
+      → ((run : Run) → MeansProgram p fuel b run (over g link before) (over g left lines) → closing run ≡ said) → ((k : ℕ) → ComesToBatch p fuel (served_by b) k → fails_after k b ≡ false) → server_told (g.told link) ≡ Some b
+      → EndsAsMeant p fuel b answer (over g link before) (over g left lines) → FailsAsListed answer (over g link before) (over g left lines) → SaysRun closing answer result lines after
+      → Ends (ended_status (meant_on p fuel b).ending) (shown_events (meant_on p fuel b).events ++ said) result before after ⊎ (result ≡ Memory)
+  as_meant closing said p fuel b link left result before lines after (Ok run) closes none e means lists says =
+      let m = meant_on p fuel b in
+      inl (subst (λ x. Ends (ended_status x) (shown_events m.events ++ said) result before after) means.ending_so
+      (subst (λ t. Ends (ended_status run.ending) (shown_events m.events ++ t) result before after) (closes run means)
+      (ends_behind (ended_status run.ending) (shown_events m.events) (closing run) result before lines after means.written says)))
+  as_meant closing said p fuel b link left result before lines after (Err (stops.LinkFault k)) closes none e means lists says =
+      let fails = subst (FailsAfter k) e lists.1 in
+      let never = none k (record { at = means.at; local = means.local; go = means.go; outside = means.outside; comes = means.comes; count = means.count }) in
+      absurd (cc (sym fails ∙ never))
+  as_meant closing said p fuel b link left result before lines after (Err (stops.BadReply k why kind bytes)) closes none e means lists says = absurd means
+  as_meant closing said p fuel b link left result before lines after (Err stops.WriteFault) closes none e means lists says =
+      let cut = lines_cut p fuel b link left before lines means in
+      inl (ends.cut says.0 (prefix_front (failed before) after (shown_events (meant_on p fuel b).events) said (subst (λ o. WrotePrefix (failed before) o (shown_events (meant_on p fuel b).events)) (sym says.1) cut)))
+  as_meant closing said p fuel b link left result before lines after (Err stops.Memory) closes none e means lists says = inr says
 
-  -- a run that was printed to its end, or not
-  ends_over : (text : List ℕ) (p : Program) (fuel : ℕ) (served : Served) (link : L) (r : Result Status PrintStop) (result : Status) (before after : Device (List ℕ)) → result ≡ run_answer r → Carries g p fuel served link
-      → PrintsRun text fuel p served r before after → EndsOver g text p fuel served link result before after
-  ends_over text p fuel served link (Ok status) result before after e x h = whole (e ∙ h.0) h.1 x
-  ends_over text p fuel served link (Err print.WriteFault) result before after e x h = cut e h
-  ends_over text p fuel served link (Err print.Memory) result before after e x h = starved e
+  -- So it is over a link that was dialled.
+  pub ends_far : (text : List ℕ) (p : Program) (fuel : ℕ) (b : Behind) (link left : L) (result : Status) (before after : Device (List ℕ)) → g.honest link → ((k : ℕ) → ComesToBatch p fuel (served_by b) k → fails_after k b ≡ false) → server_told (g.told link) ≡ Some b
+      → RunsOverLink g (run_end text) p fuel link left result before after → EndsFar text p fuel b result before after
+  ends_far text p fuel b link left result before after honest none e run =
+      let m = meant_on p fuel b in
+      as_meant (run_end {L = L} text left) (run_end_text text m.ending (exchanges m.events)) p fuel b link left result before run.lines after run.answer
+      (λ r means. ap (λ x. run_end_text text x r.exchanges) means.ending_so ∙ ap (run_end_text text m.ending) means.exchanges_so) none e (run.means honest b e) run.lists run.says
 
-  -- what follows the lines was printed too
-  pub ended_over : (text : List ℕ) (p : Program) (fuel : ℕ) (served : Served) (link : L) (run : Run) (table : List Object) (r : Result Status PrintStop) (result : Status) (before mid after : Device (List ℕ))
-      → result ≡ run_answer r → PrintsAsMeant g p fuel served link (Ok run) before mid → Lends (g.lends link) (server_told (g.told link)) (Some table)
-      → PrintsAnswering (ended_status run.ending) (end_text text run.ending run.exchanges table) r mid after → EndsOver g text p fuel served link result before after
-  ended_over text p fuel served link run table r result before mid after e h lent printed =
-      let m = meant_over p fuel served in
-      let same = lent_table (g.lends link) (server_told (g.told link)) served.0 m.table table h.0.lends h.0.carries.table lent in
-      ends_over text p fuel served link r result before after e h.0.carries
-      (run_told text m run table r before mid after (record { ending_so = h.0.ending_so; exchanges_so = h.0.exchanges_so; table_so = same }, h.1) printed)
-
-  -- the lines weren't printed whole
-  pub cut_over : (text : List ℕ) (p : Program) (fuel : ℕ) (served : Served) (link : L) (stop : PrintStop) (result : Status) (before after : Device (List ℕ)) → result ≡ stopped_status stop
-      → PrintsAsMeant g p fuel served link (Err stop) before after → EndsOver g text p fuel served link result before after
-  cut_over text p fuel served link print.WriteFault result before after e h = cut e (lines_cut text (meant_over p fuel served) [] print.WriteFault before after h)
-  cut_over text p fuel served link print.Memory result before after e h = starved e
+  -- And over one to a new server, with the table.
+  pub ends_near : (text : List ℕ) (p : Program) (fuel : ℕ) (served : Served) (link left : L) (result : Status) (before after : Device (List ℕ)) → IsNew g served link → RunsOverLink g (run_end_with_table g text) p fuel link left result before after
+      → EndsRun text p fuel served result before after
+  ends_near text p fuel served link left result before after new run =
+      let b = new_server served in
+      let m = meant_on p fuel b in
+      let e = ap server_told new.tells in
+      subst (λ t. Ends (ended_status m.ending) t result before after ⊎ (result ≡ Memory)) (sym (shown_so text m))
+      (as_meant (run_end_with_table g text left) (ending_text text m) p fuel b link left result before run.lines after run.answer
+      (λ r means. ap (λ x. end_text text x r.exchanges (behind_of (g.told left)).table) means.ending_so ∙ ap (λ n. end_text text m.ending n (behind_of (g.told left)).table) means.exchanges_so
+      ∙ ap (end_text text m.ending (exchanges m.events)) (left_table (g.told left) b.service m.table means.table_so))
+      (λ k comes. never_fails k b refl) e (run.means new.honest b e) run.lists run.says)
 
   -- a link in memory that was made one of a Dial's is new
-  pub new_over : (host : Hosted) (inner : LinkInMemory) (link : L) → inner ≡ new_link host → IsTypedHost host → GoesOn g inner link → IsNew g (behind (new_link host)) link
+  pub new_over : (host : Hosted) (inner : LinkInMemory) (link : L) → inner ≡ new_link host → IsTypedHost host → GoesOn g inner link → IsNew g (served_on host.service host.table) link
   new_over host inner link e typed on = record {
     tells = on.told ∙ ap (λ l. Some (told_of l)) e;
-    none_fails = refl;
     whole = on.whole;
     lends = on.lends_its;
     honest = on.honest (subst (λ l. IsHonest l) (sym e) (record { fresh = refl; typed = typed }));
   }
-
-  -- the server that it tells is the one that it was made for
-  pub its_behind : (host : Hosted) (inner : LinkInMemory) (link : L) → inner ≡ new_link host → GoesOn g inner link → behind_of (g.told link) ≡ behind (new_link host)
-  its_behind host inner link e on = ap behind_of (on.told ∙ ap (λ l. Some (told_of l)) e)
-
-  -- a run over it is one over the link that it was made of
-  pub ends_behind : (host : Hosted) (inner : LinkInMemory) (link left : L) (text : List ℕ) (p : Program) (fuel : ℕ) (result : Status) (before after : Device (List ℕ)) → inner ≡ new_link host → GoesOn g inner link
-      → EndsOver g text p fuel (served_by (behind_of (g.told link))) left result before after → EndsOver g text p fuel (served_by (behind (new_link host))) left result before after
-  ends_behind host inner link left text p fuel result before after e on h = subst (λ b. EndsOver g text p fuel (served_by b) left result before after) (its_behind host inner link e on) h
 
 -- a link is out, once one more is
 pub one_is_out : {L : Type 0} (told : Option (Dialling L)) → HasOneOut (option_map one_more_out told)

@@ -17,10 +17,10 @@ use Rattle.rb_top.specs.declared.status.Status.{Status}
 use Rattle.rb_top.proofs.Printed.{stops_first, stops_next}
 
 -- what follows the lines of a meaning
-abbrev ending_text : List ℕ → Meaning → List ℕ
+abbrev pub ending_text : List ℕ → Meaning → List ℕ
 ending_text text m = end_text text m.ending (exchanges m.events) m.table
 
-shown_so : (text : List ℕ) (m : Meaning) → shown text m ≡ shown_events m.events ++ ending_text text m
+pub shown_so : (text : List ℕ) (m : Meaning) → shown text m ≡ shown_events m.events ++ ending_text text m
 shown_so text m =
     let lines = shown_events m.events in
     let ended = line (shown_ending text m.ending) in

@@ -8,7 +8,7 @@ use Rattle.rb_session.specs.Dials.{DialSeen, IsDialled, TakesNext, after_back, a
 use Rattle.rb_session.specs.declared.dials.DialStop.TheVariants as stops
 use Rattle.rb_session.specs.declared.targets.Target.{Target}
 use Rattle.rb_top.specs.Ends.{Ends}
-use Rattle.rb_top.specs.LinkRuns.{EndsOver, RunsOverLink}
+use Rattle.rb_top.specs.LinkRuns.{IsNew, RunsOverLink, run_end, run_end_with_table}
 use Rattle.rb_top.specs.Runs.{Served}
 use Rattle.rb_top.specs.declared.status.Status.{Status}
 use Rattle.rb_top.specs.declared.status.Status.TheVariants.{DialFault, Memory}
@@ -17,11 +17,11 @@ use Rattle.rb_top.specs.declared.status.Status.TheVariants.{DialFault, Memory}
 abbrev pub around_and_back : {L : Type 0} → links.Ghosts L → L → DialSeen L → DialSeen L
 around_and_back g link d = after_back g link (record d { told = option_map one_more_out d.told })
 
--- A program was run over a link in memory, begun on the service and its table, and the link came back. Where memory was wanting for
--- the link, nothing was printed.
+-- A program was run over a link to a new server of the service, with its table; behind its lines the table was printed that the
+-- server has then; and the link came back. Where memory was wanting for the link, nothing was printed.
 pub data RunsInMemory {L : Type 0} (g : links.Ghosts L) (text : List ℕ) (p : Program) (fuel : ℕ) (served : Served) (result : Status) (dial after_it : DialSeen L) (before after : Device (List ℕ)) : Type 0 where
-  ran_in_memory : (link : L) → EndsOver g text p fuel served link result before after → after_it ≡ around_and_back g link dial
-      → RunsInMemory g text p fuel served result dial after_it before after
+  ran_in_memory : (link left : L) → IsNew g served link → RunsOverLink g (run_end_with_table g text) p fuel link left result before after
+      → after_it ≡ around_and_back g left dial → RunsInMemory g text p fuel served result dial after_it before after
   starved_for_link : result ≡ Memory → after_it ≡ dial → after ≡ before → RunsInMemory g text p fuel served result dial after_it before after
 
 -- No link was had: memory was wanting before the Dial was asked, or in it.
@@ -31,7 +31,7 @@ HadNone target dial after_it = (after_it ≡ dial) ⊎ (after_it ≡ after_dial 
 -- A target was dialled, and a program was run over its link, which came back; no other was dialled. Or it can't be dialled, and that
 -- was said.
 pub data Dials {L : Type 0} (g : links.Ghosts L) (text : List ℕ) (p : Program) (fuel : ℕ) (target : Target) (result : Status) (dial after_it : DialSeen L) (before after : Device (List ℕ)) : Type 0 where
-  ran_over_link : (link left : L) → TakesNext target (Ok link) dial.told → IsDialled g link → RunsOverLink g text p fuel link left result before after
+  ran_over_link : (link left : L) → TakesNext target (Ok link) dial.told → IsDialled g link → RunsOverLink g (run_end text) p fuel link left result before after
       → after_it ≡ after_back g left (after_dial target (Ok link) dial) → Dials g text p fuel target result dial after_it before after
   not_dialled : TakesNext target (Err stops.Failed) dial.told → Ends DialFault (line (codes "dial fault")) result before after
       → after_it ≡ after_dial target (Err stops.Failed) dial → Dials g text p fuel target result dial after_it before after

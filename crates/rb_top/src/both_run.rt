@@ -1,27 +1,28 @@
 // A run of a program over a link in memory: each batch is one exchange, and what the program shows is printed.
 
-ghost use Rattle.std.specs.Prelude.{◌≡◌, IfOk};
+ghost use Rattle.std.specs.Prelude.{◌≡◌, true, IfOk};
 ghost use Rattle.rb_trees.specs.mirror.Services.{mirror_service};
 ghost use Rattle.rb_meaning.specs.Links.{IsTyped};
 ghost use Rattle.rb_session.specs.Dials.{seen};
 ghost use Rattle.rb_session.specs.MemoryLinks.{new_link};
 ghost use Rattle.rb_top.specs.Accepted.{IsAccepted};
 ghost use Rattle.rb_top.specs.DialRuns.{RunsInMemory};
-ghost use Rattle.rb_top.specs.LinkRuns.{EndsOver, IsNew, PrintsAsMeant, behind_of, served_by};
+ghost use Rattle.rb_top.specs.LinkRuns.{RunsOverLink, run_end_with_table};
 ghost use Rattle.rb_top.specs.Runs.{served_on};
 ghost use Rattle.rb_top.specs.Scene.{Across};
 ghost use Rattle.rb_top.specs.Sources.{accepted_program};
 
-use crate::printing::{PrintStop, print_run_end_with_table};
-use crate::saying::{run_answer, stopped};
+use crate::printing::print_run_end_with_table;
+use crate::run_stops::say_stop;
+use crate::saying::run_answer;
 use crate::source::Accepted;
 use crate::status::Status;
 use rb_base::{Link, Sink};
-use rb_client::{RunStop, run_client};
+use rb_client::run_client;
 use rb_exec::Host;
 use rb_heap::Heap;
 use rb_session::{Dial, MemoryLink};
-use rb_trees::{Memory, Run, Service};
+use rb_trees::{Memory, Service};
 use std::alloc::Global;
 
 /// A link to a server with a service and its table.
@@ -33,35 +34,7 @@ fn link_to(alloc: Global, service: Service, table: Heap) -> Result<MemoryLink, M
     MemoryLink::make(alloc, host)
 }
 
-/// Runs a program with so much fuel over a new link, of which no exchange fails, prints its lines, and answers how it ended.
-///
-/// No reply of an honest link is refused.
-fn run_client_over<L: Link, W: Sink>(
-    alloc: Global,
-    program: &Accepted<'_>,
-    fuel: u64,
-    link: &mut L,
-    out: &mut W,
-) -> Result<Run, PrintStop>
-    requires accepted { IsAccepted program.now }
-    requires new { IsNew L.Link (behind_of (L.told link.old)) link.old }
-    ensures { let served = served_by (behind_of (L.told link.old)) in
-        Across W.Sink out.old out.new (PrintsAsMeant L.Link (accepted_program program.now) fuel served link.new result) }
-{
-    let typed = program.admitted.typed();
-    match run_client(alloc, typed, program.splits, fuel, link, out) {
-        Ok(run) => Ok(run),
-        Err(RunStop::WriteFault) => Err(PrintStop::WriteFault),
-        Err(RunStop::Memory) => Err(PrintStop::Memory),
-        Err(RunStop::LinkFault(_)) => unreachable!(),
-        Err(RunStop::BadReply { .. }) => unreachable!(),
-    }
-}
-
-/// Runs a program with so much fuel over a new link, of which no exchange fails, and prints what it means on the server behind it.
-///
-/// The program's lines and its ending come from what the link's server replies: over the link one script was exchanged for each
-/// batch that the program begins, and nothing else was.
+/// Runs a program with so much fuel over a link that lends the table of its server, and prints what it shows, and that table.
 fn run_over<L: Link, W: Sink>(
     alloc: Global,
     program: &Accepted<'_>,
@@ -70,12 +43,12 @@ fn run_over<L: Link, W: Sink>(
     out: &mut W,
 ) -> Status
     requires accepted { IsAccepted program.now }
-    requires new { IsNew L.Link (behind_of (L.told link.old)) link.old }
-    ensures { let x = program.now in let served = served_by (behind_of (L.told link.old)) in
-        Across W.Sink out.old out.new (EndsOver L.Link x.text.now (accepted_program x) fuel served link.new result) }
+    requires lends { L.lends link.old ≡ true }
+    ensures { let x = program.now in let closing = run_end_with_table L.Link x.text.now in
+        Across W.Sink out.old out.new (RunsOverLink L.Link closing (accepted_program x) fuel link.old link.new result) }
 {
-    match run_client_over(alloc, program, fuel, link, out) {
-        Err(stop) => stopped(stop),
+    let typed = program.admitted.typed();
+    match run_client(alloc, typed, program.splits, fuel, link, out) {
         Ok(run) => match link.table() {
             None => unreachable!(),
             Some(table) => run_answer(print_run_end_with_table(
@@ -86,6 +59,7 @@ fn run_over<L: Link, W: Sink>(
                 out,
             )),
         },
+        Err(stop) => say_stop(alloc, stop, out),
     }
 }
 

@@ -14,6 +14,7 @@ mod numbers;
 mod printing;
 mod refusals;
 mod refusing;
+mod run_stops;
 mod saying;
 mod server;
 mod service_refusals;

@@ -2,7 +2,7 @@ use Rattle.std.proofs.Common.{subst, ◌∙◌}
 use Rattle.rb_top.specs.Ends.{Ends}
 use Rattle.rb_top.specs.Scene.{output}
 use Rattle.rb_top.specs.declared.status.Status.TheVariants.{LinkFault}
-use Rattle.rb_top.proofs.dial_run.say_link_fault.Goals as goal
+use Rattle.rb_top.proofs.run_stops.say_link_fault.Goals as goal
 
 pub returns-in-Ok : goal.returns-in-Ok
 returns-in-Ok g c =
