@@ -1,11 +1,10 @@
--- What a server answers where its service and its address are told, and no call of the listener fails.
-use Rattle.std.proofs.Common.{◌≡◌, ◌⊎◌, ℕ, true, false, List, [], Option, None, Some, Result, Ok, Err, ap, sym, ◌∙◌, refl, subst, inl, inr}
-use Rattle.std.specs.Prelude.{IfSome, cond, is_some, option_map, ◌==◌}
+-- What a server answers where its service and its sessions are told, and none of its calls of the listener fails.
+use Rattle.std.proofs.Common.{◌≡◌, ◌<◌, ◌+◌, ◌⊎◌, ℕ, suc, true, false, List, length, Option, None, Some, Result, Ok, Err, ap, sym, ◌∙◌, refl, subst, inl, inr, arith}
+use Rattle.std.specs.Prelude.{IfSome, cond, is_some, option_map, unwrap_or, ◌==◌}
 use Rattle.std.specs.List.{list_any}
 use Rattle.rb_base.specs.Counts.{risen}
 use Rattle.rb_base.specs.Devices.{Device}
 use Rattle.rb_base.specs.Listening.{Back, GivesWhereTold, Listening, after_start, call_fails, started, with_back}
-use Rattle.rb_base.specs.declared.listens.Coming.{Coming}
 use Rattle.rb_base.specs.declared.links.Link as links
 use Rattle.rb_base.specs.declared.listens.ListenStop.TheVariants as stops
 use Rattle.rb_exec.specs.Hosted.{Hosted}
@@ -13,7 +12,7 @@ use Rattle.rb_session.specs.declared.serving.Served as session
 use Rattle.rb_session.specs.declared.serving.ServeStop.{ServeStop}
 use Rattle.rb_top.specs.Answers as answers
 use Rattle.rb_top.specs.Answers.{Says}
-use Rattle.rb_top.specs.Completeness.{IsDone, ListensWhole, ServesTold, ToldService}
+use Rattle.rb_top.specs.Completeness.{IsDone, ListensWhole, ServesTold, ToldService, after_calls}
 use Rattle.rb_top.specs.Ends as ends
 use Rattle.rb_top.specs.Ends.{Ends, Tells}
 use Rattle.rb_top.specs.Runs.{Served}
@@ -21,7 +20,7 @@ use Rattle.rb_top.specs.Scene.{Scene, Outside}
 use Rattle.rb_top.specs.Servers as servers
 use Rattle.rb_top.specs.Servers.{Listens, ServesAs, unheard}
 use Rattle.rb_top.specs.Sessions as sessions
-use Rattle.rb_top.specs.Sessions.{FailsToGive, Listener, ServedSome, ServesSessions, Starts}
+use Rattle.rb_top.specs.Sessions.{FailsToGive, Listener, ServedSome, ServesLast, ServesSessions, Starts}
 use Rattle.rb_top.specs.Unusable.{NoService}
 use Rattle.rb_top.specs.Words.{Serve, Child, Serving, Wanted, child_of}
 use Rattle.rb_top.specs.declared.status.Status.{Status}
@@ -29,79 +28,109 @@ use Rattle.rb_top.specs.declared.status.Status.TheVariants.{Done}
 use Rattle.rb_top.proofs.Complete.{only_starved}
 use Rattle.rb_top.proofs.Usable.{OneService, service_is_usable}
 
--- It is told what the listener holds, and no call of it is one that fails.
-record NeverFails (told : Option Listening) : Type 0 where
+-- What the listener tells after its start and so many sessions: the calls that it counts and lists are those of this run, and as many
+-- sessions came as are told.
+record Goes (first : Listening) (come served : ℕ) (told : Option Listening) : Type 0 where
   it : Listening
   tells : told ≡ Some it
-  none : it.failing ≡ []
+  calls_so : it.calls ≡ (after_calls (suc served) first).calls
+  failing_so : it.failing ≡ (after_calls (suc served) first).failing
+  come_so : served + length it.coming ≡ come
 
 ends_done : (text : List ℕ) (result : Status) (before after : Device (List ℕ)) → Ends Done text result before after → IsDone result
 ends_done text result before after (ends.whole r w) = inl r
 ends_done text result before after (ends.cut r w) = inr (inl r)
 ends_done text result before after (ends.starved r w) = inr (inr r)
 
--- a call doesn't fail
-no_call_fails : (l : Listening) → l.failing ≡ [] → call_fails l ≡ false
-no_call_fails l e = ap (list_any (λ n. n == risen l.calls)) e
+-- whether a call fails is told by the calls that are counted and listed
+same_call : (l m : Listening) → l.calls ≡ m.calls → l.failing ≡ m.failing → call_fails l ≡ call_fails m
+same_call l m c f = ap (λ n. list_any (λ k. k == risen n) l.failing) c ∙ ap (list_any (λ k. k == risen m.calls)) f
 
 -- a session was given
-still_after_giving : (first : Back) (before : Listening) (told : Option Listening) → before.failing ≡ [] → GivesWhereTold (Ok (Some first)) (Some before) told → NeverFails told
-still_after_giving first before None e g = absurd g
-still_after_giving first before (Some l) e g = record { it = l; tells = refl; none = ap (λ x. x.failing) g.1.is ∙ e }
+one_given : (listening : Listening) (come k : ℕ) (first : Back) (before after : Option Listening) → Goes listening come k before → GivesWhereTold (Ok (Some first)) before after → Goes listening come (suc k) after
+one_given listening come k first before after n g = by_told after (subst (λ t. GivesWhereTold (Ok (Some first)) t after) n.tells g)
+  where
+    by_told : (a : Option Listening) → GivesWhereTold (Ok (Some first)) (Some n.it) a → Goes listening come (suc k) a
+    by_told None g = absurd g
+    by_told (Some x) g = record {
+      it = x;
+      tells = refl;
+      calls_so = ap (λ y. y.calls) g.1.is ∙ ap risen n.calls_so;
+      failing_so = ap (λ y. y.failing) g.1.is ∙ n.failing_so;
+      come_so = let c = n.come_so in let l = ap length g.1.was_first in omega (arith, l);
+    }
 
-still_one : (answer : Result session.Served ServeStop) (host left : Hosted) (before after : Listener) → NeverFails before.told → sessions.ServesSession answer host left before after → NeverFails after.told
-still_one answer host left before after n s =
-    let given = still_after_giving s.first n.it s.given.told n.none (subst (λ t. GivesWhereTold (Ok (Some s.first)) t s.given.told) n.tells s.gives.gives) in
+-- and came back
+one_goes : (listening : Listening) (come k : ℕ) (answer : Result session.Served ServeStop) (host left : Hosted) (before after : Listener) → Goes listening come k before.told → sessions.ServesSession answer host left before after → Goes listening come (suc k) after.told
+one_goes listening come k answer host left before after n s =
+    let given = one_given listening come k s.first before.told s.given.told n s.gives.gives in
     record {
       it = with_back s.served.last given.it;
       tells = ap (λ l. l.told) s.served.back ∙ ap (option_map (with_back s.served.last)) given.tells;
-      none = given.none;
+      calls_so = given.calls_so;
+      failing_so = given.failing_so;
+      come_so = given.come_so;
     }
 
 -- however many were served
-still : (host : Hosted) (listen : Listener) (left : Hosted) (last : Listener) (n : ℕ) (lines : List ℕ) → NeverFails listen.told → ServedSome host listen n lines left last → NeverFails last.told
-still host listen left last n lines w sessions.none = w
-still host listen left last n lines w (sessions.one_more k more mid after before it answer s session fresh) = still_one answer mid after before it (still host listen mid before k more w s) session
+goes_on : (listening : Listening) (come : ℕ) (host : Hosted) (listen : Listener) (out : Device (List ℕ)) (n : ℕ) (left : Hosted) (last : Listener) (said : Device (List ℕ)) → Goes listening come 0 listen.told → ServedSome host listen out n left last said → Goes listening come n last.told
+goes_on listening come host listen out n left last said w sessions.none = w
+goes_on listening come host listen out n left last said w (sessions.one_more k mid it before after so_far answer s session fresh) =
+    one_goes listening come k answer mid it before after (goes_on listening come host listen out k mid before so_far w s) session
 
-never_none : (l : Listener) (after : Listener) → NeverFails l.told → FailsToGive l after → ⊥
-never_none l after n f = by_told after.told (subst (λ t. GivesWhereTold (Err stops.Failed) t after.told) n.tells f.gives)
+-- the next call doesn't fail
+never_refused : (address : List ℕ) (count n : ℕ) (told : Option Listening) (w : ListensWhole address count told) (last after : Listener) → n < count → Goes w.listening (length w.sessions) n last.told → FailsToGive last after → ⊥
+never_refused address count n told w last after few s f = by_told after.told (subst (λ t. GivesWhereTold (Err stops.Failed) t after.told) s.tells f.gives)
   where
-    by_told : (told : Option Listening) → GivesWhereTold (Err stops.Failed) (Some n.it) told → ⊥
+    by_told : (a : Option Listening) → GivesWhereTold (Err stops.Failed) (Some s.it) a → ⊥
     by_told None g = g
-    by_told (Some x) g = absurd (cc (sym g.0 ∙ no_call_fails n.it n.none))
+    by_told (Some x) g =
+        let c = s.come_so in
+        let fine = w.none_fails (suc n) (omega arith) in
+        absurd (cc (sym g.0 ∙ same_call s.it (after_calls (suc n) w.listening) s.calls_so s.failing_so ∙ fine))
 
-sessions_done : (host : Hosted) (count : ℕ) (result : Status) (listen last : Listener) (before after : Device (List ℕ)) → NeverFails listen.told → ServesSessions host count result listen last before after → IsDone result
-sessions_done host count result listen last before after n (sessions.all lines left some e) = ends_done _ result before after e
-sessions_done host count result listen last before after n (sessions.fewer k lines left mid few some gives e) = ends_done _ result before after e
-sessions_done host count result listen last before after n (sessions.fault k lines left mid few some fails e) = absurd (never_none mid last (still host listen left mid k lines n some) fails)
-sessions_done host count result listen last before after n (sessions.cut k lines left some r w) = inr (inl r)
-sessions_done host count result listen last before after n (sessions.starved r) = inr (inr r)
+last_done : (number : ℕ) (answer : Result session.Served ServeStop) (said after : Device (List ℕ)) (result : Status) → ServesLast number answer said after result → IsDone result
+last_done number answer said after result (sessions.line_cut fresh w) = inr (inl refl)
+last_done number answer said after result (sessions.line_starved o) = inr (inr refl)
 
--- the address is started
-started_whole : (address : List ℕ) (listen begun : Listener) → ListensWhole address listen.told → Starts address true listen begun → NeverFails begun.told
-started_whole address listen begun w s = record {
+sessions_done : (address : List ℕ) (told : Option Listening) (host : Hosted) (count : ℕ) (w : ListensWhole address count told) (result : Status) (listen last : Listener) (before after : Device (List ℕ)) → Goes w.listening (length w.sessions) 0 listen.told
+    → ServesSessions host count result listen last before after → IsDone result
+sessions_done address told host count w result listen last before after s (sessions.all left said some e) = ends_done _ result said after e
+sessions_done address told host count w result listen last before after s (sessions.fewer n left mid said few some gives e) = ends_done _ result said after e
+sessions_done address told host count w result listen last before after s (sessions.fault n left mid said few some fails e) =
+    absurd (never_refused address count n told w mid last few (goes_on w.listening (length w.sessions) host listen before n left mid said s some) fails)
+sessions_done address told host count w result listen last before after s (sessions.starved_to_give n left mid few some gives r) = inr (inr r)
+sessions_done address told host count w result listen last before after s (sessions.one_last n mid left between said answer few some session ends_so) = last_done (suc n) answer said after result ends_so
+
+-- the first call doesn't fail either, and the address is there
+first_fine : (address : List ℕ) (count : ℕ) (told : Option Listening) (w : ListensWhole address count told) → started w.listening address ≡ Some w.sessions
+first_fine address count told w =
+    let fine = w.none_fails 0 (omega arith) in
+    ap (λ b. cond b None (w.listening.addresses address)) fine ∙ w.is_there
+
+begun_goes : (address : List ℕ) (count : ℕ) (listen begun : Listener) (w : ListensWhole address count listen.told) → Starts address true listen begun → Goes w.listening (length w.sessions) 0 begun.told
+begun_goes address count listen begun w s = record {
   it = after_start address w.listening;
   tells = ap (λ l. l.told) s.after_is ∙ ap (option_map (after_start address)) w.tells;
-  none = w.none_fails;
+  calls_so = refl;
+  failing_so = refl;
+  come_so =
+      let e : length (after_start address w.listening).coming ≡ length w.sessions = ap (λ o. length (unwrap_or o w.listening.coming)) (first_fine address count listen.told w) in
+      omega (arith, e);
 }
 
-some_address : (o : Option (List Coming)) → (o ≡ None → ⊥) → is_some o ≡ true
-some_address None n = absurd (n refl)
-some_address (Some l) n = refl
-
-never_unstarted : (address : List ℕ) (listen after : Listener) → ListensWhole address listen.told → Starts address false listen after → ⊥
-never_unstarted address listen after w s =
+never_unstarted : (address : List ℕ) (count : ℕ) (listen after : Listener) → ListensWhole address count listen.told → Starts address false listen after → ⊥
+never_unstarted address count listen after w s =
     let told = subst (λ t. IfSome t (λ l. false ≡ is_some (started l address))) w.tells s.as_told in
-    let fine = no_call_fails w.listening w.none_fails in
-    let there = some_address (w.listening.addresses address) w.is_there in
-    absurd (cc (told ∙ subst (λ b. is_some (cond b None (w.listening.addresses address)) ≡ true) (sym fine) there))
+    absurd (cc (told ∙ ap is_some (first_fine address count listen.told w)))
 
-listens_done : (host : Hosted) (address : List ℕ) (count : ℕ) (result : Status) (listen last : Listener) (before after : Device (List ℕ)) → ListensWhole address listen.told → Listens host address count result listen last before after → IsDone result
-listens_done host address count result listen last before after w (servers.begins begun starts serves) = sessions_done host count result begun last before after (started_whole address listen begun w starts) serves
-listens_done host address count result listen last before after w (servers.not_started starts e) = absurd (never_unstarted address listen last w starts)
+listens_done : (host : Hosted) (address : List ℕ) (count : ℕ) (result : Status) (listen last : Listener) (before after : Device (List ℕ)) → ListensWhole address count listen.told → Listens host address count result listen last before after → IsDone result
+listens_done host address count result listen last before after w (servers.begins begun starts serves) =
+    sessions_done address listen.told host count w result begun last before after (begun_goes address count listen begun w starts) serves
+listens_done host address count result listen last before after w (servers.not_started starts e) = absurd (never_unstarted address count listen last w starts)
 listens_done host address count result listen last before after w (servers.starved_at_start r l o) = inr (inr r)
 
-serving_done : OneService → (v : Serving) (text : List ℕ) (served : Served) (result : Status) (listen last : Listener) (before after : Scene) → ToldService before.files.told v.service text served → ListensWhole v.address listen.told → ServesAs v result listen last before after → IsDone result
+serving_done : OneService → (v : Serving) (text : List ℕ) (served : Served) (result : Status) (listen last : Listener) (before after : Scene) → ToldService before.files.told v.service text served → ListensWhole v.address v.count listen.told → ServesAs v result listen last before after → IsDone result
 serving_done one v text served result listen last before after t w (servers.no_service tells same) =
     inr (inr (only_starved (NoService before.files v.service) result before after (service_is_usable one before.files v.service text served t) tells).0)
 serving_done one v text served result listen last before after t w (servers.listens found s table f is l files) = listens_done _ v.address v.count result listen last before.out after.out w l
@@ -117,7 +146,7 @@ one_child s t w e f =
     cc both
 
 module _ {L : Type 0} (g : links.Ghosts L) where
-  by_serve : OneService → (v : Serving) (text : List ℕ) (served : Served) (wanted : Option Wanted) (result : Status) (before after : Outside L) → wanted ≡ Some (Serve v) → ToldService before.scene.files.told v.service text served → ListensWhole v.address before.listen.told
+  by_serve : OneService → (v : Serving) (text : List ℕ) (served : Served) (wanted : Option Wanted) (result : Status) (before after : Outside L) → wanted ≡ Some (Serve v) → ToldService before.scene.files.told v.service text served → ListensWhole v.address v.count before.listen.told
       → Says g wanted result before after → IsDone result
   by_serve one v text served wanted result before after w t l (answers.not_understood n e f) = absurd (cc (sym n ∙ w))
   by_serve one v text served wanted result before after w t l (answers.of_program b x said same) = absurd (cc (sym x ∙ w))
@@ -125,7 +154,7 @@ module _ {L : Type 0} (g : links.Ghosts L) where
       serving_done one v text served result before.listen after.listen before.scene after.scene t l (subst (λ y. ServesAs y result before.listen after.listen before.scene after.scene) (one_served u v wanted x w) said)
   by_serve one v text served wanted result before after w t l (answers.serves_child s x said same) = absurd (cc (sym x ∙ w))
 
-  by_child : OneService → (s text : List ℕ) (served : Served) (wanted : Option Wanted) (result : Status) (before after : Outside L) → wanted ≡ Some (Child s) → ToldService before.scene.files.told s text served → ListensWhole (child_of s).address before.listen.told
+  by_child : OneService → (s text : List ℕ) (served : Served) (wanted : Option Wanted) (result : Status) (before after : Outside L) → wanted ≡ Some (Child s) → ToldService before.scene.files.told s text served → ListensWhole (child_of s).address (child_of s).count before.listen.told
       → Says g wanted result before after → IsDone result
   by_child one s text served wanted result before after w t l (answers.not_understood n e f) = absurd (cc (sym n ∙ w))
   by_child one s text served wanted result before after w t l (answers.of_program b x said same) = absurd (cc (sym x ∙ w))
@@ -137,7 +166,7 @@ module _ {L : Type 0} (g : links.Ghosts L) where
   pub serves_told : OneService → (wanted : Option Wanted) (result : Status) (before after : Outside L) → Says g wanted result before after → ServesTold wanted result before
   serves_told one wanted result before after said = λ v text served w t l. by_case v text served t l w
     where
-      by_case : (v : Serving) (text : List ℕ) (served : Served) → ToldService before.scene.files.told v.service text served → ListensWhole v.address before.listen.told
+      by_case : (v : Serving) (text : List ℕ) (served : Served) → ToldService before.scene.files.told v.service text served → ListensWhole v.address v.count before.listen.told
           → (wanted ≡ Some (Serve v)) ⊎ ((wanted ≡ Some (Child v.service)) × (v ≡ child_of v.service)) → IsDone result
       by_case v text served t l (inl w) = by_serve one v text served wanted result before after w t l said
-      by_case v text served t l (inr w) = by_child one v.service text served wanted result before after w.0 t (subst (λ u. ListensWhole u.address before.listen.told) w.1 l) said
+      by_case v text served t l (inr w) = by_child one v.service text served wanted result before after w.0 t (subst (λ u. ListensWhole u.address u.count before.listen.told) w.1 l) said

@@ -9,7 +9,6 @@ use Rattle.rb_base.specs.Devices.{Device, failed}
 use Rattle.rb_base.specs.Listening.{Back, GivesWhereTold, Listening, after_start, risen_on_err, started, with_back}
 use Rattle.rb_base.specs.declared.sinks.Failed.{Failed}
 use Rattle.rb_base.specs.Sinks.{with_bytes, WrotePrefix}
-use Rattle.rb_base.proofs.Pieces.{both_whole, prefix_after}
 use Rattle.rb_exec.specs.Hosted.{Hosted}
 use Rattle.rb_session.specs.Serving.{UnlessMemory, UnlessServedMemory}
 use Rattle.rb_session.specs.declared.serving.Served.{Served}
@@ -17,101 +16,75 @@ use Rattle.rb_session.specs.declared.serving.ServeCause.{ServeCause}
 use Rattle.rb_session.specs.declared.serving.ServeCause.TheVariants as causes
 use Rattle.rb_session.specs.declared.serving.ServeStop.{ServeStop}
 use Rattle.rb_top.specs.Ends as ends
-use Rattle.rb_top.specs.Commands.{stopped_status}
-use Rattle.rb_top.specs.Printing.{stopped}
-use Rattle.rb_top.specs.ServerParts.{HasSessionOut, ListensAs, SaysSession, ServesNext, line_cut, line_said, line_starved, none_comes, not_given, served, starved, write_cut}
+use Rattle.rb_top.specs.ServerParts.{HasSessionOut, ListensAs, SaysSession, ServesNext, is_last, line_said, none_comes, not_given, served, served_last, starved}
 use Rattle.rb_top.specs.Scene.{Scene}
 use Rattle.rb_top.specs.Servers.{ServesAs, begins}
 use Rattle.rb_top.specs.SessionLines.{shown_session}
 use Rattle.rb_top.specs.Sessions as sessions
-use Rattle.rb_top.specs.Sessions.{GivesSession, Listener, ServedSome, ServesEnds, ServesSession, ServesSessions, Starts, came_back, is_starved, is_want, listen_line, none, one_more}
+use Rattle.rb_top.specs.Sessions.{GivesSession, Listener, ServedSome, ServesEnds, ServesSession, ServesSessions, Starts, came_back, is_starved, is_want, line_cut, line_starved, one_more}
 use Rattle.rb_top.specs.Words.{Serving}
-use Rattle.rb_top.specs.declared.printing.PrintStop.{PrintStop}
-use Rattle.rb_top.specs.declared.printing.PrintStop.TheVariants as print
 use Rattle.rb_top.specs.declared.status.Status.{Status}
-use Rattle.rb_top.specs.declared.status.Status.TheVariants.{Done, ListenFault}
+use Rattle.rb_top.specs.declared.status.Status.TheVariants.{Done, Memory, WriteFault}
 
--- what was served and said so far
-pub record SoFar (host left : Hosted) (listen last : Listener) (before after : Device (List ℕ)) (n : ℕ) : Type 0 where
-  pub lines : List ℕ
-  pub some : ServedSome host listen n lines left last
-  pub written : after ≡ with_bytes before lines
-
--- nothing yet
-pub none_so_far : (host : Hosted) (listen : Listener) (before : Device (List ℕ)) → before ≡ with_bytes before [] → SoFar host host listen listen before before 0
-none_so_far host listen before e = record { lines = []; some = none; written = e }
+-- one session more
+one_after : (host mid left : Hosted) (listen between last : Listener) (out said after : Device (List ℕ)) (n : ℕ) → ServedSome host listen out n mid between said → ServesNext (suc n) mid left between last said after (Ok true)
+    → ServedSome host listen out (suc n) left last after
+one_after host mid left listen between last out said after n s (served answer session fresh written) =
+    subst (ServedSome host listen out (suc n) left last) (sym written) (one_more n mid left between last said answer s session fresh)
 
 next_number : (n : ℕ) → n + 1 ≡ suc n
 next_number n = omega arith
 
--- one session more
-one_after : (host mid left : Hosted) (listen between last : Listener) (before so_far after : Device (List ℕ)) (n : ℕ) → SoFar host mid listen between before so_far n
-    → ServesNext (suc n) mid left between last so_far after (Ok true) → SoFar host left listen last before after (suc n)
-one_after host mid left listen between last before so_far after n s (served answer session fresh written) = record {
-  lines = s.lines ++ line (shown_session (suc n) answer);
-  some = one_more n s.lines mid left between last answer s.some session fresh;
-  written = both_whole before so_far after s.lines (line (shown_session (suc n) answer)) s.written written;
-}
-
-pub one_so_far : (host mid left : Hosted) (listen between last : Listener) (before so_far after : Device (List ℕ)) (n : ℕ) → SoFar host mid listen between before so_far n
-    → ServesNext (n + 1) mid left between last so_far after (Ok true) → SoFar host left listen last before after (n + 1)
-one_so_far host mid left listen between last before so_far after n s h =
-    subst (SoFar host left listen last before after) (sym (next_number n))
-    (one_after host mid left listen between last before so_far after n s (subst (λ k. ServesNext k mid left between last so_far after (Ok true)) (next_number n) h))
-
--- a text that was said behind what was said so far
-pub ends_behind : (status : Status) (lines text : List ℕ) (result : Status) (before so_far after : Device (List ℕ)) → so_far ≡ with_bytes before lines → ends.Ends status text result so_far after → ends.Ends status (lines ++ text) result before after
-ends_behind status lines text result before so_far after e (ends.whole r w) = ends.whole r (both_whole before so_far after lines text e w)
-ends_behind status lines text result before so_far after e (ends.cut r w) = ends.cut r (prefix_after (failed before) (failed so_far) after lines text (ap failed e) w)
-ends_behind status lines text result before so_far after e (ends.starved r w) = ends.starved r (prefix_after before so_far after lines text e w)
+pub one_so_far : (host mid left : Hosted) (listen between last : Listener) (out said after : Device (List ℕ)) (n : ℕ) → ServedSome host listen out n mid between said → ServesNext (n + 1) mid left between last said after (Ok true)
+    → ServedSome host listen out (n + 1) left last after
+one_so_far host mid left listen between last out said after n s h =
+    subst (λ k. ServedSome host listen out k left last after) (sym (next_number n))
+    (one_after host mid left listen between last out said after n s (subst (λ k. ServesNext k mid left between last said after (Ok true)) (next_number n) h))
 
 -- all were served
-pub all_served : (host left : Hosted) (count n : ℕ) (result : Status) (listen last : Listener) (before so_far after : Device (List ℕ)) → n ≡ count → SoFar host left listen last before so_far n
-    → (table : List Object) → table ≡ left.table → ends.Ends Done (shown_table 0 table) result so_far after → ServesSessions host count result listen last before after
-all_served host left count n result listen last before so_far after e s table t said =
-    sessions.all s.lines left (subst (λ k. ServedSome host listen k s.lines left last) e s.some)
-    (ends_behind Done s.lines (shown_table 0 left.table) result before so_far after s.written (subst (λ x. ends.Ends Done (shown_table 0 x) result so_far after) t said))
+pub all_served : (host left : Hosted) (count n : ℕ) (result : Status) (listen last : Listener) (before said after : Device (List ℕ)) → n ≡ count → ServedSome host listen before n left last said
+    → (table : List Object) → table ≡ left.table → ends.Ends Done (shown_table 0 table) result said after → ServesSessions host count result listen last before after
+all_served host left count n result listen last before said after e s table t shown =
+    sessions.all left said (subst (λ k. ServedSome host listen before k left last said) e s) (subst (λ x. ends.Ends Done (shown_table 0 x) result said after) t shown)
 
 -- no session came any more
-pub fewer_served : (host mid left : Hosted) (count n : ℕ) (result : Status) (listen between last : Listener) (before so_far mid_out after : Device (List ℕ)) → n < count → SoFar host mid listen between before so_far n
-    → ServesNext (n + 1) mid left between last so_far mid_out (Ok false) → (table : List Object) → table ≡ left.table → ends.Ends Done (shown_table 0 table) result mid_out after → ServesSessions host count result listen last before after
-fewer_served host mid left count n result listen between last before so_far mid_out after few s (none_comes gives same out) table t said =
-    sessions.fewer n s.lines mid between few s.some gives
-    (ends_behind Done s.lines (shown_table 0 mid.table) result before mid_out after (out ∙ s.written) (subst (λ x. ends.Ends Done (shown_table 0 x) result mid_out after) (t ∙ ap (λ h. h.table) same) said))
+pub fewer_served : (host mid left : Hosted) (count n : ℕ) (result : Status) (listen between last : Listener) (before said then after : Device (List ℕ)) → n < count → ServedSome host listen before n mid between said
+    → ServesNext (n + 1) mid left between last said then (Ok false) → (table : List Object) → table ≡ left.table → ends.Ends Done (shown_table 0 table) result then after → ServesSessions host count result listen last before after
+fewer_served host mid left count n result listen between last before said then after few s (none_comes gives same out) table t shown =
+    sessions.fewer n mid between said few s gives
+    (subst (λ o. ends.Ends Done (shown_table 0 mid.table) result o after) out (subst (λ x. ends.Ends Done (shown_table 0 x) result then after) (t ∙ ap (λ h. h.table) same) shown))
 
 -- a session wasn't served to its line
-cut_after : (host mid left : Hosted) (count n : ℕ) (result : Status) (listen between last : Listener) (before so_far after : Device (List ℕ)) → n < count → SoFar host mid listen between before so_far n
-    → ServesNext (suc n) mid left between last so_far after (Err result) → ServesSessions host count result listen last before after
-cut_after host mid left count n result listen between last before so_far after few s (not_given status fails said) =
-    sessions.fault n s.lines mid between few s.some fails (ends_behind ListenFault s.lines listen_line result before so_far after s.written said)
-cut_after host mid left count n result listen between last before so_far after few s (write_cut answer session fresh wrote) =
-    let text = line (shown_session (suc n) answer) in
-    sessions.cut (suc n) (s.lines ++ text) left (one_more n s.lines mid left between last answer s.some session fresh) refl
-    (prefix_after (failed before) (failed so_far) after s.lines text (ap failed s.written) wrote)
-cut_after host mid left count n result listen between last before so_far after few s starved = sessions.starved refl
+cut_after : (host mid left : Hosted) (count n : ℕ) (result : Status) (listen between last : Listener) (before said after : Device (List ℕ)) → n < count → ServedSome host listen before n mid between said
+    → ServesNext (suc n) mid left between last said after (Err result) → ServesSessions host count result listen last before after
+cut_after host mid left count n result listen between last before said after few s (not_given status fails shown) = sessions.fault n mid between said few s fails shown
+cut_after host mid left count n result listen between last before said after few s (starved gives out) =
+    sessions.starved_to_give n mid between few (subst (ServedSome host listen before n mid between) (sym out) s) gives refl
+cut_after host mid left count n result listen between last before said after few s (served_last status answer session ends_so) =
+    sessions.one_last n mid left between said answer few s session ends_so
 
-pub cut_serving : (host mid left : Hosted) (count n : ℕ) (result : Status) (listen between last : Listener) (before so_far after : Device (List ℕ)) → n < count → SoFar host mid listen between before so_far n
-    → ServesNext (n + 1) mid left between last so_far after (Err result) → ServesSessions host count result listen last before after
-cut_serving host mid left count n result listen between last before so_far after few s h =
-    cut_after host mid left count n result listen between last before so_far after few s (subst (λ k. ServesNext k mid left between last so_far after (Err result)) (next_number n) h)
+pub cut_serving : (host mid left : Hosted) (count n : ℕ) (result : Status) (listen between last : Listener) (before said after : Device (List ℕ)) → n < count → ServedSome host listen before n mid between said
+    → ServesNext (n + 1) mid left between last said after (Err result) → ServesSessions host count result listen last before after
+cut_serving host mid left count n result listen between last before said after few s h =
+    cut_after host mid left count n result listen between last before said after few s (subst (λ k. ServesNext k mid left between last said after (Err result)) (next_number n) h)
 
--- the line of a session was printed
+-- the line of a session was written
 pub session_said : (number : ℕ) (answer : Result Served ServeStop) (text : List ℕ) (before after : Device (List ℕ)) → is_starved answer ≡ false → text ≡ line (shown_session number answer) → after ≡ with_bytes before text → SaysSession number answer before after (Ok true)
 session_said number answer text before after fresh e w = line_said fresh (w ∙ ap (with_bytes before) e)
 
 -- or it wasn't
-pub session_cut : (number : ℕ) (answer : Result Served ServeStop) (text : List ℕ) (stop : PrintStop) (result : Status) (before after : Device (List ℕ)) → is_starved answer ≡ false → text ≡ line (shown_session number answer) → result ≡ stopped_status stop
-    → WrotePrefix (stopped stop before) after text → SaysSession number answer before after (Err result)
-session_cut number answer text print.WriteFault result before after fresh e r w =
-    subst (λ x. SaysSession number answer before after (Err x)) (sym r) (line_cut fresh (subst (WrotePrefix (failed before) after) e w))
-session_cut number answer text print.Memory result before after fresh e r w = subst (λ x. SaysSession number answer before after (Err x)) (sym r) line_starved
+pub session_cut : (number : ℕ) (answer : Result Served ServeStop) (text : List ℕ) (before after : Device (List ℕ)) → is_starved answer ≡ false → text ≡ line (shown_session number answer) → WrotePrefix (failed before) after text
+    → SaysSession number answer before after (Err WriteFault)
+session_cut number answer text before after fresh e w = is_last WriteFault (line_cut fresh (subst (WrotePrefix (failed before) after) e w))
+
+pub session_starved : (number : ℕ) (answer : Result Served ServeStop) (before : Device (List ℕ)) → SaysSession number answer before before (Err Memory)
+session_starved number answer before = is_last Memory (line_starved refl)
 
 -- what was said of a session that was given and served
 pub next_served : (number : ℕ) (host left : Hosted) (listen given last : Listener) (first : Back) (answer : Result Served ServeStop) (before after : Device (List ℕ)) (r : Result Bool Status) → GivesSession first listen given → ServesEnds answer first host left given last
     → SaysSession number answer before after r → ServesNext number host left listen last before after r
 next_served number host left listen given last first answer before after r gives s (line_said fresh w) = served answer (record { first = first; given = given; gives = gives; served = s }) fresh w
-next_served number host left listen given last first answer before after r gives s (line_cut fresh w) = write_cut answer (record { first = first; given = given; gives = gives; served = s }) fresh w
-next_served number host left listen given last first answer before after r gives s line_starved = starved
+next_served number host left listen given last first answer before after r gives s (is_last status ends_so) = served_last status answer (record { first = first; given = given; gives = gives; served = s }) ends_so
 
 -- where memory wasn't wanting, what is said unless it was
 fresh_so : (answer : Result Served ServeStop) (Holds : Type 0) → is_starved answer ≡ false → UnlessServedMemory answer Holds → Holds
@@ -128,8 +101,7 @@ fresh_so (Err stop) Holds e h = by_cause stop.cause e h
 
 pub still_typed : (number : ℕ) (answer : Result Served ServeStop) (Holds : Type 0) (before after : Device (List ℕ)) (r : Result Bool Status) → UnlessServedMemory answer Holds → SaysSession number answer before after r → OnOk r Holds
 still_typed number answer Holds before after r h (line_said fresh w) = fresh_so answer Holds fresh h
-still_typed number answer Holds before after r h (line_cut fresh w) = tt
-still_typed number answer Holds before after r h line_starved = tt
+still_typed number answer Holds before after r h (is_last status ends_so) = tt
 
 -- a listener whose parts are these
 pub came_back_so : (ends : Back) (before : Listener) (told : Option Listening) (faults : ℕ) → told ≡ option_map (with_back ends) before.told → faults ≡ before.faults → record { told = told; faults = faults } ≡ came_back ends before

@@ -1,5 +1,5 @@
 -- What is answered where the outside tells all that a command needs, and no call of it fails but for a write.
-use Rattle.std.specs.Prelude.{◌≡◌, ◌⊎◌, ℕ, List, [], false, Option, None, Some, Ok, codes}
+use Rattle.std.specs.Prelude.{◌≡◌, ◌<◌, ◌⊎◌, ℕ, zero, suc, min, List, length, false, Option, None, Some, Ok, codes}
 use Rattle.rb_trees.specs.declared.values.Value.{Value}
 use Rattle.rb_trees.specs.mirror.Declarations.{Program}
 use Rattle.rb_meaning.specs.Links.{Behind, server_told}
@@ -12,8 +12,9 @@ use Rattle.rb_headline_laws.specs.Reached.{ProgramComesTo}
 use Rattle.rb_shown.specs.Views.{shown_divisions}
 use Rattle.rb_base.specs.Devices.{Device}
 use Rattle.rb_base.specs.Directories.{Directory, next_read, told_after}
-use Rattle.rb_base.specs.Listening.{Listening}
+use Rattle.rb_base.specs.Listening.{Listening, call_fails, called}
 use Rattle.rb_base.specs.declared.links.Link as links
+use Rattle.rb_base.specs.declared.listens.Coming.{Coming}
 use Rattle.rb_client.specs.Servers.{fails_after}
 use Rattle.rb_session.specs.Dials.{Dialling, next_link}
 use Rattle.rb_session.specs.declared.targets.Target.{Target}
@@ -114,19 +115,31 @@ PairsTold g wanted result before after = (p s text other : List ℕ) (fuel : ℕ
     → wanted ≡ Some (OfProgram (Run Pair p s fuel)) → ToldRun before.scene.files.told p s text other program served
     → DialsHonest g (targets.Child s) program fuel b before.dial.told → EndsFar text program fuel b result before.scene.out after.scene.out
 
--- The listener tells the sessions of an address, and no call of it fails.
-pub record ListensWhole (address : List ℕ) (told : Option Listening) : Type 0 where
+-- how many calls a server makes of its listener that serves so many sessions at most, where so many come: the start, and one for each
+-- session; where fewer come, one more, which gives none
+abbrev pub calls_of : ℕ → ℕ → ℕ
+calls_of count come = suc (min count (suc come))
+
+-- the listener so many calls later, with whatever sessions
+abbrev pub after_calls : ℕ → Listening → Listening
+after_calls zero l = l
+after_calls (suc k) l = called (after_calls k l)
+
+-- The listener tells that so many sessions of an address may be served, or all where fewer come: the address is there, and none of
+-- the calls that a server makes for them is one that fails.
+pub record ListensWhole (address : List ℕ) (count : ℕ) (told : Option Listening) : Type 0 where
   pub listening : Listening
+  pub sessions : List Coming
   pub tells : told ≡ Some listening
-  pub none_fails : listening.failing ≡ []
-  pub is_there : listening.addresses address ≡ None → ⊥
+  pub is_there : listening.addresses address ≡ Some sessions
+  pub none_fails : (k : ℕ) → k < calls_of count (length sessions) → call_fails (after_calls k listening) ≡ false
 
 -- The answer is Done, unless the output fails or memory is wanting.
 abbrev pub IsDone : Status → Type 0
 IsDone result = (result ≡ Done) ⊎ (result ≡ WriteFault) ⊎ (result ≡ Memory)
 
--- Where a server is asked for, the files tell its service, and the listener tells its address, the answer is Done, unless the output
+-- Where a server is asked for, the files tell its service, and the listener tells its sessions, the answer is Done, unless the output
 -- fails or memory is wanting.
 abbrev pub ServesTold : {L : Type 0} → Option Wanted → Status → scenes.Outside L → Type 0
 ServesTold wanted result before = (v : Serving) (text : List ℕ) (served : Served) → (wanted ≡ Some (Serve v)) ⊎ ((wanted ≡ Some (Child v.service)) × (v ≡ child_of v.service))
-    → ToldService before.scene.files.told v.service text served → ListensWhole v.address before.listen.told → IsDone result
+    → ToldService before.scene.files.told v.service text served → ListensWhole v.address v.count before.listen.told → IsDone result

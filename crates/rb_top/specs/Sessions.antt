@@ -1,10 +1,10 @@
 -- Serving the sessions that come at an address, one after the other.
-use Rattle.std.specs.Prelude.{◌≡◌, ◌<◌, ℕ, suc, List, [], ◌++◌, Bool, true, false, cond, None, Some, option_map, is_some, Result, Ok, Err, IfSome, codes}
+use Rattle.std.specs.Prelude.{◌≡◌, ◌<◌, ℕ, suc, List, Bool, true, false, cond, None, Some, option_map, is_some, Result, Ok, Err, IfSome, codes}
 use Rattle.rb_meaning.specs.Shown.{line, shown_table}
 use Rattle.rb_base.specs.Counts.{risen}
 use Rattle.rb_base.specs.Devices.{Device, failed}
 use Rattle.rb_base.specs.Listening.{Back, Listening, GivesWhereTold, IsFresh, after_start, started, with_back}
-use Rattle.rb_base.specs.Sinks.{WrotePrefix}
+use Rattle.rb_base.specs.Sinks.{with_bytes, WrotePrefix}
 use Rattle.rb_base.specs.declared.listens.ListenStop.TheVariants as stops
 use Rattle.rb_exec.specs.Hosted.{Hosted}
 use Rattle.rb_session.specs.Serving.{Ends, Serves}
@@ -46,6 +46,11 @@ pub record FailsToGive (before after : Listener) : Type 0 where
   pub gives : GivesWhereTold (Err stops.Failed) before.told after.told
   pub faults : after.faults ≡ risen before.faults
 
+-- Memory was wanting to have the next session.
+pub record StarvesToGive (before after : Listener) : Type 0 where
+  pub gives : GivesWhereTold (Err stops.Memory) before.told after.told
+  pub faults : after.faults ≡ before.faults
+
 -- the listener after the two ends of a session came back
 abbrev pub came_back : Back → Listener → Listener
 came_back ends l = record l { told = option_map (with_back ends) l.told }
@@ -76,22 +81,32 @@ abbrev pub is_starved : Result Served ServeStop → Bool
 is_starved (Ok served) = false
 is_starved (Err stop) = is_want stop.cause
 
--- So many sessions were served, one after the other, and these are their lines: the server and the listener are left so.
-pub data ServedSome (host : Hosted) (listen : Listener) : ℕ → List ℕ → Hosted → Listener → Type 0 where
-  none : ServedSome host listen 0 [] host listen
-  one_more : (n : ℕ) (lines : List ℕ) (mid left : Hosted) (before after : Listener) (answer : Result Served ServeStop) → ServedSome host listen n lines mid before
-      → ServesSession answer mid left before after → is_starved answer ≡ false
-      → ServedSome host listen (suc n) (lines ++ line (shown_session (suc n) answer)) left after
+-- So many sessions were served, one after the other, and the line of each was written whole before the next was given: the server,
+-- the listener and the output are left so.
+pub data ServedSome (host : Hosted) (listen : Listener) (out : Device (List ℕ)) : ℕ → Hosted → Listener → Device (List ℕ) → Type 0 where
+  none : ServedSome host listen out 0 host listen out
+  one_more : (n : ℕ) (mid left : Hosted) (before after : Listener) (said : Device (List ℕ)) (answer : Result Served ServeStop)
+      → ServedSome host listen out n mid before said → ServesSession answer mid left before after → is_starved answer ≡ false
+      → ServedSome host listen out (suc n) left after (with_bytes said (line (shown_session (suc n) answer)))
 
--- How serving so many sessions at most ends. All were served, or all that came: then their lines were printed, and the table that
--- they left. Or a session couldn't be had. Or a write failed among the lines; then no further session was served.
+-- The session of a number was served, and none is served after it. Of its line a front was written, and a write failed; or memory was
+-- wanting in it or for its line, of which nothing was written.
+pub data ServesLast (number : ℕ) (answer : Result Served ServeStop) (said after : Device (List ℕ)) : Status → Type 0 where
+  line_cut : is_starved answer ≡ false → WrotePrefix (failed said) after (line (shown_session number answer)) → ServesLast number answer said after WriteFault
+  line_starved : after ≡ said → ServesLast number answer said after Memory
+
+-- How serving so many sessions at most ends, by what was said until then. All were served, or none comes any more: then the table is
+-- printed that they left. Or the next can't be had, which is said; or memory is wanting to have it. Or one more was served, and it
+-- is the last. Each session that was given came back.
 pub data ServesSessions (host : Hosted) (count : ℕ) (result : Status) (listen after_it : Listener) (before after : Device (List ℕ)) : Type 0 where
-  all : (lines : List ℕ) (left : Hosted) → ServedSome host listen count lines left after_it → ends.Ends Done (lines ++ shown_table 0 left.table) result before after
+  all : (left : Hosted) (said : Device (List ℕ)) → ServedSome host listen before count left after_it said
+      → ends.Ends Done (shown_table 0 left.table) result said after → ServesSessions host count result listen after_it before after
+  fewer : (n : ℕ) (left : Hosted) (last : Listener) (said : Device (List ℕ)) → n < count → ServedSome host listen before n left last said → GivesNone last after_it
+      → ends.Ends Done (shown_table 0 left.table) result said after → ServesSessions host count result listen after_it before after
+  fault : (n : ℕ) (left : Hosted) (last : Listener) (said : Device (List ℕ)) → n < count → ServedSome host listen before n left last said → FailsToGive last after_it
+      → ends.Ends ListenFault listen_line result said after → ServesSessions host count result listen after_it before after
+  starved_to_give : (n : ℕ) (left : Hosted) (last : Listener) → n < count → ServedSome host listen before n left last after → StarvesToGive last after_it
+      → result ≡ Memory → ServesSessions host count result listen after_it before after
+  one_last : (n : ℕ) (mid left : Hosted) (last : Listener) (said : Device (List ℕ)) (answer : Result Served ServeStop) → n < count
+      → ServedSome host listen before n mid last said → ServesSession answer mid left last after_it → ServesLast (suc n) answer said after result
       → ServesSessions host count result listen after_it before after
-  fewer : (n : ℕ) (lines : List ℕ) (left : Hosted) (last : Listener) → n < count → ServedSome host listen n lines left last → GivesNone last after_it
-      → ends.Ends Done (lines ++ shown_table 0 left.table) result before after → ServesSessions host count result listen after_it before after
-  fault : (n : ℕ) (lines : List ℕ) (left : Hosted) (last : Listener) → n < count → ServedSome host listen n lines left last → FailsToGive last after_it
-      → ends.Ends ListenFault (lines ++ listen_line) result before after → ServesSessions host count result listen after_it before after
-  cut : (n : ℕ) (lines : List ℕ) (left : Hosted) → ServedSome host listen n lines left after_it → result ≡ WriteFault → WrotePrefix (failed before) after lines
-      → ServesSessions host count result listen after_it before after
-  starved : result ≡ Memory → ServesSessions host count result listen after_it before after

@@ -18,7 +18,7 @@ ghost use Rattle.rb_top.specs.Words.{serving_by};
 ghost use Rattle.rb_top.specs.declared.status.Status.TheVariants.{Done};
 
 use crate::loaded::loaded_service;
-use crate::printing::{print_objects, print_text};
+use crate::printing::{print_objects, write_lines};
 use crate::saying::{say, stopped};
 use crate::session_lines::session_line;
 use crate::status::Status;
@@ -40,8 +40,8 @@ fn is_starved(answer: &Result<Served, ServeStop>) -> bool
     }
 }
 
-/// Says how the session of a number was served, and answers true; or the status where that wasn't said whole, or memory was wanting
-/// in the session.
+/// Says how the session of a number was served, and answers true; or the status with which it is the last: that wasn't said whole,
+/// or memory was wanting in the session.
 fn say_session<W: Sink>(
     alloc: Global,
     number: u64,
@@ -55,9 +55,9 @@ fn say_session<W: Sink>(
     }
     match session_line(alloc, number, answer) {
         Err(_) => Err(Status::Memory),
-        Ok(line) => match print_text(line.as_slice(), out) {
+        Ok(line) => match write_lines(line.as_slice(), out) {
             Ok(()) => Ok(true),
-            Err(stop) => Err(stopped(stop)),
+            Err(Failed) => Err(Status::WriteFault),
         },
     }
 }

@@ -30,4 +30,4 @@ returns-in-Err-Failed-clause-serves g c =
     not_given c.say.result (record { gives = rw c.in-Err-Failed.field-0-is at c.in-Err-Failed.ensures.gives; faults = rw c.in-Err-Failed.field-0-is at c.in-Err-Failed.ensures.faults }) c.say.ensures
 
 pub returns-in-Err-Memory-clause-serves : goal.returns-in-Err-Memory-clause-serves
-returns-in-Err-Memory-clause-serves g c = starved
+returns-in-Err-Memory-clause-serves g c = starved (record { gives = rw c.in-Err-Memory.field-0-is at c.in-Err-Memory.ensures.gives; faults = rw c.in-Err-Memory.field-0-is at c.in-Err-Memory.ensures.faults }) refl

@@ -1,13 +1,11 @@
-use Rattle.std.proofs.Common.{sym, arith}
-use Rattle.rb_base.specs.Devices.{device}
-use Rattle.rb_base.proofs.Pieces.{bytes_none}
-use Rattle.rb_top.specs.Scene.{output}
-use Rattle.rb_top.proofs.Serving.{all_served, cut_serving, fewer_served, none_so_far, one_so_far}
+use Rattle.std.proofs.Common.{arith}
+use Rattle.rb_top.specs.Sessions.{none}
+use Rattle.rb_top.proofs.Serving.{all_served, cut_serving, fewer_served, one_so_far}
 use Rattle.rb_top.proofs.server.serve_sessions.Goals as goal
 
 pub loop-number-init : goal.loop-number-init
 loop-number-init g c = record {
-  so_far = none_so_far c.args.host.now (device g.N.Listen.told g.N.Listen.faults c.args.listen.now) (output g.W.Sink c.args.out.now) (sym (bytes_none (output g.W.Sink c.args.out.now)));
+  so_far = none;
   typed = c.requires;
   within = omega arith;
 }

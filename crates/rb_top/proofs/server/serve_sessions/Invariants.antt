@@ -2,13 +2,13 @@ use Rattle.std.proofs.Common.{◌-◌, ◌≤◌}
 use Rattle.rb_base.specs.Devices.{device}
 use Rattle.rb_session.specs.Answering.{IsTypedHost}
 use Rattle.rb_top.specs.Scene.{output}
-use Rattle.rb_top.proofs.Serving.{SoFar}
+use Rattle.rb_top.specs.Sessions.{ServedSome}
 use Rattle.rb_top.proofs.server.serve_sessions.Given as goal
 
 abbrev pub invariant-loop-number : goal.invariant-loop-number
 invariant-loop-number g l = record {
-  so_far : SoFar l.initial.host l.host (device g.N.Listen.told g.N.Listen.faults l.initial.listen) (device g.N.Listen.told g.N.Listen.faults l.listen)
-      (output g.W.Sink l.initial.out) (output g.W.Sink l.out) l.number;
+  so_far : ServedSome l.initial.host (device g.N.Listen.told g.N.Listen.faults l.initial.listen) (output g.W.Sink l.initial.out) l.number l.host
+      (device g.N.Listen.told g.N.Listen.faults l.listen) (output g.W.Sink l.out);
   typed : IsTypedHost l.host;
   within : l.number ≤ l.count;
 }
