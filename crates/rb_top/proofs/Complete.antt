@@ -1,11 +1,11 @@
 -- What is answered where the outside tells all that a command needs.
-use Rattle.std.proofs.Common.{◌≡◌, ◌⊎◌, ℕ, false, List, [], ◌++◌, Option, None, Some, Result, Ok, Err, codes, ap, sym, ◌∙◌, refl, subst, inl, inr}
+use Rattle.std.proofs.Common.{◌≡◌, ◌⊎◌, ℕ, List, [], Option, None, Some, Ok, Err, codes, ap, sym, ◌∙◌, refl, subst, inl, inr}
 use Rattle.rb_trees.specs.mirror.Declarations.{Program}
 use Rattle.rb_meaning.specs.Links.{Behind, server_told}
-use Rattle.rb_meaning.specs.Shown.{exchanges, line, shown_events}
+use Rattle.rb_meaning.specs.Shown.{line}
 use Rattle.rb_meaning_split.specs.Division.{Division, divisions}
 use Rattle.rb_shown.specs.Views.{shown_divisions}
-use Rattle.rb_base.specs.Devices.{Device, failed}
+use Rattle.rb_base.specs.Devices.{Device}
 use Rattle.rb_base.specs.Directories.{Directory}
 use Rattle.rb_base.specs.declared.links.Link as links
 use Rattle.rb_session.specs.Dials.{DialSeen, TakesNext, next_link}
@@ -14,11 +14,11 @@ use Rattle.rb_session.specs.declared.targets.Target.{Target}
 use Rattle.rb_session.specs.declared.targets.Target.TheVariants as targets
 use Rattle.rb_top.specs.Answers as answers
 use Rattle.rb_top.specs.Answers.{EndsRun, Goes, RunsBy, SaysOfProgram, Says, once_read}
-use Rattle.rb_top.specs.Completeness.{CallsTold, ChecksTold, ComesToBatch, DialsHonest, EndsFar, IsNear, PairsTold, RunsTold, SplitsTold, ToldAccepted, ToldRun, ToldService}
+use Rattle.rb_top.specs.Completeness.{CallsTold, ChecksTold, DialsHonest, EndsFar, IsNear, PairsTold, RunsTold, SplitsTold, ToldAccepted, ToldRun, ToldService}
 use Rattle.rb_top.specs.DialRuns.{Dials, RunsInMemory, not_dialled, ran_in_memory, ran_over_link, starved_dialling, starved_for_link}
 use Rattle.rb_top.specs.Ends as ends
-use Rattle.rb_top.specs.Ends.{Ends, Tells, read_times}
-use Rattle.rb_top.specs.Runs.{Served, ended_status}
+use Rattle.rb_top.specs.Ends.{Ends, Tells}
+use Rattle.rb_top.specs.Runs.{Served}
 use Rattle.rb_top.specs.Scene.{Scene, Outside}
 use Rattle.rb_top.specs.Unusable.{NoProgram, NoService}
 use Rattle.rb_top.specs.Words.{Asked, Check, Split, Run, Call, Wanted, OfProgram, program_name}

@@ -7,7 +7,7 @@ use Rattle.rb_trees.specs.declared.services.Object.{Object}
 use Rattle.rb_trees.specs.mirror.Declarations.{Program}
 use Rattle.rb_trees.specs.mirror.Services.{Service}
 use Rattle.rb_meaning.specs.Links.{Behind, Told, server_told}
-use Rattle.rb_meaning.specs.Shown.{exchanges, shown, shown_events}
+use Rattle.rb_meaning.specs.Shown.{exchanges, shown_events}
 use Rattle.rb_base.specs.Counts.{risen}
 use Rattle.rb_base.specs.Devices.{Device, failed}
 use Rattle.rb_base.specs.Links.{Lends}

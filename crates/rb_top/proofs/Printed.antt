@@ -1,6 +1,6 @@
 -- What a sink tells while a text is printed piece by piece.
-use Rattle.std.proofs.Common.{◌≡◌, ◌<◌, ℕ, ◌+◌, suc, List, ◌++◌, length, take, drop, ap, sym, ◌∙◌, refl, subst, arith, append_assoc, take-append-drop}
-use Rattle.std.specs.Prelude.{Result, Ok, Err, min}
+use Rattle.std.proofs.Common.{◌≡◌, ◌<◌, ℕ, ◌+◌, List, ◌++◌, length, take, drop, ap, sym, ◌∙◌, refl, subst, arith, append_assoc, take-append-drop}
+use Rattle.std.specs.Prelude.{Result, Ok, Err}
 use Rattle.std.specs.List.{position_or_len}
 use Rattle.rb_meaning.specs.Place.{is_line_feed}
 use Rattle.rb_base.specs.Devices.{Device, failed}

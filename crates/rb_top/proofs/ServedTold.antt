@@ -14,7 +14,7 @@ use Rattle.rb_top.specs.Answers as answers
 use Rattle.rb_top.specs.Answers.{Says}
 use Rattle.rb_top.specs.Completeness.{IsDone, ListensWhole, ServesTold, ToldService, after_calls}
 use Rattle.rb_top.specs.Ends as ends
-use Rattle.rb_top.specs.Ends.{Ends, Tells}
+use Rattle.rb_top.specs.Ends.{Ends}
 use Rattle.rb_top.specs.Runs.{Served}
 use Rattle.rb_top.specs.Scene.{Scene, Outside}
 use Rattle.rb_top.specs.Servers as servers

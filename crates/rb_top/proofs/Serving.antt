@@ -1,5 +1,5 @@
 -- Sessions that are served one after the other.
-use Rattle.std.proofs.Common.{◌≡◌, ℕ, suc, ◌<◌, List, [], ◌++◌, Bool, true, false, Option, None, Some, option_map, Result, Ok, Err, ap, sym, ◌∙◌, ◌+◌, refl, subst, arith}
+use Rattle.std.proofs.Common.{◌≡◌, ℕ, suc, ◌<◌, List, Bool, true, false, Option, None, Some, option_map, Result, Ok, Err, ap, sym, ◌∙◌, ◌+◌, refl, subst, arith}
 use Rattle.std.specs.Prelude.{IfSome, OnOk, cond, is_some}
 use Rattle.std.specs.Result.{is_ok}
 use Rattle.rb_trees.specs.declared.services.Object.{Object}
@@ -21,7 +21,7 @@ use Rattle.rb_top.specs.Scene.{Scene}
 use Rattle.rb_top.specs.Servers.{ServesAs, begins}
 use Rattle.rb_top.specs.SessionLines.{shown_session}
 use Rattle.rb_top.specs.Sessions as sessions
-use Rattle.rb_top.specs.Sessions.{GivesSession, Listener, ServedSome, ServesEnds, ServesSession, ServesSessions, Starts, came_back, is_starved, is_want, line_cut, line_starved, one_more}
+use Rattle.rb_top.specs.Sessions.{GivesSession, Listener, ServedSome, ServesEnds, ServesSessions, Starts, came_back, is_starved, is_want, line_cut, line_starved, one_more}
 use Rattle.rb_top.specs.Words.{Serving}
 use Rattle.rb_top.specs.declared.status.Status.{Status}
 use Rattle.rb_top.specs.declared.status.Status.TheVariants.{Done, Memory, WriteFault}

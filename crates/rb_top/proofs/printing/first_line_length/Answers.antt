@@ -1,6 +1,4 @@
-use Rattle.std.proofs.Common.{◌≡◌, arith, ap, sym, suc, ◌∙◌, length}
-use Rattle.std.specs.Prelude.{min}
-use Rattle.std.specs.List.{position_or_len}
+use Rattle.std.proofs.Common.{arith, ap, length}
 use Rattle.std.proofs.lemmas.List.Sums.{position_or_len_is}
 use Rattle.rb_meaning.specs.Place.{is_line_feed}
 use Rattle.rb_top.proofs.Printed.{line_all, line_to}
