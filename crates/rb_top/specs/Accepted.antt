@@ -4,7 +4,7 @@ use Rattle.rb_division_laws.specs.Sendable.{HasPlaces}
 use Rattle.rb_headline_laws.specs.Dividing.{NothingAtZero}
 use Rattle.rb_flow.specs.Program.{HasNoRefusal}
 use Rattle.rb_client.specs.Runs.{IsAcceptedWith}
-use Rattle.rb_top.specs.Sources.{Admitted, admitted_program, HasOwnMarks}
+use Rattle.rb_top.specs.Sources.{Admitted, admitted_program}
 use Rattle.rb_top.specs.Texts.{WithinLength}
 use Rattle.rb_top.specs.declared.source.Accepted.{Accepted}
 
@@ -13,14 +13,12 @@ pub record HasPlacesOfText (p : Program) : Type 0 where
   pub zero_free : NothingAtZero p
   pub places : HasPlaces p
 
--- The program was admitted: it has no refusal, the marks are its own, and its places are such as those that are read.
+-- The program was admitted: it has no refusal, and its places are such as those that are read.
 pub record IsAdmitted (a : Admitted) : Type 0 where
   pub none : HasNoRefusal (admitted_program a)
-  pub marks : HasOwnMarks a
   pub places : HasPlacesOfText (admitted_program a)
 
--- The text is within the limit, the marks are those of the program, and the program is accepted with these divisions.
+-- The text is within the limit, and the program is accepted with these divisions.
 pub record IsAccepted (x : Accepted) : Type 0 where
   pub short : WithinLength x.text.now
-  pub marks : HasOwnMarks x.admitted.now
   pub accepted : IsAcceptedWith x.admitted.now.0 x.splits.now

@@ -1,12 +1,11 @@
 -- A typed program as it was loaded, as it was admitted, and as it was accepted.
-use Rattle.std.specs.Prelude.{◌≡◌, ℕ, List}
+use Rattle.std.specs.Prelude.{ℕ, List}
 use Rattle.std.specs.Ordering.{nat_cmp}
 use Rattle.std.specs.FinMap.{FinMap}
 use Rattle.rb_trees.specs.declared.declarations.Program as program
 use Rattle.rb_trees.specs.declared.marks.Mark.{Mark}
 use Rattle.rb_trees.specs.declared.marks.Place.{Place}
 use Rattle.rb_trees.specs.mirror.Declarations.{Program, mirror_program}
-use Rattle.rb_meaning_flow.specs.Programs.{program_marks}
 use Rattle.rb_top.specs.declared.source.Accepted.{Accepted}
 use Rattle.rb_top.specs.declared.source.Source.{Source}
 
@@ -24,10 +23,6 @@ Admitted = program.Program × (FinMap nat_cmp Mark × FinMap nat_cmp Place)
 
 abbrev pub admitted_program : Admitted → Program
 admitted_program a = mirror_program a.0
-
--- The marks are those of the program.
-abbrev pub HasOwnMarks : Admitted → Type 0
-HasOwnMarks a = a.1.0 ≡ program_marks (admitted_program a)
 
 -- the program that was accepted
 abbrev pub accepted_program : Accepted → Program

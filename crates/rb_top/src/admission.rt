@@ -5,7 +5,6 @@ ghost use Rattle.rb_trees.specs.Outcome.{Tells};
 ghost use Rattle.rb_trees.specs.mirror.Declarations.{mirror_program};
 ghost use Rattle.rb_flow.specs.Admission.{refusal_of};
 ghost use Rattle.rb_flow.specs.Program.{IsAdmission};
-ghost use Rattle.rb_top.specs.Sources.{HasOwnMarks};
 
 use rb_flow::{AdmitStop, Admitted, admit};
 use rb_marks::mark;
@@ -16,7 +15,6 @@ use std::alloc::Global;
 pub fn admission<'a>(alloc: Global, typed: &'a Typed) -> Result<Admitted<'a>, AdmitStop>
     ensures admission { Tells (λ a. tt) refusal_of result (IsAdmission (mirror_program typed.now)) }
     ensures typed { IfOk result (λ admitted. admitted.0 ≡ typed.now) }
-    ensures marks { IfOk result HasOwnMarks }
 {
     let marks = mark(alloc, typed)?;
     admit(alloc, typed, marks)

@@ -8,8 +8,9 @@ ghost use Rattle.rb_top.specs.BatchRefusals as words;
 ghost use Rattle.rb_top.specs.BatchRefusals.{batch_heading, positions, spaced_place, spaced_places, shown_batch_refusal};
 ghost use Rattle.rb_top.specs.Texts.{WithinLength};
 
-use crate::refusals::place_in;
-use rb_trees::Refusal;
+use crate::refusals::place_found;
+use rb_places::Places;
+use rb_trees::{Memory, Refusal};
 use std::alloc::{AllocError, Global};
 
 /// The number and the name of a refusal.
@@ -30,22 +31,32 @@ fn batch_heading(refusal: &Refusal) -> &'static str
 }
 
 /// Appends the line and the column of a position, behind a space.
-fn put_place(alloc: Global, text: &[u8], at: u32, into: &mut Vec<u8>) -> Result<(), AllocError>
-    requires { WithinLength text.now }
-    ensures { OnOk result (into.new.items ≡ into.old.items ++ spaced_place text.now at) }
+fn put_place(
+    alloc: Global,
+    places: &Places<'_>,
+    at: u32,
+    into: &mut Vec<u8>,
+) -> Result<(), AllocError>
+    requires { WithinLength places.now }
+    ensures { OnOk result (into.new.items ≡ into.old.items ++ spaced_place places.now at) }
 {
-    let place = place_in(alloc, text, at)?;
+    let place = place_found(alloc, places, at)?;
     into.extend_from_slice(b" ")?;
     into.extend_from_slice(place.as_slice())
 }
 
 /// Appends those of several positions.
-fn put_places(alloc: Global, text: &[u8], ps: &[u32], into: &mut Vec<u8>) -> Result<(), AllocError>
-    requires { WithinLength text.now }
-    ensures { OnOk result (into.new.items ≡ into.old.items ++ spaced_places text.now ps.now) }
+fn put_places(
+    alloc: Global,
+    places: &Places<'_>,
+    ps: &[u32],
+    into: &mut Vec<u8>,
+) -> Result<(), AllocError>
+    requires { WithinLength places.now }
+    ensures { OnOk result (into.new.items ≡ into.old.items ++ spaced_places places.now ps.now) }
 {
     for at in ps {
-        put_place(alloc, text, *at, into)?;
+        put_place(alloc, places, *at, into)?;
     }
     Ok(())
 }
@@ -53,18 +64,18 @@ fn put_places(alloc: Global, text: &[u8], ps: &[u32], into: &mut Vec<u8>) -> Res
 /// Appends the positions of a refusal.
 fn put_positions(
     alloc: Global,
-    text: &[u8],
+    places: &Places<'_>,
     refusal: &Refusal,
     into: &mut Vec<u8>,
 ) -> Result<(), AllocError>
-    requires { WithinLength text.now }
-    ensures { OnOk result (into.new.items ≡ into.old.items ++ spaced_places text.now (positions refusal.now)) }
+    requires { WithinLength places.now }
+    ensures { OnOk result (into.new.items ≡ into.old.items ++ spaced_places places.now (positions refusal.now)) }
 {
     match refusal {
-        Refusal::Flow(chain) => put_places(alloc, text, chain.as_slice(), into),
+        Refusal::Flow(chain) => put_places(alloc, places, chain.as_slice(), into),
         Refusal::UnderLocalCondition(condition, operation) => {
-            put_place(alloc, text, *condition, into)?;
-            put_place(alloc, text, *operation, into)
+            put_place(alloc, places, *condition, into)?;
+            put_place(alloc, places, *operation, into)
         }
         Refusal::NotConstant(at)
         | Refusal::Escapes(at)
@@ -72,7 +83,7 @@ fn put_positions(
         | Refusal::InTry(at)
         | Refusal::RemoteVar(at)
         | Refusal::TooManyInputs(at, _)
-        | Refusal::ScriptTooLarge(at, _) => put_place(alloc, text, *at, into),
+        | Refusal::ScriptTooLarge(at, _) => put_place(alloc, places, *at, into),
     }
 }
 
@@ -98,12 +109,13 @@ pub fn batch_refusal_line(
     alloc: Global,
     text: &[u8],
     refusal: &Refusal,
-) -> Result<Vec<u8>, AllocError>
+) -> Result<Vec<u8>, Memory>
     requires { WithinLength text.now }
     ensures { IfOk result (λ shown. shown.items ≡ line (shown_batch_refusal text.now refusal.now)) }
 {
+    let places = Places::of(alloc, text)?;
     let mut shown = Vec::from_slice(alloc, batch_heading(refusal).as_bytes())?;
-    put_positions(alloc, text, refusal, &mut shown)?;
+    put_positions(alloc, &places, refusal, &mut shown)?;
     let amount = amount(alloc, refusal)?;
     shown.extend_from_slice(amount.as_bytes())?;
     shown.extend_from_slice(b"\n")?;

@@ -11,6 +11,7 @@ ghost use Rattle.rb_top.specs.Refusals.{place_in, lex_heading, heading, lex_offs
 ghost use Rattle.rb_top.specs.Texts.{WithinLength};
 
 use rb_base::place;
+use rb_places::Places;
 use rb_trees::{LexError, ReadError, TypeError};
 use std::alloc::{AllocError, Global};
 
@@ -168,6 +169,16 @@ pub fn place_in(alloc: Global, text: &[u8], at: u32) -> Result<Vec<u8>, AllocErr
 {
     let at = at.min(text.len() as u32);
     let (row, column) = place(text, at);
+    place_text(alloc, row, column)
+}
+
+/// The same of a text whose places are looked up.
+pub fn place_found(alloc: Global, places: &Places<'_>, at: u32) -> Result<Vec<u8>, AllocError>
+    requires { WithinLength places.now }
+    ensures { IfOk result (λ shown. shown.items ≡ place_in places.now at) }
+{
+    let at = at.min(places.text().len() as u32);
+    let (row, column) = places.place(at);
     place_text(alloc, row, column)
 }
 

@@ -11,7 +11,6 @@ use Rattle.rb_top.proofs.command.go_on.Goals as goal
 pub go_on_admitted-requires-clause-admitted : goal.go_on_admitted-requires-clause-admitted
 go_on_admitted-requires-clause-admitted g c = record {
   none = subst (λ q. HasNoRefusal (mirror_program q)) (sym c.in-Ok.ensures.typed) c.in-Ok.ensures.admission;
-  marks = c.in-Ok.ensures.marks;
   places = subst (λ q. HasPlacesOfText (mirror_program q)) (sym c.in-Ok.ensures.typed) c.requires.places;
 }
 
