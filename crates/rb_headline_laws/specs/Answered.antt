@@ -94,11 +94,12 @@ pub record NoKindIsCaught (p : Program) (service : Service) : Type 0 where
       → IsBatchStmt (type_at p) (context (of_program p) place) place.scope (Try at a name b)
       → FitsPlace (of_program p) place l → HasFittingTable service s → EndsWithoutKind (tried p gas a (in_batch p service) l s)
 
--- So it is in a lawful, typed program without refusals, on a typed service whose table fits, with whatever fuel.
+-- So it is with each lawful, typed program without refusals, on each typed service whose table fits.
 abbrev pub InAccepted : (Program → Service → List Object → Type 0) → Type 0
 InAccepted Holds = (p : Program) → IsLawful p → check_program p ≡ Ok tt → HasNoRefusal p
     → (service : Service) (table : List Object) → IsTyped service table → Holds p service table
 
+-- with whatever fuel
 abbrev pub EachAnswerFits : Type 0
 EachAnswerFits = InAccepted (λ p service table. (fuel : ℕ) → AnswersFit p service table fuel)
 
