@@ -83,6 +83,10 @@ left_table told s table h = by_server (server_told told) refl h
     by_server (Some b) e h = rw e h.1
 
 module _ {L : Type 0} (g : links.Ghosts L) where
+  -- a link that lent its table does so still
+  pub still_lends : (link left : L) → g.lends left ≡ g.lends link → g.lends link ≡ true → g.lends left ≡ true
+  still_lends link left same lends = same ∙ lends
+
   -- what is said behind the lines of a run that ended over a link that lends its table, with the table that it lends
   pub says_with_table : (text : List ℕ) (left : L) (run : Run) (table : List Object) (r : Result Status PrintStop) (result : Status) (before after : Device (List ℕ)) → g.lends left ≡ true → Lends (g.lends left) (server_told (g.told left)) (Some table)
       → result ≡ run_answer r → PrintsAnswering (ended_status run.ending) (end_text text run.ending run.exchanges table) r before after → SaysRun (run_end_with_table g text left) (Ok run) result before after

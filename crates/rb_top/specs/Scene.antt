@@ -1,11 +1,13 @@
 -- All of the outside that a command may touch.
 use Rattle.std.specs.Prelude.{ℕ, List}
 use Rattle.rb_base.specs.declared.files.Files as files
+use Rattle.rb_base.specs.declared.listens.Listen as listens
 use Rattle.rb_base.specs.declared.sinks.Sink as sinks
 use Rattle.rb_base.specs.Devices.{Device, device}
 use Rattle.rb_base.specs.Directories.{Directory}
 use Rattle.rb_base.specs.Listening.{Listening}
-use Rattle.rb_session.specs.Dials.{DialSeen}
+use Rattle.rb_session.specs.declared.dials.Dial as dials
+use Rattle.rb_session.specs.Dials.{DialSeen, seen}
 
 -- the files and the output
 pub record Scene : Type 0 where
@@ -27,8 +29,9 @@ output w out = device w.told w.faults out
 abbrev pub scene : {F W : Type 0} → files.Ghosts F → sinks.Ghosts W → F → W → Scene
 scene f w fs out = record { files = directory f fs; out = output w out }
 
-abbrev pub outside : {L : Type 0} → Scene → DialSeen L → Device Listening → Outside L
-outside scene dial listen = record { scene = scene; dial = dial; listen = listen }
+-- all of the outside, as its traits' members see it
+abbrev pub outside : {F W D L N S K : Type 0} → files.Ghosts F → sinks.Ghosts W → dials.Ghosts D L → listens.Ghosts N S K → F → W → D → N → Outside L
+outside f w d n fs out dial listen = record { scene = scene f w fs out; dial = seen d.told d.faults d.broken dial; listen = device n.told n.faults listen }
 
 -- This holds of the output before and after.
 abbrev pub Across : {W : Type 0} → sinks.Ghosts W → W → W → (Device (List ℕ) → Device (List ℕ) → Type 0) → Type 0

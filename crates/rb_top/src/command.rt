@@ -5,7 +5,6 @@ ghost use Rattle.rb_trees.specs.mirror.Services.{mirror_service};
 ghost use Rattle.rb_meaning.specs.Links.{IsTyped};
 ghost use Rattle.rb_meaning_split.specs.Division.{mirror_split};
 ghost use Rattle.rb_shown.specs.Views.{shown_divisions};
-ghost use Rattle.rb_base.specs.Devices.{device};
 ghost use Rattle.rb_session.specs.Dials.{seen};
 ghost use Rattle.rb_session.specs.declared.targets.Target.TheVariants as targets;
 ghost use Rattle.rb_top.specs.Accepted.{HasPlacesOfText, IsAdmitted, IsAccepted};
@@ -14,7 +13,7 @@ ghost use Rattle.rb_top.specs.Commands.{DialsWith, DividesWith, GoesOnTyped, Goe
 ghost use Rattle.rb_top.specs.Completeness.{CallsTold, ChecksTold, PairsTold, RunsTold, ServesTold, SplitsTold};
 ghost use Rattle.rb_top.specs.Ends.{Ends};
 ghost use Rattle.rb_top.specs.Runs.{served_on};
-ghost use Rattle.rb_top.specs.Scene.{output, Across, Between, scene, outside};
+ghost use Rattle.rb_top.specs.Scene.{output, Across, Between, outside};
 ghost use Rattle.rb_top.specs.Sources.{text_of, program_of};
 ghost use Rattle.rb_top.specs.Texts.{WithinLength};
 ghost use Rattle.rb_top.specs.Words.{texts, wanted, wanted_by, asked_by, asked_job};
@@ -246,10 +245,8 @@ fn carry_out<F: Files, W: Sink, D: Dial, N: Listen>(
     dial: &mut D,
     listen: &mut N,
 ) -> Status
-    ensures { let dialled = seen D.told D.faults D.broken in let listener = device N.told N.faults in
-        let before = outside (scene F.Files W.Sink files.old out.old) (dialled dial.old) (listener listen.old) in
-        let after = outside (scene F.Files W.Sink files.new out.new) (dialled dial.new) (listener listen.new) in
-        Says D.L.Link (Some (wanted_by command.now)) result before after }
+    ensures { let asked = Some (wanted_by command.now) in let it = outside F.Files W.Sink D.Dial N.Listen in
+        Says D.L.Link asked result (it files.old out.old dial.old listen.old) (it files.new out.new dial.new listen.new) }
 {
     match command {
         Command::Program(task) => carry_out_task(alloc, task, files, dial, out),
@@ -273,10 +270,8 @@ pub fn top<F: Files, W: Sink, D: Dial, N: Listen>(
     listen: &mut N,
 ) -> Status
     // What is answered and printed is what the words and the outside mean.
-    ensures answer { let dialled = seen D.told D.faults D.broken in let listener = device N.told N.faults in
-        let before = outside (scene F.Files W.Sink files.old out.old) (dialled dial.old) (listener listen.old) in
-        let after = outside (scene F.Files W.Sink files.new out.new) (dialled dial.new) (listener listen.new) in
-        Says D.L.Link (wanted (texts words.now)) result before after }
+    ensures answer { let asked = wanted (texts words.now) in let it = outside F.Files W.Sink D.Dial N.Listen in
+        Says D.L.Link asked result (it files.old out.old dial.old listen.old) (it files.new out.new dial.new listen.new) }
     // An accepted program that the files tell is checked, unless the output fails or memory is wanting.
     ensures checks { Between F.Files W.Sink files.old out.old files.new out.new (ChecksTold (wanted (texts words.now)) result) }
     // The division of such a program is shown, unless the output fails or memory is wanting.
@@ -284,20 +279,14 @@ pub fn top<F: Files, W: Sink, D: Dial, N: Listen>(
     // A program that the files tell is run on a service that they tell, unless the output fails or memory is wanting.
     ensures runs { Between F.Files W.Sink files.old out.old files.new out.new (RunsTold (wanted (texts words.now)) result) }
     // Over an honest link that the Dial tells a program is run as it means on the server behind that link.
-    ensures calls { let dialled = seen D.told D.faults D.broken in let listener = device N.told N.faults in
-        let before = outside (scene F.Files W.Sink files.old out.old) (dialled dial.old) (listener listen.old) in
-        let after = outside (scene F.Files W.Sink files.new out.new) (dialled dial.new) (listener listen.new) in
-        CallsTold D.L.Link (wanted (texts words.now)) result before after }
+    ensures calls { let asked = wanted (texts words.now) in let it = outside F.Files W.Sink D.Dial N.Listen in
+        CallsTold D.L.Link asked result (it files.old out.old dial.old listen.old) (it files.new out.new dial.new listen.new) }
     // So is a program over an honest link to the child.
-    ensures pairs { let dialled = seen D.told D.faults D.broken in let listener = device N.told N.faults in
-        let before = outside (scene F.Files W.Sink files.old out.old) (dialled dial.old) (listener listen.old) in
-        let after = outside (scene F.Files W.Sink files.new out.new) (dialled dial.new) (listener listen.new) in
-        PairsTold D.L.Link (wanted (texts words.now)) result before after }
+    ensures pairs { let asked = wanted (texts words.now) in let it = outside F.Files W.Sink D.Dial N.Listen in
+        PairsTold D.L.Link asked result (it files.old out.old dial.old listen.old) (it files.new out.new dial.new listen.new) }
     // A server whose service and address are told serves to its end.
-    ensures serves { let dialled = seen D.told D.faults D.broken in let listener = device N.told N.faults in
-        let before = outside (scene F.Files W.Sink files.old out.old) (dialled dial.old) (listener listen.old) in
-        let after = outside (scene F.Files W.Sink files.new out.new) (dialled dial.new) (listener listen.new) in
-        ServesTold (wanted (texts words.now)) result before }
+    ensures serves { let asked = wanted (texts words.now) in
+        ServesTold asked result (outside F.Files W.Sink D.Dial N.Listen files.old out.old dial.old listen.old) }
 {
     sources_have_one_outcome();
     sources_have_one_outcome_as_services();

@@ -1,14 +1,14 @@
-use Rattle.std.proofs.Common.{Err, Ok, subst, ◌∙◌}
+use Rattle.std.proofs.Common.{Err, Ok, subst}
 use Rattle.rb_trees.specs.mirror.Declarations.{mirror_program}
 use Rattle.rb_meaning.specs.Links.{server_told}
 use Rattle.rb_top.specs.LinkRuns.{RunsOverLink, run_end_with_table}
 use Rattle.rb_top.specs.Scene.{output}
-use Rattle.rb_top.proofs.LinkRuns.{none_lent, says_with_table}
+use Rattle.rb_top.proofs.LinkRuns.{none_lent, says_with_table, still_lends}
 use Rattle.rb_top.proofs.both_run.run_over.Goals as goal
 
 pub unreachable-requires : goal.unreachable-requires
 unreachable-requires g c =
-    none_lent (g.L.Link.lends c.run_client.new.link) (server_told (g.L.Link.told c.run_client.new.link)) (c.in-Ok.ensures.runs.exchanged.lends_so ∙ c.requires.lends) c.in-None.ensures
+    none_lent (g.L.Link.lends c.run_client.new.link) (server_told (g.L.Link.told c.run_client.new.link)) (still_lends g.L.Link c.args.link.now c.run_client.new.link c.in-Ok.ensures.runs.exchanged.lends_so c.requires.lends) c.in-None.ensures
 
 pub returns-in-Some : goal.returns-in-Some
 returns-in-Some g c =
@@ -21,7 +21,7 @@ returns-in-Some g c =
       lists = c.in-Ok.ensures.lists;
       means = c.in-Ok.ensures.means;
       says = says_with_table g.L.Link text c.run_client.new.link c.in-Ok.run' c.in-Some.table.now c.print_run_end_with_table.result c.run_answer.result _ _
-          (c.in-Ok.ensures.runs.exchanged.lends_so ∙ c.requires.lends) c.in-Some.ensures c.run_answer.ensures c.print_run_end_with_table.ensures;
+          (still_lends g.L.Link c.args.link.now c.run_client.new.link c.in-Ok.ensures.runs.exchanged.lends_so c.requires.lends) c.in-Some.ensures c.run_answer.ensures c.print_run_end_with_table.ensures;
     })
 
 pub returns-in-Err : goal.returns-in-Err

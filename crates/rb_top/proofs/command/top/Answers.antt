@@ -1,6 +1,4 @@
-use Rattle.rb_base.specs.Devices.{device}
-use Rattle.rb_session.specs.Dials.{seen}
-use Rattle.rb_top.specs.Scene.{outside, scene}
+use Rattle.rb_top.specs.Scene.{outside}
 use Rattle.rb_top.specs.Words.{texts, wanted}
 use Rattle.rb_top.proofs.Complete.{calls_told, checks_told, pairs_told, runs_told, said_as, said_nothing, splits_told}
 use Rattle.rb_top.proofs.ServedTold.{serves_told}
@@ -18,7 +16,7 @@ returns-in-Some-clause-checks g c =
 
 pub returns-in-None-clause-checks : goal.returns-in-None-clause-checks
 returns-in-None-clause-checks g c =
-    let before = outside (scene g.F.Files g.W.Sink c.args.files.now c.args.out.now) (seen g.D.Dial.told g.D.Dial.faults g.D.Dial.broken c.args.dial.now) (device g.N.Listen.told g.N.Listen.faults c.args.listen.now) in
+    let before = outside g.F.Files g.W.Sink g.D.Dial g.N.Listen c.args.files.now c.args.out.now c.args.dial.now c.args.listen.now in
     checks_told g.D.L.Link c.sources_have_one_outcome.ensures (wanted (texts c.args.words.now)) c.say.result before _ (said_nothing g.D.L.Link (wanted (texts c.args.words.now)) c.say.result before _ c.in-None.ensures c.say.ensures)
 
 pub returns-in-Some-clause-splits : goal.returns-in-Some-clause-splits
@@ -27,7 +25,7 @@ returns-in-Some-clause-splits g c =
 
 pub returns-in-None-clause-splits : goal.returns-in-None-clause-splits
 returns-in-None-clause-splits g c =
-    let before = outside (scene g.F.Files g.W.Sink c.args.files.now c.args.out.now) (seen g.D.Dial.told g.D.Dial.faults g.D.Dial.broken c.args.dial.now) (device g.N.Listen.told g.N.Listen.faults c.args.listen.now) in
+    let before = outside g.F.Files g.W.Sink g.D.Dial g.N.Listen c.args.files.now c.args.out.now c.args.dial.now c.args.listen.now in
     splits_told g.D.L.Link c.sources_have_one_outcome.ensures (wanted (texts c.args.words.now)) c.say.result before _ (said_nothing g.D.L.Link (wanted (texts c.args.words.now)) c.say.result before _ c.in-None.ensures c.say.ensures)
 
 pub returns-in-Some-clause-runs : goal.returns-in-Some-clause-runs
@@ -36,7 +34,7 @@ returns-in-Some-clause-runs g c =
 
 pub returns-in-None-clause-runs : goal.returns-in-None-clause-runs
 returns-in-None-clause-runs g c =
-    let before = outside (scene g.F.Files g.W.Sink c.args.files.now c.args.out.now) (seen g.D.Dial.told g.D.Dial.faults g.D.Dial.broken c.args.dial.now) (device g.N.Listen.told g.N.Listen.faults c.args.listen.now) in
+    let before = outside g.F.Files g.W.Sink g.D.Dial g.N.Listen c.args.files.now c.args.out.now c.args.dial.now c.args.listen.now in
     runs_told g.D.L.Link c.sources_have_one_outcome.ensures c.sources_have_one_outcome_as_services.ensures (wanted (texts c.args.words.now)) c.say.result before _ (said_nothing g.D.L.Link (wanted (texts c.args.words.now)) c.say.result before _ c.in-None.ensures c.say.ensures)
 
 pub returns-in-Some-clause-calls : goal.returns-in-Some-clause-calls
@@ -45,7 +43,7 @@ returns-in-Some-clause-calls g c =
 
 pub returns-in-None-clause-calls : goal.returns-in-None-clause-calls
 returns-in-None-clause-calls g c =
-    let before = outside (scene g.F.Files g.W.Sink c.args.files.now c.args.out.now) (seen g.D.Dial.told g.D.Dial.faults g.D.Dial.broken c.args.dial.now) (device g.N.Listen.told g.N.Listen.faults c.args.listen.now) in
+    let before = outside g.F.Files g.W.Sink g.D.Dial g.N.Listen c.args.files.now c.args.out.now c.args.dial.now c.args.listen.now in
     calls_told g.D.L.Link c.sources_have_one_outcome.ensures (wanted (texts c.args.words.now)) c.say.result before _ (said_nothing g.D.L.Link (wanted (texts c.args.words.now)) c.say.result before _ c.in-None.ensures c.say.ensures)
 
 pub returns-in-Some-clause-pairs : goal.returns-in-Some-clause-pairs
@@ -54,7 +52,7 @@ returns-in-Some-clause-pairs g c =
 
 pub returns-in-None-clause-pairs : goal.returns-in-None-clause-pairs
 returns-in-None-clause-pairs g c =
-    let before = outside (scene g.F.Files g.W.Sink c.args.files.now c.args.out.now) (seen g.D.Dial.told g.D.Dial.faults g.D.Dial.broken c.args.dial.now) (device g.N.Listen.told g.N.Listen.faults c.args.listen.now) in
+    let before = outside g.F.Files g.W.Sink g.D.Dial g.N.Listen c.args.files.now c.args.out.now c.args.dial.now c.args.listen.now in
     pairs_told g.D.L.Link c.sources_have_one_outcome.ensures c.sources_have_one_outcome_as_services.ensures (wanted (texts c.args.words.now)) c.say.result before _ (said_nothing g.D.L.Link (wanted (texts c.args.words.now)) c.say.result before _ c.in-None.ensures c.say.ensures)
 
 pub returns-in-Some-clause-serves : goal.returns-in-Some-clause-serves
@@ -63,5 +61,5 @@ returns-in-Some-clause-serves g c =
 
 pub returns-in-None-clause-serves : goal.returns-in-None-clause-serves
 returns-in-None-clause-serves g c =
-    let before = outside (scene g.F.Files g.W.Sink c.args.files.now c.args.out.now) (seen g.D.Dial.told g.D.Dial.faults g.D.Dial.broken c.args.dial.now) (device g.N.Listen.told g.N.Listen.faults c.args.listen.now) in
+    let before = outside g.F.Files g.W.Sink g.D.Dial g.N.Listen c.args.files.now c.args.out.now c.args.dial.now c.args.listen.now in
     serves_told g.D.L.Link c.sources_have_one_outcome_as_services.ensures (wanted (texts c.args.words.now)) c.say.result before _ (said_nothing g.D.L.Link (wanted (texts c.args.words.now)) c.say.result before _ c.in-None.ensures c.say.ensures)
