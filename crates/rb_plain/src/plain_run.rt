@@ -58,7 +58,7 @@ fn run_on<'a, 'b, 'p, W: Sink>(
 // Runs a program with its marks and the code of its classes.
 fn run_typed<'a, W: Sink>(
     alloc: Global,
-    facts: &'a Facts<'a>,
+    facts: Facts<'a>,
     marks: &'a Marks,
     code: &'a Code,
     service: &'a Code,
@@ -67,13 +67,13 @@ fn run_typed<'a, W: Sink>(
     fuel: u64,
     out: &mut W,
 ) -> Result<Run, PlainStop>
-    requires code { code.now ≡ facts.now.classes }
-    requires marks { marks.now.0 ≡ program_marks (mirror_program facts.now) }
-    ensures left { IfOk result (λ run. Leaves (meant facts.now service.now root table.old fuel) run table.new) }
-    ensures written { let text = shown_events (meant facts.now service.now root table.old fuel).events in
+    requires code { code.now ≡ facts.classes }
+    requires marks { marks.now.0 ≡ program_marks (mirror_program facts) }
+    ensures left { IfOk result (λ run. Leaves (meant facts.entry service.now root table.old fuel) run table.new) }
+    ensures written { let text = shown_events (meant facts.entry service.now root table.old fuel).events in
         WritesUnlessStarved text result (output W.Sink out.old) (output W.Sink out.new) }
 {
-    let batches = Batches::of(alloc, facts)?;
+    let batches = Batches::of(alloc, &facts)?;
     let stage = Stage::new(facts, marks, code, service, root);
     run_on(alloc, stage, &batches, table, fuel, out)
 }
@@ -102,5 +102,5 @@ pub fn unsplit<W: Sink>(
     let own = Code::make(alloc, &program.classes)?;
     let facts = Facts::new(alloc, typed)?;
     let marks = admitted.marks();
-    run_typed(alloc, &facts, marks, &own, code, root, table, fuel, out)
+    run_typed(alloc, facts, marks, &own, code, root, table, fuel, out)
 }

@@ -16,7 +16,7 @@ use std::marker::Model;
 /// root. Contracts see the program and the service.
 #[derive(Drop)]
 pub struct Stage<'a> {
-    facts: &'a Facts<'a>,
+    facts: Facts<'a>,
     marks: &'a Marks,
     code: &'a Code,
     service: &'a Code,
@@ -33,23 +33,23 @@ impl<'a> Model for Stage<'a> {
 
     ghost coded = { staged_code };
 
-    ghost view = { λ s. record { program = s.facts.now; service = record { classes = s.service.now; root = s.root } } };
+    ghost view = { λ s. record { program = s.facts; service = record { classes = s.service.now; root = s.root } } };
 
-    ghost invariant = { λ s. (s.code.now ≡ s.facts.now.classes) × (s.marks.now.0 ≡ program_marks (mirror_program s.facts.now)) };
+    ghost invariant = { λ s. (s.code.now ≡ s.facts.classes) × (s.marks.now.0 ≡ program_marks (mirror_program s.facts)) };
 }
 
 impl<'a> Stage<'a> {
     /// The stage of a program and a service. The code is that of the program's classes, and the marks are the program's.
     pub fn new(
-        facts: &'a Facts<'a>,
+        facts: Facts<'a>,
         marks: &'a Marks,
         code: &'a Code,
         service: &'a Code,
         root: u32,
     ) -> Stage<'a>
-        requires code { code.now ≡ facts.now.classes }
-        requires marks { marks.now.0 ≡ program_marks (mirror_program facts.now) }
-        ensures { result ≡ record { program = facts.now; service = record { classes = service.now; root = root } } }
+        requires code { code.now ≡ facts.classes }
+        requires marks { marks.now.0 ≡ program_marks (mirror_program facts) }
+        ensures { result ≡ record { program = facts.entry; service = record { classes = service.now; root = root } } }
     {
         Stage {
             facts,
@@ -68,10 +68,10 @@ impl<'a> Stage<'a> {
     }
 
     /// What the program's types tell.
-    pub fn facts(&self) -> &'a Facts<'a>
+    pub fn facts(&self) -> &Facts<'a>
         ensures { result.now ≡ self.now.program }
     {
-        self.facts
+        &self.facts
     }
 
     /// The code of the program's classes.

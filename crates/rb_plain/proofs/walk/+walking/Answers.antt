@@ -37,11 +37,11 @@ perform_branch-returns-clause-walked t c =
     (same_by c.value_of.ensures c.in_ok-value.was) (rw c.as_slice.ensures at c.perform_block.ensures.ended))))
 
 pub perform_for-returns-then-over_rows-clause-walked : goal.perform_for-returns-then-over_rows-clause-walked
-perform_for-returns-then-over_rows-clause-walked t c = on_true _ c.over_rows.result _ (rw c.typed.ensures at c.over_rows.ensures) c.if-over_rows.true c.perform_rows.ensures.walked
+perform_for-returns-then-over_rows-clause-walked t c = on_true _ c.over_rows.result _ (rw c.facts.ensures at c.over_rows.ensures) c.if-over_rows.true c.perform_rows.ensures.walked
 
 pub perform_if-returns-then-branches_hold-clause-walked : goal.perform_if-returns-then-branches_hold-clause-walked
 perform_if-returns-then-branches_hold-clause-walked t c =
-    on_true _ c.branches_hold.result _ (rw (c.typed.ensures, c.as_slice.ensures, c.as_slice-2.ensures) at c.branches_hold.ensures) c.if-branches_hold.true c.perform_branch.ensures.walked
+    on_true _ c.branches_hold.result _ (rw (c.facts.ensures, c.as_slice.ensures, c.as_slice-2.ensures) at c.branches_hold.ensures) c.if-branches_hold.true c.perform_branch.ensures.walked
 
 pub perform_stmt-perform_if-requires : goal.perform_stmt-perform_if-requires
 perform_stmt-perform_if-requires t c = let w = ap stmt_weight (if_form c.args.stmt.now c.in-If.a c.in-If.b c.in-If.is) in omega arith

@@ -8,7 +8,6 @@ use Rattle.rb_plain.proofs.batches.Batches.of.Goals as goal
 
 pub returns : goal.returns
 returns c =
-    are_batches (mirror_program c.args.typed.now) (record { batches = c.in_ok-batches.batches; places = c.in_ok-places.places }) c.in_ok-batches.batches refl
-    (c.in_ok-batches.ensures ∙ ap (λ y. program_begun (facts y) (mirror_program c.program.result.now)) c.in_ok-facts.ensures
-    ∙ ap (λ q. program_begun (facts c.args.typed.now) (mirror_program q)) c.program.ensures.same)
+    are_batches (mirror_program c.args.facts.now) (record { batches = c.in_ok-batches.batches; places = c.in_ok-places.places }) c.in_ok-batches.batches refl
+    (c.in_ok-batches.ensures ∙ ap (λ q. program_begun (facts c.args.facts.now) (mirror_program q)) (c.program.ensures.same ∙ c.typed.ensures))
     (λ at. c.in_ok-places.ensures at ∙ ap (λ bs. place_in bs at 0) c.as_slice.ensures)
