@@ -6,11 +6,11 @@ ghost use Rattle.rb_help.specs.Quotes.{Quotes, Within};
 
 use crate::carets::caret;
 use crate::labels::label;
-use crate::lines::line_number;
 use crate::page::Page;
 use crate::pieces::Pieces;
 use crate::quotes::{quote, shares};
 use crate::trouble::Trouble;
+use rb_places::Places;
 use rb_trees::{Memory, Seq, Word};
 use std::alloc::Global;
 
@@ -29,11 +29,11 @@ fn indent(alloc: Global, number: usize, columns: usize) -> Result<Word, Memory> 
 }
 
 /// The quote of the line of a place, behind its spaces.
-fn indented(alloc: Global, source: &[u8], at: u32, columns: usize) -> Result<Word, Memory>
-    ensures { IfOk result (λ text. Within source.now at text) }
+fn indented(alloc: Global, places: &Places<'_>, at: u32, columns: usize) -> Result<Word, Memory>
+    ensures { IfOk result (λ text. Within places.now at text) }
 {
-    let mut text = indent(alloc, line_number(source, at), columns)?;
-    let quote = quote(alloc, source, at)?;
+    let mut text = indent(alloc, places.line(at), columns)?;
+    let quote = quote(alloc, places, at)?;
     text.extend_from_slice(quote.as_slice())?;
     Ok(text)
 }
@@ -41,19 +41,19 @@ fn indented(alloc: Global, source: &[u8], at: u32, columns: usize) -> Result<Wor
 /// The caret under a place, and the quote of its line before, where the place doesn't share that of the place before it.
 fn block(
     alloc: Global,
-    source: &[u8],
+    places: &Places<'_>,
     earlier: Option<u32>,
     at: u32,
     columns: usize,
     label: &[u8],
 ) -> Result<Word, Memory>
-    ensures { IfOk result (λ text. words.shares source.now earlier at ≡ false → Within source.now at text) }
+    ensures { IfOk result (λ text. words.shares places.now earlier at ≡ false → Within places.now at text) }
 {
-    let under = caret(alloc, source, at, columns, label)?;
-    if shares(source, earlier, at) {
+    let under = caret(alloc, places.text(), at, columns, label)?;
+    if shares(places, earlier, at) {
         return Ok(under);
     }
-    let mut text = indented(alloc, source, at, columns)?;
+    let mut text = indented(alloc, places, at, columns)?;
     text.extend_from_slice(under.as_slice())?;
     Ok(text)
 }
@@ -61,19 +61,19 @@ fn block(
 /// The quoted lines at positions of a trouble in their order, with a caret for each of them.
 pub fn blocks(
     alloc: Global,
-    source: &[u8],
+    places: &Places<'_>,
     pieces: &Pieces<'_>,
     trouble: &Trouble<'_>,
     ats: &[u32],
 ) -> Result<Word, Memory>
-    ensures { IfOk result (λ text. Quotes source.now ats.now text) }
+    ensures { IfOk result (λ text. Quotes places.now ats.now text) }
 {
-    let columns = digits(alloc, line_number(source, u32::MAX))?;
+    let columns = digits(alloc, places.line(u32::MAX))?;
     let mut text = Seq::new(alloc);
     let mut earlier = None;
     for (number, at) in ats.iter().enumerate() {
         let label = label(alloc, pieces, trouble, number)?;
-        let block = block(alloc, source, earlier, *at, columns, label.as_slice())?;
+        let block = block(alloc, places, earlier, *at, columns, label.as_slice())?;
         text.extend_from_slice(block.as_slice())?;
         earlier = Some(*at);
     }

@@ -15,6 +15,7 @@ use crate::run_help::say_fault;
 use crate::service_help::say_service;
 use crate::trouble::Trouble;
 use crate::typing_help::say_types;
+use rb_places::Places;
 use rb_trees::{Memory, Word};
 use std::alloc::Global;
 
@@ -49,9 +50,10 @@ fn sentences(alloc: Global, pieces: &Pieces<'_>, trouble: &Trouble<'_>) -> Resul
 pub fn explain(alloc: Global, source: &[u8], trouble: &Trouble<'_>) -> Result<Word, Memory>
     ensures { IfOk result (λ text. Quotes source.now (positions_of trouble.now) text) }
 {
-    let pieces = Pieces::make(alloc, source)?;
+    let places = Places::of(alloc, source)?;
+    let pieces = Pieces::make(alloc, &places)?;
     let ats = positions(alloc, trouble)?;
-    let mut text = blocks(alloc, source, &pieces, trouble, ats.as_slice())?;
+    let mut text = blocks(alloc, &places, &pieces, trouble, ats.as_slice())?;
     let said = sentences(alloc, &pieces, trouble)?;
     text.extend_from_slice(said.as_slice())?;
     Ok(text)

@@ -2,7 +2,7 @@
 
 ghost use Rattle.std.specs.Prelude.{◌+◌, ◌^◌, ◌<◌};
 
-use crate::lines::line_number;
+use rb_places::Places;
 use rb_trees::Memory;
 use std::alloc::Global;
 
@@ -112,12 +112,14 @@ impl Scanner {
 #[derive(Drop)]
 pub struct Pieces<'a> {
     source: &'a [u8],
+    places: &'a Places<'a>,
     pieces: Vec<Piece>,
 }
 
 impl<'a> Pieces<'a> {
     /// The pieces of a text.
-    pub fn make(alloc: Global, source: &'a [u8]) -> Result<Pieces<'a>, Memory> {
+    pub fn make(alloc: Global, places: &'a Places<'a>) -> Result<Pieces<'a>, Memory> {
+        let source = places.text();
         let mut scanner = Scanner {
             pieces: Vec::new(alloc),
             open: Open::Nothing,
@@ -128,7 +130,11 @@ impl<'a> Pieces<'a> {
         }
         scanner.finish(source.len())?;
         let Scanner { pieces, .. } = scanner;
-        Ok(Pieces { source, pieces })
+        Ok(Pieces {
+            source,
+            places,
+            pieces,
+        })
     }
 
     /// The text.
@@ -160,7 +166,7 @@ impl<'a> Pieces<'a> {
     /// The number of the line in which a piece begins.
     pub fn line(&self, index: usize) -> u64 {
         let start = self.start(index).min(u32::MAX as usize);
-        line_number(self.source, start as u32) as u64
+        self.places.line(start as u32) as u64
     }
 
     /// The bytes of a piece, or none where there is no such piece.

@@ -7,8 +7,9 @@ ghost use Rattle.rb_help.specs.Quotes as words;
 ghost use Rattle.rb_help.specs.Quotes.{IsCut, IsQuote, cut_mark, quoted};
 ghost use Rattle.rb_help.specs.Characters.{shown_text};
 
-use crate::lines::{line_at, line_number};
+use crate::lines::line_at;
 use crate::showing::shown;
+use rb_places::Places;
 use rb_trees::{Memory, Seq, Word};
 use std::alloc::Global;
 
@@ -118,21 +119,21 @@ fn quoted_part(alloc: Global, number: usize, cut: &Cut<'_>) -> Result<Word, Memo
 }
 
 /// The quote of the line of a place: `IsQuote`.
-pub fn quote(alloc: Global, source: &[u8], at: u32) -> Result<Word, Memory>
-    ensures { IfOk result (λ text. IsQuote source.now at text) }
+pub fn quote(alloc: Global, places: &Places<'_>, at: u32) -> Result<Word, Memory>
+    ensures { IfOk result (λ text. IsQuote places.now at text) }
 {
-    let line = line_at(source, at);
+    let line = line_at(places.text(), at);
     let cut = cut_around(line.bytes, line.offset);
-    quoted_part(alloc, line_number(source, at), &cut)
+    quoted_part(alloc, places.line(at), &cut)
 }
 
 /// Whether a place shares the quote of the place before it: `shares`.
-pub fn shares(source: &[u8], earlier: Option<u32>, at: u32) -> bool
-    ensures { result ≡ words.shares source.now earlier at }
+pub fn shares(places: &Places<'_>, earlier: Option<u32>, at: u32) -> bool
+    ensures { result ≡ words.shares places.now earlier at }
 {
     match earlier {
         None => false,
-        Some(earlier) => line_number(source, earlier) == line_number(source, at)
-            && line_at(source, at).bytes.len() <= LONGEST_WHOLE,
+        Some(earlier) => places.line(earlier) == places.line(at)
+            && line_at(places.text(), at).bytes.len() <= LONGEST_WHOLE,
     }
 }

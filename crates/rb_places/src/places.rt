@@ -14,8 +14,8 @@ const STRIDE: usize = 64;
 /// The line and the column of a place, both from 1.
 #[derive(Clone, Copy)]
 struct Place {
-    line: u32,
-    column: u32,
+    line: usize,
+    column: usize,
 }
 
 /// The place where a text begins.
@@ -47,7 +47,6 @@ impl<'t> Model for Places<'t> {
 fn advance(text: &[u8], from: usize, at: usize, place: Place) -> Place
     requires order { from ≤ at }
     requires within { at ≤ length text.now }
-    requires fits { at < 2 ^ 32 - 1 }
     requires begins { IsPlace text.now from place }
     ensures { IsPlace text.now at result }
 {
@@ -67,7 +66,6 @@ fn advance(text: &[u8], from: usize, at: usize, place: Place) -> Place
 impl<'t> Places<'t> {
     /// The places of a text.
     pub fn of(alloc: Global, text: &'t [u8]) -> Result<Places<'t>, Memory>
-        requires { length text.now < 2 ^ 32 - 1 }
         ensures { IfOk result (λ places. places ≡ text.now) }
     {
         let mut place = START;
@@ -82,8 +80,7 @@ impl<'t> Places<'t> {
 
     /// The place of an offset: that of the last multiple of the stride, and on from there.
     fn find(&self, at: usize) -> Place
-        requires within { at ≤ length self.now }
-        requires fits { at < 2 ^ 32 - 1 }
+        requires { at ≤ length self.now }
         ensures { IsPlace self.now at result }
     {
         let index = at / STRIDE;
@@ -110,6 +107,13 @@ impl<'t> Places<'t> {
         ensures column { result.1 ≡ column_of self.now at }
     {
         let Place { line, column } = self.find(at as usize);
-        (line, column)
+        (line as u32, column as u32)
+    }
+
+    /// The number of the line of an offset, from 1. One behind the end is the end.
+    pub fn line(&self, at: u32) -> usize
+        ensures { result ≡ line_of self.now at }
+    {
+        self.find((at as usize).min(self.text.len())).line
     }
 }
