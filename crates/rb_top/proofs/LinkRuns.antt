@@ -95,11 +95,6 @@ module _ {L : Type 0} (g : links.Ghosts L) where
       subst (λ t. Ends (ended_status run.ending) (end_text text run.ending run.exchanges t) result before after) same
       (said_so (ended_status run.ending) (end_text text run.ending run.exchanges table) r result before after e h)
 
-  -- A write failed in the lines: a front of them was written.
-  lines_cut : (p : Program) (fuel : ℕ) (b : Behind) (link left : L) (before lines : Device (List ℕ)) → EndsAsMeant p fuel b (Err stops.WriteFault) (over g link before) (over g left lines)
-      → WrotePrefix (failed before) lines (shown_events (meant_on p fuel b).events)
-  lines_cut p fuel b link left before lines means = means
-
   -- A run over an honest link, of which no exchange fails, with what is said behind its lines where it ends as the program means.
   as_meant : (closing : Run → List ℕ) (said : List ℕ) (p : Program) (fuel : ℕ) (b : Behind) (link left : L) (result : Status) (before lines after : Device (List ℕ)) (answer : Result Run RunStop)
       → ((run : Run) → MeansProgram p fuel b run (over g link before) (over g left lines) → closing run ≡ said) → ((k : ℕ) → ComesToBatch p fuel (served_by b) k → fails_after k b ≡ false) → server_told (g.told link) ≡ Some b
@@ -116,8 +111,8 @@ module _ {L : Type 0} (g : links.Ghosts L) where
       absurd (cc (sym fails ∙ never))
   as_meant closing said p fuel b link left result before lines after (Err (stops.BadReply k why kind bytes)) closes none e means lists says = absurd means
   as_meant closing said p fuel b link left result before lines after (Err stops.WriteFault) closes none e means lists says =
-      let cut = lines_cut p fuel b link left before lines means in
-      inl (ends.cut says.0 (prefix_front (failed before) after (shown_events (meant_on p fuel b).events) said (subst (λ o. WrotePrefix (failed before) o (shown_events (meant_on p fuel b).events)) (sym says.1) cut)))
+      inl (ends.cut says.0 (prefix_front (failed before) after (shown_events (meant_on p fuel b).events) said
+      (subst (λ o. WrotePrefix (failed before) o (shown_events (meant_on p fuel b).events)) (sym says.1) means.written)))
   as_meant closing said p fuel b link left result before lines after (Err stops.Memory) closes none e means lists says = inr says
 
   -- So it is over a link that was dialled.

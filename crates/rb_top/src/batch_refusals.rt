@@ -105,11 +105,7 @@ fn amount(alloc: Global, refusal: &Refusal) -> Result<String, AllocError>
 }
 
 /// The line that shows the refusal of a batch in its program's text.
-pub fn batch_refusal_line(
-    alloc: Global,
-    text: &[u8],
-    refusal: &Refusal,
-) -> Result<Vec<u8>, Memory>
+pub fn batch_refusal_line(alloc: Global, text: &[u8], refusal: &Refusal) -> Result<Vec<u8>, Memory>
     requires { WithinLength text.now }
     ensures { IfOk result (λ shown. shown.items ≡ line (shown_batch_refusal text.now refusal.now)) }
 {
