@@ -29,7 +29,7 @@ use Rattle.rb_division_laws.specs.Sendable.{HasPlaces}
 use Rattle.rb_split_laws.specs.Remote.{script_run}
 use Rattle.rb_flow.specs.Program.{HasNoRefusal}
 use Rattle.rb_headline_laws.specs.Clients.{ClientsMeanWhatProgramsMean, ScriptsGive, sent_run}
-use Rattle.rb_headline_laws.specs.Dividing.{KeepsMeaning, NothingAtZero}
+use Rattle.rb_headline_laws.specs.Dividing.{KeepsMeaning}
 use Rattle.rb_headline_laws.specs.Reached.{CanBeExchanged, ComesAsFar, FrontsAreShown, ProgramComesTo, ProgramsComeAsFar, ReachedBatchesCanBeExchanged, main_run, with_nodes}
 use Rattle.rb_base.specs.Devices.{failed}
 use Rattle.rb_base.specs.Sinks.{with_bytes, WrotePrefix}
@@ -81,7 +81,7 @@ misfit_here service table x remainder None is misfit e = is
 same_some : {A : Type 0} (o : Option A) (a b : A) → o ≡ Some a → o ≡ Some b → a ≡ b
 same_some o a b e f = let both : Some a ≡ Some b = sym e ∙ f in cc both
 
-module _ (laws : Laws) (p : Program) (lawful : IsLawful p) (checked : check_program p ≡ Ok tt) (none : HasNoRefusal p) (zero_free : NothingAtZero p) (places : HasPlaces p) (ds : List Division) (divided : divisions p ≡ Ok ds)
+module _ (laws : Laws) (p : Program) (lawful : IsLawful p) (checked : check_program p ≡ Ok tt) (none : HasNoRefusal p) (places : HasPlaces p) (ds : List Division) (divided : divisions p ≡ Ok ds)
     (fuel : ℕ) (before after : Scene) (b : Behind) (typed : IsTyped b.service b.table) (honest : before.honest) (is : before.server ≡ Some b) where
   abbrev Rest : Type 0
   Rest = Dialogue (Outcome (Option Value))
@@ -91,18 +91,18 @@ module _ (laws : Laws) (p : Program) (lawful : IsLawful p) (checked : check_prog
 
   -- the program came to what a client came to, and has the table that its server has
   far : (h : Past) (rest : Rest) (now : List Object) → ComesTo p fuel h rest → ScriptsGive b.service b.table h.sent h.nodes now → ComesAsFar p b.service b.table fuel rest (waiting h []) now
-  far h rest now comes given = laws.far p lawful checked none zero_free b.service b.table typed fuel h.nodes rest (waiting h []) now (client_comes p fuel h rest comes) given
+  far h rest now comes given = laws.far p lawful checked none b.service b.table typed fuel h.nodes rest (waiting h []) now (client_comes p fuel h rest comes) given
 
   -- a batch that it came to can be exchanged
   exchanged : (at : ℕ) (l : Local) (go : Outcome (Unit {0}) → Rest) (s : Outside) → ProgramComesTo p b.service b.table fuel (AskBatch at l go) s → CanBeExchanged p b.service at l s
-  exchanged at l go s comes = laws.exchanged p lawful checked none zero_free places ds divided b.service b.table typed fuel at l go s comes
+  exchanged at l go s comes = laws.exchanged p lawful checked none places ds divided b.service b.table typed fuel at l go s comes
 
   -- A run that ended.
 
   means_program : (run : runs.Run) → Ran p fuel run before after → MeansProgram p fuel b run before after
   means_program run ran =
       let t = served after.server (client p fuel ran.nodes).sent ran.nodes (ran.exchanged.served honest) in
-      let m = (laws.clients p lawful checked none zero_free b.service b.table typed fuel).1 ran.nodes t.table t.given in
+      let m = (laws.clients p lawful checked none b.service b.table typed fuel).1 ran.nodes t.table t.given in
       record {
         ending_so = ran.ending_so ∙ m.ending;
         exchanges_so = ran.exchanges_so ∙ sym (client_counted p fuel ran.nodes) ∙ ap exchanges m.events;
@@ -245,7 +245,7 @@ module _ (laws : Laws) (p : Program) (lawful : IsLawful p) (checked : check_prog
   ends_as_meant (Err stops.WriteFault) e = writing e.past e.rest e.comes e.stops_so
   ends_as_meant (Err stops.Memory) e = tt
 
-pub means_so : Laws → (p : Program) → IsLawful p → check_program p ≡ Ok tt → HasNoRefusal p → NothingAtZero p → HasPlaces p → (ds : List Division) → divisions p ≡ Ok ds → (fuel : ℕ) (before after : Scene) → (before.honest → TellsTyped before.server)
+pub means_so : Laws → (p : Program) → IsLawful p → check_program p ≡ Ok tt → HasNoRefusal p → HasPlaces p → (ds : List Division) → divisions p ≡ Ok ds → (fuel : ℕ) (before after : Scene) → (before.honest → TellsTyped before.server)
     → (r : Result runs.Run RunStop) → Leaves p fuel r before after → MeansWhereHonest p fuel r before after
-means_so laws p lawful checked none zero_free places ds divided fuel before after tells r e = λ honest b is.
-    ends_as_meant laws p lawful checked none zero_free places ds divided fuel before after b (subst TellsTyped is (tells honest)) honest is r e
+means_so laws p lawful checked none places ds divided fuel before after tells r e = λ honest b is.
+    ends_as_meant laws p lawful checked none places ds divided fuel before after b (subst TellsTyped is (tells honest)) honest is r e

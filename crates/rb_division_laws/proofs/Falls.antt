@@ -200,14 +200,14 @@ module _ (P : Raised → Type 0) where
   fine_left l (Gave a l1) h = tt
   fine_left l (Faulted r l1) h = h
 
-  module _ (bodies : Bodies) (classes : FineClasses bodies.classes) (run : (body : Body) → FineBody body → (l : Local) → Fine (bodies.run body l)) where
+  module _ (bodies : Bodies) (classes : FineClasses bodies.classes) (run : (at : ℕ) (body : Body) → IsFine at → FineBody body → (l : Local) → Fine (bodies.run at body l)) where
     call_fine : (at : ℕ) (receiver : Value) (name : List ℕ) (args : List Value) (l : Local) → IsFine at → Fine (call bodies at receiver name args l)
     call_fine at receiver name args l h =
         falls_next (λ m. FineBody m.body) Any (end l (raises at (called_method bodies.classes l.heap (out-Value receiver) name (length args)))) _
         (end_found at (called_method bodies.classes l.heap (out-Value receiver) name (length args)) l h (found_fine bodies.classes l.heap (out-Value receiver) name (length args) classes)) (λ m l1 f.
         fine_next (end l1 (raises at (unit_due l1.fuel))) _ (fine_end at (unit_due l1.fuel) l1 h) (λ u l2.
         fine_next (end (spent l2) (raises at (call_fits l2.depth))) _ (fine_end at (call_fits l2.depth) (spent l2) h) (λ w l3.
-        falls_seq (Ends Any) (Ends Any) (bodies.run m.body (entered (names_within receiver m.signature.params args) l3)) (left l3) (run m.body f (entered (names_within receiver m.signature.params args) l3)) (fine_left l3))))
+        falls_seq (Ends Any) (Ends Any) (bodies.run at m.body (entered (names_within receiver m.signature.params args) l3)) (left l3) (run at m.body h f (entered (names_within receiver m.signature.params args) l3)) (fine_left l3))))
 
     called_fine : (at : ℕ) (receiver : Value) (w : Value-F Value) (name : List ℕ) (args : List Value) (l : Local) → IsFine at → Fine (called bodies at receiver w name args l)
     called_fine at receiver (Value-F.Remote object) name args l h = (h, fine_answer l)
@@ -342,10 +342,10 @@ module _ (P : Raised → Type 0) where
     runs_fine gas body l h = fine_next (performs_all bodies gas body.statements l) _ (stmts_fine gas body.statements h.0 l) (λ u l1. fine_returns body.result l1 h.1)
 
   -- of classes whose code is fine, within any gas
-  module _ (classes : List Class) (fine : FineClasses classes) (front : IsFine 0) where
-    bodies_fine : (gas : ℕ) (body : Body) → FineBody body → (l : Local) → Fine (body_within classes gas body l)
-    bodies_fine zero body h l = front fuel_used
-    bodies_fine (suc gas) body h l = runs_fine (record { classes = classes; run = body_within classes gas }) fine (bodies_fine gas) gas body l h
+  module _ (classes : List Class) (fine : FineClasses classes) where
+    bodies_fine : (gas at : ℕ) (body : Body) → IsFine at → FineBody body → (l : Local) → Fine (body_within classes gas at body l)
+    bodies_fine zero at body here h l = here fuel_used
+    bodies_fine (suc gas) at body here h l = runs_fine (record { classes = classes; run = body_within classes gas }) fine (bodies_fine gas) gas body l h
 
     pub code_fine : (gas : ℕ) (s : Stmt) → FineStmt s → (l : Local) → Fine (performs (bodies_of classes gas) gas s l)
     code_fine gas s h l = stmt_fine (bodies_of classes gas) fine (bodies_fine gas) gas s h l

@@ -408,4 +408,4 @@ own_elsewhere marks elsewhere in_script p lawful none b among t stands whole n g
     let stmt = each (LeftFine p marks in_script lawful none batch is_batch) batch t lefts stands whole n in
     let classes = classes_fine p p.classes (all_left (λ q. stands_remote p q ≡ false) (free_classes p.classes) (free_body p.body) free) in
     handled_fine (StandsElsewhere p) in_replay (replay_fine p) (performs (bodies_of p.classes gas) gas (cut_stmt f t.scope n t.stmt) l) seen
-    (code_fine (StandsElsewhere p) p.classes classes (front p) gas (cut_stmt f t.scope n t.stmt) stmt l)
+    (code_fine (StandsElsewhere p) p.classes classes gas (cut_stmt f t.scope n t.stmt) stmt l)

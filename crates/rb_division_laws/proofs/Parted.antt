@@ -232,7 +232,3 @@ pub program_parted : (p : Program) → IsLawful p → EachApart (free_ats p) (ba
 program_parted p lawful =
     (both (classes_parted p.classes) (behind (return_positions p.body.result) (outers p.body.statements))).apart
     (differ_from (classes_positions p.classes ++ body_positions p.body) lawful.positions)
-
--- what is none of a program's positions is none of those in its batches
-pub program_free : (p : Program) (q : ℕ) → Apart q (classes_positions p.classes ++ body_positions p.body) → Apart q (batch_ats p)
-program_free p q h = (both (classes_parted p.classes) (behind (return_positions p.body.result) (outers p.body.statements))).free q h

@@ -77,8 +77,7 @@ SentFaultsAreRemote = (p : Program) → IsLawful p → check_program p ≡ Ok tt
     → (outside : Outside) → TableFits service.classes service.root outside.server.table
     → (gas : ℕ) → EachFault (IsRemote p) (handle (in_batch p service) (evaluates (bodies_of p.classes gas) s.expr l) outside).0
 
--- A fault of the own side stands at no position that is marked Remote. At position 0 no code of a program stands: there are
--- faults for want of gas, and of what a node lacks.
+-- A fault of the own side stands at no position that is marked Remote. At position 0 there is one more, of what a node lacks.
 abbrev pub StandsElsewhere : Program → Raised → Type 0
 StandsElsewhere p r = r.remote ≡ false → (r.at ≡ 0 → ⊥) → stands_remote p r.at ≡ false
 

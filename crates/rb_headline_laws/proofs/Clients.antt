@@ -27,7 +27,7 @@ use Rattle.rb_unsplit_keeps.proofs.Found.{batch_found}
 use Rattle.rb_unsplit_keeps.proofs.Programs.{program_typed, batches_in}
 use Rattle.rb_split_laws.specs.Remote.{script_run}
 use Rattle.rb_headline_laws.specs.Below.{LawsBelow}
-use Rattle.rb_headline_laws.specs.Dividing.{KeepsMeaning, NothingAtZero}
+use Rattle.rb_headline_laws.specs.Dividing.{KeepsMeaning}
 use Rattle.rb_headline_laws.specs.Clients.{sent_run, ScriptsGive, ClientsMeanWhatProgramsMean}
 use Rattle.rb_headline_laws.specs.Reached.{main_run, with_nodes}
 use Rattle.rb_headline_laws.proofs.Divided.{dividing_keeps}
@@ -37,7 +37,7 @@ pub same_tail : {A : Type 0} (xs ys zs : List A) → xs ++ ys ≡ xs ++ zs → y
 same_tail [] ys zs e = e
 same_tail (x ∷ xs) ys zs e = same_tail xs ys zs (cc (e))
 
-module _ (below : LawsBelow) (p : Program) (lawful : IsLawful p) (checked : check_program p ≡ Ok tt) (none : HasNoRefusal p) (zero_free : NothingAtZero p) (service : Service) (origin : List Object) (served : IsTyped service origin) where
+module _ (below : LawsBelow) (p : Program) (lawful : IsLawful p) (checked : check_program p ≡ Ok tt) (none : HasNoRefusal p) (service : Service) (origin : List Object) (served : IsTyped service origin) where
   abbrev d : Declarations
   d = of_program p
 
@@ -101,7 +101,7 @@ module _ (below : LawsBelow) (p : Program) (lawful : IsLawful p) (checked : chec
   typed_now s h = record { lawful = served.lawful; typed = served.typed; fits = h }
 
   pub keeps_here : (s : Outside) → Holds s → (at : ℕ) (l : Local) (site : Site) → IsAskedBatch d side at l site → (b : Outermost) → batch_at p at ≡ Some b → KeepsMeaning p service b l s
-  keeps_here s h at l site asked b found = dividing_keeps below p lawful checked none zero_free service s (typed_now s h) at l site asked b found
+  keeps_here s h at l site asked b found = dividing_keeps below p lawful checked none service s (typed_now s h) at l site asked b found
 
   -- ---- the runs
 
@@ -233,18 +233,18 @@ module _ (below : LawsBelow) (p : Program) (lawful : IsLawful p) (checked : chec
           batch_exists at l go k.0 k.1 s holds before (λ sent. nodes_exist (go (main.batch s at l).0) (k.2 (main.batch s at l).0 (fits.batches s at l k.0 holds k.1)) (main.batch s at l).1 (fits.performed s at l k.0 holds k.1) sent)
 
 pub clients_mean : LawsBelow → ClientsMeanWhatProgramsMean
-clients_mean below p lawful checked none zero_free service table served fuel =
+clients_mean below p lawful checked none service table served fuel =
     let fits = main_fits below p lawful checked none service table served in
     let keeps = main_kept below p lawful checked none service table served fuel in
     let run = main_run p fuel in
     let ends = Ends below p lawful checked none service table served in
-    let made = nodes_exist below p lawful checked none zero_free service table served fits ends run keeps (outside_of table) served.fits [] in (
+    let made = nodes_exist below p lawful checked none service table served fits ends run keeps (outside_of table) served.fits [] in (
       record {
         nodes = made.nodes;
         after = (handle (in_main p service) run (outside_of table)).1.server.table;
         given = subst (λ q. ScriptsGive service table q made.nodes (handle (in_main p service) run (outside_of table)).1.server.table) (sym made.sent) made.given;
       },
       λ nodes after given.
-          let alike = runs_alike below p lawful checked none zero_free service table served fits ends run keeps (outside_of table) (with_nodes nodes) refl served.fits (client p fuel nodes).sent after refl given in
+          let alike = runs_alike below p lawful checked none service table served fits ends run keeps (outside_of table) (with_nodes nodes) refl served.fits (client p fuel nodes).sent after refl given in
           record { ending = ap ending_of alike.same; events = alike.events; table = alike.table },
     )

@@ -71,10 +71,8 @@ use Rattle.rb_local_laws.proofs.Names.{Extends}
 use Rattle.rb_local_laws.proofs.Closing.{extends_with}
 use Rattle.rb_local_laws.proofs.Origins.{own_near}
 use Rattle.rb_local_laws.proofs.Statements.{stmts_extends}
-use Rattle.rb_division_laws.proofs.Parted.{program_free}
-use Rattle.rb_division_laws.proofs.Unmarked.{unmarked}
 use Rattle.rb_headline_laws.specs.Below.{LawsBelow}
-use Rattle.rb_headline_laws.specs.Dividing.{KeepsMeaning, NothingAtZero, DividingKeepsMeaning}
+use Rattle.rb_headline_laws.specs.Dividing.{KeepsMeaning, DividingKeepsMeaning}
 use Rattle.rb_headline_laws.proofs.Written.{Fixed, Held, InScript, all_written}
 use Rattle.rb_headline_laws.proofs.Scene.{Scene, At, AllStand}
 use Rattle.rb_headline_laws.proofs.Goes.{at_node}
@@ -170,7 +168,7 @@ walking below = record {
   given = below.given;
 }
 
-module _ (below : LawsBelow) (p : Program) (lawful : IsLawful p) (checked : check_program p ≡ Ok tt) (none : HasNoRefusal p) (zero_free : NothingAtZero p) (service : Service) (s : Outside) (served : IsTyped service s.server.table) where
+module _ (below : LawsBelow) (p : Program) (lawful : IsLawful p) (checked : check_program p ≡ Ok tt) (none : HasNoRefusal p) (service : Service) (s : Outside) (served : IsTyped service s.server.table) where
   abbrev d : Declarations
   d = of_program p
 
@@ -223,7 +221,7 @@ module _ (below : LawsBelow) (p : Program) (lawful : IsLawful p) (checked : chec
       service_formed = below.classes_formed service.classes served.lawful.each;
       fits = record {
         declared = declared (walking below) below.stmts_formed below.classes_formed below.sends below.notes p lawful t none service table served;
-        placed = placed_classes p below.elsewhere lawful (unmarked below.elsewhere p 0 (program_free p 0 zero_free));
+        placed = placed_classes p below.elsewhere lawful;
         handler = batch_handler_fits below.calls p service served.typed (below.classes_formed service.classes served.lawful.each);
       };
       this = place.this;
@@ -336,7 +334,7 @@ module _ (below : LawsBelow) (p : Program) (lawful : IsLawful p) (checked : chec
 
 -- each batch that code asks for
 pub dividing_keeps : LawsBelow → DividingKeepsMeaning
-dividing_keeps below p lawful checked none zero_free service s served at l site asked o found =
+dividing_keeps below p lawful checked none service s served at l site asked o found =
     let t = program_typed p checked in
     let d = of_program p in
     let known = batches_in p lawful t (below.notes p lawful) site asked.may in
@@ -355,7 +353,7 @@ dividing_keeps below p lawful checked none zero_free service s served at l site 
     let remote : PerformsRemotePart p service q l s.server.table =
     below.scripts p lawful checked none service s.server.table served site asked.may q (ap (batch_at p) (sym known.at) ∙ batch_found p lawful q known.among) l asked.fits in
     subst (λ r. KeepsMeaning p service r l s) same
-    (keeps_meaning below p lawful checked none zero_free service s served q known.among site.interface site.place known.agree (program_sited p t site asked.may).opens here noted formed (program_owned p declared' t site asked.may) l asked.fits remote)
+    (keeps_meaning below p lawful checked none service s served q known.among site.interface site.place known.agree (program_sited p t site asked.may).opens here noted formed (program_owned p declared' t site asked.may) l asked.fits remote)
   where
     one_only : (a c : Outermost) → Some a ≡ Some c → a ≡ c
     one_only a c e = cc (e)

@@ -56,7 +56,7 @@ one_only : (a c : Outermost) → Some a ≡ Some c → a ≡ c
 one_only a c e = cc (e)
 
 pub exchanged : LawsBelow → NodesFit → DividedCanBeSent → ReachedBatchesCanBeExchanged
-exchanged below nodes sendable p lawful checked none zero_free places ds divides service table served fuel at l go s passes =
+exchanged below nodes sendable p lawful checked none places ds divides service table served fuel at l go s passes =
     let side = Own (program_sites p) in
     let t = program_typed p checked in
     let fits = main_fits below p lawful checked none service table served in
@@ -78,5 +78,5 @@ exchanged below nodes sendable p lawful checked none zero_free places ds divides
       inputs = inputs;
       request = sent.request (sent_for (division p b) l).1 inputs;
       fits_so = nodes p lawful checked none service s.server.table served_now at l site asked b found;
-      keeps = dividing_keeps below p lawful checked none zero_free service s served_now at l site asked b found;
+      keeps = dividing_keeps below p lawful checked none service s served_now at l site asked b found;
     }

@@ -140,7 +140,7 @@ module _ (p : Program) (service : Service) (bodies : Bodies) where
       rule_leaves (Named ns) (Named ns) l (raises at (called_method bodies.classes l.heap (out-Value receiver) name (length args))) _ e e (λ m.
       rule_leaves (Named ns) (Named ns) l (raises at (unit_due l.fuel)) _ e e (λ u.
       rule_leaves (Named ns) (Named ns) (spent l) (raises at (call_fits (spent l).depth)) _ e e (λ w.
-      seq_leaves (λ l1. Unit {0}) (Named ns) (bodies.run m.body (entered (names_within receiver m.signature.params args) (spent l))) (left (spent l)) (any_leaves _) (λ o u1. left_leaves ns (spent l) e o))))
+      seq_leaves (λ l1. Unit {0}) (Named ns) (bodies.run at m.body (entered (names_within receiver m.signature.params args) (spent l))) (left (spent l)) (any_leaves _) (λ o u1. left_leaves ns (spent l) e o))))
 
   called_leaves : (at : ℕ) (v : Value) (w : Value-F Value) (name : List ℕ) (args : List Value) (ns : Names) (l : Local) → l.names ≡ ns → Leaves (Named ns) (called bodies at v w name args l)
   called_leaves at v (Value-F.Remote object) name args ns l e = ask_leaves (Named ns) (ask.Invoke at v name args) (end l) (λ a. end_leaves (Named ns) l a e)

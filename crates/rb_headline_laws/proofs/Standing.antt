@@ -93,8 +93,8 @@ module _ (p : Program) where
   classes_placed [] u = All-nil (PlacedClass Here none)
   classes_placed (k ∷ cs) u = All-cons (PlacedClass Here none) k cs (methods_placed k.methods (left (free_methods k.methods) (free_classes cs) u)) (classes_placed cs (right (free_methods k.methods) (free_classes cs) u))
 
-  pub placed_classes : NoMarkElsewhere → IsLawful p → IsLocalAt p 0 → PlacedClasses Here p.classes
-  placed_classes elsewhere lawful nothing = record { each = classes_placed p.classes (left (free_classes p.classes) (free_body p.body) (free_unmarked elsewhere p lawful)); nowhere = nothing }
+  pub placed_classes : NoMarkElsewhere → IsLawful p → PlacedClasses Here p.classes
+  placed_classes elsewhere lawful = classes_placed p.classes (left (free_classes p.classes) (free_body p.body) (free_unmarked elsewhere p lawful))
 
   -- ---- the statements of a batch
 

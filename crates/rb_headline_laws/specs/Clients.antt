@@ -11,7 +11,6 @@ use Rattle.rb_meaning.specs.Links.{IsTyped}
 use Rattle.rb_meaning.specs.Meaning.{meaning}
 use Rattle.rb_meaning_split.specs.Client.{Sent, client}
 use Rattle.rb_flow.specs.Program.{HasNoRefusal}
-use Rattle.rb_headline_laws.specs.Dividing.{NothingAtZero}
 
 -- the run of a script that is sent, with its values, on a service and a table
 abbrev pub sent_run : Service → List Object → Sent → Ran
@@ -41,7 +40,7 @@ pub record HasNodes (p : Program) (service : Service) (table : List Object) (fue
 -- So it is in a lawful, typed program without refusals, on a typed service: a client means the program on whatever nodes its own
 -- scripts give there, and there are such.
 abbrev pub ClientsMeanWhatProgramsMean : Type 0
-ClientsMeanWhatProgramsMean = (p : Program) → IsLawful p → check_program p ≡ Ok tt → HasNoRefusal p → NothingAtZero p
+ClientsMeanWhatProgramsMean = (p : Program) → IsLawful p → check_program p ≡ Ok tt → HasNoRefusal p
     → (service : Service) (table : List Object) → IsTyped service table → (fuel : ℕ)
     → HasNodes p service table fuel
     × ((nodes : List Node) (after : List Object) → ScriptsGive service table (client p fuel nodes).sent nodes after → MeansTheProgram p service table fuel nodes after)

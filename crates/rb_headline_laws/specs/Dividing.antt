@@ -1,10 +1,9 @@
 -- A law of the division: it keeps what a batch means.
-use Rattle.std.specs.Prelude.{◌≡◌, ℕ, [], ◌∷◌, ◌++◌, nat_eq, false, Some, Ok}
-use Rattle.std.specs.List.{AllByRecursion}
+use Rattle.std.specs.Prelude.{◌≡◌, ℕ, [], ◌∷◌, ◌++◌, Some, Ok}
 use Rattle.rb_trees.specs.mirror.Declarations.{Program}
 use Rattle.rb_trees.specs.mirror.Services.{Service}
 use Rattle.rb_meaning_types.specs.Declared.{of_program}
-use Rattle.rb_meaning_types.specs.Lawful.{IsLawful, classes_positions, body_positions}
+use Rattle.rb_meaning_types.specs.Lawful.{IsLawful}
 use Rattle.rb_meaning_types.specs.Programs.{check_program}
 use Rattle.rb_meaning_code.specs.State.{Local}
 use Rattle.rb_meaning_flow.specs.Outermost.{Outermost}
@@ -31,13 +30,9 @@ pub record KeepsMeaning (p : Program) (service : Service) (b : Outermost) (l : L
   pub events : (replay_of p service b l s).events ≡ (performs_batch p service b l s).1.events
   pub table : (script_run p service b l s.server.table).server.table ≡ (performs_batch p service b l s).1.server.table
 
--- No statement and no expression stands at position 0, where a text begins with a keyword.
-abbrev pub NothingAtZero : Program → Type 0
-NothingAtZero p = AllByRecursion (λ at. nat_eq at 0 ≡ false) (classes_positions p.classes ++ body_positions p.body)
-
 -- So it is in a lawful, typed program without refusals, on a typed service whose table fits, for each batch that code asks for.
 abbrev pub DividingKeepsMeaning : Type 0
-DividingKeepsMeaning = (p : Program) → IsLawful p → check_program p ≡ Ok tt → HasNoRefusal p → NothingAtZero p
+DividingKeepsMeaning = (p : Program) → IsLawful p → check_program p ≡ Ok tt → HasNoRefusal p
     → (service : Service) (s : Outside) → IsTyped service s.server.table
     → (at : ℕ) (l : Local) (site : Site) → IsAskedBatch (of_program p) (Own (program_sites p)) at l site
     → (b : Outermost) → batch_at p at ≡ Some b → KeepsMeaning p service b l s

@@ -26,7 +26,7 @@ use Rattle.rb_division_laws.specs.Fitting.{node_of}
 use Rattle.rb_division_laws.specs.Sendable.{HasPlaces}
 use Rattle.rb_flow.specs.Program.{HasNoRefusal}
 use Rattle.rb_headline_laws.specs.Clients.{ScriptsGive}
-use Rattle.rb_headline_laws.specs.Dividing.{KeepsMeaning, NothingAtZero}
+use Rattle.rb_headline_laws.specs.Dividing.{KeepsMeaning}
 
 -- `main` with so much fuel
 abbrev pub main_run : Program → ℕ → Run (Option Value)
@@ -55,7 +55,7 @@ pub record ComesAsFar (p : Program) (service : Service) (before : List Object) (
 -- In a lawful, typed program without refusals, on a typed service: however far a client comes on nodes that its own scripts give
 -- there, the program comes as far.
 abbrev pub ProgramsComeAsFar : Type 0
-ProgramsComeAsFar = (p : Program) → IsLawful p → check_program p ≡ Ok tt → HasNoRefusal p → NothingAtZero p
+ProgramsComeAsFar = (p : Program) → IsLawful p → check_program p ≡ Ok tt → HasNoRefusal p
     → (service : Service) (table : List Object) → IsTyped service table → (fuel : ℕ)
     → (nodes : List Node) (rest : Dialogue (Outcome (Option Value))) (w : Waiting) (now : List Object)
     → ClientComesTo p fuel nodes rest w → ScriptsGive service table w.sent nodes now
@@ -83,7 +83,7 @@ pub record CanBeExchanged (p : Program) (service : Service) (at : ℕ) (l : Loca
 
 -- So it is with each batch that an accepted program reaches on a typed service.
 abbrev pub ReachedBatchesCanBeExchanged : Type 0
-ReachedBatchesCanBeExchanged = (p : Program) → IsLawful p → check_program p ≡ Ok tt → HasNoRefusal p → NothingAtZero p → HasPlaces p
+ReachedBatchesCanBeExchanged = (p : Program) → IsLawful p → check_program p ≡ Ok tt → HasNoRefusal p → HasPlaces p
     → (ds : List Division) → divisions p ≡ Ok ds
     → (service : Service) (table : List Object) → IsTyped service table → (fuel : ℕ)
     → (at : ℕ) (l : Local) (go : Outcome (Unit {0}) → Dialogue (Outcome (Option Value))) (s : Outside)

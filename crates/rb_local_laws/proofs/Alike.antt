@@ -65,27 +65,27 @@ module _ {S : Type 0} (h : Handler S) (bodies : Bodies) (at : ℕ) (receiver : V
       returns s (Gave v l1, s1) = refl
       returns s (Faulted r l1, s1) = refl
 
-      body : (m : Method) → Renames (seq (bodies.run m.body (entered (names_within receiver m.signature.params args) (spent l))) (left (spent l)))
-          (seq (bodies.run m.body (entered (names_within receiver m.signature.params args) (spent l))) (left (named ns (spent l))))
+      body : (m : Method) → Renames (seq (bodies.run at m.body (entered (names_within receiver m.signature.params args) (spent l))) (left (spent l)))
+          (seq (bodies.run at m.body (entered (names_within receiver m.signature.params args) (spent l))) (left (named ns (spent l))))
       body m s =
-          let run = bodies.run m.body (entered (names_within receiver m.signature.params args) (spent l)) in
+          let run = bodies.run at m.body (entered (names_within receiver m.signature.params args) (spent l)) in
           handle_seq h run (left (named ns (spent l))) s ∙ returns s (handle h run s) ∙ sym (ap (λ q. (renamed ns q.0, q.1)) (handle_seq h run (left (spent l)) s))
 
       by_depth : (m : Method) (r : Result (Unit {0}) Fault) → Renames
-          (next (end (spent l) (raises at r)) (λ w l3. seq (bodies.run m.body (entered (names_within receiver m.signature.params args) l3)) (left l3)))
-          (next (end (named ns (spent l)) (raises at r)) (λ w l3. seq (bodies.run m.body (entered (names_within receiver m.signature.params args) l3)) (left l3)))
+          (next (end (spent l) (raises at r)) (λ w l3. seq (bodies.run at m.body (entered (names_within receiver m.signature.params args) l3)) (left l3)))
+          (next (end (named ns (spent l)) (raises at r)) (λ w l3. seq (bodies.run at m.body (entered (names_within receiver m.signature.params args) l3)) (left l3)))
       by_depth m (Ok u) s = body m s
       by_depth m (Err f) s = refl
 
       by_unit : (m : Method) (r : Result (Unit {0}) Fault) → Renames
-          (next (end l (raises at r)) (λ u l2. next (end (spent l2) (raises at (call_fits l2.depth))) (λ w l3. seq (bodies.run m.body (entered (names_within receiver m.signature.params args) l3)) (left l3))))
-          (next (end (named ns l) (raises at r)) (λ u l2. next (end (spent l2) (raises at (call_fits l2.depth))) (λ w l3. seq (bodies.run m.body (entered (names_within receiver m.signature.params args) l3)) (left l3))))
+          (next (end l (raises at r)) (λ u l2. next (end (spent l2) (raises at (call_fits l2.depth))) (λ w l3. seq (bodies.run at m.body (entered (names_within receiver m.signature.params args) l3)) (left l3))))
+          (next (end (named ns l) (raises at r)) (λ u l2. next (end (spent l2) (raises at (call_fits l2.depth))) (λ w l3. seq (bodies.run at m.body (entered (names_within receiver m.signature.params args) l3)) (left l3))))
       by_unit m (Ok u) s = by_depth m (call_fits l.depth) s
       by_unit m (Err f) s = refl
 
       by_method : (r : Result Method Fault) → Renames
-          (next (end l (raises at r)) (λ m l1. next (end l1 (raises at (unit_due l1.fuel))) (λ u l2. next (end (spent l2) (raises at (call_fits l2.depth))) (λ w l3. seq (bodies.run m.body (entered (names_within receiver m.signature.params args) l3)) (left l3)))))
-          (next (end (named ns l) (raises at r)) (λ m l1. next (end l1 (raises at (unit_due l1.fuel))) (λ u l2. next (end (spent l2) (raises at (call_fits l2.depth))) (λ w l3. seq (bodies.run m.body (entered (names_within receiver m.signature.params args) l3)) (left l3)))))
+          (next (end l (raises at r)) (λ m l1. next (end l1 (raises at (unit_due l1.fuel))) (λ u l2. next (end (spent l2) (raises at (call_fits l2.depth))) (λ w l3. seq (bodies.run at m.body (entered (names_within receiver m.signature.params args) l3)) (left l3)))))
+          (next (end (named ns l) (raises at r)) (λ m l1. next (end l1 (raises at (unit_due l1.fuel))) (λ u l2. next (end (spent l2) (raises at (call_fits l2.depth))) (λ w l3. seq (bodies.run at m.body (entered (names_within receiver m.signature.params args) l3)) (left l3)))))
       by_method (Ok m) s = by_unit m (unit_due l.fuel) s
       by_method (Err f) s = refl
 

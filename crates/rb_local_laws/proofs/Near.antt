@@ -152,7 +152,7 @@ module _ (Here : ℕ → Type 0) where
   called_placed classes h heap Value-F.Unit name count m e = absurd (cc (e))
   called_placed classes h heap _ name count m e = absurd (cc (e))
 
-  module _ (bodies : Bodies) (placed : All (PlacedClass Here none_taken) bodies.classes) (near_bodies : (body : Body) → PlacedBody Here none_taken body → (l : Local) → Nears (bodies.run body l)) where
+  module _ (bodies : Bodies) (placed : All (PlacedClass Here none_taken) bodies.classes) (near_bodies : (at : ℕ) (body : Body) → Here at → PlacedBody Here none_taken body → (l : Local) → Nears (bodies.run at body l)) where
     near_left : (l : Local) (o : Outcome Value) → NearEnd o → Nears (left l o)
     near_left l (Gave v l1) h = record { near = tt }
     near_left l (Faulted r l1) h = record { near = h }
@@ -162,7 +162,7 @@ module _ (Here : ℕ → Type 0) where
         near_check {A = Method} l at (called_method bodies.classes l.heap (out-Value receiver) name (length args)) _ p (λ m l1 is.
         near_check l1 at (unit_due l1.fuel) _ p (λ u l2 is2.
         near_check (spent l2) at (call_fits l2.depth) _ p (λ w l3 is3.
-        near_seq (left l3) (near_bodies m.body (called_placed bodies.classes placed l.heap (out-Value receiver) name (length args) m is) (entered (names_within receiver m.signature.params args) l3)) (near_left l3))))
+        near_seq (left l3) (near_bodies at m.body p (called_placed bodies.classes placed l.heap (out-Value receiver) name (length args) m is) (entered (names_within receiver m.signature.params args) l3)) (near_left l3))))
 
     near_called : (at : ℕ) (receiver : Value) (w : Value-F Value) (name : List ℕ) (args : List Value) → Here at → (l : Local) → Nears (called bodies at receiver w name args l)
     near_called at receiver (Value-F.Remote object) name args p l = near_answered (Invoke at receiver name args) l
@@ -238,10 +238,10 @@ module _ (Here : ℕ → Type 0) where
     near_runs : (gas : ℕ) (body : Body) → PlacedBody Here none_taken body → (l : Local) → Nears (runs bodies gas body l)
     near_runs gas body p l = near_next _ (near_stmts gas body.statements p.0 l) (λ u l1. near_returns body.result p.1 l1)
 
-  near_within : (classes : List Class) → PlacedClasses Here classes → (gas : ℕ) (body : Body) → PlacedBody Here none_taken body → (l : Local) → Nears (body_within classes gas body l)
-  near_within classes h zero body p l = near_falls fuel_used 0 l h.nowhere
-  near_within classes h (suc gas) body p l = near_runs (record { classes = classes; run = body_within classes gas }) h.each (near_within classes h gas) gas body p l
+  near_within : (classes : List Class) → PlacedClasses Here classes → (gas at : ℕ) (body : Body) → Here at → PlacedBody Here none_taken body → (l : Local) → Nears (body_within classes gas at body l)
+  near_within classes h zero at body here p l = near_falls fuel_used at l here
+  near_within classes h (suc gas) at body here p l = near_runs (record { classes = classes; run = body_within classes gas }) h (near_within classes h gas) gas body p l
 
   -- so does a call of an own method
   pub own_call_near : (classes : List Class) → PlacedClasses Here classes → (gas : ℕ) (at : ℕ) (receiver : Value) (name : List ℕ) (args : List Value) → Here at → (l : Local) → Near (call (bodies_of classes gas) at receiver name args l)
-  own_call_near classes h gas at receiver name args p l = (near_call (bodies_of classes gas) h.each (near_within classes h gas) at receiver name args p l).near
+  own_call_near classes h gas at receiver name args p l = (near_call (bodies_of classes gas) h (near_within classes h gas) at receiver name args p l).near

@@ -58,7 +58,6 @@ module _ (Here : ℕ → Type 0) (taken : Expr → Bool) where
   abbrev pub PlacedClass : Class → Type 0
   PlacedClass c = All PlacedMethod c.methods
 
--- The bodies of methods stand there, in which nothing is taken; and so does what has no gas.
-pub record PlacedClasses (Here : ℕ → Type 0) (classes : List Class) : Type 0 where
-  pub each : All (PlacedClass Here (λ e. false)) classes
-  pub nowhere : Here 0
+-- the bodies of methods stand there, in which nothing is taken
+abbrev pub PlacedClasses : (ℕ → Type 0) → List Class → Type 0
+PlacedClasses Here classes = All (PlacedClass Here (λ e. false)) classes

@@ -36,7 +36,7 @@ reach_out gas more need (both a b) = both (omega arith) (omega arith)
 -- bodies are alike within two gases, where those reach beyond the fuel
 pub record Gases (Keeps : Local → Local → Type 0) (classes : List Class) (gas more : ℕ) : Type 0 where
   pub order : Order Keeps
-  pub bodies : (b : Body) (l : Local) → Reach gas more (l.fuel + 1) → From Keeps l (body_within classes gas b l) (body_within classes more b l)
+  pub bodies : (at : ℕ) (b : Body) (l : Local) → Reach gas more (l.fuel + 1) → From Keeps l (body_within classes gas at b l) (body_within classes more at b l)
 
 pub reach_on : {Keeps : Local → Local → Type 0} {gas more : ℕ} {l l1 : Local} → Order Keeps → Keeps l l1 → Reach gas more l.fuel → Reach gas more l1.fuel
 reach_on {l = l} {l1 = l1} order kept r = reach_less _ _ l.fuel l1.fuel (order.fuel l l1 kept) r
@@ -48,10 +48,10 @@ has_unit zero u is = absurd (cc (is))
 has_unit (suc n) u is = omega arith
 
 -- what follows once a call's unit is taken
-entered_alike : {Keeps : Local → Local → Type 0} {classes : List Class} {gas more : ℕ} → Gases Keeps classes gas more → (m : Method) (names : Names) (l : Local)
+entered_alike : {Keeps : Local → Local → Type 0} {classes : List Class} {gas more : ℕ} → Gases Keeps classes gas more → (at : ℕ) (m : Method) (names : Names) (l : Local)
     → 0 < l.fuel → Reach gas more l.fuel
-    → From Keeps (spent l) (seq (body_within classes gas m.body (entered names (spent l))) (left (spent l))) (seq (body_within classes more m.body (entered names (spent l))) (left (spent l)))
-entered_alike x m names l due r = body_left x.order (spent l) (x.bodies m.body (entered names (spent l)) (reach_less _ _ l.fuel (l.fuel - 1 + 1) (omega arith) r))
+    → From Keeps (spent l) (seq (body_within classes gas at m.body (entered names (spent l))) (left (spent l))) (seq (body_within classes more at m.body (entered names (spent l))) (left (spent l)))
+entered_alike x at m names l due r = body_left x.order (spent l) (x.bodies at m.body (entered names (spent l)) (reach_less _ _ l.fuel (l.fuel - 1 + 1) (omega arith) r))
 
 pub call_alike : {Keeps : Local → Local → Type 0} {classes : List Class} {gas more : ℕ} → Gases Keeps classes gas more
     → (at : ℕ) (receiver : Value) (name : List ℕ) (args : List Value) (l : Local) → Reach gas more l.fuel
@@ -60,7 +60,7 @@ call_alike {classes = classes} x at receiver name args l r =
     ruled x.order at (called_method classes l.heap (out-Value receiver) name (length args)) _ _ (λ m found.
     ruled x.order at (unit_due l.fuel) _ _ (λ u due.
     earlier x.order (x.order.unit l) (ruled x.order at (call_fits l.depth) _ _ (λ w fits.
-    entered_alike x m (names_within receiver m.signature.params args) l (has_unit l.fuel u due) r))))
+    entered_alike x at m (names_within receiver m.signature.params args) l (has_unit l.fuel u due) r))))
 
 called_alike : {Keeps : Local → Local → Type 0} {classes : List Class} {gas more : ℕ} → Gases Keeps classes gas more
     → (at : ℕ) (receiver : Value) (form : Value-F Value) (name : List ℕ) (args : List Value) (l : Local) → Reach gas more l.fuel

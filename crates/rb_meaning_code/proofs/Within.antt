@@ -20,14 +20,14 @@ pub runs_alike : {Keeps : Local → Local → Type 0} {classes : List Class} {ga
     → From Keeps l (runs (bodies_of classes gas) gas body l) (runs (bodies_of classes more) more body l)
 runs_alike x body l r = then x.order (stmts_alike x body.statements l r) (λ u l1 k. returns_alike x body.result l1 (reach_on x.order k r))
 
-body_alike : {Keeps : Local → Local → Type 0} → Order Keeps → (classes : List Class) (gas more : ℕ) (body : Body) (l : Local) → Reach gas more (l.fuel + 1)
-    → From Keeps l (body_within classes gas body l) (body_within classes more body l)
-body_alike order classes zero zero body l r = fell order (raised fuel_used 0) l
-body_alike order classes zero (suc more) body l (one same) = absurd (cc (same))
-body_alike order classes zero (suc more) body l (both low le) = absurd (omega arith)
-body_alike order classes (suc gas) zero body l (one same) = absurd (cc (same))
-body_alike order classes (suc gas) zero body l (both le low) = absurd (omega arith)
-body_alike order classes (suc gas) (suc more) body l r =
+body_alike : {Keeps : Local → Local → Type 0} → Order Keeps → (classes : List Class) (gas more at : ℕ) (body : Body) (l : Local) → Reach gas more (l.fuel + 1)
+    → From Keeps l (body_within classes gas at body l) (body_within classes more at body l)
+body_alike order classes zero zero at body l r = fell order (raised fuel_used at) l
+body_alike order classes zero (suc more) at body l (one same) = absurd (cc (same))
+body_alike order classes zero (suc more) at body l (both low le) = absurd (omega arith)
+body_alike order classes (suc gas) zero at body l (one same) = absurd (cc (same))
+body_alike order classes (suc gas) zero at body l (both le low) = absurd (omega arith)
+body_alike order classes (suc gas) (suc more) at body l r =
     runs_alike (record { order = order; bodies = body_alike order classes gas more }) body l (reach_in gas more (l.fuel + 1) l.fuel (omega arith) r)
 
 -- so for any two gases

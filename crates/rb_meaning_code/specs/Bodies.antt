@@ -22,10 +22,11 @@ returns bodies (Some e) l = evaluates bodies e l
 abbrev pub runs : Bodies → ℕ → Body → Local → Run Value
 runs bodies gas body l = next (performs_all bodies gas body.statements l) (λ u l1. returns bodies body.result l1)
 
--- A body within so much gas. A call takes a unit of fuel, so that the bodies within it have less gas, and enough.
-abbrev pub body_within : List Class → ℕ → Body → Local → Run Value
-body_within classes zero body l = Done (Faulted (raised fuel_used 0) l)
-body_within classes (suc gas) body l = runs (record { classes = classes; run = body_within classes gas }) gas body l
+-- A body within so much gas, called at a position, where it faults if no gas is left.
+-- A call takes a unit of fuel, so that the bodies within it have less gas, and enough.
+abbrev pub body_within : List Class → ℕ → ℕ → Body → Local → Run Value
+body_within classes zero at body l = Done (Faulted (raised fuel_used at) l)
+body_within classes (suc gas) at body l = runs (record { classes = classes; run = body_within classes gas }) gas body l
 
 -- the bodies of a program's or service's methods, within so much gas
 abbrev pub bodies_of : List Class → ℕ → Bodies

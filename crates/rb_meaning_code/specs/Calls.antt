@@ -16,10 +16,10 @@ use Rattle.rb_meaning_code.specs.Objects.{matched}
 abbrev pub deepest_call : ℕ
 deepest_call = 32
 
--- what code needs of its program or service: the classes, and how a method's body runs
+-- what code needs of its program or service: the classes, and how a method's body runs that is called at a position
 pub record Bodies : Type 0 where
   pub classes : List Class
-  pub run : Body → Local → Run Value
+  pub run : ℕ → Body → Local → Run Value
 
 -- the method of an object, by its name
 abbrev pub method_of : List Class → List Object → ℕ → List ℕ → Option Method
@@ -62,7 +62,7 @@ call bodies at receiver name args l =
     next (end l (raises at (called_method bodies.classes l.heap (out-Value receiver) name (length args)))) (λ m l1.
     next (end l1 (raises at (unit_due l1.fuel))) (λ u l2.
     next (end (spent l2) (raises at (call_fits l2.depth))) (λ w l3.
-    seq (bodies.run m.body (entered (names_within receiver m.signature.params args) l3)) (left l3))))
+    seq (bodies.run at m.body (entered (names_within receiver m.signature.params args) l3)) (left l3))))
 
 -- A call on a value: the surroundings perform it where the value is remote.
 abbrev pub called : Bodies → ℕ → Value → Value-F Value → List ℕ → List Value → Local → Run Value

@@ -67,7 +67,7 @@ module _ (p : Program) (service : Service) (g : Ground) (classes : g.classes ≡
   goes at target args m l1 =
       next (end l1 (raises at (unit_due l1.fuel))) (λ u l2.
       next (end (spent l2) (raises at (call_fits l2.depth))) (λ w l3.
-      seq (code.run m.body (entered (names_within target m.signature.params args) l3)) (left l3)))
+      seq (code.run at m.body (entered (names_within target m.signature.params args) l3)) (left l3)))
 
   -- a call on a value that isn't remote, where there are no own objects
   own_does : (at : ℕ) (target : Value) (method : List ℕ) (args : List Value) (names : Names) (s : Server) → called_method p.classes [] (out-Value target) method (length args) ≡ Err faults.kind

@@ -55,7 +55,7 @@ abbrev NotedReturn : Side → Context → Scope → Option Expr → Type 0
 NotedReturn side x scope None = Unit {0}
 NotedReturn side x scope (Some e) = NotedExpr side x scope e
 
-module _ (side : Side) (x : Context) (known' : Known x.declared) (all : Truth) (run : Body → Local → Run Value) (run_ok : SafeBodies x.declared side all run) (may : MayCall side x all) where
+module _ (side : Side) (x : Context) (known' : Known x.declared) (all : Truth) (run : ℕ → Body → Local → Run Value) (run_ok : SafeBodies x.declared side all run) (may : MayCall side x all) where
   abbrev all_bodies : Bodies
   all_bodies = record { classes = x.declared.classes; run = run }
 
@@ -82,7 +82,7 @@ known_by : {batches : List Site} (P : List Site → Type 0) → P batches → (b
 known_by P h ks e = subst (λ side. ByKnown P side) e h
 
 -- a method's body, where the methods that it calls keep types
-method_keeps : (d : Declarations) → Known d → (batches : List Site) (all : Truth) (run : Body → Local → Run Value) → SafeBodies d (Own batches) all run → (gas : ℕ) (class name : List ℕ) (m : Method) (l : Local)
+method_keeps : (d : Declarations) → Known d → (batches : List Site) (all : Truth) (run : ℕ → Body → Local → Run Value) → SafeBodies d (Own batches) all run → (gas : ℕ) (class name : List ℕ) (m : Method) (l : Local)
     → HasMethod d class name m → (m.remote ≡ true → all ≡ true) → (MayHold (method_context d class m.remote) → AreAmong batches (sites_in (method_context d class m.remote) (parameters m.signature.params) m.body.statements))
     → LocalFits (method_context d class m.remote) (parameters m.signature.params) l
     → Keeps d (Own batches) (Returns d (kind_of m.signature.result) (classes_of l.heap)) (runs (record { classes = d.classes; run = run }) gas m.body l)
@@ -110,8 +110,8 @@ AskKnown d batches all = (class name : List ℕ) (m : Method) → HasMethod d cl
     → AreAmong batches (sites_in (method_context d class m.remote) (parameters m.signature.params) m.body.statements)
 
 pub bodies_keep : (d : Declarations) → Known d → (batches : List Site) (all : Truth) → AskKnown d batches all → (gas : ℕ) → SafeBodies d (Own batches) all (body_within d.classes gas)
-bodies_keep d known' batches all asks zero class name m l has may state = (plain_own 7 (omega arith) (omega arith), record { heap = state.holds.heap_fits; grown = grown_same (classes_of l.heap) })
-bodies_keep d known' batches all asks (suc gas) class name m l has may state =
+bodies_keep d known' batches all asks zero at class name m l has may state = (plain_own 7 (omega arith) (omega arith), record { heap = state.holds.heap_fits; grown = grown_same (classes_of l.heap) })
+bodies_keep d known' batches all asks (suc gas) at class name m l has may state =
     method_keeps d known' batches all (body_within d.classes gas) (bodies_keep d known' batches all asks gas) gas class name m l has may (asks class name m has may) state
 
 -- Methods are of the own side, also where a batch calls them: those that aren't remote, which ask no batch.
@@ -140,8 +140,8 @@ keeps_far d types P (Ask q go) h = (asked_far d [] types q h.0, λ a fits. keeps
 keeps_far d types P (AskBatch at l go) h = absurd (omega (arith, h.1.may.1))
 
 far_bodies : (d : Declarations) → AreTyped d → (types : ℕ → Option (Checked Kind)) (gas : ℕ) → SafeBodies d (InBatch types) false (body_within d.classes gas)
-far_bodies d typed types gas class name m l has may state =
-    keeps_far d types _ (body_within d.classes gas m.body l) (bodies_keep d (typed_known d typed) [] false (no_batches d) gas class name m l has may state)
+far_bodies d typed types gas at class name m l has may state =
+    keeps_far d types _ (body_within d.classes gas at m.body l) (bodies_keep d (typed_known d typed) [] false (no_batches d) gas at class name m l has may state)
 
 -- what bodies do that are called from the own side
 own_bodies : (d : Declarations) → AreTyped d → (batches : List Site) → MethodsAsk batches d → (gas : ℕ) → SafeBodies d (Own batches) true (body_within d.classes gas)

@@ -151,15 +151,15 @@ still_fits x scope l l1 state g h = record {
 }
 
 -- methods of typed declarations, run by their bodies, keep types: all of them, or those that aren't remote
-abbrev pub SafeBodies : Declarations → Side → Truth → (Body → Local → Run Value) → Type 0
-SafeBodies d side all run = (class name : List ℕ) (m : Method) (l : Local) → HasMethod d class name m → (m.remote ≡ true → all ≡ true) → LocalFits (method_context d class m.remote) (parameters m.signature.params) l
-    → Keeps d side (Returns d (kind_of m.signature.result) (classes_of l.heap)) (run m.body l)
+abbrev pub SafeBodies : Declarations → Side → Truth → (ℕ → Body → Local → Run Value) → Type 0
+SafeBodies d side all run = (at : ℕ) (class name : List ℕ) (m : Method) (l : Local) → HasMethod d class name m → (m.remote ≡ true → all ≡ true) → LocalFits (method_context d class m.remote) (parameters m.signature.params) l
+    → Keeps d side (Returns d (kind_of m.signature.result) (classes_of l.heap)) (run at m.body l)
 
 -- whether code may call a method that is remote
 abbrev pub MayCall : Side → Context → Truth → Type 0
 MayCall side x all = IsNear side → x.remote ≡ true → all ≡ true
 
-module _ (side : Side) (x : Context) (known' : Known x.declared) (all : Truth) (run : Body → Local → Run Value) (run_ok : SafeBodies x.declared side all run) (scope : Scope) where
+module _ (side : Side) (x : Context) (known' : Known x.declared) (all : Truth) (run : ℕ → Body → Local → Run Value) (run_ok : SafeBodies x.declared side all run) (scope : Scope) where
   abbrev bodies : Bodies
   bodies = record { classes = x.declared.classes; run = run }
 
@@ -188,13 +188,13 @@ module _ (side : Side) (x : Context) (known' : Known x.declared) (all : Truth) (
       (called_fits is x.declared.classes l.heap state.holds.heap_fits (out-Value receiver) class c name m (length args) stands found there (arguments_count is (classes_of l.heap) m.signature.params args args_fit)) (λ m' same.
       subst (λ m1. Runs side x scope scope (OfKind x (kind_of m.signature.result)) (classes_of l.heap) (next (end l (raises at (unit_due l.fuel))) (λ u l2.
       next (end (spent l2) (raises at (call_fits l2.depth))) (λ w l3.
-      seq (run m1.body (entered (names_within receiver m1.signature.params args) l3)) (left l3))))) (sym same)
+      seq (run at m1.body (entered (names_within receiver m1.signature.params args) l3)) (left l3))))) (sym same)
       (helped Any at (unit_due l.fuel) _ state (unit_fair l.fuel) (λ u h.
       helped {l = spent l} Any at (call_fits l.depth) _ (record { holds = record { names_fit = state.holds.names_fit; heap_fits = state.holds.heap_fits }; count = state.count }) (depth_fair l.depth) (λ w h1.
       record {
         keeps = keeps_seq x.declared side (Returns x.declared (kind_of m.signature.result) (classes_of l.heap)) (Ends x scope scope (OfKind x (kind_of m.signature.result)) (classes_of l.heap))
-            (run m.body (entered names (spent l))) (left (spent l))
-            (run_ok class name m (entered names (spent l)) has may inside)
+            (run at m.body (entered names (spent l))) (left (spent l))
+            (run_ok at class name m (entered names (spent l)) has may inside)
             (comes_back (kind_of m.signature.result) (spent l) (record { holds = record { names_fit = state.holds.names_fit; heap_fits = state.holds.heap_fits }; count = state.count }));
       }))))
 

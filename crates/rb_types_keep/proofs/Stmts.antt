@@ -339,7 +339,7 @@ loop_is : (x : Context) (scope : Scope) (at : ℕ) (name : List ℕ) (e : Expr) 
     → (placed x scope e >>= λ p. loop_scope scope at name p) ≡ Ok inner
 loop_is x scope at name e k inner t h = ap (λ r. with_place (expr_at e) r >>= λ p. loop_scope scope at name p) t ∙ h
 
-module _ (side : Side) (x : Context) (known' : Known x.declared) (all : Truth) (run : Body → Local → dialogue.Run Value) (run_ok : SafeBodies x.declared side all run) (may : MayCall side x all) where
+module _ (side : Side) (x : Context) (known' : Known x.declared) (all : Truth) (run : ℕ → Body → Local → dialogue.Run Value) (run_ok : SafeBodies x.declared side all run) (may : MayCall side x all) where
   abbrev bodies : Bodies
   bodies = record { classes = x.declared.classes; run = run }
 
