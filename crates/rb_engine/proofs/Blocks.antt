@@ -26,28 +26,28 @@ use Rattle.rb_engine.proofs.Steps.{helped, unhelped}
 use Rattle.rb_engine.proofs.Loops.{rebase}
 
 -- a call, within a gas that is at least the fuel, of which a unit is left
-within_gas : {W X : Type 0} {R : Surroundings W X} {s1 : Scene W} {r : Result Value (End X)} (classes : List class.Class) (b : body.Body) (inside l : Local) (fuel : ℕ) (w : W)
+within_gas : {W X : Type 0} {R : Surroundings W X} {s1 : Scene W} {r : Result Value (End X)} (classes : List class.Class) (at : ℕ) (b : body.Body) (inside l : Local) (fuel : ℕ) (w : W)
     → 0 < fuel → inside.fuel ≡ fuel - 1 → Meets R (λ gas. body_run classes b gas inside) (record { local = inside; world = w }) r s1
-    → (gas : ℕ) → fuel ≤ gas → Led R (seq (body_within (map mirror_class classes) gas (mirror_body b) inside) (left l)) w (record s1.local { names = l.names; depth = l.depth }) r s1.world
-within_gas classes b inside l fuel w low spends m zero le = absurd (omega arith)
-within_gas {R = R} {s1 = s1} {r = r} classes b inside l fuel w low spends m (suc gas) le =
+    → (gas : ℕ) → fuel ≤ gas → Led R (seq (body_within (map mirror_class classes) gas at (mirror_body b) inside) (left l)) w (record s1.local { names = l.names; depth = l.depth }) r s1.world
+within_gas classes at b inside l fuel w low spends m zero le = absurd (omega arith)
+within_gas {R = R} {s1 = s1} {r = r} classes at b inside l fuel w low spends m (suc gas) le =
     let enough : inside.fuel ≤ gas = omega arith in
     through_led R (body_run classes b gas inside) (left l) (λ x. record x { names = l.names; depth = l.depth }) s1.local r w s1.world (λ a. refl) (λ f. refl) (m.led gas enough)
 
 -- a method's body, and then the caller again
-pub call_returns : {W X : Type 0} {R : Surroundings W X} {s s1 : Scene W} {r : Result Value (End X)} (classes : List class.Class) (b : body.Body) (names names' : Names)
+pub call_returns : {W X : Type 0} {R : Surroundings W X} {s s1 : Scene W} {r : Result Value (End X)} (classes : List class.Class) (at : ℕ) (b : body.Body) (names names' : Names)
     → names' ≡ names → 0 < s.local.fuel
     → Meets R (λ gas. body_run classes b gas (entered names' (spent s.local))) (record { local = entered names' (spent s.local); world = s.world }) r s1
-    → Meets R (λ gas. seq (body_within (map mirror_class classes) gas (mirror_body b) (entered names (spent s.local))) (left (spent s.local))) s r
+    → Meets R (λ gas. seq (body_within (map mirror_class classes) gas at (mirror_body b) (entered names (spent s.local))) (left (spent s.local))) s r
     (record { local = record s1.local { names = s.local.names; depth = s1.local.depth - 1 }; world = s1.world })
-call_returns {R = R} {s = s} {s1 = s1} {r = r} classes b names names' same low m =
+call_returns {R = R} {s = s} {s1 = s1} {r = r} classes at b names names' same low m =
     let e : s1.local.depth - 1 ≡ s.local.depth = (let d = m.depth in omega arith) in
-    subst (λ ns. Meets R (λ gas. seq (body_within (map mirror_class classes) gas (mirror_body b) (entered ns (spent s.local))) (left (spent s.local))) s r (record { local = record s1.local { names = s.local.names; depth = s1.local.depth - 1 }; world = s1.world })) same
-    (subst (λ d. Meets R (λ gas. seq (body_within (map mirror_class classes) gas (mirror_body b) (entered names' (spent s.local))) (left (spent s.local))) s r (record { local = record s1.local { names = s.local.names; depth = d }; world = s1.world })) (sym e)
+    subst (λ ns. Meets R (λ gas. seq (body_within (map mirror_class classes) gas at (mirror_body b) (entered ns (spent s.local))) (left (spent s.local))) s r (record { local = record s1.local { names = s.local.names; depth = s1.local.depth - 1 }; world = s1.world })) same
+    (subst (λ d. Meets R (λ gas. seq (body_within (map mirror_class classes) gas at (mirror_body b) (entered names' (spent s.local))) (left (spent s.local))) s r (record { local = record s1.local { names = s.local.names; depth = d }; world = s1.world })) (sym e)
     (record {
       fuel = let x = m.fuel in omega arith;
       depth = refl;
-      led = λ gas le. within_gas classes b (entered names' (spent s.local)) (spent s.local) s.local.fuel s.world low refl m gas le;
+      led = λ gas le. within_gas classes at b (entered names' (spent s.local)) (spent s.local) s.local.fuel s.world low refl m gas le;
     }))
 
 -- a block that is tried

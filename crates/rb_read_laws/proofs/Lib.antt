@@ -1,4 +1,3 @@
 -- The lemmas on places.
-mod Behind
 mod Starts
 mod Whole

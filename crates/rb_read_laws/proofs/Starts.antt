@@ -1,12 +1,11 @@
--- Where the tokens of a text start, and lists in which some numbers don't stand.
-use Rattle.std.proofs.Common.{◌≡◌, refl, ℕ, zero, suc, ◌<◌, ◌≤◌, ◌≢◌, true, false, inl, inr, nat_eq, List, [], ◌∷◌, arith, eq-eqb, ne_eqb}
+-- Where the tokens of a text start, and lists of numbers that are less than a bound.
+use Rattle.std.proofs.Common.{◌≡◌, refl, ℕ, ◌<◌, ◌≤◌, ◌≢◌, true, false, inl, inr, nat_eq, List, [], ◌∷◌, arith, eq-eqb, ne_eqb}
 use Rattle.std.proofs.lemmas.Bool.{cases_lt}
 use Rattle.std.specs.List.{AllByRecursion}
 use Rattle.rb_trees.specs.declared.tokens.Token.{Token}
 use Rattle.rb_meaning_bytes.specs.tokens.Lists.{TokensBetween}
 use Rattle.rb_parse.proofs.lawful.Apart.{gap_rises}
 use Rattle.rb_parse.proofs.lawful.Positions.{once, times, starts}
-use Rattle.rb_read_laws.proofs.Behind.{later}
 
 once_same : (n : ℕ) → once n n ≡ 1
 unfolding once
@@ -21,13 +20,6 @@ rises : (text : List ℕ) (from to : ℕ) (tokens : List Token) → TokensBetwee
 rises text from to [] b = gap_rises b
 rises text from to (t ∷ ts) b = omega (arith, gap_rises b.0, b.1.rises, rises text t.end to ts b.2)
 
--- no token behind an offset starts before it
-absent_before : (text : List ℕ) (n from to : ℕ) (tokens : List Token) → TokensBetween text from tokens to → n < from → starts n tokens ≡ 0
-absent_before text n from to [] b h = refl
-absent_before text n from to (t ∷ ts) b h =
-    let l : from ≤ t.start = gap_rises b.0 in
-    omega (arith, once_other n t.start (λ e. omega arith), absent_before text n t.end to ts b.2 (omega (arith, b.1.rises)))
-
 -- no token of a text starts at its end or behind it
 pub absent_behind : (text : List ℕ) (n from to : ℕ) (tokens : List Token) → TokensBetween text from tokens to → to ≤ n → starts n tokens ≡ 0
 absent_behind text n from to [] b h = refl
@@ -35,16 +27,7 @@ absent_behind text n from to (t ∷ ts) b h =
     let l : t.start < to = omega (arith, b.1.rises, rises text t.end to ts b.2) in
     omega (arith, once_other n t.start (λ e. omega arith), absent_behind text n t.end to ts b.2 h)
 
--- no token but the first starts at 0
-pub later_than_zero : (text : List ℕ) (from to : ℕ) (tokens : List Token) → TokensBetween text from tokens to → later 0 tokens ≡ 0
-later_than_zero text from to [] b = refl
-later_than_zero text from to (t ∷ ts) b = absent_before text 0 t.end to ts b.2 (omega (arith, b.1.rises))
-
-pub none_is_zero : (xs : List ℕ) → times 0 xs ≤ 0 → AllByRecursion (λ at. nat_eq at 0 ≡ false) xs
-none_is_zero [] h = tt
-none_is_zero (zero ∷ xs) h = absurd (omega (arith, h, once_same 0))
-none_is_zero (suc x ∷ xs) h = (ne_eqb (suc x) 0 (λ e. omega arith), none_is_zero xs (omega arith))
-
+-- where no number from a bound on stands in a list, all there are less
 pub all_below : (most : ℕ) (xs : List ℕ) → ((n : ℕ) → most ≤ n → times n xs ≤ 0) → AllByRecursion (λ at. at < most) xs
 all_below most [] h = tt
 all_below most (x ∷ xs) h = (elim (cases_lt x most) [ inl l ↦ l | inr g ↦ absurd (omega (arith, h x g, once_same x)) ], all_below most xs (λ n g. omega (arith, h n g)))

@@ -7,13 +7,9 @@ use Rattle.rb_meaning_bytes.specs.grammar.Derives.{Derives}
 use Rattle.rb_meaning_types.specs.Lawful.{classes_positions, body_positions}
 use Rattle.rb_parse.proofs.lawful.Positions.{times, hits}
 use Rattle.rb_read_laws.specs.Places.{ReadProgramsHavePlaces}
-use Rattle.rb_read_laws.proofs.Behind.{behind}
-use Rattle.rb_read_laws.proofs.Starts.{absent_behind, later_than_zero, none_is_zero, all_below}
+use Rattle.rb_read_laws.proofs.Starts.{absent_behind, all_below}
 
 module _ (source : List ℕ) (tokens : List Token) (p : Program) (t : IsTokens source tokens) (d : Derives source tokens p) where
-  none_at_zero : times 0 (classes_positions p.classes ++ body_positions p.body) ≤ 0
-  none_at_zero = let b = behind source 0 d in omega (arith, b.counts, b.fits, later_than_zero source 0 (length source) tokens t.stand)
-
   none_behind : (n : ℕ) → 2 ^ 32 ≤ n → times n (classes_positions p.classes ++ body_positions p.body) ≤ 0
   none_behind n l =
       let h = hits source n d in
@@ -22,7 +18,4 @@ module _ (source : List ℕ) (tokens : List Token) (p : Program) (t : IsTokens s
 
 pub places : ReadProgramsHavePlaces
 places source p read =
-    let xs = classes_positions p.classes ++ body_positions p.body in (
-      none_is_zero xs (none_at_zero source read.0 p read.1 read.2.0),
-      all_below (2 ^ 32) xs (none_behind source read.0 p read.1 read.2.0),
-    )
+    all_below (2 ^ 32) (classes_positions p.classes ++ body_positions p.body) (none_behind source read.0 p read.1 read.2.0)
