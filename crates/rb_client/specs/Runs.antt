@@ -22,7 +22,6 @@ use Rattle.rb_meaning_split.specs.Client.{Sent, Waiting, client, replays, sent_f
 use Rattle.rb_meaning_split.specs.Division.{Division, division, divisions, mirror_split}
 use Rattle.rb_division_laws.specs.Sendable.{HasPlaces}
 use Rattle.rb_flow.specs.Program.{HasNoRefusal}
-use Rattle.rb_headline_laws.specs.Dividing.{NothingAtZero}
 use Rattle.rb_headline_laws.specs.Reached.{ClientComesTo}
 use Rattle.rb_base.specs.Counts.{risen}
 use Rattle.rb_base.specs.Devices.{Device, failed}
@@ -35,13 +34,11 @@ use Rattle.rb_client.specs.declared.stops.BadReason.{BadReason}
 use Rattle.rb_client.specs.declared.stops.RunStop.{RunStop}
 use Rattle.rb_client.specs.declared.stops.RunStop.TheVariants as stops
 
--- A program is accepted, and its batches have these divisions in source order. Its places are those of a text: each has 32 bits,
--- and none is 0, where a text begins with a keyword.
+-- A program is accepted, its batches have these divisions in source order, and each of its places has 32 bits.
 pub record IsAcceptedWith (p : program.Program) (splits : List Split) : Type 0 where
   pub none : HasNoRefusal (mirror_program p)
   pub divided : divisions (mirror_program p) ≡ Ok (map mirror_split splits)
   pub places : HasPlaces (mirror_program p)
-  pub zero_free : NothingAtZero (mirror_program p)
 
 -- Scripts were exchanged for nodes: the pairs that the link tells grew by one for each script. Whether the link lends a table is
 -- kept. Where it was honest it is so still, and its server performed them.

@@ -3,7 +3,6 @@
 ghost use Rattle.rb_trees.specs.mirror.Declarations.{mirror_program};
 ghost use Rattle.rb_division_laws.specs.Sendable.{HasPlaces};
 ghost use Rattle.rb_flow.specs.Program.{HasNoRefusal};
-ghost use Rattle.rb_headline_laws.specs.Dividing.{NothingAtZero};
 ghost use Rattle.rb_client.specs.Runs.{IsAcceptedWith};
 
 use crate::answers::answer_text;
@@ -59,7 +58,6 @@ fn run_admitted<L: Link>(
 ) -> Result<String, Fail>
     requires none { HasNoRefusal (mirror_program admitted.now.0) }
     requires places { HasPlaces (mirror_program admitted.now.0) }
-    requires zero_free { NothingAtZero (mirror_program admitted.now.0) }
 {
     match split_all(alloc, admitted) {
         Ok(splits) => run_accepted(alloc, admitted.typed(), &splits, case, link),
@@ -75,7 +73,6 @@ fn run_typed<L: Link>(
     link: &mut L,
 ) -> Result<String, Fail>
     requires places { HasPlaces (mirror_program typed.now) }
-    requires zero_free { NothingAtZero (mirror_program typed.now) }
 {
     let marks = mark(alloc, typed)?;
     match admit(alloc, typed, marks) {

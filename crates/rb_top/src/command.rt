@@ -7,7 +7,8 @@ ghost use Rattle.rb_meaning_split.specs.Division.{mirror_split};
 ghost use Rattle.rb_shown.specs.Views.{shown_divisions};
 ghost use Rattle.rb_session.specs.Dials.{seen};
 ghost use Rattle.rb_session.specs.declared.targets.Target.TheVariants as targets;
-ghost use Rattle.rb_top.specs.Accepted.{HasPlacesOfText, IsAdmitted, IsAccepted};
+ghost use Rattle.rb_division_laws.specs.Sendable.{HasPlaces};
+ghost use Rattle.rb_top.specs.Accepted.{IsAdmitted, IsAccepted};
 ghost use Rattle.rb_top.specs.Answers.{Says, SaysOfProgram};
 ghost use Rattle.rb_top.specs.Commands.{DialsWith, DividesWith, GoesOnTyped, GoesWith, RunsWith};
 ghost use Rattle.rb_top.specs.Completeness.{CallsTold, ChecksTold, PairsTold, RunsTold, ServesTold, SplitsTold};
@@ -200,7 +201,7 @@ fn go_on<F: Files, W: Sink, D: Dial>(
     dial: &mut D,
     out: &mut W,
 ) -> Status
-    requires places { HasPlacesOfText (program_of source.now) }
+    requires places { HasPlaces (program_of source.now) }
     requires short { WithinLength (text_of source.now) }
     ensures { let dialled = seen D.told D.faults D.broken in
         Between F.Files W.Sink files.old out.old files.new out.new

@@ -1,7 +1,7 @@
 // Programs and services from their files; or it is said why there is none.
 
 ghost use Rattle.std.specs.Prelude.{IfOk};
-ghost use Rattle.rb_top.specs.Accepted.{HasPlacesOfText};
+ghost use Rattle.rb_division_laws.specs.Sendable.{HasPlaces};
 ghost use Rattle.rb_top.specs.Commands.{IsTypedService, LoadsProgram, LoadsService};
 ghost use Rattle.rb_top.specs.Scene.{Between};
 ghost use Rattle.rb_top.specs.Sources.{program_of, text_of};
@@ -28,7 +28,7 @@ pub fn loaded_program<F: Files, W: Sink>(
     files: &mut F,
     out: &mut W,
 ) -> Result<Source, Status>
-    ensures places { IfOk result (λ source. HasPlacesOfText (program_of source)) }
+    ensures places { IfOk result (λ source. HasPlaces (program_of source)) }
     ensures short { IfOk result (λ source. WithinLength (text_of source)) }
     ensures loads { Between F.Files W.Sink files.old out.old files.new out.new (LoadsProgram name.now result) }
 {

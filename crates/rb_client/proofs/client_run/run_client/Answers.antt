@@ -40,7 +40,7 @@ returns-clause-means g c =
       exchanged = c.reached_batches_can_be_exchanged.ensures;
       remote = c.reached_batches_perform_remote_parts.ensures;
     })
-    (mirror_program c.args.typed.now) c.program-program.ensures.lawful (typed_checked (mirror_program c.args.typed.now) c.program-program.ensures.typed) c.requires.none c.requires.zero_free c.requires.places
+    (mirror_program c.args.typed.now) c.program-program.ensures.lawful (typed_checked (mirror_program c.args.typed.now) c.program-program.ensures.typed) c.requires.none c.requires.places
     (map mirror_split c.args.splits.now) c.requires.divided c.args.fuel (scene g.L.Link g.W.Sink c.args.link.now c.args.out.now) (scene g.L.Link g.W.Sink c.run_plan.new.link c.run_plan.new.out)
     (g.met.L.Link.honest_tells c.args.link.now) c.run_plan.result
     (subst (λ q. Leaves (mirror_program q.program) c.args.fuel c.run_plan.result (scene g.L.Link g.W.Sink c.args.link.now c.args.out.now) (scene g.L.Link g.W.Sink c.run_plan.new.link c.run_plan.new.out)) c.new-plan.ensures c.run_plan.ensures)

@@ -1,15 +1,9 @@
 use Rattle.std.proofs.Common.{sym, subst}
 use Rattle.rb_trees.specs.mirror.Declarations.{mirror_program}
 use Rattle.rb_division_laws.specs.Sendable.{HasPlaces}
-use Rattle.rb_headline_laws.specs.Dividing.{NothingAtZero}
 use Rattle.rb_client_tests.proofs.runs.run_text.Goals as goal
 
 pub run_typed-requires-clause-places : goal.run_typed-requires-clause-places
 run_typed-requires-clause-places g c =
     let places = c.read_programs_have_places.ensures _ (mirror_program c.in-Ok.program) c.in-Ok.ensures.read in
-    subst (λ q. HasPlaces (mirror_program q)) (sym c.in-Ok-check.ensures.same) places.1
-
-pub run_typed-requires-clause-zero_free : goal.run_typed-requires-clause-zero_free
-run_typed-requires-clause-zero_free g c =
-    let places = c.read_programs_have_places.ensures _ (mirror_program c.in-Ok.program) c.in-Ok.ensures.read in
-    subst (λ q. NothingAtZero (mirror_program q)) (sym c.in-Ok-check.ensures.same) places.0
+    subst (λ q. HasPlaces (mirror_program q)) (sym c.in-Ok-check.ensures.same) places

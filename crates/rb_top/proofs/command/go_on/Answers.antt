@@ -1,7 +1,7 @@
 use Rattle.std.proofs.Common.{ap, refl, sym, subst}
 use Rattle.rb_trees.specs.mirror.Declarations.{mirror_program}
 use Rattle.rb_flow.specs.Program.{HasNoRefusal}
-use Rattle.rb_top.specs.Accepted.{HasPlacesOfText}
+use Rattle.rb_division_laws.specs.Sendable.{HasPlaces}
 use Rattle.rb_top.specs.Commands.{EndsBatchRefused}
 use Rattle.rb_top.specs.Scene.{output}
 use Rattle.rb_top.specs.Words.{asked_by}
@@ -11,7 +11,7 @@ use Rattle.rb_top.proofs.command.go_on.Goals as goal
 pub go_on_admitted-requires-clause-admitted : goal.go_on_admitted-requires-clause-admitted
 go_on_admitted-requires-clause-admitted g c = record {
   none = subst (λ q. HasNoRefusal (mirror_program q)) (sym c.in-Ok.ensures.typed) c.in-Ok.ensures.admission;
-  places = subst (λ q. HasPlacesOfText (mirror_program q)) (sym c.in-Ok.ensures.typed) c.requires.places;
+  places = subst (λ q. HasPlaces (mirror_program q)) (sym c.in-Ok.ensures.typed) c.requires.places;
 }
 
 pub returns-in-Ok : goal.returns-in-Ok

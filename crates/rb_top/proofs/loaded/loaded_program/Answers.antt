@@ -4,7 +4,7 @@ use Rattle.std.specs.Result.{is_ok}
 use Rattle.rb_trees.specs.mirror.Declarations.{mirror_program}
 use Rattle.rb_meaning_bytes.specs.grammar.Sources.{ReadSource}
 use Rattle.rb_meaning_types.specs.Programs.{is_typed}
-use Rattle.rb_top.specs.Accepted.{HasPlacesOfText}
+use Rattle.rb_division_laws.specs.Sendable.{HasPlaces}
 use Rattle.rb_top.specs.Loads.{HoldsText}
 use Rattle.rb_top.proofs.Telling.{program_unread, program_not_read, program_not_typed, program_loaded}
 use Rattle.rb_top.proofs.loaded.loaded_program.Goals as goal
@@ -33,4 +33,4 @@ returns-in-Ok-check_types-clause-loads g c =
 pub returns-in-Ok-check_types-clause-places : goal.returns-in-Ok-check_types-clause-places
 returns-in-Ok-check_types-clause-places g c =
     let places = c.read_programs_have_places.ensures c.as_slice-source.result.now (mirror_program c.in-Ok-parse_program.program) c.in-Ok-parse_program.ensures.read in
-    subst (λ q. HasPlacesOfText (mirror_program q)) (sym c.in-Ok-check_types.ensures.same) (record { zero_free = places.0; places = places.1 })
+    subst (λ q. HasPlaces (mirror_program q)) (sym c.in-Ok-check_types.ensures.same) places
