@@ -1,5 +1,4 @@
 -- Programs that were admitted, and those whose batches are divided, which may be run over a link.
-use Rattle.rb_trees.specs.mirror.Declarations.{Program}
 use Rattle.rb_division_laws.specs.Sendable.{HasPlaces}
 use Rattle.rb_flow.specs.Program.{HasNoRefusal}
 use Rattle.rb_client.specs.Runs.{IsAcceptedWith}
