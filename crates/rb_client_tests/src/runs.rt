@@ -72,7 +72,7 @@ fn run_typed<L: Link>(
     case: &Case<'_>,
     link: &mut L,
 ) -> Result<String, Fail>
-    requires places { HasPlaces (mirror_program typed.now) }
+    requires { HasPlaces (mirror_program typed.now) }
 {
     let marks = mark(alloc, typed)?;
     match admit(alloc, typed, marks) {
