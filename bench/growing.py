@@ -71,6 +71,11 @@ def values(n):
     return "main { val a0 = 1;\n" + "".join(f"val a{i} = a{i - 1} + 1;\n" for i in range(1, n)) + f"print(a{n - 1}); }}\n"
 
 
+def scopes(n):
+    """Variables, and as many batches after them."""
+    return DIRECTORY + "main {\n" + joined("val a# = #;", n) + joined("batch (D r) { print(r.size()); }", n) + "}\n"
+
+
 def sent(n):
     """One batch, whose results are kept and sent again."""
     return DIRECTORY + "main { batch (D r) {\n" + joined("val a# = r.size(); r.grow(a#); print(a# * 2);", n) + "} }\n"
@@ -81,7 +86,7 @@ def chain(n):
     return DIRECTORY + "main { batch (D r) { var a0 = r.size();\n" + "".join(f"var a{i} = a{i - 1} + 1;\n" for i in range(1, n)) + f"r.grow(a{n - 1}); }} }}\n"
 
 
-# Each shape with the bytes of one of its parts, and the commands that it is measured by.
+# Each shape with the bytes that the largest text has for each of its parts, and the commands that it is measured by.
 ALL = ("check", "split", "unsplit", "both")
 SHAPES = [
     (interfaces, 52, ALL),
@@ -92,6 +97,8 @@ SHAPES = [
     (batches, 33, ALL),
     (values, 26, ALL),
     (sent, 62, ALL),
+    # (so few, since the variables in scope are still copied at each batch)
+    (scopes, 500, ALL),
     (chain, 26, ("check",)),
 ]
 
