@@ -3,7 +3,7 @@
 use crate::script::script_of;
 use crate::service::service_text;
 use crate::totals::Totals;
-use rb_differ::classes_differ;
+use rb_code::classes_differ;
 use rb_exec::{Host, run_script};
 use rb_store::read_service;
 use rb_trees::{Memory, StoreError, Value};

@@ -1,7 +1,7 @@
 // Runs of the deepest programs.
 
 use crate::record::Record;
-use rb_differ::classes_differ;
+use rb_code::classes_differ;
 use rb_engine::{Code, Frame, State, exec};
 use rb_heap::Heap;
 use rb_parse::parse_program;

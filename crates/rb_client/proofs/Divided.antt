@@ -12,7 +12,7 @@ use Rattle.rb_meaning_flow.specs.Facts.{facts_of}
 use Rattle.rb_meaning_flow.specs.Outermost.{Outermost, program_batches}
 use Rattle.rb_meaning.specs.Unsplit.{batch_at, batch_within}
 use Rattle.rb_meaning_split.specs.Division.{Division, checked_code, divided, divided_all, divided_before, division, divisions, inputs_of, longest_code, most_inputs, mirror_split}
-use Rattle.rb_division_laws.specs.Sendable.{DividedCanBeSent, HasPlaces}
+use Rattle.rb_law_division.specs.Sendable.{DividedCanBeSent, HasPlaces}
 use Rattle.rb_flow.proofs.Members.{first_contained, more_contained}
 use Rattle.rb_client.specs.Exchanges.{AllCanBeSent, CanBeSent}
 use Rattle.rb_client.specs.Splits.{split_at}

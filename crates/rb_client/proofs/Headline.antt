@@ -24,13 +24,13 @@ use Rattle.rb_meaning.specs.Unsplit.{batch_at, performs_batch}
 use Rattle.rb_meaning_flow.specs.Outermost.{Outermost}
 use Rattle.rb_meaning_split.specs.Client.{Sent, client, sent_for}
 use Rattle.rb_meaning_split.specs.Division.{Division, division, divisions}
-use Rattle.rb_division_laws.specs.Fitting.{node_of}
-use Rattle.rb_division_laws.specs.Sendable.{HasPlaces}
-use Rattle.rb_split_laws.specs.Remote.{script_run}
+use Rattle.rb_law_division.specs.Fitting.{node_of}
+use Rattle.rb_law_division.specs.Sendable.{HasPlaces}
+use Rattle.rb_law_script.specs.Remote.{script_run}
 use Rattle.rb_flow.specs.Program.{HasNoRefusal}
-use Rattle.rb_headline_laws.specs.Clients.{ClientsMeanWhatProgramsMean, ScriptsGive, sent_run}
-use Rattle.rb_headline_laws.specs.Dividing.{KeepsMeaning}
-use Rattle.rb_headline_laws.specs.Reached.{CanBeExchanged, ComesAsFar, FrontsAreShown, ProgramComesTo, ProgramsComeAsFar, ReachedBatchesCanBeExchanged, main_run, with_nodes}
+use Rattle.rb_law_client.specs.Clients.{ClientsMeanWhatProgramsMean, ScriptsGive, sent_run}
+use Rattle.rb_law_client.specs.Dividing.{KeepsMeaning}
+use Rattle.rb_law_client.specs.Reached.{CanBeExchanged, ComesAsFar, FrontsAreShown, ProgramComesTo, ProgramsComeAsFar, ReachedBatchesCanBeExchanged, main_run, with_nodes}
 use Rattle.rb_base.specs.Devices.{failed}
 use Rattle.rb_base.specs.Sinks.{with_bytes, WrotePrefix}
 use Rattle.rb_client.specs.Clients.{FailsToAnswer, Past, waiting}

@@ -8,19 +8,19 @@ use Rattle.rb_meaning.specs.Links.{IsTyped}
 use Rattle.rb_meaning.specs.Meaning.{in_main, outside_of}
 use Rattle.rb_meaning.specs.Unsplit.{batch_at}
 use Rattle.rb_flow.specs.Laws.{AdmittedSendPortable}
-use Rattle.rb_types_keep.specs.Around.{HandlerFits}
-use Rattle.rb_types_keep.specs.Asked.{Keeps, Own, Side}
-use Rattle.rb_types_keep.specs.Code.{TypesKeep}
-use Rattle.rb_types_keep.specs.Formed.{LawfulClassesAreFormed, LawfulExprsAreFormed, LawfulStmtsAreFormed}
-use Rattle.rb_types_keep.specs.Operators.{ConditionsHold}
-use Rattle.rb_unsplit_keeps.specs.Batches.{program_sites}
-use Rattle.rb_unsplit_keeps.specs.Noted.{LawfulAreNoted}
-use Rattle.rb_unsplit_keeps.proofs.Admitted.{whole_fits}
-use Rattle.rb_unsplit_keeps.proofs.Programs.{program_typed}
-use Rattle.rb_unsplit_keeps.proofs.Walking.{Laws}
-use Rattle.rb_unsplit_keeps.proofs.Whole.{MainEnds, main_handler_fits, main_keeps}
-use Rattle.rb_split_laws.specs.Remote.{ScriptsPerformRemoteParts}
-use Rattle.rb_headline_laws.specs.Reached.{main_run}
+use Rattle.rb_law_types.specs.Around.{HandlerFits}
+use Rattle.rb_law_types.specs.Asked.{Keeps, Own, Side}
+use Rattle.rb_law_types.specs.Code.{TypesKeep}
+use Rattle.rb_law_types.specs.Formed.{LawfulClassesAreFormed, LawfulExprsAreFormed, LawfulStmtsAreFormed}
+use Rattle.rb_law_types.specs.Operators.{ConditionsHold}
+use Rattle.rb_law_unsplit.specs.Batches.{program_sites}
+use Rattle.rb_law_unsplit.specs.Noted.{LawfulAreNoted}
+use Rattle.rb_law_unsplit.proofs.Admitted.{whole_fits}
+use Rattle.rb_law_unsplit.proofs.Programs.{program_typed}
+use Rattle.rb_law_unsplit.proofs.Walking.{Laws}
+use Rattle.rb_law_unsplit.proofs.Whole.{MainEnds, main_handler_fits, main_keeps}
+use Rattle.rb_law_script.specs.Remote.{ScriptsPerformRemoteParts}
+use Rattle.rb_law_client.specs.Reached.{main_run}
 use Rattle.rb_client.specs.Remote.{ReachedPerformRemoteParts}
 
 -- what is left of a run that keeps types keeps them, and what holds of the handler's state still does

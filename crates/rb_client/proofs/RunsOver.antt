@@ -10,7 +10,7 @@ use Rattle.rb_meaning_code.specs.Dialogue.{Question, Outcome, Dialogue, Done, As
 use Rattle.rb_meaning_code.specs.Led.{Passes}
 use Rattle.rb_meaning.specs.Shown.{shown_events}
 use Rattle.rb_meaning_split.specs.Client.{client, heard, in_client}
-use Rattle.rb_headline_laws.specs.Reached.{ClientComesTo, main_run, with_nodes}
+use Rattle.rb_law_client.specs.Reached.{ClientComesTo, main_run, with_nodes}
 use Rattle.rb_base.specs.Sinks.{with_bytes}
 use Rattle.rb_client.specs.Clients.{FailsToAnswer, Past, waiting}
 use Rattle.rb_client.specs.MainRuns.{ComesTo, EndsAt, EndsWell, Leaves, StopsWriting}

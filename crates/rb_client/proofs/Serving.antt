@@ -7,7 +7,7 @@ use Rattle.rb_trees.specs.mirror.Forests.{Node}
 use Rattle.rb_trees.specs.mirror.Services.{Service}
 use Rattle.rb_meaning.specs.Links.{Behind, TellsTyped}
 use Rattle.rb_meaning_split.specs.Client.{Sent}
-use Rattle.rb_headline_laws.specs.Clients.{ScriptsGive, sent_run}
+use Rattle.rb_law_client.specs.Clients.{ScriptsGive, sent_run}
 use Rattle.rb_base.specs.Counts.{risen}
 use Rattle.rb_base.specs.Links.{IsLater, fails_next}
 use Rattle.rb_client.specs.Servers.{FailsAfter, IsServer, NoneFails, PerformedAll, fails_after, later}

@@ -15,7 +15,7 @@ use Rattle.rb_meaning_flow.specs.Outermost.{Outermost}
 use Rattle.rb_meaning_split.specs.Client.{Waiting, answers_waiting, begins, client, in_client, performs_divided, replays_next, sent_for}
 use Rattle.rb_meaning_split.specs.Division.{Division, division}
 use Rattle.rb_meaning_split.specs.Replay.{ended}
-use Rattle.rb_headline_laws.specs.Reached.{main_run, with_nodes}
+use Rattle.rb_law_client.specs.Reached.{main_run, with_nodes}
 use Rattle.rb_client.specs.Events.{More}
 use Rattle.rb_client.specs.Runs.{with_batch}
 use Rattle.rb_client.proofs.Adding.{ended_adds, parts_more}

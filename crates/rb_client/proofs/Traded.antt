@@ -16,7 +16,7 @@ use Rattle.rb_meaning_bytes.specs.formats.ScriptPayloads.{Refused}
 use Rattle.rb_meaning.specs.Answers.{Answers, forest_kind, performs, refusal_kind, refuses}
 use Rattle.rb_meaning.specs.Links.{Behind, Pair}
 use Rattle.rb_meaning_split.specs.Client.{Sent}
-use Rattle.rb_headline_laws.specs.Clients.{sent_run}
+use Rattle.rb_law_client.specs.Clients.{sent_run}
 use Rattle.rb_base.specs.Links.{IsListedWhereTold, KeepsCause, ServesAsTold, faults_after, pairs_after}
 use Rattle.rb_base.specs.declared.links.Link as links
 use Rattle.rb_base.specs.declared.links.LinkStop.{LinkStop}

@@ -15,8 +15,8 @@ use Rattle.rb_meaning.specs.Shown.{exchanges, line, shown_events}
 use Rattle.rb_meaning.specs.State.{Event, Outside}
 use Rattle.rb_meaning.specs.Unsplit.{batch_at, performs_batch, server_after}
 use Rattle.rb_meaning_flow.specs.Outermost.{Outermost}
-use Rattle.rb_split_laws.specs.Remote.{remote_part}
-use Rattle.rb_headline_laws.specs.Reached.{ProgramComesTo}
+use Rattle.rb_law_script.specs.Remote.{remote_part}
+use Rattle.rb_law_client.specs.Reached.{ProgramComesTo}
 use Rattle.rb_base.specs.Devices.{failed}
 use Rattle.rb_base.specs.Sinks.{with_bytes, WrotePrefix}
 use Rattle.rb_client.specs.Runs.{FailsWithin}

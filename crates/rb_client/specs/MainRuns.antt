@@ -18,7 +18,7 @@ use Rattle.rb_meaning.specs.Unsplit.{batch_at}
 use Rattle.rb_meaning_flow.specs.Outermost.{Outermost}
 use Rattle.rb_meaning_split.specs.Client.{in_client}
 use Rattle.rb_meaning_split.specs.Division.{division}
-use Rattle.rb_headline_laws.specs.Reached.{main_run, with_nodes}
+use Rattle.rb_law_client.specs.Reached.{main_run, with_nodes}
 use Rattle.rb_base.specs.declared.links.Link as links
 use Rattle.rb_base.specs.declared.sinks.Sink as sinks
 use Rattle.rb_engine.specs.declared.world.Halt.{Halt}

@@ -13,8 +13,8 @@ use Rattle.rb_meaning.specs.Links.{IsTyped}
 use Rattle.rb_meaning.specs.State.{Outside}
 use Rattle.rb_meaning.specs.Unsplit.{batch_at}
 use Rattle.rb_flow.specs.Program.{HasNoRefusal}
-use Rattle.rb_split_laws.specs.Remote.{PerformsRemotePart}
-use Rattle.rb_headline_laws.specs.Reached.{ProgramComesTo}
+use Rattle.rb_law_script.specs.Remote.{PerformsRemotePart}
+use Rattle.rb_law_client.specs.Reached.{ProgramComesTo}
 
 -- So it is in a lawful, typed program without refusals, on a typed service.
 abbrev pub ReachedPerformRemoteParts : Type 0

@@ -20,9 +20,9 @@ use Rattle.rb_meaning.specs.Unsplit.{batch_at}
 use Rattle.rb_meaning_flow.specs.Outermost.{Outermost}
 use Rattle.rb_meaning_split.specs.Client.{Sent, Waiting, client, replays, sent_for}
 use Rattle.rb_meaning_split.specs.Division.{Division, division, divisions, mirror_split}
-use Rattle.rb_division_laws.specs.Sendable.{HasPlaces}
+use Rattle.rb_law_division.specs.Sendable.{HasPlaces}
 use Rattle.rb_flow.specs.Program.{HasNoRefusal}
-use Rattle.rb_headline_laws.specs.Reached.{ClientComesTo}
+use Rattle.rb_law_client.specs.Reached.{ClientComesTo}
 use Rattle.rb_base.specs.Counts.{risen}
 use Rattle.rb_base.specs.Devices.{Device, failed}
 use Rattle.rb_base.specs.Sinks.{with_bytes, WrotePrefix}

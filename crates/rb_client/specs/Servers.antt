@@ -7,7 +7,7 @@ use Rattle.rb_meaning.specs.Links.{Behind}
 use Rattle.rb_meaning_split.specs.Client.{Sent}
 use Rattle.rb_base.specs.Counts.{risen}
 use Rattle.rb_base.specs.Links.{fails_next}
-use Rattle.rb_headline_laws.specs.Clients.{ScriptsGive}
+use Rattle.rb_law_client.specs.Clients.{ScriptsGive}
 
 -- The server performed these scripts one after the other: they gave these nodes, and it has the table that they left.
 abbrev pub PerformedAll : Option Behind → Option Behind → List Sent → List Node → Type 0

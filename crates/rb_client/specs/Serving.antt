@@ -4,7 +4,7 @@ use Rattle.rb_trees.specs.mirror.Remainders.{Parts}
 use Rattle.rb_meaning_bytes.specs.Fits.{fits}
 use Rattle.rb_meaning.specs.Links.{Behind, server_told}
 use Rattle.rb_meaning_split.specs.Client.{Sent}
-use Rattle.rb_headline_laws.specs.Clients.{sent_run}
+use Rattle.rb_law_client.specs.Clients.{sent_run}
 use Rattle.rb_base.specs.Links.{IsLater, fails_next}
 use Rattle.rb_base.specs.declared.links.Link as links
 use Rattle.rb_client.specs.Servers.{fails_after, later}

@@ -14,13 +14,13 @@ use crate::plan::Plan;
 use crate::stops::RunStop;
 use rb_base::{Link, Sink};
 use rb_code::Code;
-use rb_division_laws::divided_scripts_can_be_sent;
 use rb_engine::{Frame, Halt, State, Step, eval, exec};
-use rb_headline_laws::{
+use rb_heap::Heap;
+use rb_law_client::{
     clients_mean_what_programs_mean, fronts_are_shown, programs_come_as_far_as_clients,
     reached_batches_can_be_exchanged,
 };
-use rb_heap::Heap;
+use rb_law_division::divided_scripts_can_be_sent;
 use rb_trees::{Body, Ending, Expr, Run, Seq, Split, Value};
 use rb_types::Typed;
 use std::alloc::Global;

@@ -3,12 +3,12 @@
 ghost use Rattle.rb_client.specs.Remote.{ReachedPerformRemoteParts};
 
 use rb_flow::admitted_programs_send_only_portable_parts;
-use rb_split_laws::scripts_perform_remote_parts;
-use rb_types_keep::{
+use rb_law_script::scripts_perform_remote_parts;
+use rb_law_types::{
     conditions_have_truths, lawful_code_is_formed, operators_keep_types, remote_calls_are_typed,
     remote_calls_keep_tables, typed_code_keeps_types,
 };
-use rb_unsplit_keeps::lawful_programs_are_noted;
+use rb_law_unsplit::lawful_programs_are_noted;
 
 /// In a lawful, typed program without refusals, on a typed service, the script of each batch that the program reaches performs
 /// just the batch's whole remote part.

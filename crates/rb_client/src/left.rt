@@ -7,7 +7,7 @@ ghost use Rattle.rb_meaning_code.specs.Faults as faults;
 ghost use Rattle.rb_meaning_split.specs.Replay as meant;
 ghost use Rattle.rb_client.specs.Lefts.{first_branch, first_rows, first_value, seen, seen_branch, seen_rows, seen_value};
 
-use rb_trees::{Entry, Fault, Memory, Node, NodeFault, Raised, Seq, Value, copy_word};
+use rb_trees::{Entry, Fault, Memory, Node, NodeFault, Raised, Seq, Value, copy_word, fault_codes};
 use std::alloc::Global;
 
 /// What is left of a node: the entries that no part has read yet, and the node's fault.
@@ -49,7 +49,7 @@ pub fn far_fault(alloc: Global, fault: &NodeFault) -> Result<Raised, Memory>
 pub fn own_fault(alloc: Global, fault: &NodeFault) -> Result<Raised, Memory>
     ensures { IfOk result (λ r. r ≡ meant.own_fault fault.now) }
 {
-    raise(alloc, fault, fault.fault.code == 7)
+    raise(alloc, fault, fault.fault.code == fault_codes::FUEL_USED)
 }
 
 /// The fault Kind at a position, of the own side.
@@ -58,7 +58,7 @@ pub fn refuse(alloc: Global, at: u32) -> Raised
 {
     Raised {
         fault: Fault {
-            code: 12,
+            code: fault_codes::KIND,
             text: Seq::new(alloc),
         },
         at,

@@ -12,13 +12,11 @@ ghost use Rattle.rb_client.specs.Requests.{IsRequest};
 
 use bytes::BytesMut;
 use rb_engine::Frame;
+use rb_trees::limits::LONGEST_TEXT;
 use rb_trees::{Memory, Seq, Split, Value, Word, copy_value};
 use rb_wire_script::encode_script;
 use std::alloc::Global;
 use std::str;
-
-/// The greatest number of bytes of a text.
-const LONGEST_TEXT: usize = 4096;
 
 /// The greatest number of bytes of a request: `longest_request`.
 const LONGEST_REQUEST: usize = 16_777_216;

@@ -1,7 +1,7 @@
 // Runs of programs over links, each with its answer as a text.
 
 ghost use Rattle.rb_trees.specs.mirror.Declarations.{mirror_program};
-ghost use Rattle.rb_division_laws.specs.Sendable.{HasPlaces};
+ghost use Rattle.rb_law_division.specs.Sendable.{HasPlaces};
 ghost use Rattle.rb_flow.specs.Program.{HasNoRefusal};
 ghost use Rattle.rb_client.specs.Runs.{IsAcceptedWith};
 
@@ -11,7 +11,7 @@ use rb_client::run_client;
 use rb_flow::{Admitted, admit};
 use rb_marks::mark;
 use rb_parse::parse_program;
-use rb_read_laws::read_programs_have_places;
+use rb_law_reading::read_programs_have_places;
 use rb_session::FrameLink;
 use rb_split::split_all;
 use rb_trees::{Seq, Split};

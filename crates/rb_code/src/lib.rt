@@ -5,6 +5,8 @@
 
 mod code;
 mod copies;
+mod differ;
 mod look_ups;
 
 pub use code::Code;
+pub use differ::classes_differ;

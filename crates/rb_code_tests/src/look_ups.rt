@@ -1,7 +1,7 @@
 // Look-ups by name in code that was read.
 
 use rb_code::Code;
-use rb_differ::classes_differ;
+use rb_code::classes_differ;
 use rb_parse::parse_program;
 use std::test::Fail;
 

@@ -3,7 +3,7 @@
 ghost use Rattle.std.specs.Prelude.{IfOk};
 ghost use Rattle.rb_session.specs.Answering.{IsTypedHost};
 
-use rb_differ::classes_differ;
+use rb_code::classes_differ;
 use rb_exec::Host;
 use rb_store::read_service;
 use std::alloc::Global;

@@ -8,6 +8,7 @@ pub mod Items
 pub mod Known
 pub mod Loops
 pub mod Matched
+pub mod Numbered
 pub mod Parts
 pub mod Runs
 pub mod Served

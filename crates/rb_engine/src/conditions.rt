@@ -15,7 +15,7 @@ use crate::faults::kind;
 use crate::frame::Frame;
 use crate::names::bind;
 use crate::operators::{bool_text, number_text, text_value};
-use rb_trees::{Fault, Memory, Raised, Seq, Value, Word, copy_word};
+use rb_trees::{Fault, Memory, Raised, Seq, Value, Word, copy_word, fault_codes};
 use std::alloc::Global;
 
 fn truth_in(alloc: Global, value: &Value) -> Result<bool, Refusal>
@@ -60,7 +60,7 @@ fn thrown_in(alloc: Global, value: &Value) -> Result<(), Refusal>
 {
     match value {
         Value::Text(text) => Err(Refusal::Fault(Fault {
-            code: 8,
+            code: fault_codes::THROWN,
             text: copy_word(alloc, text.get())?,
         })),
         _ => Err(kind(alloc)),
@@ -83,7 +83,7 @@ pub fn shown(alloc: Global, value: &Value) -> Result<Word, Refusal>
 pub fn is_caught(raised: &Raised) -> bool
     ensures { result ≡ faults.is_caught raised.now }
 {
-    raised.remote || raised.fault.code != 7
+    raised.remote || raised.fault.code != fault_codes::FUEL_USED
 }
 
 // The name of a fault's code.
@@ -91,18 +91,18 @@ fn name_of(code: u8) -> &'static [u8]
     ensures { result.now ≡ name_of_code code }
 {
     match code {
-        0 | 1 => b"DivZero",
-        2 => b"Index",
-        3 => b"TextTooLong",
-        4 => b"ListTooLong",
-        5 => b"HeapFull",
-        6 => b"TooDeep",
-        7 => b"FuelUsed",
-        8 => b"Thrown",
-        9 => b"NoMethod",
-        10 => b"BadArguments",
-        11 => b"WrongKind",
-        12 => b"Kind",
+        0 | fault_codes::DIVISION_BY_ZERO => b"DivZero",
+        fault_codes::INDEX_OUTSIDE => b"Index",
+        fault_codes::TEXT_TOO_LONG => b"TextTooLong",
+        fault_codes::LIST_TOO_LONG => b"ListTooLong",
+        fault_codes::HEAP_FULL => b"HeapFull",
+        fault_codes::TOO_DEEP => b"TooDeep",
+        fault_codes::FUEL_USED => b"FuelUsed",
+        fault_codes::THROWN => b"Thrown",
+        fault_codes::NO_METHOD => b"NoMethod",
+        fault_codes::BAD_ARGUMENTS => b"BadArguments",
+        fault_codes::WRONG_KIND => b"WrongKind",
+        fault_codes::KIND => b"Kind",
         _ => b"",
     }
 }
@@ -111,7 +111,7 @@ fn name_of(code: u8) -> &'static [u8]
 fn text_of(alloc: Global, fault: &Fault) -> Result<Word, Memory>
     ensures { IfOk result (λ text. text ≡ caught_text fault.now) }
 {
-    if fault.code == 8 {
+    if fault.code == fault_codes::THROWN {
         copy_word(alloc, &fault.text)
     } else {
         Seq::from_slice(alloc, name_of(fault.code))

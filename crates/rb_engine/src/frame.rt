@@ -3,9 +3,9 @@
 ghost use Rattle.std.specs.Prelude.{◌≡◌, [], ◌∷◌, ◌++◌, length, take, IfOk, OnOk, OnErr};
 ghost use Rattle.std.specs.Option.{option_copied};
 ghost use Rattle.rb_trees.specs.Named.{lookup};
-ghost use Rattle.rb_named.specs.Writes.{Replaces};
+ghost use Rattle.rb_heap.specs.NameWrites.{Replaces};
 
-use rb_named::{find_value, replace_value};
+use rb_heap::{find_value, replace_value};
 use rb_trees::{Memory, Seq, Value, Word, copy_value, copy_word};
 use std::alloc::Global;
 use std::marker::Model;

@@ -14,14 +14,9 @@ use crate::ends::Refusal;
 use crate::faults::{division_by_zero, index_outside, kind, list_too_long, text_too_long};
 use crate::numbers::{difference, product, sum};
 use crate::operators::text_value;
+use rb_trees::limits::{LONGEST_LIST, LONGEST_TEXT};
 use rb_trees::{BinOp, Memory, Seq, Shared, Value, Word, copy_value};
 use std::alloc::Global;
-
-/// The greatest number of bytes of a text.
-const LONGEST_TEXT: usize = 4_096;
-
-/// The greatest number of items of a list.
-const LONGEST_LIST: usize = 10_000;
 
 // A text and then another, within the limit.
 fn joined_text(alloc: Global, a: &Word, b: &Word) -> Result<Value, Refusal>

@@ -7,8 +7,8 @@ ghost use Rattle.rb_trees.specs.declared.values.Value.{out-Value};
 ghost use Rattle.rb_meaning_code.specs.Remote as rules;
 ghost use Rattle.rb_engine.specs.Kinds.{mirror_item, mirror_kind, StaysTheSame};
 
-use crate::kinds::{Item, Kind, kind_of};
-use rb_trees::{Memory, Seq, Shared, Value};
+use crate::kinds::kind_of;
+use rb_trees::{CallKind, Item, Memory, Seq, Shared, Value};
 use std::alloc::Global;
 
 /// A single value of the service as the client sees it, where it is what it has to be: `seen_item`.
@@ -119,13 +119,13 @@ fn seen_nothing(value: &Value) -> Option<Value>
     }
 }
 
-fn seen(alloc: Global, kind: Kind, value: &Value) -> Result<Option<Value>, Memory>
+fn seen(alloc: Global, kind: CallKind, value: &Value) -> Result<Option<Value>, Memory>
     ensures { IfOk result (λ seen. seen ≡ rules.seen (mirror_kind kind) (out-Value value.now)) }
 {
     match kind {
-        Kind::Nothing => Ok(seen_nothing(value)),
-        Kind::One(item) => seen_item(item, value),
-        Kind::Rows(item) => seen_rows(alloc, item, value),
+        CallKind::Nothing => Ok(seen_nothing(value)),
+        CallKind::One(item) => seen_item(item, value),
+        CallKind::Rows(item) => seen_rows(alloc, item, value),
     }
 }
 

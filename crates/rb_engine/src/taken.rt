@@ -7,10 +7,9 @@ ghost use Rattle.rb_trees.specs.mirror.Types.{mirror_type};
 ghost use Rattle.rb_trees.specs.mirror.Declarations.{mirror_param};
 ghost use Rattle.rb_meaning_code.specs.Remote as rules;
 
-use crate::kinds::Item;
 use crate::seen::seen_item;
 use rb_heap::Heap;
-use rb_trees::{Memory, Param, Seq, TypeForm, TypeTree, Value};
+use rb_trees::{Item, Memory, Param, Seq, TypeForm, TypeTree, Value};
 use std::alloc::Global;
 
 // An object of the table, where it is one of the class.

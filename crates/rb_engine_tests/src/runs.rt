@@ -1,7 +1,7 @@
 // Runs of programs that are read from texts.
 
 use crate::record::Record;
-use rb_differ::classes_differ;
+use rb_code::classes_differ;
 use rb_engine::{Code, Frame, Halt, State, exec};
 use rb_heap::Heap;
 use rb_parse::parse_program;

@@ -1,6 +1,6 @@
 // A service, and remote calls on it.
 
-use rb_differ::classes_differ;
+use rb_code::classes_differ;
 use rb_engine::{Code, State, invoke};
 use rb_heap::{AddStop, Heap};
 use rb_parse::parse_program;

@@ -12,7 +12,7 @@ ghost use Rattle.rb_exec.specs.Blocks as blocks;
 
 use crate::variables::Variables;
 use rb_engine::Refusal;
-use rb_trees::{Entry, Fault, Memory, Seq, Shared, Value, copy_value};
+use rb_trees::{Entry, Fault, Memory, Seq, Shared, Value, copy_value, fault_codes};
 use std::alloc::Global;
 
 // The fault Kind.
@@ -20,7 +20,7 @@ fn kind(alloc: Global) -> Refusal
     ensures { result ≡ refusal.Fault faults.kind }
 {
     Refusal::Fault(Fault {
-        code: 12,
+        code: fault_codes::KIND,
         text: Seq::new(alloc),
     })
 }
@@ -30,7 +30,7 @@ pub fn fuel_used(alloc: Global) -> Fault
     ensures { result ≡ faults.fuel_used }
 {
     Fault {
-        code: 7,
+        code: fault_codes::FUEL_USED,
         text: Seq::new(alloc),
     }
 }

@@ -2,7 +2,7 @@
 
 use crate::notation::{steps_of, text_value};
 use crate::shown::add_node;
-use rb_differ::classes_differ;
+use rb_code::classes_differ;
 use rb_exec::{Host, run_script};
 use rb_heap::Heap;
 use rb_store::read_service;

@@ -4,7 +4,7 @@ use Rattle.std.specs.Prelude.{slice_get, slice_set, IsSome, option_and_then}
 use Rattle.rb_trees.specs.declared.values.Value.{Value}
 use Rattle.rb_trees.specs.declared.services.Object.{Object}
 use Rattle.rb_trees.specs.Named.{lookup}
-use Rattle.rb_named.specs.Writes.{Replaces}
+use Rattle.rb_heap.specs.NameWrites.{Replaces}
 use Rattle.rb_trees.specs.Objects.{with_object, option_with_field}
 use Rattle.rb_heap.specs.Writes.{SetsField}
 

@@ -1,2 +1,4 @@
 pub mod Additions
+pub mod NameWrites
+pub mod Places
 pub mod Writes

@@ -8,14 +8,12 @@ ghost use Rattle.rb_heap.specs.Additions.{RefusesObject};
 ghost use Rattle.rb_heap.specs.Writes.{SetsField};
 
 use crate::copies::copy_object;
+use crate::names::{find_value, replace_value};
 use crate::stops::AddStop;
-use rb_named::{find_value, replace_value};
+use rb_trees::limits::MOST_OBJECTS;
 use rb_trees::{Memory, Object, Seq, Value};
 use std::alloc::Global;
 use std::marker::Model;
-
-/// How many objects a heap has at most.
-const MOST_OBJECTS: u32 = 100_000;
 
 /// The objects of running code. Contracts see the list of the objects; an object's number is its place from 0.
 #[derive(Drop)]

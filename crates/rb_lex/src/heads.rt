@@ -9,12 +9,10 @@ use crate::literals::{End, end_of_text};
 use crate::numbers::capped_value;
 use crate::tables::{keyword_number, sign_number};
 use rb_trees::TokenKind;
+use rb_trees::limits::LONGEST_TEXT;
 
 /// The greatest value of a number, which is one more behind a minus.
 const GREATEST: u64 = 9_223_372_036_854_775_807;
-
-/// The greatest number of bytes of a text literal's value.
-const LONGEST_VALUE: usize = 4_096;
 
 /// What a text begins with. A count is of the bytes behind the first.
 #[derive(Clone, Copy)]
@@ -87,7 +85,7 @@ fn text_head(text: &[u8]) -> Head
 {
     match end_of_text(text) {
         End::Closes(n, size) => {
-            if size <= LONGEST_VALUE {
+            if size <= LONGEST_TEXT {
                 Head::Take(TokenKind::TextLit, n + 1)
             } else {
                 Head::Long

@@ -1,6 +1,5 @@
 pub mod Place
 pub mod State
-pub mod CallKinds
 pub mod RemoteAnswers
 pub mod RemoteExprs
 pub mod RemotePart

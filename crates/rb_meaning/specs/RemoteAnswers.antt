@@ -10,7 +10,7 @@ use Rattle.rb_meaning_code.specs.Dialogue as ask
 use Rattle.rb_meaning_code.specs.Dialogue.{Question}
 use Rattle.rb_meaning_code.specs.Calls.{unit_due}
 use Rattle.rb_meaning_code.specs.Remote.{Server, Reply, Got, Stopped, and_then, replies, invoke}
-use Rattle.rb_meaning.specs.CallKinds.{call_kind}
+use Rattle.rb_meaning_types.specs.CallKinds.{call_kind}
 
 -- A unit of remote fuel is due at a position. It gives nothing.
 abbrev pub unit_of : ℕ → Server → Reply Value

@@ -9,7 +9,7 @@ use Rattle.rb_meaning_flow.specs.Scopes.{Scope, with_variable}
 use Rattle.rb_meaning_flow.specs.Portable.{portable, holds_call, branches_hold}
 use Rattle.rb_meaning_flow.specs.Marks.{is_portable_call}
 use Rattle.rb_meaning_flow.specs.Sites.{scope_after}
-use Rattle.rb_meaning.specs.CallKinds.{call_kind}
+use Rattle.rb_meaning_types.specs.CallKinds.{call_kind}
 use Rattle.rb_meaning.specs.RemoteExprs.{remote_of}
 use Rattle.rb_meaning_split.specs.Cuts.{cut_stmt}
 use Rattle.rb_meaning_split.specs.Numbers.{step_after, steps_after}

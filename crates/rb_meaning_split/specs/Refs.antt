@@ -5,7 +5,7 @@ use Rattle.rb_trees.specs.mirror.Code.{Expr, Exprs, Lit, Name, Unary, Binary, Ca
 use Rattle.rb_trees.specs.mirror.Declarations.{Program}
 use Rattle.rb_trees.specs.mirror.Scripts as script
 use Rattle.rb_trees.specs.mirror.Scripts.{SExpr, SExprs}
-use Rattle.rb_meaning.specs.CallKinds.{call_kind}
+use Rattle.rb_meaning_types.specs.CallKinds.{call_kind}
 
 -- what a script calls a portable variable: the root, an input or a variable of its own
 pub data Ref : Type 0 where

@@ -15,6 +15,7 @@ pub mod Bodies
 pub mod Declarations
 pub mod Programs
 pub mod Notes
+pub mod CallKinds
 pub mod Stands
 pub mod Batches
 pub mod Lawful

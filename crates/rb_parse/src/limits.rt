@@ -10,10 +10,9 @@ use crate::kinds::{
     OPEN_BRACKET, OR, PERCENT, PLUS, PRINT, ROWS, SEMICOLON, SLASH, STAR, UNEQUAL, WHILE,
 };
 use crate::next::same_kind;
+use rb_trees::limits::MOST_BLOCKS;
 use rb_trees::{Token, TokenKind};
 
-/// The greatest number of open blocks.
-const MOST_BLOCKS: u32 = 64;
 /// The greatest number of open types.
 const MOST_TYPES: u32 = 64;
 /// The greatest number of marks of an outermost expression.

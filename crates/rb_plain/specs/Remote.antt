@@ -9,7 +9,7 @@ use Rattle.rb_trees.specs.mirror.Code.{mirror_expr}
 use Rattle.rb_meaning_code.specs.State.{Names, Local}
 use Rattle.rb_meaning_code.specs.Dialogue.{Question}
 use Rattle.rb_meaning_code.specs.Remote.{Server, Reply, invoke}
-use Rattle.rb_meaning.specs.CallKinds.{call_kind}
+use Rattle.rb_meaning_types.specs.CallKinds.{call_kind}
 use Rattle.rb_meaning.specs.RemoteAnswers.{answer_of, unit_of}
 use Rattle.rb_meaning.specs.RemotePart.{in_remote_part, value_of}
 use Rattle.rb_engine.specs.Answers.{Answer, Performed}

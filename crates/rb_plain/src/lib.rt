@@ -7,7 +7,6 @@
 mod batch_run;
 mod batch_world;
 mod batches;
-mod kinds;
 mod lines;
 mod main_run;
 mod outer_world;

@@ -5,11 +5,10 @@ ghost use Rattle.rb_meaning_code.specs.Faults as faults;
 ghost use Rattle.rb_meaning_code.specs.Faults.{raised, raised_remotely};
 ghost use Rattle.rb_plain.specs.Remote.{Ended, IsAnswered, SameStage, as_unit, call_meant, turn_meant, value_meant};
 
-use crate::kinds::call_kind;
 use crate::stage::Stage;
 use rb_engine::{Frame, Halt, Miss, Server, State, Step, World, eval};
 use rb_heap::Heap;
-use rb_trees::{Expr, Fault, Memory, Raised, Seq, Value};
+use rb_trees::{Expr, Fault, Memory, Raised, Seq, Value, fault_codes};
 use std::alloc::Global;
 
 /// The service that a program's remote calls are performed on. As a World it surrounds remote expressions alone: a remote
@@ -52,14 +51,14 @@ impl<'a> RemoteWorld<'a> {
     pub fn refuse(&self, at: u32) -> Raised
         ensures { result ≡ raised faults.kind at }
     {
-        raise(self.alloc, 12, at, false)
+        raise(self.alloc, fault_codes::KIND, at, false)
     }
 
     // The fault that no fuel is left, of a remote operation at a position.
     fn no_fuel(&self, at: u32) -> Raised
         ensures { result ≡ raised_remotely faults.fuel_used at }
     {
-        raise(self.alloc, 7, at, true)
+        raise(self.alloc, fault_codes::FUEL_USED, at, true)
     }
 
     /// Takes a unit of remote fuel, which is due at a position.
@@ -84,7 +83,7 @@ impl<'a> RemoteWorld<'a> {
         ensures answer { IsAnswered (call_meant self.old at target method.now args) result self.new }
         ensures stage { SameStage self.old self.new }
     {
-        let kind = call_kind(self.stage.typed(), at);
+        let kind = self.stage.typed().call_kind(at).number();
         let service = self.stage.service();
         match self
             .server

@@ -18,7 +18,9 @@ use rb_engine::{Frame, Miss, Refusal, at_place, truth_of};
 use rb_flow::is_portable;
 use rb_marks::{Scope, branches_hold};
 use rb_meaning_flow::Role;
-use rb_trees::{Expr, Fault, Seq, Shared, Stmt, StmtForm, Value, Word, copy_value, copy_word};
+use rb_trees::{
+    Expr, Fault, Seq, Shared, Stmt, StmtForm, Value, Word, copy_value, copy_word, fault_codes,
+};
 use std::alloc::Global;
 
 /// A loop over rows, without its rows: its position, the name of its rows, and its block.
@@ -47,7 +49,7 @@ fn rows_in(alloc: Global, value: &Value) -> Result<Shared<Seq<Value>>, Refusal>
 {
     match value {
         Value::Rows(rows) => Ok(rows.share()?),
-        _ => Err(Refusal::Fault(plain_fault(alloc, 12))),
+        _ => Err(Refusal::Fault(plain_fault(alloc, fault_codes::KIND))),
     }
 }
 
@@ -58,7 +60,7 @@ fn take_unit(alloc: Global, world: &mut RemoteWorld<'_>, at: u32) -> Result<(), 
     if world.server.take_unit() {
         return Ok(());
     }
-    Err(Miss::Fault(at, plain_fault(alloc, 7)))
+    Err(Miss::Fault(at, plain_fault(alloc, fault_codes::FUEL_USED)))
 }
 
 // The block that a condition chooses.

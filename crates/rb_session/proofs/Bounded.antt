@@ -6,8 +6,8 @@ use Rattle.rb_trees.specs.declared.values.Value.{Value, out-Value}
 use Rattle.rb_trees.specs.mirror.Scripts as script
 use Rattle.rb_trees.specs.mirror.Scripts.{SExpr, SExprs, Step, Steps}
 use Rattle.rb_meaning_bytes.specs.formats.FormedScripts.{ArePrimitive, FormedExpr, FormedExprs, FormedStep, FormedSteps}
-use Rattle.rb_types_keep.specs.Kept.{IsPrimitive}
-use Rattle.rb_types_keep.specs.Scripts.{IsBoundedSExpr, AreBoundedSExprs, IsBoundedStep, AreBoundedSteps}
+use Rattle.rb_law_types.specs.Kept.{IsPrimitive}
+use Rattle.rb_law_types.specs.Scripts.{IsBoundedSExpr, AreBoundedSExprs, IsBoundedStep, AreBoundedSteps}
 use Rattle.rb_session.proofs.Nodes.{fitting_primitive}
 
 mutual

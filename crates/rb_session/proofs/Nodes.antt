@@ -19,10 +19,10 @@ use Rattle.rb_meaning_bytes.specs.formats.ScriptBytes.{count_steps}
 use Rattle.rb_meaning_bytes.specs.formats.FormedScripts as formed
 use Rattle.rb_meaning_bytes.specs.formats.FormedScripts.{StepWithin, StepsWithin}
 use Rattle.rb_meaning_bytes.specs.formats.ForestBytes.{count_entries, count_nodes, formed_text, FormedEnd, FormedNode, FormedNodes, FormedEntry, FormedEntries}
-use Rattle.rb_types_keep.specs.Kept as kept
-use Rattle.rb_types_keep.specs.Remote.{IsFault}
-use Rattle.rb_types_keep.specs.Scripts as given
-use Rattle.rb_types_keep.specs.Scripts.{IsKept, IsEnd, IsNode, IsBranch, AreNodes, AreTurns, Then, AreNone, KeptFirst, StepGives, StepsGive}
+use Rattle.rb_law_types.specs.Kept as kept
+use Rattle.rb_law_types.specs.Remote.{IsFault}
+use Rattle.rb_law_types.specs.Scripts as given
+use Rattle.rb_law_types.specs.Scripts.{IsKept, IsEnd, IsNode, IsBranch, AreNodes, AreTurns, Then, AreNone, KeptFirst, StepGives, StepsGive}
 
 -- values
 

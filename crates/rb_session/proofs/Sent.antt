@@ -5,8 +5,8 @@ use Rattle.rb_trees.specs.mirror.Services.{mirror_service}
 use Rattle.rb_meaning_bytes.specs.formats.FormedScripts.{IsWithinLimits, StepsWithin}
 use Rattle.rb_meaning_bytes.specs.formats.ForestBytes.{FormedForest, FormedNode}
 use Rattle.rb_meaning_bytes.specs.formats.ScriptPayloads.{Sent}
-use Rattle.rb_types_keep.specs.Scripts.{ScriptsKeep, RanKeeps, StepsGive, AreNone}
-use Rattle.rb_types_keep.specs.Formed.{LawfulClassesAreFormed}
+use Rattle.rb_law_types.specs.Scripts.{ScriptsKeep, RanKeeps, StepsGive, AreNone}
+use Rattle.rb_law_types.specs.Formed.{LawfulClassesAreFormed}
 use Rattle.rb_exec.specs.Hosted.{Hosted}
 use Rattle.rb_session.specs.Answering.{IsTypedHost, IsSent, performed_on}
 use Rattle.rb_session.proofs.Nodes.{root_formed}

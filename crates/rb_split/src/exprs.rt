@@ -9,7 +9,6 @@ ghost use Rattle.rb_trees.specs.mirror.Scripts.{mirror_sexpr, mirror_sexprs};
 ghost use Rattle.rb_meaning_split.specs.Refs.{ref_expr};
 ghost use Rattle.rb_split.specs.Views.{all_in_script, in_script, ref_of};
 
-use crate::kinds::call_kind;
 use crate::refs::{Refs, Target};
 use rb_marks::Facts;
 use rb_trees::{
@@ -86,7 +85,14 @@ pub fn script_expr(alloc: Global, x: &Facts<'_>, refs: &Refs, e: &Expr) -> Resul
         ExprForm::Call(a, method, args) => {
             let target = script_expr(alloc, x, refs, a.get())?;
             let args = script_exprs(alloc, x, refs, args.as_slice())?;
-            call_of(alloc, e.at, call_kind(x, e.at), method, target, args)
+            call_of(
+                alloc,
+                e.at,
+                x.typed().call_kind(e.at).number(),
+                method,
+                target,
+                args,
+            )
         }
         ExprForm::This | ExprForm::Field(_, _) | ExprForm::Index(_, _) => Ok(SExpr::Root),
         ExprForm::New(_, _) | ExprForm::Items(_, _) | ExprForm::Taken(_) => Ok(SExpr::Root),

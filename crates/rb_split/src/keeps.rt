@@ -11,7 +11,6 @@ ghost use Rattle.rb_split.specs.Views.{trees};
 
 use crate::drafts::Draft;
 use crate::exprs::script_expr;
-use crate::kinds::call_kind;
 use crate::numbers::next;
 use crate::refs::Refs;
 use rb_marks::Facts;
@@ -55,7 +54,7 @@ pub fn keep_all(
     'found: for e in found {
         let id = draft.step;
         keep(alloc, x, refs, draft, e)?;
-        takes.push((id, call_kind(x, e.at)))?;
+        takes.push((id, x.typed().call_kind(e.at).number()))?;
     }
     Ok(takes)
 }

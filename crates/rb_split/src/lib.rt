@@ -11,7 +11,6 @@ mod drafts;
 mod exprs;
 mod inputs;
 mod keeps;
-mod kinds;
 mod numbers;
 mod plain;
 mod refs;

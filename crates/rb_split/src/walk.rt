@@ -15,7 +15,6 @@ ghost use Rattle.rb_split.specs.Drafting.{let_of, do_of, if_of, each_of, with_pl
 use crate::drafts::Draft;
 use crate::exprs::script_expr;
 use crate::keeps::keep_all;
-use crate::kinds::{call_kind, row_kind};
 use crate::numbers::next;
 use crate::plain::cut_stmt;
 use crate::refs::{Refs, Target};
@@ -69,7 +68,7 @@ fn carried_part(
     }
     let name = copy_word(alloc, name)?;
     if holds_call(x, e) {
-        let kind = call_kind(x, e.at);
+        let kind = x.typed().call_kind(e.at).number();
         return Ok(Part::Bind { step, name, kind });
     }
     let value = copy_expr(alloc, e)?;
@@ -253,7 +252,7 @@ fn close_turns(
     draft.add_part(Part::Turns {
         step: id,
         name,
-        kind: row_kind(x, e.at),
+        kind: x.typed().call_kind(e.at).row_number(),
         body: body.parts,
     })
 }

@@ -9,10 +9,8 @@ ghost use Rattle.rb_store.specs.Views.{objects_of};
 
 use crate::indexed::IndexedText;
 use rb_names::same_name;
+use rb_trees::limits::LONGEST_LIST;
 use rb_trees::{Literal, TypeForm, Word};
-
-/// How many items a list has at most.
-const LONGEST_LIST: usize = 10_000;
 
 fn is_int_literal(literal: &Literal) -> bool
     ensures { result ≡ stores.is_int_literal (mirror_literal literal.now) }

@@ -1,5 +1,5 @@
 -- Programs that were admitted, and those whose batches are divided, which may be run over a link.
-use Rattle.rb_division_laws.specs.Sendable.{HasPlaces}
+use Rattle.rb_law_division.specs.Sendable.{HasPlaces}
 use Rattle.rb_flow.specs.Program.{HasNoRefusal}
 use Rattle.rb_client.specs.Runs.{IsAcceptedWith}
 use Rattle.rb_top.specs.Sources.{Admitted, admitted_program}

@@ -8,7 +8,7 @@ use Rattle.rb_meaning.specs.State.{Outside}
 use Rattle.rb_meaning_code.specs.Dialogue.{Outcome, Dialogue, AskBatch}
 use Rattle.rb_meaning_code.specs.State.{Local}
 use Rattle.rb_meaning_split.specs.Division.{Division, divisions}
-use Rattle.rb_headline_laws.specs.Reached.{ProgramComesTo}
+use Rattle.rb_law_client.specs.Reached.{ProgramComesTo}
 use Rattle.rb_shown.specs.Views.{shown_divisions}
 use Rattle.rb_base.specs.Devices.{Device}
 use Rattle.rb_base.specs.Directories.{Directory, next_read, told_after}

@@ -7,7 +7,7 @@ ghost use Rattle.rb_meaning_split.specs.Division.{mirror_split};
 ghost use Rattle.rb_shown.specs.Views.{shown_divisions};
 ghost use Rattle.rb_session.specs.Dials.{seen};
 ghost use Rattle.rb_session.specs.declared.targets.Target.TheVariants as targets;
-ghost use Rattle.rb_division_laws.specs.Sendable.{HasPlaces};
+ghost use Rattle.rb_law_division.specs.Sendable.{HasPlaces};
 ghost use Rattle.rb_top.specs.Accepted.{IsAdmitted, IsAccepted};
 ghost use Rattle.rb_top.specs.Answers.{Says, SaysOfProgram};
 ghost use Rattle.rb_top.specs.Commands.{DialsWith, DividesWith, GoesOnTyped, GoesWith, RunsWith};

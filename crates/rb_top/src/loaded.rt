@@ -1,7 +1,7 @@
 // Programs and services from their files; or it is said why there is none.
 
 ghost use Rattle.std.specs.Prelude.{IfOk};
-ghost use Rattle.rb_division_laws.specs.Sendable.{HasPlaces};
+ghost use Rattle.rb_law_division.specs.Sendable.{HasPlaces};
 ghost use Rattle.rb_top.specs.Commands.{IsTypedService, LoadsProgram, LoadsService};
 ghost use Rattle.rb_top.specs.Scene.{Between};
 ghost use Rattle.rb_top.specs.Sources.{program_of, text_of};
@@ -15,7 +15,7 @@ use crate::status::Status;
 use rb_base::{Files, Sink};
 use rb_heap::Heap;
 use rb_parse::parse_program;
-use rb_read_laws::read_programs_have_places;
+use rb_law_reading::read_programs_have_places;
 use rb_store::read_service;
 use rb_trees::Service;
 use rb_types::check as check_types;

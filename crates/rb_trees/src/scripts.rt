@@ -78,7 +78,7 @@ pub enum SExpr {
     Root,
     Unary(UnOp, u32, Boxed<SExpr>),
     Binary(BinOp, u32, Boxed<Operands<SExpr>>),
-    /// A remote call. Its kind, from 0 to 8, says what its result must be.
+    /// A remote call. Its kind, by the number of a [`CallKind`](crate::CallKind), says what its result must be.
     Call {
         kind: u8,
         at: u32,

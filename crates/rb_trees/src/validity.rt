@@ -1,18 +1,16 @@
-// Which scripts are valid.
+// Which scripts are valid, decided as the definition says it, by walking: in the square of the steps' number.
+//
+// No command calls it. The reader of payloads decides the same in linear time while it reads (`checking.rt` of rb_wire_script),
+// and tests of scripts that were made otherwise ask this one.
 
 ghost use Rattle.std.specs.Prelude.{◌≡◌, ◌+◌, ◌<◌, false, OnOk};
 ghost use Rattle.rb_trees.specs.mirror.Scripts.{mirror_sexpr, mirror_sexprs, mirror_step, mirror_steps, mirror_script};
 ghost use Rattle.rb_trees.specs.Validity.{has, first, nested_blocks, expr_refusals, exprs_refusals, whole_refusals, step_numbers, steps_numbers, step_lets, steps_lets, step_refusals, steps_refusals, verdict};
 ghost use Rattle.rb_trees.specs.Scopes.{seen, bound};
 
+use crate::limits::{MOST_BLOCKS, MOST_EXPRS};
 use crate::scripts::{Invocation, Operands, SExpr, Script, Step, StepForm};
 use thiserror::Error;
-
-/// The greatest number of blocks within each other.
-const MOST_BLOCKS: u32 = 64;
-
-/// The greatest number of expressions within each other.
-const MOST_EXPRS: u32 = 256;
 
 /// Why a script isn't valid: its first refusal, at a step's number.
 #[derive(Clone, Copy, Debug, PartialEq, Eq, Error)]

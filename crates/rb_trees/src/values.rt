@@ -22,7 +22,7 @@ pub enum Value {
     Rows(Shared<Seq<Value>>),
 }
 
-/// Why code ended early: a code from 1 to 12, and a text that is empty but for code 8, Thrown.
+/// Why code ended early: one of the [`fault_codes`](crate::fault_codes), and a text that is empty but where code threw it.
 #[derive(Drop)]
 pub struct Fault {
     pub code: u8,

@@ -3,6 +3,7 @@
 
 mod batches;
 mod bodies;
+mod call_kinds;
 mod checker;
 mod classes;
 mod context;

@@ -10,11 +10,9 @@ ghost use Rattle.rb_wire_fields.specs.Stops.{fault_of};
 
 use crate::fields::{bad_tag, byte, cut, refused, truth, wide};
 use crate::stop::{BAD_TEXT, Stop};
+use rb_trees::limits::LONGEST_TEXT;
 use rb_trees::{Seq, Shared, Value, Word};
 use std::alloc::Global;
-
-/// The most bytes of a text.
-const LONGEST_TEXT: usize = 4096;
 
 /// Whether the bytes are UTF-8.
 #[tactic(auto, using(crate::proofs::Utf8::not_utf8, crate::proofs::Utf8::utf8))]

@@ -7,7 +7,7 @@ ghost use Rattle.rb_trees.specs.mirror.Forests.{mirror_node, mirror_entries};
 ghost use Rattle.rb_meaning_bytes.specs.Fits as meaning;
 ghost use Rattle.rb_wire_forest.specs.Walks.{seen, step_told, seen_branch, seen_rows};
 
-use rb_trees::{Entry, Node, Value};
+use rb_trees::{CallKind, Entry, Item, Node, Value};
 
 /// Where the walk of a node stands.
 #[derive(Clone, Copy)]
@@ -132,9 +132,9 @@ fn has_kind(value: &Value, kind: u8) -> bool
     ensures { result ≡ meaning.form_has_kind kind (out-Value value.now) }
 {
     match value {
-        Value::Int(_) => kind == 1,
-        Value::Bool(_) => kind == 2,
-        Value::Text(_) => kind == 3,
+        Value::Int(_) => kind == Item::Int.number(),
+        Value::Bool(_) => kind == Item::Bool.number(),
+        Value::Text(_) => kind == Item::Text.number(),
         _ => false,
     }
 }
@@ -185,11 +185,21 @@ pub(crate) fn read_value<'a>(walk: &Walk<'a>, step: u32, kind: u8) -> Result<Wal
     }
 }
 
+/// Whether rows of this kind are kept: the primitive ones.
+fn is_kept(kind: u8) -> bool
+    ensures { result ≡ meaning.is_kept kind }
+{
+    match CallKind::numbered(kind) {
+        Some(CallKind::One(Item::Int | Item::Bool | Item::Text)) => true,
+        Some(_) | None => false,
+    }
+}
+
 /// The walk behind the row that a turn's node begins with, where rows are kept.
 pub(crate) fn read_row<'a>(walk: &Walk<'a>, step: u32, kind: u8) -> Result<Walk<'a>, u32>
     ensures { Gives seen step_told result (meaning.row_read step kind (seen walk.now)) }
 {
-    if kind < 1 || kind > 3 {
+    if !is_kept(kind) {
         return Ok(*walk);
     }
     match behind_value(walk.left, kind) {

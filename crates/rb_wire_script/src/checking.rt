@@ -8,14 +8,9 @@ ghost use Rattle.rb_trees.specs.Validity.{has, first, nested_blocks, expr_refusa
 ghost use Rattle.rb_wire_script.specs.Stops.{rule_of};
 
 use crate::numbers::Numbers;
+use rb_trees::limits::{MOST_BLOCKS, MOST_EXPRS};
 use rb_trees::{Invocation, Memory, Operands, SExpr, Script, ScriptRefusal, Step, StepForm};
 use std::alloc::Global;
-
-/// The greatest number of blocks within each other.
-const MOST_BLOCKS: u32 = 64;
-
-/// The greatest number of expressions within each other.
-const MOST_EXPRS: u32 = 256;
 
 /// Why a script isn't taken.
 #[derive(Drop)]

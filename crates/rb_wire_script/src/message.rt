@@ -11,14 +11,12 @@ ghost use Rattle.rb_wire_fields.specs.Stops.{fault_of};
 ghost use Rattle.rb_wire_script.specs.Stops.{seen};
 
 use crate::steps::block;
+use rb_trees::limits::MOST_BLOCKS;
 use rb_trees::{Script, Seq, Value};
 use rb_wire_fields::fields::{bad_tag, byte};
 use rb_wire_fields::stop::{Stop, TRAILING};
 use rb_wire_fields::texts::value;
 use std::alloc::Global;
-
-/// The greatest number of blocks within each other.
-const MOST_BLOCKS: usize = 64;
 
 /// The version of the format.
 const VERSION: u8 = 0x01;
@@ -49,7 +47,7 @@ fn message(alloc: Global, bytes: &[u8]) -> Result<((Script, Seq<Value>), &[u8]),
     }
     let (inputs, rest) = byte(rest)?;
     let (values, rest) = values(alloc, inputs, rest)?;
-    let (body, rest) = block(alloc, MOST_BLOCKS, rest)?;
+    let (body, rest) = block(alloc, MOST_BLOCKS as usize, rest)?;
     Ok(((Script { inputs, body }, values), rest))
 }
 

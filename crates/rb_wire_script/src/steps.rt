@@ -10,20 +10,18 @@ ghost use Rattle.rb_wire_fields.specs.Stops.{fault_of};
 
 use crate::exprs::expr;
 use crate::lists::fitted;
+use rb_trees::limits::MOST_EXPRS;
 use rb_trees::{SExpr, Seq, Step, StepForm};
 use rb_wire_fields::fields::{bad_tag, byte, number, too_deep, truth};
 use rb_wire_fields::stop::Stop;
 use std::alloc::Global;
-
-/// The greatest number of expressions within each other.
-const MOST_EXPRS: usize = 256;
 
 /// An expression that stands in a step.
 #[tactic(auto, unfolding(rb_meaning_bytes::specs::formats::Scripts::whole_expr))]
 fn whole_expr(alloc: Global, bytes: &[u8]) -> Result<(SExpr, &[u8]), Stop>
     ensures { Gives (λ x. (mirror_sexpr x.0, x.1.now)) fault_of result (read format.whole_expr bytes.now) }
 {
-    expr(alloc, MOST_EXPRS, bytes)
+    expr(alloc, MOST_EXPRS as usize, bytes)
 }
 
 /// A block, with at most so many within each other.

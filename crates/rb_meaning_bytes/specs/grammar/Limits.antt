@@ -26,7 +26,9 @@ most_marks = 200
 
 -- A brace opens a block, unless it is that of an interface or class.
 unfoldable pub opens_block : Nesting → TokenKind → Bool
-opens_block n kind = cond (is_kind kind k.sign_open_brace) (not (is_one_of n.before (k.keyword_interface ∷ k.keyword_class ∷ []))) false
+opens_block n kind =
+    cond (is_kind kind k.sign_open_brace)
+      (not (is_one_of n.before (k.keyword_interface ∷ k.keyword_class ∷ []))) false
 
 -- An angle bracket behind `List` or `Rows` opens a type.
 unfoldable pub opens_type : Nesting → TokenKind → Bool
@@ -34,11 +36,18 @@ opens_type n kind = cond (is_kind kind k.sign_less) (is_one_of n.last (k.keyword
 
 -- A bracket is a mark, unless it belongs to a statement or signature.
 unfoldable pub opens_mark : Nesting → Bool
-opens_mark n = cond (is_one_of n.last (k.keyword_if ∷ k.keyword_while ∷ k.keyword_for ∷ k.keyword_print ∷ k.keyword_catch ∷ k.keyword_batch ∷ [])) false (not (is_kind n.before k.keyword_fun))
+opens_mark n =
+    cond
+      (is_one_of n.last
+        (k.keyword_if ∷ k.keyword_while ∷ k.keyword_for ∷ k.keyword_print ∷ k.keyword_catch ∷ k.keyword_batch ∷ []))
+      false (not (is_kind n.before k.keyword_fun))
 
 -- the kinds that are marks wherever they stand
 abbrev pub always_mark : TokenKind → Bool
-always_mark kind = is_one_of kind (k.sign_not ∷ k.sign_minus ∷ k.sign_or ∷ k.sign_and ∷ k.sign_equal ∷ k.sign_unequal ∷ k.sign_at_most ∷ k.sign_at_least ∷ k.sign_plus ∷ k.sign_star ∷ k.sign_slash ∷ k.sign_percent ∷ k.sign_dot ∷ k.sign_open_bracket ∷ [])
+always_mark kind =
+    is_one_of kind (k.sign_not ∷ k.sign_minus ∷ k.sign_or ∷ k.sign_and ∷ k.sign_equal ∷ k.sign_unequal
+    ∷ k.sign_at_most ∷ k.sign_at_least ∷ k.sign_plus ∷ k.sign_star ∷ k.sign_slash ∷ k.sign_percent
+    ∷ k.sign_dot ∷ k.sign_open_bracket ∷ [])
 
 -- The marks of an expression are its prefix signs, binary operators, dots and opening brackets.
 unfoldable pub is_mark : Nesting → TokenKind → Bool
@@ -50,10 +59,12 @@ is_mark n kind =
 
 -- The kinds of tokens that no outermost expression goes on over.
 unfoldable pub ends_expression : TokenKind → Bool
-ends_expression kind = is_one_of kind (k.sign_semicolon ∷ k.sign_assign ∷ k.keyword_in ∷ k.sign_open_brace ∷ k.sign_close_brace ∷ [])
+ends_expression kind =
+    is_one_of kind (k.sign_semicolon ∷ k.sign_assign ∷ k.keyword_in ∷ k.sign_open_brace ∷ k.sign_close_brace ∷ [])
 
 unfoldable pub blocks_after : Nesting → TokenKind → ℕ
-blocks_after n kind = cond (opens_block n kind) (n.blocks + 1) (cond (is_kind kind k.sign_close_brace) (n.blocks - 1) n.blocks)
+blocks_after n kind =
+    cond (opens_block n kind) (n.blocks + 1) (cond (is_kind kind k.sign_close_brace) (n.blocks - 1) n.blocks)
 
 unfoldable pub types_after : Nesting → TokenKind → ℕ
 types_after n kind = cond (opens_type n kind) (n.types + 1) (cond (is_kind kind k.sign_greater) (n.types - 1) n.types)
@@ -63,10 +74,12 @@ marks_after n kind = cond (ends_expression kind) 0 (cond (is_mark n kind) (n.mar
 
 -- what is open behind one more token
 abbrev pub after : Nesting → TokenKind → Nesting
-after n kind = record { blocks = blocks_after n kind; types = types_after n kind; marks = marks_after n kind; last = kind; before = n.last }
+after n kind =
+    record { blocks = blocks_after n kind; types = types_after n kind; marks = marks_after n kind; last = kind; before = n.last }
 
 abbrev pub too_deep : Nesting → Bool
-too_deep n = cond (nat_lt most_blocks n.blocks) true (cond (nat_lt most_types n.types) true (nat_lt most_marks n.marks))
+too_deep n =
+    cond (nat_lt most_blocks n.blocks) true (cond (nat_lt most_types n.types) true (nat_lt most_marks n.marks))
 
 -- Behind the word `object`, which stands in services alone, there are no expressions and blocks any more, but literals:
 -- of these only the lists that are open within each other count, at most 64.
@@ -74,12 +87,15 @@ abbrev pub most_lists : ℕ
 most_lists = 64
 
 unfoldable pub lists_after : ℕ → TokenKind → ℕ
-lists_after lists kind = cond (is_kind kind k.sign_open_bracket) (lists + 1) (cond (is_kind kind k.sign_close_bracket) (lists - 1) lists)
+lists_after lists kind =
+    cond (is_kind kind k.sign_open_bracket) (lists + 1) (cond (is_kind kind k.sign_close_bracket) (lists - 1) lists)
 
 -- how many tokens are left where the first bracket stands that opens a list too many
 abbrev pub broken_lists : ℕ → List Token → Option ℕ
 broken_lists lists [] = None
-broken_lists lists (t ∷ ts) = cond (nat_lt most_lists (lists_after lists t.kind)) (Some (length (t ∷ ts))) (broken_lists (lists_after lists t.kind) ts)
+broken_lists lists (t ∷ ts) =
+    cond (nat_lt most_lists (lists_after lists t.kind)) (Some (length (t
+    ∷ ts))) (broken_lists (lists_after lists t.kind) ts)
 
 -- how many tokens are left where the first token stands with which a limit is broken
 abbrev pub broken : Nesting → List Token → Option ℕ

@@ -2,7 +2,7 @@ use Rattle.std.proofs.Common.{◌≡◌, true, sym, subst, map}
 use Rattle.rb_trees.specs.mirror.Declarations.{mirror_program}
 use Rattle.rb_meaning_types.specs.Programs.{is_typed}
 use Rattle.rb_meaning_split.specs.Division.{mirror_split}
-use Rattle.rb_differ.proofs.Differ.{typed_differ}
+use Rattle.rb_code.proofs.Differ.{typed_differ}
 use Rattle.rb_client.specs.MainRuns.{Leaves}
 use Rattle.rb_client.specs.Scenes.{scene}
 use Rattle.rb_client.proofs.Typed.{typed_checked}

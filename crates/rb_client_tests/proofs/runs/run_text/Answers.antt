@@ -1,6 +1,6 @@
 use Rattle.std.proofs.Common.{sym, subst}
 use Rattle.rb_trees.specs.mirror.Declarations.{mirror_program}
-use Rattle.rb_division_laws.specs.Sendable.{HasPlaces}
+use Rattle.rb_law_division.specs.Sendable.{HasPlaces}
 use Rattle.rb_client_tests.proofs.runs.run_text.Goals as goal
 
 pub run_typed-requires : goal.run_typed-requires

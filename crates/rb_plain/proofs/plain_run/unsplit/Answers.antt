@@ -5,7 +5,7 @@ use Rattle.rb_meaning.specs.Shown.{shown_events}
 use Rattle.rb_plain.specs.Unsplit.{WritesUnlessStarved, meant}
 use Rattle.rb_plain.specs.Worlds.{output}
 use Rattle.rb_trees.specs.declared.outcomes.Run.{Run}
-use Rattle.rb_differ.proofs.Differ.{typed_differ}
+use Rattle.rb_code.proofs.Differ.{typed_differ}
 use Rattle.rb_plain.proofs.plain_run.unsplit.Goals as goal
 
 pub make-requires : goal.make-requires

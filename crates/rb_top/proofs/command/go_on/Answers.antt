@@ -1,7 +1,7 @@
 use Rattle.std.proofs.Common.{ap, refl, sym, subst}
 use Rattle.rb_trees.specs.mirror.Declarations.{mirror_program}
 use Rattle.rb_flow.specs.Program.{HasNoRefusal}
-use Rattle.rb_division_laws.specs.Sendable.{HasPlaces}
+use Rattle.rb_law_division.specs.Sendable.{HasPlaces}
 use Rattle.rb_top.specs.Commands.{EndsBatchRefused}
 use Rattle.rb_top.specs.Scene.{output}
 use Rattle.rb_top.specs.Words.{asked_by}

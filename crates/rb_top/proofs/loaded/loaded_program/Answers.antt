@@ -4,7 +4,7 @@ use Rattle.std.specs.Result.{is_ok}
 use Rattle.rb_trees.specs.mirror.Declarations.{mirror_program}
 use Rattle.rb_meaning_bytes.specs.grammar.Sources.{ReadSource}
 use Rattle.rb_meaning_types.specs.Programs.{is_typed}
-use Rattle.rb_division_laws.specs.Sendable.{HasPlaces}
+use Rattle.rb_law_division.specs.Sendable.{HasPlaces}
 use Rattle.rb_top.specs.Loads.{HoldsText}
 use Rattle.rb_top.proofs.Telling.{program_unread, program_not_read, program_not_typed, program_loaded}
 use Rattle.rb_top.proofs.loaded.loaded_program.Goals as goal

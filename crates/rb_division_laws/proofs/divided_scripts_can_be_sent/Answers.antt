@@ -1,6 +1,0 @@
--- By the size of the code.
-use Rattle.rb_division_laws.proofs.Sent.{sent}
-use Rattle.rb_division_laws.proofs.divided_scripts_can_be_sent.Goals as goal
-
-pub returns : goal.returns
-returns c = sent c.the_code_has_its_size.ensures

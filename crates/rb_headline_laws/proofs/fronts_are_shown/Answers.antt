@@ -1,6 +1,0 @@
--- What is shown on the way stays shown.
-use Rattle.rb_headline_laws.proofs.Shown.{fronts}
-use Rattle.rb_headline_laws.proofs.fronts_are_shown.Goals as goal
-
-pub returns : goal.returns
-returns c = fronts

@@ -1,0 +1,82 @@
+-- What a program has shown on its way is a front of what it means to show: running on only shows more.
+use Rattle.std.proofs.Common.{◌≡◌, refl, sym, ap, ◌∙◌, subst, ℕ, List, [], ◌∷◌, ◌++◌, append_assoc, append-nil, length, Option, Some, None}
+use Rattle.rb_trees.specs.declared.values.Value.TheVariants as value
+use Rattle.rb_trees.specs.declared.services.Object.{Object}
+use Rattle.rb_trees.specs.mirror.Declarations.{Program}
+use Rattle.rb_trees.specs.mirror.Services.{Service}
+use Rattle.rb_meaning_code.specs.State.{Local, bound}
+use Rattle.rb_meaning_code.specs.Dialogue.{Question, Line, Taken, Invoke, Turn, ListTurn, Outcome, Gave, Faulted, Dialogue, Done, Ask, AskBatch, Handler, handle}
+use Rattle.rb_meaning_code.specs.Statements.{performs_all}
+use Rattle.rb_meaning_code.specs.Bodies.{bodies_of}
+use Rattle.rb_meaning_code.proofs.Led.{rest_ends_as_whole}
+use Rattle.rb_meaning_flow.specs.Outermost.{Outermost}
+use Rattle.rb_meaning.specs.State as state
+use Rattle.rb_meaning.specs.State.{Event, Outside}
+use Rattle.rb_meaning.specs.Unsplit.{batch_at, in_batch, begun, settles, whole_table}
+use Rattle.rb_meaning.specs.Meaning.{performs_found, in_main, outside_of}
+use Rattle.rb_law_client.specs.Reached.{main_run, IsFront, FrontsAreShown}
+
+front_same : (xs : List Event) → IsFront xs xs
+front_same xs = record { more = []; is = sym (append-nil xs) }
+
+front_on : (xs ys zs : List Event) → IsFront xs ys → IsFront ys zs → IsFront xs zs
+front_on xs ys zs f g = record { more = f.more ++ g.more; is = g.is ∙ ap (λ q. q ++ g.more) f.is ∙ append_assoc xs f.more g.more }
+
+front_with : (xs : List Event) (event : Event) → IsFront xs (xs ++ event ∷ [])
+front_with xs event = record { more = event ∷ []; is = refl }
+
+-- A handler by which only more is shown.
+record ShowsMore (h : Handler Outside) : Type 0 where
+  answers : (s : Outside) (q : Question) → IsFront s.events (h.answer s q).1.events
+  batches : (s : Outside) (at : ℕ) (l : Local) → IsFront s.events (h.batch s at l).1.events
+
+run_shows : {A : Type 0} (h : Handler Outside) → ShowsMore h → (run : Dialogue A) (s : Outside) → IsFront s.events (handle h run s).1.events
+run_shows h more (Done a) s = front_same s.events
+run_shows h more (Ask q go) s =
+    let next = h.answer s q in front_on s.events next.1.events (handle h (go next.0) next.1).1.events (more.answers s q) (run_shows h more (go next.0) next.1)
+run_shows h more (AskBatch at l go) s =
+    let next = h.batch s at l in front_on s.events next.1.events (handle h (go next.0) next.1).1.events (more.batches s at l) (run_shows h more (go next.0) next.1)
+
+module _ (p : Program) (service : Service) where
+  -- in a batch
+
+  batch_answers : (s : Outside) (q : Question) → IsFront s.events ((in_batch p service).answer s q).1.events
+  batch_answers s (Line at bytes) = front_with s.events (state.Line bytes)
+  batch_answers s (ListTurn at) = front_same s.events
+  batch_answers s (Taken step) = front_same s.events
+  batch_answers s (Invoke at target method args) = front_same s.events
+  batch_answers s (Turn at) = front_same s.events
+
+  batch_shows : ShowsMore (in_batch p service)
+  batch_shows = record { answers = batch_answers; batches = λ s at l. front_same s.events }
+
+  settles_same : (count : ℕ) (whole : List Object) (r : Outcome (Unit {0}) × Outside) → r.1.events ≡ (settles p count whole r).1.events
+  settles_same count whole (Gave u l, s) = refl
+  settles_same count whole (Faulted r l, s) = refl
+
+  -- outside of batches
+
+  main_answers : (s : Outside) (q : Question) → IsFront s.events ((in_main p service).answer s q).1.events
+  main_answers s (Line at bytes) = front_with s.events (state.Line bytes)
+  main_answers s (ListTurn at) = front_same s.events
+  main_answers s (Taken step) = front_same s.events
+  main_answers s (Invoke at target method args) = front_same s.events
+  main_answers s (Turn at) = front_same s.events
+
+  found_shows : (o : Option Outermost) (s : Outside) (at : ℕ) (l : Local) → IsFront s.events (performs_found p service o at l s).1.events
+  found_shows None s at l = front_same s.events
+  found_shows (Some b) s at l =
+      let start = bound b.root (value.Remote service.root) l in
+      let whole = whole_table p service b start (begun s).server in
+      let run = performs_all (bodies_of p.classes l.fuel) l.fuel b.block start in
+      let ended = handle (in_batch p service) run (begun s) in
+      front_on s.events (begun s).events (settles p (length l.names) whole ended).1.events (front_with s.events state.Batch)
+      (subst (IsFront (begun s).events) (settles_same (length l.names) whole ended) (run_shows (in_batch p service) batch_shows run (begun s)))
+
+  main_shows : ShowsMore (in_main p service)
+  main_shows = record { answers = main_answers; batches = λ s at l. found_shows (batch_at p at) s at l }
+
+pub fronts : FrontsAreShown
+fronts p service table fuel rest s passes =
+    let main = in_main p service in
+    subst (λ q. IsFront s.events q.1.events) (rest_ends_as_whole main (main_run p fuel) rest (outside_of table) s passes) (run_shows main (main_shows p service) rest s)

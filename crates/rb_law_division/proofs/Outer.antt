@@ -1,0 +1,197 @@
+-- Which variables are constant: those from outside of a batch, and all that the batch's script takes for inputs.
+use Rattle.std.proofs.Common.{◌≡◌, refl, subst, sym, ◌∙◌, ℕ, List, [], ◌∷◌, ◌++◌, Bool, true, false, cond, not, ◌&&◌, Option, Some, None}
+use Rattle.std.specs.List.{AllByRecursion, Contains, flat_map}
+use Rattle.std.specs.Str.{bytes_eq}
+use Rattle.rb_trees.specs.mirror.Code.{Expr, Exprs, Lit, Name, This, Unary, Binary, Field, Call, Index, New, Items, Taken, NoExprs, MoreExprs, expr_at, Stmt, Stmts, Val, Var, Assign, Run, Print, Throw, If, While, For, Try, Batch, NoStmts, MoreStmts}
+use Rattle.rb_trees.specs.mirror.Declarations.{Param, Method, Class, Program}
+use Rattle.rb_meaning_types.specs.Kinds.{kind_of, is_primitive}
+use Rattle.rb_meaning_types.specs.Names.{is_new}
+use Rattle.rb_meaning_types.specs.Scopes as typed
+use Rattle.rb_meaning_flow.specs.declared.scopes.Role.{Role}
+use Rattle.rb_meaning_flow.specs.declared.scopes.Variable.{Variable}
+use Rattle.rb_meaning_flow.specs.Facts.{Facts, facts_of, over_rows}
+use Rattle.rb_meaning_flow.specs.Scopes.{Scope, variable_named, with_variable, role_in, role_of, is_constant_role, is_portable_role, role_with, variable_with, scope_with}
+use Rattle.rb_meaning_flow.specs.Portable.{portable, branches_hold}
+use Rattle.rb_meaning_flow.specs.Sites.{scope_after}
+use Rattle.rb_meaning_flow.specs.Outermost.{Outermost, outer_role, outer_after, outermost, outermost_in, parameters, method_batches, class_batches, program_batches}
+use Rattle.rb_meaning.specs.RemoteExprs.{remote_of}
+use Rattle.rb_meaning_split.specs.Inputs.{constants, all_constants, kept_constants, used, used_in, first_uses}
+use Rattle.rb_law_division.proofs.Lists.{each, all_both, all_weaker, cond_is}
+use Rattle.rb_law_division.proofs.Known.{else_first, first_more, SameNames}
+
+-- ---- outside of batches a variable is constant, or it isn't portable
+
+abbrev pub IsOuter : Role → Type 0
+IsOuter r = is_portable_role r ≡ is_constant_role r
+
+abbrev pub AreOuter : Scope → Type 0
+AreOuter vs = AllByRecursion (λ v. IsOuter v.role) vs
+
+abbrev StandsOuter : Outermost → Type 0
+StandsOuter b = AreOuter b.outer
+
+outer_is : (t : Bool) → IsOuter (outer_role t)
+outer_is true = refl
+outer_is false = refl
+
+outer_with : (vs : Scope) (name : List ℕ) (t : Bool) (at : ℕ) → AreOuter vs → AreOuter (with_variable vs name (outer_role t) at)
+outer_with vs name t at h = all_both (λ v. IsOuter v.role) vs (record { name = name; role = outer_role t; node = at } ∷ []) h (outer_is t, tt)
+
+module _ (x : Facts) where
+  after_outer : (vs : Scope) (s : Stmt) → AreOuter vs → AreOuter (outer_after x vs s)
+  after_outer vs (Val at name e) h = outer_with vs name (x.primitive (expr_at e)) at h
+  after_outer vs (Var at name e) h = outer_with vs name (x.primitive (expr_at e)) at h
+  after_outer vs (Assign at a b) h = h
+  after_outer vs (Run at e) h = h
+  after_outer vs (Print at e) h = h
+  after_outer vs (Throw at e) h = h
+  after_outer vs (If at c a b) h = h
+  after_outer vs (While at c a) h = h
+  after_outer vs (For at name e a) h = h
+  after_outer vs (Try at a name b) h = h
+  after_outer vs (Batch at interface root a) h = h
+
+  mutual
+    stmt_outer : (vs : Scope) (s : Stmt) → AreOuter vs → AllByRecursion StandsOuter (outermost x vs s)
+    stmt_outer vs (Val at name e) h = tt
+    stmt_outer vs (Var at name e) h = tt
+    stmt_outer vs (Assign at a b) h = tt
+    stmt_outer vs (Run at e) h = tt
+    stmt_outer vs (Print at e) h = tt
+    stmt_outer vs (Throw at e) h = tt
+    stmt_outer vs (If at c a b) h = all_both StandsOuter (outermost_in x vs a) (outermost_in x vs b) (stmts_outer vs a h) (stmts_outer vs b h)
+    stmt_outer vs (While at c a) h = stmts_outer vs a h
+    stmt_outer vs (For at name e a) h = stmts_outer (with_variable vs name (outer_role (x.items (expr_at e))) at) a (outer_with vs name (x.items (expr_at e)) at h)
+    stmt_outer vs (Try at a name b) h =
+        all_both StandsOuter (outermost_in x vs a) (outermost_in x (with_variable vs name (outer_role true) at) b)
+        (stmts_outer vs a h) (stmts_outer (with_variable vs name (outer_role true) at) b (outer_with vs name true at h))
+    stmt_outer vs (Batch at interface root a) h = (h, tt)
+
+    stmts_outer : (vs : Scope) (ss : Stmts) → AreOuter vs → AllByRecursion StandsOuter (outermost_in x vs ss)
+    stmts_outer vs NoStmts h = tt
+    stmts_outer vs (MoreStmts s ss) h = all_both StandsOuter (outermost x vs s) (outermost_in x (outer_after x vs s) ss) (stmt_outer vs s h) (stmts_outer (outer_after x vs s) ss (after_outer vs s h))
+
+  params_outer : (ps : List Param) → AreOuter (parameters ps)
+  params_outer [] = tt
+  params_outer (p ∷ ps) = (outer_is (is_primitive (kind_of p.kind)), params_outer ps)
+
+  methods_outer : (ms : List Method) → AllByRecursion StandsOuter (flat_map (method_batches x) ms)
+  methods_outer [] = tt
+  methods_outer (m ∷ ms) = all_both StandsOuter (method_batches x m) (flat_map (method_batches x) ms) (stmts_outer (parameters m.signature.params) m.body.statements (params_outer m.signature.params)) (methods_outer ms)
+
+  classes_outer : (cs : List Class) → AllByRecursion StandsOuter (flat_map (class_batches x) cs)
+  classes_outer [] = tt
+  classes_outer (c ∷ cs) = all_both StandsOuter (class_batches x c) (flat_map (class_batches x) cs) (methods_outer c.methods) (classes_outer cs)
+
+pub batches_outer : (p : Program) (b : Outermost) → Contains (program_batches (facts_of p) p) b → AreOuter b.outer
+batches_outer p b is =
+    each StandsOuter (program_batches (facts_of p) p) b
+    (all_both StandsOuter (flat_map (class_batches (facts_of p)) p.classes) (outermost_in (facts_of p) [] p.body.statements) (classes_outer (facts_of p) p.classes) (stmts_outer (facts_of p) [] p.body.statements tt)) is
+
+-- in a batch a variable from outside is one still
+role_outer : (assigned : List (List ℕ)) (name : List ℕ) (r : Role) → IsOuter r → IsOuter (role_with assigned name r)
+role_outer assigned name r h = cond_is IsOuter (is_constant_role r && not (is_new name assigned)) Role.Plain r refl h
+
+pub opened_outer : (assigned : List (List ℕ)) (vs : Scope) (ws : typed.Scope) (last : Variable) (q : List ℕ) (w : typed.Variable) → AreOuter vs → SameNames vs ws → typed.variable_named ws q ≡ Some w
+    → IsOuter (role_of (scope_with assigned (vs ++ last ∷ [])) q)
+opened_outer assigned [] [] last q w h s e = absurd (cc e)
+opened_outer assigned [] (y ∷ ws) last q w h s e = absurd s
+opened_outer assigned (v ∷ vs) [] last q w h s e = absurd s
+opened_outer assigned (v ∷ vs) (y ∷ ws) last q w h s e =
+    by (bytes_eq v.name q) (subst (λ n. cond (bytes_eq n q) (Some y) (typed.variable_named ws q) ≡ Some w) (sym s.0) e) (opened_outer assigned vs ws last q w h.1 s.1)
+  where
+    by : (t : Bool) → cond t (Some y) (typed.variable_named ws q) ≡ Some w → (typed.variable_named ws q ≡ Some w → IsOuter (role_of (scope_with assigned (vs ++ last ∷ [])) q))
+        → IsOuter (role_in (cond t (Some (variable_with assigned v)) (variable_named (scope_with assigned (vs ++ last ∷ [])) q)))
+    by true k more = role_outer assigned v.name v.role h.0
+    by false k more = more k
+
+-- ---- what a script takes for inputs is constant where the batch begins
+
+abbrev pub IsConstantIn : Scope → List ℕ → Type 0
+IsConstantIn vs q = is_constant_role (role_of vs q) ≡ true
+
+abbrev AllConstant : Scope → List (List ℕ) → Type 0
+AllConstant vs qs = AllByRecursion (IsConstantIn vs) qs
+
+constant_less : (vs : Scope) (name : List ℕ) (role : Role) (at : ℕ) (q : List ℕ) → is_constant_role role ≡ false → IsConstantIn (with_variable vs name role at) q → IsConstantIn vs q
+constant_less vs name role at q plain h =
+    by (variable_named vs q) (bytes_eq name q) (subst (λ o. is_constant_role (role_in o) ≡ true) (first_more (λ v. v.name) vs (record { name = name; role = role; node = at }) q) h)
+  where
+    by : (o : Option Variable) (t : Bool) → is_constant_role (role_in (else_first o (cond t (Some (record { name = name; role = role; node = at })) None))) ≡ true → is_constant_role (role_in o) ≡ true
+    by (Some v) t k = k
+    by None true k = absurd (cc (sym plain ∙ k))
+    by None false k = absurd (cc k)
+
+all_less : (vs : Scope) (name : List ℕ) (role : Role) (at : ℕ) (qs : List (List ℕ)) → is_constant_role role ≡ false → AllConstant (with_variable vs name role at) qs → AllConstant vs qs
+all_less vs name role at qs plain h = all_weaker (IsConstantIn (with_variable vs name role at)) (IsConstantIn vs) qs (λ q k. constant_less vs name role at q plain k) h
+
+one_constant : (vs : Scope) (name : List ℕ) (t : Bool) → is_constant_role (role_of vs name) ≡ t → AllConstant vs (cond t (name ∷ []) [])
+one_constant vs name true e = (e, tt)
+one_constant vs name false e = tt
+
+mutual
+  constants_constant : (vs : Scope) (e : Expr) → AllConstant vs (constants vs e)
+  constants_constant vs (Name at name) = one_constant vs name (is_constant_role (role_of vs name)) refl
+  constants_constant vs (Unary at op a) = constants_constant vs a
+  constants_constant vs (Binary at op a b) = all_both (IsConstantIn vs) (constants vs a) (constants vs b) (constants_constant vs a) (constants_constant vs b)
+  constants_constant vs (Call at a method args) = all_both (IsConstantIn vs) (constants vs a) (all_constants vs args) (constants_constant vs a) (all_constant vs args)
+  constants_constant vs (Lit at value) = tt
+  constants_constant vs (This at) = tt
+  constants_constant vs (Field at a name) = tt
+  constants_constant vs (Index at a b) = tt
+  constants_constant vs (New at class args) = tt
+  constants_constant vs (Items at item items) = tt
+  constants_constant vs (Taken at step) = tt
+
+  all_constant : (vs : Scope) (es : Exprs) → AllConstant vs (all_constants vs es)
+  all_constant vs NoExprs = tt
+  all_constant vs (MoreExprs e es) = all_both (IsConstantIn vs) (constants vs e) (all_constants vs es) (constants_constant vs e) (all_constant vs es)
+
+lists_constant : (vs : Scope) (es : List Expr) → AllConstant vs (flat_map (constants vs) es)
+lists_constant vs [] = tt
+lists_constant vs (e ∷ es) = all_both (IsConstantIn vs) (constants vs e) (flat_map (constants vs) es) (constants_constant vs e) (lists_constant vs es)
+
+module _ (f : Facts) where
+  kept_constant : (vs : Scope) (s : Stmt) → AllConstant vs (kept_constants f vs s)
+  kept_constant vs s = lists_constant vs (remote_of f vs s)
+
+  before_after : (vs : Scope) (s : Stmt) (qs : List (List ℕ)) → AllConstant (scope_after f [] vs s) qs → AllConstant vs qs
+  before_after vs (Val at name e) qs h = by (portable f vs e) h
+    where
+      by : (t : Bool) → AllConstant (with_variable vs name (cond t Role.Carried Role.Plain) at) qs → AllConstant vs qs
+      by true k = all_less vs name Role.Carried at qs refl k
+      by false k = all_less vs name Role.Plain at qs refl k
+  before_after vs (Var at name e) qs h = all_less vs name Role.Plain at qs refl h
+  before_after vs (Assign at a b) qs h = h
+  before_after vs (Run at e) qs h = h
+  before_after vs (Print at e) qs h = h
+  before_after vs (Throw at e) qs h = h
+  before_after vs (If at c a b) qs h = h
+  before_after vs (While at c a) qs h = h
+  before_after vs (For at name e a) qs h = h
+  before_after vs (Try at a name b) qs h = h
+  before_after vs (Batch at interface root a) qs h = h
+
+  mutual
+    used_constant : (vs : Scope) (s : Stmt) → AllConstant vs (used f vs s)
+    used_constant vs (Val at name e) = cond_is (AllConstant vs) (portable f vs e) (constants vs e) (kept_constants f vs (Val at name e)) (constants_constant vs e) (kept_constant vs (Val at name e))
+    used_constant vs (If at c a b) =
+        cond_is (AllConstant vs) (branches_hold f a b) (constants vs c ++ used_in f vs a ++ used_in f vs b) (kept_constants f vs (If at c a b))
+        (all_both (IsConstantIn vs) (constants vs c ++ used_in f vs a) (used_in f vs b) (all_both (IsConstantIn vs) (constants vs c) (used_in f vs a) (constants_constant vs c) (block_constant vs a)) (block_constant vs b))
+        (kept_constant vs (If at c a b))
+    used_constant vs (For at name e a) =
+        let inner = with_variable vs name Role.Row at in
+        cond_is (AllConstant vs) (over_rows f e) (constants vs e ++ used_in f inner a) (kept_constants f vs (For at name e a))
+        (all_both (IsConstantIn vs) (constants vs e) (used_in f inner a) (constants_constant vs e) (all_less vs name Role.Row at (used_in f inner a) refl (block_constant inner a)))
+        (kept_constant vs (For at name e a))
+    used_constant vs s = kept_constant vs s
+
+    pub block_constant : (vs : Scope) (ss : Stmts) → AllConstant vs (used_in f vs ss)
+    block_constant vs NoStmts = tt
+    block_constant vs (MoreStmts s ss) =
+        all_both (IsConstantIn vs) (used f vs s) (used_in f (scope_after f [] vs s) ss) (used_constant vs s)
+        (before_after vs s (used_in f (scope_after f [] vs s) ss) (block_constant (scope_after f [] vs s) ss))
+
+pub uses_so : (P : List ℕ → Type 0) (before qs : List (List ℕ)) → AllByRecursion P qs → AllByRecursion P (first_uses before qs)
+uses_so P before [] h = tt
+uses_so P before (n ∷ qs) h = cond_is (AllByRecursion P) (is_new n before) (n ∷ first_uses (n ∷ before) qs) (first_uses before qs) (h.0, uses_so P (n ∷ before) qs h.1) (uses_so P before qs h.1)

@@ -1,0 +1,33 @@
+//! Laws of the unsplit meaning: what an admitted program gives and leaves fits its types, and it never faults Kind.
+//!
+//! There is no code here; the laws are functions that do nothing.
+#![tactic(auto)]
+
+ghost use Rattle.rb_law_unsplit.specs.Kept.{AdmittedMeanWell};
+ghost use Rattle.rb_law_unsplit.specs.Noted.{LawfulAreNoted};
+
+use rb_flow::admitted_programs_send_only_portable_parts;
+use rb_law_types::{
+    conditions_have_truths, lawful_code_is_formed, operators_keep_types, remote_calls_are_typed,
+    remote_calls_keep_tables, typed_code_keeps_types,
+};
+
+/// In a lawful program the type of each expression is the one that is noted at its position.
+pub fn lawful_programs_are_noted()
+    ensures { LawfulAreNoted }
+{}
+
+/// A lawful, typed program without refusals, on a typed service and with whatever fuel, ends by a value of `main`'s type
+/// or by a fault that isn't Kind, and leaves a table that fits the service.
+pub fn admitted_programs_never_fault_kind()
+    ensures { AdmittedMeanWell }
+{
+    typed_code_keeps_types();
+    operators_keep_types();
+    conditions_have_truths();
+    remote_calls_keep_tables();
+    remote_calls_are_typed();
+    lawful_code_is_formed();
+    admitted_programs_send_only_portable_parts();
+    lawful_programs_are_noted();
+}

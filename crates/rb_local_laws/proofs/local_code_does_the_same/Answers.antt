@@ -1,6 +1,0 @@
--- By induction on the code.
-use Rattle.rb_local_laws.proofs.Locally.{local_code_does_the_same}
-use Rattle.rb_local_laws.proofs.local_code_does_the_same.Goals as goal
-
-pub returns : goal.returns
-returns c = local_code_does_the_same

@@ -1,6 +1,0 @@
--- All code of batches.
-use Rattle.rb_types_keep.proofs.Bodies.{batches_keep}
-use Rattle.rb_types_keep.proofs.code.batch_code_keeps_types.Goals as goal
-
-pub returns : goal.returns
-returns c = batches_keep

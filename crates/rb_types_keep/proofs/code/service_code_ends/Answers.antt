@@ -1,6 +1,0 @@
--- All code of typed services, in their surroundings.
-use Rattle.rb_types_keep.proofs.Services.{services_end}
-use Rattle.rb_types_keep.proofs.code.service_code_ends.Goals as goal
-
-pub returns : goal.returns
-returns c = services_end

@@ -1,6 +1,0 @@
--- All code of typed services.
-use Rattle.rb_types_keep.proofs.Services.{services_keep}
-use Rattle.rb_types_keep.proofs.code.service_code_keeps_types.Goals as goal
-
-pub returns : goal.returns
-returns c = services_keep

@@ -1,6 +1,0 @@
--- All nodes of scripts.
-use Rattle.rb_types_keep.proofs.NodeFaults.{nodes_hold_the_fault}
-use Rattle.rb_types_keep.proofs.scripts.nodes_hold_the_fault.Goals as goal
-
-pub returns : goal.returns
-returns c = nodes_hold_the_fault

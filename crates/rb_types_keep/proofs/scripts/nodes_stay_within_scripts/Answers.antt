@@ -1,6 +1,0 @@
--- All nodes of scripts.
-use Rattle.rb_types_keep.proofs.NodeSizes.{nodes_stay_within}
-use Rattle.rb_types_keep.proofs.scripts.nodes_stay_within_scripts.Goals as goal
-
-pub returns : goal.returns
-returns c = nodes_stay_within
