@@ -14,7 +14,7 @@ use crate::plan::Plan;
 use crate::stops::RunStop;
 use rb_base::{Link, Sink};
 use rb_code::Code;
-use rb_engine::{Frame, Halt, State, Step, eval, exec};
+use rb_engine::{Frame, Halt, RunResult, State, eval, exec};
 use rb_heap::Heap;
 use rb_law_client::{
     clients_mean_what_programs_mean, fronts_are_shown, programs_come_as_far_as_clients,
@@ -33,7 +33,7 @@ fn main_value<L: Link, W: Sink>(
     frame: &Frame,
     world: &mut ClientWorld<'_, '_, '_, L, W>,
     value: &Option<Expr>,
-) -> Step<Option<Value>, RunStop>
+) -> RunResult<Option<Value>, RunStop>
     ensures { let meant = result_run code.now value.now in
         LeadsWithin L.Link W.Sink meant (local frame.now state.old) world.old result world.new }
 {
@@ -54,7 +54,7 @@ fn run_main<L: Link, W: Sink>(
     state: &mut State,
     world: &mut ClientWorld<'_, '_, '_, L, W>,
     body: &Body,
-) -> Step<Option<Value>, RunStop>
+) -> RunResult<Option<Value>, RunStop>
     ensures { Leads L.Link W.Sink (body_run code.now body.now (local [] state.old)) world.old result world.new }
 {
     let mut frame = Frame::make(alloc);

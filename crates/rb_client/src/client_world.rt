@@ -19,7 +19,7 @@ use crate::replies::trade;
 use crate::requests::request_of;
 use crate::stops::RunStop;
 use rb_base::{Link, Sink, write_whole};
-use rb_engine::{Frame, Halt, State, Step, World};
+use rb_engine::{Frame, Halt, RunResult, State, World};
 use rb_trees::{Node, Seq, Split, Value};
 use std::alloc::Global;
 
@@ -102,7 +102,7 @@ fn fetch<L: Link, W: Sink>(
 }
 
 // How a remainder ended, as a step.
-fn step_of(ended: Result<(), Early>) -> Step<(), RunStop>
+fn step_of(ended: Result<(), Early>) -> RunResult<(), RunStop>
     ensures { result ≡ stepped ended }
 {
     match ended {
@@ -131,7 +131,7 @@ fn perform<L: Link, W: Sink>(
     split: &Split,
     state: &mut State,
     frame: &mut Frame,
-) -> Step<(), RunStop>
+) -> RunResult<(), RunStop>
     requires sent { CanBeSent (mirror_split split.now).script }
     requires counted { (mirror_split split.now).script.inputs ≡ length split.now.inputs }
     ensures fuel { state.new.fuel ≤ state.old.fuel }
@@ -164,7 +164,7 @@ impl<'a, 'l, 'o, L: Link, W: Sink> World for ClientWorld<'a, 'l, 'o, L, W> {
 
     ghost performs = { client_performs L.Link W.Sink };
 
-    fn line(&mut self, _at: u32, bytes: &[u8]) -> Step<(), RunStop> {
+    fn line(&mut self, _at: u32, bytes: &[u8]) -> RunResult<(), RunStop> {
         let Ok(text) = whole_line(self.alloc, bytes) else {
             return Err(Halt::Memory);
         };
@@ -174,7 +174,7 @@ impl<'a, 'l, 'o, L: Link, W: Sink> World for ClientWorld<'a, 'l, 'o, L, W> {
         }
     }
 
-    fn batch(&mut self, at: u32, state: &mut State, frame: &mut Frame) -> Step<(), RunStop> {
+    fn batch(&mut self, at: u32, state: &mut State, frame: &mut Frame) -> RunResult<(), RunStop> {
         let alloc = self.alloc;
         let splits = self.plan.splits();
         match find(splits.as_slice(), at) {
@@ -183,7 +183,7 @@ impl<'a, 'l, 'o, L: Link, W: Sink> World for ClientWorld<'a, 'l, 'o, L, W> {
         }
     }
 
-    fn taken(&mut self, _step: u32) -> Step<Value, RunStop> {
+    fn taken(&mut self, _step: u32) -> RunResult<Value, RunStop> {
         Ok(Err(refuse(self.alloc, 0)))
     }
 
@@ -193,15 +193,15 @@ impl<'a, 'l, 'o, L: Link, W: Sink> World for ClientWorld<'a, 'l, 'o, L, W> {
         _target: Value,
         _method: &[u8],
         _args: Seq<Value>,
-    ) -> Step<Value, RunStop> {
+    ) -> RunResult<Value, RunStop> {
         Ok(Err(refuse(self.alloc, at)))
     }
 
-    fn turn(&mut self, at: u32) -> Step<(), RunStop> {
+    fn turn(&mut self, at: u32) -> RunResult<(), RunStop> {
         Ok(Err(refuse(self.alloc, at)))
     }
 
-    fn list_turn(&mut self, _at: u32) -> Step<(), RunStop> {
+    fn list_turn(&mut self, _at: u32) -> RunResult<(), RunStop> {
         Ok(Ok(()))
     }
 }

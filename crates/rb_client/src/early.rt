@@ -4,7 +4,7 @@ ghost use Rattle.std.specs.Prelude.{◌≡◌};
 ghost use Rattle.rb_client.specs.Ends.{flattened};
 
 use rb_base::Failed;
-use rb_engine::{Halt, Step};
+use rb_engine::{Halt, RunResult};
 use rb_trees::{Memory, Raised};
 
 /// How a remainder ends early: by a fault, because a write failed, or for want of memory.
@@ -27,7 +27,7 @@ impl From<Memory> for Early {
 }
 
 /// A step with its kinds of end as one.
-pub fn flat<T>(step: Step<T, Failed>) -> Result<T, Early>
+pub fn flat<T>(step: RunResult<T, Failed>) -> Result<T, Early>
     ensures { result ≡ flattened step }
 {
     match step {
@@ -39,7 +39,7 @@ pub fn flat<T>(step: Step<T, Failed>) -> Result<T, Early>
 }
 
 /// The kinds of end apart.
-pub fn step_of<T>(outcome: Result<T, Early>) -> Step<T, Failed>
+pub fn step_of<T>(outcome: Result<T, Early>) -> RunResult<T, Failed>
     ensures { flattened result ≡ outcome }
 {
     match outcome {

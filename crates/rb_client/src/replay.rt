@@ -14,7 +14,7 @@ use crate::replay_world::ReplayWorld;
 use rb_base::Sink;
 use rb_code::Code;
 use rb_engine::{Frame, State, eval, exec_slice};
-use rb_trees::{CallKind, Expr, Item, Node, Part, Seq, Stmt, Word, copy_word};
+use rb_trees::{Expr, Item, Node, Part, Seq, Stmt, Word, copy_word};
 use std::alloc::Global;
 use std::slice;
 
@@ -31,10 +31,7 @@ pub struct Loop<'a> {
 fn is_kept(kind: u8) -> bool
     ensures { result ≡ meaning.is_kept kind }
 {
-    match CallKind::numbered(kind) {
-        Some(CallKind::One(Item::Int | Item::Bool | Item::Text)) => true,
-        Some(_) | None => false,
-    }
+    kind >= Item::Int.number() && kind <= Item::Text.number()
 }
 
 // The parts of the branch that was taken.

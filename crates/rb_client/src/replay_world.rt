@@ -10,7 +10,7 @@ use crate::early::{Early, step_of};
 use crate::left::{Left, refuse};
 use crate::lines::whole_line;
 use rb_base::{Failed, Sink, write_whole};
-use rb_engine::{Frame, Halt, State, Step, World};
+use rb_engine::{Frame, Halt, RunResult, State, World};
 use rb_trees::{Node, Seq, Value, copy_value};
 use std::alloc::Global;
 
@@ -39,7 +39,7 @@ impl<'n, 'o, W: Sink> ReplayWorld<'n, 'o, W> {
     }
 
     /// Writes a line with its line feed.
-    pub fn print(&mut self, bytes: &[u8]) -> Step<(), Failed>
+    pub fn print(&mut self, bytes: &[u8]) -> RunResult<(), Failed>
         ensures { Answered (as_value result) (λ a. Prints W.Sink self.old bytes.now a self.new) }
     {
         let Ok(text) = whole_line(self.alloc, bytes) else {
@@ -73,15 +73,15 @@ impl<'n, 'o, W: Sink> World for ReplayWorld<'n, 'o, W> {
 
     ghost performs = { replay_performs W.Sink };
 
-    fn line(&mut self, _at: u32, bytes: &[u8]) -> Step<(), Failed> {
+    fn line(&mut self, _at: u32, bytes: &[u8]) -> RunResult<(), Failed> {
         self.print(bytes)
     }
 
-    fn batch(&mut self, at: u32, _state: &mut State, _frame: &mut Frame) -> Step<(), Failed> {
+    fn batch(&mut self, at: u32, _state: &mut State, _frame: &mut Frame) -> RunResult<(), Failed> {
         Ok(Err(refuse(self.alloc, at)))
     }
 
-    fn taken(&mut self, step: u32) -> Step<Value, Failed> {
+    fn taken(&mut self, step: u32) -> RunResult<Value, Failed> {
         step_of(self.take(step))
     }
 
@@ -91,15 +91,15 @@ impl<'n, 'o, W: Sink> World for ReplayWorld<'n, 'o, W> {
         _target: Value,
         _method: &[u8],
         _args: Seq<Value>,
-    ) -> Step<Value, Failed> {
+    ) -> RunResult<Value, Failed> {
         Ok(Err(refuse(self.alloc, at)))
     }
 
-    fn turn(&mut self, at: u32) -> Step<(), Failed> {
+    fn turn(&mut self, at: u32) -> RunResult<(), Failed> {
         Ok(Err(refuse(self.alloc, at)))
     }
 
-    fn list_turn(&mut self, _at: u32) -> Step<(), Failed> {
+    fn list_turn(&mut self, _at: u32) -> RunResult<(), Failed> {
         Ok(Ok(()))
     }
 }

@@ -17,7 +17,7 @@ use Rattle.rb_meaning_code.specs.Statements.{Effect, block, nothing, either, aft
 use Rattle.rb_meaning_code.specs.Bodies.{body_within}
 use Rattle.rb_engine.specs.Code.{body_run, stmts_run, try_run}
 use Rattle.rb_engine.specs.Ends.{fault_of, lifted}
-use Rattle.rb_engine.specs.declared.ends.Refusal.{Refusal}
+use Rattle.rb_engine.specs.declared.ends.Failure.{Failure}
 use Rattle.rb_engine.specs.declared.ends.End.{End}
 use Rattle.rb_engine.specs.declared.ends.End.TheVariants as ends
 use Rattle.rb_engine.specs.Meets.{Scene, Led, Meets}
@@ -72,14 +72,14 @@ try_handled {R = R} {s1 = s1} {f = f} classes tried name handler m was caught n 
 
 -- a turn of a `while`, within one gas
 
-pub while_false : {W X : Type 0} {R : Surroundings W X} {s s1 : Scene W} {t : Result Value (End X)} {t1 : Result Bool (End X)} {v : Value} (turns at : ℕ) (condition : Local → Run Value) (body : Effect) (r1 : Result Bool Refusal)
+pub while_false : {W X : Type 0} {R : Surroundings W X} {s s1 : Scene W} {t : Result Value (End X)} {t1 : Result Bool (End X)} {v : Value} (turns at : ℕ) (condition : Local → Run Value) (body : Effect) (r1 : Result Bool Failure)
     → Meets R (λ any. condition s.local) s t s1 → t ≡ Ok v → Gives (λ b. b) fault_of r1 (truth_of (out-Value v)) → t1 ≡ lifted at r1 → t1 ≡ Ok false
     → Meets R (λ any. while_turns (suc turns) at condition body s.local) s (Ok tt) s1
 while_false {s1 = s1} {v = v} turns at condition body r1 m was g is holds =
     gave (λ any x l1. next (end l1 (raises at (truth_of (out-Value x)))) (λ b l2. either b (after_unit at (λ l3. next (body l3) (λ u l4. while_turns turns at condition body l4))) nothing l2)) m was
     (helped (λ b. b) at r1 (truth_of (out-Value v)) s1.local (λ any b l2. either b (after_unit at (λ l3. next (body l3) (λ u l4. while_turns turns at condition body l4))) nothing l2) g is holds (ended tt))
 
-pub while_true : {W X : Type 0} {R : Surroundings W X} {s s1 s2 : Scene W} {t : Result Value (End X)} {t1 : Result Bool (End X)} {v : Value} {r : Result (Unit {0}) (End X)} (turns at : ℕ) (condition : Local → Run Value) (body : Effect) (r1 : Result Bool Refusal)
+pub while_true : {W X : Type 0} {R : Surroundings W X} {s s1 s2 : Scene W} {t : Result Value (End X)} {t1 : Result Bool (End X)} {v : Value} {r : Result (Unit {0}) (End X)} (turns at : ℕ) (condition : Local → Run Value) (body : Effect) (r1 : Result Bool Failure)
     → Meets R (λ any. condition s.local) s t s1 → t ≡ Ok v → Gives (λ b. b) fault_of r1 (truth_of (out-Value v)) → t1 ≡ lifted at r1 → t1 ≡ Ok true
     → Meets R (λ any. after_unit at (λ l3. next (body l3) (λ u l4. while_turns turns at condition body l4)) s1.local) s1 r s2
     → Meets R (λ any. while_turns (suc turns) at condition body s.local) s r s2
@@ -87,7 +87,7 @@ while_true {s1 = s1} {v = v} turns at condition body r1 m was g is holds n =
     gave (λ any x l1. next (end l1 (raises at (truth_of (out-Value x)))) (λ b l2. either b (after_unit at (λ l3. next (body l3) (λ u l4. while_turns turns at condition body l4))) nothing l2)) m was
     (helped (λ b. b) at r1 (truth_of (out-Value v)) s1.local (λ any b l2. either b (after_unit at (λ l3. next (body l3) (λ u l4. while_turns turns at condition body l4))) nothing l2) g is holds n)
 
-pub while_unclear : {W X : Type 0} {R : Surroundings W X} {s s1 : Scene W} {t : Result Value (End X)} {t1 : Result Bool (End X)} {v : Value} {h : End X} (turns at : ℕ) (condition : Local → Run Value) (body : Effect) (r1 : Result Bool Refusal)
+pub while_unclear : {W X : Type 0} {R : Surroundings W X} {s s1 : Scene W} {t : Result Value (End X)} {t1 : Result Bool (End X)} {v : Value} {h : End X} (turns at : ℕ) (condition : Local → Run Value) (body : Effect) (r1 : Result Bool Failure)
     → Meets R (λ any. condition s.local) s t s1 → t ≡ Ok v → Gives (λ b. b) fault_of r1 (truth_of (out-Value v)) → t1 ≡ lifted at r1 → t1 ≡ Err h
     → Meets R (λ any. while_turns (suc turns) at condition body s.local) s (Err h) s1
 while_unclear {s1 = s1} {v = v} turns at condition body r1 m was g is fails =
@@ -100,7 +100,7 @@ while_fails turns at condition body m was =
     cut (λ any x l1. next (end l1 (raises at (truth_of (out-Value x)))) (λ b l2. either b (after_unit at (λ l3. next (body l3) (λ u l4. while_turns turns at condition body l4))) nothing l2)) m was refl
 
 -- a unit of fuel is taken, and the block runs
-pub unit_taken : {W X : Type 0} {R : Surroundings W X} {s s1 s2 : Scene W} {t : Result (Unit {0}) (End X)} {t1 : Result (Unit {0}) (End X)} {u u1 : Unit {0}} {r : Result (Unit {0}) (End X)} (at : ℕ) (body : Effect) (k : Effect) (r1 : Result (Unit {0}) Refusal)
+pub unit_taken : {W X : Type 0} {R : Surroundings W X} {s s1 s2 : Scene W} {t : Result (Unit {0}) (End X)} {t1 : Result (Unit {0}) (End X)} {u u1 : Unit {0}} {r : Result (Unit {0}) (End X)} (at : ℕ) (body : Effect) (k : Effect) (r1 : Result (Unit {0}) Failure)
     → Gives (λ x. x) fault_of r1 (unit_due s.local.fuel) → t ≡ lifted at r1 → t ≡ Ok u
     → Meets R (λ any. body (spent s.local)) (record { local = spent s.local; world = s.world }) t1 s1 → t1 ≡ Ok u1
     → Meets R (λ any. k s1.local) s1 r s2
@@ -109,7 +109,7 @@ unit_taken {s = s} at body k r1 g is was m was1 n =
     helped (λ x. x) at r1 (unit_due s.local.fuel) s.local (λ any x l1. next (body (spent l1)) (λ y l4. k l4)) g is was
     (gave (λ any y l4. k l4) (rebase (spent s.local) (omega arith) refl m) was1 n)
 
-pub unit_wasted : {W X : Type 0} {R : Surroundings W X} {s s1 : Scene W} {t : Result (Unit {0}) (End X)} {t1 : Result (Unit {0}) (End X)} {u : Unit {0}} {h : End X} (at : ℕ) (body : Effect) (k : Effect) (r1 : Result (Unit {0}) Refusal)
+pub unit_wasted : {W X : Type 0} {R : Surroundings W X} {s s1 : Scene W} {t : Result (Unit {0}) (End X)} {t1 : Result (Unit {0}) (End X)} {u : Unit {0}} {h : End X} (at : ℕ) (body : Effect) (k : Effect) (r1 : Result (Unit {0}) Failure)
     → Gives (λ x. x) fault_of r1 (unit_due s.local.fuel) → t ≡ lifted at r1 → t ≡ Ok u
     → Meets R (λ any. body (spent s.local)) (record { local = spent s.local; world = s.world }) t1 s1 → t1 ≡ Err h
     → Meets R (λ any. after_unit at (λ l3. next (body l3) (λ x l4. k l4)) s.local) s (Err h) s1
@@ -117,7 +117,7 @@ unit_wasted {s = s} at body k r1 g is was m was1 =
     helped (λ x. x) at r1 (unit_due s.local.fuel) s.local (λ any x l1. next (body (spent l1)) (λ y l4. k l4)) g is was
     (cut (λ any y l4. k l4) (rebase (spent s.local) (omega arith) refl m) was1 refl)
 
-pub unit_missing : {W X : Type 0} {R : Surroundings W X} {s : Scene W} {t : Result (Unit {0}) (End X)} {h : End X} (at : ℕ) (body : Effect) (k : Effect) (r1 : Result (Unit {0}) Refusal)
+pub unit_missing : {W X : Type 0} {R : Surroundings W X} {s : Scene W} {t : Result (Unit {0}) (End X)} {h : End X} (at : ℕ) (body : Effect) (k : Effect) (r1 : Result (Unit {0}) Failure)
     → Gives (λ x. x) fault_of r1 (unit_due s.local.fuel) → t ≡ lifted at r1 → t ≡ Err h → Meets R (λ any. after_unit at (λ l3. next (body l3) (λ x l4. k l4)) s.local) s (Err h) s
 unit_missing {s = s} at body k r1 g is was = unhelped (λ x. x) at r1 (unit_due s.local.fuel) (λ any x l1. next (body (spent l1)) (λ y l4. k l4)) g is was refl
 

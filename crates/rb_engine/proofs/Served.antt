@@ -19,8 +19,8 @@ use Rattle.rb_engine.specs.Locals.{local}
 use Rattle.rb_engine.specs.Meets.{Led}
 use Rattle.rb_engine.specs.Remote.{Answers, RepliesAt, server}
 use Rattle.rb_engine.specs.Service.{service_answers, service_performs}
-use Rattle.rb_engine.specs.declared.ends.Refusal.{Refusal}
-use Rattle.rb_engine.specs.declared.ends.Refusal.TheVariants as refusal
+use Rattle.rb_engine.specs.declared.ends.Failure.{Failure}
+use Rattle.rb_engine.specs.declared.ends.Failure.TheVariants as failure
 use Rattle.rb_engine.specs.declared.service.ServiceWorld.{ServiceWorld}
 use Rattle.rb_engine.specs.declared.state.State.{State}
 use Rattle.rb_engine.specs.declared.world.Halt.{Halt}
@@ -55,15 +55,15 @@ outcome_so classes at object name args st w w1 o e h =
     ap (λ l. (handle in_service (call_run classes at (value.Ref object) name args st.fuel l) tt).0) (sym (begins st e)) ∙ ends_so _ w w1 o h
 
 -- a rule's answer at the client
-pub answered_so : (at : ℕ) (r : Result Value Refusal) (d : Result Value Fault) (answer : Result (Result Value Raised) Memory) (s : Server)
+pub answered_so : (at : ℕ) (r : Result Value Failure) (d : Result Value Fault) (answer : Result (Result Value Raised) Memory) (s : Server)
     → Gives (λ v. v) fault_of r d → Answers at r answer → RepliesAt at (replies at d s) answer s
 answered_so at (Ok v) d answer s g a = subst (λ x. RepliesAt at (replies at d s) x s) (sym a) (ap (λ x. replies at x s) g)
-answered_so at (Err (refusal.Fault f)) d answer s g a = subst (λ x. RepliesAt at (replies at d s) x s) (sym a) (ap (λ x. replies at x s) g, refl)
-answered_so at (Err refusal.Memory) d (Ok given) s g a = absurd (cc a)
-answered_so at (Err refusal.Memory) d (Err want) s g a = tt
+answered_so at (Err (failure.Fault f)) d answer s g a = subst (λ x. RepliesAt at (replies at d s) x s) (sym a) (ap (λ x. replies at x s) g, refl)
+answered_so at (Err failure.Memory) d (Ok given) s g a = absurd (cc a)
+answered_so at (Err failure.Memory) d (Err want) s g a = tt
 
 pub value_served : (classes : List class.Class) (at kind object : ℕ) (name : List ℕ) (args : List Value) (st st1 : State) (w w1 : ServiceWorld)
-    (r : Result (Result Value Raised) (Halt Memory)) (v : Value) (rule : Result Value Refusal) (answer : Result (Result Value Raised) Memory)
+    (r : Result (Result Value Raised) (Halt Memory)) (v : Value) (rule : Result Value Failure) (answer : Result (Result Value Raised) Memory)
     → st.depth ≡ 0 → r ≡ Ok (Ok v) → Led in_world (call_run classes at (value.Ref object) name args st.fuel (local [] st)) w (local [] st1) (flattened r) w1
     → Gives (λ x. x) fault_of rule (known wrong_kind (seen_as kind (out-Value v))) → Answers at rule answer
     → RepliesAt at (returned at kind (meant classes at object name args st)) answer (server st1)

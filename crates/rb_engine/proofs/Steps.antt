@@ -11,8 +11,8 @@ use Rattle.rb_meaning_code.specs.Dialogue.{Question, Gave, Faulted, Done, Ask, A
 use Rattle.rb_meaning_code.specs.Statements.{closes}
 use Rattle.rb_engine.specs.Answers.{Answered, as_value, performed}
 use Rattle.rb_engine.specs.Ends.{fault_of, lifted, flattened}
-use Rattle.rb_engine.specs.declared.ends.Refusal.{Refusal}
-use Rattle.rb_engine.specs.declared.ends.Refusal.TheVariants as refusal
+use Rattle.rb_engine.specs.declared.ends.Failure.{Failure}
+use Rattle.rb_engine.specs.declared.ends.Failure.TheVariants as failure
 use Rattle.rb_engine.specs.declared.ends.End.{End}
 use Rattle.rb_engine.specs.declared.ends.End.TheVariants.{NoMemory}
 use Rattle.rb_engine.specs.declared.ends.End.TheVariants as ends
@@ -23,13 +23,13 @@ use Rattle.rb_engine.proofs.Runs.{ended, stands, no_memory, by_result, through_l
 
 -- A rule of the code, r, stands for a definition, d; t is what it gives at a position.
 
-pub ok_means : {T X Y : Type 0} (view : T → Y) (at : ℕ) (r : Result T Refusal) (t : Result T (End X)) (d : Result Y Fault) (a : T) → Gives view fault_of r d → t ≡ lifted at r → t ≡ Ok a → d ≡ Ok (view a)
+pub ok_means : {T X Y : Type 0} (view : T → Y) (at : ℕ) (r : Result T Failure) (t : Result T (End X)) (d : Result Y Fault) (a : T) → Gives view fault_of r d → t ≡ lifted at r → t ≡ Ok a → d ≡ Ok (view a)
 ok_means view at (Ok x) t d a g l was = let same : x ≡ a = cc (l, was) in g ∙ ap (λ y. Ok (view y)) same
-ok_means view at (Err (refusal.Fault f)) t d a g l was = absurd (cc (l, was))
-ok_means view at (Err refusal.Memory) t d a g l was = absurd (cc (l, was))
+ok_means view at (Err (failure.Fault f)) t d a g l was = absurd (cc (l, was))
+ok_means view at (Err failure.Memory) t d a g l was = absurd (cc (l, was))
 
 -- the rule gave a value, and the run goes on
-pub helped : {W X T Y B : Type 0} {R : Surroundings W X} {s s2 : Scene W} {t : Result T (End X)} {a : T} {res : Result B (End X)} (view : T → Y) (at : ℕ) (r : Result T Refusal) (d : Result Y Fault) (l : Local) (k : ℕ → Y → Local → Run B)
+pub helped : {W X T Y B : Type 0} {R : Surroundings W X} {s s2 : Scene W} {t : Result T (End X)} {a : T} {res : Result B (End X)} (view : T → Y) (at : ℕ) (r : Result T Failure) (d : Result Y Fault) (l : Local) (k : ℕ → Y → Local → Run B)
     → Gives view fault_of r d → t ≡ lifted at r → t ≡ Ok a → Meets R (λ gas. k gas (view a) l) s res s2 → Meets R (λ gas. next (end l (raises at d)) (k gas)) s res s2
 helped {R = R} {s = s} {s2 = s2} {t = t} {a = a} {res = res} view at r d l k g is was n =
     subst (λ e. Meets R (λ gas. next (end l (raises at e)) (k gas)) s res s2) (sym (ok_means view at r t d a g is was)) n
@@ -39,51 +39,51 @@ faulted_here : {W X A B : Type 0} (R : Surroundings W X) (at : ℕ) (f : Fault) 
     → Meets {X = X} R (λ gas. next (end l (raises {A = A} at (Err f))) (k gas)) s (Err (ends.Raised (raised f at))) (record { local = l; world = s.world })
 faulted_here R at f l s k fuel depth = record { fuel = fuel; depth = depth; led = λ gas le. (refl, refl) }
 
-err_means : {W X T Y B : Type 0} (R : Surroundings W X) (view : T → Y) (at : ℕ) (r : Result T Refusal) (t : Result T (End X)) (d : Result Y Fault) (h : End X) (l : Local) (s : Scene W) (k : ℕ → Y → Local → Run B)
+err_means : {W X T Y B : Type 0} (R : Surroundings W X) (view : T → Y) (at : ℕ) (r : Result T Failure) (t : Result T (End X)) (d : Result Y Fault) (h : End X) (l : Local) (s : Scene W) (k : ℕ → Y → Local → Run B)
     → Gives view fault_of r d → t ≡ lifted at r → t ≡ Err h → l.fuel ≤ s.local.fuel → l.depth ≡ s.local.depth
     → Meets R (λ gas. next (end l (raises at d)) (k gas)) s (Err h) (record { local = l; world = s.world })
 err_means R view at (Ok x) t d h l s k g is was fuel depth = absurd (cc (is, was))
-err_means R view at (Err (refusal.Fault f)) t d h l s k g is was fuel depth =
+err_means R view at (Err (failure.Fault f)) t d h l s k g is was fuel depth =
     let same : ends.Raised (raised f at) ≡ h = cc (is, was) in
     subst (λ e. Meets R (λ gas. next (end l (raises at e)) (k gas)) s (Err h) (record { local = l; world = s.world })) (sym g)
     (subst (λ e. Meets R (λ gas. next (end l (raises at (Err f))) (k gas)) s (Err e) (record { local = l; world = s.world })) same (faulted_here R at f l s k fuel depth))
-err_means R view at (Err refusal.Memory) t d h l s k g is was fuel depth =
+err_means R view at (Err failure.Memory) t d h l s k g is was fuel depth =
     let same : NoMemory ≡ h = cc (is, was) in
     subst (λ e. Meets R (λ gas. next (end l (raises at d)) (k gas)) s (Err e) (record { local = l; world = s.world })) same (no_memory _ fuel depth)
 
 -- the rule gave none, and the run is over
-pub unhelped : {W X T Y B : Type 0} {R : Surroundings W X} {s : Scene W} {t : Result T (End X)} {h : End X} {res : Result B (End X)} (view : T → Y) (at : ℕ) (r : Result T Refusal) (d : Result Y Fault) (k : ℕ → Y → Local → Run B)
+pub unhelped : {W X T Y B : Type 0} {R : Surroundings W X} {s : Scene W} {t : Result T (End X)} {h : End X} {res : Result B (End X)} (view : T → Y) (at : ℕ) (r : Result T Failure) (d : Result Y Fault) (k : ℕ → Y → Local → Run B)
     → Gives view fault_of r d → t ≡ lifted at r → t ≡ Err h → res ≡ Err h → Meets R (λ gas. next (end s.local (raises at d)) (k gas)) s res s
 unhelped {R = R} {s = s} {t = t} {h = h} view at r d k g is was e =
     by_result e (err_means R view at r t d h s.local s k g is was (omega arith) refl)
 
 -- the same where the local state changed meanwhile
-pub unhelped_at : {W X T Y B : Type 0} {R : Surroundings W X} {s : Scene W} {t : Result T (End X)} {h : End X} {res : Result B (End X)} (view : T → Y) (at : ℕ) (r : Result T Refusal) (d : Result Y Fault) (l : Local) (k : ℕ → Y → Local → Run B)
+pub unhelped_at : {W X T Y B : Type 0} {R : Surroundings W X} {s : Scene W} {t : Result T (End X)} {h : End X} {res : Result B (End X)} (view : T → Y) (at : ℕ) (r : Result T Failure) (d : Result Y Fault) (l : Local) (k : ℕ → Y → Local → Run B)
     → Gives view fault_of r d → t ≡ lifted at r → t ≡ Err h → res ≡ Err h → l.fuel ≤ s.local.fuel → l.depth ≡ s.local.depth
     → Meets R (λ gas. next (end l (raises at d)) (k gas)) s res (record { local = l; world = s.world })
 unhelped_at {R = R} {s = s} {t = t} {h = h} view at r d l k g is was e fuel depth =
     by_result e (err_means R view at r t d h l s k g is was fuel depth)
 
 -- a run that ends by a rule
-pub helped_end : {W X A : Type 0} {R : Surroundings W X} {s : Scene W} {t : Result A (End X)} (at : ℕ) (r : Result A Refusal) (d : Result A Fault)
+pub helped_end : {W X A : Type 0} {R : Surroundings W X} {s : Scene W} {t : Result A (End X)} (at : ℕ) (r : Result A Failure) (d : Result A Fault)
     → Gives (λ a. a) fault_of r d → t ≡ lifted at r → Meets R (λ gas. end s.local (raises at d)) s t s
 helped_end {R = R} {s = s} at (Ok a) d g is = by_result is (subst (λ e. Meets R (λ gas. end s.local (raises at e)) s (Ok a) s) (sym g) (ended a))
-helped_end {R = R} {s = s} at (Err (refusal.Fault f)) d g is =
+helped_end {R = R} {s = s} at (Err (failure.Fault f)) d g is =
     by_result is (subst (λ e. Meets R (λ gas. end s.local (raises at e)) s (Err (ends.Raised (raised f at))) s) (sym g) (stands (raised f at)))
-helped_end {s = s} at (Err refusal.Memory) d g is = by_result is (no_memory _ (omega arith) refl)
+helped_end {s = s} at (Err failure.Memory) d g is = by_result is (no_memory _ (omega arith) refl)
 
 -- the same where the rule puts something new into the local state, and leaves what was there where it gives nothing
-pub changed : {W X A Y F : Type 0} {R : Surroundings W X} {s : Scene W} {t : Result A (End X)} (view : A → Y) (at : ℕ) (r : Result A Refusal) (d : Result Y Fault) (put : F → Local) (old new : F) (k : Y → Local → Run A)
+pub changed : {W X A Y F : Type 0} {R : Surroundings W X} {s : Scene W} {t : Result A (End X)} (view : A → Y) (at : ℕ) (r : Result A Failure) (d : Result Y Fault) (put : F → Local) (old new : F) (k : Y → Local → Run A)
     → put old ≡ s.local → (put new).fuel ≡ s.local.fuel → (put new).depth ≡ s.local.depth → ((a : A) → k (view a) s.local ≡ Done (Gave a (put new)))
     → Gives view fault_of r d → OnErr r (new ≡ old) → t ≡ lifted at r
     → Meets R (λ gas. next (end s.local (raises at d)) k) s t (record { local = put new; world = s.world })
 changed {R = R} {s = s} view at (Ok a) d put old new k same fuel depth ok g kept is =
     by_result is (subst (λ e. Meets R (λ gas. next (end s.local (raises at e)) k) s (Ok a) (record { local = put new; world = s.world })) (sym g)
     (record { fuel = omega arith; depth = depth; led = λ gas le. subst (λ e. Follows R e s.world (Ok (Gave a (put new))) s.world) (sym (ok a)) (refl, refl) }))
-changed {R = R} {s = s} view at (Err (refusal.Fault f)) d put old new k same fuel depth ok g kept is =
+changed {R = R} {s = s} view at (Err (failure.Fault f)) d put old new k same fuel depth ok g kept is =
     by_result is (subst (λ e. Meets R (λ gas. next (end s.local (raises at e)) k) s (Err (ends.Raised (raised f at))) (record { local = put new; world = s.world })) (sym g)
     (record { fuel = omega arith; depth = depth; led = λ gas le. (ap (λ l. Ok (Faulted (raised f at) l)) (ap put kept ∙ same), refl) }))
-changed {R = R} {s = s} view at (Err refusal.Memory) d put old new k same fuel depth ok g kept is = by_result is (no_memory _ (omega arith) depth)
+changed {R = R} {s = s} view at (Err failure.Memory) d put old new k same fuel depth ok g kept is = by_result is (no_memory _ (omega arith) depth)
 
 -- a run that gives what a helper gives, unless memory runs out
 pub given : {W X A : Type 0} {R : Surroundings W X} {s s1 : Scene W} {f : ℕ → Run A} {r : Result A (End X)} (a : A) (l : Local)

@@ -4,35 +4,35 @@ use Rattle.rb_trees.specs.Outcome.{Gives}
 use Rattle.rb_trees.specs.declared.values.Fault.{Fault}
 use Rattle.rb_trees.specs.declared.outcomes.Raised.{Raised}
 use Rattle.rb_meaning_code.specs.Faults.{raised}
-use Rattle.rb_engine.specs.declared.ends.Refusal.{Refusal}
-use Rattle.rb_engine.specs.declared.ends.Refusal.TheVariants as refusal
+use Rattle.rb_engine.specs.declared.ends.Failure.{Failure}
+use Rattle.rb_engine.specs.declared.ends.Failure.TheVariants as failure
 use Rattle.rb_engine.specs.declared.ends.End.{End}
 use Rattle.rb_engine.specs.declared.ends.End.TheVariants as end
 use Rattle.rb_engine.specs.declared.world.Halt.{Halt}
 use Rattle.rb_engine.specs.declared.world.Halt.TheVariants.{Memory, World}
 
 -- the fault that a rule says, which want of memory isn't
-abbrev pub fault_of : Refusal → Option Fault
-fault_of (refusal.Fault fault) = Some fault
-fault_of refusal.Memory = None
+abbrev pub fault_of : Failure → Option Fault
+fault_of (failure.Fault fault) = Some fault
+fault_of failure.Memory = None
 
 -- Memory is wanting only where this holds.
-abbrev pub WantsOnlyWhere : {T : Type 0} → Type 0 → Result T Refusal → Type 0
-WantsOnlyWhere Holds result = result ≡ Err refusal.Memory → Holds
+abbrev pub WantsOnlyWhere : {T : Type 0} → Type 0 → Result T Failure → Type 0
+WantsOnlyWhere Holds result = result ≡ Err failure.Memory → Holds
 
 -- Memory is never wanting.
-abbrev pub NeverWants : {T : Type 0} → Result T Refusal → Type 0
+abbrev pub NeverWants : {T : Type 0} → Result T Failure → Type 0
 NeverWants result = WantsOnlyWhere ⊥ result
 
 -- what a rule at a position gives to code
-abbrev pub lifted : {T X : Type 0} → ℕ → Result T Refusal → Result T (End X)
+abbrev pub lifted : {T X : Type 0} → ℕ → Result T Failure → Result T (End X)
 lifted at (Ok value) = Ok value
-lifted at (Err (refusal.Fault fault)) = Err (end.Raised (raised fault at))
-lifted at (Err refusal.Memory) = Err end.NoMemory
+lifted at (Err (failure.Fault fault)) = Err (end.Raised (raised fault at))
+lifted at (Err failure.Memory) = Err end.NoMemory
 
 -- what a rule gives to code at a position, unless memory runs out
 pub record GivesAt {T Y X : Type 0} (view : T → Y) (at : ℕ) (result : Result T (End X)) (rule : Result Y Fault) : Type 0 where
-  pub outcome : Result T Refusal
+  pub outcome : Result T Failure
   pub gives : Gives view fault_of outcome rule
   pub lifts : result ≡ lifted at outcome
 

@@ -1,16 +1,16 @@
 -- How expressions end early whose faults stand at positions, as the code says it.
 use Rattle.std.specs.Prelude.{◌≡◌, ℕ, Result, Ok, Err}
 use Rattle.rb_meaning_code.specs.Remote.{Server, Reply, Got, Stopped}
-use Rattle.rb_engine.specs.declared.ends.Refusal.{Refusal}
-use Rattle.rb_engine.specs.declared.ends.Refusal.TheVariants as refusal
+use Rattle.rb_engine.specs.declared.ends.Failure.{Failure}
+use Rattle.rb_engine.specs.declared.ends.Failure.TheVariants as failure
 use Rattle.rb_engine.specs.declared.misses.Miss.{Miss}
 use Rattle.rb_engine.specs.declared.misses.Miss.TheVariants as miss
 
 -- what a rule gives at a position
-abbrev pub at_place : {T : Type 0} → ℕ → Result T Refusal → Result T Miss
+abbrev pub at_place : {T : Type 0} → ℕ → Result T Failure → Result T Miss
 at_place at (Ok a) = Ok a
-at_place at (Err (refusal.Fault f)) = Err (miss.Fault at f)
-at_place at (Err refusal.Memory) = Err miss.Memory
+at_place at (Err (failure.Fault f)) = Err (miss.Fault at f)
+at_place at (Err failure.Memory) = Err miss.Memory
 
 -- The result is this reply, with the server after it, unless memory ran out.
 abbrev pub Means : {A : Type 0} → Reply A → Result A Miss → Server → Type 0

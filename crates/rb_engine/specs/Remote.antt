@@ -13,8 +13,8 @@ use Rattle.rb_meaning_code.specs.Faults.{raised_remotely, no_method, bad_argumen
 use Rattle.rb_meaning_code.specs.Calls.{method_of}
 use Rattle.rb_meaning_code.specs.Remote as rules
 use Rattle.rb_meaning_code.specs.Remote.{Server, Reply, Got, Stopped}
-use Rattle.rb_engine.specs.declared.ends.Refusal.{Refusal}
-use Rattle.rb_engine.specs.declared.ends.Refusal.TheVariants as refusal
+use Rattle.rb_engine.specs.declared.ends.Failure.{Failure}
+use Rattle.rb_engine.specs.declared.ends.Failure.TheVariants as failure
 use Rattle.rb_engine.specs.declared.state.State.{State}
 
 -- the server of a state
@@ -28,10 +28,10 @@ RepliesAt at meant (Ok (Err r)) s = (meant ≡ Stopped at r.fault s) × (r ≡ r
 RepliesAt at meant (Err want) s = Unit {0}
 
 -- what a rule gives, as the answer of a remote call
-abbrev pub Answers : ℕ → Result Value Refusal → Result (Result Value Raised) Memory → Type 0
+abbrev pub Answers : ℕ → Result Value Failure → Result (Result Value Raised) Memory → Type 0
 Answers at (Ok v) answer = answer ≡ Ok (Ok v)
-Answers at (Err (refusal.Fault f)) answer = answer ≡ Ok (Err (raised_remotely f at))
-Answers at (Err refusal.Memory) answer = IsErr answer
+Answers at (Err (failure.Fault f)) answer = answer ≡ Ok (Err (raised_remotely f at))
+Answers at (Err failure.Memory) answer = IsErr answer
 
 -- the method of an object
 abbrev pub method_found : List class.Class → List Object → ℕ → List ℕ → Result Method Fault

@@ -6,8 +6,8 @@ use Rattle.rb_trees.specs.declared.values.Fault.{Fault}
 use Rattle.rb_trees.specs.mirror.Code as code
 use Rattle.rb_trees.specs.mirror.Code.{Expr, mirror_expr}
 use Rattle.rb_meaning_code.specs.Faults.{kind}
-use Rattle.rb_engine.specs.declared.targets.Target.{Target}
-use Rattle.rb_engine.specs.declared.targets.Target.TheVariants as target
+use Rattle.rb_engine.specs.declared.targets.LeftSide.{LeftSide}
+use Rattle.rb_engine.specs.declared.targets.LeftSide.TheVariants as target
 use Rattle.rb_engine.specs.declared.targets.Turns.{Turns}
 use Rattle.rb_engine.specs.declared.targets.Turns.TheVariants as turns
 
@@ -21,7 +21,7 @@ target_form (code.Name at name) = NamePlace name
 target_form (code.Field at object name) = FieldPlace object name
 target_form _ = NoPlace
 
-abbrev pub mirror_target : Target → Place
+abbrev pub mirror_target : LeftSide → Place
 mirror_target (target.Name name) = NamePlace name.now
 mirror_target (target.Field object name) = FieldPlace (mirror_expr object.now) name.now
 mirror_target target.Other = NoPlace

@@ -10,7 +10,7 @@ ghost use Rattle.rb_meaning_code.specs.Statements as rules;
 ghost use Rattle.rb_engine.specs.Ends.{fault_of, UnlessMemory, NeverWants};
 ghost use Rattle.rb_engine.specs.Shown.{remote_form, shown_or_kind, name_of_code};
 
-use crate::ends::{End, Refusal};
+use crate::ends::{End, Failure};
 use crate::faults::kind;
 use crate::frame::Frame;
 use crate::names::bind;
@@ -18,7 +18,7 @@ use crate::operators::{bool_text, number_text, text_value};
 use rb_trees::{Fault, Memory, Raised, Seq, Value, Word, copy_word, fault_codes};
 use std::alloc::Global;
 
-fn truth_in(alloc: Global, value: &Value) -> Result<bool, Refusal>
+fn truth_in(alloc: Global, value: &Value) -> Result<bool, Failure>
     ensures gives { Gives (λ holds. holds) fault_of result (rules.truth_of (out-Value value.now)) }
     ensures memory { NeverWants result }
 {
@@ -30,7 +30,7 @@ fn truth_in(alloc: Global, value: &Value) -> Result<bool, Refusal>
 
 /// The truth of a condition: `truth_of`.
 #[inline(never)]
-pub fn truth_of(alloc: Global, value: Value) -> Result<bool, Refusal>
+pub fn truth_of(alloc: Global, value: Value) -> Result<bool, Failure>
     ensures gives { Gives (λ holds. holds) fault_of result (rules.truth_of (out-Value value)) }
     ensures memory { NeverWants result }
 {
@@ -39,7 +39,7 @@ pub fn truth_of(alloc: Global, value: Value) -> Result<bool, Refusal>
 
 /// The fault that `throw` ends by: `throws`.
 #[inline(never)]
-pub fn thrown(alloc: Global, value: Value) -> Result<(), Refusal>
+pub fn thrown(alloc: Global, value: Value) -> Result<(), Failure>
     ensures { Gives (λ u. u) fault_of result (Err (rules.throws (out-Value value))) }
 {
     thrown_in(alloc, &value)
@@ -55,11 +55,11 @@ pub fn is_remote(value: &Value) -> bool
     }
 }
 
-fn thrown_in(alloc: Global, value: &Value) -> Result<(), Refusal>
+fn thrown_in(alloc: Global, value: &Value) -> Result<(), Failure>
     ensures { Gives (λ u. u) fault_of result (Err (rules.throws (out-Value value.now))) }
 {
     match value {
-        Value::Text(text) => Err(Refusal::Fault(Fault {
+        Value::Text(text) => Err(Failure::Fault(Fault {
             code: fault_codes::THROWN,
             text: copy_word(alloc, text.get())?,
         })),
@@ -68,7 +68,7 @@ fn thrown_in(alloc: Global, value: &Value) -> Result<(), Refusal>
 }
 
 /// The line that `print` shows of a value.
-pub fn shown(alloc: Global, value: &Value) -> Result<Word, Refusal>
+pub fn shown(alloc: Global, value: &Value) -> Result<Word, Failure>
     ensures { Gives (λ line. line) fault_of result (shown_or_kind (out-Value value.now)) }
 {
     match value {

@@ -3,24 +3,24 @@
 ghost use Rattle.std.specs.Prelude.{◌≡◌};
 ghost use Rattle.rb_engine.specs.Ends.{lifted, flattened};
 
-use crate::world::{Halt, Step};
+use crate::world::{Halt, RunResult};
 use rb_trees::{Fault, Memory, Raised};
 
 /// Why a rule gives no value: it says a fault, or memory ran out.
 #[derive(Drop)]
-pub enum Refusal {
+pub enum Failure {
     Fault(Fault),
     Memory,
 }
 
-impl From<Memory> for Refusal {
+impl From<Memory> for Failure {
     ghost use Rattle.std.specs.Prelude.{◌≡◌};
-    ghost use Rattle.rb_engine.specs.declared.ends.Refusal.TheVariants as refusal;
+    ghost use Rattle.rb_engine.specs.declared.ends.Failure.TheVariants as failure;
 
-    ghost from_gives = { λ _ e. e ≡ refusal.Memory };
+    ghost from_gives = { λ _ e. e ≡ failure.Memory };
 
-    fn from(_want: Memory) -> Refusal {
-        Refusal::Memory
+    fn from(_want: Memory) -> Failure {
+        Failure::Memory
     }
 }
 
@@ -33,22 +33,22 @@ pub enum End<X> {
 }
 
 /// What a rule at a position gives to code.
-pub fn lift<T, X>(at: u32, outcome: Result<T, Refusal>) -> Result<T, End<X>>
+pub fn lift<T, X>(at: u32, outcome: Result<T, Failure>) -> Result<T, End<X>>
     ensures { result ≡ lifted at outcome }
 {
     match outcome {
         Ok(value) => Ok(value),
-        Err(Refusal::Fault(fault)) => Err(End::Raised(Raised {
+        Err(Failure::Fault(fault)) => Err(End::Raised(Raised {
             fault,
             at,
             remote: false,
         })),
-        Err(Refusal::Memory) => Err(End::NoMemory),
+        Err(Failure::Memory) => Err(End::NoMemory),
     }
 }
 
 /// A step with its kinds of end as one.
-pub fn flat<T, X>(step: Step<T, X>) -> Result<T, End<X>>
+pub fn flat<T, X>(step: RunResult<T, X>) -> Result<T, End<X>>
     ensures { result ≡ flattened step }
 {
     match step {
@@ -60,7 +60,7 @@ pub fn flat<T, X>(step: Step<T, X>) -> Result<T, End<X>>
 }
 
 /// The kinds of end apart.
-pub fn step_of<T, X>(outcome: Result<T, End<X>>) -> Step<T, X>
+pub fn step_of<T, X>(outcome: Result<T, End<X>>) -> RunResult<T, X>
     ensures { flattened result ≡ outcome }
 {
     match outcome {

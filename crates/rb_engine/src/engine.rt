@@ -11,7 +11,7 @@ use crate::expressions::value_of;
 use crate::frame::Frame;
 use crate::state::State;
 use crate::statements::run_all;
-use crate::world::{Step, World};
+use crate::world::{RunResult, World};
 use rb_code::Code;
 use rb_trees::{Expr, Seq, Stmt, Value};
 use std::alloc::Global;
@@ -27,7 +27,7 @@ pub fn call<W: World>(
     object: u32,
     method: &[u8],
     args: Seq<Value>,
-) -> Step<Value, W::Stop>
+) -> RunResult<Value, W::Stop>
     ensures { AnyNames W.World (call_run code.now at (value.Ref object) method.now args) state.old world.old (flattened result) state.new world.new }
 {
     let receiver = Value::Ref(object);
@@ -43,7 +43,7 @@ pub fn exec<W: World>(
     frame: &mut Frame,
     world: &mut W,
     body: &Seq<Stmt>,
-) -> Step<(), W::Stop>
+) -> RunResult<(), W::Stop>
     ensures { Effects W.World (stmts_run code.now body.now) frame.old state.old world.old (flattened result) frame.new state.new world.new }
 {
     step_of(run_all(alloc, code, state, frame, world, body.as_slice()))
@@ -58,7 +58,7 @@ pub fn exec_slice<W: World>(
     frame: &mut Frame,
     world: &mut W,
     body: &[Stmt],
-) -> Step<(), W::Stop>
+) -> RunResult<(), W::Stop>
     ensures { Effects W.World (stmts_run code.now body.now) frame.old state.old world.old (flattened result) frame.new state.new world.new }
 {
     step_of(run_all(alloc, code, state, frame, world, body))
@@ -73,7 +73,7 @@ pub fn eval<W: World>(
     frame: &Frame,
     world: &mut W,
     expr: &Expr,
-) -> Step<Value, W::Stop>
+) -> RunResult<Value, W::Stop>
     ensures { Values W.World (value_run code.now expr.now) frame.now state.old world.old (flattened result) state.new world.new }
 {
     step_of(value_of(alloc, code, state, frame, world, expr))

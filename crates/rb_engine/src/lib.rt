@@ -35,7 +35,7 @@ mod units;
 mod world;
 
 pub use conditions::truth_of;
-pub use ends::Refusal;
+pub use ends::Failure;
 pub use engine::{call, eval, exec, exec_slice};
 pub use frame::Frame;
 pub use misses::{Miss, at_place};
@@ -46,4 +46,4 @@ pub use remote::invoke;
 pub use server::Server;
 pub use service::ServiceWorld;
 pub use state::State;
-pub use world::{Halt, Step, World};
+pub use world::{Halt, RunResult, World};

@@ -3,7 +3,7 @@
 ghost use Rattle.std.specs.Prelude.{◌≡◌};
 ghost use Rattle.rb_engine.specs.Misses as words;
 
-use crate::ends::Refusal;
+use crate::ends::Failure;
 use rb_trees::{Fault, Memory};
 
 /// Why an expression gives no value: by a fault at a position, or for want of memory.
@@ -25,12 +25,12 @@ impl From<Memory> for Miss {
 }
 
 /// What a rule gives at a position.
-pub fn at_place<T>(at: u32, outcome: Result<T, Refusal>) -> Result<T, Miss>
+pub fn at_place<T>(at: u32, outcome: Result<T, Failure>) -> Result<T, Miss>
     ensures { result ≡ words.at_place at outcome }
 {
     match outcome {
         Ok(value) => Ok(value),
-        Err(Refusal::Fault(fault)) => Err(Miss::Fault(at, fault)),
-        Err(Refusal::Memory) => Err(Miss::Memory),
+        Err(Failure::Fault(fault)) => Err(Miss::Fault(at, fault)),
+        Err(Failure::Memory) => Err(Miss::Memory),
     }
 }

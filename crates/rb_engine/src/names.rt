@@ -8,7 +8,7 @@ ghost use Rattle.rb_meaning_code.specs.Expressions as rules;
 ghost use Rattle.rb_meaning_code.specs.Statements as statements;
 ghost use Rattle.rb_engine.specs.Ends.{fault_of, GivesAt, UnlessMemory};
 
-use crate::ends::{End, Refusal, lift};
+use crate::ends::{End, Failure, lift};
 use crate::faults::kind;
 use crate::frame::Frame;
 use rb_trees::{Seq, Value, Word, copy_value, copy_word};
@@ -37,7 +37,7 @@ pub fn add<X>(values: &mut Seq<Value>, value: Value) -> Result<(), End<X>>
 }
 
 // The value of a name in scope: `value_of`.
-fn found_value(alloc: Global, frame: &Frame, name: &[u8]) -> Result<Value, Refusal>
+fn found_value(alloc: Global, frame: &Frame, name: &[u8]) -> Result<Value, Failure>
     ensures { Gives (λ v. v) fault_of result (rules.value_of frame.now name.now) }
 {
     match frame.find(name) {
@@ -86,7 +86,7 @@ pub fn bind_copy<X>(
 
 /// Gives a name another value: `assigned`. After an error the names are as they were.
 #[inline(never)]
-pub fn set_name(alloc: Global, frame: &mut Frame, name: &[u8], value: Value) -> Result<(), Refusal>
+pub fn set_name(alloc: Global, frame: &mut Frame, name: &[u8], value: Value) -> Result<(), Failure>
     ensures gives { Gives (λ u. frame.new) fault_of result (statements.assigned frame.old name.now value) }
     ensures kept { OnErr result (frame.new ≡ frame.old) }
 {

@@ -13,7 +13,7 @@ ghost use Rattle.rb_meaning_code.specs.Objects.{matched, with_field_of};
 ghost use Rattle.rb_engine.specs.Code.{method_called, own_method_called, object_made};
 ghost use Rattle.rb_engine.specs.Ends.{fault_of, UnlessMemory};
 
-use crate::ends::{End, Refusal};
+use crate::ends::{End, Failure};
 use crate::faults::{heap_full, kind};
 use crate::frame::Frame;
 use rb_code::Code;
@@ -41,7 +41,7 @@ fn match_values(
 }
 
 // An object of a class with values for its fields: `object_of`.
-fn object_of(alloc: Global, code: &Code, name: &Word, values: &[Value]) -> Result<Object, Refusal>
+fn object_of(alloc: Global, code: &Code, name: &Word, values: &[Value]) -> Result<Object, Failure>
     ensures { Gives (λ o. o) fault_of result (objects.object_of (map mirror_class code.now) name.now values.now) }
 {
     match code.find_class(name.as_slice()) {
@@ -55,7 +55,7 @@ fn object_with(
     name: &Word,
     fields: &[Param],
     values: &[Value],
-) -> Result<Object, Refusal>
+) -> Result<Object, Failure>
     ensures { Gives (λ o. o) fault_of result (objects.object_with name.now (map mirror_param fields.now) values.now) }
 {
     if fields.len() != values.len() {
@@ -70,14 +70,14 @@ fn object_with(
 }
 
 // Puts an object at the end of the heap, which needs room.
-fn place(alloc: Global, heap: &mut Heap, object: Object) -> Result<Value, Refusal>
+fn place(alloc: Global, heap: &mut Heap, object: Object) -> Result<Value, Failure>
     ensures gives { Gives (λ v. (v, heap.new)) fault_of result (objects.placed heap.old object) }
     ensures kept { OnErr result (heap.new ≡ heap.old) }
 {
     match heap.add(object) {
         Ok(number) => Ok(Value::Ref(number)),
         Err(AddStop::Full(_object)) => Err(heap_full(alloc)),
-        Err(AddStop::Memory) => Err(Refusal::Memory),
+        Err(AddStop::Memory) => Err(Failure::Memory),
     }
 }
 
@@ -89,7 +89,7 @@ pub fn construct(
     heap: &mut Heap,
     name: &Word,
     values: Seq<Value>,
-) -> Result<Value, Refusal>
+) -> Result<Value, Failure>
     ensures gives { Gives (λ v. (v, heap.new)) fault_of result (object_made code.now heap.old name.now values) }
     ensures kept { OnErr result (heap.new ≡ heap.old) }
 {
@@ -97,7 +97,7 @@ pub fn construct(
     place(alloc, heap, object)
 }
 
-fn field_in(alloc: Global, heap: &Heap, object: &Value, name: &[u8]) -> Result<Value, Refusal>
+fn field_in(alloc: Global, heap: &Heap, object: &Value, name: &[u8]) -> Result<Value, Failure>
     ensures { Gives (λ v. v) fault_of result (objects.field_of heap.now (out-Value object.now) name.now) }
 {
     match object {
@@ -115,7 +115,7 @@ fn write_into(
     object: &Value,
     name: &[u8],
     value: Value,
-) -> Result<(), Refusal>
+) -> Result<(), Failure>
     ensures gives { Gives (λ u. heap.new) fault_of result (with_field_of heap.old (out-Value object.now) name.now value) }
     ensures kept { OnErr result (heap.new ≡ heap.old) }
 {
@@ -132,7 +132,7 @@ fn write_own(
     object: u32,
     name: &[u8],
     value: Value,
-) -> Result<(), Refusal>
+) -> Result<(), Failure>
     ensures gives { Gives (λ u. heap.new) fault_of result (objects.with_own_field heap.old object name.now value) }
     ensures kept { OnErr result (heap.new ≡ heap.old) }
 {
@@ -144,7 +144,7 @@ fn write_own(
 
 /// The value of an object's field: `field_of`.
 #[inline(never)]
-pub fn read_field(alloc: Global, heap: &Heap, object: Value, name: &[u8]) -> Result<Value, Refusal>
+pub fn read_field(alloc: Global, heap: &Heap, object: Value, name: &[u8]) -> Result<Value, Failure>
     ensures { Gives (λ v. v) fault_of result (objects.field_of heap.now (out-Value object) name.now) }
 {
     field_in(alloc, heap, &object, name)
@@ -158,7 +158,7 @@ pub fn write_field(
     object: Value,
     name: &[u8],
     value: Value,
-) -> Result<(), Refusal>
+) -> Result<(), Failure>
     ensures gives { Gives (λ u. heap.new) fault_of result (with_field_of heap.old (out-Value object) name.now value) }
     ensures kept { OnErr result (heap.new ≡ heap.old) }
 {
@@ -185,7 +185,7 @@ pub fn called_method<'a>(
     receiver: &Value,
     name: &[u8],
     count: usize,
-) -> Result<&'a Method, Refusal>
+) -> Result<&'a Method, Failure>
     ensures { Gives (λ m. mirror_method m.now) fault_of result (method_called code.now heap.now receiver.now name.now count) }
 {
     match receiver {
@@ -201,7 +201,7 @@ fn own_method<'a>(
     object: u32,
     name: &[u8],
     count: usize,
-) -> Result<&'a Method, Refusal>
+) -> Result<&'a Method, Failure>
     ensures { Gives (λ m. mirror_method m.now) fault_of result (own_method_called code.now heap.now object name.now count) }
 {
     match method_of(code, heap, object, name) {

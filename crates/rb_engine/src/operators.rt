@@ -9,7 +9,7 @@ ghost use Rattle.rb_meaning_code.specs.Operators as rules;
 ghost use Rattle.rb_engine.specs.Ends.{fault_of, WantsOnlyWhere, NeverWants};
 ghost use Rattle.rb_engine.specs.Makes.{is_plain, one_makes};
 
-use crate::ends::Refusal;
+use crate::ends::Failure;
 use crate::faults::kind;
 use crate::numbers::negated;
 use rb_trees::{Memory, Seq, Shared, UnOp, Value, Word};
@@ -55,7 +55,7 @@ fn list_length(items: &[Value]) -> i64
     items.len() as i64
 }
 
-fn negation(alloc: Global, a: &Value) -> Result<Value, Refusal>
+fn negation(alloc: Global, a: &Value) -> Result<Value, Failure>
     ensures gives { Gives (λ v. v) fault_of result (rules.negation (out-Value a.now)) }
     ensures memory { NeverWants result }
 {
@@ -65,7 +65,7 @@ fn negation(alloc: Global, a: &Value) -> Result<Value, Refusal>
     }
 }
 
-fn opposite(alloc: Global, a: &Value) -> Result<Value, Refusal>
+fn opposite(alloc: Global, a: &Value) -> Result<Value, Failure>
     ensures gives { Gives (λ v. v) fault_of result (rules.opposite (out-Value a.now)) }
     ensures memory { NeverWants result }
 {
@@ -75,7 +75,7 @@ fn opposite(alloc: Global, a: &Value) -> Result<Value, Refusal>
     }
 }
 
-fn count(alloc: Global, a: &Value) -> Result<Value, Refusal>
+fn count(alloc: Global, a: &Value) -> Result<Value, Failure>
     ensures gives { Gives (λ v. v) fault_of result (rules.count (out-Value a.now)) }
     ensures memory { NeverWants result }
 {
@@ -86,7 +86,7 @@ fn count(alloc: Global, a: &Value) -> Result<Value, Refusal>
     }
 }
 
-fn as_text(alloc: Global, a: &Value) -> Result<Value, Refusal>
+fn as_text(alloc: Global, a: &Value) -> Result<Value, Failure>
     ensures gives { Gives (λ v. v) fault_of result (rules.as_text (out-Value a.now)) }
     ensures memory { WantsOnlyWhere (is_plain (out-Value a.now) ≡ true) result }
 {
@@ -97,7 +97,7 @@ fn as_text(alloc: Global, a: &Value) -> Result<Value, Refusal>
     }
 }
 
-fn on_one(alloc: Global, op: UnOp, a: &Value) -> Result<Value, Refusal>
+fn on_one(alloc: Global, op: UnOp, a: &Value) -> Result<Value, Failure>
     ensures gives { Gives (λ v. v) fault_of result (rules.on_one op (out-Value a.now)) }
     ensures memory { WantsOnlyWhere (one_makes op (out-Value a.now) ≡ true) result }
 {
@@ -111,7 +111,7 @@ fn on_one(alloc: Global, op: UnOp, a: &Value) -> Result<Value, Refusal>
 
 /// What an operator on one operand gives: `on_one`.
 #[inline(never)]
-pub fn unary(alloc: Global, op: UnOp, a: Value) -> Result<Value, Refusal>
+pub fn unary(alloc: Global, op: UnOp, a: Value) -> Result<Value, Failure>
     ensures gives { Gives (λ v. v) fault_of result (rules.on_one op (out-Value a)) }
     ensures memory { WantsOnlyWhere (one_makes op (out-Value a) ≡ true) result }
 {

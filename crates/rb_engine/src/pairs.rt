@@ -10,7 +10,7 @@ ghost use Rattle.rb_engine.specs.Ends.{fault_of, WantsOnlyWhere, NeverWants};
 ghost use Rattle.rb_engine.specs.Makes.{are_joined, two_make};
 ghost use Rattle.rb_engine.specs.Numbers.{both_numbers, number_rule, truth_rule};
 
-use crate::ends::Refusal;
+use crate::ends::Failure;
 use crate::faults::{division_by_zero, index_outside, kind, list_too_long, text_too_long};
 use crate::numbers::{difference, product, sum};
 use crate::operators::text_value;
@@ -19,7 +19,7 @@ use rb_trees::{BinOp, Memory, Seq, Shared, Value, Word, copy_value};
 use std::alloc::Global;
 
 // A text and then another, within the limit.
-fn joined_text(alloc: Global, a: &Word, b: &Word) -> Result<Value, Refusal>
+fn joined_text(alloc: Global, a: &Word, b: &Word) -> Result<Value, Failure>
     ensures { Gives (λ v. v) fault_of result (rules.joined_text a.now b.now) }
 {
     if a.len() > LONGEST_TEXT || b.len() > LONGEST_TEXT - a.len() {
@@ -41,7 +41,7 @@ fn append_values(list: &mut Seq<Value>, values: &[Value]) -> Result<(), Memory>
 }
 
 // A list and then another, within the limit.
-fn joined_list(alloc: Global, a: &Seq<Value>, b: &Seq<Value>) -> Result<Value, Refusal>
+fn joined_list(alloc: Global, a: &Seq<Value>, b: &Seq<Value>) -> Result<Value, Failure>
     ensures { Gives (λ v. v) fault_of result (rules.joined_list a.now b.now) }
 {
     if a.len() > LONGEST_LIST || b.len() > LONGEST_LIST - a.len() {
@@ -53,7 +53,7 @@ fn joined_list(alloc: Global, a: &Seq<Value>, b: &Seq<Value>) -> Result<Value, R
     Ok(Value::List(Shared::new(alloc, list)?))
 }
 
-fn plus(alloc: Global, a: &Value, b: &Value) -> Result<Value, Refusal>
+fn plus(alloc: Global, a: &Value, b: &Value) -> Result<Value, Failure>
     ensures gives { Gives (λ v. v) fault_of result (rules.plus (out-Value a.now) (out-Value b.now)) }
     ensures memory { WantsOnlyWhere (are_joined (out-Value a.now) (out-Value b.now) ≡ true) result }
 {
@@ -65,7 +65,7 @@ fn plus(alloc: Global, a: &Value, b: &Value) -> Result<Value, Refusal>
     }
 }
 
-fn quotient(alloc: Global, a: i64, b: i64) -> Result<Value, Refusal>
+fn quotient(alloc: Global, a: i64, b: i64) -> Result<Value, Failure>
     ensures gives { Gives (λ v. v) fault_of result (rules.quotient a b) }
     ensures memory { NeverWants result }
 {
@@ -75,7 +75,7 @@ fn quotient(alloc: Global, a: i64, b: i64) -> Result<Value, Refusal>
     Ok(Value::Int(a.wrapping_div(b)))
 }
 
-fn remainder(alloc: Global, a: i64, b: i64) -> Result<Value, Refusal>
+fn remainder(alloc: Global, a: i64, b: i64) -> Result<Value, Failure>
     ensures gives { Gives (λ v. v) fault_of result (rules.remainder a b) }
     ensures memory { NeverWants result }
 {
@@ -85,7 +85,7 @@ fn remainder(alloc: Global, a: i64, b: i64) -> Result<Value, Refusal>
     Ok(Value::Int(a.wrapping_rem(b)))
 }
 
-fn equal(alloc: Global, a: &Value, b: &Value) -> Result<bool, Refusal>
+fn equal(alloc: Global, a: &Value, b: &Value) -> Result<bool, Failure>
     ensures gives { Gives (λ same. same) fault_of result (rules.equal (out-Value a.now) (out-Value b.now)) }
     ensures memory { NeverWants result }
 {
@@ -108,7 +108,7 @@ fn numbers(a: &Value, b: &Value) -> Option<(i64, i64)>
 }
 
 // What an operator gives on two numbers.
-fn on_ints(alloc: Global, op: BinOp, a: i64, b: i64) -> Result<Value, Refusal>
+fn on_ints(alloc: Global, op: BinOp, a: i64, b: i64) -> Result<Value, Failure>
     ensures gives { Gives (λ v. v) fault_of result (number_rule op a b) }
     ensures memory { NeverWants result }
 {
@@ -126,7 +126,7 @@ fn on_ints(alloc: Global, op: BinOp, a: i64, b: i64) -> Result<Value, Refusal>
 }
 
 #[tactic(auto, using(crate::proofs::BothNumbers::number_steps))]
-fn on_numbers(alloc: Global, op: BinOp, a: &Value, b: &Value) -> Result<Value, Refusal>
+fn on_numbers(alloc: Global, op: BinOp, a: &Value, b: &Value) -> Result<Value, Failure>
     ensures gives { Gives (λ v. v) fault_of result (rules.on_numbers (number_rule op) (out-Value a.now) (out-Value b.now)) }
     ensures memory { NeverWants result }
 {
@@ -137,7 +137,7 @@ fn on_numbers(alloc: Global, op: BinOp, a: &Value, b: &Value) -> Result<Value, R
 }
 
 // `&&` and `||` where the left operand doesn't decide.
-fn on_truths(alloc: Global, op: BinOp, a: &Value, b: &Value) -> Result<Value, Refusal>
+fn on_truths(alloc: Global, op: BinOp, a: &Value, b: &Value) -> Result<Value, Failure>
     ensures gives { Gives (λ v. v) fault_of result (rules.on_truths (truth_rule op) (out-Value a.now) (out-Value b.now)) }
     ensures memory { NeverWants result }
 {
@@ -156,7 +156,7 @@ fn both_or_either(op: BinOp, a: bool, b: bool) -> bool
     }
 }
 
-fn on_two(alloc: Global, op: BinOp, a: &Value, b: &Value) -> Result<Value, Refusal>
+fn on_two(alloc: Global, op: BinOp, a: &Value, b: &Value) -> Result<Value, Failure>
     ensures gives { Gives (λ v. v) fault_of result (rules.on_two op (out-Value a.now) (out-Value b.now)) }
     ensures memory { WantsOnlyWhere (two_make op (out-Value a.now) (out-Value b.now) ≡ true) result }
 {
@@ -178,7 +178,7 @@ fn on_two(alloc: Global, op: BinOp, a: &Value, b: &Value) -> Result<Value, Refus
 
 /// The value that the left operand decides alone, or None where the right one counts too: `by_left`.
 #[inline(never)]
-pub fn by_left(alloc: Global, op: BinOp, a: &Value) -> Result<Option<Value>, Refusal>
+pub fn by_left(alloc: Global, op: BinOp, a: &Value) -> Result<Option<Value>, Failure>
     ensures gives { Gives (λ v. v) fault_of result (rules.by_left op (out-Value a.now)) }
     ensures memory { NeverWants result }
 {
@@ -189,7 +189,7 @@ pub fn by_left(alloc: Global, op: BinOp, a: &Value) -> Result<Option<Value>, Ref
     }
 }
 
-fn conjunct(alloc: Global, a: &Value) -> Result<Option<Value>, Refusal>
+fn conjunct(alloc: Global, a: &Value) -> Result<Option<Value>, Failure>
     ensures gives { Gives (λ v. v) fault_of result (rules.conjunct (out-Value a.now)) }
     ensures memory { NeverWants result }
 {
@@ -200,7 +200,7 @@ fn conjunct(alloc: Global, a: &Value) -> Result<Option<Value>, Refusal>
     }
 }
 
-fn disjunct(alloc: Global, a: &Value) -> Result<Option<Value>, Refusal>
+fn disjunct(alloc: Global, a: &Value) -> Result<Option<Value>, Failure>
     ensures gives { Gives (λ v. v) fault_of result (rules.disjunct (out-Value a.now)) }
     ensures memory { NeverWants result }
 {
@@ -211,7 +211,7 @@ fn disjunct(alloc: Global, a: &Value) -> Result<Option<Value>, Refusal>
     }
 }
 
-fn indexed(alloc: Global, list: &Value, index: &Value) -> Result<Value, Refusal>
+fn indexed(alloc: Global, list: &Value, index: &Value) -> Result<Value, Failure>
     ensures { Gives (λ v. v) fault_of result (places.indexed (out-Value list.now) (out-Value index.now)) }
 {
     match (list, index) {
@@ -220,7 +220,7 @@ fn indexed(alloc: Global, list: &Value, index: &Value) -> Result<Value, Refusal>
     }
 }
 
-fn item_at(alloc: Global, items: &Seq<Value>, place: i64) -> Result<Value, Refusal>
+fn item_at(alloc: Global, items: &Seq<Value>, place: i64) -> Result<Value, Failure>
     ensures { Gives (λ v. v) fault_of result (places.item_at items.now place) }
 {
     if place < 0 {
@@ -234,7 +234,7 @@ fn item_at(alloc: Global, items: &Seq<Value>, place: i64) -> Result<Value, Refus
 
 /// A list of values: `list_of`.
 #[inline(never)]
-pub fn list_of(alloc: Global, items: Seq<Value>) -> Result<Value, Refusal>
+pub fn list_of(alloc: Global, items: Seq<Value>) -> Result<Value, Failure>
     ensures { Gives (λ v. v) fault_of result (places.list_of items) }
 {
     if items.len() > LONGEST_LIST {
@@ -245,7 +245,7 @@ pub fn list_of(alloc: Global, items: Seq<Value>) -> Result<Value, Refusal>
 
 /// What an operator on two operands gives: `on_two`.
 #[inline(never)]
-pub fn binary(alloc: Global, op: BinOp, a: Value, b: Value) -> Result<Value, Refusal>
+pub fn binary(alloc: Global, op: BinOp, a: Value, b: Value) -> Result<Value, Failure>
     ensures gives { Gives (λ v. v) fault_of result (rules.on_two op (out-Value a) (out-Value b)) }
     ensures memory { WantsOnlyWhere (two_make op (out-Value a) (out-Value b) ≡ true) result }
 {
@@ -254,7 +254,7 @@ pub fn binary(alloc: Global, op: BinOp, a: Value, b: Value) -> Result<Value, Ref
 
 /// An item of a list: `indexed`.
 #[inline(never)]
-pub fn item_of(alloc: Global, list: Value, index: Value) -> Result<Value, Refusal>
+pub fn item_of(alloc: Global, list: Value, index: Value) -> Result<Value, Failure>
     ensures { Gives (λ v. v) fault_of result (places.indexed (out-Value list) (out-Value index)) }
 {
     indexed(alloc, &list, &index)

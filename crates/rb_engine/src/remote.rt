@@ -11,7 +11,7 @@ ghost use Rattle.rb_meaning_code.specs.Remote as rules;
 ghost use Rattle.rb_engine.specs.Ends.{fault_of};
 ghost use Rattle.rb_engine.specs.Remote.{Answers, RepliesAt, server, method_found, arguments_taken, call_checked, call_served, call_invoked};
 
-use crate::ends::Refusal;
+use crate::ends::Failure;
 use crate::engine::call;
 use crate::faults::{bad_arguments, kind, no_method, wrong_kind};
 use crate::objects::method_of;
@@ -27,7 +27,7 @@ use std::alloc::Global;
 
 // The receiver's number, which has to be a remote object's.
 #[tactic(auto, using(crate::proofs::Values::values))]
-fn remote_object(alloc: Global, target: &Value) -> Result<u32, Refusal>
+fn remote_object(alloc: Global, target: &Value) -> Result<u32, Failure>
     ensures { Gives (λ object. object) fault_of result (known faults.kind (rules.remote_object (out-Value target.now))) }
 {
     match target {
@@ -43,7 +43,7 @@ fn found_method<'a>(
     heap: &Heap,
     object: u32,
     name: &[u8],
-) -> Result<&'a Method, Refusal>
+) -> Result<&'a Method, Failure>
     ensures { Gives (λ m. mirror_method m.now) fault_of result (method_found code.now heap.now object name.now) }
 {
     match method_of(code, heap, object, name) {
@@ -58,7 +58,7 @@ fn fitting(
     heap: &Heap,
     params: &[Param],
     args: &[Value],
-) -> Result<Seq<Value>, Refusal>
+) -> Result<Seq<Value>, Failure>
     ensures { Gives (λ values. values) fault_of result (arguments_taken heap.now params.now args.now) }
 {
     match taken_all(alloc, heap, params, args)? {
@@ -76,7 +76,7 @@ fn check(
     target: &Value,
     name: &[u8],
     args: &[Value],
-) -> Result<(u32, Seq<Value>), Refusal>
+) -> Result<(u32, Seq<Value>), Failure>
     ensures { Gives (λ c. c) fault_of result (call_checked code.now heap.now target.now name.now args.now) }
 {
     let object = remote_object(alloc, target)?;
@@ -97,18 +97,18 @@ fn remotely(at: u32, fault: Fault) -> Raised
 }
 
 // What a rule gives, as the answer of a remote call.
-fn answered(at: u32, outcome: Result<Value, Refusal>) -> Result<Result<Value, Raised>, Memory>
+fn answered(at: u32, outcome: Result<Value, Failure>) -> Result<Result<Value, Raised>, Memory>
     ensures { Answers at outcome result }
 {
     match outcome {
         Ok(value) => Ok(Ok(value)),
-        Err(Refusal::Fault(fault)) => Ok(Err(remotely(at, fault))),
-        Err(Refusal::Memory) => Err(Memory),
+        Err(Failure::Fault(fault)) => Ok(Err(remotely(at, fault))),
+        Err(Failure::Memory) => Err(Memory),
     }
 }
 
 // The result of a body at the client, which has to be of the kind.
-fn at_client(alloc: Global, kind: u8, value: &Value) -> Result<Value, Refusal>
+fn at_client(alloc: Global, kind: u8, value: &Value) -> Result<Value, Failure>
     ensures { Gives (λ v. v) fault_of result (known faults.wrong_kind (rules.seen_as kind (out-Value value.now))) }
 {
     match seen_as(alloc, kind, value)? {
@@ -166,7 +166,7 @@ pub fn invoke(
     let checked = check(alloc, code, &state.heap, &target, method, args.as_slice());
     match checked {
         Ok((object, values)) => serve(alloc, code, state, at, kind, object, method, values),
-        Err(Refusal::Fault(fault)) => Ok(Err(remotely(at, fault))),
-        Err(Refusal::Memory) => Err(Memory),
+        Err(Failure::Fault(fault)) => Ok(Err(remotely(at, fault))),
+        Err(Failure::Memory) => Err(Memory),
     }
 }

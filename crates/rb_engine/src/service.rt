@@ -6,7 +6,7 @@ ghost use Rattle.rb_meaning_code.specs.Faults.{raised};
 
 use crate::frame::Frame;
 use crate::state::State;
-use crate::world::{Step, World};
+use crate::world::{RunResult, World};
 use rb_trees::{Fault, Memory, Raised, Seq, Value};
 use std::alloc::Global;
 
@@ -46,15 +46,15 @@ impl World for ServiceWorld {
 
     ghost performs = { service_performs };
 
-    fn line(&mut self, at: u32, _bytes: &[u8]) -> Step<(), Memory> {
+    fn line(&mut self, at: u32, _bytes: &[u8]) -> RunResult<(), Memory> {
         Ok(Err(self.refuse(at)))
     }
 
-    fn batch(&mut self, at: u32, _state: &mut State, _frame: &mut Frame) -> Step<(), Memory> {
+    fn batch(&mut self, at: u32, _state: &mut State, _frame: &mut Frame) -> RunResult<(), Memory> {
         Ok(Err(self.refuse(at)))
     }
 
-    fn taken(&mut self, _step: u32) -> Step<Value, Memory> {
+    fn taken(&mut self, _step: u32) -> RunResult<Value, Memory> {
         Ok(Err(self.refuse(0)))
     }
 
@@ -64,15 +64,15 @@ impl World for ServiceWorld {
         _target: Value,
         _method: &[u8],
         _args: Seq<Value>,
-    ) -> Step<Value, Memory> {
+    ) -> RunResult<Value, Memory> {
         Ok(Err(self.refuse(at)))
     }
 
-    fn turn(&mut self, at: u32) -> Step<(), Memory> {
+    fn turn(&mut self, at: u32) -> RunResult<(), Memory> {
         Ok(Err(self.refuse(at)))
     }
 
-    fn list_turn(&mut self, _at: u32) -> Step<(), Memory> {
+    fn list_turn(&mut self, _at: u32) -> RunResult<(), Memory> {
         Ok(Ok(()))
     }
 }

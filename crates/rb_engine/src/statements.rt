@@ -13,7 +13,7 @@ use crate::frame::Frame;
 use crate::names::{bind, set_name};
 use crate::objects::write_field;
 use crate::state::State;
-use crate::targets::{Target, target_of};
+use crate::targets::{LeftSide, target_of};
 use crate::world::World;
 use rb_code::Code;
 use rb_trees::{Expr, Seq, Stmt, StmtForm, Word};
@@ -181,11 +181,11 @@ fn assign<W: World>(
     ensures { Effects W.World (assign_run code.now at left.now right.now) frame.old state.old world.old result frame.new state.new world.new }
 {
     match target_of(left) {
-        Target::Name(name) => {
+        LeftSide::Name(name) => {
             let value = value_of(alloc, code, state, frame, world, right)?;
             lift(left.at, set_name(alloc, frame, name.as_slice(), value))
         }
-        Target::Field(object, name) => {
+        LeftSide::Field(object, name) => {
             let target = value_of(alloc, code, state, frame, world, object)?;
             let value = value_of(alloc, code, state, frame, world, right)?;
             lift(
@@ -193,6 +193,6 @@ fn assign<W: World>(
                 write_field(alloc, &mut state.heap, target, name.as_slice(), value),
             )
         }
-        Target::Other => lift(at, Err(kind(alloc))),
+        LeftSide::Other => lift(at, Err(kind(alloc))),
     }
 }

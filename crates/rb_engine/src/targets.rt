@@ -7,13 +7,13 @@ ghost use Rattle.rb_trees.specs.mirror.Code.{mirror_expr};
 ghost use Rattle.rb_engine.specs.Ends.{fault_of};
 ghost use Rattle.rb_engine.specs.Targets.{mirror_target, target_form, turns_form};
 
-use crate::ends::Refusal;
+use crate::ends::Failure;
 use crate::faults::kind;
 use rb_trees::{Expr, ExprForm, Seq, Shared, Value, Word};
 use std::alloc::Global;
 
 /// What an assignment writes.
-pub enum Target<'a> {
+pub enum LeftSide<'a> {
     Name(&'a Word),
     Field(&'a Expr, &'a Word),
     Other,
@@ -22,21 +22,21 @@ pub enum Target<'a> {
 /// What an assignment to this left side writes.
 #[tactic(auto, using(crate::proofs::Exprs::expr_steps))]
 #[inline(never)]
-pub fn target_of(left: &Expr) -> Target<'_>
+pub fn target_of(left: &Expr) -> LeftSide<'_>
     ensures { mirror_target result ≡ target_form (mirror_expr left.now) }
 {
     match &left.form {
-        ExprForm::Name(name) => Target::Name(name),
-        ExprForm::Field(object, name) => Target::Field(object.get(), name),
-        ExprForm::Lit(_) => Target::Other,
-        ExprForm::This => Target::Other,
-        ExprForm::Unary(_, _) => Target::Other,
-        ExprForm::Binary(_, _, _) => Target::Other,
-        ExprForm::Call(_, _, _) => Target::Other,
-        ExprForm::Index(_, _) => Target::Other,
-        ExprForm::New(_, _) => Target::Other,
-        ExprForm::Items(_, _) => Target::Other,
-        ExprForm::Taken(_) => Target::Other,
+        ExprForm::Name(name) => LeftSide::Name(name),
+        ExprForm::Field(object, name) => LeftSide::Field(object.get(), name),
+        ExprForm::Lit(_) => LeftSide::Other,
+        ExprForm::This => LeftSide::Other,
+        ExprForm::Unary(_, _) => LeftSide::Other,
+        ExprForm::Binary(_, _, _) => LeftSide::Other,
+        ExprForm::Call(_, _, _) => LeftSide::Other,
+        ExprForm::Index(_, _) => LeftSide::Other,
+        ExprForm::New(_, _) => LeftSide::Other,
+        ExprForm::Items(_, _) => LeftSide::Other,
+        ExprForm::Taken(_) => LeftSide::Other,
     }
 }
 
@@ -48,7 +48,7 @@ pub enum Turns {
 }
 
 #[tactic(auto, using(crate::proofs::Values::values))]
-fn turns_in(alloc: Global, value: &Value) -> Result<(Turns, Shared<Seq<Value>>), Refusal>
+fn turns_in(alloc: Global, value: &Value) -> Result<(Turns, Shared<Seq<Value>>), Failure>
     ensures { Gives (λ turns. turns) fault_of result (turns_form (out-Value value.now)) }
 {
     match value {
@@ -60,7 +60,7 @@ fn turns_in(alloc: Global, value: &Value) -> Result<(Turns, Shared<Seq<Value>>),
 
 /// The values that a loop goes over, which are a list's or rows.
 #[inline(never)]
-pub fn turns_of(alloc: Global, value: Value) -> Result<(Turns, Shared<Seq<Value>>), Refusal>
+pub fn turns_of(alloc: Global, value: Value) -> Result<(Turns, Shared<Seq<Value>>), Failure>
     ensures { Gives (λ turns. turns) fault_of result (turns_form (out-Value value)) }
 {
     turns_in(alloc, &value)

@@ -4,7 +4,7 @@ ghost use Rattle.rb_trees.specs.Outcome.{Gives};
 ghost use Rattle.rb_meaning_code.specs.Calls.{unit_due, call_fits};
 ghost use Rattle.rb_engine.specs.Ends.{fault_of};
 
-use crate::ends::Refusal;
+use crate::ends::Failure;
 use crate::faults::{fuel_used, too_deep};
 use std::alloc::Global;
 
@@ -13,7 +13,7 @@ const DEEPEST_CALL: u32 = 32;
 
 /// Whether there is a unit of fuel, which is due: `unit_due`.
 #[inline(never)]
-pub fn check_unit(alloc: Global, fuel: u64) -> Result<(), Refusal>
+pub fn check_unit(alloc: Global, fuel: u64) -> Result<(), Failure>
     ensures { Gives (λ u. u) fault_of result (unit_due fuel) }
 {
     if fuel == 0 {
@@ -24,7 +24,7 @@ pub fn check_unit(alloc: Global, fuel: u64) -> Result<(), Refusal>
 
 /// Whether one call more may be active: `call_fits`.
 #[inline(never)]
-pub fn check_depth(alloc: Global, depth: u32) -> Result<(), Refusal>
+pub fn check_depth(alloc: Global, depth: u32) -> Result<(), Failure>
     ensures { Gives (λ u. u) fault_of result (call_fits depth) }
 {
     if depth >= DEEPEST_CALL {

@@ -19,7 +19,7 @@ pub enum Halt<X> {
 }
 
 /// What a step of a run gives: a value or a fault; or the run is cut off.
-pub type Step<T, X> = Result<Result<T, Raised>, Halt<X>>;
+pub type RunResult<T, X> = Result<Result<T, Raised>, Halt<X>>;
 
 /// The surroundings of running code.
 ///
@@ -39,18 +39,18 @@ pub trait World {
     ghost performs: { Self → ℕ → Local → Performed Self.Stop → Self → Type 0 };
 
     /// A line is printed, by a `print` at this position; its line feed isn't among the bytes.
-    fn line(&mut self, at: u32, bytes: &[u8]) -> Step<(), Self::Stop>
+    fn line(&mut self, at: u32, bytes: &[u8]) -> RunResult<(), Self::Stop>
         ensures { Answered (as_value result) (λ a. answers self.old (Line at bytes.now) a self.new) };
 
     /// A batch is performed, which stands at this position. The World is lent the state and the names, and gives them
     /// back as the batch leaves them, after a fault too.
-    fn batch(&mut self, at: u32, state: &mut State, frame: &mut Frame) -> Step<(), Self::Stop>
+    fn batch(&mut self, at: u32, state: &mut State, frame: &mut Frame) -> RunResult<(), Self::Stop>
         ensures fuel { state.new.fuel ≤ state.old.fuel }
         ensures depth { state.new.depth ≡ state.old.depth }
         ensures performs { Answered (performed (local frame.new state.new) result) (λ o. performs self.old at (local frame.old state.old) o self.new) };
 
     /// The value that a step of the script kept.
-    fn taken(&mut self, step: u32) -> Step<Value, Self::Stop>
+    fn taken(&mut self, step: u32) -> RunResult<Value, Self::Stop>
         ensures { Answered result (λ a. answers self.old (Taken step) a self.new) };
 
     /// A remote call, at this position, whose receiver and arguments were evaluated.
@@ -60,14 +60,14 @@ pub trait World {
         target: Value,
         method: &[u8],
         args: Seq<Value>,
-    ) -> Step<Value, Self::Stop>
+    ) -> RunResult<Value, Self::Stop>
         ensures { Answered result (λ a. answers self.old (Invoke at target method.now args) a self.new) };
 
     /// A turn of a loop over rows begins, before the turn's name is bound.
-    fn turn(&mut self, at: u32) -> Step<(), Self::Stop>
+    fn turn(&mut self, at: u32) -> RunResult<(), Self::Stop>
         ensures { Answered (as_value result) (λ a. answers self.old (Turn at) a self.new) };
 
     /// A turn of a loop over a list begins, after its unit of fuel was taken and before the turn's name is bound.
-    fn list_turn(&mut self, at: u32) -> Step<(), Self::Stop>
+    fn list_turn(&mut self, at: u32) -> RunResult<(), Self::Stop>
         ensures { Answered (as_value result) (λ a. answers self.old (ListTurn at) a self.new) };
 }

@@ -6,8 +6,8 @@ use Rattle.rb_trees.specs.Outcome.{Gives}
 use Rattle.rb_trees.specs.declared.values.Value.{Value}
 use Rattle.rb_trees.specs.declared.values.Fault.{Fault}
 use Rattle.rb_engine.specs.Ends.{fault_of}
-use Rattle.rb_engine.specs.declared.ends.Refusal.{Refusal}
-use Rattle.rb_engine.specs.declared.ends.Refusal.TheVariants as refusal
+use Rattle.rb_engine.specs.declared.ends.Failure.{Failure}
+use Rattle.rb_engine.specs.declared.ends.Failure.TheVariants as failure
 use Rattle.rb_meaning_code.specs.Remote.{Server, Reply, Got, Stopped, and_then, replies}
 use Rattle.rb_engine.specs.Misses.{at_place, Means, Replied}
 use Rattle.rb_trees.specs.declared.scripts.SExpr.{SExpr}
@@ -52,10 +52,10 @@ pub missed : {A B : Type 0} {m : Reply A} {t : Result A Miss} {s1 : Server} {h :
 missed {m = m} {s1 = s1} {h = h} k f is e = by_result e (missed_by h m s1 k (subst (λ x. Means m x s1) is f.means))
 
 -- what a rule gives at a position
-pub ruled : {A : Type 0} {t : Result A Miss} {s : Server} (at : ℕ) (o : Result A Refusal) (d : Result A Fault) → Gives (λ a. a) fault_of o d → t ≡ at_place at o → Replied (replies at d s) t s
+pub ruled : {A : Type 0} {t : Result A Miss} {s : Server} (at : ℕ) (o : Result A Failure) (d : Result A Fault) → Gives (λ a. a) fault_of o d → t ≡ at_place at o → Replied (replies at d s) t s
 ruled {s = s} at (Ok a) d g is = by_result is (record { means = ap (λ x. replies at x s) g })
-ruled {s = s} at (Err (refusal.Fault f)) d g is = by_result is (record { means = ap (λ x. replies at x s) g })
-ruled at (Err refusal.Memory) d g is = by_result is (record { means = tt })
+ruled {s = s} at (Err (failure.Fault f)) d g is = by_result is (record { means = ap (λ x. replies at x s) g })
+ruled at (Err failure.Memory) d g is = by_result is (record { means = tt })
 
 -- values that were gained, and those that follow
 abbrev pub after : List Value → Reply (List Value) → Reply (List Value)

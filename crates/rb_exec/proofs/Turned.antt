@@ -17,8 +17,8 @@ use Rattle.rb_engine.specs.Misses.{at_place}
 use Rattle.rb_engine.specs.Servers.{TakesUnit}
 use Rattle.rb_exec.specs.declared.blocks.Block.{Block}
 use Rattle.rb_engine.specs.Ends.{fault_of}
-use Rattle.rb_engine.specs.declared.ends.Refusal.{Refusal}
-use Rattle.rb_engine.specs.declared.ends.Refusal.TheVariants as refusal
+use Rattle.rb_engine.specs.declared.ends.Failure.{Failure}
+use Rattle.rb_engine.specs.declared.ends.Failure.TheVariants as failure
 use Rattle.rb_trees.proofs.mirror.Nodes.{at_Node}
 use Rattle.rb_engine.specs.declared.misses.Miss.{Miss}
 use Rattle.rb_engine.specs.declared.misses.Miss.TheVariants as miss
@@ -152,19 +152,19 @@ turn_faults : (id at : ℕ) (keep : Bool) (row : Value) (f : Fault) (block : Ser
     → turn_over id at keep block row s ≡ stopped id at f s
 turn_faults id at keep row f block s e = fault_by id at keep (may_keep keep row) row f block s e
 
-pub begins_so : (at : ℕ) (o : Result (List entry.Entry) Refusal) (d : Result (List entry.Entry) Fault) (t : Result (List entry.Entry) Miss) (es : List entry.Entry)
+pub begins_so : (at : ℕ) (o : Result (List entry.Entry) Failure) (d : Result (List entry.Entry) Fault) (t : Result (List entry.Entry) Miss) (es : List entry.Entry)
     → Gives (λ x. x) fault_of o d → t ≡ at_place at o → t ≡ Ok es → d ≡ Ok es
 begins_so at (Ok x) d t es g is was = let same : x ≡ es = cc (is, was) in g ∙ ap Ok same
-begins_so at (Err (refusal.Fault f)) d t es g is was = absurd (cc (is, was))
-begins_so at (Err refusal.Memory) d t es g is was = absurd (cc (is, was))
+begins_so at (Err (failure.Fault f)) d t es g is was = absurd (cc (is, was))
+begins_so at (Err failure.Memory) d t es g is was = absurd (cc (is, was))
 
 -- A turn whose row may not be kept is its fault alone.
-pub turn_faulted : (id at place : ℕ) (keep : Bool) (row : Value) (f : Fault) (block : Server → Ran) (s : Server) (made : Block) (o : Result (List entry.Entry) Refusal) (t : Result (List entry.Entry) Miss)
+pub turn_faulted : (id at place : ℕ) (keep : Bool) (row : Value) (f : Fault) (block : Server → Ran) (s : Server) (made : Block) (o : Result (List entry.Entry) Failure) (t : Result (List entry.Entry) Miss)
     → Gives (λ x. x) fault_of o (row_entries keep row) → t ≡ at_place at o → t ≡ Err (miss.Fault place f)
     → made ≡ record { node = record { entries = []; fault = Some (record { step = id; at = place; fault = f }) }; stopped = true }
     → IsRun (turn_over id at keep block row s) made s
 turn_faulted id at place keep row f block s made (Ok x) t g is was e = absurd (cc (is, was))
-turn_faulted id at place keep row f block s made (Err (refusal.Fault x)) t g is was e =
+turn_faulted id at place keep row f block s made (Err (failure.Fault x)) t g is was e =
     let same : x ≡ f = cc (is, was) in
     let there : at ≡ place = cc (is, was) in
     let meant : turn_over id at keep block row s ≡ stopped id place f s =
@@ -174,7 +174,7 @@ turn_faulted id at place keep row f block s made (Err (refusal.Fault x)) t g is 
       stopped_so = ap (λ b. b.stopped) e ∙ ap (λ r. is_some r.fault) (sym meant);
       server_so = ap (λ r. r.server) (sym meant);
     }
-turn_faulted id at place keep row f block s made (Err refusal.Memory) t g is was e = absurd (cc (is, was))
+turn_faulted id at place keep row f block s made (Err failure.Memory) t g is was e = absurd (cc (is, was))
 
 -- units of fuel
 pub unit_missing : (s s1 : Server) (b : Bool) → TakesUnit s b s1 → b ≡ false → (s.fuel ≡ 0) × (s1 ≡ s)

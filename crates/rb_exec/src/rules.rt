@@ -4,22 +4,22 @@ ghost use Rattle.std.specs.Prelude.{◌≡◌, ◌++◌, slice_get, OnOk};
 ghost use Rattle.rb_trees.specs.Outcome.{Gives, known};
 ghost use Rattle.rb_trees.specs.declared.values.Value.{out-Value};
 ghost use Rattle.rb_engine.specs.Ends.{fault_of};
-ghost use Rattle.rb_engine.specs.declared.ends.Refusal.TheVariants as refusal;
+ghost use Rattle.rb_engine.specs.declared.ends.Failure.TheVariants as failure;
 ghost use Rattle.rb_meaning_code.specs.Faults as faults;
 ghost use Rattle.rb_meaning_code.specs.Remote as remote;
 ghost use Rattle.rb_meaning_code.specs.ScriptRun as meant;
 ghost use Rattle.rb_exec.specs.Blocks as blocks;
 
 use crate::variables::Variables;
-use rb_engine::Refusal;
+use rb_engine::Failure;
 use rb_trees::{Entry, Fault, Memory, Seq, Shared, Value, copy_value, fault_codes};
 use std::alloc::Global;
 
 // The fault Kind.
-fn kind(alloc: Global) -> Refusal
-    ensures { result ≡ refusal.Fault faults.kind }
+fn kind(alloc: Global) -> Failure
+    ensures { result ≡ failure.Fault faults.kind }
 {
-    Refusal::Fault(Fault {
+    Failure::Fault(Fault {
         code: fault_codes::KIND,
         text: Seq::new(alloc),
     })
@@ -37,7 +37,7 @@ pub fn fuel_used(alloc: Global) -> Fault
 
 /// The value of an input, which has to be there.
 #[inline(never)]
-pub fn input(alloc: Global, inputs: &[Value], number: u8) -> Result<Value, Refusal>
+pub fn input(alloc: Global, inputs: &[Value], number: u8) -> Result<Value, Failure>
     ensures { Gives (λ v. v) fault_of result (known faults.kind (slice_get inputs.now number)) }
 {
     match inputs.get(number as usize) {
@@ -48,7 +48,7 @@ pub fn input(alloc: Global, inputs: &[Value], number: u8) -> Result<Value, Refus
 
 /// The latest value of a variable, which has to be bound.
 #[inline(never)]
-pub fn variable(alloc: Global, variables: &Variables, number: u32) -> Result<Value, Refusal>
+pub fn variable(alloc: Global, variables: &Variables, number: u32) -> Result<Value, Failure>
     ensures { Gives (λ v. v) fault_of result (known faults.kind (meant.latest variables.now number)) }
 {
     match variables.find(number) {
@@ -72,7 +72,7 @@ fn is_primitive(value: &Value) -> bool
 
 /// A value that is kept has to be primitive: `may_keep`.
 #[inline(never)]
-pub fn may_keep(alloc: Global, keep: bool, value: &Value) -> Result<(), Refusal>
+pub fn may_keep(alloc: Global, keep: bool, value: &Value) -> Result<(), Failure>
     ensures { Gives (λ u. u) fault_of result (meant.may_keep keep value.now) }
 {
     if keep && !is_primitive(value) {
@@ -84,7 +84,7 @@ pub fn may_keep(alloc: Global, keep: bool, value: &Value) -> Result<(), Refusal>
 /// The rows of a value: `rows_in`.
 #[inline(never)]
 #[tactic(auto, using(rb_engine::proofs::Values::values))]
-pub fn rows_in(alloc: Global, value: &Value) -> Result<Shared<Seq<Value>>, Refusal>
+pub fn rows_in(alloc: Global, value: &Value) -> Result<Shared<Seq<Value>>, Failure>
     ensures { Gives (λ rows. rows) fault_of result (remote.rows_in (out-Value value.now)) }
 {
     match value {
@@ -106,7 +106,7 @@ pub fn add_kept(entries: &mut Seq<Entry>, keep: bool, value: &Value) -> Result<(
 
 /// The entries that the node of a turn begins with: its row, where it is kept.
 #[inline(never)]
-pub fn row_entries(alloc: Global, keep: bool, row: &Value) -> Result<Seq<Entry>, Refusal>
+pub fn row_entries(alloc: Global, keep: bool, row: &Value) -> Result<Seq<Entry>, Failure>
     ensures { Gives (λ entries. entries) fault_of result (blocks.row_entries keep row.now) }
 {
     may_keep(alloc, keep, row)?;

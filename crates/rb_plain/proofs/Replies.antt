@@ -5,8 +5,8 @@ use Rattle.rb_trees.specs.Outcome.{Gives}
 use Rattle.rb_trees.specs.declared.values.Fault.{Fault}
 use Rattle.rb_engine.specs.Ends.{fault_of}
 use Rattle.rb_engine.specs.Misses.{Means, at_place}
-use Rattle.rb_engine.specs.declared.ends.Refusal.{Refusal}
-use Rattle.rb_engine.specs.declared.ends.Refusal.TheVariants as refusal
+use Rattle.rb_engine.specs.declared.ends.Failure.{Failure}
+use Rattle.rb_engine.specs.declared.ends.Failure.TheVariants as failure
 use Rattle.rb_engine.specs.declared.misses.Miss.{Miss}
 use Rattle.rb_engine.specs.declared.misses.Miss.TheVariants as miss
 use Rattle.rb_meaning_code.specs.Remote.{Server, Reply, Got, Stopped, and_then, replies}
@@ -87,10 +87,10 @@ missed {B = B} {m = m} {t = t} {w = w} {w1 = w1} {h = h} k f is e = by_result e 
 })
 
 -- what a rule gives at a position
-pub ruled : {A : Type 0} {t : Result A Miss} {w : RemoteWorld} (at : ℕ) (o : Result A Refusal) (d : Result A Fault) → Gives (λ a. a) fault_of o d → t ≡ at_place at o → Ended (replies at d w.server) t w w
+pub ruled : {A : Type 0} {t : Result A Miss} {w : RemoteWorld} (at : ℕ) (o : Result A Failure) (d : Result A Fault) → Gives (λ a. a) fault_of o d → t ≡ at_place at o → Ended (replies at d w.server) t w w
 ruled {w = w} at (Ok a) d g is = by_result is (record { means = ap (λ x. replies at x w.server) g; stage_so = refl })
-ruled {w = w} at (Err (refusal.Fault f)) d g is = by_result is (record { means = ap (λ x. replies at x w.server) g; stage_so = refl })
-ruled at (Err refusal.Memory) d g is = by_result is (record { means = tt; stage_so = tt })
+ruled {w = w} at (Err (failure.Fault f)) d g is = by_result is (record { means = ap (λ x. replies at x w.server) g; stage_so = refl })
+ruled at (Err failure.Memory) d g is = by_result is (record { means = tt; stage_so = tt })
 
 two_in_row : {B C D : Type 0} (m : Reply B) (l : B → Server → Reply C) (j : C → Server → Reply D) → and_then m (λ b s1. and_then (l b s1) j) ≡ and_then (and_then m l) j
 two_in_row (Got b s) l j = refl

@@ -6,7 +6,7 @@ ghost use Rattle.rb_plain.specs.Worlds.{Prints};
 use crate::lines::whole_line;
 use crate::remote_world::RemoteWorld;
 use rb_base::{Failed, Sink, write_whole};
-use rb_engine::{Frame, Halt, State, Step, World};
+use rb_engine::{Frame, Halt, RunResult, State, World};
 use rb_trees::{Seq, Value};
 
 /// The surroundings of the code in a batch: its lines go to the output, its remote calls are performed where they stand,
@@ -20,7 +20,7 @@ pub struct BatchWorld<'a, 'o, W> {
 
 impl<'a, 'o, W: Sink> BatchWorld<'a, 'o, W> {
     /// Writes a line with its line feed.
-    pub fn print(&mut self, bytes: &[u8]) -> Step<(), Failed>
+    pub fn print(&mut self, bytes: &[u8]) -> RunResult<(), Failed>
         ensures { Answered (as_value result) (λ a. Prints W.Sink self.old bytes.now a self.new) }
     {
         let Ok(text) = whole_line(self.remote.alloc, bytes) else {
@@ -42,15 +42,15 @@ impl<'a, 'o, W: Sink> World for BatchWorld<'a, 'o, W> {
 
     ghost performs = { batch_performs W.Sink };
 
-    fn line(&mut self, _at: u32, bytes: &[u8]) -> Step<(), Failed> {
+    fn line(&mut self, _at: u32, bytes: &[u8]) -> RunResult<(), Failed> {
         self.print(bytes)
     }
 
-    fn batch(&mut self, at: u32, _state: &mut State, _frame: &mut Frame) -> Step<(), Failed> {
+    fn batch(&mut self, at: u32, _state: &mut State, _frame: &mut Frame) -> RunResult<(), Failed> {
         Ok(Err(self.remote.refuse(at)))
     }
 
-    fn taken(&mut self, _step: u32) -> Step<Value, Failed> {
+    fn taken(&mut self, _step: u32) -> RunResult<Value, Failed> {
         Ok(Err(self.remote.refuse(0)))
     }
 
@@ -60,18 +60,18 @@ impl<'a, 'o, W: Sink> World for BatchWorld<'a, 'o, W> {
         target: Value,
         method: &[u8],
         args: Seq<Value>,
-    ) -> Step<Value, Failed> {
+    ) -> RunResult<Value, Failed> {
         match self.remote.call(at, target, method, args) {
             Ok(answer) => Ok(answer),
             Err(_) => Err(Halt::Memory),
         }
     }
 
-    fn turn(&mut self, at: u32) -> Step<(), Failed> {
+    fn turn(&mut self, at: u32) -> RunResult<(), Failed> {
         Ok(self.remote.take_unit(at))
     }
 
-    fn list_turn(&mut self, _at: u32) -> Step<(), Failed> {
+    fn list_turn(&mut self, _at: u32) -> RunResult<(), Failed> {
         Ok(Ok(()))
     }
 }

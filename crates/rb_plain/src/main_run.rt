@@ -8,7 +8,7 @@ use crate::outer_world::OuterWorld;
 use crate::run::PlainStop;
 use rb_base::{Failed, Sink};
 use rb_code::Code;
-use rb_engine::{Frame, Halt, State, Step, eval, exec};
+use rb_engine::{Frame, Halt, RunResult, State, eval, exec};
 use rb_heap::Heap;
 use rb_trees::{Body, Ending, Expr, Value};
 use std::alloc::Global;
@@ -21,7 +21,7 @@ fn main_value<W: Sink>(
     frame: &Frame,
     world: &mut OuterWorld<'_, '_, '_, '_, W>,
     value: &Option<Expr>,
-) -> Step<Option<Value>, Failed>
+) -> RunResult<Option<Value>, Failed>
     ensures { LeadsWithin W.Sink (result_run code.now value.now) (local frame.now state.old) world.old result world.new }
 {
     let Some(expr) = value else {
@@ -41,7 +41,7 @@ fn run_main<W: Sink>(
     state: &mut State,
     world: &mut OuterWorld<'_, '_, '_, '_, W>,
     body: &Body,
-) -> Step<Option<Value>, Failed>
+) -> RunResult<Option<Value>, Failed>
     ensures { Leads W.Sink (body_run code.now body.now (local [] state.old)) world.old result world.new }
 {
     let mut frame = Frame::make(alloc);

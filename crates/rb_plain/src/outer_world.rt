@@ -12,7 +12,7 @@ use crate::batches::{Batches, root_of};
 use crate::remote_world::RemoteWorld;
 use crate::stage::Stage;
 use rb_base::{Failed, Sink};
-use rb_engine::{Frame, Halt, State, Step, World, exec_slice};
+use rb_engine::{Frame, Halt, RunResult, State, World, exec_slice};
 use rb_flow::OpenBatch;
 use rb_heap::Heap;
 use rb_trees::{Seq, Value, Word};
@@ -59,8 +59,8 @@ fn settled(
     remote: &mut RemoteWorld<'_>,
     batch: &OpenBatch<'_>,
     start: Start,
-    ended: Step<(), Failed>,
-) -> Step<(), Failed>
+    ended: RunResult<(), Failed>,
+) -> RunResult<(), Failed>
     ensures { SettlesStep batch.now start ended result remote.old remote.new }
 {
     match ended {
@@ -81,7 +81,7 @@ fn perform<W: Sink>(
     batch: &OpenBatch<'_>,
     state: &mut State,
     frame: &mut Frame,
-) -> Step<(), Failed>
+) -> RunResult<(), Failed>
     ensures fuel { state.new.fuel ≤ state.old.fuel }
     ensures depth { state.new.depth ≡ state.old.depth }
     ensures performs { let before = local frame.old state.old in
@@ -111,11 +111,11 @@ impl<'p, 'b, 'a, 'o, W: Sink> World for OuterWorld<'p, 'b, 'a, 'o, W> {
 
     ghost performs = { outer_performs W.Sink };
 
-    fn line(&mut self, _at: u32, bytes: &[u8]) -> Step<(), Failed> {
+    fn line(&mut self, _at: u32, bytes: &[u8]) -> RunResult<(), Failed> {
         self.inner.print(bytes)
     }
 
-    fn batch(&mut self, at: u32, state: &mut State, frame: &mut Frame) -> Step<(), Failed> {
+    fn batch(&mut self, at: u32, state: &mut State, frame: &mut Frame) -> RunResult<(), Failed> {
         let batches = self.batches;
         let Some(batch) = batches.find(at) else {
             return Ok(Err(self.inner.remote.refuse(at)));
@@ -129,7 +129,7 @@ impl<'p, 'b, 'a, 'o, W: Sink> World for OuterWorld<'p, 'b, 'a, 'o, W> {
         }
     }
 
-    fn taken(&mut self, _step: u32) -> Step<Value, Failed> {
+    fn taken(&mut self, _step: u32) -> RunResult<Value, Failed> {
         Ok(Err(self.inner.remote.refuse(0)))
     }
 
@@ -139,15 +139,15 @@ impl<'p, 'b, 'a, 'o, W: Sink> World for OuterWorld<'p, 'b, 'a, 'o, W> {
         _target: Value,
         _method: &[u8],
         _args: Seq<Value>,
-    ) -> Step<Value, Failed> {
+    ) -> RunResult<Value, Failed> {
         Ok(Err(self.inner.remote.refuse(at)))
     }
 
-    fn turn(&mut self, at: u32) -> Step<(), Failed> {
+    fn turn(&mut self, at: u32) -> RunResult<(), Failed> {
         Ok(Err(self.inner.remote.refuse(at)))
     }
 
-    fn list_turn(&mut self, _at: u32) -> Step<(), Failed> {
+    fn list_turn(&mut self, _at: u32) -> RunResult<(), Failed> {
         Ok(Ok(()))
     }
 }

@@ -6,7 +6,7 @@ ghost use Rattle.rb_meaning_code.specs.Faults.{raised, raised_remotely};
 ghost use Rattle.rb_plain.specs.Remote.{Ended, IsAnswered, SameStage, as_unit, call_meant, turn_meant, value_meant};
 
 use crate::stage::Stage;
-use rb_engine::{Frame, Halt, Miss, Server, State, Step, World, eval};
+use rb_engine::{Frame, Halt, Miss, RunResult, Server, State, World, eval};
 use rb_heap::Heap;
 use rb_trees::{Expr, Fault, Memory, Raised, Seq, Value, fault_codes};
 use std::alloc::Global;
@@ -109,15 +109,15 @@ impl<'a> World for RemoteWorld<'a> {
 
     ghost performs = { remote_performs };
 
-    fn line(&mut self, _at: u32, _bytes: &[u8]) -> Step<(), Memory> {
+    fn line(&mut self, _at: u32, _bytes: &[u8]) -> RunResult<(), Memory> {
         Ok(Err(self.refuse(0)))
     }
 
-    fn batch(&mut self, at: u32, _state: &mut State, _frame: &mut Frame) -> Step<(), Memory> {
+    fn batch(&mut self, at: u32, _state: &mut State, _frame: &mut Frame) -> RunResult<(), Memory> {
         Ok(Err(self.refuse(at)))
     }
 
-    fn taken(&mut self, _step: u32) -> Step<Value, Memory> {
+    fn taken(&mut self, _step: u32) -> RunResult<Value, Memory> {
         Ok(Err(self.refuse(0)))
     }
 
@@ -127,18 +127,18 @@ impl<'a> World for RemoteWorld<'a> {
         target: Value,
         method: &[u8],
         args: Seq<Value>,
-    ) -> Step<Value, Memory> {
+    ) -> RunResult<Value, Memory> {
         match self.call(at, target, method, args) {
             Ok(answer) => Ok(answer),
             Err(Memory) => Err(Halt::Memory),
         }
     }
 
-    fn turn(&mut self, at: u32) -> Step<(), Memory> {
+    fn turn(&mut self, at: u32) -> RunResult<(), Memory> {
         Ok(self.take_unit(at))
     }
 
-    fn list_turn(&mut self, _at: u32) -> Step<(), Memory> {
+    fn list_turn(&mut self, _at: u32) -> RunResult<(), Memory> {
         Ok(Err(self.refuse(0)))
     }
 }

@@ -14,7 +14,7 @@ ghost use Rattle.rb_plain.specs.Walks.{Kept, Walked, block_meant, branch_meant, 
 
 use crate::remote_parts::{perform_both, perform_in};
 use crate::remote_world::{RemoteWorld, value_of};
-use rb_engine::{Frame, Miss, Refusal, at_place, truth_of};
+use rb_engine::{Failure, Frame, Miss, at_place, truth_of};
 use rb_flow::is_portable;
 use rb_marks::{Scope, branches_hold};
 use rb_meaning_flow::Role;
@@ -44,12 +44,12 @@ fn plain_fault(alloc: Global, code: u8) -> Fault
 // The rows of a value: `rows_in`.
 #[inline(never)]
 #[tactic(auto, using(rb_engine::proofs::Values::values))]
-fn rows_in(alloc: Global, value: &Value) -> Result<Shared<Seq<Value>>, Refusal>
+fn rows_in(alloc: Global, value: &Value) -> Result<Shared<Seq<Value>>, Failure>
     ensures { Gives (λ rows. rows) fault_of result (remote.rows_in (out-Value value.now)) }
 {
     match value {
         Value::Rows(rows) => Ok(rows.share()?),
-        _ => Err(Refusal::Fault(plain_fault(alloc, fault_codes::KIND))),
+        _ => Err(Failure::Fault(plain_fault(alloc, fault_codes::KIND))),
     }
 }
 

@@ -8,11 +8,11 @@ ghost use Rattle.rb_session.specs.Answering.{IsTypedHost, IsSent, Replies, Perfo
 
 use bytes::BytesMut;
 use rb_exec::{Host, run_script};
+use rb_law_types::{lawful_code_is_formed, scripts_keep_tables};
 use rb_meaning_bytes::{
     each_script_has_one_spelling, refusals_have_numbers, the_code_has_its_size,
 };
 use rb_trees::{Memory, Script, Value};
-use rb_law_types::{lawful_code_is_formed, scripts_keep_tables};
 use rb_wire_forest::{encode_forest, encode_refusal};
 use rb_wire_script::{ScriptStop, decode_script};
 use std::alloc::Global;

@@ -9,8 +9,8 @@ use Rattle.rb_trees.specs.mirror.Scripts.{SExpr, SExprs}
 use Rattle.rb_meaning_flow.specs.Facts.{Facts, facts_of}
 use Rattle.rb_meaning_split.specs.Refs as ref
 use Rattle.rb_meaning_split.specs.Refs.{Ref, Refs, sexpr, sexprs}
-use Rattle.rb_split.specs.declared.refs.Target.{Target}
-use Rattle.rb_split.specs.declared.refs.Target.TheVariants as target
+use Rattle.rb_split.specs.declared.refs.Referent.{Referent}
+use Rattle.rb_split.specs.declared.refs.Referent.TheVariants as target
 use Rattle.rb_split.specs.declared.refs.Known.{Known}
 
 -- what the types of a program tell
@@ -18,7 +18,7 @@ abbrev pub facts : program.Program → Facts
 facts p = facts_of (mirror_program p)
 
 -- what a script calls a variable
-abbrev pub ref_of : Target → Ref
+abbrev pub ref_of : Referent → Ref
 ref_of target.Root = ref.Root
 ref_of (target.Input number) = ref.Input number
 ref_of (target.Var number) = ref.Var number

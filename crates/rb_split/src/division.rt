@@ -11,7 +11,7 @@ ghost use Rattle.rb_split.specs.Views.{refs_of};
 
 use crate::drafts::Draft;
 use crate::inputs::inputs_of;
-use crate::refs::{Refs, Target};
+use crate::refs::{Referent, Refs};
 use crate::scopes::copy_scope;
 use crate::stops::SplitStop;
 use crate::walk::draft_block;
@@ -40,9 +40,9 @@ fn first_refs(alloc: Global, root: &Word, inputs: &[Word]) -> Result<Refs, Memor
     ensures { IfOk result (λ refs. refs_of refs ≡ meant.first_refs root.now inputs.now) }
 {
     let mut refs = Refs::new(alloc);
-    refs.bind(alloc, root, Target::Root)?;
+    refs.bind(alloc, root, Referent::Root)?;
     'inputs: for i in 0..inputs.len() {
-        refs.bind(alloc, &inputs[i], Target::Input(i as u8))?;
+        refs.bind(alloc, &inputs[i], Referent::Input(i as u8))?;
     }
     Ok(refs)
 }

@@ -9,7 +9,7 @@ ghost use Rattle.rb_trees.specs.mirror.Scripts.{mirror_sexpr, mirror_sexprs};
 ghost use Rattle.rb_meaning_split.specs.Refs.{ref_expr};
 ghost use Rattle.rb_split.specs.Views.{all_in_script, in_script, ref_of};
 
-use crate::refs::{Refs, Target};
+use crate::refs::{Referent, Refs};
 use rb_marks::Facts;
 use rb_trees::{
     BinOp, Boxed, Expr, ExprForm, Invocation, Memory, Operands, SExpr, Seq, UnOp, Word, copy_value,
@@ -18,13 +18,13 @@ use rb_trees::{
 use std::alloc::Global;
 
 // A portable variable in a script.
-fn of_target(target: Option<Target>) -> SExpr
+fn of_target(target: Option<Referent>) -> SExpr
     ensures { mirror_sexpr result ≡ ref_expr (option_map ref_of target) }
 {
     match target {
-        Some(Target::Root) => SExpr::Root,
-        Some(Target::Input(number)) => SExpr::Input(number),
-        Some(Target::Var(number)) => SExpr::Var(number),
+        Some(Referent::Root) => SExpr::Root,
+        Some(Referent::Input(number)) => SExpr::Input(number),
+        Some(Referent::Var(number)) => SExpr::Var(number),
         None => SExpr::Root,
     }
 }

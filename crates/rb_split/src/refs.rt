@@ -12,7 +12,7 @@ use std::marker::Model;
 
 /// What a script calls a portable variable: the root, an input or a variable of its own.
 #[derive(Clone, Copy)]
-pub enum Target {
+pub enum Referent {
     Root,
     Input(u8),
     Var(u32),
@@ -22,7 +22,7 @@ pub enum Target {
 #[derive(Drop)]
 pub struct Known {
     pub name: Word,
-    pub target: Target,
+    pub target: Referent,
 }
 
 /// The portable variables, in order of binding. Contracts see their list.
@@ -61,7 +61,7 @@ impl Refs {
 
     /// What a name is in the script.
     #[tactic(auto, using(crate::proofs::Placed::ref_placed))]
-    pub fn find(&self, name: &Word) -> Option<Target>
+    pub fn find(&self, name: &Word) -> Option<Referent>
         ensures { option_map ref_of result ≡ lookup (refs_of self.now) name.now }
     {
         match self.names.find(name) {
@@ -74,7 +74,7 @@ impl Refs {
     }
 
     /// Adds a variable at the end.
-    pub fn bind(&mut self, alloc: Global, name: &Word, target: Target) -> Result<(), Memory>
+    pub fn bind(&mut self, alloc: Global, name: &Word, target: Referent) -> Result<(), Memory>
         ensures { OnOk result (self.new ≡ self.old ++ record { name = name.now; target = target } ∷ []) }
     {
         let count = self.variables.len();

@@ -9,7 +9,7 @@ ghost use Rattle.rb_meaning_flow.specs.Sites as sites;
 ghost use Rattle.rb_meaning_split.specs.Steps as meant;
 ghost use Rattle.rb_split.specs.Views.{facts, refs_of};
 
-use crate::refs::{Refs, Target};
+use crate::refs::{Referent, Refs};
 use rb_flow::is_portable;
 use rb_marks::{Facts, Scope};
 use rb_meaning_flow::Role;
@@ -69,7 +69,7 @@ pub fn refer_after(
     match &s.form {
         StmtForm::Val(name, e) => {
             if is_portable(x, scope, e) {
-                refs.bind(alloc, name, Target::Var(var))
+                refs.bind(alloc, name, Referent::Var(var))
             } else {
                 Ok(())
             }

@@ -17,7 +17,7 @@ use crate::exprs::script_expr;
 use crate::keeps::keep_all;
 use crate::numbers::next;
 use crate::plain::cut_stmt;
-use crate::refs::{Refs, Target};
+use crate::refs::{Referent, Refs};
 use crate::remote::{is_remote, remote_of};
 use crate::scopes::{bind_after, refer_after};
 use rb_flow::is_portable;
@@ -363,7 +363,7 @@ fn draft_turn(
     let names = refs.len();
     let after = next(var)?;
     let mut draft = Draft::new(alloc, step, after);
-    refs.bind(alloc, name, Target::Var(var))?;
+    refs.bind(alloc, name, Referent::Var(var))?;
     scope.bind(alloc, name, Role::Row, at)?;
     draft_all(alloc, x, scope, refs, &mut draft, ss)?;
     scope.truncate(variables);

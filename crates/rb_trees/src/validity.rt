@@ -83,40 +83,40 @@ fn any_binds(steps: &[Step], var: u32) -> bool
 
 /// What stands around a step: which steps were read before, and which variables are bound.
 #[derive(Drop)]
-enum Scope<'a> {
+enum Around<'a> {
     Root,
     /// The variable of an Each whose block is read.
-    Row(u32, &'a Scope<'a>),
+    Row(u32, &'a Around<'a>),
     /// The number of a step that is read.
-    Step(u32, &'a Scope<'a>),
+    Step(u32, &'a Around<'a>),
     /// The earlier steps of a block that is read.
-    Block(&'a [Step], &'a Scope<'a>),
+    Block(&'a [Step], &'a Around<'a>),
     /// A block that was read whole.
-    Closed(&'a [Step], &'a Scope<'a>),
+    Closed(&'a [Step], &'a Around<'a>),
 }
 
 #[tactic(auto, using(crate::proofs::rules::Scopes::scopes))]
-fn is_seen(scope: &Scope, id: u32) -> bool
+fn is_seen(scope: &Around, id: u32) -> bool
     ensures { result ≡ has id (seen scope.now) }
 {
     match scope {
-        Scope::Root => false,
-        Scope::Row(_, outer) => is_seen(outer, id),
-        Scope::Step(own, outer) => is_seen(outer, id) || id == *own,
-        Scope::Block(steps, outer) | Scope::Closed(steps, outer) => is_seen(outer, id)
+        Around::Root => false,
+        Around::Row(_, outer) => is_seen(outer, id),
+        Around::Step(own, outer) => is_seen(outer, id) || id == *own,
+        Around::Block(steps, outer) | Around::Closed(steps, outer) => is_seen(outer, id)
             || any_numbered(steps, id),
     }
 }
 
 #[tactic(auto, using(crate::proofs::rules::Scopes::scopes))]
-fn is_bound(scope: &Scope, var: u32) -> bool
+fn is_bound(scope: &Around, var: u32) -> bool
     ensures { result ≡ has var (bound scope.now) }
 {
     match scope {
-        Scope::Root => false,
-        Scope::Row(own, outer) => is_bound(outer, var) || var == *own,
-        Scope::Step(_, outer) | Scope::Closed(_, outer) => is_bound(outer, var),
-        Scope::Block(steps, outer) => is_bound(outer, var) || any_binds(steps, var),
+        Around::Root => false,
+        Around::Row(own, outer) => is_bound(outer, var) || var == *own,
+        Around::Step(_, outer) | Around::Closed(_, outer) => is_bound(outer, var),
+        Around::Block(steps, outer) => is_bound(outer, var) || any_binds(steps, var),
     }
 }
 
@@ -125,7 +125,7 @@ fn is_bound(scope: &Scope, var: u32) -> bool
 fn check_expr(
     expr: &SExpr,
     inputs: u8,
-    scope: &Scope,
+    scope: &Around,
     step: u32,
     depth: u32,
 ) -> Result<(), ScriptRefusal>
@@ -169,7 +169,7 @@ fn check_expr(
 fn check_exprs(
     exprs: &[SExpr],
     inputs: u8,
-    scope: &Scope,
+    scope: &Around,
     step: u32,
     depth: u32,
 ) -> Result<(), ScriptRefusal>
@@ -183,7 +183,7 @@ fn check_exprs(
 
 /// An expression that stands in a step.
 #[tactic(auto, unfolding(crate::specs::Validity::whole_refusals))]
-fn check_whole(expr: &SExpr, inputs: u8, scope: &Scope, step: u32) -> Result<(), ScriptRefusal>
+fn check_whole(expr: &SExpr, inputs: u8, scope: &Around, step: u32) -> Result<(), ScriptRefusal>
     ensures { result ≡ first (whole_refusals inputs (bound scope.now) step (mirror_sexpr expr.now)) }
 {
     check_expr(expr, inputs, scope, step, 1)
@@ -207,12 +207,12 @@ fn check_block<'x>(
     steps: &'x [Step],
     inputs: u8,
     depth: u32,
-    scope: &'x Scope<'x>,
+    scope: &'x Around<'x>,
 ) -> Result<(), ScriptRefusal>
     ensures { result ≡ first (steps_refusals inputs depth (seen scope.now) (bound scope.now) (mirror_steps steps.now)) }
 {
     for i in 0..steps.len() {
-        let here = Scope::Block(&steps[..i], scope);
+        let here = Around::Block(&steps[..i], scope);
         check_step(&steps[i], inputs, depth, &here)?;
     }
     Ok(())
@@ -224,7 +224,7 @@ fn check_step<'x>(
     step: &'x Step,
     inputs: u8,
     depth: u32,
-    scope: &'x Scope<'x>,
+    scope: &'x Around<'x>,
 ) -> Result<(), ScriptRefusal>
     ensures { result ≡ first (step_refusals inputs depth (seen scope.now) (bound scope.now) (mirror_step step.now)) }
 {
@@ -241,7 +241,7 @@ fn check_form<'x>(
     step: &'x Step,
     inputs: u8,
     depth: u32,
-    scope: &'x Scope<'x>,
+    scope: &'x Around<'x>,
 ) -> Result<(), ScriptRefusal>
     requires { has step.now.id (seen scope.now) ≡ false }
     ensures { result ≡ first (step_refusals inputs depth (seen scope.now) (bound scope.now) (mirror_step step.now)) }
@@ -252,9 +252,9 @@ fn check_form<'x>(
         StepForm::If(condition, then_block, else_block) => {
             check_depth(step.id, depth)?;
             check_whole(condition, inputs, scope, step.id)?;
-            let own = Scope::Step(step.id, scope);
+            let own = Around::Step(step.id, scope);
             check_block(then_block.as_slice(), inputs, depth + 1, &own)?;
-            let after = Scope::Closed(then_block.as_slice(), &own);
+            let after = Around::Closed(then_block.as_slice(), &own);
             check_block(else_block.as_slice(), inputs, depth + 1, &after)
         }
         StepForm::Each {
@@ -265,8 +265,8 @@ fn check_form<'x>(
         } => {
             check_depth(step.id, depth)?;
             check_whole(rows, inputs, scope, step.id)?;
-            let own = Scope::Step(step.id, scope);
-            let row = Scope::Row(*var, &own);
+            let own = Around::Step(step.id, scope);
+            let row = Around::Row(*var, &own);
             check_block(body.as_slice(), inputs, depth + 1, &row)
         }
     }
@@ -278,5 +278,5 @@ fn check_form<'x>(
 pub fn valid(script: &Script) -> Result<(), ScriptRefusal>
     ensures { result ≡ verdict (mirror_script script.now) }
 {
-    check_block(script.body.as_slice(), script.inputs, 1, &Scope::Root)
+    check_block(script.body.as_slice(), script.inputs, 1, &Around::Root)
 }

@@ -7,7 +7,7 @@ ghost use Rattle.rb_trees.specs.mirror.Forests.{mirror_node, mirror_entries};
 ghost use Rattle.rb_meaning_bytes.specs.Fits as meaning;
 ghost use Rattle.rb_wire_forest.specs.Walks.{seen, step_told, seen_branch, seen_rows};
 
-use rb_trees::{CallKind, Entry, Item, Node, Value};
+use rb_trees::{Entry, Item, Node, Value};
 
 /// Where the walk of a node stands.
 #[derive(Clone, Copy)]
@@ -189,10 +189,7 @@ pub(crate) fn read_value<'a>(walk: &Walk<'a>, step: u32, kind: u8) -> Result<Wal
 fn is_kept(kind: u8) -> bool
     ensures { result ≡ meaning.is_kept kind }
 {
-    match CallKind::numbered(kind) {
-        Some(CallKind::One(Item::Int | Item::Bool | Item::Text)) => true,
-        Some(_) | None => false,
-    }
+    kind >= Item::Int.number() && kind <= Item::Text.number()
 }
 
 /// The walk behind the row that a turn's node begins with, where rows are kept.

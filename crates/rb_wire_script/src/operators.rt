@@ -6,7 +6,7 @@ ghost use Rattle.rb_meaning_bytes.specs.formats.Scripts.{unary_op, binary_op, ki
 ghost use Rattle.rb_trees.specs.Outcome.{Gives};
 ghost use Rattle.rb_wire_fields.specs.Stops.{fault_of};
 
-use rb_trees::{BinOp, UnOp};
+use rb_trees::{BinOp, CallKind, Item, UnOp};
 use rb_wire_fields::fields::{bad_tag, byte};
 use rb_wire_fields::stop::Stop;
 
@@ -55,7 +55,7 @@ pub(crate) fn kind(bytes: &[u8]) -> Result<(u8, &[u8]), Stop>
     ensures { Gives (λ x. (x.0, x.1.now)) fault_of result (read kind bytes.now) }
 {
     let (kind, rest) = byte(bytes)?;
-    if kind > 8 {
+    if kind > CallKind::Rows(Item::Object).number() {
         return Err(bad_tag(rest));
     }
     Ok((kind, rest))

@@ -8,8 +8,8 @@ use Rattle.rb_trees.specs.declared.validity.ScriptRefusal.TheVariants.{StepRepea
 use Rattle.rb_trees.specs.mirror.Scripts.{If, Each, Step, Steps, mirror_sexpr, mirror_step, mirror_step_form, mirror_steps}
 use Rattle.rb_trees.specs.Validity.{has, when, first, repeated, nested_blocks, whole_refusals, steps_numbers, steps_lets, step_refusals, steps_refusals}
 use Rattle.rb_trees.proofs.mirror.Steps.{at_Step, form_If, form_Each}
-use Rattle.rb_trees.specs.declared.validity.Scope.{Scope}
-use Rattle.rb_trees.specs.declared.validity.Scope.TheVariants as s
+use Rattle.rb_trees.specs.declared.validity.Around.{Around}
+use Rattle.rb_trees.specs.declared.validity.Around.TheVariants as s
 use Rattle.rb_trees.specs.Scopes.{seen, bound}
 use Rattle.rb_trees.proofs.rules.Scopes.{seen_Block, seen_Step, seen_Closed, seen_Row, bound_Block, bound_Step, bound_Closed, bound_Row}
 use Rattle.rb_trees.proofs.rules.Refusals.{first-append_ok, first-append_err}
@@ -50,27 +50,27 @@ each_gives inputs depth seen bound x var keep e a is new deep whole one o =
 
 -- ---- what stands around the blocks of a step
 
-pub in_own : (inputs depth : ℕ) (id : ℕ) (outer : Bor Scope) (ss : Steps)
+pub in_own : (inputs depth : ℕ) (id : ℕ) (outer : Bor Around) (ss : Steps)
     → first (steps_refusals inputs depth (seen (s.Step id outer)) (bound (s.Step id outer)) ss) ≡ first (steps_refusals inputs depth (seen outer.now ++ id ∷ []) (bound outer.now) ss)
 in_own inputs depth id outer ss =
     ap (λ l. first (steps_refusals inputs depth l (bound (s.Step id outer)) ss)) (seen_Step id outer)
     ∙ ap (λ l. first (steps_refusals inputs depth (seen outer.now ++ id ∷ []) l ss)) (bound_Step id outer)
 
-pub in_second : (inputs depth : ℕ) (steps : Bor (List rust.Step)) (own : Bor Scope) (id : ℕ) (outer : Bor Scope) (ss : Steps) → own.now ≡ s.Step id outer
+pub in_second : (inputs depth : ℕ) (steps : Bor (List rust.Step)) (own : Bor Around) (id : ℕ) (outer : Bor Around) (ss : Steps) → own.now ≡ s.Step id outer
     → first (steps_refusals inputs depth (seen (s.Closed steps own)) (bound (s.Closed steps own)) ss)
     ≡ first (steps_refusals inputs depth ((seen outer.now ++ id ∷ []) ++ steps_numbers (mirror_steps steps.now)) (bound outer.now) ss)
 in_second inputs depth steps own id outer ss is =
     ap (λ l. first (steps_refusals inputs depth l (bound (s.Closed steps own)) ss)) (seen_Closed steps own ∙ ap (λ o. seen o ++ steps_numbers (mirror_steps steps.now)) is ∙ ap (λ l. l ++ steps_numbers (mirror_steps steps.now)) (seen_Step id outer))
     ∙ ap (λ l. first (steps_refusals inputs depth ((seen outer.now ++ id ∷ []) ++ steps_numbers (mirror_steps steps.now)) l ss)) (bound_Closed steps own ∙ ap bound is ∙ bound_Step id outer)
 
-pub in_turn : (inputs depth : ℕ) (var : ℕ) (own : Bor Scope) (id : ℕ) (outer : Bor Scope) (ss : Steps) → own.now ≡ s.Step id outer
+pub in_turn : (inputs depth : ℕ) (var : ℕ) (own : Bor Around) (id : ℕ) (outer : Bor Around) (ss : Steps) → own.now ≡ s.Step id outer
     → first (steps_refusals inputs depth (seen (s.Row var own)) (bound (s.Row var own)) ss)
     ≡ first (steps_refusals inputs depth (seen outer.now ++ id ∷ []) (bound outer.now ++ var ∷ []) ss)
 in_turn inputs depth var own id outer ss is =
     ap (λ l. first (steps_refusals inputs depth l (bound (s.Row var own)) ss)) (seen_Row var own ∙ ap seen is ∙ seen_Step id outer)
     ∙ ap (λ l. first (steps_refusals inputs depth (seen outer.now ++ id ∷ []) l ss)) (bound_Row var own ∙ ap (λ o. bound o ++ var ∷ []) is ∙ ap (λ l. l ++ var ∷ []) (bound_Step id outer))
 
-pub in_block : (inputs depth : ℕ) (steps : Bor (List rust.Step)) (outer : Bor Scope) (x : Step)
+pub in_block : (inputs depth : ℕ) (steps : Bor (List rust.Step)) (outer : Bor Around) (x : Step)
     → first (step_refusals inputs depth (seen (s.Block steps outer)) (bound (s.Block steps outer)) x)
     ≡ first (step_refusals inputs depth (seen outer.now ++ steps_numbers (mirror_steps steps.now)) (bound outer.now ++ steps_lets (mirror_steps steps.now)) x)
 in_block inputs depth steps outer x =
