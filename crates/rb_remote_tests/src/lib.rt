@@ -1,17 +1,7 @@
-//! Tests of the commands over links that are dialled, and over sessions that come, in memory.
+//! Tests of clients over links, and of the commands over links and sessions.
 #![tactic(auto)]
 
 #[cfg(test)]
-mod calls;
+mod client;
 #[cfg(test)]
 mod commands;
-#[cfg(test)]
-mod near_runs;
-#[cfg(test)]
-mod pairs;
-#[cfg(test)]
-mod replies;
-#[cfg(test)]
-mod servers;
-#[cfg(test)]
-mod texts;

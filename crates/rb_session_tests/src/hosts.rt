@@ -37,6 +37,13 @@ pub fn host_of(alloc: Global, source: &[u8]) -> Result<Host, Fail>
     Err(Fail::new("two classes or methods have one name"))
 }
 
+/// The host of the service whose one method gives a number.
+pub fn number_host(alloc: Global) -> Result<Host, Fail>
+    ensures { IfOk result IsTypedHost }
+{
+    host_of(alloc, NUMBER)
+}
+
 /// The lines of a host's table.
 pub fn lines_of(alloc: Global, host: &Host) -> Result<Word, Fail> {
     Ok(print_table(alloc, host.table())?)

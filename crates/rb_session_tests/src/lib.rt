@@ -1,15 +1,13 @@
-//! Tests of answers, of the link in memory, and of sessions.
+//! Tests of answers, sessions, links, diallers and listeners, in memory and over the system's devices.
 #![tactic(auto)]
 
 #[cfg(test)]
-mod answers;
+mod base;
+#[cfg(test)]
+mod devices;
 #[cfg(test)]
 mod hosts;
 #[cfg(test)]
 mod links;
 #[cfg(test)]
-mod serving;
-#[cfg(test)]
-mod sessions;
-#[cfg(test)]
-mod streams;
+mod session;

@@ -1,0 +1,4 @@
+// Tests of admission.
+
+mod many;
+mod refusals;

@@ -1,0 +1,3 @@
+// Tests of marks and places.
+
+mod pictures;

@@ -1,0 +1,137 @@
+// Remainders as texts.
+//
+// A part is its form and its step, as `bind 3 x:1` with a name and a kind. A statement is `plain`, with its expressions as far as
+// something is taken in them, where `t` and a number is what the step of that number kept, and then each step with its kind.
+
+use crate::split::steps::add_number;
+use rb_trees::{Expr, ExprForm, Memory, Part, Seq, Stmt, StmtForm, Word};
+use std::alloc::Global;
+
+#[cycle(exprs)]
+fn add_expr(alloc: Global, e: &Expr, into: &mut Word) -> Result<(), Memory> {
+    match &e.form {
+        ExprForm::Taken(step) => add_number(alloc, "t", *step, into),
+        ExprForm::Name(name) => into.extend_from_slice(name.as_slice()),
+        ExprForm::Lit(_) | ExprForm::This => into.push(b'L'),
+        ExprForm::Unary(_, a) | ExprForm::Field(a, _) => add_expr(alloc, a.get(), into),
+        ExprForm::Binary(_, a, b) | ExprForm::Index(a, b) => {
+            add_expr(alloc, a.get(), into)?;
+            into.push(b'+')?;
+            add_expr(alloc, b.get(), into)
+        }
+        ExprForm::Call(a, _, args) => {
+            add_expr(alloc, a.get(), into)?;
+            add_exprs(alloc, args, into)
+        }
+        ExprForm::New(_, args) | ExprForm::Items(_, args) => add_exprs(alloc, args, into),
+    }
+}
+
+#[cycle(exprs)]
+fn add_exprs(alloc: Global, es: &Seq<Expr>, into: &mut Word) -> Result<(), Memory> {
+    into.push(b'(')?;
+    for e in es.as_slice() {
+        add_expr(alloc, e, into)?;
+        into.push(b',')?;
+    }
+    into.push(b')')
+}
+
+fn add_stmt(alloc: Global, s: &Stmt, into: &mut Word) -> Result<(), Memory> {
+    match &s.form {
+        StmtForm::Val(_, e) | StmtForm::Var(_, e) => add_expr(alloc, e, into),
+        StmtForm::Run(e) | StmtForm::Print(e) | StmtForm::Throw(e) => add_expr(alloc, e, into),
+        StmtForm::If(e, _, _) | StmtForm::While(e, _) => add_expr(alloc, e, into),
+        StmtForm::For(_, e, _) => add_expr(alloc, e, into),
+        StmtForm::Assign(a, b) => {
+            add_expr(alloc, a, into)?;
+            into.push(b'=')?;
+            add_expr(alloc, b, into)
+        }
+        StmtForm::Try(_, _, _) | StmtForm::Batch(_, _, _) => Ok(()),
+    }
+}
+
+fn add_takes(alloc: Global, takes: &[(u32, u8)], into: &mut Word) -> Result<(), Memory> {
+    for take in takes {
+        add_number(alloc, " ", take.0, into)?;
+        add_number(alloc, ":", u32::from(take.1), into)?;
+    }
+    Ok(())
+}
+
+// A name with a kind.
+fn add_name(alloc: Global, name: &Word, kind: u8, into: &mut Word) -> Result<(), Memory> {
+    into.push(b' ')?;
+    into.extend_from_slice(name.as_slice())?;
+    add_number(alloc, ":", u32::from(kind), into)
+}
+
+fn add_plain(
+    alloc: Global,
+    stmt: &Stmt,
+    takes: &Seq<(u32, u8)>,
+    into: &mut Word,
+) -> Result<(), Memory> {
+    into.extend_from_slice(b"plain ")?;
+    add_stmt(alloc, stmt, into)?;
+    add_takes(alloc, takes.as_slice(), into)
+}
+
+fn add_both(
+    alloc: Global,
+    step: u32,
+    name: &Word,
+    value: &Expr,
+    into: &mut Word,
+) -> Result<(), Memory> {
+    add_number(alloc, "both ", step, into)?;
+    into.push(b' ')?;
+    into.extend_from_slice(name.as_slice())?;
+    into.push(b'=')?;
+    add_expr(alloc, value, into)
+}
+
+#[cycle(parts)]
+fn add_part(alloc: Global, part: &Part, into: &mut Word) -> Result<(), Memory> {
+    match part {
+        Part::Plain(stmt, takes) => add_plain(alloc, stmt, takes, into),
+        Part::Pass(step) => add_number(alloc, "pass ", *step, into),
+        Part::Bind { step, name, kind } => {
+            add_number(alloc, "bind ", *step, into)?;
+            add_name(alloc, name, *kind, into)
+        }
+        Part::Both {
+            step,
+            name,
+            value,
+            ..
+        } => add_both(alloc, *step, name, value, into),
+        Part::Branch { step, yes, no } => {
+            add_number(alloc, "branch ", *step, into)?;
+            add_parts(alloc, yes, into)?;
+            add_parts(alloc, no, into)
+        }
+        Part::Turns {
+            step,
+            name,
+            kind,
+            body,
+        } => {
+            add_number(alloc, "turns ", *step, into)?;
+            add_name(alloc, name, *kind, into)?;
+            add_parts(alloc, body, into)
+        }
+    }
+}
+
+/// Adds the text of the parts of a block.
+#[cycle(parts)]
+pub fn add_parts(alloc: Global, parts: &Seq<Part>, into: &mut Word) -> Result<(), Memory> {
+    into.push(b'{')?;
+    for part in parts.as_slice() {
+        add_part(alloc, part, into)?;
+        into.push(b';')?;
+    }
+    into.push(b'}')
+}

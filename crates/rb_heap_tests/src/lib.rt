@@ -1,7 +1,0 @@
-//! Tests of the heap.
-#![tactic(auto)]
-
-#[cfg(test)]
-mod fields;
-#[cfg(test)]
-mod objects;

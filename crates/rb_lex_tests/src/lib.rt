@@ -1,5 +1,0 @@
-//! Tests of the lexer.
-#![tactic(auto)]
-
-#[cfg(test)]
-mod texts;

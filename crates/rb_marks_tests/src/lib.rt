@@ -1,5 +1,0 @@
-//! Tests of marks and places.
-#![tactic(auto)]
-
-#[cfg(test)]
-mod pictures;

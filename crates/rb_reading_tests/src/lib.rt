@@ -1,0 +1,9 @@
+//! Tests of trees, and of the way from text to tokens to trees.
+#![tactic(auto)]
+
+#[cfg(test)]
+mod lex;
+#[cfg(test)]
+mod parse;
+#[cfg(test)]
+mod trees;

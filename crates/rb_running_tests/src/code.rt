@@ -1,0 +1,3 @@
+// Tests of look-ups in code.
+
+mod look_ups;

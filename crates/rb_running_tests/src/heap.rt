@@ -1,0 +1,4 @@
+// Tests of the heap.
+
+mod fields;
+mod objects;

@@ -1,7 +1,0 @@
-//! Tests of the checker.
-#![tactic(auto)]
-
-#[cfg(test)]
-mod services;
-#[cfg(test)]
-mod typed;

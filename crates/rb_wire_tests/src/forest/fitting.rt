@@ -1,0 +1,189 @@
+// Nodes that fit a remainder, and nodes that don't.
+
+use crate::forest::digits::add_bytes;
+use rb_trees::{Expr, ExprForm, Memory, Part, Seq, Stmt, StmtForm};
+use rb_wire_forest::{Misfit, decode_forest, fits};
+use std::alloc::{AllocError, Global};
+use std::test::Fail;
+
+/// What isn't said of a node.
+const EXTRA: i64 = -2;
+
+/// That a node fits.
+const FITS: i64 = -1;
+
+/// Forests in letters, each with what doesn't fit: a step, or that something is left over. An `i` is an Int, a `t` a Bool,
+/// `y` and `n` are branches, `r` rows, digits counts, a point the end of a node without a fault, and the letters from A on
+/// are the ends of nodes with a fault at the steps from 0 on.
+static ROWS: [(&str, i64); 34] = [
+    ("3iy1i.r22ii.2ii..", FITS),
+    ("3in1t.r0.", FITS),
+    // A fault at each step that demands something, and at those that give no entry.
+    ("0A", FITS),
+    ("1iB", FITS),
+    ("1iC", FITS),
+    ("2iy0D.", FITS),
+    ("2in0E.", FITS),
+    ("2iy1i.F", FITS),
+    ("3iy1i.r11iG.", FITS),
+    ("3iy1i.r0F", FITS),
+    ("3iy1i.r12ii.F", FITS),
+    ("3iy1i.r0H", FITS),
+    // Steps without an entry, with that of another form, and with a value of another kind.
+    ("0.", 0),
+    ("0B", 0),
+    ("1tB", 0),
+    ("1y1i..", 0),
+    ("1i.", 2),
+    ("2ii.", 2),
+    ("2ir0.", 2),
+    ("3iy0.r0.", 3),
+    ("3in1i.r0.", 4),
+    ("2iy1i..", 5),
+    ("3iy1i.i.", 5),
+    // Turns that don't begin with their row, and one without its value.
+    ("3iy1i.r10G.", 5),
+    ("3iy1i.r12ti..", 5),
+    ("3iy1i.r11i..", 6),
+    // Something left over: within a branch, within a turn, behind the last step.
+    ("3iy2ii.r0.", EXTRA),
+    ("3iy1i.r13iii..", EXTRA),
+    ("4iy1i.r0i.", EXTRA),
+    // A fault at a step that has its entry, and what stands behind a fault: an entry, a fault, a turn.
+    ("3iy1i.r0A", EXTRA),
+    ("3iy0Dr0.", EXTRA),
+    ("2iy0DC", EXTRA),
+    ("3iy1i.r21iG2ii..", EXTRA),
+    // What is left over within a branch doesn't hide the step that finds nothing.
+    ("2iy2ii..", 5),
+];
+
+/// What the letters stand for, in hexadecimal digits.
+static LETTERS: [(u8, &str); 19] = [
+    (b'i', "31 01 0000000000000007"),
+    (b't', "31 02 01"),
+    (b'y', "32 01"),
+    (b'n', "32 00"),
+    (b'r', "33"),
+    (b'0', "00000000"),
+    (b'1', "00000001"),
+    (b'2', "00000002"),
+    (b'3', "00000003"),
+    (b'4', "00000004"),
+    (b'.', "00"),
+    (b'A', "01 00000000 00000000 07"),
+    (b'B', "01 00000001 00000000 07"),
+    (b'C', "01 00000002 00000000 07"),
+    (b'D', "01 00000003 00000000 07"),
+    (b'E', "01 00000004 00000000 07"),
+    (b'F', "01 00000005 00000000 07"),
+    (b'G', "01 00000006 00000000 07"),
+    (b'H', "01 00000007 00000000 07"),
+];
+
+fn spelling(letter: u8) -> &'static str {
+    for (own, digits) in &LETTERS {
+        if *own == letter {
+            return digits;
+        }
+    }
+    ""
+}
+
+/// The payload of a forest in letters.
+fn payload_of(alloc: Global, letters: &str) -> Result<Vec<u8>, AllocError> {
+    let mut payload = Vec::new(alloc);
+    payload.push(1)?;
+    for letter in letters.as_bytes() {
+        add_bytes(&mut payload, spelling(*letter))?;
+    }
+    Ok(payload)
+}
+
+/// Adds the part of a print of a remote Int.
+fn add_print(alloc: Global, step: u32, into: &mut Seq<Part>) -> Result<(), Memory> {
+    let mut takes = Seq::new(alloc);
+    takes.push((step, 1))?;
+    let form = StmtForm::Print(Expr {
+        at: 0,
+        form: ExprForm::Taken(step),
+    });
+    into.push(Part::Plain(Stmt { at: 0, form }, takes))
+}
+
+/// Adds a branch with a print, or with a kept Bool.
+fn add_branch(alloc: Global, into: &mut Seq<Part>) -> Result<(), Memory> {
+    let mut yes = Seq::new(alloc);
+    add_print(alloc, 3, &mut yes)?;
+    let mut no = Seq::new(alloc);
+    no.push(Part::Bind {
+        step: 4,
+        name: Seq::new(alloc),
+        kind: 2,
+    })?;
+    into.push(Part::Branch { step: 2, yes, no })
+}
+
+/// Adds a loop over Ints, with a print in each turn.
+fn add_turns(alloc: Global, into: &mut Seq<Part>) -> Result<(), Memory> {
+    let mut body = Seq::new(alloc);
+    add_print(alloc, 6, &mut body)?;
+    into.push(Part::Turns {
+        step: 5,
+        name: Seq::new(alloc),
+        kind: 1,
+        body,
+    })
+}
+
+/// Adds a value that both sides evaluate.
+fn add_both(alloc: Global, into: &mut Seq<Part>) -> Result<(), Memory> {
+    let value = Expr {
+        at: 0,
+        form: ExprForm::This,
+    };
+    into.push(Part::Both {
+        step: 7,
+        at: 0,
+        name: Seq::new(alloc),
+        value,
+    })
+}
+
+/// Adds the print of a remote Int; a step without an entry; the branch; the loop; the value of both sides.
+fn add_remainder(alloc: Global, into: &mut Seq<Part>) -> Result<(), Memory> {
+    add_print(alloc, 0, into)?;
+    into.push(Part::Pass(1))?;
+    add_branch(alloc, into)?;
+    add_turns(alloc, into)?;
+    add_both(alloc, into)
+}
+
+/// What doesn't fit of a forest.
+fn misfit(alloc: Global, parts: &Seq<Part>, payload: &[u8]) -> Result<i64, Fail> {
+    let root = decode_forest(alloc, payload)?;
+    match fits(&root, parts) {
+        Ok(()) => Ok(FITS),
+        Err(Misfit::At(step)) => Ok(i64::from(step)),
+        Err(Misfit::Extra) => Ok(EXTRA),
+    }
+}
+
+/// The first forest of which something else doesn't fit than what stands beside it; no letters where there is none.
+fn first_wrong(alloc: Global, parts: &Seq<Part>) -> Result<&'static str, Fail> {
+    for (letters, unfit) in &ROWS {
+        let payload = payload_of(alloc, letters)?;
+        if misfit(alloc, parts, payload.as_slice())? != *unfit {
+            return Ok(letters);
+        }
+    }
+    Ok("")
+}
+
+#[test]
+fn the_first_misfit_is_answered(rt: HostRuntime) -> Result<(), Fail> {
+    let mut parts = Seq::new(rt.alloc());
+    add_remainder(rt.alloc(), &mut parts)?;
+    assert_eq!(rt; first_wrong(rt.alloc(), &parts)?, "");
+    Ok(())
+}

@@ -1,0 +1,62 @@
+// Refusals as bytes, both ways.
+
+use crate::forest::digits::bytes_of;
+use bytes::BytesMut;
+use rb_wire_forest::{decode_refusal, encode_refusal};
+use std::alloc::Global;
+use std::test::Fail;
+
+/// Payloads with the number and the place of the refusal that they spell, 0 where they spell none.
+static ROWS: [(&str, u8, u32); 21] = [
+    ("01 01 00000005", 1, 5),
+    ("01 02 00000000", 2, 0),
+    ("01 03 00000102", 3, 258),
+    ("01 04 01020304", 4, 16_909_060),
+    ("01 05 00000382", 5, 898),
+    ("01 06 00000006", 6, 6),
+    ("01 0b 00000001", 11, 1),
+    ("01 0c 00000000", 12, 0),
+    ("01 0d ffffffff", 13, 4_294_967_295),
+    ("01 00 00000006", 0, 0),
+    ("01 07 00000006", 0, 0),
+    ("01 0a 00000006", 0, 0),
+    ("01 0e 00000006", 0, 0),
+    ("01 ff 00000006", 0, 0),
+    ("00 01 00000006", 0, 0),
+    ("02 01 00000006", 0, 0),
+    ("", 0, 0),
+    ("01", 0, 0),
+    ("01 01 000000", 0, 0),
+    ("01 01 00000005 00", 0, 0),
+    ("01 00000000 00", 0, 0),
+];
+
+/// What is told of a payload that spells a refusal with another spelling.
+const OTHER: (u8, u32) = (0, 1);
+
+/// The refusal of a payload, which has to be its spelling.
+fn told(alloc: Global, payload: &[u8]) -> Result<(u8, u32), Fail> {
+    let (number, at) = decode_refusal(payload).unwrap_or((0, 0));
+    let mut again = BytesMut::new(alloc);
+    if (number >= 1 && number <= 6) || (number >= 11 && number <= 13) {
+        encode_refusal(number, at, &mut again)?;
+        if again.as_slice() != payload {
+            return Ok(OTHER);
+        }
+    }
+    Ok((number, at))
+}
+
+/// Whether this is told of the payload of these digits.
+fn tells(alloc: Global, digits: &str, wanted: (u8, u32)) -> Result<bool, Fail> {
+    let payload = bytes_of(alloc, digits)?;
+    Ok(told(alloc, payload.as_slice())? == wanted)
+}
+
+#[test]
+fn refusals_are_read_and_spelled(rt: HostRuntime) -> Result<(), Fail> {
+    for (digits, number, at) in &ROWS {
+        assert!(rt; tells(rt.alloc(), digits, (*number, *at))?, "{digits}");
+    }
+    Ok(())
+}

@@ -1,0 +1,9 @@
+//! Tests of payloads, and of what is shown of trees, tables and endings.
+#![tactic(auto)]
+
+#[cfg(test)]
+mod forest;
+#[cfg(test)]
+mod script;
+#[cfg(test)]
+mod shown;

@@ -1,0 +1,8 @@
+// Tests of the lines that runs and tables print, and of the views of divisions.
+
+mod endings;
+mod literals;
+mod remainders;
+mod scripts;
+mod tables;
+mod views;
