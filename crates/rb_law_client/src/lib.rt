@@ -11,22 +11,22 @@ ghost use Rattle.rb_law_client.specs.Dividing.{DividingKeepsMeaning};
 ghost use Rattle.rb_law_client.specs.Reached.{FrontsAreShown, ProgramsComeAsFar, ReachedBatchesCanBeExchanged};
 ghost use Rattle.rb_law_client.specs.ScriptFaults.{ScriptsNeverFaultKind};
 
+use rb_flow::admitted_programs_send_only_portable_parts;
 use rb_law_division::{
     divided_scripts_can_be_sent, nodes_of_scripts_fit, sent_code_faults_remotely,
     sent_expressions_are_remote,
 };
-use rb_flow::admitted_programs_send_only_portable_parts;
 use rb_law_local::{
     local_code_does_the_same, local_code_is_not_marked_remote,
     remote_expressions_stand_as_they_should, scopes_of_batches_are_known,
 };
-use rb_marks::each_expression_has_its_mark;
 use rb_law_script::scripts_perform_remote_parts;
 use rb_law_types::{
     conditions_have_truths, lawful_code_is_formed, nodes_hold_the_fault, operators_keep_types,
     remote_calls_are_typed, remote_calls_keep_tables, typed_code_keeps_types,
 };
 use rb_law_unsplit::lawful_programs_are_noted;
+use rb_marks::each_expression_has_its_mark;
 
 // What the laws of the crates below say, which those of this crate stand on.
 fn laws_below()

@@ -8,13 +8,13 @@ ghost use Rattle.rb_law_division.specs.Fitting.{NodesFit};
 ghost use Rattle.rb_law_division.specs.Sendable.{DividedCanBeSent};
 
 use rb_flow::admitted_programs_send_only_portable_parts;
-use rb_marks::{each_expression_has_its_mark, remote_expressions_stand_in_the_script};
-use rb_meaning_bytes::the_code_has_its_size;
 use rb_law_types::{
     conditions_have_truths, lawful_code_is_formed, operators_keep_types, remote_calls_are_typed,
     remote_calls_keep_tables, typed_code_keeps_types,
 };
 use rb_law_unsplit::lawful_programs_are_noted;
+use rb_marks::{each_expression_has_its_mark, remote_expressions_stand_in_the_script};
+use rb_meaning_bytes::the_code_has_its_size;
 
 /// The script of each batch of a lawful program that is divided can be sent: it is formed and valid, and with all its
 /// inputs a request holds it.

@@ -28,7 +28,7 @@ most_marks = 200
 unfoldable pub opens_block : Nesting → TokenKind → Bool
 opens_block n kind =
     cond (is_kind kind k.sign_open_brace)
-      (not (is_one_of n.before (k.keyword_interface ∷ k.keyword_class ∷ []))) false
+    (not (is_one_of n.before (k.keyword_interface ∷ k.keyword_class ∷ []))) false
 
 -- An angle bracket behind `List` or `Rows` opens a type.
 unfoldable pub opens_type : Nesting → TokenKind → Bool
@@ -38,9 +38,9 @@ opens_type n kind = cond (is_kind kind k.sign_less) (is_one_of n.last (k.keyword
 unfoldable pub opens_mark : Nesting → Bool
 opens_mark n =
     cond
-      (is_one_of n.last
-        (k.keyword_if ∷ k.keyword_while ∷ k.keyword_for ∷ k.keyword_print ∷ k.keyword_catch ∷ k.keyword_batch ∷ []))
-      false (not (is_kind n.before k.keyword_fun))
+    (is_one_of n.last
+    (k.keyword_if ∷ k.keyword_while ∷ k.keyword_for ∷ k.keyword_print ∷ k.keyword_catch ∷ k.keyword_batch ∷ []))
+    false (not (is_kind n.before k.keyword_fun))
 
 -- the kinds that are marks wherever they stand
 abbrev pub always_mark : TokenKind → Bool
