@@ -5,8 +5,8 @@
 
 mod code;
 mod copies;
-mod differ;
+mod distinct;
 mod look_ups;
 
 pub use code::Code;
-pub use differ::classes_differ;
+pub use distinct::classes_differ;
