@@ -1,6 +1,6 @@
 // A World that keeps what it is asked.
 
-use rb_engine::{Frame, Halt, State, Step, World};
+use rb_engine::{Frame, Halt, RunResult, State, World};
 use rb_trees::{Memory, Seq, Value};
 use std::alloc::Global;
 
@@ -43,17 +43,17 @@ impl World for Record {
 
     ghost performs = { λ before at l ended after. Unit {0} };
 
-    fn line(&mut self, _at: u32, bytes: &[u8]) -> Step<(), Memory> {
+    fn line(&mut self, _at: u32, bytes: &[u8]) -> RunResult<(), Memory> {
         self.note(bytes)?;
         Ok(Ok(()))
     }
 
-    fn batch(&mut self, _at: u32, _state: &mut State, _frame: &mut Frame) -> Step<(), Memory> {
+    fn batch(&mut self, _at: u32, _state: &mut State, _frame: &mut Frame) -> RunResult<(), Memory> {
         self.note(b"batch")?;
         Ok(Ok(()))
     }
 
-    fn taken(&mut self, step: u32) -> Step<Value, Memory> {
+    fn taken(&mut self, step: u32) -> RunResult<Value, Memory> {
         Ok(Ok(Value::Int(i64::from(step))))
     }
 
@@ -63,17 +63,17 @@ impl World for Record {
         target: Value,
         method: &[u8],
         _args: Seq<Value>,
-    ) -> Step<Value, Memory> {
+    ) -> RunResult<Value, Memory> {
         self.note(method)?;
         Ok(Ok(target))
     }
 
-    fn turn(&mut self, _at: u32) -> Step<(), Memory> {
+    fn turn(&mut self, _at: u32) -> RunResult<(), Memory> {
         self.note(b"a row")?;
         Ok(Ok(()))
     }
 
-    fn list_turn(&mut self, _at: u32) -> Step<(), Memory> {
+    fn list_turn(&mut self, _at: u32) -> RunResult<(), Memory> {
         self.note(b"an item")?;
         Ok(Ok(()))
     }
