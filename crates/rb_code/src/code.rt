@@ -5,9 +5,11 @@ ghost use Rattle.std.specs.Option.{option_copied, option_map};
 ghost use Rattle.rb_trees.specs.mirror.Declarations.{mirror_class, mirror_method};
 ghost use Rattle.rb_trees.specs.Classes.{class_named, method_of_class};
 ghost use Rattle.rb_code.specs.Differ.{ClassesDiffer};
+ghost use Rattle.rb_code.specs.Places.{method_at_place};
 
 use crate::copies::copy_classes;
-use crate::look_ups::{first_class, first_method};
+use crate::indexes::{class_names, names_of_each};
+use crate::names::NameSet;
 use rb_trees::{Class, Memory, Method, Seq};
 use std::alloc::Global;
 use std::marker::Model;
@@ -17,15 +19,20 @@ use std::marker::Model;
 #[derive(Drop)]
 pub struct Code {
     classes: Seq<Class>,
+    // the names of the classes, in order
+    class_names: NameSet,
+    // the names of each class's methods, in order
+    method_names: Seq<NameSet>,
 }
 
 impl Model for Code {
-    ghost use Rattle.std.specs.Prelude.{List, map};
+    ghost use Rattle.std.specs.Prelude.{◌≡◌, List, map};
     ghost use Rattle.std.specs.Coded.{coded_list};
     ghost use Rattle.rb_trees.specs.declared.declarations.Class.{Class};
     ghost use Rattle.rb_trees.specs.contracts.declarations.Class as class_code;
     ghost use Rattle.rb_trees.specs.mirror.Declarations.{mirror_class};
     ghost use Rattle.rb_code.specs.Differ.{ClassesDiffer};
+    ghost use Rattle.rb_code.specs.Places.{names_of_classes, methods_of_each};
 
     ghost Value = { List Class };
 
@@ -33,7 +40,8 @@ impl Model for Code {
 
     ghost view = { λ code. code.classes };
 
-    ghost invariant = { λ code. ClassesDiffer (map mirror_class code.classes) };
+    ghost invariant = { λ code. ClassesDiffer (map mirror_class code.classes)
+        × (code.class_names ≡ names_of_classes code.classes) × (code.method_names ≡ methods_of_each code.classes) };
 }
 
 impl Code {
@@ -43,7 +51,13 @@ impl Code {
         ensures { IfOk result (λ code. code ≡ classes.now) }
     {
         let classes = copy_classes(alloc, classes.as_slice())?;
-        Ok(Code { classes })
+        let class_names = class_names(alloc, classes.as_slice())?;
+        let method_names = names_of_each(alloc, classes.as_slice())?;
+        Ok(Code {
+            classes,
+            class_names,
+            method_names,
+        })
     }
 
     /// The classes in order.
@@ -58,16 +72,28 @@ impl Code {
     pub fn find_class(&self, name: &[u8]) -> Option<&Class>
         ensures { option_map mirror_class (option_copied result) ≡ class_named (map mirror_class self.now) name.now }
     {
-        first_class(self.classes.as_slice(), name)
+        match self.class_names.find(name) {
+            Some(place) => self.classes.get(place),
+            None => None,
+        }
     }
 
     /// The first method of a name of the first class of a name: `method_of_class`.
     pub fn find_method(&self, class: &[u8], name: &[u8]) -> Option<&Method>
         ensures { option_map mirror_method (option_copied result) ≡ method_of_class (map mirror_class self.now) class.now name.now }
     {
-        match self.find_class(class) {
-            Some(found) => first_method(found.methods.as_slice(), name),
+        match self.class_names.find(class) {
+            Some(place) => self.method_at(place, name),
             None => None,
         }
+    }
+
+    // The method of a name of the class at a place.
+    fn method_at(&self, place: usize, name: &[u8]) -> Option<&Method>
+        ensures { option_map mirror_method (option_copied result) ≡ method_at_place (map mirror_class self.now) place name.now }
+    {
+        let class = self.classes.get(place)?;
+        let names = self.method_names.get(place)?;
+        class.methods.get(names.find(name)?)
     }
 }

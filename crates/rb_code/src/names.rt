@@ -1,0 +1,52 @@
+// Sets of names.
+
+ghost use Rattle.std.specs.Prelude.{◌≡◌, [], ◌∷◌, ◌++◌, not, if◌then◌else◌, IfOk};
+ghost use Rattle.rb_code.specs.Places.{place_of, is_among};
+
+use indexmap::IndexSet;
+use rb_trees::Memory;
+use std::alloc::Global;
+use std::marker::Model;
+
+/// Names that differ, in order. Each is found by its hash, however many there are. Contracts see their list.
+#[derive(Drop)]
+pub struct NameSet {
+    set: IndexSet<Vec<u8>>,
+}
+
+impl Model for NameSet {
+    ghost use Rattle.std.specs.Prelude.{ℕ, List, map};
+
+    ghost Value = { List (List ℕ) };
+
+    ghost view = { λ names. map (λ name. name.items) names.set.keys };
+}
+
+impl NameSet {
+    /// No names.
+    pub fn new(alloc: Global) -> NameSet
+        ensures { result ≡ [] }
+    {
+        NameSet {
+            set: IndexSet::new(alloc),
+        }
+    }
+
+    /// The place of a name.
+    #[tactic(auto, using(crate::proofs::Placed::place_viewed))]
+    pub fn find(&self, name: &[u8]) -> Option<usize>
+        ensures { result ≡ place_of name.now self.now }
+    {
+        self.set.get_index_of(name)
+    }
+
+    /// Adds a name at the end, unless it is among them. Answers whether it was new.
+    #[tactic(auto, using(crate::proofs::Placed::among_viewed, crate::proofs::Placed::added_viewed))]
+    pub fn insert(&mut self, alloc: Global, name: &[u8]) -> Result<bool, Memory>
+        ensures new { IfOk result (λ new. new ≡ not (is_among name.now self.old)) }
+        ensures added { IfOk result (λ new. self.new ≡ if new then self.old ++ name.now ∷ [] else self.old) }
+    {
+        let key = Vec::from_slice(alloc, name)?;
+        Ok(self.set.insert(key)?)
+    }
+}
