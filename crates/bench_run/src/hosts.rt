@@ -37,7 +37,7 @@ pub fn host_of(alloc: Global, files: u32) -> Result<Host, Trouble> {
         Ok(read) => read,
         Err(error) => return Err(Trouble::Service(error)),
     };
-    if !classes_differ(service.classes.as_slice()) {
+    if !classes_differ(alloc, service.classes.as_slice())? {
         return Err(Trouble::Same);
     }
     Ok(Host::make(alloc, service, table)?)

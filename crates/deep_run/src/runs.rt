@@ -53,7 +53,7 @@ fn printed_text(alloc: Global, record: &Record) -> Result<String, Memory> {
 
 /// Runs the statements of `main`.
 fn run(alloc: Global, program: &Program, record: &mut Record) -> Result<(), Trouble> {
-    if !classes_differ(program.classes.as_slice()) {
+    if !classes_differ(alloc, program.classes.as_slice())? {
         return Err(Trouble::Same);
     }
     let code = Code::make(alloc, &program.classes)?;

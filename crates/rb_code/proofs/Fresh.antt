@@ -47,17 +47,23 @@ classes_apart : (cs : List Class) → ClassesDiffer (map mirror_class cs) → Di
 classes_apart [] d = tt
 classes_apart (c ∷ cs) d = (seen mirror_class (λ c. c.name) cs c.name d.0, classes_apart cs d.2)
 
--- so the name of the next item goes to the end of the names so far
+-- a new name goes to the end of the names so far
+pub grown : {A : Type 0} (name_of : A → List ℕ) (xs : List A) (i : ℕ) (x : A) (name : List ℕ) (new : Bool) (before after : List (List ℕ)) → i < length xs → x ≡ get_or xs i x
+    → name ≡ name_of x → before ≡ map name_of (take i xs) → new ≡ true → after ≡ (if new then before ++ name ∷ [] else before) → after ≡ map name_of (take (i + 1) xs)
+grown name_of xs i x name new before after within is named so_far is_new added =
+    let more : take (i + 1) xs ≡ take i xs ++ x ∷ [] = take_more xs i x within ∙ ap (λ y. take i xs ++ y ∷ []) (sym is) in
+    added ∙ ap (λ b. if b then before ++ name ∷ [] else before) is_new
+    ∙ ap (λ ns. ns ++ name ∷ []) so_far ∙ ap (λ n. map name_of (take i xs) ++ n ∷ []) named
+    ∙ sym (ap (map name_of) more ∙ map-append name_of (take i xs) (x ∷ []))
+
+-- so where names differ, the name of the next item goes there
 next_names : {A : Type 0} (name_of : A → List ℕ) (xs : List A) (i : ℕ) (x : A) (name : List ℕ) (new : Bool) (before after : List (List ℕ)) → Differ name_of xs
     → i < length xs → x ≡ get_or xs i x → name ≡ name_of x → before ≡ map name_of (take i xs) → new ≡ not (is_among name before)
     → after ≡ (if new then before ++ name ∷ [] else before) → after ≡ map name_of (take (i + 1) xs)
 next_names name_of xs i x name new before after d within is named so_far answer added =
     let at : slice_get xs i ≡ Some x = slice_get-get_or xs i x within ∙ ap Some (sym is) in
     let fresh : is_among name before ≡ false = ap (λ n. is_among n before) named ∙ ap (is_among (name_of x)) so_far ∙ new_at name_of xs i x d at in
-    let more : take (i + 1) xs ≡ take i xs ++ x ∷ [] = take_more xs i x within ∙ ap (λ y. take i xs ++ y ∷ []) (sym is) in
-    added ∙ ap (λ b. if b then before ++ name ∷ [] else before) (answer ∙ ap not fresh)
-    ∙ ap (λ ns. ns ++ name ∷ []) so_far ∙ ap (λ n. map name_of (take i xs) ++ n ∷ []) named
-    ∙ sym (ap (map name_of) more ∙ map-append name_of (take i xs) (x ∷ []))
+    grown name_of xs i x name new before after within is named so_far (answer ∙ ap not fresh) added
 
 pub next_method : (ms : List Method) (i : ℕ) (m : Method) (name : List ℕ) (new : Bool) (before after : List (List ℕ)) → MethodsDiffer (map mirror_method ms)
     → i < length ms → m ≡ get_or ms i m → name ≡ m.signature.name → before ≡ names_of_methods (take i ms) → new ≡ not (is_among name before)

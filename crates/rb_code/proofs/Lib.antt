@@ -1,3 +1,4 @@
 pub mod Differ
 pub mod Fresh
+pub mod Grown
 pub mod Placed

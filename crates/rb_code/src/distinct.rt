@@ -1,52 +1,38 @@
 // Whether classes differ by name, and the methods of each: what `Code` wants of the classes that it is made of. Programs and
 // tests ask it of what they have read.
 
-ghost use Rattle.std.specs.Prelude.{◌≡◌, map, is_some, IsTrue};
+ghost use Rattle.std.specs.Prelude.{◌≡◌, map, IsTrue, IfOk};
 ghost use Rattle.rb_trees.specs.mirror.Declarations.{mirror_class, mirror_method};
-ghost use Rattle.rb_trees.specs.Classes.{class_named, method_named};
 ghost use Rattle.rb_code.specs.Differ.{MethodsDiffer, ClassesDiffer};
 
-use rb_trees::{Class, Method};
+use crate::names::NameSet;
+use rb_trees::{Class, Memory, Method};
+use std::alloc::Global;
 
-fn has_class(classes: &[Class], name: &[u8]) -> bool
-    ensures { result ≡ is_some (class_named (map mirror_class classes.now) name.now) }
+fn methods_differ(alloc: Global, methods: &[Method]) -> Result<bool, Memory>
+    ensures { IfOk result (λ differ. IsTrue differ → MethodsDiffer (map mirror_method methods.now)) }
 {
-    match classes.split_first() {
-        Some((first, rest)) => first.name.as_slice() == name || has_class(rest, name),
-        None => false,
-    }
-}
-
-fn has_method(methods: &[Method], name: &[u8]) -> bool
-    ensures { result ≡ is_some (method_named (map mirror_method methods.now) name.now) }
-{
-    match methods.split_first() {
-        Some((first, rest)) => first.signature.name.as_slice() == name || has_method(rest, name),
-        None => false,
-    }
-}
-
-fn methods_differ(methods: &[Method]) -> bool
-    ensures { IsTrue result → MethodsDiffer (map mirror_method methods.now) }
-{
-    match methods.split_first() {
-        Some((first, rest)) => {
-            !has_method(rest, first.signature.name.as_slice()) && methods_differ(rest)
+    let mut names = NameSet::new(alloc);
+    for method in methods {
+        if !names.insert(alloc, method.signature.name.as_slice())? {
+            return Ok(false);
         }
-        None => true,
     }
+    Ok(true)
 }
 
-/// Whether the classes' names differ, and those of each one's methods.
-pub fn classes_differ(classes: &[Class]) -> bool
-    ensures { IsTrue result → ClassesDiffer (map mirror_class classes.now) }
+/// Whether the classes' names differ, and those of each one's methods. Its error is want of memory.
+pub fn classes_differ(alloc: Global, classes: &[Class]) -> Result<bool, Memory>
+    ensures { IfOk result (λ differ. IsTrue differ → ClassesDiffer (map mirror_class classes.now)) }
 {
-    match classes.split_first() {
-        Some((first, rest)) => {
-            !has_class(rest, first.name.as_slice())
-                && methods_differ(first.methods.as_slice())
-                && classes_differ(rest)
+    let mut names = NameSet::new(alloc);
+    for class in classes {
+        if !names.insert(alloc, class.name.as_slice())? {
+            return Ok(false);
         }
-        None => true,
+        if !methods_differ(alloc, class.methods.as_slice())? {
+            return Ok(false);
+        }
     }
+    Ok(true)
 }

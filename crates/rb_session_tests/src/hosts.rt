@@ -31,7 +31,7 @@ pub fn host_of(alloc: Global, source: &[u8]) -> Result<Host, Fail>
     ensures { IfOk result IsTypedHost }
 {
     let (service, table) = read_service(alloc, source)?;
-    if classes_differ(service.classes.as_slice()) {
+    if classes_differ(alloc, service.classes.as_slice())? {
         return Ok(Host::make(alloc, service, table)?);
     }
     Err(Fail::new("two classes or methods have one name"))

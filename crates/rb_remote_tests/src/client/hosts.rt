@@ -23,7 +23,7 @@ pub fn files_host(alloc: Global) -> Result<Host, Fail>
     ensures { IfOk result IsTypedHost }
 {
     let (service, table) = read_service(alloc, FILES)?;
-    if classes_differ(service.classes.as_slice()) {
+    if classes_differ(alloc, service.classes.as_slice())? {
         return Ok(Host::make(alloc, service, table)?);
     }
     Err(Fail::new("two classes or methods have one name"))

@@ -54,7 +54,7 @@ pub fn host_of(alloc: Global, text: &str) -> Result<Host, Fail>
     ensures { IfOk result IsTypedHost }
 {
     let (service, table) = read_service(alloc, text.as_bytes())?;
-    if classes_differ(service.classes.as_slice()) {
+    if classes_differ(alloc, service.classes.as_slice())? {
         return Ok(Host::make(alloc, service, table)?);
     }
     Err(Fail::new("two classes or methods have one name"))

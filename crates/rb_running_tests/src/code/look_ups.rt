@@ -12,7 +12,7 @@ static TEXT: &str = "class A { x: Int; fun f() { } fun g() { } } class B { fun g
 fn classes_and_methods_are_found_by_name(rt: HostRuntime) -> Result<(), Fail> {
     let alloc = rt.alloc();
     let program = parse_program(alloc, TEXT.as_bytes())?;
-    assert!(rt; classes_differ(program.classes.as_slice()));
+    assert!(rt; classes_differ(alloc, program.classes.as_slice())?);
     let code = Code::make(alloc, &program.classes)?;
     assert_eq!(rt; code.classes().len(), 2);
     for (name, at) in [(b"A", Some(6u32)), (b"B", Some(50)), (b"C", None)] {
@@ -52,7 +52,7 @@ fn each_of_many_classes_and_methods_is_found(rt: HostRuntime) -> Result<(), Fail
     let alloc = rt.alloc();
     let text = many_classes(alloc)?;
     let program = parse_program(alloc, text.as_slice())?;
-    assert!(rt; classes_differ(program.classes.as_slice()));
+    assert!(rt; classes_differ(alloc, program.classes.as_slice())?);
     let code = Code::make(alloc, &program.classes)?;
     assert_eq!(rt; code.classes().len(), 300);
     for class in program.classes.as_slice() {

@@ -11,7 +11,7 @@ use std::test::Fail;
 
 /// The code of a program, without classes where two of them have one name.
 fn code_of(alloc: Global, program: &Program) -> Result<Code, Memory> {
-    if classes_differ(program.classes.as_slice()) {
+    if classes_differ(alloc, program.classes.as_slice())? {
         return Code::make(alloc, &program.classes);
     }
     Code::make(alloc, &Seq::new(alloc))

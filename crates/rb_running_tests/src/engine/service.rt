@@ -75,7 +75,7 @@ fn arguments(alloc: Global, letters: &[u8]) -> Result<Seq<Value>, Memory> {
 /// The code of service classes, or none where two have one name.
 fn code(alloc: Global) -> Result<Code, Fail> {
     let program = parse_program(alloc, CLASSES.as_bytes())?;
-    if classes_differ(program.classes.as_slice()) {
+    if classes_differ(alloc, program.classes.as_slice())? {
         return Ok(Code::make(alloc, &program.classes)?);
     }
     Ok(Code::make(alloc, &Seq::new(alloc))?)

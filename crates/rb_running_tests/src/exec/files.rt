@@ -50,7 +50,7 @@ static SERVICE: &str = "class File { name: Text; size: Int; \
 /// The host of the files.
 pub fn host(alloc: Global) -> Result<Host, Fail> {
     let (service, table) = read_service(alloc, SERVICE.as_bytes())?;
-    if classes_differ(service.classes.as_slice()) {
+    if classes_differ(alloc, service.classes.as_slice())? {
         return Ok(Host::make(alloc, service, table)?);
     }
     Err(Fail::new("two classes or methods have one name"))
