@@ -2,7 +2,7 @@
 use Rattle.std.proofs.Common.{◌≡◌, refl, sym, ap, ◌∙◌, subst, ℕ, ◌+◌, ◌<◌, ◌≤◌, List, [], ◌∷◌, ◌++◌, append_assoc, length, drop, get_or}
 use Rattle.std.proofs.lemmas.List.{drop_all}
 use Rattle.std.specs.Prelude.{Bool, true, false, cond, is_some, Option, None, Some, Result, Ok, Err}
-use Rattle.rb_trees.specs.Outcome.{◌>>◌}
+use Rattle.rb_trees.specs.Outcome.{Gives, ◌>>◌}
 use Rattle.rb_trees.specs.declared.values.Value.{Value}
 use Rattle.rb_trees.specs.declared.values.Fault.{Fault}
 use Rattle.rb_trees.specs.declared.forests.Entry as entry
@@ -15,11 +15,14 @@ use Rattle.rb_trees.specs.mirror.Scripts.{Steps, mirror_step, mirror_steps}
 use Rattle.rb_meaning_code.specs.Remote.{Server, Reply, Got, Stopped, and_then, replies}
 use Rattle.rb_meaning_code.specs.ScriptRun.{Ground, Vars, PlacedFault, Ran, ended, stopped, halted, with_entry, with_kept, on_reply, may_keep, kept, goes_on, chosen, branched, condition, rows_of, walked, run_step, run_steps}
 use Rattle.rb_exec.specs.Blocks.{with_entries, Does, Extends, Binds, Did, Closes, IsRun, Finished, kept_entries}
-use Rattle.rb_engine.specs.Misses.{Means, Replied}
-use Rattle.rb_exec.specs.Ends.{at_step, UnlessMemory}
-use Rattle.rb_exec.specs.Stages.{Rest, Meaning, ground, value_run, block_run, step_run, steps_run, if_run, each_run, turns_run}
+use Rattle.rb_engine.specs.Ends as failed
+use Rattle.rb_engine.specs.Misses.{at_place, Means}
+use Rattle.rb_engine.specs.declared.ends.Failure.{Failure}
+use Rattle.rb_exec.specs.Ends.{Gets, at_step, UnlessMemory}
+use Rattle.rb_exec.specs.Stages.{Rest, Meaning, ground, site_value, block_run, step_run, steps_run, if_run, each_run, turns_run}
 use Rattle.rb_exec.specs.Bindings.{oldest}
 use Rattle.rb_exec.specs.declared.stage.Stage.{Stage}
+use Rattle.rb_exec.specs.declared.stage.Site.{Site}
 use Rattle.rb_exec.specs.declared.turns.Walk.{Walk}
 use Rattle.rb_trees.specs.declared.scripts.SExpr.{SExpr}
 use Rattle.rb_exec.specs.declared.blocks.Block.{Block}
@@ -29,6 +32,7 @@ use Rattle.rb_exec.specs.declared.ends.Stop.{Stop}
 use Rattle.rb_exec.specs.declared.ends.Stop.TheVariants as stop
 use Rattle.rb_exec.proofs.Dropped.{dropped_one}
 use Rattle.rb_exec.proofs.Guided.{oldest_of}
+use Rattle.rb_exec.proofs.Replies.{ruled}
 use Rattle.rb_exec.proofs.Entries.{value_more, branch_more, kept_more, node_so, fault_of, server_of}
 
 pub extends_itself : {vars : Vars} → Extends vars vars
@@ -71,10 +75,10 @@ value_at id (Ok b) a e = let same : b ≡ a = cc e in ap Ok same
 value_at id (Err (miss.Fault at f)) a e = absurd (cc e)
 value_at id (Err miss.Memory) a e = absurd (cc e)
 
-pub on_value : {A : Type 0} {m : Reply A} {t : Result A Miss} {t1 : Result A Stop} {a : A} {s1 s2 : Server} {before after : List entry.Entry} {old new : Vars} {r : Result (Unit {0}) Stop} (id : ℕ) (k : A → Server → Meaning)
-    → Replied m t s1 → t1 ≡ at_step id t → t1 ≡ Ok a → Did (k a s1) before old r after new s2 → Did (λ go. on_reply id m (λ b s. k b s go)) before old r after new s2
-on_value {m = m} {t = t} {a = a} {s1 = s1} id k h is was d =
-    let gave : m ≡ Got a s1 = subst (λ x. Means m x s1) (value_at id t a (sym is ∙ was)) h.means in
+pub on_value : {A : Type 0} {m : Reply A} {t : Result A Stop} {a : A} {s1 s2 : Server} {before after : List entry.Entry} {old new : Vars} {r : Result (Unit {0}) Stop} {id : ℕ} (k : A → Server → Meaning)
+    → Gets id m t s1 → t ≡ Ok a → Did (k a s1) before old r after new s2 → Did (λ go. on_reply id m (λ b s. k b s go)) before old r after new s2
+on_value {m = m} {a = a} {s1 = s1} {id = id} k h was d =
+    let gave : m ≡ Got a s1 = subst (λ x. Means m x s1) (value_at id h.outcome a (sym h.so ∙ was)) h.replied.means in
     as_step (λ go. ap (λ x. on_reply id x (λ b s. k b s go)) gave) d
 
 -- it gave none, and the steps are over
@@ -88,10 +92,14 @@ faulted m (Err miss.Memory) h s before vars id k d e =
     let same : stop.Memory ≡ h = cc e in
     by_result (ap Err (sym same)) (record { does = tt; binds = tt })
 
-pub on_fault : {A : Type 0} {m : Reply A} {t : Result A Miss} {t1 : Result A Stop} {h : Stop} {s : Server} {before : List entry.Entry} {vars : Vars} {r : Result (Unit {0}) Stop} (id : ℕ) (k : A → Server → Meaning)
-    → Replied m t s → t1 ≡ at_step id t → t1 ≡ Err h → r ≡ Err h → Did (λ go. on_reply id m (λ b s1. k b s1 go)) before vars r before vars s
-on_fault {m = m} {t = t} {h = h} {s = s} {before = before} {vars = vars} id k d is was e =
-    by_result e (faulted m t h s before vars id k d.means (sym is ∙ was))
+pub on_fault : {A : Type 0} {m : Reply A} {t : Result A Stop} {h : Stop} {s : Server} {before : List entry.Entry} {vars : Vars} {r : Result (Unit {0}) Stop} {id : ℕ} (k : A → Server → Meaning)
+    → Gets id m t s → t ≡ Err h → r ≡ Err h → Did (λ go. on_reply id m (λ b s1. k b s1 go)) before vars r before vars s
+on_fault {m = m} {h = h} {s = s} {before = before} {vars = vars} {id = id} k d was e =
+    by_result e (faulted m d.outcome h s before vars id k d.replied.means (sym d.so ∙ was))
+
+-- what a rule gives at the position of a step
+pub on_rule : {A : Type 0} {t : Result A Stop} {s : Server} {id : ℕ} (at : ℕ) (o : Result A Failure) (d : Result A Fault) → Gives (λ a. a) failed.fault_of o d → t ≡ at_step id (at_place at o) → Gets id (replies at d s) t s
+on_rule at o d g is = record { outcome = at_place at o; replied = ruled at o d g refl; so = is }
 
 -- two replies in a step, one after the other
 pub both_replies : {A B : Type 0} (id : ℕ) (m : Reply A) (n : A → Server → Reply B) (k : B → Server → Ran)
@@ -279,14 +287,17 @@ pub of_step : {before after : List entry.Entry} {old new : Vars} {r : Result (Un
     → Did (λ go. run_step (ground st) m vars s go) before old r after new s1 → Did (step_run st step vars s) before old r after new s1
 of_step st step vars s is d = as_step (λ go. ap (λ x. run_step (ground st) x vars s go) is) d
 
+-- the branch that is chosen
+abbrev pub branch_of : Site → Bool → List Step → List Step → Vars → Server → Ran
+branch_of site holds a b vars s = chosen holds (block_run site.stage.now a vars s) (block_run site.stage.now b vars s)
+
 -- the block that a condition chose
-pub branch_run : (st : Stage) (holds : Bool) (a b steps : List Step) (es : List entry.Entry) (vars : Vars) (s s1 : Server) (block : Block) → steps ≡ cond holds a b → es ≡ []
-    → IsRun (with_entries es (block_run st steps vars s)) block s1
-    → IsRun (chosen holds (run_steps (ground st) (mirror_steps a) vars s ended) (run_steps (ground st) (mirror_steps b) vars s ended)) block s1
-branch_run st true a b steps es vars s s1 block e n run =
-    subst (λ xs. IsRun (block_run st xs vars s) block s1) e (subst (λ xs. IsRun (with_entries xs (block_run st steps vars s)) block s1) n run)
-branch_run st false a b steps es vars s s1 block e n run =
-    subst (λ xs. IsRun (block_run st xs vars s) block s1) e (subst (λ xs. IsRun (with_entries xs (block_run st steps vars s)) block s1) n run)
+pub branch_run : (site : Site) (holds : Bool) (a b steps : List Step) (es : List entry.Entry) (vars : Vars) (s s1 : Server) (block : Block) → steps ≡ cond holds a b → es ≡ []
+    → IsRun (with_entries es (block_run site.stage.now steps vars s)) block s1 → IsRun (branch_of site holds a b vars s) block s1
+branch_run site true a b steps es vars s s1 block e n run =
+    subst (λ xs. IsRun (block_run site.stage.now xs vars s) block s1) e (subst (λ xs. IsRun (with_entries xs (block_run site.stage.now steps vars s)) block s1) n run)
+branch_run site false a b steps es vars s s1 block e n run =
+    subst (λ xs. IsRun (block_run site.stage.now xs vars s) block s1) e (subst (λ xs. IsRun (with_entries xs (block_run site.stage.now steps vars s)) block s1) n run)
 
 -- what holds of a block unless memory ran out
 pub unless_run : {m m1 : Ran} (q : Result Block Stop) (s : Server) → m1 ≡ m → UnlessMemory q (λ b. IsRun m b s) → UnlessMemory q (λ b. IsRun m1 b s)
@@ -297,15 +308,15 @@ unless_closes {variable = variable} {v = v} {old = old} new (Ok b) h e n = h ((v
 unless_closes new (Err x) h e n = h
 
 -- an `If`: its condition, and then the branch
-pub if_so : {before after : List entry.Entry} {old new : Vars} {r : Result (Unit {0}) Stop} {s1 : Server} (st : Stage) (id at : ℕ) (e : SExpr) (a b : List Step) (vars : Vars) (s : Server)
-    → Did (λ go. on_reply id (value_run st at vars e s) (λ v s2. on_reply id (condition at v s2) (λ holds s3. branched holds (chosen holds (run_steps (ground st) (mirror_steps a) vars s3 ended) (run_steps (ground st) (mirror_steps b) vars s3 ended)) (λ s4. go vars s4)))) before old r after new s1
-    → Did (if_run st id at e a b vars s) before old r after new s1
-if_so st id at e a b vars s d =
-    as_step (λ go. both_replies id (value_run st at vars e s) (condition at) (λ holds s3. branched holds (chosen holds (run_steps (ground st) (mirror_steps a) vars s3 ended) (run_steps (ground st) (mirror_steps b) vars s3 ended)) (λ s4. go vars s4))) d
+pub if_so : {before after : List entry.Entry} {old new : Vars} {r : Result (Unit {0}) Stop} {s1 : Server} (site : Site) (e : SExpr) (a b : List Step) (vars : Vars) (s : Server)
+    → Did (λ go. on_reply site.id (site_value site vars e s) (λ v s2. on_reply site.id (condition site.at v s2) (λ holds s3. branched holds (branch_of site holds a b vars s3) (λ s4. go vars s4)))) before old r after new s1
+    → Did (if_run site e a b vars s) before old r after new s1
+if_so site e a b vars s d =
+    as_step (λ go. both_replies site.id (site_value site vars e s) (condition site.at) (λ holds s3. branched holds (branch_of site holds a b vars s3) (λ s4. go vars s4))) d
 
 -- an `Each`: its rows, and then the turns
-pub each_so : {before after : List entry.Entry} {old new : Vars} {r : Result (Unit {0}) Stop} {s1 : Server} (st : Stage) (w : Walk) (e : SExpr) (vars : Vars) (s : Server)
-    → Did (λ go. on_reply w.id (value_run st w.at vars e s) (λ v s2. on_reply w.id (rows_of w.at v s2) (λ rows s3. walked w.id w.at (turns_run st w vars rows s3) (λ s4. go vars s4)))) before old r after new s1
-    → Did (each_run st w e vars s) before old r after new s1
-each_so st w e vars s d =
-    as_step (λ go. both_replies w.id (value_run st w.at vars e s) (rows_of w.at) (λ rows s3. walked w.id w.at (turns_run st w vars rows s3) (λ s4. go vars s4))) d
+pub each_so : {before after : List entry.Entry} {old new : Vars} {r : Result (Unit {0}) Stop} {s1 : Server} (w : Walk) (e : SExpr) (vars : Vars) (s : Server)
+    → Did (λ go. on_reply w.site.id (site_value w.site vars e s) (λ v s2. on_reply w.site.id (rows_of w.site.at v s2) (λ rows s3. walked w.site.id w.site.at (turns_run w rows vars s3) (λ s4. go vars s4)))) before old r after new s1
+    → Did (each_run w e vars s) before old r after new s1
+each_so w e vars s d =
+    as_step (λ go. both_replies w.site.id (site_value w.site vars e s) (rows_of w.site.at) (λ rows s3. walked w.site.id w.site.at (turns_run w rows vars s3) (λ s4. go vars s4))) d

@@ -13,9 +13,8 @@ use Rattle.rb_engine.specs.Misses.{at_place, Means, Replied}
 use Rattle.rb_trees.specs.declared.scripts.SExpr.{SExpr}
 use Rattle.rb_trees.specs.mirror.Scripts as script
 use Rattle.rb_trees.specs.mirror.Scripts.{mirror_sexpr}
-use Rattle.rb_meaning_code.specs.ScriptRun.{Vars, value_of}
-use Rattle.rb_exec.specs.Stages.{ground, value_run, values_run}
-use Rattle.rb_exec.specs.declared.stage.Stage.{Stage}
+use Rattle.rb_exec.specs.Stages.{scope_run, value_run, values_run}
+use Rattle.rb_exec.specs.declared.expressions.Scope.{Scope}
 use Rattle.rb_exec.proofs.Dropped.{dropped_one}
 use Rattle.rb_engine.specs.declared.misses.Miss.{Miss}
 use Rattle.rb_engine.specs.declared.misses.Miss.TheVariants as miss
@@ -75,28 +74,28 @@ missed_far : {A : Type 0} {m : Reply A} {t : Result A Miss} {s1 : Server} {h : M
 missed_far vs k d is e = missed (λ ws s. Got (vs ++ ws) s) (missed k d is refl) refl e
 
 -- the values of expressions from a place on, one by one
-values_on : (st : Stage) (at : ℕ) (vars : Vars) (es : List SExpr) (i : ℕ) (e : SExpr) (s : Server) → i < length es → e ≡ get_or es i e
-    → values_run st at vars (drop i es) s ≡ and_then (value_run st at vars e s) (λ v s1. and_then (values_run st at vars (drop (i + 1) es) s1) (λ vs s2. Got (v ∷ vs) s2))
-values_on st at vars es i e s l is = ap (λ xs. values_run st at vars xs s) (dropped_one es i e l is)
+values_on : (here : Scope) (es : List SExpr) (i : ℕ) (e : SExpr) (s : Server) → i < length es → e ≡ get_or es i e
+    → values_run here (drop i es) s ≡ and_then (value_run here e s) (λ v s1. and_then (values_run here (drop (i + 1) es) s1) (λ vs s2. Got (v ∷ vs) s2))
+values_on here es i e s l is = ap (λ xs. values_run here xs s) (dropped_one es i e l is)
 
-pub value_more : {t : Result Value Miss} {v : Value} {s1 : Server} {vs1 : List Value} (s : Server) (vs : List Value) (st : Stage) (at : ℕ) (vars : Vars) (es : List SExpr) (i : ℕ) (e : SExpr) → i < length es → e ≡ get_or es i e
-    → Replied (value_run st at vars e s) t s1 → t ≡ Ok v → vs1 ≡ vs ++ v ∷ [] → after vs (values_run st at vars (drop i es) s) ≡ after vs1 (values_run st at vars (drop (i + 1) es) s1)
-value_more {v = v} {s1 = s1} s vs st at vars es i e l is h was more =
-    ap (after vs) (values_on st at vars es i e s l is ∙ ap (λ x. and_then x (λ w s2. and_then (values_run st at vars (drop (i + 1) es) s2) (λ ws s3. Got (w ∷ ws) s3))) (got h was))
-    ∙ after_one vs v (values_run st at vars (drop (i + 1) es) s1)
-    ∙ ap (λ xs. after xs (values_run st at vars (drop (i + 1) es) s1)) (sym more)
+pub value_more : {t : Result Value Miss} {v : Value} {s1 : Server} {vs1 : List Value} (s : Server) (vs : List Value) (here : Scope) (es : List SExpr) (i : ℕ) (e : SExpr) → i < length es → e ≡ get_or es i e
+    → Replied (value_run here e s) t s1 → t ≡ Ok v → vs1 ≡ vs ++ v ∷ [] → after vs (values_run here (drop i es) s) ≡ after vs1 (values_run here (drop (i + 1) es) s1)
+value_more {v = v} {s1 = s1} s vs here es i e l is h was more =
+    ap (after vs) (values_on here es i e s l is ∙ ap (λ x. and_then x (λ w s2. and_then (values_run here (drop (i + 1) es) s2) (λ ws s3. Got (w ∷ ws) s3))) (got h was))
+    ∙ after_one vs v (values_run here (drop (i + 1) es) s1)
+    ∙ ap (λ xs. after xs (values_run here (drop (i + 1) es) s1)) (sym more)
 
-pub value_missing : {t : Result Value Miss} {h : Miss} {s1 : Server} {whole : Reply (List Value)} {r : Result (List Value) Miss} (s : Server) (vs : List Value) (st : Stage) (at : ℕ) (vars : Vars) (es : List SExpr) (i : ℕ) (e : SExpr) → i < length es → e ≡ get_or es i e
-    → Replied (value_run st at vars e s) t s1 → t ≡ Err h → r ≡ Err h → after vs (values_run st at vars (drop i es) s) ≡ whole → Replied whole r s1
-value_missing s vs st at vars es i e l is d was so same =
-    as_meant (sym same ∙ ap (after vs) (values_on st at vars es i e s l is)) (missed_far vs _ d was so)
+pub value_missing : {t : Result Value Miss} {h : Miss} {s1 : Server} {whole : Reply (List Value)} {r : Result (List Value) Miss} (s : Server) (vs : List Value) (here : Scope) (es : List SExpr) (i : ℕ) (e : SExpr) → i < length es → e ≡ get_or es i e
+    → Replied (value_run here e s) t s1 → t ≡ Err h → r ≡ Err h → after vs (values_run here (drop i es) s) ≡ whole → Replied whole r s1
+value_missing s vs here es i e l is d was so same =
+    as_meant (sym same ∙ ap (after vs) (values_on here es i e s l is)) (missed_far vs _ d was so)
 
-pub values_done : {s : Server} {vs : List Value} {whole : Reply (List Value)} (st : Stage) (at : ℕ) (vars : Vars) (es : List SExpr) (i : ℕ) → length es ≤ i
-    → after vs (values_run st at vars (drop i es) s) ≡ whole → Replied whole (Ok vs) s
-values_done {s = s} {vs = vs} st at vars es i l same =
-    given (sym same ∙ ap (λ xs. after vs (values_run st at vars xs s)) (drop_all i es l) ∙ ap (λ xs. Got xs s) (append-nil vs))
+pub values_done : {s : Server} {vs : List Value} {whole : Reply (List Value)} (here : Scope) (es : List SExpr) (i : ℕ) → length es ≤ i
+    → after vs (values_run here (drop i es) s) ≡ whole → Replied whole (Ok vs) s
+values_done {s = s} {vs = vs} here es i l same =
+    given (sym same ∙ ap (λ xs. after vs (values_run here xs s)) (drop_all i es l) ∙ ap (λ xs. Got xs s) (append-nil vs))
 
 -- an expression of a known form
-pub of_form : {r : Result Value Miss} {s1 : Server} {m : script.SExpr} (st : Stage) (at : ℕ) (vars : Vars) (s : Server) (e : SExpr) → mirror_sexpr e ≡ m → Replied (value_of (ground st) at vars m s) r s1
-    → Replied (value_run st at vars e s) r s1
-of_form st at vars s e is h = as_meant (ap (λ x. value_of (ground st) at vars x s) is) h
+pub of_form : {r : Result Value Miss} {s1 : Server} {m : script.SExpr} (here : Scope) (s : Server) (e : SExpr) → mirror_sexpr e ≡ m → Replied (scope_run here m s) r s1
+    → Replied (value_run here e s) r s1
+of_form here s e is h = as_meant (ap (λ x. scope_run here x s) is) h

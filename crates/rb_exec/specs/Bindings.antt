@@ -13,6 +13,10 @@ abbrev pub Guides : (ℕ → Option ℕ) → List Binding → Type 0
 Guides places [] = (number : ℕ) → places number ≡ None
 Guides places (b ∷ bs) = (places b.number ≡ Some (length bs)) × Guides (λ number. cond (nat_eq b.number number) b.before (places number)) bs
 
+-- The places with that of one variable set.
+abbrev pub Sets : ℕ → Option ℕ → (ℕ → Option ℕ) → (ℕ → Option ℕ) → Type 0
+Sets number place old new = (n : ℕ) → new n ≡ cond (nat_eq number n) place (old n)
+
 -- the variable of the latest binding, and the place of its binding before
 abbrev pub latest_binding : List Binding → Option (ℕ × Option ℕ)
 latest_binding [] = None

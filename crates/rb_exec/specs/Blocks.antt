@@ -10,9 +10,10 @@ use Rattle.rb_trees.specs.mirror.Forests.{mirror_node, mirror_nodes, mirror_entr
 use Rattle.rb_meaning_code.specs.Faults.{fuel_used}
 use Rattle.rb_meaning_code.specs.Remote.{Server}
 use Rattle.rb_meaning_code.specs.ScriptRun.{Vars, PlacedFault, Ran, Turned, Why, AllDone, InTurn, NoUnit, with_entry, stopped, halted, may_keep}
-use Rattle.rb_exec.specs.Stages.{Rest, Meaning}
+use Rattle.rb_exec.specs.Stages.{Rest, Meaning, Course}
 use Rattle.rb_exec.specs.Ends.{UnlessMemory}
 use Rattle.rb_exec.specs.declared.blocks.Block.{Block}
+use Rattle.rb_exec.specs.declared.run.Run.{Run}
 use Rattle.rb_exec.specs.declared.ends.Stop.{Stop}
 use Rattle.rb_exec.specs.declared.ends.Stop.TheVariants as stop
 use Rattle.rb_exec.specs.declared.turns.TurnsEnd.{TurnsEnd}
@@ -49,9 +50,13 @@ pub record Did (meaning : Meaning) (before : List entry.Entry) (old : Vars) (res
   pub does : Does meaning before result after new server
   pub binds : Binds result old new
 
--- the same of a step without an entry, whatever the entries so far, that binds nothing
-abbrev pub DidQuietly : Meaning → Vars → Result (Unit {0}) Stop → Server → Type 0
-DidQuietly meaning vars result s = (es : List entry.Entry) → Did meaning es vars result es vars s
+-- the same of a run that performs them
+abbrev pub Runs : Course → List entry.Entry → Run → Result (Unit {0}) Stop → List entry.Entry → Run → Type 0
+Runs course before old result after new = Did (course old.variables old.server) before old.variables result after new.variables new.server
+
+-- the same of a step without an entry, whatever the entries so far
+abbrev pub RunsQuietly : Course → Run → Result (Unit {0}) Stop → Run → Type 0
+RunsQuietly course old result new = (es : List entry.Entry) → Runs course es old result es new
 
 -- The bindings that are older than so many are left.
 abbrev pub Closes : ℕ → Vars → Vars → Type 0
@@ -74,13 +79,13 @@ pub record AreTurns (meant : Turned) (nodes : List node.Node) (end : TurnsEnd) (
   pub end_so : end ≡ end_of meant.why
   pub server_so : server ≡ meant.server
 
--- what a call ensures that runs a block behind entries
-abbrev pub RunsBlock : List entry.Entry → Ran → Result Block Stop → Server → Type 0
-RunsBlock es meant result s = UnlessMemory result (λ block. IsRun (with_entries es meant) block s)
+-- what a run ensures that performs a block behind entries
+abbrev pub RunsBlock : (Vars → Server → Ran) → List entry.Entry → Run → Result Block Stop → Run → Type 0
+RunsBlock meant es old result new = UnlessMemory result (λ block. IsRun (with_entries es (meant old.variables old.server)) block new.server)
 
--- what a call ensures that runs turns
-abbrev pub RunsTurns : Turned → Result (List node.Node × TurnsEnd) Stop → Server → Type 0
-RunsTurns meant result s = UnlessMemory result (λ t. AreTurns meant t.0 t.1 s)
+-- what a run ensures that performs turns
+abbrev pub RunsTurns : (Vars → Server → Turned) → Run → Result (List node.Node × TurnsEnd) Stop → Run → Type 0
+RunsTurns meant old result new = UnlessMemory result (λ t. AreTurns (meant old.variables old.server) t.0 t.1 new.server)
 
 -- the block that has a fault as its only content
 abbrev pub faulted_block : ℕ → ℕ → Fault → Block

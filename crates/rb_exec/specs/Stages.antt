@@ -7,13 +7,14 @@ use Rattle.rb_trees.specs.declared.scripts.Operands.{Operands}
 use Rattle.rb_trees.specs.declared.scripts.Invocation.{Invocation}
 use Rattle.rb_trees.specs.declared.scripts.SExpr.{SExpr}
 use Rattle.rb_trees.specs.declared.scripts.Step.{Step}
-use Rattle.rb_trees.specs.declared.declarations.Class as class
 use Rattle.rb_trees.specs.mirror.Scripts as script
 use Rattle.rb_trees.specs.mirror.Scripts.{mirror_sexpr, mirror_sexprs, mirror_step, mirror_steps}
 use Rattle.rb_trees.specs.mirror.Declarations.{mirror_class}
 use Rattle.rb_meaning_code.specs.Remote.{Server, Reply}
 use Rattle.rb_meaning_code.specs.ScriptRun.{Ground, Vars, Ran, Turned, value_of, values_of, ended, run_step, run_steps, turn_over, turns}
 use Rattle.rb_exec.specs.declared.stage.Stage.{Stage}
+use Rattle.rb_exec.specs.declared.stage.Site.{Site}
+use Rattle.rb_exec.specs.declared.expressions.Scope.{Scope}
 use Rattle.rb_exec.specs.declared.turns.Walk.{Walk}
 
 -- what follows steps, and what steps mean before whatever follows them
@@ -23,64 +24,76 @@ Rest = Vars → Server → Ran
 abbrev pub Meaning : Type 0
 Meaning = Rest → Ran
 
+-- what steps mean that begin with these variables and this server
+abbrev pub Course : Type 0
+Course = Vars → Server → Meaning
+
 abbrev pub ground : Stage → Ground
 ground st = record { classes = map mirror_class st.code.now; root = st.root; inputs = st.inputs.now }
 
-abbrev pub value_run : Stage → ℕ → Vars → SExpr → Server → Reply Value
-value_run st at vars e s = value_of (ground st) at vars (mirror_sexpr e) s
+-- the value of an expression where a step stands
+abbrev pub site_value : Site → Vars → SExpr → Server → Reply Value
+site_value site vars e s = value_of (ground site.stage.now) site.at vars (mirror_sexpr e) s
 
-abbrev pub values_run : Stage → ℕ → Vars → List SExpr → Server → Reply (List Value)
-values_run st at vars es s = values_of (ground st) at vars (mirror_sexprs es) s
+-- the value of a mirrored expression in a scope
+abbrev pub scope_run : Scope → script.SExpr → Server → Reply Value
+scope_run x e s = value_of (ground x.site.stage.now) x.site.at x.variables.now e s
 
-abbrev pub unary_run : Stage → ℕ → Vars → UnOp → ℕ → SExpr → Server → Reply Value
-unary_run st at vars op place a s = value_of (ground st) at vars (script.Unary op place (mirror_sexpr a)) s
+abbrev pub value_run : Scope → SExpr → Server → Reply Value
+value_run x e s = scope_run x (mirror_sexpr e) s
 
-abbrev pub binary_run : Stage → ℕ → Vars → BinOp → ℕ → Operands SExpr → Server → Reply Value
-binary_run st at vars op place operands s =
-    value_of (ground st) at vars (script.Binary op place (mirror_sexpr operands.left) (mirror_sexpr operands.right)) s
+abbrev pub values_run : Scope → List SExpr → Server → Reply (List Value)
+values_run x es s = values_of (ground x.site.stage.now) x.site.at x.variables.now (mirror_sexprs es) s
 
-abbrev pub call_run : Stage → ℕ → Vars → ℕ → ℕ → Invocation SExpr → Server → Reply Value
-call_run st at vars place kind call s =
-    value_of (ground st) at vars (script.Call place kind call.method (mirror_sexpr call.target) (mirror_sexprs call.args)) s
+abbrev pub unary_run : Scope → UnOp → ℕ → SExpr → Server → Reply Value
+unary_run x op place a s = scope_run x (script.Unary op place (mirror_sexpr a)) s
 
-abbrev pub step_run : Stage → Step → Vars → Server → Meaning
+abbrev pub binary_run : Scope → BinOp → ℕ → Operands SExpr → Server → Reply Value
+binary_run x op place operands s = scope_run x (script.Binary op place (mirror_sexpr operands.left) (mirror_sexpr operands.right)) s
+
+abbrev pub call_run : Scope → ℕ → ℕ → Invocation SExpr → Server → Reply Value
+call_run x place kind call s = scope_run x (script.Call place kind call.method (mirror_sexpr call.target) (mirror_sexprs call.args)) s
+
+abbrev pub step_run : Stage → Step → Course
 step_run st step vars s go = run_step (ground st) (mirror_step step) vars s go
 
-abbrev pub steps_run : Stage → List Step → Vars → Server → Meaning
+abbrev pub steps_run : Stage → List Step → Course
 steps_run st steps vars s go = run_steps (ground st) (mirror_steps steps) vars s go
 
-abbrev pub do_run : Stage → ℕ → ℕ → SExpr → Vars → Server → Meaning
-do_run st id at e vars s go = run_step (ground st) (script.Do id at (mirror_sexpr e)) vars s go
+-- a step where it stands
+abbrev pub site_run : Site → script.Step → Course
+site_run site step vars s go = run_step (ground site.stage.now) step vars s go
 
-abbrev pub keep_run : Stage → ℕ → ℕ → SExpr → Vars → Server → Meaning
-keep_run st id at e vars s go = run_step (ground st) (script.Keep id at (mirror_sexpr e)) vars s go
+abbrev pub do_run : Site → SExpr → Course
+do_run site e = site_run site (script.Do site.id site.at (mirror_sexpr e))
 
-abbrev pub let_run : Stage → ℕ → ℕ → ℕ → Bool → SExpr → Vars → Server → Meaning
-let_run st id at var keep e vars s go = run_step (ground st) (script.Let id at var keep (mirror_sexpr e)) vars s go
+abbrev pub keep_run : Site → SExpr → Course
+keep_run site e = site_run site (script.Keep site.id site.at (mirror_sexpr e))
 
-abbrev pub if_run : Stage → ℕ → ℕ → SExpr → List Step → List Step → Vars → Server → Meaning
-if_run st id at e a b vars s go = run_step (ground st) (script.If id at (mirror_sexpr e) (mirror_steps a) (mirror_steps b)) vars s go
+abbrev pub let_run : Site → ℕ → Bool → SExpr → Course
+let_run site var keep e = site_run site (script.Let site.id site.at var keep (mirror_sexpr e))
 
-abbrev pub each_run : Stage → Walk → SExpr → Vars → Server → Meaning
-each_run st w e vars s go =
-    run_step (ground st) (script.Each w.id w.at w.variable w.keep (mirror_sexpr e) (mirror_steps w.body.now)) vars s go
+abbrev pub if_run : Site → SExpr → List Step → List Step → Course
+if_run site e a b = site_run site (script.If site.id site.at (mirror_sexpr e) (mirror_steps a) (mirror_steps b))
+
+abbrev pub each_run : Walk → SExpr → Course
+each_run w e = site_run w.site (script.Each w.site.id w.site.at w.variable w.keep (mirror_sexpr e) (mirror_steps w.body.now))
 
 -- a block, to its end
 abbrev pub block_run : Stage → List Step → Vars → Server → Ran
 block_run st steps vars s = run_steps (ground st) (mirror_steps steps) vars s ended
 
 -- the body of a script, which begins without variables
-abbrev pub body_run : List class.Class → ℕ → List Value → List Step → Server → Ran
-body_run classes root inputs steps s =
-    run_steps (record { classes = map mirror_class classes; root = root; inputs = inputs }) (mirror_steps steps) [] s ended
+abbrev pub body_run : Stage → List Step → Server → Ran
+body_run st steps s = block_run st steps [] s
 
 -- the block of a turn, with its row bound
-abbrev pub row_run : Stage → Walk → Vars → Value → Server → Ran
-row_run st w vars row s = block_run st w.body.now ((w.variable, row) ∷ vars) s
+abbrev pub row_run : Walk → Value → Vars → Server → Ran
+row_run w row vars s = block_run w.site.stage.now w.body.now ((w.variable, row) ∷ vars) s
 
 -- a turn over a row
-abbrev pub turn_run : Stage → Walk → Vars → Value → Server → Ran
-turn_run st w vars row s = turn_over w.id w.at w.keep (row_run st w vars row) row s
+abbrev pub turn_run : Walk → Value → Vars → Server → Ran
+turn_run w row vars s = turn_over w.site.id w.site.at w.keep (row_run w row vars) row s
 
-abbrev pub turns_run : Stage → Walk → Vars → List Value → Server → Turned
-turns_run st w vars rows s = turns (turn_run st w vars) rows s
+abbrev pub turns_run : Walk → List Value → Vars → Server → Turned
+turns_run w rows vars s = turns (λ row. turn_run w row vars) rows s

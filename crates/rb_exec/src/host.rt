@@ -1,18 +1,18 @@
 // A service with its table, and the run of a script on it.
 
-ghost use Rattle.std.specs.Prelude.{◌≡◌, [], map, IfOk, OnOk};
+ghost use Rattle.std.specs.Prelude.{◌≡◌, map, IfOk, OnOk};
 ghost use Rattle.rb_trees.specs.mirror.Declarations.{mirror_class};
 ghost use Rattle.rb_trees.specs.mirror.Forests.{mirror_node};
 ghost use Rattle.rb_code.specs.Differ.{ClassesDiffer};
-ghost use Rattle.rb_exec.specs.Blocks.{RunsBlock};
+ghost use Rattle.rb_exec.specs.Blocks.{IsRun};
 ghost use Rattle.rb_exec.specs.Ends.{UnlessMemory};
 ghost use Rattle.rb_exec.specs.Hosts.{script_run};
 ghost use Rattle.rb_exec.specs.Stages.{body_run};
 
 use crate::blocks::Block;
 use crate::ends::Stop;
+use crate::run::Run;
 use crate::stage::Stage;
-use crate::steps::run_block;
 use crate::variables::Variables;
 use rb_code::Code;
 use rb_engine::Server;
@@ -20,6 +20,7 @@ use rb_heap::Heap;
 use rb_trees::{Memory, Node, Script, Seq, Service, Step, Value};
 use std::alloc::Global;
 use std::marker::Model;
+use std::mem;
 
 /// The units of fuel of a script: `batch_fuel`.
 const BATCH_FUEL: u64 = 1_000_000;
@@ -81,14 +82,13 @@ pub fn run_script(
     ensures service { host.new.service ≡ host.old.service }
 {
     host.server.refuel(BATCH_FUEL);
-    let ran = run_body(
+    let stage = Stage {
         alloc,
-        &host.code,
-        host.root,
-        &mut host.server,
+        code: &host.code,
+        root: host.root,
         inputs,
-        &script.body,
-    );
+    };
+    let ran = run_body(&stage, &mut host.server, &script.body);
     match ran {
         Ok(block) => Ok(node_of(block)),
         Err(_) => Err(Memory),
@@ -103,27 +103,20 @@ fn node_of(block: Block) -> Node
     node
 }
 
-// The body of a script, which begins without variables.
+// The body of a script, which begins without variables. The run has the server until its end.
 #[inline(never)]
-fn run_body(
-    alloc: Global,
-    code: &Code,
-    root: u32,
-    server: &mut Server,
-    inputs: &[Value],
-    body: &Seq<Step>,
-) -> Result<Block, Stop>
-    ensures { RunsBlock [] (body_run code.now root inputs.now body.now server.old) result server.new }
+fn run_body(stage: &Stage<'_>, server: &mut Server, body: &Seq<Step>) -> Result<Block, Stop>
+    ensures { UnlessMemory result (λ block. IsRun (body_run stage.now body.now server.old) block server.new) }
 {
-    let stage = Stage { code, root, inputs };
-    let mut variables = Variables::new(alloc);
-    run_block(
-        alloc,
-        &stage,
-        server,
-        &mut variables,
-        0,
-        Seq::new(alloc),
-        body,
-    )
+    let mut run = Run {
+        server: mem::replace(server, Server::new(Heap::make(stage.alloc))),
+        variables: Variables::new(stage.alloc),
+    };
+    let ran = run.run_block(stage, 0, Seq::new(stage.alloc), body);
+    let Run {
+        server: left,
+        variables: _,
+    } = run;
+    *server = left;
+    ran
 }

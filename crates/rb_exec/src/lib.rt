@@ -10,6 +10,7 @@ mod ends;
 mod expressions;
 mod host;
 mod rules;
+mod run;
 mod stage;
 mod steps;
 mod turns;

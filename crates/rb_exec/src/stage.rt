@@ -1,12 +1,58 @@
-// What a script runs on.
+// What a script runs on, and where its steps stand.
 
+ghost use Rattle.std.specs.Prelude.{◌≡◌};
+ghost use Rattle.rb_engine.specs.Misses.{at_place};
+ghost use Rattle.rb_exec.specs.Ends.{Gets, at_step};
+ghost use Rattle.rb_exec.specs.Stages.{site_value};
+
+use crate::ends::{Stop, at_step};
+use crate::expressions::Scope;
+use crate::variables::Variables;
 use rb_code::Code;
-use rb_trees::Value;
+use rb_engine::{Failure, Server, at_place};
+use rb_trees::{SExpr, Value};
+use std::alloc::Global;
 
-/// The service's classes and the number of its root, and the values of the script's inputs.
+/// What stays the same while a script runs: the service's classes and the number of its root, and the values of the
+/// script's inputs.
 #[derive(Clone, Copy)]
 pub struct Stage<'a> {
+    pub alloc: Global,
     pub code: &'a Code,
     pub root: u32,
     pub inputs: &'a [Value],
+}
+
+/// The number of a step and its position, on a stage.
+#[derive(Clone, Copy)]
+pub struct Site<'a> {
+    pub stage: &'a Stage<'a>,
+    pub id: u32,
+    pub at: u32,
+}
+
+impl Site<'_> {
+    /// The value of an expression in the step.
+    #[inline(never)]
+    pub fn value(
+        self,
+        variables: &Variables,
+        server: &mut Server,
+        expr: &SExpr,
+    ) -> Result<Value, Stop>
+        ensures { Gets self.entry.id (site_value self.entry variables.now expr.now server.old) result server.new }
+    {
+        let scope = Scope {
+            site: self,
+            variables,
+        };
+        at_step(self.id, scope.value_of(server, expr))
+    }
+
+    /// What a rule gives at the position of the step.
+    pub fn ruled<T>(self, outcome: Result<T, Failure>) -> Result<T, Stop>
+        ensures { result ≡ at_step self.entry.id (at_place self.entry.at outcome) }
+    {
+        at_step(self.id, at_place(self.at, outcome))
+    }
 }

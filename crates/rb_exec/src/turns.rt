@@ -8,19 +8,15 @@ ghost use Rattle.rb_exec.specs.Stages.{row_run, turn_run, turns_run};
 use crate::blocks::{Block, faulted};
 use crate::ends::Stop;
 use crate::rules::{fuel_used, row_entries};
-use crate::stage::Stage;
-use crate::steps::run_block;
-use crate::variables::Variables;
-use rb_engine::{Miss, Server, at_place};
+use crate::run::Run;
+use crate::stage::Site;
+use rb_engine::{Miss, at_place};
 use rb_trees::{Entry, Node, NodeFault, Seq, Step, Value, copy_value};
-use std::alloc::Global;
 
-/// An `Each`, without its rows: the number and position of its step, the variable of its rows, whether they are kept, and
-/// its block.
+/// An `Each`, without its rows: where its step stands, the variable of its rows, whether they are kept, and its block.
 #[derive(Clone, Copy)]
 pub struct Walk<'a> {
-    pub id: u32,
-    pub at: u32,
+    pub site: Site<'a>,
     pub variable: u32,
     pub keep: bool,
     pub body: &'a Seq<Step>,
@@ -34,86 +30,72 @@ pub enum TurnsEnd {
     NoUnit,
 }
 
-/// The turns over rows: the nodes of those that began, and why they ended.
-#[cycle(running)]
-#[inline(never)]
-pub fn run_turns(
-    alloc: Global,
-    stage: &Stage<'_>,
-    server: &mut Server,
-    variables: &mut Variables,
-    walk: &Walk<'_>,
-    rows: &[Value],
-) -> Result<(Seq<Node>, TurnsEnd), Stop>
-    ensures turns { RunsTurns (turns_run stage.now walk.now variables.old rows.now server.old) result server.new }
-    ensures closes { UnlessMemory result (λ t. variables.new ≡ variables.old) }
-{
-    let mut nodes = Seq::new(alloc);
-    'rows: for row in rows {
-        if !server.take_unit() {
-            return Ok((nodes, TurnsEnd::NoUnit));
+impl Run {
+    /// The turns over rows: the nodes of those that began, and why they ended.
+    #[cycle(running)]
+    #[inline(never)]
+    pub fn run_turns(
+        &mut self,
+        walk: &Walk<'_>,
+        rows: &[Value],
+    ) -> Result<(Seq<Node>, TurnsEnd), Stop>
+        ensures turns { RunsTurns (turns_run walk.now rows.now) self.old result self.new }
+        ensures closes { UnlessMemory result (λ t. self.new.variables ≡ self.old.variables) }
+    {
+        let mut nodes = Seq::new(walk.site.stage.alloc);
+        'rows: for row in rows {
+            if !self.server.take_unit() {
+                return Ok((nodes, TurnsEnd::NoUnit));
+            }
+            let Block { node, stopped } = self.run_turn(walk, row)?;
+            nodes.push(node)?;
+            if stopped {
+                return Ok((nodes, TurnsEnd::InTurn));
+            }
         }
-        let Block { node, stopped } = run_turn(alloc, stage, server, variables, walk, row)?;
-        nodes.push(node)?;
-        if stopped {
-            return Ok((nodes, TurnsEnd::InTurn));
+        Ok((nodes, TurnsEnd::AllDone))
+    }
+
+    // A turn over a row. A row that is kept and isn't primitive is the turn's fault, and its only content.
+    #[cycle(running)]
+    #[inline(never)]
+    fn run_turn(&mut self, walk: &Walk<'_>, row: &Value) -> Result<Block, Stop>
+        ensures turn { RunsBlock (turn_run walk.now row.now) [] self.old result self.new }
+        ensures closes { UnlessMemory result (λ block. self.new.variables ≡ self.old.variables) }
+    {
+        let site = walk.site;
+        let alloc = site.stage.alloc;
+        match at_place(site.at, row_entries(alloc, walk.keep, row)) {
+            Ok(entries) => self.run_row(walk, row, entries),
+            Err(Miss::Fault(at, fault)) => Ok(faulted(alloc, site.id, at, fault)),
+            Err(Miss::Memory) => Err(Stop::Memory),
         }
     }
-    Ok((nodes, TurnsEnd::AllDone))
-}
 
-// A turn over a row. A row that is kept and isn't primitive is the turn's fault, and its only content.
-#[cycle(running)]
-#[inline(never)]
-fn run_turn(
-    alloc: Global,
-    stage: &Stage<'_>,
-    server: &mut Server,
-    variables: &mut Variables,
-    walk: &Walk<'_>,
-    row: &Value,
-) -> Result<Block, Stop>
-    ensures turn { RunsBlock [] (turn_run stage.now walk.now variables.old row.now server.old) result server.new }
-    ensures closes { UnlessMemory result (λ block. variables.new ≡ variables.old) }
-{
-    match at_place(walk.at, row_entries(alloc, walk.keep, row)) {
-        Ok(entries) => run_row(alloc, stage, server, variables, walk, row, entries),
-        Err(Miss::Fault(at, fault)) => Ok(faulted(alloc, walk.id, at, fault)),
-        Err(Miss::Memory) => Err(Stop::Memory),
+    // The block of a turn, with its row bound.
+    #[cycle(running)]
+    #[inline(never)]
+    fn run_row(&mut self, walk: &Walk<'_>, row: &Value, entries: Seq<Entry>) -> Result<Block, Stop>
+        ensures turn { RunsBlock (row_run walk.now row.now) entries self.old result self.new }
+        ensures closes { UnlessMemory result (λ block. self.new.variables ≡ self.old.variables) }
+    {
+        let count = self.variables.count();
+        self.variables.bind(walk.variable, copy_value(row)?)?;
+        self.run_block(walk.site.stage, count, entries, walk.body)
     }
-}
-
-// The block of a turn, with its row bound.
-#[cycle(running)]
-#[inline(never)]
-fn run_row(
-    alloc: Global,
-    stage: &Stage<'_>,
-    server: &mut Server,
-    variables: &mut Variables,
-    walk: &Walk<'_>,
-    row: &Value,
-    entries: Seq<Entry>,
-) -> Result<Block, Stop>
-    ensures turn { RunsBlock entries (row_run stage.now walk.now variables.old row.now server.old) result server.new }
-    ensures closes { UnlessMemory result (λ block. variables.new ≡ variables.old) }
-{
-    let count = variables.count();
-    variables.bind(walk.variable, copy_value(row)?)?;
-    run_block(alloc, stage, server, variables, count, entries, walk.body)
 }
 
 /// How the steps go on after the turns.
-pub fn end_turns(alloc: Global, walk: &Walk<'_>, end: TurnsEnd) -> Result<(), Stop>
-    ensures { EndsTurns walk.now.id walk.now.at end result }
+pub fn end_turns(site: Site<'_>, end: TurnsEnd) -> Result<(), Stop>
+    ensures { EndsTurns site.entry.id site.entry.at end result }
 {
     match end {
         TurnsEnd::AllDone => Ok(()),
         TurnsEnd::InTurn => Err(Stop::Within),
         TurnsEnd::NoUnit => Err(Stop::Fault(NodeFault {
-            step: walk.id,
-            at: walk.at,
-            fault: fuel_used(alloc),
+            step: site.id,
+            at: site.at,
+            fault: fuel_used(site.stage.alloc),
         })),
     }
 }

@@ -1,11 +1,11 @@
 // The variables of a script.
 
-ghost use Rattle.std.specs.Prelude.{◌≡◌, ℕ, nat_eq, cond, [], ◌∷◌, length, reverse, slice_get, OnOk, OnErr};
+ghost use Rattle.std.specs.Prelude.{◌≡◌, ℕ, [], ◌∷◌, length, reverse, slice_get, OnOk, OnErr};
 ghost use Rattle.std.specs.Option.{option_copied, option_map};
 ghost use Rattle.std.specs.Ordering.{nat_cmp};
 ghost use Rattle.std.specs.BTreeMap.{get};
 ghost use Rattle.rb_meaning_code.specs.ScriptRun.{latest};
-ghost use Rattle.rb_exec.specs.Bindings.{latest_binding, oldest, without_latest};
+ghost use Rattle.rb_exec.specs.Bindings.{latest_binding, oldest, Sets, without_latest};
 
 use rb_trees::{Memory, Value};
 use std::alloc::Global;
@@ -147,7 +147,7 @@ fn set_place(
     number: u32,
     place: Option<usize>,
 ) -> Result<(), Memory>
-    ensures set { OnOk result ((n : ℕ) → get nat_cmp places.new n ≡ cond (nat_eq number n) place (get nat_cmp places.old n)) }
+    ensures set { OnOk result (Sets number place (get nat_cmp places.old) (get nat_cmp places.new)) }
     ensures kept { OnErr result ((n : ℕ) → get nat_cmp places.new n ≡ get nat_cmp places.old n) }
 {
     match place {

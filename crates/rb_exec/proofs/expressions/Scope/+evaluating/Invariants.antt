@@ -2,7 +2,7 @@ use Rattle.std.proofs.Common.{◌≡◌, ◌+◌, drop}
 use Rattle.rb_exec.specs.Stages.{values_run}
 use Rattle.rb_exec.proofs.Replies.{after}
 use Rattle.rb_exec.proofs.Weight.{weight_of, weights_of, operands_of, invocation_of}
-use Rattle.rb_exec.proofs.expressions.+evaluating.Given as goal
+use Rattle.rb_exec.proofs.expressions.Scope.+evaluating.Given as goal
 
 abbrev pub decreases-value_of : goal.decreases-value_of
 decreases-value_of l = weight_of l.expr.now
@@ -21,4 +21,4 @@ decreases-values_of l = weights_of l.exprs.now + 1
 
 abbrev pub invariant-values_of-exprs : goal.invariant-values_of-exprs
 invariant-values_of-exprs l =
-    after l.values (values_run l.stage l.at l.variables (drop l.expr-index l.exprs) l.server) ≡ values_run l.stage l.at l.variables l.exprs l.fn.server
+    after l.values (values_run l.self (drop l.expr-index l.exprs) l.server) ≡ values_run l.self l.exprs l.fn.server
