@@ -12,7 +12,8 @@ use crate::earliest::place;
 use crate::findings::Findings;
 use crate::standing::{Reading, Standing};
 use crate::statements::walk_stmts;
-use rb_marks::{Facts, Scope};
+use rb_marks::Facts;
+use rb_scopes::Scope;
 use rb_trees::{BadPart, Memory, Refusal, Seq, Stmt, Writer};
 use std::alloc::Global;
 

@@ -12,8 +12,9 @@ use crate::portable::is_portable;
 use crate::reading::{read_block, read_opened};
 use crate::standing::{Inside, Reading, Standing};
 use crate::writers::read_around;
-use rb_marks::{Facts, Scope, branches_hold};
+use rb_marks::{Facts, branches_hold};
 use rb_meaning_flow::Role;
+use rb_scopes::Scope;
 use rb_trees::{Expr, Memory, Seq, Stmt, Word};
 use std::alloc::Global;
 

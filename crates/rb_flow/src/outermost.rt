@@ -2,7 +2,7 @@
 
 #![tactic(auto, using(crate::proofs::OuterRules::outer_rules))]
 
-ghost use Rattle.std.specs.Prelude.{◌≡◌, map, take, length, IfOk, OnOk};
+ghost use Rattle.std.specs.Prelude.{◌≡◌, map, IfOk, OnOk};
 ghost use Rattle.rb_trees.specs.mirror.Code.{mirror_stmt, mirror_stmts};
 ghost use Rattle.rb_trees.specs.mirror.Declarations.{mirror_param, mirror_program};
 ghost use Rattle.rb_meaning_types.specs.Kinds as kinds;
@@ -13,10 +13,9 @@ ghost use Rattle.rb_flow.specs.Begun.{begun_of};
 ghost use Rattle.rb_flow.specs.ByTrees.{stmt_begun, block_begun, methods_begun, classes_begun};
 ghost use Rattle.rb_flow.specs.Views.{facts};
 
-use crate::scope::bind;
-use rb_marks::{Batch, Facts, Scope};
-use rb_meaning_flow::{Role, Variable};
-use rb_names::Names;
+use rb_marks::{Batch, Facts};
+use rb_meaning_flow::Role;
+use rb_scopes::{OuterScope, Scope};
 use rb_trees::{Class, Memory, Method, Param, Program, Seq, Stmt, StmtForm, TypeForm, Word};
 use std::alloc::Global;
 
@@ -48,73 +47,44 @@ fn outer_role(primitive: bool) -> Role
 }
 
 // The scope in which a method's body begins.
-fn parameters(alloc: Global, params: &[Param]) -> Result<Scope, Memory>
+fn parameters(alloc: Global, params: &[Param]) -> Result<OuterScope, Memory>
     ensures { IfOk result (λ scope. scope ≡ outermost.parameters (map mirror_param params.now)) }
 {
-    let mut scope = Scope::new(alloc);
+    let mut scope = OuterScope::new(alloc);
     for param in params {
         let role = outer_role(is_primitive(&param.kind.form));
-        bind(alloc, &mut scope, &param.name, role, param.at)?;
+        scope.bind(alloc, &param.name, role, param.at)?;
     }
     Ok(scope)
 }
 
-fn role_with(assigned: &Names, v: &Variable) -> Role
-    ensures { result ≡ scopes.role_with assigned.now v.now.name v.now.role }
-{
-    match v.role {
-        Role::Constant => {
-            if assigned.has(&v.name) {
-                Role::Plain
-            } else {
-                Role::Constant
-            }
-        }
-        Role::Root => Role::Root,
-        Role::Row => Role::Row,
-        Role::Carried => Role::Carried,
-        Role::Plain => Role::Plain,
-    }
-}
-
-// The variables of a scope as a batch sees them in which these are assigned.
-fn scope_with(alloc: Global, assigned: &Names, scope: &Scope) -> Result<Scope, Memory>
-    ensures { IfOk result (λ s. s ≡ scopes.scope_with assigned.now scope.now) }
-{
-    let mut seen = Scope::new(alloc);
-    for v in scope.as_slice() {
-        bind(alloc, &mut seen, &v.name, role_with(assigned, v), v.node)?;
-    }
-    Ok(seen)
-}
-
-// The variables in scope where a batch begins.
+// The scope in which a batch begins.
 fn open(
     alloc: Global,
     x: &Facts,
-    scope: &Scope,
+    scope: &mut OuterScope,
     at: u32,
     root: &Word,
     block: &[Stmt],
 ) -> Result<Scope, Memory>
-    ensures { IfOk result (λ s. s ≡ scopes.opened scope.now at root.now (mirror_stmts block.now)) }
+    ensures batch { IfOk result (λ s. s ≡ scopes.opened scope.old at root.now (mirror_stmts block.now)) }
+    ensures same { OnOk result (scope.new ≡ scope.old) }
 {
-    let batch = Batch::new(alloc, x, block)?;
-    let mut seen = scope_with(alloc, &batch.assigned, scope)?;
-    bind(alloc, &mut seen, root, Role::Root, at)?;
-    Ok(seen)
+    let Batch { assigned, .. } = Batch::new(alloc, x, block)?;
+    scope.open(alloc, assigned, root, at)
 }
 
 fn push_batch<'p>(
     alloc: Global,
     x: &Facts,
-    scope: &Scope,
+    scope: &mut OuterScope,
     batches: &mut Seq<OpenBatch<'p>>,
     at: u32,
     root: &Word,
     block: &'p [Stmt],
 ) -> Result<(), Memory>
-    ensures { OnOk result (map begun_of batches.new ≡ begun.with_batch (map begun_of batches.old) scope.now at root.now (mirror_stmts block.now)) }
+    ensures batches { OnOk result (map begun_of batches.new ≡ begun.with_batch (map begun_of batches.old) scope.old at root.now (mirror_stmts block.now)) }
+    ensures same { OnOk result (scope.new ≡ scope.old) }
 {
     let scope = open(alloc, x, scope, at, root, block)?;
     batches.push(OpenBatch { scope, block })
@@ -125,7 +95,7 @@ fn push_batch<'p>(
 fn collect_stmt<'p>(
     alloc: Global,
     x: &Facts,
-    scope: &mut Scope,
+    scope: &mut OuterScope,
     batches: &mut Seq<OpenBatch<'p>>,
     s: &'p Stmt,
 ) -> Result<(), Memory>
@@ -134,7 +104,7 @@ fn collect_stmt<'p>(
 {
     match &s.form {
         StmtForm::Val(name, e) | StmtForm::Var(name, e) => {
-            bind(alloc, scope, name, outer_role(x.is_primitive(e)), s.at)
+            scope.bind(alloc, name, outer_role(x.is_primitive(e)), s.at)
         }
         StmtForm::Assign(_, _) | StmtForm::Run(_) => Ok(()),
         StmtForm::Print(_) | StmtForm::Throw(_) => Ok(()),
@@ -163,17 +133,15 @@ fn collect_stmt<'p>(
 fn collect_block<'p>(
     alloc: Global,
     x: &Facts,
-    scope: &mut Scope,
+    scope: &mut OuterScope,
     batches: &mut Seq<OpenBatch<'p>>,
     ss: &'p [Stmt],
 ) -> Result<(), Memory>
     ensures batches { OnOk result (map begun_of batches.new ≡ block_begun x.now scope.old batches.old ss.now) }
     ensures scope { OnOk result (scope.new ≡ scope.old) }
 {
-    let count = scope.len();
-    collect_stmts(alloc, x, scope, batches, ss)?;
-    scope.truncate(count);
-    Ok(())
+    let mut inner = scope.begin_block(alloc)?;
+    collect_stmts(alloc, x, &mut inner, batches, ss)
 }
 
 // The same for a block with a variable of its own.
@@ -181,7 +149,7 @@ fn collect_block<'p>(
 fn collect_opened<'p>(
     alloc: Global,
     x: &Facts,
-    scope: &mut Scope,
+    scope: &mut OuterScope,
     batches: &mut Seq<OpenBatch<'p>>,
     name: &Word,
     role: Role,
@@ -191,23 +159,20 @@ fn collect_opened<'p>(
     ensures batches { OnOk result (map begun_of batches.new ≡ block_begun x.now (scopes.with_variable scope.old name.now role node) batches.old ss.now) }
     ensures scope { OnOk result (scope.new ≡ scope.old) }
 {
-    let count = scope.len();
-    bind(alloc, scope, name, role, node)?;
-    collect_stmts(alloc, x, scope, batches, ss)?;
-    scope.truncate(count);
-    Ok(())
+    let mut inner = scope.begin_block(alloc)?;
+    inner.bind(alloc, name, role, node)?;
+    collect_stmts(alloc, x, &mut inner, batches, ss)
 }
 
 #[cycle(outer)]
 fn collect_stmts<'p>(
     alloc: Global,
     x: &Facts,
-    scope: &mut Scope,
+    scope: &mut OuterScope,
     batches: &mut Seq<OpenBatch<'p>>,
     ss: &'p [Stmt],
 ) -> Result<(), Memory>
-    ensures batches { OnOk result (map begun_of batches.new ≡ block_begun x.now scope.old batches.old ss.now) }
-    ensures kept { OnOk result (take (length scope.old) scope.new ≡ scope.old) }
+    ensures { OnOk result (map begun_of batches.new ≡ block_begun x.now scope.old batches.old ss.now) }
 {
     for s in ss {
         collect_stmt(alloc, x, scope, batches, s)?;
@@ -254,7 +219,7 @@ pub fn collect_batches<'p>(
 {
     let mut batches = Seq::new(alloc);
     collect_classes(alloc, x, &mut batches, program.classes.as_slice())?;
-    let mut scope = Scope::new(alloc);
+    let mut scope = OuterScope::new(alloc);
     collect_stmts(
         alloc,
         x,

@@ -10,7 +10,8 @@ ghost use Rattle.rb_flow.specs.Walked as words;
 use crate::portable::is_portable;
 use crate::reading::read_expr;
 use crate::standing::Reading;
-use rb_marks::{Facts, Scope};
+use rb_marks::Facts;
+use rb_scopes::Scope;
 use rb_trees::{BadPart, Expr, ExprForm, Memory, Seq, Stmt, StmtForm};
 use std::alloc::Global;
 

@@ -10,8 +10,9 @@ ghost use Rattle.rb_meaning_flow.specs.Refusals as refusals;
 ghost use Rattle.rb_flow.specs.Views.{facts};
 
 use crate::scope::role_of;
-use rb_marks::{Facts, Scope};
+use rb_marks::Facts;
 use rb_meaning_flow::Role;
+use rb_scopes::Scope;
 use rb_trees::{Expr, ExprForm};
 
 fn is_portable_variable(role: Role) -> bool

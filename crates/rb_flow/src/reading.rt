@@ -13,8 +13,9 @@ ghost use Rattle.rb_flow.specs.Readings as words;
 
 use crate::scope::{bind, node_of};
 use crate::standing::Reading;
-use rb_marks::{Facts, Scope};
+use rb_marks::Facts;
 use rb_meaning_flow::Role;
+use rb_scopes::Scope;
 use rb_trees::{Expr, ExprForm, Memory, Seq, Stmt, StmtForm, Word};
 use std::alloc::Global;
 

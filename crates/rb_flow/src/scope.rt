@@ -4,8 +4,8 @@ ghost use Rattle.std.specs.Prelude.{◌≡◌, OnOk};
 ghost use Rattle.rb_meaning_flow.specs.Scopes as scopes;
 ghost use Rattle.rb_flow.specs.Views.{node_list};
 
-use rb_marks::Scope;
 use rb_meaning_flow::Role;
+use rb_scopes::Scope;
 use rb_trees::{Memory, Word};
 use std::alloc::Global;
 
@@ -13,20 +13,14 @@ use std::alloc::Global;
 pub fn role_of(scope: &Scope, name: &Word) -> Role
     ensures { result ≡ scopes.role_of scope.now name.now }
 {
-    match scope.find(name) {
-        Some(variable) => variable.role,
-        None => Role::Plain,
-    }
+    scope.role_of(name)
 }
 
 /// The node of the variable of a name.
 pub fn node_of(scope: &Scope, name: &Word) -> Option<u32>
     ensures { node_list result ≡ scopes.node_of scope.now name.now }
 {
-    match scope.find(name) {
-        Some(variable) => Some(variable.node),
-        None => None,
-    }
+    scope.node_of(name)
 }
 
 /// Adds a variable at the end.

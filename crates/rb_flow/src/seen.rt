@@ -15,7 +15,8 @@ use crate::findings::Findings;
 use crate::parts::{look_at_call, look_at_loop};
 use crate::standing::{Inside, Reading, Standing};
 use crate::writers::{push_expr_writer, push_stmt_writer};
-use rb_marks::{Facts, Scope};
+use rb_marks::Facts;
+use rb_scopes::Scope;
 use rb_trees::{Expr, Memory, Refusal, Seq, Stmt, StmtForm};
 use std::alloc::Global;
 

@@ -21,8 +21,9 @@ use crate::scope::bind;
 use crate::seen::see_stmt;
 use crate::standing::Standing;
 use crate::walk::walk_expr;
-use rb_marks::{Facts, Scope};
+use rb_marks::Facts;
 use rb_meaning_flow::Role;
+use rb_scopes::Scope;
 use rb_trees::{Expr, Memory, Seq, Stmt, StmtForm, Word};
 use std::alloc::Global;
 

@@ -13,7 +13,8 @@ use crate::findings::Findings;
 use crate::portable::is_portable;
 use crate::seen::see_expr;
 use crate::standing::{Inside, Reading};
-use rb_marks::{Facts, Scope};
+use rb_marks::Facts;
+use rb_scopes::Scope;
 use rb_trees::{BinOp, Expr, ExprForm, Memory, Seq};
 use std::alloc::Global;
 

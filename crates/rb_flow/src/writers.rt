@@ -13,7 +13,8 @@ ghost use Rattle.rb_flow.specs.Walked as words;
 use crate::reading::{OBJECTS, read_block, read_expr};
 use crate::scope::node_of;
 use crate::standing::Reading;
-use rb_marks::{Facts, Scope};
+use rb_marks::Facts;
+use rb_scopes::Scope;
 use rb_trees::{Expr, ExprForm, Memory, Seq, Stmt, StmtForm, Writer};
 use std::alloc::Global;
 

@@ -6,9 +6,9 @@ ghost use Rattle.rb_meaning_flow.specs.Scopes as scopes;
 ghost use Rattle.rb_marks.specs.Views.{seen};
 
 use crate::facts::Facts;
-use crate::scope::Scope;
-use rb_meaning_flow::{Role, Variable};
+use rb_meaning_flow::Role;
 use rb_names::Names;
+use rb_scopes::Scope;
 use rb_trees::{Expr, ExprForm, Memory, Stmt, StmtForm, Word, copy_word};
 use std::alloc::Global;
 
@@ -90,13 +90,13 @@ impl<'a, 'p> Batch<'a, 'p> {
         })
     }
 
-    fn role_with(&self, v: &Variable) -> Role
-        ensures { result ≡ scopes.role_with self.now.assigned v.now.name v.now.role }
+    fn role_with(&self, name: &Word, role: Role) -> Role
+        ensures { result ≡ scopes.role_with self.now.assigned name.now role }
     {
-        if is_constant_role(v.role) && self.assigned.has(&v.name) {
+        if is_constant_role(role) && self.assigned.has(name) {
             Role::Plain
         } else {
-            v.role
+            role
         }
     }
 
@@ -105,10 +105,7 @@ impl<'a, 'p> Batch<'a, 'p> {
     pub fn role_of(&self, scope: &Scope, name: &Word) -> Role
         ensures { result ≡ scopes.role_of (seen self.now scope.now) name.now }
     {
-        match scope.find(name) {
-            Some(v) => self.role_with(v),
-            None => Role::Plain,
-        }
+        self.role_with(name, scope.role_of(name))
     }
 
     /// Whether the variable of a name is constant in the batch.

@@ -12,7 +12,6 @@ mod marks;
 mod outermost;
 mod places;
 mod portable;
-mod scope;
 
 pub use batch::Batch;
 pub use facts::Facts;
@@ -24,4 +23,3 @@ pub use laws::{
 pub use portable::{
     block_holds, branches_hold, holds_call, holds_operation, is_constant, is_portable,
 };
-pub use scope::Scope;

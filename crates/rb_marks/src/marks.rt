@@ -11,8 +11,8 @@ ghost use Rattle.rb_marks.specs.Walks as walks;
 use crate::batch::Batch;
 use crate::facts::Facts;
 use crate::portable::{block_holds, holds_call, is_constant, is_portable};
-use crate::scope::Scope;
 use rb_meaning_flow::Role;
+use rb_scopes::Scope;
 use rb_trees::{Expr, ExprForm, Mark, Memory, Stmt, StmtForm, Word};
 
 fn inner(x: &Batch, scope: &Scope, inside: bool, e: &Expr) -> bool

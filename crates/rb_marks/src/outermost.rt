@@ -12,8 +12,8 @@ use crate::batch::Batch;
 use crate::facts::{Facts, is_primitive};
 use crate::marks::mark_stmts;
 use crate::places::place_stmts;
-use crate::scope::Scope;
 use rb_meaning_flow::Role;
+use rb_scopes::Scope;
 use rb_trees::{Class, Mark, Memory, Method, Param, Place, Program, Stmt, StmtForm, Word};
 use std::alloc::Global;
 
@@ -31,7 +31,7 @@ fn outer_role(primitive: bool) -> Role
 fn parameters(alloc: Global, params: &[Param]) -> Result<Scope, Memory>
     ensures { IfOk result (λ scope. scope ≡ outermost.parameters (map mirror_param params.now)) }
 {
-    let mut scope = Scope::new(alloc);
+    let mut scope = Scope::new(alloc)?;
     for param in params {
         let role = outer_role(is_primitive(&param.kind.form));
         scope.bind(alloc, &param.name, role, param.at)?;
@@ -201,7 +201,7 @@ pub fn mark_program(
 {
     let mut notes = Vec::new(alloc);
     mark_classes(alloc, facts, &mut notes, program.classes.as_slice())?;
-    let mut scope = Scope::new(alloc);
+    let mut scope = Scope::new(alloc)?;
     mark_outer_stmts(
         alloc,
         facts,

@@ -8,7 +8,7 @@ ghost use Rattle.rb_marks.specs.Views.{told, facts_in, seen};
 
 use crate::batch::Batch;
 use crate::facts::Facts;
-use crate::scope::Scope;
+use rb_scopes::Scope;
 use rb_trees::{Expr, ExprForm, Stmt, StmtForm};
 
 /// Whether an expression is portable.

@@ -1,12 +1,10 @@
 -- A batch that a program asks for is found and performed.
-use Rattle.std.proofs.Common.{◌≡◌, sym, ap, ◌∙◌, subst, ℕ}
+use Rattle.std.proofs.Common.{◌≡◌, sym, ap, ◌∙◌, subst, ℕ, List}
 use Rattle.std.specs.Prelude.{None, Some, Result, Ok, Err}
 use Rattle.rb_trees.specs.declared.outcomes.Raised.{Raised}
 use Rattle.rb_meaning_code.specs.Dialogue.{Gave, Faulted}
 use Rattle.rb_meaning_code.specs.Faults.{kind, raised}
 use Rattle.rb_meaning_code.specs.State.{Local}
-use Rattle.rb_meaning_flow.specs.declared.scopes.Role.{Role}
-use Rattle.rb_meaning_flow.specs.declared.scopes.Variable.{Variable}
 use Rattle.rb_meaning.specs.Meaning.{performs_found}
 use Rattle.rb_base.specs.declared.sinks.Failed.{Failed}
 use Rattle.rb_base.specs.declared.sinks.Sink as sinks
@@ -31,18 +29,18 @@ none_asked g w at l r is f = λ first start s sees.
     )
 
 -- a batch stands there, and was performed
-some_asked : {W : Type 0} (g : sinks.Ghosts W) (w w' : OuterWorld W) (at : ℕ) (l : Local) (b : OpenBatch) (root : Variable) (ended : Performed Failed) → found w.batches.now at ≡ Some b → root_of b ≡ Some root
-    → PerformsBatch g root.name b w l ended w' → outer_performs g w at l ended w'
+some_asked : {W : Type 0} (g : sinks.Ghosts W) (w w' : OuterWorld W) (at : ℕ) (l : Local) (b : OpenBatch) (root : List ℕ × ℕ) (ended : Performed Failed) → found w.batches.now at ≡ Some b → root_of b ≡ Some root
+    → PerformsBatch g root.0 b w l ended w' → outer_performs g w at l ended w'
 some_asked g w w' at l b root ended is has h = λ first start s sees.
     let p = program_of first.inner.remote.stage in
     let service = service_of first.inner.remote.stage in
     let f = some_found p w.batches.now at b sees.batches_so is in
-    let same : Some root ≡ Some (record { name = f.0.root; role = Role.Root; node = f.0.at }) = sym has ∙ root_so b f.0 f.2 in
-    let variable : root ≡ record { name = f.0.root; role = Role.Root; node = f.0.at } = cc same in
-    subst (λ m. Told (outer_view g first start) ended w' (performs_found p service m at l s)) (sym f.1) (h first start s f.0 sees f.2 (ap (λ v. v.name) variable))
+    let same : Some root ≡ Some (f.0.root, f.0.at) = sym has ∙ root_so b f.0 f.2 in
+    let found : root ≡ (f.0.root, f.0.at) = cc same in
+    subst (λ m. Told (outer_view g first start) ended w' (performs_found p service m at l s)) (sym f.1) (h first start s f.0 sees f.2 (ap (λ v. v.0) found))
 
-pub batch_asked : {W : Type 0} (g : sinks.Ghosts W) (w w' : OuterWorld W) (at : ℕ) (l l' : Local) (b : OpenBatch) (root : Variable) (q : Result (Result (Unit {0}) Raised) (Halt Failed)) → found w.batches.now at ≡ Some b → root_of b ≡ Some root
-    → Answered (performed l' q) (λ o. PerformsBatch g root.name b w l o w') → Answered (performed l' q) (λ o. outer_performs g w at l o w')
+pub batch_asked : {W : Type 0} (g : sinks.Ghosts W) (w w' : OuterWorld W) (at : ℕ) (l l' : Local) (b : OpenBatch) (root : List ℕ × ℕ) (q : Result (Result (Unit {0}) Raised) (Halt Failed)) → found w.batches.now at ≡ Some b → root_of b ≡ Some root
+    → Answered (performed l' q) (λ o. PerformsBatch g root.0 b w l o w') → Answered (performed l' q) (λ o. outer_performs g w at l o w')
 batch_asked g w w' at l l' b root (Ok (Ok u)) is has h = some_asked g w w' at l b root (Ok (Gave tt l')) is has h
 batch_asked g w w' at l l' b root (Ok (Err r)) is has h = some_asked g w w' at l b root (Ok (Faulted r l')) is has h
 batch_asked g w w' at l l' b root (Err halt.Memory) is has h = tt

@@ -5,10 +5,10 @@ use Rattle.std.specs.Prelude.{Bool, true, false, cond, nat_eq, Option, None, Som
 use Rattle.std.specs.HashMap.{get}
 use Rattle.rb_trees.specs.mirror.Code.{Stmts}
 use Rattle.rb_trees.specs.mirror.Declarations.{Program}
-use Rattle.rb_meaning_flow.specs.declared.scopes.Role.{Role}
 use Rattle.rb_meaning_flow.specs.Facts.{facts_of}
 use Rattle.rb_meaning_flow.specs.Outermost.{Outermost, program_batches}
-use Rattle.rb_meaning_flow.specs.Scopes.{Scope, assigned_in, opened, variable_with}
+use Rattle.rb_scopes.specs.Seen.{newest}
+use Rattle.rb_scopes.proofs.Opened.{newest_opened}
 use Rattle.rb_meaning.specs.Unsplit.{batch_at, batch_within}
 use Rattle.rb_flow.specs.Begun.{begun, begun_of, program_begun}
 use Rattle.rb_flow.specs.declared.outermost.OpenBatch.{OpenBatch}
@@ -17,24 +17,9 @@ use Rattle.rb_plain.specs.Batches.{AreBatchesOf, Notes, found, place_in, root_of
 use Rattle.rb_plain.specs.declared.batches.Batches.{Batches}
 use Rattle.rb_plain.proofs.Dropped.{dropped_one}
 
-got_at : {A : Type 0} (ys : List A) (y x : A) (n m : ℕ) → n ≡ suc m → slice_get ys m ≡ Some x → slice_get (y ∷ ys) n ≡ Some x
-got_at ys y x n m e h = ap (slice_get (y ∷ ys)) e ∙ h
-
--- the last item of a list
-last_of : {A : Type 0} (xs : List A) (x : A) → slice_get (xs ++ x ∷ []) (length (xs ++ x ∷ []) - 1) ≡ Some x
-last_of [] x = refl
-last_of (y ∷ xs) x = got_at (xs ++ x ∷ []) y x _ (length (xs ++ x ∷ []) - 1) (omega (arith, length-append xs (x ∷ []))) (last_of xs x)
-
-root_of_opened : (outer : Scope) (at : ℕ) (root : List ℕ) (block : Stmts)
-    → slice_get (opened outer at root block) (length (opened outer at root block) - 1) ≡ Some (record { name = root; role = Role.Root; node = at })
-root_of_opened outer at root block =
-    let f = variable_with (assigned_in block) in
-    ap (λ xs. slice_get xs (length xs - 1)) (map-append f outer (record { name = root; role = Role.Root; node = at } ∷ []))
-    ∙ last_of (map f outer) (record { name = root; role = Role.Root; node = at })
-
 -- the root of a batch of the program
-pub root_so : (b : OpenBatch) (o : Outermost) → begun_of b ≡ begun o → root_of b ≡ Some (record { name = o.root; role = Role.Root; node = o.at })
-root_so b o e = ap (λ x. slice_get x.scope (length x.scope - 1)) e ∙ root_of_opened o.outer o.at o.root o.block
+pub root_so : (b : OpenBatch) (o : Outermost) → begun_of b ≡ begun o → root_of b ≡ Some (o.root, o.at)
+root_so b o e = ap (λ x. newest x.scope) e ∙ newest_opened o.outer o.at o.root o.block
 
 -- the first batch at a position
 abbrev first_at : List OpenBatch → ℕ → Option OpenBatch

@@ -1,21 +1,21 @@
 -- The batches of a program, as the code finds them by their positions.
-use Rattle.std.specs.Prelude.{◌≡◌, ℕ, suc, ◌-◌, List, [], ◌∷◌, length, Bool, false, cond, nat_eq, Option, None, Some, option_and_then, option_map, slice_get}
+use Rattle.std.specs.Prelude.{◌≡◌, ℕ, suc, List, [], ◌∷◌, Bool, false, cond, nat_eq, Option, None, Some, option_and_then, option_map, slice_get}
 use Rattle.std.specs.HashMap.{get}
 use Rattle.rb_trees.specs.mirror.Declarations.{Program}
-use Rattle.rb_meaning_flow.specs.declared.scopes.Variable.{Variable}
 use Rattle.rb_meaning.specs.Unsplit.{batch_at}
+use Rattle.rb_scopes.specs.Seen.{newest}
 use Rattle.rb_flow.specs.Begun.{begun, begun_of}
 use Rattle.rb_flow.specs.declared.outermost.OpenBatch.{OpenBatch}
 use Rattle.rb_plain.specs.declared.batches.Batches.{Batches}
 
--- the root of a batch: the last variable in scope where it begins, whose node is the batch's position
-abbrev pub root_of : OpenBatch → Option Variable
-root_of b = slice_get b.scope (length b.scope - 1)
+-- the root of a batch: the name of the last variable in scope where it begins, and its node, which is the batch's position
+abbrev pub root_of : OpenBatch → Option (List ℕ × ℕ)
+root_of b = newest b.scope
 
 -- whether a batch with this root stands at a position
-abbrev pub stands_at : Option Variable → ℕ → Bool
+abbrev pub stands_at : Option (List ℕ × ℕ) → ℕ → Bool
 stands_at None at = false
-stands_at (Some root) at = nat_eq root.node at
+stands_at (Some root) at = nat_eq root.1 at
 
 -- the place of the first batch at a position, among batches whose places begin from a number
 abbrev pub place_in : List OpenBatch → ℕ → ℕ → Option ℕ

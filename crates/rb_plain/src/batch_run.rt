@@ -4,7 +4,6 @@ ghost use Rattle.std.specs.Prelude.{◌≡◌, IfOk, OnOk};
 ghost use Rattle.rb_plain.specs.BatchRuns.{Begins, IsOver, SetsTable, Settles, sided, whole_table};
 
 use crate::remote_world::RemoteWorld;
-use crate::scopes::copy_scope;
 use crate::stage::Stage;
 use crate::walk::perform_block;
 use rb_engine::{Frame, Miss};
@@ -76,7 +75,7 @@ fn perform_whole(
 {
     let Start { names, table } = start;
     let mut names = names;
-    let mut scope = copy_scope(alloc, &batch.scope)?;
+    let mut scope = batch.scope.copy(alloc)?;
     let fuel = world.server.fuel();
     let _body = world.server.replace_table(table);
     world.server.refuel(BATCH_FUEL);

@@ -2,15 +2,14 @@
 
 ghost use Rattle.std.specs.Prelude.{◌≡◌, ℕ, nat_eq, IfOk, OnOk};
 ghost use Rattle.std.specs.HashMap.{get};
-ghost use Rattle.std.specs.Option.{option_copied};
+ghost use Rattle.std.specs.Option.{option_copied, option_map};
 ghost use Rattle.rb_trees.specs.mirror.Declarations.{mirror_program};
 ghost use Rattle.rb_plain.specs.Batches as words;
 ghost use Rattle.rb_plain.specs.Batches.{AreBatchesOf, Notes, found, place_in};
 
 use rb_flow::{OpenBatch, collect_batches};
 use rb_marks::Facts;
-use rb_meaning_flow::Variable;
-use rb_trees::{Memory, Seq};
+use rb_trees::{Memory, Seq, Word};
 use std::alloc::Global;
 use std::collections::HashMap;
 
@@ -21,11 +20,11 @@ pub struct Batches<'p> {
     places: HashMap<u32, usize>,
 }
 
-/// The root of a batch, which is the last variable in scope where it begins. Its node is the batch's position.
-pub fn root_of<'b>(batch: &'b OpenBatch<'_>) -> Option<&'b Variable>
-    ensures { option_copied result ≡ words.root_of batch.now }
+/// The root of a batch, which is the last variable in scope where it begins, and its node, which is the batch's position.
+pub fn root_of<'b>(batch: &'b OpenBatch<'_>) -> Option<(&'b Word, u32)>
+    ensures { option_map (λ root. (root.0.now, root.1)) result ≡ words.root_of batch.now }
 {
-    batch.scope.as_slice().last()
+    batch.scope.newest()
 }
 
 // Notes the place of a batch.
@@ -33,7 +32,7 @@ fn note(places: &mut HashMap<u32, usize>, batch: &OpenBatch<'_>, place: usize) -
     ensures { OnOk result (Notes batch.now place (get nat_eq places.old) (get nat_eq places.new)) }
 {
     if let Some(root) = root_of(batch) {
-        let _before = places.insert(root.node, place)?;
+        let _before = places.insert(root.1, place)?;
     }
     Ok(())
 }

@@ -14,7 +14,6 @@ mod plain_run;
 mod remote_parts;
 mod remote_world;
 mod run;
-mod scopes;
 mod stage;
 mod walk;
 

@@ -123,7 +123,7 @@ impl<'p, 'b, 'a, 'o, W: Sink> World for OuterWorld<'p, 'b, 'a, 'o, W> {
         match root_of(batch) {
             Some(root) => {
                 let alloc = self.inner.remote.alloc;
-                perform(alloc, self, &root.name, batch, state, frame)
+                perform(alloc, self, root.0, batch, state, frame)
             }
             None => Ok(Err(self.inner.remote.refuse(at))),
         }

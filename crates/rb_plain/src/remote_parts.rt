@@ -12,7 +12,8 @@ use crate::remote_world::{RemoteWorld, value_of};
 use crate::stage::Stage;
 use rb_engine::{Frame, Miss};
 use rb_flow::is_portable;
-use rb_marks::{Scope, holds_call};
+use rb_marks::holds_call;
+use rb_scopes::Scope;
 use rb_trees::{Expr, ExprForm, Seq};
 use std::alloc::Global;
 

@@ -16,8 +16,9 @@ use crate::remote_parts::{perform_both, perform_in};
 use crate::remote_world::{RemoteWorld, value_of};
 use rb_engine::{Failure, Frame, Miss, at_place, truth_of};
 use rb_flow::is_portable;
-use rb_marks::{Scope, branches_hold};
+use rb_marks::branches_hold;
 use rb_meaning_flow::Role;
+use rb_scopes::Scope;
 use rb_trees::{
     Expr, Fault, Seq, Shared, Stmt, StmtForm, Value, Word, copy_value, copy_word, fault_codes,
 };

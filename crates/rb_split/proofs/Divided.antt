@@ -11,10 +11,10 @@ use Rattle.rb_trees.specs.declared.remainders.Split.{Split}
 use Rattle.rb_trees.specs.mirror.Code.{Stmts, mirror_stmts}
 use Rattle.rb_trees.specs.declared.declarations.Program as program
 use Rattle.rb_trees.specs.mirror.Declarations.{Program, mirror_program}
-use Rattle.rb_meaning_flow.specs.declared.scopes.Role.{Role}
-use Rattle.rb_meaning_flow.specs.declared.scopes.Variable.{Variable}
 use Rattle.rb_meaning_flow.specs.Outermost.{Outermost, program_batches}
-use Rattle.rb_meaning_flow.specs.Scopes.{Scope, assigned_in, opened, variable_with}
+use Rattle.rb_meaning_flow.specs.Scopes.{Scope, opened}
+use Rattle.rb_scopes.specs.Seen.{newest}
+use Rattle.rb_scopes.proofs.Opened.{newest_opened}
 use Rattle.rb_meaning_split.specs.Division.{Division, checked_code, divided, divided_all, divided_before, division, first_refs, inputs_of, most_inputs}
 use Rattle.rb_meaning_split.specs.Refs.{Refs}
 use Rattle.rb_flow.specs.Begun.{begun, begun_of}
@@ -27,24 +27,9 @@ use Rattle.rb_split.specs.Views.{facts}
 use Rattle.rb_split.specs.declared.stops.SplitStop.{SplitStop}
 use Rattle.rb_split.specs.declared.stops.SplitStop.TheVariants as stops
 
-got_at : {A : Type 0} (ys : List A) (y x : A) (n m : ℕ) → n ≡ suc m → slice_get ys m ≡ Some x → slice_get (y ∷ ys) n ≡ Some x
-got_at ys y x n m e h = ap (slice_get (y ∷ ys)) e ∙ h
-
--- the last item of a list
-last_of : {A : Type 0} (xs : List A) (x : A) → slice_get (xs ++ x ∷ []) (length (xs ++ x ∷ []) - 1) ≡ Some x
-last_of [] x = refl
-last_of (y ∷ xs) x = got_at (xs ++ x ∷ []) y x _ (length (xs ++ x ∷ []) - 1) (omega (arith, length-append xs (x ∷ []))) (last_of xs x)
-
-root_of_opened : (outer : Scope) (at : ℕ) (root : List ℕ) (block : Stmts)
-    → slice_get (opened outer at root block) (length (opened outer at root block) - 1) ≡ Some (record { name = root; role = Role.Root; node = at })
-root_of_opened outer at root block =
-    let f = variable_with (assigned_in block) in
-    ap (λ xs. slice_get xs (length xs - 1)) (map-append f outer (record { name = root; role = Role.Root; node = at } ∷ []))
-    ∙ last_of (map f outer) (record { name = root; role = Role.Root; node = at })
-
 -- the root of a batch: the last variable in scope where it begins
-pub root_so : (b : OpenBatch) (o : Outermost) → begun_of b ≡ begun o → slice_get b.scope (length b.scope - 1) ≡ Some (record { name = o.root; role = Role.Root; node = o.at })
-root_so b o e = ap (λ x. slice_get x.scope (length x.scope - 1)) e ∙ root_of_opened o.outer o.at o.root o.block
+pub root_so : (b : OpenBatch) (o : Outermost) → begun_of b ≡ begun o → newest b.scope ≡ Some (o.root, o.at)
+root_so b o e = ap (λ x. newest x.scope) e ∙ newest_opened o.outer o.at o.root o.block
 
 by_test : (t : Bool) (r : Refusal) (n : ℕ) (m : Result Division Refusal) → cond t (Err r) m ≡ (cond t (Err r) (Ok n)) >>= (λ k. m)
 by_test true r n m = refl
@@ -57,13 +42,13 @@ divided_begun p o =
     by_test (nat_lt most_inputs (length (inputs_of p o))) (TooManyInputs o.at (length (inputs_of p o))) (length (inputs_of p o))
     (checked_code (division_with p o.at o.root (opened o.outer o.at o.root o.block) o.block (inputs_of p o)))
 
-pub divided_so : (p : Program) (b : OpenBatch) (o : Outermost) (root : Variable) → begun_of b ≡ begun o → Some root ≡ slice_get b.scope (length b.scope - 1)
-    → divided p o ≡ divided_from p root.node root.name b.scope (mirror_stmts b.block.now)
+pub divided_so : (p : Program) (b : OpenBatch) (o : Outermost) (root : List ℕ × ℕ) → begun_of b ≡ begun o → Some root ≡ newest b.scope
+    → divided p o ≡ divided_from p root.1 root.0 b.scope (mirror_stmts b.block.now)
 divided_so p b o root h is =
-    let last : Some root ≡ Some (record { name = o.root; role = Role.Root; node = o.at }) = is ∙ root_so b o h in
-    let same : record { name = o.root; role = Role.Root; node = o.at } ≡ root = cc in
+    let last : Some root ≡ Some (o.root, o.at) = is ∙ root_so b o h in
+    let same : (o.root, o.at) ≡ root = cc in
     divided_begun p o ∙ ap (λ x. divided_from p o.at o.root x.scope x.block) (sym h)
-    ∙ ap (λ v. divided_from p v.node v.name b.scope (mirror_stmts b.block.now)) same
+    ∙ ap (λ v. divided_from p v.1 v.0 b.scope (mirror_stmts b.block.now)) same
 
 -- the same answer to another definition that is equal
 pub gives_by : {X Y : Type 0} (view : X → Y) (r : Result X SplitStop) (m m' : Result Y Refusal) → m' ≡ m → Gives view refusal_of r m → Gives view refusal_of r m'

@@ -11,7 +11,8 @@ ghost use Rattle.rb_split.specs.Views.{facts};
 
 use crate::numbers::next;
 use crate::remote::is_remote;
-use rb_marks::{Facts, Scope};
+use rb_marks::Facts;
+use rb_scopes::Scope;
 use rb_trees::{
     BinOp, Boxed, Expr, ExprForm, Memory, Seq, TypeTree, UnOp, Word, copy_expr, copy_type,
     copy_word,

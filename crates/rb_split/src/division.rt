@@ -12,11 +12,11 @@ ghost use Rattle.rb_split.specs.Views.{refs_of};
 use crate::drafts::Draft;
 use crate::inputs::inputs_of;
 use crate::refs::{Referent, Refs};
-use crate::scopes::copy_scope;
 use crate::stops::SplitStop;
 use crate::walk::draft_block;
 use rb_flow::OpenBatch;
-use rb_marks::{Facts, Scope};
+use rb_marks::Facts;
+use rb_scopes::Scope;
 use rb_trees::{Memory, Refusal, Script, Seq, Split, Stmt, Word, code_size};
 use std::alloc::Global;
 
@@ -129,14 +129,14 @@ pub fn divide(
     ensures divided { DividesBegun (mirror_program x.now) (begun_of batch.now) result }
     ensures number { IfOk result (λ s. s.batch ≡ number) }
 {
-    let Some(root) = batch.scope.as_slice().last() else {
+    let Some(root) = batch.scope.newest() else {
         return Err(SplitStop::Memory);
     };
     let place = Place {
         number,
-        at: root.node,
-        root: &root.name,
+        at: root.1,
+        root: root.0,
     };
-    let mut scope = copy_scope(alloc, &batch.scope)?;
+    let mut scope = batch.scope.copy(alloc)?;
     divide_from(alloc, x, &place, &mut scope, batch.block)
 }

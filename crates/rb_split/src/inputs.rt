@@ -15,8 +15,9 @@ use crate::remote::remote_of;
 use crate::scopes::bind_after;
 use crate::uses::Uses;
 use rb_flow::is_portable;
-use rb_marks::{Facts, Scope, branches_hold};
+use rb_marks::{Facts, branches_hold};
 use rb_meaning_flow::Role;
+use rb_scopes::Scope;
 use rb_trees::{Expr, ExprForm, Memory, Seq, Stmt, StmtForm, Word};
 use std::alloc::Global;
 
@@ -34,15 +35,10 @@ fn is_constant(role: Role) -> bool
 fn note_variable(alloc: Global, scope: &Scope, uses: &mut Uses, name: &Word) -> Result<(), Memory>
     ensures { OnOk result (uses.new ≡ noted uses.old (constant_variable scope.now name.now)) }
 {
-    match scope.find(name) {
-        Some(variable) => {
-            if is_constant(variable.role) {
-                uses.note(alloc, name)
-            } else {
-                Ok(())
-            }
-        }
-        None => Ok(()),
+    if is_constant(scope.role_of(name)) {
+        uses.note(alloc, name)
+    } else {
+        Ok(())
     }
 }
 

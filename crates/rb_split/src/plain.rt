@@ -10,7 +10,8 @@ ghost use Rattle.rb_split.specs.Cutting.{assignment_cut};
 ghost use Rattle.rb_split.specs.Views.{facts};
 
 use crate::cuts::cut;
-use rb_marks::{Facts, Scope};
+use rb_marks::Facts;
+use rb_scopes::Scope;
 use rb_trees::{Expr, Memory, Seq, Stmt, StmtForm, Word, copy_stmt, copy_stmts, copy_word};
 use std::alloc::Global;
 

@@ -10,7 +10,8 @@ ghost use Rattle.rb_split.specs.Cutting.{below};
 ghost use Rattle.rb_split.specs.Views.{facts, trees};
 
 use rb_flow::is_portable;
-use rb_marks::{Facts, Scope, holds_call};
+use rb_marks::{Facts, holds_call};
+use rb_scopes::Scope;
 use rb_trees::{Expr, ExprForm, Memory, Seq, Stmt, StmtForm};
 use std::alloc::Global;
 

@@ -11,21 +11,11 @@ ghost use Rattle.rb_split.specs.Views.{facts, refs_of};
 
 use crate::refs::{Referent, Refs};
 use rb_flow::is_portable;
-use rb_marks::{Facts, Scope};
+use rb_marks::Facts;
 use rb_meaning_flow::Role;
+use rb_scopes::Scope;
 use rb_trees::{Expr, Memory, Stmt, StmtForm};
 use std::alloc::Global;
-
-/// A copy of a scope: the same variables.
-pub fn copy_scope(alloc: Global, scope: &Scope) -> Result<Scope, Memory>
-    ensures { IfOk result (λ copy. copy ≡ scope.now) }
-{
-    let mut copy = Scope::new(alloc);
-    'variables: for v in scope.as_slice() {
-        copy.bind(alloc, &v.name, v.role, v.node)?;
-    }
-    Ok(copy)
-}
 
 // The role of a `val`.
 fn val_role(x: &Facts<'_>, scope: &Scope, e: &Expr) -> Role

@@ -21,8 +21,9 @@ use crate::refs::{Referent, Refs};
 use crate::remote::{is_remote, remote_of};
 use crate::scopes::{bind_after, refer_after};
 use rb_flow::is_portable;
-use rb_marks::{Facts, Scope, branches_hold, holds_call};
+use rb_marks::{Facts, branches_hold, holds_call};
 use rb_meaning_flow::Role;
+use rb_scopes::Scope;
 use rb_trees::{
     Expr, Memory, Part, Seq, Step, StepForm, Stmt, StmtForm, Word, copy_expr, copy_word,
 };
