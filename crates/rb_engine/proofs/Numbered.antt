@@ -8,5 +8,5 @@ use Rattle.rb_meaning_code.specs.Remote.{kind_of}
 use Rattle.rb_engine.specs.Kinds.{mirror_kind}
 
 -- A number stands for the same kind in the trees and in the meaning.
-kinds_mirrored : (number : ℕ) → option_map mirror_kind (slice_get kinds number) ≡ kind_of number
+pub kinds_mirrored : (number : ℕ) → option_map mirror_kind (slice_get kinds number) ≡ kind_of number
 kinds_mirrored number = sym (slice_get-map mirror_kind kinds number)
