@@ -1,6 +1,7 @@
 pub mod Lines
 pub mod Characters
 pub mod Colours
+pub mod Headings
 pub mod Positions
 pub mod Quotes
 pub mod Appends

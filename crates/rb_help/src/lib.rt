@@ -1,14 +1,16 @@
 //! What a person is told where a command doesn't end well: the place in the text, what is wrong there, and what to do.
 //!
-//! [`explain`] quotes the lines of the text at the positions of a [`Trouble`], each with a caret under the place, and
-//! adds a sentence that says what is wrong, in the words of the text, and one that says what to do. What a quote is
-//! stands in `specs/Quotes`. [`usage`] tells the forms of the commands. All sentences stand in `texts.rt`,
-//! `type_texts.rt` and `outside_texts.rt`. [`coloured`] paints what is told for a terminal.
+//! [`explain`] quotes the lines of the text at the positions of a [`Trouble`], each below its file, line and column and
+//! with a caret under the place. It adds a sentence that says what is wrong, in the words of the text, and one that says
+//! what to do. What a quote is stands in `specs/Quotes`. [`usage`] tells the forms of the commands. All sentences stand in
+//! `texts.rt`, `type_texts.rt`, `outside_texts.rt` and `command_pages.rt`. [`coloured`] paints what is told for a terminal.
 #![tactic(auto)]
 
 mod blocks;
+mod byte_order;
 mod carets;
 mod colours;
+mod command_pages;
 mod commands;
 mod declarations;
 mod explaining;
@@ -27,6 +29,7 @@ mod reading_help;
 mod refusal_help;
 mod run_help;
 mod service_help;
+mod sheet;
 mod showing;
 mod spans;
 mod standing;
@@ -37,6 +40,7 @@ mod type_texts;
 mod type_words;
 mod typing_help;
 mod wanted;
+mod word_help;
 mod wrong_types;
 
 pub use colours::coloured;
