@@ -1,5 +1,5 @@
 -- The lines of a text that are quoted.
-use Rattle.std.specs.Prelude.{◌≡◌, ◌==◌, ℕ, ◌+◌, ◌≤◌, List, [], ◌∷◌, ◌++◌, Bool, false, ◌&&◌, cond, length, nat_le, Option, None, Some, codes}
+use Rattle.std.specs.Prelude.{◌≡◌, ◌==◌, ℕ, ◌+◌, ◌≤◌, List, [], ◌∷◌, ◌++◌, Bool, false, ◌&&◌, cond, length, nat_le, nat_lt, Option, None, Some, codes}
 use Rattle.std.specs.Fmt.{decimal}
 use Rattle.std.specs.List.{repeat}
 use Rattle.rb_meaning.specs.Place.{line_of}
@@ -18,15 +18,22 @@ pub record IsCut (line : List ℕ) (at : ℕ) (before part after : List ℕ) : T
   pub to : at ≤ length before + length part
   pub short : length line ≤ longest_whole → part ≡ line
 
--- what stands for bytes that are cut off
-abbrev pub cut_mark : List ℕ → List ℕ
-cut_mark [] = []
-cut_mark (b ∷ bs) = codes "..."
+-- whether something is cut off
+abbrev pub is_cut : List ℕ → Bool
+is_cut off = nat_lt 0 (length off)
 
--- the number of a line, a bar and the part of the line that is shown
-abbrev pub quoted : ℕ → List ℕ → List ℕ → List ℕ → List ℕ
-quoted number before part after =
-    decimal number ++ codes " | " ++ cut_mark before ++ shown_text part ++ cut_mark after ++ codes "\n"
+-- dots where something is cut off
+abbrev pub cut_mark : Bool → List ℕ
+cut_mark cut = cond cut (codes "...") []
+
+-- the number of a line, a bar and the part of the line that is shown, with dots where something is cut off before or after it
+abbrev pub quoted : ℕ → Bool → List ℕ → Bool → List ℕ
+quoted number cut_before part cut_after =
+    decimal number ++ codes " | " ++ cut_mark cut_before ++ shown_text part ++ cut_mark cut_after ++ codes "\n"
+
+-- the same of the line of a place, of which before and after are cut off
+abbrev pub shown_of : List ℕ → ℕ → List ℕ → List ℕ → List ℕ → List ℕ
+shown_of text at before part after = quoted (line_of text at) (is_cut before) part (is_cut after)
 
 -- The line of a place of a text is cut around the place.
 abbrev pub IsCutAt : List ℕ → ℕ → List ℕ → List ℕ → List ℕ → Type 0
@@ -39,7 +46,7 @@ pub record IsQuote (source : NamedText) (at : ℕ) (quote : List ℕ) : Type 0 w
   pub after : List ℕ
   pub blanks : ℕ
   pub cut : IsCutAt source.text at before part after
-  pub shows : quote ≡ heading source at ++ repeat blanks (codes " ") ++ quoted (line_of source.text at) before part after
+  pub shows : quote ≡ heading source at ++ repeat blanks (codes " ") ++ shown_of source.text at before part after
 
 -- a place shares the quote of the place before it where both stand on one line, and that is quoted whole
 abbrev pub shares : List ℕ → Option ℕ → ℕ → Bool

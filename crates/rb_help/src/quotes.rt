@@ -1,11 +1,14 @@
 // Quotes of lines.
 
-ghost use Rattle.std.specs.Prelude.{◌≡◌, ◌++◌, ◌+◌, ◌≤◌, length, IfOk};
+ghost use Rattle.std.specs.Prelude.{◌≡◌, ◌+◌, ◌≤◌, codes, length, IfOk};
 ghost use Rattle.std.specs.Fmt.{decimal};
+ghost use Rattle.std.specs.List.{repeat};
 ghost use Rattle.rb_help.specs.Appends.{Appends};
-ghost use Rattle.rb_help.specs.Quotes as words;
-ghost use Rattle.rb_help.specs.Quotes.{IsCut, IsQuote, cut_mark, quoted};
 ghost use Rattle.rb_help.specs.Characters.{shown_text};
+ghost use Rattle.rb_help.specs.Headings as headings;
+ghost use Rattle.rb_help.specs.Near.{IsNear, IsPart, IsPartOfLine};
+ghost use Rattle.rb_help.specs.Quotes as words;
+ghost use Rattle.rb_help.specs.Quotes.{IsQuote};
 
 use crate::lines::{Line, line_within};
 use crate::sheet::Sheet;
@@ -64,9 +67,11 @@ fn uncut(line: &[u8], at: usize) -> usize
     one_back(line, twice)
 }
 
-/// A line, cut around a place of it.
+/// What is quoted of a piece of a line, around a place of it.
 fn cut_around(line: &[u8], at: usize) -> Cut<'_>
     requires { at ≤ length line.now }
+    ensures part { IsPart line.now at (60 + 3) result }
+    ensures within { result.offset ≤ length result.part.now }
 {
     let mut from = 0;
     let mut to = line.len();
@@ -85,7 +90,10 @@ fn cut_around(line: &[u8], at: usize) -> Cut<'_>
 }
 
 /// What is near a place of its line: all of a line that is quoted whole, and of a longer one more than is quoted.
-fn near_line(text: &[u8], at: u32) -> Line<'_> {
+fn near_line(text: &[u8], at: u32) -> Line<'_>
+    ensures near { IsNear text.now at 121 result.bytes.now result.offset }
+    ensures within { result.offset ≤ length result.bytes.now }
+{
     let place = (at as usize).min(text.len());
     let from = place.saturating_sub(NEAR);
     let to = place + (text.len() - place).min(NEAR);
@@ -93,7 +101,10 @@ fn near_line(text: &[u8], at: u32) -> Line<'_> {
 }
 
 /// What is quoted of the line of a place.
-pub fn cut_at(text: &[u8], at: u32) -> Cut<'_> {
+pub fn cut_at(text: &[u8], at: u32) -> Cut<'_>
+    ensures part { IsPartOfLine text.now at result }
+    ensures within { result.offset ≤ length result.part.now }
+{
     let line = near_line(text, at);
     cut_around(line.bytes, line.offset)
 }
@@ -115,7 +126,9 @@ fn add_shown(alloc: Global, bytes: &[u8], into: &mut Word) -> Result<(), Memory>
 }
 
 /// Adds what stands for bytes that are cut off, where some are.
-fn add_mark(is_cut: bool, into: &mut Word) -> Result<(), Memory> {
+fn add_mark(is_cut: bool, into: &mut Word) -> Result<(), Memory>
+    ensures { Appends (words.cut_mark is_cut) into.old result into.new }
+{
     if is_cut {
         into.extend_from_slice(b"...")
     } else {
@@ -125,7 +138,7 @@ fn add_mark(is_cut: bool, into: &mut Word) -> Result<(), Memory> {
 
 /// The line that editors jump by: `heading`.
 fn heading(alloc: Global, sheet: &Sheet<'_>, at: u32) -> Result<Word, Memory>
-    ensures { IfOk result (λ text. text ≡ words.heading sheet.now at) }
+    ensures { IfOk result (λ text. text ≡ headings.heading sheet.now at) }
 {
     let mut text = Seq::new(alloc);
     if sheet.name().is_empty() {
@@ -155,7 +168,10 @@ fn add_blanks(alloc: Global, count: usize, into: &mut Word) -> Result<(), Memory
 }
 
 /// Adds the number of a line and what is shown of it.
-fn add_quoted(alloc: Global, number: usize, cut: &Cut<'_>, into: &mut Word) -> Result<(), Memory> {
+#[tactic(auto, using(crate::proofs::Appended::pieces))]
+fn add_quoted(alloc: Global, number: usize, cut: &Cut<'_>, into: &mut Word) -> Result<(), Memory>
+    ensures { Appends (words.quoted number cut.now.is_cut_before cut.now.part.now cut.now.is_cut_behind) into.old result into.new }
+{
     add_number(alloc, number, into)?;
     into.extend_from_slice(b" | ")?;
     add_mark(cut.is_cut_before, into)?;

@@ -1,6 +1,6 @@
 // A text whose lines are quoted, and the columns of its places.
 
-ghost use Rattle.std.specs.Prelude.{◌≡◌, ◌≤◌, ◌-◌, count_by, drop, length, take, IfOk};
+ghost use Rattle.std.specs.Prelude.{◌≡◌, ◌≤◌, ◌-◌, count_by, length, take, IfOk};
 ghost use Rattle.rb_meaning.specs.Place.{line_of};
 ghost use Rattle.rb_help.specs.Headings as words;
 ghost use Rattle.rb_help.specs.Headings.{begins_character};
@@ -44,16 +44,25 @@ fn begins_character(byte: u8) -> bool
     !matches!(byte, 0x80..=0xBF)
 }
 
-/// How many characters begin in a range of a text.
-fn count_between(text: &[u8], from: usize, to: usize) -> usize
-    requires order { from ≤ to }
-    requires within { to ≤ length text.now }
-    ensures { result ≡ count_by begins_character (drop from (take to text.now)) }
+/// How many characters begin in a text.
+fn count_characters(bytes: &[u8]) -> usize
+    ensures count { result ≡ count_by begins_character bytes.now }
+    ensures few { result ≤ length bytes.now }
 {
-    text[from..to]
+    bytes
         .iter()
         .filter(|byte| begins_character(**byte))
         .count()
+}
+
+/// How many characters begin before a place, found from the count before an earlier one.
+fn count_on(text: &[u8], from: usize, at: usize, count: usize) -> usize
+    requires order { from ≤ at }
+    requires within { at ≤ length text.now }
+    requires counted { count ≡ count_by begins_character (take from text.now) }
+    ensures { result ≡ count_by begins_character (take at text.now) }
+{
+    count + count_characters(&text[from..at])
 }
 
 impl<'t> Sheet<'t> {
@@ -66,7 +75,7 @@ impl<'t> Sheet<'t> {
         let mut counted = Vec::new(alloc);
         counted.push(count)?;
         for k in 0..text.len() / STRIDE {
-            count += count_between(text, k * STRIDE, k * STRIDE + STRIDE);
+            count = count_on(text, k * STRIDE, k * STRIDE + STRIDE, count);
             counted.push(count)?;
         }
         Ok(Sheet {
@@ -104,8 +113,8 @@ impl<'t> Sheet<'t> {
     {
         let index = place / STRIDE;
         match self.counted.get(index) {
-            Some(count) => *count + count_between(self.text(), index * STRIDE, place),
-            None => count_between(self.text(), 0, place),
+            Some(count) => count_on(self.text(), index * STRIDE, place, *count),
+            None => count_on(self.text(), 0, place, 0),
         }
     }
 
