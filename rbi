@@ -1,16 +1,12 @@
 #!/bin/sh
-# Runs the program with the given words, in the caller's folder. Where it is missing or older than its sources it is
-# proved and built first, and tried on its stored run; a failed build ends with status 70. With `try` before the words it is
-# run before any proof: compiled with checks, in a minute or two, while a build may go on beside it.
-crates=$(dirname "$(readlink -f "$0")")/crates
-program=$crates/rbi/out/rbi
-log=$crates/rbi/out/build.log
-
-# Says something of the build, with the minutes and seconds since it began.
-say() {
-    spent=$(($(date +%s) - began))
-    printf 'rbi: %d:%02d %s\n' $((spent / 60)) $((spent % 60)) "$1" >&2
-}
+# Runs the program with the given words, in the caller's folder. Where it is missing or older than its sources, it is built
+# first: the crates that it needs are proved, as many at once as there are processors and memory, and the program is tried
+# on its stored run. A failed build ends with status 70. With `try` before the words it is run before any proof: compiled
+# with checks, in a minute or two, while a build may go on beside it.
+top=$(dirname "$(readlink -f "$0")")
+out=$top/crates/rbi/out
+program=$out/rbi
+work=$out/work
 
 # Runs the program with the words, unproved, on copies of the files that they name.
 try_unproved() {
@@ -28,25 +24,76 @@ try_unproved() {
         count=$((count - 1))
     done
     printf 'rbi: a trial before any proof, compiled with checks; it takes a minute or two\n' >&2
-    cd "$crates/rbi" && exec rt try "$@"
+    cd "$top/crates/rbi" && exec rt try "$@"
 }
 
+# The lines of crates.txt for rbi and the crates that it stands on.
+needed_lines() {
+    awk -F: '
+        function need(crate, parts, count, i) {
+            if (!(crate in below) || crate in needed) return
+            needed[crate] = 1
+            count = split(below[crate], parts, " ")
+            for (i = 1; i <= count; i++) need(parts[i])
+        }
+        !/^#/ && NF > 1 { split($1, words, " "); names[++lines] = words[1]; below[words[1]] = $2; whole[lines] = $0 }
+        END { need("rbi"); for (i = 1; i <= lines; i++) if (names[i] in needed) print whole[i] }
+    ' "$top/crates.txt"
+}
+
+# Whether the program is missing, or older than a file of its crates.
+is_old() {
+    cd "$top" || return
+    [ ! -x "$program" ] ||
+        [ -n "$(find crates.txt $(printf 'crates/%s ' $needed) -name out -prune -o -type f -newer "$program" -print)" ]
+}
+
+# Copies the needed crates into a folder of their own, since `rt all` takes each crate of a crates.txt. What was proved there
+# before stays. The crates.txt is taken away after the build: `rt ci` wants one alone.
+gather() {
+    for crate in $needed; do
+        from=$top/crates/$crate to=$work/crates/$crate
+        mkdir -p "$to" && find "$to" -mindepth 1 -maxdepth 1 ! -name out -exec rm -rf {} + &&
+            find "$from" -mindepth 1 -maxdepth 1 ! -name out -exec cp -Rp {} "$to" \; || return
+    done
+    trap 'rm -f "$work/crates.txt"' EXIT
+    needed_lines >"$work/crates.txt"
+}
+
+# Proves the crates and builds the program in that folder.
 build() {
-    cd "$crates/rbi" && : >out/begun && rt run -- both data/p data/s && touch -r out/begun out/rbi
+    : >"$out/begun" && gather && cd "$work" && rt all check --jobs "$jobs" && cd crates/rbi && rt run -- both data/p data/s &&
+        touch -r "$out/begun" out/rbi && cp -p out/rbi "$program.new" && mv "$program.new" "$program"
 }
 
-# Keeps the build's output in the log, and says each crate that is proved. What is read last is the build's status,
-# without a line feed behind it.
+# Says something of the build, with the minutes and seconds since it began.
+say() {
+    spent=$(($(date +%s) - began))
+    printf 'rbi: %d:%02d %s\n' $((spent / 60)) $((spent % 60)) "$1" >&2
+}
+
+# How many bytes these crates have, proofs and all.
+bytes_of() {
+    for crate; do
+        find "$top/crates/$crate" -name out -prune -o -type f -exec cat {} +
+    done | wc -c
+}
+
+# Follows the build's output, and says which crate is proved, how many are left, and about how long they take, by the bytes
+# that are proved so far.
 follow() {
+    all=$(bytes_of $needed) done=0
     while IFS= read -r line; do
-        printf '%s\n' "$line"
         case $line in
-        "crate "*:*) crate=${line#crate } && crate=${crate%%:*} ;;
-        "logic=proved "*) say "$crate proved" ;;
+        "== summary") say "all is proved; now the program is compiled and tried" ;;
+        "== "*) crate=${line#== } left=$((left - 1)) done=$((done + $(bytes_of "${line#== }"))) ;;
+        "logic=proved "*)
+            minutes=$((($(date +%s) - began) * (all - done) / done / 60 + 1))
+            [ "$left" -eq 0 ] || say "$crate is proved; crates left: $left, in about $minutes min"
+            ;;
         "rt: waiting for "*) say "${line#rt: }" ;;
         esac
-    done >"$log"
-    [ "$line" = "status 0" ]
+    done
 }
 
 if [ "$1" = try ]; then
@@ -55,13 +102,16 @@ if [ "$1" = try ]; then
     exit
 fi
 
-if [ ! -x "$program" ] ||
-    [ -n "$(find "$crates" "$crates.txt" -name out -prune -o -type f -newer "$program" -print)" ]; then
-    began=$(date +%s)
-    mkdir -p "$crates/rbi/out"
-    say "building the program; each crate is proved first"
-    if ! { (build) 2>&1 </dev/null; printf '\nstatus %s' "$?"; } | follow; then
-        say "the build failed, see $log"
+needed=$(needed_lines | sed 's/[: ].*//')
+if (is_old); then
+    began=$(date +%s) left=$(echo "$needed" | wc -l)
+    jobs=$(awk -v most="$(getconf _NPROCESSORS_ONLN)" '/^MemAvailable/ { jobs = int($2 / 3000000) }
+        END { print jobs < 1 ? 1 : jobs < most ? jobs : most }' /proc/meminfo)
+    mkdir -p "$work"
+    say "building the program: $left crates are proved first, $jobs side by side"
+    { (build) 2>&1 </dev/null; echo $? >"$out/status"; } | tee "$out/build.log" | follow
+    if [ "$(cat "$out/status")" != 0 ]; then
+        say "the build failed, see $out/build.log"
         exit 70
     fi
 fi
