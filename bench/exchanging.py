@@ -3,7 +3,7 @@
 import socket
 import subprocess
 import time
-from contextlib import contextmanager
+from contextlib import contextmanager, suppress
 
 HERE = "127.0.0.1"
 HEADER = 11
@@ -43,20 +43,21 @@ def frame(peer):
 
 
 def recorded(client, port):
-    """The frames of a request and its reply: a client of one exchange, a list of words that takes an address, is let through to
-    a server.
-    """
+    """The frames of each request and its reply: a client, a list of words that takes an address, is let through to a server."""
+    frames = []
     with socket.create_server((HERE, 0)) as between, reached(port) as there:
         started = subprocess.Popen(client(f"{HERE}:{between.getsockname()[1]}"), stdout=subprocess.DEVNULL)
         here, _ = between.accept()
-        with here:
-            request = frame(here)
-            there.sendall(request)
-            reply = frame(there)
-            here.sendall(reply)
-            if started.wait() != 0:
-                raise ChildProcessError("the client fails")
-    return request, reply
+        with here, suppress(EOFError):
+            while True:
+                request = frame(here)
+                there.sendall(request)
+                reply = frame(there)
+                here.sendall(reply)
+                frames.append((request, reply))
+        if started.wait() != 0:
+            raise ChildProcessError("the client fails")
+    return frames
 
 
 @contextmanager

@@ -86,6 +86,11 @@ def chain(n):
     return DIRECTORY + "main { batch (D r) { var a0 = r.size();\n" + "".join(f"var a{i} = a{i - 1} + 1;\n" for i in range(1, n)) + f"r.grow(a{n - 1}); }} }}\n"
 
 
+def line(n):
+    """The same on one line."""
+    return chain(n).replace("\n", " ")
+
+
 # Each shape with the bytes that the largest text has for each of its parts, and the commands that it is measured by.
 ALL = ("check", "split", "unsplit", "both")
 SHAPES = [
@@ -100,6 +105,7 @@ SHAPES = [
     # (so few, since the variables in scope are still copied at each batch)
     (scopes, 500, ALL),
     (chain, 26, ("check",)),
+    (line, 26, ("check",)),
 ]
 
 
