@@ -6,8 +6,10 @@
 //! `texts.rt`, `type_texts.rt`, `outside_texts.rt` and `command_pages.rt`. [`coloured`] paints what is told for a terminal.
 #![tactic(auto)]
 
+mod around;
 mod blocks;
 mod byte_order;
+mod candidates;
 mod carets;
 mod colours;
 mod command_pages;
@@ -25,20 +27,30 @@ mod page;
 mod pieces;
 mod placing;
 mod quotes;
+mod read_texts;
 mod reading_help;
 mod refusal_help;
+mod repairs;
 mod run_help;
 mod service_help;
 mod sheet;
 mod showing;
+mod slip_forms;
+mod slip_members;
+mod slip_texts;
+mod slip_values;
+mod slip_words;
+mod slips;
 mod spans;
 mod standing;
 mod texts;
+mod tries;
 mod trouble;
 mod type_mends;
 mod type_texts;
 mod type_words;
 mod typing_help;
+mod unexpected;
 mod wanted;
 mod word_help;
 mod wrong_types;

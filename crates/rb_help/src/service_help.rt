@@ -2,7 +2,7 @@
 
 use crate::page::Page;
 use crate::pieces::Pieces;
-use crate::reading_help::say_read;
+use crate::reading_help::say_read_service;
 use crate::texts;
 use crate::texts::Help;
 use crate::typing_help::say_types;
@@ -51,7 +51,7 @@ pub fn say_service(
     error: &StoreError,
 ) -> Result<(), Memory> {
     let (help, object) = match error {
-        StoreError::Read(error) => return say_read(page, pieces, error),
+        StoreError::Read(error) => return say_read_service(page, pieces, error),
         StoreError::Types(error) => return say_types(alloc, page, pieces, error, true),
         StoreError::NoRoot => return say_no_root(alloc, page, pieces),
         StoreError::Memory => return page.say_plain(&texts::WANT_OF_MEMORY),
