@@ -7,6 +7,7 @@
 #![tactic(auto)]
 
 mod around;
+mod batch_parts;
 mod blocks;
 mod byte_order;
 mod candidates;
@@ -16,11 +17,16 @@ mod command_pages;
 mod commands;
 mod declarations;
 mod explaining;
+mod flow_help;
 mod known_types;
 mod labels;
 mod lines;
 mod link_help;
 mod members;
+mod name_help;
+mod name_texts;
+mod object_parts;
+mod object_texts;
 mod outside_help;
 mod outside_texts;
 mod page;
@@ -30,6 +36,7 @@ mod quotes;
 mod read_texts;
 mod reading_help;
 mod refusal_help;
+mod refusal_texts;
 mod repairs;
 mod run_help;
 mod service_help;

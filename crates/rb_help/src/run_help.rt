@@ -1,13 +1,21 @@
 // What is said where a run ended by a fault.
 
+use crate::declarations::{Declared, declared_once};
+use crate::known_types::{known_type, name_of};
 use crate::page::Page;
 use crate::pieces::Pieces;
+use crate::spans::{Span, closing, operand_first};
 use crate::texts;
 use crate::texts::Help;
 use rb_trees::{Fault, Memory};
 
 /// The code of the one fault that keeps a text.
 const THROWN: u8 = 8;
+
+/// The codes of the faults that both sides meet at a call.
+const TOO_DEEP: u8 = 6;
+
+const FUEL_USED: u8 = 7;
 
 /// Whether a piece is the name of a method that is called.
 fn is_call(pieces: &Pieces<'_>, index: usize) -> bool {
@@ -35,8 +43,8 @@ fn meant_by(code: u8) -> &'static Help {
         3 => &texts::TEXT_TOO_LONG,
         4 => &texts::LIST_TOO_LONG,
         5 => &texts::HEAP_FULL,
-        6 => &texts::TOO_DEEP,
-        7 => &texts::FUEL_USED,
+        TOO_DEEP => &texts::TOO_DEEP,
+        FUEL_USED => &texts::FUEL_USED,
         THROWN => &texts::THROWN,
         9 => &texts::OBJECT_LACKS,
         10 => &texts::BAD_ARGUMENTS,
@@ -46,11 +54,35 @@ fn meant_by(code: u8) -> &'static Help {
     }
 }
 
+/// Whether a piece is a call of a method of an interface, or a loop over rows.
+fn is_at_server(pieces: &Pieces<'_>, index: usize) -> bool {
+    if pieces.is_later(index, 0, b"for") {
+        let open = index.saturating_add(1);
+        let span = Span {
+            first: open.saturating_add(3),
+            last: closing(pieces, open).saturating_sub(1),
+        };
+        return matches!(name_of(pieces, known_type(pieces, span)), b"Rows");
+    }
+    let last = index.saturating_sub(2);
+    let span = Span {
+        first: operand_first(pieces, last),
+        last,
+    };
+    let owner = name_of(pieces, known_type(pieces, span));
+    match declared_once(pieces, owner, Declared::Type) {
+        Some(place) => is_call(pieces, index) && pieces.is_earlier(place, 1, b"interface"),
+        None => false,
+    }
+}
+
 /// What is said of a fault at a piece. What local code divides, joins, makes or throws stands at a sign or a word of the
 /// language, so at a call it was code of the server.
 fn help_on(pieces: &Pieces<'_>, index: usize, code: u8) -> &'static Help {
     match met_at_server(code) {
         Some(help) if is_call(pieces, index) => help,
+        None if code == TOO_DEEP && is_at_server(pieces, index) => &texts::SERVER_TOO_DEEP,
+        None if code == FUEL_USED && is_at_server(pieces, index) => &texts::SERVER_FUEL_USED,
         _ => meant_by(code),
     }
 }

@@ -9,7 +9,7 @@ use crate::spans::slot_around;
 /// Whether a declaration with this word begins before a piece.
 fn is_behind(pieces: &Pieces<'_>, index: usize, word: &[u8]) -> bool {
     for place in 0..index {
-        if pieces.is_later(place, 0, word) && home_of(pieces, place) == Home::Nowhere {
+        if pieces.is_later(place, 0, word) {
             return true;
         }
     }

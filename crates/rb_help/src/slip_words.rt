@@ -8,7 +8,7 @@ use crate::slips::{Slip, named};
 use crate::texts::Help;
 
 /// What is said of a word with which other languages declare something or begin a statement.
-fn of_statement(word: &[u8]) -> Option<&'static Help> {
+pub fn of_statement(word: &[u8]) -> Option<&'static Help> {
     match word {
         b"let" | b"const" | b"auto" | b"mut" => Some(&slip_texts::DECLARE),
         b"println" | b"printf" | b"echo" | b"puts" | b"console" => Some(&slip_texts::PRINTER),

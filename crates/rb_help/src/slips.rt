@@ -38,10 +38,10 @@ pub fn plain<'a>(help: &'static Help) -> Option<Slip<'a>> {
     named(help, b"")
 }
 
-/// Whether a word stands outside of all braces.
-fn has_outside(pieces: &Pieces<'_>, word: &[u8]) -> bool {
+/// Whether a word stands in a text.
+fn has(pieces: &Pieces<'_>, word: &[u8]) -> bool {
     for place in 0..pieces.len() {
-        if pieces.is_later(place, 0, word) && home_of(pieces, place) == Home::Nowhere {
+        if pieces.is_later(place, 0, word) {
             return true;
         }
     }
@@ -56,7 +56,7 @@ fn other_text<'a>(pieces: &Pieces<'a>, kind: TextKind, index: usize) -> Option<S
     match (kind, pieces.text(index)) {
         (TextKind::Program, b"object" | b"root") => plain(&slip_texts::IS_SERVICE),
         (TextKind::Service, b"main") => plain(&slip_texts::IS_PROGRAM),
-        (TextKind::Service, b"interface") if has_outside(pieces, b"main") => {
+        (TextKind::Service, b"interface") if has(pieces, b"main") => {
             plain(&slip_texts::IS_PROGRAM)
         }
         (TextKind::Service, b"interface") => plain(&slip_texts::NO_INTERFACES),

@@ -100,15 +100,9 @@ impl<'a> Tries<'a> {
         self.alloc
     }
 
-    /// Whether the token at the place is a word of the language.
-    pub fn is_keyword(&self) -> bool {
-        matches!(
-            self.rest.first(),
-            Some(Token {
-                kind: TokenKind::Keyword(_),
-                ..
-            })
-        )
+    /// The kind of the token at the place, or none at the text's end.
+    pub fn kind_there(&self) -> Option<TokenKind> {
+        Some(self.rest.first()?.kind)
     }
 
     /// The bytes of the token at the place, or none at the text's end.

@@ -133,7 +133,8 @@ pub const NAME_OBJECT: &[u8] =
 
 pub const COUNT_TURNS: &[u8] = b"Count turns by a `while`.";
 
-pub const NO_MEMBERS: &[u8] = b"Only objects have fields and methods.";
+pub const NO_MEMBERS: &[u8] =
+    b"Take the member away: only objects have fields and methods; `str` makes a Text of this.";
 
 pub const METHODS_ALONE: &[u8] = b"An object of an interface has methods alone: call one of them.";
 

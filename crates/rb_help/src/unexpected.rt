@@ -6,6 +6,7 @@ use crate::page::Page;
 use crate::pieces::Pieces;
 use crate::repairs::{Change, repair};
 use crate::slips::slip_at;
+use crate::texts::Help;
 use crate::tries::{Reach, TextKind, Tries};
 use crate::{read_texts, slip_texts, texts};
 use rb_trees::{Memory, TokenKind};
