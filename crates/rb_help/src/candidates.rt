@@ -12,7 +12,7 @@ pub const ROOT: TokenKind = TokenKind::Keyword(31);
 pub const CLOSE_BRACE: TokenKind = TokenKind::Sign(22);
 
 /// Signs and words that may be missing, or be meant in place of another, the likeliest first.
-pub static MISSING: [Candidate; 13] = [
+pub static MISSING: [Candidate; 12] = [
     (TokenKind::Sign(17), b";"),
     (TokenKind::Sign(20), b")"),
     (TokenKind::Sign(19), b"("),
@@ -22,19 +22,23 @@ pub static MISSING: [Candidate; 13] = [
     (TokenKind::Sign(16), b","),
     (TokenKind::Sign(18), b":"),
     (TokenKind::Sign(8), b"="),
-    (TokenKind::Sign(7), b">"),
     (TokenKind::Sign(15), b"."),
     (TokenKind::Sign(25), b"#"),
     (TokenKind::Keyword(10), b"in"),
 ];
 
 /// What may be missing that isn't one sign, the likeliest first.
-pub static MISSING_PARTS: [Candidate; 4] = [
+pub static MISSING_PARTS: [Candidate; 3] = [
     (TokenKind::Number, b"An expression"),
-    (TokenKind::Name, b"A name"),
     (TokenKind::Keyword(26), b"A type"),
-    (TokenKind::Sign(9), b"An operator"),
+    (TokenKind::Name, b"A name"),
 ];
+
+/// What may be missing between two operands.
+pub static MISSING_OPERATOR: [Candidate; 1] = [(TokenKind::Sign(9), b"An operator")];
+
+/// What may be missing where no part is: this sign could be an operator, too.
+pub static MISSING_LAST: [Candidate; 1] = [(TokenKind::Sign(7), b">")];
 
 /// What may stand at a place, by a token with which it begins. Those of a statement may stand where an expression may.
 pub static PARTS: [Candidate; 9] = [

@@ -7,6 +7,7 @@ use crate::batch_parts::{
 use crate::page::Page;
 use crate::pieces::Pieces;
 use crate::refusal_texts;
+use crate::spans::span_at;
 use rb_trees::Memory;
 
 /// The variable that a piece is, or nothing where it is none.
@@ -58,6 +59,21 @@ fn say_end_before(
     say_declare(page, pieces, batch, statement)?;
     let head = head_of_statement(pieces, statement);
     page.sentence_of(refusal_texts::END_BEFORE, head, pieces.line(statement))
+}
+
+/// Says to bind between two batches what the second one sends, where it is no variable.
+fn say_between(
+    page: &mut Page,
+    pieces: &Pieces<'_>,
+    index: usize,
+    is_variable: bool,
+) -> Result<(), Memory> {
+    if is_variable {
+        return Ok(());
+    }
+    let span = span_at(pieces, index);
+    let sent = pieces.between(span.first, span.last);
+    page.sentence(refusal_texts::BIND_BETWEEN, sent, b"")
 }
 
 /// Whether each value of a variable that is declared in a batch can be bound by a `val`.
@@ -119,7 +135,8 @@ fn say_flow_mend(
         return Ok(());
     }
     if writer < statement {
-        return say_end_before(page, pieces, batch, statement);
+        say_end_before(page, pieces, batch, statement)?;
+        return say_between(page, pieces, index, is_variable);
     }
     if is_variable && is_assigned_later(pieces, batch, statement, index) {
         return page.sentence(refusal_texts::COPY_BEFORE, pieces.text(index), b"");

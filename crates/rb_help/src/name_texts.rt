@@ -48,12 +48,12 @@ pub const FIELD_OF_THIS: Help = Help {
 };
 
 pub const OUT_OF_BLOCK: Help = Help {
-    wrong: b"`@`, declared in line #, isn't known behind the block in which it is declared.",
+    wrong: b"`@`, declared in line #, isn't known after the block in which it is declared.",
     mend: b"Declare it by `var @ = ..;` before that block, and assign it there.",
 };
 
 pub const DECLARED_LATER: Help = Help {
-    wrong: b"`@` is declared in line # alone, behind this place.",
+    wrong: b"`@` is declared in line # alone, after this place.",
     mend: b"Move its declaration before this.",
 };
 
@@ -71,7 +71,7 @@ pub const TYPE_AS_VALUE: Help = Help {
 
 pub const FIELD_NOT_METHOD: Help = Help {
     wrong: b"`@` is a field, and no method.",
-    mend: b"Take the parentheses behind it away.",
+    mend: b"Take the parentheses after it away.",
 };
 
 pub const METHOD_NOT_FIELD: Help = Help {

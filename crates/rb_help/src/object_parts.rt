@@ -30,10 +30,24 @@ pub fn count_of_objects(pieces: &Pieces<'_>) -> u64 {
     count
 }
 
+/// A number without zeros before it.
+fn without_zeros(number: &[u8]) -> &[u8] {
+    let mut rest = number;
+    while let [b'0', behind @ ..] = rest {
+        if behind.is_empty() {
+            return rest;
+        }
+        rest = behind;
+    }
+    rest
+}
+
 /// The class of the first object that is written with a number.
 pub fn class_written<'a>(pieces: &Pieces<'a>, number: &[u8]) -> Option<&'a [u8]> {
+    let wanted = without_zeros(number);
     for place in 0..pieces.len() {
-        if pieces.is_later(place, 0, b"object") && pieces.is_later(place, 1, number) {
+        let written = without_zeros(pieces.later(place, 1));
+        if pieces.is_later(place, 0, b"object") && written == wanted {
             return Some(pieces.later(place, 3));
         }
     }

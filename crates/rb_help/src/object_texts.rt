@@ -5,7 +5,12 @@ use crate::texts::Help;
 
 pub const NO_ROOT: Help = Help {
     wrong: b"The root is object @, and no object is written with that number.",
-    mend: b"Write the number of one behind `root`, from 0 to #.",
+    mend: b"Write the number of one after `root`, from 0 to #.",
+};
+
+pub const NO_ROOT_BUT_ONE: Help = Help {
+    wrong: b"The root is object @, and no object is written with that number.",
+    mend: b"Write `root 0;`.",
 };
 
 pub const NO_OBJECTS: Help = Help {
@@ -20,7 +25,8 @@ pub const OBJECT_NUMBER: Help = Help {
 
 pub const BAD_REFERENCE: &[u8] = b"`#@` names an object that isn't there.";
 
-pub const NAME_OBJECT: &[u8] = b"Write the number of an object that is, from 0 to #.";
+pub const NAME_OBJECT: &[u8] =
+    b"Write `object #: ..` after the other objects, of the class that is wanted, and its number here; or name one that is there.";
 
 pub const FIELD_MISSING: Help = Help {
     wrong: b"The class `#` has a field `@`, and this object doesn't give it.",

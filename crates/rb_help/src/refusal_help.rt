@@ -1,13 +1,17 @@
 // What is said where a batch is refused.
 
-use crate::batch_parts::{BatchSpan, assigned_within, batch_around, statement_in, statement_start};
+use crate::around::open_brace;
+use crate::batch_parts::{
+    BatchSpan, assigned_within, batch_around, declaration_of, is_declared_by, is_portable,
+    statement_in, statement_start,
+};
 use crate::declarations::{Declared, declared_once};
 use crate::flow_help::{say_declare, say_flow, say_not_constant};
 use crate::known_types::{known_type, name_of};
 use crate::page::Page;
 use crate::pieces::Pieces;
 use crate::refusal_texts;
-use crate::spans::span_at;
+use crate::spans::{operand_first, operand_last, span_at};
 use rb_trees::{Memory, Refusal};
 
 /// The first brace from a piece on.
@@ -26,6 +30,21 @@ fn is_alone(pieces: &Pieces<'_>, batch: &BatchSpan, statement: usize) -> bool {
     statement == batch.open.saturating_add(1) && statement_in(pieces, batch.open, last) == statement
 }
 
+/// Whether a loop stands around a statement of a batch.
+fn is_in_loop(pieces: &Pieces<'_>, batch: &BatchSpan, statement: usize) -> bool {
+    let mut place = statement;
+    for _ in 0..pieces.len() {
+        match open_brace(pieces, place) {
+            Some(open) if open > batch.open => place = statement_start(pieces, open),
+            _ => return false,
+        }
+        if matches!(pieces.text(place), b"for" | b"while") {
+            return true;
+        }
+    }
+    false
+}
+
 /// What to do about a statement of a batch that decides over a call.
 fn say_decided(
     page: &mut Page,
@@ -34,14 +53,65 @@ fn say_decided(
     statement: usize,
 ) -> Result<(), Memory> {
     let word = pieces.text(statement);
+    if is_in_loop(pieces, batch, statement) {
+        return page.sentence(refusal_texts::AFTER_LOOP, b"", b"");
+    }
     if statement_in(pieces, batch.open, statement) != statement {
-        return page.sentence(refusal_texts::DECIDE_BY_RESULTS, b"", b"");
+        return page.sentence(refusal_texts::DECIDE_BEHIND, b"", b"");
     }
     if is_alone(pieces, batch, statement) {
         return page.sentence(refusal_texts::AROUND_BATCH, word, b"");
     }
     say_declare(page, pieces, batch, statement)?;
     page.sentence_of(refusal_texts::END_BEFORE_HEAD, word, pieces.line(statement))
+}
+
+/// A `var` of a batch that a head names, and that holds one value.
+fn fixed_var(pieces: &Pieces<'_>, batch: &BatchSpan, head: usize) -> Option<usize> {
+    for place in head..brace_behind(pieces, head) {
+        if let Some(declaration) = declaration_of(pieces, place) {
+            let name = pieces.text(place);
+            let is_fixed = declaration > batch.open
+                && is_declared_by(pieces, declaration, b"var")
+                && assigned_within(pieces, name, declaration, batch.close).is_none()
+                && is_portable(pieces, declaration.saturating_add(2));
+            if is_fixed {
+                return Some(declaration);
+            }
+        }
+    }
+    None
+}
+
+/// What to do where a condition in a head decides over a call in its block.
+fn say_head(
+    page: &mut Page,
+    pieces: &Pieces<'_>,
+    batch: &BatchSpan,
+    statement: usize,
+) -> Result<(), Memory> {
+    match fixed_var(pieces, batch, statement) {
+        Some(place) => {
+            let line = pieces.line(place);
+            page.sentence_of(refusal_texts::VAL_FOR_VAR, pieces.text(place), line)
+        }
+        None => say_decided(page, pieces, batch, statement),
+    }
+}
+
+/// What to do where a condition decides over a call that stands behind it in an expression.
+fn say_behind_and(
+    page: &mut Page,
+    pieces: &Pieces<'_>,
+    word: &[u8],
+    call: usize,
+) -> Result<(), Memory> {
+    if let b"while" = word {
+        return page.sentence(refusal_texts::ASK_VAR, b"", b"");
+    }
+    let first = operand_first(pieces, call);
+    let operand = pieces.between(first, operand_last(pieces, first));
+    page.sentence(refusal_texts::BIND_CALL, operand, b"")
 }
 
 /// What is said where a local condition decides over a call.
@@ -55,17 +125,14 @@ fn say_local_condition(
     let call = pieces.index_of(operation);
     let statement = statement_start(pieces, index);
     let word = pieces.text(statement);
-    let is_head = matches!(word, b"if" | b"while" | b"for");
     page.sentence(refusal_texts::LOCAL_CONDITION, b"", b"")?;
     let Some(batch) = batch_around(pieces, index) else {
-        return page.sentence(refusal_texts::DECIDE_BY_RESULTS, b"", b"");
+        return page.sentence(refusal_texts::DECIDE_BEHIND, b"", b"");
     };
-    if is_head && call > brace_behind(pieces, statement) {
-        return say_decided(page, pieces, &batch, statement);
-    }
-    match word {
-        b"while" => page.sentence(refusal_texts::ASK_VAR, b"", b""),
-        _ => page.sentence(refusal_texts::BIND_CALL, pieces.text(call), b""),
+    if matches!(word, b"if" | b"while" | b"for") && call > brace_behind(pieces, statement) {
+        say_head(page, pieces, &batch, statement)
+    } else {
+        say_behind_and(page, pieces, word, call)
     }
 }
 

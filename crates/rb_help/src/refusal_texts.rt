@@ -15,7 +15,7 @@ pub const VAL_FOR_VAR: &[u8] =
     b"Write `val @` in place of `var @` in line #, so that the server keeps it.";
 
 pub const VAL_FOR_EACH: &[u8] =
-    b"Bind each value of `@` by a `val` of a name of its own, so that the server keeps it, and send the last.";
+    b"Bind each value of `@` by a `val` with a name of its own, so that the server keeps it, and send the last.";
 
 pub const DECLARE_BEFORE: &[u8] =
     b"Declare `@` by `var` before the batch, and assign it in place of its declaration.";
@@ -25,10 +25,12 @@ pub const DECLARE_ALL_BEFORE: &[u8] =
 
 pub const END_BEFORE: &[u8] = b"End the batch before `@` in line #, and begin a second one there.";
 
+pub const BIND_BETWEEN: &[u8] = b"Put `@` into a `val` between the two, and send that.";
+
 pub const COPY_BEFORE: &[u8] = b"Copy `@` into a `val` before the batch, and send that.";
 
 pub const AFTER_LOOP: &[u8] =
-    b"Keep in a List what this batch gives; then begin a batch for each item, in a `while` behind it.";
+    b"Keep in a List what this batch gives; then begin a batch for each item, in a `while` after it.";
 
 // What isn't known when the batch begins.
 
@@ -58,14 +60,13 @@ pub const AROUND_BATCH: &[u8] = b"Let the `@` go around the batch, and the batch
 pub const END_BEFORE_HEAD: &[u8] =
     b"End the batch before the `@` in line #, and begin a second one in it.";
 
-pub const BIND_CALL: &[u8] =
-    b"Bind the result of `@` by a `val` in a statement before, and write its name here.";
+pub const BIND_CALL: &[u8] = b"Bind `@` by a `val` in a statement before, and write its name here.";
 
 pub const ASK_VAR: &[u8] =
     b"Let the `while` ask a `var`, and begin a batch in it that assigns the `var`.";
 
-pub const DECIDE_BY_RESULTS: &[u8] =
-    b"Decide by results of calls, and by variables from before the batch that it doesn't assign.";
+pub const DECIDE_BEHIND: &[u8] =
+    b"Let a `var` from before the batch keep what is decided, and begin a second batch after it, in an `if` on that `var`.";
 
 // Remote objects.
 
@@ -97,7 +98,7 @@ pub const END_FIRST: &[u8] = b"End the batch of line # before this one begins.";
 
 pub const BATCH_CALLED_INSIDE: Help = Help {
     wrong: b"`@` is a `remote fun`, and can't be called in a batch.",
-    mend: b"Call it before the batch or behind it.",
+    mend: b"Call it before the batch or after it.",
 };
 
 pub const IN_TRY: Help = Help {

@@ -1,6 +1,6 @@
 // The one change after which a text is read furthest.
 
-use crate::candidates::{MISSING, MISSING_PARTS};
+use crate::candidates::{Candidate, MISSING, MISSING_LAST, MISSING_OPERATOR, MISSING_PARTS};
 use crate::tries::{Reach, Tries};
 use rb_trees::Memory;
 
@@ -39,9 +39,9 @@ impl Best {
 }
 
 /// The best after a sign or word that is put before what stands there.
-fn with_sign(tries: &Tries<'_>, before: Best) -> Result<Best, Memory> {
+fn with_sign(tries: &Tries<'_>, candidates: &[Candidate], before: Best) -> Result<Best, Memory> {
     let mut best = before;
-    for (kind, text) in &MISSING {
+    for (kind, text) in candidates {
         best = best.or(tries.with(&[*kind], 0)?, Change::Put(text));
     }
     Ok(best)
@@ -57,9 +57,9 @@ fn with_other_sign(tries: &Tries<'_>, before: Best) -> Result<Best, Memory> {
 }
 
 /// The best after a part that is put before what stands there.
-fn with_part(tries: &Tries<'_>, before: Best) -> Result<Best, Memory> {
+fn with_part(tries: &Tries<'_>, candidates: &[Candidate], before: Best) -> Result<Best, Memory> {
     let mut best = before;
-    for (kind, text) in &MISSING_PARTS {
+    for (kind, text) in candidates {
         best = best.or(tries.with(&[*kind], 0)?, Change::PutPart(text));
     }
     Ok(best)
@@ -72,8 +72,10 @@ pub fn repair(tries: &Tries<'_>) -> Result<Option<Change>, Memory> {
         reach: Reach::Place(tries.next_start()),
         change: None,
     };
-    let best = with_sign(tries, nothing)?;
+    let best = with_sign(tries, &MISSING, nothing)?;
+    let best = with_part(tries, &MISSING_OPERATOR, best)?;
     let best = best.or(tries.with(&[], 1)?, Change::Take);
-    let best = with_part(tries, best)?;
+    let best = with_part(tries, &MISSING_PARTS, best)?;
+    let best = with_sign(tries, &MISSING_LAST, best)?;
     Ok(with_other_sign(tries, best)?.change)
 }

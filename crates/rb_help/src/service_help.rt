@@ -48,6 +48,7 @@ fn say_no_root(alloc: Global, page: &mut Page, pieces: &Pieces<'_>) -> Result<()
     let count = count_of_objects(pieces);
     say_line(alloc, page, pieces, root)?;
     match count.checked_sub(1) {
+        Some(0) => page.say_name(&object_texts::NO_ROOT_BUT_ONE, pieces.text(root)),
         Some(last) => page.say_number(&object_texts::NO_ROOT, pieces.text(root), last),
         None => page.say_name(&object_texts::NO_OBJECTS, pieces.text(root)),
     }
@@ -94,8 +95,7 @@ fn say_reference(
     let place = bad_reference(pieces, begins).unwrap_or(begins);
     say_line(alloc, page, pieces, place)?;
     page.sentence(object_texts::BAD_REFERENCE, pieces.later(place, 1), b"#")?;
-    let last = count_of_objects(pieces).saturating_sub(1);
-    page.sentence_of(object_texts::NAME_OBJECT, b"", last)
+    page.sentence_of(object_texts::NAME_OBJECT, b"", count_of_objects(pieces))
 }
 
 /// What is said where a field of an object's class isn't the one that the object gives at its place.

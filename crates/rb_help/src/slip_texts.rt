@@ -7,12 +7,12 @@ use crate::texts::Help;
 
 pub const IS_SERVICE: Help = Help {
     wrong: b"This is the text of a service, and a program is wanted.",
-    mend: b"Name the program's file first and the service's behind it, as in `rbi both PROGRAM SERVICE`.",
+    mend: b"Name the program's file first and the service's after it, as in `rbi both PROGRAM SERVICE`.",
 };
 
 pub const IS_PROGRAM: Help = Help {
     wrong: b"This is the text of a program, and a service is wanted.",
-    mend: b"Name the program's file first and the service's behind it, as in `rbi both PROGRAM SERVICE`.",
+    mend: b"Name the program's file first and the service's after it, as in `rbi both PROGRAM SERVICE`.",
 };
 
 pub const NO_INTERFACES: Help = Help {
@@ -158,7 +158,7 @@ pub const INHERIT: Help = Help {
 
 pub const FINALLY: Help = Help {
     wrong: b"There is no `finally`.",
-    mend: b"Write its statements behind the `try`, and at the end of the `catch`.",
+    mend: b"Write its statements after the `try`, and at the end of the `catch`.",
 };
 
 pub const TYPE_WORD: Help = Help {
@@ -281,7 +281,7 @@ pub const STATEMENT_PLACE: Help = Help {
 };
 
 pub const MAIN_LAST: Help = Help {
-    wrong: b"Nothing stands behind `main`.",
+    wrong: b"Nothing stands after `main`.",
     mend: b"Move this before it: interfaces first, then classes, then `main`.",
 };
 
@@ -296,7 +296,7 @@ pub const CLASSES_FIRST: Help = Help {
 };
 
 pub const ROOT_LAST: Help = Help {
-    wrong: b"Nothing stands behind the root.",
+    wrong: b"Nothing stands after the root.",
     mend: b"Move this before it: classes first, then objects, then the root.",
 };
 
@@ -321,7 +321,7 @@ pub const FIELD_VALUE: Help = Help {
 };
 
 pub const MEMBER_FORM: Help = Help {
-    wrong: b"The type stands behind the name.",
+    wrong: b"The type stands after the name.",
     mend: b"Write a field as `x: @;`, and a method as `fun f(): @ { .. }`.",
 };
 
@@ -356,7 +356,7 @@ pub const REMOTE_FUN: Help = Help {
 };
 
 pub const PARAMETER_FORM: Help = Help {
-    wrong: b"The type of a parameter stands behind its name.",
+    wrong: b"The type of a parameter stands after its name.",
     mend: b"Write `#: @`.",
 };
 
@@ -445,7 +445,7 @@ pub const RETURN_VALUE: Help = Help {
 };
 
 pub const RETURN_LAST: Help = Help {
-    wrong: b"Nothing stands behind a `return`.",
+    wrong: b"Nothing stands after a `return`.",
     mend: b"Move this before it, or take it away.",
 };
 

@@ -127,26 +127,26 @@ fn method_slip<'a>(pieces: &Pieces<'a>, index: usize) -> Option<Slip<'a>> {
     both(&slip_texts::NO_METHOD_WORD, operand, word)
 }
 
-/// A statement where an expression is wanted, or too many or few values for a word.
-fn word_slip<'a>(pieces: &Pieces<'a>, index: usize) -> Option<Slip<'a>> {
+/// A statement where an expression is wanted.
+fn statement_slip<'a>(pieces: &Pieces<'a>, index: usize) -> Option<Slip<'a>> {
     let text = pieces.text(index);
     match text {
-        b"if" | b"while" | b"for" | b"try" | b"batch" | b"print" => {
-            if wants_expression(pieces.earlier(index, 1)) {
-                return named(&slip_texts::NO_VALUE, text);
-            }
-            None
-        }
-        b"," | b")" => {
-            let slot = slot_around(pieces, index)?;
-            let word = pieces.earlier(slot.open, 1);
-            match word {
-                b"print" | b"len" | b"str" if slot.number == 0 => {
-                    named(&slip_texts::ONE_VALUE, word)
-                }
-                _ => None,
-            }
-        }
+        b"if" | b"while" | b"for" | b"try" | b"batch" | b"print"
+            if wants_expression(pieces.earlier(index, 1)) => { named(&slip_texts::NO_VALUE, text) }
+        _ => None,
+    }
+}
+
+/// Too many or too few values for a word.
+fn count_slip<'a>(pieces: &Pieces<'a>, index: usize) -> Option<Slip<'a>> {
+    let is_second = pieces.is_later(index, 0, b",");
+    let is_none = pieces.is_later(index, 0, b")") && pieces.is_earlier(index, 1, b"(");
+    if !is_second && !is_none {
+        return None;
+    }
+    let slot = slot_around(pieces, index)?;
+    match pieces.earlier(slot.open, 1) {
+        word @ (b"print" | b"len" | b"str") => named(&slip_texts::ONE_VALUE, word),
         _ => None,
     }
 }
@@ -204,6 +204,7 @@ pub fn value_slip<'a>(pieces: &Pieces<'a>, kind: TextKind, index: usize) -> Opti
         .or_else(|| call_slip(pieces, index))
         .or_else(|| equality_slip(pieces, index))
         .or_else(|| method_slip(pieces, index))
-        .or_else(|| word_slip(pieces, index))
+        .or_else(|| statement_slip(pieces, index))
+        .or_else(|| count_slip(pieces, index))
         .or_else(|| return_slip(pieces, index))
 }

@@ -105,6 +105,8 @@ pub const LET_IT_GIVE: &[u8] =
 
 // What to do where the wanted type is known.
 
+pub const LEN_OF_THIS: &[u8] = b"Write `len(@)`.";
+
 pub const STR_MAKES_TEXT: &[u8] = b"`str` makes a Text of it.";
 
 pub const STR_IS_NEEDLESS: &[u8] = b"It is a Text already: take `str` away.";

@@ -73,7 +73,7 @@ fn say_missing(
     let last = index.saturating_sub(1);
     match sign {
         b"}" => say_missing_brace(page, pieces, index),
-        b";" => say_missing_behind(page, pieces, index, sign),
+        b";" | b")" | b"]" => say_missing_behind(page, pieces, index, sign),
         _ if pieces.line(last) != pieces.line(index) => {
             say_missing_behind(page, pieces, index, sign)
         }
@@ -120,10 +120,17 @@ fn parts_there(tries: &Tries<'_>, told: &mut Vec<Told>) -> Result<(), Memory> {
     Ok(())
 }
 
+/// Whether a sign begins or goes on with a part that may stand at a place.
+fn is_of_part(text: &[u8]) -> bool {
+    matches!(text, b"(" | b"<" | b">" | b"=")
+}
+
 /// The words and signs that may stand at a place by themselves.
 fn signs_there(tries: &Tries<'_>, told: &mut Vec<Told>) -> Result<(), Memory> {
+    let has_parts = !told.is_empty();
     for (kind, text) in &SIGNS {
-        if told.len() < MOST_TOLD && tries.stands(*kind)? {
+        let is_covered = has_parts && is_of_part(text);
+        if !is_covered && told.len() < MOST_TOLD && tries.stands(*kind)? {
             told.push(Told {
                 text,
                 is_sign: true,
