@@ -40,8 +40,6 @@ mod replies;
 #[cfg(test)]
 mod said;
 #[cfg(test)]
-mod services;
-#[cfg(test)]
 mod statements;
 #[cfg(test)]
 mod taught;

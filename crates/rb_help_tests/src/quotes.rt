@@ -122,7 +122,7 @@ fn places_on_a_short_line_share_it(rt: HostRuntime) -> Result<(), Fail> {
   | ^ local code decides this
   |   ^ and this would wait for it
 Local code decides whether the call is made, and it runs only when the batch has come back.
-Decide by results of calls, and by variables from before the batch that it doesn't assign; or let the batch begin inside.
+Let a `var` from before the batch keep what is decided, and begin a second batch after it, in an `if` on that `var`.
 ",
     )?;
     let long =
@@ -137,7 +137,7 @@ Decide by results of calls, and by variables from before the batch that it doesn
 1 | aaaaaaaaaaaaaaaaaaaaaaaaaaaaaaaaaaaaaaaaaaaaaaaaaaaaaaaaaaaaaa...
   |   ^ and this would wait for it
 Local code decides whether the call is made, and it runs only when the batch has come back.
-Decide by results of calls, and by variables from before the batch that it doesn't assign; or let the batch begin inside.
+Let a `var` from before the batch keep what is decided, and begin a second batch after it, in an `if` on that `var`.
 ",
     )?;
     Ok(())
@@ -150,7 +150,7 @@ fn nothing_is_quoted_where_no_place_is_told(rt: HostRuntime) -> Result<(), Fail>
         "a b",
         &[],
         "A batch is sent before its results come back, so what local code makes of a result can't go into it again.
-Make what flows `val`s of results and operators alone, so that the server keeps them; or end the batch in between, and begin a second one.
+Keep in a List what this batch gives; then begin a batch for each item, in a `while` after it.
 ",
     )?;
     Ok(())
