@@ -7,15 +7,11 @@ use crate::pieces::Pieces;
 use crate::spans::{Span, closing, operand_first};
 use crate::texts;
 use crate::texts::Help;
+use rb_trees::fault_codes::{
+    BAD_ARGUMENTS, DIVISION_BY_ZERO, FUEL_USED, HEAP_FULL, INDEX_OUTSIDE, KIND, LIST_TOO_LONG,
+    NO_METHOD, TEXT_TOO_LONG, THROWN, TOO_DEEP, WRONG_KIND,
+};
 use rb_trees::{Fault, Memory};
-
-/// The code of the one fault that keeps a text.
-const THROWN: u8 = 8;
-
-/// The codes of the faults that both sides meet at a call.
-const TOO_DEEP: u8 = 6;
-
-const FUEL_USED: u8 = 7;
 
 /// Whether a piece is the name of a method that is called.
 fn is_call(pieces: &Pieces<'_>, index: usize) -> bool {
@@ -25,11 +21,11 @@ fn is_call(pieces: &Pieces<'_>, index: usize) -> bool {
 /// What is said of a fault that code at the server met, by its code; None where it isn't told from one that was met here.
 fn met_at_server(code: u8) -> Option<&'static Help> {
     match code {
-        1 => Some(&texts::SERVER_DIV_ZERO),
-        2 => Some(&texts::SERVER_INDEX),
-        3 => Some(&texts::SERVER_TEXT_TOO_LONG),
-        4 => Some(&texts::SERVER_LIST_TOO_LONG),
-        5 => Some(&texts::SERVER_HEAP_FULL),
+        DIVISION_BY_ZERO => Some(&texts::SERVER_DIV_ZERO),
+        INDEX_OUTSIDE => Some(&texts::SERVER_INDEX),
+        TEXT_TOO_LONG => Some(&texts::SERVER_TEXT_TOO_LONG),
+        LIST_TOO_LONG => Some(&texts::SERVER_LIST_TOO_LONG),
+        HEAP_FULL => Some(&texts::SERVER_HEAP_FULL),
         THROWN => Some(&texts::SERVER_THROWN),
         _ => None,
     }
@@ -38,18 +34,18 @@ fn met_at_server(code: u8) -> Option<&'static Help> {
 /// What is said of a fault, by its code.
 fn meant_by(code: u8) -> &'static Help {
     match code {
-        1 => &texts::DIV_ZERO,
-        2 => &texts::INDEX,
-        3 => &texts::TEXT_TOO_LONG,
-        4 => &texts::LIST_TOO_LONG,
-        5 => &texts::HEAP_FULL,
+        DIVISION_BY_ZERO => &texts::DIV_ZERO,
+        INDEX_OUTSIDE => &texts::INDEX,
+        TEXT_TOO_LONG => &texts::TEXT_TOO_LONG,
+        LIST_TOO_LONG => &texts::LIST_TOO_LONG,
+        HEAP_FULL => &texts::HEAP_FULL,
         TOO_DEEP => &texts::TOO_DEEP,
         FUEL_USED => &texts::FUEL_USED,
         THROWN => &texts::THROWN,
-        9 => &texts::OBJECT_LACKS,
-        10 => &texts::BAD_ARGUMENTS,
-        11 => &texts::WRONG_KIND,
-        12 => &texts::KIND,
+        NO_METHOD => &texts::OBJECT_LACKS,
+        BAD_ARGUMENTS => &texts::BAD_ARGUMENTS,
+        WRONG_KIND => &texts::WRONG_KIND,
+        KIND => &texts::KIND,
         _ => &texts::OTHER_FAULT,
     }
 }

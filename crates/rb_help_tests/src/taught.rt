@@ -77,7 +77,7 @@ fn sentences(text: &[u8]) -> &[u8] {
     let mut start = 0;
     let mut from = 0;
     for line in text.split(|byte| *byte == b'\n') {
-        from += line.len() + 1;
+        from = line.len().saturating_add(from).saturating_add(1);
         let is_margin = line.trim_ascii_start().first() == Some(&b'|');
         if is_margin && line.contains(&b'^') {
             start = from;
