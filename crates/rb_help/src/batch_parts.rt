@@ -102,27 +102,47 @@ fn is_used(pieces: &Pieces<'_>, name: &[u8], from: usize, to: usize) -> bool {
     false
 }
 
-/// A variable that a batch binds directly before one of its statements, and that is used from there on.
-pub fn bound_across<'a>(
-    pieces: &Pieces<'a>,
-    batch: &BatchSpan,
-    statement: usize,
-    number: usize,
-) -> Option<&'a [u8]> {
-    let mut left = number;
+/// So many variables of a batch are looked at, and so many assignments of one.
+const MOST_LOOKED_AT: usize = 64;
+
+/// The variables that a batch binds directly before one of its statements and uses from there on: none, one, or several.
+#[derive(Clone, Copy)]
+pub enum Across<'a> {
+    None,
+    One(&'a [u8]),
+    Several,
+}
+
+/// What a batch binds directly before one of its statements and uses from there on.
+pub fn bound_across<'a>(pieces: &Pieces<'a>, batch: &BatchSpan, statement: usize) -> Across<'a> {
+    let mut depth = 0usize;
+    let mut looked_at = 0usize;
+    let mut found = Across::None;
     for place in batch.open..statement {
-        let name = pieces.text(place);
-        if matches!(pieces.earlier(place, 1), b"val" | b"var")
-            && open_brace(pieces, place) == Some(batch.open)
-            && is_used(pieces, name, statement, batch.close)
-        {
-            if left == 0 {
-                return Some(name);
+        match pieces.text(place) {
+            b"{" => depth = depth.saturating_add(1),
+            b"}" => depth = depth.saturating_sub(1),
+            b"val" | b"var" if depth == 1 && looked_at < MOST_LOOKED_AT => {
+                looked_at += 1;
+                let name = pieces.later(place, 1);
+                if is_used(pieces, name, statement, batch.close) {
+                    found = found.and(name);
+                }
             }
-            left -= 1;
+            _ => {}
         }
     }
-    None
+    found
+}
+
+impl<'a> Across<'a> {
+    /// One variable more.
+    fn and(self, name: &'a [u8]) -> Across<'a> {
+        match self {
+            Across::None => Across::One(name),
+            Across::One(_) | Across::Several => Across::Several,
+        }
+    }
 }
 
 /// The piece that declares the variable that a piece names.
@@ -161,13 +181,16 @@ fn is_local_object(pieces: &Pieces<'_>, index: usize, name: &[u8]) -> bool {
 pub fn is_straight(pieces: &Pieces<'_>, declaration: usize, to: usize) -> bool {
     let name = pieces.text(declaration);
     let block = open_brace(pieces, declaration);
+    let mut looked_at = 0usize;
     for place in declaration..to {
         let binds = place == declaration || is_assigned(pieces, place);
         if pieces.is_later(place, 0, name) && binds {
             let is_direct = open_brace(pieces, place) == block;
-            if !is_direct || !is_portable(pieces, place.saturating_add(2)) {
+            let is_kept = is_direct && is_portable(pieces, place.saturating_add(2));
+            if !is_kept || looked_at == MOST_LOOKED_AT {
                 return false;
             }
+            looked_at += 1;
         }
     }
     true

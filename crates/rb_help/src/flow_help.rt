@@ -1,7 +1,7 @@
 // What is said where a result would be sent again, or something would be sent that isn't known.
 
 use crate::batch_parts::{
-    BatchSpan, assigned_within, batch_around, bound_across, declaration_of, is_declared_by,
+    Across, BatchSpan, assigned_within, batch_around, bound_across, declaration_of, is_declared_by,
     is_portable, is_straight, statement_in,
 };
 use crate::page::Page;
@@ -40,12 +40,10 @@ pub fn say_declare(
     batch: &BatchSpan,
     statement: usize,
 ) -> Result<(), Memory> {
-    let one = bound_across(pieces, batch, statement, 0);
-    let other = bound_across(pieces, batch, statement, 1);
-    match (one, other) {
-        (Some(name), None) => page.sentence(refusal_texts::DECLARE_BEFORE, name, b""),
-        (Some(_), Some(_)) => page.sentence(refusal_texts::DECLARE_ALL_BEFORE, b"", b""),
-        _ => Ok(()),
+    match bound_across(pieces, batch, statement) {
+        Across::None => Ok(()),
+        Across::One(name) => page.sentence(refusal_texts::DECLARE_BEFORE, name, b""),
+        Across::Several => page.sentence(refusal_texts::DECLARE_ALL_BEFORE, b"", b""),
     }
 }
 

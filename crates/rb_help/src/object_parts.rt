@@ -2,32 +2,18 @@
 
 use crate::around::is_number;
 use crate::declarations::{Declared, declared_once};
-use crate::members::part_of;
 use crate::pieces::Pieces;
+use rb_trees::Memory;
+use std::alloc::Global;
 
-/// The number of the piece that is a word for the time after so many others. No name is a word of the language.
-pub fn place_of(pieces: &Pieces<'_>, word: &[u8], others: u32) -> usize {
-    let mut left = others;
+/// The first piece that is a word, or the number of all pieces where none is.
+pub fn place_of(pieces: &Pieces<'_>, word: &[u8]) -> usize {
     for place in 0..pieces.len() {
         if pieces.is_later(place, 0, word) {
-            if left == 0 {
-                return place;
-            }
-            left -= 1;
+            return place;
         }
     }
     pieces.len()
-}
-
-/// The number of the objects.
-pub fn count_of_objects(pieces: &Pieces<'_>) -> u64 {
-    let mut count = 0u64;
-    for place in 0..pieces.len() {
-        if pieces.is_later(place, 0, b"object") {
-            count = count.saturating_add(1);
-        }
-    }
-    count
 }
 
 /// A number without zeros before it.
@@ -42,39 +28,114 @@ fn without_zeros(number: &[u8]) -> &[u8] {
     rest
 }
 
-/// The class of the first object that is written with a number.
-pub fn class_written<'a>(pieces: &Pieces<'a>, number: &[u8]) -> Option<&'a [u8]> {
-    let wanted = without_zeros(number);
-    for place in 0..pieces.len() {
-        let written = without_zeros(pieces.later(place, 1));
-        if pieces.is_later(place, 0, b"object") && written == wanted {
-            return Some(pieces.later(place, 3));
-        }
+/// A natural in decimal, up to the greatest that there is.
+fn value_of(number: &[u8]) -> usize {
+    let mut value = 0usize;
+    for digit in number {
+        let unit = usize::from(digit.saturating_sub(b'0'));
+        value = value.saturating_mul(10).saturating_add(unit);
     }
-    None
+    value
 }
 
-/// The piece that names a field of an object, by its number from 0.
-pub fn field_of(pieces: &Pieces<'_>, object: usize, number: usize) -> Option<usize> {
-    let first = object.saturating_add(5);
-    let mut left = number;
-    for place in first..pieces.len() {
-        if pieces.is_later(place, 0, b"}") {
-            return None;
-        }
-        if place == first || pieces.is_earlier(place, 1, b";") {
-            if left == 0 {
-                return Some(place);
+/// The objects of a service, by the pieces with which they begin.
+#[derive(Drop)]
+pub struct Objects<'p, 'a> {
+    pieces: &'p Pieces<'a>,
+    places: Vec<usize>,
+}
+
+impl<'p, 'a> Objects<'p, 'a> {
+    /// The objects of a service.
+    pub fn make(alloc: Global, pieces: &'p Pieces<'a>) -> Result<Objects<'p, 'a>, Memory> {
+        let mut places = Vec::new(alloc);
+        for place in 0..pieces.len() {
+            if pieces.is_later(place, 0, b"object") {
+                places.push(place)?;
             }
-            left -= 1;
+        }
+        Ok(Objects { pieces, places })
+    }
+
+    /// How many there are.
+    pub fn count(&self) -> u64 {
+        self.places.len() as u64
+    }
+
+    /// The piece with which an object begins, by its place from 0.
+    pub fn begins(&self, object: u32) -> usize {
+        match self.places.get(object as usize) {
+            Some(place) => *place,
+            None => self.pieces.len(),
         }
     }
-    None
+
+    /// Whether an object is written with a number that has no zeros before it.
+    fn is_written(&self, place: usize, number: &[u8]) -> bool {
+        without_zeros(self.pieces.later(place, 1)) == number
+    }
+
+    /// The class of an object that is written with a number. Most often it is the one at that place.
+    pub fn class_written(&self, number: &[u8]) -> Option<&'a [u8]> {
+        let wanted = without_zeros(number);
+        if let Some(place) = self.places.get(value_of(wanted)) {
+            if self.is_written(*place, wanted) {
+                return Some(self.pieces.later(*place, 3));
+            }
+        }
+        for place in &self.places {
+            if self.is_written(*place, wanted) {
+                return Some(self.pieces.later(*place, 3));
+            }
+        }
+        None
+    }
+}
+
+/// The first piece of the fields that an object gives.
+pub fn first_given(object: usize) -> usize {
+    object.saturating_add(5)
+}
+
+/// The first piece of the fields of an object's class.
+pub fn first_due(pieces: &Pieces<'_>, object: usize) -> usize {
+    match declared_once(pieces, pieces.later(object, 3), Declared::Type) {
+        Some(class) => class.saturating_add(2),
+        None => pieces.len(),
+    }
+}
+
+/// The piece behind the next semicolon.
+pub fn next_field(pieces: &Pieces<'_>, field: usize) -> usize {
+    for place in field..pieces.len() {
+        if pieces.is_later(place, 0, b";") {
+            return place.saturating_add(1);
+        }
+    }
+    pieces.len()
+}
+
+/// The name of the field that an object gives at a piece, where it gives one.
+pub fn given_at<'a>(pieces: &Pieces<'a>, place: usize) -> Option<&'a [u8]> {
+    if pieces.is_later(place, 1, b"=") {
+        Some(pieces.text(place))
+    } else {
+        None
+    }
+}
+
+/// The name of the field that a class has at a piece, where it has one.
+pub fn due_at<'a>(pieces: &Pieces<'a>, place: usize) -> Option<&'a [u8]> {
+    if pieces.is_later(place, 1, b":") {
+        Some(pieces.text(place))
+    } else {
+        None
+    }
 }
 
 /// Whether an object gives a field of a name.
 pub fn gives(pieces: &Pieces<'_>, object: usize, name: &[u8]) -> bool {
-    for place in object.saturating_add(5)..pieces.len() {
+    for place in first_given(object)..pieces.len() {
         if pieces.is_later(place, 0, b"}") {
             return false;
         }
@@ -83,12 +144,6 @@ pub fn gives(pieces: &Pieces<'_>, object: usize, name: &[u8]) -> bool {
         }
     }
     false
-}
-
-/// The piece that names a field of an object's class, by its number from 0.
-pub fn field_of_class(pieces: &Pieces<'_>, object: usize, number: usize) -> Option<usize> {
-    let class = declared_once(pieces, pieces.later(object, 3), Declared::Type)?;
-    part_of(pieces, class, number)
 }
 
 /// How often `List` stands around the type from a piece on, and the piece of the type in it.
@@ -106,13 +161,13 @@ fn lists_around(pieces: &Pieces<'_>, first: usize) -> (usize, usize) {
 }
 
 /// Whether what a piece begins is of a type that is no list.
-fn is_of_word(pieces: &Pieces<'_>, index: usize, word: &[u8]) -> bool {
+fn is_of_word(pieces: &Pieces<'_>, objects: &Objects<'_, '_>, index: usize, word: &[u8]) -> bool {
     let text = pieces.text(index);
     match word {
         b"Int" => is_number(text) || matches!(text, b"-"),
         b"Bool" => matches!(text, b"true" | b"false"),
         b"Text" => text.first() == Some(&b'"'),
-        class => match class_written(pieces, pieces.later(index, 1)) {
+        class => match objects.class_written(pieces.later(index, 1)) {
             Some(written) => matches!(text, b"#") && written == class,
             None => matches!(text, b"#"),
         },
@@ -129,7 +184,12 @@ pub enum Flaw {
 }
 
 /// The first piece of a value, from the piece behind its `=` on, that isn't of a type.
-pub fn flaw_of(pieces: &Pieces<'_>, value: usize, kind: usize) -> Option<Flaw> {
+pub fn flaw_of(
+    pieces: &Pieces<'_>,
+    objects: &Objects<'_, '_>,
+    value: usize,
+    kind: usize,
+) -> Option<Flaw> {
     let (lists, word) = lists_around(pieces, kind);
     let mut depth = 0usize;
     for place in value..pieces.len() {
@@ -141,7 +201,7 @@ pub fn flaw_of(pieces: &Pieces<'_>, value: usize, kind: usize) -> Option<Flaw> {
             b"]" => depth = depth.saturating_sub(1),
             b"," => {}
             _ if is_item && depth < lists => return Some(Flaw::List(place)),
-            _ if is_item && !is_of_word(pieces, place, pieces.text(word)) => {
+            _ if is_item && !is_of_word(pieces, objects, place, pieces.text(word)) => {
                 return Some(Flaw::Item(place));
             }
             _ => {}

@@ -44,7 +44,7 @@ pub const NO_FIELD: Help = Help {
 };
 
 pub const FIELDS_DIFFER: Help = Help {
-    wrong: b"The fields of object # aren't those of its class in their order.",
+    wrong: b"The fields of an object aren't those of its class `@` in their order.",
     mend: b"Give each field of the class a value, in the order of the class.",
 };
 
@@ -63,6 +63,6 @@ pub const WRITE_ITEM: &[u8] = b"Write one item here, and not a list.";
 pub const WRITE_OBJECT: &[u8] = b"Write `#` and the number of an object of class `@`.";
 
 pub const KINDS_DIFFER: Help = Help {
-    wrong: b"A value of object # isn't of its field's type, or is a list of more than 10000 items.",
+    wrong: b"A value of this object isn't of its field's type, or is a list of more than 10000 items.",
     mend: b"Give each field a value of the type that the class says.",
 };

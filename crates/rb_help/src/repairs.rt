@@ -25,6 +25,11 @@ struct Best {
 }
 
 impl Best {
+    /// Whether the whole text is read after it, so that no other change is better.
+    fn is_whole(self) -> bool {
+        matches!(self.reach, Reach::Whole)
+    }
+
     /// The better one of it and another change.
     fn or(self, reach: Reach, change: Change) -> Best {
         if reach.is_beyond(self.reach) {
@@ -42,6 +47,9 @@ impl Best {
 fn with_sign(tries: &Tries<'_>, candidates: &[Candidate], before: Best) -> Result<Best, Memory> {
     let mut best = before;
     for (kind, text) in candidates {
+        if best.is_whole() {
+            return Ok(best);
+        }
         best = best.or(tries.with(&[*kind], 0)?, Change::Put(text));
     }
     Ok(best)
@@ -51,6 +59,9 @@ fn with_sign(tries: &Tries<'_>, candidates: &[Candidate], before: Best) -> Resul
 fn with_other_sign(tries: &Tries<'_>, before: Best) -> Result<Best, Memory> {
     let mut best = before;
     for (kind, text) in &MISSING {
+        if best.is_whole() {
+            return Ok(best);
+        }
         best = best.or(tries.with(&[*kind], 1)?, Change::Swap(text));
     }
     Ok(best)
@@ -60,6 +71,9 @@ fn with_other_sign(tries: &Tries<'_>, before: Best) -> Result<Best, Memory> {
 fn with_part(tries: &Tries<'_>, candidates: &[Candidate], before: Best) -> Result<Best, Memory> {
     let mut best = before;
     for (kind, text) in candidates {
+        if best.is_whole() {
+            return Ok(best);
+        }
         best = best.or(tries.with(&[*kind], 0)?, Change::PutPart(text));
     }
     Ok(best)

@@ -4,7 +4,7 @@ use crate::carets::caret;
 use crate::known_types::Written;
 use crate::lines::line_at;
 use crate::object_parts::{
-    Flaw, class_written, count_of_objects, field_of, field_of_class, flaw_of, gives, item_word,
+    Flaw, Objects, due_at, first_due, first_given, flaw_of, given_at, gives, item_word, next_field,
     place_of,
 };
 use crate::page::Page;
@@ -43,11 +43,15 @@ fn say_line(
 }
 
 /// What is said where the root is none of the objects.
-fn say_no_root(alloc: Global, page: &mut Page, pieces: &Pieces<'_>) -> Result<(), Memory> {
-    let root = place_of(pieces, b"root", 0).saturating_add(1);
-    let count = count_of_objects(pieces);
+fn say_no_root(
+    alloc: Global,
+    page: &mut Page,
+    pieces: &Pieces<'_>,
+    objects: &Objects<'_, '_>,
+) -> Result<(), Memory> {
+    let root = place_of(pieces, b"root").saturating_add(1);
     say_line(alloc, page, pieces, root)?;
-    match count.checked_sub(1) {
+    match objects.count().checked_sub(1) {
         Some(0) => page.say_name(&object_texts::NO_ROOT_BUT_ONE, pieces.text(root)),
         Some(last) => page.say_number(&object_texts::NO_ROOT, pieces.text(root), last),
         None => page.say_name(&object_texts::NO_OBJECTS, pieces.text(root)),
@@ -59,9 +63,10 @@ fn say_number(
     alloc: Global,
     page: &mut Page,
     pieces: &Pieces<'_>,
+    begins: usize,
     object: u32,
 ) -> Result<(), Memory> {
-    let place = place_of(pieces, b"object", object).saturating_add(1);
+    let place = begins.saturating_add(1);
     say_line(alloc, page, pieces, place)?;
     page.say_number(
         &object_texts::OBJECT_NUMBER,
@@ -71,13 +76,13 @@ fn say_number(
 }
 
 /// The first piece of an object that names an object that isn't there.
-fn bad_reference(pieces: &Pieces<'_>, object: usize) -> Option<usize> {
-    for place in object..pieces.len() {
+fn bad_reference(pieces: &Pieces<'_>, objects: &Objects<'_, '_>, begins: usize) -> Option<usize> {
+    for place in begins..pieces.len() {
         if pieces.is_later(place, 0, b"}") {
             return None;
         }
         let number = pieces.later(place, 1);
-        if pieces.is_later(place, 0, b"#") && class_written(pieces, number).is_none() {
+        if pieces.is_later(place, 0, b"#") && objects.class_written(number).is_none() {
             return Some(place);
         }
     }
@@ -89,40 +94,33 @@ fn say_reference(
     alloc: Global,
     page: &mut Page,
     pieces: &Pieces<'_>,
-    object: u32,
+    objects: &Objects<'_, '_>,
+    begins: usize,
 ) -> Result<(), Memory> {
-    let begins = place_of(pieces, b"object", object);
-    let place = bad_reference(pieces, begins).unwrap_or(begins);
+    let place = bad_reference(pieces, objects, begins).unwrap_or(begins);
     say_line(alloc, page, pieces, place)?;
     page.sentence(object_texts::BAD_REFERENCE, pieces.later(place, 1), b"#")?;
-    page.sentence_of(object_texts::NAME_OBJECT, b"", count_of_objects(pieces))
+    page.sentence_of(object_texts::NAME_OBJECT, b"", objects.count())
 }
 
-/// What is said where a field of an object's class isn't the one that the object gives at its place.
+/// What is said where an object gives another field, or none, where its class has one, or the other way round.
 fn say_field(
     alloc: Global,
     page: &mut Page,
     pieces: &Pieces<'_>,
-    object: usize,
-    number: usize,
+    begins: usize,
+    given: usize,
+    due: Option<&[u8]>,
 ) -> Result<(), Memory> {
-    let class = pieces.later(object, 3);
-    let given = field_of(pieces, object, number);
-    let due = field_of_class(pieces, object, number);
-    say_line(alloc, page, pieces, given.unwrap_or(object))?;
-    match (due, given) {
-        (Some(due), _) if !gives(pieces, object, pieces.text(due)) => {
-            page.say(&object_texts::FIELD_MISSING, pieces.text(due), class)
+    let class = pieces.later(begins, 3);
+    say_line(alloc, page, pieces, given)?;
+    match due {
+        Some(name) if !gives(pieces, begins, name) => {
+            page.say(&object_texts::FIELD_MISSING, name, class)
         }
-        (Some(due), _) => page.say(&object_texts::FIELD_DUE, pieces.text(due), class),
-        (None, Some(given)) => page.say(&object_texts::NO_FIELD, pieces.text(given), class),
-        (None, None) => page.say_number(&object_texts::FIELDS_DIFFER, b"", 0),
+        Some(name) => page.say(&object_texts::FIELD_DUE, name, class),
+        None => page.say(&object_texts::NO_FIELD, pieces.text(given), class),
     }
-}
-
-/// The bytes of a piece, where there is one.
-fn text_of<'a>(pieces: &Pieces<'a>, place: Option<usize>) -> Option<&'a [u8]> {
-    place.map(|place| pieces.text(place))
 }
 
 /// What is said where an object's fields aren't those of its class.
@@ -130,18 +128,20 @@ fn say_fields(
     alloc: Global,
     page: &mut Page,
     pieces: &Pieces<'_>,
-    object: u32,
+    begins: usize,
 ) -> Result<(), Memory> {
-    let begins = place_of(pieces, b"object", object);
-    for number in 0..pieces.len() {
-        let given = text_of(pieces, field_of(pieces, begins, number));
-        let due = text_of(pieces, field_of_class(pieces, begins, number));
-        if given != due {
-            return say_field(alloc, page, pieces, begins, number);
+    let mut given = first_given(begins);
+    let mut due = first_due(pieces, begins);
+    for _ in 0..pieces.len() {
+        let (one, other) = (given_at(pieces, given), due_at(pieces, due));
+        if one != other {
+            return say_field(alloc, page, pieces, begins, given, other);
         }
-        if given.is_none() {
-            return page.say_number(&object_texts::FIELDS_DIFFER, b"", u64::from(object));
+        if one.is_none() {
+            return page.say_name(&object_texts::FIELDS_DIFFER, pieces.later(begins, 3));
         }
+        given = next_field(pieces, given);
+        due = next_field(pieces, due);
     }
     Ok(())
 }
@@ -187,21 +187,49 @@ fn say_kind(
     alloc: Global,
     page: &mut Page,
     pieces: &Pieces<'_>,
-    object: u32,
+    objects: &Objects<'_, '_>,
+    begins: usize,
 ) -> Result<(), Memory> {
-    let begins = place_of(pieces, b"object", object);
-    for number in 0..pieces.len() {
-        let given = field_of(pieces, begins, number);
-        let due = field_of_class(pieces, begins, number);
-        let (Some(given), Some(due)) = (given, due) else {
+    let mut given = first_given(begins);
+    let mut due = first_due(pieces, begins);
+    for _ in 0..pieces.len() {
+        if given_at(pieces, given).is_none() || due_at(pieces, due).is_none() {
             break;
-        };
-        if let Some(flaw) = flaw_of(pieces, given.saturating_add(2), due.saturating_add(2)) {
+        }
+        let (value, kind) = (given.saturating_add(2), due.saturating_add(2));
+        if let Some(flaw) = flaw_of(pieces, objects, value, kind) {
             return say_flaw(alloc, page, pieces, due, flaw);
         }
+        given = next_field(pieces, given);
+        due = next_field(pieces, due);
     }
     say_line(alloc, page, pieces, begins)?;
-    page.say_number(&object_texts::KINDS_DIFFER, b"", u64::from(object))
+    page.say_plain(&object_texts::KINDS_DIFFER)
+}
+
+/// What is said of the objects and the root.
+fn say_objects(
+    alloc: Global,
+    page: &mut Page,
+    pieces: &Pieces<'_>,
+    error: &StoreError,
+) -> Result<(), Memory> {
+    let objects = Objects::make(alloc, pieces)?;
+    match error {
+        StoreError::BadReference(object) => {
+            say_reference(alloc, page, pieces, &objects, objects.begins(*object))
+        }
+        StoreError::FieldMissing(object) => {
+            say_fields(alloc, page, pieces, objects.begins(*object))
+        }
+        StoreError::FieldKind(object) => {
+            say_kind(alloc, page, pieces, &objects, objects.begins(*object))
+        }
+        StoreError::ObjectNumber(object) => {
+            say_number(alloc, page, pieces, objects.begins(*object), *object)
+        }
+        _ => say_no_root(alloc, page, pieces, &objects),
+    }
 }
 
 /// What is said where a text is no service.
@@ -214,11 +242,7 @@ pub fn say_service(
     match error {
         StoreError::Read(error) => say_read_service(page, pieces, error),
         StoreError::Types(error) => say_types(alloc, page, pieces, error, true),
-        StoreError::NoRoot => say_no_root(alloc, page, pieces),
-        StoreError::BadReference(object) => say_reference(alloc, page, pieces, *object),
-        StoreError::FieldMissing(object) => say_fields(alloc, page, pieces, *object),
-        StoreError::FieldKind(object) => say_kind(alloc, page, pieces, *object),
-        StoreError::ObjectNumber(object) => say_number(alloc, page, pieces, *object),
         StoreError::Memory => page.say_plain(&texts::WANT_OF_MEMORY),
+        _ => say_objects(alloc, page, pieces, error),
     }
 }

@@ -283,7 +283,8 @@ pub const SERVER_THROWN: Help = Help {
 
 pub const SERVER_TOO_DEEP: Help = Help {
     wrong: b"At the server `@` came to a call within 32 others, and no deeper one can be made.",
-    mend: b"Let a `while` in the service do what the method does by calling itself; or catch the fault by a `try` around the batch.",
+    mend: b"Let a `while` in the service do what the method does by calling itself; \
+or catch the fault by a `try` around the batch.",
 };
 
 pub const SERVER_FUEL_USED: Help = Help {
