@@ -89,29 +89,36 @@ fn comparison<'a>(pieces: &Pieces<'a>, index: usize) -> &'a [u8] {
     }
 }
 
-/// Whether a statement assigns before a piece.
+/// Whether a piece is a `=` by itself.
+fn assigns(pieces: &Pieces<'_>, index: usize) -> bool {
+    let is_second = pieces.is_joined(index)
+        && matches!(pieces.earlier(index, 1), b"=" | b"!" | b"<" | b">");
+    pieces.is_later(index, 0, b"=") && !is_second && !compares(pieces, index)
+}
+
+/// Whether the statement of a piece assigns before it.
 fn has_assigned(pieces: &Pieces<'_>, index: usize) -> bool {
-    for place in first_of_statement(pieces, index)..index {
-        if pieces.is_later(place, 0, b"=") && !pieces.is_joined(place) {
-            return true;
-        }
-    }
-    false
+    (first_of_statement(pieces, index)..index).any(|place| assigns(pieces, place))
+}
+
+/// Whether the statement of a piece compares before it.
+fn has_compared(pieces: &Pieces<'_>, index: usize) -> bool {
+    (first_of_statement(pieces, index)..index).any(|place| compares(pieces, place))
 }
 
 /// A comparison or an assignment that stands in an expression.
 fn equality_slip<'a>(pieces: &Pieces<'a>, index: usize) -> Option<Slip<'a>> {
-    if compares(pieces, index) {
+    if compares(pieces, index) && has_compared(pieces, index) {
         return named(&slip_texts::NO_CHAIN, comparison(pieces, index));
     }
-    if !pieces.is_later(index, 0, b"=") {
+    if !assigns(pieces, index) {
         return None;
-    }
-    if slot_around(pieces, index).is_some() && !has_assigned(pieces, index) {
-        return plain(&slip_texts::EQUAL_WANTED);
     }
     if has_assigned(pieces, index) {
         return plain(&slip_texts::ONE_ASSIGNMENT);
+    }
+    if slot_around(pieces, index).is_some() {
+        return plain(&slip_texts::EQUAL_WANTED);
     }
     None
 }
