@@ -109,7 +109,7 @@ near_piece text at place from to piece offset same h k m before behind is_piece 
     let behind_text : drop at text ≡ z ++ w = sym (drop_min at text) ∙ ap (λ i. drop i text) (sym same) ∙ sym (take-append-drop o (drop place text)) in
     let front_window : take n window ≡ y = take-take n (to - from) (drop from text) (omega arith) in
     let behind_window : drop n window ≡ z =
-        ap (λ i. drop n (take i (drop from text))) (sym o_is) ∙ drop-take n o (drop from text) ∙ ap (λ xs. take o xs) (drop-drop n from text ∙ ap (λ i. drop i text) n_is) in
+    ap (λ i. drop n (take i (drop from text))) (sym o_is) ∙ drop-take n o (drop from text) ∙ ap (λ xs. take o xs) (drop-drop n from text ∙ ap (λ i. drop i text) n_is) in
     let f = front_from is_line_feed x y (eqb (suffix_len (λ b. not (is_line_feed b)) y) (length y)) refl in
     let b = behind_from is_line_feed z w (eqb (prefix_len (λ b. not (is_line_feed b)) z) (length z)) refl in
     let long_y : length y ≡ n = length-take-le n (drop from text) (omega (arith, length-drop from text)) in

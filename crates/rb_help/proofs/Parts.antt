@@ -39,7 +39,7 @@ pub part_of_line : (text : List ℕ) (at : ℕ) (piece : List ℕ) (offset : ℕ
 part_of_line text at piece offset cut n within p =
     let line = line_at text at in
     let lengths : length line ≡ length n.front + length piece + length n.rest =
-        ap (λ xs. length xs) n.whole ∙ length-append (n.front ++ piece) n.rest ∙ ap (λ i. i + length n.rest) (length-append n.front piece) in
+    ap (λ xs. length xs) n.whole ∙ length-append (n.front ++ piece) n.rest ∙ ap (λ i. i + length n.rest) (length-append n.front piece) in
     let front_length = length-append n.front p.before in
     let far_front : 0 < length n.front → 120 < offset = λ h. lt_of_not-le (λ few. omega (arith, h, none_of n.front (n.begins (omega arith)))) in
     let far_rest : 0 < length n.rest → offset + 120 < length piece = λ h. lt_of_not-le (λ few. omega (arith, h, none_of n.rest (n.ends (omega arith)))) in
@@ -78,7 +78,7 @@ pub part_of_piece : (piece : List ℕ) (at from to : ℕ) (cut : Cut) → from �
 part_of_piece piece at from to cut h k m short near far starts goes_on is_part =
     let front : length (take from piece) ≡ from = length-take-le from piece (omega arith) in
     let behind : length (take (length piece - to) (drop to piece)) ≡ length piece - to =
-        length-take-le (length piece - to) (drop to piece) (omega (arith, length-drop to piece)) in
+    length-take-le (length piece - to) (drop to piece) (omega (arith, length-drop to piece)) in
     record {
       before = take from piece;
       after = take (length piece - to) (drop to piece);

@@ -20,35 +20,53 @@ pub struct CommandPage {
 // Words.
 
 const PROGRAM: &[u8] = b"  PROGRAM  the file of a program\n";
+
 const SERVICE: &[u8] = b"  SERVICE  the file of a service: its classes, its objects and its root\n";
+
 const ADDRESS: &[u8] = b"  ADDRESS  a host and a port, such as 127.0.0.1:4000\n";
-const FUEL: &[u8] = b"  FUEL     how many calls of methods and turns of loops the program's own code may make:
+
+const FUEL: &[u8] =
+    b"  FUEL     how many calls of methods and turns of loops the program's own code may make:
            a number from 0 to 1000000000, and 1000000 where it is left out\n";
+
 const COUNT: &[u8] = b"  COUNT    how many clients are served: a number from 1 to 1000000\n";
 
 // Statuses.
 
 const ACCEPTED: &[u8] = b"  0   the program is accepted\n";
+
 const RAN: &[u8] = b"  0   the program ran to its end\n";
+
 const SERVED: &[u8] = b"  0   all clients were served, or all that came\n";
+
 const FAULTED: &[u8] = b"  1   the program ended by a fault\n";
+
 const NO_FILE: &[u8] = b"  3   a file can't be read\n";
+
 const NOT_TYPED: &[u8] = b"  4   the program isn't read, or isn't typed\n";
+
 const NOT_ADMITTED: &[u8] = b"  5   a batch of the program can't be sent as one script\n";
+
 const NO_SERVICE: &[u8] = b"  6   the service is refused\n";
+
 const NO_LINK: &[u8] = b"  7   an exchange with the server failed\n";
+
 const NO_REPLY: &[u8] = b"  8   a reply of the server can't be used\n";
+
 const NO_OUTPUT: &[u8] = b"  9   the output can't be written\n";
+
 const NO_MEMORY: &[u8] = b"  10  no memory was left\n";
+
 const NOT_DIALLED: &[u8] = b"  11  the server can't be reached\n";
+
 const NOT_STARTED: &[u8] = b"  11  the child can't be started\n";
+
 const NO_LISTENER: &[u8] = b"  12  the address can't be listened on, or gets no further client\n";
+
 const LONG_FILE: &[u8] = b"  13  a file has more than 1048576 bytes\n";
 
 /// The pages of all commands.
-pub static COMMANDS: [CommandPage; 8] = [
-    CHECK, SPLIT, UNSPLIT, BOTH, RUN, PAIR, SERVE, CHILD,
-];
+pub static COMMANDS: [CommandPage; 8] = [CHECK, SPLIT, UNSPLIT, BOTH, RUN, PAIR, SERVE, CHILD];
 
 const CHECK: CommandPage = CommandPage {
     name: "check",
@@ -57,7 +75,13 @@ const CHECK: CommandPage = CommandPage {
     does: b"It reads a program, checks its types, and tells whether each of its batches can be sent as one script.\n",
     words: &[PROGRAM],
     statuses: &[
-        ACCEPTED, NO_FILE, NOT_TYPED, NOT_ADMITTED, NO_OUTPUT, NO_MEMORY, LONG_FILE,
+        ACCEPTED,
+        NO_FILE,
+        NOT_TYPED,
+        NOT_ADMITTED,
+        NO_OUTPUT,
+        NO_MEMORY,
+        LONG_FILE,
     ],
     example: b"check examples/large.rbi",
 };
@@ -69,7 +93,13 @@ const SPLIT: CommandPage = CommandPage {
     does: b"It checks a program, and shows of each batch its inputs, the steps of its script, and the remainder that stays here.\n",
     words: &[PROGRAM],
     statuses: &[
-        ACCEPTED, NO_FILE, NOT_TYPED, NOT_ADMITTED, NO_OUTPUT, NO_MEMORY, LONG_FILE,
+        ACCEPTED,
+        NO_FILE,
+        NOT_TYPED,
+        NOT_ADMITTED,
+        NO_OUTPUT,
+        NO_MEMORY,
+        LONG_FILE,
     ],
     example: b"split examples/large.rbi",
 };
@@ -166,7 +196,13 @@ const SERVE: CommandPage = CommandPage {
 The address `-` is standard input and output, which is one client. There is no authentication and no encryption.\n",
     words: &[ADDRESS, SERVICE, COUNT],
     statuses: &[
-        SERVED, NO_FILE, NO_SERVICE, NO_OUTPUT, NO_MEMORY, NO_LISTENER, LONG_FILE,
+        SERVED,
+        NO_FILE,
+        NO_SERVICE,
+        NO_OUTPUT,
+        NO_MEMORY,
+        NO_LISTENER,
+        LONG_FILE,
     ],
     example: b"serve 127.0.0.1:4000 examples/files.rbs 1000",
 };

@@ -49,10 +49,7 @@ fn count_characters(bytes: &[u8]) -> usize
     ensures count { result ≡ count_by begins_character bytes.now }
     ensures few { result ≤ length bytes.now }
 {
-    bytes
-        .iter()
-        .filter(|byte| begins_character(**byte))
-        .count()
+    bytes.iter().filter(|byte| begins_character(**byte)).count()
 }
 
 /// How many characters begin before a place, found from the count before an earlier one.

@@ -99,11 +99,7 @@ fn say_no_command(alloc: Global, page: &mut Page, word: &str) -> Result<(), Memo
 }
 
 /// Says what is wrong with the words behind a command.
-fn say_other_words(
-    page: &mut Page,
-    command: &CommandPage,
-    words: &[String],
-) -> Result<(), Memory> {
+fn say_other_words(page: &mut Page, command: &CommandPage, words: &[String]) -> Result<(), Memory> {
     match words {
         [_, _, number] if command.counts == (3, 3) => {
             page.sentence(texts::NO_COUNT, number.as_bytes(), b"")?;
@@ -117,12 +113,7 @@ fn say_other_words(
 }
 
 /// What is said of a command, or of what is none, with the words behind it.
-fn say_called(
-    alloc: Global,
-    page: &mut Page,
-    name: &str,
-    words: &[String],
-) -> Result<(), Memory> {
+fn say_called(alloc: Global, page: &mut Page, name: &str, words: &[String]) -> Result<(), Memory> {
     match page_of(name) {
         Some(command) if words.iter().any(is_option_of_help) => tell_command(page, command),
         Some(command) => say_other_words(page, command, words),

@@ -91,7 +91,10 @@ const WORDS: [(&str, &str); 17] = [
     ("help check", CHECK),
     ("check --help", CHECK),
     ("check -h", CHECK),
-    ("--version", "Lunguepo 1.0.0, whose messages are of version 1.\n"),
+    (
+        "--version",
+        "Lunguepo 1.0.0, whose messages are of version 1.\n",
+    ),
     (
         "chek a.rbi",
         "`chek` is no command; `check` is the nearest.
@@ -192,7 +195,12 @@ fn byte_order_marks_are_named(rt: HostRuntime) -> Result<(), Fail> {
     for (source, is_service, said) in &MARKED {
         let error = ReadError::Lex(LexError::BadByte(0));
         let text = if *is_service {
-            explain(alloc, b"", source, &Trouble::Unserved(&StoreError::Read(error)))?
+            explain(
+                alloc,
+                b"",
+                source,
+                &Trouble::Unserved(&StoreError::Read(error)),
+            )?
         } else {
             explain(alloc, b"", source, &Trouble::Unread(&error))?
         };

@@ -51,23 +51,43 @@ fn what_cannot_be_seen_is_replaced(rt: HostRuntime) -> Result<(), Fail> {
         11,
         "a.rbi:1:7:\n1 | a \u{fffd}\u{fffd}\u{fffd} x\n  |       ^\n",
     )?;
-    quotes(alloc, b"main {\r\n  x\r\n}", 10, "a.rbi:2:3:\n2 |   x \n  |   ^\n")?;
+    quotes(
+        alloc,
+        b"main {\r\n  x\r\n}",
+        10,
+        "a.rbi:2:3:\n2 |   x \n  |   ^\n",
+    )?;
     Ok(())
 }
 
 #[test]
 fn a_place_behind_the_end_is_the_end(rt: HostRuntime) -> Result<(), Fail> {
     let alloc = rt.alloc();
-    quotes(alloc, b"main {\n  x", u32::MAX, "a.rbi:2:4:\n2 |   x\n  |    ^\n")?;
+    quotes(
+        alloc,
+        b"main {\n  x",
+        u32::MAX,
+        "a.rbi:2:4:\n2 |   x\n  |    ^\n",
+    )?;
     quotes(alloc, b"main {\n", 7, "a.rbi:2:1:\n2 | \n  | ^\n")?;
-    quotes(alloc, b"main {\n", 6, "a.rbi:1:7:\n1 | main {\n  |       ^\n")?;
+    quotes(
+        alloc,
+        b"main {\n",
+        6,
+        "a.rbi:1:7:\n1 | main {\n  |       ^\n",
+    )?;
     quotes(alloc, b"", 5, "a.rbi:1:1:\n1 | \n  | ^\n")?;
     Ok(())
 }
 
 #[test]
 fn numbers_of_lines_stand_right(rt: HostRuntime) -> Result<(), Fail> {
-    quotes(rt.alloc(), b"a\nb\n\n\n\n\n\n\n\n\n", 2, "a.rbi:2:1:\n 2 | b\n   | ^\n")?;
+    quotes(
+        rt.alloc(),
+        b"a\nb\n\n\n\n\n\n\n\n\n",
+        2,
+        "a.rbi:2:1:\n 2 | b\n   | ^\n",
+    )?;
     Ok(())
 }
 

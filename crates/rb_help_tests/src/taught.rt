@@ -29,7 +29,7 @@ const INTERFACES: &str =
 
 /// What is said of a trouble in a text.
 fn said(alloc: Global, source: &[u8], trouble: &Trouble<'_>) -> Result<Option<Word>, Fail> {
-    Ok(Some(explain(alloc, source, trouble)?))
+    Ok(Some(explain(alloc, b"", source, trouble)?))
 }
 
 /// What is said of a program, or nothing where it is accepted.

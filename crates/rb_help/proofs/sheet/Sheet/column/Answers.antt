@@ -11,7 +11,7 @@ overflow_sub-result c =
     let place = c.min-place.result in
     let within : place ≤ length text = omega (arith, ap length c.text.ensures) in
     let counts : c.count_before-2.result + count_by begins_character (before_place text place) ≡ c.count_before.result =
-        rw (c.count_before-2.ensures, c.count_before.ensures, c.start.ensures) (count_of_line text place within) in
+    rw (c.count_before-2.ensures, c.count_before.ensures, c.start.ensures) (count_of_line text place within) in
     omega (arith, counts)
 
 pub returns : goal.returns
@@ -21,6 +21,6 @@ returns c =
     let same : place ≡ min c.args.at (length text) = omega (arith, ap length c.text.ensures) in
     let within : place ≤ length text = omega (arith, same) in
     let counts : c.count_before-2.result + count_by begins_character (before_place text place) ≡ c.count_before.result =
-        rw (c.count_before-2.ensures, c.count_before.ensures, c.start.ensures) (count_of_line text place within) in
+    rw (c.count_before-2.ensures, c.count_before.ensures, c.start.ensures) (count_of_line text place within) in
     let line = ap (λ i. count_by begins_character (before_place text i)) same ∙ ap (λ xs. count_by begins_character xs) (before_end text c.args.at) in
     omega (arith, counts, line)

@@ -11,9 +11,9 @@ loop-k-preserved c =
     let old = c.loop-k.counted.items in
     let stride : c.loop-k.k * 64 + 64 ≡ (c.loop-k.k + 1) * 64 = omega arith in
     let next : count ≡ count_by begins_character (take ((c.loop-k.k + 1) * 64) text) =
-        c.count_on-count.ensures ∙ ap (λ at. count_by begins_character (take at text)) stride in
+    c.count_on-count.ensures ∙ ap (λ at. count_by begins_character (take at text)) stride in
     let last : count ≡ count_by begins_character (take (length old * 64) text) =
-        next ∙ ap (λ n. count_by begins_character (take (n * 64) text)) (sym c.loop-k.invariant.all) in
+    next ∙ ap (λ n. count_by begins_character (take (n * 64) text)) (sym c.loop-k.invariant.all) in
     record {
       counted = subst (λ ns. AreCounted text ns) (sym c.in_ok-push-2.ensures.items) (counted_more text old count c.loop-k.invariant.counted last);
       here = next;
