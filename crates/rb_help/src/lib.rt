@@ -69,3 +69,4 @@ pub use lines::{Line, line_at, line_number};
 pub use placing::positions;
 pub use showing::shown;
 pub use trouble::{ReplyFlaw, Server, Trouble};
+pub use word_help::is_help_option;

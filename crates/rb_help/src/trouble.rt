@@ -36,7 +36,7 @@ pub enum ReplyFlaw {
 pub enum Trouble<'a> {
     /// The program ended by a fault at a position.
     Faulted(&'a Fault, u32),
-    /// These words are those of no command.
+    /// These words are those of no command, or ask for help on one.
     Words(&'a [String]),
     /// The file of this name can't be read.
     FileFault(&'a [u8]),

@@ -11,14 +11,19 @@ use strsim::damerau_levenshtein;
 /// A word of more bytes is taken for no misspelt command.
 const LONGEST_COMMAND: usize = 20;
 
-/// Whether a word asks for help.
+/// Whether a first word asks for help.
 fn is_help(word: &str) -> bool {
-    matches!(word, "help" | "--help" | "-h")
+    word == "help" || is_help_option(word.as_bytes())
 }
 
-/// Whether a word behind a command asks for help.
-fn is_option_of_help(word: &String) -> bool {
-    matches!(word.as_str(), "--help" | "-h")
+/// Whether a word behind a command asks for help on it: `--help` or `-h`.
+pub fn is_help_option(word: &[u8]) -> bool {
+    matches!(word, b"--help" | b"-h")
+}
+
+/// Whether one of the words behind a command asks for help on it.
+fn has_help_option(words: &[String]) -> bool {
+    words.iter().any(|word| is_help_option(word.as_bytes()))
 }
 
 /// The page of a command, if it is one.
@@ -115,7 +120,7 @@ fn say_other_words(page: &mut Page, command: &CommandPage, words: &[String]) -> 
 /// What is said of a command, or of what is none, with the words behind it.
 fn say_called(alloc: Global, page: &mut Page, name: &str, words: &[String]) -> Result<(), Memory> {
     match page_of(name) {
-        Some(command) if words.iter().any(is_option_of_help) => tell_command(page, command),
+        Some(command) if has_help_option(words) => tell_command(page, command),
         Some(command) => say_other_words(page, command, words),
         None => say_no_command(alloc, page, name),
     }

@@ -2,7 +2,7 @@
 
 use crate::kept_files::KeptFiles;
 use rb_client::BadReason;
-use rb_help::{ReplyFlaw, Server, Trouble, coloured, explain};
+use rb_help::{ReplyFlaw, Server, Trouble, coloured, explain, is_help_option};
 use rb_top::{SourceError, Status};
 use rb_trees::{Memory, Word};
 use rb_wire_forest::Misfit;
@@ -74,16 +74,11 @@ fn trouble_of_service(status: &Status) -> Option<Trouble<'_>> {
     }
 }
 
-/// Whether the word that was taken for the name of a file asks for help.
-fn is_help(name: &[u8]) -> bool {
-    matches!(name, b"--help" | b"-h")
-}
-
 /// What went wrong around the texts, if something did.
 fn trouble_around<'a>(words: &'a [String], status: &'a Status) -> Option<Trouble<'a>> {
     match status {
         Status::Words => Some(Trouble::Words(words)),
-        Status::FileFault(name) if is_help(name.as_slice()) => Some(Trouble::Words(words)),
+        Status::FileFault(name) if is_help_option(name.as_slice()) => Some(Trouble::Words(words)),
         Status::FileFault(name) => Some(Trouble::FileFault(name.as_slice())),
         Status::FileTooLong(name) => Some(Trouble::FileTooLong(name.as_slice())),
         Status::LinkFault(done) => Some(Trouble::LinkFault(server(words), *done)),
