@@ -187,7 +187,7 @@ pub fn is_straight(pieces: &Pieces<'_>, declaration: usize, to: usize) -> bool {
         if pieces.is_later(place, 0, name) && binds {
             let is_direct = open_brace(pieces, place) == block;
             let is_kept = is_direct && is_portable(pieces, place.saturating_add(2));
-            if !is_kept || looked_at == MOST_LOOKED_AT {
+            if !is_kept || looked_at >= MOST_LOOKED_AT {
                 return false;
             }
             looked_at += 1;
