@@ -76,6 +76,11 @@ def scopes(n):
     return DIRECTORY + "main {\n" + joined("val a# = #;", n) + joined("batch (D r) { print(r.size()); }", n) + "}\n"
 
 
+def mixed(n):
+    """Variables, and a batch after each, which sends it."""
+    return DIRECTORY + "main {\n" + joined("val a# = #; batch (D r) { r.grow(a#); print(r.size()); }", n) + "}\n"
+
+
 def sent(n):
     """One batch, whose results are kept and sent again."""
     return DIRECTORY + "main { batch (D r) {\n" + joined("val a# = r.size(); r.grow(a#); print(a# * 2);", n) + "} }\n"
@@ -102,8 +107,8 @@ SHAPES = [
     (batches, 33, ALL),
     (values, 26, ALL),
     (sent, 62, ALL),
-    # (so few, since the variables in scope are still copied at each batch)
-    (scopes, 500, ALL),
+    (scopes, 54, ALL),
+    (mixed, 68, ALL),
     (chain, 26, ("check",)),
     (line, 26, ("check",)),
 ]
