@@ -3,7 +3,7 @@
 ghost use Rattle.std.specs.Prelude.{◌≡◌, ◌≤◌, ◌-◌, count_by, length, take, IfOk};
 ghost use Rattle.rb_meaning.specs.Place.{line_of};
 ghost use Rattle.rb_help.specs.Headings as words;
-ghost use Rattle.rb_help.specs.Headings.{begins_character};
+ghost use Rattle.rb_help.specs.Headings.{begins_character, named};
 ghost use Rattle.rb_help.specs.Lines.{before_place};
 
 use crate::lines::line_start;
@@ -65,7 +65,7 @@ fn count_on(text: &[u8], from: usize, at: usize, count: usize) -> usize
 impl<'t> Sheet<'t> {
     /// The sheet of a text, by its places.
     pub fn make(alloc: Global, name: &'t [u8], places: &'t Places<'t>) -> Result<Sheet<'t>, Memory>
-        ensures { IfOk result (λ sheet. (sheet.name ≡ name.now) × (sheet.text ≡ places.now)) }
+        ensures { IfOk result (λ sheet. sheet ≡ named name.now places.now) }
     {
         let text = places.text();
         let mut count = 0;
