@@ -1,8 +1,6 @@
 pub mod Lines
-pub mod Near
 pub mod Characters
 pub mod Colours
-pub mod Headings
 pub mod Positions
 pub mod Quotes
 pub mod Appends
