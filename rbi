@@ -60,9 +60,10 @@ gather() {
     needed_lines >"$work/crates.txt"
 }
 
-# Proves the crates and builds the program in that folder.
+# Proves the crates and builds the program in that folder. All others stand on rb_trees, so that it is proved alone, on all processors.
 build() {
-    : >"$out/begun" && gather && cd "$work" && rt all check --jobs "$jobs" && cd crates/rbi && rt run -- both data/p data/s &&
+    : >"$out/begun" && gather && cd "$work/crates/rb_trees" && rt check --jobs "$jobs" && cd "$work" && rt all check --jobs "$jobs" &&
+        cd crates/rbi && rt run -- both data/p data/s &&
         touch -r "$out/begun" out/rbi && cp -p out/rbi "$program.new" && mv "$program.new" "$program"
 }
 
@@ -88,8 +89,10 @@ follow() {
         "== summary") say "all is proved; now the program is compiled and tried" ;;
         "== "*) crate=${line#== } left=$((left - 1)) done=$((done + $(bytes_of "${line#== }"))) ;;
         "logic=proved "*)
-            minutes=$((($(date +%s) - began) * (all - done) / done / 60 + 1))
-            [ "$left" -eq 0 ] || say "$crate is proved; crates left: $left, in about $minutes min"
+            if [ "$done" -gt 0 ] && [ "$left" -gt 0 ]; then
+                minutes=$((($(date +%s) - began) * (all - done) / done / 60 + 1))
+                say "$crate is proved; crates left: $left, in about $minutes min"
+            fi
             ;;
         "rt: waiting for "*) say "${line#rt: }" ;;
         esac
