@@ -1,3 +1,4 @@
 -- How answers and buffers stand to the fields.
 pub mod Stops
+pub mod Items
 pub mod Buffers

@@ -1,46 +1,46 @@
 // The fields of messages: each is read at the front of the bytes, and gives the bytes behind it.
 
-ghost use Rattle.std.specs.Prelude.{◌≡◌, ◌+◌, length};
+ghost use Rattle.std.specs.Prelude.{◌≡◌, ◌+◌, length, Some};
 ghost use Rattle.rb_meaning_bytes.specs.formats.Fields.{Byte, Number, Wide, Truth};
 ghost use Rattle.rb_meaning_bytes.specs.formats.Reading.{look, deep};
 ghost use Rattle.rb_trees.specs.Outcome.{Gives};
-ghost use Rattle.rb_wire_fields.specs.Stops.{fault_of};
+ghost use Rattle.rb_wire_fields.specs.Stops.{told};
 
-use crate::stop::{BAD_TAG, NOT_CANONICAL, Stop, TOO_DEEP, TRUNCATED};
+use crate::stop::{BAD_TAG, NOT_CANONICAL, TOO_DEEP, TRUNCATED, Violation};
 
-/// The stop where a field lacks bytes.
-pub fn cut() -> Stop
-    ensures { result ≡ Stop.Refused 1 0 }
+/// The violation where a field lacks bytes.
+pub fn cut() -> Violation
+    ensures { result ≡ record { number = 1; left = 0 } }
 {
-    Stop::Refused {
+    Violation {
         number: TRUNCATED,
         left: 0,
     }
 }
 
-/// The stop at the first of the bytes.
-pub fn refused(number: u8, bytes: &[u8]) -> Stop
-    ensures { result ≡ Stop.Refused number (length bytes.now) }
+/// The violation at the first of the bytes.
+pub fn refused(number: u8, bytes: &[u8]) -> Violation
+    ensures { result ≡ record { number = number; left = length bytes.now } }
 {
-    Stop::Refused {
+    Violation {
         number,
         left: bytes.len(),
     }
 }
 
-/// The stop at a tag that stands for nothing, with these bytes behind it.
-pub fn bad_tag(rest: &[u8]) -> Stop
-    ensures { result ≡ Stop.Refused 2 (length rest.now + 1) }
+/// The violation at a tag that stands for nothing, with these bytes after it.
+pub fn bad_tag(rest: &[u8]) -> Violation
+    ensures { result ≡ record { number = 2; left = length rest.now + 1 } }
 {
-    Stop::Refused {
+    Violation {
         number: BAD_TAG,
         left: rest.len() + 1,
     }
 }
 
-/// The stop where something would be within too much.
-pub fn too_deep(bytes: &[u8]) -> Stop
-    ensures { result ≡ Stop.Refused (deep bytes.now).0 (deep bytes.now).1 }
+/// The violation where something would be within too much.
+pub fn too_deep(bytes: &[u8]) -> Violation
+    ensures { told result ≡ Some (deep bytes.now) }
 {
     match bytes {
         [] => cut(),
@@ -50,8 +50,8 @@ pub fn too_deep(bytes: &[u8]) -> Stop
 
 /// A byte.
 #[tactic(auto, unfolding(rb_meaning_bytes::specs::formats::Reading::look))]
-pub fn byte(bytes: &[u8]) -> Result<(u8, &[u8]), Stop>
-    ensures { Gives (λ x. (x.0, x.1.now)) fault_of result (look Byte bytes.now) }
+pub fn byte(bytes: &[u8]) -> Result<(u8, &[u8]), Violation>
+    ensures { Gives (λ x. (x.0, x.1.now)) told result (look Byte bytes.now) }
 {
     match bytes {
         [n, rest @ ..] => Ok((*n, rest)),
@@ -61,8 +61,8 @@ pub fn byte(bytes: &[u8]) -> Result<(u8, &[u8]), Stop>
 
 /// A number of 32 bits.
 #[tactic(auto, unfolding(rb_meaning_bytes::specs::formats::Reading::look))]
-pub fn number(bytes: &[u8]) -> Result<(u32, &[u8]), Stop>
-    ensures { Gives (λ x. (x.0, x.1.now)) fault_of result (look Number bytes.now) }
+pub fn number(bytes: &[u8]) -> Result<(u32, &[u8]), Violation>
+    ensures { Gives (λ x. (x.0, x.1.now)) told result (look Number bytes.now) }
 {
     if bytes.len() < 4 {
         return Err(cut());
@@ -74,8 +74,8 @@ pub fn number(bytes: &[u8]) -> Result<(u32, &[u8]), Stop>
 
 /// A signed number of 64 bits.
 #[tactic(auto, unfolding(rb_meaning_bytes::specs::formats::Reading::look))]
-pub fn wide(bytes: &[u8]) -> Result<(i64, &[u8]), Stop>
-    ensures { Gives (λ x. (x.0, x.1.now)) fault_of result (look Wide bytes.now) }
+pub fn wide(bytes: &[u8]) -> Result<(i64, &[u8]), Violation>
+    ensures { Gives (λ x. (x.0, x.1.now)) told result (look Wide bytes.now) }
 {
     if bytes.len() < 8 {
         return Err(cut());
@@ -89,8 +89,8 @@ pub fn wide(bytes: &[u8]) -> Result<(i64, &[u8]), Stop>
 
 /// A truth value.
 #[tactic(auto, unfolding(rb_meaning_bytes::specs::formats::Reading::look))]
-pub fn truth(bytes: &[u8]) -> Result<(bool, &[u8]), Stop>
-    ensures { Gives (λ x. (x.0, x.1.now)) fault_of result (look Truth bytes.now) }
+pub fn truth(bytes: &[u8]) -> Result<(bool, &[u8]), Violation>
+    ensures { Gives (λ x. (x.0, x.1.now)) told result (look Truth bytes.now) }
 {
     match bytes {
         [] => Err(cut()),

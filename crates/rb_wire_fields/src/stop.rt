@@ -2,12 +2,29 @@
 
 use rb_trees::Memory;
 
-/// Why reading stops.
+/// The number of the first violation, and how many bytes are left at its place.
+#[derive(Clone, Copy)]
+pub struct Violation {
+    pub number: u8,
+    pub left: usize,
+}
+
+/// Why reading into memory stops: at the first violation, or since memory ran out.
 #[derive(Drop)]
 pub enum Stop {
-    /// The number of the first violation, and how many bytes are left at its place.
-    Refused { number: u8, left: usize },
+    Refused(Violation),
     Memory,
+}
+
+impl From<Violation> for Stop {
+    ghost use Rattle.std.specs.Prelude.{◌≡◌};
+    ghost use Rattle.rb_wire_fields.specs.declared.stop.Stop.TheVariants as stops;
+
+    ghost from_gives = { λ violation e. e ≡ stops.Refused violation };
+
+    fn from(violation: Violation) -> Stop {
+        Stop::Refused(violation)
+    }
 }
 
 impl From<Memory> for Stop {
@@ -36,5 +53,5 @@ pub const NOT_CANONICAL: u8 = 4;
 /// A part of the message within too many others.
 pub const TOO_DEEP: u8 = 5;
 
-/// Bytes behind the message.
+/// Bytes after the message.
 pub const TRAILING: u8 = 6;

@@ -1,18 +1,27 @@
 // Texts and values, read at the front of the bytes.
 
-ghost use Rattle.std.specs.Prelude.{◌≡◌, ◌+◌, ◌≤◌, length, drop};
+ghost use Rattle.std.specs.Prelude.{◌≡◌, ◌+◌, ◌≤◌, length, drop, IfOk};
 ghost use Rattle.std.specs.Str.{is_utf8};
 ghost use Rattle.rb_meaning_bytes.specs.formats.Fields.{Text, announced, content};
 ghost use Rattle.rb_meaning_bytes.specs.formats.Reading.{look, read};
 ghost use Rattle.rb_meaning_bytes.specs.formats.Values as format;
 ghost use Rattle.rb_trees.specs.Outcome.{Gives};
-ghost use Rattle.rb_wire_fields.specs.Stops.{fault_of};
+ghost use Rattle.rb_wire_fields.specs.Items.{value_seen};
+ghost use Rattle.rb_wire_fields.specs.Stops.{fault_of, told};
 
 use crate::fields::{bad_tag, byte, cut, refused, truth, wide};
-use crate::stop::{BAD_TEXT, Stop};
+use crate::stop::{BAD_TEXT, Stop, Violation};
 use rb_trees::limits::LONGEST_TEXT;
-use rb_trees::{Seq, Shared, Value, Word};
+use rb_trees::{Memory, Seq, Shared, Value, Word};
 use std::alloc::Global;
+
+/// A primitive value, whose text stands in the bytes that it was read from.
+#[derive(Clone, Copy)]
+pub enum Item<'a> {
+    Int(i64),
+    Bool(bool),
+    Text(&'a [u8]),
+}
 
 /// Whether the bytes are UTF-8.
 #[tactic(auto, using(crate::proofs::Utf8::not_utf8, crate::proofs::Utf8::utf8))]
@@ -36,7 +45,7 @@ pub fn length_of(bytes: &[u8]) -> u32
     u32::from_be_bytes([bytes[0], bytes[1], bytes[2], bytes[3]])
 }
 
-/// The bytes of a text behind its length, and the bytes behind them.
+/// The bytes of a text after its length, and the bytes after them.
 #[tactic(auto, using(crate::proofs::Utf8::behind), unfolding(rb_meaning_bytes::specs::formats::Fields::content))]
 pub fn behind(bytes: &[u8], count: usize) -> (&[u8], &[u8])
     requires is { count ≡ announced bytes.now }
@@ -48,10 +57,10 @@ pub fn behind(bytes: &[u8], count: usize) -> (&[u8], &[u8])
     tail.split_at(count)
 }
 
-/// A text.
+/// A text, which stays where it stands.
 #[tactic(auto, unfolding(rb_meaning_bytes::specs::formats::Reading::look))]
-pub fn text(alloc: Global, bytes: &[u8]) -> Result<(Word, &[u8]), Stop>
-    ensures { Gives (λ x. (x.0, x.1.now)) fault_of result (look Text bytes.now) }
+pub fn lent_text(bytes: &[u8]) -> Result<(&[u8], &[u8]), Violation>
+    ensures { Gives (λ x. (x.0.now, x.1.now)) told result (look Text bytes.now) }
 {
     let count = length_of(bytes) as usize;
     if count > LONGEST_TEXT {
@@ -64,28 +73,58 @@ pub fn text(alloc: Global, bytes: &[u8]) -> Result<(Word, &[u8]), Stop>
     if !is_text(text) {
         return Err(refused(BAD_TEXT, bytes));
     }
+    Ok((text, rest))
+}
+
+/// A copy of a text.
+pub fn text(alloc: Global, bytes: &[u8]) -> Result<(Word, &[u8]), Stop>
+    ensures { Gives (λ x. (x.0, x.1.now)) fault_of result (look Text bytes.now) }
+{
+    let (text, rest) = lent_text(bytes)?;
     Ok((Seq::from_slice(alloc, text)?, rest))
 }
 
-/// A primitive value.
+/// A primitive value. A text of it stays where it stands.
 #[tactic(auto, using(crate::proofs::Equations::value_read), unfolding(rb_meaning_bytes::specs::formats::Reading::read))]
-pub fn value(alloc: Global, bytes: &[u8]) -> Result<(Value, &[u8]), Stop>
-    ensures { Gives (λ x. (x.0, x.1.now)) fault_of result (read format.value bytes.now) }
+pub fn primitive(bytes: &[u8]) -> Result<(Item<'_>, &[u8]), Violation>
+    ensures { Gives (λ x. (value_seen x.0, x.1.now)) told result (read format.value bytes.now) }
 {
     let (tag, rest) = byte(bytes)?;
     match tag {
         0x01 => {
             let (number, rest) = wide(rest)?;
-            Ok((Value::Int(number), rest))
+            Ok((Item::Int(number), rest))
         }
         0x02 => {
             let (truth, rest) = truth(rest)?;
-            Ok((Value::Bool(truth), rest))
+            Ok((Item::Bool(truth), rest))
         }
         0x03 => {
-            let (text, rest) = text(alloc, rest)?;
-            Ok((Value::Text(Shared::new(alloc, text)?), rest))
+            let (text, rest) = lent_text(rest)?;
+            Ok((Item::Text(text), rest))
         }
         _ => Err(bad_tag(rest)),
     }
+}
+
+/// The value that an item is.
+pub fn value_of(alloc: Global, item: Item<'_>) -> Result<Value, Memory>
+    ensures { IfOk result (λ value. value ≡ value_seen item.entry) }
+{
+    match item {
+        Item::Int(number) => Ok(Value::Int(number)),
+        Item::Bool(truth) => Ok(Value::Bool(truth)),
+        Item::Text(text) => {
+            let text = Seq::from_slice(alloc, text)?;
+            Ok(Value::Text(Shared::new(alloc, text)?))
+        }
+    }
+}
+
+/// A primitive value, with a copy of its text.
+pub fn value(alloc: Global, bytes: &[u8]) -> Result<(Value, &[u8]), Stop>
+    ensures { Gives (λ x. (x.0, x.1.now)) fault_of result (read format.value bytes.now) }
+{
+    let (item, rest) = primitive(bytes)?;
+    Ok((value_of(alloc, item)?, rest))
 }

@@ -5,3 +5,10 @@ pub mod Appended
 pub mod Outcomes
 pub mod Refused
 pub mod Walked
+pub mod Lefts
+pub mod Skipped
+pub mod InArray
+pub mod Scanned
+pub mod Ahead
+pub mod CursorTook
+pub mod CursorWalked

@@ -1,5 +1,10 @@
--- How answers stand to the formats.
+-- How answers stand to the formats, and what forests and cursors are seen as.
 pub mod Payloads
 pub mod Buffers
 pub mod Walks
 pub mod Misfits
+pub mod Passed
+pub mod Opens
+pub mod Fronts
+pub mod Opened
+pub mod CursorSteps

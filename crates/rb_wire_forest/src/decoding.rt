@@ -9,14 +9,12 @@ ghost use Rattle.rb_trees.specs.Outcome.{Gives, Tells};
 ghost use Rattle.rb_wire_fields.specs.Stops.{fault_of};
 ghost use Rattle.rb_wire_forest.specs.Payloads.{Means, Violation, violation};
 
+use crate::frames::MOST_NODES;
 use crate::nodes::node;
 use rb_trees::Node;
-use rb_wire_fields::fields::{bad_tag, byte};
+use rb_wire_fields::fields::{bad_tag, byte, refused};
 use rb_wire_fields::stop::{Stop, TRAILING};
 use std::alloc::Global;
-
-/// The most nodes within each other.
-const MOST_NODES: usize = 64;
 
 /// Why a payload isn't read as a forest.
 #[derive(Debug, Drop, thiserror::Error)]
@@ -36,7 +34,7 @@ fn forest(alloc: Global, bytes: &[u8]) -> Result<(Node, &[u8]), Stop>
 {
     let (version, rest) = byte(bytes)?;
     if version != 1 {
-        return Err(bad_tag(rest));
+        return Err(Stop::from(bad_tag(rest)));
     }
     let (root, rest) = node(alloc, MOST_NODES, rest)?;
     Ok((root, rest))
@@ -49,10 +47,7 @@ fn whole(alloc: Global, payload: &[u8]) -> Result<Node, Stop>
 {
     let (root, rest) = forest(alloc, payload)?;
     if !rest.is_empty() {
-        return Err(Stop::Refused {
-            number: TRAILING,
-            left: rest.len(),
-        });
+        return Err(Stop::from(refused(TRAILING, rest)));
     }
     Ok(root)
 }
@@ -71,9 +66,9 @@ pub fn decode_forest(alloc: Global, payload: &[u8]) -> Result<Node, ForestStop>
 {
     match whole(alloc, payload) {
         Ok(root) => Ok(root),
-        Err(Stop::Refused { number, left }) => Err(ForestStop::Refused {
-            number,
-            at: (payload.len() - left) as u64,
+        Err(Stop::Refused(violation)) => Err(ForestStop::Refused {
+            number: violation.number,
+            at: (payload.len() - violation.left) as u64,
         }),
         Err(Stop::Memory) => Err(ForestStop::Memory),
     }

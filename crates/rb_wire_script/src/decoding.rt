@@ -73,9 +73,9 @@ fn decoded(alloc: Global, payload: &[u8]) -> Result<(Script, Seq<Value>), Script
             Ok(()) => Ok(sent),
             Err(stop) => Err(stop),
         },
-        Err(Stop::Refused { number, left }) => Err(ScriptStop::Refused {
-            number,
-            at: (payload.len() - left) as u32,
+        Err(Stop::Refused(violation)) => Err(ScriptStop::Refused {
+            number: violation.number,
+            at: (payload.len() - violation.left) as u32,
         }),
         Err(Stop::Memory) => Err(ScriptStop::Memory),
     }

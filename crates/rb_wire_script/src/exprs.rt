@@ -25,7 +25,7 @@ pub(crate) fn expr(alloc: Global, left: usize, bytes: &[u8]) -> Result<(SExpr, &
     ensures { Gives (λ x. (mirror_sexpr x.0, x.1.now)) fault_of result (read (format.expr left) bytes.now) }
 {
     if left == 0 {
-        return Err(too_deep(bytes));
+        return Err(Stop::from(too_deep(bytes)));
     }
     let (tag, rest) = byte(bytes)?;
     match tag {
@@ -45,7 +45,7 @@ pub(crate) fn expr(alloc: Global, left: usize, bytes: &[u8]) -> Result<(SExpr, &
         0x24 => unary(alloc, left - 1, rest),
         0x25 => binary(alloc, left - 1, rest),
         0x26 => call(alloc, left - 1, rest),
-        _ => Err(bad_tag(rest)),
+        _ => Err(Stop::from(bad_tag(rest))),
     }
 }
 

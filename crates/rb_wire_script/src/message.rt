@@ -13,7 +13,7 @@ ghost use Rattle.rb_wire_script.specs.Stops.{seen};
 use crate::steps::block;
 use rb_trees::limits::MOST_BLOCKS;
 use rb_trees::{Script, Seq, Value};
-use rb_wire_fields::fields::{bad_tag, byte};
+use rb_wire_fields::fields::{bad_tag, byte, refused};
 use rb_wire_fields::stop::{Stop, TRAILING};
 use rb_wire_fields::texts::value;
 use std::alloc::Global;
@@ -43,7 +43,7 @@ fn message(alloc: Global, bytes: &[u8]) -> Result<((Script, Seq<Value>), &[u8]),
 {
     let (version, rest) = byte(bytes)?;
     if version != VERSION {
-        return Err(bad_tag(rest));
+        return Err(Stop::from(bad_tag(rest)));
     }
     let (inputs, rest) = byte(rest)?;
     let (values, rest) = values(alloc, inputs, rest)?;
@@ -58,10 +58,7 @@ pub(crate) fn whole(alloc: Global, payload: &[u8]) -> Result<(Script, Seq<Value>
 {
     let (sent, rest) = message(alloc, payload)?;
     if !rest.is_empty() {
-        return Err(Stop::Refused {
-            number: TRAILING,
-            left: rest.len(),
-        });
+        return Err(Stop::from(refused(TRAILING, rest)));
     }
     Ok(sent)
 }

@@ -58,11 +58,11 @@ pub(crate) fn name(alloc: Global, bytes: &[u8]) -> Result<(Word, &[u8]), Stop>
 {
     let count = length_of(bytes) as usize;
     if bytes.len() < 4 + count {
-        return Err(cut());
+        return Err(Stop::from(cut()));
     }
     let (name, rest) = behind(bytes, count);
     if !is_name(name) {
-        return Err(refused(BAD_TEXT, bytes));
+        return Err(Stop::from(refused(BAD_TEXT, bytes)));
     }
     Ok((Seq::from_slice(alloc, name)?, rest))
 }

@@ -4,16 +4,16 @@ ghost use Rattle.std.specs.Prelude.{◌≡◌};
 ghost use Rattle.rb_meaning_bytes.specs.formats.Reading.{read};
 ghost use Rattle.rb_meaning_bytes.specs.formats.Scripts.{unary_op, binary_op, kind};
 ghost use Rattle.rb_trees.specs.Outcome.{Gives};
-ghost use Rattle.rb_wire_fields.specs.Stops.{fault_of};
+ghost use Rattle.rb_wire_fields.specs.Stops.{told};
 
 use rb_trees::{BinOp, CallKind, Item, UnOp};
 use rb_wire_fields::fields::{bad_tag, byte};
-use rb_wire_fields::stop::Stop;
+use rb_wire_fields::stop::Violation;
 
 /// An operator with one operand.
 #[tactic(auto, using(crate::proofs::Equations::operators), unfolding(rb_meaning_bytes::specs::formats::Reading::read))]
-pub(crate) fn unary_op(bytes: &[u8]) -> Result<(UnOp, &[u8]), Stop>
-    ensures { Gives (λ x. (x.0, x.1.now)) fault_of result (read unary_op bytes.now) }
+pub(crate) fn unary_op(bytes: &[u8]) -> Result<(UnOp, &[u8]), Violation>
+    ensures { Gives (λ x. (x.0, x.1.now)) told result (read unary_op bytes.now) }
 {
     let (op, rest) = byte(bytes)?;
     match op {
@@ -27,8 +27,8 @@ pub(crate) fn unary_op(bytes: &[u8]) -> Result<(UnOp, &[u8]), Stop>
 
 /// An operator with two operands.
 #[tactic(auto, using(crate::proofs::Equations::operators), unfolding(rb_meaning_bytes::specs::formats::Reading::read))]
-pub(crate) fn binary_op(bytes: &[u8]) -> Result<(BinOp, &[u8]), Stop>
-    ensures { Gives (λ x. (x.0, x.1.now)) fault_of result (read binary_op bytes.now) }
+pub(crate) fn binary_op(bytes: &[u8]) -> Result<(BinOp, &[u8]), Violation>
+    ensures { Gives (λ x. (x.0, x.1.now)) told result (read binary_op bytes.now) }
 {
     let (op, rest) = byte(bytes)?;
     match op {
@@ -51,8 +51,8 @@ pub(crate) fn binary_op(bytes: &[u8]) -> Result<(BinOp, &[u8]), Stop>
 
 /// What a call's result must be.
 #[tactic(auto, using(crate::proofs::Equations::kind_read))]
-pub(crate) fn kind(bytes: &[u8]) -> Result<(u8, &[u8]), Stop>
-    ensures { Gives (λ x. (x.0, x.1.now)) fault_of result (read kind bytes.now) }
+pub(crate) fn kind(bytes: &[u8]) -> Result<(u8, &[u8]), Violation>
+    ensures { Gives (λ x. (x.0, x.1.now)) told result (read kind bytes.now) }
 {
     let (kind, rest) = byte(bytes)?;
     if kind > CallKind::Rows(Item::Object).number() {

@@ -32,7 +32,7 @@ pub(crate) fn block(alloc: Global, left: usize, bytes: &[u8]) -> Result<(Seq<Ste
     ensures { Gives (λ x. (mirror_steps x.0, x.1.now)) fault_of result (read (format.block left) bytes.now) }
 {
     if left == 0 {
-        return Err(too_deep(bytes));
+        return Err(Stop::from(too_deep(bytes)));
     }
     let (count, rest) = number(bytes)?;
     let (steps, rest) = steps(alloc, left - 1, count, rest)?;
@@ -70,7 +70,7 @@ fn step(alloc: Global, left: usize, bytes: &[u8]) -> Result<(Step, &[u8]), Stop>
         0x12 => let_step(alloc, rest),
         0x13 => if_step(alloc, left, rest),
         0x14 => each_step(alloc, left, rest),
-        _ => Err(bad_tag(rest)),
+        _ => Err(Stop::from(bad_tag(rest))),
     }
 }
 

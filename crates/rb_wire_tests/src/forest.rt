@@ -1,5 +1,6 @@
 // Tests of forests and refusals as bytes, both ways, and of nodes that fit a remainder.
 
+mod cursors;
 mod digits;
 mod fitting;
 mod forests;

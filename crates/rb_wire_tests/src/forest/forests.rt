@@ -2,7 +2,7 @@
 
 use crate::forest::digits::bytes_of;
 use bytes::BytesMut;
-use rb_wire_forest::{ForestStop, decode_forest, encode_forest};
+use rb_wire_forest::{ForestRefusal, ForestStop, decode_forest, encode_forest, scan_forest};
 use std::alloc::Global;
 use std::test::Fail;
 
@@ -32,8 +32,29 @@ pub const FOREST: (u8, u64) = (0, 0);
 /// What is told of a payload that spells a forest with another spelling.
 const OTHER: (u8, u64) = (0, 1);
 
-/// The number and the place of a payload's first violation, or whether it is the spelling of its forest.
+/// What is told of a payload that a scan and a decoder judge differently.
+const DISPUTED: (u8, u64) = (0, 2);
+
+/// The number and the place of a payload's first violation by a scan.
+fn scanned(payload: &[u8]) -> (u8, u64) {
+    match scan_forest(payload) {
+        Ok(_) => FOREST,
+        Err(ForestRefusal { number, at }) => (number, at),
+    }
+}
+
+/// The number and the place of a payload's first violation, or whether it is the spelling of its forest. A scan tells the same.
 pub fn told(alloc: Global, payload: &[u8]) -> Result<(u8, u64), Fail> {
+    let decoded = decoded(alloc, payload)?;
+    Ok(if scanned(payload) == decoded {
+        decoded
+    } else {
+        DISPUTED
+    })
+}
+
+/// The number and the place of a payload's first violation by a decoder, or whether it is the spelling of its forest.
+fn decoded(alloc: Global, payload: &[u8]) -> Result<(u8, u64), Fail> {
     match decode_forest(alloc, payload) {
         Ok(root) => {
             let mut again = BytesMut::new(alloc);

@@ -1,0 +1,194 @@
+// A cursor over a forest's bytes.
+
+ghost use Rattle.std.specs.Prelude.{◌≡◌, ◌<◌, ◌≤◌, true, is_some, length};
+ghost use Rattle.rb_wire_forest.specs.Opens.{all_open, frames_from};
+
+use crate::forest::Forest;
+use crate::frames::{Frame, MOST_NODES, root_frames};
+use crate::heads::{Head, LentFault, end, first_head};
+use rb_wire_fields::fields::{byte, number};
+use rb_wire_fields::texts::Item;
+
+/// A walk of a forest in its bytes. It takes no memory: the bytes that are left tell what is left of all that is open.
+#[derive(Drop)]
+pub struct Cursor<'a> {
+    rest: &'a [u8],
+    frames: [Frame; MOST_NODES],
+    depth: usize,
+    ghost some: { 0 < depth },
+    ghost within: { depth ≤ 64 },
+    ghost full: { length frames ≡ 64 },
+    ghost whole: { is_some (all_open (frames_from frames depth) rest.now) ≡ true },
+}
+
+impl<'a> Forest<'a> {
+    ghost use Rattle.std.specs.Prelude.{[], ◌∷◌};
+    ghost use Rattle.rb_wire_forest.specs.Opens.{AtNode};
+    ghost use Rattle.rb_wire_forest.specs.Opened.{root_of, opened};
+
+    /// The walk of the whole forest begins.
+    pub fn cursor(&self) -> Cursor<'a>
+        ensures { opened result ≡ AtNode (root_of self.now) ∷ [] }
+    {
+        let Ok((_, behind)) = byte(self.payload) else {
+            unreachable!();
+        };
+        let Ok((entries, rest)) = number(behind) else {
+            unreachable!();
+        };
+        Cursor {
+            rest,
+            frames: root_frames(entries),
+            depth: 1,
+        }
+    }
+}
+
+impl<'a> Cursor<'a> {
+    ghost use Rattle.std.specs.Prelude.{option_map};
+    ghost use Rattle.rb_wire_fields.specs.Items.{value_seen};
+    ghost use Rattle.rb_wire_forest.specs.Fronts.{end_seen};
+    ghost use Rattle.rb_wire_forest.specs.CursorSteps.{Takes, Moves, next_value, next_branch, next_rows, next_turn, next_fault, closing};
+    ghost use Rattle.rb_wire_forest.specs.Opened.{opened};
+
+    /// Takes the next entry of the innermost node, where that is a value. Else nothing changes.
+    pub fn value(&mut self) -> Option<Item<'a>>
+        ensures { Takes value_seen next_value (opened self.old) result (opened self.new) }
+    {
+        let top = self.frames[self.depth - 1];
+        if top.turns.is_some() || top.entries == 0 {
+            return None;
+        }
+        match first_head(self.rest) {
+            Some((Head::Value(item), rest)) => {
+                self.frames[self.depth - 1] = Frame {
+                    entries: top.entries - 1,
+                    turns: None,
+                };
+                self.rest = rest;
+                Some(item)
+            }
+            Some((Head::Branch(_, _), _)) => None,
+            Some((Head::Rows(_), _)) => None,
+            None => None,
+        }
+    }
+
+    /// Takes a branch, and opens its node: which one was taken. Else nothing changes.
+    pub fn branch(&mut self) -> Option<bool>
+        ensures { Takes (λ b. b) next_branch (opened self.old) result (opened self.new) }
+    {
+        let top = self.frames[self.depth - 1];
+        if top.turns.is_some() || top.entries == 0 {
+            return None;
+        }
+        match first_head(self.rest) {
+            Some((Head::Branch(taken, count), rest)) => {
+                self.frames[self.depth - 1] = Frame {
+                    entries: top.entries - 1,
+                    turns: None,
+                };
+                self.frames[self.depth] = Frame {
+                    entries: count,
+                    turns: None,
+                };
+                self.depth += 1;
+                self.rest = rest;
+                Some(taken)
+            }
+            Some((Head::Value(_), _)) => None,
+            Some((Head::Rows(_), _)) => None,
+            None => None,
+        }
+    }
+
+    /// Takes a Rows, and opens it: the number of its nodes. Else nothing changes.
+    pub fn rows(&mut self) -> Option<u32>
+        ensures { Takes (λ n. n) next_rows (opened self.old) result (opened self.new) }
+    {
+        let top = self.frames[self.depth - 1];
+        if top.turns.is_some() || top.entries == 0 {
+            return None;
+        }
+        match first_head(self.rest) {
+            Some((Head::Rows(count), rest)) => {
+                self.frames[self.depth - 1] = Frame {
+                    entries: top.entries - 1,
+                    turns: Some(count),
+                };
+                self.rest = rest;
+                Some(count)
+            }
+            Some((Head::Value(_), _)) => None,
+            Some((Head::Branch(_, _), _)) => None,
+            None => None,
+        }
+    }
+
+    /// Opens the next node of the innermost Rows. Else nothing changes.
+    pub fn turn(&mut self) -> bool
+        ensures { Moves next_turn (opened self.old) result (opened self.new) }
+    {
+        let top = self.frames[self.depth - 1];
+        let Some(turns) = top.turns else {
+            return false;
+        };
+        if turns == 0 {
+            return false;
+        }
+        let Ok((count, rest)) = number(self.rest) else {
+            return false;
+        };
+        self.frames[self.depth - 1] = Frame {
+            entries: top.entries,
+            turns: Some(turns - 1),
+        };
+        self.frames[self.depth] = Frame {
+            entries: count,
+            turns: None,
+        };
+        self.depth += 1;
+        self.rest = rest;
+        true
+    }
+
+    /// The fault of the innermost node, where no entries of it are left.
+    pub fn fault(&self) -> Option<LentFault<'a>>
+        ensures { end_seen result ≡ next_fault (opened self.now) }
+    {
+        let top = self.frames[self.depth - 1];
+        if top.turns.is_some() || top.entries > 0 {
+            return None;
+        }
+        match end(self.rest) {
+            Ok((fault, _)) => fault,
+            Err(_) => None,
+        }
+    }
+
+    /// Closes the innermost, where nothing of it is left and it isn't the root. Else nothing changes.
+    pub fn leave(&mut self) -> bool
+        ensures { Moves closing (opened self.old) result (opened self.new) }
+    {
+        let top = self.frames[self.depth - 1];
+        if let Some(turns) = top.turns {
+            if turns > 0 {
+                return false;
+            }
+            self.frames[self.depth - 1] = Frame {
+                entries: top.entries,
+                turns: None,
+            };
+            return true;
+        }
+        if top.entries > 0 || self.depth == 1 {
+            return false;
+        }
+        let Ok((_, rest)) = end(self.rest) else {
+            return false;
+        };
+        self.depth -= 1;
+        self.rest = rest;
+        true
+    }
+}

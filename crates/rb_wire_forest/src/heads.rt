@@ -1,0 +1,141 @@
+// What stands at the front of an entry, and how a node ends.
+
+ghost use Rattle.std.specs.Prelude.{◌≡◌, option_map};
+ghost use Rattle.rb_meaning_bytes.specs.formats.Reading.{look, read};
+ghost use Rattle.rb_meaning_bytes.specs.formats.Fields.{Tag};
+ghost use Rattle.rb_meaning_bytes.specs.formats.Forests as format;
+ghost use Rattle.rb_trees.specs.Outcome.{Gives};
+ghost use Rattle.rb_wire_fields.specs.Stops.{told};
+ghost use Rattle.rb_wire_forest.specs.Fronts as heads;
+ghost use Rattle.rb_wire_forest.specs.Fronts.{head, seen, end_seen};
+
+use rb_wire_fields::fields::{bad_tag, byte, number, truth};
+use rb_wire_fields::stop::Violation;
+use rb_wire_fields::texts::{Item, lent_text, primitive};
+
+/// The front of an entry: a value, which is all of it; a branch, with the number of entries of its node; or a Rows, with its
+/// number of nodes.
+#[derive(Clone, Copy)]
+pub enum Head<'a> {
+    Value(Item<'a>),
+    Branch(bool, u32),
+    Rows(u32),
+}
+
+/// The fault of a node, whose text stands in the payload.
+#[derive(Clone, Copy)]
+pub struct LentFault<'a> {
+    pub step: u32,
+    pub at: u32,
+    pub code: u8,
+    pub text: &'a [u8],
+}
+
+/// The greatest code of a fault.
+const GREATEST_CODE: u8 = 12;
+
+/// The code of the one fault that keeps a text.
+const THROWN: u8 = 8;
+
+fn value_head(rest: &[u8]) -> Option<(Head<'_>, &[u8])>
+    ensures { option_map seen result ≡ heads.value_at rest.now }
+{
+    match primitive(rest) {
+        Ok((item, rest)) => Some((Head::Value(item), rest)),
+        Err(_) => None,
+    }
+}
+
+fn branch_head(rest: &[u8]) -> Option<(Head<'_>, &[u8])>
+    ensures { option_map seen result ≡ heads.branch_at rest.now }
+{
+    let Ok((taken, rest)) = truth(rest) else {
+        return None;
+    };
+    match number(rest) {
+        Ok((count, rest)) => Some((Head::Branch(taken, count), rest)),
+        Err(_) => None,
+    }
+}
+
+fn rows_head(rest: &[u8]) -> Option<(Head<'_>, &[u8])>
+    ensures { option_map seen result ≡ heads.rows_at rest.now }
+{
+    match number(rest) {
+        Ok((count, rest)) => Some((Head::Rows(count), rest)),
+        Err(_) => None,
+    }
+}
+
+/// The front of the entry that stands first, and the bytes after it; None where there is none.
+#[tactic(auto, unfolding(crate::specs::Fronts::head))]
+pub fn first_head(bytes: &[u8]) -> Option<(Head<'_>, &[u8])>
+    ensures { option_map seen result ≡ head bytes.now }
+{
+    let Ok((tag, rest)) = byte(bytes) else {
+        return None;
+    };
+    match tag {
+        0x31 => value_head(rest),
+        0x32 => branch_head(rest),
+        0x33 => rows_head(rest),
+        _ => None,
+    }
+}
+
+/// A fault's code.
+#[tactic(auto, using(crate::proofs::Equations::tags))]
+fn code(bytes: &[u8]) -> Result<(u8, &[u8]), Violation>
+    ensures { Gives (λ x. (x.0, x.1.now)) told result (look (Tag format.is_fault_code) bytes.now) }
+{
+    let (code, rest) = byte(bytes)?;
+    if code < 1 || code > GREATEST_CODE {
+        return Err(bad_tag(rest));
+    }
+    Ok((code, rest))
+}
+
+/// The text of a fault with this code.
+#[tactic(auto, unfolding(rb_meaning_bytes::specs::formats::Reading::read))]
+fn fault_text(code: u8, bytes: &[u8]) -> Result<(&[u8], &[u8]), Violation>
+    ensures { Gives (λ x. (x.0.now, x.1.now)) told result (read (format.fault_text code) bytes.now) }
+{
+    if code != THROWN {
+        return Ok((&[], bytes));
+    }
+    let (text, rest) = lent_text(bytes)?;
+    Ok((text, rest))
+}
+
+/// The fault that a node ends with.
+#[tactic(auto, using(rb_meaning_bytes::proofs::formats::Exact::bound), unfolding(rb_meaning_bytes::specs::formats::Reading::read))]
+fn fault(bytes: &[u8]) -> Result<(Option<LentFault<'_>>, &[u8]), Violation>
+    ensures { Gives (λ x. (end_seen x.0, x.1.now)) told result (read format.fault bytes.now) }
+{
+    let (step, rest) = number(bytes)?;
+    let (at, rest) = number(rest)?;
+    let (code, rest) = code(rest)?;
+    let (text, rest) = fault_text(code, rest)?;
+    Ok((
+        Some(LentFault {
+            step,
+            at,
+            code,
+            text,
+        }),
+        rest,
+    ))
+}
+
+/// How a node ends.
+#[tactic(auto, using(crate::proofs::Equations::end_read), unfolding(rb_meaning_bytes::specs::formats::Reading::read))]
+pub fn end(bytes: &[u8]) -> Result<(Option<LentFault<'_>>, &[u8]), Violation>
+    ensures { Gives (λ x. (end_seen x.0, x.1.now)) told result (read format.end bytes.now) }
+{
+    let (tag, rest) = byte(bytes)?;
+    match tag {
+        0x00 => Ok((None, rest)),
+        0x01 => fault(rest),
+        _ => Err(bad_tag(rest)),
+    }
+}

@@ -1,0 +1,83 @@
+// Parts of a forest, passed over at the front of the bytes.
+
+ghost use Rattle.std.specs.Prelude.{◌≡◌, ◌<◌, ◌^◌};
+ghost use Rattle.rb_meaning_bytes.specs.formats.Reading.{read};
+ghost use Rattle.rb_meaning_bytes.specs.formats.Formats.{times};
+ghost use Rattle.rb_meaning_bytes.specs.formats.Forests as format;
+ghost use Rattle.rb_trees.specs.Outcome.{Gives};
+ghost use Rattle.rb_wire_fields.specs.Stops.{told};
+ghost use Rattle.rb_wire_forest.specs.Passed.{behind};
+
+use crate::heads::end;
+use rb_wire_fields::fields::{bad_tag, byte, number, too_deep, truth};
+use rb_wire_fields::stop::Violation;
+use rb_wire_fields::texts::primitive;
+
+/// A node, with at most so many within each other.
+#[cycle(skips)]
+#[tactic(auto, using(crate::proofs::Skipped::nodes))]
+pub fn skip_node(left: usize, bytes: &[u8]) -> Result<&[u8], Violation>
+    requires { left < 2 ^ 32 }
+    ensures { Gives (λ x. x.now) told result (behind (read (format.node left) bytes.now)) }
+{
+    if left == 0 {
+        return Err(too_deep(bytes));
+    }
+    let (count, rest) = number(bytes)?;
+    let rest = skip_entries(left - 1, count, rest)?;
+    let (_, rest) = end(rest)?;
+    Ok(rest)
+}
+
+/// So many entries, in which at most so many nodes are within each other.
+#[cycle(skips)]
+#[tactic(auto, using(crate::proofs::Skipped::loops))]
+fn skip_entries(left: usize, count: u32, bytes: &[u8]) -> Result<&[u8], Violation>
+    requires { left < 2 ^ 32 }
+    ensures { Gives (λ x. x.now) told result (behind (read (times count (format.entry (format.node left))) bytes.now)) }
+{
+    let mut rest = bytes;
+    for _ in 0..count {
+        rest = skip_entry(left, rest)?;
+    }
+    Ok(rest)
+}
+
+/// An entry, in which at most so many nodes are within each other.
+#[cycle(skips)]
+#[tactic(auto, using(crate::proofs::Skipped::entries))]
+fn skip_entry(left: usize, bytes: &[u8]) -> Result<&[u8], Violation>
+    requires { left < 2 ^ 32 }
+    ensures { Gives (λ x. x.now) told result (behind (read (format.entry (format.node left)) bytes.now)) }
+{
+    let (tag, rest) = byte(bytes)?;
+    match tag {
+        0x31 => {
+            let (_, rest) = primitive(rest)?;
+            Ok(rest)
+        }
+        0x32 => {
+            let (_, rest) = truth(rest)?;
+            skip_node(left, rest)
+        }
+        0x33 => {
+            let (count, rest) = number(rest)?;
+            skip_turns(left, count, rest)
+        }
+        _ => Err(bad_tag(rest)),
+    }
+}
+
+/// So many nodes of turns, with at most so many within each other.
+#[cycle(skips)]
+#[tactic(auto, using(crate::proofs::Skipped::loops))]
+fn skip_turns(left: usize, count: u32, bytes: &[u8]) -> Result<&[u8], Violation>
+    requires { left < 2 ^ 32 }
+    ensures { Gives (λ x. x.now) told result (behind (read (times count (format.node left)) bytes.now)) }
+{
+    let mut rest = bytes;
+    for _ in 0..count {
+        rest = skip_node(left, rest)?;
+    }
+    Ok(rest)
+}
