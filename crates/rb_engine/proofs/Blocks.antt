@@ -13,7 +13,7 @@ use Rattle.rb_meaning_code.specs.Faults.{raises, caught_text, is_caught}
 use Rattle.rb_meaning_code.specs.State.{Names, Local, bound, spent}
 use Rattle.rb_meaning_code.specs.Dialogue.{Faulted, Done, Run, Surroundings, seq, next, end}
 use Rattle.rb_meaning_code.specs.Calls.{left, entered, unit_due}
-use Rattle.rb_meaning_code.specs.Statements.{Effect, block, nothing, either, after_unit, handles, truth_of, while_turns}
+use Rattle.rb_meaning_code.specs.Statements.{Effect, block, nothing, either, by_truth, after_unit, handles, truth_of, while_turns}
 use Rattle.rb_meaning_code.specs.Bodies.{body_within}
 use Rattle.rb_engine.specs.Code.{body_run, stmts_run, try_run}
 use Rattle.rb_engine.specs.Ends.{fault_of, lifted}
@@ -21,7 +21,7 @@ use Rattle.rb_engine.specs.declared.ends.Failure.{Failure}
 use Rattle.rb_engine.specs.declared.ends.End.{End}
 use Rattle.rb_engine.specs.declared.ends.End.TheVariants as ends
 use Rattle.rb_engine.specs.Meets.{Scene, Led, Meets}
-use Rattle.rb_engine.proofs.Runs.{gave, cut, ended, stands, at_run, through_led, sequel, sequel_of_fault}
+use Rattle.rb_engine.proofs.Runs.{next_next, gave, cut, ended, stands, at_run, through_led, sequel, sequel_of_fault}
 use Rattle.rb_engine.proofs.Steps.{helped, unhelped}
 use Rattle.rb_engine.proofs.Loops.{rebase}
 
@@ -70,34 +70,37 @@ try_handled {R = R} {s1 = s1} {f = f} classes tried name handler m was caught n 
     sequel_of_fault (λ gas. handles name (stmts_run classes handler gas)) m was
     (at_run (λ gas. ap (λ c. cond c (block (λ l. stmts_run classes handler gas (bound name (value.Text (caught_text f.fault)) l)) s1.local) (Done (Faulted f s1.local))) caught) n)
 
+-- what goes by the truth of a value goes on with it
+pub by_its_truth : (at : ℕ) (d : Run Value) (a b : Effect)
+    → next d (λ v l. by_truth at v a b l) ≡ next (next d (λ v l. end l (raises at (truth_of (out-Value v))))) (λ holds l. either holds a b l)
+by_its_truth at d a b = sym (next_next d (λ v l. end l (raises at (truth_of (out-Value v)))) (λ holds l. either holds a b l))
+
 -- a turn of a `while`, within one gas
 
-pub while_false : {W X : Type 0} {R : Surroundings W X} {s s1 : Scene W} {t : Result Value (End X)} {t1 : Result Bool (End X)} {v : Value} (turns at : ℕ) (condition : Local → Run Value) (body : Effect) (r1 : Result Bool Failure)
-    → Meets R (λ any. condition s.local) s t s1 → t ≡ Ok v → Gives (λ b. b) fault_of r1 (truth_of (out-Value v)) → t1 ≡ lifted at r1 → t1 ≡ Ok false
-    → Meets R (λ any. while_turns (suc turns) at condition body s.local) s (Ok tt) s1
-while_false {s1 = s1} {v = v} turns at condition body r1 m was g is holds =
-    gave (λ any x l1. next (end l1 (raises at (truth_of (out-Value x)))) (λ b l2. either b (after_unit at (λ l3. next (body l3) (λ u l4. while_turns turns at condition body l4))) nothing l2)) m was
-    (helped (λ b. b) at r1 (truth_of (out-Value v)) s1.local (λ any b l2. either b (after_unit at (λ l3. next (body l3) (λ u l4. while_turns turns at condition body l4))) nothing l2) g is holds (ended tt))
+abbrev turn : ℕ → ℕ → (Local → Run Value) → Effect → Effect
+turn turns at condition body = after_unit at (λ l. next (body l) (λ u l1. while_turns turns at condition body l1))
 
-pub while_true : {W X : Type 0} {R : Surroundings W X} {s s1 s2 : Scene W} {t : Result Value (End X)} {t1 : Result Bool (End X)} {v : Value} {r : Result (Unit {0}) (End X)} (turns at : ℕ) (condition : Local → Run Value) (body : Effect) (r1 : Result Bool Failure)
-    → Meets R (λ any. condition s.local) s t s1 → t ≡ Ok v → Gives (λ b. b) fault_of r1 (truth_of (out-Value v)) → t1 ≡ lifted at r1 → t1 ≡ Ok true
+pub while_false : {W X : Type 0} {R : Surroundings W X} {s s1 : Scene W} {t : Result Bool (End X)} (turns at : ℕ) (condition : Local → Run Value) (body : Effect)
+    → Meets R (λ any. next (condition s.local) (λ v l1. end l1 (raises at (truth_of (out-Value v))))) s t s1 → t ≡ Ok false
+    → Meets R (λ any. while_turns (suc turns) at condition body s.local) s (Ok tt) s1
+while_false {s = s} turns at condition body m holds =
+    at_run (λ any. by_its_truth at (condition s.local) (turn turns at condition body) nothing)
+    (gave (λ any b l. either b (turn turns at condition body) nothing l) m holds (ended tt))
+
+pub while_true : {W X : Type 0} {R : Surroundings W X} {s s1 s2 : Scene W} {t : Result Bool (End X)} {r : Result (Unit {0}) (End X)} (turns at : ℕ) (condition : Local → Run Value) (body : Effect)
+    → Meets R (λ any. next (condition s.local) (λ v l1. end l1 (raises at (truth_of (out-Value v))))) s t s1 → t ≡ Ok true
     → Meets R (λ any. after_unit at (λ l3. next (body l3) (λ u l4. while_turns turns at condition body l4)) s1.local) s1 r s2
     → Meets R (λ any. while_turns (suc turns) at condition body s.local) s r s2
-while_true {s1 = s1} {v = v} turns at condition body r1 m was g is holds n =
-    gave (λ any x l1. next (end l1 (raises at (truth_of (out-Value x)))) (λ b l2. either b (after_unit at (λ l3. next (body l3) (λ u l4. while_turns turns at condition body l4))) nothing l2)) m was
-    (helped (λ b. b) at r1 (truth_of (out-Value v)) s1.local (λ any b l2. either b (after_unit at (λ l3. next (body l3) (λ u l4. while_turns turns at condition body l4))) nothing l2) g is holds n)
+while_true {s = s} turns at condition body m holds n =
+    at_run (λ any. by_its_truth at (condition s.local) (turn turns at condition body) nothing)
+    (gave (λ any b l. either b (turn turns at condition body) nothing l) m holds n)
 
-pub while_unclear : {W X : Type 0} {R : Surroundings W X} {s s1 : Scene W} {t : Result Value (End X)} {t1 : Result Bool (End X)} {v : Value} {h : End X} (turns at : ℕ) (condition : Local → Run Value) (body : Effect) (r1 : Result Bool Failure)
-    → Meets R (λ any. condition s.local) s t s1 → t ≡ Ok v → Gives (λ b. b) fault_of r1 (truth_of (out-Value v)) → t1 ≡ lifted at r1 → t1 ≡ Err h
+pub while_fails : {W X : Type 0} {R : Surroundings W X} {s s1 : Scene W} {t : Result Bool (End X)} {h : End X} (turns at : ℕ) (condition : Local → Run Value) (body : Effect)
+    → Meets R (λ any. next (condition s.local) (λ v l1. end l1 (raises at (truth_of (out-Value v))))) s t s1 → t ≡ Err h
     → Meets R (λ any. while_turns (suc turns) at condition body s.local) s (Err h) s1
-while_unclear {s1 = s1} {v = v} turns at condition body r1 m was g is fails =
-    gave (λ any x l1. next (end l1 (raises at (truth_of (out-Value x)))) (λ b l2. either b (after_unit at (λ l3. next (body l3) (λ u l4. while_turns turns at condition body l4))) nothing l2)) m was
-    (unhelped (λ b. b) at r1 (truth_of (out-Value v)) (λ any b l2. either b (after_unit at (λ l3. next (body l3) (λ u l4. while_turns turns at condition body l4))) nothing l2) g is fails refl)
-
-pub while_fails : {W X : Type 0} {R : Surroundings W X} {s s1 : Scene W} {t : Result Value (End X)} {h : End X} (turns at : ℕ) (condition : Local → Run Value) (body : Effect)
-    → Meets R (λ any. condition s.local) s t s1 → t ≡ Err h → Meets R (λ any. while_turns (suc turns) at condition body s.local) s (Err h) s1
-while_fails turns at condition body m was =
-    cut (λ any x l1. next (end l1 (raises at (truth_of (out-Value x)))) (λ b l2. either b (after_unit at (λ l3. next (body l3) (λ u l4. while_turns turns at condition body l4))) nothing l2)) m was refl
+while_fails {s = s} turns at condition body m was =
+    at_run (λ any. by_its_truth at (condition s.local) (turn turns at condition body) nothing)
+    (cut (λ any b l. either b (turn turns at condition body) nothing l) m was refl)
 
 -- a unit of fuel is taken, and the block runs
 pub unit_taken : {W X : Type 0} {R : Surroundings W X} {s s1 s2 : Scene W} {t : Result (Unit {0}) (End X)} {t1 : Result (Unit {0}) (End X)} {u u1 : Unit {0}} {r : Result (Unit {0}) (End X)} (at : ℕ) (body : Effect) (k : Effect) (r1 : Result (Unit {0}) Failure)

@@ -6,6 +6,7 @@ pub mod Exprs
 pub mod Forms
 pub mod Items
 pub mod Known
+pub mod Lent
 pub mod Loops
 pub mod Matched
 pub mod Numbered

@@ -3,7 +3,7 @@ use Rattle.std.proofs.Common.{◌≡◌, refl, ap, ◌∙◌, ℕ, zero, suc, �
 use Rattle.std.specs.Prelude.{Bool, true, false, nat_lt, Option, Some, None, Result, Ok, Err}
 use borrow.Author.Tests.{ltb-true}
 use Rattle.rb_trees.specs.Outcome.{Gives, known, must}
-use Rattle.rb_trees.specs.declared.values.Value.{Value}
+use Rattle.rb_trees.specs.declared.values.Value.{Value, out-Value}
 use Rattle.rb_trees.specs.declared.values.Value.TheOpen.{Value-F}
 use Rattle.rb_trees.specs.declared.code.Expr as expr
 use Rattle.rb_trees.specs.declared.code.Stmt as stmt
@@ -15,8 +15,8 @@ use Rattle.rb_meaning_code.specs.State.{Local}
 use Rattle.rb_meaning_code.specs.Dialogue.{Line, Invoke, Faulted, Done, Ask, Surroundings, next, end, told}
 use Rattle.rb_meaning_code.specs.Calls.{Bodies, call, called, unit_due, call_fits}
 use Rattle.rb_meaning_code.specs.Expressions.{evaluates}
-use Rattle.rb_meaning_code.specs.Statements.{Effect, performs, assignment, assigns, writes, turns, turns_over, prints}
-use Rattle.rb_engine.specs.Code.{bodies, value_run, stmt_run, begin_run}
+use Rattle.rb_meaning_code.specs.Statements.{Effect, truth_of, performs, assignment, assigns, writes, turns, turns_over, prints}
+use Rattle.rb_engine.specs.Code.{bodies, value_run, truth_run, stmt_run, begin_run}
 use Rattle.rb_engine.specs.Ends.{fault_of, lifted}
 use Rattle.rb_engine.specs.Shown.{remote_form}
 use Rattle.rb_engine.specs.Targets.{NamePlace, FieldPlace, NoPlace, target_form, turns_form}
@@ -31,6 +31,11 @@ use Rattle.rb_engine.proofs.Runs.{at_run}
 pub expr_run : {W X : Type 0} {R : Surroundings W X} {s s1 : Scene W} {r : Result Value (End X)} (classes : List class.Class) (e : expr.Expr) {m : Expr}
     → mirror_expr e ≡ m → Meets R (λ gas. evaluates (bodies classes gas) m s.local) s r s1 → Meets R (λ gas. value_run classes e gas s.local) s r s1
 expr_run {s = s} classes e is m = at_run (λ gas. ap (λ x. evaluates (bodies classes gas) x s.local) is) m
+
+pub truth_by_form : {W X : Type 0} {R : Surroundings W X} {s s1 : Scene W} {r : Result Bool (End X)} (classes : List class.Class) (at : ℕ) (e : expr.Expr) {m : Expr}
+    → mirror_expr e ≡ m → Meets R (λ gas. next (evaluates (bodies classes gas) m s.local) (λ v l. end l (raises at (truth_of (out-Value v))))) s r s1
+    → Meets R (λ gas. truth_run classes at e gas s.local) s r s1
+truth_by_form {s = s} classes at e is m = at_run (λ gas. ap (λ x. next (evaluates (bodies classes gas) x s.local) (λ v l. end l (raises at (truth_of (out-Value v))))) is) m
 
 pub statement_run : {W X : Type 0} {R : Surroundings W X} {s s1 : Scene W} {r : Result (Unit {0}) (End X)} (classes : List class.Class) (t : stmt.Stmt) {m : Stmt}
     → mirror_stmt t ≡ m → Meets R (λ gas. performs (bodies classes gas) gas m s.local) s r s1 → Meets R (λ gas. stmt_run classes t gas s.local) s r s1

@@ -1,6 +1,7 @@
 -- How runs follow one another.
-use Rattle.std.proofs.Common.{◌≡◌, inl, inr, refl, sym, ◌∙◌, subst, ℕ, ◌≤◌, arith}
+use Rattle.std.proofs.Common.{◌≡◌, inl, inr, refl, sym, ap, ◌∙◌, subst, ℕ, ◌≤◌, arith}
 use Rattle.std.specs.Prelude.{Result, Ok, Err}
+use mathlib.Core.Path.{fun_ext}
 use Rattle.rb_trees.specs.declared.outcomes.Raised.{Raised}
 use Rattle.rb_meaning_code.specs.State.{Local}
 use Rattle.rb_meaning_code.specs.Dialogue.{Outcome, Gave, Faulted, Dialogue, Done, Ask, AskBatch, Run, Surroundings, Follows, seq, on, next}
@@ -42,6 +43,19 @@ cut_led : {W X A B : Type 0} (R : Surroundings W X) (d : Run A) (k : A → Local
 cut_led R d k (ends.Raised f) l1 w w1 o = seq_done R d (on k) (Faulted f l1) _ w w1 w1 o (refl, refl)
 cut_led R d k NoMemory l1 w w1 o = tt
 cut_led R d k (Stopped x) l1 w w1 o = seq_stop R d (on k) x w w1 o
+
+seq_seq : {A B D : Type 0} (d : Dialogue A) (f : A → Dialogue B) (k : B → Dialogue D) → seq (seq d f) k ≡ seq d (λ a. seq (f a) k)
+seq_seq (Done a) f k = refl
+seq_seq (Ask q go) f k = ap (Ask q) (fun_ext (λ a. seq_seq (go a) f k))
+seq_seq (AskBatch at l go) f k = ap (AskBatch at l) (fun_ext (λ o. seq_seq (go o) f k))
+
+on_next : {A B D : Type 0} (f : A → Local → Run B) (k : B → Local → Run D) (o : Outcome A) → seq (on f o) (on k) ≡ on (λ a l. next (f a l) k) o
+on_next f k (Gave a l) = refl
+on_next f k (Faulted r l) = refl
+
+-- What goes on twice goes on by both together.
+pub next_next : {A B D : Type 0} (d : Run A) (f : A → Local → Run B) (k : B → Local → Run D) → next (next d f) k ≡ next d (λ a l. next (f a l) k)
+next_next d f k = seq_seq d (on f) (on k) ∙ ap (seq d) (fun_ext (on_next f k))
 
 -- a run that gave a value goes on
 pub gave : {W X A B : Type 0} {R : Surroundings W X} {f : ℕ → Run A} {s s1 s2 : Scene W} {a : A} {t : Result A (End X)} {r : Result B (End X)} (k : ℕ → A → Local → Run B)

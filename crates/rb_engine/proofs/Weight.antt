@@ -22,11 +22,11 @@ abbrev mutual
   expr_weight (code.Lit at v) = 0
   expr_weight (code.Name at n) = 0
   expr_weight (code.This at) = 0
-  expr_weight (code.Unary at op a) = 2 + expr_weight a
-  expr_weight (code.Binary at op a b) = 2 + max (expr_weight a) (expr_weight b)
-  expr_weight (code.Field at a n) = 2 + expr_weight a
+  expr_weight (code.Unary at op a) = 3 + expr_weight a
+  expr_weight (code.Binary at op a b) = 4 + max (expr_weight a) (expr_weight b)
+  expr_weight (code.Field at a n) = 3 + expr_weight a
   expr_weight (code.Call at r n es) = 3 + max (expr_weight r) (exprs_weight es)
-  expr_weight (code.Index at a b) = 2 + max (expr_weight a) (expr_weight b)
+  expr_weight (code.Index at a b) = 3 + max (expr_weight a) (expr_weight b)
   expr_weight (code.New at n es) = 3 + exprs_weight es
   expr_weight (code.Items at t es) = 3 + exprs_weight es
   expr_weight (code.Taken at step) = 0
@@ -41,8 +41,8 @@ abbrev mutual
   stmt_weight (code.Var at n e) = 2 + expr_weight e
   stmt_weight (code.Assign at a b) = 2 + max (expr_weight a) (expr_weight b)
   stmt_weight (code.Run at e) = 2 + expr_weight e
-  stmt_weight (code.Print at e) = 2 + expr_weight e
-  stmt_weight (code.Throw at e) = 2 + expr_weight e
+  stmt_weight (code.Print at e) = 3 + expr_weight e
+  stmt_weight (code.Throw at e) = 3 + expr_weight e
   stmt_weight (code.If at c a b) = 4 + max (expr_weight c) (max (stmts_weight a) (stmts_weight b))
   stmt_weight (code.While at c a) = 4 + max (expr_weight c) (stmts_weight a)
   stmt_weight (code.For at n e a) = 5 + max (expr_weight e) (stmts_weight a)

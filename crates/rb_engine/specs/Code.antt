@@ -1,5 +1,5 @@
 -- What the trees of code mean, within so much gas.
-use Rattle.std.specs.Prelude.{ℕ, suc, List, Result, Err, map}
+use Rattle.std.specs.Prelude.{ℕ, suc, List, Bool, Result, Err, map}
 use Rattle.rb_trees.specs.declared.values.Value.{Value, out-Value}
 use Rattle.rb_trees.specs.declared.code.UnOp.{UnOp}
 use Rattle.rb_trees.specs.declared.code.BinOp.{BinOp}
@@ -19,7 +19,7 @@ use Rattle.rb_meaning_code.specs.Operators.{shown_value}
 use Rattle.rb_meaning_code.specs.Objects.{constructed}
 use Rattle.rb_meaning_code.specs.Calls.{Bodies, call, called_method, own_method}
 use Rattle.rb_meaning_code.specs.Expressions.{list_of, evaluates, evaluates_all}
-use Rattle.rb_meaning_code.specs.Statements.{Effect, nothing, by_truth, throws, performs, performs_all, closes, block, assignment, while_turns, turns, turns_over, list_turn, row_turn, handles, prints}
+use Rattle.rb_meaning_code.specs.Statements.{Effect, nothing, truth_of, by_truth, throws, performs, performs_all, closes, block, assignment, while_turns, turns, turns_over, list_turn, row_turn, handles, prints}
 use Rattle.rb_meaning_code.specs.Bodies.{bodies_of, runs}
 use Rattle.rb_engine.specs.declared.targets.Turns.{Turns}
 use Rattle.rb_engine.specs.declared.targets.Turns.TheVariants as over
@@ -87,6 +87,10 @@ assign_run classes at left right gas l = assignment (bodies classes gas) at (mir
 -- the statements of a block, after which the first names stay
 abbrev pub scope_run : List class.Class → ℕ → List stmt.Stmt → ℕ → Effect
 scope_run classes count ss gas l = seq (stmts_run classes ss gas l) (closes count)
+
+-- the truth of a condition
+abbrev pub truth_run : List class.Class → ℕ → expr.Expr → ℕ → Local → Run Bool
+truth_run classes at condition gas l = next (value_run classes condition gas l) (λ v l1. end l1 (raises at (truth_of (out-Value v))))
 
 abbrev pub if_run : List class.Class → ℕ → expr.Expr → List stmt.Stmt → List stmt.Stmt → ℕ → Effect
 if_run classes at c a b gas l =

@@ -1,7 +1,9 @@
 pub mod Answers
 pub mod Code
 pub mod Ends
+pub mod Held
 pub mod Kinds
+pub mod Lent
 pub mod Locals
 pub mod Makes
 pub mod Meets

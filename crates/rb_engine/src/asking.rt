@@ -11,7 +11,7 @@ use crate::state::State;
 use crate::targets::Turns;
 use crate::units::check_unit;
 use crate::world::World;
-use rb_trees::{Seq, Value};
+use rb_trees::{Seq, Value, copy_value};
 use std::alloc::Global;
 
 /// A turn of a loop begins.
@@ -42,11 +42,11 @@ pub fn print<W: World>(
     state: &State,
     world: &mut W,
     at: u32,
-    value: Value,
+    value: &Value,
 ) -> Result<(), End<W::Stop>>
-    ensures { AnyNames W.World (line_run at value) state.now world.old result state.now world.new }
+    ensures { AnyNames W.World (line_run at value.now) state.now world.old result state.now world.new }
 {
-    let line = lift(at, shown(alloc, &value))?;
+    let line = lift(at, shown(alloc, value))?;
     flat(world.line(at, line.as_slice()))
 }
 
@@ -64,13 +64,16 @@ pub fn invoke<W: World>(
     state: &State,
     world: &mut W,
     at: u32,
-    target: Value,
+    target: &Value,
     name: &[u8],
     args: Seq<Value>,
 ) -> Result<Value, End<W::Stop>>
-    ensures { AnyNames W.World (invoked_run at target name.now args) state.now world.old result state.now world.new }
+    ensures { AnyNames W.World (invoked_run at target.now name.now args) state.now world.old result state.now world.new }
 {
-    flat(world.invoke(at, target, name, args))
+    match copy_value(target) {
+        Ok(target) => flat(world.invoke(at, target, name, args)),
+        Err(_) => Err(End::NoMemory),
+    }
 }
 
 /// A batch, which is lent the state and the names.

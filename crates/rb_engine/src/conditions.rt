@@ -18,7 +18,8 @@ use crate::operators::{bool_text, number_text, text_value};
 use rb_trees::{Fault, Memory, Raised, Seq, Value, Word, copy_word, fault_codes};
 use std::alloc::Global;
 
-fn truth_in(alloc: Global, value: &Value) -> Result<bool, Failure>
+/// The truth of a condition's value: `truth_of`.
+pub fn truth_in(alloc: Global, value: &Value) -> Result<bool, Failure>
     ensures gives { Gives (λ holds. holds) fault_of result (rules.truth_of (out-Value value.now)) }
     ensures memory { NeverWants result }
 {
@@ -28,21 +29,13 @@ fn truth_in(alloc: Global, value: &Value) -> Result<bool, Failure>
     }
 }
 
-/// The truth of a condition: `truth_of`.
+/// The truth of a condition's value, which is let go: `truth_of`.
 #[inline(never)]
 pub fn truth_of(alloc: Global, value: Value) -> Result<bool, Failure>
     ensures gives { Gives (λ holds. holds) fault_of result (rules.truth_of (out-Value value)) }
     ensures memory { NeverWants result }
 {
     truth_in(alloc, &value)
-}
-
-/// The fault that `throw` ends by: `throws`.
-#[inline(never)]
-pub fn thrown(alloc: Global, value: Value) -> Result<(), Failure>
-    ensures { Gives (λ u. u) fault_of result (Err (rules.throws (out-Value value))) }
-{
-    thrown_in(alloc, &value)
 }
 
 /// Whether a value is remote.
@@ -55,7 +48,9 @@ pub fn is_remote(value: &Value) -> bool
     }
 }
 
-fn thrown_in(alloc: Global, value: &Value) -> Result<(), Failure>
+/// The fault that `throw` ends by: `throws`.
+#[inline(never)]
+pub fn thrown(alloc: Global, value: &Value) -> Result<(), Failure>
     ensures { Gives (λ u. u) fault_of result (Err (rules.throws (out-Value value.now))) }
 {
     match value {

@@ -1,12 +1,12 @@
 // Performs the statements that have blocks.
 
-ghost use Rattle.rb_engine.specs.Code.{if_run, while_run, for_run, turns_run, try_run};
-ghost use Rattle.rb_engine.specs.Worlds.{Effects};
+ghost use Rattle.rb_engine.specs.Code.{truth_run, if_run, while_run, for_run, turns_run, try_run};
+ghost use Rattle.rb_engine.specs.Worlds.{Effects, Values};
 
 use crate::asking::begin_turn;
-use crate::conditions::{bind_caught, is_caught, truth_of};
+use crate::conditions::{bind_caught, is_caught, truth_in};
 use crate::ends::{End, lift};
-use crate::expressions::value_of;
+use crate::expressions::{operand_of, operator_value};
 use crate::frame::Frame;
 use crate::names::bind_copy;
 use crate::state::State;
@@ -15,8 +15,44 @@ use crate::targets::{Turns, turns_of};
 use crate::units::check_unit;
 use crate::world::World;
 use rb_code::Code;
-use rb_trees::{Expr, Seq, Stmt, Value, Word};
+use rb_trees::{Expr, ExprForm, Seq, Stmt, Value, Word};
 use std::alloc::Global;
+
+// The truth of a condition.
+#[cycle(running)]
+#[inline(never)]
+fn truth_at<W: World>(
+    alloc: Global,
+    code: &Code,
+    state: &mut State,
+    frame: &Frame,
+    world: &mut W,
+    at: u32,
+    condition: &Expr,
+) -> Result<bool, End<W::Stop>>
+    ensures { Values W.World (truth_run code.now at condition.now) frame.now state.old world.old result state.new world.new }
+{
+    match &condition.form {
+        ExprForm::Binary(op, a, b) => {
+            let value = operator_value(
+                alloc,
+                code,
+                state,
+                frame,
+                world,
+                condition.at,
+                *op,
+                a.get(),
+                b.get(),
+            )?;
+            lift(at, truth_in(alloc, &value))
+        }
+        _ => {
+            let value = operand_of(alloc, code, state, frame, world, condition)?;
+            lift(at, truth_in(alloc, value.get()))
+        }
+    }
+}
 
 /// An `if`.
 #[cycle(running)]
@@ -34,8 +70,7 @@ pub fn run_if<W: World>(
 ) -> Result<(), End<W::Stop>>
     ensures { Effects W.World (if_run code.now at condition.now yes.now no.now) frame.old state.old world.old result frame.new state.new world.new }
 {
-    let value = value_of(alloc, code, state, frame, world, condition)?;
-    let holds = lift(at, truth_of(alloc, value))?;
+    let holds = truth_at(alloc, code, state, frame, world, at, condition)?;
     let count = frame.len();
     if holds {
         return run_scope(alloc, code, state, frame, world, count, yes);
@@ -59,8 +94,7 @@ pub fn run_while<W: World>(
     ensures { Effects W.World (while_run code.now at condition.now block.now) frame.old state.old world.old result frame.new state.new world.new }
 {
     'turns: loop {
-        let value = value_of(alloc, code, state, frame, world, condition)?;
-        let holds = lift(at, truth_of(alloc, value))?;
+        let holds = truth_at(alloc, code, state, frame, world, at, condition)?;
         if !holds {
             return Ok(());
         }
@@ -87,8 +121,9 @@ pub fn run_for<W: World>(
 ) -> Result<(), End<W::Stop>>
     ensures { Effects W.World (for_run code.now at name.now list.now block.now) frame.old state.old world.old result frame.new state.new world.new }
 {
-    let value = value_of(alloc, code, state, frame, world, list)?;
-    let (turns, values) = lift(at, turns_of(alloc, value))?;
+    let value = operand_of(alloc, code, state, frame, world, list)?;
+    let (turns, values) = lift(at, turns_of(alloc, value.get()))?;
+    drop(value);
     let values = values.get().as_slice();
     run_turns(
         alloc, code, state, frame, world, at, turns, name, values, block,

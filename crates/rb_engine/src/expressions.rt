@@ -13,8 +13,9 @@ use crate::ends::{End, lift};
 use crate::frame::Frame;
 use crate::names::{add, copied, named_value};
 use crate::objects::{construct, read_field};
-use crate::operators::unary;
-use crate::pairs::{binary, by_left, item_of, list_of};
+use crate::operand::{Operand, lent};
+use crate::operators::on_one;
+use crate::pairs::{by_left, item_of, list_of, on_two};
 use crate::state::State;
 use crate::world::World;
 use rb_code::Code;
@@ -68,6 +69,28 @@ pub fn value_of<W: World>(
     }
 }
 
+/// The value of an operand: lent where it stands already, and evaluated otherwise.
+#[cycle(running)]
+#[inline(always)]
+pub fn operand_of<'a, W: World>(
+    alloc: Global,
+    code: &Code,
+    state: &mut State,
+    frame: &'a Frame,
+    world: &mut W,
+    expr: &'a Expr,
+) -> Result<Operand<'a>, End<W::Stop>>
+    ensures { Values W.World (value_run code.now expr.now) frame.now state.old world.old result state.new world.new }
+{
+    match lent(frame, expr) {
+        Some(value) => Ok(Operand::lent(value)),
+        None => {
+            let value = value_of(alloc, code, state, frame, world, expr)?;
+            Ok(Operand::made(value))
+        }
+    }
+}
+
 // The value of an operator on one operand.
 #[cycle(running)]
 #[inline(never)]
@@ -83,11 +106,38 @@ fn unary_value<W: World>(
 ) -> Result<Value, End<W::Stop>>
     ensures { Values W.World (unary_run code.now at op a.now) frame.now state.old world.old result state.new world.new }
 {
-    let value = value_of(alloc, code, state, frame, world, a)?;
-    lift(at, unary(alloc, op, value))
+    let value = operand_of(alloc, code, state, frame, world, a)?;
+    lift(at, on_one(alloc, op, value.get()))
 }
 
-// The value of an operator on two operands, where the left one may decide.
+/// The value of an operator on two operands, where the left one may decide.
+#[cycle(running)]
+#[inline(always)]
+pub fn operator_value<W: World>(
+    alloc: Global,
+    code: &Code,
+    state: &mut State,
+    frame: &Frame,
+    world: &mut W,
+    at: u32,
+    op: BinOp,
+    a: &Expr,
+    b: &Expr,
+) -> Result<Value, End<W::Stop>>
+    ensures { Values W.World (binary_run code.now at op a.now b.now) frame.now state.old world.old result state.new world.new }
+{
+    let left = operand_of(alloc, code, state, frame, world, a)?;
+    let decided = lift(at, by_left(alloc, op, left.get()))?;
+    match decided {
+        Some(value) => Ok(value),
+        None => {
+            let right = operand_of(alloc, code, state, frame, world, b)?;
+            lift(at, on_two(alloc, op, left.get(), right.get()))
+        }
+    }
+}
+
+// The same, with a place of its own on the machine's stack.
 #[cycle(running)]
 #[inline(never)]
 fn binary_value<W: World>(
@@ -103,15 +153,7 @@ fn binary_value<W: World>(
 ) -> Result<Value, End<W::Stop>>
     ensures { Values W.World (binary_run code.now at op a.now b.now) frame.now state.old world.old result state.new world.new }
 {
-    let left = value_of(alloc, code, state, frame, world, a)?;
-    let decided = lift(at, by_left(alloc, op, &left))?;
-    match decided {
-        Some(value) => Ok(value),
-        None => {
-            let right = value_of(alloc, code, state, frame, world, b)?;
-            lift(at, binary(alloc, op, left, right))
-        }
-    }
+    operator_value(alloc, code, state, frame, world, at, op, a, b)
 }
 
 // The value of a field.
@@ -129,8 +171,11 @@ fn field_value<W: World>(
 ) -> Result<Value, End<W::Stop>>
     ensures { Values W.World (field_run code.now at a.now name.now) frame.now state.old world.old result state.new world.new }
 {
-    let object = value_of(alloc, code, state, frame, world, a)?;
-    lift(at, read_field(alloc, &state.heap, object, name.as_slice()))
+    let object = operand_of(alloc, code, state, frame, world, a)?;
+    lift(
+        at,
+        read_field(alloc, &state.heap, object.get(), name.as_slice()),
+    )
 }
 
 // An item of a list.
@@ -148,9 +193,9 @@ fn item_value<W: World>(
 ) -> Result<Value, End<W::Stop>>
     ensures { Values W.World (item_run code.now at a.now b.now) frame.now state.old world.old result state.new world.new }
 {
-    let list = value_of(alloc, code, state, frame, world, a)?;
-    let index = value_of(alloc, code, state, frame, world, b)?;
-    lift(at, item_of(alloc, list, index))
+    let list = operand_of(alloc, code, state, frame, world, a)?;
+    let index = operand_of(alloc, code, state, frame, world, b)?;
+    lift(at, item_of(alloc, list.get(), index.get()))
 }
 
 // A new object.
@@ -206,10 +251,10 @@ fn called_value<W: World>(
 ) -> Result<Value, End<W::Stop>>
     ensures { Values W.World (called_run code.now at receiver.now name.now args.now) frame.now state.old world.old result state.new world.new }
 {
-    let target = value_of(alloc, code, state, frame, world, receiver)?;
+    let target = operand_of(alloc, code, state, frame, world, receiver)?;
     let values = values_of(alloc, code, state, frame, world, args.as_slice())?;
-    if is_remote(&target) {
-        return invoke(state, world, at, target, name.as_slice(), values);
+    if is_remote(target.get()) {
+        return invoke(state, world, at, target.get(), name.as_slice(), values);
     }
     call_method(
         alloc,
@@ -217,7 +262,7 @@ fn called_value<W: World>(
         state,
         world,
         at,
-        &target,
+        target.get(),
         name.as_slice(),
         &values,
     )

@@ -21,6 +21,7 @@ mod misses;
 mod names;
 mod numbers;
 mod objects;
+mod operand;
 mod operators;
 mod pairs;
 mod remote;

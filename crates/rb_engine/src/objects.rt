@@ -97,7 +97,8 @@ pub fn construct(
     place(alloc, heap, object)
 }
 
-fn field_in(alloc: Global, heap: &Heap, object: &Value, name: &[u8]) -> Result<Value, Failure>
+/// The value of an object's field: `field_of`.
+pub fn read_field(alloc: Global, heap: &Heap, object: &Value, name: &[u8]) -> Result<Value, Failure>
     ensures { Gives (λ v. v) fault_of result (objects.field_of heap.now (out-Value object.now) name.now) }
 {
     match object {
@@ -109,7 +110,9 @@ fn field_in(alloc: Global, heap: &Heap, object: &Value, name: &[u8]) -> Result<V
     }
 }
 
-fn write_into(
+/// Gives an object's field another value: `with_field_of`. After an error the heap is as it was.
+#[inline(never)]
+pub fn write_field(
     alloc: Global,
     heap: &mut Heap,
     object: &Value,
@@ -140,29 +143,6 @@ fn write_own(
         Ok(()) => Ok(()),
         Err(_value) => Err(kind(alloc)),
     }
-}
-
-/// The value of an object's field: `field_of`.
-#[inline(never)]
-pub fn read_field(alloc: Global, heap: &Heap, object: Value, name: &[u8]) -> Result<Value, Failure>
-    ensures { Gives (λ v. v) fault_of result (objects.field_of heap.now (out-Value object) name.now) }
-{
-    field_in(alloc, heap, &object, name)
-}
-
-/// Gives an object's field another value: `with_field_of`. After an error the heap is as it was.
-#[inline(never)]
-pub fn write_field(
-    alloc: Global,
-    heap: &mut Heap,
-    object: Value,
-    name: &[u8],
-    value: Value,
-) -> Result<(), Failure>
-    ensures gives { Gives (λ u. heap.new) fault_of result (with_field_of heap.old (out-Value object) name.now value) }
-    ensures kept { OnErr result (heap.new ≡ heap.old) }
-{
-    write_into(alloc, heap, &object, name, value)
 }
 
 /// The method of an object, by its name: `method_of`.

@@ -97,7 +97,8 @@ fn as_text(alloc: Global, a: &Value) -> Result<Value, Failure>
     }
 }
 
-fn on_one(alloc: Global, op: UnOp, a: &Value) -> Result<Value, Failure>
+/// What an operator on one operand gives: `on_one`.
+pub fn on_one(alloc: Global, op: UnOp, a: &Value) -> Result<Value, Failure>
     ensures gives { Gives (λ v. v) fault_of result (rules.on_one op (out-Value a.now)) }
     ensures memory { WantsOnlyWhere (one_makes op (out-Value a.now) ≡ true) result }
 {
@@ -109,7 +110,7 @@ fn on_one(alloc: Global, op: UnOp, a: &Value) -> Result<Value, Failure>
     }
 }
 
-/// What an operator on one operand gives: `on_one`.
+/// What an operator on one operand, which is let go, gives: `on_one`.
 #[inline(never)]
 pub fn unary(alloc: Global, op: UnOp, a: Value) -> Result<Value, Failure>
     ensures gives { Gives (λ v. v) fault_of result (rules.on_one op (out-Value a)) }

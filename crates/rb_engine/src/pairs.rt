@@ -107,21 +107,25 @@ fn numbers(a: &Value, b: &Value) -> Option<(i64, i64)>
     }
 }
 
-// What an operator gives on two numbers.
+// What an operator gives on two numbers: `number_rule`.
+#[inline]
 fn on_ints(alloc: Global, op: BinOp, a: i64, b: i64) -> Result<Value, Failure>
     ensures gives { Gives (λ v. v) fault_of result (number_rule op a b) }
     ensures memory { NeverWants result }
 {
     match op {
+        BinOp::Add => Ok(Value::Int(sum(a, b))),
         BinOp::Sub => Ok(Value::Int(difference(a, b))),
         BinOp::Mul => Ok(Value::Int(product(a, b))),
         BinOp::Div => quotient(alloc, a, b),
         BinOp::Rem => remainder(alloc, a, b),
+        BinOp::Eq => Ok(Value::Bool(a == b)),
+        BinOp::Ne => Ok(Value::Bool(a != b)),
         BinOp::Lt => Ok(Value::Bool(a < b)),
         BinOp::Le => Ok(Value::Bool(a <= b)),
         BinOp::Gt => Ok(Value::Bool(b < a)),
         BinOp::Ge => Ok(Value::Bool(b <= a)),
-        BinOp::Add | BinOp::Eq | BinOp::Ne | BinOp::And | BinOp::Or => Err(kind(alloc)),
+        BinOp::And | BinOp::Or => Err(kind(alloc)),
     }
 }
 
@@ -156,7 +160,21 @@ fn both_or_either(op: BinOp, a: bool, b: bool) -> bool
     }
 }
 
-fn on_two(alloc: Global, op: BinOp, a: &Value, b: &Value) -> Result<Value, Failure>
+/// What an operator on two operands gives: `on_two`. Most operands are numbers, so they come first.
+#[inline]
+pub fn on_two(alloc: Global, op: BinOp, a: &Value, b: &Value) -> Result<Value, Failure>
+    ensures gives { Gives (λ v. v) fault_of result (rules.on_two op (out-Value a.now) (out-Value b.now)) }
+    ensures memory { WantsOnlyWhere (two_make op (out-Value a.now) (out-Value b.now) ≡ true) result }
+{
+    match (a, b) {
+        (Value::Int(x), Value::Int(y)) => on_ints(alloc, op, *x, *y),
+        _ => on_values(alloc, op, a, b),
+    }
+}
+
+// What an operator on two operands gives, whatever they are: `on_two`.
+#[inline(never)]
+fn on_values(alloc: Global, op: BinOp, a: &Value, b: &Value) -> Result<Value, Failure>
     ensures gives { Gives (λ v. v) fault_of result (rules.on_two op (out-Value a.now) (out-Value b.now)) }
     ensures memory { WantsOnlyWhere (two_make op (out-Value a.now) (out-Value b.now) ≡ true) result }
 {
@@ -177,7 +195,7 @@ fn on_two(alloc: Global, op: BinOp, a: &Value, b: &Value) -> Result<Value, Failu
 }
 
 /// The value that the left operand decides alone, or None where the right one counts too: `by_left`.
-#[inline(never)]
+#[inline]
 pub fn by_left(alloc: Global, op: BinOp, a: &Value) -> Result<Option<Value>, Failure>
     ensures gives { Gives (λ v. v) fault_of result (rules.by_left op (out-Value a.now)) }
     ensures memory { NeverWants result }
@@ -189,6 +207,7 @@ pub fn by_left(alloc: Global, op: BinOp, a: &Value) -> Result<Option<Value>, Fai
     }
 }
 
+#[inline(never)]
 fn conjunct(alloc: Global, a: &Value) -> Result<Option<Value>, Failure>
     ensures gives { Gives (λ v. v) fault_of result (rules.conjunct (out-Value a.now)) }
     ensures memory { NeverWants result }
@@ -200,6 +219,7 @@ fn conjunct(alloc: Global, a: &Value) -> Result<Option<Value>, Failure>
     }
 }
 
+#[inline(never)]
 fn disjunct(alloc: Global, a: &Value) -> Result<Option<Value>, Failure>
     ensures gives { Gives (λ v. v) fault_of result (rules.disjunct (out-Value a.now)) }
     ensures memory { NeverWants result }
@@ -211,7 +231,8 @@ fn disjunct(alloc: Global, a: &Value) -> Result<Option<Value>, Failure>
     }
 }
 
-fn indexed(alloc: Global, list: &Value, index: &Value) -> Result<Value, Failure>
+/// An item of a list: `indexed`.
+pub fn item_of(alloc: Global, list: &Value, index: &Value) -> Result<Value, Failure>
     ensures { Gives (λ v. v) fault_of result (places.indexed (out-Value list.now) (out-Value index.now)) }
 {
     match (list, index) {
@@ -243,19 +264,11 @@ pub fn list_of(alloc: Global, items: Seq<Value>) -> Result<Value, Failure>
     Ok(Value::List(Shared::new(alloc, items)?))
 }
 
-/// What an operator on two operands gives: `on_two`.
+/// What an operator on two operands, which are let go, gives: `on_two`.
 #[inline(never)]
 pub fn binary(alloc: Global, op: BinOp, a: Value, b: Value) -> Result<Value, Failure>
     ensures gives { Gives (λ v. v) fault_of result (rules.on_two op (out-Value a) (out-Value b)) }
     ensures memory { WantsOnlyWhere (two_make op (out-Value a) (out-Value b) ≡ true) result }
 {
     on_two(alloc, op, &a, &b)
-}
-
-/// An item of a list: `indexed`.
-#[inline(never)]
-pub fn item_of(alloc: Global, list: Value, index: Value) -> Result<Value, Failure>
-    ensures { Gives (λ v. v) fault_of result (places.indexed (out-Value list) (out-Value index)) }
-{
-    indexed(alloc, &list, &index)
 }

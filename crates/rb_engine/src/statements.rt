@@ -7,7 +7,7 @@ use crate::asking::{perform_batch, print};
 use crate::conditions::thrown;
 use crate::control::{run_for, run_if, run_try, run_while};
 use crate::ends::{End, lift};
-use crate::expressions::value_of;
+use crate::expressions::{operand_of, value_of};
 use crate::faults::kind;
 use crate::frame::Frame;
 use crate::names::{bind, set_name};
@@ -143,8 +143,8 @@ fn run_print<W: World>(
 ) -> Result<(), End<W::Stop>>
     ensures { Effects W.World (print_run code.now at expr.now) frame.old state.old world.old result frame.new state.new world.new }
 {
-    let value = value_of(alloc, code, state, frame, world, expr)?;
-    print(alloc, state, world, at, value)
+    let value = operand_of(alloc, code, state, frame, world, expr)?;
+    print(alloc, state, world, at, value.get())
 }
 
 // A `throw`.
@@ -161,8 +161,8 @@ fn run_throw<W: World>(
 ) -> Result<(), End<W::Stop>>
     ensures { Effects W.World (throw_run code.now at expr.now) frame.old state.old world.old result frame.new state.new world.new }
 {
-    let value = value_of(alloc, code, state, frame, world, expr)?;
-    lift(at, thrown(alloc, value))
+    let value = operand_of(alloc, code, state, frame, world, expr)?;
+    lift(at, thrown(alloc, value.get()))
 }
 
 // An assignment to a name or a field.
@@ -186,11 +186,11 @@ fn assign<W: World>(
             lift(left.at, set_name(alloc, frame, name.as_slice(), value))
         }
         LeftSide::Field(object, name) => {
-            let target = value_of(alloc, code, state, frame, world, object)?;
+            let target = operand_of(alloc, code, state, frame, world, object)?;
             let value = value_of(alloc, code, state, frame, world, right)?;
             lift(
                 left.at,
-                write_field(alloc, &mut state.heap, target, name.as_slice(), value),
+                write_field(alloc, &mut state.heap, target.get(), name.as_slice(), value),
             )
         }
         LeftSide::Other => lift(at, Err(kind(alloc))),

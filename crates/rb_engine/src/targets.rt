@@ -47,8 +47,10 @@ pub enum Turns {
     Rows,
 }
 
+/// The values that a loop goes over, which are a list's or rows.
 #[tactic(auto, using(crate::proofs::Values::values))]
-fn turns_in(alloc: Global, value: &Value) -> Result<(Turns, Shared<Seq<Value>>), Failure>
+#[inline(never)]
+pub fn turns_of(alloc: Global, value: &Value) -> Result<(Turns, Shared<Seq<Value>>), Failure>
     ensures { Gives (λ turns. turns) fault_of result (turns_form (out-Value value.now)) }
 {
     match value {
@@ -56,12 +58,4 @@ fn turns_in(alloc: Global, value: &Value) -> Result<(Turns, Shared<Seq<Value>>),
         Value::Rows(rows) => Ok((Turns::Rows, rows.share()?)),
         _ => Err(kind(alloc)),
     }
-}
-
-/// The values that a loop goes over, which are a list's or rows.
-#[inline(never)]
-pub fn turns_of(alloc: Global, value: Value) -> Result<(Turns, Shared<Seq<Value>>), Failure>
-    ensures { Gives (λ turns. turns) fault_of result (turns_form (out-Value value)) }
-{
-    turns_in(alloc, &value)
 }

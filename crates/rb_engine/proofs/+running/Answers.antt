@@ -1,19 +1,20 @@
 -- How each step of the engine follows what code means.
 use Rattle.std.proofs.Common.{rules, arith, ap, sym, ◌∙◌, Ok, Err, ◌≡◌, refl, [], ◌∷◌, map, append-nil}
-use Rattle.std.specs.Option.{option_map}
+use Rattle.std.specs.Option.{option_copied, option_map}
 use Rattle.rb_engine.specs.declared.ends.End.TheVariants.{NoMemory}
 use Rattle.rb_trees.specs.declared.values.Value.{out-Value}
 use Rattle.rb_trees.specs.mirror.Code.{mirror_expr}
 use Rattle.rb_trees.specs.mirror.Declarations.{mirror_class, mirror_method, mirror_body}
 use Rattle.rb_meaning_code.specs.State.{spent}
-use Rattle.rb_meaning_code.specs.Statements.{truth_of, throws, block, while_turns}
+use Rattle.rb_meaning_code.specs.Statements.{either, truth_of, throws, block, while_turns}
 use Rattle.rb_engine.specs.Code.{bodies, value_run, stmts_run}
 use Rattle.rb_engine.specs.Ends.{lifted}
 use Rattle.rb_engine.specs.Locals.{local}
-use Rattle.rb_engine.proofs.Blocks.{call_returns, try_fine, try_passed, try_handled, while_false, while_true, while_unclear, while_fails, unit_taken, unit_wasted, unit_missing, turn_more}
+use Rattle.rb_engine.proofs.Blocks.{by_its_truth, call_returns, try_fine, try_passed, try_handled, while_false, while_true, while_fails, unit_taken, unit_wasted, unit_missing, turn_more}
 use Rattle.rb_engine.proofs.Forms.{lit_form, name_form, this_form, unary_form, binary_form, field_form, call_form, index_form, new_form, items_form, taken_form, val_form, var_form, assign_form, run_form, print_form, throw_form, if_form, while_form, for_form, try_form, batch_form}
+use Rattle.rb_engine.proofs.Lent.{lent_run}
 use Rattle.rb_engine.proofs.Loops.{leads_to_itself, values_begin, leads_far, one_value, no_value, no_more_values, with_value, one_effect, no_effect, no_more_effects, plain_block, bound_block, one_turn, no_turn, half_turn, no_more_turns}
-use Rattle.rb_engine.proofs.Parts.{expr_run, statement_run, remote_called, own_called, turns_by_form, name_written, field_written, nothing_assigned, fuel_left, depth_left}
+use Rattle.rb_engine.proofs.Parts.{expr_run, truth_by_form, statement_run, remote_called, own_called, turns_by_form, name_written, field_written, nothing_assigned, fuel_left, depth_left}
 use Rattle.rb_engine.proofs.Runs.{gave, cut, at_run, by_result, ended, stands, no_memory, sequel_of_stop, fixed, unfixed}
 use Rattle.rb_engine.proofs.Steps.{ok_means, helped, unhelped, unhelped_at, helped_end, changed, given, bound_after, closes_after, want}
 use Rattle.rb_engine.proofs.Weight.{room, expr_weight, stmt_weight, body_weight, weight_of, weights_of, effect_of, effects_of, expr_in, stmt_in, object_light, method_light, room_falls, result_weight}
@@ -73,47 +74,56 @@ expressions::value_of-list_value-requires g t c κs within = (let w = ap expr_we
 pub expressions::value_of-returns-in-Items : goal.expressions::value_of-returns-in-Items
 expressions::value_of-returns-in-Items g t c = expr_run _ c.args.expr.now (items_form c.args.expr.now _ _ c.in-Items.is) c.list_value.ensures
 
+pub expressions::operand_of-returns-in-Some : goal.expressions::operand_of-returns-in-Some
+expressions::operand_of-returns-in-Some g t c = by_result (ap Ok c.lent-in-Some.ensures) (lent_run c.args.code.now c.args.expr.now c.in-Some.value.now (sym c.lent.ensures ∙ ap option_copied c.in-Some.is))
+
+pub expressions::operand_of-returns-in_err-value-in-None : goal.expressions::operand_of-returns-in_err-value-in-None
+expressions::operand_of-returns-in_err-value-in-None g t c = by_result (search rules) (by_result (sym c.in_err-value-in-None.was) c.value_of.ensures)
+
+pub expressions::operand_of-returns-in_ok-value-in-None : goal.expressions::operand_of-returns-in_ok-value-in-None
+expressions::operand_of-returns-in_ok-value-in-None g t c = by_result (ap Ok c.made.ensures ∙ sym c.in_ok-value-in-None.was) c.value_of.ensures
+
 pub expressions::unary_value-returns-in_err-value : goal.expressions::unary_value-returns-in_err-value
-expressions::unary_value-returns-in_err-value g t c = cut _ c.value_of.ensures c.in_err-value.was (search rules)
+expressions::unary_value-returns-in_err-value g t c = cut _ c.operand_of.ensures c.in_err-value.was (search rules)
 
 pub expressions::unary_value-returns : goal.expressions::unary_value-returns
-expressions::unary_value-returns g t c = gave _ c.value_of.ensures c.in_ok-value.was (helped_end _ _ _ c.unary.ensures.gives c.lift.ensures)
+expressions::unary_value-returns g t c = gave _ c.operand_of.ensures c.in_ok-value.was (helped_end _ _ _ (rw c.get.ensures at c.on_one.ensures.gives) c.lift.ensures)
 
-pub expressions::binary_value-returns-in_err-left : goal.expressions::binary_value-returns-in_err-left
-expressions::binary_value-returns-in_err-left g t c = cut _ c.value_of.ensures c.in_err-left.was (search rules)
+pub expressions::operator_value-returns-in_err-left : goal.expressions::operator_value-returns-in_err-left
+expressions::operator_value-returns-in_err-left g t c = cut _ c.operand_of.ensures c.in_err-left.was (search rules)
 
-pub expressions::binary_value-returns-in_err-decided : goal.expressions::binary_value-returns-in_err-decided
-expressions::binary_value-returns-in_err-decided g t c = gave _ c.value_of.ensures c.in_ok-left.was (unhelped (λ v. v) c.args.at c.by_left.result _ _ c.by_left.ensures.gives c.lift.ensures c.in_err-decided.was (search rules))
+pub expressions::operator_value-returns-in_err-decided : goal.expressions::operator_value-returns-in_err-decided
+expressions::operator_value-returns-in_err-decided g t c = gave _ c.operand_of.ensures c.in_ok-left.was (unhelped (λ v. v) c.args.at c.by_left.result _ _ (rw c.get.ensures at c.by_left.ensures.gives) c.lift.ensures c.in_err-decided.was (search rules))
 
-pub expressions::binary_value-returns-in-Some : goal.expressions::binary_value-returns-in-Some
-expressions::binary_value-returns-in-Some g t c = gave _ c.value_of.ensures c.in_ok-left.was (helped (λ v. v) c.args.at c.by_left.result _ _ _ c.by_left.ensures.gives c.lift.ensures (c.in_ok-decided.was ∙ ap Ok c.in-Some.is) (ended _))
+pub expressions::operator_value-returns-in-Some : goal.expressions::operator_value-returns-in-Some
+expressions::operator_value-returns-in-Some g t c = gave _ c.operand_of.ensures c.in_ok-left.was (helped (λ v. v) c.args.at c.by_left.result _ _ _ (rw c.get.ensures at c.by_left.ensures.gives) c.lift.ensures (c.in_ok-decided.was ∙ ap Ok c.in-Some.is) (ended _))
 
-pub expressions::binary_value-value_of-requires-in-None : goal.expressions::binary_value-value_of-requires-in-None
-expressions::binary_value-value_of-requires-in-None g t c κs within = (let d = ap (room (map mirror_class c.args.code.now)) c.value_of.ensures.depth in omega arith, within)
+pub expressions::operator_value-operand_of-requires-in-None : goal.expressions::operator_value-operand_of-requires-in-None
+expressions::operator_value-operand_of-requires-in-None g t c κs within = (let d = ap (room (map mirror_class c.args.code.now)) c.operand_of.ensures.depth in omega arith, within)
 
-pub expressions::binary_value-returns-in_err-right-in-None : goal.expressions::binary_value-returns-in_err-right-in-None
-expressions::binary_value-returns-in_err-right-in-None g t c = gave _ c.value_of.ensures c.in_ok-left.was (helped (λ v. v) c.args.at c.by_left.result _ _ _ c.by_left.ensures.gives c.lift.ensures (c.in_ok-decided.was ∙ ap Ok c.in-None.is) (cut _ c.value_of-in-None.ensures c.in_err-right-in-None.was (search rules)))
+pub expressions::operator_value-returns-in_err-right-in-None : goal.expressions::operator_value-returns-in_err-right-in-None
+expressions::operator_value-returns-in_err-right-in-None g t c = gave _ c.operand_of.ensures c.in_ok-left.was (helped (λ v. v) c.args.at c.by_left.result _ _ _ (rw c.get.ensures at c.by_left.ensures.gives) c.lift.ensures (c.in_ok-decided.was ∙ ap Ok c.in-None.is) (cut _ c.operand_of-in-None.ensures c.in_err-right-in-None.was (search rules)))
 
-pub expressions::binary_value-returns-in_ok-right-in-None : goal.expressions::binary_value-returns-in_ok-right-in-None
-expressions::binary_value-returns-in_ok-right-in-None g t c = gave _ c.value_of.ensures c.in_ok-left.was (helped (λ v. v) c.args.at c.by_left.result _ _ _ c.by_left.ensures.gives c.lift.ensures (c.in_ok-decided.was ∙ ap Ok c.in-None.is) (gave _ c.value_of-in-None.ensures c.in_ok-right-in-None.was (helped_end _ _ _ c.binary.ensures.gives c.lift-in-None.ensures)))
+pub expressions::operator_value-returns : goal.expressions::operator_value-returns
+expressions::operator_value-returns g t c = gave _ c.operand_of.ensures c.in_ok-left.was (helped (λ v. v) c.args.at c.by_left.result _ _ _ (rw c.get.ensures at c.by_left.ensures.gives) c.lift.ensures (c.in_ok-decided.was ∙ ap Ok c.in-None.is) (gave _ c.operand_of-in-None.ensures c.in_ok-right-in-None.was (helped_end _ _ _ (rw (c.get-in-None.ensures, c.get-in-None-2.ensures) at c.on_two.ensures.gives) c.lift-in-None.ensures)))
 
 pub expressions::field_value-returns-in_err-object : goal.expressions::field_value-returns-in_err-object
-expressions::field_value-returns-in_err-object g t c = cut _ c.value_of.ensures c.in_err-object.was (search rules)
+expressions::field_value-returns-in_err-object g t c = cut _ c.operand_of.ensures c.in_err-object.was (search rules)
 
 pub expressions::field_value-returns : goal.expressions::field_value-returns
-expressions::field_value-returns g t c = gave _ c.value_of.ensures c.in_ok-object.was (rw (← c.as_slice.ensures) (helped_end _ _ _ c.read_field.ensures c.lift.ensures))
+expressions::field_value-returns g t c = gave _ c.operand_of.ensures c.in_ok-object.was (rw (← c.as_slice.ensures) (helped_end _ _ _ (rw c.get.ensures at c.read_field.ensures) c.lift.ensures))
 
 pub expressions::item_value-returns-in_err-list : goal.expressions::item_value-returns-in_err-list
-expressions::item_value-returns-in_err-list g t c = cut _ c.value_of.ensures c.in_err-list.was (search rules)
+expressions::item_value-returns-in_err-list g t c = cut _ c.operand_of.ensures c.in_err-list.was (search rules)
 
-pub expressions::item_value-value_of-requires-2 : goal.expressions::item_value-value_of-requires-2
-expressions::item_value-value_of-requires-2 g t c κs within = (let d = ap (room (map mirror_class c.args.code.now)) c.value_of.ensures.depth in omega arith, within)
+pub expressions::item_value-operand_of-requires-2 : goal.expressions::item_value-operand_of-requires-2
+expressions::item_value-operand_of-requires-2 g t c κs within = (let d = ap (room (map mirror_class c.args.code.now)) c.operand_of.ensures.depth in omega arith, within)
 
 pub expressions::item_value-returns-in_err-index : goal.expressions::item_value-returns-in_err-index
-expressions::item_value-returns-in_err-index g t c = gave _ c.value_of.ensures c.in_ok-list.was (cut _ c.value_of-2.ensures c.in_err-index.was (search rules))
+expressions::item_value-returns-in_err-index g t c = gave _ c.operand_of.ensures c.in_ok-list.was (cut _ c.operand_of-2.ensures c.in_err-index.was (search rules))
 
 pub expressions::item_value-returns : goal.expressions::item_value-returns
-expressions::item_value-returns g t c = gave _ c.value_of.ensures c.in_ok-list.was (gave _ c.value_of-2.ensures c.in_ok-index.was (helped_end _ _ _ c.item_of.ensures c.lift.ensures))
+expressions::item_value-returns g t c = gave _ c.operand_of.ensures c.in_ok-list.was (gave _ c.operand_of-2.ensures c.in_ok-index.was (helped_end _ _ _ (rw (c.get.ensures, c.get-2.ensures) at c.item_of.ensures) c.lift.ensures))
 
 pub expressions::new_value-values_of-requires : goal.expressions::new_value-values_of-requires
 expressions::new_value-values_of-requires g t c κs within = (let e = ap weights_of c.as_slice.ensures in omega arith, within)
@@ -134,22 +144,22 @@ pub expressions::list_value-returns : goal.expressions::list_value-returns
 expressions::list_value-returns g t c = rw (← c.as_slice.ensures) (gave _ c.values_of.ensures c.in_ok-values.was (helped_end _ _ _ c.list_of.ensures c.lift.ensures))
 
 pub expressions::called_value-returns-in_err-target : goal.expressions::called_value-returns-in_err-target
-expressions::called_value-returns-in_err-target g t c = cut _ c.value_of.ensures c.in_err-target.was (search rules)
+expressions::called_value-returns-in_err-target g t c = cut _ c.operand_of.ensures c.in_err-target.was (search rules)
 
 pub expressions::called_value-values_of-requires : goal.expressions::called_value-values_of-requires
-expressions::called_value-values_of-requires g t c κs within = (let d = ap (room (map mirror_class c.args.code.now)) c.value_of.ensures.depth in let e = ap weights_of c.as_slice.ensures in omega arith, within)
+expressions::called_value-values_of-requires g t c κs within = (let d = ap (room (map mirror_class c.args.code.now)) c.operand_of.ensures.depth in let e = ap weights_of c.as_slice.ensures in omega arith, within)
 
 pub expressions::called_value-returns-in_err-values : goal.expressions::called_value-returns-in_err-values
-expressions::called_value-returns-in_err-values g t c = rw (← c.as_slice.ensures) (gave _ c.value_of.ensures c.in_ok-target.was (cut _ c.values_of.ensures c.in_err-values.was (search rules)))
+expressions::called_value-returns-in_err-values g t c = rw (← c.as_slice.ensures) (gave _ c.operand_of.ensures c.in_ok-target.was (cut _ c.values_of.ensures c.in_err-values.was (search rules)))
 
 pub expressions::called_value-returns-then-is_remote : goal.expressions::called_value-returns-then-is_remote
-expressions::called_value-returns-then-is_remote g t c = rw (← c.as_slice.ensures) (gave _ c.value_of.ensures c.in_ok-target.was (gave _ c.values_of.ensures c.in_ok-values.was (at_run (λ gas. remote_called (bodies c.args.code.now gas) c.args.at c.in_ok-target.target (out-Value c.in_ok-target.target) c.args.name.now c.in_ok-values.values (local c.args.frame.now c.values_of.new.state) (sym c.is_remote.ensures ∙ c.if-is_remote.true)) (rw (← c.as_slice-then-is_remote.ensures) (c.invoke.ensures c.args.frame.now)))))
+expressions::called_value-returns-then-is_remote g t c = rw (← c.as_slice.ensures) (gave _ c.operand_of.ensures c.in_ok-target.was (gave _ c.values_of.ensures c.in_ok-values.was (at_run (λ gas. remote_called (bodies c.args.code.now gas) c.args.at c.in_ok-target.target (out-Value c.in_ok-target.target) c.args.name.now c.in_ok-values.values (local c.args.frame.now c.values_of.new.state) (rw c.get.ensures at (sym c.is_remote.ensures ∙ c.if-is_remote.true))) (rw (← c.as_slice-then-is_remote.ensures, ← c.get-then-is_remote.ensures) (c.invoke.ensures c.args.frame.now)))))
 
 pub expressions::called_value-call_method-requires : goal.expressions::called_value-call_method-requires
-expressions::called_value-call_method-requires g t c κs within = (let d = ap (room (map mirror_class c.args.code.now)) (c.values_of.ensures.depth ∙ c.value_of.ensures.depth) in omega arith, within)
+expressions::called_value-call_method-requires g t c κs within = (let d = ap (room (map mirror_class c.args.code.now)) (c.values_of.ensures.depth ∙ c.operand_of.ensures.depth) in omega arith, within)
 
 pub expressions::called_value-returns : goal.expressions::called_value-returns
-expressions::called_value-returns g t c = rw (← c.as_slice.ensures) (gave _ c.value_of.ensures c.in_ok-target.was (gave _ c.values_of.ensures c.in_ok-values.was (at_run (λ gas. own_called (bodies c.args.code.now gas) c.args.at c.in_ok-target.target (out-Value c.in_ok-target.target) c.args.name.now c.in_ok-values.values (local c.args.frame.now c.values_of.new.state) (sym c.is_remote.ensures ∙ c.if-is_remote.false)) (rw (← c.as_slice-2.ensures) (c.call_method.ensures c.args.frame.now)))))
+expressions::called_value-returns g t c = rw (← c.as_slice.ensures) (gave _ c.operand_of.ensures c.in_ok-target.was (gave _ c.values_of.ensures c.in_ok-values.was (at_run (λ gas. own_called (bodies c.args.code.now gas) c.args.at c.in_ok-target.target (out-Value c.in_ok-target.target) c.args.name.now c.in_ok-values.values (local c.args.frame.now c.values_of.new.state) (rw c.get.ensures at (sym c.is_remote.ensures ∙ c.if-is_remote.false))) (rw (← c.as_slice-2.ensures, ← c.get-2.ensures) (c.call_method.ensures c.args.frame.now)))))
 
 pub expressions::values_of-exprs-init : goal.expressions::values_of-exprs-init
 expressions::values_of-exprs-init g t c = record { depth = refl; leads = rw c.new-values.ensures values_begin }
@@ -308,16 +318,16 @@ pub statements::run_expr-returns : goal.statements::run_expr-returns
 statements::run_expr-returns g t c = gave _ c.value_of.ensures c.in_ok-_value.was (ended _)
 
 pub statements::run_print-returns-in_err-value : goal.statements::run_print-returns-in_err-value
-statements::run_print-returns-in_err-value g t c = cut _ c.value_of.ensures c.in_err-value.was (search rules)
+statements::run_print-returns-in_err-value g t c = cut _ c.operand_of.ensures c.in_err-value.was (search rules)
 
 pub statements::run_print-returns : goal.statements::run_print-returns
-statements::run_print-returns g t c = gave _ c.value_of.ensures c.in_ok-value.was (c.print.ensures c.args.frame.now)
+statements::run_print-returns g t c = gave _ c.operand_of.ensures c.in_ok-value.was (rw c.get.ensures at (c.print.ensures c.args.frame.now))
 
 pub statements::run_throw-returns-in_err-value : goal.statements::run_throw-returns-in_err-value
-statements::run_throw-returns-in_err-value g t c = cut _ c.value_of.ensures c.in_err-value.was (search rules)
+statements::run_throw-returns-in_err-value g t c = cut _ c.operand_of.ensures c.in_err-value.was (search rules)
 
 pub statements::run_throw-returns : goal.statements::run_throw-returns
-statements::run_throw-returns g t c = gave _ c.value_of.ensures c.in_ok-value.was (helped_end _ _ (Err (throws (out-Value c.in_ok-value.value))) c.thrown.ensures c.lift.ensures)
+statements::run_throw-returns g t c = gave _ c.operand_of.ensures c.in_ok-value.was (helped_end _ _ (Err (throws (out-Value c.in_ok-value.value))) (rw c.get.ensures at c.thrown.ensures) c.lift.ensures)
 
 pub statements::assign-returns-in_err-value-in-Name : goal.statements::assign-returns-in_err-value-in-Name
 statements::assign-returns-in_err-value-in-Name g t c = at_run (λ gas. name_written (bodies c.args.code.now gas) c.args.at c.args.left.now _ _ _ c.in-Name.ensures) (cut _ c.value_of.ensures c.in_err-value-in-Name.was (search rules))
@@ -325,86 +335,95 @@ statements::assign-returns-in_err-value-in-Name g t c = at_run (λ gas. name_wri
 pub statements::assign-returns-in_ok-value-in-Name : goal.statements::assign-returns-in_ok-value-in-Name
 statements::assign-returns-in_ok-value-in-Name g t c = at_run (λ gas. name_written (bodies c.args.code.now gas) c.args.at c.args.left.now _ _ _ c.in-Name.ensures) (gave _ c.value_of.ensures c.in_ok-value-in-Name.was (rw (← c.as_slice.ensures) (changed (λ u. c.set_name.new.frame) _ _ _ (λ names. local names c.value_of.new.state) c.args.frame.now c.set_name.new.frame _ refl refl refl (λ a. refl) c.set_name.ensures.gives c.set_name.ensures.kept c.lift.ensures)))
 
-pub statements::assign-value_of-requires-in-Field : goal.statements::assign-value_of-requires-in-Field
-statements::assign-value_of-requires-in-Field g t c κs within = (let w = object_light (mirror_expr c.args.left.now) (mirror_expr c.in-Field.object.now) c.in-Field.name.now c.in-Field.ensures in omega arith, within)
+pub statements::assign-operand_of-requires : goal.statements::assign-operand_of-requires
+statements::assign-operand_of-requires g t c κs within = (let w = object_light (mirror_expr c.args.left.now) (mirror_expr c.in-Field.object.now) c.in-Field.name.now c.in-Field.ensures in omega arith, within)
 
 pub statements::assign-returns-in_err-target-in-Field : goal.statements::assign-returns-in_err-target-in-Field
-statements::assign-returns-in_err-target-in-Field g t c = at_run (λ gas. field_written (bodies c.args.code.now gas) c.args.at c.args.left.now _ _ _ _ c.in-Field.ensures) (cut _ c.value_of-in-Field.ensures c.in_err-target-in-Field.was (search rules))
+statements::assign-returns-in_err-target-in-Field g t c = at_run (λ gas. field_written (bodies c.args.code.now gas) c.args.at c.args.left.now _ _ _ _ c.in-Field.ensures) (cut _ c.operand_of.ensures c.in_err-target-in-Field.was (search rules))
 
-pub statements::assign-value_of-requires-in-Field-2 : goal.statements::assign-value_of-requires-in-Field-2
-statements::assign-value_of-requires-in-Field-2 g t c κs within = (let d = ap (room (map mirror_class c.args.code.now)) c.value_of-in-Field.ensures.depth in omega arith, within)
+pub statements::assign-value_of-requires-in-Field : goal.statements::assign-value_of-requires-in-Field
+statements::assign-value_of-requires-in-Field g t c κs within = (let d = ap (room (map mirror_class c.args.code.now)) c.operand_of.ensures.depth in omega arith, within)
 
 pub statements::assign-returns-in_err-value-in-Field : goal.statements::assign-returns-in_err-value-in-Field
-statements::assign-returns-in_err-value-in-Field g t c = at_run (λ gas. field_written (bodies c.args.code.now gas) c.args.at c.args.left.now _ _ _ _ c.in-Field.ensures) (gave _ c.value_of-in-Field.ensures c.in_ok-target-in-Field.was (cut _ c.value_of-in-Field-2.ensures c.in_err-value-in-Field.was (search rules)))
+statements::assign-returns-in_err-value-in-Field g t c = at_run (λ gas. field_written (bodies c.args.code.now gas) c.args.at c.args.left.now _ _ _ _ c.in-Field.ensures) (gave _ c.operand_of.ensures c.in_ok-target-in-Field.was (cut _ c.value_of-in-Field.ensures c.in_err-value-in-Field.was (search rules)))
 
 pub statements::assign-returns-in_ok-value-in-Field : goal.statements::assign-returns-in_ok-value-in-Field
-statements::assign-returns-in_ok-value-in-Field g t c = at_run (λ gas. field_written (bodies c.args.code.now gas) c.args.at c.args.left.now _ _ _ _ c.in-Field.ensures) (gave _ c.value_of-in-Field.ensures c.in_ok-target-in-Field.was (gave _ c.value_of-in-Field-2.ensures c.in_ok-value-in-Field.was (rw (← c.as_slice-in-Field.ensures) (changed (λ u. c.write_field.new.heap) _ _ _ (λ heap. record (local c.args.frame.now c.value_of-in-Field-2.new.state) { heap = heap }) c.value_of-in-Field-2.new.state.heap c.write_field.new.heap _ refl refl refl (λ a. refl) c.write_field.ensures.gives c.write_field.ensures.kept c.lift-in-Field.ensures))))
+statements::assign-returns-in_ok-value-in-Field g t c = at_run (λ gas. field_written (bodies c.args.code.now gas) c.args.at c.args.left.now _ _ _ _ c.in-Field.ensures) (gave _ c.operand_of.ensures c.in_ok-target-in-Field.was (gave _ c.value_of-in-Field.ensures c.in_ok-value-in-Field.was (rw (← c.as_slice-in-Field.ensures) (changed (λ u. c.write_field.new.heap) _ _ _ (λ heap. record (local c.args.frame.now c.value_of-in-Field.new.state) { heap = heap }) c.value_of-in-Field.new.state.heap c.write_field.new.heap _ refl refl refl (λ a. refl) (rw c.get.ensures at c.write_field.ensures.gives) c.write_field.ensures.kept c.lift-in-Field.ensures))))
 
 pub statements::assign-returns-in-Other : goal.statements::assign-returns-in-Other
 statements::assign-returns-in-Other g t c = at_run (λ gas. nothing_assigned (bodies c.args.code.now gas) c.args.at (mirror_expr c.args.left.now) _ _ c.in-Other.ensures) (by_result (c.lift-in-Other.ensures ∙ ap (λ k. lifted c.args.at (Err k)) c.kind.ensures) (stands _))
 
-pub control::run_if-returns-in_err-value : goal.control::run_if-returns-in_err-value
-control::run_if-returns-in_err-value g t c = cut _ c.value_of.ensures c.in_err-value.was (search rules)
+pub control::truth_at-operator_value-requires : goal.control::truth_at-operator_value-requires
+control::truth_at-operator_value-requires g t c κs within = (let w = ap expr_weight (binary_form c.args.condition.now c.in-Binary.a c.in-Binary.b c.in-Binary.is) in let e = ap weight_of c.get.ensures in let f = ap weight_of c.get-in-Binary.ensures in omega arith, within)
+
+pub control::truth_at-returns-in_err-value-in-Binary : goal.control::truth_at-returns-in_err-value-in-Binary
+control::truth_at-returns-in_err-value-in-Binary g t c = truth_by_form _ _ c.args.condition.now (binary_form c.args.condition.now _ _ c.in-Binary.is) (rw (← c.get.ensures, ← c.get-in-Binary.ensures) (cut _ c.operator_value.ensures c.in_err-value-in-Binary.was (search rules)))
+
+pub control::truth_at-returns-in_ok-value-in-Binary : goal.control::truth_at-returns-in_ok-value-in-Binary
+control::truth_at-returns-in_ok-value-in-Binary g t c = truth_by_form _ _ c.args.condition.now (binary_form c.args.condition.now _ _ c.in-Binary.is) (rw (← c.get.ensures, ← c.get-in-Binary.ensures) (gave _ c.operator_value.ensures c.in_ok-value-in-Binary.was (helped_end _ _ (truth_of (out-Value c.in_ok-value-in-Binary.value)) c.truth_in.ensures.gives c.lift.ensures)))
+
+pub control::truth_at-returns-in_err-value-in_default : goal.control::truth_at-returns-in_err-value-in_default
+control::truth_at-returns-in_err-value-in_default g t c = cut _ c.operand_of.ensures c.in_err-value-in_default.was (search rules)
+
+pub control::truth_at-returns-in_ok-value-in_default : goal.control::truth_at-returns-in_ok-value-in_default
+control::truth_at-returns-in_ok-value-in_default g t c = gave _ c.operand_of.ensures c.in_ok-value-in_default.was (helped_end _ _ (truth_of (out-Value c.in_ok-value-in_default.value)) (rw c.get-in_default.ensures at c.truth_in-in_default.ensures.gives) c.lift-in_default.ensures)
 
 pub control::run_if-returns-in_err-holds : goal.control::run_if-returns-in_err-holds
-control::run_if-returns-in_err-holds g t c = gave _ c.value_of.ensures c.in_ok-value.was (unhelped (λ b. b) c.args.at c.truth_of.result (truth_of (out-Value c.in_ok-value.value)) _ c.truth_of.ensures.gives c.lift.ensures c.in_err-holds.was (search rules))
+control::run_if-returns-in_err-holds g t c = at_run (λ gas. by_its_truth c.args.at (value_run c.args.code.now c.args.condition.now gas (local c.args.frame.now c.args.state.now)) (block (stmts_run c.args.code.now c.args.yes.now gas)) (block (stmts_run c.args.code.now c.args.no.now gas))) (cut (λ gas holds l. either holds (block (stmts_run c.args.code.now c.args.yes.now gas)) (block (stmts_run c.args.code.now c.args.no.now gas)) l) c.truth_at.ensures c.in_err-holds.was (search rules))
 
 pub control::run_if-run_scope-requires : goal.control::run_if-run_scope-requires
-control::run_if-run_scope-requires g t c κs within = (let d = ap (room (map mirror_class c.args.code.now)) c.value_of.ensures.depth in omega arith, within)
+control::run_if-run_scope-requires g t c κs within = (let d = ap (room (map mirror_class c.args.code.now)) c.truth_at.ensures.depth in omega arith, within)
 
 pub control::run_if-returns-then-holds : goal.control::run_if-returns-then-holds
-control::run_if-returns-then-holds g t c = gave _ c.value_of.ensures c.in_ok-value.was (helped (λ b. b) c.args.at c.truth_of.result (truth_of (out-Value c.in_ok-value.value)) _ _ c.truth_of.ensures.gives c.lift.ensures c.in_ok-holds.was (rw c.if-holds.true (plain_block _ _ _ c.len-count.ensures c.run_scope.ensures)))
+control::run_if-returns-then-holds g t c = at_run (λ gas. by_its_truth c.args.at (value_run c.args.code.now c.args.condition.now gas (local c.args.frame.now c.args.state.now)) (block (stmts_run c.args.code.now c.args.yes.now gas)) (block (stmts_run c.args.code.now c.args.no.now gas))) (gave (λ gas holds l. either holds (block (stmts_run c.args.code.now c.args.yes.now gas)) (block (stmts_run c.args.code.now c.args.no.now gas)) l) c.truth_at.ensures c.in_ok-holds.was (rw c.if-holds.true (plain_block _ _ _ c.len-count.ensures c.run_scope.ensures)))
 
 pub control::run_if-run_scope-requires-2 : goal.control::run_if-run_scope-requires-2
-control::run_if-run_scope-requires-2 g t c κs within = (let d = ap (room (map mirror_class c.args.code.now)) c.value_of.ensures.depth in omega arith, within)
+control::run_if-run_scope-requires-2 g t c κs within = (let d = ap (room (map mirror_class c.args.code.now)) c.truth_at.ensures.depth in omega arith, within)
 
 pub control::run_if-returns : goal.control::run_if-returns
-control::run_if-returns g t c = gave _ c.value_of.ensures c.in_ok-value.was (helped (λ b. b) c.args.at c.truth_of.result (truth_of (out-Value c.in_ok-value.value)) _ _ c.truth_of.ensures.gives c.lift.ensures c.in_ok-holds.was (rw c.if-holds.false (plain_block _ _ _ c.len-count.ensures c.run_scope-2.ensures)))
+control::run_if-returns g t c = at_run (λ gas. by_its_truth c.args.at (value_run c.args.code.now c.args.condition.now gas (local c.args.frame.now c.args.state.now)) (block (stmts_run c.args.code.now c.args.yes.now gas)) (block (stmts_run c.args.code.now c.args.no.now gas))) (gave (λ gas holds l. either holds (block (stmts_run c.args.code.now c.args.yes.now gas)) (block (stmts_run c.args.code.now c.args.no.now gas)) l) c.truth_at.ensures c.in_ok-holds.was (rw c.if-holds.false (plain_block _ _ _ c.len-count.ensures c.run_scope-2.ensures)))
 
 pub control::run_while-turns-init : goal.control::run_while-turns-init
 control::run_while-turns-init g t c = record { depth = refl; fuel = omega arith; leads = λ gas le. (gas, le, leads_to_itself) }
 
-pub control::run_while-value_of-requires : goal.control::run_while-value_of-requires
-control::run_while-value_of-requires g t c κs within = (let d = ap (room (map mirror_class c.args.code.now)) c.turns.invariant.depth in omega arith, within)
-
-pub control::run_while-returns-in_err-value : goal.control::run_while-returns-in_err-value
-control::run_while-returns-in_err-value g t c = by_result (search rules) (unfixed (λ gas le. let i = c.turns.invariant.leads gas le in let f = c.turns.invariant.fuel in i.2.by _ _ (while_fails i.0 c.args.at (value_run c.args.code.now c.args.condition.now gas) (block (stmts_run c.args.code.now c.args.block.now gas)) (fixed gas (omega arith) c.value_of.ensures) c.in_err-value.was)))
+pub control::run_while-truth_at-requires : goal.control::run_while-truth_at-requires
+control::run_while-truth_at-requires g t c κs within = (let d = ap (room (map mirror_class c.args.code.now)) c.turns.invariant.depth in omega arith, within)
 
 pub control::run_while-returns-in_err-holds : goal.control::run_while-returns-in_err-holds
-control::run_while-returns-in_err-holds g t c = by_result (search rules) (unfixed (λ gas le. let i = c.turns.invariant.leads gas le in let f = c.turns.invariant.fuel in i.2.by _ _ (while_unclear i.0 c.args.at (value_run c.args.code.now c.args.condition.now gas) (block (stmts_run c.args.code.now c.args.block.now gas)) c.truth_of.result (fixed gas (omega arith) c.value_of.ensures) c.in_ok-value.was c.truth_of.ensures.gives c.lift.ensures c.in_err-holds.was)))
+control::run_while-returns-in_err-holds g t c = by_result (search rules) (unfixed (λ gas le. let i = c.turns.invariant.leads gas le in let f = c.turns.invariant.fuel in i.2.by _ _ (while_fails i.0 c.args.at (value_run c.args.code.now c.args.condition.now gas) (block (stmts_run c.args.code.now c.args.block.now gas)) (fixed gas (omega arith) c.truth_at.ensures) c.in_err-holds.was)))
 
 pub control::run_while-returns-then-not-holds : goal.control::run_while-returns-then-not-holds
-control::run_while-returns-then-not-holds g t c = unfixed (λ gas le. let i = c.turns.invariant.leads gas le in let f = c.turns.invariant.fuel in i.2.by _ _ (while_false i.0 c.args.at (value_run c.args.code.now c.args.condition.now gas) (block (stmts_run c.args.code.now c.args.block.now gas)) c.truth_of.result (fixed gas (omega arith) c.value_of.ensures) c.in_ok-value.was c.truth_of.ensures.gives c.lift.ensures (c.in_ok-holds.was ∙ ap Ok c.if-not-holds.true)))
+control::run_while-returns-then-not-holds g t c = unfixed (λ gas le. let i = c.turns.invariant.leads gas le in let f = c.turns.invariant.fuel in i.2.by _ _ (while_false i.0 c.args.at (value_run c.args.code.now c.args.condition.now gas) (block (stmts_run c.args.code.now c.args.block.now gas)) (fixed gas (omega arith) c.truth_at.ensures) (c.in_ok-holds.was ∙ ap Ok c.if-not-holds.true)))
 
 pub control::run_while-returns-in_err-lift : goal.control::run_while-returns-in_err-lift
-control::run_while-returns-in_err-lift g t c = by_result (search rules) (unfixed (λ gas le. let i = c.turns.invariant.leads gas le in let f = c.turns.invariant.fuel in i.2.by _ _ (while_true i.0 c.args.at (value_run c.args.code.now c.args.condition.now gas) (block (stmts_run c.args.code.now c.args.block.now gas)) c.truth_of.result (fixed gas (omega arith) c.value_of.ensures) c.in_ok-value.was c.truth_of.ensures.gives c.lift.ensures (c.in_ok-holds.was ∙ ap Ok c.if-not-holds.false) (unit_missing c.args.at (block (stmts_run c.args.code.now c.args.block.now gas)) (while_turns i.0 c.args.at (value_run c.args.code.now c.args.condition.now gas) (block (stmts_run c.args.code.now c.args.block.now gas))) c.check_unit.result c.check_unit.ensures c.lift-in-turns.ensures c.in_err-lift.was))))
+control::run_while-returns-in_err-lift g t c = by_result (search rules) (unfixed (λ gas le. let i = c.turns.invariant.leads gas le in let f = c.turns.invariant.fuel in i.2.by _ _ (while_true i.0 c.args.at (value_run c.args.code.now c.args.condition.now gas) (block (stmts_run c.args.code.now c.args.block.now gas)) (fixed gas (omega arith) c.truth_at.ensures) (c.in_ok-holds.was ∙ ap Ok c.if-not-holds.false) (unit_missing c.args.at (block (stmts_run c.args.code.now c.args.block.now gas)) (while_turns i.0 c.args.at (value_run c.args.code.now c.args.condition.now gas) (block (stmts_run c.args.code.now c.args.block.now gas))) c.check_unit.result c.check_unit.ensures c.lift.ensures c.in_err-lift.was))))
 
 pub control::run_while-overflow_sub-state : goal.control::run_while-overflow_sub-state
-control::run_while-overflow_sub-state g t c = let low = (fuel_left c.args.at c.value_of.new.state.fuel c.check_unit.result c.check_unit.ensures c.lift-in-turns.ensures c.in_ok-lift.was) in omega arith
+control::run_while-overflow_sub-state g t c = let low = (fuel_left c.args.at c.truth_at.new.state.fuel c.check_unit.result c.check_unit.ensures c.lift.ensures c.in_ok-lift.was) in omega arith
 
 pub control::run_while-run_scope-requires : goal.control::run_while-run_scope-requires
-control::run_while-run_scope-requires g t c κs within = (let d = ap (room (map mirror_class c.args.code.now)) (c.value_of.ensures.depth ∙ c.turns.invariant.depth) in omega arith, within)
+control::run_while-run_scope-requires g t c κs within = (let d = ap (room (map mirror_class c.args.code.now)) (c.truth_at.ensures.depth ∙ c.turns.invariant.depth) in omega arith, within)
 
 pub control::run_while-returns-in_err-run_scope : goal.control::run_while-returns-in_err-run_scope
-control::run_while-returns-in_err-run_scope g t c = by_result (search rules) (unfixed (λ gas le. let i = c.turns.invariant.leads gas le in let f = c.turns.invariant.fuel in i.2.by _ _ (while_true i.0 c.args.at (value_run c.args.code.now c.args.condition.now gas) (block (stmts_run c.args.code.now c.args.block.now gas)) c.truth_of.result (fixed gas (omega arith) c.value_of.ensures) c.in_ok-value.was c.truth_of.ensures.gives c.lift.ensures (c.in_ok-holds.was ∙ ap Ok c.if-not-holds.false) (unit_wasted c.args.at (block (stmts_run c.args.code.now c.args.block.now gas)) (while_turns i.0 c.args.at (value_run c.args.code.now c.args.condition.now gas) (block (stmts_run c.args.code.now c.args.block.now gas))) c.check_unit.result c.check_unit.ensures c.lift-in-turns.ensures c.in_ok-lift.was (fixed gas (let x = c.value_of.ensures.fuel in omega arith) (plain_block _ _ _ c.len-count.ensures c.run_scope.ensures)) c.in_err-run_scope.was))))
+control::run_while-returns-in_err-run_scope g t c = by_result (search rules) (unfixed (λ gas le. let i = c.turns.invariant.leads gas le in let f = c.turns.invariant.fuel in i.2.by _ _ (while_true i.0 c.args.at (value_run c.args.code.now c.args.condition.now gas) (block (stmts_run c.args.code.now c.args.block.now gas)) (fixed gas (omega arith) c.truth_at.ensures) (c.in_ok-holds.was ∙ ap Ok c.if-not-holds.false) (unit_wasted c.args.at (block (stmts_run c.args.code.now c.args.block.now gas)) (while_turns i.0 c.args.at (value_run c.args.code.now c.args.condition.now gas) (block (stmts_run c.args.code.now c.args.block.now gas))) c.check_unit.result c.check_unit.ensures c.lift.ensures c.in_ok-lift.was (fixed gas (let x = c.truth_at.ensures.fuel in omega arith) (plain_block _ _ _ c.len-count.ensures c.run_scope.ensures)) c.in_err-run_scope.was))))
 
 pub control::run_while-turns-smaller : goal.control::run_while-turns-smaller
-control::run_while-turns-smaller g t c = let low = (fuel_left c.args.at c.value_of.new.state.fuel c.check_unit.result c.check_unit.ensures c.lift-in-turns.ensures c.in_ok-lift.was) in let x = c.value_of.ensures.fuel in let y = c.run_scope.ensures.fuel in omega arith
+control::run_while-turns-smaller g t c = let low = (fuel_left c.args.at c.truth_at.new.state.fuel c.check_unit.result c.check_unit.ensures c.lift.ensures c.in_ok-lift.was) in let x = c.truth_at.ensures.fuel in let y = c.run_scope.ensures.fuel in omega arith
 
 pub control::run_while-turns-preserved : goal.control::run_while-turns-preserved
-control::run_while-turns-preserved g t c = record { depth = c.run_scope.ensures.depth ∙ c.value_of.ensures.depth ∙ c.turns.invariant.depth; fuel = (let f = c.turns.invariant.fuel in let x = c.value_of.ensures.fuel in let y = c.run_scope.ensures.fuel in omega arith); leads = λ gas le. let i = c.turns.invariant.leads gas le in let f = c.turns.invariant.fuel in let x = c.value_of.ensures.fuel in let y = c.run_scope.ensures.fuel in let low = (fuel_left c.args.at c.value_of.new.state.fuel c.check_unit.result c.check_unit.ensures c.lift-in-turns.ensures c.in_ok-lift.was) in let n = turn_more i.0 c.value_of.new.state.fuel c.args.at (value_run c.args.code.now c.args.condition.now gas) (block (stmts_run c.args.code.now c.args.block.now gas)) (local c.run_scope.new.frame c.run_scope.new.state) low (omega arith) in (n.0, omega arith, record { by = λ r s m. i.2.by r s (while_true i.0 c.args.at (value_run c.args.code.now c.args.condition.now gas) (block (stmts_run c.args.code.now c.args.block.now gas)) c.truth_of.result (fixed gas (omega arith) c.value_of.ensures) c.in_ok-value.was c.truth_of.ensures.gives c.lift.ensures (c.in_ok-holds.was ∙ ap Ok c.if-not-holds.false) (unit_taken c.args.at (block (stmts_run c.args.code.now c.args.block.now gas)) (while_turns i.0 c.args.at (value_run c.args.code.now c.args.condition.now gas) (block (stmts_run c.args.code.now c.args.block.now gas))) c.check_unit.result c.check_unit.ensures c.lift-in-turns.ensures c.in_ok-lift.was (fixed gas (let x = c.value_of.ensures.fuel in omega arith) (plain_block _ _ _ c.len-count.ensures c.run_scope.ensures)) c.in_ok-run_scope.was (at_run (λ any. n.2) m))) }) }
+control::run_while-turns-preserved g t c = record { depth = c.run_scope.ensures.depth ∙ c.truth_at.ensures.depth ∙ c.turns.invariant.depth; fuel = (let f = c.turns.invariant.fuel in let x = c.truth_at.ensures.fuel in let y = c.run_scope.ensures.fuel in omega arith); leads = λ gas le. let i = c.turns.invariant.leads gas le in let f = c.turns.invariant.fuel in let x = c.truth_at.ensures.fuel in let y = c.run_scope.ensures.fuel in let low = (fuel_left c.args.at c.truth_at.new.state.fuel c.check_unit.result c.check_unit.ensures c.lift.ensures c.in_ok-lift.was) in let n = turn_more i.0 c.truth_at.new.state.fuel c.args.at (value_run c.args.code.now c.args.condition.now gas) (block (stmts_run c.args.code.now c.args.block.now gas)) (local c.run_scope.new.frame c.run_scope.new.state) low (omega arith) in (n.0, omega arith, record { by = λ r s m. i.2.by r s (while_true i.0 c.args.at (value_run c.args.code.now c.args.condition.now gas) (block (stmts_run c.args.code.now c.args.block.now gas)) (fixed gas (omega arith) c.truth_at.ensures) (c.in_ok-holds.was ∙ ap Ok c.if-not-holds.false) (unit_taken c.args.at (block (stmts_run c.args.code.now c.args.block.now gas)) (while_turns i.0 c.args.at (value_run c.args.code.now c.args.condition.now gas) (block (stmts_run c.args.code.now c.args.block.now gas))) c.check_unit.result c.check_unit.ensures c.lift.ensures c.in_ok-lift.was (fixed gas (let x = c.truth_at.ensures.fuel in omega arith) (plain_block _ _ _ c.len-count.ensures c.run_scope.ensures)) c.in_ok-run_scope.was (at_run (λ any. n.2) m))) }) }
 
 pub control::run_for-returns-in_err-value : goal.control::run_for-returns-in_err-value
-control::run_for-returns-in_err-value g t c = cut _ c.value_of.ensures c.in_err-value.was (search rules)
+control::run_for-returns-in_err-value g t c = cut _ c.operand_of.ensures c.in_err-value.was (search rules)
 
 pub control::run_for-returns-in_err-turns : goal.control::run_for-returns-in_err-turns
-control::run_for-returns-in_err-turns g t c = gave _ c.value_of.ensures c.in_ok-value.was (at_run (λ gas. turns_by_form gas c.args.at c.args.name.now (out-Value c.in_ok-value.value) (stmts_run c.args.code.now c.args.block.now gas) (local c.args.frame.now c.value_of.new.state)) (unhelped (λ p. p) c.args.at c.turns_of.result _ _ c.turns_of.ensures c.lift.ensures c.in_err-turns.was (search rules)))
+control::run_for-returns-in_err-turns g t c = gave _ c.operand_of.ensures c.in_ok-value.was (at_run (λ gas. turns_by_form gas c.args.at c.args.name.now (out-Value c.in_ok-value.value) (stmts_run c.args.code.now c.args.block.now gas) (local c.args.frame.now c.operand_of.new.state)) (unhelped (λ p. p) c.args.at c.turns_of.result _ _ (rw c.get.ensures at c.turns_of.ensures) c.lift.ensures c.in_err-turns.was (search rules)))
 
 pub control::run_for-run_turns-requires : goal.control::run_for-run_turns-requires
-control::run_for-run_turns-requires g t c κs within = (let d = ap (room (map mirror_class c.args.code.now)) c.value_of.ensures.depth in omega arith, within)
+control::run_for-run_turns-requires g t c κs within = (let d = ap (room (map mirror_class c.args.code.now)) c.operand_of.ensures.depth in omega arith, within)
 
 pub control::run_for-returns : goal.control::run_for-returns
-control::run_for-returns g t c = gave _ c.value_of.ensures c.in_ok-value.was (at_run (λ gas. turns_by_form gas c.args.at c.args.name.now (out-Value c.in_ok-value.value) (stmts_run c.args.code.now c.args.block.now gas) (local c.args.frame.now c.value_of.new.state)) (helped (λ p. p) c.args.at c.turns_of.result _ _ _ c.turns_of.ensures c.lift.ensures c.in_ok-turns.was (rw (← c.get.ensures, ← c.as_slice-values.ensures) c.run_turns.ensures)))
+control::run_for-returns g t c = gave _ c.operand_of.ensures c.in_ok-value.was (at_run (λ gas. turns_by_form gas c.args.at c.args.name.now (out-Value c.in_ok-value.value) (stmts_run c.args.code.now c.args.block.now gas) (local c.args.frame.now c.operand_of.new.state)) (helped (λ p. p) c.args.at c.turns_of.result _ _ _ (rw c.get.ensures at c.turns_of.ensures) c.lift.ensures c.in_ok-turns.was (rw (← c.get-2.ensures, ← c.as_slice-values.ensures) c.run_turns.ensures)))
 
 pub control::run_turns-turns-init : goal.control::run_turns-turns-init
 control::run_turns-turns-init g t c = record { depth = refl; leads = leads_to_itself }

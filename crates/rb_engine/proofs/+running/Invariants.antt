@@ -14,17 +14,23 @@ use Rattle.rb_engine.proofs.+running.Given as goal
 abbrev pub decreases-expressions::value_of : goal.decreases-expressions::value_of
 decreases-expressions::value_of g l = room (map mirror_class l.code.now) l.state.now.depth + expr_weight (mirror_expr l.expr.now)
 
+abbrev pub decreases-expressions::operand_of : goal.decreases-expressions::operand_of
+decreases-expressions::operand_of g l = room (map mirror_class l.code.now) l.state.now.depth + expr_weight (mirror_expr l.expr.now) + 1
+
+abbrev pub decreases-expressions::operator_value : goal.decreases-expressions::operator_value
+decreases-expressions::operator_value g l = room (map mirror_class l.code.now) l.state.now.depth + max (expr_weight (mirror_expr l.a.now)) (expr_weight (mirror_expr l.b.now)) + 2
+
 abbrev pub decreases-expressions::binary_value : goal.decreases-expressions::binary_value
-decreases-expressions::binary_value g l = room (map mirror_class l.code.now) l.state.now.depth + max (expr_weight (mirror_expr l.a.now)) (expr_weight (mirror_expr l.b.now)) + 1
+decreases-expressions::binary_value g l = room (map mirror_class l.code.now) l.state.now.depth + max (expr_weight (mirror_expr l.a.now)) (expr_weight (mirror_expr l.b.now)) + 3
 
 abbrev pub decreases-expressions::unary_value : goal.decreases-expressions::unary_value
-decreases-expressions::unary_value g l = room (map mirror_class l.code.now) l.state.now.depth + expr_weight (mirror_expr l.a.now) + 1
+decreases-expressions::unary_value g l = room (map mirror_class l.code.now) l.state.now.depth + expr_weight (mirror_expr l.a.now) + 2
 
 abbrev pub decreases-expressions::field_value : goal.decreases-expressions::field_value
-decreases-expressions::field_value g l = room (map mirror_class l.code.now) l.state.now.depth + expr_weight (mirror_expr l.a.now) + 1
+decreases-expressions::field_value g l = room (map mirror_class l.code.now) l.state.now.depth + expr_weight (mirror_expr l.a.now) + 2
 
 abbrev pub decreases-expressions::item_value : goal.decreases-expressions::item_value
-decreases-expressions::item_value g l = room (map mirror_class l.code.now) l.state.now.depth + max (expr_weight (mirror_expr l.a.now)) (expr_weight (mirror_expr l.b.now)) + 1
+decreases-expressions::item_value g l = room (map mirror_class l.code.now) l.state.now.depth + max (expr_weight (mirror_expr l.a.now)) (expr_weight (mirror_expr l.b.now)) + 2
 
 abbrev pub decreases-expressions::new_value : goal.decreases-expressions::new_value
 decreases-expressions::new_value g l = room (map mirror_class l.code.now) l.state.now.depth + exprs_weight (mirror_exprs l.args.now) + 2
@@ -39,10 +45,13 @@ abbrev pub decreases-statements::run_expr : goal.decreases-statements::run_expr
 decreases-statements::run_expr g l = room (map mirror_class l.code.now) l.state.now.depth + expr_weight (mirror_expr l.expr.now) + 1
 
 abbrev pub decreases-statements::run_print : goal.decreases-statements::run_print
-decreases-statements::run_print g l = room (map mirror_class l.code.now) l.state.now.depth + expr_weight (mirror_expr l.expr.now) + 1
+decreases-statements::run_print g l = room (map mirror_class l.code.now) l.state.now.depth + expr_weight (mirror_expr l.expr.now) + 2
 
 abbrev pub decreases-statements::run_throw : goal.decreases-statements::run_throw
-decreases-statements::run_throw g l = room (map mirror_class l.code.now) l.state.now.depth + expr_weight (mirror_expr l.expr.now) + 1
+decreases-statements::run_throw g l = room (map mirror_class l.code.now) l.state.now.depth + expr_weight (mirror_expr l.expr.now) + 2
+
+abbrev pub decreases-control::truth_at : goal.decreases-control::truth_at
+decreases-control::truth_at g l = room (map mirror_class l.code.now) l.state.now.depth + expr_weight (mirror_expr l.condition.now) + 2
 
 abbrev pub decreases-control::run_if : goal.decreases-control::run_if
 decreases-control::run_if g l = room (map mirror_class l.code.now) l.state.now.depth + max (expr_weight (mirror_expr l.condition.now)) (max (stmts_weight (mirror_stmts l.yes.now)) (stmts_weight (mirror_stmts l.no.now))) + 3
