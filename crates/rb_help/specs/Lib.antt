@@ -1,6 +1,8 @@
 pub mod Lines
+pub mod Near
 pub mod Characters
 pub mod Colours
+pub mod Headings
 pub mod Positions
 pub mod Quotes
 pub mod Appends

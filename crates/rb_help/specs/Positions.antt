@@ -65,7 +65,7 @@ refusal_positions (refusals.ScriptTooLarge batch bytes) = batch ∷ []
 -- the positions of a trouble, in its order
 abbrev pub positions_of : Trouble → List ℕ
 positions_of (troubles.Faulted fault at) = at ∷ []
-positions_of troubles.Words = []
+positions_of (troubles.Words words) = []
 positions_of (troubles.FileFault name) = []
 positions_of (troubles.FileTooLong name) = []
 positions_of (troubles.Unread e) = option_to_list (read_position e.now)

@@ -1,8 +1,7 @@
 // Carets under quoted lines.
 
-use crate::lines::line_at;
 use crate::page::Page;
-use crate::quotes::cut_around;
+use crate::quotes::cut_at;
 use crate::showing::shown;
 use rb_trees::{Memory, Word};
 use std::alloc::Global;
@@ -32,13 +31,11 @@ fn add_padding(alloc: Global, bytes: &[u8], page: &mut Page) -> Result<(), Memor
 
 /// Adds what is as wide as the part of a line that is shown before a place.
 fn add_front(alloc: Global, source: &[u8], at: u32, page: &mut Page) -> Result<(), Memory> {
-    let line = line_at(source, at);
-    let cut = cut_around(line.bytes, line.offset);
-    if !cut.before.is_empty() {
+    let cut = cut_at(source, at);
+    if cut.is_cut_before {
         page.add(b"   ")?;
     }
-    let count = line.offset - cut.before.len();
-    add_padding(alloc, &cut.part[..count], page)
+    add_padding(alloc, &cut.part[..cut.offset], page)
 }
 
 /// The line under a quote, with a caret under the place and a label beside it. The bar stands behind so many columns.

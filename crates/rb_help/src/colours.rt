@@ -67,6 +67,26 @@ fn paint_behind(margin: &[u8]) -> Paint {
     }
 }
 
+/// Whether a line is a heading, which ends with a line, a column and a colon.
+fn is_heading(line: &[u8]) -> bool {
+    let mut parts = line.rsplit(|byte| *byte == b':');
+    parts.next() == Some(b"") && is_number(parts.next()) && is_number(parts.next())
+}
+
+/// Whether a part of a line is a number.
+fn is_number(part: Option<&[u8]>) -> bool {
+    part.is_some_and(|part| !part.is_empty() && part.iter().all(u8::is_ascii_digit))
+}
+
+/// The paint of a line that has no margin: a heading is bold, and a sentence is in the paint that is given.
+fn paint_of(line: &[u8], sentence: Paint) -> Paint {
+    if is_heading(line) {
+        Paint::Bold
+    } else {
+        sentence
+    }
+}
+
 /// A line without its line feed in its paints: that of a sentence is given.
 fn painted_line(alloc: Global, line: &[u8], sentence: Paint) -> Result<Word, Memory>
     ensures { IfOk result (λ shown. IsPainted line.now shown) }
@@ -74,7 +94,7 @@ fn painted_line(alloc: Global, line: &[u8], sentence: Paint) -> Result<Word, Mem
     let (margin, behind) = line.split_at(margin_of(line));
     let mut shown = Seq::new(alloc);
     if margin.is_empty() {
-        add_part(sentence, line, &mut shown)?;
+        add_part(paint_of(line, sentence), line, &mut shown)?;
     } else {
         add_part(Paint::Blue, margin, &mut shown)?;
         add_part(paint_behind(margin), behind, &mut shown)?;
@@ -82,8 +102,8 @@ fn painted_line(alloc: Global, line: &[u8], sentence: Paint) -> Result<Word, Mem
     Ok(shown)
 }
 
-/// What a person is told, in colours for a terminal: the numbers of lines blue, carets and their labels red, and the first
-/// sentence bold.
+/// What a person is told, in colours for a terminal: headings and the first sentence bold, the numbers of lines blue, and
+/// carets and their labels red.
 ///
 /// It is the same text, part by part, with signs for the terminal around some of the parts (`IsPainted`).
 pub fn coloured(alloc: Global, text: &[u8]) -> Result<Word, Memory>
@@ -96,7 +116,7 @@ pub fn coloured(alloc: Global, text: &[u8]) -> Result<Word, Memory>
         let (line, behind) = rest.split_at(length_of_first(rest));
         let painted = painted_line(alloc, line, sentence)?;
         shown.extend_from_slice(painted.as_slice())?;
-        if margin_of(line) == 0 {
+        if margin_of(line) == 0 && !is_heading(line) {
             sentence = Paint::Plain;
         }
         let (feed, next) = behind.split_at(behind.len().min(1));

@@ -47,8 +47,16 @@ pub fn length_of_first(text: &[u8]) -> usize
     text.len()
 }
 
+/// Where the line of a place within the text begins.
+pub fn line_start(source: &[u8], place: usize) -> usize
+    requires { place ≤ length source.now }
+    ensures { result ≡ place - length (before_place source.now place) }
+{
+    start_of_last(&source[..place])
+}
+
 /// The line of a place within the text.
-fn line_within(source: &[u8], place: usize) -> Line<'_>
+pub fn line_within(source: &[u8], place: usize) -> Line<'_>
     requires { place ≤ length source.now }
     ensures line { result.bytes.now ≡ words.line_at source.now place }
     ensures offset { result.offset ≡ length (before_place source.now place) }

@@ -1,25 +1,18 @@
 // What is said of what stands around a program: words, files, links, output and memory.
 
-use crate::commands::usage;
 use crate::link_help::{say_bad_reply, say_dial_fault, say_link_fault};
 use crate::outside_texts as texts;
 use crate::page::Page;
 use crate::texts::WANT_OF_MEMORY;
 use crate::trouble::Trouble;
+use crate::word_help::say_words;
 use rb_trees::Memory;
 use std::alloc::Global;
-
-/// What is said of words of no command: the forms of all commands.
-fn say_words(alloc: Global, page: &mut Page) -> Result<(), Memory> {
-    page.sentence(texts::NO_COMMAND, b"", b"")?;
-    let forms = usage(alloc)?;
-    page.add(forms.as_slice())
-}
 
 /// What is said of what stands around a program, and nothing of its text.
 pub fn say_outside(alloc: Global, page: &mut Page, trouble: &Trouble<'_>) -> Result<(), Memory> {
     match trouble {
-        Trouble::Words => say_words(alloc, page),
+        Trouble::Words(words) => say_words(alloc, page, words),
         Trouble::FileFault(name) => page.say_name(&texts::FILE_FAULT, name),
         Trouble::FileTooLong(name) => page.say_name(&texts::FILE_TOO_LONG, name),
         Trouble::LinkFault(server, done) => say_link_fault(page, server, *done),

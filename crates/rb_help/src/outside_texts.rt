@@ -3,7 +3,25 @@
 
 use crate::texts::Help;
 
-pub const NO_COMMAND: &[u8] = b"The words are those of no command.";
+// Words of the command line. `#` stands for the words that a command takes.
+
+pub const NO_COMMAND: &[u8] = b"`@` is no command.";
+
+pub const NEAR_COMMAND: &[u8] = b"`@` is no command; `#` is the nearest.";
+
+pub const TELL_ALL: &[u8] = b"`rbi help` tells all commands.";
+
+pub const TELL_NEAREST: &[u8] = b"`rbi help @` tells more of it, and `rbi help` all commands.";
+
+pub const OTHER_WORDS: &[u8] = b"`rbi @` takes other words: `rbi #`.";
+
+pub const NO_FUEL: &[u8] = b"`@` is no FUEL, which is a number from 0 to 1000000000.";
+
+pub const NO_COUNT: &[u8] = b"`@` is no COUNT, which is a number from 1 to 1000000.";
+
+pub const TELL_MORE: &[u8] = b"`rbi help @` tells more.";
+
+// Files.
 
 pub const FILE_FAULT: Help = Help {
     wrong: b"The file `@` can't be read.",
@@ -13,6 +31,16 @@ pub const FILE_FAULT: Help = Help {
 pub const FILE_TOO_LONG: Help = Help {
     wrong: b"The file `@` has more than 1048576 bytes.",
     mend: b"Shorten it.",
+};
+
+pub const UTF8_MARK: Help = Help {
+    wrong: b"The file begins with a byte order mark, the bytes EF BB BF.",
+    mend: b"Save it without one: as UTF-8, and not as UTF-8 with BOM.",
+};
+
+pub const UTF16_MARK: Help = Help {
+    wrong: b"The file begins with a byte order mark of UTF-16.",
+    mend: b"Save it as UTF-8, without a byte order mark.",
 };
 
 pub const OUTPUT_FAULT: Help = Help {

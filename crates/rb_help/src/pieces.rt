@@ -111,6 +111,7 @@ impl Scanner {
 /// The words, text literals and signs of a text in order, without blanks and comments. A sign of two bytes is two pieces.
 #[derive(Drop)]
 pub struct Pieces<'a> {
+    alloc: Global,
     source: &'a [u8],
     places: &'a Places<'a>,
     pieces: Vec<Piece>,
@@ -131,10 +132,16 @@ impl<'a> Pieces<'a> {
         scanner.finish(source.len())?;
         let Scanner { pieces, .. } = scanner;
         Ok(Pieces {
+            alloc,
             source,
             places,
             pieces,
         })
+    }
+
+    /// What memory comes from.
+    pub fn alloc(&self) -> Global {
+        self.alloc
     }
 
     /// The text.
@@ -161,6 +168,26 @@ impl<'a> Pieces<'a> {
             Some(piece) => piece.start,
             None => self.source.len(),
         }
+    }
+
+    /// Where a piece ends, or the text's end where there is no such piece.
+    pub fn end(&self, index: usize) -> usize {
+        match self.pieces.get(index) {
+            Some(piece) => piece.end,
+            None => self.source.len(),
+        }
+    }
+
+    /// Whether a piece begins where the one before it ends.
+    pub fn is_joined(&self, index: usize) -> bool {
+        index > 0 && self.start(index) == self.end(index - 1)
+    }
+
+    /// The bytes from the first byte of a piece to the last byte of another.
+    pub fn between(&self, first: usize, last: usize) -> &'a [u8] {
+        self.source
+            .get(self.start(first)..self.end(last))
+            .unwrap_or(b"")
     }
 
     /// The number of the line in which a piece begins.

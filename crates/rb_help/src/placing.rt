@@ -106,7 +106,7 @@ pub fn positions(alloc: Global, trouble: &Trouble<'_>) -> Result<Seq<u32>, Memor
         Trouble::Untyped(error) => listed(alloc, type_position(error)),
         Trouble::Refused(refusal) => in_refusal(alloc, refusal),
         Trouble::Unserved(error) => listed(alloc, store_position(error)),
-        Trouble::Words
+        Trouble::Words(_)
         | Trouble::FileFault(_)
         | Trouble::FileTooLong(_)
         | Trouble::LinkFault(_, _)

@@ -2,7 +2,10 @@
 
 use crate::page::Page;
 use crate::pieces::Pieces;
-use crate::texts;
+use crate::slips::comment_slip;
+use crate::tries::TextKind;
+use crate::unexpected::say_unexpected;
+use crate::{slip_texts, texts};
 use rb_trees::{LexError, Memory, ReadError};
 
 /// A text has at most so many bytes.
@@ -26,18 +29,44 @@ fn is_in_literal(pieces: &Pieces<'_>, at: u32) -> bool {
     pieces.earlier(index, 1).first() == Some(&b'"') && pieces.start(index) != at as usize
 }
 
-fn say_bad_byte(page: &mut Page, pieces: &Pieces<'_>, at: u32) -> Result<(), Memory> {
-    match character_at(pieces.source(), at) {
-        b"\\" if is_in_literal(pieces, at) => page.say_plain(&texts::BAD_ESCAPE),
-        b"&" => page.say_name(&texts::HALF_SIGN, b"&"),
-        b"|" => page.say_name(&texts::HALF_SIGN, b"|"),
-        other => page.say_name(&texts::NO_TOKEN, other),
+/// What is said of a character that begins no token.
+fn say_bad_character(page: &mut Page, character: &[u8]) -> Result<(), Memory> {
+    match character {
+        b"&" | b"|" => page.say_name(&texts::HALF_SIGN, character),
+        b"'" | b"`" => page.say_name(&slip_texts::QUOTES, character),
+        b"?" => page.say_plain(&slip_texts::NO_QUESTION),
+        [0xE2, 0x80, 0x98..=0x9F] => page.say_name(&slip_texts::QUOTES, character),
+        [0xC2, 0xA0] => page.say_plain(&slip_texts::BLANK),
+        _ => page.say_name(&texts::NO_TOKEN, character),
     }
 }
 
-fn say_lex(page: &mut Page, pieces: &Pieces<'_>, error: &LexError) -> Result<(), Memory> {
+/// What is said of a byte that begins no token.
+fn say_bad_byte(
+    page: &mut Page,
+    pieces: &Pieces<'_>,
+    kind: TextKind,
+    at: u32,
+) -> Result<(), Memory> {
+    let index = pieces.index_of(at);
+    if is_in_literal(pieces, at) {
+        return page.say_plain(&texts::BAD_ESCAPE);
+    }
+    match comment_slip(pieces, kind, index) {
+        Some(slip) => page.say_name(slip.help, slip.name),
+        None => say_bad_character(page, character_at(pieces.source(), at)),
+    }
+}
+
+/// What is said where a text has no tokens.
+fn say_lex(
+    page: &mut Page,
+    pieces: &Pieces<'_>,
+    kind: TextKind,
+    error: &LexError,
+) -> Result<(), Memory> {
     match error {
-        LexError::BadByte(at) => say_bad_byte(page, pieces, *at),
+        LexError::BadByte(at) => say_bad_byte(page, pieces, kind, *at),
         LexError::OpenText(_) => page.say_plain(&texts::OPEN_TEXT),
         LexError::NumberTooLarge(at) => {
             let number = pieces.text(pieces.index_of(*at));
@@ -50,36 +79,34 @@ fn say_lex(page: &mut Page, pieces: &Pieces<'_>, error: &LexError) -> Result<(),
     }
 }
 
-/// Whether a name has to stand behind what is before a piece.
-fn is_name_wanted(pieces: &Pieces<'_>, index: usize) -> bool {
-    matches!(
-        pieces.earlier(index, 1),
-        b"val" | b"var" | b"fun" | b"class" | b"interface" | b"new" | b"."
-    )
-}
-
-fn say_unexpected(page: &mut Page, pieces: &Pieces<'_>, at: u32) -> Result<(), Memory> {
-    let index = pieces.index_of(at);
-    let text = pieces.text(index);
-    match text.first() {
-        None => page.say_plain(&texts::ENDS_EARLY),
-        Some(b'a'..=b'z' | b'A'..=b'Z') if is_name_wanted(pieces, index) => {
-            page.say_name(&texts::KEYWORD_AS_NAME, text)
-        }
-        Some(_) if is_name_wanted(pieces, index) => page.say_name(&texts::NAME_WANTED, text),
-        Some(_) => page.say_name(&texts::UNEXPECTED, text),
-    }
-}
-
-/// What is said where a text isn't read.
-pub fn say_read(page: &mut Page, pieces: &Pieces<'_>, error: &ReadError) -> Result<(), Memory> {
+/// What is said where a text isn't read that is to be of a kind.
+fn say_read_as(
+    page: &mut Page,
+    pieces: &Pieces<'_>,
+    kind: TextKind,
+    error: &ReadError,
+) -> Result<(), Memory> {
     match error {
-        ReadError::Lex(error) => say_lex(page, pieces, error),
-        ReadError::Unexpected(at) => say_unexpected(page, pieces, *at),
+        ReadError::Lex(error) => say_lex(page, pieces, kind, error),
+        ReadError::Unexpected(at) => say_unexpected(page, pieces, kind, *at),
         ReadError::TooNested(at) if pieces.is_later(pieces.index_of(*at), 0, b"{") => {
             page.say_plain(&texts::BLOCKS_NESTED)
         }
         ReadError::TooNested(_) => page.say_plain(&texts::NESTED),
         ReadError::Memory => page.say_plain(&texts::WANT_OF_MEMORY),
     }
+}
+
+/// What is said where a program isn't read.
+pub fn say_read(page: &mut Page, pieces: &Pieces<'_>, error: &ReadError) -> Result<(), Memory> {
+    say_read_as(page, pieces, TextKind::Program, error)
+}
+
+/// What is said where the text of a service isn't read.
+pub fn say_read_service(
+    page: &mut Page,
+    pieces: &Pieces<'_>,
+    error: &ReadError,
+) -> Result<(), Memory> {
+    say_read_as(page, pieces, TextKind::Service, error)
 }

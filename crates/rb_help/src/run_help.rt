@@ -1,13 +1,17 @@
 // What is said where a run ended by a fault.
 
+use crate::declarations::{Declared, declared_once};
+use crate::known_types::{known_type, name_of};
 use crate::page::Page;
 use crate::pieces::Pieces;
+use crate::spans::{Span, closing, operand_first};
 use crate::texts;
 use crate::texts::Help;
+use rb_trees::fault_codes::{
+    BAD_ARGUMENTS, DIVISION_BY_ZERO, FUEL_USED, HEAP_FULL, INDEX_OUTSIDE, KIND, LIST_TOO_LONG,
+    NO_METHOD, TEXT_TOO_LONG, THROWN, TOO_DEEP, WRONG_KIND,
+};
 use rb_trees::{Fault, Memory};
-
-/// The code of the one fault that keeps a text.
-const THROWN: u8 = 8;
 
 /// Whether a piece is the name of a method that is called.
 fn is_call(pieces: &Pieces<'_>, index: usize) -> bool {
@@ -17,11 +21,11 @@ fn is_call(pieces: &Pieces<'_>, index: usize) -> bool {
 /// What is said of a fault that code at the server met, by its code; None where it isn't told from one that was met here.
 fn met_at_server(code: u8) -> Option<&'static Help> {
     match code {
-        1 => Some(&texts::SERVER_DIV_ZERO),
-        2 => Some(&texts::SERVER_INDEX),
-        3 => Some(&texts::SERVER_TEXT_TOO_LONG),
-        4 => Some(&texts::SERVER_LIST_TOO_LONG),
-        5 => Some(&texts::SERVER_HEAP_FULL),
+        DIVISION_BY_ZERO => Some(&texts::SERVER_DIV_ZERO),
+        INDEX_OUTSIDE => Some(&texts::SERVER_INDEX),
+        TEXT_TOO_LONG => Some(&texts::SERVER_TEXT_TOO_LONG),
+        LIST_TOO_LONG => Some(&texts::SERVER_LIST_TOO_LONG),
+        HEAP_FULL => Some(&texts::SERVER_HEAP_FULL),
         THROWN => Some(&texts::SERVER_THROWN),
         _ => None,
     }
@@ -30,19 +34,41 @@ fn met_at_server(code: u8) -> Option<&'static Help> {
 /// What is said of a fault, by its code.
 fn meant_by(code: u8) -> &'static Help {
     match code {
-        1 => &texts::DIV_ZERO,
-        2 => &texts::INDEX,
-        3 => &texts::TEXT_TOO_LONG,
-        4 => &texts::LIST_TOO_LONG,
-        5 => &texts::HEAP_FULL,
-        6 => &texts::TOO_DEEP,
-        7 => &texts::FUEL_USED,
+        DIVISION_BY_ZERO => &texts::DIV_ZERO,
+        INDEX_OUTSIDE => &texts::INDEX,
+        TEXT_TOO_LONG => &texts::TEXT_TOO_LONG,
+        LIST_TOO_LONG => &texts::LIST_TOO_LONG,
+        HEAP_FULL => &texts::HEAP_FULL,
+        TOO_DEEP => &texts::TOO_DEEP,
+        FUEL_USED => &texts::FUEL_USED,
         THROWN => &texts::THROWN,
-        9 => &texts::OBJECT_LACKS,
-        10 => &texts::BAD_ARGUMENTS,
-        11 => &texts::WRONG_KIND,
-        12 => &texts::KIND,
+        NO_METHOD => &texts::OBJECT_LACKS,
+        BAD_ARGUMENTS => &texts::BAD_ARGUMENTS,
+        WRONG_KIND => &texts::WRONG_KIND,
+        KIND => &texts::KIND,
         _ => &texts::OTHER_FAULT,
+    }
+}
+
+/// Whether a piece is a call of a method of an interface, or a loop over rows.
+fn is_at_server(pieces: &Pieces<'_>, index: usize) -> bool {
+    if pieces.is_later(index, 0, b"for") {
+        let open = index.saturating_add(1);
+        let span = Span {
+            first: open.saturating_add(3),
+            last: closing(pieces, open).saturating_sub(1),
+        };
+        return matches!(name_of(pieces, known_type(pieces, span)), b"Rows");
+    }
+    let last = index.saturating_sub(2);
+    let span = Span {
+        first: operand_first(pieces, last),
+        last,
+    };
+    let owner = name_of(pieces, known_type(pieces, span));
+    match declared_once(pieces, owner, Declared::Type) {
+        Some(place) => is_call(pieces, index) && pieces.is_earlier(place, 1, b"interface"),
+        None => false,
     }
 }
 
@@ -51,6 +77,8 @@ fn meant_by(code: u8) -> &'static Help {
 fn help_on(pieces: &Pieces<'_>, index: usize, code: u8) -> &'static Help {
     match met_at_server(code) {
         Some(help) if is_call(pieces, index) => help,
+        None if code == TOO_DEEP && is_at_server(pieces, index) => &texts::SERVER_TOO_DEEP,
+        None if code == FUEL_USED && is_at_server(pieces, index) => &texts::SERVER_FUEL_USED,
         _ => meant_by(code),
     }
 }

@@ -243,7 +243,7 @@ fn behind_prefixes(pieces: &Pieces<'_>, first: usize) -> usize {
 }
 
 /// The last piece of the operand, with signs before it, that begins with a piece.
-fn operand_last(pieces: &Pieces<'_>, first: usize) -> usize {
+pub fn operand_last(pieces: &Pieces<'_>, first: usize) -> usize {
     let mut last = part_last(pieces, behind_prefixes(pieces, first));
     for _ in 0..pieces.len() {
         let next = last.saturating_add(1);

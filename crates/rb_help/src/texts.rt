@@ -139,11 +139,6 @@ pub const TAKEN_SOMEWHERE: Help = Help {
     mend: b"Choose another name.",
 };
 
-pub const NOT_A_VAR: Help = Help {
-    wrong: b"`@` can't be assigned, since it isn't a `var`.",
-    mend: b"Declare it by `var`; or copy its value into a `var`, and assign that.",
-};
-
 pub const NOT_A_PLACE: Help = Help {
     wrong: b"What stands left of this `=` can't be assigned.",
     mend: b"Assign a `var`, or a field of an object.",
@@ -212,70 +207,6 @@ pub const BATCH_PLACE: Help = Help {
 pub const REMOTE_CALL: Help = Help {
     wrong: b"`@` is a `remote fun`, and is called from `main` or a `remote fun` alone.",
     mend: b"Declare the method that calls it by `remote fun`.",
-};
-
-// Refusals of batches.
-
-pub const FLOW: Help = Help {
-    wrong: b"A batch is sent before its results come back, so what local code makes of a result can't go into it again.",
-    mend: b"Make what flows `val`s of results and operators alone, so that the server keeps them; \
-or end the batch in between, and begin a second one.",
-};
-
-pub const FLOW_OF_VAR: Help = Help {
-    wrong: b"A batch is sent before its results come back, so what local code puts into `@` can't go into it again.",
-    mend: b"Make `@` a `val`, so that the server keeps it; or end the batch in between, and begin a second one.",
-};
-
-pub const NOT_CONSTANT: Help = Help {
-    wrong: b"This isn't known when the batch begins, and what a batch sends has to be.",
-    mend: b"Put the Int, Bool or Text that is meant into a `val` before the batch, and write that here.",
-};
-
-pub const NAME_NOT_CONSTANT: Help = Help {
-    wrong: b"`@` isn't known when the batch begins, and what a batch sends has to be.",
-    mend: b"Put the Int, Bool or Text that is meant into a `val` before the batch, and write that here.",
-};
-
-pub const LOCAL_CONDITION: Help = Help {
-    wrong: b"Local code decides whether the call is made, and it runs only when the batch has come back.",
-    mend: b"Decide by results of calls, and by variables from before the batch that it doesn't assign; \
-or let the batch begin inside.",
-};
-
-pub const ESCAPES: Help = Help {
-    wrong: b"A remote object, or rows, can't be used here: they stay at the server.",
-    mend: b"Call a method that gives an Int, a Bool or a Text, or go over the rows by `for`.",
-};
-
-pub const BATCH_INSIDE: Help = Help {
-    wrong: b"A batch can't stand in a batch.",
-    mend: b"End the first one before this one begins.",
-};
-
-pub const BATCH_CALLED_INSIDE: Help = Help {
-    wrong: b"`@` is a `remote fun`, and can't be called in a batch.",
-    mend: b"Call it before the batch or behind it.",
-};
-
-pub const IN_TRY: Help = Help {
-    wrong: b"This is performed at the server, and can't stand in a `try` of the batch.",
-    mend: b"Put the whole batch into the `try`.",
-};
-
-pub const REMOTE_VAR: Help = Help {
-    wrong: b"`@` would hold a remote object or rows, and a `var` can't.",
-    mend: b"Write `val @` in place of `var @`.",
-};
-
-pub const MANY_INPUTS: Help = Help {
-    wrong: b"This batch sends # variables from outside, and 255 is the most.",
-    mend: b"Divide it into two batches.",
-};
-
-pub const LARGE_SCRIPT: Help = Help {
-    wrong: b"What this batch sends would have # bytes, and 4194304 is the most.",
-    mend: b"Divide it into two batches.",
 };
 
 // Faults of a run.
@@ -350,6 +281,17 @@ pub const SERVER_THROWN: Help = Help {
     mend: CATCH_OUTSIDE,
 };
 
+pub const SERVER_TOO_DEEP: Help = Help {
+    wrong: b"At the server `@` came to a call within 32 others, and no deeper one can be made.",
+    mend: b"Let a `while` in the service do what the method does by calling itself; \
+or catch the fault by a `try` around the batch.",
+};
+
+pub const SERVER_FUEL_USED: Help = Help {
+    wrong: b"At the server the 1000000 units of fuel of this batch are used up: each call and each turn takes one.",
+    mend: b"See whether the loop in the service ends; or divide the batch into several, of which each has as many.",
+};
+
 pub const CATCH_OUTSIDE: &[u8] =
     b"See why in the service; or catch the fault by a `try` around the whole batch.";
 
@@ -378,32 +320,7 @@ pub const OTHER_FAULT: Help = Help {
     mend: b"See whether the server is the one that is meant.",
 };
 
-// Objects of services.
-
-pub const NO_ROOT: Help = Help {
-    wrong: b"The root's number in line @ is that of no object.",
-    mend: b"Write an object with that number, or name another one behind `root`.",
-};
-
-pub const BAD_REFERENCE: Help = Help {
-    wrong: b"A value of object # in line @ names an object that isn't there.",
-    mend: b"Write that object, or name one that is written.",
-};
-
-pub const FIELD_MISSING: Help = Help {
-    wrong: b"The fields of object # in line @ aren't those of its class in their order.",
-    mend: b"Give each field of the class a value, in the order of the class.",
-};
-
-pub const FIELD_KIND: Help = Help {
-    wrong: b"A value of object # in line @ isn't of its field's type, or is a list of more than 10000 items.",
-    mend: b"Give each field a value of the type that the class says.",
-};
-
-pub const OBJECT_NUMBER: Help = Help {
-    wrong: b"In line @ object # is due, and another number is written.",
-    mend: b"Number the objects 0, 1, 2 and so on, in their order.",
-};
+// Memory.
 
 pub const WANT_OF_MEMORY: Help = Help {
     wrong: b"No memory was left.",

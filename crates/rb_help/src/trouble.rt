@@ -36,8 +36,8 @@ pub enum ReplyFlaw {
 pub enum Trouble<'a> {
     /// The program ended by a fault at a position.
     Faulted(&'a Fault, u32),
-    /// The words are those of no command.
-    Words,
+    /// These words are those of no command, or ask for help on one.
+    Words(&'a [String]),
     /// The file of this name can't be read.
     FileFault(&'a [u8]),
     /// The file of this name has more than 1,048,576 bytes.

@@ -105,6 +105,8 @@ pub const LET_IT_GIVE: &[u8] =
 
 // What to do where the wanted type is known.
 
+pub const LEN_OF_THIS: &[u8] = b"Write `len(@)`.";
+
 pub const STR_MAKES_TEXT: &[u8] = b"`str` makes a Text of it.";
 
 pub const STR_IS_NEEDLESS: &[u8] = b"It is a Text already: take `str` away.";
@@ -133,7 +135,8 @@ pub const NAME_OBJECT: &[u8] =
 
 pub const COUNT_TURNS: &[u8] = b"Count turns by a `while`.";
 
-pub const NO_MEMBERS: &[u8] = b"Only objects have fields and methods.";
+pub const NO_MEMBERS: &[u8] =
+    b"Take the member away: only objects have fields and methods; `str` makes a Text of this.";
 
 pub const METHODS_ALONE: &[u8] = b"An object of an interface has methods alone: call one of them.";
 

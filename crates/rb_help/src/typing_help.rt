@@ -1,36 +1,19 @@
 // What is said where a program or a service isn't typed.
 
+use crate::around::is_name;
 use crate::declarations::{
     Declared, arguments_behind, bound_name, declared_at, declared_before, declared_once,
     fields_behind,
 };
+use crate::name_help::say_unknown;
 use crate::page::Page;
 use crate::pieces::Pieces;
-use crate::texts;
+use crate::spans::opening;
 use crate::texts::{Count, Help};
 use crate::wrong_types::say_wrong_type;
+use crate::{name_texts, texts};
 use rb_trees::{Memory, TypeError};
 use std::alloc::Global;
-
-/// What is unknown at a piece that is no word of the language.
-fn unknown(pieces: &Pieces<'_>, index: usize) -> &'static Help {
-    match pieces.earlier(index, 1) {
-        b"." if pieces.is_later(index, 1, b"(") => &texts::NO_METHOD,
-        b"." => &texts::NO_FIELD,
-        b":" | b"<" => &texts::NO_TYPE,
-        _ => &texts::NO_VARIABLE,
-    }
-}
-
-fn say_unknown(page: &mut Page, pieces: &Pieces<'_>, at: u32) -> Result<(), Memory> {
-    let index = pieces.index_of(at);
-    match pieces.text(index) {
-        b"new" => page.say_name(&texts::NO_CLASS, pieces.later(index, 1)),
-        b"batch" => page.say_name(&texts::NO_INTERFACE, pieces.later(index, 2)),
-        b"this" => page.say_plain(&texts::NO_THIS),
-        name => page.say_name(unknown(pieces, index), name),
-    }
-}
 
 fn say_taken(page: &mut Page, pieces: &Pieces<'_>, at: u32) -> Result<(), Memory> {
     let statement = pieces.index_of(at);
@@ -84,24 +67,60 @@ fn say_count(page: &mut Page, pieces: &Pieces<'_>, at: u32) -> Result<(), Memory
     }
 }
 
+/// What is said where a variable of this name can't be assigned.
+fn say_no_var(page: &mut Page, pieces: &Pieces<'_>, index: usize) -> Result<(), Memory> {
+    let name = pieces.text(index);
+    match declared_before(pieces, index, name, Declared::Variable) {
+        Some(place) if pieces.is_earlier(place, 1, b"val") => {
+            page.say_number(&name_texts::VAL_TO_VAR, name, pieces.line(place))
+        }
+        _ => page.say_name(&name_texts::COPY_TO_VAR, name),
+    }
+}
+
 fn say_not_assignable(page: &mut Page, pieces: &Pieces<'_>, at: u32) -> Result<(), Memory> {
     let index = pieces.index_of(at);
-    let name = pieces.earlier(index, 1);
-    match name.first() {
-        Some(b'a'..=b'z' | b'A'..=b'Z' | b'_') if !pieces.is_earlier(index, 2, b".") => {
-            page.say_name(&texts::NOT_A_VAR, name)
+    let last = index.saturating_sub(1);
+    match pieces.text(last) {
+        b"]" => {
+            let list = opening(pieces, last).saturating_sub(1);
+            page.say_name(&name_texts::NO_ITEM, pieces.text(list))
+        }
+        name if is_name(name) && !pieces.is_earlier(index, 2, b".") => {
+            say_no_var(page, pieces, last)
         }
         _ => page.say_plain(&texts::NOT_A_PLACE),
     }
 }
 
-/// What types may stand at a piece, by the declaration around it.
-fn types_around(pieces: &Pieces<'_>, index: usize) -> &'static Help {
+/// What is said of a type of a method of an interface.
+fn type_at_server(pieces: &Pieces<'_>, index: usize) -> &'static Help {
+    let is_result = pieces.is_earlier(index, 1, b":") && pieces.is_earlier(index, 2, b")");
+    match pieces.text(index) {
+        b"List" if is_result => &name_texts::LIST_IN_RESULT,
+        b"List" => &name_texts::LIST_IN_PARAMETER,
+        name if is_name(name) => &name_texts::CLASS_AT_SERVER,
+        _ => &texts::TYPE_OF_INTERFACE,
+    }
+}
+
+/// What is said of a type of a class.
+fn type_in_class(pieces: &Pieces<'_>, index: usize, is_service: bool) -> &'static Help {
+    match pieces.text(index) {
+        b"Rows" if is_service => &name_texts::ROWS_IN_SERVICE,
+        b"Rows" => &name_texts::ROWS_IN_CLASS,
+        name if is_name(name) => &name_texts::INTERFACE_IN_CLASS,
+        _ => &texts::TYPE_OF_CLASS,
+    }
+}
+
+/// What is said of a type that can't stand at a piece, by the declaration around it.
+fn types_around(pieces: &Pieces<'_>, index: usize, is_service: bool) -> &'static Help {
     let mut around = &texts::TYPE_OF_MAIN;
     for place in 0..index {
         match pieces.text(place) {
-            b"interface" => around = &texts::TYPE_OF_INTERFACE,
-            b"class" => around = &texts::TYPE_OF_CLASS,
+            b"interface" => around = type_at_server(pieces, index),
+            b"class" => around = type_in_class(pieces, index, is_service),
             b"main" => around = &texts::TYPE_OF_MAIN,
             _ => {}
         }
@@ -129,7 +148,7 @@ pub fn say_types(
     is_service: bool,
 ) -> Result<(), Memory> {
     match error {
-        TypeError::UnknownName(at) => say_unknown(page, pieces, *at),
+        TypeError::UnknownName(at) => say_unknown(page, pieces, *at, is_service),
         TypeError::NameTaken(at) => say_taken(page, pieces, *at),
         TypeError::WrongType(at, found) => say_wrong_type(alloc, page, pieces, *at, found),
         TypeError::WrongCount(at) => say_count(page, pieces, *at),
@@ -138,7 +157,10 @@ pub fn say_types(
             let name = pieces.text(pieces.index_of(*at));
             page.say_name(&texts::NO_RETURN, name)
         }
-        TypeError::TypeNotHere(at) => { page.say_plain(types_around(pieces, pieces.index_of(*at))) }
+        TypeError::TypeNotHere(at) => {
+            let index = pieces.index_of(*at);
+            page.say_name(types_around(pieces, index, is_service), pieces.text(index))
+        }
         TypeError::NotAllowedHere(at) => {
             let index = pieces.index_of(*at);
             page.say_name(not_allowed(pieces, index, is_service), pieces.text(index))

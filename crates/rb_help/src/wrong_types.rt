@@ -1,11 +1,13 @@
 // What is said where an expression has another type than is wanted.
 
+use crate::declarations::{Declared, declared_before};
 use crate::page::Page;
 use crate::pieces::Pieces;
+use crate::spans::span_at;
 use crate::type_mends::mend;
-use crate::type_texts;
 use crate::type_words::{type_word, written_word};
 use crate::wanted::{Want, Wanted, wanted_at};
+use crate::{name_texts, type_texts};
 use rb_trees::{Memory, TypeForm};
 use std::alloc::Global;
 
@@ -106,6 +108,16 @@ fn say_wanted(
     page.sentence(written_text(want.what), b"", written)
 }
 
+/// Whether a member is named as other languages name what `len` gives.
+fn is_length(name: &[u8]) -> bool {
+    matches!(name, b"length" | b"size" | b"count")
+}
+
+/// Whether a method has this name.
+fn is_method(pieces: &Pieces<'_>, name: &[u8]) -> bool {
+    declared_before(pieces, pieces.len(), name, Declared::Method).is_some()
+}
+
 /// What is said where an expression has another type than is wanted.
 pub fn say_wrong_type(
     alloc: Global,
@@ -118,5 +130,16 @@ pub fn say_wrong_type(
     let written = written_word(alloc, pieces, want.written)?;
     add_found(alloc, page, pieces, pieces.index_of(at), found)?;
     say_wanted(page, pieces, &want, written.as_slice(), found)?;
-    page.sentence(mend(want.what, written.as_slice(), found), b"", b"")
+    match (want.what, found) {
+        (Wanted::Owner, TypeForm::Named(_)) if is_method(pieces, want.name) => {
+            page.sentence(name_texts::INTERFACE_METHOD, want.name, b"")
+        }
+        (Wanted::Receiver | Wanted::Owner, TypeForm::Text | TypeForm::ListOf(_))
+            if is_length(want.name) => {
+            let span = span_at(pieces, pieces.index_of(at));
+            let operand = pieces.between(span.first, span.last);
+            page.sentence(type_texts::LEN_OF_THIS, operand, b"")
+        }
+        (what, _) => page.sentence(mend(what, written.as_slice(), found), b"", b""),
+    }
 }

@@ -163,6 +163,33 @@ fn servers_fault(rt: HostRuntime) -> Result<(), Fail> {
 /// A program with a remote call.
 const CALL_AT_SERVER: &str = "main { batch (D r) { r.m(); } }";
 
+/// A program with a remote call on an interface that is declared.
+const CALL_ON_INTERFACE: &str = "interface D { fun m(); } main { batch (D r) { r.m(); } }";
+
+/// Limits that the service's code reaches.
+const LIMITS_AT_SERVER: [Said; 2] = [
+    (
+        CALL_ON_INTERFACE,
+        Wrong::Fault(6),
+        "m(); } }",
+        "1 | interface D { fun m(); } main { batch (D r) { r.m(); } }
+  |                                                 ^
+At the server `m` came to a call within 32 others, and no deeper one can be made.
+Let a `while` in the service do what the method does by calling itself; or catch the fault by a `try` around the batch.
+",
+    ),
+    (
+        CALL_ON_INTERFACE,
+        Wrong::Fault(7),
+        "m(); } }",
+        "1 | interface D { fun m(); } main { batch (D r) { r.m(); } }
+  |                                                 ^
+At the server the 1000000 units of fuel of this batch are used up: each call and each turn takes one.
+See whether the loop in the service ends; or divide the batch into several, of which each has as many.
+",
+    ),
+];
+
 /// Faults of the service's code.
 const CODE: [Said; 6] = [
     (
@@ -229,5 +256,6 @@ See why in the service; or catch the fault by a `try` around the whole batch.
 
 #[test]
 fn code_at_the_server_faults(rt: HostRuntime) -> Result<(), Fail> {
-    all_said(rt.alloc(), &CODE)
+    all_said(rt.alloc(), &CODE)?;
+    all_said(rt.alloc(), &LIMITS_AT_SERVER)
 }

@@ -10,6 +10,20 @@ mod known;
 #[cfg(test)]
 mod links;
 #[cfg(test)]
+mod mistakes_in_batches;
+#[cfg(test)]
+mod mistakes_in_declarations;
+#[cfg(test)]
+mod mistakes_in_flows;
+#[cfg(test)]
+mod mistakes_in_forms;
+#[cfg(test)]
+mod mistakes_in_services;
+#[cfg(test)]
+mod mistakes_in_types;
+#[cfg(test)]
+mod mistakes_in_words;
+#[cfg(test)]
 mod names;
 #[cfg(test)]
 mod operands;
@@ -26,9 +40,9 @@ mod replies;
 #[cfg(test)]
 mod said;
 #[cfg(test)]
-mod services;
-#[cfg(test)]
 mod statements;
+#[cfg(test)]
+mod taught;
 #[cfg(test)]
 mod types;
 #[cfg(test)]

@@ -186,7 +186,7 @@ const RECEIVERS: [Row; 4] = [
         "n.",
         Found::Int,
         "`n` is of type `Int`, and an object of a class is wanted before `.size`.\n\
-Only objects have fields and methods.",
+Take the member away: only objects have fields and methods; `str` makes a Text of this.",
     ),
     (
         "interface A { } main { batch (A a) { print(- a.size); } }",
@@ -207,7 +207,7 @@ Go over the rows by `for`, within the batch.",
         "<",
         Found::Bool,
         "This is of type `Bool`, and an object of a class or an interface is wanted before `.m`.\n\
-Only objects have fields and methods.",
+Take the member away: only objects have fields and methods; `str` makes a Text of this.",
     ),
 ];
 

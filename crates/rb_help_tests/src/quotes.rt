@@ -9,7 +9,7 @@ use std::test::Fail;
 /// Fails unless this is the quote and the caret at a place.
 fn quotes(alloc: Global, source: &[u8], at: u32, expected: &str) -> Result<(), Fail> {
     let error = ReadError::Lex(LexError::NotUtf8(at));
-    let text = explain(alloc, source, &Trouble::Unread(&error))?;
+    let text = explain(alloc, b"a.rbi", source, &Trouble::Unread(&error))?;
     begins(text.as_slice(), expected)
 }
 
@@ -19,7 +19,7 @@ fn tabs_stay_tabs(rt: HostRuntime) -> Result<(), Fail> {
         rt.alloc(),
         b"main {\n\tprint(\tx);\n}",
         15,
-        "2 | \tprint(\tx);\n  | \t      \t^\n",
+        "a.rbi:2:9:\n2 | \tprint(\tx);\n  | \t      \t^\n",
     )?;
     Ok(())
 }
@@ -31,7 +31,7 @@ fn wide_characters_take_two_columns(rt: HostRuntime) -> Result<(), Fail> {
         rt.alloc(),
         source.as_bytes(),
         18,
-        "1 | print(\"\u{65e5}\u{672c}e\u{301}\" + x);\n  |               ^\n",
+        "a.rbi:1:14:\n1 | print(\"\u{65e5}\u{672c}e\u{301}\" + x);\n  |               ^\n",
     )?;
     Ok(())
 }
@@ -43,31 +43,51 @@ fn what_cannot_be_seen_is_replaced(rt: HostRuntime) -> Result<(), Fail> {
         alloc,
         b"a \x07\x7f \xff\xe6\x97 x",
         9,
-        "1 | a \u{fffd}\u{fffd} \u{fffd}\u{fffd} x\n  |         ^\n",
+        "a.rbi:1:9:\n1 | a \u{fffd}\u{fffd} \u{fffd}\u{fffd} x\n  |         ^\n",
     )?;
     quotes(
         alloc,
         "a \u{202e}\u{9b}\u{2028} x".as_bytes(),
         11,
-        "1 | a \u{fffd}\u{fffd}\u{fffd} x\n  |       ^\n",
+        "a.rbi:1:7:\n1 | a \u{fffd}\u{fffd}\u{fffd} x\n  |       ^\n",
     )?;
-    quotes(alloc, b"main {\r\n  x\r\n}", 10, "2 |   x \n  |   ^\n")?;
+    quotes(
+        alloc,
+        b"main {\r\n  x\r\n}",
+        10,
+        "a.rbi:2:3:\n2 |   x \n  |   ^\n",
+    )?;
     Ok(())
 }
 
 #[test]
 fn a_place_behind_the_end_is_the_end(rt: HostRuntime) -> Result<(), Fail> {
     let alloc = rt.alloc();
-    quotes(alloc, b"main {\n  x", u32::MAX, "2 |   x\n  |    ^\n")?;
-    quotes(alloc, b"main {\n", 7, "2 | \n  | ^\n")?;
-    quotes(alloc, b"main {\n", 6, "1 | main {\n  |       ^\n")?;
-    quotes(alloc, b"", 5, "1 | \n  | ^\n")?;
+    quotes(
+        alloc,
+        b"main {\n  x",
+        u32::MAX,
+        "a.rbi:2:4:\n2 |   x\n  |    ^\n",
+    )?;
+    quotes(alloc, b"main {\n", 7, "a.rbi:2:1:\n2 | \n  | ^\n")?;
+    quotes(
+        alloc,
+        b"main {\n",
+        6,
+        "a.rbi:1:7:\n1 | main {\n  |       ^\n",
+    )?;
+    quotes(alloc, b"", 5, "a.rbi:1:1:\n1 | \n  | ^\n")?;
     Ok(())
 }
 
 #[test]
 fn numbers_of_lines_stand_right(rt: HostRuntime) -> Result<(), Fail> {
-    quotes(rt.alloc(), b"a\nb\n\n\n\n\n\n\n\n\n", 2, " 2 | b\n   | ^\n")?;
+    quotes(
+        rt.alloc(),
+        b"a\nb\n\n\n\n\n\n\n\n\n",
+        2,
+        "a.rbi:2:1:\n 2 | b\n   | ^\n",
+    )?;
     Ok(())
 }
 
@@ -78,7 +98,8 @@ fn long_lines_are_cut_around_the_place(rt: HostRuntime) -> Result<(), Fail> {
         alloc,
         &[b'a'; 121],
         100,
-        "1 | ...aaaaaaaaaaaaaaaaaaaaaaaaaaaaaaaaaaaaaaaaaaaaaaaaaaaaaaaaaaaaaaaaaaaaaaaaaaaaaaaaa
+        "a.rbi:1:101:
+1 | ...aaaaaaaaaaaaaaaaaaaaaaaaaaaaaaaaaaaaaaaaaaaaaaaaaaaaaaaaaaaaaaaaaaaaaaaaaaaaaaaaa
   |                                                                ^
 ",
     )?;
@@ -86,7 +107,8 @@ fn long_lines_are_cut_around_the_place(rt: HostRuntime) -> Result<(), Fail> {
         alloc,
         &[b'a'; 121],
         0,
-        "1 | aaaaaaaaaaaaaaaaaaaaaaaaaaaaaaaaaaaaaaaaaaaaaaaaaaaaaaaaaaaa...
+        "a.rbi:1:1:
+1 | aaaaaaaaaaaaaaaaaaaaaaaaaaaaaaaaaaaaaaaaaaaaaaaaaaaaaaaaaaaa...
   | ^
 ",
     )?;
@@ -100,7 +122,8 @@ fn characters_are_not_cut(rt: HostRuntime) -> Result<(), Fail> {
         rt.alloc(),
         source.as_bytes(),
         121,
-        "1 | ...日日日日日日日日日日日日日日日日日日日日ax
+        "a.rbi:1:42:
+1 | ...日日日日日日日日日日日日日日日日日日日日ax
   |                                             ^
 ",
     )?;
@@ -119,7 +142,7 @@ fn places_on_a_short_line_share_it(rt: HostRuntime) -> Result<(), Fail> {
   | ^ local code decides this
   |   ^ and this would wait for it
 Local code decides whether the call is made, and it runs only when the batch has come back.
-Decide by results of calls, and by variables from before the batch that it doesn't assign; or let the batch begin inside.
+Let a `var` from before the batch keep what is decided, and begin a second batch after it, in an `if` on that `var`.
 ",
     )?;
     let long =
@@ -134,7 +157,7 @@ Decide by results of calls, and by variables from before the batch that it doesn
 1 | aaaaaaaaaaaaaaaaaaaaaaaaaaaaaaaaaaaaaaaaaaaaaaaaaaaaaaaaaaaaaa...
   |   ^ and this would wait for it
 Local code decides whether the call is made, and it runs only when the batch has come back.
-Decide by results of calls, and by variables from before the batch that it doesn't assign; or let the batch begin inside.
+Let a `var` from before the batch keep what is decided, and begin a second batch after it, in an `if` on that `var`.
 ",
     )?;
     Ok(())
@@ -147,7 +170,7 @@ fn nothing_is_quoted_where_no_place_is_told(rt: HostRuntime) -> Result<(), Fail>
         "a b",
         &[],
         "A batch is sent before its results come back, so what local code makes of a result can't go into it again.
-Make what flows `val`s of results and operators alone, so that the server keeps them; or end the batch in between, and begin a second one.
+Keep in a List what this batch gives; then begin a batch for each item, in a `while` after it.
 ",
     )?;
     Ok(())

@@ -130,19 +130,8 @@ fn tokens_that_are_not_expected(rt: HostRuntime) -> Result<(), Fail> {
         ReadError::Unexpected(19),
         "3 | 
   | ^
-The text ends here, and something is missing.
-See whether each `{` has its `}`, and whether `main` stands at the end.
-",
-    )?;
-    let source = "main { val len = 1; }";
-    unread(
-        alloc,
-        source,
-        ReadError::Unexpected(place(source, "len")),
-        "1 | main { val len = 1; }
-  |            ^
-A name is wanted here, and `len` is a word of the language.
-Choose another name.
+The text ends here, and the `{` in line 1 isn't closed.
+Write a `}` at the end of its block, or of the block in it that lacks one.
 ",
     )?;
     let source = "main { val 1 = 1; }";
@@ -156,15 +145,15 @@ A name is wanted here, and `1` is none.
 Write a name: a letter or `_`, and then letters, digits and `_`.
 ",
     )?;
-    let source = "main { print(1) }";
+    let source = "main { else { } }";
     unread(
         alloc,
         source,
-        ReadError::Unexpected(place(source, "}")),
-        "1 | main { print(1) }
-  |                 ^
-`}` can't stand here.
-See whether something is missing before it, such as a `;`, a `)` or a `}`.
+        ReadError::Unexpected(place(source, "else")),
+        "1 | main { else { } }
+  |        ^
+`else` can't stand here.
+What can stand here is a statement, `return` or `}`.
 ",
     )?;
     Ok(())

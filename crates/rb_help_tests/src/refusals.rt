@@ -23,7 +23,7 @@ fn a_flow_is_told_with_its_whole_chain(rt: HostRuntime) -> Result<(), Fail> {
 4 |   r.file(1).grow(s);
   |                  ^ and is sent back here
 A batch is sent before its results come back, so what local code puts into `s` can't go into it again.
-Make `s` a `val`, so that the server keeps it; or end the batch in between, and begin a second one.
+Bind each value of `s` by a `val` with a name of its own, so that the server keeps it, and send the last.
 ",
     )?;
     let source =
@@ -42,7 +42,8 @@ Make `s` a `val`, so that the server keeps it; or end the batch in between, and 
 3 |   r.file(1).grow(o.get());
   |                    ^ and is sent back here
 A batch is sent before its results come back, so what local code makes of a result can't go into it again.
-Make what flows `val`s of results and operators alone, so that the server keeps them; or end the batch in between, and begin a second one.
+End the batch before `r.file(1).grow(o.get())` in line 3, and begin a second one there.
+Put `o.get()` into a `val` between the two, and send that.
 ",
     )?;
     Ok(())
@@ -73,115 +74,8 @@ fn each_writer_of_a_chain_is_named(rt: HostRuntime) -> Result<(), Fail> {
   |                                                             ^ flows into `d` here
   |                                                                        ^ flows into `e` here
   |                                                                                                           ^ and is sent back here
-A batch is sent before its results come back, so what local code makes of a result can't go into it again.
-Make what flows `val`s of results and operators alone, so that the server keeps them; or end the batch in between, and begin a second one.
-",
-    )?;
-    Ok(())
-}
-
-#[test]
-fn what_is_sent_is_constant(rt: HostRuntime) -> Result<(), Fail> {
-    let alloc = rt.alloc();
-    let source = "main { var n = 1; batch (D r) { n = 2; r.put(n); } }";
-    refused(
-        alloc,
-        source,
-        Refusal::NotConstant(place(source, "n);")),
-        "1 | main { var n = 1; batch (D r) { n = 2; r.put(n); } }
-  |                                              ^
-`n` isn't known when the batch begins, and what a batch sends has to be.
-Put the Int, Bool or Text that is meant into a `val` before the batch, and write that here.
-",
-    )?;
-    let source = "main { val a = List<Int>(1); batch (D r) { r.put(a[0]); } }";
-    refused(
-        alloc,
-        source,
-        Refusal::NotConstant(place(source, "[0")),
-        "1 | main { val a = List<Int>(1); batch (D r) { r.put(a[0]); } }
-  |                                                   ^
-This isn't known when the batch begins, and what a batch sends has to be.
-Put the Int, Bool or Text that is meant into a `val` before the batch, and write that here.
-",
-    )?;
-    let source = "main { var n = 1; batch (D r) {\n  n = 2;\n  if (n > 0) { r.put(1); }\n} }";
-    refused(
-        alloc,
-        source,
-        Refusal::UnderLocalCondition(place(source, ">"), place(source, "put")),
-        "3 |   if (n > 0) { r.put(1); }
-  |         ^ local code decides this
-  |                  ^ and this would wait for it
-Local code decides whether the call is made, and it runs only when the batch has come back.
-Decide by results of calls, and by variables from before the batch that it doesn't assign; or let the batch begin inside.
-",
-    )?;
-    Ok(())
-}
-
-#[test]
-fn remote_objects_stay(rt: HostRuntime) -> Result<(), Fail> {
-    let alloc = rt.alloc();
-    let source = "main { batch (Dir r) { print(r.file(0)); } }";
-    refused(
-        alloc,
-        source,
-        Refusal::Escapes(place(source, "file")),
-        "1 | main { batch (Dir r) { print(r.file(0)); } }
-  |                                ^
-A remote object, or rows, can't be used here: they stay at the server.
-Call a method that gives an Int, a Bool or a Text, or go over the rows by `for`.
-",
-    )?;
-    let source = "main { batch (Dir r) { var f = r.file(0); } }";
-    refused(
-        alloc,
-        source,
-        Refusal::RemoteVar(place(source, "var")),
-        "1 | main { batch (Dir r) { var f = r.file(0); } }
-  |                        ^
-`f` would hold a remote object or rows, and a `var` can't.
-Write `val f` in place of `var f`.
-",
-    )?;
-    let source = "main { batch (Dir r) { try { r.burn(1); } catch (e) { } } }";
-    refused(
-        alloc,
-        source,
-        Refusal::InTry(place(source, "burn")),
-        "1 | main { batch (Dir r) { try { r.burn(1); } catch (e) { } } }
-  |                                ^
-This is performed at the server, and can't stand in a `try` of the batch.
-Put the whole batch into the `try`.
-",
-    )?;
-    Ok(())
-}
-
-#[test]
-fn batches_do_not_nest(rt: HostRuntime) -> Result<(), Fail> {
-    let alloc = rt.alloc();
-    let source = "main { batch (Dir r) {\n  batch (Dir q) { }\n} }";
-    refused(
-        alloc,
-        source,
-        Refusal::BatchInside(place(source, "batch (Dir q")),
-        "2 |   batch (Dir q) { }
-  |   ^
-A batch can't stand in a batch.
-End the first one before this one begins.
-",
-    )?;
-    let source = "main { batch (Dir r) { a.go(); } }";
-    refused(
-        alloc,
-        source,
-        Refusal::BatchInside(place(source, "go")),
-        "1 | main { batch (Dir r) { a.go(); } }
-  |                          ^
-`go` is a `remote fun`, and can't be called in a batch.
-Call it before the batch or behind it.
+A batch is sent before its results come back, so what local code puts into `e` can't go into it again.
+Keep in a List what this batch gives; then begin a batch for each item, in a `while` after it.
 ",
     )?;
     Ok(())

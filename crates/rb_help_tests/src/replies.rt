@@ -8,7 +8,7 @@ use std::test::Fail;
 /// Fails unless this is the first sentence on the third reply of the server at `here:9`.
 fn replies(alloc: Global, flaw: ReplyFlaw, expected: &str) -> Result<(), Fail> {
     let trouble = Trouble::BadReply(Server::Address(b"here:9"), 2, flaw);
-    let text = explain(alloc, b"", &trouble)?;
+    let text = explain(alloc, b"", b"", &trouble)?;
     begins(text.as_slice(), expected)
 }
 

@@ -16,7 +16,7 @@ pub fn says(
     trouble: &Trouble<'_>,
     expected: &str,
 ) -> Result<(), Fail> {
-    let text = explain(alloc, source.as_bytes(), trouble)?;
+    let text = explain(alloc, b"", source.as_bytes(), trouble)?;
     same(text.as_slice(), expected)
 }
 
@@ -197,7 +197,7 @@ pub type Row = (&'static str, &'static str, Found, &'static str);
 fn is_told(alloc: Global, row: &Row) -> Result<(), Fail> {
     let (source, word, found, said) = *row;
     let error = TypeError::WrongType(place(source, word), form_of(alloc, found)?);
-    let text = explain(alloc, source.as_bytes(), &Trouble::Untyped(&error))?;
+    let text = explain(alloc, b"", source.as_bytes(), &Trouble::Untyped(&error))?;
     same(behind_caret(text.as_slice()), said)
 }
 
@@ -208,11 +208,17 @@ pub fn begins(said: &[u8], expected: &str) -> Result<(), Fail> {
 
 /// What stands behind the line with the caret, without the last line feed.
 fn behind_caret(text: &[u8]) -> &[u8] {
+    let below = below_caret(text);
+    below.get(..below.len().saturating_sub(1)).unwrap_or(b"")
+}
+
+/// What stands below the line with the caret.
+pub fn below_caret(text: &[u8]) -> &[u8] {
     let start = text
         .windows(2)
         .position(|it| it == b"^\n".as_slice())
         .map_or(0, |at| at.saturating_add(2));
-    text.get(start..text.len().saturating_sub(1)).unwrap_or(b"")
+    text.get(start..).unwrap_or(b"")
 }
 
 /// Fails unless of each row that is said.

@@ -100,8 +100,8 @@ const ASSIGNED: [Said; 3] = [
         "= 2",
         "1 | main { val s = 1; s = 2; }
   |                     ^
-`s` can't be assigned, since it isn't a `var`.
-Declare it by `var`; or copy its value into a `var`, and assign that.
+`s` can't be assigned, since it is a `val`.
+Write `var s` in place of `val s` in line 1.
 ",
     ),
     (
@@ -139,8 +139,8 @@ const TYPES: [Said; 3] = [
         "List",
         "1 | interface D { fun m(a: List<Int>); } main { }
   |                        ^
-A method of an interface can't take or give this type.
-It takes Int, Bool, Text and interfaces, and gives these or Rows of them.
+A method of an interface can't take a List.
+Let it take one item, and call it once for each.
 ",
     ),
     (
@@ -149,8 +149,8 @@ It takes Int, Bool, Text and interfaces, and gives these or Rows of them.
         "D;",
         "1 | interface D { } class A { d: D; } main { }
   |                              ^
-A class can't have this type here.
-Its fields, parameters and lists are of Int, Bool, Text, classes and Lists; its methods give these.
+`D` is an interface, and its objects are known in a batch alone.
+Take what its methods give, as an Int, a Bool or a Text.
 ",
     ),
     (

@@ -1,13 +1,13 @@
 // What a person is told on standard error, behind the answer's line.
 
+use crate::kept_files::KeptFiles;
 use rb_client::BadReason;
-use rb_help::{ReplyFlaw, Server, Trouble, coloured, explain};
+use rb_help::{ReplyFlaw, Server, Trouble, coloured, explain, is_help_option};
 use rb_top::{SourceError, Status};
 use rb_trees::{Memory, Word};
 use rb_wire_forest::Misfit;
 use std::alloc::Global;
-use std::rt::Files;
-use std::{fs, str};
+use std::str;
 
 /// The word of a number, or nothing where there is none.
 fn word(words: &[String], number: usize) -> &str {
@@ -17,12 +17,19 @@ fn word(words: &[String], number: usize) -> &str {
     }
 }
 
-/// The numbers of the words that name the program and the service.
-fn names(words: &[String]) -> (usize, usize) {
+/// The name of the program's file.
+fn program_of(words: &[String]) -> &str {
     match word(words, 0) {
-        "run" => (2, 0),
-        "child" => (0, 1),
-        _ => (1, 2),
+        "run" => word(words, 2),
+        _ => word(words, 1),
+    }
+}
+
+/// The name of the service's file.
+fn service_of(words: &[String]) -> &str {
+    match word(words, 0) {
+        "child" => word(words, 1),
+        _ => word(words, 2),
     }
 }
 
@@ -48,29 +55,41 @@ fn flaw(reason: &BadReason) -> ReplyFlaw {
     }
 }
 
-/// What went wrong by a status, if anything did, and the number of the word that names the text of which it speaks.
-fn trouble_of<'a>(words: &'a [String], status: &'a Status) -> Option<(Trouble<'a>, usize)> {
-    let (program, service) = names(words);
+/// What went wrong with the program, if something did.
+fn trouble_of_program(status: &Status) -> Option<Trouble<'_>> {
     match status {
-        Status::Done => None,
-        Status::Faulted(fault, at) => Some((Trouble::Faulted(fault, *at), program)),
-        Status::Words => Some((Trouble::Words, 0)),
-        Status::FileFault(name) => Some((Trouble::FileFault(name.as_slice()), 0)),
-        Status::FileTooLong(name) => Some((Trouble::FileTooLong(name.as_slice()), 0)),
-        Status::SourceRefused(SourceError::Read(error)) => Some((Trouble::Unread(error), program)),
-        Status::SourceRefused(SourceError::Types(error)) => {
-            Some((Trouble::Untyped(error), program))
-        }
-        Status::BatchRefused(refusal) => Some((Trouble::Refused(refusal), program)),
-        Status::ServiceRefused(error) => Some((Trouble::Unserved(error), service)),
-        Status::LinkFault(done) => Some((Trouble::LinkFault(server(words), *done), 0)),
+        Status::Faulted(fault, at) => Some(Trouble::Faulted(fault, *at)),
+        Status::SourceRefused(SourceError::Read(error)) => Some(Trouble::Unread(error)),
+        Status::SourceRefused(SourceError::Types(error)) => Some(Trouble::Untyped(error)),
+        Status::BatchRefused(refusal) => Some(Trouble::Refused(refusal)),
+        _ => None,
+    }
+}
+
+/// What went wrong with the service, if something did.
+fn trouble_of_service(status: &Status) -> Option<Trouble<'_>> {
+    match status {
+        Status::ServiceRefused(error) => Some(Trouble::Unserved(error)),
+        _ => None,
+    }
+}
+
+/// What went wrong around the texts, if something did.
+fn trouble_around<'a>(words: &'a [String], status: &'a Status) -> Option<Trouble<'a>> {
+    match status {
+        Status::Words => Some(Trouble::Words(words)),
+        Status::FileFault(name) if is_help_option(name.as_slice()) => Some(Trouble::Words(words)),
+        Status::FileFault(name) => Some(Trouble::FileFault(name.as_slice())),
+        Status::FileTooLong(name) => Some(Trouble::FileTooLong(name.as_slice())),
+        Status::LinkFault(done) => Some(Trouble::LinkFault(server(words), *done)),
         Status::BadReply { done, reason, .. } => {
-            Some((Trouble::BadReply(server(words), *done, flaw(reason)), 0))
+            Some(Trouble::BadReply(server(words), *done, flaw(reason)))
         }
-        Status::DialFault => Some((Trouble::DialFault(server(words)), 0)),
-        Status::ListenFault => Some((Trouble::ListenFault(listened(words).as_bytes()), 0)),
-        Status::WriteFault => Some((Trouble::OutputFault, 0)),
-        Status::Memory => Some((Trouble::Memory, 0)),
+        Status::DialFault => Some(Trouble::DialFault(server(words))),
+        Status::ListenFault => Some(Trouble::ListenFault(listened(words).as_bytes())),
+        Status::WriteFault => Some(Trouble::OutputFault),
+        Status::Memory => Some(Trouble::Memory),
+        _ => None,
     }
 }
 
@@ -83,41 +102,61 @@ fn listened(words: &[String]) -> &str {
     }
 }
 
-/// What a person is told of a trouble in a text, in colours or plain.
+/// What a person is told of a trouble in a text of a name. There is nothing to be told of a text that isn't there.
 fn told(
     alloc: Global,
-    text: &[u8],
+    name: &str,
+    text: Option<&[u8]>,
     trouble: &Trouble<'_>,
-    in_colours: bool,
-) -> Result<Word, Memory> {
-    let plain = explain(alloc, text, trouble)?;
-    if in_colours {
-        coloured(alloc, plain.as_slice())
-    } else {
-        Ok(plain)
+) -> Result<Option<Word>, Memory> {
+    match text {
+        Some(text) => Ok(Some(explain(alloc, name.as_bytes(), text, trouble)?)),
+        None => Ok(None),
     }
 }
 
-/// Writes to standard error what went wrong, with the lines of the text, in colours or plain. What can't be read or written
-/// is left out: it changes neither output nor status.
-pub fn tell<R: AllocGlobal + Files + Eprint>(
+/// What a person is told of a status, if anything went wrong.
+fn help<F>(
+    alloc: Global,
+    words: &[String],
+    status: &Status,
+    files: &KeptFiles<F>,
+) -> Result<Option<Word>, Memory> {
+    if let Some(trouble) = trouble_of_program(status) {
+        return told(alloc, program_of(words), files.first(), &trouble);
+    }
+    if let Some(trouble) = trouble_of_service(status) {
+        return told(alloc, service_of(words), files.last(), &trouble);
+    }
+    match trouble_around(words, status) {
+        Some(trouble) => told(alloc, "", Some(b""), &trouble),
+        None => Ok(None),
+    }
+}
+
+/// A help as it is written, in colours or plain.
+fn written(alloc: Global, help: Word, in_colours: bool) -> Result<Word, Memory> {
+    if in_colours {
+        coloured(alloc, help.as_slice())
+    } else {
+        Ok(help)
+    }
+}
+
+/// Writes to standard error what went wrong, with the lines of the text as it was read, in colours or plain. Where no memory
+/// is left or standard error can't be written it is left out: it changes neither output nor status.
+pub fn tell<R: AllocGlobal + Eprint, F>(
     rt: &R,
     words: &[String],
     status: &Status,
+    files: &KeptFiles<F>,
     in_colours: bool,
 ) {
-    let Some((trouble, number)) = trouble_of(words, status) else {
+    let Ok(Some(help)) = help(rt.alloc(), words, status, files) else {
         return;
     };
-    let text = match words.get(number) {
-        Some(name) if number > 0 => fs::read(rt, name.as_str()),
-        _ => Ok(Vec::new(rt.alloc())),
-    };
-    let Ok(text) = text else {
-        return;
-    };
-    if let Ok(told) = told(rt.alloc(), text.as_slice(), &trouble, in_colours) {
-        if let Ok(lines) = str::from_utf8(told.as_slice()) {
+    if let Ok(help) = written(rt.alloc(), help, in_colours) {
+        if let Ok(lines) = str::from_utf8(help.as_slice()) {
             let _ = eprint!(rt; "{lines}");
         }
     }

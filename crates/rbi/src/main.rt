@@ -2,7 +2,9 @@
 #![tactic(auto)]
 
 mod help;
+mod kept_files;
 
+use kept_files::KeptFiles;
 use rb_devices::{RealDial, RealFiles, RealListen, StandardOutput};
 use rb_top::{Status, top};
 use rb_trees::Memory;
@@ -14,14 +16,18 @@ use std::rt::{Env, Files};
 use std::{env, io};
 
 fn main(rt: HostRuntime) -> ExitCode {
-    let in_colours = rt.stderr().is_terminal() && !has_no_colour(&rt);
+    let in_colours = rt.stderr().is_terminal() && !is_plain(&rt);
     let status = run(&rt, (rt.stdin(), rt.stdout()), in_colours);
     ExitCode::from(status.code())
 }
 
-/// Whether the environment asks for no colours.
-fn has_no_colour<R: Env + AllocGlobal>(rt: &R) -> bool {
-    !matches!(env::var(rt, "NO_COLOR"), Err(VarError::NotPresent))
+/// Whether the environment asks for no colours: NO_COLOR is set, be it empty, or the terminal is a dumb one.
+fn is_plain<R: Env + AllocGlobal>(rt: &R) -> bool {
+    let is_dumb = match env::var(rt, "TERM") {
+        Ok(terminal) => terminal.as_str() == "dumb",
+        Err(_) => false,
+    };
+    is_dumb || !matches!(env::var(rt, "NO_COLOR"), Err(VarError::NotPresent))
 }
 
 /// Carries out what the words say, and tells what went wrong. The session at `-` is over the standard streams.
@@ -36,15 +42,16 @@ fn run<
 >(rt: &R, standard: (Stdin, Stdout), in_colours: bool) -> Status {
     match called(rt) {
         Ok(Call { program, words }) => {
+            let mut files = KeptFiles::make(rt.alloc(), RealFiles::make(rt));
             let status = top(
                 rt.alloc(),
                 words.as_slice(),
-                &mut RealFiles::make(rt),
+                &mut files,
                 &mut StandardOutput::make(rt),
                 &mut RealDial::make(rt, program.as_str()),
                 &mut RealListen::make(rt, standard.0, standard.1),
             );
-            help::tell(rt, words.as_slice(), &status, in_colours);
+            help::tell(rt, words.as_slice(), &status, &files, in_colours);
             status
         }
         Err(Memory) => Status::Memory,

@@ -2,4 +2,4 @@ use Rattle.rb_help.proofs.Quoting.{QuotesSoFar}
 use Rattle.rb_help.proofs.blocks.blocks.Given as goal
 
 abbrev pub invariant-loop-number : goal.invariant-loop-number
-invariant-loop-number l = QuotesSoFar l.places l.ats l.earlier l.number l.text
+invariant-loop-number l = QuotesSoFar l.sheet l.ats l.earlier l.number l.text

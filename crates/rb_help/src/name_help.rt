@@ -1,0 +1,158 @@
+// What is said of names that aren't known.
+
+use crate::around::is_in_class;
+use crate::declarations::{Declared, declared_at, declared_before, head_before};
+use crate::members::{Part, member_once};
+use crate::page::Page;
+use crate::pieces::Pieces;
+use crate::slip_words::of_statement;
+use crate::texts::Help;
+use crate::{name_texts, slip_texts, texts};
+use rb_trees::Memory;
+
+/// What is said of a word that stands for a value in other languages.
+fn of_value(word: &[u8]) -> Option<&'static Help> {
+    match word {
+        b"null" | b"nil" | b"None" | b"undefined" | b"NULL" => Some(&slip_texts::NO_NULL),
+        b"self" | b"Self" | b"super" => Some(&slip_texts::THIS_WORD),
+        b"True" | b"False" | b"TRUE" | b"FALSE" => Some(&slip_texts::TRUTH),
+        b"System" => Some(&slip_texts::PRINTER),
+        _ => of_statement(word),
+    }
+}
+
+/// The language's type for one of other languages.
+fn type_for(word: &[u8]) -> Option<&'static [u8]> {
+    match word {
+        b"String" | b"string" | b"text" | b"char" | b"Char" => Some(b"Text"),
+        b"int" | b"Integer" | b"integer" | b"long" | b"Long" | b"number" => Some(b"Int"),
+        b"bool" | b"boolean" | b"Boolean" => Some(b"Bool"),
+        _ => None,
+    }
+}
+
+/// What is said of a type that isn't declared.
+fn say_no_type(page: &mut Page, name: &[u8], is_service: bool) -> Result<(), Memory> {
+    if let Some(word) = type_for(name) {
+        return page.say(&name_texts::OTHER_TYPE, name, word);
+    }
+    match name {
+        b"float" | b"double" | b"Float" | b"Double" => {
+            page.say_name(&name_texts::NO_FRACTIONS, name)
+        }
+        b"Array" | b"Vec" | b"list" | b"ArrayList" | b"array" => {
+            page.say_name(&name_texts::OTHER_LIST, name)
+        }
+        b"void" | b"Void" | b"unit" => page.say_name(&name_texts::NO_RESULT_TYPE, name),
+        _ if is_service => page.say_name(&name_texts::NO_CLASS_HERE, name),
+        _ => page.say_name(&texts::NO_TYPE, name),
+    }
+}
+
+/// Whether a class or interface of this name is declared by this word.
+fn is_declared_by(pieces: &Pieces<'_>, name: &[u8], word: &[u8]) -> bool {
+    match declared_before(pieces, pieces.len(), name, Declared::Type) {
+        Some(place) => pieces.is_earlier(place, 1, word),
+        None => false,
+    }
+}
+
+/// What is said of a `new` of what is no class.
+fn say_no_class(page: &mut Page, pieces: &Pieces<'_>, name: &[u8]) -> Result<(), Memory> {
+    if is_declared_by(pieces, name, b"interface") {
+        page.say_name(&name_texts::MADE_INTERFACE, name)
+    } else {
+        page.say_name(&texts::NO_CLASS, name)
+    }
+}
+
+/// What is said of a batch of what is no interface.
+fn say_no_interface(page: &mut Page, pieces: &Pieces<'_>, name: &[u8]) -> Result<(), Memory> {
+    if is_declared_by(pieces, name, b"class") {
+        page.say_name(&name_texts::BATCH_OF_CLASS, name)
+    } else {
+        page.say_name(&texts::NO_INTERFACE, name)
+    }
+}
+
+/// The piece that declares a variable in the body around another piece, before it.
+fn declared_in_body(pieces: &Pieces<'_>, index: usize, name: &[u8]) -> Option<usize> {
+    let place = declared_before(pieces, index, name, Declared::Variable)?;
+    if place > head_before(pieces, index) {
+        Some(place)
+    } else {
+        None
+    }
+}
+
+/// The piece that declares a variable behind another piece, before the next method or declaration.
+fn declared_later(pieces: &Pieces<'_>, index: usize, name: &[u8]) -> Option<usize> {
+    for place in index..pieces.len() {
+        if matches!(pieces.text(place), b"fun" | b"class" | b"main" | b"object") {
+            return None;
+        }
+        if pieces.is_later(place, 0, name) && declared_at(pieces, place) == Declared::Variable {
+            return Some(place);
+        }
+    }
+    None
+}
+
+/// What is said of a variable that isn't known.
+fn say_no_variable(page: &mut Page, pieces: &Pieces<'_>, index: usize) -> Result<(), Memory> {
+    let name = pieces.text(index);
+    if let Some(help) = of_value(name) {
+        return page.say_name(help, name);
+    }
+    if is_in_class(pieces, index) && member_once(pieces, name, Part::Field).is_some() {
+        return page.say_name(&name_texts::FIELD_OF_THIS, name);
+    }
+    if let Some(place) = declared_in_body(pieces, index, name) {
+        return page.say_number(&name_texts::OUT_OF_BLOCK, name, pieces.line(place));
+    }
+    if let Some(place) = declared_later(pieces, index, name) {
+        return page.say_number(&name_texts::DECLARED_LATER, name, pieces.line(place));
+    }
+    if declared_before(pieces, pieces.len(), name, Declared::Type).is_some() {
+        return page.say_name(&name_texts::TYPE_AS_VALUE, name);
+    }
+    if pieces.is_later(index, 1, b"=") && !pieces.is_later(index, 2, b"=") {
+        return page.say_name(&name_texts::NOT_DECLARED, name);
+    }
+    page.say_name(&texts::NO_VARIABLE, name)
+}
+
+/// What is said of a member that isn't known.
+fn say_no_member(page: &mut Page, pieces: &Pieces<'_>, index: usize) -> Result<(), Memory> {
+    let name = pieces.text(index);
+    let is_call = pieces.is_later(index, 1, b"(");
+    if is_call && member_once(pieces, name, Part::Field).is_some() {
+        return page.say_name(&name_texts::FIELD_NOT_METHOD, name);
+    }
+    if !is_call && member_once(pieces, name, Part::Result).is_some() {
+        return page.say_name(&name_texts::METHOD_NOT_FIELD, name);
+    }
+    match is_call {
+        true => page.say_name(&texts::NO_METHOD, name),
+        false => page.say_name(&texts::NO_FIELD, name),
+    }
+}
+
+/// What is said of a name that isn't known.
+pub fn say_unknown(
+    page: &mut Page,
+    pieces: &Pieces<'_>,
+    at: u32,
+    is_service: bool,
+) -> Result<(), Memory> {
+    let index = pieces.index_of(at);
+    match (pieces.text(index), pieces.earlier(index, 1)) {
+        (b"new", _) => say_no_class(page, pieces, pieces.later(index, 1)),
+        (b"batch", _) if is_service => page.say_plain(&texts::NO_BATCH),
+        (b"batch", _) => say_no_interface(page, pieces, pieces.later(index, 2)),
+        (b"this", _) => page.say_plain(&texts::NO_THIS),
+        (_, b".") => say_no_member(page, pieces, index),
+        (name, b":" | b"<") => say_no_type(page, name, is_service),
+        _ => say_no_variable(page, pieces, index),
+    }
+}
