@@ -3,7 +3,7 @@ use Rattle.std.specs.Prelude.{◌≡◌, ℕ, ◌+◌, ◌*◌, List, [], ◌∷
 use Rattle.std.specs.Fmt.{decimal}
 use Rattle.std.specs.Int.{is_in_range}
 use Rattle.rb_meaning.specs.Place.{line_of}
-use Rattle.rb_help.specs.Characters.{shown_text}
+use Rattle.rb_pieces.specs.Characters.{shown_text}
 use Rattle.rb_help.specs.Lines.{before_place}
 
 -- A text and the name of its file.

@@ -1,6 +1,5 @@
 pub mod Lines
 pub mod Near
-pub mod Characters
 pub mod Colours
 pub mod Headings
 pub mod Positions

@@ -4,7 +4,7 @@ use Rattle.std.specs.Fmt.{decimal}
 use Rattle.std.specs.List.{repeat}
 use Rattle.rb_meaning.specs.Place.{line_of}
 use Rattle.rb_help.specs.Lines.{before_place, line_at}
-use Rattle.rb_help.specs.Characters.{shown_text}
+use Rattle.rb_pieces.specs.Characters.{shown_text}
 use Rattle.rb_help.specs.Headings.{NamedText, heading}
 
 -- a line of at most so many bytes is quoted whole

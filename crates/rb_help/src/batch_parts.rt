@@ -1,8 +1,8 @@
 // The batch around a piece, its statements, and what is bound and assigned in it.
 
-use crate::around::{first_of_statement, is_name, open_brace};
-use crate::declarations::{Declared, declared_at, declared_before};
-use crate::pieces::Pieces;
+use rb_pieces::Pieces;
+use rb_pieces::around::{first_of_statement, is_name, open_brace};
+use rb_pieces::declarations::{Declared, declared_at, declared_before};
 
 /// A batch: its word, the brace behind its head, and the brace at its end.
 #[derive(Clone, Copy)]

@@ -6,10 +6,10 @@ ghost use Rattle.rb_help.specs.Quotes.{Quotes, Within};
 
 use crate::carets::caret;
 use crate::labels::label;
-use crate::pieces::Pieces;
 use crate::quotes::{digits, quote, shares};
 use crate::sheet::Sheet;
 use crate::trouble::Trouble;
+use rb_pieces::Pieces;
 use rb_trees::{Memory, Seq, Word};
 use std::alloc::Global;
 

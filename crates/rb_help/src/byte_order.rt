@@ -1,8 +1,8 @@
 // Marks of the order of bytes, which some editors put before a text.
 
 use crate::outside_texts::{UTF8_MARK, UTF16_MARK};
-use crate::texts::Help;
 use crate::trouble::Trouble;
+use rb_pieces::Help;
 use rb_trees::{LexError, ReadError, StoreError};
 
 /// Whether a text isn't read for its first byte.

@@ -1,8 +1,7 @@
 // Carets under quoted lines.
 
-use crate::page::Page;
 use crate::quotes::cut_at;
-use crate::showing::shown;
+use rb_pieces::{Page, shown};
 use rb_trees::{Memory, Word};
 use std::alloc::Global;
 use unicode_width::UnicodeWidthChar;

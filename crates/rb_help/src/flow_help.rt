@@ -4,10 +4,9 @@ use crate::batch_parts::{
     Across, BatchSpan, assigned_within, batch_around, bound_across, declaration_of, is_declared_by,
     is_portable, is_straight, statement_in,
 };
-use crate::page::Page;
-use crate::pieces::Pieces;
 use crate::refusal_texts;
-use crate::spans::span_at;
+use rb_pieces::spans::span_at;
+use rb_pieces::{Page, Pieces};
 use rb_trees::Memory;
 
 /// The variable that a piece is, or nothing where it is none.

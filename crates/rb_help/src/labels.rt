@@ -1,10 +1,9 @@
 // What is said beside carets.
 
-use crate::declarations::bound_name;
-use crate::page::Page;
-use crate::pieces::Pieces;
 use crate::texts;
 use crate::trouble::Trouble;
+use rb_pieces::declarations::bound_name;
+use rb_pieces::{Page, Pieces};
 use rb_trees::{Memory, Refusal, Word};
 use std::alloc::Global;
 

@@ -1,8 +1,8 @@
 // What is said where a client and its server don't come to an end together.
 
 use crate::outside_texts as texts;
-use crate::page::Page;
 use crate::trouble::{ReplyFlaw, Server};
+use rb_pieces::Page;
 use rb_trees::Memory;
 use std::alloc::Global;
 

@@ -1,25 +1,12 @@
 // What is said of names that aren't known.
 
-use crate::around::is_in_class;
-use crate::declarations::{Declared, declared_at, declared_before, head_before};
-use crate::members::{Part, member_once};
-use crate::page::Page;
-use crate::pieces::Pieces;
-use crate::slip_words::of_statement;
-use crate::texts::Help;
-use crate::{name_texts, slip_texts, texts};
+use crate::{name_texts, texts};
+use rb_pieces::around::is_in_class;
+use rb_pieces::declarations::{Declared, declared_at, declared_before, head_before};
+use rb_pieces::{Help, Page, Pieces};
+use rb_slips::other_word;
 use rb_trees::Memory;
-
-/// What is said of a word that stands for a value in other languages.
-fn of_value(word: &[u8]) -> Option<&'static Help> {
-    match word {
-        b"null" | b"nil" | b"None" | b"undefined" | b"NULL" => Some(&slip_texts::NO_NULL),
-        b"self" | b"Self" | b"super" => Some(&slip_texts::THIS_WORD),
-        b"True" | b"False" | b"TRUE" | b"FALSE" => Some(&slip_texts::TRUTH),
-        b"System" => Some(&slip_texts::PRINTER),
-        _ => of_statement(word),
-    }
-}
+use rb_type_help::{Part, member_once};
 
 /// The language's type for one of other languages.
 fn type_for(word: &[u8]) -> Option<&'static [u8]> {
@@ -101,7 +88,7 @@ fn declared_later(pieces: &Pieces<'_>, index: usize, name: &[u8]) -> Option<usiz
 /// What is said of a variable that isn't known.
 fn say_no_variable(page: &mut Page, pieces: &Pieces<'_>, index: usize) -> Result<(), Memory> {
     let name = pieces.text(index);
-    if let Some(help) = of_value(name) {
+    if let Some(help) = other_word(name) {
         return page.say_name(help, name);
     }
     if is_in_class(pieces, index) && member_once(pieces, name, Part::Field).is_some() {

@@ -1,7 +1,7 @@
 // The sentences on names that aren't known, and on what can't be assigned. `@` stands for a name of the text at hand, and `#`
 // for the number of a line or another word.
 
-use crate::texts::Help;
+use rb_pieces::Help;
 
 // Types.
 
@@ -78,8 +78,6 @@ pub const METHOD_NOT_FIELD: Help = Help {
     wrong: b"`@` is a method, and no field.",
     mend: b"Write `@(..)`.",
 };
-
-pub const INTERFACE_METHOD: &[u8] = b"An object of an interface has methods alone: write `@()`.";
 
 // What can't be assigned.
 

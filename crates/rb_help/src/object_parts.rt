@@ -1,8 +1,8 @@
 // The objects of a service: their fields and values, and the types that their classes say.
 
-use crate::around::is_number;
-use crate::declarations::{Declared, declared_once};
-use crate::pieces::Pieces;
+use rb_pieces::Pieces;
+use rb_pieces::around::is_number;
+use rb_pieces::declarations::{Declared, declared_once};
 use rb_trees::Memory;
 use std::alloc::Global;
 

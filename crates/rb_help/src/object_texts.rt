@@ -1,7 +1,7 @@
 // The sentences on objects of services. `@` stands for a name or value of the text at hand, and `#` for a number or another
 // name.
 
-use crate::texts::Help;
+use rb_pieces::Help;
 
 pub const NO_ROOT: Help = Help {
     wrong: b"The root is object @, and no object is written with that number.",

@@ -2,10 +2,9 @@
 
 use crate::link_help::{say_bad_reply, say_dial_fault, say_link_fault};
 use crate::outside_texts as texts;
-use crate::page::Page;
-use crate::texts::WANT_OF_MEMORY;
 use crate::trouble::Trouble;
 use crate::word_help::say_words;
+use rb_pieces::{OUT_OF_MEMORY, Page};
 use rb_trees::Memory;
 use std::alloc::Global;
 
@@ -20,7 +19,7 @@ pub fn say_outside(alloc: Global, page: &mut Page, trouble: &Trouble<'_>) -> Res
         Trouble::DialFault(server) => say_dial_fault(page, server),
         Trouble::ListenFault(address) => page.say_name(&texts::LISTEN_FAULT, address),
         Trouble::OutputFault => page.say_plain(&texts::OUTPUT_FAULT),
-        Trouble::Memory => page.say_plain(&WANT_OF_MEMORY),
+        Trouble::Memory => page.say_plain(&OUT_OF_MEMORY),
         Trouble::Faulted(_, _)
         | Trouble::Unread(_)
         | Trouble::Untyped(_)

@@ -1,7 +1,7 @@
 // The sentences on what stands around a program. `@` stands for the name of a file or the address of a server, and `#`
 // for a number.
 
-use crate::texts::Help;
+use rb_pieces::Help;
 
 // Words of the command line. `#` stands for the words that a command takes.
 

@@ -4,7 +4,7 @@ ghost use Rattle.std.specs.Prelude.{◌≡◌, ◌+◌, ◌≤◌, codes, length
 ghost use Rattle.std.specs.Fmt.{decimal};
 ghost use Rattle.std.specs.List.{repeat};
 ghost use Rattle.rb_help.specs.Appends.{Appends};
-ghost use Rattle.rb_help.specs.Characters.{shown_text};
+ghost use Rattle.rb_pieces.specs.Characters.{shown_text};
 ghost use Rattle.rb_help.specs.Headings as headings;
 ghost use Rattle.rb_help.specs.Near.{IsNear, IsPart, IsPartOfLine};
 ghost use Rattle.rb_help.specs.Quotes as words;
@@ -12,7 +12,7 @@ ghost use Rattle.rb_help.specs.Quotes.{IsQuote};
 
 use crate::lines::{Line, line_within};
 use crate::sheet::Sheet;
-use crate::showing::shown;
+use rb_pieces::shown;
 use rb_trees::{Memory, Seq, Word};
 use std::alloc::Global;
 

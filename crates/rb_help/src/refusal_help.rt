@@ -1,18 +1,17 @@
 // What is said where a batch is refused.
 
-use crate::around::open_brace;
 use crate::batch_parts::{
     BatchSpan, assigned_within, batch_around, declaration_of, is_declared_by, is_portable,
     statement_in, statement_start,
 };
-use crate::declarations::{Declared, declared_once};
 use crate::flow_help::{say_declare, say_flow, say_not_constant};
-use crate::known_types::{known_type, name_of};
-use crate::page::Page;
-use crate::pieces::Pieces;
 use crate::refusal_texts;
-use crate::spans::{operand_first, operand_last, span_at};
+use rb_pieces::around::open_brace;
+use rb_pieces::declarations::{Declared, declared_once};
+use rb_pieces::spans::{operand_first, operand_last, span_at};
+use rb_pieces::{Page, Pieces};
 use rb_trees::{Memory, Refusal};
+use rb_type_help::{known_type, name_of};
 
 /// The first brace from a piece on.
 fn brace_behind(pieces: &Pieces<'_>, index: usize) -> usize {

@@ -1,7 +1,7 @@
 // The sentences on batches that are refused. `@` stands for a name or a statement of the text at hand, and `#` for a number or
 // another name.
 
-use crate::texts::Help;
+use rb_pieces::Help;
 
 // What comes back and would be sent again.
 

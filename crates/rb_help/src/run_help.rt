@@ -1,17 +1,15 @@
 // What is said where a run ended by a fault.
 
-use crate::declarations::{Declared, declared_once};
-use crate::known_types::{known_type, name_of};
-use crate::page::Page;
-use crate::pieces::Pieces;
-use crate::spans::{Span, closing, operand_first};
 use crate::texts;
-use crate::texts::Help;
+use rb_pieces::declarations::{Declared, declared_once};
+use rb_pieces::spans::{Span, closing, operand_first};
+use rb_pieces::{Help, Page, Pieces};
 use rb_trees::fault_codes::{
     BAD_ARGUMENTS, DIVISION_BY_ZERO, FUEL_USED, HEAP_FULL, INDEX_OUTSIDE, KIND, LIST_TOO_LONG,
     NO_METHOD, TEXT_TOO_LONG, THROWN, TOO_DEEP, WRONG_KIND,
 };
 use rb_trees::{Fault, Memory};
+use rb_type_help::{known_type, name_of};
 
 /// Whether a piece is the name of a method that is called.
 fn is_call(pieces: &Pieces<'_>, index: usize) -> bool {

@@ -1,20 +1,17 @@
 // What is said where a text is no service.
 
 use crate::carets::caret;
-use crate::known_types::Written;
 use crate::lines::line_at;
 use crate::object_parts::{
     Flaw, Objects, due_at, first_due, first_given, flaw_of, given_at, gives, item_word, next_field,
     place_of,
 };
-use crate::page::Page;
-use crate::pieces::Pieces;
-use crate::reading_help::say_read_service;
-use crate::showing::shown;
-use crate::type_words::written_word;
 use crate::typing_help::say_types;
 use crate::{object_texts, texts};
+use rb_pieces::{OUT_OF_MEMORY, Page, Pieces, shown};
+use rb_slips::say_read_service;
 use rb_trees::{Memory, StoreError};
+use rb_type_help::{Written, written_word};
 use std::alloc::Global;
 
 /// A line of at most so many bytes is quoted.
@@ -242,7 +239,7 @@ pub fn say_service(
     match error {
         StoreError::Read(error) => say_read_service(page, pieces, error),
         StoreError::Types(error) => say_types(alloc, page, pieces, error, true),
-        StoreError::Memory => page.say_plain(&texts::WANT_OF_MEMORY),
+        StoreError::Memory => page.say_plain(&OUT_OF_MEMORY),
         _ => say_objects(alloc, page, pieces, error),
     }
 }

@@ -1,11 +1,6 @@
 // The sentences on texts and on runs. `@` stands for a name or sign of the text at hand, and `#` for a number or a type.
 
-/// What is wrong, and what to do.
-#[derive(Clone, Copy)]
-pub struct Help {
-    pub wrong: &'static [u8],
-    pub mend: &'static [u8],
-}
+use rb_pieces::Help;
 
 /// What is wrong with a count of arguments, and what to do: where the declaration isn't known, where it is, and where it
 /// wants none.
@@ -16,81 +11,6 @@ pub struct Count {
     pub one_for_each: &'static [u8],
     pub write_none: &'static [u8],
 }
-
-// Tokens.
-
-pub const NO_TOKEN: Help = Help {
-    wrong: b"`@` begins nothing in this language.",
-    mend: b"Take it out; other signs than the language's own stand in text literals and comments alone.",
-};
-
-pub const HALF_SIGN: Help = Help {
-    wrong: b"A single `@` means nothing here.",
-    mend: b"Write `@@`.",
-};
-
-pub const BAD_ESCAPE: Help = Help {
-    wrong: b"In a text literal a backslash stands only in `\\n`, `\\\"` and `\\\\`.",
-    mend: b"Write `\\\\` where the text is to have a backslash.",
-};
-
-pub const OPEN_TEXT: Help = Help {
-    wrong: b"This text literal isn't closed on its line.",
-    mend: b"Close it by `\"`; a line feed in it is written `\\n`.",
-};
-
-pub const LARGE_NUMBER: Help = Help {
-    wrong: b"@ is no Int: the greatest is 9223372036854775807, and the least -9223372036854775808.",
-    mend: b"Write a number between them.",
-};
-
-pub const NOT_UTF8: Help = Help {
-    wrong: b"The text isn't UTF-8 from here on.",
-    mend: b"Save the file as UTF-8.",
-};
-
-pub const LONG_SOURCE: Help = Help {
-    wrong: b"The text goes on here, behind the 1048576 bytes that it may have.",
-    mend: b"Shorten it.",
-};
-
-pub const LONG_LITERAL: Help = Help {
-    wrong: b"This text literal has more than the 4096 bytes that a Text may have.",
-    mend: b"Shorten it, or print it in several pieces.",
-};
-
-// Reading.
-
-pub const ENDS_EARLY: Help = Help {
-    wrong: b"The text ends here, and something is missing.",
-    mend: b"See whether each `{` has its `}`, and whether `main` stands at the end.",
-};
-
-pub const KEYWORD_AS_NAME: Help = Help {
-    wrong: b"A name is wanted here, and `@` is a word of the language.",
-    mend: b"Choose another name.",
-};
-
-pub const NAME_WANTED: Help = Help {
-    wrong: b"A name is wanted here, and `@` is none.",
-    mend: b"Write a name: a letter or `_`, and then letters, digits and `_`.",
-};
-
-pub const UNEXPECTED: Help = Help {
-    wrong: b"`@` can't stand here.",
-    mend: b"See whether something is missing before it, such as a `;`, a `)` or a `}`.",
-};
-
-pub const BLOCKS_NESTED: Help = Help {
-    wrong: b"64 blocks are open before this one, and no more may be.",
-    mend: b"Move inner blocks into a method of their own.",
-};
-
-pub const NESTED: Help = Help {
-    wrong: b"This is nested too deep: an expression has at most 200 operators, dots, brackets and parentheses, \
-and a type or list at most 64 brackets within each other.",
-    mend: b"Give parts of it names of their own by `val`.",
-};
 
 // Types.
 
@@ -318,13 +238,6 @@ pub const KIND: Help = Help {
 pub const OTHER_FAULT: Help = Help {
     wrong: b"The program ended here, by a fault without a name.",
     mend: b"See whether the server is the one that is meant.",
-};
-
-// Memory.
-
-pub const WANT_OF_MEMORY: Help = Help {
-    wrong: b"No memory was left.",
-    mend: b"Give the program more, or less to do.",
 };
 
 // Labels beside carets.

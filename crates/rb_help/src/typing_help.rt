@@ -1,18 +1,17 @@
 // What is said where a program or a service isn't typed.
 
-use crate::around::is_name;
-use crate::declarations::{
+use crate::name_help::say_unknown;
+use crate::texts::Count;
+use crate::{name_texts, texts};
+use rb_pieces::around::is_name;
+use rb_pieces::declarations::{
     Declared, arguments_behind, bound_name, declared_at, declared_before, declared_once,
     fields_behind,
 };
-use crate::name_help::say_unknown;
-use crate::page::Page;
-use crate::pieces::Pieces;
-use crate::spans::opening;
-use crate::texts::{Count, Help};
-use crate::wrong_types::say_wrong_type;
-use crate::{name_texts, texts};
+use rb_pieces::spans::opening;
+use rb_pieces::{Help, OUT_OF_MEMORY, Page, Pieces};
 use rb_trees::{Memory, TypeError};
+use rb_type_help::say_wrong_type;
 use std::alloc::Global;
 
 fn say_taken(page: &mut Page, pieces: &Pieces<'_>, at: u32) -> Result<(), Memory> {
@@ -165,6 +164,6 @@ pub fn say_types(
             let index = pieces.index_of(*at);
             page.say_name(not_allowed(pieces, index, is_service), pieces.text(index))
         }
-        TypeError::Memory => page.say_plain(&texts::WANT_OF_MEMORY),
+        TypeError::Memory => page.say_plain(&OUT_OF_MEMORY),
     }
 }

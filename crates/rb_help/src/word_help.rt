@@ -3,7 +3,7 @@
 use crate::command_pages::{COMMANDS, CommandPage};
 use crate::commands::{VERSION, usage};
 use crate::outside_texts as texts;
-use crate::page::Page;
+use rb_pieces::Page;
 use rb_trees::Memory;
 use std::alloc::Global;
 use strsim::damerau_levenshtein;

@@ -1,10 +1,10 @@
 // The type of an expression as far as the text tells it: by literals, by the types that are written, and by what operators
 // give.
 
-use crate::declarations::{Declared, declared_before};
 use crate::members::{Part, agreed_type};
-use crate::pieces::Pieces;
-use crate::spans::{Span, closing, head_of, is_group, is_prefix, opening, root_sign};
+use rb_pieces::Pieces;
+use rb_pieces::declarations::{Declared, declared_before};
+use rb_pieces::spans::{Span, closing, head_of, is_group, is_prefix, opening, root_sign};
 
 /// Where the name of a type stands.
 #[derive(Clone, Copy)]

@@ -1,15 +1,14 @@
 // Slips that are known from other languages.
 
-use crate::around::{Home, first_of_line, home_of};
-use crate::pieces::Pieces;
 use crate::slip_forms::form_at;
 use crate::slip_members::member_slip;
 use crate::slip_texts;
 use crate::slip_values::value_slip;
 use crate::slip_words::word_slip;
-use crate::spans::operand_first;
-use crate::texts::Help;
 use crate::tries::TextKind;
+use rb_pieces::around::{Home, first_of_line, home_of};
+use rb_pieces::spans::operand_first;
+use rb_pieces::{Help, Pieces};
 
 /// What is said of a slip, with a word of the text and a sign or another word.
 #[derive(Clone, Copy)]

@@ -1,13 +1,12 @@
 // What is said where an expression has another type than is wanted.
 
-use crate::declarations::{Declared, declared_before};
-use crate::page::Page;
-use crate::pieces::Pieces;
-use crate::spans::span_at;
 use crate::type_mends::mend;
+use crate::type_texts;
 use crate::type_words::{type_word, written_word};
 use crate::wanted::{Want, Wanted, wanted_at};
-use crate::{name_texts, type_texts};
+use rb_pieces::declarations::{Declared, declared_before};
+use rb_pieces::spans::span_at;
+use rb_pieces::{Page, Pieces};
 use rb_trees::{Memory, TypeForm};
 use std::alloc::Global;
 
@@ -132,7 +131,7 @@ pub fn say_wrong_type(
     say_wanted(page, pieces, &want, written.as_slice(), found)?;
     match (want.what, found) {
         (Wanted::Owner, TypeForm::Named(_)) if is_method(pieces, want.name) => {
-            page.sentence(name_texts::INTERFACE_METHOD, want.name, b"")
+            page.sentence(type_texts::INTERFACE_METHOD, want.name, b"")
         }
         (Wanted::Receiver | Wanted::Owner, TypeForm::Text | TypeForm::ListOf(_))
             if is_length(want.name) => {

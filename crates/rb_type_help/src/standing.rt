@@ -1,7 +1,7 @@
 // Where an expression stands: what takes its value.
 
-use crate::pieces::Pieces;
-use crate::spans::{
+use rb_pieces::Pieces;
+use rb_pieces::spans::{
     Sign, Span, is_group, is_prefix, list_before, sign_at, sign_before, slot_around, span_at,
 };
 

@@ -1,14 +1,12 @@
 // What is said where a token stands with which no program or service begins.
 
-use crate::around::{first_of_line, first_of_statement, open_brace};
 use crate::candidates::{CLOSE_BRACE, MAIN, PARTS, ROOT, SIGNS};
-use crate::page::Page;
-use crate::pieces::Pieces;
 use crate::repairs::{Change, repair};
 use crate::slips::slip_at;
-use crate::texts::Help;
 use crate::tries::{Reach, TextKind, Tries};
-use crate::{read_texts, slip_texts, texts};
+use crate::{read_texts, slip_texts};
+use rb_pieces::around::{first_of_line, first_of_statement, open_brace};
+use rb_pieces::{Help, Page, Pieces};
 use rb_trees::{Memory, TokenKind};
 
 /// So many things that may stand at a place are told.
@@ -163,7 +161,7 @@ fn say_what_stands(page: &mut Page, tries: &Tries<'_>) -> Result<(), Memory> {
     parts_there(tries, &mut told)?;
     signs_there(tries, &mut told)?;
     if told.is_empty() {
-        return page.sentence(texts::UNEXPECTED.mend, b"", b"");
+        return page.sentence(read_texts::UNEXPECTED.mend, b"", b"");
     }
     page.add(read_texts::WHAT_CAN_STAND)?;
     add_told(page, told.as_slice())?;
@@ -173,8 +171,8 @@ fn say_what_stands(page: &mut Page, tries: &Tries<'_>) -> Result<(), Memory> {
 /// What is said where a name is wanted, and a word of the language or a literal stands there.
 fn name_wanted(tries: &Tries<'_>) -> Result<Option<&'static Help>, Memory> {
     let help = match tries.kind_there() {
-        Some(TokenKind::Keyword(_)) => &texts::KEYWORD_AS_NAME,
-        Some(TokenKind::Number | TokenKind::TextLit) => &texts::NAME_WANTED,
+        Some(TokenKind::Keyword(_)) => &read_texts::KEYWORD_AS_NAME,
+        Some(TokenKind::Number | TokenKind::TextLit) => &read_texts::NAME_WANTED,
         _ => return Ok(None),
     };
     let reach = tries.with(&[TokenKind::Name], 1)?;
@@ -199,7 +197,7 @@ fn say_tried(
     if let Some(change) = repair(tries)? {
         return say_change(page, pieces, index, token, change);
     }
-    page.sentence(texts::UNEXPECTED.wrong, token, b"")?;
+    page.sentence(read_texts::UNEXPECTED.wrong, token, b"")?;
     say_what_stands(page, tries)
 }
 
@@ -212,7 +210,7 @@ fn say_end(page: &mut Page, pieces: &Pieces<'_>, tries: &Tries<'_>) -> Result<()
         None if tries.stands(MAIN)? => page.say_plain(&read_texts::MAIN_MISSING),
         None if tries.stands(ROOT)? => page.say_plain(&read_texts::ROOT_MISSING),
         _ => {
-            page.sentence(texts::ENDS_EARLY.wrong, b"", b"")?;
+            page.sentence(read_texts::ENDS_EARLY.wrong, b"", b"")?;
             say_what_stands(page, tries)
         }
     }
@@ -235,6 +233,6 @@ pub fn say_unexpected(
     match Tries::make(pieces.alloc(), pieces.source(), kind, at)? {
         Some(tries) if pieces.text(index).is_empty() => say_end(page, pieces, &tries),
         Some(tries) => say_tried(page, pieces, &tries, index),
-        None => page.say_name(&texts::UNEXPECTED, pieces.text(index)),
+        None => page.say_name(&read_texts::UNEXPECTED, pieces.text(index)),
     }
 }

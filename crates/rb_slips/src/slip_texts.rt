@@ -1,7 +1,7 @@
 // The sentences on slips that are known from other languages. `@` stands for a word of the text at hand, and `#` for a sign or
 // another word.
 
-use crate::texts::Help;
+use rb_pieces::Help;
 
 // Other texts.
 

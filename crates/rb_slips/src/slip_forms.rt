@@ -1,10 +1,10 @@
 // Slips in the heads of statements, in blocks, and in the declarations of variables.
 
-use crate::around::{Home, first_of_statement, home_of, is_keyword, is_name, is_type_word};
-use crate::pieces::Pieces;
 use crate::slip_texts;
 use crate::slips::{Slip, both, named, plain};
-use crate::spans::{opening, slot_around};
+use rb_pieces::Pieces;
+use rb_pieces::around::{Home, first_of_statement, home_of, is_keyword, is_name, is_type_word};
+use rb_pieces::spans::{opening, slot_around};
 
 /// Whether a piece is a sign between operands.
 fn is_between(text: &[u8]) -> bool {

@@ -1,14 +1,13 @@
 // Words of other languages.
 
-use crate::around::is_name;
-use crate::declarations::{Declared, declared_at};
-use crate::pieces::Pieces;
 use crate::slip_texts;
 use crate::slips::{Slip, named};
-use crate::texts::Help;
+use rb_pieces::around::is_name;
+use rb_pieces::declarations::{Declared, declared_at};
+use rb_pieces::{Help, Pieces};
 
 /// What is said of a word with which other languages declare something or begin a statement.
-pub fn of_statement(word: &[u8]) -> Option<&'static Help> {
+fn of_statement(word: &[u8]) -> Option<&'static Help> {
     match word {
         b"let" | b"const" | b"auto" | b"mut" => Some(&slip_texts::DECLARE),
         b"println" | b"printf" | b"echo" | b"puts" | b"console" => Some(&slip_texts::PRINTER),
@@ -20,6 +19,17 @@ pub fn of_statement(word: &[u8]) -> Option<&'static Help> {
         b"break" | b"continue" => Some(&slip_texts::NO_JUMP),
         b"await" | b"async" => Some(&slip_texts::TAKE_WORD),
         _ => None,
+    }
+}
+
+/// What is said of a word with which other languages name a value, declare something or begin a statement.
+pub fn other_word(word: &[u8]) -> Option<&'static Help> {
+    match word {
+        b"null" | b"nil" | b"None" | b"undefined" | b"NULL" => Some(&slip_texts::NO_NULL),
+        b"self" | b"Self" | b"super" => Some(&slip_texts::THIS_WORD),
+        b"True" | b"False" | b"TRUE" | b"FALSE" => Some(&slip_texts::TRUTH),
+        b"System" => Some(&slip_texts::PRINTER),
+        _ => of_statement(word),
     }
 }
 

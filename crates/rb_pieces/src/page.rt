@@ -1,12 +1,24 @@
 // A text that is written to its end.
 
 use crate::showing::shown;
-use crate::texts::Help;
 use rb_trees::{Memory, Seq, Word};
 use std::alloc::Global;
 
 /// Of a longer name so many bytes are shown.
 const LONGEST_NAME: usize = 60;
+
+/// What is wrong, and what to do.
+#[derive(Clone, Copy)]
+pub struct Help {
+    pub wrong: &'static [u8],
+    pub mend: &'static [u8],
+}
+
+/// What is said where no memory was left.
+pub const OUT_OF_MEMORY: Help = Help {
+    wrong: b"No memory was left.",
+    mend: b"Give the program more, or less to do.",
+};
 
 /// A text that is written to its end.
 #[derive(Drop)]

@@ -150,3 +150,5 @@ pub const MAIN_CANNOT: &[u8] =
     b"Take the `return` away: `main` gives an Int, a Bool, a Text or nothing.";
 
 pub const CALL_ALONE: &[u8] = b"Write the call as a statement of its own.";
+
+pub const INTERFACE_METHOD: &[u8] = b"An object of an interface has methods alone: write `@()`.";

@@ -2,8 +2,8 @@
 
 ghost use Rattle.std.specs.Prelude.{◌≡◌, IfOk};
 ghost use Rattle.std.specs.String.{string_bytes};
-ghost use Rattle.rb_help.specs.Characters as words;
-ghost use Rattle.rb_help.specs.Characters.{shown_text};
+ghost use Rattle.rb_pieces.specs.Characters as words;
+ghost use Rattle.rb_pieces.specs.Characters.{shown_text};
 
 use std::alloc::{AllocError, Global};
 

@@ -1,11 +1,11 @@
 // What is wanted where an expression stands, as far as the pieces around it tell.
 
-use crate::declarations::{Declared, declared_before, declared_once, head_before};
 use crate::known_types::{Written, known_type, name_of, variable_type};
 use crate::members::{Part, agreed_type, member_in, member_once, part_of, result_of};
-use crate::pieces::Pieces;
-use crate::spans::{Sign, Span, left_first, operand_first};
 use crate::standing::{Standing, standing_at};
+use rb_pieces::Pieces;
+use rb_pieces::declarations::{Declared, declared_before, declared_once, head_before};
+use rb_pieces::spans::{Sign, Span, left_first, operand_first};
 
 /// What may be wanted.
 #[derive(Clone, Copy)]

@@ -1,10 +1,10 @@
 // Slips at the top of a text, in classes and in interfaces.
 
-use crate::around::{Home, first_of_statement, home_of, is_name, is_type_word};
-use crate::pieces::Pieces;
 use crate::slip_texts;
 use crate::slips::{Slip, both, named, plain};
-use crate::spans::slot_around;
+use rb_pieces::Pieces;
+use rb_pieces::around::{Home, first_of_statement, home_of, is_name, is_type_word};
+use rb_pieces::spans::slot_around;
 
 /// Whether a declaration with this word begins before a piece.
 fn is_behind(pieces: &Pieces<'_>, index: usize, word: &[u8]) -> bool {

@@ -1,9 +1,9 @@
 // Where methods and fields are declared, and the types that are written there.
 
-use crate::declarations::{Declared, declared_once};
-use crate::pieces::Pieces;
-use crate::spans::closing;
 use crate::type_words::is_same_type;
+use rb_pieces::Pieces;
+use rb_pieces::declarations::{Declared, declared_once};
+use rb_pieces::spans::closing;
 
 /// A type that the declaration of a method or a field writes.
 #[derive(Clone, Copy)]

@@ -1,8 +1,8 @@
 // The spelling of types.
 
 use crate::known_types::Written;
-use crate::pieces::Pieces;
-use crate::spans::is_word;
+use rb_pieces::Pieces;
+use rb_pieces::spans::is_word;
 use rb_trees::{Memory, Seq, TypeForm, Word};
 use std::alloc::Global;
 

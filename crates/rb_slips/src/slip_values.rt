@@ -1,12 +1,12 @@
 // Slips in expressions, at a `return`, and in the objects of a service.
 
-use crate::around::{Home, first_of_statement, home_of, is_in_class, is_name, is_number};
-use crate::declarations::{Declared, declared_before};
-use crate::pieces::Pieces;
 use crate::slip_texts;
 use crate::slips::{Slip, both, named, plain};
-use crate::spans::{operand_first, slot_around};
 use crate::tries::TextKind;
+use rb_pieces::Pieces;
+use rb_pieces::around::{Home, first_of_statement, home_of, is_in_class, is_name, is_number};
+use rb_pieces::declarations::{Declared, declared_before};
+use rb_pieces::spans::{operand_first, slot_around};
 
 /// Whether an expression is wanted behind a piece.
 fn wants_expression(text: &[u8]) -> bool {

@@ -1,11 +1,10 @@
 // What is said where a text isn't read.
 
-use crate::page::Page;
-use crate::pieces::Pieces;
 use crate::slips::comment_slip;
 use crate::tries::TextKind;
 use crate::unexpected::say_unexpected;
-use crate::{slip_texts, texts};
+use crate::{read_texts, slip_texts};
+use rb_pieces::{OUT_OF_MEMORY, Page, Pieces};
 use rb_trees::{LexError, Memory, ReadError};
 
 /// A text has at most so many bytes.
@@ -32,12 +31,12 @@ fn is_in_literal(pieces: &Pieces<'_>, at: u32) -> bool {
 /// What is said of a character that begins no token.
 fn say_bad_character(page: &mut Page, character: &[u8]) -> Result<(), Memory> {
     match character {
-        b"&" | b"|" => page.say_name(&texts::HALF_SIGN, character),
+        b"&" | b"|" => page.say_name(&read_texts::HALF_SIGN, character),
         b"'" | b"`" => page.say_name(&slip_texts::QUOTES, character),
         b"?" => page.say_plain(&slip_texts::NO_QUESTION),
         [0xE2, 0x80, 0x98..=0x9F] => page.say_name(&slip_texts::QUOTES, character),
         [0xC2, 0xA0] => page.say_plain(&slip_texts::BLANK),
-        _ => page.say_name(&texts::NO_TOKEN, character),
+        _ => page.say_name(&read_texts::NO_TOKEN, character),
     }
 }
 
@@ -50,7 +49,7 @@ fn say_bad_byte(
 ) -> Result<(), Memory> {
     let index = pieces.index_of(at);
     if is_in_literal(pieces, at) {
-        return page.say_plain(&texts::BAD_ESCAPE);
+        return page.say_plain(&read_texts::BAD_ESCAPE);
     }
     match comment_slip(pieces, kind, index) {
         Some(slip) => page.say_name(slip.help, slip.name),
@@ -67,15 +66,15 @@ fn say_lex(
 ) -> Result<(), Memory> {
     match error {
         LexError::BadByte(at) => say_bad_byte(page, pieces, kind, *at),
-        LexError::OpenText(_) => page.say_plain(&texts::OPEN_TEXT),
+        LexError::OpenText(_) => page.say_plain(&read_texts::OPEN_TEXT),
         LexError::NumberTooLarge(at) => {
             let number = pieces.text(pieces.index_of(*at));
-            page.say_name(&texts::LARGE_NUMBER, number)
+            page.say_name(&read_texts::LARGE_NUMBER, number)
         }
-        LexError::NotUtf8(_) => page.say_plain(&texts::NOT_UTF8),
-        LexError::TooLong(at) if *at >= LONGEST_SOURCE => page.say_plain(&texts::LONG_SOURCE),
-        LexError::TooLong(_) => page.say_plain(&texts::LONG_LITERAL),
-        LexError::Memory => page.say_plain(&texts::WANT_OF_MEMORY),
+        LexError::NotUtf8(_) => page.say_plain(&read_texts::NOT_UTF8),
+        LexError::TooLong(at) if *at >= LONGEST_SOURCE => page.say_plain(&read_texts::LONG_SOURCE),
+        LexError::TooLong(_) => page.say_plain(&read_texts::LONG_LITERAL),
+        LexError::Memory => page.say_plain(&OUT_OF_MEMORY),
     }
 }
 
@@ -90,10 +89,10 @@ fn say_read_as(
         ReadError::Lex(error) => say_lex(page, pieces, kind, error),
         ReadError::Unexpected(at) => say_unexpected(page, pieces, kind, *at),
         ReadError::TooNested(at) if pieces.is_later(pieces.index_of(*at), 0, b"{") => {
-            page.say_plain(&texts::BLOCKS_NESTED)
+            page.say_plain(&read_texts::BLOCKS_NESTED)
         }
-        ReadError::TooNested(_) => page.say_plain(&texts::NESTED),
-        ReadError::Memory => page.say_plain(&texts::WANT_OF_MEMORY),
+        ReadError::TooNested(_) => page.say_plain(&read_texts::NESTED),
+        ReadError::Memory => page.say_plain(&OUT_OF_MEMORY),
     }
 }
 
