@@ -171,6 +171,38 @@ pub fn say_flow(page: &mut Page, pieces: &Pieces<'_>, chain: &[u32]) -> Result<(
     }
 }
 
+/// The piece that declares a variable, where it stands in a batch.
+fn declared_inside(pieces: &Pieces<'_>, batch: &BatchSpan, index: usize) -> Option<usize> {
+    match declaration_of(pieces, index) {
+        Some(place) if place > batch.open => Some(place),
+        _ => None,
+    }
+}
+
+/// Says to move what gives a variable its value to a place before a batch.
+fn say_move(
+    page: &mut Page,
+    pieces: &Pieces<'_>,
+    batch: &BatchSpan,
+    index: usize,
+) -> Result<(), Memory> {
+    let name = pieces.text(index);
+    let declared = declared_inside(pieces, batch, index);
+    let assigned = assigned_within(pieces, name, batch.open, batch.close);
+    match (declared, assigned) {
+        (Some(place), None) => {
+            page.sentence_of(refusal_texts::MOVE_DECLARATION, name, pieces.line(place))
+        }
+        (Some(place), Some(_)) => {
+            page.sentence_of(refusal_texts::MOVE_ALL, name, pieces.line(place))
+        }
+        (None, Some(place)) => {
+            page.sentence_of(refusal_texts::MOVE_ASSIGNMENT, name, pieces.line(place))
+        }
+        (None, None) => page.sentence(refusal_texts::BIND_BEFORE, b"", b""),
+    }
+}
+
 /// What to do about a variable that isn't known when a batch begins.
 fn say_known_before(
     page: &mut Page,
@@ -178,27 +210,14 @@ fn say_known_before(
     batch: &BatchSpan,
     index: usize,
 ) -> Result<(), Memory> {
-    let name = pieces.text(index);
     let statement = statement_in(pieces, batch.open, index);
     if say_vals(page, pieces, batch, index)? {
         return Ok(());
     }
     if is_assigned_later(pieces, batch, statement, index) {
-        return page.sentence(refusal_texts::COPY_BEFORE, name, b"");
+        return page.sentence(refusal_texts::COPY_BEFORE, pieces.text(index), b"");
     }
-    let assigned = assigned_within(pieces, name, batch.open, batch.close);
-    match (declaration_of(pieces, index), assigned) {
-        (Some(place), None) if place > batch.open => {
-            page.sentence_of(refusal_texts::MOVE_DECLARATION, name, pieces.line(place))
-        }
-        (Some(place), Some(_)) if place > batch.open => {
-            page.sentence_of(refusal_texts::MOVE_ALL, name, pieces.line(place))
-        }
-        (_, Some(place)) => {
-            page.sentence_of(refusal_texts::MOVE_ASSIGNMENT, name, pieces.line(place))
-        }
-        _ => page.sentence(refusal_texts::BIND_BEFORE, b"", b""),
-    }
+    say_move(page, pieces, batch, index)
 }
 
 /// What is said where something would be sent that isn't known when the batch begins.

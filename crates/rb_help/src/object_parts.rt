@@ -18,14 +18,12 @@ pub fn place_of(pieces: &Pieces<'_>, word: &[u8]) -> usize {
 
 /// A number without zeros before it.
 fn without_zeros(number: &[u8]) -> &[u8] {
-    let mut rest = number;
-    while let [b'0', behind @ ..] = rest {
-        if behind.is_empty() {
-            return rest;
-        }
-        rest = behind;
-    }
-    rest
+    let last = number.len().saturating_sub(1);
+    let first = number
+        .iter()
+        .position(|digit| *digit != b'0')
+        .unwrap_or(last);
+    number.get(first..).unwrap_or(number)
 }
 
 /// A natural in decimal, up to the greatest that there is.
