@@ -13,21 +13,24 @@ use Rattle.rb_session.specs.declared.dials.DialStop.TheVariants as dials
 use Rattle.rb_session.specs.declared.targets.Target.{Target}
 use Rattle.rb_session.specs.declared.targets.Target.TheVariants as targets
 use Rattle.rb_top.specs.Answers as answers
-use Rattle.rb_top.specs.Answers.{EndsRun, Goes, RunsBy, SaysOfProgram, Says, once_read}
-use Rattle.rb_top.specs.Completeness.{CallsTold, ChecksTold, DialsHonest, EndsFar, IsNear, PairsTold, RunsTold, SplitsTold, ToldAccepted, ToldRun, ToldService}
+use Rattle.rb_top.specs.Answers.{EndsRun, Goes, RunsBy, SaysOfProgram, Says, Tries, once_read}
+use Rattle.rb_top.specs.Completeness.{CallsTold, ChecksTold, DialsHonest, EndsFar, IsNear, EndsCounted, PairsTold, RunsTold, SplitsTold, ToldAccepted, ToldRun, ToldService, TrialsTold}
 use Rattle.rb_top.specs.DialRuns.{Dials, RunsInMemory, not_dialled, ran_in_memory, ran_over_link, starved_dialling, starved_for_link}
 use Rattle.rb_top.specs.Ends as ends
 use Rattle.rb_top.specs.Ends.{Ends, Tells}
+use Rattle.rb_top.specs.LinkRuns.{run_end_with_count, run_end_with_table}
 use Rattle.rb_top.specs.Runs.{Served}
 use Rattle.rb_top.specs.Scene.{Scene, Outside}
+use Rattle.rb_top.specs.Texts.{IsProgram, IsService}
+use Rattle.rb_top.specs.Trials.{asked_in_trial, trial_files, trial_program, trial_service}
 use Rattle.rb_top.specs.Unusable.{NoProgram, NoService}
-use Rattle.rb_top.specs.Words.{Asked, Check, Split, Run, Call, Wanted, OfProgram, program_name}
+use Rattle.rb_top.specs.Words.{Asked, Check, Split, Run, Call, Trial, Wanted, OfProgram, default_fuel, program_name}
 use Rattle.rb_top.specs.declared.status.Status.{Status}
 use Rattle.rb_top.specs.declared.status.Status.TheVariants.{Done, Memory, Words}
 use Rattle.rb_top.specs.declared.words.Way.{Way}
-use Rattle.rb_top.specs.declared.words.Way.TheVariants.{Both, Unsplit, Pair}
+use Rattle.rb_top.specs.declared.words.Way.TheVariants as ways
 use Rattle.rb_top.proofs.Ended.{starved_at_once}
-use Rattle.rb_top.proofs.LinkRuns.{ends_far, ends_near}
+use Rattle.rb_top.proofs.LinkRuns.{ends_counted, ends_far, ends_near}
 use Rattle.rb_top.proofs.Usable.{OneService, OneSource, accepted_is_usable, found_is_told, held_is_told, service_is_usable}
 
 -- what can't be told wasn't: memory was wanting, and nothing was said
@@ -81,6 +84,7 @@ module _ {L : Type 0} (g : links.Ghosts L) where
       subst (λ y. SaysOfProgram g y result before.dial after.dial before.scene after.scene) (one_wanted b a wanted x w) said
   of_wanted a wanted result before after w (answers.serves v x said same) = absurd (cc (sym x ∙ w))
   of_wanted a wanted result before after w (answers.serves_child s x said same) = absurd (cc (sym x ∙ w))
+  of_wanted a wanted result before after w (answers.tries n x said files same) = absurd (cc (sym x ∙ w))
 
   -- `check P`
   went_checked : (text : List ℕ) (program : Program) (p : List ℕ) (a : Asked) (result : Status) (dial dial' : DialSeen L) (before after : Scene) → a ≡ Check p → Goes g text program result dial dial' before after a → Ends Done (line (codes "accepted")) result before.out after.out
@@ -141,14 +145,15 @@ module _ {L : Type 0} (g : links.Ghosts L) where
       inr (subst (λ x. RunsBy g way s text program fuel x result dial dial' before.out after.out) is (subst (RunsAs text program result dial dial' before after served') w r))
 
   -- `both P S FUEL` and `unsplit P S FUEL`
-  in_memory : (text : List ℕ) (p : Program) (fuel : ℕ) (served : Served) (result : Status) (dial dial' : DialSeen L) (before after : Device (List ℕ)) → RunsInMemory g text p fuel served result dial dial' before after → EndsRun text p fuel served result before after
+  in_memory : (text : List ℕ) (p : Program) (fuel : ℕ) (served : Served) (result : Status) (dial dial' : DialSeen L) (before after : Device (List ℕ)) → RunsInMemory g (run_end_with_table g text) p fuel served result dial dial' before after → EndsRun text p fuel served result before after
   in_memory text p fuel served result dial dial' before after (ran_in_memory link left new run back) = ends_near g text p fuel served link left result before after new run
   in_memory text p fuel served result dial dial' before after (starved_for_link r d o) = inr r
 
   run_near : (way : Way) (s text : List ℕ) (p : Program) (fuel : ℕ) (served : Served) (result : Status) (dial dial' : DialSeen L) (before after : Device (List ℕ)) → IsNear way → RunsBy g way s text p fuel served result dial dial' before after → EndsRun text p fuel served result before after
-  run_near Both s text p fuel served result dial dial' before after n r = in_memory text p fuel served result dial dial' before after r
-  run_near Unsplit s text p fuel served result dial dial' before after n r = r.0
-  run_near Pair s text p fuel served result dial dial' before after n r = absurd n
+  run_near ways.Both s text p fuel served result dial dial' before after n r = in_memory text p fuel served result dial dial' before after r
+  run_near ways.Unsplit s text p fuel served result dial dial' before after n r = r.0
+  run_near ways.Pair s text p fuel served result dial dial' before after n r = absurd n
+  run_near ways.Trial s text p fuel served result dial dial' before after n r = absurd n
 
   -- what was asked of a program and a service that are told: memory was wanting, or it was run
   run_told : OneSource → OneService → (wanted : Option Wanted) (result : Status) (before after : Outside L) → Says g wanted result before after → (way : Way) (p s text other : List ℕ) (fuel : ℕ) (program : Program) (served : Served) → wanted ≡ Some (OfProgram (Run way p s fuel))
@@ -213,9 +218,55 @@ module _ {L : Type 0} (g : links.Ghosts L) where
   -- `pair P S FUEL`
   pub pairs_told : OneSource → OneService → (wanted : Option Wanted) (result : Status) (before after : Outside L) → Says g wanted result before after → PairsTold g wanted result before after
   pairs_told one services wanted result before after said = λ p s text other fuel program served b w t h.
-      by_case s text fuel program b h (run_told one services wanted result before after said Pair p s text other fuel program served w t)
+      by_case s text fuel program b h (run_told one services wanted result before after said ways.Pair p s text other fuel program served w t)
     where
       by_case : (s text : List ℕ) (fuel : ℕ) (program : Program) (b : Behind) → DialsHonest g (targets.Child s) program fuel b before.dial.told
           → (result ≡ Memory) ⊎ Dials g text program fuel (targets.Child s) result before.dial after.dial before.scene.out after.scene.out → EndsFar text program fuel b result before.scene.out after.scene.out
       by_case s text fuel program b h (inl r) = inr r
       by_case s text fuel program b h (inr d) = dialled_far text program fuel (targets.Child s) b result before.dial after.dial before.scene.out after.scene.out h d
+
+  -- `trial N`
+  counted : (text : List ℕ) (p : Program) (fuel : ℕ) (served : Served) (result : Status) (dial dial' : DialSeen L) (before after : Device (List ℕ)) → RunsInMemory g (run_end_with_count g text) p fuel served result dial dial' before after → EndsCounted text p fuel served result before after
+  counted text p fuel served result dial dial' before after (ran_in_memory link left new run back) = ends_counted g text p fuel served link left result before after new run
+  counted text p fuel served result dial dial' before after (starved_for_link r d o) = inr r
+
+  -- the files of a trial tell its two texts
+  told_in_trial : (n : ℕ) (program : Program) (served : Served) → IsProgram trial_program program → IsService (trial_service n) served
+      → ToldRun (trial_files n).told (codes "p") (codes "s") trial_program (trial_service n) program served
+  told_in_trial n program served p s = record { accepted = record { finds = refl; is = p }; service = record { finds = refl; is = s } }
+
+  -- what was answered over files that tell an accepted program and a service
+  went_tried : OneSource → OneService → (text other : List ℕ) (program : Program) (served : Served) (result : Status) (dial dial' : DialSeen L) (before after : Scene) → ToldRun before.files.told (codes "p") (codes "s") text other program served
+      → SaysOfProgram g asked_in_trial result dial dial' before after → EndsCounted text program default_fuel served result before.out after.out
+  went_tried one services text other program served result dial dial' before after t said = first (of_told one asked_in_trial text program result dial dial' before after t.accepted said)
+    where
+      then : ((result ≡ Memory) × (after.out ≡ before.out)) ⊎ RunsBy g ways.Trial (codes "s") text program default_fuel served result dial dial' before.out after.out → EndsCounted text program default_fuel served result before.out after.out
+      then (inl x) = inr x.0
+      then (inr r) = counted text program default_fuel served result dial dial' before.out after.out r
+
+      first : ((result ≡ Memory) × (after.out ≡ before.out)) ⊎ Goes g text program result dial dial' (once_read before) after asked_in_trial → EndsCounted text program default_fuel served result before.out after.out
+      first (inl x) = inr x.0
+      first (inr on) = then (went_run services text program ways.Trial (codes "p") (codes "s") other default_fuel served asked_in_trial result dial dial' (once_read before) after refl t.service on)
+
+  one_trial : (m n : ℕ) (w : Option Wanted) → w ≡ Some (Trial m) → w ≡ Some (Trial n) → m ≡ n
+  one_trial m n w e f =
+      let both = sym e ∙ f in
+      cc both
+
+  -- what a trial answered
+  was_tried : (n : ℕ) (wanted : Option Wanted) (result : Status) (before after : Outside L) → wanted ≡ Some (Trial n) → Says g wanted result before after → Tries g n result before.dial after.dial before.scene.out after.scene.out
+  was_tried n wanted result before after w (answers.not_understood x e f) = absurd (cc (sym x ∙ w))
+  was_tried n wanted result before after w (answers.of_program b x said same) = absurd (cc (sym x ∙ w))
+  was_tried n wanted result before after w (answers.serves v x said same) = absurd (cc (sym x ∙ w))
+  was_tried n wanted result before after w (answers.serves_child s x said same) = absurd (cc (sym x ∙ w))
+  was_tried n wanted result before after w (answers.tries m x said files same) =
+      subst (λ k. Tries g k result before.dial after.dial before.scene.out after.scene.out) (one_trial m n wanted x w) said
+
+  pub trials_told : OneSource → OneService → (wanted : Option Wanted) (result : Status) (before after : Outside L) → Says g wanted result before after → TrialsTold wanted result before.scene after.scene
+  trials_told one services wanted result before after said = λ n program served w p s. by_case n program served p s (was_tried n wanted result before after w said)
+    where
+      by_case : (n : ℕ) (program : Program) (served : Served) → IsProgram trial_program program → IsService (trial_service n) served → Tries g n result before.dial after.dial before.scene.out after.scene.out
+          → EndsCounted trial_program program default_fuel served result before.scene.out after.scene.out
+      by_case n program served p s (answers.starved_for_texts r d o) = inr r
+      by_case n program served p s (answers.tried left tries) =
+          went_tried one services trial_program (trial_service n) program served result before.dial after.dial (record { files = trial_files n; out = before.scene.out }) (record { files = left; out = after.scene.out }) (told_in_trial n program served p s) tries

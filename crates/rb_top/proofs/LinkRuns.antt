@@ -26,18 +26,20 @@ use Rattle.rb_session.specs.declared.targets.Target.{Target}
 use Rattle.rb_session.specs.MemoryLinks.{IsHonest, LinkInMemory, new_link, told_of}
 use Rattle.rb_top.specs.Answers.{EndsRun}
 use Rattle.rb_top.specs.Commands.{run_answer}
-use Rattle.rb_top.specs.Completeness.{ComesToBatch, EndsFar}
+use Rattle.rb_top.specs.Completeness.{ComesToBatch, EndsCounted, EndsFar}
 use Rattle.rb_top.specs.Ends as ends
 use Rattle.rb_top.specs.Ends.{Ends}
-use Rattle.rb_top.specs.LinkRuns.{IsNew, RunsOverLink, SaysRun, behind_of, new_server, over, run_end, run_end_with_table, served_by}
-use Rattle.rb_top.specs.Printing.{PrintsAnswering, end_text, run_end_text}
+use Rattle.rb_top.specs.LinkRuns.{IsNew, RunsOverLink, SaysRun, behind_of, new_server, over, run_end, run_end_in, run_end_with_count, run_end_with_table, served_by}
+use Rattle.rb_top.specs.Printing.{PrintsAnswering, end_text_in, run_end_text}
 use Rattle.rb_top.specs.Runs.{Served, ended_status, served_on}
 use Rattle.rb_top.specs.declared.printing.PrintStop.{PrintStop}
 use Rattle.rb_top.specs.declared.printing.PrintStop.TheVariants as print
 use Rattle.rb_top.specs.declared.status.Status.{Status}
 use Rattle.rb_top.specs.declared.status.Status.TheVariants.{Memory}
 use Rattle.rb_top.proofs.Printed.{ends_behind}
-use Rattle.rb_top.proofs.RunEnds.{ending_text, shown_so}
+use Rattle.rb_top.specs.declared.words.Way.{Way}
+use Rattle.rb_top.specs.declared.words.Way.TheVariants as ways
+use Rattle.rb_top.proofs.RunEnds.{counted_so, ending_text_in, shown_so}
 
 -- the table that is lent is that of the server which the link tells
 lent_table : (lends : Bool) (told : Option Told) (table : List Object) → lends ≡ true → Lends lends (server_told told) (Some table) → table ≡ (behind_of told).table
@@ -88,12 +90,12 @@ module _ {L : Type 0} (g : links.Ghosts L) where
   still_lends link left same lends = same ∙ lends
 
   -- what is said behind the lines of a run that ended over a link that lends its table, with the table that it lends
-  pub says_with_table : (text : List ℕ) (left : L) (run : Run) (table : List Object) (r : Result Status PrintStop) (result : Status) (before after : Device (List ℕ)) → g.lends left ≡ true → Lends (g.lends left) (server_told (g.told left)) (Some table)
-      → result ≡ run_answer r → PrintsAnswering (ended_status run.ending) (end_text text run.ending run.exchanges table) r before after → SaysRun (run_end_with_table g text left) (Ok run) result before after
-  says_with_table text left run table r result before after lends lent e h =
+  pub says_with_table : (way : Way) (text : List ℕ) (left : L) (run : Run) (table : List Object) (r : Result Status PrintStop) (result : Status) (before after : Device (List ℕ)) → g.lends left ≡ true → Lends (g.lends left) (server_told (g.told left)) (Some table)
+      → result ≡ run_answer r → PrintsAnswering (ended_status run.ending) (end_text_in way text run.ending run.exchanges table) r before after → SaysRun (run_end_in g way text left) (Ok run) result before after
+  says_with_table way text left run table r result before after lends lent e h =
       let same = lent_table (g.lends left) (g.told left) table lends lent in
-      subst (λ t. Ends (ended_status run.ending) (end_text text run.ending run.exchanges t) result before after) same
-      (said_so (ended_status run.ending) (end_text text run.ending run.exchanges table) r result before after e h)
+      subst (λ t. Ends (ended_status run.ending) (end_text_in way text run.ending run.exchanges t) result before after) same
+      (said_so (ended_status run.ending) (end_text_in way text run.ending run.exchanges table) r result before after e h)
 
   -- A run over an honest link, of which no exchange fails, with what is said behind its lines where it ends as the program means.
   as_meant : (closing : Run → List ℕ) (said : List ℕ) (p : Program) (fuel : ℕ) (b : Behind) (link left : L) (result : Status) (before lines after : Device (List ℕ)) (answer : Result Run RunStop)
@@ -123,18 +125,29 @@ module _ {L : Type 0} (g : links.Ghosts L) where
       as_meant (run_end {L = L} text left) (run_end_text text m.ending (exchanges m.events)) p fuel b link left result before run.lines after run.answer
       (λ r means. ap (λ x. run_end_text text x r.exchanges) means.ending_so ∙ ap (run_end_text text m.ending) means.exchanges_so) none e (run.means honest b e) run.lists run.says
 
-  -- And over one to a new server, with the table.
-  pub ends_near : (text : List ℕ) (p : Program) (fuel : ℕ) (served : Served) (link left : L) (result : Status) (before after : Device (List ℕ)) → IsNew g served link → RunsOverLink g (run_end_with_table g text) p fuel link left result before after
-      → EndsRun text p fuel served result before after
-  ends_near text p fuel served link left result before after new run =
+  -- And over one to a new server, with what is said of its table in some way.
+  ends_new : (way : Way) (text : List ℕ) (p : Program) (fuel : ℕ) (served : Served) (link left : L) (result : Status) (before after : Device (List ℕ)) → IsNew g served link → RunsOverLink g (run_end_in g way text) p fuel link left result before after
+      → Ends (ended_status (meant_on p fuel (new_server served)).ending) (shown_events (meant_on p fuel (new_server served)).events ++ ending_text_in way text (meant_on p fuel (new_server served))) result before after ⊎ (result ≡ Memory)
+  ends_new way text p fuel served link left result before after new run =
       let b = new_server served in
       let m = meant_on p fuel b in
       let e = ap server_told new.tells in
-      subst (λ t. Ends (ended_status m.ending) t result before after ⊎ (result ≡ Memory)) (sym (shown_so text m))
-      (as_meant (run_end_with_table g text left) (ending_text text m) p fuel b link left result before run.lines after run.answer
-      (λ r means. ap (λ x. end_text text x r.exchanges (behind_of (g.told left)).table) means.ending_so ∙ ap (λ n. end_text text m.ending n (behind_of (g.told left)).table) means.exchanges_so
-      ∙ ap (end_text text m.ending (exchanges m.events)) (left_table (g.told left) b.service m.table means.table_so))
-      (λ k comes. never_fails k b refl) e (run.means new.honest b e) run.lists run.says)
+      as_meant (run_end_in g way text left) (ending_text_in way text m) p fuel b link left result before run.lines after run.answer
+      (λ r means. ap (λ x. end_text_in way text x r.exchanges (behind_of (g.told left)).table) means.ending_so ∙ ap (λ n. end_text_in way text m.ending n (behind_of (g.told left)).table) means.exchanges_so
+      ∙ ap (end_text_in way text m.ending (exchanges m.events)) (left_table (g.told left) b.service m.table means.table_so))
+      (λ k comes. never_fails k b refl) e (run.means new.honest b e) run.lists run.says
+
+  pub ends_near : (text : List ℕ) (p : Program) (fuel : ℕ) (served : Served) (link left : L) (result : Status) (before after : Device (List ℕ)) → IsNew g served link → RunsOverLink g (run_end_with_table g text) p fuel link left result before after
+      → EndsRun text p fuel served result before after
+  ends_near text p fuel served link left result before after new run =
+      let m = meant_on p fuel (new_server served) in
+      subst (λ t. Ends (ended_status m.ending) t result before after ⊎ (result ≡ Memory)) (sym (shown_so text m)) (ends_new ways.Both text p fuel served link left result before after new run)
+
+  pub ends_counted : (text : List ℕ) (p : Program) (fuel : ℕ) (served : Served) (link left : L) (result : Status) (before after : Device (List ℕ)) → IsNew g served link → RunsOverLink g (run_end_with_count g text) p fuel link left result before after
+      → EndsCounted text p fuel served result before after
+  ends_counted text p fuel served link left result before after new run =
+      let m = meant_on p fuel (new_server served) in
+      subst (λ t. Ends (ended_status m.ending) t result before after ⊎ (result ≡ Memory)) (sym (counted_so text m)) (ends_new ways.Trial text p fuel served link left result before after new run)
 
   -- a link in memory that was made one of a Dial's is new
   pub new_over : (host : Hosted) (inner : LinkInMemory) (link : L) → inner ≡ new_link host → IsTypedHost host → GoesOn g inner link → IsNew g (served_on host.service host.table) link

@@ -9,11 +9,13 @@ use Rattle.rb_base.specs.Devices.{Device, failed}
 use Rattle.rb_base.specs.Sinks.{with_bytes, WrotePrefix}
 use Rattle.rb_base.proofs.Pieces.{both_whole}
 use Rattle.rb_plain.specs.Unsplit.{Leaves}
-use Rattle.rb_top.specs.Printing.{PrintsAnswering, PrintsUnlessStarved, end_text}
-use Rattle.rb_top.specs.Runs.{ended_status}
+use Rattle.rb_top.specs.Printing.{PrintsAnswering, PrintsUnlessStarved, end_text, end_text_in, objects_line, run_end_text}
+use Rattle.rb_top.specs.Runs.{ended_status, shown_lines}
 use Rattle.rb_top.specs.declared.printing.PrintStop.{PrintStop}
 use Rattle.rb_top.specs.declared.printing.PrintStop.TheVariants as print
 use Rattle.rb_top.specs.declared.status.Status.{Status}
+use Rattle.rb_top.specs.declared.words.Way.{Way}
+use Rattle.rb_top.specs.declared.words.Way.TheVariants as ways
 use Rattle.rb_top.proofs.Printed.{stops_first, stops_next}
 
 -- what follows the lines of a meaning
@@ -27,6 +29,13 @@ shown_so text m =
     let count = line (codes "exchanges " ++ decimal (exchanges m.events)) in
     let left = shown_table 0 m.table in
     ap (λ t. t ++ left) (append_assoc lines ended count) ∙ append_assoc lines (ended ++ count) left
+
+-- and in some way of a run
+abbrev pub ending_text_in : Way → List ℕ → Meaning → List ℕ
+ending_text_in way text m = end_text_in way text m.ending (exchanges m.events) m.table
+
+pub counted_so : (text : List ℕ) (m : Meaning) → shown_lines text m ++ objects_line m.table ≡ shown_events m.events ++ ending_text_in ways.Trial text m
+counted_so text m = append_assoc (shown_events m.events) (run_end_text text m.ending (exchanges m.events)) (objects_line m.table)
 
 -- What a meaning shows was printed, and how it ends was answered. Of want of memory nothing is said.
 abbrev pub PrintsMeaning : List ℕ → Meaning → Result Status PrintStop → Device (List ℕ) → Device (List ℕ) → Type 0

@@ -153,6 +153,7 @@ module _ {L : Type 0} (g : links.Ghosts L) where
   by_serve one v text served wanted result before after w t l (answers.serves u x said same) =
       serving_done one v text served result before.listen after.listen before.scene after.scene t l (subst (λ y. ServesAs y result before.listen after.listen before.scene after.scene) (one_served u v wanted x w) said)
   by_serve one v text served wanted result before after w t l (answers.serves_child s x said same) = absurd (cc (sym x ∙ w))
+  by_serve one v text served wanted result before after w t l (answers.tries n x said files same) = absurd (cc (sym x ∙ w))
 
   by_child : OneService → (s text : List ℕ) (served : Served) (wanted : Option Wanted) (result : Status) (before after : Outside L) → wanted ≡ Some (Child s) → ToldService before.scene.files.told s text served → ListensWhole (child_of s).address (child_of s).count before.listen.told
       → Says g wanted result before after → IsDone result
@@ -162,6 +163,7 @@ module _ {L : Type 0} (g : links.Ghosts L) where
   by_child one s text served wanted result before after w t l (answers.serves_child s' x said same) =
       serving_done one (child_of s) text served result before.listen after.listen (unheard before.scene) (unheard after.scene) t l
       (subst (λ y. ServesAs (child_of y) result before.listen after.listen (unheard before.scene) (unheard after.scene)) (one_child s' s wanted x w) said.serves)
+  by_child one s text served wanted result before after w t l (answers.tries n x said files same) = absurd (cc (sym x ∙ w))
 
   pub serves_told : OneService → (wanted : Option Wanted) (result : Status) (before after : Outside L) → Says g wanted result before after → ServesTold wanted result before
   serves_told one wanted result before after said = λ v text served w t l. by_case v text served t l w

@@ -5,34 +5,37 @@ use Rattle.rb_meaning.specs.Shown.{line}
 use Rattle.rb_meaning_split.specs.Division.{Division, divisions}
 use Rattle.rb_shown.specs.Views.{shown_divisions}
 use Rattle.rb_base.specs.Devices.{Device}
-use Rattle.rb_base.specs.Directories.{read_once, Finds}
+use Rattle.rb_base.specs.Directories.{Directory, read_once, Finds}
 use Rattle.rb_base.specs.declared.links.Link as links
 use Rattle.rb_session.specs.Dials.{DialSeen}
 use Rattle.rb_session.specs.declared.targets.Target.TheVariants as targets
 use Rattle.rb_top.specs.DialRuns.{Dials, RunsInMemory}
 use Rattle.rb_top.specs.Ends.{Ends}
+use Rattle.rb_top.specs.LinkRuns.{run_end_with_count, run_end_with_table}
 use Rattle.rb_top.specs.Loads.{HoldsProgram}
 use Rattle.rb_top.specs.Runs.{Served, run_status, run_text}
 use Rattle.rb_top.specs.Scene.{Scene, Outside}
 use Rattle.rb_top.specs.Servers.{ServesAs, ServesUnheard}
 use Rattle.rb_top.specs.Texts.{IsService}
+use Rattle.rb_top.specs.Trials.{asked_in_trial, trial_files}
 use Rattle.rb_top.specs.Unusable.{TellsNoProgram, TellsNoService}
-use Rattle.rb_top.specs.Words.{Asked, Check, Split, Run, Call, Wanted, OfProgram, Serve, Child, Serving, child_of, program_name}
+use Rattle.rb_top.specs.Words.{Asked, Check, Split, Run, Call, Wanted, OfProgram, Serve, Child, Trial, Serving, child_of, program_name}
 use Rattle.rb_top.specs.declared.status.Status.{Status}
 use Rattle.rb_top.specs.declared.status.Status.TheVariants.{Done, Words, Memory}
 use Rattle.rb_top.specs.declared.words.Way.{Way}
-use Rattle.rb_top.specs.declared.words.Way.TheVariants.{Both, Unsplit, Pair}
+use Rattle.rb_top.specs.declared.words.Way.TheVariants as ways
 
 -- The run of a program was printed, and its status answered; or memory was wanting while it was run.
 abbrev pub EndsRun : List ℕ → Program → ℕ → Served → Status → Device (List ℕ) → Device (List ℕ) → Type 0
 EndsRun text p fuel served result before after = Ends (run_status fuel p served) (run_text text fuel p served) result before after ⊎ (result ≡ Memory)
 
--- A program was run on a service, of the file of this name, in some way: over a link in memory; as it stands, with no link; or over a
--- link to a child that serves that file.
+-- A program was run on a service, of the file of this name, in some way: over a link in memory, and the table was printed, or how many
+-- objects it has; as it stands, with no link; or over a link to a child that serves that file.
 abbrev pub RunsBy : {L : Type 0} → links.Ghosts L → Way → List ℕ → List ℕ → Program → ℕ → Served → Status → DialSeen L → DialSeen L → Device (List ℕ) → Device (List ℕ) → Type 0
-RunsBy g Both s text p fuel served result dial dial' before after = RunsInMemory g text p fuel served result dial dial' before after
-RunsBy g Unsplit s text p fuel served result dial dial' before after = EndsRun text p fuel served result before after × (dial' ≡ dial)
-RunsBy g Pair s text p fuel served result dial dial' before after = Dials g text p fuel (targets.Child s) result dial dial' before after
+RunsBy g ways.Both s text p fuel served result dial dial' before after = RunsInMemory g (run_end_with_table g text) p fuel served result dial dial' before after
+RunsBy g ways.Unsplit s text p fuel served result dial dial' before after = EndsRun text p fuel served result before after × (dial' ≡ dial)
+RunsBy g ways.Pair s text p fuel served result dial dial' before after = Dials g text p fuel (targets.Child s) result dial dial' before after
+RunsBy g ways.Trial s text p fuel served result dial dial' before after = RunsInMemory g (run_end_with_count g text) p fuel served result dial dial' before after
 
 -- What was asked of an accepted program, once it was read, was answered so.
 pub data Goes {L : Type 0} (g : links.Ghosts L) (text : List ℕ) (p : Program) (result : Status) (dial dial' : DialSeen L) (before after : Scene) : Asked → Type 0 where
@@ -58,6 +61,13 @@ pub data SaysOfProgram {L : Type 0} (g : links.Ghosts L) (a : Asked) (result : S
   goes : (text : List ℕ) (p : Program) → HoldsProgram before.files.told (program_name a) text p → Goes g text p result dial dial' (once_read before) after a
       → SaysOfProgram g a result dial dial' before after
 
+-- A trial of so many files was answered as a run of its program on its service is, over files that hold the two. Where memory ran out
+-- before there were such files, nothing was done.
+pub data Tries {L : Type 0} (g : links.Ghosts L) (n : ℕ) (result : Status) (dial dial' : DialSeen L) (before after : Device (List ℕ)) : Type 0 where
+  tried : (left : Device Directory) → SaysOfProgram g asked_in_trial result dial dial' (record { files = trial_files n; out = before }) (record { files = left; out = after })
+      → Tries g n result dial dial' before after
+  starved_for_texts : result ≡ Memory → dial' ≡ dial → after ≡ before → Tries g n result dial dial' before after
+
 -- What the words ask for was answered so, and the outside is left so.
 pub data Says {L : Type 0} (g : links.Ghosts L) (wanted : Option Wanted) (result : Status) (before after : Outside L) : Type 0 where
   not_understood : wanted ≡ None → Ends Words (line (codes "words not understood")) result before.scene.out after.scene.out
@@ -68,3 +78,5 @@ pub data Says {L : Type 0} (g : links.Ghosts L) (wanted : Option Wanted) (result
       → after.dial ≡ before.dial → Says g wanted result before after
   serves_child : (s : List ℕ) → wanted ≡ Some (Child s) → ServesUnheard (child_of s) result before.listen after.listen before.scene after.scene
       → after.dial ≡ before.dial → Says g wanted result before after
+  tries : (n : ℕ) → wanted ≡ Some (Trial n) → Tries g n result before.dial after.dial before.scene.out after.scene.out
+      → after.scene.files ≡ before.scene.files → after.listen ≡ before.listen → Says g wanted result before after

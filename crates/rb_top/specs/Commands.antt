@@ -21,8 +21,9 @@ use Rattle.rb_session.specs.Dials.{DialSeen}
 use Rattle.rb_session.specs.declared.targets.Target.{Target}
 use Rattle.rb_top.specs.Answers.{Goes, RunsBy, SaysOfProgram}
 use Rattle.rb_top.specs.BatchRefusals.{shown_batch_refusal}
-use Rattle.rb_top.specs.DialRuns.{Dials}
+use Rattle.rb_top.specs.DialRuns.{Dials, RunsInMemory}
 use Rattle.rb_top.specs.Ends.{Ends, fault_line, too_long_line}
+use Rattle.rb_top.specs.LinkRuns.{run_end_in}
 use Rattle.rb_top.specs.Loads.{HoldsText, HoldsTyped}
 use Rattle.rb_top.specs.Refusals.{shown_refusal, shown_violation}
 use Rattle.rb_top.specs.Runs.{Served, served_on}
@@ -133,6 +134,10 @@ GoesWith g x a result dial dial' before after = Goes g x.text.now (accepted_prog
 -- An accepted program was run as a job asks, on a service that was loaded.
 abbrev pub RunsWith : {L : Type 0} → links.Ghosts L → Accepted → Job → Served → Status → DialSeen L → DialSeen L → Device (List ℕ) → Device (List ℕ) → Type 0
 RunsWith g x job served = RunsBy g job.way job.service.now x.text.now (accepted_program x) job.fuel served
+
+-- An accepted program was run over a link in memory to a service that was loaded, and what closes the run was said as a job asks.
+abbrev pub RunsInMemoryWith : {L : Type 0} → links.Ghosts L → Accepted → Job → Served → Status → DialSeen L → DialSeen L → Device (List ℕ) → Device (List ℕ) → Type 0
+RunsInMemoryWith g x job served = RunsInMemory g (run_end_in g job.way x.text.now) (accepted_program x) job.fuel served
 
 -- An accepted program was run over a link to a target.
 abbrev pub DialsWith : {L : Type 0} → links.Ghosts L → Accepted → ℕ → Target → Status → DialSeen L → DialSeen L → Device (List ℕ) → Device (List ℕ) → Type 0

@@ -22,14 +22,15 @@ use Rattle.rb_session.specs.declared.targets.Target.TheVariants as targets
 use Rattle.rb_top.specs.Answers.{EndsRun}
 use Rattle.rb_top.specs.Ends.{Ends}
 use Rattle.rb_top.specs.LinkRuns.{served_by}
-use Rattle.rb_top.specs.Runs.{Served, far_text, run_status}
+use Rattle.rb_top.specs.Runs.{Served, counted_text, far_text, run_status}
 use Rattle.rb_top.specs.Scene as scenes
 use Rattle.rb_top.specs.Texts.{IsProgram, IsService}
-use Rattle.rb_top.specs.Words.{Check, Split, Run, Call, Serving, Wanted, OfProgram, Serve, Child, child_of}
+use Rattle.rb_top.specs.Trials.{trial_program, trial_service}
+use Rattle.rb_top.specs.Words.{Check, Split, Run, Call, Serving, Wanted, OfProgram, Serve, Child, Trial, child_of, default_fuel}
 use Rattle.rb_top.specs.declared.status.Status.{Status}
 use Rattle.rb_top.specs.declared.status.Status.TheVariants.{Done, WriteFault, Memory}
 use Rattle.rb_top.specs.declared.words.Way.{Way}
-use Rattle.rb_top.specs.declared.words.Way.TheVariants.{Both, Unsplit, Pair}
+use Rattle.rb_top.specs.declared.words.Way.TheVariants as ways
 
 -- The files tell that the next read of this name finds this text.
 abbrev pub IsTold : Option Directory → List ℕ → List ℕ → Type 0
@@ -64,11 +65,12 @@ SplitsTold wanted result before after = (p text : List ℕ) (program : Program) 
     → ToldAccepted before.files.told p text program → divisions program ≡ Ok ds
     → Ends Done (shown_divisions text ds) result before.out after.out
 
--- The way is one in which a program is run on a service in the same process.
+-- The way is one in which a program is run on a service in the same process, and the table is printed.
 abbrev pub IsNear : Way → Type 0
-IsNear Both = Unit {0}
-IsNear Unsplit = Unit {0}
-IsNear Pair = ⊥
+IsNear ways.Both = Unit {0}
+IsNear ways.Unsplit = Unit {0}
+IsNear ways.Pair = ⊥
+IsNear ways.Trial = ⊥
 
 -- Where `both P S FUEL` or `unsplit P S FUEL` is asked, and the files tell a program and a service under these names, its run is
 -- printed and the answer is how it ends, unless the output fails or memory is wanting.
@@ -76,6 +78,16 @@ abbrev pub RunsTold : Option Wanted → Status → scenes.Scene → scenes.Scene
 RunsTold wanted result before after = (way : Way) (p s text other : List ℕ) (fuel : ℕ) (program : Program) (served : Served)
     → wanted ≡ Some (OfProgram (Run way p s fuel)) → IsNear way → ToldRun before.files.told p s text other program served
     → EndsRun text program fuel served result before.out after.out
+
+-- what a run in memory is to print where the objects are counted, and to answer, unless the output fails or memory runs out
+abbrev pub EndsCounted : List ℕ → Program → ℕ → Served → Status → Device (List ℕ) → Device (List ℕ) → Type 0
+EndsCounted text p fuel served result before after = Ends (run_status fuel p served) (counted_text text fuel p served) result before after ⊎ (result ≡ Memory)
+
+-- Where `trial N` is asked, and its two texts are an accepted program and a service, what the program means there is printed, with how
+-- many objects there are in place of the table. The answer is how it ends, unless the output fails or memory runs out.
+abbrev pub TrialsTold : Option Wanted → Status → scenes.Scene → scenes.Scene → Type 0
+TrialsTold wanted result before after = (n : ℕ) (program : Program) (served : Served) → wanted ≡ Some (Trial n) → IsProgram trial_program program
+    → IsService (trial_service n) served → EndsCounted trial_program program default_fuel served result before.out after.out
 
 -- A program on the service behind a link comes to its batch after so many.
 pub record ComesToBatch (p : Program) (fuel : ℕ) (served : Served) (k : ℕ) : Type 0 where
@@ -112,7 +124,7 @@ CallsTold g wanted result before after = (address p text : List ℕ) (fuel : ℕ
 -- The same of `pair P S FUEL`, where the files tell a service too, and the Dial an honest link to the child that serves it.
 abbrev pub PairsTold : {L : Type 0} → links.Ghosts L → Option Wanted → Status → scenes.Outside L → scenes.Outside L → Type 0
 PairsTold g wanted result before after = (p s text other : List ℕ) (fuel : ℕ) (program : Program) (served : Served) (b : Behind)
-    → wanted ≡ Some (OfProgram (Run Pair p s fuel)) → ToldRun before.scene.files.told p s text other program served
+    → wanted ≡ Some (OfProgram (Run ways.Pair p s fuel)) → ToldRun before.scene.files.told p s text other program served
     → DialsHonest g (targets.Child s) program fuel b before.dial.told → EndsFar text program fuel b result before.scene.out after.scene.out
 
 -- how many calls a server makes of its listener that serves so many sessions at most, where so many come: the start, and one for each

@@ -8,7 +8,7 @@ use Rattle.rb_session.specs.Dials.{DialSeen, IsDialled, TakesNext, after_back, a
 use Rattle.rb_session.specs.declared.dials.DialStop.TheVariants as stops
 use Rattle.rb_session.specs.declared.targets.Target.{Target}
 use Rattle.rb_top.specs.Ends.{Ends}
-use Rattle.rb_top.specs.LinkRuns.{IsNew, RunsOverLink, run_end, run_end_with_table}
+use Rattle.rb_top.specs.LinkRuns.{Closing, IsNew, RunsOverLink, run_end}
 use Rattle.rb_top.specs.Runs.{Served}
 use Rattle.rb_top.specs.declared.status.Status.{Status}
 use Rattle.rb_top.specs.declared.status.Status.TheVariants.{DialFault, Memory}
@@ -17,12 +17,12 @@ use Rattle.rb_top.specs.declared.status.Status.TheVariants.{DialFault, Memory}
 abbrev pub around_and_back : {L : Type 0} → links.Ghosts L → L → DialSeen L → DialSeen L
 around_and_back g link d = after_back g link (record d { told = option_map one_more_out d.told })
 
--- A program was run over a link to a new server of the service, with its table; behind its lines the table was printed that the
--- server has then; and the link came back. Where memory was wanting for the link, nothing was printed.
-pub data RunsInMemory {L : Type 0} (g : links.Ghosts L) (text : List ℕ) (p : Program) (fuel : ℕ) (served : Served) (result : Status) (dial after_it : DialSeen L) (before after : Device (List ℕ)) : Type 0 where
-  ran_in_memory : (link left : L) → IsNew g served link → RunsOverLink g (run_end_with_table g text) p fuel link left result before after
-      → after_it ≡ around_and_back g left dial → RunsInMemory g text p fuel served result dial after_it before after
-  starved_for_link : result ≡ Memory → after_it ≡ dial → after ≡ before → RunsInMemory g text p fuel served result dial after_it before after
+-- A program was run over a link to a new server of the service, with its table. What closes the run was said after its lines, and the
+-- link came back. Where memory ran out before there was a link, nothing was printed.
+pub data RunsInMemory {L : Type 0} (g : links.Ghosts L) (closing : Closing L) (p : Program) (fuel : ℕ) (served : Served) (result : Status) (dial after_it : DialSeen L) (before after : Device (List ℕ)) : Type 0 where
+  ran_in_memory : (link left : L) → IsNew g served link → RunsOverLink g closing p fuel link left result before after
+      → after_it ≡ around_and_back g left dial → RunsInMemory g closing p fuel served result dial after_it before after
+  starved_for_link : result ≡ Memory → after_it ≡ dial → after ≡ before → RunsInMemory g closing p fuel served result dial after_it before after
 
 -- No link was had: memory was wanting before the Dial was asked, or in it.
 abbrev pub HadNone : {L : Type 0} → Target → DialSeen L → DialSeen L → Type 0

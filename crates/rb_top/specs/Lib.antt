@@ -20,5 +20,6 @@ pub mod SessionLines
 pub mod Sessions
 pub mod Sources
 pub mod Texts
+pub mod Trials
 pub mod Unusable
 pub mod Words

@@ -13,10 +13,11 @@ use Rattle.rb_client.specs.declared.stops.RunStop.{RunStop}
 use Rattle.rb_client.specs.declared.stops.RunStop.TheVariants as stops
 use Rattle.rb_top.specs.BadReplies.{shown_bad_reply, shown_link_fault}
 use Rattle.rb_top.specs.Ends.{Ends}
-use Rattle.rb_top.specs.Printing.{end_text, run_end_text}
+use Rattle.rb_top.specs.Printing.{counted_end_text, end_text, end_text_in, run_end_text}
 use Rattle.rb_top.specs.Runs.{Served, ended_status}
 use Rattle.rb_top.specs.declared.status.Status.{Status}
 use Rattle.rb_top.specs.declared.status.Status.TheVariants.{LinkFault, BadReply, WriteFault, Memory}
+use Rattle.rb_top.specs.declared.words.Way.{Way}
 
 -- a link and an output, as a client's run has them
 abbrev pub over : {L : Type 0} → links.Ghosts L → L → Device (List ℕ) → scenes.Scene
@@ -60,6 +61,14 @@ run_end text left run = run_end_text text run.ending run.exchanges
 -- the same, and the table that the link's server has then
 abbrev pub run_end_with_table : {L : Type 0} → links.Ghosts L → List ℕ → Closing L
 run_end_with_table g text left run = end_text text run.ending run.exchanges (behind_of (g.told left)).table
+
+-- the same, and how many objects that table has, in place of it
+abbrev pub run_end_with_count : {L : Type 0} → links.Ghosts L → List ℕ → Closing L
+run_end_with_count g text left run = counted_end_text text run.ending run.exchanges (behind_of (g.told left)).table
+
+-- what is said of a run in some way
+abbrev pub run_end_in : {L : Type 0} → links.Ghosts L → Way → List ℕ → Closing L
+run_end_in g way text left run = end_text_in way text run.ending run.exchanges (behind_of (g.told left)).table
 
 -- What is said behind the lines of a run that was cut off. After a write fault that is nothing, and of want of memory nothing is said
 -- here.

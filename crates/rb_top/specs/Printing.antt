@@ -12,6 +12,8 @@ use Rattle.rb_plain.specs.declared.run.PlainStop.{PlainStop}
 use Rattle.rb_plain.specs.declared.run.PlainStop.TheVariants as plain
 use Rattle.rb_top.specs.declared.printing.PrintStop.{PrintStop}
 use Rattle.rb_top.specs.declared.printing.PrintStop.TheVariants.{WriteFault, Memory}
+use Rattle.rb_top.specs.declared.words.Way.{Way}
+use Rattle.rb_top.specs.declared.words.Way.TheVariants.{Trial}
 
 -- how many bytes the first line of a text has: those up to its first line feed, and that; or all where there is none
 abbrev pub first_line_length : List ℕ → ℕ
@@ -51,3 +53,16 @@ run_end_text source ending count = line (shown_ending source ending) ++ line (co
 -- the same, and the table
 abbrev pub end_text : List ℕ → Ending → ℕ → List Object → List ℕ
 end_text source ending count table = run_end_text source ending count ++ shown_table 0 table
+
+-- the line that says how many objects a table has
+abbrev pub objects_line : List Object → List ℕ
+objects_line table = line (codes "objects " ++ decimal (length table))
+
+-- the same as `end_text`, and that line in place of the table
+abbrev pub counted_end_text : List ℕ → Ending → ℕ → List Object → List ℕ
+counted_end_text source ending count table = run_end_text source ending count ++ objects_line table
+
+-- what follows the lines of a run in some way that left a table
+abbrev pub end_text_in : Way → List ℕ → Ending → ℕ → List Object → List ℕ
+end_text_in Trial source ending count table = counted_end_text source ending count table
+end_text_in way source ending count table = end_text source ending count table

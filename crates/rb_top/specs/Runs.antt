@@ -9,7 +9,7 @@ use Rattle.rb_trees.specs.declared.outcomes.Ending.TheVariants as endings
 use Rattle.rb_meaning.specs.Meaning.{Meaning, meaning}
 use Rattle.rb_meaning.specs.Shown.{exchanges, shown, shown_events}
 use Rattle.rb_base.specs.Devices.{Device}
-use Rattle.rb_top.specs.Printing.{PrintsUnlessStarved, run_end_text}
+use Rattle.rb_top.specs.Printing.{PrintsUnlessStarved, objects_line, run_end_text}
 use Rattle.rb_top.specs.Sources.{accepted_program}
 use Rattle.rb_top.specs.declared.printing.PrintStop.{PrintStop}
 use Rattle.rb_top.specs.declared.source.Accepted.{Accepted}
@@ -35,6 +35,10 @@ run_text source fuel p served = shown source (meaning p served.0 served.1 fuel)
 -- the same, but for the table
 abbrev pub far_text : List ℕ → ℕ → Program → Served → List ℕ
 far_text source fuel p served = shown_lines source (meaning p served.0 served.1 fuel)
+
+-- the same, and how many objects the table has
+abbrev pub counted_text : List ℕ → ℕ → Program → Served → List ℕ
+counted_text source fuel p served = far_text source fuel p served ++ objects_line (meaning p served.0 served.1 fuel).table
 
 -- the status of how a program ended
 abbrev pub ended_status : Ending → Status

@@ -34,11 +34,12 @@ pub record Serving : Type 0 where
   pub service : List ℕ
   pub count : ℕ
 
--- what words ask for: something of a program, a server, or a server over one session that prints nothing
+-- what words ask for: something of a program, a server, a server over one session that prints nothing, or a trial of so many files
 pub data Wanted : Type 0 where
   OfProgram : (a : Asked) → Wanted
   Serve : (v : Serving) → Wanted
   Child : (s : List ℕ) → Wanted
+  Trial : (n : ℕ) → Wanted
 
 -- the fuel of a run, where the words name none, and the most that words may name
 unfoldable pub default_fuel : ℕ
@@ -51,23 +52,33 @@ most_fuel = 1000000000
 unfoldable pub most_count : ℕ
 most_count = 1000000
 
--- the most digits of a number
+-- the most files of a trial
+unfoldable pub most_files : ℕ
+most_files = 10000
+
+-- the most digits of a number of fuel or sessions, and of one of files
 abbrev pub most_digits : ℕ
 most_digits = 10
 
--- whether a word names a number of at least and at most so much, by one to ten digits
-abbrev pub is_within : ℕ → ℕ → List ℕ → Bool
-is_within least most word =
-    list_all is_digit word && (nat_lt 0 (length word) && (nat_le (length word) most_digits && (nat_le least (number_value word) && nat_le (number_value word) most)))
+abbrev pub most_file_digits : ℕ
+most_file_digits = 5
 
-abbrev pub number_within : ℕ → ℕ → List ℕ → Option ℕ
-number_within least most word = cond (is_within least most word) (Some (number_value word)) None
+-- whether a word names a number of at least and at most so much, by one digit to so many
+abbrev pub is_within : ℕ → ℕ → ℕ → List ℕ → Bool
+is_within digits least most word =
+    list_all is_digit word && (nat_lt 0 (length word) && (nat_le (length word) digits && (nat_le least (number_value word) && nat_le (number_value word) most)))
+
+abbrev pub number_within : ℕ → ℕ → ℕ → List ℕ → Option ℕ
+number_within digits least most word = cond (is_within digits least most word) (Some (number_value word)) None
 
 abbrev pub fuel_of : List ℕ → Option ℕ
-fuel_of word = number_within 0 most_fuel word
+fuel_of word = number_within most_digits 0 most_fuel word
 
 abbrev pub count_of : List ℕ → Option ℕ
-count_of word = number_within 1 most_count word
+count_of word = number_within most_digits 1 most_count word
+
+abbrev pub trial_count_of : List ℕ → Option ℕ
+trial_count_of word = number_within most_file_digits 1 most_files word
 
 -- `serve ADDRESS S COUNT`
 abbrev pub serve_of : List ℕ → List ℕ → ℕ → Serving
@@ -77,14 +88,15 @@ serve_of address s count = record { address = address; service = s; count = coun
 abbrev pub child_of : List ℕ → Serving
 child_of s = serve_of (codes "-") s 1
 
--- what is asked for by a word and a file, if they are understood
+-- what is asked for by a word and a file, or `trial` and a number, if they are understood
 abbrev pub view_of : List ℕ → List ℕ → Option Wanted
 view_of command f =
     cond (bytes_eq command (codes "check")) (Some (OfProgram (Check f)))
     (cond (bytes_eq command (codes "split")) (Some (OfProgram (Split f)))
-    (cond (bytes_eq command (codes "child")) (Some (Child f)) None))
+    (cond (bytes_eq command (codes "child")) (Some (Child f))
+    (cond (bytes_eq command (codes "trial")) (option_map Trial (trial_count_of f)) None)))
 
--- the way of a run that a word names
+-- the way of a run that a word names; no word names that of a trial
 abbrev pub way_of : List ℕ → Option Way
 way_of command =
     cond (bytes_eq command (codes "both")) (Some Both) (cond (bytes_eq command (codes "unsplit")) (Some Unsplit) (cond (bytes_eq command (codes "pair")) (Some Pair) None))
@@ -134,3 +146,4 @@ abbrev pub wanted_by : Command → Wanted
 wanted_by (commands.Program task) = OfProgram (asked_by task)
 wanted_by (commands.Serve v) = Serve (serving_by v)
 wanted_by (commands.Child s) = Child s.now
+wanted_by (commands.Trial n) = Trial n

@@ -9,9 +9,9 @@ ghost use Rattle.rb_session.specs.Dials.{seen};
 ghost use Rattle.rb_session.specs.declared.targets.Target.TheVariants as targets;
 ghost use Rattle.rb_law_division.specs.Sendable.{HasPlaces};
 ghost use Rattle.rb_top.specs.Accepted.{IsAdmitted, IsAccepted};
-ghost use Rattle.rb_top.specs.Answers.{Says, SaysOfProgram};
+ghost use Rattle.rb_top.specs.Answers.{Says, SaysOfProgram, Tries};
 ghost use Rattle.rb_top.specs.Commands.{DialsWith, DividesWith, GoesOnTyped, GoesWith, RunsWith};
-ghost use Rattle.rb_top.specs.Completeness.{CallsTold, ChecksTold, PairsTold, RunsTold, ServesTold, SplitsTold};
+ghost use Rattle.rb_top.specs.Completeness.{CallsTold, ChecksTold, PairsTold, RunsTold, ServesTold, SplitsTold, TrialsTold};
 ghost use Rattle.rb_top.specs.Ends.{Ends};
 ghost use Rattle.rb_top.specs.Runs.{served_on};
 ghost use Rattle.rb_top.specs.Scene.{output, Across, Between, outside};
@@ -30,6 +30,7 @@ use crate::saying::{run_answer, say};
 use crate::server::{run_child, run_server};
 use crate::source::{Accepted, Source};
 use crate::status::Status;
+use crate::trial::trial_files;
 use crate::unsplit_run::run_unsplit;
 use crate::words::{Call, Command, Job, Task, Way, command_of};
 use rb_base::{Files, Listen, Sink};
@@ -103,7 +104,7 @@ fn run_program<W: Sink, D: Dial>(
         (RunsWith D.L.Link program.now job.now served result (dialled dial.old) (dialled dial.new)) }
 {
     match job.way {
-        Way::Both => run_both(alloc, program, service, table, job.fuel, dial, out),
+        Way::Both | Way::Trial => run_both(alloc, program, job, service, table, dial, out),
         Way::Unsplit => run_answer(run_unsplit(alloc, program, &service, table, job.fuel, out)),
         Way::Pair => run_pair(alloc, program, job, dial, out),
     }
@@ -237,6 +238,18 @@ fn carry_out_task<F: Files, W: Sink, D: Dial>(
     }
 }
 
+/// Runs the program of a trial on its service of so many files, over files in memory that hold the two.
+fn run_trial<W: Sink, D: Dial>(alloc: Global, count: u64, dial: &mut D, out: &mut W) -> Status
+    ensures { let dialled = seen D.told D.faults D.broken in
+        Across W.Sink out.old out.new (Tries D.L.Link count result (dialled dial.old) (dialled dial.new)) }
+{
+    let Ok(mut files) = trial_files(alloc, count) else {
+        return Status::Memory;
+    };
+    let task = Task::Run(Job::of_trial());
+    carry_out_task(alloc, &task, &mut files, dial, out)
+}
+
 /// Carries out a command.
 fn carry_out<F: Files, W: Sink, D: Dial, N: Listen>(
     alloc: Global,
@@ -253,6 +266,7 @@ fn carry_out<F: Files, W: Sink, D: Dial, N: Listen>(
         Command::Program(task) => carry_out_task(alloc, task, files, dial, out),
         Command::Serve(serving) => run_server(alloc, serving, files, out, listen),
         Command::Child(service) => run_child(alloc, service, files, listen),
+        Command::Trial(count) => run_trial(alloc, *count, dial, out),
     }
 }
 
@@ -279,6 +293,8 @@ pub fn top<F: Files, W: Sink, D: Dial, N: Listen>(
     ensures splits { Between F.Files W.Sink files.old out.old files.new out.new (SplitsTold (wanted (texts words.now)) result) }
     // A program that the files tell is run on a service that they tell, unless the output fails or memory is wanting.
     ensures runs { Between F.Files W.Sink files.old out.old files.new out.new (RunsTold (wanted (texts words.now)) result) }
+    // A trial prints what its program means on its service, and how many objects there are.
+    ensures trials { Between F.Files W.Sink files.old out.old files.new out.new (TrialsTold (wanted (texts words.now)) result) }
     // Over an honest link that the Dial tells a program is run as it means on the server behind that link.
     ensures calls { let asked = wanted (texts words.now) in let it = outside F.Files W.Sink D.Dial N.Listen in
         CallsTold D.L.Link asked result (it files.old out.old dial.old listen.old) (it files.new out.new dial.new listen.new) }

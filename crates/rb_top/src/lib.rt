@@ -21,8 +21,10 @@ mod service_refusals;
 mod session_lines;
 mod source;
 mod status;
+mod trial;
 mod unsplit_run;
 mod words;
 
 pub use command::top;
 pub use status::{SourceError, Status};
+pub use trial::{trial_program, trial_service};

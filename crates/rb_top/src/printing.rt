@@ -1,15 +1,17 @@
 // Lines on the output, each of which is handed over whole, with its line feed, as one piece.
 
-ghost use Rattle.std.specs.Prelude.{◌≡◌, ◌++◌, ◌≤◌, length, codes};
+ghost use Rattle.std.specs.Prelude.{◌≡◌, ◌++◌, ◌≤◌, length, codes, IfOk};
 ghost use Rattle.std.specs.Fmt.{decimal};
+ghost use Rattle.std.specs.String.{string_bytes};
 ghost use Rattle.rb_base.specs.Sinks.{Writes};
 ghost use Rattle.rb_meaning.specs.Shown.{line, shown_ending, shown_table};
-ghost use Rattle.rb_top.specs.Printing.{Prints, PrintsAnswering, end_text, first_line_length, run_end_text};
+ghost use Rattle.rb_top.specs.Printing.{Prints, PrintsAnswering, counted_end_text, end_text, end_text_in, first_line_length, objects_line, run_end_text};
 ghost use Rattle.rb_top.specs.Runs.{ended_status};
 ghost use Rattle.rb_top.specs.Scene.{output};
 ghost use Rattle.rb_top.specs.Texts.{WithinLength};
 
 use crate::status::{Status, status_of};
+use crate::words::Way;
 use rb_base::{Failed, Sink, write_whole};
 use rb_heap::Heap;
 use rb_plain::PlainStop;
@@ -144,6 +146,24 @@ pub fn print_objects<W: Sink>(alloc: Global, table: &Heap, out: &mut W) -> Resul
     }
 }
 
+/// The line of the number of objects.
+#[tactic(auto, using(crate::proofs::Lines::pieces))]
+fn count_line(alloc: Global, count: u32) -> Result<String, AllocError>
+    ensures { IfOk result (λ text. string_bytes text ≡ line (codes "objects " ++ decimal count)) }
+{
+    format!(in alloc; "objects {count}\n")
+}
+
+/// Prints how many objects a table has.
+fn print_count<W: Sink>(alloc: Global, table: &Heap, out: &mut W) -> Result<(), PrintStop>
+    ensures { Prints (objects_line table.now) result (output W.Sink out.old) (output W.Sink out.new) }
+{
+    match count_line(alloc, table.len()) {
+        Ok(text) => print_text(text.as_bytes(), out),
+        Err(_) => Err(PrintStop::Memory),
+    }
+}
+
 /// Prints how a run ended, and how often it exchanged.
 fn print_end<W: Sink>(
     alloc: Global,
@@ -189,4 +209,42 @@ pub fn print_run_end_with_table<W: Sink>(
     let status = print_run_end(alloc, source, run, out)?;
     print_objects(alloc, table, out)?;
     Ok(status)
+}
+
+/// Prints what follows the lines of a run that left a table, but for the table how many objects it has, and answers how it ended.
+fn print_run_end_with_count<W: Sink>(
+    alloc: Global,
+    source: &[u8],
+    run: Run,
+    table: &Heap,
+    out: &mut W,
+) -> Result<Status, PrintStop>
+    requires { WithinLength source.now }
+    ensures { let said = counted_end_text source.now run.ending run.exchanges table.now in
+        PrintsAnswering (ended_status run.ending) said result (output W.Sink out.old) (output W.Sink out.new) }
+{
+    let status = print_run_end(alloc, source, run, out)?;
+    print_count(alloc, table, out)?;
+    Ok(status)
+}
+
+/// Prints what follows the lines of a run in some way that left a table, and answers how it ended.
+pub fn print_run_end_in<W: Sink>(
+    alloc: Global,
+    source: &[u8],
+    way: Way,
+    run: Run,
+    table: &Heap,
+    out: &mut W,
+) -> Result<Status, PrintStop>
+    requires { WithinLength source.now }
+    ensures { let said = end_text_in way source.now run.ending run.exchanges table.now in
+        PrintsAnswering (ended_status run.ending) said result (output W.Sink out.old) (output W.Sink out.new) }
+{
+    match way {
+        Way::Trial => print_run_end_with_count(alloc, source, run, table, out),
+        Way::Both | Way::Unsplit | Way::Pair => {
+            print_run_end_with_table(alloc, source, run, table, out)
+        }
+    }
 }

@@ -2,9 +2,10 @@
 
 ghost use Rattle.std.specs.Prelude.{◌≡◌};
 ghost use Rattle.std.specs.Option.{option_map};
-ghost use Rattle.rb_top.specs.Words.{OfProgram, texts, wanted, wanted_by, asked_by, program_name, view_of, run_of, run_or_serve_of, way_of, child_of, serving_by, default_fuel};
+ghost use Rattle.rb_top.specs.Trials.{asked_in_trial};
+ghost use Rattle.rb_top.specs.Words.{OfProgram, texts, wanted, wanted_by, asked_by, asked_job, program_name, view_of, run_of, run_or_serve_of, way_of, child_of, serving_by, default_fuel};
 
-use crate::numbers::{count_of, fuel_of};
+use crate::numbers::{count_of, fuel_of, trial_count_of};
 
 /// The fuel of a run, where the words name none.
 const DEFAULT_FUEL: u64 = 1_000_000;
@@ -18,6 +19,8 @@ pub enum Way {
     Unsplit,
     /// `pair`: as `both`, over a link to a child process that serves the service.
     Pair,
+    /// `trial`: as `both`, and in place of the table it is said how many objects there are.
+    Trial,
 }
 
 /// A run that is asked for: the way, the names of the files of the program and of the service, and the fuel.
@@ -68,6 +71,23 @@ pub enum Command<'w> {
     Serve(Serving<'w>),
     /// `child S`: serves the service in the file S over one session at `-`, and prints nothing.
     Child(&'w str),
+    /// `trial N`: runs the program of a trial on its service of N files.
+    Trial(u64),
+}
+
+impl Job<'_> {
+    /// What is asked of the program of a trial.
+    #[tactic(auto, unfolding(crate::specs::Words::default_fuel))]
+    pub fn of_trial() -> Job<'static>
+        ensures { asked_job result ≡ asked_in_trial }
+    {
+        Job {
+            way: Way::Trial,
+            program: "p",
+            service: "s",
+            fuel: DEFAULT_FUEL,
+        }
+    }
 }
 
 impl Task<'_> {
@@ -97,16 +117,19 @@ impl<'w> Serving<'w> {
     }
 }
 
-/// The command of two words.
-fn view_command<'w>(command: &str, file: &'w str) -> Option<Command<'w>>
-    ensures { option_map wanted_by result ≡ view_of command.now file.now }
+/// The command of two words, of which the second is a file or a number.
+fn view_command<'w>(command: &str, operand: &'w str) -> Option<Command<'w>>
+    ensures { option_map wanted_by result ≡ view_of command.now operand.now }
 {
     if command == "check" {
-        Some(Command::Program(Task::Check(file)))
+        Some(Command::Program(Task::Check(operand)))
     } else if command == "split" {
-        Some(Command::Program(Task::Split(file)))
+        Some(Command::Program(Task::Split(operand)))
     } else if command == "child" {
-        Some(Command::Child(file))
+        Some(Command::Child(operand))
+    } else if command == "trial" {
+        let count = trial_count_of(operand)?;
+        Some(Command::Trial(count))
     } else {
         None
     }
@@ -185,7 +208,7 @@ pub fn command_of(words: &[String]) -> Option<Command<'_>>
     ensures { option_map wanted_by result ≡ wanted (texts words.now) }
 {
     match words {
-        [command, file] => view_command(command.as_str(), file.as_str()),
+        [command, operand] => view_command(command.as_str(), operand.as_str()),
         [command, first, second] => {
             run_command(command.as_str(), first.as_str(), second.as_str())
         }

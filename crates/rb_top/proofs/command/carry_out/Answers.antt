@@ -1,5 +1,5 @@
 use Rattle.std.proofs.Common.{refl}
-use Rattle.rb_top.specs.Answers.{of_program, serves, serves_child}
+use Rattle.rb_top.specs.Answers.{of_program, serves, serves_child, tries}
 use Rattle.rb_top.specs.Words.{asked_by, serving_by}
 use Rattle.rb_top.proofs.command.carry_out.Goals as goal
 
@@ -11,3 +11,6 @@ returns-in-Serve g c = rw c.in-Serve.is (serves (serving_by c.in-Serve.serving) 
 
 pub returns-in-Child : goal.returns-in-Child
 returns-in-Child g c = rw c.in-Child.is (serves_child c.in-Child.service.now refl (record { serves = c.run_child.ensures; unchanged = refl }) refl)
+
+pub returns-in-Trial : goal.returns-in-Trial
+returns-in-Trial g c = rw c.in-Trial.is (tries c.in-Trial.count.now refl c.run_trial.ensures refl refl)

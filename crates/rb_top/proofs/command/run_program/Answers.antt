@@ -13,3 +13,6 @@ returns-in-Unsplit g c =
 
 pub returns-in-Pair : goal.returns-in-Pair
 returns-in-Pair g c = rw c.in-Pair.is c.run_pair.ensures
+
+pub returns-in-Trial : goal.returns-in-Trial
+returns-in-Trial g c = rw c.in-Trial.is c.run_both.ensures

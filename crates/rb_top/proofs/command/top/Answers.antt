@@ -1,6 +1,6 @@
 use Rattle.rb_top.specs.Scene.{outside}
 use Rattle.rb_top.specs.Words.{texts, wanted}
-use Rattle.rb_top.proofs.Complete.{calls_told, checks_told, pairs_told, runs_told, said_as, said_nothing, splits_told}
+use Rattle.rb_top.proofs.Complete.{calls_told, checks_told, pairs_told, runs_told, said_as, said_nothing, splits_told, trials_told}
 use Rattle.rb_top.proofs.ServedTold.{serves_told}
 use Rattle.rb_top.proofs.command.top.Goals as goal
 
@@ -63,3 +63,12 @@ pub returns-in-None-clause-serves : goal.returns-in-None-clause-serves
 returns-in-None-clause-serves g c =
     let before = outside g.F.Files g.W.Sink g.D.Dial g.N.Listen c.args.files.now c.args.out.now c.args.dial.now c.args.listen.now in
     serves_told g.D.L.Link c.sources_have_one_outcome_as_services.ensures (wanted (texts c.args.words.now)) c.say.result before _ (said_nothing g.D.L.Link (wanted (texts c.args.words.now)) c.say.result before _ c.in-None.ensures c.say.ensures)
+
+pub returns-in-Some-clause-trials : goal.returns-in-Some-clause-trials
+returns-in-Some-clause-trials g c =
+    trials_told g.D.L.Link c.sources_have_one_outcome.ensures c.sources_have_one_outcome_as_services.ensures (wanted (texts c.args.words.now)) c.carry_out.result _ _ (said_as g.D.L.Link _ _ c.carry_out.result _ _ c.in-Some.ensures c.carry_out.ensures)
+
+pub returns-in-None-clause-trials : goal.returns-in-None-clause-trials
+returns-in-None-clause-trials g c =
+    let before = outside g.F.Files g.W.Sink g.D.Dial g.N.Listen c.args.files.now c.args.out.now c.args.dial.now c.args.listen.now in
+    trials_told g.D.L.Link c.sources_have_one_outcome.ensures c.sources_have_one_outcome_as_services.ensures (wanted (texts c.args.words.now)) c.say.result before _ (said_nothing g.D.L.Link (wanted (texts c.args.words.now)) c.say.result before _ c.in-None.ensures c.say.ensures)
