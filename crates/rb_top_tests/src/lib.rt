@@ -28,4 +28,6 @@ mod runs;
 #[cfg(test)]
 mod service_classes;
 #[cfg(test)]
+mod trials;
+#[cfg(test)]
 mod types;
