@@ -67,6 +67,7 @@ fn add_references(alloc: Global, count: u64, into: &mut Word) -> Result<(), Memo
 }
 
 /// Adds the directory of so many files.
+#[tactic(auto, using(crate::proofs::Lines::pieces))]
 fn add_directory(alloc: Global, count: u64, into: &mut Word) -> Result<(), Memory>
     ensures { Appends (trial_directory count) into.old result into.new }
 {
@@ -104,6 +105,7 @@ fn add_objects(alloc: Global, count: u64, into: &mut Word) -> Result<(), Memory>
 }
 
 /// The service of so many files. Its error is that memory ran out.
+#[tactic(auto, using(crate::proofs::Lines::pieces))]
 pub fn trial_service(alloc: Global, count: u64) -> Result<Word, Memory>
     ensures { IfOk result (λ text. text ≡ trial_service count) }
 {
