@@ -31,6 +31,8 @@ const FUEL: &[u8] =
 
 const COUNT: &[u8] = b"  COUNT    how many clients are served: a number from 1 to 1000000\n";
 
+const FILES: &[u8] = b"  N        how many files the service has: a number from 1 to 10000\n";
+
 // Statuses.
 
 const ACCEPTED: &[u8] = b"  0   the program is accepted\n";
@@ -66,7 +68,9 @@ const NO_LISTENER: &[u8] = b"  12  the address can't be listened on, or gets no 
 const LONG_FILE: &[u8] = b"  13  a file has more than 1048576 bytes\n";
 
 /// The pages of all commands.
-pub static COMMANDS: [CommandPage; 8] = [CHECK, SPLIT, UNSPLIT, BOTH, RUN, PAIR, SERVE, CHILD];
+pub static COMMANDS: [CommandPage; 9] = [
+    CHECK, SPLIT, UNSPLIT, BOTH, RUN, PAIR, SERVE, CHILD, TRIAL,
+];
 
 const CHECK: CommandPage = CommandPage {
     name: "check",
@@ -215,4 +219,15 @@ const CHILD: CommandPage = CommandPage {
     words: &[SERVICE],
     statuses: &[SERVED, NO_FILE, NO_SERVICE, NO_MEMORY, LONG_FILE],
     example: b"child examples/files.rbs",
+};
+
+const TRIAL: CommandPage = CommandPage {
+    name: "trial",
+    form: b"trial N",
+    counts: (1, 1),
+    does: b"It runs a program of its own as `both` does, on a service of its own with so many files. It reads no file.
+The program is one batch over all files. At the end it tells how many objects there are.\n",
+    words: &[FILES],
+    statuses: &[RAN, NO_OUTPUT, NO_MEMORY],
+    example: b"trial 1000",
 };

@@ -19,6 +19,9 @@ pub const NO_FUEL: &[u8] = b"`@` is no FUEL, which is a number from 0 to 1000000
 
 pub const NO_COUNT: &[u8] = b"`@` is no COUNT, which is a number from 1 to 1000000.";
 
+pub const NO_FILES: &[u8] =
+    b"`@` is no N, which is a number from 1 to 10000, of at most five digits.";
+
 pub const TELL_MORE: &[u8] = b"`rbi help @` tells more.";
 
 // Files.

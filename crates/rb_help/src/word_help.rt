@@ -112,6 +112,9 @@ fn say_other_words(page: &mut Page, command: &CommandPage, words: &[String]) -> 
         [_, _, number] if command.counts == (2, 3) => {
             page.sentence(texts::NO_FUEL, number.as_bytes(), b"")?;
         }
+        [number] if command.name == "trial" => {
+            page.sentence(texts::NO_FILES, number.as_bytes(), b"")?;
+        }
         _ => page.sentence(texts::OTHER_WORDS, command.name.as_bytes(), command.form)?,
     }
     page.sentence(texts::TELL_MORE, command.name.as_bytes(), b"")

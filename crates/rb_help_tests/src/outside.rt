@@ -58,8 +58,9 @@ const USAGE: &str = "The commands, where P is the file of a program and S that o
   pair P S [FUEL]        run P, and S beside it in a child process
   serve ADDRESS S COUNT  serve S at ADDRESS to COUNT clients, one after the other
   child S                serve S to one client over standard input and output
+  trial N                run a program of its own on a service of its own with N files
 FUEL is how many calls and turns of loops the program may make, 1000000 where it is left out.
-ADDRESS is a host and a port, such as 127.0.0.1:4000, and COUNT is 1 to 1000000.
+ADDRESS is a host and a port, such as 127.0.0.1:4000. COUNT is 1 to 1000000, and N is 1 to 10000.
 `rbi help COMMAND` tells more of a command: what it does, its words, its statuses, an example.
 `rbi --version` tells the version.
 ";
@@ -82,7 +83,7 @@ An example:
 ";
 
 /// Words that are no command's, with blanks between them, and what is said.
-const WORDS: [(&str, &str); 17] = [
+const WORDS: [(&str, &str); 19] = [
     ("", USAGE),
     ("help", USAGE),
     ("--help", USAGE),
@@ -129,6 +130,18 @@ const WORDS: [(&str, &str); 17] = [
         "both a.rbi a.rbs much",
         "`much` is no FUEL, which is a number from 0 to 1000000000.
 `rbi help both` tells more.
+",
+    ),
+    (
+        "trial 10001",
+        "`10001` is no N, which is a number from 1 to 10000, of at most five digits.
+`rbi help trial` tells more.
+",
+    ),
+    (
+        "trial",
+        "`rbi trial` takes other words: `rbi trial N`.
+`rbi help trial` tells more.
 ",
     ),
     (
