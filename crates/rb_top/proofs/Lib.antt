@@ -1,4 +1,5 @@
 pub mod Complete
+pub mod Completed
 pub mod Differ
 pub mod Ended
 pub mod Going

@@ -155,3 +155,17 @@ IsDone result = (result ≡ Done) ⊎ (result ≡ WriteFault) ⊎ (result ≡ Me
 abbrev pub ServesTold : {L : Type 0} → Option Wanted → Status → scenes.Outside L → Type 0
 ServesTold wanted result before = (v : Serving) (text : List ℕ) (served : Served) → (wanted ≡ Some (Serve v)) ⊎ ((wanted ≡ Some (Child v.service)) × (v ≡ child_of v.service))
     → ToldService before.scene.files.told v.service text served → ListensWhole v.address v.count before.listen.told → IsDone result
+
+-- Where the outside tells all that a command needs, and no call of it fails but for a write, the command is carried out to its end.
+pub record Completes {L : Type 0} (g : links.Ghosts L) (wanted : Option Wanted) (result : Status) (before after : scenes.Outside L) : Type 0 where
+  -- An accepted program is checked, and its division is shown.
+  pub checks : ChecksTold wanted result before.scene after.scene
+  pub splits : SplitsTold wanted result before.scene after.scene
+  -- A program is run on a service, and that of a trial on its own.
+  pub runs : RunsTold wanted result before.scene after.scene
+  pub trials : TrialsTold wanted result before.scene after.scene
+  -- Over an honest link to an address, or to a child, a program is run as it means on the server behind it.
+  pub calls : CallsTold g wanted result before after
+  pub pairs : PairsTold g wanted result before after
+  -- A server serves to its end.
+  pub serves : ServesTold wanted result before

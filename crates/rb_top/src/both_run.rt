@@ -55,14 +55,7 @@ fn run_over<L: Link, W: Sink>(
     match run_client(alloc, typed, program.splits, fuel, link, out) {
         Ok(run) => match link.table() {
             None => unreachable!(),
-            Some(table) => run_answer(print_run_end_in(
-                alloc,
-                program.text,
-                way,
-                run,
-                table,
-                out,
-            )),
+            Some(table) => run_answer(print_run_end_in(alloc, program.text, way, run, table, out)),
         },
         Err(stop) => say_stop(alloc, stop, out),
     }

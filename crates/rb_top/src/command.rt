@@ -11,7 +11,7 @@ ghost use Rattle.rb_law_division.specs.Sendable.{HasPlaces};
 ghost use Rattle.rb_top.specs.Accepted.{IsAdmitted, IsAccepted};
 ghost use Rattle.rb_top.specs.Answers.{Says, SaysOfProgram, Tries};
 ghost use Rattle.rb_top.specs.Commands.{DialsWith, DividesWith, GoesOnTyped, GoesWith, RunsWith};
-ghost use Rattle.rb_top.specs.Completeness.{CallsTold, ChecksTold, PairsTold, RunsTold, ServesTold, SplitsTold, TrialsTold};
+ghost use Rattle.rb_top.specs.Completeness.{Completes};
 ghost use Rattle.rb_top.specs.Ends.{Ends};
 ghost use Rattle.rb_top.specs.Runs.{served_on};
 ghost use Rattle.rb_top.specs.Scene.{output, Across, Between, outside};
@@ -287,23 +287,9 @@ pub fn top<F: Files, W: Sink, D: Dial, N: Listen>(
     // What is answered and printed is what the words and the outside mean.
     ensures answer { let asked = wanted (texts words.now) in let it = outside F.Files W.Sink D.Dial N.Listen in
         Says D.L.Link asked result (it files.old out.old dial.old listen.old) (it files.new out.new dial.new listen.new) }
-    // An accepted program that the files tell is checked, unless the output fails or memory is wanting.
-    ensures checks { Between F.Files W.Sink files.old out.old files.new out.new (ChecksTold (wanted (texts words.now)) result) }
-    // The division of such a program is shown, unless the output fails or memory is wanting.
-    ensures splits { Between F.Files W.Sink files.old out.old files.new out.new (SplitsTold (wanted (texts words.now)) result) }
-    // A program that the files tell is run on a service that they tell, unless the output fails or memory is wanting.
-    ensures runs { Between F.Files W.Sink files.old out.old files.new out.new (RunsTold (wanted (texts words.now)) result) }
-    // A trial prints what its program means on its service, and how many objects there are.
-    ensures trials { Between F.Files W.Sink files.old out.old files.new out.new (TrialsTold (wanted (texts words.now)) result) }
-    // Over an honest link that the Dial tells a program is run as it means on the server behind that link.
-    ensures calls { let asked = wanted (texts words.now) in let it = outside F.Files W.Sink D.Dial N.Listen in
-        CallsTold D.L.Link asked result (it files.old out.old dial.old listen.old) (it files.new out.new dial.new listen.new) }
-    // So is a program over an honest link to the child.
-    ensures pairs { let asked = wanted (texts words.now) in let it = outside F.Files W.Sink D.Dial N.Listen in
-        PairsTold D.L.Link asked result (it files.old out.old dial.old listen.old) (it files.new out.new dial.new listen.new) }
-    // A server whose service and address are told serves to its end.
-    ensures serves { let asked = wanted (texts words.now) in
-        ServesTold asked result (outside F.Files W.Sink D.Dial N.Listen files.old out.old dial.old listen.old) }
+    // Where the outside tells all that a command needs, it is carried out to its end, unless the output fails or memory runs out.
+    ensures complete { let asked = wanted (texts words.now) in let it = outside F.Files W.Sink D.Dial N.Listen in
+        Completes D.L.Link asked result (it files.old out.old dial.old listen.old) (it files.new out.new dial.new listen.new) }
 {
     sources_have_one_outcome();
     sources_have_one_outcome_as_services();
