@@ -1,7 +1,7 @@
 // Slips in the heads of statements, in blocks, and in the declarations of variables.
 
 use crate::slip_texts;
-use crate::slips::{Slip, both, named, plain};
+use crate::slips::{Slip, both, named};
 use rb_pieces::Pieces;
 use rb_pieces::around::{Home, first_of_statement, home_of, is_keyword, is_name, is_type_word};
 use rb_pieces::spans::{opening, slot_around};
@@ -22,11 +22,11 @@ fn behind_word<'a>(pieces: &Pieces<'a>, index: usize) -> Option<Slip<'a>> {
     }
     match word {
         b"if" | b"while" => named(&slip_texts::IN_PARENTHESES, word),
-        b"for" => plain(&slip_texts::FOR_FORM),
-        b"catch" => plain(&slip_texts::CATCH_FORM),
-        b"batch" => plain(&slip_texts::BATCH_FORM),
+        b"for" => named(&slip_texts::FOR_FORM, b""),
+        b"catch" => named(&slip_texts::CATCH_FORM, b""),
+        b"batch" => named(&slip_texts::BATCH_FORM, b""),
         b"print" | b"len" | b"str" => named(&slip_texts::CALLED_WITH, word),
-        b"else" if pieces.is_later(index, 0, b"if") => plain(&slip_texts::BRACED_ELSE_IF),
+        b"else" if pieces.is_later(index, 0, b"if") => named(&slip_texts::BRACED_ELSE_IF, b""),
         b"else" | b"try" => named(&slip_texts::BRACES, word),
         _ => None,
     }
@@ -58,7 +58,7 @@ fn in_for<'a>(pieces: &Pieces<'a>, index: usize, number: usize) -> Option<Slip<'
         (0, _) if is_word_as_name(text) => None,
         (0, b"val" | b"var") => named(&slip_texts::FOR_NAME, text),
         (1, b":" | b"of") => named(&slip_texts::FOR_IN, text),
-        (0 | 1, _) => plain(&slip_texts::FOR_FORM),
+        (0 | 1, _) => named(&slip_texts::FOR_FORM, b""),
         _ => None,
     }
 }
@@ -70,8 +70,8 @@ fn in_head<'a>(pieces: &Pieces<'a>, index: usize) -> Option<Slip<'a>> {
     match pieces.earlier(slot.open, 1) {
         b"for" => in_for(pieces, index, number),
         b"catch" | b"batch" if is_word_as_name(pieces.text(index)) => None,
-        b"catch" => plain(&slip_texts::CATCH_FORM),
-        b"batch" => plain(&slip_texts::BATCH_FORM),
+        b"catch" => named(&slip_texts::CATCH_FORM, b""),
+        b"batch" => named(&slip_texts::BATCH_FORM, b""),
         _ => None,
     }
 }

@@ -1,7 +1,7 @@
 // Slips at the top of a text, in classes and in interfaces.
 
 use crate::slip_texts;
-use crate::slips::{Slip, both, named, plain};
+use crate::slips::{Slip, both, named};
 use rb_pieces::Pieces;
 use rb_pieces::around::{Home, first_of_statement, home_of, is_name, is_type_word};
 use rb_pieces::spans::slot_around;
@@ -44,12 +44,19 @@ fn in_class_head<'a>(pieces: &Pieces<'a>, index: usize) -> Option<Slip<'a>> {
 /// A declaration at the wrong place of a text.
 fn misplaced<'a>(pieces: &Pieces<'a>, index: usize) -> Option<Slip<'a>> {
     match pieces.text(index) {
-        b"class" | b"interface" | b"main" if is_behind(pieces, index, b"main") => {
-            plain(&slip_texts::MAIN_LAST)
-        }
-        b"class" | b"object" if is_behind(pieces, index, b"root") => plain(&slip_texts::ROOT_LAST),
-        b"class" if is_behind(pieces, index, b"object") => plain(&slip_texts::CLASSES_FIRST),
-        b"interface" if is_behind(pieces, index, b"class") => plain(&slip_texts::INTERFACES_FIRST),
+        b"class" | b"interface" | b"main" if is_behind(pieces, index, b"main") => named(
+            &slip_texts::MAIN_LAST,
+            b"",
+        ),
+        b"class" | b"object" if is_behind(pieces, index, b"root") => named(
+            &slip_texts::ROOT_LAST,
+            b"",
+        ),
+        b"class" if is_behind(pieces, index, b"object") => named(&slip_texts::CLASSES_FIRST, b""),
+        b"interface" if is_behind(pieces, index, b"class") => named(
+            &slip_texts::INTERFACES_FIRST,
+            b"",
+        ),
         _ => None,
     }
 }
@@ -59,18 +66,18 @@ fn at_top<'a>(pieces: &Pieces<'a>, index: usize) -> Option<Slip<'a>> {
     let text = pieces.text(index);
     if pieces.is_earlier(index, 1, b"main") {
         return match text {
-            b"(" => plain(&slip_texts::MAIN_FORM),
+            b"(" => named(&slip_texts::MAIN_FORM, b""),
             _ => None,
         };
     }
     if matches!(text, b"fun") {
         return match pieces.later(index, 1) {
-            b"main" => plain(&slip_texts::FUN_MAIN),
+            b"main" => named(&slip_texts::FUN_MAIN, b""),
             name => named(&slip_texts::METHOD_PLACE, name),
         };
     }
     if begins_statement(text) && matches!(pieces.earlier(index, 1), b"" | b"}" | b";") {
-        return plain(&slip_texts::STATEMENT_PLACE);
+        return named(&slip_texts::STATEMENT_PLACE, b"");
     }
     misplaced(pieces, index).or_else(|| in_class_head(pieces, index))
 }
@@ -83,7 +90,7 @@ fn in_method_head<'a>(pieces: &Pieces<'a>, index: usize) -> Option<Slip<'a>> {
     }
     let text = pieces.text(index);
     match pieces.earlier(index, 1) {
-        _ if matches!(text, b"=") => plain(&slip_texts::NO_DEFAULT),
+        _ if matches!(text, b"=") => named(&slip_texts::NO_DEFAULT, b""),
         before if is_name(before) && is_name(text) => {
             both(&slip_texts::PARAMETER_FORM, before, text)
         }
@@ -109,12 +116,13 @@ fn begins_member(pieces: &Pieces<'_>, index: usize) -> bool {
 fn in_class<'a>(pieces: &Pieces<'a>, index: usize) -> Option<Slip<'a>> {
     let text = pieces.text(index);
     match text {
-        b";" if is_behind_head(pieces, index) && !pieces.is_later(index, 2, b":") => plain(
+        b";" if is_behind_head(pieces, index) && !pieces.is_later(index, 2, b":") => named(
             &slip_texts::METHOD_BODY,
+            b"",
         ),
-        b"=" if !is_behind_head(pieces, index) => plain(&slip_texts::FIELD_VALUE),
+        b"=" if !is_behind_head(pieces, index) => named(&slip_texts::FIELD_VALUE, b""),
         b"val" | b"var" => both(&slip_texts::FIELD_FORM, text, pieces.later(index, 1)),
-        b"remote" if pieces.is_earlier(index, 1, b"fun") => plain(&slip_texts::REMOTE_FUN),
+        b"remote" if pieces.is_earlier(index, 1, b"fun") => named(&slip_texts::REMOTE_FUN, b""),
         _ if is_type_word(text) && begins_member(pieces, index) => {
             named(&slip_texts::MEMBER_FORM, text)
         }
@@ -129,8 +137,8 @@ fn in_class<'a>(pieces: &Pieces<'a>, index: usize) -> Option<Slip<'a>> {
 fn in_interface<'a>(pieces: &Pieces<'a>, index: usize) -> Option<Slip<'a>> {
     let text = pieces.text(index);
     match text {
-        b"{" if is_behind_head(pieces, index) => plain(&slip_texts::INTERFACE_BODY),
-        b"remote" => plain(&slip_texts::INTERFACE_REMOTE),
+        b"{" if is_behind_head(pieces, index) => named(&slip_texts::INTERFACE_BODY, b""),
+        b"remote" => named(&slip_texts::INTERFACE_REMOTE, b""),
         b"val" | b"var" => named(&slip_texts::INTERFACE_FIELD, pieces.later(index, 1)),
         _ if is_type_word(text) && begins_member(pieces, index) => {
             named(&slip_texts::MEMBER_FORM, text)

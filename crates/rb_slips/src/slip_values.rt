@@ -1,7 +1,7 @@
 // Slips in expressions, at a `return`, and in the objects of a service.
 
 use crate::slip_texts;
-use crate::slips::{Slip, both, named, plain};
+use crate::slips::{Slip, both, named};
 use crate::tries::TextKind;
 use rb_pieces::Pieces;
 use rb_pieces::around::{Home, first_of_statement, home_of, is_in_class, is_name, is_number};
@@ -32,9 +32,9 @@ fn wants_expression(text: &[u8]) -> bool {
 fn list_slip<'a>(pieces: &Pieces<'a>, index: usize) -> Option<Slip<'a>> {
     let before = pieces.earlier(index, 1);
     match pieces.text(index) {
-        b"[" if wants_expression(before) => plain(&slip_texts::LIST_FORM),
-        b"(" | b"[" | b"{" if matches!(before, b"List") => plain(&slip_texts::LIST_TYPE),
-        b"List" if matches!(before, b"new") => plain(&slip_texts::LIST_NO_NEW),
+        b"[" if wants_expression(before) => named(&slip_texts::LIST_FORM, b""),
+        b"(" | b"[" | b"{" if matches!(before, b"List") => named(&slip_texts::LIST_TYPE, b""),
+        b"List" if matches!(before, b"new") => named(&slip_texts::LIST_NO_NEW, b""),
         _ if pieces.is_earlier(index, 2, b"new") => named(&slip_texts::NEW_FORM, before),
         _ => None,
     }
@@ -66,7 +66,7 @@ fn number_slip<'a>(pieces: &Pieces<'a>, index: usize) -> Option<Slip<'a>> {
     let text = pieces.text(index);
     let before = pieces.earlier(index, 1);
     if matches!(before, b".") && is_number(text) && is_number(pieces.earlier(index, 2)) {
-        return plain(&slip_texts::DECIMAL);
+        return named(&slip_texts::DECIMAL, b"");
     }
     None
 }
@@ -115,10 +115,10 @@ fn equality_slip<'a>(pieces: &Pieces<'a>, index: usize) -> Option<Slip<'a>> {
         return None;
     }
     if has_assigned(pieces, index) {
-        return plain(&slip_texts::ONE_ASSIGNMENT);
+        return named(&slip_texts::ONE_ASSIGNMENT, b"");
     }
     if slot_around(pieces, index).is_some() {
-        return plain(&slip_texts::EQUAL_WANTED);
+        return named(&slip_texts::EQUAL_WANTED, b"");
     }
     None
 }
@@ -163,14 +163,14 @@ fn return_slip<'a>(pieces: &Pieces<'a>, index: usize) -> Option<Slip<'a>> {
     let text = pieces.text(index);
     let before = pieces.earlier(index, 1);
     if matches!(text, b"return") && home_of(pieces, index) == Home::Block {
-        return plain(&slip_texts::RETURN_IN_BLOCK);
+        return named(&slip_texts::RETURN_IN_BLOCK, b"");
     }
     if matches!(text, b";") && matches!(before, b"return") {
-        return plain(&slip_texts::RETURN_VALUE);
+        return named(&slip_texts::RETURN_VALUE, b"");
     }
     let last = index.saturating_sub(1);
     if matches!(before, b";") && pieces.is_later(first_of_statement(pieces, last), 0, b"return") {
-        return plain(&slip_texts::RETURN_LAST);
+        return named(&slip_texts::RETURN_LAST, b"");
     }
     None
 }
@@ -184,7 +184,7 @@ fn object_slip<'a>(pieces: &Pieces<'a>, kind: TextKind, index: usize) -> Option<
     let text = pieces.text(index);
     let before = pieces.earlier(index, 1);
     if matches!(before, b"object") && !is_number(text) {
-        return plain(&slip_texts::OBJECT_FORM);
+        return named(&slip_texts::OBJECT_FORM, b"");
     }
     if home_of(pieces, index) != Home::Object {
         return None;

@@ -18,7 +18,7 @@ pub struct Slip<'a> {
     pub other: &'a [u8],
 }
 
-/// What is said of a slip with a word of the text.
+/// What is said of a slip with a word of the text, or with none.
 pub fn named<'a>(help: &'static Help, name: &'a [u8]) -> Option<Slip<'a>> {
     Some(Slip {
         help,
@@ -30,11 +30,6 @@ pub fn named<'a>(help: &'static Help, name: &'a [u8]) -> Option<Slip<'a>> {
 /// What is said of a slip with two words of the text.
 pub fn both<'a>(help: &'static Help, name: &'a [u8], other: &'a [u8]) -> Option<Slip<'a>> {
     Some(Slip { help, name, other })
-}
-
-/// What is said of a slip without words of the text.
-pub fn plain<'a>(help: &'static Help) -> Option<Slip<'a>> {
-    named(help, b"")
 }
 
 /// Whether a word stands in a text.
@@ -53,12 +48,13 @@ fn other_text<'a>(pieces: &Pieces<'a>, kind: TextKind, index: usize) -> Option<S
         return None;
     }
     match (kind, pieces.text(index)) {
-        (TextKind::Program, b"object" | b"root") => plain(&slip_texts::IS_SERVICE),
-        (TextKind::Service, b"main") => plain(&slip_texts::IS_PROGRAM),
-        (TextKind::Service, b"interface") if has(pieces, b"main") => {
-            plain(&slip_texts::IS_PROGRAM)
-        }
-        (TextKind::Service, b"interface") => plain(&slip_texts::NO_INTERFACES),
+        (TextKind::Program, b"object" | b"root") => named(&slip_texts::IS_SERVICE, b""),
+        (TextKind::Service, b"main") => named(&slip_texts::IS_PROGRAM, b""),
+        (TextKind::Service, b"interface") if has(pieces, b"main") => named(
+            &slip_texts::IS_PROGRAM,
+            b"",
+        ),
+        (TextKind::Service, b"interface") => named(&slip_texts::NO_INTERFACES, b""),
         _ => None,
     }
 }
@@ -74,7 +70,7 @@ fn are_joined(pieces: &Pieces<'_>, first: usize, one: &[u8], two: &[u8]) -> bool
 pub fn comment_slip<'a>(pieces: &Pieces<'a>, kind: TextKind, index: usize) -> Option<Slip<'a>> {
     let first = first_of_line(pieces, index);
     if are_joined(pieces, first, b"/", b"*") || are_joined(pieces, index, b"/", b"*") {
-        return plain(&slip_texts::BLOCK_COMMENT);
+        return named(&slip_texts::BLOCK_COMMENT, b"");
     }
     if are_joined(pieces, first, b"-", b"-") && !pieces.is_joined(first.saturating_add(2)) {
         return named(&slip_texts::COMMENT, b"--");
@@ -128,18 +124,18 @@ fn assign_slip<'a>(pieces: &Pieces<'a>, index: usize) -> Option<Slip<'a>> {
 /// Signs of other languages.
 fn sign_slip<'a>(pieces: &Pieces<'a>, index: usize) -> Option<Slip<'a>> {
     if are_joined(pieces, index, b"-", b">") {
-        return plain(&slip_texts::THIN_ARROW);
+        return named(&slip_texts::THIN_ARROW, b"");
     }
     if !pieces.is_joined(index) {
         return None;
     }
     match (pieces.earlier(index, 1), pieces.text(index)) {
-        (b"-", b">") => plain(&slip_texts::THIN_ARROW),
-        (b"=", b">") => plain(&slip_texts::THICK_ARROW),
-        (b"<", b">") => plain(&slip_texts::UNEQUAL),
-        (b"=", b"<") => plain(&slip_texts::AT_MOST),
-        (b"*", b"*") => plain(&slip_texts::NO_POWER),
-        (b".", b".") => plain(&slip_texts::NO_RANGE),
+        (b"-", b">") => named(&slip_texts::THIN_ARROW, b""),
+        (b"=", b">") => named(&slip_texts::THICK_ARROW, b""),
+        (b"<", b">") => named(&slip_texts::UNEQUAL, b""),
+        (b"=", b"<") => named(&slip_texts::AT_MOST, b""),
+        (b"*", b"*") => named(&slip_texts::NO_POWER, b""),
+        (b".", b".") => named(&slip_texts::NO_RANGE, b""),
         _ => None,
     }
 }
