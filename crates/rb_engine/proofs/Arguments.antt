@@ -7,6 +7,7 @@ use Rattle.rb_trees.specs.declared.values.Value.{Value, out-Value}
 use Rattle.rb_trees.specs.declared.services.Object.{Object}
 use Rattle.rb_trees.specs.declared.declarations.Param.{Param}
 use Rattle.rb_trees.specs.mirror.Types.{mirror_type}
+use Rattle.rb_trees.specs.mirror.Declarations as mirror
 use Rattle.rb_trees.specs.mirror.Declarations.{mirror_param}
 use Rattle.rb_meaning_code.specs.Remote.{taken_as, taken_all}
 use Rattle.rb_engine.proofs.Loops.{dropped_one}
@@ -72,3 +73,15 @@ taken_whole table os ps vs i e l =
     ∙ ap Some (append-nil os)
 
 pub ruleset taken_so = (after_none, taken_more, taken_missing, taken_out, taken_uneven, taken_whole, common_steps)
+
+counted_first : (o : Option Value) (p : Option (List Value)) (ws : List Value) (n : ℕ) → ((xs : List Value) → p ≡ Some xs → n ≡ length xs) → first_and o p ≡ Some ws → suc n ≡ length ws
+counted_first None p ws n more e = absurd (cc e)
+counted_first (Some w) None ws n more e = absurd (cc e)
+counted_first (Some w) (Some xs) ws n more e = let same : w ∷ xs ≡ ws = cc e in ap suc (more xs refl) ∙ ap length same
+
+-- As many are taken as there are parameters.
+pub taken_count : (table : List Object) (ps : List mirror.Param) (vs ws : List Value) → taken_all table ps vs ≡ Some ws → length ps ≡ length ws
+taken_count table [] [] ws e = let same : [] ≡ ws = cc e in ap length same
+taken_count table [] (v ∷ vs) ws e = absurd (cc e)
+taken_count table (p ∷ ps) [] ws e = absurd (cc e)
+taken_count table (p ∷ ps) (v ∷ vs) ws e = counted_first (taken_as table p.kind (out-Value v)) (taken_all table ps vs) ws (length ps) (taken_count table ps vs) e

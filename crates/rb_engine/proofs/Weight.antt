@@ -25,7 +25,7 @@ abbrev mutual
   expr_weight (code.Unary at op a) = 3 + expr_weight a
   expr_weight (code.Binary at op a b) = 4 + max (expr_weight a) (expr_weight b)
   expr_weight (code.Field at a n) = 3 + expr_weight a
-  expr_weight (code.Call at r n es) = 3 + max (expr_weight r) (exprs_weight es)
+  expr_weight (code.Call at r n es) = 4 + max (expr_weight r) (exprs_weight es)
   expr_weight (code.Index at a b) = 3 + max (expr_weight a) (expr_weight b)
   expr_weight (code.New at n es) = 3 + exprs_weight es
   expr_weight (code.Items at t es) = 3 + exprs_weight es
@@ -127,16 +127,20 @@ checked_method : (m : Method) (count : ℕ) (found : Option Method) → (known k
 checked_method m count None e = absurd (cc e)
 checked_method m count (Some n) e = ap Some (checked_count m (nat_eq (length n.signature.params) count) n e)
 
--- a method that is called is no heavier than the classes
-pub method_light : (classes : List Class) (heap : List Object) (v : Value-F Value) (name : List ℕ) (count : ℕ) (m : Method) → called_method classes heap v name count ≡ Ok m → body_weight m.body ≤ heaviest classes
-method_light classes heap (Value-F.Ref object) name count m e = in_object classes name m (slice_get heap object) (checked_method m count (method_of classes heap object name) e)
-method_light classes heap Value-F.Unit name count m e = absurd (cc e)
-method_light classes heap (Value-F.Int n) name count m e = absurd (cc e)
-method_light classes heap (Value-F.Bool b) name count m e = absurd (cc e)
-method_light classes heap (Value-F.Text t) name count m e = absurd (cc e)
-method_light classes heap (Value-F.List l) name count m e = absurd (cc e)
-method_light classes heap (Value-F.Remote o) name count m e = absurd (cc e)
-method_light classes heap (Value-F.Rows l) name count m e = absurd (cc e)
+-- a method that is called was found in the classes, and is no heavier than they are
+pub method_called_of : (classes : List Class) (heap : List Object) (v : Value-F Value) (name : List ℕ) (count : ℕ) (m : Method) → called_method classes heap v name count ≡ Ok m
+    → (object : ℕ) × (method_of classes heap object name ≡ Some m)
+method_called_of classes heap (Value-F.Ref object) name count m e = (object, checked_method m count (method_of classes heap object name) e)
+method_called_of classes heap Value-F.Unit name count m e = absurd (cc e)
+method_called_of classes heap (Value-F.Int n) name count m e = absurd (cc e)
+method_called_of classes heap (Value-F.Bool b) name count m e = absurd (cc e)
+method_called_of classes heap (Value-F.Text t) name count m e = absurd (cc e)
+method_called_of classes heap (Value-F.List l) name count m e = absurd (cc e)
+method_called_of classes heap (Value-F.Remote o) name count m e = absurd (cc e)
+method_called_of classes heap (Value-F.Rows l) name count m e = absurd (cc e)
+
+pub found_light : (classes : List Class) (heap : List Object) (object : ℕ) (name : List ℕ) (m : Method) → method_of classes heap object name ≡ Some m → body_weight m.body ≤ heaviest classes
+found_light classes heap object name m e = in_object classes name m (slice_get heap object) e
 
 -- a body is lighter than one level of calls
 pub room_falls : (classes : List Class) (d weight : ℕ) → d < 32 → weight ≤ heaviest classes → room classes (d + 1) + weight < room classes d + 1

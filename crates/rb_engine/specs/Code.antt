@@ -7,17 +7,18 @@ use Rattle.rb_trees.specs.declared.code.Expr as expr
 use Rattle.rb_trees.specs.declared.code.Stmt as stmt
 use Rattle.rb_trees.specs.declared.declarations.Class as class
 use Rattle.rb_trees.specs.declared.declarations.Body as body
+use Rattle.rb_trees.specs.declared.declarations.Method as method
 use Rattle.rb_trees.specs.mirror.Code as code
 use Rattle.rb_trees.specs.mirror.Code.{mirror_expr, mirror_exprs, mirror_stmt, mirror_stmts}
 use Rattle.rb_trees.specs.declared.services.Object.{Object}
 use Rattle.rb_trees.specs.declared.values.Fault.{Fault}
-use Rattle.rb_trees.specs.mirror.Declarations.{Method, mirror_class, mirror_body}
+use Rattle.rb_trees.specs.mirror.Declarations.{Method, mirror_class, mirror_param, mirror_body}
 use Rattle.rb_meaning_code.specs.Faults.{raises}
-use Rattle.rb_meaning_code.specs.State.{Local, bound}
+use Rattle.rb_meaning_code.specs.State.{Local, bound, spent}
 use Rattle.rb_meaning_code.specs.Dialogue.{Taken, Invoke, Done, Ask, AskBatch, Run, seq, next, end}
 use Rattle.rb_meaning_code.specs.Operators.{shown_value}
 use Rattle.rb_meaning_code.specs.Objects.{constructed}
-use Rattle.rb_meaning_code.specs.Calls.{Bodies, call, called_method, own_method}
+use Rattle.rb_meaning_code.specs.Calls.{Bodies, call, called_method, own_method, unit_due, call_fits, names_within, entered, left}
 use Rattle.rb_meaning_code.specs.Expressions.{list_of, evaluates, evaluates_all}
 use Rattle.rb_meaning_code.specs.Statements.{Effect, nothing, truth_of, by_truth, throws, performs, performs_all, closes, block, assignment, while_turns, turns, turns_over, list_turn, row_turn, handles, prints}
 use Rattle.rb_meaning_code.specs.Bodies.{bodies_of, runs}
@@ -44,6 +45,13 @@ body_run classes b gas l = runs (bodies classes gas) gas (mirror_body b) l
 
 abbrev pub call_run : List class.Class → ℕ → Value → List ℕ → List Value → ℕ → Local → Run Value
 call_run classes at receiver name args gas l = call (bodies classes gas) at receiver name args l
+
+-- a call of a method that was found: a unit of fuel, then the depth, then the body
+abbrev pub found_run : List class.Class → ℕ → method.Method → Value → List Value → ℕ → Local → Run Value
+found_run classes at m receiver args gas l =
+    next (end l (raises at (unit_due l.fuel))) (λ u l1.
+    next (end (spent l1) (raises at (call_fits l1.depth))) (λ w l2.
+    seq ((bodies classes gas).run at (mirror_body m.body) (entered (names_within receiver (map mirror_param m.signature.params) args) l2)) (left l2)))
 
 abbrev pub unary_run : List class.Class → ℕ → UnOp → expr.Expr → ℕ → Local → Run Value
 unary_run classes at op a gas l = evaluates (bodies classes gas) (code.Unary at op (mirror_expr a)) l

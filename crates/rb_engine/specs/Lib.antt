@@ -7,6 +7,7 @@ pub mod Lent
 pub mod Locals
 pub mod Makes
 pub mod Meets
+pub mod Methods
 pub mod Misses
 pub mod Numbers
 pub mod Remote

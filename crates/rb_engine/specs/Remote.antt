@@ -4,15 +4,20 @@ use Rattle.rb_trees.specs.Outcome.{known}
 use Rattle.rb_trees.specs.declared.values.Value.{Value, out-Value}
 use Rattle.rb_trees.specs.declared.values.Fault.{Fault}
 use Rattle.rb_trees.specs.declared.services.Object.{Object}
+use Rattle.rb_trees.specs.declared.values.Value.TheVariants as value
 use Rattle.rb_trees.specs.declared.declarations.Class as class
+use Rattle.rb_trees.specs.declared.declarations.Method as method
 use Rattle.rb_trees.specs.declared.declarations.Param as param
 use Rattle.rb_trees.specs.mirror.Declarations.{Method, mirror_class, mirror_param}
 use Rattle.rb_trees.specs.declared.outcomes.Raised.{Raised}
 use Rattle.rb_trees.specs.declared.want.Memory.{Memory}
 use Rattle.rb_meaning_code.specs.Faults.{raised_remotely, no_method, bad_arguments}
+use Rattle.rb_meaning_code.specs.Dialogue.{Outcome, handle}
 use Rattle.rb_meaning_code.specs.Calls.{method_of}
+use Rattle.rb_meaning_code.specs.Bodies.{in_service}
 use Rattle.rb_meaning_code.specs.Remote as rules
-use Rattle.rb_meaning_code.specs.Remote.{Server, Reply, Got, Stopped}
+use Rattle.rb_meaning_code.specs.Remote.{Server, Reply, Got, Stopped, begun}
+use Rattle.rb_engine.specs.Code.{found_run}
 use Rattle.rb_engine.specs.declared.ends.Failure.{Failure}
 use Rattle.rb_engine.specs.declared.ends.Failure.TheVariants as failure
 use Rattle.rb_engine.specs.declared.state.State.{State}
@@ -45,9 +50,13 @@ arguments_taken table params args = known bad_arguments (rules.taken_all table (
 abbrev pub call_checked : List class.Class → List Object → Value → List ℕ → List Value → Result (ℕ × List Value) Fault
 call_checked classes table target name args = rules.checked (map mirror_class classes) table (out-Value target) name args
 
--- a call that passed its checks, and its result at the client
-abbrev pub call_served : List class.Class → ℕ → ℕ → ℕ → List ℕ → List Value → Server → Reply Value
-call_served classes at kind object name args s = rules.returned at kind (rules.served (map mirror_class classes) at object name args s)
+-- how a call of a method that was found ends as the service's own code makes it; the gas is the fuel, and enough
+abbrev pub found_outcome : List class.Class → ℕ → ℕ → method.Method → List Value → Server → Outcome Value
+found_outcome classes at object m args s = (handle in_service (found_run classes at m (value.Ref object) args s.fuel (begun s)) tt).0
+
+-- the same, and its result at the client
+abbrev pub found_served : List class.Class → ℕ → ℕ → ℕ → method.Method → List Value → Server → Reply Value
+found_served classes at kind object m args s = rules.returned at kind (found_outcome classes at object m args s)
 
 -- a remote call
 abbrev pub call_invoked : List class.Class → ℕ → ℕ → Value → List ℕ → List Value → Server → Reply Value

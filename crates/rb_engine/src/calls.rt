@@ -1,6 +1,7 @@
 // Calls of methods of the own side.
 
-ghost use Rattle.rb_engine.specs.Code.{call_run, body_run};
+ghost use Rattle.rb_engine.specs.Code.{call_run, found_run, body_run};
+ghost use Rattle.rb_engine.specs.Methods.{IsMethod};
 ghost use Rattle.rb_engine.specs.Worlds.{AnyNames, Effects};
 
 use crate::ends::{End, lift};
@@ -12,7 +13,7 @@ use crate::statements::run_all;
 use crate::units::{check_depth, check_unit};
 use crate::world::World;
 use rb_code::Code;
-use rb_trees::{Body, Seq, Value};
+use rb_trees::{Body, Method, Seq, Value};
 use std::alloc::Global;
 
 /// A call of a method of the own side.
@@ -34,6 +35,25 @@ pub fn call_method<W: World>(
         at,
         called_method(alloc, code, &state.heap, receiver, name, args.len()),
     )?;
+    run_call(alloc, code, state, world, at, receiver, method, args)
+}
+
+/// A call of a method of the own side that was found, by the receiver's class and a name.
+#[cycle(running)]
+#[inline]
+pub fn run_call<W: World>(
+    alloc: Global,
+    code: &Code,
+    state: &mut State,
+    world: &mut W,
+    at: u32,
+    receiver: &Value,
+    method: &Method,
+    args: &Seq<Value>,
+) -> Result<Value, End<W::Stop>>
+    requires { IsMethod code.now method.now }
+    ensures { AnyNames W.World (found_run code.now at method.now receiver.now args.now) state.old world.old result state.new world.new }
+{
     lift(at, check_unit(alloc, state.fuel))?;
     state.fuel -= 1;
     lift(at, check_depth(alloc, state.depth))?;

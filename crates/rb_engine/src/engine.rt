@@ -1,11 +1,12 @@
 // The engine's public calls.
 
 ghost use Rattle.rb_trees.specs.declared.values.Value.TheVariants as value;
-ghost use Rattle.rb_engine.specs.Code.{value_run, call_run, stmts_run};
+ghost use Rattle.rb_engine.specs.Code.{value_run, call_run, found_run, stmts_run};
 ghost use Rattle.rb_engine.specs.Ends.{flattened};
+ghost use Rattle.rb_engine.specs.Methods.{IsMethod};
 ghost use Rattle.rb_engine.specs.Worlds.{AnyNames, Effects, Values};
 
-use crate::calls::call_method;
+use crate::calls::{call_method, run_call};
 use crate::ends::step_of;
 use crate::expressions::value_of;
 use crate::frame::Frame;
@@ -13,7 +14,7 @@ use crate::state::State;
 use crate::statements::run_all;
 use crate::world::{RunResult, World};
 use rb_code::Code;
-use rb_trees::{Expr, Seq, Stmt, Value};
+use rb_trees::{Expr, Method, Seq, Stmt, Value};
 use std::alloc::Global;
 
 /// Calls a method of an object of the own side, at a position: `call`.
@@ -32,6 +33,25 @@ pub fn call<W: World>(
 {
     let receiver = Value::Ref(object);
     step_of(call_method(alloc, code, state, world, at, &receiver, method, &args))
+}
+
+/// Calls a method that was found of an object of the own side, at a position.
+#[tactic(auto, using(crate::proofs::Wrapped::wrapped))]
+pub fn call_found<W: World>(
+    alloc: Global,
+    code: &Code,
+    state: &mut State,
+    world: &mut W,
+    at: u32,
+    object: u32,
+    method: &Method,
+    args: Seq<Value>,
+) -> RunResult<Value, W::Stop>
+    requires { IsMethod code.now method.now }
+    ensures { AnyNames W.World (found_run code.now at method.now (value.Ref object) args) state.old world.old (flattened result) state.new world.new }
+{
+    let receiver = Value::Ref(object);
+    step_of(run_call(alloc, code, state, world, at, &receiver, method, &args))
 }
 
 /// Runs statements in order: `performs_all`.

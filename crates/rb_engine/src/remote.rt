@@ -1,18 +1,18 @@
 // Remote calls on a service.
 
-ghost use Rattle.std.specs.Prelude.{◌≡◌, map};
+ghost use Rattle.std.specs.Prelude.{◌≡◌, length, map, IfOk};
 ghost use Rattle.rb_trees.specs.Outcome.{Gives, known};
 ghost use Rattle.rb_trees.specs.declared.values.Value.{out-Value};
 ghost use Rattle.rb_trees.specs.mirror.Declarations.{mirror_class, mirror_method, mirror_param};
 ghost use Rattle.rb_meaning_code.specs.Faults as faults;
 ghost use Rattle.rb_meaning_code.specs.Faults.{raised_remotely};
-ghost use Rattle.rb_meaning_code.specs.Calls.{method_of as method_of_object};
 ghost use Rattle.rb_meaning_code.specs.Remote as rules;
 ghost use Rattle.rb_engine.specs.Ends.{fault_of};
-ghost use Rattle.rb_engine.specs.Remote.{Answers, RepliesAt, server, method_found, arguments_taken, call_checked, call_served, call_invoked};
+ghost use Rattle.rb_engine.specs.Methods.{IsMethod, IsMethodOf};
+ghost use Rattle.rb_engine.specs.Remote.{Answers, RepliesAt, server, method_found, arguments_taken, call_checked, found_served, call_invoked};
 
 use crate::ends::Failure;
-use crate::engine::call;
+use crate::engine::call_found;
 use crate::faults::{bad_arguments, kind, no_method, wrong_kind};
 use crate::objects::method_of;
 use crate::seen::seen_as;
@@ -44,7 +44,8 @@ fn found_method<'a>(
     object: u32,
     name: &[u8],
 ) -> Result<&'a Method, Failure>
-    ensures { Gives (λ m. mirror_method m.now) fault_of result (method_found code.now heap.now object name.now) }
+    ensures gives { Gives (λ m. mirror_method m.now) fault_of result (method_found code.now heap.now object name.now) }
+    ensures found { IfOk result (λ m. IsMethodOf code.now heap.now object name.now m.now) }
 {
     match method_of(code, heap, object, name) {
         Some(method) => Ok(method),
@@ -59,7 +60,8 @@ fn fitting(
     params: &[Param],
     args: &[Value],
 ) -> Result<Seq<Value>, Failure>
-    ensures { Gives (λ values. values) fault_of result (arguments_taken heap.now params.now args.now) }
+    ensures gives { Gives (λ values. values) fault_of result (arguments_taken heap.now params.now args.now) }
+    ensures count { IfOk result (λ values. length params.now ≡ length values) }
 {
     match taken_all(alloc, heap, params, args)? {
         Some(values) => Ok(values),
@@ -67,22 +69,37 @@ fn fitting(
     }
 }
 
-// What is checked before a call: `checked`.
+// A call that passed its checks.
+#[derive(Drop)]
+struct Checked<'a> {
+    object: u32,
+    method: &'a Method,
+    // as the service sees them
+    args: Seq<Value>,
+}
+
+// What is checked before a call: `checked`. It gives the method too, and as many arguments as that has parameters.
 #[inline(never)]
-fn check(
+fn check<'a>(
     alloc: Global,
-    code: &Code,
+    code: &'a Code,
     heap: &Heap,
     target: &Value,
     name: &[u8],
     args: &[Value],
-) -> Result<(u32, Seq<Value>), Failure>
-    ensures { Gives (λ c. c) fault_of result (call_checked code.now heap.now target.now name.now args.now) }
+) -> Result<Checked<'a>, Failure>
+    ensures gives { Gives (λ c. (c.object, c.args)) fault_of result (call_checked code.now heap.now target.now name.now args.now) }
+    ensures found { IfOk result (λ c. IsMethodOf code.now heap.now c.object name.now c.method.now) }
+    ensures count { IfOk result (λ c. length c.method.now.signature.params ≡ length c.args) }
 {
     let object = remote_object(alloc, target)?;
     let method = found_method(alloc, code, heap, object, name)?;
     let values = fitting(alloc, heap, method.signature.params.as_slice(), args)?;
-    Ok((object, values))
+    Ok(Checked {
+        object,
+        method,
+        args: values,
+    })
 }
 
 // A fault of a remote operation at a position.
@@ -126,15 +143,16 @@ fn serve(
     at: u32,
     kind: u8,
     object: u32,
-    name: &[u8],
+    method: &Method,
     args: Seq<Value>,
 ) -> Result<Result<Value, Raised>, Memory>
-    requires { state.old.depth ≡ 0 }
-    ensures replies { RepliesAt at (call_served code.now at kind object name.now args (server state.old)) result (server state.new) }
+    requires idle { state.old.depth ≡ 0 }
+    requires found { IsMethod code.now method.now }
+    ensures replies { RepliesAt at (found_served code.now at kind object method.now args (server state.old)) result (server state.new) }
     ensures depth { state.new.depth ≡ 0 }
 {
     let mut world = ServiceWorld::new(alloc);
-    match call(alloc, code, state, &mut world, at, object, name, args) {
+    match call_found(alloc, code, state, &mut world, at, object, method, args) {
         Ok(Ok(value)) => answered(at, at_client(alloc, kind, &value)),
         Ok(Err(raised)) => Ok(Err(remotely(at, raised.fault))),
         Err(Halt::Memory) => Err(Memory),
@@ -165,7 +183,13 @@ pub fn invoke(
 {
     let checked = check(alloc, code, &state.heap, &target, method, args.as_slice());
     match checked {
-        Ok((object, values)) => serve(alloc, code, state, at, kind, object, method, values),
+        Ok(
+            Checked {
+                object,
+                method: found,
+                args: values,
+            },
+        ) => serve(alloc, code, state, at, kind, object, found, values),
         Err(Failure::Fault(fault)) => Ok(Err(remotely(at, fault))),
         Err(Failure::Memory) => Err(Memory),
     }

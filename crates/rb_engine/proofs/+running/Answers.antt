@@ -17,7 +17,7 @@ use Rattle.rb_engine.proofs.Loops.{leads_to_itself, values_begin, leads_far, one
 use Rattle.rb_engine.proofs.Parts.{expr_run, truth_by_form, statement_run, remote_called, own_called, turns_by_form, name_written, field_written, nothing_assigned, fuel_left, depth_left}
 use Rattle.rb_engine.proofs.Runs.{gave, cut, at_run, by_result, ended, stands, no_memory, sequel_of_stop, fixed, unfixed}
 use Rattle.rb_engine.proofs.Steps.{ok_means, helped, unhelped, unhelped_at, helped_end, changed, given, bound_after, closes_after, want}
-use Rattle.rb_engine.proofs.Weight.{room, expr_weight, stmt_weight, body_weight, weight_of, weights_of, effect_of, effects_of, expr_in, stmt_in, object_light, method_light, room_falls, result_weight}
+use Rattle.rb_engine.proofs.Weight.{room, expr_weight, stmt_weight, body_weight, weight_of, weights_of, effect_of, effects_of, expr_in, stmt_in, object_light, method_called_of, found_light, room_falls, result_weight}
 use Rattle.rb_engine.proofs.+running.Goals as goal
 
 pub expressions::value_of-binary_value-requires : goal.expressions::value_of-binary_value-requires
@@ -182,29 +182,35 @@ expressions::values_of-returns g t c = by_result (ap Ok (sym (append-nil c.exprs
 pub calls::call_method-returns-in_err-method : goal.calls::call_method-returns-in_err-method
 calls::call_method-returns-in_err-method g t c = λ names. unhelped (λ m. mirror_method m.now) c.args.at c.called_method.result _ _ (rw c.len.ensures at c.called_method.ensures) c.lift.ensures c.in_err-method.was (search rules)
 
-pub calls::call_method-returns-in_err-lift : goal.calls::call_method-returns-in_err-lift
-calls::call_method-returns-in_err-lift g t c = λ names. helped (λ m. mirror_method m.now) c.args.at c.called_method.result _ _ _ (rw c.len.ensures at c.called_method.ensures) c.lift.ensures c.in_ok-method.was (unhelped (λ u. u) c.args.at c.check_unit.result _ _ c.check_unit.ensures c.lift-2.ensures c.in_err-lift.was (search rules))
-
-pub calls::call_method-overflow_sub-state : goal.calls::call_method-overflow_sub-state
-calls::call_method-overflow_sub-state g t c = let low = (fuel_left c.args.at c.args.state.now.fuel c.check_unit.result c.check_unit.ensures c.lift-2.ensures c.in_ok-lift.was) in omega arith
-
-pub calls::call_method-returns-in_err-lift-2 : goal.calls::call_method-returns-in_err-lift-2
-calls::call_method-returns-in_err-lift-2 g t c = λ names. helped (λ m. mirror_method m.now) c.args.at c.called_method.result _ _ _ (rw c.len.ensures at c.called_method.ensures) c.lift.ensures c.in_ok-method.was (helped (λ u. u) c.args.at c.check_unit.result _ _ _ c.check_unit.ensures c.lift-2.ensures c.in_ok-lift.was (unhelped_at (λ u. u) c.args.at c.check_depth.result _ (spent (local names c.args.state.now)) _ c.check_depth.ensures c.lift-3.ensures c.in_err-lift-2.was (search rules) (omega arith) refl))
-
-pub calls::call_method-returns-in_err-frame : goal.calls::call_method-returns-in_err-frame
-calls::call_method-returns-in_err-frame g t c = λ names. by_result (want (search rules) c.in_err-frame.ensures) (no_memory _ (omega arith) refl)
-
-pub calls::call_method-overflow_add-state : goal.calls::call_method-overflow_add-state
-calls::call_method-overflow_add-state g t c = let deep = (depth_left c.args.at c.args.state.now.depth c.check_depth.result c.check_depth.ensures c.lift-3.ensures c.in_ok-lift-2.was) in omega arith
-
-pub calls::call_method-run_body-result-requires : goal.calls::call_method-run_body-result-requires
-calls::call_method-run_body-result-requires g t c κs within = (let deep = (depth_left c.args.at c.args.state.now.depth c.check_depth.result c.check_depth.ensures c.lift-3.ensures c.in_ok-lift-2.was) in let light = method_light (map mirror_class c.args.code.now) c.args.state.now.heap (out-Value c.args.receiver.now) c.args.name.now c.len.result (mirror_method c.in_ok-method.method.now) (ok_means (λ m. mirror_method m.now) c.args.at c.called_method.result c.lift.result _ c.in_ok-method.method c.called_method.ensures c.lift.ensures c.in_ok-method.was) in let r = room_falls (map mirror_class c.args.code.now) c.args.state.now.depth (body_weight (mirror_body c.in_ok-method.method.now.body)) deep light in omega arith, within)
-
-pub calls::call_method-overflow_sub-state-2 : goal.calls::call_method-overflow_sub-state-2
-calls::call_method-overflow_sub-state-2 g t c = let d = c.run_body-result.ensures.depth in omega arith
+pub calls::call_method-run_call-requires : goal.calls::call_method-run_call-requires
+calls::call_method-run_call-requires g t c κs within = (omega arith, (within.0, (within.1, (let m = method_called_of (map mirror_class c.args.code.now) c.args.state.now.heap (out-Value c.args.receiver.now) c.args.name.now c.len.result (mirror_method c.in_ok-method.method.now) (ok_means (λ m. mirror_method m.now) c.args.at c.called_method.result c.lift.result _ c.in_ok-method.method c.called_method.ensures c.lift.ensures c.in_ok-method.was) in (c.args.state.now.heap, m.0, c.args.name.now, m.1)))))
 
 pub calls::call_method-returns : goal.calls::call_method-returns
-calls::call_method-returns g t c = λ names. helped (λ m. mirror_method m.now) c.args.at c.called_method.result _ _ _ (rw c.len.ensures at c.called_method.ensures) c.lift.ensures c.in_ok-method.was (helped (λ u. u) c.args.at c.check_unit.result _ _ _ c.check_unit.ensures c.lift-2.ensures c.in_ok-lift.was (helped (λ u. u) c.args.at c.check_depth.result _ _ _ c.check_depth.ensures c.lift-3.ensures c.in_ok-lift-2.was (call_returns c.args.code.now c.args.at c.in_ok-method.method.now.body _ _ (rw (c.as_slice.ensures, c.as_slice-2.ensures) at c.in_ok-frame.ensures) (fuel_left c.args.at c.args.state.now.fuel c.check_unit.result c.check_unit.ensures c.lift-2.ensures c.in_ok-lift.was) c.run_body-result.ensures)))
+calls::call_method-returns g t c = λ names. helped (λ m. mirror_method m.now) c.args.at c.called_method.result _ _ _ (rw c.len.ensures at c.called_method.ensures) c.lift.ensures c.in_ok-method.was (c.run_call.ensures names)
+
+pub calls::run_call-returns-in_err-lift : goal.calls::run_call-returns-in_err-lift
+calls::run_call-returns-in_err-lift g t c = λ names. (unhelped (λ u. u) c.args.at c.check_unit.result _ _ c.check_unit.ensures c.lift.ensures c.in_err-lift.was (search rules))
+
+pub calls::run_call-overflow_sub-state : goal.calls::run_call-overflow_sub-state
+calls::run_call-overflow_sub-state g t c = let low = (fuel_left c.args.at c.args.state.now.fuel c.check_unit.result c.check_unit.ensures c.lift.ensures c.in_ok-lift.was) in omega arith
+
+pub calls::run_call-returns-in_err-lift-2 : goal.calls::run_call-returns-in_err-lift-2
+calls::run_call-returns-in_err-lift-2 g t c = λ names. (helped (λ u. u) c.args.at c.check_unit.result _ _ _ c.check_unit.ensures c.lift.ensures c.in_ok-lift.was (unhelped_at (λ u. u) c.args.at c.check_depth.result _ (spent (local names c.args.state.now)) _ c.check_depth.ensures c.lift-2.ensures c.in_err-lift-2.was (search rules) (omega arith) refl))
+
+pub calls::run_call-returns-in_err-frame : goal.calls::run_call-returns-in_err-frame
+calls::run_call-returns-in_err-frame g t c = λ names. by_result (want (search rules) c.in_err-frame.ensures) (no_memory _ (omega arith) refl)
+
+pub calls::run_call-overflow_add-state : goal.calls::run_call-overflow_add-state
+calls::run_call-overflow_add-state g t c = let deep = (depth_left c.args.at c.args.state.now.depth c.check_depth.result c.check_depth.ensures c.lift-2.ensures c.in_ok-lift-2.was) in omega arith
+
+pub calls::run_call-run_body-result-requires : goal.calls::run_call-run_body-result-requires
+calls::run_call-run_body-result-requires g t c κs within = (let deep = (depth_left c.args.at c.args.state.now.depth c.check_depth.result c.check_depth.ensures c.lift-2.ensures c.in_ok-lift-2.was) in let light = found_light (map mirror_class c.args.code.now) c.requires.0 c.requires.1 c.requires.2 (mirror_method c.args.method.now) c.requires.3 in let r = room_falls (map mirror_class c.args.code.now) c.args.state.now.depth (body_weight (mirror_body c.args.method.now.body)) deep light in omega arith, within)
+
+pub calls::run_call-overflow_sub-state-2 : goal.calls::run_call-overflow_sub-state-2
+calls::run_call-overflow_sub-state-2 g t c = let d = c.run_body-result.ensures.depth in omega arith
+
+pub calls::run_call-returns : goal.calls::run_call-returns
+calls::run_call-returns g t c = λ names. (helped (λ u. u) c.args.at c.check_unit.result _ _ _ c.check_unit.ensures c.lift.ensures c.in_ok-lift.was (helped (λ u. u) c.args.at c.check_depth.result _ _ _ c.check_depth.ensures c.lift-2.ensures c.in_ok-lift-2.was (call_returns c.args.code.now c.args.at c.args.method.now.body _ _ (rw (c.as_slice.ensures, c.as_slice-2.ensures) at c.in_ok-frame.ensures) (fuel_left c.args.at c.args.state.now.fuel c.check_unit.result c.check_unit.ensures c.lift.ensures c.in_ok-lift.was) c.run_body-result.ensures)))
 
 pub calls::run_body-run_all-requires : goal.calls::run_body-run_all-requires
 calls::run_body-run_all-requires g t c κs within = (let e = ap effects_of c.as_slice.ensures in omega arith, within)

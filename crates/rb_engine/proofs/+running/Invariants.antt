@@ -57,13 +57,16 @@ abbrev pub decreases-control::run_if : goal.decreases-control::run_if
 decreases-control::run_if g l = room (map mirror_class l.code.now) l.state.now.depth + max (expr_weight (mirror_expr l.condition.now)) (max (stmts_weight (mirror_stmts l.yes.now)) (stmts_weight (mirror_stmts l.no.now))) + 3
 
 abbrev pub decreases-expressions::called_value : goal.decreases-expressions::called_value
-decreases-expressions::called_value g l = room (map mirror_class l.code.now) l.state.now.depth + max (expr_weight (mirror_expr l.receiver.now)) (exprs_weight (mirror_exprs l.args.now)) + 2
+decreases-expressions::called_value g l = room (map mirror_class l.code.now) l.state.now.depth + max (expr_weight (mirror_expr l.receiver.now)) (exprs_weight (mirror_exprs l.args.now)) + 3
 
 abbrev pub decreases-expressions::values_of : goal.decreases-expressions::values_of
 decreases-expressions::values_of g l = room (map mirror_class l.code.now) l.state.now.depth + exprs_weight (mirror_exprs l.exprs.now) + 1
 
 abbrev pub decreases-calls::call_method : goal.decreases-calls::call_method
-decreases-calls::call_method g l = room (map mirror_class l.code.now) l.state.now.depth + 1
+decreases-calls::call_method g l = room (map mirror_class l.code.now) l.state.now.depth + 2
+
+abbrev pub decreases-calls::run_call : goal.decreases-calls::run_call
+decreases-calls::run_call g l = room (map mirror_class l.code.now) l.state.now.depth + 1
 
 abbrev pub decreases-calls::run_body : goal.decreases-calls::run_body
 decreases-calls::run_body g l = room (map mirror_class l.code.now) l.state.now.depth + body_weight (mirror_body l.body.now)
