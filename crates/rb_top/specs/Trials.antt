@@ -55,7 +55,10 @@ trial_size number = (number * 617) % 1000
 -- a file of some size: `object 3: File { name = "f3"; size = 851; }`
 abbrev pub sized_object : ℕ → ℕ → List ℕ
 sized_object number size =
-    codes "object " ++ (decimal number ++ (codes ": File { name = \"f" ++ (decimal number ++ (codes "\"; size = " ++ (decimal size ++ codes "; }\n")))))
+    codes "object " ++ (decimal number
+    ++ (codes ": File { name = \"f" ++ (decimal number
+    ++ (codes "\"; size = " ++ (decimal size
+    ++ codes "; }\n")))))
 
 -- the file of a number
 abbrev pub trial_object : ℕ → List ℕ

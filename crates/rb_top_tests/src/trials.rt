@@ -71,7 +71,8 @@ fn a_trial_has_one_number_of_one_to_ten_thousand(rt: HostRuntime) -> Result<(), 
 }
 
 /// The program of each trial.
-const PROGRAM: &str = r#"interface File { fun name(): Text; fun size(): Int; fun grow(by: Int); fun check(max: Int); fun rename(to: Text); }
+const PROGRAM: &str =
+    r#"interface File { fun name(): Text; fun size(): Int; fun grow(by: Int); fun check(max: Int); fun rename(to: Text); }
 interface Dir { fun files(): Rows<File>; fun file(i: Int): File; fun burn(n: Int); }
 main { var sum = 0; var large = 0; batch (Dir r) { for (f in r.files()) { val s = f.size(); sum = sum + s; if (s > 900) { large = large + 1; f.grow(1); } } } print(sum); print(large); }
 "#;
