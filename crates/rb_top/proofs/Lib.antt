@@ -10,6 +10,7 @@ pub mod RunEnds
 pub mod Serving
 pub mod ServedTold
 pub mod Telling
+pub mod Trials
 pub mod UnsplitRuns
 pub mod Usable
 pub mod WholeTexts
