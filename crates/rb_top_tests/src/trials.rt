@@ -65,7 +65,7 @@ const OTHER_WORDS: &[&str] = &[
 #[test]
 fn a_trial_has_one_number_of_one_to_ten_thousand(rt: HostRuntime) -> Result<(), Fail> {
     for words in OTHER_WORDS {
-        trials_are(rt.alloc(), &[(words, "2 words not understood\n")])?;
+        trials_are(rt.alloc(), &[(*words, "2 words not understood\n")])?;
     }
     Ok(())
 }
