@@ -151,7 +151,7 @@ pub fn method_of<'a>(code: &'a Code, heap: &Heap, object: u32, name: &[u8]) -> O
     ensures { option_map mirror_method (option_copied result) ≡ calls.method_of (map mirror_class code.now) heap.now object name.now }
 {
     match heap.get(object) {
-        Some(found) => code.find_method(found.class.as_slice(), name),
+        Some(found) => code.find_method(found.class, name),
         None => None,
     }
 }

@@ -17,7 +17,7 @@ fn object_of_class(heap: &Heap, class: &[u8], object: u32) -> Option<Value>
     ensures { result ≡ rules.object_of_class heap.now class.now object }
 {
     match heap.get(object) {
-        Some(found) => if found.class.as_slice() == class {
+        Some(found) => if found.class == class {
             Some(Value::Ref(object))
         } else {
             None

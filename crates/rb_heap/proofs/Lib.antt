@@ -1,2 +1,4 @@
 pub mod Placed
+pub mod Seen
 pub mod Written
+pub mod Zipped

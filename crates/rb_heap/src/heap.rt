@@ -1,24 +1,39 @@
 // The heap as the list of its objects.
 
-ghost use Rattle.std.specs.Prelude.{◌≡◌, [], ◌∷◌, ◌++◌, ◌<◌, ◌≤◌, length, slice_get, IfOk, OnOk, IfErr, OnErr};
+ghost use Rattle.std.specs.Prelude.{◌≡◌, [], ◌∷◌, ◌++◌, ◌<◌, ◌≤◌, length, slice_get, IfSome, IfOk, OnOk, IfErr, OnErr};
 ghost use Rattle.std.specs.Option.{option_copied, option_map};
 ghost use Rattle.rb_trees.specs.Limits.{most_objects};
 ghost use Rattle.rb_trees.specs.Objects.{field_value};
 ghost use Rattle.rb_heap.specs.Additions.{RefusesObject};
+ghost use Rattle.rb_heap.specs.Views.{object_viewed};
 ghost use Rattle.rb_heap.specs.Writes.{SetsField};
 
-use crate::copies::copy_object;
-use crate::names::{find_value, replace_value};
+use crate::layouts::Layouts;
+use crate::names::{find_named, replace_named};
+use crate::parts::values_of;
 use crate::stops::AddStop;
+use crate::stored::{Stored, copy_objects};
 use rb_trees::limits::MOST_OBJECTS;
-use rb_trees::{Memory, Object, Seq, Value};
+use rb_trees::{Memory, Object, Seq, Value, Word};
 use std::alloc::Global;
 use std::marker::Model;
+
+/// An object of a heap: the object of the class whose fields are the names with the values, in order. There are as many
+/// names as values.
+#[derive(Clone, Copy)]
+pub struct View<'a> {
+    pub class: &'a [u8],
+    pub names: &'a Seq<Word>,
+    pub values: &'a Seq<Value>,
+}
 
 /// The objects of running code. Contracts see the list of the objects; an object's number is its place from 0.
 #[derive(Drop)]
 pub struct Heap {
-    objects: Seq<Object>,
+    // each layout of the objects once, and each object by its layout's place with its values
+    layouts: Layouts,
+    objects: Seq<Stored>,
+    alloc: Global,
 }
 
 impl Model for Heap {
@@ -27,14 +42,15 @@ impl Model for Heap {
     ghost use Rattle.rb_trees.specs.declared.services.Object.{Object};
     ghost use Rattle.rb_trees.specs.contracts.services.Object as object_code;
     ghost use Rattle.rb_trees.specs.Limits.{most_objects};
+    ghost use Rattle.rb_heap.specs.Seen.{objects_seen, AreLaidOut};
 
     ghost Value = { List Object };
 
     ghost coded = { coded_list object_code.the_row.coded };
 
-    ghost view = { λ heap. heap.objects };
+    ghost view = { λ heap. objects_seen heap.layouts heap.objects };
 
-    ghost invariant = { λ heap. length heap.objects ≤ most_objects };
+    ghost invariant = { λ heap. (length heap.objects ≤ most_objects) × AreLaidOut heap.layouts heap.objects };
 }
 
 impl Heap {
@@ -43,7 +59,9 @@ impl Heap {
         ensures { result ≡ [] }
     {
         Heap {
+            layouts: Layouts::new(alloc),
             objects: Seq::new(alloc),
+            alloc,
         }
     }
 
@@ -59,15 +77,18 @@ impl Heap {
     pub fn copy(&self, alloc: Global) -> Result<Heap, Memory>
         ensures { IfOk result (λ copy. copy ≡ self.now) }
     {
-        let mut objects = Seq::new(alloc);
-        for object in self.objects.as_slice() {
-            objects.push(copy_object(alloc, object)?)?;
-        }
-        Ok(Heap { objects })
+        let layouts = self.layouts.copy(alloc)?;
+        let objects = copy_objects(alloc, self.objects.as_slice())?;
+        Ok(Heap {
+            layouts,
+            objects,
+            alloc,
+        })
     }
 
     /// Adds an object at the end and answers its number. `Full` hands it back exactly where the heap has
     /// `most_objects`; after an error nothing changed.
+    #[tactic(auto, using(crate::proofs::Seen::seen_extended, crate::proofs::Seen::laid_extended, crate::proofs::Seen::seen_added, crate::proofs::Seen::laid_added))]
     pub fn add(&mut self, object: Object) -> Result<u32, AddStop>
         ensures room { OnOk result (length self.old < most_objects) }
         ensures added { IfOk result (λ number. (number ≡ length self.old) × (self.new ≡ self.old ++ object ∷ [])) }
@@ -78,15 +99,24 @@ impl Heap {
         if number >= MOST_OBJECTS {
             return Err(AddStop::Full(object));
         }
-        self.objects.push(object)?;
+        let layout = self.layouts.place_for(self.alloc, &object)?;
+        let values = values_of(self.alloc, object.fields)?;
+        self.objects.push(Stored { layout, values })?;
         Ok(number)
     }
 
     /// The object of a number, or None where there is none.
-    pub fn get(&self, object: u32) -> Option<&Object>
-        ensures { option_copied result ≡ slice_get self.now object }
+    pub fn get(&self, object: u32) -> Option<View<'_>>
+        ensures seen { option_map object_viewed result ≡ slice_get self.now object }
+        ensures even { IfSome result (λ o. length o.names.now ≡ length o.values.now) }
     {
-        self.objects.get(object as usize)
+        let stored = self.objects.get(object as usize)?;
+        let layout = self.layouts.get(stored.layout)?;
+        Some(View {
+            class: layout.class.as_slice(),
+            names: &layout.names,
+            values: &stored.values,
+        })
     }
 
     /// The class of an object, or None where there is no such object.
@@ -94,7 +124,7 @@ impl Heap {
         ensures { option_copied result ≡ option_map (λ o. o.class) (slice_get self.now object) }
     {
         match self.get(object) {
-            Some(found) => Some(found.class.as_slice()),
+            Some(found) => Some(found.class),
             None => None,
         }
     }
@@ -104,7 +134,7 @@ impl Heap {
         ensures { option_copied result ≡ field_value self.now object name.now }
     {
         match self.get(object) {
-            Some(found) => find_value(&found.fields, name),
+            Some(found) => find_named(found.names.as_slice(), found.values, name),
             None => None,
         }
     }
@@ -115,8 +145,13 @@ impl Heap {
     pub fn set_field(&mut self, object: u32, name: &[u8], value: Value) -> Result<(), Value>
         ensures { SetsField self.old object name.now value result self.new }
     {
-        match self.objects.get_mut(object as usize) {
-            Some(found) => replace_value(&mut found.fields, name, value),
+        let Some(stored) = self.objects.get_mut(object as usize) else {
+            return Err(value);
+        };
+        match self.layouts.get(stored.layout) {
+            Some(layout) => {
+                replace_named(layout.names.as_slice(), &mut stored.values, name, value)
+            }
             None => Err(value),
         }
     }

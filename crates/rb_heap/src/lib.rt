@@ -7,11 +7,13 @@
 //! a write leaves, stands in `specs/Named` of `rb_trees` and in `specs/NameWrites` here.
 #![tactic(auto)]
 
-mod copies;
 mod heap;
+mod layouts;
 mod names;
+mod parts;
 mod stops;
+mod stored;
 
-pub use heap::Heap;
+pub use heap::{Heap, View};
 pub use names::{find_value, replace_value};
 pub use stops::AddStop;
