@@ -1,6 +1,6 @@
 // The layouts of objects: each the name of a class with the names of its fields.
 
-ghost use Rattle.std.specs.Prelude.{◌≡◌, [], ◌∷◌, ◌++◌, length, slice_get, IfOk, IfSome, OnOk, OnErr};
+ghost use Rattle.std.specs.Prelude.{◌≡◌, ◌↔◌, [], ◌∷◌, ◌++◌, length, slice_get, IsTrue, IfOk, IfSome, OnOk, OnErr};
 ghost use Rattle.std.specs.Option.{option_copied};
 ghost use Rattle.rb_heap.specs.Seen.{layout_of, Extends};
 
@@ -39,8 +39,9 @@ fn copy_layout(alloc: Global, layout: &Layout) -> Result<Layout, Memory>
 #[derive(Drop)]
 pub(crate) struct Layouts {
     list: Seq<Layout>,
-    // for a class the place of the layout that was added last; what it says is compared with the object, so that
-    // it may say anything
+    // the place of the layout that was wanted last, and for each class that of the layout that was added last; each is
+    // compared with the object, so that it may be any number
+    latest: usize,
     guesses: IndexMap<Word, usize>,
 }
 
@@ -64,6 +65,7 @@ impl Layouts {
     {
         Layouts {
             list: Seq::new(alloc),
+            latest: 0,
             guesses: IndexMap::new(alloc),
         }
     }
@@ -97,19 +99,36 @@ impl Layouts {
         self.list.push(layout)
     }
 
-    // The place of an object's layout, if it is the one that was added last for the class.
+    // Whether the layout at a place is the object's.
+    fn is_at(&self, place: usize, object: &Object) -> bool
+        ensures { IsTrue result ↔ (slice_get self.now place ≡ Some (layout_of object.now)) }
+    {
+        match self.list.get(place) {
+            Some(layout) => {
+                layout.class.as_slice() == object.class.as_slice()
+                    && are_names_of(layout.names.as_slice(), object.fields.as_slice())
+            }
+            None => false,
+        }
+    }
+
+    // The place of an object's layout, if it is the one that was wanted last, or was added last for the class.
     fn find(&self, object: &Object) -> Option<usize>
         ensures { IfSome result (λ place. slice_get self.now place ≡ Some (layout_of object.now)) }
     {
+        if self.is_at(self.latest, object) {
+            return Some(self.latest);
+        }
         let place = *self.guesses.get(&object.class)?;
-        let layout = self.list.get(place)?;
-        let is_same = layout.class.as_slice() == object.class.as_slice()
-            && are_names_of(layout.names.as_slice(), object.fields.as_slice());
-        if is_same { Some(place) } else { None }
+        if self.is_at(place, object) {
+            Some(place)
+        } else {
+            None
+        }
     }
 
-    /// The place of an object's layout, which is added at the end unless it is found.
-    pub(crate) fn place_for(&mut self, alloc: Global, object: &Object) -> Result<usize, Memory>
+    // The place of an object's layout, which is added at the end unless it is found.
+    fn find_or_add(&mut self, alloc: Global, object: &Object) -> Result<usize, Memory>
         ensures kept { Extends self.old self.new }
         ensures place { IfOk result (λ place. slice_get self.new place ≡ Some (layout_of object.now)) }
     {
@@ -122,5 +141,15 @@ impl Layouts {
                 Ok(place)
             }
         }
+    }
+
+    /// The place of an object's layout, which is added at the end where it isn't known.
+    pub(crate) fn place_for(&mut self, alloc: Global, object: &Object) -> Result<usize, Memory>
+        ensures kept { Extends self.old self.new }
+        ensures place { IfOk result (λ place. slice_get self.new place ≡ Some (layout_of object.now)) }
+    {
+        let place = self.find_or_add(alloc, object)?;
+        self.latest = place;
+        Ok(place)
     }
 }

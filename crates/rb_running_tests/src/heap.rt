@@ -1,4 +1,5 @@
 // Tests of the heap.
 
 mod fields;
+mod layouts;
 mod objects;

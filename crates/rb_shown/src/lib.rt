@@ -16,5 +16,5 @@ mod views;
 pub use endings::ending_line;
 pub use exchanges::exchanges_line;
 pub use literals::add_literal;
-pub use objects::{object_line, table_text};
+pub use objects::object_line;
 pub use views::split_view;

@@ -14,7 +14,10 @@ fn line_of(alloc: Global, table: &Heap, number: u32) -> Result<Word, Memory>
     ensures { IfOk result (λ text. text ++ shown_table (number + 1) (drop (number + 1) table.now) ≡ shown_table number (drop number table.now)) }
 {
     match table.get(number) {
-        Some(object) => object_line(alloc, number as u64, object),
+        Some(object) => {
+            let (names, values) = (object.names.as_slice(), object.values.as_slice());
+            object_line(alloc, number as u64, object.class, names, values)
+        }
         None => unreachable!(),
     }
 }
