@@ -7,4 +7,4 @@ use Rattle.rb_wire_fields.proofs.Tags.{no_tag}
 use Rattle.rb_wire_script.proofs.exprs.+exprs.Goals as goal
 
 pub expr-returns-in_default : goal.expr-returns-in_default
-expr-returns-in_default n c = no_tag (expr c.args.left) (expr_forms (expr (c.args.left - 1))) _ c.in_ok-tag.tag _ _ (expr_read c.args.left _ (omega arith)) c.in_ok-tag.ensures (grind (arith, nat_tests, c.in_default)) (ap fault_of c.from.ensures ∙ ap told c.bad_tag.ensures)
+expr-returns-in_default n c = no_tag (expr c.args.left) (expr_forms (expr (c.args.left - 1))) _ c.in_ok-tag.tag _ _ (expr_read c.args.left _ (omega arith)) c.in_ok-tag.ensures (grind (arith, nat_tests, c.in_default)) (ap fault_of c.from-in_default.ensures ∙ ap told c.bad_tag.ensures)
