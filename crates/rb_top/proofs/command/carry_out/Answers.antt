@@ -13,4 +13,4 @@ pub returns-in-Child : goal.returns-in-Child
 returns-in-Child g c = rw c.in-Child.is (serves_child c.in-Child.service.now refl (record { serves = c.run_child.ensures; unchanged = refl }) refl)
 
 pub returns-in-Trial : goal.returns-in-Trial
-returns-in-Trial g c = rw c.in-Trial.is (tries c.in-Trial.count.now refl c.run_trial.ensures refl refl)
+returns-in-Trial g c = rw c.in-Trial.is (tries c.in-Trial.count refl c.run_trial.ensures refl refl)
