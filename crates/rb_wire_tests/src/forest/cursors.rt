@@ -33,6 +33,9 @@ static WALKS: [(&str, &str); 7] = [
     (ALL_FORMS, " 7 true( false ) 2( ( é ) ( 3@4:8Big ) ) 9@10:7"),
 ];
 
+/// More steps than any of the walks takes.
+const MOST_STEPS: u32 = 100;
+
 /// Tells of the next entry, which is taken. Each call is tried, so that one that finds nothing stands before most that do.
 fn tell_entry(alloc: Global, cursor: &mut Cursor<'_>, told: &mut String) -> Result<bool, Fail> {
     let shown = if let Some(taken) = cursor.branch() {
@@ -75,7 +78,13 @@ fn walk(alloc: Global, digits: &str) -> Result<String, Fail> {
         return Ok(told);
     };
     let mut cursor = forest.cursor();
-    while tell_entry(alloc, &mut cursor, &mut told)? || tell_end(alloc, &mut cursor, &mut told)? {}
+    for _ in 0..MOST_STEPS {
+        if !tell_entry(alloc, &mut cursor, &mut told)?
+            && !tell_end(alloc, &mut cursor, &mut told)?
+        {
+            break;
+        }
+    }
     Ok(told)
 }
 
