@@ -57,4 +57,5 @@ def main(count):
     print(min(timed(count) for _ in range(20)) * 1000)
 
 
-main(int(sys.argv[1]))
+if __name__ == "__main__":
+    main(int(sys.argv[1]))

@@ -2,6 +2,7 @@
 
 mod calls;
 mod commands;
+mod failures;
 mod near_runs;
 mod pairs;
 mod replies;

@@ -1,7 +1,8 @@
 // Commands over a Dial and a listener in memory, with what they answer and print.
 
 use crate::commands::texts::{CALL, CALL_REPLY, CALL_REQUEST, FILES, NUMBER};
-use rb_base::{Listen, MemoryFiles, MemorySink, SteadyListen};
+use rb_base::{Link, Listen, MemoryFiles, MemorySink, SteadyListen};
+use rb_heap::Heap;
 use rb_session::{AnyLink, Dial, FailingLink, MemoryDial, NullDial};
 use rb_top::top;
 use rb_trees::Seq;
@@ -36,12 +37,23 @@ pub fn answer_on<D: Dial, N: Listen>(
     alloc: Global,
     words: &str,
     texts: &[(&str, &str)],
+    out: MemorySink,
+    dial: &mut D,
+    listen: &mut N,
+) -> Result<String, Fail> {
+    answer_with(alloc, words, files_of(alloc, texts)?, out, dial, listen)
+}
+
+/// The same with files.
+pub fn answer_with<D: Dial, N: Listen>(
+    alloc: Global,
+    words: &str,
+    mut files: MemoryFiles,
     mut out: MemorySink,
     dial: &mut D,
     listen: &mut N,
 ) -> Result<String, Fail> {
     let words = words_of(alloc, words)?;
-    let mut files = files_of(alloc, texts)?;
     let code = top(alloc, words.as_slice(), &mut files, &mut out, dial, listen).code();
     let text = str::from_utf8(out.written())?;
     Ok(format!(in alloc; "{code} {text}")?)
@@ -74,12 +86,20 @@ pub fn served_over<N: Listen>(
     answer_on(alloc, words, texts, steady_output(alloc), &mut dial, listen)
 }
 
-/// How many exchanges the one link had that came back, or None where none did.
-pub fn exchanges_back(dial: &MemoryDial<FailingLink>) -> Option<usize> {
+/// How many exchanges the one link had that came back, and the table of its server; or None where none came back.
+pub fn came_back(dial: &MemoryDial<FailingLink>) -> Option<(usize, Option<&Heap>)> {
     match dial.came_back() {
-        [AnyLink::Dialled(link)] => Some(link.pairs().len()),
-        [AnyLink::Around(link)] => Some(link.pairs().len()),
+        [AnyLink::Dialled(link)] => Some((link.pairs().len(), link.table())),
+        [AnyLink::Around(link)] => Some((link.pairs().len(), link.table())),
         _ => None,
+    }
+}
+
+/// How many exchanges that link had.
+pub fn exchanges_back(dial: &MemoryDial<FailingLink>) -> Option<usize> {
+    match came_back(dial) {
+        Some((exchanges, _table)) => Some(exchanges),
+        None => None,
     }
 }
 
