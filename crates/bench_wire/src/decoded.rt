@@ -1,14 +1,15 @@
 // What payloads come to.
 
+use rb_wire_forest::{ForestStop, decode_forest, scan_forest};
 use rb_wire_script::{ScriptStop, decode_script};
 use std::alloc::Global;
 use std::fmt;
 
-/// What a payload comes to as a script.
+/// What a payload comes to.
 #[derive(Clone, Copy)]
 pub enum Outcome {
     Valid,
-    Refused(u8, u32),
+    Refused(u8, u64),
     Memory,
     TooLong,
 }
@@ -31,7 +32,24 @@ pub fn outcome_of(alloc: Global, payload: &[u8]) -> Outcome {
     }
     match decode_script(alloc, payload) {
         Ok(_) => Outcome::Valid,
-        Err(ScriptStop::Refused { number, at }) => Outcome::Refused(number, at),
+        Err(ScriptStop::Refused { number, at }) => Outcome::Refused(number, u64::from(at)),
         Err(ScriptStop::Memory) => Outcome::Memory,
+    }
+}
+
+/// What a payload comes to as a forest, of which no tree is made.
+pub fn scanned(payload: &[u8]) -> Outcome {
+    match scan_forest(payload) {
+        Ok(_) => Outcome::Valid,
+        Err(refusal) => Outcome::Refused(refusal.number, refusal.at),
+    }
+}
+
+/// What a payload comes to as the tree of a forest.
+pub fn forest_of(alloc: Global, payload: &[u8]) -> Outcome {
+    match decode_forest(alloc, payload) {
+        Ok(_) => Outcome::Valid,
+        Err(ForestStop::Refused { number, at }) => Outcome::Refused(number, at),
+        Err(ForestStop::Memory) => Outcome::Memory,
     }
 }

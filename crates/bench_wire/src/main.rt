@@ -1,6 +1,7 @@
 //! Makes a payload of a shape, of at most so many bytes, and does to it what the first argument says: `make` prints how many
 //! bytes it has, `write` writes it, and `decode` prints what it comes to as a script; `all` does so to each shape. `load`
-//! prints how many bytes the text of a file has, and `json` reads it as JSON.
+//! prints how many bytes the text of a file has, and `json` reads it as JSON. `size` prints how many bytes a file has, `scan`
+//! what they come to as a forest, and `tree` what they come to as one whose tree is made.
 #![tactic(auto)]
 
 mod decoded;
@@ -9,7 +10,7 @@ mod payloads;
 mod shapes;
 
 use bytes::BytesMut;
-use decoded::outcome_of;
+use decoded::{Outcome, forest_of, outcome_of, scanned};
 use payloads::payload_of;
 use serde_json::Value;
 use shapes::{SHAPES, Shape, shape_named};
@@ -35,7 +36,7 @@ fn main(rt: HostRuntime) -> io::Result<()> {
 
 /// Says what the program's words are.
 fn usage<R: Eprint>(rt: &R) -> io::Result<()> {
-    eprintln!(rt; "usage: bench_wire make|write|decode SHAPE BYTES | all BYTES | load|json FILE")
+    eprintln!(rt; "usage: bench_wire make|write|decode SHAPE BYTES | all BYTES | load|json|size|scan|tree FILE")
 }
 
 /// The number that a word is.
@@ -56,6 +57,9 @@ fn one_word<R: Files + AllocGlobal + Print + Eprint>(
         ("all", Some(most)) => decode_all(rt, most),
         ("load", _) => load(rt, word),
         ("json", _) => read_json(rt, word),
+        ("size", _) => size(rt, word),
+        ("scan", _) => scan(rt, word),
+        ("tree", _) => tree(rt, word),
         _ => usage(rt),
     }
 }
@@ -131,4 +135,28 @@ fn read_json<R: Files + AllocGlobal + Print>(rt: &R, path: &str) -> io::Result<(
         }
         Err(error) => println!(rt; "{error}"),
     }
+}
+
+/// Prints how many bytes a file has.
+fn size<R: Files + AllocGlobal + Print>(rt: &R, path: &str) -> io::Result<()> {
+    let payload = fs::read(rt, path)?;
+    let count = payload.len();
+    println!(rt; "{count} bytes")
+}
+
+/// Prints what the bytes of a file come to as a forest.
+fn scan<R: Files + AllocGlobal + Print>(rt: &R, path: &str) -> io::Result<()> {
+    let payload = fs::read(rt, path)?;
+    say(rt, &scanned(payload.as_slice()), payload.len())
+}
+
+/// Prints what they come to as a forest whose tree is made.
+fn tree<R: Files + AllocGlobal + Print>(rt: &R, path: &str) -> io::Result<()> {
+    let payload = fs::read(rt, path)?;
+    say(rt, &forest_of(rt.alloc(), payload.as_slice()), payload.len())
+}
+
+/// Prints what so many bytes come to.
+fn say<R: Print>(rt: &R, outcome: &Outcome, count: usize) -> io::Result<()> {
+    println!(rt; "{outcome}, {count} bytes")
 }
