@@ -2,7 +2,9 @@
 
 mod calls;
 mod commands;
+mod cut_sessions;
 mod failures;
+mod hostile;
 mod near_runs;
 mod pairs;
 mod replies;

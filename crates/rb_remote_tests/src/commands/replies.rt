@@ -9,7 +9,7 @@ use std::alloc::Global;
 use std::test::Fail;
 
 /// What `run a p` says of the program of two names over a link on which these bytes come.
-fn replied(alloc: Global, bytes: &[u8]) -> Result<String, Fail> {
+pub fn replied(alloc: Global, bytes: &[u8]) -> Result<String, Fail> {
     let source = MemorySource::make(Seq::from_slice(alloc, bytes)?, Seq::new(alloc), usize::MAX);
     let sink = MemorySink::make(alloc, Seq::new(alloc), usize::MAX);
     let mut dial = MemoryDial::make(alloc, Seq::new(alloc));
