@@ -34,9 +34,12 @@ enum Event<'a> {
     /// It reads the file of this name.
     Read(&'a str),
     Dial,
-    /// It makes a link of its own, which doesn't fail.
+    /// It makes a link of its own.
     Around,
+    /// It exchanges a request and its reply over a link that was dialled.
     Exchange,
+    /// It does so over its own, where no exchange fails.
+    Within,
     /// It starts to listen, or waits for the next session.
     Listen,
     /// It writes this line.
@@ -61,6 +64,18 @@ const RUN: &[Event<'static>] = &[
     Event::Line("10"),
     Event::Line("5"),
     Event::Exchange,
+    Event::Line("200"),
+    Event::Line("6"),
+    Event::Line("fault 8 Thrown \"End\" at 3:152"),
+    Event::Line("exchanges 2"),
+];
+
+/// The same over a link of its own.
+const NEAR: &[Event<'static>] = &[
+    Event::Within,
+    Event::Line("10"),
+    Event::Line("5"),
+    Event::Within,
     Event::Line("200"),
     Event::Line("6"),
     Event::Line("fault 8 Thrown \"End\" at 3:152"),
@@ -127,7 +142,7 @@ const COMMANDS: &[Command<'static>] = &[
     Command {
         words: "both p s",
         status: 1,
-        events: &[READS, &[Event::Around], RUN, GROWN],
+        events: &[READS, &[Event::Around], NEAR, GROWN],
     },
     Command {
         words: "unsplit p s",
@@ -168,7 +183,7 @@ fn call_of(event: &Event<'_>) -> Option<Call> {
     match event {
         Event::Read(_) => Some(Call::Read),
         Event::Dial => Some(Call::Dial),
-        Event::Around => None,
+        Event::Around | Event::Within => None,
         Event::Exchange => Some(Call::Exchange),
         Event::Listen => Some(Call::Listen),
         Event::Line(_) => Some(Call::Write),
@@ -182,7 +197,7 @@ fn stopped(alloc: Global, event: &Event<'_>, lines: &str, done: usize) -> Result
         Event::Dial => format!(in alloc; "11 {lines}dial fault\n")?,
         Event::Exchange => format!(in alloc; "7 {lines}link fault {done}\n")?,
         Event::Listen => format!(in alloc; "12 {lines}listen fault\n")?,
-        Event::Around | Event::Line(_) => format!(in alloc; "9 {lines}")?,
+        Event::Around | Event::Within | Event::Line(_) => format!(in alloc; "9 {lines}")?,
     };
     Ok(shown)
 }
@@ -211,7 +226,9 @@ impl Front {
                 self.lines.push('\n')?;
             }
             Event::Dial | Event::Around => self.exchanges = Some(0),
-            Event::Exchange => self.exchanges = self.exchanges.map(|count| count.wrapping_add(1)),
+            Event::Exchange | Event::Within => {
+                self.exchanges = self.exchanges.map(|count| count.wrapping_add(1));
+            }
             Event::Read(_) | Event::Listen => {}
         }
         Ok(true)
@@ -350,17 +367,27 @@ fn same_table(
     if shown.as_slice() == wanted.as_str().as_bytes() {
         return Ok(());
     }
-    Err(Fail::new(format_args!(
-        "{shown:?} in place of {wanted:?}, by {words}"
-    )))
+    Err(Fail::new(format_args!("{shown:?} in place of {wanted:?}, by {words}")))
 }
 
-/// The most calls of a kind that are tried: more than any of the commands makes.
-const MOST: u64 = 18;
+/// How many calls of a kind a command makes.
+fn calls_made(command: &Command<'_>, call: Call) -> u64 {
+    let mut count: u64 = 0;
+    for events in command.events {
+        for event in *events {
+            if call_of(event) == Some(call) {
+                count = count.saturating_add(1);
+            }
+        }
+    }
+    count
+}
 
-/// Fails at the first call of a kind that, where it fails, has a command come to something else than is wanted.
+/// Fails at the first call of a kind that, where it fails, has a command come to something else than is wanted. One call more is
+/// tried than the command makes.
 fn expect_calls(alloc: Global, command: &Command<'_>, call: Call) -> Result<(), Fail> {
-    for number in 1..=MOST {
+    let count = calls_made(command, call).saturating_add(1);
+    for number in 1..=count {
         let wanted = expected(alloc, command, call, number)?;
         let found = found(alloc, command.words, call, number)?;
         if found != wanted {
