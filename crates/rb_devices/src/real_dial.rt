@@ -4,7 +4,7 @@ ghost use Rattle.std.specs.Prelude.{◌≡◌, IfOk};
 ghost use Rattle.rb_session.specs.Dials.{broken_after};
 ghost use Rattle.rb_devices.specs.DialCounts.{new_counts};
 
-use crate::connections::ends_of;
+use crate::connections::{connect, ends_of};
 use crate::counts::count_one;
 use crate::real_sink::RealSink;
 use crate::real_source::RealSource;
@@ -15,12 +15,14 @@ use std::io::ErrorKind;
 use std::marker::Model;
 use std::net::{Net, TcpListener, TcpStream};
 use std::process::{Child, Command, Processes, Stdio, SystemProcess};
+use std::time::Duration;
 use std::{io, str};
 
 /// A link of a real Dial.
 pub type RealLink = AnyLink<FrameLink<RealSource, RealSink>>;
 
-/// A Dial of the system: an address is connected to over TCP, and for a child this program is started again.
+/// A Dial of the system: an address is connected to over TCP, and for a child this program is started again. Over a connection an
+/// exchange fails where the other side sends nothing, or takes nothing, for as long as the Dial's timeout.
 ///
 /// It tells nothing: what stands behind a link that was dialled is the system's. Contracts see it as its two counts,
 /// `DialCounts`.
@@ -29,6 +31,7 @@ pub struct RealDial<'a, R> {
     runtime: &'a R,
     /// The name by which this program was started.
     program: &'a str,
+    timeout: Option<Duration>,
     faults: u64,
     broken: u64,
 }
@@ -42,13 +45,15 @@ impl<'a, R> Model for RealDial<'a, R> {
 }
 
 impl<'a, R> RealDial<'a, R> {
-    /// A Dial of which no dial failed so far and no link came back. A child is started by this program's name.
-    pub fn make(runtime: &'a R, program: &'a str) -> RealDial<'a, R>
+    /// A Dial of which no dial failed so far and no link came back. A child is started by this program's name. A connection has
+    /// this timeout, if any, and a child has none.
+    pub fn make(runtime: &'a R, program: &'a str, timeout: Option<Duration>) -> RealDial<'a, R>
         ensures { result ≡ new_counts }
     {
         RealDial {
             runtime,
             program,
+            timeout,
             faults: 0,
             broken: 0,
         }
@@ -72,7 +77,7 @@ impl<
 
     /// Fails where the address can't be connected to, or the child can't be started.
     fn dial(&mut self, target: &Target) -> Result<RealLink, DialStop> {
-        match reach(self.runtime, self.program, target) {
+        match reach(self.runtime, self.program, target, self.timeout) {
             Ok((source, sink)) => {
                 let link = FrameLink::make(self.runtime.alloc(), source, sink);
                 Ok(AnyLink::Dialled(link))
@@ -115,7 +120,12 @@ fn reach<
     R: Net<Listener = TcpListener, Stream = TcpStream>
         + Processes<Started = SystemProcess>
         + AllocGlobal,
->(runtime: &R, program: &str, target: &Target) -> Result<(RealSource, RealSink), DialStop>
+>(
+    runtime: &R,
+    program: &str,
+    target: &Target,
+    timeout: Option<Duration>,
+) -> Result<(RealSource, RealSink), DialStop>
     ensures source { IfOk result (λ ends. ends.0 ≡ 0) }
     ensures sink { IfOk result (λ ends. ends.1 ≡ 0) }
 {
@@ -124,7 +134,7 @@ fn reach<
         return Err(DialStop::Failed);
     };
     let reached = match target {
-        Target::Address(_) => connect(runtime, word),
+        Target::Address(_) => ends_at(runtime, word, timeout),
         Target::Child(_) => start(runtime, program, word),
     };
     match reached {
@@ -135,14 +145,15 @@ fn reach<
 }
 
 /// The two ends of a new connection to an address.
-fn connect<R: Net<Listener = TcpListener, Stream = TcpStream>>(
+fn ends_at<R: Net<Listener = TcpListener, Stream = TcpStream>>(
     net: &R,
     address: &str,
+    timeout: Option<Duration>,
 ) -> io::Result<(RealSource, RealSink)>
     ensures source { IfOk result (λ ends. ends.0 ≡ 0) }
     ensures sink { IfOk result (λ ends. ends.1 ≡ 0) }
 {
-    ends_of(TcpStream::connect(net, address)?)
+    ends_of(connect(net, address, timeout)?, timeout)
 }
 
 /// The two ends of a new child: this program, which serves a file.

@@ -10,6 +10,7 @@ use rb_base::{Failed, Listen, ListenStop};
 use std::io::{self, ErrorKind, Stdin, Stdout};
 use std::marker::Model;
 use std::net::{Net, TcpListener, TcpStream};
+use std::time::Duration;
 
 /// Where the next session comes from.
 #[derive(Drop)]
@@ -24,6 +25,8 @@ enum Started {
 /// A listener of the system: an address over TCP, or `-`, of which standard input and output are the one session.
 ///
 /// An address that was bound is so until another one is started or the listener ends. Sessions of an address come without end.
+/// A read or a write of such a session fails where its peer sends nothing, or takes nothing, for as long as the listener's
+/// timeout.
 ///
 /// It tells nothing: which sessions come is the system's. Contracts see it as its count of faults.
 #[derive(Drop)]
@@ -31,6 +34,7 @@ pub struct RealListen<'a, R> {
     net: &'a R,
     input: Stdin,
     output: Stdout,
+    timeout: Option<Duration>,
     started: Started,
     faults: u64,
 }
@@ -44,14 +48,21 @@ impl<'a, R> Model for RealListen<'a, R> {
 }
 
 impl<'a, R> RealListen<'a, R> {
-    /// A listener with nothing started, of which no call failed so far.
-    pub fn make(net: &'a R, input: Stdin, output: Stdout) -> RealListen<'a, R>
+    /// A listener with nothing started, of which no call failed so far. The sessions of an address have this timeout, if any,
+    /// and standard input and output have none.
+    pub fn make(
+        net: &'a R,
+        input: Stdin,
+        output: Stdout,
+        timeout: Option<Duration>,
+    ) -> RealListen<'a, R>
         ensures { result ≡ 0 }
     {
         RealListen {
             net,
             input,
             output,
+            timeout,
             started: Started::Nothing,
             faults: 0,
         }
@@ -97,7 +108,7 @@ impl<R: Net<Listener = TcpListener, Stream = TcpStream>> Listen for RealListen<'
                 let source = RealSource::standard(self.input);
                 return Ok(Some((source, RealSink::standard(self.output))));
             }
-            Started::Socket(listener) => accept(listener),
+            Started::Socket(listener) => accept(listener, self.timeout),
         };
         match accepted {
             Ok(ends) => Ok(Some(ends)),
@@ -116,12 +127,15 @@ impl<R: Net<Listener = TcpListener, Stream = TcpStream>> Listen for RealListen<'
 }
 
 /// The two ends of the next connection.
-fn accept(listener: &TcpListener) -> Result<(RealSource, RealSink), ListenStop>
+fn accept(
+    listener: &TcpListener,
+    timeout: Option<Duration>,
+) -> Result<(RealSource, RealSink), ListenStop>
     ensures source { IfOk result (λ ends. ends.0 ≡ 0) }
     ensures sink { IfOk result (λ ends. ends.1 ≡ 0) }
 {
     let accepted = match connection(listener) {
-        Ok(stream) => ends_of(stream),
+        Ok(stream) => ends_of(stream, timeout),
         Err(error) => Err(error),
     };
     match accepted {

@@ -3,6 +3,7 @@
 
 mod help;
 mod kept_files;
+mod timeouts;
 
 use kept_files::KeptFiles;
 use rb_devices::{RealDial, RealFiles, RealListen, StandardOutput};
@@ -12,8 +13,9 @@ use std::env::VarError;
 use std::io::{IsTerminal, Stdin, Stdout};
 use std::net::{Net, TcpListener, TcpStream};
 use std::process::{ExitCode, Processes, SystemProcess};
-use std::rt::{Env, Files};
+use std::rt::{Clock, Env, Files};
 use std::{env, io};
+use timeouts::timeout_for;
 
 fn main(rt: HostRuntime) -> ExitCode {
     let in_colours = rt.stderr().is_terminal() && !is_plain(&rt);
@@ -34,6 +36,7 @@ fn is_plain<R: Env + AllocGlobal>(rt: &R) -> bool {
 fn run<
     R: Files
         + Env
+        + Clock
         + Net<Listener = TcpListener, Stream = TcpStream>
         + Processes<Started = SystemProcess>
         + Print
@@ -42,14 +45,15 @@ fn run<
 >(rt: &R, standard: (Stdin, Stdout), in_colours: bool) -> Status {
     match called(rt) {
         Ok(Call { program, words }) => {
+            let timeout = timeout_for(rt, words.as_slice());
             let mut files = KeptFiles::make(rt.alloc(), RealFiles::make(rt));
             let status = top(
                 rt.alloc(),
                 words.as_slice(),
                 &mut files,
                 &mut StandardOutput::make(rt),
-                &mut RealDial::make(rt, program.as_str()),
-                &mut RealListen::make(rt, standard.0, standard.1),
+                &mut RealDial::make(rt, program.as_str(), timeout),
+                &mut RealListen::make(rt, standard.0, standard.1, timeout),
             );
             help::tell(rt, words.as_slice(), &status, &files, in_colours);
             status

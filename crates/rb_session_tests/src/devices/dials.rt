@@ -10,6 +10,7 @@ use std::alloc::Global;
 use std::io::Write;
 use std::net::{TcpListener, TcpStream};
 use std::test::Fail;
+use std::time::Duration;
 
 /// A link to a peer on this machine, which has already sent these bytes.
 ///
@@ -36,7 +37,7 @@ fn target_of(alloc: Global, listener: &TcpListener) -> Result<Target, Fail> {
 
 #[test]
 fn an_exchange_goes_over_loopback(rt: HostRuntime) -> Result<(), Fail> {
-    let mut dial = RealDial::make(&rt, "/");
+    let mut dial = RealDial::make(&rt, "/", None);
     let (mut link, mut peer) = met(&rt, &mut dial, RECEIVED)?;
     let reply = link.exchange(CALL)?;
     assert_eq!(rt; reply.payload.as_slice(), REPLY);
@@ -52,12 +53,23 @@ fn is_cut_after(answer: &Result<Reply, LinkStop>, count: u64) -> bool {
 
 #[test]
 fn a_peer_that_closes_early_cuts_the_reply(rt: HostRuntime) -> Result<(), Fail> {
-    let mut dial = RealDial::make(&rt, "/");
+    let mut dial = RealDial::make(&rt, "/", None);
     let (mut link, peer) = met(&rt, &mut dial, &RECEIVED[..5])?;
     drop(peer);
     let answer = link.exchange(CALL);
     assert!(rt; is_cut_after(&answer, 5));
     dial.back(link);
+    Ok(())
+}
+
+#[test]
+fn a_peer_that_sends_nothing_fails_the_exchange(rt: HostRuntime) -> Result<(), Fail> {
+    let mut dial = RealDial::make(&rt, "/", Some(Duration::from_millis(50)));
+    let (mut link, peer) = met(&rt, &mut dial, &RECEIVED[..5])?;
+    let answer = link.exchange(CALL);
+    assert!(rt; matches!(answer, Err(LinkStop::Failed)));
+    dial.back(link);
+    drop(peer);
     Ok(())
 }
 
@@ -69,7 +81,7 @@ fn has_failed<L: Drop>(answer: Result<L, DialStop>) -> bool {
 #[test]
 fn what_cannot_be_reached_is_a_fault(rt: HostRuntime) -> Result<(), Fail> {
     let alloc = rt.alloc();
-    let mut dial = RealDial::make(&rt, "/no such program");
+    let mut dial = RealDial::make(&rt, "/no such program", None);
     // Nobody listens, no address, no port, and no text.
     for word in [b"127.0.0.1:1".as_slice(), b"", b"127.0.0.1", b"\xff"] {
         let target = Target::Address(Seq::from_slice(alloc, word)?);

@@ -2,13 +2,14 @@
 
 use crate::devices::frames::{RECEIVED, SENT, all_of};
 use crate::hosts::number_host;
-use rb_base::Listen;
+use rb_base::{Listen, write_whole};
 use rb_devices::RealListen;
-use rb_session::serve;
+use rb_session::{ServeCause, ServeStop, Served, serve};
 use std::alloc::Global;
 use std::io::Write;
 use std::net::{Shutdown, TcpListener, TcpStream};
 use std::test::Fail;
+use std::time::Duration;
 
 /// An address of this machine at which nobody listens.
 fn free_address(rt: &HostRuntime) -> Result<String, Fail> {
@@ -39,11 +40,60 @@ fn serve_next(alloc: Global, listen: &mut RealListen<HostRuntime>) -> Result<u64
 #[test]
 fn a_session_over_loopback_is_served(rt: HostRuntime) -> Result<(), Fail> {
     let address = free_address(&rt)?;
-    let mut listen = RealListen::make(&rt, rt.stdin(), rt.stdout());
+    let mut listen = RealListen::make(&rt, rt.stdin(), rt.stdout(), None);
     listen.start(address.as_str())?;
     let mut client = asked(&rt, address.as_str())?;
     assert_eq!(rt; serve_next(rt.alloc(), &mut listen)?, 1);
     assert_eq!(rt; all_of(rt.alloc(), &mut client)?.as_slice(), RECEIVED);
+    Ok(())
+}
+
+/// A listener at an address whose connections may be silent for a moment.
+fn impatient<'a>(rt: &'a HostRuntime, address: &str) -> Result<RealListen<'a, HostRuntime>, Fail> {
+    let moment = Some(Duration::from_millis(50));
+    let mut listen = RealListen::make(rt, rt.stdin(), rt.stdout(), moment);
+    listen.start(address)?;
+    Ok(listen)
+}
+
+/// Whether a session ended by a read that failed, behind so many requests.
+fn is_read_fault(answer: &Result<Served, ServeStop>, count: u64) -> bool {
+    matches!(answer, Err(ServeStop { requests, cause: ServeCause::ReadFault }) if *requests == count)
+}
+
+#[test]
+fn a_silent_client_ends_its_session_alone(rt: HostRuntime) -> Result<(), Fail> {
+    let address = free_address(&rt)?;
+    let mut listen = impatient(&rt, address.as_str())?;
+    let mut host = number_host(rt.alloc())?;
+    let mut silent = TcpStream::connect(&rt, address.as_str())?;
+    let mut client = asked(&rt, address.as_str())?;
+    silent.write_all(SENT)?;
+    let Some((mut source, mut sink)) = listen.next()? else {
+        return Err(Fail::new("no session"));
+    };
+    let answer = serve(rt.alloc(), &mut host, &mut source, &mut sink);
+    assert!(rt; is_read_fault(&answer, 1));
+    listen.back(source, sink);
+    assert_eq!(rt; serve_next(rt.alloc(), &mut listen)?, 1);
+    assert_eq!(rt; all_of(rt.alloc(), &mut client)?.as_slice(), RECEIVED);
+    Ok(())
+}
+
+#[test]
+fn a_client_that_takes_nothing_fails_a_write(rt: HostRuntime) -> Result<(), Fail> {
+    let address = free_address(&rt)?;
+    let mut listen = impatient(&rt, address.as_str())?;
+    let client = TcpStream::connect(&rt, address.as_str())?;
+    let Some((source, mut sink)) = listen.next()? else {
+        return Err(Fail::new("no session"));
+    };
+    // More than the system keeps of a connection.
+    let bytes = vec![in rt.alloc(); 0; 33_554_432]?;
+    assert!(rt; write_whole(&mut sink, bytes.as_slice()).is_err());
+    assert_eq!(rt; sink.faults(), 1);
+    listen.back(source, sink);
+    drop(client);
     Ok(())
 }
 
@@ -61,8 +111,8 @@ fn passes_one(listen: &mut RealListen<HostRuntime>) -> Result<bool, Fail> {
 #[test]
 fn an_address_is_bound_once_and_again_when_its_listener_ended(rt: HostRuntime) -> Result<(), Fail> {
     let address = free_address(&rt)?;
-    let mut first = RealListen::make(&rt, rt.stdin(), rt.stdout());
-    let mut second = RealListen::make(&rt, rt.stdin(), rt.stdout());
+    let mut first = RealListen::make(&rt, rt.stdin(), rt.stdout(), None);
+    let mut second = RealListen::make(&rt, rt.stdin(), rt.stdout(), None);
     first.start(address.as_str())?;
     assert!(rt; second.start(address.as_str()).is_err());
     // The server closes this connection first, so that the system still keeps it for a while.
@@ -76,7 +126,7 @@ fn an_address_is_bound_once_and_again_when_its_listener_ended(rt: HostRuntime) -
 
 #[test]
 fn standard_input_and_output_are_one_session(rt: HostRuntime) -> Result<(), Fail> {
-    let mut listen = RealListen::make(&rt, rt.stdin(), rt.stdout());
+    let mut listen = RealListen::make(&rt, rt.stdin(), rt.stdout(), None);
     assert!(rt; !passes_one(&mut listen)?);
     listen.start("-")?;
     assert!(rt; passes_one(&mut listen)?);
