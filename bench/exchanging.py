@@ -63,7 +63,7 @@ def recorded(client, port):
 @contextmanager
 def serving(command, port=None):
     """The port of a server, which listens at the one given, or prints one first."""
-    with subprocess.Popen(command, stdout=subprocess.PIPE, text=True) as server:
+    with subprocess.Popen(command, stdout=subprocess.PIPE, stderr=subprocess.DEVNULL, text=True) as server:
         try:
             yield port or int(server.stdout.readline())
         finally:

@@ -4,6 +4,7 @@
 //! system's.
 #![tactic(auto)]
 
+mod accepting;
 mod connections;
 mod counts;
 mod moves;

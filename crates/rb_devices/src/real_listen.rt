@@ -1,15 +1,16 @@
 // The listener of the system.
 
-ghost use Rattle.std.specs.Prelude.{◌≡◌, IfOk};
+ghost use Rattle.std.specs.Prelude.{◌≡◌};
 
-use crate::connections::ends_of;
+use crate::accepting::accept;
 use crate::counts::count_one;
 use crate::real_sink::RealSink;
 use crate::real_source::RealSource;
 use rb_base::{Failed, Listen, ListenStop};
-use std::io::{self, ErrorKind, Stdin, Stdout};
+use std::io::{Stdin, Stdout};
 use std::marker::Model;
 use std::net::{Net, TcpListener, TcpStream};
+use std::rt::Clock;
 use std::time::Duration;
 
 /// Where the next session comes from.
@@ -26,16 +27,18 @@ enum Started {
 ///
 /// An address that was bound is so until another one is started or the listener ends. Sessions of an address come without end.
 /// A read or a write of such a session fails where its peer sends nothing, or takes nothing, for as long as the listener's
-/// timeout.
+/// timeout. Standard error says where the listener listens, and when each of these sessions begins and ends.
 ///
 /// It tells nothing: which sessions come is the system's. Contracts see it as its count of faults.
 #[derive(Drop)]
 pub struct RealListen<'a, R> {
-    net: &'a R,
+    runtime: &'a R,
     input: Stdin,
     output: Stdout,
     timeout: Option<Duration>,
     started: Started,
+    /// How many sessions of the address were handed out.
+    sessions: u64,
     faults: u64,
 }
 
@@ -51,7 +54,7 @@ impl<'a, R> RealListen<'a, R> {
     /// A listener with nothing started, of which no call failed so far. The sessions of an address have this timeout, if any,
     /// and standard input and output have none.
     pub fn make(
-        net: &'a R,
+        runtime: &'a R,
         input: Stdin,
         output: Stdout,
         timeout: Option<Duration>,
@@ -59,17 +62,19 @@ impl<'a, R> RealListen<'a, R> {
         ensures { result ≡ 0 }
     {
         RealListen {
-            net,
+            runtime,
             input,
             output,
             timeout,
             started: Started::Nothing,
+            sessions: 0,
             faults: 0,
         }
     }
 }
 
-impl<R: Net<Listener = TcpListener, Stream = TcpStream>> Listen for RealListen<'_, R> {
+impl<R: Net<Listener = TcpListener, Stream = TcpStream> + Clock + Eprint> Listen
+    for RealListen<'_, R> {
     type S = RealSource;
 
     type K = RealSink;
@@ -86,9 +91,11 @@ impl<R: Net<Listener = TcpListener, Stream = TcpStream>> Listen for RealListen<'
             self.started = Started::Standard;
             return Ok(());
         }
-        match TcpListener::bind(self.net, address) {
+        match TcpListener::bind(self.runtime, address) {
             Ok(listener) => {
+                say_place(self.runtime, &listener);
                 self.started = Started::Socket(listener);
+                self.sessions = 0;
                 Ok(())
             }
             Err(_) => {
@@ -98,8 +105,7 @@ impl<R: Net<Listener = TcpListener, Stream = TcpStream>> Listen for RealListen<'
         }
     }
 
-    /// Waits for a connection, and passes over those that were aborted before they were accepted. Fails where none can be
-    /// accepted.
+    /// Waits for a connection, and passes over those that can't be taken. Fails where the address is listened at no more.
     fn next(&mut self) -> Result<Option<(RealSource, RealSink)>, ListenStop> {
         let accepted = match &self.started {
             Started::Nothing => return Ok(None),
@@ -108,51 +114,35 @@ impl<R: Net<Listener = TcpListener, Stream = TcpStream>> Listen for RealListen<'
                 let source = RealSource::standard(self.input);
                 return Ok(Some((source, RealSink::standard(self.output))));
             }
-            Started::Socket(listener) => accept(listener, self.timeout),
+            Started::Socket(listener) => accept(self.runtime, listener, self.timeout),
         };
         match accepted {
-            Ok(ends) => Ok(Some(ends)),
-            Err(ListenStop::Failed) => {
+            Some((source, sink, peer)) => {
+                count_one(&mut self.sessions);
+                let number = self.sessions;
+                let _ = eprintln!(self.runtime; "rbi: session {number} begins, with {peer}");
+                Ok(Some((source, sink)))
+            }
+            None => {
                 count_one(&mut self.faults);
                 Err(ListenStop::Failed)
             }
-            Err(ListenStop::Memory) => Err(ListenStop::Memory),
         }
     }
 
     fn back(&mut self, source: RealSource, sink: RealSink) {
         drop(source);
         sink.close();
-    }
-}
-
-/// The two ends of the next connection.
-fn accept(
-    listener: &TcpListener,
-    timeout: Option<Duration>,
-) -> Result<(RealSource, RealSink), ListenStop>
-    ensures source { IfOk result (λ ends. ends.0 ≡ 0) }
-    ensures sink { IfOk result (λ ends. ends.1 ≡ 0) }
-{
-    let accepted = match connection(listener) {
-        Ok(stream) => ends_of(stream, timeout),
-        Err(error) => Err(error),
-    };
-    match accepted {
-        Ok(ends) => Ok(ends),
-        Err(error) if error.kind() == ErrorKind::OutOfMemory => Err(ListenStop::Memory),
-        Err(_) => Err(ListenStop::Failed),
-    }
-}
-
-/// The next connection. One that was aborted before it was accepted is passed over.
-fn connection(listener: &TcpListener) -> io::Result<TcpStream> {
-    for _ in 0..u64::MAX {
-        match listener.accept() {
-            Ok((stream, _)) => return Ok(stream),
-            Err(error) if error.kind() == ErrorKind::ConnectionAborted => {}
-            Err(error) => return Err(error),
+        if let Started::Socket(_) = &self.started {
+            let number = self.sessions;
+            let _ = eprintln!(self.runtime; "rbi: session {number} ends");
         }
     }
-    Err(io::Error::from(ErrorKind::ConnectionAborted))
+}
+
+/// Says where a listener listens, with the port that the system chose where the address left it open.
+fn say_place<R: Eprint>(runtime: &R, listener: &TcpListener) {
+    if let Ok(place) = listener.local_addr() {
+        let _ = eprintln!(runtime; "rbi: listening at {place}");
+    }
 }
