@@ -15,3 +15,4 @@ pub mod Replied
 pub mod Fed
 pub mod Written
 pub mod Going
+pub mod OneRequest

@@ -62,14 +62,14 @@ ended_so before after given h = subst IsAtEnd (ap (λ d. d.told) given ∙ sym (
 -- ---- how far the frame is
 
 -- the length that is announced doesn't change behind the header
-announced_on : (old bytes : List ℕ) → header_length ≤ length old → announced (old ++ bytes) ≡ announced old
+pub announced_on : (old bytes : List ℕ) → header_length ≤ length old → announced (old ++ bytes) ≡ announced old
 announced_on old bytes long =
     ap (from_be_bytes w64) (ap (take 8) (drop-append-le 3 old bytes (omega arith)) ∙ take-append-le 8 (drop 3 old) bytes (omega (arith, length-drop 3 old)))
 
-lacking_short : (bytes : List ℕ) → length bytes < header_length → lacking bytes ≡ header_length - length bytes
+pub lacking_short : (bytes : List ℕ) → length bytes < header_length → lacking bytes ≡ header_length - length bytes
 lacking_short bytes less = grind (arith, nat_tests)
 
-lacking_long : (bytes : List ℕ) → header_length ≤ length bytes → lacking bytes ≡ announced bytes - (length bytes - header_length)
+pub lacking_long : (bytes : List ℕ) → header_length ≤ length bytes → lacking bytes ≡ announced bytes - (length bytes - header_length)
 lacking_long bytes long = grind (arith, nat_tests)
 
 -- some bytes are lacking: less than a whole frame is there

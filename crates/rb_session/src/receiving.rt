@@ -38,8 +38,8 @@ pub fn send<K: Sink>(alloc: Global, sink: &mut K, request: &[u8]) -> Result<(), 
     }
 }
 
-// How many bytes of a reply are still to come.
-fn lacking(taken: &[u8]) -> u64
+/// How many bytes a frame lacks of which these are the first: of its header, or else of its payload.
+pub fn lacking(taken: &[u8]) -> u64
     ensures { result ≡ lacking taken.now }
 {
     if taken.len() < HEADER {

@@ -1,22 +1,24 @@
 // Serving a session: requests are read from a source, and replies are written to a sink.
 
-ghost use Rattle.std.specs.Prelude.{◌≡◌, ◌<◌, None, length, vec_len, IfOk};
+ghost use Rattle.std.specs.Prelude.{◌≡◌, ◌<◌, ◌≤◌, ◌+◌, None, length, vec_len, IfOk};
 ghost use Rattle.rb_base.specs.Devices.{device};
+ghost use Rattle.rb_base.specs.Sources.{Reads, IsAtEnd};
 ghost use Rattle.rb_meaning_frames.specs.Streams.{Waits};
 ghost use Rattle.rb_session.specs.Answering.{IsTypedHost};
 ghost use Rattle.rb_session.specs.Sessions.{new_session, IsBounded};
+ghost use Rattle.rb_session.specs.Receiving.{lacking};
 ghost use Rattle.rb_session.specs.Serving.{ends, Serves, UnlessServedMemory};
 ghost use Rattle.rb_session.specs.Pieces.{serving, WritesThen, ServesPiece, EndsSo, ServesTo, UnlessErrMemory};
 
 use crate::sessions::{Session, SessionStop};
 use bytes::BytesMut;
-use rb_base::{Sink, Source, write_whole};
+use rb_base::{Failed, Sink, Source, write_whole};
 use rb_exec::Host;
 use rb_trees::Memory;
 use std::alloc::Global;
 use thiserror::Error;
 
-/// How many bytes are read at most at once.
+/// How many bytes are read at most at once. No read goes beyond the request at hand.
 const PIECE: usize = 65_536;
 
 /// A session was served to the end of its source, which came behind a whole frame.
@@ -90,7 +92,8 @@ pub fn serve<S: Source, K: Sink>(
     }
 }
 
-/// Feeds a new session what the source gives, piece by piece.
+/// Feeds a new session what the source gives, piece by piece. A piece ends at the latest where the request at hand does, so that
+/// each reply is written before the next one is made.
 fn serve_pieces<S: Source, K: Sink>(
     alloc: Global,
     host: &mut Host,
@@ -110,7 +113,8 @@ fn serve_pieces<S: Source, K: Sink>(
 {
     let mut out = BytesMut::new(alloc);
     'pieces: loop {
-        let count = match source.read(buffer) {
+        let most = session.lacks();
+        let count = match read_most(source, buffer, most) {
             Ok(count) => count,
             Err(_) => return Err(ServeCause::ReadFault),
         };
@@ -131,6 +135,20 @@ fn buffer_of(alloc: Global) -> Result<Vec<u8>, Memory>
     Ok(vec![in alloc; 0; PIECE]?)
 }
 
+/// Reads once, at most so many bytes, to the front of a buffer.
+fn read_most<S: Source>(source: &mut S, buffer: &mut [u8], most: u64) -> Result<usize, Failed>
+    requires room { 0 < length buffer.old }
+    requires some { 0 < most }
+    ensures room { length buffer.new ≡ length buffer.old }
+    ensures within { IfOk result (λ count. count ≤ length buffer.new) }
+    ensures few { IfOk result (λ count. count ≤ most) }
+    ensures end { result ≡ Ok 0 → IsAtEnd (S.told source.old) }
+    ensures after { Reads buffer.new result (device S.told S.faults source.old) (device S.told S.faults source.new) }
+{
+    let size = most.min(buffer.len() as u64) as usize;
+    source.read(&mut buffer[..size])
+}
+
 /// How a session ends whose source has ended.
 fn ended(session: &Session) -> Result<(), ServeCause>
     requires waits { Waits session.now.rest }
@@ -143,7 +161,7 @@ fn ended(session: &Session) -> Result<(), ServeCause>
     }
 }
 
-/// Feeds a session a piece, and writes the replies.
+/// Feeds a session a piece that ends at the latest where the request at hand does, and writes the reply, if there is one.
 fn serve_piece<K: Sink>(
     alloc: Global,
     host: &mut Host,
@@ -153,10 +171,14 @@ fn serve_piece<K: Sink>(
     sink: &mut K,
 ) -> Result<(), ServeCause>
     requires fresh { session.old.stop ≡ None }
+    requires waits { Waits session.old.rest }
+    requires one { length piece.now ≤ lacking session.old.rest }
     requires typed { IsTypedHost host.old }
     ensures serves { let before = serving host.old session.old (device K.told K.faults sink.old) in
         let after = serving host.new session.new (device K.told K.faults sink.new) in
         ServesPiece before after piece.now result }
+    // No more than one request is answered before its reply is written.
+    ensures one { UnlessErrMemory result (session.new.requests ≤ session.old.requests + 1) }
     ensures typed { UnlessErrMemory result (IsTypedHost host.new) }
     ensures service { host.new.service ≡ host.old.service }
     ensures bounded { IsBounded session.new.offset session.new.requests }

@@ -1,11 +1,14 @@
 // Sessions: a stream of requests in pieces.
 
 ghost use Rattle.std.specs.Prelude.{◌≡◌, ◌==◌, ◌<◌, ◌^◌, ◌++◌, length, drop, IfOk, OnOk};
+ghost use Rattle.rb_meaning_frames.specs.Streams.{Waits};
 ghost use Rattle.rb_session.specs.Answering.{IsTypedHost};
+ghost use Rattle.rb_session.specs.Receiving.{lacking};
 ghost use Rattle.rb_session.specs.Sessions.{new_session, came, stop_of, answer_by, IsBounded, IsNear, Feeds, UnlessSpentMemory};
 ghost use Rattle.rb_session.specs.Taking.{longest_frame, TakesAll};
 
 use crate::frames::Front;
+use crate::receiving::lacking;
 use crate::requests::{Taken, answer_whole};
 use bytes::BytesMut;
 use rb_exec::Host;
@@ -100,6 +103,17 @@ impl Session {
     {
         let rest = self.rest.len();
         (self.offset + rest as u64, rest == 0)
+    }
+
+    /// How many bytes the request at hand lacks, where the session hasn't stopped: of its header, or else of its payload. A piece
+    /// that has no more makes one request whole at most.
+    #[tactic(auto, using(crate::proofs::OneRequest::lacks_some))]
+    pub fn lacks(&self) -> u64
+        requires { Waits self.now.rest }
+        ensures count { result ≡ lacking self.now.rest }
+        ensures some { 0 < result }
+    {
+        lacking(self.rest.as_slice())
     }
 
     /// Takes the next piece of the stream, answers the requests that became whole, in order, and appends the frames of their

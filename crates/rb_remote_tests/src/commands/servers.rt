@@ -187,7 +187,8 @@ fn ending_sessions(alloc: Global) -> Result<Seq<Coming>, Fail> {
     let mut sessions = sessions_of(alloc, &[b"RB\x02"])?;
     for (reads, writes) in [
         (&[1][..], &[][..]),
-        (&[2][..], &[][..]),
+        // The first two reads give the header and the payload of its request.
+        (&[3][..], &[][..]),
         (&[][..], &[1][..]),
         (&[][..], &[][..]),
     ] {

@@ -151,8 +151,8 @@ fn expect_read_faults(alloc: Global, rows: &[(&[u64], u64, usize)]) -> Result<()
 
 #[test]
 fn a_read_that_fails_ends_a_session_behind_its_requests(rt: HostRuntime) -> Result<(), Fail> {
-    // Four reads give the first request.
-    expect_read_faults(rt.alloc(), &[(&[1], 0, 0), (&[4], 0, 0), (&[5], 1, 17)])
+    // Five reads give the first request: three its header, and two its payload.
+    expect_read_faults(rt.alloc(), &[(&[1], 0, 0), (&[5], 0, 0), (&[6], 1, 17)])
 }
 
 /// The same of a write.

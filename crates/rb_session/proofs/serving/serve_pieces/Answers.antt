@@ -25,7 +25,7 @@ pieces-preserved g c =
     record {
       served = piece_served _
           (ends c.pieces.host (device g.S.Source.told g.S.Source.faults c.pieces.source) (device g.K.Sink.told g.K.Sink.faults c.pieces.sink))
-          (ends c.serve_piece.new.host (device g.S.Source.told g.S.Source.faults c.read.new.self) (device g.K.Sink.told g.K.Sink.faults c.serve_piece.new.sink))
+          (ends c.serve_piece.new.host (device g.S.Source.told g.S.Source.faults c.read_most.new.source) (device g.K.Sink.told g.K.Sink.faults c.serve_piece.new.sink))
           _ _ _ _ so.service so.served c.in-Ok.ensures.after said.serves;
       waits = said.serves.says.1;
       fresh = said.serves.says.0;
@@ -39,12 +39,12 @@ pub returns-then-count-eq0-clause-serves : goal.returns-then-count-eq0-clause-se
 returns-then-count-eq0-clause-serves g c =
     ended_at _
     (ends c.pieces.host (device g.S.Source.told g.S.Source.faults c.pieces.source) (device g.K.Sink.told g.K.Sink.faults c.pieces.sink))
-    (ends c.pieces.host (device g.S.Source.told g.S.Source.faults c.read.new.self) (device g.K.Sink.told g.K.Sink.faults c.pieces.sink))
+    (ends c.pieces.host (device g.S.Source.told g.S.Source.faults c.read_most.new.source) (device g.K.Sink.told g.K.Sink.faults c.pieces.sink))
     _ _ _ _ c.if-count-eq0.true c.pieces.invariant.served c.ended.ensures refl refl c.in-Ok.ensures.after (c.in-Ok.ensures.end (ap Ok c.if-count-eq0.true))
 
 pub returns-in-Err-serve_piece-clause-serves : goal.returns-in-Err-serve_piece-clause-serves
 returns-in-Err-serve_piece-clause-serves g c =
     stopped _
     (ends c.pieces.host (device g.S.Source.told g.S.Source.faults c.pieces.source) (device g.K.Sink.told g.K.Sink.faults c.pieces.sink))
-    (ends c.serve_piece.new.host (device g.S.Source.told g.S.Source.faults c.read.new.self) (device g.K.Sink.told g.K.Sink.faults c.serve_piece.new.sink))
+    (ends c.serve_piece.new.host (device g.S.Source.told g.S.Source.faults c.read_most.new.source) (device g.K.Sink.told g.K.Sink.faults c.serve_piece.new.sink))
     _ _ _ _ c.pieces.invariant.service c.pieces.invariant.served c.in-Ok.ensures.after c.in-Err-serve_piece.ensures.serves
