@@ -15,8 +15,11 @@ const GROW: &[u8] =
 /// The frame of its reply.
 const REPLY: &[u8] = b"RB\x02\x00\x00\x00\x00\x00\x00\x00\x06\x01\x00\x00\x00\x00\x00";
 
-/// How many requests the session has. Each read gives one of them.
+/// How many requests the session has.
 const REQUESTS: u64 = 3;
+
+/// How many reads give a request: its header, and its payload.
+const READS: u64 = 2;
 
 /// What a session came to: what is said of it and of the table, and how many bytes were written in it.
 #[derive(Debug, Drop, PartialEq)]
@@ -89,12 +92,14 @@ fn expect_came(alloc: Global, reads: &[u64], writes: &[u64], want: &Came) -> Res
 fn each_read_that_fails_cuts_a_session_behind_its_requests(rt: HostRuntime) -> Result<(), Fail> {
     let alloc = rt.alloc();
     // The last read finds the end.
-    for number in 1..REQUESTS + 2 {
-        let want = wanted(alloc, number - 1, "read fault", number - 1)?;
+    let reads = REQUESTS * READS + 1;
+    for number in 1..reads + 1 {
+        let requests = (number - 1) / READS;
+        let want = wanted(alloc, requests, "read fault", requests)?;
         expect_came(alloc, &[number], &[], &want)?;
     }
     let whole = wanted(alloc, REQUESTS, "end", REQUESTS)?;
-    expect_came(alloc, &[REQUESTS + 2], &[], &whole)
+    expect_came(alloc, &[reads + 1], &[], &whole)
 }
 
 #[test]
