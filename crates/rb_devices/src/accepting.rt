@@ -17,7 +17,7 @@ const ENDED: [i32; 3] = [9, 22, 88];
 ///
 /// A connection that can't be taken is passed over, and standard error says why. Then a second goes by before the next one is
 /// taken, so that a want that lasts, as of descriptors, takes no processor. One that was aborted costs no such pause.
-pub fn accept<R: Clock + Eprint>(
+pub fn accept<R: Clock + Eprint + AllocGlobal>(
     runtime: &R,
     listener: &TcpListener,
     timeout: Option<Duration>,
@@ -27,7 +27,7 @@ pub fn accept<R: Clock + Eprint>(
 {
     for _ in 0..u64::MAX {
         match listener.accept() {
-            Ok((stream, peer)) => match ends_of(stream, timeout) {
+            Ok((stream, peer)) => match ends_of(runtime.alloc(), stream, timeout) {
                 Ok((source, sink)) => return Some((source, sink, peer)),
                 Err(error) => pass_over(runtime, &error),
             },

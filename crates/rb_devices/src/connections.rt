@@ -4,13 +4,18 @@ ghost use Rattle.std.specs.Prelude.{◌≡◌, IfOk};
 
 use crate::real_sink::RealSink;
 use crate::real_source::RealSource;
+use std::alloc::Global;
 use std::io::{self, ErrorKind};
 use std::net::{Net, TcpListener, TcpStream, ToSocketAddrs};
 use std::time::Duration;
 
 /// The two ends of a new connection, over which a small piece goes out at once. Where a timeout is given, a read fails to which
 /// the peer sends nothing for so long, and a write of which it takes nothing.
-pub fn ends_of(stream: TcpStream, timeout: Option<Duration>) -> io::Result<(RealSource, RealSink)>
+pub fn ends_of(
+    alloc: Global,
+    stream: TcpStream,
+    timeout: Option<Duration>,
+) -> io::Result<(RealSource, RealSink)>
     ensures source { IfOk result (λ ends. ends.0 ≡ 0) }
     ensures sink { IfOk result (λ ends. ends.1 ≡ 0) }
 {
@@ -19,7 +24,7 @@ pub fn ends_of(stream: TcpStream, timeout: Option<Duration>) -> io::Result<(Real
     // Both ends have the timeouts, since they are the socket's.
     stream.set_read_timeout(timeout)?;
     stream.set_write_timeout(timeout)?;
-    let source = RealSource::of_stream(stream.try_clone()?);
+    let source = RealSource::of_stream(alloc, stream.try_clone()?)?;
     Ok((source, RealSink::to_stream(stream)))
 }
 

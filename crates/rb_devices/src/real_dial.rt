@@ -145,15 +145,16 @@ fn reach<
 }
 
 /// The two ends of a new connection to an address.
-fn ends_at<R: Net<Listener = TcpListener, Stream = TcpStream>>(
-    net: &R,
+fn ends_at<R: Net<Listener = TcpListener, Stream = TcpStream> + AllocGlobal>(
+    runtime: &R,
     address: &str,
     timeout: Option<Duration>,
 ) -> io::Result<(RealSource, RealSink)>
     ensures source { IfOk result (λ ends. ends.0 ≡ 0) }
     ensures sink { IfOk result (λ ends. ends.1 ≡ 0) }
 {
-    ends_of(connect(net, address, timeout)?, timeout)
+    let stream = connect(runtime, address, timeout)?;
+    ends_of(runtime.alloc(), stream, timeout)
 }
 
 /// The two ends of a new child: this program, which serves a file.

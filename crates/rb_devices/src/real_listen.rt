@@ -73,7 +73,7 @@ impl<'a, R> RealListen<'a, R> {
     }
 }
 
-impl<R: Net<Listener = TcpListener, Stream = TcpStream> + Clock + Eprint> Listen
+impl<R: Net<Listener = TcpListener, Stream = TcpStream> + Clock + Eprint + AllocGlobal> Listen
     for RealListen<'_, R> {
     type S = RealSource;
 

@@ -1,19 +1,23 @@
 // The end of a connection, of a child process or of standard input from which bytes come.
 
-ghost use Rattle.std.specs.Prelude.{◌≡◌};
+ghost use Rattle.std.specs.Prelude.{◌≡◌, IfOk};
 
 use crate::counts::count_one;
 use crate::moves::read_some;
 use rb_base::{Failed, Source};
-use std::io::Stdin;
+use std::alloc::Global;
+use std::io::{self, BufReader, Stdin};
 use std::marker::Model;
 use std::net::TcpStream;
 use std::process::ChildStdout;
 
+/// How many bytes of a connection are taken at once, where whoever reads asks for fewer.
+const AHEAD: usize = 65_536;
+
 /// Where the bytes come from.
 #[derive(Drop)]
 enum Origin {
-    Stream(TcpStream),
+    Stream(BufReader<TcpStream>),
     Child(ChildStdout),
     Standard(Stdin),
 }
@@ -36,14 +40,16 @@ impl Model for RealSource {
 }
 
 impl RealSource {
-    /// What comes over a connection, of which no read failed so far.
-    pub fn of_stream(stream: TcpStream) -> RealSource
-        ensures { result ≡ 0 }
+    /// What comes over a connection, of which no read failed so far. A small read, as of a frame's header, takes what follows too,
+    /// and keeps it for the next one. Its error is want of memory.
+    pub fn of_stream(alloc: Global, stream: TcpStream) -> io::Result<RealSource>
+        ensures { IfOk result (λ source. source ≡ 0) }
     {
-        RealSource {
+        let stream = BufReader::with_capacity(alloc, AHEAD, stream)?;
+        Ok(RealSource {
             origin: Origin::Stream(stream),
             faults: 0,
-        }
+        })
     }
 
     /// What a child process writes, of which no read failed so far.
