@@ -16,3 +16,4 @@ pub mod Fed
 pub mod Written
 pub mod Going
 pub mod OneRequest
+pub mod Paired

@@ -1,5 +1,5 @@
 -- Links over two ends, to which requests go and from which replies come as frames.
-use Rattle.std.specs.Prelude.{◌≡◌, ◌⊎◌, ◌+◌, ℕ, List, [], ◌∷◌, ◌++◌, min, None, Result, Ok, Err}
+use Rattle.std.specs.Prelude.{◌≡◌, ◌⊎◌, ◌+◌, ℕ, List, [], ◌∷◌, ◌++◌, map, min, None, Result, Ok, Err}
 use Rattle.rb_meaning.specs.Links.{Pair, Told}
 use Rattle.rb_meaning_frames.specs.Frames.{frame_bytes, request_kind}
 use Rattle.rb_base.specs.Counts.{last_count}
@@ -12,6 +12,10 @@ use Rattle.rb_base.specs.declared.links.LinkStop.TheVariants.{Failed, Frame, Cut
 use Rattle.rb_base.specs.declared.sources.Source as sources
 use Rattle.rb_base.specs.declared.sinks.Sink as sinks
 use Rattle.rb_session.specs.Receiving.{TakesReply, TakesNone}
+
+-- requests with their replies, as a history has them
+abbrev pub all_paired : List (List ℕ × Reply) → List Pair
+all_paired ps = map (λ p. pair_of p.0 p.1) ps
 
 -- a link over frames: its two ends, and the pairs so far
 pub record LinkOverEnds (S K : Type 0) : Type 0 where

@@ -1,15 +1,15 @@
 // A link over two ends, to which requests go and from which replies come as frames.
 
-ghost use Rattle.std.specs.Prelude.{◌≡◌, ◌≤◌, [], length, OnOk, OnErr};
+ghost use Rattle.std.specs.Prelude.{◌≡◌, ◌≤◌, [], ◌∷◌, ◌++◌, length};
 ghost use Rattle.rb_meaning.specs.Answers.{longest_request};
-ghost use Rattle.rb_session.specs.Exchanges.{all_told, OneMore};
-ghost use Rattle.rb_session.specs.FrameLinks.{ends_of, ExchangesFrames};
+ghost use Rattle.rb_base.specs.Links.{pair_of};
+ghost use Rattle.rb_session.specs.FrameLinks.{all_paired, ends_of, ExchangesFrames};
 
-use crate::exchanges::{Exchange, pair_of};
+use crate::histories::History;
 use crate::receiving::{receive, send};
 use rb_base::{Link, LinkStop, Reply, Sink, Source};
 use rb_heap::Heap;
-use rb_trees::Memory;
+use rb_trees::{Seq, Word};
 use std::alloc::Global;
 use std::marker::Model;
 
@@ -19,25 +19,26 @@ use std::marker::Model;
 /// does; before that a front of the request's frame was written. Where the reply breaks its form or ends too early, the answer
 /// keeps the bytes that were taken of it. A reply is read in pieces, so its announced length makes no room by itself.
 ///
-/// It tells its pairs, of which it keeps copies, and no server; so it is never honest as far as it tells. Its count of faults is
-/// the sum of those of its ends, and stands still at the end of a `u64`.
+/// It tells its pairs and no server; so it is never honest as far as it tells. The pairs are a history that only proofs read, so
+/// that exchanges leave nothing in memory. Its count of faults is the sum of those of its ends, and stands still at the end of a
+/// `u64`.
 #[derive(Drop)]
 pub struct FrameLink<S, K> {
+    alloc: Global,
     source: S,
     sink: K,
-    pairs: Vec<Exchange>,
+    pairs: History<Word, Reply>,
 }
 
 impl<S, K> Model for FrameLink<S, K> {
     ghost use Rattle.rb_session.specs.Codes.{ends_code};
-    ghost use Rattle.rb_session.specs.Exchanges.{all_told};
-    ghost use Rattle.rb_session.specs.FrameLinks.{LinkOverEnds};
+    ghost use Rattle.rb_session.specs.FrameLinks.{LinkOverEnds, all_paired};
 
     ghost Value = { LinkOverEnds S K };
 
     ghost coded = { ends_code S.code K.code };
 
-    ghost view = { λ it. record { source = it.source; sink = it.sink; pairs = all_told it.pairs.items } };
+    ghost view = { λ it. record { source = it.source; sink = it.sink; pairs = all_paired it.pairs.items } };
 }
 
 impl<S, K> FrameLink<S, K> {
@@ -46,9 +47,10 @@ impl<S, K> FrameLink<S, K> {
         ensures { result ≡ record { source = source; sink = sink; pairs = [] } }
     {
         FrameLink {
+            alloc,
             source,
             sink,
-            pairs: Vec::new(alloc),
+            pairs: History::new(),
         }
     }
 
@@ -66,13 +68,6 @@ impl<S, K> FrameLink<S, K> {
         &self.sink
     }
 
-    /// The exchanges so far that were answered, in order.
-    pub fn pairs(&self) -> &[Exchange]
-        ensures { all_told result.now ≡ self.now.pairs }
-    {
-        self.pairs.as_slice()
-    }
-
     /// The two ends.
     pub fn into_ends(self) -> (S, K)
         ensures { result ≡ (self.source, self.sink) }
@@ -81,14 +76,12 @@ impl<S, K> FrameLink<S, K> {
     }
 }
 
-// Keeps a copy of a request with its reply.
-fn keep_pair(pairs: &mut Vec<Exchange>, request: &[u8], reply: &Reply) -> Result<(), Memory>
-    ensures ok { OnOk result (OneMore request.now pairs.old.items pairs.new.items reply.now) }
-    ensures err { OnErr result (pairs.new.items ≡ pairs.old.items) }
+// The history with a request and its reply more.
+#[tactic(auto, using(crate::proofs::Paired::one_more_paired))]
+fn with_pair(pairs: &History<Word, Reply>, request: &Word, reply: &Reply) -> History<Word, Reply>
+    ensures { all_paired result.items ≡ all_paired pairs.now.items ++ pair_of request.now reply.now ∷ [] }
 {
-    let alloc = *pairs.allocator();
-    pairs.push(pair_of(alloc, request, reply.kind, reply.payload.as_slice())?)?;
-    Ok(())
+    pairs.and(request, reply)
 }
 
 impl<S: Source, K: Sink> Link for FrameLink<S, K> {
@@ -107,10 +100,10 @@ impl<S: Source, K: Sink> Link for FrameLink<S, K> {
         requires { length request.now ≤ longest_request }
         ensures { ExchangesFrames request.now result (ends_of S.Source K.Sink self.old) (ends_of S.Source K.Sink self.new) }
     {
-        let alloc = *self.pairs.allocator();
-        send(alloc, &mut self.sink, request)?;
-        let reply = receive(alloc, &mut self.source)?;
-        keep_pair(&mut self.pairs, request, &reply)?;
+        let sent = Seq::from_slice(self.alloc, request)?;
+        send(self.alloc, &mut self.sink, request)?;
+        let reply = receive(self.alloc, &mut self.source)?;
+        self.pairs = with_pair(&self.pairs, &sent, &reply);
         Ok(reply)
     }
 

@@ -10,6 +10,7 @@ mod exchanges;
 mod failing_link;
 mod frame_link;
 mod frames;
+mod histories;
 mod laws;
 mod memory_dial;
 mod memory_link;

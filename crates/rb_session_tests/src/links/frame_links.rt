@@ -65,7 +65,6 @@ fn outcome_of(alloc: Global, answer: Result<Reply, LinkStop>) -> Result<(Outcome
 struct Seen {
     outcome: Outcome,
     taken: Seq<u8>,
-    pairs: usize,
     written: Seq<u8>,
     left: Seq<u8>,
 }
@@ -79,7 +78,6 @@ fn seen_of(
     Ok(Seen {
         outcome,
         taken,
-        pairs: link.pairs().len(),
         written: Seq::from_slice(alloc, link.sink().written())?,
         left: Seq::from_slice(alloc, link.source().left())?,
     })
@@ -106,7 +104,6 @@ fn an_exchange_writes_one_frame_and_takes_one(rt: HostRuntime) -> Result<(), Fai
         assert_eq!(rt; seen.taken.as_slice(), REPLY);
         assert_eq!(rt; seen.written.as_slice(), SENT);
         assert_eq!(rt; seen.left.as_slice(), b"R".as_slice());
-        assert_eq!(rt; seen.pairs, 1);
     }
     Ok(())
 }
@@ -133,7 +130,6 @@ fn a_reply_breaks_its_form_at_its_first_wrong_byte(rt: HostRuntime) -> Result<()
         let seen = exchanged(rt.alloc(), bytes, 64, &[], &[])?;
         assert_eq!(rt; seen.outcome, Outcome::Frame(want), "{bytes:?}");
         assert_eq!(rt; seen.taken.as_slice(), bytes);
-        assert_eq!(rt; seen.pairs, 0);
     }
     Ok(())
 }
@@ -167,7 +163,6 @@ fn a_fault_of_an_end_is_one_of_the_link(rt: HostRuntime) -> Result<(), Fail> {
         assert_eq!(rt; seen.outcome, Outcome::Failed);
         assert_eq!(rt; seen.written.len(), written);
         assert!(rt; SENT.starts_with(seen.written.as_slice()));
-        assert_eq!(rt; seen.pairs, 0);
     }
     Ok(())
 }
