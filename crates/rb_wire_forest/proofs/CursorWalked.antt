@@ -36,10 +36,10 @@ told s = all_open (frames_from s.frames s.depth) s.rest.now
 told_is : (s : Cursor) → told s ≡ all_open (top s ∷ outer s) s.rest.now
 told_is s = ap (λ fs. all_open fs s.rest.now) (frames_top s.frames s.depth s.some)
 
-whole_is : (s : Cursor) → is_some (all_open (top s ∷ outer s) s.rest.now) ≡ true
+pub whole_is : (s : Cursor) → is_some (all_open (top s ∷ outer s) s.rest.now) ≡ true
 whole_is s = ap is_some (sym (told_is s)) ∙ s.whole
 
-opened_is : (s : Cursor) (os : List Open) → all_open (top s ∷ outer s) s.rest.now ≡ Some os → opened s ≡ os
+pub opened_is : (s : Cursor) (os : List Open) → all_open (top s ∷ outer s) s.rest.now ≡ Some os → opened s ≡ os
 unfolding opened
 opened_is s os h = ap or_none (told_is s ∙ h)
 
@@ -216,7 +216,7 @@ pub record Moved (next : List Open → Option (List Open)) (s : Cursor) (new : O
   pub whole : is_some new ≡ true
   pub step : next (opened s) ≡ Some (or_none new)
 
-moved : (next : List Open → Option (List Open)) (s : Cursor) (new : Option (List Open)) (before after : List Open) → all_open (top s ∷ outer s) s.rest.now ≡ Some before → new ≡ Some after → next before ≡ Some after → Moved next s new
+pub moved : (next : List Open → Option (List Open)) (s : Cursor) (new : Option (List Open)) (before after : List Open) → all_open (top s ∷ outer s) s.rest.now ≡ Some before → new ≡ Some after → next before ≡ Some after → Moved next s new
 moved next s new before after h i j = record { whole = ap is_some i; step = ap next (opened_is s before h) ∙ j ∙ ap (λ o. Some (or_none o)) (sym i) }
 
 pub turn_taken : (s : Cursor) (turns count : ℕ) (rest : List ℕ) → (top s).turns ≡ Some turns → 0 < turns → look Number s.rest.now ≡ Ok (count, rest)
@@ -312,7 +312,7 @@ rows_closed s turns h z =
     go (Some (o ∷ os)) i t old new = moved closing s _ (AtRows NoNodes ∷ o ∷ os) (o ∷ os) old new refl
     go None i t old new = absurd cc
 
-open_there : (f : Frame) (fs : List Frame) (bytes : List ℕ) → all_open (f ∷ fs) bytes ≡ Some [] → ⊥
+pub open_there : (f : Frame) (fs : List Frame) (bytes : List ℕ) → all_open (f ∷ fs) bytes ≡ Some [] → ⊥
 open_there f fs bytes h = go f.turns refl
   where
     go : (t : Option ℕ) → f.turns ≡ t → ⊥

@@ -12,3 +12,4 @@ pub mod Scanned
 pub mod Ahead
 pub mod CursorTook
 pub mod CursorWalked
+pub mod CursorClosed

@@ -78,7 +78,7 @@ entry_skipped F bytes = ap behind (entry_read F bytes) ∙ go (look Byte bytes)
     go (Ok x) = form x.0 x.1
     go (Err e) = refl
 
-left_skipped : (n count : ℕ) (bytes : List ℕ) → behind (read (node_left n count) bytes) ≡ skip_next (behind (read (times count (entry (node n))) bytes)) (λ rest. behind (read end rest))
+pub left_skipped : (n count : ℕ) (bytes : List ℕ) → behind (read (node_left n count) bytes) ≡ skip_next (behind (read (times count (entry (node n))) bytes)) (λ rest. behind (read end rest))
 left_skipped n count bytes = ap behind (left_read n count bytes) ∙ go (read (times count (entry (node n))) bytes)
   where
     ended : (es : List Entry) (r : Read _) → behind (on r (λ f rest. Ok (Holds (entries_from es) f, rest))) ≡ behind r
@@ -90,7 +90,7 @@ left_skipped n count bytes = ap behind (left_read n count bytes) ∙ go (read (t
     go (Err e) = refl
 
 abbrev pub skip_parts : ℕ → List ℕ → Result (List ℕ) Fault
-skip_parts n bytes = skip_on (look Number bytes) (λ count rest. skip_next (behind (read (times count (entry (node n))) rest)) (λ after. behind (read end after)))
+skip_parts n bytes = skip_on (look Number bytes) (λ count rest. behind (read (node_left n count) rest))
 
 pub node_skipped : (n : ℕ) (bytes : List ℕ) → 0 < n → behind (read (node n) bytes) ≡ skip_parts (n - 1) bytes
 node_skipped zero bytes h = absurd (omega arith)
@@ -98,8 +98,8 @@ node_skipped (suc n) bytes h =
     let e : suc n - 1 ≡ n = omega arith in
     ap behind (node_front n bytes) ∙ go (look Number bytes) ∙ ap (λ m. skip_parts m bytes) (sym e)
   where
-    go : (r : Read ℕ) → behind (on r (λ count rest. read (node_left n count) rest)) ≡ skip_on r (λ count rest. skip_next (behind (read (times count (entry (node n))) rest)) (λ after. behind (read end after)))
-    go (Ok x) = left_skipped n x.0 x.1
+    go : (r : Read ℕ) → behind (on r (λ count rest. read (node_left n count) rest)) ≡ skip_on r (λ count rest. behind (read (node_left n count) rest))
+    go (Ok x) = refl
     go (Err e) = refl
 
 -- ---- so many, in a loop

@@ -38,6 +38,11 @@ closing (AtNode (Holds NoEntries f) ∷ o ∷ os) = Some (o ∷ os)
 closing (AtRows NoNodes ∷ o ∷ os) = Some (o ∷ os)
 closing _ = None
 
+-- the innermost is closed, whatever is left of it; the root stays
+abbrev pub closed : List Open → Option (List Open)
+closed (x ∷ o ∷ os) = Some (o ∷ os)
+closed _ = None
+
 -- What a call took and left: the step's, or None and all as it was, exactly where there is no such step.
 abbrev pub Takes : {A B : Type 0} → (A → B) → (List Open → Option (B × List Open)) → List Open → Option A → List Open → Type 0
 Takes view next old (Some x) new = next old ≡ Some (view x, new)

@@ -6,6 +6,7 @@ ghost use Rattle.rb_wire_forest.specs.Opens.{all_open, frames_from};
 use crate::forest::Forest;
 use crate::frames::{Frame, MOST_NODES, root_frames};
 use crate::heads::{Head, LentFault, end, first_head};
+use crate::skips::{skip_left, skip_turns};
 use rb_wire_fields::fields::{byte, number};
 use rb_wire_fields::texts::Item;
 
@@ -48,7 +49,7 @@ impl<'a> Cursor<'a> {
     ghost use Rattle.std.specs.Prelude.{option_map};
     ghost use Rattle.rb_wire_fields.specs.Items.{value_seen};
     ghost use Rattle.rb_wire_forest.specs.Fronts.{end_seen};
-    ghost use Rattle.rb_wire_forest.specs.CursorSteps.{Takes, Moves, next_value, next_branch, next_rows, next_turn, next_fault, closing};
+    ghost use Rattle.rb_wire_forest.specs.CursorSteps.{Takes, Moves, next_value, next_branch, next_rows, next_turn, next_fault, closing, closed};
     ghost use Rattle.rb_wire_forest.specs.Opened.{opened};
 
     /// Takes the next entry of the innermost node, where that is a value. Else nothing changes.
@@ -185,6 +186,34 @@ impl<'a> Cursor<'a> {
             return false;
         }
         let Ok((_, rest)) = end(self.rest) else {
+            return false;
+        };
+        self.depth -= 1;
+        self.rest = rest;
+        true
+    }
+
+    /// Closes the innermost, and passes over what is left of it. Nothing changes where it is the root.
+    pub fn close(&mut self) -> bool
+        ensures { Moves closed (opened self.old) result (opened self.new) }
+    {
+        let top = self.frames[self.depth - 1];
+        let below = MOST_NODES - self.depth;
+        if let Some(turns) = top.turns {
+            let Ok(rest) = skip_turns(below, turns, self.rest) else {
+                return false;
+            };
+            self.frames[self.depth - 1] = Frame {
+                entries: top.entries,
+                turns: None,
+            };
+            self.rest = rest;
+            return true;
+        }
+        if self.depth == 1 {
+            return false;
+        }
+        let Ok(rest) = skip_left(below, top.entries, self.rest) else {
             return false;
         };
         self.depth -= 1;

@@ -6,6 +6,7 @@ ghost use Rattle.rb_meaning_bytes.specs.formats.Formats.{times};
 ghost use Rattle.rb_meaning_bytes.specs.formats.Forests as format;
 ghost use Rattle.rb_trees.specs.Outcome.{Gives};
 ghost use Rattle.rb_wire_fields.specs.Stops.{told};
+ghost use Rattle.rb_wire_forest.specs.Opens.{node_left};
 ghost use Rattle.rb_wire_forest.specs.Passed.{behind};
 
 use crate::heads::end;
@@ -24,7 +25,17 @@ pub fn skip_node(left: usize, bytes: &[u8]) -> Result<&[u8], Violation>
         return Err(too_deep(bytes));
     }
     let (count, rest) = number(bytes)?;
-    let rest = skip_entries(left - 1, count, rest)?;
+    skip_left(left - 1, count, rest)
+}
+
+/// What is left of a node of which so many entries are left, with at most so many nodes within each other below it.
+#[cycle(skips)]
+#[tactic(auto, using(crate::proofs::Skipped::left_skipped))]
+pub fn skip_left(left: usize, count: u32, bytes: &[u8]) -> Result<&[u8], Violation>
+    requires { left < 2 ^ 32 }
+    ensures { Gives (λ x. x.now) told result (behind (read (node_left left count) bytes.now)) }
+{
+    let rest = skip_entries(left, count, bytes)?;
     let (_, rest) = end(rest)?;
     Ok(rest)
 }
@@ -71,7 +82,7 @@ fn skip_entry(left: usize, bytes: &[u8]) -> Result<&[u8], Violation>
 /// So many nodes of turns, with at most so many within each other.
 #[cycle(skips)]
 #[tactic(auto, using(crate::proofs::Skipped::loops))]
-fn skip_turns(left: usize, count: u32, bytes: &[u8]) -> Result<&[u8], Violation>
+pub fn skip_turns(left: usize, count: u32, bytes: &[u8]) -> Result<&[u8], Violation>
     requires { left < 2 ^ 32 }
     ensures { Gives (λ x. x.now) told result (behind (read (times count (format.node left)) bytes.now)) }
 {
