@@ -12,4 +12,8 @@ pub mod Scanned
 pub mod Ahead
 pub mod CursorTook
 pub mod CursorWalked
+pub mod Endings
+pub mod CursorShown
 pub mod CursorClosed
+pub mod ForestWalked
+pub mod ForestTurned

@@ -32,6 +32,11 @@ abbrev pub next_fault : List Open → Option NodeFault
 next_fault (AtNode (Holds NoEntries f) ∷ os) = f
 next_fault _ = None
 
+-- whether the innermost node has an entry left
+abbrev pub has_entry : List Open → Bool
+has_entry (AtNode (Holds (MoreEntries x es) f) ∷ os) = true
+has_entry _ = false
+
 -- the innermost, with nothing left, is closed
 abbrev pub closing : List Open → Option (List Open)
 closing (AtNode (Holds NoEntries f) ∷ o ∷ os) = Some (o ∷ os)

@@ -1,11 +1,13 @@
 -- What stands at the front of an entry.
-use Rattle.std.specs.Prelude.{ℕ, List, Bool, cond, nat_eq, Option, None, Some}
+use Rattle.std.specs.Prelude.{◌≡◌, ℕ, List, Bool, cond, nat_eq, Option, None, Some, Ok}
 use Rattle.std.specs.Borrow.{Bor}
 use Rattle.rb_trees.specs.declared.values.Value.{Value}
 use Rattle.rb_trees.specs.declared.forests.NodeFault.{NodeFault}
 use Rattle.rb_meaning_bytes.specs.formats.Fields.{Byte, Number, Truth}
 use Rattle.rb_meaning_bytes.specs.formats.Reading.{look, read}
 use Rattle.rb_meaning_bytes.specs.formats.Values as format
+use Rattle.rb_meaning_bytes.specs.formats.Forests.{end}
+use Rattle.rb_meaning_bytes.specs.Fits.{step_of}
 use Rattle.rb_wire_fields.specs.Items.{value_seen}
 use Rattle.rb_wire_forest.specs.Opens.{on_read}
 use Rattle.rb_wire_forest.specs.declared.heads.Head as code
@@ -52,3 +54,7 @@ fault_seen f = record { step = f.step; at = f.at; fault = record { code = f.code
 abbrev pub end_seen : Option LentFault → Option NodeFault
 end_seen None = None
 end_seen (Some f) = Some (fault_seen f)
+
+-- Where a node's end stands first, this is the step of its fault.
+abbrev pub EndsAt : List ℕ → Option ℕ → Type 0
+EndsAt bytes step = (f : Option NodeFault) (rest : List ℕ) → read end bytes ≡ Ok (f, rest) → step ≡ step_of f

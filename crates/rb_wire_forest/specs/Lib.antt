@@ -8,3 +8,4 @@ pub mod Opens
 pub mod Fronts
 pub mod Opened
 pub mod CursorSteps
+pub mod ForestWalks

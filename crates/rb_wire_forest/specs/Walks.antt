@@ -24,5 +24,9 @@ abbrev pub seen_rows : Bor (List node.Node) × Bor (List entry.Entry) → Nodes 
 seen_rows x = (mirror_nodes x.0.now, mirror_entries x.1.now)
 
 -- a loop with this body and these turns
+abbrev pub loop_read : (step kind : ℕ) → List part.Part → Nodes → Walk → Result Walk ℕ
+loop_read step kind body turns w = turns_read step kind (λ row. parts_read (mirror_parts body) row) turns w >>= λ after. turns_done step after
+
+-- .. as the code has the turns
 abbrev pub turns_walked : (step kind : ℕ) → List part.Part → List node.Node → Walk → Result Walk ℕ
-turns_walked step kind body turns w = turns_read step kind (λ row. parts_read (mirror_parts body) row) (mirror_nodes turns) w >>= λ after. turns_done step after
+turns_walked step kind body turns w = loop_read step kind body (mirror_nodes turns) w

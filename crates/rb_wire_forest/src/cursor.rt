@@ -5,7 +5,7 @@ ghost use Rattle.rb_wire_forest.specs.Opens.{all_open, frames_from};
 
 use crate::forest::Forest;
 use crate::frames::{Frame, MOST_NODES, root_frames};
-use crate::heads::{Head, LentFault, end, first_head};
+use crate::heads::{Head, LentFault, end, end_step, first_head};
 use crate::skips::{skip_left, skip_turns};
 use rb_wire_fields::fields::{byte, number};
 use rb_wire_fields::texts::Item;
@@ -47,9 +47,10 @@ impl<'a> Forest<'a> {
 
 impl<'a> Cursor<'a> {
     ghost use Rattle.std.specs.Prelude.{option_map};
+    ghost use Rattle.rb_meaning_bytes.specs.Fits.{step_of};
     ghost use Rattle.rb_wire_fields.specs.Items.{value_seen};
     ghost use Rattle.rb_wire_forest.specs.Fronts.{end_seen};
-    ghost use Rattle.rb_wire_forest.specs.CursorSteps.{Takes, Moves, next_value, next_branch, next_rows, next_turn, next_fault, closing, closed};
+    ghost use Rattle.rb_wire_forest.specs.CursorSteps.{Takes, Moves, next_value, next_branch, next_rows, next_turn, next_fault, has_entry, closing, closed};
     ghost use Rattle.rb_wire_forest.specs.Opened.{opened};
 
     /// Takes the next entry of the innermost node, where that is a value. Else nothing changes.
@@ -165,6 +166,28 @@ impl<'a> Cursor<'a> {
             Ok((fault, _)) => fault,
             Err(_) => None,
         }
+    }
+
+    /// Whether the innermost is a node with an entry left.
+    pub(crate) fn has_entry(&self) -> bool
+        ensures { result ≡ has_entry (opened self.now) }
+    {
+        let top = self.frames[self.depth - 1];
+        if top.turns.is_some() || top.entries == 0 {
+            return false;
+        }
+        true
+    }
+
+    /// The step of the fault of the innermost node, where no entries of it are left. The fault's text isn't looked at.
+    pub(crate) fn fault_step(&self) -> Option<u32>
+        ensures { result ≡ step_of (next_fault (opened self.now)) }
+    {
+        let top = self.frames[self.depth - 1];
+        if top.turns.is_some() || top.entries > 0 {
+            return None;
+        }
+        end_step(self.rest)
     }
 
     /// Closes the innermost, where nothing of it is left and it isn't the root. Else nothing changes.

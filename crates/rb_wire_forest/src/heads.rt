@@ -7,7 +7,7 @@ ghost use Rattle.rb_meaning_bytes.specs.formats.Forests as format;
 ghost use Rattle.rb_trees.specs.Outcome.{Gives};
 ghost use Rattle.rb_wire_fields.specs.Stops.{told};
 ghost use Rattle.rb_wire_forest.specs.Fronts as heads;
-ghost use Rattle.rb_wire_forest.specs.Fronts.{head, seen, end_seen};
+ghost use Rattle.rb_wire_forest.specs.Fronts.{head, seen, end_seen, EndsAt};
 
 use rb_wire_fields::fields::{bad_tag, byte, number, truth};
 use rb_wire_fields::stop::Violation;
@@ -137,5 +137,21 @@ pub fn end(bytes: &[u8]) -> Result<(Option<LentFault<'_>>, &[u8]), Violation>
         0x00 => Ok((None, rest)),
         0x01 => fault(rest),
         _ => Err(bad_tag(rest)),
+    }
+}
+
+/// The step of the fault that a node ends with, whose text isn't looked at.
+pub fn end_step(bytes: &[u8]) -> Option<u32>
+    ensures { EndsAt bytes.now result }
+{
+    let Ok((tag, rest)) = byte(bytes) else {
+        return None;
+    };
+    if tag != 0x01 {
+        return None;
+    }
+    match number(rest) {
+        Ok((step, _)) => Some(step),
+        Err(_) => None,
     }
 }

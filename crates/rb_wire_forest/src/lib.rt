@@ -1,7 +1,8 @@
 //! Forests and refusals as bytes, both ways; and whether a node fits a remainder.
 //!
-//! A server answers a script with a forest, or with a refusal. A [`Forest`] is seen in its bytes, and a [`Cursor`] walks it there,
-//! without memory. What bytes spell them, and what is
+//! A server answers a script with a forest, or with a refusal. A [`Forest`] is seen in its bytes, and a [`Cursor`] walks it
+//! there, without memory: entry by entry, or past what is left of a node ([`Cursor::close`]). [`Forest::fits`] tells of the
+//! bytes what [`fits`] tells of a tree. What bytes spell forests and refusals, and what is
 //! violated first in other bytes, is said by their formats (`specs/formats` of rb_meaning_bytes);
 //! `docs/forests.md` tells it in prose.
 #![tactic(auto)]
@@ -11,6 +12,8 @@ mod decoding;
 mod encoding;
 mod fitting;
 mod forest;
+mod forest_fitting;
+mod forest_walk;
 mod frames;
 mod heads;
 mod nodes;

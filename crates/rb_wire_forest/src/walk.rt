@@ -186,7 +186,7 @@ pub(crate) fn read_value<'a>(walk: &Walk<'a>, step: u32, kind: u8) -> Result<Wal
 }
 
 /// Whether rows of this kind are kept: the primitive ones.
-fn is_kept(kind: u8) -> bool
+pub(crate) fn is_kept(kind: u8) -> bool
     ensures { result ≡ meaning.is_kept kind }
 {
     kind >= Item::Int.number() && kind <= Item::Text.number()

@@ -1,4 +1,4 @@
-// Walks of forests in their bytes: what is taken, and that a call that finds nothing changes nothing.
+// Walks of forests in their bytes: what is taken.
 
 use crate::forest::digits::bytes_of;
 use crate::forest::forests::ALL_FORMS;
@@ -36,7 +36,7 @@ static WALKS: [(&str, &str); 7] = [
 /// More steps than any of the walks takes.
 const MOST_STEPS: u32 = 100;
 
-/// Tells of the next entry, which is taken. Each call is tried, so that one that finds nothing stands before most that do.
+/// Tells of the next entry, or of the next node of a Rows, which is taken.
 fn tell_entry(alloc: Global, cursor: &mut Cursor<'_>, told: &mut String) -> Result<bool, Fail> {
     let shown = if let Some(taken) = cursor.branch() {
         format!(in alloc; " {taken}(")?

@@ -2,11 +2,14 @@
 
 use crate::forest::digits::add_bytes;
 use rb_trees::{Expr, ExprForm, Memory, Part, Seq, Stmt, StmtForm};
-use rb_wire_forest::{Misfit, decode_forest, fits};
+use rb_wire_forest::{Misfit, decode_forest, fits, scan_forest};
 use std::alloc::{AllocError, Global};
 use std::test::Fail;
 
-/// What isn't said of a node.
+/// What is told of a forest that fits otherwise in its bytes than as a tree.
+const DISPUTED: i64 = -3;
+
+/// That something is left over.
 const EXTRA: i64 = -2;
 
 /// That a node fits.
@@ -159,14 +162,25 @@ fn add_remainder(alloc: Global, into: &mut Seq<Part>) -> Result<(), Memory> {
     add_both(alloc, into)
 }
 
-/// What doesn't fit of a forest.
+/// What doesn't fit.
+fn told(fit: Result<(), Misfit>) -> i64 {
+    match fit {
+        Ok(()) => FITS,
+        Err(Misfit::At(step)) => i64::from(step),
+        Err(Misfit::Extra) => EXTRA,
+    }
+}
+
+/// What doesn't fit of a forest. It is the same in its bytes and as a tree.
 fn misfit(alloc: Global, parts: &Seq<Part>, payload: &[u8]) -> Result<i64, Fail> {
     let root = decode_forest(alloc, payload)?;
-    match fits(&root, parts) {
-        Ok(()) => Ok(FITS),
-        Err(Misfit::At(step)) => Ok(i64::from(step)),
-        Err(Misfit::Extra) => Ok(EXTRA),
-    }
+    let forest = scan_forest(payload)?;
+    let fit = told(fits(&root, parts));
+    Ok(if told(forest.fits(parts)) == fit {
+        fit
+    } else {
+        DISPUTED
+    })
 }
 
 /// The first forest of which something else doesn't fit than what stands beside it; no letters where there is none.

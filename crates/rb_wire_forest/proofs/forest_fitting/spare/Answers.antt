@@ -1,0 +1,5 @@
+use Rattle.std.proofs.Common.{refl}
+use Rattle.rb_wire_forest.proofs.forest_fitting.spare.Goals as goal
+
+pub returns : goal.returns
+returns c es f = refl

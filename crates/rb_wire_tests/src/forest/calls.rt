@@ -1,0 +1,158 @@
+// Each call of a cursor, made at each place of walks.
+
+use crate::forest::digits::bytes_of;
+use crate::forest::forests::ALL_FORMS;
+use crate::forest::opened::{Answer, Call, Opened};
+use rb_trees::Node;
+use rb_wire_forest::{Cursor, Forest, Item, decode_forest, scan_forest};
+use std::alloc::{AllocError, Global};
+use std::test::Fail;
+
+/// Nodes and Rows within each other, behind each of which something is left: a branch, with Rows of two nodes, the first with
+/// a value and a branch; and faults with and without a text.
+const NESTED: &str =
+    "01 00000002 32 01 00000002 33 00000002 00000002 31 01 0000000000000007 32 00 00000001 31 02 01 00 00 00000000 01 00000003 00000004 08 00000001 61 31 02 00 01 00000005 00000006 0c 31 01 0000000000000009 00";
+
+/// Forests: a root without entries; values; Rows without a node, and a fault; branches; Rows within Rows; each form.
+static FORESTS: [&str; 8] = [
+    "01 00000000 00",
+    "01 00000000 01 00000009 0000000a 08 00000002 c3a9",
+    "01 00000003 31 01 8000000000000000 31 02 01 31 03 00000002 c3a9 00",
+    "01 00000001 33 00000000 01 00000002 0000003c 07",
+    "01 00000002 32 00 00000000 00 32 01 00000000 01 00000005 00000006 0b 00",
+    "01 00000001 33 00000001 00000001 33 00000001 00000001 31 02 01 00 00 00",
+    ALL_FORMS,
+    NESTED,
+];
+
+/// All calls.
+static CALLS: [Call; 7] = [
+    Call::Value,
+    Call::Branch,
+    Call::Rows,
+    Call::Turn,
+    Call::Fault,
+    Call::Leave,
+    Call::Close,
+];
+
+/// The calls by which a walk goes on.
+static STEPS: [Call; 5] = [
+    Call::Value,
+    Call::Branch,
+    Call::Rows,
+    Call::Turn,
+    Call::Leave,
+];
+
+/// More steps than any of the walks takes.
+const MOST_STEPS: u32 = 40;
+
+fn done(is_done: bool) -> Answer<'static> {
+    if is_done {
+        Answer::Done
+    } else {
+        Answer::Nothing
+    }
+}
+
+/// The answer of a cursor.
+fn ask<'a>(cursor: &mut Cursor<'a>, call: Call) -> Answer<'a> {
+    match call {
+        Call::Value => match cursor.value() {
+            Some(Item::Int(number)) => Answer::Int(number),
+            Some(Item::Bool(truth)) => Answer::Bool(truth),
+            Some(Item::Text(text)) => Answer::Text(text),
+            None => Answer::Nothing,
+        },
+        Call::Branch => match cursor.branch() {
+            Some(taken) => Answer::Taken(taken),
+            None => Answer::Nothing,
+        },
+        Call::Rows => match cursor.rows() {
+            Some(nodes) => Answer::Nodes(nodes as usize),
+            None => Answer::Nothing,
+        },
+        Call::Turn => done(cursor.turn()),
+        Call::Fault => match cursor.fault() {
+            Some(fault) => Answer::Fault(fault.step, fault.at, fault.code, fault.text),
+            None => Answer::Nothing,
+        },
+        Call::Leave => done(cursor.leave()),
+        Call::Close => done(cursor.close()),
+    }
+}
+
+/// Whether the calls, made one after the other, are answered alike.
+fn agree(
+    cursor: &mut Cursor<'_>,
+    opened: &mut Opened<'_>,
+    calls: &[Call],
+) -> Result<bool, AllocError> {
+    for call in calls {
+        if ask(cursor, *call) != opened.ask(*call)? {
+            return Ok(false);
+        }
+    }
+    Ok(true)
+}
+
+/// Whether a call is answered alike behind these steps, and so are the calls after it, to the end of the walk.
+fn agree_at(
+    alloc: Global,
+    forest: &Forest<'_>,
+    root: &Node,
+    steps: &[Call],
+    call: Call,
+) -> Result<bool, AllocError> {
+    let mut cursor = forest.cursor();
+    let mut opened = Opened::new(alloc, root)?;
+    if !agree(&mut cursor, &mut opened, steps)? || !agree(&mut cursor, &mut opened, &[call])? {
+        return Ok(false);
+    }
+    for _ in 0..MOST_STEPS {
+        if !agree(&mut cursor, &mut opened, &CALLS[..6])? {
+            return Ok(false);
+        }
+    }
+    Ok(true)
+}
+
+/// The step by which a walk goes on, which is taken; None at the walk's end.
+fn next_step(opened: &mut Opened<'_>) -> Result<Option<Call>, AllocError> {
+    for step in &STEPS {
+        if opened.ask(*step)? != Answer::Nothing {
+            return Ok(Some(*step));
+        }
+    }
+    Ok(None)
+}
+
+/// Whether each call is answered alike at each place of the walk of the forest of these digits.
+fn agree_everywhere(alloc: Global, digits: &str) -> Result<bool, Fail> {
+    let payload = bytes_of(alloc, digits)?;
+    let root = decode_forest(alloc, payload.as_slice())?;
+    let forest = scan_forest(payload.as_slice())?;
+    let mut guide = Opened::new(alloc, &root)?;
+    let mut steps = Vec::new(alloc);
+    for _ in 0..MOST_STEPS {
+        for call in &CALLS {
+            if !agree_at(alloc, &forest, &root, steps.as_slice(), *call)? {
+                return Ok(false);
+            }
+        }
+        match next_step(&mut guide)? {
+            Some(step) => steps.push(step)?,
+            None => return Ok(true),
+        }
+    }
+    Ok(false)
+}
+
+#[test]
+fn each_call_is_answered_as_the_tree_has_it(rt: HostRuntime) -> Result<(), Fail> {
+    for digits in &FORESTS {
+        assert!(rt; agree_everywhere(rt.alloc(), digits)?, "{digits}");
+    }
+    Ok(())
+}
