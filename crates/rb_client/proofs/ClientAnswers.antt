@@ -1,14 +1,12 @@
 -- The client's World answers as the surroundings of the definition do.
-use Rattle.std.proofs.Common.{◌≡◌, refl, sym, ap, ◌∙◌, subst, ℕ, ◌+◌, List, [], length, append-nil}
-use Rattle.std.specs.Prelude.{None, Some, OnOk, Result, Ok, Err}
-use Rattle.rb_trees.specs.declared.forests.Node as node
+use Rattle.std.proofs.Common.{◌≡◌, refl, sym, ap, ◌∙◌, subst, ℕ, List, [], length, append-nil}
+use Rattle.std.specs.Prelude.{None, Some, Result, Ok, Err}
 use Rattle.rb_trees.specs.declared.outcomes.Raised.{Raised}
 use Rattle.rb_trees.specs.declared.remainders.Split.{Split}
 use Rattle.rb_trees.specs.declared.values.Value.{Value}
 use Rattle.rb_trees.specs.declared.values.Value.TheVariants as value
 use Rattle.rb_trees.specs.mirror.Declarations.{mirror_program}
 use Rattle.rb_trees.specs.mirror.Forests.{Node}
-use Rattle.rb_trees.specs.mirror.Remainders.{mirror_parts}
 use Rattle.rb_meaning_bytes.specs.formats.ScriptPayloads.{taken}
 use Rattle.rb_meaning_code.specs.Dialogue as ask
 use Rattle.rb_meaning_code.specs.Dialogue.{Question, Outcome, Gave, Faulted}
@@ -21,6 +19,7 @@ use Rattle.rb_meaning_split.specs.Division.{division, mirror_split}
 use Rattle.rb_base.specs.Devices.{failed}
 use Rattle.rb_base.specs.Sinks.{with_bytes, WrotePrefix}
 use Rattle.rb_base.specs.declared.links.Link as links
+use Rattle.rb_base.specs.declared.links.Reply.{Reply}
 use Rattle.rb_base.specs.declared.sinks.Sink as sinks
 use Rattle.rb_base.proofs.Pieces.{both_whole}
 use Rattle.rb_engine.specs.Answers.{Answered, performed}
@@ -28,7 +27,7 @@ use Rattle.rb_engine.specs.declared.world.Halt.{Halt}
 use Rattle.rb_engine.specs.declared.world.Halt.TheVariants as halt
 use Rattle.rb_client.specs.Clients.{Fetched, Fetches, Origin, Past, PerformedAs, PerformsSplit, asked, client_answers, client_performs, first_scene, scene_of, waiting}
 use Rattle.rb_client.specs.Exchanges.{AreDivisions, CanBeSent}
-use Rattle.rb_client.specs.Replies.{Trades}
+use Rattle.rb_client.specs.Replies.{Replied}
 use Rattle.rb_client.specs.Requests.{IsRequest, to_send}
 use Rattle.rb_client.specs.Runs.{ExchangedAll}
 use Rattle.rb_client.specs.Scenes.{scene}
@@ -114,30 +113,22 @@ module _ {L W : Type 0} (gl : links.Ghosts L) (gw : sinks.Ghosts W) where
 
 -- Exchanges.
 
-fetches_of : {L W : Type 0} (gl : links.Ghosts L) (split : Split) (names : Names) (w w' : ClientWorld L W) (r : Result node.Node RunStop) → Fetched gl split names w r w' → Fetches gl split names w r w'
-fetches_of gl split names w w' (Ok n) f = f
-fetches_of gl split names w w' (Err (stops.LinkFault k)) f = f
-fetches_of gl split names w w' (Err (stops.BadReply k why number bytes)) f = f
-fetches_of gl split names w w' (Err stops.WriteFault) f = f
-fetches_of gl split names w w' (Err stops.Memory) f = tt
-
-pub fetch_so : {L W : Type 0} (gl : links.Ghosts L) (split : Split) (names : Names) (w w' : ClientWorld L W) (request slice : List ℕ) (t r : Result node.Node RunStop) → slice ≡ request → CanBeSent (mirror_split split).script → IsRequest split names request
-    → Trades gl (mirror_parts split.remainder) w.exchanges slice w.link.now t w'.link.now → w'.link.ghost_name ≡ w.link.ghost_name → w'.plan ≡ w.plan → w'.out ≡ w.out → r ≡ t → OnOk r (w'.exchanges ≡ w.exchanges + 1) → Fetches gl split names w r w'
-fetch_so gl split names w w' request slice t r same sent is trades link plan out ends count = fetches_of gl split names w w' r (record {
+pub fetch_so : {L W : Type 0} (gl : links.Ghosts L) (split : Split) (names : Names) (w w' : ClientWorld L W) (request slice : List ℕ) (r : Result Reply RunStop) → slice ≡ request → CanBeSent (mirror_split split).script → IsRequest split names request
+    → Replied gl w.exchanges slice w.link.now r w'.link.now → w'.link.ghost_name ≡ w.link.ghost_name → w'.plan ≡ w.plan → w'.out ≡ w.out → w'.exchanges ≡ w.exchanges → Fetches gl split names w r w'
+fetch_so gl split names w w' request slice r same sent is replied link plan out count = unless_memory r (record {
   request = request;
   request_so = is.spells;
   means = taken (to_send split names) is.spells sent.valid;
-  trades = subst (λ x. Trades gl (mirror_parts split.remainder) w.exchanges request w.link.now x w'.link.now) (sym ends) (subst (λ x. Trades gl (mirror_parts split.remainder) w.exchanges x w.link.now t w'.link.now) same trades);
+  replied = subst (λ x. Replied gl w.exchanges x w.link.now r w'.link.now) same replied;
   same_link = link;
   same_plan = plan;
   same_output = out;
-  counted = count;
+  same_count = count;
 })
-
-none_counted : (r : Result node.Node RunStop) (e : RunStop) (P : Type 0) → r ≡ Err e → OnOk r P
-none_counted (Ok n) e P is = absurd (cc is)
-none_counted (Err x) e P is = tt
-
-pub fetch_stops : {L W : Type 0} (gl : links.Ghosts L) (split : Split) (names : Names) (w w' : ClientWorld L W) (request slice : List ℕ) (t r : Result node.Node RunStop) (e : RunStop) → slice ≡ request → CanBeSent (mirror_split split).script → IsRequest split names request
-    → Trades gl (mirror_parts split.remainder) w.exchanges slice w.link.now t w'.link.now → w'.link.ghost_name ≡ w.link.ghost_name → w'.plan ≡ w.plan → w'.out ≡ w.out → t ≡ Err e → r ≡ Err e → Fetches gl split names w r w'
-fetch_stops gl split names w w' request slice t r e same sent is trades link plan out was ends = fetch_so gl split names w w' request slice t r same sent is trades link plan out (ends ∙ sym was) (none_counted r e _ ends)
+  where
+    unless_memory : (r : Result Reply RunStop) → Fetched gl split names w r w' → Fetches gl split names w r w'
+    unless_memory (Ok n) f = f
+    unless_memory (Err (stops.LinkFault k)) f = f
+    unless_memory (Err (stops.BadReply k why number bytes)) f = f
+    unless_memory (Err stops.WriteFault) f = f
+    unless_memory (Err stops.Memory) f = tt

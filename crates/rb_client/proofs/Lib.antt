@@ -4,7 +4,7 @@ pub mod Dropped
 pub mod Enclosed
 pub mod Events
 pub mod Fronts
-pub mod Lefts
+pub mod Missed
 pub mod Parted
 pub mod Replaying
 pub mod Told

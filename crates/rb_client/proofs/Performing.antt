@@ -1,19 +1,18 @@
 -- A batch is performed as the definition performs it, where its division was found.
-use Rattle.std.proofs.Common.{◌≡◌, refl, sym, ap, ◌∙◌, subst, ℕ, suc, arith, List, [], ◌∷◌, ◌++◌, map, length, length-append, append_assoc}
-use Rattle.std.specs.Prelude.{Option, None, Some, Result, Ok, Err}
+use Rattle.std.proofs.Common.{◌≡◌, refl, sym, ap, ◌∙◌, subst, ℕ, suc, ◌+◌, arith, List, [], ◌∷◌, ◌++◌, map, length, length-append, append_assoc}
+use Rattle.std.specs.Prelude.{Option, None, Some, OnOk, Result, Ok, Err}
 use Rattle.rb_trees.specs.declared.declarations.Class as class
-use Rattle.rb_trees.specs.declared.forests.Node as node
 use Rattle.rb_trees.specs.declared.outcomes.Raised.{Raised}
 use Rattle.rb_trees.specs.declared.remainders.Split.{Split}
 use Rattle.rb_trees.specs.mirror.Declarations.{Program, mirror_class, mirror_program}
-use Rattle.rb_trees.specs.mirror.Forests.{Node, mirror_node}
+use Rattle.rb_trees.specs.mirror.Forests.{Node}
 use Rattle.rb_trees.specs.mirror.Remainders.{mirror_parts}
 use Rattle.rb_meaning_bytes.specs.Fits.{fits}
 use Rattle.rb_meaning_bytes.specs.formats.Formats.{Spells}
 use Rattle.rb_meaning_bytes.specs.formats.ScriptPayloads.{Means}
 use Rattle.rb_meaning_bytes.specs.formats.Scripts.{script_message}
 use Rattle.rb_meaning_code.specs.Dialogue.{Outcome, Gave, Faulted}
-use Rattle.rb_meaning_code.specs.State.{Local}
+use Rattle.rb_meaning_code.specs.State.{Local, Names}
 use Rattle.rb_meaning.specs.Answers.{forest_kind}
 use Rattle.rb_meaning.specs.Links.{Pair}
 use Rattle.rb_meaning.specs.Shown.{shown_events}
@@ -28,15 +27,18 @@ use Rattle.rb_base.specs.Counts.{risen}
 use Rattle.rb_base.specs.Devices.{failed}
 use Rattle.rb_base.specs.Sinks.{with_bytes, WrotePrefix}
 use Rattle.rb_base.specs.declared.links.Link as links
+use Rattle.rb_base.specs.declared.links.Reply.{Reply}
 use Rattle.rb_base.specs.declared.sinks.Sink as sinks
 use Rattle.rb_base.proofs.Pieces.{bytes_none}
 use Rattle.rb_engine.specs.Answers.{Answered, performed}
 use Rattle.rb_engine.specs.declared.world.Halt.{Halt}
+use Rattle.rb_wire_forest.specs.Opened.{root_of}
+use Rattle.rb_wire_forest.specs.declared.forest.Forest.{Forest}
 use Rattle.rb_client.specs.Clients.{Fetched, Fetches, HasDone, HoldsBoth, Origin, Past, PerformedAs, PerformsSplit, SeesClient, first_scene, performed_past, scene_of, waiting}
 use Rattle.rb_client.specs.Ends.{halted, stepped}
 use Rattle.rb_client.specs.Exchanges.{Exchanged, Exchanges, IsExchange}
 use Rattle.rb_client.specs.Replays.{EndsSo, Replays, outside, remainder_meant}
-use Rattle.rb_client.specs.Replies.{HasReason, more_pairs, pair_of, pairs_of, refused_pairs}
+use Rattle.rb_client.specs.Replies.{HasReason, Takes, more_pairs, pair_of, pairs_of, refused_pairs}
 use Rattle.rb_client.specs.Requests.{to_send}
 use Rattle.rb_client.specs.Runs.{ExchangedAll, FailsInBatch}
 use Rattle.rb_client.specs.Scenes.{Scene, scene}
@@ -51,6 +53,7 @@ use Rattle.rb_client.proofs.Events.{shown_append, shown_batch}
 use Rattle.rb_client.proofs.Fronts.{beyond_whole}
 use Rattle.rb_client.proofs.Serving.{counts_more, none_failed, performed_more}
 use Rattle.rb_client.proofs.Showing.{batch_more}
+use Rattle.rb_client.proofs.Traded.{Trades, traded, unread, untraded}
 
 -- one exchange more
 exchanges_more : (p : Program) (pairs : List Pair) (sent : List Sent) (nodes : List Node) (pair : Pair) (x : Sent) (n : Node) → Exchanges p pairs sent nodes → IsExchange p pair x n → Exchanges p (pairs ++ pair ∷ []) (sent ++ x ∷ []) (nodes ++ n ∷ [])
@@ -79,6 +82,62 @@ exchanged_more p before mid after sent nodes pair x n e is i = record {
 sent_so : (split : Split) (d : Division) (l : Local) → mirror_split split ≡ d → to_send split l.names ≡ sent_for d l
 sent_so split d l is = ap (λ x. (x.script, input_values x.inputs l.names)) is
 
+-- The exchange of a batch and the reading of its reply: all else stands, but for the count of exchanges.
+pub record Tried {L W : Type 0} (gl : links.Ghosts L) (split : Split) (names : Names) (w : ClientWorld L W) (result : Result Node RunStop) (w' : ClientWorld L W) : Type 0 where
+  pub request : List ℕ
+  pub request_so : Spells script_message request (to_send split names)
+  pub means : Means request (Ok (to_send split names))
+  pub trades : Trades gl (mirror_split split).remainder w.exchanges request w.link.now result w'.link.now
+  pub same_link : w'.link.ghost_name ≡ w.link.ghost_name
+  pub same_plan : w'.plan ≡ w.plan
+  pub same_output : w'.out ≡ w.out
+  pub counted : OnOk result (w'.exchanges ≡ w.exchanges + 1)
+
+-- they gave no node, unless memory ran out
+abbrev pub InVain : {L W : Type 0} → links.Ghosts L → Split → Names → ClientWorld L W → RunStop → ClientWorld L W → Type 0
+InVain gl split names w stops.Memory w' = Unit {0}
+InVain gl split names w stop w' = Tried gl split names w (Err stop) w'
+
+module _ {L W : Type 0} (gl : links.Ghosts L) (split : Split) (names : Names) (w w1 w2 : ClientWorld L W) where
+  tried_so : (q : Result Reply RunStop) (r : Result Node RunStop) (f : Fetched gl split names w q w1) → w2.link ≡ w1.link → w2.plan ≡ w1.plan → w2.out ≡ w1.out → OnOk r (w2.exchanges ≡ w.exchanges + 1)
+      → Trades gl (mirror_split split).remainder w.exchanges f.request w.link.now r w1.link.now → Tried gl split names w r w2
+  tried_so q r f link plan out count t = record {
+    request = f.request;
+    request_so = f.request_so;
+    means = f.means;
+    trades = subst (λ x. Trades gl (mirror_split split).remainder w.exchanges f.request w.link.now r x.now) (sym link) t;
+    same_link = ap (λ x. x.ghost_name) link ∙ f.same_link;
+    same_plan = plan ∙ f.same_plan;
+    same_output = out ∙ f.same_output;
+    counted = count;
+  }
+
+  -- the forest of the reply was read
+  pub read_so : (reply : Reply) (forest : Forest) (done next : ℕ) (f : Fetched gl split names w (Ok reply) w1) → done ≡ w.exchanges → Takes (mirror_split split).remainder done reply.kind reply.payload.items (Ok forest)
+      → w2.link ≡ w1.link → w2.plan ≡ w1.plan → w2.out ≡ w1.out → w2.exchanges ≡ next → next ≡ done + 1 → Tried gl split names w (Ok (root_of forest)) w2
+  read_so reply forest done next f is h link plan out count more =
+      tried_so (Ok reply) (Ok (root_of forest)) f link plan out (omega (arith, is, count, more))
+      (traded gl (mirror_split split).remainder w.exchanges f.request w.link.now w1.link.now reply f.replied forest h)
+
+module _ {L W : Type 0} (gl : links.Ghosts L) (split : Split) (names : Names) (w w1 : ClientWorld L W) where
+  -- there was no whole reply
+  pub unanswered : (stop : RunStop) → Fetches gl split names w (Err stop) w1 → InVain gl split names w stop w1
+  unanswered (stops.LinkFault k) f = tried_so gl split names w w1 w1 (Err (stops.LinkFault k)) (Err (stops.LinkFault k)) f refl refl refl tt f.replied
+  unanswered (stops.BadReply k why kind bytes) f =
+      tried_so gl split names w w1 w1 (Err (stops.BadReply k why kind bytes)) (Err (stops.BadReply k why kind bytes)) f refl refl refl tt
+      (untraded gl (mirror_split split).remainder w.exchanges f.request w.link.now w1.link.now (stops.BadReply k why kind bytes) f.replied)
+  unanswered stops.WriteFault f = absurd f.replied
+  unanswered stops.Memory f = tt
+
+  -- the reply was refused
+  pub refused_so : (reply : Reply) (stop : RunStop) → Fetched gl split names w (Ok reply) w1 → Takes (mirror_split split).remainder w.exchanges reply.kind reply.payload.items (Err stop) → InVain gl split names w stop w1
+  refused_so reply (stops.LinkFault k) f h = absurd h
+  refused_so reply (stops.BadReply k why kind bytes) f h =
+      tried_so gl split names w w1 w1 (Ok reply) (Err (stops.BadReply k why kind bytes)) f refl refl refl tt
+      (unread gl (mirror_split split).remainder w.exchanges f.request w.link.now w1.link.now reply f.replied (stops.BadReply k why kind bytes) h)
+  refused_so reply stops.WriteFault f h = absurd h
+  refused_so reply stops.Memory f h = tt
+
 -- the World after the exchange, and after the remainder
 pub record After {L W : Type 0} (w1 w2 : ClientWorld L W) (out : W) : Type 0 where
   pub same_plan : w2.plan ≡ w1.plan
@@ -87,8 +146,8 @@ pub record After {L W : Type 0} (w1 w2 : ClientWorld L W) (out : W) : Type 0 whe
   pub now : w2.out.now ≡ out
   pub exchanges_so : w2.exchanges ≡ w1.exchanges
 
-module _ {L W : Type 0} (gl : links.Ghosts L) (gw : sinks.Ghosts W) (split : Split) (at : ℕ) (classes : List class.Class) (w w1 w2 : ClientWorld L W) (out : W) (n : node.Node) (l l1 : Local)
-    (own : classes ≡ w.plan.now.program.classes) (fetched : Fetched gl split l.names w (Ok n) w1) (after : After w1 w2 out) where
+module _ {L W : Type 0} (gl : links.Ghosts L) (gw : sinks.Ghosts W) (split : Split) (at : ℕ) (classes : List class.Class) (w w1 w2 : ClientWorld L W) (out : W) (n : Node) (l l1 : Local)
+    (own : classes ≡ w.plan.now.program.classes) (fetched : Tried gl split l.names w (Ok n) w1) (after : After w1 w2 out) where
   module _ (o : Origin L W) (h : Past) (b : Outermost) (sees : SeesClient gl gw o w h) (stands : batch_at o.program at ≡ Some b) (is : mirror_split split ≡ division o.program b) where
     abbrev d : Division
     d = division o.program b
@@ -97,15 +156,15 @@ module _ {L W : Type 0} (gl : links.Ghosts L) (gw : sinks.Ghosts W) (split : Spl
     begun = h.events ++ state.Batch ∷ []
 
     abbrev meant : Replayed
-    meant = replays o.program d l begun (mirror_node n)
+    meant = replays o.program d l begun n
 
     abbrev past : Past
-    past = performed_past o.program d l h (mirror_node n)
+    past = performed_past o.program d l h n
 
-    meant_so : remainder_meant classes split.remainder (mirror_node n) l.fuel l begun ≡ meant
+    meant_so : remainder_meant classes split.remainder n l.fuel l begun ≡ meant
     meant_so =
-        ap (λ cs. outside (length l.names) (replay_all cs l.fuel (mirror_parts split.remainder) l (record { events = begun; node = mirror_node n }) ended)) (ap (map mirror_class) own ∙ ap (λ x. x.classes) sees.program_so)
-        ∙ ap (λ ps. outside (length l.names) (replay_all o.program.classes l.fuel ps l (record { events = begun; node = mirror_node n }) ended)) (ap (λ x. x.remainder) is)
+        ap (λ cs. outside (length l.names) (replay_all cs l.fuel (mirror_parts split.remainder) l (record { events = begun; node = n }) ended)) (ap (map mirror_class) own ∙ ap (λ x. x.classes) sees.program_so)
+        ∙ ap (λ ps. outside (length l.names) (replay_all o.program.classes l.fuel ps l (record { events = begun; node = n }) ended)) (ap (λ x. x.remainder) is)
 
     abbrev first : Scene
     first = first_scene gl gw o
@@ -117,7 +176,7 @@ module _ {L W : Type 0} (gl : links.Ghosts L) (gw : sinks.Ghosts W) (split : Spl
     written_so : output gw w1.out.now ≡ with_bytes first.out (shown_events begun)
     written_so = ap (λ x. output gw x.now) fetched.same_output ∙ sees.done.written ∙ ap (with_bytes first.out) (sym (shown_batch h.events))
 
-    exchange_so : IsExchange o.program (pair_of fetched.request forest_kind fetched.trades.reply) (sent_for d l) (mirror_node n)
+    exchange_so : IsExchange o.program (pair_of fetched.request forest_kind fetched.trades.reply) (sent_for d l) n
     exchange_so = record {
       at = at;
       batch = b;
@@ -126,17 +185,17 @@ module _ {L W : Type 0} (gl : links.Ghosts L) (gw : sinks.Ghosts W) (split : Spl
       request = subst (Spells script_message fetched.request) (sent_so split d l is) fetched.request_so;
       kind = refl;
       reply = fetched.trades.forest.spells;
-      fits_so = subst (λ x. fits (mirror_node n) x.remainder ≡ Ok tt) is fetched.trades.forest.fits_so;
+      fits_so = subst (λ x. fits n x.remainder ≡ Ok tt) is fetched.trades.forest.fits_so;
     }
 
     exchanged_so : ExchangedAll o.program first last past.sent past.nodes
     exchanged_so = record {
-      exchanged = exchanged_more o.program first.pairs (pairs_of gl w.link.now) last.pairs h.sent h.nodes (pair_of fetched.request forest_kind fetched.trades.reply) (sent_for d l) (mirror_node n)
+      exchanged = exchanged_more o.program first.pairs (pairs_of gl w.link.now) last.pairs h.sent h.nodes (pair_of fetched.request forest_kind fetched.trades.reply) (sent_for d l) n
           sees.done.exchanged.exchanged fetched.trades.pairs_so exchange_so;
       lends_so = fetched.trades.lends_so ∙ sees.done.exchanged.lends_so;
       stays = λ honest. fetched.trades.stays (sees.done.exchanged.stays honest);
       served = λ honest.
-          performed_more h.sent h.nodes (sent_for d l) (mirror_node n) first.server (server_of gl w.link.now) last.server (sees.done.exchanged.served honest)
+          performed_more h.sent h.nodes (sent_for d l) n first.server (server_of gl w.link.now) last.server (sees.done.exchanged.served honest)
           (fetched.trades.served (sees.done.exchanged.stays honest) (sent_for d l) (subst (λ x. Means fetched.request (Ok x)) (sent_so split d l is) fetched.means));
     }
 
@@ -177,15 +236,15 @@ module _ {L W : Type 0} (gl : links.Ghosts L) (gw : sinks.Ghosts W) (split : Spl
         }
 
     gave : (e : Outcome (Unit {0})) → (meant.outcome ≡ e) × (output gw out ≡ with_bytes first.out (shown_events meant.events)) → PerformedAs gl gw o h (Some b) at l (Ok e) w2
-    gave e (same, wrote) = (mirror_node n ∷ [], past, sees_after wrote, refl, λ more. ap (λ x. (x, waiting past more)) same)
+    gave e (same, wrote) = (n ∷ [], past, sees_after wrote, refl, λ more. ap (λ x. (x, waiting past more)) same)
 
     -- A write failed in what was replayed: all that was shown before the batch stands.
     failed_so : WrotePrefix (failed first.out) (output gw out) (shown_events meant.events) → (shown : List ℕ) → WrotePrefix (failed (output gw w1.out.now)) (output gw out) shown → FailsInBatch o.program first last d l (waiting h []) h.nodes
     failed_so front shown kept =
-        let m = batch_more o.program d l h.events (mirror_node n) in
+        let m = batch_more o.program d l h.events n in
         let shows : shown_events meant.events ≡ shown_events h.events ++ shown_events m.0 = ap shown_events m.1 ∙ shown_append h.events m.0 in
         record {
-          node = mirror_node n;
+          node = n;
           own = m.0;
           own_so = m.1;
           fails = record {
@@ -211,7 +270,7 @@ module _ {L W : Type 0} (gl : links.Ghosts L) (gw : sinks.Ghosts W) (split : Spl
   each (Err early.WriteFault) f = f
   each (Err early.Memory) f = tt
 
-  pub performs_so : (r : Result (Unit {0}) Early) (q : Result (Result (Unit {0}) Raised) (Halt RunStop)) → q ≡ stepped r → Replays gw (remainder_meant classes split.remainder (mirror_node n)) l w1.out.now r l1 out
+  pub performs_so : (r : Result (Unit {0}) Early) (q : Result (Result (Unit {0}) Raised) (Halt RunStop)) → q ≡ stepped r → Replays gw (remainder_meant classes split.remainder n) l w1.out.now r l1 out
       → Answered (performed l1 q) (λ e. PerformsSplit gl gw split at w l e w2)
   performs_so r q same replayed =
       subst (λ x. Answered (performed l1 x) (λ e. PerformsSplit gl gw split at w l e w2)) (sym same)
@@ -219,12 +278,12 @@ module _ {L W : Type 0} (gl : links.Ghosts L) (gw : sinks.Ghosts W) (split : Spl
       by_end o h b sees stands is r
       (subst (λ x. EndsSo gw (first_scene gl gw o).out x r l1 out) (meant_so o h b sees stands is)
       (replayed.ends l.fuel (omega arith) (first_scene gl gw o).out (begun o h b sees stands is) (written_so o h b sees stands is)))
-      (remainder_meant classes split.remainder (mirror_node n) l.fuel l []) (replayed.ends l.fuel (omega arith) (output gw w1.out.now) [] (sym (bytes_none (output gw w1.out.now))))))
+      (remainder_meant classes split.remainder n l.fuel l []) (replayed.ends l.fuel (omega arith) (output gw w1.out.now) [] (sym (bytes_none (output gw w1.out.now))))))
 
 -- the exchange gave no node
-pub stops_so : {L W : Type 0} (gl : links.Ghosts L) (gw : sinks.Ghosts W) (split : Split) (at : ℕ) (w w1 : ClientWorld L W) (l : Local) (r : Result node.Node RunStop) (stop : RunStop) (x : Halt RunStop) → r ≡ Err stop → x ≡ halted stop → Fetches gl split l.names w r w1
+pub stops_so : {L W : Type 0} (gl : links.Ghosts L) (gw : sinks.Ghosts W) (split : Split) (at : ℕ) (w w1 : ClientWorld L W) (l : Local) (stop : RunStop) (x : Halt RunStop) → x ≡ halted stop → InVain gl split l.names w stop w1
     → Answered (performed {X = RunStop} l (Err x)) (λ e. PerformsSplit gl gw split at w l e w1)
-stops_so {L = L} {W = W} gl gw split at w w1 l r stop x is same h = subst (λ y. Answered (performed {X = RunStop} l (Err y)) (λ e. PerformsSplit gl gw split at w l e w1)) (sym same) (by_stop stop (subst (λ y. Fetches gl split l.names w y w1) is h))
+stops_so {L = L} {W = W} gl gw split at w w1 l stop x same h = subst (λ y. Answered (performed {X = RunStop} l (Err y)) (λ e. PerformsSplit gl gw split at w l e w1)) (sym same) (by_stop stop h)
   where
     meant : (request : List ℕ) (d : Division) → mirror_split split ≡ d → Means request (Ok (to_send split l.names)) → Means request (Ok (sent_for d l))
     meant request d e m = subst (λ x. Means request (Ok x)) (sent_so split d l e) m
@@ -232,7 +291,7 @@ stops_so {L = L} {W = W} gl gw split at w w1 l r stop x is same h = subst (λ y.
     held : (o : Origin L W) (h : Past) → SeesClient gl gw o w h → w1.out ≡ w.out → w1.link.ghost_name ≡ w.link.ghost_name → HoldsBoth o w1
     held o h sees output link = record { same_output = ap (λ y. y.ghost_name) output ∙ sees.holds.same_output; same_link = link ∙ sees.holds.same_link }
 
-    by_stop : (stop : RunStop) → Fetches gl split l.names w (Err stop) w1 → Answered (performed {X = RunStop} l (Err (halted stop))) (λ e. PerformsSplit gl gw split at w l e w1)
+    by_stop : (stop : RunStop) → InVain gl split l.names w stop w1 → Answered (performed {X = RunStop} l (Err (halted stop))) (λ e. PerformsSplit gl gw split at w l e w1)
     by_stop (stops.LinkFault k) f = λ o h b sees stands is. (
       held o h sees f.same_output f.same_link,
       record {

@@ -2,9 +2,8 @@
 use Rattle.std.proofs.Common.{◌≡◌, inl, inr, refl, sym, ap, ◌∙◌, subst, arith, ℕ, List, [], ◌∷◌, append-nil}
 use Rattle.std.specs.Prelude.{true, false, Option, None, Some, Result, Ok, Err}
 use Rattle.rb_trees.specs.Outcome.{Refuses}
-use Rattle.rb_trees.specs.declared.forests.Node as node
 use Rattle.rb_trees.specs.declared.services.Object.{Object}
-use Rattle.rb_trees.specs.mirror.Forests.{Node, mirror_node}
+use Rattle.rb_trees.specs.mirror.Forests.{Node}
 use Rattle.rb_trees.specs.mirror.Remainders.{Parts}
 use Rattle.rb_trees.specs.mirror.Services.{Service}
 use Rattle.rb_meaning_bytes.specs.Fits.{Unfit, At, Extra, fits}
@@ -17,19 +16,20 @@ use Rattle.rb_meaning.specs.Answers.{Answers, forest_kind, performs, refusal_kin
 use Rattle.rb_meaning.specs.Links.{Behind, Pair}
 use Rattle.rb_meaning_split.specs.Client.{Sent}
 use Rattle.rb_law_client.specs.Clients.{sent_run}
-use Rattle.rb_base.specs.Links.{IsListedWhereTold, KeepsCause, ServesAsTold, faults_after, pairs_after}
+use Rattle.rb_base.specs.Links.{IsListedWhereTold, IsReplyKind, KeepsCause, ServesAsTold, faults_after, pairs_after}
 use Rattle.rb_base.specs.declared.links.Link as links
 use Rattle.rb_base.specs.declared.links.LinkStop.{LinkStop}
 use Rattle.rb_base.specs.declared.links.LinkStop.TheVariants as link_stops
 use Rattle.rb_base.specs.declared.links.Reply.{Reply}
 use Rattle.rb_wire_forest.specs.Misfits.{unfit}
+use Rattle.rb_wire_forest.specs.Opened.{root_of}
 use Rattle.rb_wire_forest.specs.Payloads.{Means, Violation, spelled, violated}
+use Rattle.rb_wire_forest.specs.declared.forest.Forest.{Forest}
 use Rattle.rb_wire_forest.specs.declared.fitting.Misfit.{Misfit}
 use Rattle.rb_wire_forest.specs.declared.fitting.Misfit.TheVariants as amiss
-use Rattle.rb_client.specs.Replies.{GivesNoNode, HasReason, IsAlone, IsForest, IsMisfit, Reads, Takes, Trades, more_pairs, pair_of, pairs_of, refused_pairs}
+use Rattle.rb_client.specs.Replies.{GivesNoNode, GotBad, GotFault, GotReply, HasReason, IsAlone, IsForest, IsMisfit, Reads, Replied, Takes, more_pairs, pair_of, pairs_of, refused_pairs}
 use Rattle.rb_client.specs.Servers.{PerformedAll}
-use Rattle.rb_client.specs.Serving.{CountsOne, GivesMisfit, MayPerform, server_of}
-use Rattle.rb_client.specs.declared.replies.Unread.TheVariants as unread
+use Rattle.rb_client.specs.Serving.{CountsOne, GivesMisfit, GivesReply, MayPerform, server_of}
 use Rattle.rb_client.specs.declared.stops.BadReason.{BadReason}
 use Rattle.rb_client.specs.declared.stops.BadReason.TheVariants as reason
 use Rattle.rb_client.specs.declared.stops.RunStop.{RunStop}
@@ -81,7 +81,7 @@ pub refusal_no_node : (remainder : Parts) (payload : List ℕ) → GivesNoNode r
 refusal_no_node remainder payload n f = let e = f.kind_so in absurd (omega (arith, e))
 
 -- why a whole reply is refused
-why_so : (why : BadReason) (remainder : Parts) (kind : ℕ) (payload : List ℕ) → Reads remainder kind payload (Err (unread.Reason why)) → HasReason why remainder kind payload × GivesNoNode remainder kind payload
+why_so : (why : BadReason) (remainder : Parts) (kind : ℕ) (payload : List ℕ) → Reads remainder kind payload (Err why) → HasReason why remainder kind payload × GivesNoNode remainder kind payload
 why_so (reason.Cut got) remainder kind payload h = absurd h
 why_so (reason.Frame at) remainder kind payload h = absurd h
 why_so (reason.Forest number at) remainder kind payload h = h
@@ -89,7 +89,7 @@ why_so (reason.Misfit m) remainder kind payload h = h
 why_so (reason.Refused number at) remainder kind payload h = h
 why_so reason.Garbled remainder kind payload h = h
 
-one_refused : (why : BadReason) (remainder : Parts) (kind : ℕ) (payload : List ℕ) (pair : Pair) → Reads remainder kind payload (Err (unread.Reason why)) → refused_pairs why pair ≡ pair ∷ []
+one_refused : (why : BadReason) (remainder : Parts) (kind : ℕ) (payload : List ℕ) (pair : Pair) → Reads remainder kind payload (Err why) → refused_pairs why pair ≡ pair ∷ []
 one_refused (reason.Cut got) remainder kind payload pair h = absurd h
 one_refused (reason.Frame at) remainder kind payload pair h = absurd h
 one_refused (reason.Forest number at) remainder kind payload pair h = refl
@@ -157,25 +157,18 @@ no_cut request got bytes (Some a) None h = h
 no_cut request got bytes None b h = h
 
 module _ (once : MeansOne) (request : List ℕ) (bytes : IsBytes request) (x : Sent) (means : script.Means request (Ok x)) where
-  served_so : (reply : Reply) (n : Node) (a b : Option Behind) → IsAlone reply.payload.items n → CountsOne false a b → ServesAsTold request (Ok reply) a b → PerformedAll a b (x ∷ []) (n ∷ [])
-  served_so reply n (Some a) (Some b) is one h =
+  given_so : (reply : Reply) (a b : Option Behind) → CountsOne false a b → ServesAsTold request (Ok reply) a b → GivesReply a b x reply.kind reply.payload.items
+  given_so reply (Some a) (Some b) one h =
       let g = gave once a.service a.table request reply.kind reply.payload.items b.table bytes h x means in
-      (one.1.service, (is (sent_run a.service a.table x).node g.spells, sym g.leaves))
-  served_so reply n (Some a) None is one h = absurd h
-  served_so reply n None b is one h = absurd h
+      (one.1.service, g.leaves, g.kind_is, g.spells)
+  given_so reply (Some a) None one h = absurd h
+  given_so reply None b one h = absurd h
 
   lost_so : (a b : Option Behind) → CountsOne true a b → ServesAsTold request (Err link_stops.Failed) a b → MayPerform a b x
   lost_so (Some a) (Some b) one (inl same) = (one.1.service, inl same)
   lost_so (Some a) (Some b) one (inr (kind, reply, answers)) = (one.1.service, inr (gave once a.service a.table request kind reply b.table bytes answers x means).leaves)
   lost_so (Some a) None one h = absurd h
   lost_so None b one h = absurd h
-
-  misfit_given : (reply : Reply) (remainder : Parts) (a b : Option Behind) → GivesNoNode remainder reply.kind reply.payload.items → ServesAsTold request (Ok reply) a b → GivesMisfit a x remainder
-  misfit_given reply remainder (Some a) (Some b) none h = λ e.
-      let g = gave once a.service a.table request reply.kind reply.payload.items b.table bytes h x means in
-      none (sent_run a.service a.table x).node (record { kind_so = g.kind_is; spells = g.spells; fits_so = e })
-  misfit_given reply remainder (Some a) None none h = absurd h
-  misfit_given reply remainder None b none h = absurd h
 
 -- What an exchange gives.
 
@@ -186,55 +179,38 @@ stopped done (link_stops.Frame at taken) = stops.BadReply done (reason.Frame at)
 stopped done (link_stops.Cut got taken) = stops.BadReply done (reason.Cut got) 0 taken
 stopped done link_stops.Memory = stops.Memory
 
-module _ {L : Type 0} (g : links.Ghosts L) (once : MeansOne) (remainder : Parts) (done : ℕ) (request : List ℕ) (bytes : IsBytes request) (before after : L) where
+module _ {L : Type 0} (g : links.Ghosts L) (once : MeansOne) (done : ℕ) (request : List ℕ) (bytes : IsBytes request) (before after : L) where
   abbrev Serves : Result Reply LinkStop → Type 0
   Serves answer = g.honest before → ServesAsTold request answer (server_of g before) (server_of g after)
 
-  -- a whole reply was read
-  pub traded : (reply : Reply) (r : Result node.Node RunStop) → pairs_of g after ≡ more_pairs (pair_of request reply.kind reply.payload.items ∷ []) (pairs_of g before) → g.faults after ≡ g.faults before → g.lends after ≡ g.lends before
-      → IsListedWhereTold (Ok reply) (server_of g before) (server_of g after) → Serves (Ok reply) → (g.honest before → g.honest after) → Takes remainder done reply.kind reply.payload.items r → Trades g remainder done request before r after
-  traded reply (Ok n) pairs faults lends listed serves stays h =
+  -- a whole reply came
+  pub replied : (reply : Reply) → IsReplyKind reply.kind → pairs_of g after ≡ more_pairs (pair_of request reply.kind reply.payload.items ∷ []) (pairs_of g before) → g.faults after ≡ g.faults before → g.lends after ≡ g.lends before
+      → IsListedWhereTold (Ok reply) (server_of g before) (server_of g after) → Serves (Ok reply) → (g.honest before → g.honest after) → Replied g done request before (Ok reply) after
+  replied reply kind pairs faults lends listed serves stays =
       let one = counts_one reply (server_of g before) (server_of g after) listed in
       record {
-        reply = reply.payload.items;
-        forest = record { kind_so = refl; spells = h.0.spells; fits_so = h.0.fits_so };
-        pairs_so = pairs ∙ ap (λ k. more_pairs (pair_of request k reply.payload.items ∷ []) (pairs_of g before)) h.0.kind_so;
+        kind_so = kind;
+        pairs_so = pairs;
         faults_so = faults;
         lends_so = lends;
         counts = one;
         stays = stays;
-        served = λ honest x means. served_so once request bytes x means reply (mirror_node n) (server_of g before) (server_of g after) h.1 one (serves honest);
+        served = λ honest x means. given_so once request bytes x means reply (server_of g before) (server_of g after) one (serves honest);
       }
-  traded reply (Err (stops.LinkFault k)) pairs faults lends listed serves stays h = absurd h
-  traded reply (Err (stops.BadReply k why kept payload)) pairs faults lends listed serves stays h =
-      let w = why_so why remainder reply.kind reply.payload.items h.3 in (
-        h.0,
-        record {
-          reason_so = subst (λ z. HasReason why remainder z payload) (sym h.1) (subst (HasReason why remainder reply.kind) (sym h.2) w.0);
-          pairs_so = pairs ∙ ap (λ z. more_pairs z (pairs_of g before)) (sym (one_refused why remainder reply.kind reply.payload.items (pair_of request reply.kind reply.payload.items) h.3))
-              ∙ ap (λ z. more_pairs (refused_pairs why (pair_of request z reply.payload.items)) (pairs_of g before)) (sym h.1) ∙ ap (λ z. more_pairs (refused_pairs why (pair_of request kept z)) (pairs_of g before)) (sym h.2);
-          faults_so = faults;
-          lends_so = lends;
-          counts = counts_one reply (server_of g before) (server_of g after) listed;
-          misfit = λ honest x means. misfit_given once request bytes x means reply remainder (server_of g before) (server_of g after) w.1 (serves honest);
-        },
-      )
-  traded reply (Err stops.WriteFault) pairs faults lends listed serves stays h = absurd h
-  traded reply (Err stops.Memory) pairs faults lends listed serves stays h = tt
 
   no_pairs : (told : Option (List Pair)) → told ≡ more_pairs [] told
   no_pairs None = refl
   no_pairs (Some pairs) = ap Some (sym (append-nil pairs))
 
   -- there was no whole reply
-  pub untraded : (stop : LinkStop) → KeepsCause stop → pairs_of g after ≡ pairs_after request (Err stop) (pairs_of g before) → g.faults after ≡ faults_after (Err stop) (g.faults before) → g.lends after ≡ g.lends before → IsListedWhereTold (Err stop) (server_of g before) (server_of g after)
-      → Serves (Err stop) → Trades g remainder done request before (Err (stopped done stop)) after
-  untraded link_stops.Failed cause pairs faults lends listed serves =
+  pub unreplied : (stop : LinkStop) → KeepsCause stop → pairs_of g after ≡ pairs_after request (Err stop) (pairs_of g before) → g.faults after ≡ faults_after (Err stop) (g.faults before) → g.lends after ≡ g.lends before → IsListedWhereTold (Err stop) (server_of g before) (server_of g after)
+      → Serves (Err stop) → Replied g done request before (Err (stopped done stop)) after
+  unreplied link_stops.Failed cause pairs faults lends listed serves =
       let one = counts_failed (server_of g before) (server_of g after) listed in
       (refl, record { pairs_so = pairs; faults_so = faults; lends_so = lends; counts = one; lost = λ honest x means. lost_so once request bytes x means (server_of g before) (server_of g after) one (serves honest) })
-  untraded (link_stops.Frame at taken) cause pairs faults lends listed serves = (
+  unreplied (link_stops.Frame at taken) cause pairs faults lends listed serves = (
     refl,
-    record {
+    λ remainder. record {
       reason_so = (refl, cause);
       pairs_so = pairs ∙ no_pairs (pairs_of g before);
       faults_so = faults;
@@ -243,9 +219,9 @@ module _ {L : Type 0} (g : links.Ghosts L) (once : MeansOne) (remainder : Parts)
       misfit = λ honest x means. absurd (no_frame request at taken (server_of g before) (server_of g after) (serves honest));
     },
   )
-  untraded (link_stops.Cut got taken) cause pairs faults lends listed serves = (
+  unreplied (link_stops.Cut got taken) cause pairs faults lends listed serves = (
     refl,
-    record {
+    λ remainder. record {
       reason_so = (refl, cause.0, cause.1);
       pairs_so = pairs ∙ no_pairs (pairs_of g before);
       faults_so = faults;
@@ -254,4 +230,77 @@ module _ {L : Type 0} (g : links.Ghosts L) (once : MeansOne) (remainder : Parts)
       misfit = λ honest x means. absurd (no_cut request got taken (server_of g before) (server_of g after) (serves honest));
     },
   )
-  untraded link_stops.Memory cause pairs faults lends listed serves = tt
+  unreplied link_stops.Memory cause pairs faults lends listed serves = tt
+
+-- What a reply that was read gives.
+
+-- A node was replied, in a pair more. Whether the link lends a table is kept. Over an honest link the server gave it, by the
+-- script that the request means.
+pub record GotNode {L : Type 0} (g : links.Ghosts L) (remainder : Parts) (request : List ℕ) (before after : L) (n : Node) : Type 0 where
+  pub reply : List ℕ
+  pub forest : IsForest remainder forest_kind reply n
+  pub pairs_so : pairs_of g after ≡ more_pairs (pair_of request forest_kind reply ∷ []) (pairs_of g before)
+  pub faults_so : g.faults after ≡ g.faults before
+  pub lends_so : g.lends after ≡ g.lends before
+  pub counts : CountsOne false (server_of g before) (server_of g after)
+  pub stays : g.honest before → g.honest after
+  pub served : g.honest before → (x : Sent) → script.Means request (Ok x) → PerformedAll (server_of g before) (server_of g after) (x ∷ []) (n ∷ [])
+
+-- What an exchange and the reading of its reply give, of which so many were before it. Nothing is said after want of memory.
+abbrev pub Trades : {L : Type 0} → links.Ghosts L → Parts → ℕ → List ℕ → L → Result Node RunStop → L → Type 0
+Trades g remainder done request before (Ok n) after = GotNode g remainder request before after n
+Trades g remainder done request before (Err (stops.LinkFault k)) after = (k ≡ done) × GotFault g request before after
+Trades g remainder done request before (Err (stops.BadReply k why kind bytes)) after = (k ≡ done) × GotBad g remainder request before after why kind bytes
+Trades g remainder done request before (Err stops.WriteFault) after = ⊥
+Trades g remainder done request before (Err stops.Memory) after = Unit {0}
+
+performed_so : (x : Sent) (kind : ℕ) (payload : List ℕ) (n : Node) (a b : Option Behind) → IsAlone payload n → GivesReply a b x kind payload → PerformedAll a b (x ∷ []) (n ∷ [])
+performed_so x kind payload n (Some a) (Some b) is h = (h.0, (is (sent_run a.service a.table x).node h.3, sym h.1))
+performed_so x kind payload n (Some a) None is h = absurd h
+performed_so x kind payload n None b is h = absurd h
+
+misfit_given : (x : Sent) (kind : ℕ) (payload : List ℕ) (remainder : Parts) (a b : Option Behind) → GivesNoNode remainder kind payload → GivesReply a b x kind payload → GivesMisfit a x remainder
+misfit_given x kind payload remainder (Some a) (Some b) none h = λ e. none (sent_run a.service a.table x).node (record { kind_so = h.2; spells = h.3; fits_so = e })
+misfit_given x kind payload remainder (Some a) None none h = absurd h
+misfit_given x kind payload remainder None b none h = absurd h
+
+module _ {L : Type 0} (g : links.Ghosts L) (remainder : Parts) (done : ℕ) (request : List ℕ) (before after : L) where
+  -- there was no whole reply
+  pub untraded : (stop : RunStop) → Replied g done request before (Err stop) after → Trades g remainder done request before (Err stop) after
+  untraded (stops.LinkFault k) h = h
+  untraded (stops.BadReply k why kind bytes) h = (h.0, h.1 remainder)
+  untraded stops.WriteFault h = absurd h
+  untraded stops.Memory h = tt
+
+  module _ (reply : Reply) (got : GotReply g request before after reply) where
+    -- its forest was read
+    pub traded : (f : Forest) → Takes remainder done reply.kind reply.payload.items (Ok f) → Trades g remainder done request before (Ok (root_of f)) after
+    traded f h = record {
+      reply = reply.payload.items;
+      forest = record { kind_so = refl; spells = h.0.spells; fits_so = h.0.fits_so };
+      pairs_so = got.pairs_so ∙ ap (λ k. more_pairs (pair_of request k reply.payload.items ∷ []) (pairs_of g before)) h.0.kind_so;
+      faults_so = got.faults_so;
+      lends_so = got.lends_so;
+      counts = got.counts;
+      stays = got.stays;
+      served = λ honest x means. performed_so x reply.kind reply.payload.items (root_of f) (server_of g before) (server_of g after) h.1 (got.served honest x means);
+    }
+
+    -- it was refused
+    pub unread : (stop : RunStop) → Takes remainder done reply.kind reply.payload.items (Err stop) → Trades g remainder done request before (Err stop) after
+    unread (stops.LinkFault k) h = absurd h
+    unread (stops.BadReply k why kept payload) h =
+        let w = why_so why remainder reply.kind reply.payload.items h.3 in (
+          h.0,
+          record {
+            reason_so = subst (λ z. HasReason why remainder z payload) (sym h.1) (subst (HasReason why remainder reply.kind) (sym h.2) w.0);
+            pairs_so = got.pairs_so ∙ ap (λ z. more_pairs z (pairs_of g before)) (sym (one_refused why remainder reply.kind reply.payload.items (pair_of request reply.kind reply.payload.items) h.3))
+                ∙ ap (λ z. more_pairs (refused_pairs why (pair_of request z reply.payload.items)) (pairs_of g before)) (sym h.1) ∙ ap (λ z. more_pairs (refused_pairs why (pair_of request kept z)) (pairs_of g before)) (sym h.2);
+            faults_so = got.faults_so;
+            lends_so = got.lends_so;
+            counts = got.counts;
+            misfit = λ honest x means. misfit_given x reply.kind reply.payload.items remainder (server_of g before) (server_of g after) w.1 (got.served honest x means);
+          },
+        )
+    unread stops.WriteFault h = absurd h
+    unread stops.Memory h = tt

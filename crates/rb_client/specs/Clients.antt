@@ -1,7 +1,6 @@
 -- Where a client stands in its run, and what its World answers: what the surroundings of the definition do.
-use Rattle.std.specs.Prelude.{◌≡◌, ◌+◌, ℕ, List, [], ◌∷◌, ◌++◌, length, true, false, Option, None, Some, OnOk, Result, Ok, Err}
+use Rattle.std.specs.Prelude.{◌≡◌, ℕ, List, [], ◌∷◌, ◌++◌, length, true, false, Option, None, Some, Result, Ok, Err}
 use Rattle.std.specs.Borrow.{MutBor}
-use Rattle.rb_trees.specs.declared.forests.Node as node
 use Rattle.rb_trees.specs.declared.remainders.Split.{Split}
 use Rattle.rb_trees.specs.mirror.Declarations.{Program, mirror_program}
 use Rattle.rb_trees.specs.mirror.Forests.{Node}
@@ -20,9 +19,10 @@ use Rattle.rb_meaning_split.specs.Client.{Sent, Waiting, answers_waiting, perfor
 use Rattle.rb_meaning_split.specs.Division.{Division, division, mirror_split}
 use Rattle.rb_base.specs.Sinks.{with_bytes}
 use Rattle.rb_base.specs.declared.links.Link as links
+use Rattle.rb_base.specs.declared.links.Reply.{Reply}
 use Rattle.rb_base.specs.declared.sinks.Sink as sinks
 use Rattle.rb_engine.specs.Answers.{Answer, Performed}
-use Rattle.rb_client.specs.Replies.{Trades}
+use Rattle.rb_client.specs.Replies.{Replied}
 use Rattle.rb_client.specs.Requests.{to_send}
 use Rattle.rb_client.specs.Runs.{ExchangedAll, FailsInBatch, FailsToWrite, GivesNone, with_batch}
 use Rattle.rb_client.specs.Scenes.{Scene, scene}
@@ -143,18 +143,18 @@ abbrev pub PerformsSplit : {L W : Type 0} → links.Ghosts L → sinks.Ghosts W 
 PerformsSplit {L = L} {W = W} gl gw split at w l e w' = (o : Origin L W) (h : Past) (b : Outermost) → SeesClient gl gw o w h → batch_at o.program at ≡ Some b → mirror_split split ≡ division o.program b
     → PerformedAs gl gw o h (Some b) at l e w'
 
--- The exchange of a batch: its request was sent over the same link, and all else stands, but for the count of exchanges.
-pub record Fetched {L W : Type 0} (gl : links.Ghosts L) (split : Split) (names : Names) (w : ClientWorld L W) (result : Result node.Node RunStop) (w' : ClientWorld L W) : Type 0 where
+-- The exchange of a batch: its request was sent over the same link, and all else stands.
+pub record Fetched {L W : Type 0} (gl : links.Ghosts L) (split : Split) (names : Names) (w : ClientWorld L W) (result : Result Reply RunStop) (w' : ClientWorld L W) : Type 0 where
   pub request : List ℕ
   pub request_so : Spells script_message request (to_send split names)
   pub means : Means request (Ok (to_send split names))
-  pub trades : Trades gl (mirror_split split).remainder w.exchanges request w.link.now result w'.link.now
+  pub replied : Replied gl w.exchanges request w.link.now result w'.link.now
   pub same_link : w'.link.ghost_name ≡ w.link.ghost_name
   pub same_plan : w'.plan ≡ w.plan
   pub same_output : w'.out ≡ w.out
-  pub counted : OnOk result (w'.exchanges ≡ w.exchanges + 1)
+  pub same_count : w'.exchanges ≡ w.exchanges
 
 -- the same, unless memory ran out
-abbrev pub Fetches : {L W : Type 0} → links.Ghosts L → Split → Names → ClientWorld L W → Result node.Node RunStop → ClientWorld L W → Type 0
+abbrev pub Fetches : {L W : Type 0} → links.Ghosts L → Split → Names → ClientWorld L W → Result Reply RunStop → ClientWorld L W → Type 0
 Fetches gl split names w (Err stops.Memory) w' = Unit {0}
 Fetches gl split names w result w' = Fetched gl split names w result w'

@@ -1,7 +1,6 @@
 -- What a client reads in a reply, and what an exchange gives it.
 use Rattle.std.specs.Prelude.{◌≡◌, ℕ, List, [], ◌∷◌, ◌++◌, length, true, false, Option, Some, option_map, Result, Ok, Err}
-use Rattle.rb_trees.specs.declared.forests.Node as node
-use Rattle.rb_trees.specs.mirror.Forests.{Node, mirror_node}
+use Rattle.rb_trees.specs.mirror.Forests.{Node}
 use Rattle.rb_trees.specs.mirror.Remainders.{Parts}
 use Rattle.rb_meaning_bytes.specs.Fits.{Unfit, fits}
 use Rattle.rb_meaning_bytes.specs.formats.Formats.{Spells, FirstViolation}
@@ -13,12 +12,13 @@ use Rattle.rb_meaning.specs.Links.{Pair, pairs_told}
 use Rattle.rb_meaning.specs.Replies.{BreaksAt, IsCut}
 use Rattle.rb_meaning_split.specs.Client.{Sent}
 use Rattle.rb_base.specs.Counts.{risen}
+use Rattle.rb_base.specs.Links.{IsReplyKind}
 use Rattle.rb_base.specs.declared.links.Link as links
+use Rattle.rb_base.specs.declared.links.Reply.{Reply}
 use Rattle.rb_wire_forest.specs.Misfits.{unfit}
-use Rattle.rb_client.specs.Servers.{PerformedAll}
-use Rattle.rb_client.specs.Serving.{CountsOne, GivesMisfit, MayPerform, server_of}
-use Rattle.rb_client.specs.declared.replies.Unread.{Unread}
-use Rattle.rb_client.specs.declared.replies.Unread.TheVariants as unread
+use Rattle.rb_wire_forest.specs.Opened.{root_of}
+use Rattle.rb_wire_forest.specs.declared.forest.Forest.{Forest}
+use Rattle.rb_client.specs.Serving.{CountsOne, GivesMisfit, GivesReply, MayPerform, server_of}
 use Rattle.rb_client.specs.declared.stops.BadReason.{BadReason}
 use Rattle.rb_client.specs.declared.stops.BadReason.TheVariants as reason
 use Rattle.rb_client.specs.declared.stops.RunStop.{RunStop}
@@ -56,19 +56,18 @@ IsAlone payload n = (other : Node) → Spells forest_message payload other → o
 abbrev pub GivesNoNode : Parts → ℕ → List ℕ → Type 0
 GivesNoNode remainder kind payload = (n : Node) → IsForest remainder kind payload n → ⊥
 
--- What is read in a whole reply: its one node, or why it is refused, which is no matter of its frame.
-abbrev pub Reads : Parts → ℕ → List ℕ → Result node.Node Unread → Type 0
-Reads remainder kind payload (Ok n) = IsForest remainder kind payload (mirror_node n) × IsAlone payload (mirror_node n)
-Reads remainder kind payload (Err (unread.Reason (reason.Cut got))) = ⊥
-Reads remainder kind payload (Err (unread.Reason (reason.Frame at))) = ⊥
-Reads remainder kind payload (Err (unread.Reason why)) = HasReason why remainder kind payload × GivesNoNode remainder kind payload
-Reads remainder kind payload (Err unread.Memory) = Unit {0}
+-- What is read in a whole reply: the forest of its one node, or why it is refused, which is no matter of its frame.
+abbrev pub Reads : Parts → ℕ → List ℕ → Result Forest BadReason → Type 0
+Reads remainder kind payload (Ok f) = IsForest remainder kind payload (root_of f) × IsAlone payload (root_of f)
+Reads remainder kind payload (Err (reason.Cut got)) = ⊥
+Reads remainder kind payload (Err (reason.Frame at)) = ⊥
+Reads remainder kind payload (Err why) = HasReason why remainder kind payload × GivesNoNode remainder kind payload
 
 -- the same as an answer after so many exchanges, which keeps the kind and the payload
-abbrev pub Takes : Parts → ℕ → ℕ → List ℕ → Result node.Node RunStop → Type 0
-Takes remainder done kind payload (Ok n) = Reads remainder kind payload (Ok n)
+abbrev pub Takes : Parts → ℕ → ℕ → List ℕ → Result Forest RunStop → Type 0
+Takes remainder done kind payload (Ok f) = Reads remainder kind payload (Ok f)
 Takes remainder done kind payload (Err (stops.LinkFault k)) = ⊥
-Takes remainder done kind payload (Err (stops.BadReply k why kept bytes)) = (k ≡ done) × (kept ≡ kind) × (bytes ≡ payload) × Reads remainder kind payload (Err (unread.Reason why))
+Takes remainder done kind payload (Err (stops.BadReply k why kept bytes)) = (k ≡ done) × (kept ≡ kind) × (bytes ≡ payload) × Reads remainder kind payload (Err why)
 Takes remainder done kind payload (Err stops.WriteFault) = ⊥
 Takes remainder done kind payload (Err stops.Memory) = Unit {0}
 
@@ -88,17 +87,16 @@ refused_pairs _ pair = pair ∷ []
 abbrev pub pairs_of : {L : Type 0} → links.Ghosts L → L → Option (List Pair)
 pairs_of g link = pairs_told (g.told link)
 
--- A node was replied, in a pair more. Whether the link lends a table is kept. Over an honest link the server gave it, by the
--- script that the request means.
-pub record GotNode {L : Type 0} (g : links.Ghosts L) (remainder : Parts) (request : List ℕ) (before after : L) (n : Node) : Type 0 where
-  pub reply : List ℕ
-  pub forest : IsForest remainder forest_kind reply n
-  pub pairs_so : pairs_of g after ≡ more_pairs (pair_of request forest_kind reply ∷ []) (pairs_of g before)
+-- A whole reply came, in a pair more. Whether the link lends a table is kept. Over an honest link the server gave it, by the script
+-- that the request means.
+pub record GotReply {L : Type 0} (g : links.Ghosts L) (request : List ℕ) (before after : L) (reply : Reply) : Type 0 where
+  pub kind_so : IsReplyKind reply.kind
+  pub pairs_so : pairs_of g after ≡ more_pairs (pair_of request reply.kind reply.payload.items ∷ []) (pairs_of g before)
   pub faults_so : g.faults after ≡ g.faults before
   pub lends_so : g.lends after ≡ g.lends before
   pub counts : CountsOne false (server_of g before) (server_of g after)
   pub stays : g.honest before → g.honest after
-  pub served : g.honest before → (x : Sent) → Means request (Ok x) → PerformedAll (server_of g before) (server_of g after) (x ∷ []) (n ∷ [])
+  pub served : g.honest before → (x : Sent) → Means request (Ok x) → GivesReply (server_of g before) (server_of g after) x reply.kind reply.payload.items
 
 -- The exchange failed, which the link counted. Whether it lends a table is kept. Over an honest link the server may have
 -- performed the script.
@@ -119,10 +117,11 @@ pub record GotBad {L : Type 0} (g : links.Ghosts L) (remainder : Parts) (request
   pub counts : CountsOne false (server_of g before) (server_of g after)
   pub misfit : g.honest before → (x : Sent) → Means request (Ok x) → GivesMisfit (server_of g before) x remainder
 
--- What an exchange gives, of which so many were before it. Nothing is said after want of memory.
-abbrev pub Trades : {L : Type 0} → links.Ghosts L → Parts → ℕ → List ℕ → L → Result node.Node RunStop → L → Type 0
-Trades g remainder done request before (Ok n) after = GotNode g remainder request before after (mirror_node n)
-Trades g remainder done request before (Err (stops.LinkFault k)) after = (k ≡ done) × GotFault g request before after
-Trades g remainder done request before (Err (stops.BadReply k why kind bytes)) after = (k ≡ done) × GotBad g remainder request before after why kind bytes
-Trades g remainder done request before (Err stops.WriteFault) after = ⊥
-Trades g remainder done request before (Err stops.Memory) after = Unit {0}
+-- What an exchange gives, of which so many were before it: a whole reply, or why there is none, whatever remainder is to be
+-- performed on it. Nothing is said after want of memory.
+abbrev pub Replied : {L : Type 0} → links.Ghosts L → ℕ → List ℕ → L → Result Reply RunStop → L → Type 0
+Replied g done request before (Ok reply) after = GotReply g request before after reply
+Replied g done request before (Err (stops.LinkFault k)) after = (k ≡ done) × GotFault g request before after
+Replied g done request before (Err (stops.BadReply k why kind bytes)) after = (k ≡ done) × ((remainder : Parts) → GotBad g remainder request before after why kind bytes)
+Replied g done request before (Err stops.WriteFault) after = ⊥
+Replied g done request before (Err stops.Memory) after = Unit {0}

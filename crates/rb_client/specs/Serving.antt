@@ -1,7 +1,10 @@
 -- What exchanges do to the server that a link tells: how many are made, and what it performs.
-use Rattle.std.specs.Prelude.{◌≡◌, ◌⊎◌, ◌<◌, ℕ, Bool, false, Option, None, Some, Ok}
+use Rattle.std.specs.Prelude.{◌≡◌, ◌⊎◌, ◌<◌, ℕ, List, Bool, false, Option, None, Some, Ok}
 use Rattle.rb_trees.specs.mirror.Remainders.{Parts}
 use Rattle.rb_meaning_bytes.specs.Fits.{fits}
+use Rattle.rb_meaning_bytes.specs.formats.Formats.{Spells}
+use Rattle.rb_meaning_bytes.specs.formats.Forests.{forest_message}
+use Rattle.rb_meaning.specs.Answers.{forest_kind}
 use Rattle.rb_meaning.specs.Links.{Behind, server_told}
 use Rattle.rb_meaning_split.specs.Client.{Sent}
 use Rattle.rb_law_client.specs.Clients.{sent_run}
@@ -35,6 +38,12 @@ abbrev pub MayPerform : Option Behind → Option Behind → Sent → Type 0
 MayPerform (Some before) (Some after) x =
     (after.service ≡ before.service) × ((after.table ≡ before.table) ⊎ (after.table ≡ (sent_run before.service before.table x).server.table))
 MayPerform _ _ x = ⊥
+
+-- The server performed a script that was sent with its values, and replied with the forest of its node.
+abbrev pub GivesReply : Option Behind → Option Behind → Sent → ℕ → List ℕ → Type 0
+GivesReply (Some before) (Some after) x kind payload =
+    (after.service ≡ before.service) × (after.table ≡ (sent_run before.service before.table x).server.table) × (kind ≡ forest_kind) × Spells forest_message payload (sent_run before.service before.table x).node
+GivesReply _ _ x kind payload = ⊥
 
 -- The node that a script gives on the server, with the values that were sent, doesn't fit a remainder.
 abbrev pub GivesMisfit : Option Behind → Sent → Parts → Type 0

@@ -11,16 +11,16 @@ ghost use Rattle.rb_client.specs.Exchanges.{CanBeSent};
 ghost use Rattle.rb_client.specs.Splits.{split_at};
 
 use crate::early::Early;
-use crate::left::refuse;
+use crate::faults::refuse;
 use crate::lines::whole_line;
 use crate::plan::Plan;
 use crate::replay::perform_remainder;
-use crate::replies::trade;
+use crate::replies::{read_reply, send};
 use crate::requests::request_of;
 use crate::stops::RunStop;
-use rb_base::{Link, Sink, write_whole};
+use rb_base::{Link, Reply, Sink, write_whole};
 use rb_engine::{Frame, Halt, RunResult, State, World};
-use rb_trees::{Node, Seq, Split, Value};
+use rb_trees::{Seq, Split, Value};
 use std::alloc::Global;
 
 /// The surroundings of code that stands in no batch: its lines go to the output, and a turn over a list goes on. For a batch
@@ -72,33 +72,20 @@ fn find(splits: &[Split], at: u32) -> Option<&Split>
     None
 }
 
-// Exchanges the script of a batch for a node that fits its remainder. Where exchanges can't be counted any more, the run is cut
-// off as for want of memory.
+// Exchanges the script of a batch for a reply.
 #[inline(never)]
 fn fetch<L: Link, W: Sink>(
     alloc: Global,
     world: &mut ClientWorld<'_, '_, '_, L, W>,
     split: &Split,
     frame: &Frame,
-) -> Result<Node, RunStop>
+) -> Result<Reply, RunStop>
     requires sent { CanBeSent (mirror_split split.now).script }
     requires counted { (mirror_split split.now).script.inputs ≡ length split.now.inputs }
     ensures { Fetches L.Link split.now frame.now world.old result world.new }
 {
-    let done = world.exchanges;
-    let Some(next) = done.checked_add(1) else {
-        return Err(RunStop::Memory);
-    };
     let request = request_of(alloc, split, frame)?;
-    let node = trade(
-        alloc,
-        world.link,
-        request.as_slice(),
-        &split.remainder,
-        done,
-    )?;
-    world.exchanges = next;
-    Ok(node)
+    send(world.link, request.as_slice(), world.exchanges)
 }
 
 // How a remainder ended, as a step.
@@ -123,7 +110,7 @@ fn halt_of(stop: RunStop) -> Halt<RunStop>
     }
 }
 
-// Performs a batch: `performs_divided`.
+// Performs a batch: `performs_divided`. Where exchanges can't be counted any more, the run is cut off as for want of memory.
 fn perform<L: Link, W: Sink>(
     alloc: Global,
     world: &mut ClientWorld<'_, '_, '_, L, W>,
@@ -141,18 +128,28 @@ fn perform<L: Link, W: Sink>(
         Answered ended (λ e. PerformsSplit L.Link W.Sink split.now at world.old before e world.new) }
 {
     let code = world.plan.code();
-    match fetch(alloc, world, split, frame) {
-        Ok(node) => step_of(perform_remainder(
-            alloc,
-            code,
-            state,
-            frame,
-            &node,
-            &split.remainder,
-            world.out,
-        )),
-        Err(stop) => Err(halt_of(stop)),
-    }
+    let done = world.exchanges;
+    let Some(next) = done.checked_add(1) else {
+        return Err(Halt::Memory);
+    };
+    let reply = match fetch(alloc, world, split, frame) {
+        Ok(reply) => reply,
+        Err(stop) => return Err(halt_of(stop)),
+    };
+    let forest = match read_reply(alloc, &reply, &split.remainder, done) {
+        Ok(forest) => forest,
+        Err(stop) => return Err(halt_of(stop)),
+    };
+    world.exchanges = next;
+    step_of(perform_remainder(
+        alloc,
+        code,
+        state,
+        frame,
+        &forest,
+        &split.remainder,
+        world.out,
+    ))
 }
 
 impl<'a, 'l, 'o, L: Link, W: Sink> World for ClientWorld<'a, 'l, 'o, L, W> {

@@ -7,8 +7,8 @@
 mod client_run;
 mod client_world;
 mod early;
+mod faults;
 mod laws;
-mod left;
 mod lines;
 mod plan;
 mod replay;

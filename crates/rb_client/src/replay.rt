@@ -3,18 +3,18 @@
 ghost use Rattle.std.specs.Prelude.{◌≡◌, cond};
 ghost use Rattle.rb_meaning_bytes.specs.Fits as meaning;
 ghost use Rattle.rb_engine.specs.Locals.{local};
-ghost use Rattle.rb_client.specs.Lefts.{seen};
-ghost use Rattle.rb_trees.specs.mirror.Forests.{mirror_node};
+ghost use Rattle.rb_wire_forest.specs.Opened.{root_of};
 ghost use Rattle.rb_client.specs.Replays.{Replays, remainder_meant};
-ghost use Rattle.rb_client.specs.Walks.{Performs, all_meant, bind_meant, both_meant, branch_meant, enclosed, part_meant, pass_meant, plain_meant, rows_meant, turn_meant, turns_meant};
+ghost use Rattle.rb_client.specs.Walks.{Encloses, Performs, PerformsTurns, all_meant, bind_meant, both_meant, branch_meant, part_meant, pass_meant, plain_meant, rows_meant, rows_turned, turn_meant};
 
 use crate::early::{Early, flat};
-use crate::left::{Left, far_fault, own_fault};
+use crate::faults::{far_fault, own_fault};
 use crate::replay_world::ReplayWorld;
 use rb_base::Sink;
 use rb_code::Code;
 use rb_engine::{Frame, State, eval, exec_slice};
-use rb_trees::{Expr, Item, Node, Part, Seq, Stmt, Word, copy_word};
+use rb_trees::{Expr, Item, Part, Seq, Stmt, Word, copy_word};
+use rb_wire_forest::Forest;
 use std::alloc::Global;
 use std::slice;
 
@@ -69,8 +69,8 @@ fn perform_pass<W: Sink>(
     ensures { let meant = pass_meant step in
         Performs W.Sink meant (local frame.now state.now) world.now result (local frame.now state.now) world.now }
 {
-    match world.left.fault_at(step) {
-        Some(fault) => Err(Early::Raised(far_fault(alloc, fault)?)),
+    match world.fault_at(step) {
+        Some(fault) => Err(Early::Raised(far_fault(alloc, &fault)?)),
         None => Ok(()),
     }
 }
@@ -109,8 +109,8 @@ fn perform_both<W: Sink>(
     ensures { let meant = both_meant code.now step name.now expr.now in
         Performs W.Sink meant (local frame.old state.old) world.old result (local frame.new state.new) world.new }
 {
-    if let Some(fault) = world.left.fault_at(step) {
-        return Err(Early::Raised(own_fault(alloc, fault)?));
+    if let Some(fault) = world.fault_at(step) {
+        return Err(Early::Raised(own_fault(alloc, &fault)?));
     }
     let value = flat(eval(alloc, code, state, frame, world, expr))?;
     let word = copy_word(alloc, name)?;
@@ -182,27 +182,24 @@ pub fn perform_all<W: Sink>(
     Ok(())
 }
 
-// The parts of a block on a node of its own, at whose end its names go, by a fault too. Then the rest is left.
+// The parts of a block on the innermost node, at whose end its names go and the node is closed, by a fault too.
 #[cycle(parts)]
 #[inline(never)]
-fn perform_block<'n, W: Sink>(
+fn perform_block<W: Sink>(
     alloc: Global,
     code: &Code,
     state: &mut State,
     frame: &mut Frame,
-    world: &mut ReplayWorld<'n, '_, W>,
+    world: &mut ReplayWorld<'_, '_, W>,
     parts: &[Part],
-    node: &'n Node,
-    rest: Left<'n>,
 ) -> Result<(), Early>
-    ensures { let meant = enclosed (all_meant code.now parts.now) (mirror_node node.now) (seen rest.entry) in
-        Performs W.Sink meant (local frame.old state.old) world.old result (local frame.new state.new) world.new }
+    ensures { let meant = all_meant code.now parts.now in
+        Encloses W.Sink meant (local frame.old state.old) world.old result (local frame.new state.new) world.new }
 {
     let count = frame.len();
-    world.left = Left::of(node);
     let ended = perform_all(alloc, code, state, frame, world, parts);
     frame.truncate(count);
-    world.left = rest;
+    world.left.close();
     ended
 }
 
@@ -222,23 +219,14 @@ fn perform_branch<W: Sink>(
     ensures { let meant = branch_meant code.now step yes.now no.now in
         Performs W.Sink meant (local frame.old state.old) world.old result (local frame.new state.new) world.new }
 {
-    let Some((holds, node, rest)) = world.left.first_branch() else {
-        return Err(Early::Raised(world.left.missed(alloc, step)?));
+    let Some(holds) = world.left.branch() else {
+        return Err(Early::Raised(world.missed(step)?));
     };
     let parts = chosen(holds, yes, no);
-    perform_block(
-        alloc,
-        code,
-        state,
-        frame,
-        world,
-        parts.as_slice(),
-        node,
-        rest,
-    )
+    perform_block(alloc, code, state, frame, world, parts.as_slice())
 }
 
-// A loop over rows.
+// A loop over rows: its turns, and then the node's fault may be at its step.
 #[cycle(parts)]
 #[inline(never)]
 fn perform_rows<W: Sink>(
@@ -252,58 +240,72 @@ fn perform_rows<W: Sink>(
     ensures { let meant = rows_meant code.now turns.now in
         Performs W.Sink meant (local frame.old state.old) world.old result (local frame.new state.new) world.new }
 {
-    let Some((nodes, rest)) = world.left.first_rows() else {
-        return Err(Early::Raised(world.left.missed(alloc, turns.step)?));
-    };
-    perform_turns(alloc, code, state, frame, world, turns, nodes, rest)?;
+    turn_rows(alloc, code, state, frame, world, turns)?;
     perform_pass(alloc, state, frame, world, turns.step)
 }
 
-// The turns over rows, each on its node. Then the rest is left.
+// The turns over the rows that stand first, at whose end the rows are closed, by a fault too.
 #[cycle(parts)]
 #[inline(never)]
-fn perform_turns<'n, W: Sink>(
+fn turn_rows<W: Sink>(
     alloc: Global,
     code: &Code,
     state: &mut State,
     frame: &mut Frame,
-    world: &mut ReplayWorld<'n, '_, W>,
+    world: &mut ReplayWorld<'_, '_, W>,
     turns: &Loop<'_>,
-    nodes: &'n [Node],
-    rest: Left<'n>,
 ) -> Result<(), Early>
-    ensures { let meant = turns_meant code.now turns.now nodes.now (seen rest.entry) in
+    ensures { let meant = rows_turned code.now turns.now in
         Performs W.Sink meant (local frame.old state.old) world.old result (local frame.new state.new) world.new }
 {
-    world.left = rest;
-    'nodes: for node in nodes {
-        perform_turn(alloc, code, state, frame, world, turns, node, rest)?;
+    let Some(count) = world.left.rows() else {
+        return Err(Early::Raised(world.missed(turns.step)?));
+    };
+    let ended = perform_turns(alloc, code, state, frame, world, turns, count);
+    world.left.close();
+    ended
+}
+
+// So many turns over rows that are open, each on the next of their nodes.
+#[cycle(parts)]
+#[inline(never)]
+fn perform_turns<W: Sink>(
+    alloc: Global,
+    code: &Code,
+    state: &mut State,
+    frame: &mut Frame,
+    world: &mut ReplayWorld<'_, '_, W>,
+    turns: &Loop<'_>,
+    count: u32,
+) -> Result<(), Early>
+    ensures { let before = local frame.old state.old in
+        PerformsTurns W.Sink code.now turns.now count before world.old result (local frame.new state.new) world.new }
+{
+    'nodes: for _ in 0..count {
+        world.left.turn();
+        perform_turn(alloc, code, state, frame, world, turns)?;
     }
     Ok(())
 }
 
-// A turn on its node, at whose end its names go, by a fault too. Then the rest is left.
+// A turn on the innermost node, at whose end its names go and the node is closed, by a fault too.
 #[cycle(parts)]
 #[inline(never)]
-fn perform_turn<'n, W: Sink>(
+fn perform_turn<W: Sink>(
     alloc: Global,
     code: &Code,
     state: &mut State,
     frame: &mut Frame,
-    world: &mut ReplayWorld<'n, '_, W>,
+    world: &mut ReplayWorld<'_, '_, W>,
     turns: &Loop<'_>,
-    node: &'n Node,
-    rest: Left<'n>,
 ) -> Result<(), Early>
-    ensures performs { let meant = enclosed (turn_meant code.now turns.now) (mirror_node node.now) (seen rest.entry) in
-        Performs W.Sink meant (local frame.old state.old) world.old result (local frame.new state.new) world.new }
-    ensures left { seen world.new.left ≡ seen rest.entry }
+    ensures { let meant = turn_meant code.now turns.now in
+        Encloses W.Sink meant (local frame.old state.old) world.old result (local frame.new state.new) world.new }
 {
     let count = frame.len();
-    world.left = Left::of(node);
     let ended = perform_row(alloc, code, state, frame, world, turns);
     frame.truncate(count);
-    world.left = rest;
+    world.left.close();
     ended
 }
 
@@ -328,7 +330,8 @@ fn perform_row<W: Sink>(
     perform_all(alloc, code, state, frame, world, turns.body)
 }
 
-/// Performs a remainder on the node that its script gave: `replay_all`, to its end. Its names go then, by a fault too.
+/// Performs a remainder on the node that its script gave, the root of a forest: `replay_all`, to its end. Its names go then, by
+/// a fault too. The node is walked where it stands, and takes no memory.
 ///
 /// The node needn't fit the remainder: where it lacks what a part reads, and its fault isn't there, the fault is Kind.
 #[inline(never)]
@@ -337,19 +340,19 @@ pub fn perform_remainder<W: Sink>(
     code: &Code,
     state: &mut State,
     frame: &mut Frame,
-    node: &Node,
+    forest: &Forest<'_>,
     remainder: &Seq<Part>,
     out: &mut W,
 ) -> Result<(), Early>
-    ensures { let meant = remainder_meant code.now remainder.now (mirror_node node.now) in
+    ensures { let meant = remainder_meant code.now remainder.now (root_of forest.now) in
         Replays W.Sink meant (local frame.old state.old) out.old result (local frame.new state.new) out.new }
 {
     let count = frame.len();
-    let mut world = ReplayWorld::over(alloc, node, out);
+    let mut world = ReplayWorld::over(alloc, forest, out);
     let ended = perform_all(alloc, code, state, frame, &mut world, remainder.as_slice());
     let ReplayWorld {
         alloc: _,
-        left: _,
+        left: _left,
         out: _out,
     } = world;
     frame.truncate(count);

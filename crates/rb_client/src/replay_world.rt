@@ -1,17 +1,21 @@
 // The surroundings of code that is replayed.
 
-ghost use Rattle.std.specs.Prelude.{◌≡◌};
-ghost use Rattle.rb_trees.specs.mirror.Forests.{mirror_node};
+ghost use Rattle.std.specs.Prelude.{◌≡◌, [], ◌∷◌, IfOk};
 ghost use Rattle.rb_engine.specs.Answers.{Answered, as_value};
-ghost use Rattle.rb_client.specs.Lefts.{seen};
-ghost use Rattle.rb_client.specs.Worlds.{Prints, Takes, taken_meant};
+ghost use Rattle.rb_wire_forest.specs.Fronts.{end_seen};
+ghost use Rattle.rb_wire_forest.specs.Opens.{AtNode};
+ghost use Rattle.rb_wire_forest.specs.Opened.{opened, root_of};
+ghost use Rattle.rb_client.specs.Missed.{fault_open, missed_open, taken_open};
+ghost use Rattle.rb_client.specs.Worlds.{Prints, Takes};
 
 use crate::early::{Early, step_of};
-use crate::left::{Left, refuse};
+use crate::faults::{far_fault, refuse};
 use crate::lines::whole_line;
 use rb_base::{Failed, Sink, write_whole};
 use rb_engine::{Frame, Halt, RunResult, State, World};
-use rb_trees::{Node, Seq, Value, copy_value};
+use rb_trees::{Memory, Raised, Seq, Value};
+use rb_wire_fields::texts::value_of;
+use rb_wire_forest::{Cursor, Forest, LentFault};
 use std::alloc::Global;
 
 /// The surroundings of code that is replayed: its lines go to the output, what was kept is read from what is left of the
@@ -20,20 +24,20 @@ use std::alloc::Global;
 #[derive(Drop)]
 pub struct ReplayWorld<'n, 'o, W> {
     pub alloc: Global,
-    pub left: Left<'n>,
+    pub left: Cursor<'n>,
     pub out: &'o mut W,
 }
 
 impl<'n, 'o, W: Sink> ReplayWorld<'n, 'o, W> {
-    /// The surroundings over an output, with all of a node.
-    pub fn over(alloc: Global, node: &'n Node, out: &'o mut W) -> ReplayWorld<'n, 'o, W>
-        ensures left { seen result.left ≡ mirror_node node.now }
+    /// The surroundings over an output, with all of a forest's root.
+    pub fn over(alloc: Global, forest: &Forest<'n>, out: &'o mut W) -> ReplayWorld<'n, 'o, W>
+        ensures left { opened result.left ≡ AtNode (root_of forest.now) ∷ [] }
         ensures same { result.out.ghost_name ≡ out.entry.ghost_name }
         ensures now { result.out.now ≡ out.old }
     {
         ReplayWorld {
             alloc,
-            left: Left::of(node),
+            left: forest.cursor(),
             out,
         }
     }
@@ -51,16 +55,41 @@ impl<'n, 'o, W: Sink> ReplayWorld<'n, 'o, W> {
         }
     }
 
-    /// Reads what a step kept: `taken`.
-    pub fn take(&mut self, step: u32) -> Result<Value, Early>
-        ensures { Takes (taken_meant self.old step) self.old result self.new }
+    /// The fault of the innermost node, where it is at a step, and no entry is left: `fault_open`.
+    #[tactic(auto, using(crate::proofs::Missed::tests))]
+    pub fn fault_at(&self, step: u32) -> Option<LentFault<'n>>
+        ensures { end_seen result ≡ fault_open step (opened self.now.left) }
     {
-        let Some((value, rest)) = self.left.first_value() else {
-            return Err(Early::Raised(self.left.missed(self.alloc, step)?));
-        };
-        let value = copy_value(value)?;
-        self.left = rest;
-        Ok(value)
+        match self.left.fault() {
+            Some(fault) => {
+                if fault.step == step {
+                    Some(fault)
+                } else {
+                    None
+                }
+            }
+            None => None,
+        }
+    }
+
+    /// The fault in place of what a part reads at a step: `missed_open`.
+    pub fn missed(&self, step: u32) -> Result<Raised, Memory>
+        ensures { IfOk result (λ r. r ≡ missed_open step (opened self.now.left)) }
+    {
+        match self.fault_at(step) {
+            Some(fault) => far_fault(self.alloc, &fault),
+            None => Ok(refuse(self.alloc, 0)),
+        }
+    }
+
+    /// Reads what a step kept: `taken_open`. A text is copied.
+    pub fn take(&mut self, step: u32) -> Result<Value, Early>
+        ensures { Takes (taken_open step (opened self.old.left)) self.old result self.new }
+    {
+        match self.left.value() {
+            Some(item) => Ok(value_of(self.alloc, item)?),
+            None => Err(Early::Raised(self.missed(step)?)),
+        }
     }
 }
 

@@ -1,109 +1,92 @@
-// What a client reads in a reply.
+// What a client exchanges, and what it reads in a reply.
 
 ghost use Rattle.std.specs.Prelude.{◌≤◌, length};
 ghost use Rattle.rb_trees.specs.mirror.Remainders.{mirror_parts};
 ghost use Rattle.rb_meaning.specs.Answers.{forest_kind, longest_request, refusal_kind};
 ghost use Rattle.rb_base.specs.Links.{IsReplyKind};
-ghost use Rattle.rb_client.specs.Replies.{Reads, Takes, Trades};
+ghost use Rattle.rb_client.specs.Replies.{Reads, Replied, Takes};
 
 use crate::stops::{BadReason, RunStop};
 use rb_base::{Link, LinkStop, Reply};
 use rb_meaning_bytes::script_payloads_mean_one_thing;
-use rb_trees::{Memory, Node, Part, Seq};
-use rb_wire_forest::{ForestStop, decode_forest, decode_refusal, fits};
+use rb_trees::{Part, Seq};
+use rb_wire_forest::{Forest, decode_refusal, scan_forest};
 use std::alloc::Global;
 
 /// The kind of a forest: `forest_kind`.
 const FOREST: u8 = 2;
 
-/// Why a reply gives no node.
-#[derive(Drop)]
-pub enum Unread {
-    Reason(BadReason),
-    Memory,
-}
-
-// The node of a forest that fits a remainder.
+// The forest of a payload, whose root fits a remainder.
 #[inline(never)]
-fn read_forest(alloc: Global, payload: &[u8], remainder: &Seq<Part>) -> Result<Node, Unread>
+fn read_forest<'p>(payload: &'p [u8], remainder: &Seq<Part>) -> Result<Forest<'p>, BadReason>
     ensures { Reads (mirror_parts remainder.now) forest_kind payload.now result }
 {
-    match decode_forest(alloc, payload) {
-        Ok(node) => match fits(&node, remainder) {
-            Ok(()) => Ok(node),
-            Err(misfit) => Err(Unread::Reason(BadReason::Misfit(misfit))),
+    match scan_forest(payload) {
+        Ok(forest) => match forest.fits(remainder) {
+            Ok(()) => Ok(forest),
+            Err(misfit) => Err(BadReason::Misfit(misfit)),
         },
-        Err(ForestStop::Refused { number, at }) => {
-            Err(Unread::Reason(BadReason::Forest(number, at)))
-        }
-        Err(ForestStop::Memory) => Err(Unread::Memory),
+        Err(refused) => Err(BadReason::Forest(refused.number, refused.at)),
     }
 }
 
-// Why a refusal gives no node.
-fn read_refusal(payload: &[u8], remainder: &Seq<Part>) -> Result<Node, Unread>
+// Why a refusal gives no forest.
+fn read_refusal<'p>(payload: &'p [u8], remainder: &Seq<Part>) -> Result<Forest<'p>, BadReason>
     ensures { Reads (mirror_parts remainder.now) refusal_kind payload.now result }
 {
     match decode_refusal(payload) {
-        Some((number, at)) => Err(Unread::Reason(BadReason::Refused(number, at))),
-        None => Err(Unread::Reason(BadReason::Garbled)),
+        Some((number, at)) => Err(BadReason::Refused(number, at)),
+        None => Err(BadReason::Garbled),
     }
 }
 
-// The node of a whole reply.
-fn read_reply(
-    alloc: Global,
+// The forest of a payload of this kind.
+fn read_payload<'p>(
     kind: u8,
-    payload: &[u8],
+    payload: &'p [u8],
     remainder: &Seq<Part>,
-) -> Result<Node, Unread>
+) -> Result<Forest<'p>, BadReason>
     requires { IsReplyKind kind }
     ensures { Reads (mirror_parts remainder.now) kind payload.now result }
 {
     if kind == FOREST {
-        return read_forest(alloc, payload, remainder);
+        return read_forest(payload, remainder);
     }
     read_refusal(payload, remainder)
 }
 
-// What a whole reply gives after so many.
-fn taken_from(
+/// The forest of a whole reply after so many exchanges, whose root has to fit a remainder. It is seen where the reply lies: only
+/// the payload of a bad reply is copied.
+pub fn read_reply<'r>(
     alloc: Global,
-    reply: &Reply,
+    reply: &'r Reply,
     remainder: &Seq<Part>,
     done: u64,
-) -> Result<Node, RunStop>
+) -> Result<Forest<'r>, RunStop>
     requires { IsReplyKind reply.now.kind }
     ensures { Takes (mirror_parts remainder.now) done reply.now.kind reply.now.payload.items result }
 {
     let payload = reply.payload.as_slice();
-    match read_reply(alloc, reply.kind, payload, remainder) {
-        Ok(node) => Ok(node),
-        Err(Unread::Reason(reason)) => Err(RunStop::BadReply {
+    match read_payload(reply.kind, payload, remainder) {
+        Ok(forest) => Ok(forest),
+        Err(reason) => Err(RunStop::BadReply {
             done,
             reason,
             kind: reply.kind,
             bytes: Seq::from_slice(alloc, payload)?,
         }),
-        Err(Unread::Memory) => Err(RunStop::Memory),
     }
 }
 
-/// Sends a request after so many exchanges, and reads the node that is replied, which has to fit a remainder.
+/// Sends a request after so many exchanges, and gives the whole reply.
 #[inline(never)]
-pub fn trade<L: Link>(
-    alloc: Global,
-    link: &mut L,
-    request: &[u8],
-    remainder: &Seq<Part>,
-    done: u64,
-) -> Result<Node, RunStop>
+pub fn send<L: Link>(link: &mut L, request: &[u8], done: u64) -> Result<Reply, RunStop>
     requires { length request.now ≤ longest_request }
-    ensures { Trades L.Link (mirror_parts remainder.now) done request.now link.old result link.new }
+    ensures { Replied L.Link done request.now link.old result link.new }
 {
     script_payloads_mean_one_thing();
     match link.exchange(request) {
-        Ok(reply) => taken_from(alloc, &reply, remainder, done),
+        Ok(reply) => Ok(reply),
         Err(LinkStop::Failed) => Err(RunStop::LinkFault(done)),
         Err(LinkStop::Frame { at, bytes }) => Err(RunStop::BadReply {
             done,

@@ -1,13 +1,11 @@
 -- Each part is performed as it means.
-use Rattle.std.proofs.Common.{rules, arith, refl, sym, ap, ◌∙◌, take}
+use Rattle.std.proofs.Common.{rules, arith, refl, ap, ◌∙◌, take}
 use Rattle.rb_trees.specs.mirror.Code.{mirror_expr, mirror_stmt}
-use Rattle.rb_trees.specs.mirror.Forests.{mirror_node}
 use Rattle.rb_trees.specs.mirror.Remainders.{Plain, Pass, Bind, Both, Branch, Turns, mirror_part, mirror_parts}
 use Rattle.rb_trees.proofs.mirror.Parts.{form_Plain, form_Pass, form_Bind, form_Both, form_Branch, form_Turns}
 use Rattle.rb_engine.specs.Locals.{local}
-use Rattle.rb_client.specs.Lefts.{seen}
 use Rattle.rb_client.specs.Walks.{all_meant, turn_meant}
-use Rattle.rb_client.proofs.Enclosed.{branch_so, enclosed_so, loop_so, row_kept, row_missed, row_none, rows_cut, rows_so, turns_begin, turns_cut, turns_end, turns_next}
+use Rattle.rb_client.proofs.Enclosed.{branch_missed, branch_so, enclosed_so, loop_so, row_kept, row_missed, row_none, rows_cut, rows_so, turned_missed, turned_so, turns_begin, turns_cut, turns_end, turns_next}
 use Rattle.rb_client.proofs.Parted.{all_cut, all_end, all_more, of_form}
 use Rattle.rb_client.proofs.Weight.{part_in, part_of, part_weight, parts_of}
 use Rattle.rb_client.proofs.replay.+parts.Goals as goal
@@ -27,15 +25,20 @@ perform_all-returns g t c = all_end c.args.code.now c.args.parts.now c.parts.par
 
 pub perform_block-returns : goal.perform_block-returns
 perform_block-returns g t c =
-    enclosed_so g.W.Sink (all_meant c.args.code.now c.args.parts.now) (mirror_node c.args.node.now) (seen c.args.rest) (local c.args.frame.now c.args.state.now)
-    (local c.perform_all-ended.new.frame c.perform_all-ended.new.state) (local c.truncate.new.self c.perform_all-ended.new.state) c.args.world.now _ c.perform_all-ended.new.world _ c.perform_all-ended.result
-    refl c.of-world.ensures c.perform_all-ended.ensures refl refl
+    enclosed_so g.W.Sink (all_meant c.args.code.now c.args.parts.now) (local c.args.frame.now c.args.state.now)
+    (local c.perform_all-ended.new.frame c.perform_all-ended.new.state) (local c.truncate.new.self c.perform_all-ended.new.state) c.args.world.now c.perform_all-ended.new.world _ c.perform_all-ended.result
+    c.close.result c.perform_all-ended.ensures refl c.close.ensures
     (ap (λ ns. local ns c.perform_all-ended.new.state) (c.truncate.ensures ∙ ap (λ n. take n c.perform_all-ended.new.frame) c.len-count.ensures))
+
+pub perform_branch-returns-in_default-holds : goal.perform_branch-returns-in_default-holds
+perform_branch-returns-in_default-holds g t c =
+    branch_missed g.W.Sink c.args.code.now c.args.step c.args.yes.now c.args.no.now (local c.args.frame.now c.args.state.now) c.args.world.now _ _ _
+    c.in_default-holds.ensures.0 c.in_default-holds.ensures.1 refl c.in_ok-missed.ensures refl
 
 pub perform_branch-returns : goal.perform_branch-returns
 perform_branch-returns g t c =
-    branch_so g.W.Sink c.args.code.now c.args.step c.args.yes.now c.args.no.now c.chosen-parts.result.now c.in-Some.holds (mirror_node c.in-Some.node.now) (seen c.in-Some.rest) (local c.args.frame.now c.args.state.now) _ c.args.world.now _ c.perform_block.result
-    (sym c.in-Some.ensures) c.chosen-parts.ensures (rw c.as_slice.ensures at c.perform_block.ensures)
+    branch_so g.W.Sink c.args.code.now c.args.step c.args.yes.now c.args.no.now c.chosen-parts.result.now c.in_Some-holds.holds (local c.args.frame.now c.args.state.now) _ c.args.world.now _ _ c.perform_block.result
+    c.in_Some-holds.ensures refl c.chosen-parts.ensures (rw c.as_slice.ensures at c.perform_block.ensures)
 
 pub perform_part-perform_branch-requires : goal.perform_part-perform_branch-requires
 perform_part-perform_branch-requires g t c κs within = (let w = ap part_weight (ap mirror_part c.in-Branch.is ∙ form_Branch c.in-Branch.step c.in-Branch.yes c.in-Branch.no) in omega arith, within)
@@ -67,32 +70,42 @@ perform_part-returns-in-Turns g t c =
     of_form c.args.code.now c.args.part.now (Turns c.in-Turns.step c.in-Turns.name c.in-Turns.kind (mirror_parts c.in-Turns.body)) (ap mirror_part c.in-Turns.is ∙ form_Turns c.in-Turns.step c.in-Turns.name c.in-Turns.kind c.in-Turns.body)
     (loop_so c.args.code.now c.in-Turns.step c.in-Turns.name c.is_kept.result c.as_slice.result.now c.in-Turns.kind c.in-Turns.body c.is_kept.ensures c.as_slice.ensures c.perform_rows.ensures)
 
-pub perform_rows-returns-in_err-perform_turns : goal.perform_rows-returns-in_err-perform_turns
-perform_rows-returns-in_err-perform_turns g t c =
-    rows_cut g.W.Sink c.args.code.now c.args.turns.now c.in-Some.nodes.now (seen c.in-Some.rest) (local c.args.frame.now c.args.state.now) _ c.args.world.now _ c.perform_turns.result _ _
-    (sym c.in-Some.ensures) c.perform_turns.ensures c.in_err-perform_turns.was (search rules)
+pub perform_rows-returns-in_err-turn_rows : goal.perform_rows-returns-in_err-turn_rows
+perform_rows-returns-in_err-turn_rows g t c =
+    rows_cut g.W.Sink c.args.code.now c.args.turns.now (local c.args.frame.now c.args.state.now) _ c.args.world.now _ c.turn_rows.result _ _
+    c.turn_rows.ensures c.in_err-turn_rows.was (search rules)
 
 pub perform_rows-returns : goal.perform_rows-returns
 perform_rows-returns g t c =
-    rows_so g.W.Sink c.args.code.now c.args.turns.now c.in-Some.nodes.now (seen c.in-Some.rest) (local c.args.frame.now c.args.state.now) _ _ c.args.world.now _ _ c.perform_turns.result _ _
-    (sym c.in-Some.ensures) c.perform_turns.ensures c.in_ok-perform_turns.was c.perform_pass.ensures
+    rows_so g.W.Sink c.args.code.now c.args.turns.now (local c.args.frame.now c.args.state.now) _ _ c.args.world.now _ _ c.turn_rows.result _ _
+    c.turn_rows.ensures c.in_ok-turn_rows.was c.perform_pass.ensures
 
-pub perform_turn-returns-clause-performs : goal.perform_turn-returns-clause-performs
-perform_turn-returns-clause-performs g t c =
-    enclosed_so g.W.Sink (turn_meant c.args.code.now c.args.turns.now) (mirror_node c.args.node.now) (seen c.args.rest) (local c.args.frame.now c.args.state.now)
-    (local c.perform_row-ended.new.frame c.perform_row-ended.new.state) (local c.truncate.new.self c.perform_row-ended.new.state) c.args.world.now _ c.perform_row-ended.new.world _ c.perform_row-ended.result
-    refl c.of-world.ensures c.perform_row-ended.ensures refl refl
+pub turn_rows-returns-in_default : goal.turn_rows-returns-in_default
+turn_rows-returns-in_default g t c =
+    turned_missed g.W.Sink c.args.code.now c.args.turns.now (local c.args.frame.now c.args.state.now) c.args.world.now _ _ _
+    c.in_default.ensures.0 c.in_default.ensures.1 refl c.in_ok-missed.ensures refl
+
+pub turn_rows-returns : goal.turn_rows-returns
+turn_rows-returns g t c =
+    turned_so g.W.Sink c.args.code.now c.args.turns.now c.in-Some.count (local c.args.frame.now c.args.state.now) _ c.args.world.now _ c.perform_turns-ended.new.world _ c.perform_turns-ended.result c.close.result
+    c.in-Some.ensures refl c.perform_turns-ended.ensures refl c.close.ensures
+
+pub perform_turn-returns : goal.perform_turn-returns
+perform_turn-returns g t c =
+    enclosed_so g.W.Sink (turn_meant c.args.code.now c.args.turns.now) (local c.args.frame.now c.args.state.now)
+    (local c.perform_row-ended.new.frame c.perform_row-ended.new.state) (local c.truncate.new.self c.perform_row-ended.new.state) c.args.world.now c.perform_row-ended.new.world _ c.perform_row-ended.result
+    c.close.result c.perform_row-ended.ensures refl c.close.ensures
     (ap (λ ns. local ns c.perform_row-ended.new.state) (c.truncate.ensures ∙ ap (λ n. take n c.perform_row-ended.new.frame) c.len-count.ensures))
 
 pub perform_turns-nodes-init : goal.perform_turns-nodes-init
-perform_turns-nodes-init g t c = turns_begin g.W.Sink c.args.code.now c.args.turns.now c.args.nodes.now (seen c.args.rest) (local c.args.frame.now c.args.state.now) c.args.world.now _ refl refl
+perform_turns-nodes-init g t c = turns_begin g.W.Sink c.args.code.now c.args.turns.now c.args.count (local c.args.frame.now c.args.state.now) c.args.world.now
 
 pub perform_turns-returns-in_err-perform_turn : goal.perform_turns-returns-in_err-perform_turn
 perform_turns-returns-in_err-perform_turn g t c =
-    turns_cut c.node-item.result (omega arith) c.node-item.is c.nodes.invariant c.perform_turn.ensures.performs c.in_err-perform_turn.was (search rules)
+    turns_cut c.turn.result (omega arith) c.nodes.invariant refl c.turn.ensures c.perform_turn.ensures c.in_err-perform_turn.was (search rules)
 
 pub perform_turns-nodes-preserved : goal.perform_turns-nodes-preserved
-perform_turns-nodes-preserved g t c = turns_next c.node-item.result (omega arith) c.node-item.is c.nodes.invariant c.perform_turn.ensures.performs c.in_ok-perform_turn.was c.perform_turn.ensures.left
+perform_turns-nodes-preserved g t c = turns_next c.turn.result (omega arith) c.nodes.invariant refl c.turn.ensures c.perform_turn.ensures c.in_ok-perform_turn.was
 
 pub perform_turns-returns : goal.perform_turns-returns
 perform_turns-returns g t c = turns_end (omega arith) c.nodes.invariant

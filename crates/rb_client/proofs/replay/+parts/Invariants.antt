@@ -1,6 +1,5 @@
 use Rattle.std.proofs.Common.{◌+◌, max, drop}
 use Rattle.rb_engine.specs.Locals.{local}
-use Rattle.rb_client.specs.Lefts.{seen}
 use Rattle.rb_client.specs.Walks.{all_meant}
 use Rattle.rb_client.proofs.Enclosed.{TurnsOn}
 use Rattle.rb_client.proofs.Parted.{On}
@@ -20,7 +19,10 @@ abbrev pub decreases-perform_branch : goal.decreases-perform_branch
 decreases-perform_branch g l = max (parts_of l.yes.now) (parts_of l.no.now) + 3
 
 abbrev pub decreases-perform_rows : goal.decreases-perform_rows
-decreases-perform_rows g l = parts_of l.turns.now.body.now + 5
+decreases-perform_rows g l = parts_of l.turns.now.body.now + 6
+
+abbrev pub decreases-turn_rows : goal.decreases-turn_rows
+decreases-turn_rows g l = parts_of l.turns.now.body.now + 5
 
 abbrev pub decreases-perform_turns : goal.decreases-perform_turns
 decreases-perform_turns g l = parts_of l.turns.now.body.now + 4
@@ -36,5 +38,4 @@ invariant-perform_all-parts g l =
     On g.W.Sink (all_meant l.fn.code l.parts) (all_meant l.fn.code (drop l.part-index l.parts)) (local l.fn.frame l.fn.state) l.fn.world (local l.frame l.state) l.world
 
 abbrev pub invariant-perform_turns-nodes : goal.invariant-perform_turns-nodes
-invariant-perform_turns-nodes g l =
-    TurnsOn g.W.Sink l.fn.code l.fn.turns l.nodes (seen l.rest) l.node-index (local l.fn.frame l.fn.state) l.fn.world (local l.frame l.state) l.world
+invariant-perform_turns-nodes g l = TurnsOn g.W.Sink l.fn.code l.fn.turns l.count l.counter (local l.fn.frame l.fn.state) l.fn.world (local l.frame l.state) l.world
