@@ -4,9 +4,10 @@ use crate::script::script_of;
 use crate::service::service_text;
 use crate::totals::Totals;
 use rb_code::classes_differ;
-use rb_exec::{Host, run_script};
+use rb_exec::{Host, run_into};
 use rb_store::read_service;
-use rb_trees::{Memory, StoreError, Value};
+use rb_trees::{Memory, Seq, StoreError, Value};
+use rb_wire_forest::{ForestStop, decode_forest};
 use std::alloc::Global;
 use thiserror::Error;
 
@@ -20,6 +21,8 @@ pub enum Trouble {
     Service(StoreError),
     #[error("two classes or methods have one name")]
     Same,
+    #[error("{0}")]
+    Forest(ForestStop),
     #[error("out of memory")]
     Memory,
 }
@@ -47,6 +50,16 @@ pub fn host_of(alloc: Global, files: u32) -> Result<Host, Trouble> {
 pub fn totals_of(alloc: Global, files: u32, rounds: u32) -> Result<Totals, Trouble> {
     let mut host = host_of(alloc, files)?;
     let script = script_of(alloc, rounds)?;
-    let node = run_script(alloc, &mut host, &script, &[Value::Int(GROWTH)])?;
-    Ok(Totals::of(&node))
+    let mut forest = Seq::new(alloc);
+    run_into(
+        alloc,
+        &mut host,
+        &script,
+        &[Value::Int(GROWTH)],
+        &mut forest,
+    )?;
+    match decode_forest(alloc, forest.as_slice()) {
+        Ok(node) => Ok(Totals::of(&node)),
+        Err(stop) => Err(Trouble::Forest(stop)),
+    }
 }

@@ -4,6 +4,7 @@ pub mod Entries
 pub mod Forms
 pub mod Guided
 pub mod Hosted
+pub mod Patched
 pub mod Replies
 pub mod Turned
 pub mod Weight

@@ -1,38 +1,37 @@
 -- How steps and blocks, as the code runs them, stand to what they mean.
-use Rattle.std.specs.Prelude.{◌≡◌, ℕ, List, [], ◌∷◌, ◌++◌, length, Bool, true, false, is_some, None, Some, Result, Ok, Err}
-use Rattle.rb_trees.specs.Outcome.{◌>>◌}
+use Rattle.std.specs.Prelude.{◌≡◌, ℕ, List, ◌++◌, length, Bool, true, false, is_some, Option, None, Some, Result, Ok, Err}
 use Rattle.rb_trees.specs.declared.values.Value.{Value}
 use Rattle.rb_trees.specs.declared.values.Fault.{Fault}
-use Rattle.rb_trees.specs.declared.forests.Node as node
-use Rattle.rb_trees.specs.declared.forests.Entry as entry
-use Rattle.rb_trees.specs.declared.forests.Entry.TheVariants as entries
-use Rattle.rb_trees.specs.mirror.Forests.{mirror_node, mirror_nodes, mirror_entry}
+use Rattle.rb_trees.specs.mirror.Forests as forest
+use Rattle.rb_trees.specs.mirror.Forests.{Node, Holds, Entries, NoEntries, MoreEntries}
+use Rattle.rb_meaning_bytes.specs.formats.ForestBytes.{end_bytes, node_bytes}
 use Rattle.rb_meaning_code.specs.Faults.{fuel_used}
 use Rattle.rb_meaning_code.specs.Remote.{Server}
-use Rattle.rb_meaning_code.specs.ScriptRun.{Vars, PlacedFault, Ran, Turned, Why, AllDone, InTurn, NoUnit, with_entry, stopped, halted, may_keep}
+use Rattle.rb_meaning_code.specs.ScriptRun.{Vars, PlacedFault, Ran, Turned, Why, AllDone, InTurn, NoUnit, with_entry, stopped, halted}
+use Rattle.rb_wire_fields.specs.Buffers.{Keeps}
 use Rattle.rb_exec.specs.Stages.{Rest, Meaning, Course}
 use Rattle.rb_exec.specs.Ends.{UnlessMemory}
-use Rattle.rb_exec.specs.declared.blocks.Block.{Block}
+use Rattle.rb_exec.specs.Written.{Written, written, AddsNodes, Gains}
 use Rattle.rb_exec.specs.declared.run.Run.{Run}
 use Rattle.rb_exec.specs.declared.ends.Stop.{Stop}
 use Rattle.rb_exec.specs.declared.ends.Stop.TheVariants as stop
 use Rattle.rb_exec.specs.declared.turns.TurnsEnd.{TurnsEnd}
 use Rattle.rb_exec.specs.declared.turns.TurnsEnd.TheVariants as ends
 
--- with the entries so far before the others
-abbrev pub with_entries : List entry.Entry → Ran → Ran
-with_entries [] r = r
-with_entries (e ∷ es) r = with_entry (mirror_entry e) (with_entries es r)
+-- with entries before the others
+abbrev pub with_entries : Entries → Ran → Ran
+with_entries NoEntries r = r
+with_entries (MoreEntries e es) r = with_entry e (with_entries es r)
 
--- What steps did with the entries so far, whatever follows them: they went on; or a fault of their node stopped them, or
--- one that stands within its last entry.
-abbrev pub Does : Meaning → List entry.Entry → Result (Unit {0}) Stop → List entry.Entry → Vars → Server → Type 0
-Does meaning before (Ok u) after vars s = (go : Rest) → with_entries before (meaning go) ≡ with_entries after (go vars s)
+-- What steps did, whatever follows them: they gave entries and went on; or a fault of their node stopped them, or one that
+-- stands within their last entry. For want of memory the buffer kept its bytes.
+abbrev pub Does : Meaning → Written → Result (Unit {0}) Stop → Written → Vars → Server → Type 0
+Does meaning before (Ok u) after vars s = Gains before after (λ es. (go : Rest) → meaning go ≡ with_entries es (go vars s))
 Does meaning before (Err (stop.Fault f)) after vars s =
-    (go : Rest) → with_entries before (meaning go) ≡ with_entries after (stopped f.step f.at f.fault s)
+    Gains before after (λ es. (go : Rest) → meaning go ≡ with_entries es (stopped f.step f.at f.fault s))
 Does meaning before (Err stop.Within) after vars s =
-    (f : PlacedFault) × ((go : Rest) → with_entries before (meaning go) ≡ with_entries after (halted f s))
-Does meaning before (Err stop.Memory) after vars s = Unit {0}
+    Gains before after (λ es. (f : PlacedFault) × ((go : Rest) → meaning go ≡ with_entries es (halted f s)))
+Does meaning before (Err stop.Memory) after vars s = Keeps before.bytes after.bytes
 
 -- Bindings were only added.
 abbrev pub Extends : Vars → Vars → Type 0
@@ -46,26 +45,27 @@ Binds (Err stop.Within) before after = Extends before after
 Binds (Err stop.Memory) before after = Unit {0}
 
 -- what running steps ensures: what they did, and that they only bound variables
-pub record Did (meaning : Meaning) (before : List entry.Entry) (old : Vars) (result : Result (Unit {0}) Stop) (after : List entry.Entry) (new : Vars) (server : Server) : Type 0 where
+pub record Did (meaning : Meaning) (before : Written) (old : Vars) (result : Result (Unit {0}) Stop) (after : Written) (new : Vars) (server : Server) : Type 0 where
   pub does : Does meaning before result after new server
   pub binds : Binds result old new
 
--- the same of a run that performs them
-abbrev pub Runs : Course → List entry.Entry → Run → Result (Unit {0}) Stop → List entry.Entry → Run → Type 0
-Runs course before old result after new = Did (course old.variables old.server) before old.variables result after new.variables new.server
+-- the same of a run that performs them, with a count of its entries
+abbrev pub Runs : Course → ℕ → Run → Result (Unit {0}) Stop → ℕ → Run → Type 0
+Runs course count old result counted new =
+    Did (course old.variables old.server) (written old.bytes.items count) old.variables result (written new.bytes.items counted) new.variables new.server
 
--- the same of a step without an entry, whatever the entries so far
+-- the same of a step without an entry, whatever is counted
 abbrev pub RunsQuietly : Course → Run → Result (Unit {0}) Stop → Run → Type 0
-RunsQuietly course old result new = (es : List entry.Entry) → Runs course es old result es new
+RunsQuietly course old result new = (count : ℕ) → Runs course count old result count new
 
 -- The bindings that are older than so many are left.
 abbrev pub Closes : ℕ → Vars → Vars → Type 0
 Closes count old new = (more rest : Vars) → old ≡ more ++ rest → count ≡ length rest → new ≡ rest
 
--- a block as the code keeps it: its node, whether a fault stopped it, and the server after it
-pub record IsRun (meant : Ran) (block : Block) (server : Server) : Type 0 where
-  pub node_so : mirror_node block.node ≡ meant.node
-  pub stopped_so : block.stopped ≡ is_some meant.fault
+-- A block was performed: the buffer has gained its node, this tells whether a fault stopped it, and the server is the one after it.
+pub record WroteNode (meant : Ran) (old : List ℕ) (stopped : Bool) (new : List ℕ) (server : Server) : Type 0 where
+  pub bytes : new ≡ old ++ node_bytes meant.node
+  pub stopped_so : stopped ≡ is_some meant.fault
   pub server_so : server ≡ meant.server
 
 abbrev pub end_of : Why → TurnsEnd
@@ -73,39 +73,41 @@ end_of AllDone = ends.AllDone
 end_of (InTurn f) = ends.InTurn
 end_of NoUnit = ends.NoUnit
 
--- turns as the code keeps them: their nodes, why they ended, and the server after them
-pub record AreTurns (meant : Turned) (nodes : List node.Node) (end : TurnsEnd) (server : Server) : Type 0 where
-  pub nodes_so : mirror_nodes nodes ≡ meant.nodes
+-- Turns were performed: the buffer has gained their nodes, this tells why they ended, and the server is the one after them.
+pub record WroteTurns (meant : Turned) (before : Written) (end : TurnsEnd) (after : Written) (server : Server) : Type 0 where
+  pub adds : AddsNodes meant.nodes before after
   pub end_so : end ≡ end_of meant.why
   pub server_so : server ≡ meant.server
 
--- what a run ensures that performs a block behind entries
-abbrev pub RunsBlock : (Vars → Server → Ran) → List entry.Entry → Run → Result Block Stop → Run → Type 0
-RunsBlock meant es old result new = UnlessMemory result (λ block. IsRun (with_entries es (meant old.variables old.server)) block new.server)
+-- what a run ensures that performs a block
+abbrev pub RunsBlock : (Vars → Server → Ran) → Run → Result Bool Stop → Run → Type 0
+RunsBlock meant old result new =
+    UnlessMemory result (λ stopped. WroteNode (meant old.variables old.server) old.bytes.items stopped new.bytes.items new.server)
 
--- what a run ensures that performs turns
-abbrev pub RunsTurns : (Vars → Server → Turned) → Run → Result (List node.Node × TurnsEnd) Stop → Run → Type 0
-RunsTurns meant old result new = UnlessMemory result (λ t. AreTurns (meant old.variables old.server) t.0 t.1 new.server)
+-- what a run ensures that performs turns, with a count of their nodes
+abbrev pub RunsTurns : (Vars → Server → Turned) → ℕ → Run → Result TurnsEnd Stop → ℕ → Run → Type 0
+RunsTurns meant count old result counted new =
+    UnlessMemory result (λ end. WroteTurns (meant old.variables old.server) (written old.bytes.items count) end (written new.bytes.items counted) new.server)
 
--- the block that has a fault as its only content
-abbrev pub faulted_block : ℕ → ℕ → Fault → Block
-faulted_block step at fault = record { node = record { entries = []; fault = Some (record { step = step; at = at; fault = fault }) }; stopped = true }
+-- the node that has a fault as its only content
+abbrev pub faulted_node : ℕ → ℕ → Fault → Node
+faulted_node step at fault = Holds NoEntries (Some (record { step = step; at = at; fault = fault }))
 
--- the entry of a value that is kept
-abbrev pub kept_entries : Bool → Value → List entry.Entry
-kept_entries true v = entries.Value v ∷ []
-kept_entries false v = []
+-- the entry of a value alone
+abbrev pub one_value : Value → Entries
+one_value v = MoreEntries (forest.Value v) NoEntries
 
--- the entries that the node of a turn begins with
-abbrev pub row_entries : Bool → Value → Result (List entry.Entry) Fault
-row_entries keep row = may_keep keep row >> Ok (kept_entries keep row)
+-- the entry of a value, where there is one
+abbrev pub first_entries : Option Value → Entries
+first_entries None = NoEntries
+first_entries (Some v) = one_value v
 
--- the block of these entries, by how its steps ended
-abbrev pub Finished : List entry.Entry → Result (Unit {0}) Stop → Result Block Stop → Type 0
-Finished es (Ok u) result = result ≡ Ok (record { node = record { entries = es; fault = None }; stopped = false })
-Finished es (Err (stop.Fault f)) result = result ≡ Ok (record { node = record { entries = es; fault = Some f }; stopped = true })
-Finished es (Err stop.Within) result = result ≡ Ok (record { node = record { entries = es; fault = None }; stopped = true })
-Finished es (Err stop.Memory) result = result ≡ Err stop.Memory
+-- What stands behind the entries of a node whose steps ended so, and whether a fault stopped them.
+abbrev pub Ended : Result (Unit {0}) Stop → List ℕ → Bool → List ℕ → Type 0
+Ended (Ok u) old halts new = (halts ≡ false) × (new ≡ old ++ end_bytes None)
+Ended (Err (stop.Fault f)) old halts new = (halts ≡ true) × (new ≡ old ++ end_bytes (Some f))
+Ended (Err stop.Within) old halts new = (halts ≡ true) × (new ≡ old ++ end_bytes None)
+Ended (Err stop.Memory) old halts new = ⊥
 
 -- how the steps go on after turns
 abbrev pub EndsTurns : ℕ → ℕ → TurnsEnd → Result (Unit {0}) Stop → Type 0

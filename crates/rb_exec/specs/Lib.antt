@@ -2,6 +2,8 @@ pub mod Bindings
 pub mod Blocks
 pub mod Codes
 pub mod Ends
+pub mod Holes
 pub mod Hosted
 pub mod Hosts
 pub mod Stages
+pub mod Written

@@ -1,5 +1,5 @@
 -- What the trees of a script mean on a stage.
-use Rattle.std.specs.Prelude.{ℕ, List, [], ◌∷◌, map, Bool}
+use Rattle.std.specs.Prelude.{ℕ, List, [], ◌∷◌, map, Bool, true, false, Option, None, Some}
 use Rattle.rb_trees.specs.declared.values.Value.{Value}
 use Rattle.rb_trees.specs.declared.code.UnOp.{UnOp}
 use Rattle.rb_trees.specs.declared.code.BinOp.{BinOp}
@@ -9,9 +9,10 @@ use Rattle.rb_trees.specs.declared.scripts.SExpr.{SExpr}
 use Rattle.rb_trees.specs.declared.scripts.Step.{Step}
 use Rattle.rb_trees.specs.mirror.Scripts as script
 use Rattle.rb_trees.specs.mirror.Scripts.{mirror_sexpr, mirror_sexprs, mirror_step, mirror_steps}
+use Rattle.rb_trees.specs.mirror.Forests as forest
 use Rattle.rb_trees.specs.mirror.Declarations.{mirror_class}
 use Rattle.rb_meaning_code.specs.Remote.{Server, Reply}
-use Rattle.rb_meaning_code.specs.ScriptRun.{Ground, Vars, Ran, Turned, value_of, values_of, ended, run_step, run_steps, turn_over, turns}
+use Rattle.rb_meaning_code.specs.ScriptRun.{Ground, Vars, Ran, Turned, value_of, values_of, ended, with_entry, run_step, run_steps, turn_over, turns}
 use Rattle.rb_exec.specs.declared.stage.Stage.{Stage}
 use Rattle.rb_exec.specs.declared.stage.Site.{Site}
 use Rattle.rb_exec.specs.declared.expressions.Scope.{Scope}
@@ -83,6 +84,20 @@ each_run w e = site_run w.site (script.Each w.site.id w.site.at w.variable w.kee
 abbrev pub block_run : Stage → List Step → Vars → Server → Ran
 block_run st steps vars s = run_steps (ground st) (mirror_steps steps) vars s ended
 
+-- with the entry of a value before the others, where there is one
+abbrev pub with_first : Option Value → Ran → Ran
+with_first None r = r
+with_first (Some v) r = with_entry (forest.Value v) r
+
+-- a value that is kept, or none
+abbrev pub if_kept : Bool → Value → Option Value
+if_kept true v = Some v
+if_kept false v = None
+
+-- a block behind the entry of a value, where there is one
+abbrev pub block_from : Stage → Option Value → List Step → Vars → Server → Ran
+block_from st first steps vars s = with_first first (block_run st steps vars s)
+
 -- the body of a script, which begins without variables
 abbrev pub body_run : Stage → List Step → Server → Ran
 body_run st steps s = block_run st steps [] s
@@ -90,6 +105,10 @@ body_run st steps s = block_run st steps [] s
 -- the block of a turn, with its row bound
 abbrev pub row_run : Walk → Value → Vars → Server → Ran
 row_run w row vars s = block_run w.site.stage.now w.body.now ((w.variable, row) ∷ vars) s
+
+-- the same behind the entry of the row, where rows are kept
+abbrev pub kept_row_run : Walk → Value → Vars → Server → Ran
+kept_row_run w row vars s = with_first (if_kept w.keep row) (row_run w row vars s)
 
 -- a turn over a row
 abbrev pub turn_run : Walk → Value → Vars → Server → Ran

@@ -1,29 +1,34 @@
 // A service with its table, and the run of a script on it.
 
-ghost use Rattle.std.specs.Prelude.{◌≡◌, map, IfOk, OnOk};
+ghost use Rattle.std.specs.Prelude.{◌≡◌, ◌++◌, map, IfOk, OnOk, OnErr};
 ghost use Rattle.rb_trees.specs.mirror.Declarations.{mirror_class};
 ghost use Rattle.rb_trees.specs.mirror.Forests.{mirror_node};
+ghost use Rattle.rb_meaning_bytes.specs.formats.ForestBytes.{forest_bytes, FormedForest};
+ghost use Rattle.rb_wire_fields.specs.Buffers.{Keeps};
 ghost use Rattle.rb_code.specs.Differ.{ClassesDiffer};
-ghost use Rattle.rb_exec.specs.Blocks.{IsRun};
-ghost use Rattle.rb_exec.specs.Ends.{UnlessMemory};
-ghost use Rattle.rb_exec.specs.Hosts.{script_run};
+ghost use Rattle.rb_exec.specs.Hosts.{forest_of, script_run};
 ghost use Rattle.rb_exec.specs.Stages.{body_run};
 
-use crate::blocks::Block;
-use crate::ends::Stop;
+use crate::nodes::put_tag;
 use crate::run::Run;
 use crate::stage::Stage;
 use crate::variables::Variables;
+use bytes::BytesMut;
 use rb_code::Code;
 use rb_engine::Server;
 use rb_heap::Heap;
+use rb_meaning_bytes::each_forest_has_one_spelling;
 use rb_trees::{Memory, Node, Script, Seq, Service, Step, Value};
+use rb_wire_forest::decode_forest;
 use std::alloc::Global;
 use std::marker::Model;
 use std::mem;
 
 /// The units of fuel of a script: `batch_fuel`.
 const BATCH_FUEL: u64 = 1_000_000;
+
+/// The first byte of a forest.
+const VERSION: u8 = 1;
 
 /// A service with its table of objects. Contracts see both.
 #[derive(Drop)]
@@ -67,19 +72,22 @@ impl Host {
     }
 }
 
-/// Runs a script with the values of its inputs: `run_script`.
+/// Runs a script with the values of its inputs, and appends the forest that it gives.
 ///
-/// The node and the table are what the script means there, whatever its tree and its inputs are; each fault is in the node.
-/// The service stays. The error is want of memory, after which nothing is said of the table.
-pub fn run_script(
+/// The forest's root and the table are what the script means there (`script_run`), whatever its tree and its inputs are; each
+/// fault is in the node. The service stays. The error is want of memory, after which the buffer is as it was, and nothing is
+/// said of the table.
+pub fn run_onto(
     alloc: Global,
     host: &mut Host,
     script: &Script,
     inputs: &[Value],
-) -> Result<Node, Memory>
-    ensures node { IfOk result (λ node. mirror_node node ≡ (script_run host.old script.now inputs.now).node) }
+    bytes: &mut BytesMut,
+) -> Result<(), Memory>
+    ensures forest { OnOk result (bytes.new.items ≡ bytes.old.items ++ forest_of host.old script.now inputs.now) }
     ensures table { OnOk result (host.new.table ≡ (script_run host.old script.now inputs.now).server.table) }
     ensures service { host.new.service ≡ host.old.service }
+    ensures unchanged { OnErr result (bytes.new.items ≡ bytes.old.items) }
 {
     host.server.refuel(BATCH_FUEL);
     let stage = Stage {
@@ -88,35 +96,88 @@ pub fn run_script(
         root: host.root,
         inputs,
     };
-    let ran = run_body(&stage, &mut host.server, &script.body);
-    match ran {
-        Ok(block) => Ok(node_of(block)),
+    let len = bytes.len();
+    if let Err(want) = run_body(&stage, &mut host.server, &script.body, bytes) {
+        bytes.truncate(len);
+        return Err(want);
+    }
+    Ok(())
+}
+
+/// The same onto a list of bytes, of which nothing is said either after want of memory.
+pub fn run_into(
+    alloc: Global,
+    host: &mut Host,
+    script: &Script,
+    inputs: &[Value],
+    out: &mut Seq<u8>,
+) -> Result<(), Memory>
+    ensures forest { OnOk result (out.new ≡ out.old ++ forest_of host.old script.now inputs.now) }
+    ensures table { OnOk result (host.new.table ≡ (script_run host.old script.now inputs.now).server.table) }
+    ensures service { host.new.service ≡ host.old.service }
+{
+    let before = mem::replace(out, Seq::new(alloc));
+    let mut bytes = BytesMut::from_vec(before.into_vec());
+    let ran = run_onto(alloc, host, script, inputs, &mut bytes);
+    let after = bytes.into_vec()?;
+    *out = Seq::from_vec(after);
+    ran
+}
+
+/// Runs a script with the values of its inputs, and reads the forest that it gives.
+///
+/// The node and the table are what the script means there, where that node has a spelling; each fault is in the node. The
+/// service stays. The error is want of memory, after which nothing is said of the table.
+pub fn run_script(
+    alloc: Global,
+    host: &mut Host,
+    script: &Script,
+    inputs: &[Value],
+) -> Result<Node, Memory>
+    requires { FormedForest (script_run host.old script.now inputs.now).node }
+    ensures node { IfOk result (λ node. mirror_node node ≡ (script_run host.old script.now inputs.now).node) }
+    ensures table { OnOk result (host.new.table ≡ (script_run host.old script.now inputs.now).server.table) }
+    ensures service { host.new.service ≡ host.old.service }
+{
+    each_forest_has_one_spelling();
+    let mut bytes = Seq::new(alloc);
+    run_into(alloc, host, script, inputs, &mut bytes)?;
+    match decode_forest(alloc, bytes.as_slice()) {
+        Ok(node) => Ok(node),
         Err(_) => Err(Memory),
     }
 }
 
-// The node of a block.
-fn node_of(block: Block) -> Node
-    ensures { result ≡ block.node }
-{
-    let Block { node, stopped: _ } = block;
-    node
-}
-
-// The body of a script, which begins without variables. The run has the server until its end.
+// Appends the forest of the body of a script, which begins without variables. The run has the server and the buffer until its
+// end.
 #[inline(never)]
-fn run_body(stage: &Stage<'_>, server: &mut Server, body: &Seq<Step>) -> Result<Block, Stop>
-    ensures { UnlessMemory result (λ block. IsRun (body_run stage.now body.now server.old) block server.new) }
+#[tactic(auto, using(rb_wire_fields::proofs::Kept::kept))]
+fn run_body(
+    stage: &Stage<'_>,
+    server: &mut Server,
+    body: &Seq<Step>,
+    bytes: &mut BytesMut,
+) -> Result<(), Memory>
+    ensures forest { OnOk result (bytes.new.items ≡ bytes.old.items ++ forest_bytes (body_run stage.now body.now server.old).node) }
+    ensures server { OnOk result (server.new ≡ (body_run stage.now body.now server.old).server) }
+    ensures kept { OnErr result (Keeps bytes.old.items bytes.new.items) }
 {
+    put_tag(VERSION, bytes)?;
     let mut run = Run {
         server: mem::replace(server, Server::new(Heap::make(stage.alloc))),
         variables: Variables::new(stage.alloc),
+        bytes: mem::replace(bytes, BytesMut::new(stage.alloc)),
     };
-    let ran = run.run_block(stage, 0, Seq::new(stage.alloc), body);
+    let ran = run.run_block(stage, 0, None, body);
     let Run {
         server: left,
         variables: _,
+        bytes: written,
     } = run;
     *server = left;
-    ran
+    *bytes = written;
+    match ran {
+        Ok(_) => Ok(()),
+        Err(_) => Err(Memory),
+    }
 }

@@ -1,14 +1,15 @@
-//! Runs scripts on a service: a [`Host`] holds the service and its table, and [`run_script`] performs a script there and
-//! answers its node.
+//! Runs scripts on a service: a [`Host`] holds the service and its table, and [`run_onto`] performs a script there and appends
+//! the bytes of the forest that it gives, while it runs. [`run_script`] answers the node of that forest.
 //!
 //! What a script means stands in `specs/ScriptRun.antt` of `rb_meaning_code`; what is run is proved to be that, whatever
 //! the script and its inputs are.
 #![tactic(auto)]
 
-mod blocks;
 mod ends;
 mod expressions;
+mod holes;
 mod host;
+mod nodes;
 mod rules;
 mod run;
 mod stage;
@@ -16,4 +17,4 @@ mod steps;
 mod turns;
 mod variables;
 
-pub use host::{Host, run_script};
+pub use host::{Host, run_into, run_onto, run_script};

@@ -1,6 +1,7 @@
 // The rules of steps and of what they look up: a value or the fault that a rule says.
 
-ghost use Rattle.std.specs.Prelude.{◌≡◌, ◌++◌, slice_get, OnOk};
+ghost use Rattle.std.specs.Prelude.{◌≡◌, slice_get};
+ghost use Rattle.std.specs.Option.{option_copied};
 ghost use Rattle.rb_trees.specs.Outcome.{Gives, known};
 ghost use Rattle.rb_trees.specs.declared.values.Value.{out-Value};
 ghost use Rattle.rb_engine.specs.Ends.{fault_of};
@@ -8,11 +9,11 @@ ghost use Rattle.rb_engine.specs.declared.ends.Failure.TheVariants as failure;
 ghost use Rattle.rb_meaning_code.specs.Faults as faults;
 ghost use Rattle.rb_meaning_code.specs.Remote as remote;
 ghost use Rattle.rb_meaning_code.specs.ScriptRun as meant;
-ghost use Rattle.rb_exec.specs.Blocks as blocks;
+ghost use Rattle.rb_exec.specs.Stages as stages;
 
 use crate::variables::Variables;
 use rb_engine::Failure;
-use rb_trees::{Entry, Fault, Memory, Seq, Shared, Value, copy_value, fault_codes};
+use rb_trees::{Fault, Seq, Shared, Value, copy_value, fault_codes};
 use std::alloc::Global;
 
 // The fault Kind.
@@ -93,24 +94,9 @@ pub fn rows_in(alloc: Global, value: &Value) -> Result<Shared<Seq<Value>>, Failu
     }
 }
 
-/// Adds the entry of a value, where it is kept.
-#[inline(never)]
-pub fn add_kept(entries: &mut Seq<Entry>, keep: bool, value: &Value) -> Result<(), Memory>
-    ensures { OnOk result (entries.new ≡ entries.old ++ blocks.kept_entries keep value.now) }
+/// A value that is kept, or none.
+pub fn if_kept(keep: bool, value: &Value) -> Option<&Value>
+    ensures { option_copied result ≡ stages.if_kept keep value.now }
 {
-    if keep {
-        entries.push(Entry::Value(copy_value(value)?))?;
-    }
-    Ok(())
-}
-
-/// The entries that the node of a turn begins with: its row, where it is kept.
-#[inline(never)]
-pub fn row_entries(alloc: Global, keep: bool, row: &Value) -> Result<Seq<Entry>, Failure>
-    ensures { Gives (λ entries. entries) fault_of result (blocks.row_entries keep row.now) }
-{
-    may_keep(alloc, keep, row)?;
-    let mut entries = Seq::new(alloc);
-    add_kept(&mut entries, keep, row)?;
-    Ok(entries)
+    if keep { Some(value) } else { None }
 }

@@ -1,18 +1,21 @@
 // Performs the steps of a script.
 
-ghost use Rattle.std.specs.Prelude.{◌≡◌, cond};
+ghost use Rattle.std.specs.Prelude.{◌≡◌, cond, OnErr};
+ghost use Rattle.std.specs.Option.{option_copied};
+ghost use Rattle.rb_wire_fields.specs.Buffers.{Keeps};
 ghost use Rattle.rb_exec.specs.Blocks.{Closes, Runs, RunsBlock, RunsQuietly};
 ghost use Rattle.rb_exec.specs.Ends.{UnlessMemory};
-ghost use Rattle.rb_exec.specs.Stages.{block_run, do_run, each_run, if_run, keep_run, let_run, step_run, steps_run};
+ghost use Rattle.rb_exec.specs.Stages.{block_from, do_run, each_run, if_run, keep_run, let_run, step_run, steps_run};
 
-use crate::blocks::{Block, finish};
 use crate::ends::Stop;
-use crate::rules::{add_kept, may_keep, rows_in};
+use crate::holes::{add_one, fill, leave_hole};
+use crate::nodes::{end_node, put_branch, put_entry, put_first, put_rows};
+use crate::rules::{if_kept, may_keep, rows_in};
 use crate::run::Run;
 use crate::stage::{Site, Stage};
 use crate::turns::{Walk, end_turns};
 use rb_engine::truth_of;
-use rb_trees::{Entry, SExpr, Seq, Step, StepForm};
+use rb_trees::{SExpr, Seq, Step, StepForm, Value};
 
 // The block that a condition chooses.
 fn chosen<'a>(holds: bool, yes: &'a Seq<Step>, no: &'a Seq<Step>) -> &'a Seq<Step>
@@ -22,35 +25,34 @@ fn chosen<'a>(holds: bool, yes: &'a Seq<Step>, no: &'a Seq<Step>) -> &'a Seq<Ste
 }
 
 impl Run {
-    /// The steps of a block behind the entries so far. At its end the bindings that are older than so many stay.
+    /// Performs the steps of a block and appends its node, which begins with a value where one is given. Tells whether a fault
+    /// stopped the block, wherever in the node it stands. At its end the bindings that are older than so many stay.
     #[cycle(running)]
     #[inline(never)]
     pub fn run_block(
         &mut self,
         stage: &Stage<'_>,
         count: usize,
-        entries: Seq<Entry>,
+        first: Option<&Value>,
         steps: &Seq<Step>,
-    ) -> Result<Block, Stop>
-        ensures runs { RunsBlock (block_run stage.now steps.now) entries self.old result self.new }
-        ensures closes { UnlessMemory result (λ block. Closes count self.old.variables self.new.variables) }
+    ) -> Result<bool, Stop>
+        ensures runs { RunsBlock (block_from stage.now (option_copied first.entry) steps.now) self.old result self.new }
+        ensures closes { UnlessMemory result (λ stopped. Closes count self.old.variables self.new.variables) }
+        ensures kept { OnErr result (Keeps self.old.bytes.items self.new.bytes.items) }
     {
-        let mut entries = entries;
+        let at = leave_hole(&mut self.bytes)?;
+        let mut entries = 0;
+        put_first(first, &mut entries, &mut self.bytes)?;
         let end = self.run_all(stage, &mut entries, steps.as_slice());
-        let block = finish(entries, end)?;
         self.variables.close(count)?;
-        Ok(block)
+        let stopped = end_node(&mut self.bytes, at, entries, end)?;
+        Ok(stopped)
     }
 
     // Steps in order.
     #[cycle(running)]
     #[inline(never)]
-    fn run_all(
-        &mut self,
-        stage: &Stage<'_>,
-        entries: &mut Seq<Entry>,
-        steps: &[Step],
-    ) -> Result<(), Stop>
+    fn run_all(&mut self, stage: &Stage<'_>, entries: &mut u32, steps: &[Step]) -> Result<(), Stop>
         ensures { Runs (steps_run stage.now steps.now) entries.old self.old result entries.new self.new }
     {
         'steps: for step in steps {
@@ -62,12 +64,7 @@ impl Run {
     // A step.
     #[cycle(running)]
     #[inline(never)]
-    fn run_step(
-        &mut self,
-        stage: &Stage<'_>,
-        entries: &mut Seq<Entry>,
-        step: &Step,
-    ) -> Result<(), Stop>
+    fn run_step(&mut self, stage: &Stage<'_>, entries: &mut u32, step: &Step) -> Result<(), Stop>
         ensures { Runs (step_run stage.now step.now) entries.old self.old result entries.new self.new }
     {
         let site = Site {
@@ -108,17 +105,12 @@ impl Run {
 
     // A `Keep`, whose value is an entry.
     #[inline(never)]
-    fn run_keep(
-        &mut self,
-        entries: &mut Seq<Entry>,
-        site: Site<'_>,
-        expr: &SExpr,
-    ) -> Result<(), Stop>
+    fn run_keep(&mut self, entries: &mut u32, site: Site<'_>, expr: &SExpr) -> Result<(), Stop>
         ensures { Runs (keep_run site.entry expr.now) entries.old self.old result entries.new self.new }
     {
         let value = site.value(&self.variables, &mut self.server, expr)?;
         site.ruled(may_keep(site.stage.alloc, true, &value))?;
-        entries.push(Entry::Value(value))?;
+        put_entry(&value, entries, &mut self.bytes)?;
         Ok(())
     }
 
@@ -126,7 +118,7 @@ impl Run {
     #[inline(never)]
     fn run_let(
         &mut self,
-        entries: &mut Seq<Entry>,
+        entries: &mut u32,
         site: Site<'_>,
         variable: u32,
         keep: bool,
@@ -136,7 +128,7 @@ impl Run {
     {
         let value = site.value(&self.variables, &mut self.server, expr)?;
         site.ruled(may_keep(site.stage.alloc, keep, &value))?;
-        add_kept(entries, keep, &value)?;
+        put_first(if_kept(keep, &value), entries, &mut self.bytes)?;
         self.variables.bind(variable, value)?;
         Ok(())
     }
@@ -146,7 +138,7 @@ impl Run {
     #[inline(never)]
     fn run_if(
         &mut self,
-        entries: &mut Seq<Entry>,
+        entries: &mut u32,
         site: Site<'_>,
         test: &SExpr,
         yes: &Seq<Step>,
@@ -154,13 +146,13 @@ impl Run {
     ) -> Result<(), Stop>
         ensures { Runs (if_run site.entry test.now yes.now no.now) entries.old self.old result entries.new self.new }
     {
-        let alloc = site.stage.alloc;
         let value = site.value(&self.variables, &mut self.server, test)?;
-        let holds = site.ruled(truth_of(alloc, value))?;
+        let holds = site.ruled(truth_of(site.stage.alloc, value))?;
         let steps = chosen(holds, yes, no);
         let count = self.variables.count();
-        let Block { node, stopped } = self.run_block(site.stage, count, Seq::new(alloc), steps)?;
-        entries.push(Entry::Branch(holds, node))?;
+        put_branch(holds, &mut self.bytes)?;
+        let stopped = self.run_block(site.stage, count, None, steps)?;
+        add_one(entries);
         if stopped {
             return Err(Stop::Within);
         }
@@ -170,19 +162,17 @@ impl Run {
     // An `Each`: the entry of its turns.
     #[cycle(running)]
     #[inline(never)]
-    fn run_each(
-        &mut self,
-        entries: &mut Seq<Entry>,
-        walk: &Walk<'_>,
-        rows: &SExpr,
-    ) -> Result<(), Stop>
+    fn run_each(&mut self, entries: &mut u32, walk: &Walk<'_>, rows: &SExpr) -> Result<(), Stop>
         ensures { Runs (each_run walk.now rows.now) entries.old self.old result entries.new self.new }
     {
         let site = walk.site;
         let value = site.value(&self.variables, &mut self.server, rows)?;
         let rows = site.ruled(rows_in(site.stage.alloc, &value))?;
-        let (nodes, end) = self.run_turns(walk, rows.get().as_slice())?;
-        entries.push(Entry::Rows(nodes))?;
+        let at = put_rows(&mut self.bytes)?;
+        let mut begun = 0;
+        let end = self.run_turns(walk, &mut begun, rows.get().as_slice())?;
+        fill(&mut self.bytes, at, begun);
+        add_one(entries);
         end_turns(site, end)
     }
 }

@@ -1,17 +1,19 @@
 // Performs the turns of an `Each`.
 
-ghost use Rattle.std.specs.Prelude.{◌≡◌, []};
+ghost use Rattle.std.specs.Prelude.{◌≡◌, OnErr};
+ghost use Rattle.rb_wire_fields.specs.Buffers.{Keeps};
 ghost use Rattle.rb_exec.specs.Blocks.{EndsTurns, RunsBlock, RunsTurns};
 ghost use Rattle.rb_exec.specs.Ends.{UnlessMemory};
-ghost use Rattle.rb_exec.specs.Stages.{row_run, turn_run, turns_run};
+ghost use Rattle.rb_exec.specs.Stages.{kept_row_run, turn_run, turns_run};
 
-use crate::blocks::{Block, faulted};
 use crate::ends::Stop;
-use crate::rules::{fuel_used, row_entries};
+use crate::holes::add_one;
+use crate::nodes::put_faulted;
+use crate::rules::{fuel_used, if_kept, may_keep};
 use crate::run::Run;
 use crate::stage::Site;
 use rb_engine::{Miss, at_place};
-use rb_trees::{Entry, Node, NodeFault, Seq, Step, Value, copy_value};
+use rb_trees::{NodeFault, Seq, Step, Value, copy_value};
 
 /// An `Each`, without its rows: where its step stands, the variable of its rows, whether they are kept, and its block.
 #[derive(Clone, Copy)]
@@ -31,57 +33,63 @@ pub enum TurnsEnd {
 }
 
 impl Run {
-    /// The turns over rows: the nodes of those that began, and why they ended.
+    /// Performs the turns over rows, appends the nodes of those that began and counts them. Tells why they ended.
     #[cycle(running)]
     #[inline(never)]
     pub fn run_turns(
         &mut self,
         walk: &Walk<'_>,
+        begun: &mut u32,
         rows: &[Value],
-    ) -> Result<(Seq<Node>, TurnsEnd), Stop>
-        ensures turns { RunsTurns (turns_run walk.now rows.now) self.old result self.new }
-        ensures closes { UnlessMemory result (λ t. self.new.variables ≡ self.old.variables) }
+    ) -> Result<TurnsEnd, Stop>
+        ensures turns { RunsTurns (turns_run walk.now rows.now) begun.old self.old result begun.new self.new }
+        ensures closes { UnlessMemory result (λ end. self.new.variables ≡ self.old.variables) }
+        ensures kept { OnErr result (Keeps self.old.bytes.items self.new.bytes.items) }
     {
-        let mut nodes = Seq::new(walk.site.stage.alloc);
         'rows: for row in rows {
             if !self.server.take_unit() {
-                return Ok((nodes, TurnsEnd::NoUnit));
+                return Ok(TurnsEnd::NoUnit);
             }
-            let Block { node, stopped } = self.run_turn(walk, row)?;
-            nodes.push(node)?;
+            let stopped = self.run_turn(walk, row)?;
+            add_one(begun);
             if stopped {
-                return Ok((nodes, TurnsEnd::InTurn));
+                return Ok(TurnsEnd::InTurn);
             }
         }
-        Ok((nodes, TurnsEnd::AllDone))
+        Ok(TurnsEnd::AllDone)
     }
 
-    // A turn over a row. A row that is kept and isn't primitive is the turn's fault, and its only content.
+    // A turn over a row: appends its node. A row that is kept and isn't primitive is the turn's fault, and its only content.
     #[cycle(running)]
     #[inline(never)]
-    fn run_turn(&mut self, walk: &Walk<'_>, row: &Value) -> Result<Block, Stop>
-        ensures turn { RunsBlock (turn_run walk.now row.now) [] self.old result self.new }
-        ensures closes { UnlessMemory result (λ block. self.new.variables ≡ self.old.variables) }
+    fn run_turn(&mut self, walk: &Walk<'_>, row: &Value) -> Result<bool, Stop>
+        ensures turn { RunsBlock (turn_run walk.now row.now) self.old result self.new }
+        ensures closes { UnlessMemory result (λ stopped. self.new.variables ≡ self.old.variables) }
+        ensures kept { OnErr result (Keeps self.old.bytes.items self.new.bytes.items) }
     {
         let site = walk.site;
-        let alloc = site.stage.alloc;
-        match at_place(site.at, row_entries(alloc, walk.keep, row)) {
-            Ok(entries) => self.run_row(walk, row, entries),
-            Err(Miss::Fault(at, fault)) => Ok(faulted(alloc, site.id, at, fault)),
+        match at_place(site.at, may_keep(site.stage.alloc, walk.keep, row)) {
+            Ok(()) => self.run_row(walk, row),
+            Err(Miss::Fault(at, fault)) => {
+                put_faulted(site.id, at, fault, &mut self.bytes)?;
+                Ok(true)
+            }
             Err(Miss::Memory) => Err(Stop::Memory),
         }
     }
 
-    // The block of a turn, with its row bound.
+    // The block of a turn, with its row bound. Its node begins with the row, where rows are kept.
     #[cycle(running)]
     #[inline(never)]
-    fn run_row(&mut self, walk: &Walk<'_>, row: &Value, entries: Seq<Entry>) -> Result<Block, Stop>
-        ensures turn { RunsBlock (row_run walk.now row.now) entries self.old result self.new }
-        ensures closes { UnlessMemory result (λ block. self.new.variables ≡ self.old.variables) }
+    fn run_row(&mut self, walk: &Walk<'_>, row: &Value) -> Result<bool, Stop>
+        ensures turn { RunsBlock (kept_row_run walk.now row.now) self.old result self.new }
+        ensures closes { UnlessMemory result (λ stopped. self.new.variables ≡ self.old.variables) }
+        ensures kept { OnErr result (Keeps self.old.bytes.items self.new.bytes.items) }
     {
         let count = self.variables.count();
         self.variables.bind(walk.variable, copy_value(row)?)?;
-        self.run_block(walk.site.stage, count, entries, walk.body)
+        let first = if_kept(walk.keep, row);
+        self.run_block(walk.site.stage, count, first, walk.body)
     }
 }
 

@@ -1,14 +1,21 @@
 -- What a script that was sent gives on a typed host: its node has a spelling, and the host stays typed.
-use Rattle.std.proofs.Common.{◌≡◌, ap, sym, ◌∙◌, subst, arith}
+use Rattle.std.proofs.Common.{◌≡◌, ap, sym, ◌∙◌, subst, arith, ℕ, List, ◌++◌}
+use Rattle.rb_trees.specs.declared.values.Value.{Value}
+use Rattle.rb_trees.specs.declared.scripts.Script.{Script}
 use Rattle.rb_trees.specs.mirror.Forests.{Node}
 use Rattle.rb_trees.specs.mirror.Services.{mirror_service}
 use Rattle.rb_meaning_bytes.specs.formats.FormedScripts.{IsWithinLimits, StepsWithin}
-use Rattle.rb_meaning_bytes.specs.formats.ForestBytes.{FormedForest, FormedNode}
+use Rattle.rb_meaning_bytes.specs.formats.Forests.{forest_message}
+use Rattle.rb_meaning_bytes.specs.formats.ForestBytes.{forest_bytes, FormedForest, FormedNode}
+use Rattle.rb_meaning_bytes.specs.formats.Laws.{IsSpelling}
 use Rattle.rb_meaning_bytes.specs.formats.ScriptPayloads.{Sent}
 use Rattle.rb_law_types.specs.Scripts.{ScriptsKeep, RanKeeps, StepsGive, AreNone}
 use Rattle.rb_law_types.specs.Formed.{LawfulClassesAreFormed}
 use Rattle.rb_exec.specs.Hosted.{Hosted}
-use Rattle.rb_session.specs.Answering.{IsTypedHost, IsSent, performed_on}
+use Rattle.rb_exec.specs.Hosts.{script_run}
+use Rattle.rb_wire_forest.specs.Buffers.{Appends}
+use Rattle.rb_session.specs.Answering.{IsTypedHost, Performs, performed_on}
+use Rattle.rb_session.specs.Readings.{IsSent, sent_of}
 use Rattle.rb_session.proofs.Nodes.{root_formed}
 use Rattle.rb_session.proofs.Bounded.{steps_bounded, inputs_bounded}
 
@@ -34,6 +41,15 @@ node_spelled law formed host x typed sent =
     let size = sent.size in
     as_forest (performed_on host x).node (root_formed x.0.body (limits_within x sent.formed.within) (omega arith) (performed_on host x).node ran.node)
 
+-- its forest, where its bytes were appended
+pub node_appended : ScriptsKeep → LawfulClassesAreFormed → IsSpelling forest_message forest_bytes FormedForest → (host : Hosted) (x : Sent) (old new : List ℕ) → IsTypedHost host → IsSent x
+    → new ≡ old ++ forest_bytes (performed_on host x).node → Appends forest_message old new (performed_on host x).node
+node_appended law formed spelling host x old new typed sent is = record {
+  bytes = forest_bytes (performed_on host x).node;
+  spells = spelling.spelled (performed_on host x).node (node_spelled law formed host x typed sent);
+  is = is;
+}
+
 -- the host after it
 pub stays_typed : ScriptsKeep → LawfulClassesAreFormed → (host after : Hosted) (x : Sent) → IsTypedHost host → IsSent x → after.service ≡ host.service
     → after.table ≡ (performed_on host x).server.table → IsTypedHost after
@@ -41,3 +57,12 @@ stays_typed law formed host after x typed sent same is =
     let ran = gives law formed host x typed sent in
     let moved : after ≡ record { service = host.service; table = (performed_on host x).server.table } = ap (λ s. record { service = s; table = after.table }) same ∙ ap (λ t. record { service = host.service; table = t }) is in
     subst IsTypedHost (sym moved) (record { lawful = typed.lawful; typed = typed.typed; fits = ran.table.fits })
+
+-- the values of its inputs as they are lent
+pub as_lent : (host : Hosted) (script : Script) (inputs lent : List Value) → lent ≡ inputs → script_run host script lent ≡ performed_on host (sent_of (script, inputs))
+as_lent host script inputs lent same = ap (script_run host script) same
+
+-- what was performed, as it is seen
+pub performs_so : (before after : Hosted) (script : Script) (inputs : List Value) (p : Script × List Value) (old new : List ℕ) → (script, inputs) ≡ p
+    → Performs before after (sent_of (script, inputs)) old new → Performs before after (sent_of p) old new
+performs_so before after script inputs p old new e d = subst (λ q. Performs before after (sent_of q) old new) e d

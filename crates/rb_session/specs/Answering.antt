@@ -1,17 +1,12 @@
 -- What an answer appends, and what it makes of the host.
-use Rattle.std.specs.Prelude.{◌≡◌, ◌≤◌, ℕ, List, ◌++◌, Err}
-use Rattle.rb_trees.specs.CodeSize.{block_size}
-use Rattle.rb_trees.specs.declared.values.Value.{Value}
-use Rattle.rb_trees.specs.declared.scripts.Script.{Script}
+use Rattle.std.specs.Prelude.{◌≡◌, ℕ, List, ◌++◌, Err}
 use Rattle.rb_trees.specs.mirror.Services.{mirror_service}
 use Rattle.rb_meaning_bytes.specs.formats.Forests.{forest_message}
-use Rattle.rb_meaning_bytes.specs.formats.Refusals.{refusal_message}
-use Rattle.rb_meaning_bytes.specs.formats.ScriptPayloads.{Sent, Refused, Means, CanBeSent}
+use Rattle.rb_meaning_bytes.specs.formats.ScriptPayloads.{Sent, Refused, Means}
 use Rattle.rb_meaning_code.specs.ScriptRun.{Ran}
-use Rattle.rb_meaning.specs.Answers.{longest_request, forest_kind, refusal_kind, performed, Answers}
+use Rattle.rb_meaning.specs.Answers.{performed, Answers}
 use Rattle.rb_meaning.specs.Links.{IsTyped}
 use Rattle.rb_exec.specs.Hosted.{Hosted}
-use Rattle.rb_exec.specs.Hosts.{script_run}
 use Rattle.rb_wire_forest.specs.Buffers.{Appends}
 
 -- The host's service is lawful and typed, and its table fits it.
@@ -30,21 +25,10 @@ StaysWhereRefused payload before after = (wrong : Refused) → Means payload (Er
 abbrev pub performed_on : Hosted → Sent → Ran
 performed_on h x = performed (mirror_service h.service) h.table x
 
--- A script with its values that a payload may spell: it can be sent, and its code has no more bytes than a request.
-pub record IsSent (x : Sent) : Type 0 where
-  pub formed : CanBeSent x
-  pub size : block_size x.0.body ≤ longest_request
-
--- The script was performed with these inputs, and the buffer has gained the forest of its node.
-pub record Performs (before after : Hosted) (s : Script) (inputs : List Value) (old new : List ℕ) (kind : ℕ) : Type 0 where
-  pub kind_is : kind ≡ forest_kind
-  pub gains : Appends forest_message old new (script_run before s inputs).node
-  pub table : after.table ≡ (script_run before s inputs).server.table
-
--- The buffer has gained the refusal.
-pub record Refuses (wrong : Refused) (old new : List ℕ) (kind : ℕ) : Type 0 where
-  pub kind_is : kind ≡ refusal_kind
-  pub gains : Appends refusal_message old new wrong
+-- A script with its values was performed, and the buffer has gained the forest of its node.
+pub record Performs (before after : Hosted) (x : Sent) (old new : List ℕ) : Type 0 where
+  pub gains : Appends forest_message old new (performed_on before x).node
+  pub table : after.table ≡ (performed_on before x).server.table
 
 -- The buffer has gained the reply to the payload, which is of this kind, and the host has the table that the answer leaves.
 pub record Replies (before after : Hosted) (payload old new : List ℕ) (kind : ℕ) : Type 0 where

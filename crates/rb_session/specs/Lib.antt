@@ -16,3 +16,4 @@ pub mod Taking
 pub mod Sessions
 pub mod Serving
 pub mod Pieces
+pub mod Readings

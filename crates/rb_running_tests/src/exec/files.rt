@@ -3,10 +3,11 @@
 use crate::exec::notation::{steps_of, text_value};
 use crate::exec::shown::add_node;
 use rb_code::classes_differ;
-use rb_exec::{Host, run_script};
+use rb_exec::{Host, run_into};
 use rb_heap::Heap;
 use rb_store::read_service;
 use rb_trees::{Memory, Script, Seq, Value, Word, valid};
+use rb_wire_forest::{ForestStop, decode_forest};
 use std::alloc::Global;
 use std::test::Fail;
 
@@ -81,8 +82,13 @@ fn add_run(alloc: Global, host: &mut Host, script: &Script, into: &mut Word) -> 
     }
     let word = text_value(alloc, "in")?;
     let inputs = [Value::Int(10), Value::Bool(true), word, Value::Remote(7)];
-    let node = run_script(alloc, host, script, &inputs)?;
-    add_node(alloc, &node, into)
+    let mut forest = Seq::new(alloc);
+    run_into(alloc, host, script, &inputs, &mut forest)?;
+    match decode_forest(alloc, forest.as_slice()) {
+        Ok(node) => add_node(alloc, &node, into),
+        Err(ForestStop::Refused { number: _, at: _ }) => into.extend_from_slice(b"no forest"),
+        Err(ForestStop::Memory) => Err(Memory),
+    }
 }
 
 /// Adds the node that a script gives on a host, and the sizes of the files then, where one of them has changed.

@@ -1,7 +1,8 @@
 use Rattle.std.proofs.Common.{◌≡◌, ◌+◌, max, drop}
 use Rattle.rb_exec.specs.Stages.{turns_run}
+use Rattle.rb_exec.specs.Written.{written}
 use Rattle.rb_exec.proofs.Done.{LeadsOn}
-use Rattle.rb_exec.proofs.Turned.{after_nodes}
+use Rattle.rb_exec.proofs.Turned.{TurnsSoFar}
 use Rattle.rb_exec.proofs.Weight.{step_of, steps_of}
 use Rattle.rb_exec.proofs.run.Run.+running.Given as goal
 
@@ -30,10 +31,11 @@ abbrev pub decreases-run_row : goal.decreases-run_row
 decreases-run_row l = steps_of l.walk.now.body.now + 3
 
 abbrev pub invariant-run_all-steps : goal.invariant-run_all-steps
-invariant-run_all-steps l = LeadsOn l.stage l.steps l.fn.entries l.fn.self.variables l.fn.self.server l.step-index l.entries l.self.variables l.self.server
+invariant-run_all-steps l = LeadsOn l.stage l.steps (written l.fn.self.bytes.items l.fn.entries) l.fn.self.variables l.fn.self.server l.step-index (written l.self.bytes.items l.entries) l.self.variables l.self.server
 
 abbrev pub invariant-run_turns-rows : goal.invariant-run_turns-rows
 invariant-run_turns-rows l = record {
   variables : l.self.variables ≡ l.fn.self.variables;
-  nodes : after_nodes l.nodes (turns_run l.walk (drop l.row-index l.rows) l.fn.self.variables l.self.server) ≡ turns_run l.walk l.rows l.fn.self.variables l.fn.self.server;
+  turns : TurnsSoFar (turns_run l.walk l.rows l.fn.self.variables l.fn.self.server) (written l.fn.self.bytes.items l.fn.begun)
+      (turns_run l.walk (drop l.row-index l.rows) l.fn.self.variables l.self.server) (written l.self.bytes.items l.begun);
 }
