@@ -23,18 +23,18 @@ const READS: u64 = 2;
 
 /// What a session came to: what is said of it and of the table, and how many bytes were written in it.
 #[derive(Debug, Drop, PartialEq)]
-struct Came {
+struct Course {
     shown: String,
     written: usize,
 }
 
 /// What is wanted of a session that ends so after so many requests, of which so many replies were written.
-fn wanted(alloc: Global, requests: u64, end: &str, replies: u64) -> Result<Came, Fail> {
+fn wanted(alloc: Global, requests: u64, end: &str, replies: u64) -> Result<Course, Fail> {
     let size = requests.saturating_add(10);
     let shown = format!(in alloc;
         "0 session 1 requests {requests} {end}\nobject 0: Dir {{ list = [#1, #2]; }}\nobject 1: File {{ name = \"a\"; size = {size}; }}\nobject 2: File {{ name = \"bb\"; size = 200; }}\n"
     )?;
-    Ok(Came {
+    Ok(Course {
         shown,
         written: REPLY.len().saturating_mul(replies as usize),
     })
@@ -63,7 +63,7 @@ fn listen_to(alloc: Global, reads: &[u64], writes: &[u64]) -> Result<MemoryListe
 }
 
 /// What a session comes to of which these reads and writes fail.
-fn came(alloc: Global, reads: &[u64], writes: &[u64]) -> Result<Came, Fail> {
+fn course_of(alloc: Global, reads: &[u64], writes: &[u64]) -> Result<Course, Fail> {
     let mut listen = listen_to(alloc, reads, writes)?;
     let files = files_of(alloc, &[("s", SERVICE)])?;
     let mut dial = NullDial::make(alloc);
@@ -73,19 +73,19 @@ fn came(alloc: Global, reads: &[u64], writes: &[u64]) -> Result<Came, Fail> {
     for (_source, sink) in listen.returned() {
         written = sink.written().len();
     }
-    Ok(Came { shown, written })
+    Ok(Course { shown, written })
 }
 
 /// Fails where a session of which these reads and writes fail comes to something else.
-fn expect_came(alloc: Global, reads: &[u64], writes: &[u64], want: &Came) -> Result<(), Fail> {
-    let came = came(alloc, reads, writes)?;
-    if came.written != want.written {
+fn expect_course(alloc: Global, reads: &[u64], writes: &[u64], want: &Course) -> Result<(), Fail> {
+    let course = course_of(alloc, reads, writes)?;
+    if course.written != want.written {
         return Err(Fail::new(format_args!(
             "{} bytes in place of {}, where reads {reads:?} and writes {writes:?} fail",
-            came.written, want.written
+            course.written, want.written
         )));
     }
-    same_shown("serve a s 1", came.shown.as_str(), want.shown.as_str())
+    same_shown("serve a s 1", course.shown.as_str(), want.shown.as_str())
 }
 
 #[test]
@@ -96,10 +96,10 @@ fn each_read_that_fails_cuts_a_session_behind_its_requests(rt: HostRuntime) -> R
     for number in 1..reads + 1 {
         let requests = (number - 1) / READS;
         let want = wanted(alloc, requests, "read fault", requests)?;
-        expect_came(alloc, &[number], &[], &want)?;
+        expect_course(alloc, &[number], &[], &want)?;
     }
     let whole = wanted(alloc, REQUESTS, "end", REQUESTS)?;
-    expect_came(alloc, &[reads + 1], &[], &whole)
+    expect_course(alloc, &[reads + 1], &[], &whole)
 }
 
 #[test]
@@ -107,8 +107,8 @@ fn each_write_that_fails_cuts_a_session_behind_its_request(rt: HostRuntime) -> R
     let alloc = rt.alloc();
     for number in 1..REQUESTS + 1 {
         let want = wanted(alloc, number, "write fault", number - 1)?;
-        expect_came(alloc, &[], &[number], &want)?;
+        expect_course(alloc, &[], &[number], &want)?;
     }
     let whole = wanted(alloc, REQUESTS, "end", REQUESTS)?;
-    expect_came(alloc, &[], &[REQUESTS + 1], &whole)
+    expect_course(alloc, &[], &[REQUESTS + 1], &whole)
 }
