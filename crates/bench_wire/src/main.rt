@@ -36,7 +36,9 @@ fn main(rt: HostRuntime) -> io::Result<()> {
 
 /// Says what the program's words are.
 fn usage<R: Eprint>(rt: &R) -> io::Result<()> {
-    eprintln!(rt; "usage: bench_wire make|write|decode SHAPE BYTES | all BYTES | load|json|size|scan|tree FILE")
+    eprintln!(rt;
+        "usage: bench_wire make|write|decode SHAPE BYTES | all BYTES | load|json|size|scan|tree FILE"
+    )
 }
 
 /// The number that a word is.
@@ -153,7 +155,11 @@ fn scan<R: Files + AllocGlobal + Print>(rt: &R, path: &str) -> io::Result<()> {
 /// Prints what they come to as a forest whose tree is made.
 fn tree<R: Files + AllocGlobal + Print>(rt: &R, path: &str) -> io::Result<()> {
     let payload = fs::read(rt, path)?;
-    say(rt, &forest_of(rt.alloc(), payload.as_slice()), payload.len())
+    say(
+        rt,
+        &forest_of(rt.alloc(), payload.as_slice()),
+        payload.len(),
+    )
 }
 
 /// Prints what so many bytes come to.
