@@ -1,10 +1,8 @@
-//! Tests of answers, sessions, links, diallers and listeners, in memory and over the system's devices.
+//! Tests of answers, sessions, links, diallers and listeners, in memory.
 #![tactic(auto)]
 
 #[cfg(test)]
 mod base;
-#[cfg(test)]
-mod devices;
 #[cfg(test)]
 mod hosts;
 #[cfg(test)]

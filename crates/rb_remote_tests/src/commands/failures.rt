@@ -1,5 +1,7 @@
 // One failure at each place: each call that a command makes of its outside fails in turn.
 
+ghost use Rattle.std.specs.Prelude.{◌≡◌, IfOk};
+
 use crate::commands::commands::{answer_with, came_back, exchanges_back, on_files};
 use crate::commands::texts::{NOTHING, SERVICE, host_of};
 use rb_base::{Coming, MemoryFiles, MemoryListen, MemorySink};
@@ -285,7 +287,9 @@ fn files_of(alloc: Global, call: Call, number: u64) -> Result<MemoryFiles, Fail>
 }
 
 /// A link to a server of the service.
-fn link_of(alloc: Global, call: Call, number: u64) -> Result<FailingLink, Fail> {
+fn link_of(alloc: Global, call: Call, number: u64) -> Result<FailingLink, Fail>
+    ensures { IfOk result (λ link. link.faults ≡ 0) }
+{
     let exchanges = failing(alloc, Call::Exchange, call, number)?;
     Ok(FailingLink::make(alloc, host_of(alloc, SERVICE)?, exchanges)?)
 }

@@ -1,6 +1,6 @@
 // Sessions over loopback.
 
-use crate::devices::frames::{RECEIVED, SENT, all_of};
+use crate::frames::{RECEIVED, SENT, all_of};
 use crate::hosts::number_host;
 use rb_base::{Listen, write_whole};
 use rb_devices::RealListen;
@@ -48,14 +48,6 @@ fn a_session_over_loopback_is_served(rt: HostRuntime) -> Result<(), Fail> {
     Ok(())
 }
 
-/// A listener at an address whose connections may be silent for a moment.
-fn impatient<'a>(rt: &'a HostRuntime, address: &str) -> Result<RealListen<'a, HostRuntime>, Fail> {
-    let moment = Some(Duration::from_millis(50));
-    let mut listen = RealListen::make(rt, rt.stdin(), rt.stdout(), moment);
-    listen.start(address)?;
-    Ok(listen)
-}
-
 /// Whether a session ended by a read that failed, behind so many requests.
 fn is_read_fault(answer: &Result<Served, ServeStop>, count: u64) -> bool {
     matches!(answer, Err(ServeStop { requests, cause: ServeCause::ReadFault }) if *requests == count)
@@ -64,7 +56,13 @@ fn is_read_fault(answer: &Result<Served, ServeStop>, count: u64) -> bool {
 #[test]
 fn a_silent_client_ends_its_session_alone(rt: HostRuntime) -> Result<(), Fail> {
     let address = free_address(&rt)?;
-    let mut listen = impatient(&rt, address.as_str())?;
+    let mut listen = RealListen::make(
+        &rt,
+        rt.stdin(),
+        rt.stdout(),
+        Some(Duration::from_millis(50)),
+    );
+    listen.start(address.as_str())?;
     let mut host = number_host(rt.alloc())?;
     let mut silent = TcpStream::connect(&rt, address.as_str())?;
     let mut client = asked(&rt, address.as_str())?;
@@ -83,7 +81,13 @@ fn a_silent_client_ends_its_session_alone(rt: HostRuntime) -> Result<(), Fail> {
 #[test]
 fn a_client_that_takes_nothing_fails_a_write(rt: HostRuntime) -> Result<(), Fail> {
     let address = free_address(&rt)?;
-    let mut listen = impatient(&rt, address.as_str())?;
+    let mut listen = RealListen::make(
+        &rt,
+        rt.stdin(),
+        rt.stdout(),
+        Some(Duration::from_millis(50)),
+    );
+    listen.start(address.as_str())?;
     let client = TcpStream::connect(&rt, address.as_str())?;
     let Some((source, mut sink)) = listen.next()? else {
         return Err(Fail::new("no session"));

@@ -1,6 +1,6 @@
 // What is dialled over loopback.
 
-use crate::devices::frames::{RECEIVED, REPLY, SENT, all_of};
+use crate::frames::{RECEIVED, REPLY, SENT, all_of};
 use crate::hosts::CALL;
 use rb_base::{Link, LinkStop, Reply};
 use rb_devices::{RealDial, RealLink};

@@ -1,5 +1,0 @@
-// Tests of the real devices, over loopback alone.
-
-mod dials;
-mod frames;
-mod listens;
