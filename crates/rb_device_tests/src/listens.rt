@@ -53,50 +53,58 @@ fn is_read_fault(answer: &Result<Served, ServeStop>, count: u64) -> bool {
     matches!(answer, Err(ServeStop { requests, cause: ServeCause::ReadFault }) if *requests == count)
 }
 
-#[test]
-fn a_silent_client_ends_its_session_alone(rt: HostRuntime) -> Result<(), Fail> {
-    let address = free_address(&rt)?;
-    let mut listen = RealListen::make(
-        &rt,
-        rt.stdin(),
-        rt.stdout(),
-        Some(Duration::from_millis(50)),
-    );
-    listen.start(address.as_str())?;
-    let mut host = number_host(rt.alloc())?;
-    let mut silent = TcpStream::connect(&rt, address.as_str())?;
-    let mut client = asked(&rt, address.as_str())?;
-    silent.write_all(SENT)?;
+/// Serves the next session, and answers whether it ended by a read that failed, behind one request.
+fn next_read_fails(alloc: Global, listen: &mut RealListen<HostRuntime>) -> Result<bool, Fail> {
+    let mut host = number_host(alloc)?;
     let Some((mut source, mut sink)) = listen.next()? else {
         return Err(Fail::new("no session"));
     };
-    let answer = serve(rt.alloc(), &mut host, &mut source, &mut sink);
-    assert!(rt; is_read_fault(&answer, 1));
+    let answer = serve(alloc, &mut host, &mut source, &mut sink);
     listen.back(source, sink);
+    Ok(is_read_fault(&answer, 1))
+}
+
+/// A client that has sent a request, and may send more.
+fn silent(rt: &HostRuntime, address: &str) -> Result<TcpStream, Fail> {
+    let mut client = TcpStream::connect(rt, address)?;
+    client.write_all(SENT)?;
+    Ok(client)
+}
+
+#[test]
+fn a_silent_client_ends_its_session_alone(rt: HostRuntime) -> Result<(), Fail> {
+    let moment = Some(Duration::from_millis(50));
+    let address = free_address(&rt)?;
+    let mut listen = RealListen::make(&rt, rt.stdin(), rt.stdout(), moment);
+    listen.start(address.as_str())?;
+    let silent = silent(&rt, address.as_str())?;
+    let mut client = asked(&rt, address.as_str())?;
+    assert!(rt; next_read_fails(rt.alloc(), &mut listen)?);
     assert_eq!(rt; serve_next(rt.alloc(), &mut listen)?, 1);
     assert_eq!(rt; all_of(rt.alloc(), &mut client)?.as_slice(), RECEIVED);
+    drop(silent);
     Ok(())
+}
+
+/// Whether a write fails to the next session that is larger than what the system keeps of a connection.
+fn next_write_fails(alloc: Global, listen: &mut RealListen<HostRuntime>) -> Result<bool, Fail> {
+    let bytes = vec![in alloc; 0; 33_554_432]?;
+    let Some((source, mut sink)) = listen.next()? else {
+        return Err(Fail::new("no session"));
+    };
+    let fails = write_whole(&mut sink, bytes.as_slice()).is_err() && sink.faults() == 1;
+    listen.back(source, sink);
+    Ok(fails)
 }
 
 #[test]
 fn a_client_that_takes_nothing_fails_a_write(rt: HostRuntime) -> Result<(), Fail> {
+    let moment = Some(Duration::from_millis(50));
     let address = free_address(&rt)?;
-    let mut listen = RealListen::make(
-        &rt,
-        rt.stdin(),
-        rt.stdout(),
-        Some(Duration::from_millis(50)),
-    );
+    let mut listen = RealListen::make(&rt, rt.stdin(), rt.stdout(), moment);
     listen.start(address.as_str())?;
     let client = TcpStream::connect(&rt, address.as_str())?;
-    let Some((source, mut sink)) = listen.next()? else {
-        return Err(Fail::new("no session"));
-    };
-    // More than the system keeps of a connection.
-    let bytes = vec![in rt.alloc(); 0; 33_554_432]?;
-    assert!(rt; write_whole(&mut sink, bytes.as_slice()).is_err());
-    assert_eq!(rt; sink.faults(), 1);
-    listen.back(source, sink);
+    assert!(rt; next_write_fails(rt.alloc(), &mut listen)?);
     drop(client);
     Ok(())
 }
@@ -131,9 +139,12 @@ fn an_address_is_bound_once_and_again_when_its_listener_ended(rt: HostRuntime) -
 #[test]
 fn standard_input_and_output_are_one_session(rt: HostRuntime) -> Result<(), Fail> {
     let mut listen = RealListen::make(&rt, rt.stdin(), rt.stdout(), None);
-    assert!(rt; !passes_one(&mut listen)?);
+    assert!(rt; listen.next()?.is_none());
     listen.start("-")?;
-    assert!(rt; passes_one(&mut listen)?);
-    assert!(rt; !passes_one(&mut listen)?);
+    let Some((source, sink)) = listen.next()? else {
+        return Err(Fail::new("no session"));
+    };
+    listen.back(source, sink);
+    assert!(rt; listen.next()?.is_none());
     Ok(())
 }
