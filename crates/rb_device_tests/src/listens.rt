@@ -65,7 +65,7 @@ fn next_read_fails(alloc: Global, listen: &mut RealListen<HostRuntime>) -> Resul
 }
 
 /// A client that has sent a request, and may send more.
-fn silent(rt: &HostRuntime, address: &str) -> Result<TcpStream, Fail> {
+fn waiting(rt: &HostRuntime, address: &str) -> Result<TcpStream, Fail> {
     let mut client = TcpStream::connect(rt, address)?;
     client.write_all(SENT)?;
     Ok(client)
@@ -77,7 +77,7 @@ fn a_silent_client_ends_its_session_alone(rt: HostRuntime) -> Result<(), Fail> {
     let address = free_address(&rt)?;
     let mut listen = RealListen::make(&rt, rt.stdin(), rt.stdout(), moment);
     listen.start(address.as_str())?;
-    let silent = silent(&rt, address.as_str())?;
+    let silent = waiting(&rt, address.as_str())?;
     let mut client = asked(&rt, address.as_str())?;
     assert!(rt; next_read_fails(rt.alloc(), &mut listen)?);
     assert_eq!(rt; serve_next(rt.alloc(), &mut listen)?, 1);
