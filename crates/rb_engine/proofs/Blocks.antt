@@ -16,7 +16,7 @@ use Rattle.rb_meaning_code.specs.Calls.{left, entered, unit_due}
 use Rattle.rb_meaning_code.specs.Statements.{Effect, block, nothing, either, by_truth, after_unit, handles, truth_of, while_turns}
 use Rattle.rb_meaning_code.specs.Bodies.{body_within}
 use Rattle.rb_engine.specs.Code.{body_run, stmts_run, try_run}
-use Rattle.rb_engine.specs.Ends.{fault_of, lifted}
+use Rattle.rb_engine.specs.Ends.{fault_of, Lifts}
 use Rattle.rb_engine.specs.declared.ends.Failure.{Failure}
 use Rattle.rb_engine.specs.declared.ends.End.{End}
 use Rattle.rb_engine.specs.declared.ends.End.TheVariants as ends
@@ -104,7 +104,7 @@ while_fails {s = s} turns at condition body m was =
 
 -- a unit of fuel is taken, and the block runs
 pub unit_taken : {W X : Type 0} {R : Surroundings W X} {s s1 s2 : Scene W} {t : Result (Unit {0}) (End X)} {t1 : Result (Unit {0}) (End X)} {u u1 : Unit {0}} {r : Result (Unit {0}) (End X)} (at : ℕ) (body : Effect) (k : Effect) (r1 : Result (Unit {0}) Failure)
-    → Gives (λ x. x) fault_of r1 (unit_due s.local.fuel) → t ≡ lifted at r1 → t ≡ Ok u
+    → Gives (λ x. x) fault_of r1 (unit_due s.local.fuel) → Lifts at r1 t → t ≡ Ok u
     → Meets R (λ any. body (spent s.local)) (record { local = spent s.local; world = s.world }) t1 s1 → t1 ≡ Ok u1
     → Meets R (λ any. k s1.local) s1 r s2
     → Meets R (λ any. after_unit at (λ l3. next (body l3) (λ x l4. k l4)) s.local) s r s2
@@ -113,7 +113,7 @@ unit_taken {s = s} at body k r1 g is was m was1 n =
     (gave (λ any y l4. k l4) (rebase (spent s.local) (omega arith) refl m) was1 n)
 
 pub unit_wasted : {W X : Type 0} {R : Surroundings W X} {s s1 : Scene W} {t : Result (Unit {0}) (End X)} {t1 : Result (Unit {0}) (End X)} {u : Unit {0}} {h : End X} (at : ℕ) (body : Effect) (k : Effect) (r1 : Result (Unit {0}) Failure)
-    → Gives (λ x. x) fault_of r1 (unit_due s.local.fuel) → t ≡ lifted at r1 → t ≡ Ok u
+    → Gives (λ x. x) fault_of r1 (unit_due s.local.fuel) → Lifts at r1 t → t ≡ Ok u
     → Meets R (λ any. body (spent s.local)) (record { local = spent s.local; world = s.world }) t1 s1 → t1 ≡ Err h
     → Meets R (λ any. after_unit at (λ l3. next (body l3) (λ x l4. k l4)) s.local) s (Err h) s1
 unit_wasted {s = s} at body k r1 g is was m was1 =
@@ -121,7 +121,7 @@ unit_wasted {s = s} at body k r1 g is was m was1 =
     (cut (λ any y l4. k l4) (rebase (spent s.local) (omega arith) refl m) was1 refl)
 
 pub unit_missing : {W X : Type 0} {R : Surroundings W X} {s : Scene W} {t : Result (Unit {0}) (End X)} {h : End X} (at : ℕ) (body : Effect) (k : Effect) (r1 : Result (Unit {0}) Failure)
-    → Gives (λ x. x) fault_of r1 (unit_due s.local.fuel) → t ≡ lifted at r1 → t ≡ Err h → Meets R (λ any. after_unit at (λ l3. next (body l3) (λ x l4. k l4)) s.local) s (Err h) s
+    → Gives (λ x. x) fault_of r1 (unit_due s.local.fuel) → Lifts at r1 t → t ≡ Err h → Meets R (λ any. after_unit at (λ l3. next (body l3) (λ x l4. k l4)) s.local) s (Err h) s
 unit_missing {s = s} at body k r1 g is was = unhelped (λ x. x) at r1 (unit_due s.local.fuel) (λ any x l1. next (body (spent l1)) (λ y l4. k l4)) g is was refl
 
 -- a gas with a unit for one turn more

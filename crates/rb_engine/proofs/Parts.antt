@@ -17,7 +17,7 @@ use Rattle.rb_meaning_code.specs.Calls.{Bodies, call, called, unit_due, call_fit
 use Rattle.rb_meaning_code.specs.Expressions.{evaluates}
 use Rattle.rb_meaning_code.specs.Statements.{Effect, truth_of, performs, assignment, assigns, writes, turns, turns_over, prints}
 use Rattle.rb_engine.specs.Code.{bodies, value_run, truth_run, stmt_run, begin_run}
-use Rattle.rb_engine.specs.Ends.{fault_of, lifted}
+use Rattle.rb_engine.specs.Ends.{fault_of, Lifts}
 use Rattle.rb_engine.specs.Shown.{remote_form}
 use Rattle.rb_engine.specs.Targets.{NamePlace, FieldPlace, NoPlace, target_form, turns_form}
 use Rattle.rb_engine.specs.declared.ends.Failure.{Failure}
@@ -134,17 +134,19 @@ field_written b at e r a name l is =
     field_assigned b at (mirror_expr e) r a name l is ∙ ap (λ n. next (evaluates b a l) (λ object l1. next (evaluates b r l1) (λ v l2. writes n object name v l2))) (place_at e)
 
 -- fuel and depth that a rule found to be left
-pub fuel_left : {X : Type 0} {t : Result (Unit {0}) (End X)} {u : Unit {0}} (at fuel : ℕ) (r : Result (Unit {0}) Failure) → Gives (λ v. v) fault_of r (unit_due fuel) → t ≡ lifted at r → t ≡ Ok u → 0 < fuel
+pub fuel_left : {X : Type 0} {t : Result (Unit {0}) (End X)} {u : Unit {0}} (at fuel : ℕ) (r : Result (Unit {0}) Failure) → Gives (λ v. v) fault_of r (unit_due fuel) → Lifts at r t → t ≡ Ok u → 0 < fuel
 fuel_left at zero (Ok v) g is was = absurd (cc g)
 fuel_left at (suc n) (Ok v) g is was = omega arith
-fuel_left at fuel (Err (failure.Fault f)) g is was = absurd (cc (is, was))
+fuel_left {t = Ok v} at fuel (Err (failure.Fault f)) g is was = absurd is
+fuel_left {t = Err e} at fuel (Err (failure.Fault f)) g is was = absurd (cc was)
 fuel_left at fuel (Err failure.Memory) g is was = absurd (cc (is, was))
 
 fits_below : (depth : ℕ) (b : Bool) (u : Unit {0}) → nat_lt depth 32 ≡ b → must b too_deep ≡ Ok u → depth < 32
 fits_below depth true u e g = omega (arith, ltb-true depth 32 e)
 fits_below depth false u e g = absurd (cc g)
 
-pub depth_left : {X : Type 0} {t : Result (Unit {0}) (End X)} {u : Unit {0}} (at depth : ℕ) (r : Result (Unit {0}) Failure) → Gives (λ v. v) fault_of r (call_fits depth) → t ≡ lifted at r → t ≡ Ok u → depth < 32
+pub depth_left : {X : Type 0} {t : Result (Unit {0}) (End X)} {u : Unit {0}} (at depth : ℕ) (r : Result (Unit {0}) Failure) → Gives (λ v. v) fault_of r (call_fits depth) → Lifts at r t → t ≡ Ok u → depth < 32
 depth_left at depth (Ok v) g is was = fits_below depth (nat_lt depth 32) v refl g
-depth_left at depth (Err (failure.Fault f)) g is was = absurd (cc (is, was))
+depth_left {t = Ok v} at depth (Err (failure.Fault f)) g is was = absurd is
+depth_left {t = Err e} at depth (Err (failure.Fault f)) g is was = absurd (cc was)
 depth_left at depth (Err failure.Memory) g is was = absurd (cc (is, was))

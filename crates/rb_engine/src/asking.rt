@@ -29,9 +29,9 @@ pub fn begin_turn<W: World>(
         Turns::List => {
             lift(at, check_unit(alloc, state.fuel))?;
             state.fuel -= 1;
-            flat(world.list_turn(at))
+            flat(alloc, world.list_turn(at))
         }
-        Turns::Rows => flat(world.turn(at)),
+        Turns::Rows => flat(alloc, world.turn(at)),
     }
 }
 
@@ -47,20 +47,26 @@ pub fn print<W: World>(
     ensures { AnyNames W.World (line_run at value.now) state.now world.old result state.now world.new }
 {
     let line = lift(at, shown(alloc, value))?;
-    flat(world.line(at, line.as_slice()))
+    flat(alloc, world.line(at, line.as_slice()))
 }
 
 /// The value that a step of the script kept.
 #[inline(never)]
-pub fn taken<W: World>(state: &State, world: &mut W, step: u32) -> Result<Value, End<W::Stop>>
+pub fn taken<W: World>(
+    alloc: Global,
+    state: &State,
+    world: &mut W,
+    step: u32,
+) -> Result<Value, End<W::Stop>>
     ensures { AnyNames W.World (taken_run step) state.now world.old result state.now world.new }
 {
-    flat(world.taken(step))
+    flat(alloc, world.taken(step))
 }
 
 /// The value of a remote call whose receiver and arguments were evaluated.
 #[inline(never)]
 pub fn invoke<W: World>(
+    alloc: Global,
     state: &State,
     world: &mut W,
     at: u32,
@@ -71,7 +77,7 @@ pub fn invoke<W: World>(
     ensures { AnyNames W.World (invoked_run at target.now name.now args) state.now world.old result state.now world.new }
 {
     match copy_value(target) {
-        Ok(target) => flat(world.invoke(at, target, name, args)),
+        Ok(target) => flat(alloc, world.invoke(at, target, name, args)),
         Err(_) => Err(End::NoMemory),
     }
 }
@@ -79,6 +85,7 @@ pub fn invoke<W: World>(
 /// A batch, which is lent the state and the names.
 #[inline(never)]
 pub fn perform_batch<W: World>(
+    alloc: Global,
     state: &mut State,
     frame: &mut Frame,
     world: &mut W,
@@ -86,5 +93,5 @@ pub fn perform_batch<W: World>(
 ) -> Result<(), End<W::Stop>>
     ensures { Effects W.World (batch_run at) frame.old state.old world.old result frame.new state.new world.new }
 {
-    flat(world.batch(at, state, frame))
+    flat(alloc, world.batch(at, state, frame))
 }

@@ -5,12 +5,12 @@ ghost use Rattle.std.specs.Prelude.{◌≡◌, [], ◌∷◌, ◌++◌, IfOk};
 ghost use Rattle.rb_trees.specs.Outcome.{Gives};
 ghost use Rattle.rb_trees.specs.declared.values.Value.{out-Value};
 ghost use Rattle.rb_meaning_code.specs.Faults as faults;
-ghost use Rattle.rb_meaning_code.specs.Faults.{caught_text};
+ghost use Rattle.rb_meaning_code.specs.Faults.{caught_text, raised};
 ghost use Rattle.rb_meaning_code.specs.Statements as rules;
-ghost use Rattle.rb_engine.specs.Ends.{fault_of, UnlessMemory, NeverWants};
+ghost use Rattle.rb_engine.specs.Ends.{fault_of, EndsBy, UnlessMemory, NeverWants};
 ghost use Rattle.rb_engine.specs.Shown.{remote_form, shown_or_kind, name_of_code};
 
-use crate::ends::{End, Failure};
+use crate::ends::{End, Failure, raise};
 use crate::faults::kind;
 use crate::frame::Frame;
 use crate::names::bind;
@@ -48,17 +48,37 @@ pub fn is_remote(value: &Value) -> bool
     }
 }
 
-/// The fault that `throw` ends by: `throws`.
-#[inline(never)]
-pub fn thrown(alloc: Global, value: &Value) -> Result<(), Failure>
-    ensures { Gives (λ u. u) fault_of result (Err (rules.throws (out-Value value.now))) }
+// The fault that `throw` ends by: `throws`.
+fn thrown(alloc: Global, value: &Value) -> Result<Fault, Memory>
+    ensures { IfOk result (λ fault. fault ≡ rules.throws (out-Value value.now)) }
 {
     match value {
-        Value::Text(text) => Err(Failure::Fault(Fault {
+        Value::Text(text) => Ok(Fault {
             code: fault_codes::THROWN,
             text: copy_word(alloc, text.get())?,
-        })),
-        _ => Err(kind(alloc)),
+        }),
+        _ => Ok(Fault {
+            code: fault_codes::KIND,
+            text: Seq::new(alloc),
+        }),
+    }
+}
+
+/// How code ends by a `throw` at a position.
+#[inline(never)]
+pub fn throw<X>(alloc: Global, at: u32, value: &Value) -> End<X>
+    ensures { EndsBy (raised (rules.throws (out-Value value.now)) at) result }
+{
+    match thrown(alloc, value) {
+        Ok(fault) => raise(
+            alloc,
+            Raised {
+                fault,
+                at,
+                remote: false,
+            },
+        ),
+        Err(_) => End::NoMemory,
     }
 }
 

@@ -174,11 +174,11 @@ pub fn run_try<W: World>(
     let count = frame.len();
     match run_scope(alloc, code, state, frame, world, count, tried) {
         Err(End::Raised(raised)) => {
-            if !is_caught(&raised) {
+            if !is_caught(raised.get()) {
                 return Err(End::Raised(raised));
             }
             let count = frame.len();
-            bind_caught(alloc, frame, name, &raised.fault)?;
+            bind_caught(alloc, frame, name, &raised.get().fault)?;
             run_scope(alloc, code, state, frame, world, count, handler)
         }
         Err(End::NoMemory) => Err(End::NoMemory),

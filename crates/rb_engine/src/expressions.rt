@@ -65,7 +65,7 @@ pub fn value_of<W: World>(
         }
         ExprForm::New(name, args) => new_value(alloc, code, state, frame, world, at, name, args),
         ExprForm::Items(_, items) => list_value(alloc, code, state, frame, world, at, items),
-        ExprForm::Taken(step) => taken(state, world, *step),
+        ExprForm::Taken(step) => taken(alloc, state, world, *step),
     }
 }
 
@@ -254,7 +254,15 @@ fn called_value<W: World>(
     let target = operand_of(alloc, code, state, frame, world, receiver)?;
     let values = values_of(alloc, code, state, frame, world, args.as_slice())?;
     if is_remote(target.get()) {
-        return invoke(state, world, at, target.get(), name.as_slice(), values);
+        return invoke(
+            alloc,
+            state,
+            world,
+            at,
+            target.get(),
+            name.as_slice(),
+            values,
+        );
     }
     call_method(
         alloc,

@@ -8,15 +8,59 @@ ghost use Rattle.rb_engine.specs.declared.ends.Failure.TheVariants as failure;
 use crate::ends::Failure;
 use rb_trees::{Fault, Seq, fault_codes};
 use std::alloc::Global;
+use std::marker::Model;
 
-// The fault of a code, without a text.
+/// A fault without a text, kept as its code. Contracts see the fault.
+#[derive(Drop)]
+pub struct PlainFault {
+    alloc: Global,
+    code: u8,
+}
+
+impl Model for PlainFault {
+    ghost use Rattle.rb_trees.specs.declared.values.Fault as the_fault;
+    ghost use Rattle.rb_trees.specs.contracts.values.Fault as fault_code;
+    ghost use Rattle.rb_meaning_code.specs.Faults.{plain_fault};
+
+    ghost Value = { the_fault.Fault };
+
+    ghost coded = { fault_code.the_row.coded };
+
+    ghost view = { λ f. plain_fault f.code };
+}
+
+impl PlainFault {
+    /// The fault of a code, one of the [`fault_codes`].
+    #[inline]
+    pub fn of(alloc: Global, code: u8) -> PlainFault
+        ensures { result ≡ plain_fault code }
+    {
+        PlainFault { alloc, code }
+    }
+
+    /// The fault as data.
+    pub fn into_fault(self) -> Fault
+        ensures { result ≡ self }
+    {
+        let PlainFault { alloc, code } = self;
+        Fault {
+            code,
+            text: Seq::new(alloc),
+        }
+    }
+
+    // Where it stands in memory.
+    pub fn alloc(&self) -> Global {
+        self.alloc
+    }
+}
+
+// The fault of a code, as a rule says it.
+#[inline]
 fn refuse(alloc: Global, code: u8) -> Failure
     ensures { result ≡ failure.Fault (plain_fault code) }
 {
-    Failure::Fault(Fault {
-        code,
-        text: Seq::new(alloc),
-    })
+    Failure::Fault(PlainFault::of(alloc, code))
 }
 
 /// A division by 0, or its remainder.

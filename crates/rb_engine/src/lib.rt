@@ -38,6 +38,7 @@ mod world;
 pub use conditions::truth_of;
 pub use ends::Failure;
 pub use engine::{call, eval, exec, exec_slice};
+pub use faults::PlainFault;
 pub use frame::Frame;
 pub use misses::{Miss, at_place};
 pub use operators::unary;

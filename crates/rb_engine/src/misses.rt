@@ -30,7 +30,7 @@ pub fn at_place<T>(at: u32, outcome: Result<T, Failure>) -> Result<T, Miss>
 {
     match outcome {
         Ok(value) => Ok(value),
-        Err(Failure::Fault(fault)) => Err(Miss::Fault(at, fault)),
+        Err(Failure::Fault(fault)) => Err(Miss::Fault(at, fault.into_fault())),
         Err(Failure::Memory) => Err(Miss::Memory),
     }
 }

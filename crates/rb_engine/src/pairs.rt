@@ -1,8 +1,9 @@
 // What operators on two operands give.
 #![tactic(auto, using(crate::proofs::Values::values))]
 
-ghost use Rattle.std.specs.Prelude.{◌≡◌, ◌++◌, true, OnOk};
+ghost use Rattle.std.specs.Prelude.{◌≡◌, ◌+◌, ◌≤◌, ◌++◌, true, length, IfOk, OnOk};
 ghost use Rattle.rb_trees.specs.Outcome.{Gives};
+ghost use Rattle.rb_trees.specs.Limits.{longest_text};
 ghost use Rattle.rb_trees.specs.declared.values.Value.{out-Value};
 ghost use Rattle.rb_meaning_code.specs.Expressions as places;
 ghost use Rattle.rb_meaning_code.specs.Operators as rules;
@@ -18,6 +19,17 @@ use rb_trees::limits::{LONGEST_LIST, LONGEST_TEXT};
 use rb_trees::{BinOp, Memory, Seq, Shared, Value, Word, copy_value};
 use std::alloc::Global;
 
+// Bytes and then others, in memory that is asked for once.
+fn one_after_the_other(alloc: Global, a: &[u8], b: &[u8]) -> Result<Word, Memory>
+    requires { length a.now + length b.now ≤ longest_text }
+    ensures { IfOk result (λ text. text ≡ a.now ++ b.now) }
+{
+    let mut text = Vec::with_capacity(alloc, a.len() + b.len())?;
+    text.extend_from_slice(a)?;
+    text.extend_from_slice(b)?;
+    Ok(Seq::from_vec(text))
+}
+
 // A text and then another, within the limit.
 fn joined_text(alloc: Global, a: &Word, b: &Word) -> Result<Value, Failure>
     ensures { Gives (λ v. v) fault_of result (rules.joined_text a.now b.now) }
@@ -25,8 +37,7 @@ fn joined_text(alloc: Global, a: &Word, b: &Word) -> Result<Value, Failure>
     if a.len() > LONGEST_TEXT || b.len() > LONGEST_TEXT - a.len() {
         return Err(text_too_long(alloc));
     }
-    let mut text = Seq::from_slice(alloc, a.as_slice())?;
-    text.extend_from_slice(b.as_slice())?;
+    let text = one_after_the_other(alloc, a.as_slice(), b.as_slice())?;
     Ok(text_value(alloc, text)?)
 }
 

@@ -119,7 +119,7 @@ fn answered(at: u32, outcome: Result<Value, Failure>) -> Result<Result<Value, Ra
 {
     match outcome {
         Ok(value) => Ok(Ok(value)),
-        Err(Failure::Fault(fault)) => Ok(Err(remotely(at, fault))),
+        Err(Failure::Fault(fault)) => Ok(Err(remotely(at, fault.into_fault()))),
         Err(Failure::Memory) => Err(Memory),
     }
 }
@@ -190,7 +190,7 @@ pub fn invoke(
                 args: values,
             },
         ) => serve(alloc, code, state, at, kind, object, found, values),
-        Err(Failure::Fault(fault)) => Ok(Err(remotely(at, fault))),
+        Err(Failure::Fault(fault)) => Ok(Err(remotely(at, fault.into_fault()))),
         Err(Failure::Memory) => Err(Memory),
     }
 }

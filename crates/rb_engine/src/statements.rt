@@ -4,7 +4,7 @@ ghost use Rattle.rb_engine.specs.Code.{stmts_run, scope_run, stmt_run, binding_r
 ghost use Rattle.rb_engine.specs.Worlds.{Effects};
 
 use crate::asking::{perform_batch, print};
-use crate::conditions::thrown;
+use crate::conditions::throw;
 use crate::control::{run_for, run_if, run_try, run_while};
 use crate::ends::{End, lift};
 use crate::expressions::{operand_of, value_of};
@@ -90,7 +90,7 @@ fn run_stmt<W: World>(
         StmtForm::Try(tried, name, handler) => {
             run_try(alloc, code, state, frame, world, tried, name, handler)
         }
-        StmtForm::Batch(_, _, _) => perform_batch(state, frame, world, at),
+        StmtForm::Batch(_, _, _) => perform_batch(alloc, state, frame, world, at),
     }
 }
 
@@ -162,7 +162,7 @@ fn run_throw<W: World>(
     ensures { Effects W.World (throw_run code.now at expr.now) frame.old state.old world.old result frame.new state.new world.new }
 {
     let value = operand_of(alloc, code, state, frame, world, expr)?;
-    lift(at, thrown(alloc, value.get()))
+    Err(throw(alloc, at, value.get()))
 }
 
 // An assignment to a name or a field.

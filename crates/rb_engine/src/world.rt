@@ -32,7 +32,7 @@ pub type RunResult<T, X> = Result<Result<T, Raised>, Halt<X>>;
 /// No call leads back into the engine over the same World.
 pub trait World {
     /// Why this World cuts a run off.
-    type Stop;
+    type Stop: Drop;
 
     ghost answers: { Self → Question → Answer Self.Stop → Self → Type 0 };
 

@@ -12,7 +12,7 @@ ghost use Rattle.rb_meaning_code.specs.ScriptRun as meant;
 ghost use Rattle.rb_exec.specs.Stages as stages;
 
 use crate::variables::Variables;
-use rb_engine::Failure;
+use rb_engine::{Failure, PlainFault};
 use rb_trees::{Fault, Seq, Shared, Value, copy_value, fault_codes};
 use std::alloc::Global;
 
@@ -20,10 +20,7 @@ use std::alloc::Global;
 fn kind(alloc: Global) -> Failure
     ensures { result ≡ failure.Fault faults.kind }
 {
-    Failure::Fault(Fault {
-        code: fault_codes::KIND,
-        text: Seq::new(alloc),
-    })
+    Failure::Fault(PlainFault::of(alloc, fault_codes::KIND))
 }
 
 /// The fault of a turn that finds no unit of fuel.

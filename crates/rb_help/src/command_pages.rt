@@ -152,7 +152,8 @@ const RUN: CommandPage = CommandPage {
     name: "run",
     form: b"run ADDRESS PROGRAM [FUEL]",
     counts: (2, 3),
-    does: b"It checks a program and runs it. Each batch is one exchange with the server that listens at the address.\n",
+    does: b"It checks a program and runs it. Each batch is one exchange with the server that listens at the address.
+An exchange fails where the server is silent for 60 seconds. RBI_TIMEOUT has another number, and 0 is without end.\n",
     words: &[ADDRESS, PROGRAM, FUEL],
     statuses: &[
         RAN,
@@ -197,7 +198,8 @@ const SERVE: CommandPage = CommandPage {
     form: b"serve ADDRESS SERVICE COUNT",
     counts: (3, 3),
     does: b"It serves a service at an address to so many clients, one after the other, and then prints the table of its objects.
-The address `-` is standard input and output, which is one client. There is no authentication and no encryption.\n",
+The address `-` is standard input and output, which is one client. There is no authentication and no encryption.
+A session ends where the client is silent for 60 seconds. RBI_TIMEOUT has another number, and 0 is without end.\n",
     words: &[ADDRESS, SERVICE, COUNT],
     statuses: &[
         SERVED,

@@ -6,9 +6,8 @@ use Rattle.rb_trees.specs.declared.values.Value.{out-Value}
 use Rattle.rb_trees.specs.mirror.Code.{mirror_expr}
 use Rattle.rb_trees.specs.mirror.Declarations.{mirror_class, mirror_method, mirror_body}
 use Rattle.rb_meaning_code.specs.State.{spent}
-use Rattle.rb_meaning_code.specs.Statements.{either, truth_of, throws, block, while_turns}
+use Rattle.rb_meaning_code.specs.Statements.{either, truth_of, block, while_turns}
 use Rattle.rb_engine.specs.Code.{bodies, value_run, stmts_run}
-use Rattle.rb_engine.specs.Ends.{lifted}
 use Rattle.rb_engine.specs.Locals.{local}
 use Rattle.rb_engine.proofs.Blocks.{by_its_truth, call_returns, try_fine, try_passed, try_handled, while_false, while_true, while_fails, unit_taken, unit_wasted, unit_missing, turn_more}
 use Rattle.rb_engine.proofs.Forms.{lit_form, name_form, this_form, unary_form, binary_form, field_form, call_form, index_form, new_form, items_form, taken_form, val_form, var_form, assign_form, run_form, print_form, throw_form, if_form, while_form, for_form, try_form, batch_form}
@@ -16,7 +15,7 @@ use Rattle.rb_engine.proofs.Lent.{lent_run}
 use Rattle.rb_engine.proofs.Loops.{leads_to_itself, values_begin, leads_far, one_value, no_value, no_more_values, with_value, one_effect, no_effect, no_more_effects, plain_block, bound_block, one_turn, no_turn, half_turn, no_more_turns}
 use Rattle.rb_engine.proofs.Parts.{expr_run, truth_by_form, statement_run, remote_called, own_called, turns_by_form, name_written, field_written, nothing_assigned, fuel_left, depth_left}
 use Rattle.rb_engine.proofs.Runs.{gave, cut, at_run, by_result, ended, stands, no_memory, sequel_of_stop, fixed, unfixed}
-use Rattle.rb_engine.proofs.Steps.{ok_means, helped, unhelped, unhelped_at, helped_end, changed, given, bound_after, closes_after, want}
+use Rattle.rb_engine.proofs.Steps.{ok_means, helped, unhelped, unhelped_at, helped_end, ended_by, changed, given, bound_after, closes_after, want}
 use Rattle.rb_engine.proofs.Weight.{room, expr_weight, stmt_weight, body_weight, weight_of, weights_of, effect_of, effects_of, expr_in, stmt_in, object_light, method_called_of, found_light, room_falls, result_weight}
 use Rattle.rb_engine.proofs.+running.Goals as goal
 
@@ -333,7 +332,7 @@ pub statements::run_throw-returns-in_err-value : goal.statements::run_throw-retu
 statements::run_throw-returns-in_err-value g t c = cut _ c.operand_of.ensures c.in_err-value.was (search rules)
 
 pub statements::run_throw-returns : goal.statements::run_throw-returns
-statements::run_throw-returns g t c = gave _ c.operand_of.ensures c.in_ok-value.was (helped_end _ _ (Err (throws (out-Value c.in_ok-value.value))) (rw c.get.ensures at c.thrown.ensures) c.lift.ensures)
+statements::run_throw-returns g t c = gave _ c.operand_of.ensures c.in_ok-value.was (ended_by _ (rw c.get.ensures at c.throw.ensures))
 
 pub statements::assign-returns-in_err-value-in-Name : goal.statements::assign-returns-in_err-value-in-Name
 statements::assign-returns-in_err-value-in-Name g t c = at_run (λ gas. name_written (bodies c.args.code.now gas) c.args.at c.args.left.now _ _ _ c.in-Name.ensures) (cut _ c.value_of.ensures c.in_err-value-in-Name.was (search rules))
@@ -357,7 +356,7 @@ pub statements::assign-returns-in_ok-value-in-Field : goal.statements::assign-re
 statements::assign-returns-in_ok-value-in-Field g t c = at_run (λ gas. field_written (bodies c.args.code.now gas) c.args.at c.args.left.now _ _ _ _ c.in-Field.ensures) (gave _ c.operand_of.ensures c.in_ok-target-in-Field.was (gave _ c.value_of-in-Field.ensures c.in_ok-value-in-Field.was (rw (← c.as_slice-in-Field.ensures) (changed (λ u. c.write_field.new.heap) _ _ _ (λ heap. record (local c.args.frame.now c.value_of-in-Field.new.state) { heap = heap }) c.value_of-in-Field.new.state.heap c.write_field.new.heap _ refl refl refl (λ a. refl) (rw c.get.ensures at c.write_field.ensures.gives) c.write_field.ensures.kept c.lift-in-Field.ensures))))
 
 pub statements::assign-returns-in-Other : goal.statements::assign-returns-in-Other
-statements::assign-returns-in-Other g t c = at_run (λ gas. nothing_assigned (bodies c.args.code.now gas) c.args.at (mirror_expr c.args.left.now) _ _ c.in-Other.ensures) (by_result (c.lift-in-Other.ensures ∙ ap (λ k. lifted c.args.at (Err k)) c.kind.ensures) (stands _))
+statements::assign-returns-in-Other g t c = at_run (λ gas. nothing_assigned (bodies c.args.code.now gas) c.args.at (mirror_expr c.args.left.now) _ _ c.in-Other.ensures) (ended_by _ (rw c.kind.ensures at c.lift-in-Other.ensures))
 
 pub control::truth_at-operator_value-requires : goal.control::truth_at-operator_value-requires
 control::truth_at-operator_value-requires g t c κs within = (let w = ap expr_weight (binary_form c.args.condition.now c.in-Binary.a c.in-Binary.b c.in-Binary.is) in let e = ap weight_of c.get.ensures in let f = ap weight_of c.get-in-Binary.ensures in omega arith, within)
@@ -453,13 +452,13 @@ pub control::run_turns-returns : goal.control::run_turns-returns
 control::run_turns-returns g t c = c.turns.invariant.leads.by (Ok _) _ (no_more_turns c.args.code.now c.args.turns c.args.at c.args.name.now c.args.values.now c.args.block.now c.turns.value-index (omega arith))
 
 pub control::run_try-returns-then-not-is_caught : goal.control::run_try-returns-then-not-is_caught
-control::run_try-returns-then-not-is_caught g t c = try_passed c.args.code.now c.args.tried.now c.args.name.now c.args.handler.now (plain_block _ _ _ c.len-count.ensures c.run_scope.ensures) (c.in-Err-Raised.is ∙ ap Err c.in-Err-Raised.field-0-is) (sym c.is_caught.ensures ∙ c.if-not-is_caught.true)
+control::run_try-returns-then-not-is_caught g t c = try_passed c.args.code.now c.args.tried.now c.args.name.now c.args.handler.now (plain_block _ _ _ c.len-count.ensures c.run_scope.ensures) (c.in-Err-Raised.is ∙ ap Err c.in-Err-Raised.field-0-is) (sym (rw c.get.ensures at c.is_caught.ensures) ∙ c.if-not-is_caught.true)
 
 pub control::run_try-run_scope-requires-in-Err-Raised : goal.control::run_try-run_scope-requires-in-Err-Raised
 control::run_try-run_scope-requires-in-Err-Raised g t c κs within = (let d = ap (room (map mirror_class c.args.code.now)) c.run_scope.ensures.depth in omega arith, within)
 
 pub control::run_try-returns-in_ok-bind_caught-in-Err-Raised : goal.control::run_try-returns-in_ok-bind_caught-in-Err-Raised
-control::run_try-returns-in_ok-bind_caught-in-Err-Raised g t c = try_handled c.args.code.now c.args.tried.now c.args.name.now c.args.handler.now (plain_block _ _ _ c.len-count.ensures c.run_scope.ensures) (c.in-Err-Raised.is ∙ ap Err c.in-Err-Raised.field-0-is) (sym c.is_caught.ensures ∙ c.if-not-is_caught.false) (bound_block _ _ _ _ _ _ c.len-count-in-Err-Raised.ensures c.in_ok-bind_caught-in-Err-Raised.ensures c.run_scope-in-Err-Raised.ensures)
+control::run_try-returns-in_ok-bind_caught-in-Err-Raised g t c = try_handled c.args.code.now c.args.tried.now c.args.name.now c.args.handler.now (plain_block _ _ _ c.len-count.ensures c.run_scope.ensures) (c.in-Err-Raised.is ∙ ap Err c.in-Err-Raised.field-0-is) (sym (rw c.get.ensures at c.is_caught.ensures) ∙ c.if-not-is_caught.false) (bound_block _ _ _ _ _ _ c.len-count-in-Err-Raised.ensures (rw c.get-in-Err-Raised.ensures at c.in_ok-bind_caught-in-Err-Raised.ensures) c.run_scope-in-Err-Raised.ensures)
 
 pub control::run_try-returns-in-Err-NoMemory : goal.control::run_try-returns-in-Err-NoMemory
 control::run_try-returns-in-Err-NoMemory g t c = no_memory _ c.run_scope.ensures.fuel c.run_scope.ensures.depth
