@@ -13,7 +13,7 @@ use crate::replay_world::ReplayWorld;
 use rb_base::Sink;
 use rb_code::Code;
 use rb_engine::{Frame, State, eval, exec_slice};
-use rb_trees::{Expr, Item, Part, Seq, Stmt, Word, copy_word};
+use rb_trees::{Expr, Item, Part, Seq, Stmt, Word};
 use rb_wire_forest::Forest;
 use std::alloc::Global;
 use std::slice;
@@ -89,8 +89,7 @@ fn perform_bind<W: Sink>(
         Performs W.Sink meant (local frame.old state.now) world.old result (local frame.new state.now) world.new }
 {
     let value = world.take(step)?;
-    let word = copy_word(alloc, name)?;
-    frame.bind(word, value)?;
+    frame.bind(alloc, name.as_slice(), value)?;
     Ok(())
 }
 
@@ -113,8 +112,7 @@ fn perform_both<W: Sink>(
         return Err(Early::Raised(own_fault(alloc, &fault)?));
     }
     let value = flat(eval(alloc, code, state, frame, world, expr))?;
-    let word = copy_word(alloc, name)?;
-    frame.bind(word, value)?;
+    frame.bind(alloc, name.as_slice(), value)?;
     Ok(())
 }
 

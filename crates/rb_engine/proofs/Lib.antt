@@ -11,6 +11,7 @@ pub mod Loops
 pub mod Matched
 pub mod Numbered
 pub mod Parts
+pub mod Placed
 pub mod Runs
 pub mod Served
 pub mod Steps

@@ -2,6 +2,7 @@ pub mod Answers
 pub mod Code
 pub mod Ends
 pub mod Held
+pub mod Keys
 pub mod Kinds
 pub mod Lent
 pub mod Locals
@@ -10,6 +11,7 @@ pub mod Meets
 pub mod Methods
 pub mod Misses
 pub mod Numbers
+pub mod Places
 pub mod Remote
 pub mod Servers
 pub mod Service

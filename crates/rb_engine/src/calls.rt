@@ -27,9 +27,9 @@ pub fn call_method<W: World>(
     at: u32,
     receiver: &Value,
     name: &[u8],
-    args: &Seq<Value>,
+    args: Seq<Value>,
 ) -> Result<Value, End<W::Stop>>
-    ensures { AnyNames W.World (call_run code.now at receiver.now name.now args.now) state.old world.old result state.new world.new }
+    ensures { AnyNames W.World (call_run code.now at receiver.now name.now args) state.old world.old result state.new world.new }
 {
     let method = lift(
         at,
@@ -49,20 +49,15 @@ pub fn run_call<W: World>(
     at: u32,
     receiver: &Value,
     method: &Method,
-    args: &Seq<Value>,
+    args: Seq<Value>,
 ) -> Result<Value, End<W::Stop>>
     requires { IsMethod code.now method.now }
-    ensures { AnyNames W.World (found_run code.now at method.now receiver.now args.now) state.old world.old result state.new world.new }
+    ensures { AnyNames W.World (found_run code.now at method.now receiver.now args) state.old world.old result state.new world.new }
 {
     lift(at, check_unit(alloc, state.fuel))?;
     state.fuel -= 1;
     lift(at, check_depth(alloc, state.depth))?;
-    let mut frame = enter(
-        alloc,
-        receiver,
-        method.signature.params.as_slice(),
-        args.as_slice(),
-    )?;
+    let mut frame = enter(alloc, receiver, method.signature.params.as_slice(), args)?;
     state.depth += 1;
     let result = run_body(alloc, code, state, &mut frame, world, &method.body);
     state.depth -= 1;

@@ -32,7 +32,7 @@ pub fn call<W: World>(
     ensures { AnyNames W.World (call_run code.now at (value.Ref object) method.now args) state.old world.old (flattened result) state.new world.new }
 {
     let receiver = Value::Ref(object);
-    step_of(call_method(alloc, code, state, world, at, &receiver, method, &args))
+    step_of(call_method(alloc, code, state, world, at, &receiver, method, args))
 }
 
 /// Calls a method that was found of an object of the own side, at a position.
@@ -51,7 +51,7 @@ pub fn call_found<W: World>(
     ensures { AnyNames W.World (found_run code.now at method.now (value.Ref object) args) state.old world.old (flattened result) state.new world.new }
 {
     let receiver = Value::Ref(object);
-    step_of(run_call(alloc, code, state, world, at, &receiver, method, &args))
+    step_of(run_call(alloc, code, state, world, at, &receiver, method, args))
 }
 
 /// Runs statements in order: `performs_all`.

@@ -272,7 +272,7 @@ fn called_value<W: World>(
         at,
         target.get(),
         name.as_slice(),
-        &values,
+        values,
     )
 }
 

@@ -18,6 +18,7 @@ mod faults;
 mod frame;
 mod kinds;
 mod misses;
+mod name;
 mod names;
 mod numbers;
 mod objects;

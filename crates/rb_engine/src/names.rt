@@ -11,7 +11,7 @@ ghost use Rattle.rb_engine.specs.Ends.{fault_of, GivesAt, UnlessMemory};
 use crate::ends::{End, Failure, lift};
 use crate::faults::kind;
 use crate::frame::Frame;
-use rb_trees::{Seq, Value, Word, copy_value, copy_word};
+use rb_trees::{Seq, Value, Word, copy_value};
 use std::alloc::Global;
 
 /// A copy of a value, which costs nothing.
@@ -59,10 +59,7 @@ pub fn named_value<X>(alloc: Global, frame: &Frame, at: u32, name: &[u8]) -> Res
 pub fn bind<X>(alloc: Global, frame: &mut Frame, name: &Word, value: Value) -> Result<(), End<X>>
     ensures { UnlessMemory result (λ u. frame.new ≡ frame.old ++ (name.now, value) ∷ []) }
 {
-    let Ok(name) = copy_word(alloc, name) else {
-        return Err(End::NoMemory);
-    };
-    match frame.bind(name, value) {
+    match frame.bind(alloc, name.as_slice(), value) {
         Ok(()) => Ok(()),
         Err(_) => Err(End::NoMemory),
     }

@@ -194,33 +194,56 @@ fn own_method<'a>(
     }
 }
 
-// The names that a method begins with: `names_within`.
-fn names_of(
+// Binds parameters to values, in order, as long as both last.
+#[tactic(auto, using(crate::proofs::Matched::binds))]
+fn bind_values(
+    alloc: Global,
+    frame: &mut Frame,
+    params: &[Param],
+    values: Seq<Value>,
+) -> Result<(), Memory>
+    ensures { OnOk result (frame.new ≡ frame.old ++ matched (map mirror_param params.now) values) }
+{
+    let mut values = values.into_vec().into_iter();
+    for param in params {
+        match values.next() {
+            Some(value) => frame.bind(alloc, param.name.as_slice(), value)?,
+            None => return Ok(()),
+        }
+    }
+    Ok(())
+}
+
+// The names that a method's body may bind before its frame takes more memory.
+const ROOM_FOR_BODY: usize = 4;
+
+// The frame that a method begins with: `names_within`.
+fn frame_within(
     alloc: Global,
     receiver: &Value,
     params: &[Param],
-    args: &[Value],
-) -> Result<Seq<(Word, Value)>, Memory>
-    ensures { IfOk result (λ names. names ≡ names_within receiver.now (map mirror_param params.now) args.now) }
+    args: Seq<Value>,
+) -> Result<Frame, Memory>
+    ensures { IfOk result (λ frame. frame ≡ names_within receiver.now (map mirror_param params.now) args) }
 {
-    let mut names = Seq::new(alloc);
-    names.push((Seq::from_slice(alloc, b"this")?, copy_value(receiver)?))?;
-    match_values(alloc, &mut names, params, args)?;
-    Ok(names)
+    let mut frame = Frame::with_room(alloc, args.len().saturating_add(1 + ROOM_FOR_BODY))?;
+    frame.bind(alloc, b"this", copy_value(receiver)?)?;
+    bind_values(alloc, &mut frame, params, args)?;
+    Ok(frame)
 }
 
-/// The frame that a method begins with: `names_within`.
+/// The frame that a method begins with: `names_within`. The arguments are moved into it.
 #[inline(never)]
 pub fn enter<X>(
     alloc: Global,
     receiver: &Value,
     params: &[Param],
-    args: &[Value],
+    args: Seq<Value>,
 ) -> Result<Frame, End<X>>
-    ensures { UnlessMemory result (λ frame. frame ≡ names_within receiver.now (map mirror_param params.now) args.now) }
+    ensures { UnlessMemory result (λ frame. frame ≡ names_within receiver.now (map mirror_param params.now) args) }
 {
-    match names_of(alloc, receiver, params, args) {
-        Ok(names) => Ok(Frame::of(names)),
+    match frame_within(alloc, receiver, params, args) {
+        Ok(frame) => Ok(frame),
         Err(_) => Err(End::NoMemory),
     }
 }

@@ -9,7 +9,7 @@ use crate::walk::perform_block;
 use rb_engine::{Frame, Miss};
 use rb_flow::OpenBatch;
 use rb_heap::Heap;
-use rb_trees::{Memory, Raised, Value, Word, copy_word};
+use rb_trees::{Memory, Raised, Value, Word};
 use std::alloc::Global;
 
 /// The units of remote fuel of a batch: `batch_fuel`.
@@ -32,8 +32,7 @@ pub fn begin(
 ) -> Result<Start, Memory>
     ensures { Begins root.now result world.old frame.old world.new frame.new }
 {
-    let name = copy_word(alloc, root)?;
-    frame.bind(name, Value::Remote(world.stage.root()))?;
+    frame.bind(alloc, root.as_slice(), Value::Remote(world.stage.root()))?;
     let names = frame.copy(alloc)?;
     let table = world.server.table().copy(alloc)?;
     world.server.refuel(BATCH_FUEL);

@@ -19,9 +19,7 @@ use rb_flow::is_portable;
 use rb_marks::branches_hold;
 use rb_meaning_flow::Role;
 use rb_scopes::Scope;
-use rb_trees::{
-    Expr, Fault, Seq, Shared, Stmt, StmtForm, Value, Word, copy_value, copy_word, fault_codes,
-};
+use rb_trees::{Expr, Fault, Seq, Shared, Stmt, StmtForm, Value, Word, copy_value, fault_codes};
 use std::alloc::Global;
 
 /// A loop over rows, without its rows: its position, the name of its rows, and its block.
@@ -87,8 +85,7 @@ fn perform_carried(
     ensures scope { OnOk result (scope.new ≡ with_variable scope.old name.now Role.Carried at) }
 {
     let value = value_of(alloc, world, frame, expr)?;
-    let word = copy_word(alloc, name)?;
-    frame.bind(word, value)?;
+    frame.bind(alloc, name.as_slice(), value)?;
     scope.bind(alloc, name, Role::Carried, at)?;
     Ok(())
 }
@@ -339,9 +336,8 @@ fn perform_turn(
 {
     let variables = scope.len();
     let names = frame.len();
-    let word = copy_word(alloc, turns.name)?;
     let value = copy_value(row)?;
-    frame.bind(word, value)?;
+    frame.bind(alloc, turns.name.as_slice(), value)?;
     scope.bind(alloc, turns.name, Role::Row, turns.at)?;
     perform_all(alloc, world, scope, frame, turns.block)?;
     scope.truncate(variables);

@@ -209,7 +209,7 @@ pub calls::run_call-overflow_sub-state-2 : goal.calls::run_call-overflow_sub-sta
 calls::run_call-overflow_sub-state-2 g t c = let d = c.run_body-result.ensures.depth in omega arith
 
 pub calls::run_call-returns : goal.calls::run_call-returns
-calls::run_call-returns g t c = λ names. (helped (λ u. u) c.args.at c.check_unit.result _ _ _ c.check_unit.ensures c.lift.ensures c.in_ok-lift.was (helped (λ u. u) c.args.at c.check_depth.result _ _ _ c.check_depth.ensures c.lift-2.ensures c.in_ok-lift-2.was (call_returns c.args.code.now c.args.at c.args.method.now.body _ _ (rw (c.as_slice.ensures, c.as_slice-2.ensures) at c.in_ok-frame.ensures) (fuel_left c.args.at c.args.state.now.fuel c.check_unit.result c.check_unit.ensures c.lift.ensures c.in_ok-lift.was) c.run_body-result.ensures)))
+calls::run_call-returns g t c = λ names. (helped (λ u. u) c.args.at c.check_unit.result _ _ _ c.check_unit.ensures c.lift.ensures c.in_ok-lift.was (helped (λ u. u) c.args.at c.check_depth.result _ _ _ c.check_depth.ensures c.lift-2.ensures c.in_ok-lift-2.was (call_returns c.args.code.now c.args.at c.args.method.now.body _ _ (rw c.as_slice.ensures at c.in_ok-frame.ensures) (fuel_left c.args.at c.args.state.now.fuel c.check_unit.result c.check_unit.ensures c.lift.ensures c.in_ok-lift.was) c.run_body-result.ensures)))
 
 pub calls::run_body-run_all-requires : goal.calls::run_body-run_all-requires
 calls::run_body-run_all-requires g t c κs within = (let e = ap effects_of c.as_slice.ensures in omega arith, within)

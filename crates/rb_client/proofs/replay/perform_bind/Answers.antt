@@ -6,7 +6,7 @@ use Rattle.rb_client.proofs.replay.perform_bind.Goals as goal
 pub returns : goal.returns
 returns g c =
     bind_so g.W.Sink (local c.args.frame.now c.args.state.now) (local c.bind.new.self c.args.state.now) c.args.world.now c.take.new.self c.args.step c.args.name.now c.take.result c.in_ok-value.value c.take.ensures c.in_ok-value.was
-    (ap (λ ns. local ns c.args.state.now) (c.in_ok-bind.ensures.bound ∙ ap (λ y. c.args.frame.now ++ (y, c.in_ok-value.value) ∷ []) c.in_ok-word.ensures))
+    (ap (λ ns. local ns c.args.state.now) (c.in_ok-bind.ensures.bound ∙ ap (λ y. c.args.frame.now ++ (y, c.in_ok-value.value) ∷ []) c.as_slice.ensures))
 
 pub returns-in_err-value : goal.returns-in_err-value
 returns-in_err-value g c =

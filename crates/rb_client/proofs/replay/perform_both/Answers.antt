@@ -12,7 +12,7 @@ pub returns : goal.returns
 returns g c =
     both_so g.W.Sink c.args.code.now (local c.args.frame.now c.args.state.now) (local c.args.frame.now c.eval.new.state) c.args.world.now c.eval.new.world c.args.step c.args.name.now c.args.expr.now
     c.eval.result c.flat.result c.fault_at.result c.fault_at.ensures c.in_default.is c.eval.ensures c.flat.ensures c.in_ok-value.value (local c.bind.new.self c.eval.new.state) c.in_ok-value.was
-    (ap (λ ns. local ns c.eval.new.state) (c.in_ok-bind.ensures.bound ∙ ap (λ y. c.args.frame.now ++ (y, c.in_ok-value.value) ∷ []) c.in_ok-word.ensures))
+    (ap (λ ns. local ns c.eval.new.state) (c.in_ok-bind.ensures.bound ∙ ap (λ y. c.args.frame.now ++ (y, c.in_ok-value.value) ∷ []) c.as_slice.ensures))
 
 pub returns-in-Some : goal.returns-in-Some
 returns-in-Some g c =

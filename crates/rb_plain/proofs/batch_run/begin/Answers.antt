@@ -6,7 +6,7 @@ use Rattle.rb_plain.proofs.batch_run.begin.Goals as goal
 
 pub returns : goal.returns
 returns c = record {
-  bound_so = named c.args.frame.now c.in_ok-bind.ensures.bound c.in_ok-name.ensures (ap value.Remote c.root.ensures);
+  bound_so = named c.args.frame.now c.in_ok-bind.ensures.bound c.as_slice.ensures (ap value.Remote c.root.ensures);
   names_so = c.in_ok-names.ensures;
   table_so = c.in_ok-table.ensures ∙ c.table.ensures;
   server_so = fresh c.refuel.ensures;

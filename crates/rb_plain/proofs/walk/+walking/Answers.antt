@@ -120,12 +120,12 @@ perform_stmt-returns-in-Batch-clause-scope t c = batch_scope _ c.args.world.now 
 pub perform_turn-returns-in_err-perform_all-clause-ended : goal.perform_turn-returns-in_err-perform_all-clause-ended
 perform_turn-returns-in_err-perform_all-clause-ended t c =
     turn_cut c.args.scope.now c.bind-2.new.self c.args.turns.now c.args.frame.now c.bind.new.self c.args.row.now c.in_ok-bind-2.ensures
-    (named c.args.frame.now c.in_ok-bind.ensures.bound c.in_ok-word.ensures c.in_ok-value.ensures) c.perform_all.ensures.walked c.in_err-perform_all.was (search rules)
+    (named c.args.frame.now c.in_ok-bind.ensures.bound c.as_slice.ensures c.in_ok-value.ensures) c.perform_all.ensures.walked c.in_err-perform_all.was (search rules)
 
 pub perform_turn-returns-clause-ended : goal.perform_turn-returns-clause-ended
 perform_turn-returns-clause-ended t c =
     turn_done c.args.scope.now c.bind-2.new.self c.args.turns.now c.args.frame.now c.bind.new.self c.args.row.now c.in_ok-bind-2.ensures
-    (named c.args.frame.now c.in_ok-bind.ensures.bound c.in_ok-word.ensures c.in_ok-value.ensures) c.perform_all.ensures.walked c.in_ok-perform_all.was
+    (named c.args.frame.now c.in_ok-bind.ensures.bound c.as_slice.ensures c.in_ok-value.ensures) c.perform_all.ensures.walked c.in_ok-perform_all.was
 
 pub perform_turn-returns-clause-names : goal.perform_turn-returns-clause-names
 perform_turn-returns-clause-names t c =
