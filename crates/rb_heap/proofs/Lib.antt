@@ -1,4 +1,3 @@
-pub mod Placed
 pub mod Seen
 pub mod Written
 pub mod Zipped

@@ -1,6 +1,5 @@
 pub mod Additions
 pub mod NameWrites
-pub mod Places
 pub mod Seen
 pub mod Views
 pub mod Writes

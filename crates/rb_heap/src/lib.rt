@@ -3,8 +3,8 @@
 //! Contracts see a [`Heap`] as the list of its objects; what a field's value is and what writing it makes of the list
 //! stands in `specs/Objects` of `rb_trees`.
 //!
-//! Fields, and the names of a frame, are lists of names with values, found by walking their list. What a look-up finds, and what
-//! a write leaves, stands in `specs/Named` of `rb_trees` and in `specs/NameWrites` here.
+//! Fields are lists of names with values, found by walking their list. What a look-up finds, and what a write leaves, stands in
+//! `specs/Named` of `rb_trees` and in `specs/NameWrites` here.
 #![tactic(auto)]
 
 mod heap;
@@ -15,5 +15,4 @@ mod stops;
 mod stored;
 
 pub use heap::{Heap, View};
-pub use names::{find_value, replace_value};
 pub use stops::AddStop;

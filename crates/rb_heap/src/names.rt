@@ -5,54 +5,9 @@ ghost use Rattle.std.specs.List.{zip};
 ghost use Rattle.std.specs.Option.{option_copied};
 ghost use Rattle.std.specs.Str.{bytes_eq};
 ghost use Rattle.rb_trees.specs.Named.{lookup};
-ghost use Rattle.rb_heap.specs.Places.{first_place};
 ghost use Rattle.rb_heap.specs.NameWrites.{Replaces};
 
 use rb_trees::{Seq, Value, Word};
-
-// The first place of a name.
-#[tactic(auto, using(crate::proofs::Placed::place_found, crate::proofs::Placed::place_passed))]
-fn place_of(names: &[(Word, Value)], name: &[u8]) -> Option<usize>
-    ensures { result ≡ first_place names.now name.now }
-{
-    for (place, named) in names.iter().enumerate() {
-        if named.0.as_slice() == name {
-            return Some(place);
-        }
-    }
-    None
-}
-
-/// The first value of a name: `lookup`.
-#[tactic(auto, using(crate::proofs::Placed::lookup_placed))]
-pub fn find_value<'a>(names: &'a Seq<(Word, Value)>, name: &[u8]) -> Option<&'a Value>
-    ensures { option_copied result ≡ lookup names.now name.now }
-{
-    match place_of(names.as_slice(), name) {
-        Some(place) => match names.get(place) {
-            Some(named) => Some(&named.1),
-            None => None,
-        },
-        None => None,
-    }
-}
-
-/// Gives the first of a name another value, or hands the value back where there is no such name.
-#[tactic(auto, using(crate::proofs::Placed::lookup_placed, crate::proofs::Placed::replaced_placed))]
-pub fn replace_value(names: &mut Seq<(Word, Value)>, name: &[u8], value: Value) -> Result<(), Value>
-    ensures { Replaces names.old name.now value result names.new }
-{
-    match place_of(names.as_slice(), name) {
-        Some(place) => match names.get_mut(place) {
-            Some(named) => {
-                named.1 = value;
-                Ok(())
-            }
-            None => Err(value),
-        },
-        None => Err(value),
-    }
-}
 
 // The first place of a name among names.
 fn place_among(names: &[Word], name: &[u8]) -> Option<usize>

@@ -1,6 +1,0 @@
-use Rattle.std.proofs.Common.{◌≡◌, None, take}
-use Rattle.rb_heap.specs.Places.{first_place}
-use Rattle.rb_heap.proofs.names.place_of.Given as goal
-
-abbrev pub invariant-loop-place : goal.invariant-loop-place
-invariant-loop-place l = first_place (take l.place l.names) l.name ≡ None
