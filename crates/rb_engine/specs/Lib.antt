@@ -10,6 +10,7 @@ pub mod Makes
 pub mod Meets
 pub mod Methods
 pub mod Misses
+pub mod NameWrites
 pub mod Numbers
 pub mod Places
 pub mod Remote

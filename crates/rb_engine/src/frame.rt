@@ -3,7 +3,7 @@
 ghost use Rattle.std.specs.Prelude.{◌≡◌, [], ◌∷◌, ◌++◌, length, take, IfOk, OnOk, OnErr};
 ghost use Rattle.std.specs.Option.{option_copied};
 ghost use Rattle.rb_trees.specs.Named.{lookup};
-ghost use Rattle.rb_heap.specs.NameWrites.{Replaces};
+ghost use Rattle.rb_engine.specs.NameWrites.{Replaces};
 ghost use Rattle.rb_engine.specs.Places.{first_place};
 
 use crate::name::{Name, Sought};

@@ -17,7 +17,7 @@ use crate::ends::{End, Failure};
 use crate::faults::{heap_full, kind};
 use crate::frame::Frame;
 use rb_code::Code;
-use rb_heap::{AddStop, Heap};
+use rb_heap::{AddStop, Heap, SetStop};
 use rb_trees::{Memory, Method, Object, Param, Seq, Value, Word, copy_value, copy_word};
 use std::alloc::Global;
 
@@ -141,7 +141,8 @@ fn write_own(
 {
     match heap.set_field(object, name, value) {
         Ok(()) => Ok(()),
-        Err(_value) => Err(kind(alloc)),
+        Err(SetStop::Missing(_value)) => Err(kind(alloc)),
+        Err(SetStop::Memory) => Err(Failure::Memory),
     }
 }
 

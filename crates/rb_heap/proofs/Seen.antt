@@ -7,11 +7,11 @@ use Rattle.std.proofs.lemmas.Option.{slice_get-map, slice_get_within}
 use Rattle.rb_trees.specs.declared.values.Value.{Value}
 use Rattle.rb_trees.specs.declared.services.Object.{Object}
 use Rattle.rb_heap.specs.declared.layouts.Layout.{Layout}
+use Rattle.rb_heap.specs.declared.stops.SetStop.{SetStop}
 use Rattle.rb_heap.specs.declared.stored.Stored.{Stored}
-use Rattle.rb_heap.specs.NameWrites.{Replaces}
 use Rattle.rb_heap.specs.Seen.{names_of, values_of, layout_of, laid_out, object_seen, objects_seen, IsLaidOut, AreLaidOut, Extends}
 use Rattle.rb_heap.specs.Views.{object_with}
-use Rattle.rb_heap.specs.Writes.{SetsField}
+use Rattle.rb_heap.specs.Writes.{SetsField, SetsNamed}
 use Rattle.rb_heap.proofs.Written.{object_written}
 
 -- names and values that were those of fields are these fields
@@ -95,8 +95,8 @@ seen_set see [] n x = refl
 seen_set see (y ∷ ys) zero x = refl
 seen_set see (y ∷ ys) (suc n) x = ap (λ rest. see y ∷ rest) (seen_set see ys n x)
 
-pub seen_written : (layouts : List Layout) (objects : List Stored) (n : ℕ) (name : List ℕ) (value : Value) (s : Stored) (l : Layout) (after : List Value) (r : Result (Unit {0}) Value)
-    → slice_get objects n ≡ Some s → slice_get layouts s.layout ≡ Some l → Replaces (zip l.names s.values) name value r (zip l.names after)
+pub seen_written : (layouts : List Layout) (objects : List Stored) (n : ℕ) (name : List ℕ) (value : Value) (s : Stored) (l : Layout) (after : List Value) (r : Result (Unit {0}) SetStop)
+    → slice_get objects n ≡ Some s → slice_get layouts s.layout ≡ Some l → SetsNamed (zip l.names s.values) name value r (zip l.names after)
     → SetsField (objects_seen layouts objects) n name value r (objects_seen layouts (slice_set objects n (record s { values = after })))
 seen_written layouts objects n name value s l after r at laid replaces =
     let heap = objects_seen layouts objects in

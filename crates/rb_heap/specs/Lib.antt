@@ -1,5 +1,4 @@
 pub mod Additions
-pub mod NameWrites
 pub mod Seen
 pub mod Views
 pub mod Writes

@@ -11,8 +11,9 @@ ghost use Rattle.rb_heap.specs.Writes.{SetsField};
 use crate::layouts::Layouts;
 use crate::names::{find_named, replace_named};
 use crate::parts::values_of;
-use crate::stops::AddStop;
+use crate::stops::{AddStop, SetStop};
 use crate::stored::{Stored, copy_objects};
+use crate::values::SharedValues;
 use rb_trees::limits::MOST_OBJECTS;
 use rb_trees::{Memory, Object, Seq, Value, Word};
 use std::alloc::Global;
@@ -73,7 +74,7 @@ impl Heap {
         self.objects.len() as u32
     }
 
-    /// A copy of the heap: the same objects. Its error is want of memory.
+    /// A copy of the heap: the same objects, whose values both share until one writes them. Its error is want of memory.
     pub fn copy(&self, alloc: Global) -> Result<Heap, Memory>
         ensures { IfOk result (λ copy. copy ≡ self.now) }
     {
@@ -100,7 +101,7 @@ impl Heap {
             return Err(AddStop::Full(object));
         }
         let layout = self.layouts.place_for(self.alloc, &object)?;
-        let values = values_of(self.alloc, object.fields)?;
+        let values = SharedValues::of(self.alloc, values_of(self.alloc, object.fields)?)?;
         self.objects.push(Stored { layout, values })?;
         Ok(number)
     }
@@ -115,7 +116,7 @@ impl Heap {
         Some(View {
             class: layout.class.as_slice(),
             names: &layout.names,
-            values: &stored.values,
+            values: stored.values.list(),
         })
     }
 
@@ -140,19 +141,23 @@ impl Heap {
     }
 
     /// Gives an object's field another value: `with_field_value`. Where there is no such object or field the value is
-    /// handed back and nothing changed.
+    /// handed back. Values that a copy shares are copied first, which takes memory. After an error nothing changed.
     #[tactic(auto, using(crate::proofs::Written::object_written, crate::proofs::Written::object_missing))]
-    pub fn set_field(&mut self, object: u32, name: &[u8], value: Value) -> Result<(), Value>
+    pub fn set_field(&mut self, object: u32, name: &[u8], value: Value) -> Result<(), SetStop>
         ensures { SetsField self.old object name.now value result self.new }
     {
         let Some(stored) = self.objects.get_mut(object as usize) else {
-            return Err(value);
+            return Err(SetStop::Missing(value));
         };
         match self.layouts.get(stored.layout) {
-            Some(layout) => {
-                replace_named(layout.names.as_slice(), &mut stored.values, name, value)
-            }
-            None => Err(value),
+            Some(layout) => replace_named(
+                self.alloc,
+                layout.names.as_slice(),
+                &mut stored.values,
+                name,
+                value,
+            ),
+            None => Err(SetStop::Missing(value)),
         }
     }
 }

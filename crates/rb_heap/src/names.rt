@@ -5,9 +5,12 @@ ghost use Rattle.std.specs.List.{zip};
 ghost use Rattle.std.specs.Option.{option_copied};
 ghost use Rattle.std.specs.Str.{bytes_eq};
 ghost use Rattle.rb_trees.specs.Named.{lookup};
-ghost use Rattle.rb_heap.specs.NameWrites.{Replaces};
+ghost use Rattle.rb_heap.specs.Writes.{SetsNamed};
 
+use crate::stops::SetStop;
+use crate::values::SharedValues;
 use rb_trees::{Seq, Value, Word};
+use std::alloc::Global;
 
 // The first place of a name among names.
 fn place_among(names: &[Word], name: &[u8]) -> Option<usize>
@@ -35,22 +38,17 @@ pub(crate) fn find_named<'a>(
 /// is no such name.
 #[tactic(auto, using(crate::proofs::Zipped::lookup_zipped, crate::proofs::Zipped::replaced_zipped))]
 pub(crate) fn replace_named(
+    alloc: Global,
     names: &[Word],
-    values: &mut Seq<Value>,
+    values: &mut SharedValues,
     name: &[u8],
     value: Value,
-) -> Result<(), Value>
-    ensures replaced { Replaces (zip names.now values.old) name.now value result (zip names.now values.new) }
+) -> Result<(), SetStop>
+    ensures replaced { SetsNamed (zip names.now values.old) name.now value result (zip names.now values.new) }
     ensures count { length values.new ≡ length values.old }
 {
     match place_among(names, name) {
-        Some(place) => match values.get_mut(place) {
-            Some(found) => {
-                *found = value;
-                Ok(())
-            }
-            None => Err(value),
-        },
-        None => Err(value),
+        Some(place) => values.set(alloc, place, value),
+        None => Err(SetStop::Missing(value)),
     }
 }

@@ -2,33 +2,34 @@
 
 ghost use Rattle.std.specs.Prelude.{◌≡◌, IfOk};
 
-use rb_trees::{Memory, Seq, Value, copy_values};
+use crate::values::SharedValues;
+use rb_trees::{Memory, Seq};
 use std::alloc::Global;
 
 /// The place of an object's layout, and its values in the layout's order.
 #[derive(Drop)]
 pub(crate) struct Stored {
     pub(crate) layout: usize,
-    pub(crate) values: Seq<Value>,
+    pub(crate) values: SharedValues,
 }
 
-// A copy of what is kept: the same place and values.
-fn copy_stored(alloc: Global, stored: &Stored) -> Result<Stored, Memory>
+// A copy of what is kept: the same place, and the same values with one owner more.
+fn copy_stored(stored: &Stored) -> Result<Stored, Memory>
     ensures { IfOk result (λ copy. copy ≡ stored.now) }
 {
     Ok(Stored {
         layout: stored.layout,
-        values: copy_values(alloc, stored.values.as_slice())?,
+        values: stored.values.share()?,
     })
 }
 
-/// A copy of a list of them: the same in order.
+/// A copy of a list of them: the same in order, with shared values.
 pub(crate) fn copy_objects(alloc: Global, objects: &[Stored]) -> Result<Seq<Stored>, Memory>
     ensures { IfOk result (λ copies. copies ≡ objects.now) }
 {
     let mut copies = Seq::new(alloc);
     for stored in objects {
-        copies.push(copy_stored(alloc, stored)?)?;
+        copies.push(copy_stored(stored)?)?;
     }
     Ok(copies)
 }

@@ -1,6 +1,6 @@
 // Fields of objects of a heap: read and written.
 
-use rb_heap::Heap;
+use rb_heap::{Heap, SetStop};
 use rb_trees::{Object, Seq, Value};
 use std::alloc::Global;
 use std::test::Fail;
@@ -54,8 +54,10 @@ fn one_field_of_one_object_is_written(rt: HostRuntime) -> Result<(), Fail> {
 #[test]
 fn a_value_without_a_field_is_handed_back(rt: HostRuntime) -> Result<(), Fail> {
     let mut heap = points(rt.alloc())?;
-    assert!(rt; matches!(heap.set_field(1, b"z", Value::Int(5)), Err(Value::Int(5))));
-    assert!(rt; matches!(heap.set_field(2, b"x", Value::Int(6)), Err(Value::Int(6))));
+    let unnamed = heap.set_field(1, b"z", Value::Int(5));
+    assert!(rt; matches!(unnamed, Err(SetStop::Missing(Value::Int(5)))));
+    let unnumbered = heap.set_field(2, b"x", Value::Int(6));
+    assert!(rt; matches!(unnumbered, Err(SetStop::Missing(Value::Int(6)))));
     assert_eq!(rt; number_in(&heap, 1, b"x"), Some(3));
     Ok(())
 }

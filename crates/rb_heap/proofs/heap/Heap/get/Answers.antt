@@ -1,4 +1,4 @@
-use Rattle.std.proofs.Common.{sym, ap, ◌∙◌, slice_get, Some}
+use Rattle.std.proofs.Common.{sym, ap, ◌∙◌, length, slice_get, Some}
 use Rattle.rb_heap.specs.Views.{object_with}
 use Rattle.rb_heap.proofs.Seen.{named_at, never_unlaid, seen_at}
 use Rattle.rb_heap.proofs.heap.Heap.get.Goals as goal
@@ -15,7 +15,7 @@ returns c =
     let at = sym c.in_ok-stored.ensures.value in
     let laid = sym c.in_ok-layout.ensures in
     record {
-      seen = ap (λ class. Some (object_with class layout.names stored.values)) c.as_slice.ensures
-          ∙ sym (seen_at kept.layouts kept.objects c.args.object stored layout at laid) ∙ ap (λ seen. slice_get seen c.args.object) c.self.view_is;
-      even = named_at kept.layouts kept.objects c.args.object stored layout c.self.invariant.1 at laid;
+      seen = ap (λ class. Some (object_with class layout.names c.list.result.now)) c.as_slice.ensures
+          ∙ ap (λ values. Some (object_with layout.class layout.names values)) c.list.ensures ∙ sym (seen_at kept.layouts kept.objects c.args.object stored layout at laid) ∙ ap (λ seen. slice_get seen c.args.object) c.self.view_is;
+      even = named_at kept.layouts kept.objects c.args.object stored layout c.self.invariant.1 at laid ∙ ap length (sym c.list.ensures);
     }
