@@ -129,3 +129,25 @@ fn a_write_into_a_copy_is_seen_there_alone(rt: HostRuntime) -> Result<(), Fail> 
         ],
     )
 }
+
+#[test]
+fn writes_beside_a_copy_are_not_seen_there(rt: HostRuntime) -> Result<(), Fail> {
+    let alloc = rt.alloc();
+    let objects: [(&[u8], &[(&[u8], i64)]); 2] = [
+        (b"P", &[(b"x", 1), (b"y", 2)]),
+        (b"P", &[(b"x", 3), (b"y", 4)]),
+    ];
+    let mut heap = heap_of(alloc, &objects)?;
+    let copy = heap.copy(alloc)?;
+    for (name, number) in [(b"x", 5i64), (b"y", 6), (b"x", 7)] {
+        assert!(rt; heap.set_field(0, name, Value::Int(number)).is_ok());
+    }
+    expect_shown(&copy, &objects)?;
+    expect_shown(
+        &heap,
+        &[
+            (b"P", &[(b"x", 7), (b"y", 6)]),
+            (b"P", &[(b"x", 3), (b"y", 4)]),
+        ],
+    )
+}
