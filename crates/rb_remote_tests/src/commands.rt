@@ -2,7 +2,7 @@
 
 mod calls;
 mod commands;
-mod cut_sessions;
+mod events;
 mod failures;
 mod hostile;
 mod near_runs;

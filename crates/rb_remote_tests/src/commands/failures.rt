@@ -3,7 +3,10 @@
 ghost use Rattle.std.specs.Prelude.{◌≡◌, IfOk};
 
 use crate::commands::commands::{answer_with, came_back, exchanges_back, on_files};
-use crate::commands::texts::{NOTHING, SERVICE, host_of};
+use crate::commands::events::{
+    CALLS, COMMANDS, CUT, Call, Command, Event, GROW, MAIN, REPLIES, SIZES, WHOLE,
+};
+use crate::commands::texts::{SERVICE, host_of};
 use rb_base::{Coming, MemoryFiles, MemoryListen, MemorySink};
 use rb_heap::Heap;
 use rb_session::{FailingLink, MemoryDial, Target};
@@ -12,172 +15,13 @@ use rb_trees::Seq;
 use std::alloc::Global;
 use std::test::Fail;
 
-/// The kinds of calls.
-#[derive(Clone, Copy, Debug, PartialEq)]
-enum Call {
-    Read,
-    Dial,
-    Exchange,
-    Listen,
-    Write,
-}
-
-const CALLS: &[Call] = &[
-    Call::Read,
-    Call::Dial,
-    Call::Exchange,
-    Call::Listen,
-    Call::Write,
-];
-
-/// What a run does to its outside.
-#[derive(Clone, Copy)]
-enum Event<'a> {
-    /// It reads the file of this name.
-    Read(&'a str),
-    Dial,
-    /// It makes a link of its own.
-    Around,
-    /// It exchanges a request and its reply over a link that was dialled.
-    Exchange,
-    /// It does so over its own, where no exchange fails.
-    Within,
-    /// It starts to listen, or waits for the next session.
-    Listen,
-    /// It writes this line.
-    Line(&'a str),
-}
-
-/// A command, its exit status, and what it does, in order.
-#[derive(Clone, Copy)]
-struct Command<'a> {
-    words: &'a str,
-    status: u8,
-    events: &'a [&'a [Event<'a>]],
-}
-
-/// A program of two batches with lines between them, which ends by a fault.
-const MAIN: &str =
-    "main { batch (Dir r) { print(r.file(0).size()); r.file(0).grow(1); } print(5); batch (Dir r) { print(r.file(1).size()); r.file(1).grow(1); } print(6); throw \"End\"; }";
-
-/// What each run of that program does.
-const RUN: &[Event<'static>] = &[
-    Event::Exchange,
-    Event::Line("10"),
-    Event::Line("5"),
-    Event::Exchange,
-    Event::Line("200"),
-    Event::Line("6"),
-    Event::Line("fault 8 Thrown \"End\" at 3:152"),
-    Event::Line("exchanges 2"),
-];
-
-/// The same over a link of its own.
-const NEAR: &[Event<'static>] = &[
-    Event::Within,
-    Event::Line("10"),
-    Event::Line("5"),
-    Event::Within,
-    Event::Line("200"),
-    Event::Line("6"),
-    Event::Line("fault 8 Thrown \"End\" at 3:152"),
-    Event::Line("exchanges 2"),
-];
-
-/// The same without exchanges.
-const UNDIVIDED: &[Event<'static>] = &[
-    Event::Line("10"),
-    Event::Line("5"),
-    Event::Line("200"),
-    Event::Line("6"),
-    Event::Line("fault 8 Thrown \"End\" at 3:152"),
-    Event::Line("exchanges 2"),
-];
-
-/// The lines of the table after such a run.
-const GROWN: &[Event<'static>] = &[
-    Event::Line("object 0: Dir { list = [#1, #2]; }"),
-    Event::Line("object 1: File { name = \"a\"; size = 11; }"),
-    Event::Line("object 2: File { name = \"bb\"; size = 201; }"),
-];
-
-/// The lines of the table as it was.
-const KEPT: &[Event<'static>] = &[
-    Event::Line("object 0: Dir { list = [#1, #2]; }"),
-    Event::Line("object 1: File { name = \"a\"; size = 10; }"),
-    Event::Line("object 2: File { name = \"bb\"; size = 200; }"),
-];
-
-/// The view of the program's two divisions.
-const VIEW: &[Event<'static>] = &[
-    Event::Line("batch 3:8"),
-    Event::Line("inputs"),
-    Event::Line("script"),
-    Event::Line("  0 keep root.file(0).size()"),
-    Event::Line("  1 do root.file(0).grow(1)"),
-    Event::Line("remainder"),
-    Event::Line("  print(<0>);"),
-    Event::Line("  pass <1>;"),
-    Event::Line("batch 3:80"),
-    Event::Line("inputs"),
-    Event::Line("script"),
-    Event::Line("  0 keep root.file(1).size()"),
-    Event::Line("  1 do root.file(1).grow(1)"),
-    Event::Line("remainder"),
-    Event::Line("  print(<0>);"),
-    Event::Line("  pass <1>;"),
-];
-
-const READS: &[Event<'static>] = &[Event::Read("p"), Event::Read("s")];
-
-const COMMANDS: &[Command<'static>] = &[
-    Command {
-        words: "check p",
-        status: 0,
-        events: &[&[Event::Read("p"), Event::Line("accepted")]],
-    },
-    Command {
-        words: "split p",
-        status: 0,
-        events: &[&[Event::Read("p")], VIEW],
-    },
-    Command {
-        words: "both p s",
-        status: 1,
-        events: &[READS, &[Event::Around], NEAR, GROWN],
-    },
-    Command {
-        words: "unsplit p s",
-        status: 1,
-        events: &[READS, UNDIVIDED, GROWN],
-    },
-    Command {
-        words: "run a p",
-        status: 1,
-        events: &[&[Event::Read("p"), Event::Dial], RUN],
-    },
-    Command {
-        words: "pair p s",
-        status: 1,
-        events: &[READS, &[Event::Dial], RUN],
-    },
-    Command {
-        words: "serve a s 2",
-        status: 0,
-        events: &[
-            &[Event::Read("s"), Event::Listen, Event::Listen],
-            &[Event::Line("session 1 requests 1 end"), Event::Listen],
-            &[Event::Line("session 2 requests 0 cut")],
-            KEPT,
-        ],
-    },
-];
-
-/// What a run comes to: its exit status before what it prints, and how many exchanges the link had that came back.
+/// What a run comes to: its exit status before what it prints, how many exchanges the link had that came back, and the replies
+/// that were written in its sessions.
 #[derive(Debug, Drop, PartialEq)]
 struct Outcome {
     shown: String,
     exchanges: Option<usize>,
+    replies: Seq<u8>,
 }
 
 /// The call that an event is.
@@ -188,52 +32,177 @@ fn call_of(event: &Event<'_>) -> Option<Call> {
         Event::Around | Event::Within => None,
         Event::Exchange => Some(Call::Exchange),
         Event::Listen => Some(Call::Listen),
-        Event::Line(_) => Some(Call::Write),
+        Event::Take => Some(Call::Take),
+        Event::Reply => Some(Call::Reply),
+        Event::Session(_) | Event::Grown | Event::Line(_) => Some(Call::Write),
     }
 }
 
-/// What is shown where a call fails, after so many exchanges and these lines.
-fn stopped(alloc: Global, event: &Event<'_>, lines: &str, done: usize) -> Result<String, Fail> {
-    let shown = match event {
-        Event::Read(name) => format!(in alloc; "3 {lines}file fault {name}\n")?,
-        Event::Dial => format!(in alloc; "11 {lines}dial fault\n")?,
-        Event::Exchange => format!(in alloc; "7 {lines}link fault {done}\n")?,
-        Event::Listen => format!(in alloc; "12 {lines}listen fault\n")?,
-        Event::Around | Event::Within | Event::Line(_) => format!(in alloc; "9 {lines}")?,
-    };
-    Ok(shown)
+/// The session at hand: its number, how many of its requests were answered, and how it ended, if a call of it failed.
+#[derive(Clone, Copy)]
+struct At {
+    number: u64,
+    requests: u64,
+    fault: Option<&'static str>,
 }
 
-/// A front of a run: the lines so far, the exchanges of its link, if there is one, and how many calls of a kind may come before
-/// one fails.
+/// A front of a run: the lines and the replies so far, the exchanges of its link, if there is one, how many requests were answered
+/// in all sessions, the session at hand, and how many calls of a kind may come before one fails.
 #[derive(Drop)]
 struct Front {
     lines: String,
+    replies: Seq<u8>,
     exchanges: Option<usize>,
+    answered: usize,
+    at: At,
     left: u64,
 }
 
 impl Front {
-    /// Goes on by an event. Is the event the call that fails, it answers false, and nothing happened.
+    /// Where a run begins of which a call of a number fails.
+    fn make(alloc: Global, number: u64) -> Front {
+        Front {
+            lines: String::new(alloc),
+            replies: Seq::new(alloc),
+            exchanges: None,
+            answered: 0,
+            at: At {
+                number: 1,
+                requests: 0,
+                fault: None,
+            },
+            left: number.saturating_sub(1),
+        }
+    }
+
+    /// Goes on by an event. Is the event a call that fails and stops the command, it answers false, and nothing happened.
     fn goes_on(&mut self, call: Call, event: &Event<'_>) -> Result<bool, Fail> {
+        let is_of_session = matches!(event, Event::Take | Event::Reply);
+        if is_of_session && self.at.fault.is_some() {
+            return Ok(true);
+        }
         if call_of(event) == Some(call) {
             if self.left == 0 {
-                return Ok(false);
+                self.fails(event);
+                return Ok(is_of_session);
             }
             self.left -= 1;
         }
+        self.happens(event)?;
+        Ok(true)
+    }
+
+    /// Fails at an event, which ends the session whose read or write it is. No other call fails.
+    fn fails(&mut self, event: &Event<'_>) {
+        self.left = u64::MAX;
         match event {
-            Event::Line(line) => {
-                self.lines.push_str(line)?;
-                self.lines.push('\n')?;
+            Event::Take => self.at.fault = Some("read fault"),
+            Event::Reply => {
+                self.answers();
+                self.at.fault = Some("write fault");
             }
+            _ => {}
+        }
+    }
+
+    /// Counts a request that is answered.
+    fn answers(&mut self) {
+        self.answered = self.answered.saturating_add(1);
+        self.at.requests = self.at.requests.saturating_add(1);
+    }
+
+    /// An event happens.
+    fn happens(&mut self, event: &Event<'_>) -> Result<(), Fail> {
+        match event {
+            Event::Line(line) => self.prints(line)?,
+            Event::Grown => self.prints_size()?,
+            Event::Session(end) => self.ends_session(end)?,
             Event::Dial | Event::Around => self.exchanges = Some(0),
             Event::Exchange | Event::Within => {
                 self.exchanges = self.exchanges.map(|count| count.wrapping_add(1));
             }
-            Event::Read(_) | Event::Listen => {}
+            Event::Reply => self.writes_reply()?,
+            Event::Read(_) | Event::Listen | Event::Take => {}
         }
-        Ok(true)
+        Ok(())
+    }
+
+    /// Answers a request, and writes the reply.
+    fn writes_reply(&mut self) -> Result<(), Fail> {
+        let Some(reply) = REPLIES.get(self.answered) else {
+            return Err(Fail::new("more requests are answered than there are"));
+        };
+        self.replies.extend_from_slice(reply)?;
+        self.answers();
+        Ok(())
+    }
+
+    /// Prints the line of the file that grows.
+    fn prints_size(&mut self) -> Result<(), Fail> {
+        match SIZES.get(self.answered) {
+            Some(line) => self.prints(line),
+            None => Err(Fail::new("more requests are answered than there are")),
+        }
+    }
+
+    /// Prints a line.
+    fn prints(&mut self, line: &str) -> Result<(), Fail> {
+        self.lines.push_str(line)?;
+        self.lines.push('\n')?;
+        Ok(())
+    }
+
+    /// Prints the line of the session at hand, which ended so unless a call of it failed, and goes on to the next one.
+    fn ends_session(&mut self, end: &str) -> Result<(), Fail> {
+        let At {
+            number,
+            requests,
+            fault,
+        } = self.at;
+        let end = fault.unwrap_or(end);
+        writeln!(self.lines, "session {number} requests {requests} {end}")?;
+        self.at = At {
+            number: number.saturating_add(1),
+            requests: 0,
+            fault: None,
+        };
+        Ok(())
+    }
+
+    /// Stops at a call that fails: says so behind the lines, and answers the status.
+    fn stops(&mut self, event: &Event<'_>) -> Result<u8, Fail> {
+        match event {
+            Event::Read(name) => {
+                writeln!(self.lines, "file fault {name}")?;
+                Ok(3)
+            }
+            Event::Dial => {
+                self.prints("dial fault")?;
+                Ok(11)
+            }
+            Event::Exchange => {
+                let done = self.exchanges.unwrap_or(0);
+                writeln!(self.lines, "link fault {done}")?;
+                Ok(7)
+            }
+            Event::Listen => {
+                self.prints("listen fault")?;
+                Ok(12)
+            }
+            _ => Ok(9),
+        }
+    }
+
+    /// Goes through the events of a command to its end, or to the call that fails and stops it, and answers the status.
+    fn goes_through(&mut self, command: &Command<'_>, call: Call) -> Result<u8, Fail> {
+        for events in command.events {
+            for event in *events {
+                if !self.goes_on(call, event)? {
+                    return self.stops(event);
+                }
+            }
+        }
+        Ok(command.status)
     }
 }
 
@@ -244,27 +213,17 @@ fn expected(
     call: Call,
     number: u64,
 ) -> Result<Outcome, Fail> {
-    let mut front = Front {
-        lines: String::new(alloc),
-        exchanges: None,
-        left: number.saturating_sub(1),
+    let mut front = Front::make(alloc, number);
+    let status = front.goes_through(command, call)?;
+    let lines = if command.is_silent {
+        ""
+    } else {
+        front.lines.as_str()
     };
-    for events in command.events {
-        for event in *events {
-            if !front.goes_on(call, event)? {
-                let done = front.exchanges.unwrap_or(0);
-                let shown = stopped(alloc, event, front.lines.as_str(), done)?;
-                return Ok(Outcome {
-                    shown,
-                    exchanges: front.exchanges,
-                });
-            }
-        }
-    }
-    let shown = format!(in alloc; "{} {}", command.status, front.lines.as_str())?;
     Ok(Outcome {
-        shown,
+        shown: format!(in alloc; "{status} {lines}")?,
         exchanges: front.exchanges,
+        replies: front.replies,
     })
 }
 
@@ -304,85 +263,106 @@ fn dial_of(alloc: Global, call: Call, number: u64) -> Result<MemoryDial<FailingL
     Ok(dial)
 }
 
-/// A session of these bytes, of which no call fails.
-fn session_of(alloc: Global, bytes: &[u8]) -> Result<Coming, Fail> {
+/// A session of so many requests and a front of one more, of which the read or the write of a number fails.
+fn session_of(
+    alloc: Global,
+    requests: usize,
+    rest: &[u8],
+    call: Call,
+    number: u64,
+) -> Result<Coming, Fail> {
+    let mut bytes = Seq::new(alloc);
+    for _ in 0..requests {
+        bytes.extend_from_slice(GROW)?;
+    }
+    bytes.extend_from_slice(rest)?;
     Ok(Coming {
-        bytes: Seq::from_slice(alloc, bytes)?,
-        reads: Seq::new(alloc),
-        writes: Seq::new(alloc),
+        bytes,
+        reads: failing(alloc, Call::Take, call, number)?,
+        writes: failing(alloc, Call::Reply, call, number)?,
     })
 }
 
-/// A listener at `a` with a session of one request, and one that is cut.
-fn listen_of(alloc: Global, call: Call, number: u64) -> Result<MemoryListen, Fail> {
+/// The session that is whole, and the one that is cut, whose calls are counted on from those of the first.
+fn sessions_of(alloc: Global, call: Call, number: u64) -> Result<Seq<Coming>, Fail> {
+    let later = number.saturating_sub(calls_in(WHOLE, call));
     let mut sessions = Seq::new(alloc);
-    sessions.push(session_of(alloc, NOTHING)?)?;
-    sessions.push(session_of(alloc, &NOTHING[..5])?)?;
+    sessions.push(session_of(alloc, 3, b"", call, number)?)?;
+    sessions.push(session_of(alloc, 1, &GROW[..5], call, later)?)?;
+    Ok(sessions)
+}
+
+/// A listener at `a` and at `-` with these sessions.
+fn listen_of(alloc: Global, call: Call, number: u64) -> Result<MemoryListen, Fail> {
     let mut addresses = Seq::new(alloc);
-    addresses.push((Seq::from_slice(alloc, b"a")?, sessions))?;
+    for address in [b"a", b"-"] {
+        let sessions = sessions_of(alloc, call, number)?;
+        addresses.push((Seq::from_slice(alloc, address)?, sessions))?;
+    }
     let calls = failing(alloc, Call::Listen, call, number)?;
     Ok(MemoryListen::make(alloc, addresses, calls, usize::MAX))
 }
 
+/// The replies that were written in the sessions that came back.
+fn replies_to(alloc: Global, listen: &MemoryListen) -> Result<Seq<u8>, Fail> {
+    let mut replies = Seq::new(alloc);
+    for (_source, sink) in listen.returned() {
+        replies.extend_from_slice(sink.written())?;
+    }
+    Ok(replies)
+}
+
 /// What a command comes to where its call of a kind and a number fails.
-fn found(alloc: Global, words: &str, call: Call, number: u64) -> Result<Outcome, Fail> {
+fn found(alloc: Global, command: &Command<'_>, call: Call, number: u64) -> Result<Outcome, Fail> {
     let files = files_of(alloc, call, number)?;
-    let out = MemorySink::make(
-        alloc,
-        failing(alloc, Call::Write, call, number)?,
-        usize::MAX,
-    );
+    let writes = failing(alloc, Call::Write, call, number)?;
+    let out = MemorySink::make(alloc, writes, usize::MAX);
     let mut dial = dial_of(alloc, call, number)?;
     let mut listen = listen_of(alloc, call, number)?;
-    let shown = answer_with(alloc, words, files, out, &mut dial, &mut listen)?;
+    let shown = answer_with(alloc, command.words, files, out, &mut dial, &mut listen)?;
     if let Some((exchanges, table)) = came_back(&dial) {
-        same_table(alloc, words, exchanges, table)?;
+        same_table(alloc, command, exchanges, table)?;
     }
     Ok(Outcome {
         shown,
         exchanges: exchanges_back(&dial),
+        replies: replies_to(alloc, &listen)?,
     })
 }
 
-/// The lines of the table after so many exchanges of the program.
-fn table_after(alloc: Global, exchanges: usize) -> Result<String, Fail> {
-    let (one, two) = match exchanges {
-        0 => (10, 200),
-        1 => (11, 200),
-        _ => (11, 201),
-    };
-    Ok(format!(in alloc;
-        "object 0: Dir {{ list = [#1, #2]; }}\nobject 1: File {{ name = \"a\"; size = {one}; }}\nobject 2: File {{ name = \"bb\"; size = {two}; }}\n"
-    )?)
-}
-
-/// Fails where a server's table isn't as it is after so many exchanges of the program.
+/// Fails where the table of a link isn't as it is after so many exchanges of a command.
 fn same_table(
     alloc: Global,
-    words: &str,
+    command: &Command<'_>,
     exchanges: usize,
     table: Option<&Heap>,
 ) -> Result<(), Fail> {
-    let Some(table) = table else {
-        return Err(Fail::new(format_args!("there is no table, by {words}")));
+    let (Some(table), Some(wanted)) = (table, command.tables.get(exchanges)) else {
+        return Err(Fail::new(format_args!("there is no table, by {}", command.words)));
     };
-    let wanted = table_after(alloc, exchanges)?;
     let shown = print_table(alloc, table)?;
-    if shown.as_slice() == wanted.as_str().as_bytes() {
+    if shown.as_slice() == wanted.as_bytes() {
         return Ok(());
     }
-    Err(Fail::new(format_args!("{shown:?} in place of {wanted:?}, by {words}")))
+    Err(Fail::new(format_args!("{shown:?} in place of {wanted:?}, by {}", command.words)))
+}
+
+/// How many calls of a kind these events are.
+fn calls_in(events: &[Event<'_>], call: Call) -> u64 {
+    let mut count: u64 = 0;
+    for event in events {
+        if call_of(event) == Some(call) {
+            count = count.saturating_add(1);
+        }
+    }
+    count
 }
 
 /// How many calls of a kind a command makes.
 fn calls_made(command: &Command<'_>, call: Call) -> u64 {
     let mut count: u64 = 0;
     for events in command.events {
-        for event in *events {
-            if call_of(event) == Some(call) {
-                count = count.saturating_add(1);
-            }
-        }
+        count = count.saturating_add(calls_in(events, call));
     }
     count
 }
@@ -393,7 +373,7 @@ fn expect_calls(alloc: Global, command: &Command<'_>, call: Call) -> Result<(), 
     let count = calls_made(command, call).saturating_add(1);
     for number in 1..=count {
         let wanted = expected(alloc, command, call, number)?;
-        let found = found(alloc, command.words, call, number)?;
+        let found = found(alloc, command, call, number)?;
         if found != wanted {
             return Err(Fail::new(format_args!(
                 "{found:?} in place of {wanted:?}, by {}, where {call:?} {number} fails",
