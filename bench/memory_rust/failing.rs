@@ -1,9 +1,10 @@
-//! An allocator of which calls fail, to be loaded before the C library (LD_PRELOAD). It counts the calls that take memory from
-//! the start of `main` on, and fails those of some numbers. All others go on to the C library, and so do all calls before.
+//! An allocator of which calls fail, to be loaded before the C library (LD_PRELOAD). It counts the
+//! calls that take or move memory from the start of `main` on, and fails those of some numbers. All
+//! others go on to the C library, and so do all calls before.
 //!
-//! The environment says what fails. FAILING_WORD is the first word behind the program's name: a process with another one is
-//! left alone. FAILING_FIRST and FAILING_LAST are the first and the last number, counted from 1. FAILING_MARK is a file, which
-//! gets a byte for each call that fails.
+//! The environment says what fails. FAILING_WORD is the first word behind the program's name: a
+//! process with another one is left alone. FAILING_FIRST and FAILING_LAST are the first and the last
+//! number, counted from 1. FAILING_MARK is a file, which gets a byte for each call that fails.
 
 use std::env;
 use std::ffi::{CStr, c_char, c_int, c_void};
@@ -15,7 +16,15 @@ use std::sync::atomic::{AtomicU64, Ordering};
 
 type Words = *const *const c_char;
 type Main = extern "C" fn(c_int, Words, Words) -> c_int;
-type Start = unsafe extern "C" fn(Main, c_int, Words, *mut c_void, *mut c_void, *mut c_void, *mut c_void) -> c_int;
+type Start = unsafe extern "C" fn(
+    Main,
+    c_int,
+    Words,
+    *mut c_void,
+    *mut c_void,
+    *mut c_void,
+    *mut c_void,
+) -> c_int;
 
 const ENOMEM: c_int = 12;
 const EINVAL: c_int = 22;
@@ -55,24 +64,29 @@ fn fails() -> bool {
     true
 }
 
+/// What a call of the C library takes, or nothing where the call fails.
+fn taken(take: impl FnOnce() -> *mut c_void) -> *mut c_void {
+    if fails() { null_mut() } else { take() }
+}
+
 #[unsafe(no_mangle)]
 unsafe extern "C" fn malloc(size: usize) -> *mut c_void {
-    if fails() { null_mut() } else { unsafe { __libc_malloc(size) } }
+    taken(|| unsafe { __libc_malloc(size) })
 }
 
 #[unsafe(no_mangle)]
 unsafe extern "C" fn calloc(count: usize, size: usize) -> *mut c_void {
-    if fails() { null_mut() } else { unsafe { __libc_calloc(count, size) } }
+    taken(|| unsafe { __libc_calloc(count, size) })
 }
 
 #[unsafe(no_mangle)]
 unsafe extern "C" fn realloc(old: *mut c_void, size: usize) -> *mut c_void {
-    if fails() { null_mut() } else { unsafe { __libc_realloc(old, size) } }
+    taken(|| unsafe { __libc_realloc(old, size) })
 }
 
 #[unsafe(no_mangle)]
 unsafe extern "C" fn aligned_alloc(align: usize, size: usize) -> *mut c_void {
-    if fails() { null_mut() } else { unsafe { __libc_memalign(align, size) } }
+    taken(|| unsafe { __libc_memalign(align, size) })
 }
 
 #[unsafe(no_mangle)]
