@@ -312,22 +312,45 @@ fn replies_to(alloc: Global, listen: &MemoryListen) -> Result<Seq<u8>, Fail> {
     Ok(replies)
 }
 
-/// What a command comes to where its call of a kind and a number fails.
-fn found(alloc: Global, command: &Command<'_>, call: Call, number: u64) -> Result<Outcome, Fail> {
+/// What a command shows over a Dial and a listener where its call of a kind and a number fails.
+fn shown_over(
+    alloc: Global,
+    words: &str,
+    call: Call,
+    number: u64,
+    dial: &mut MemoryDial<FailingLink>,
+    listen: &mut MemoryListen,
+) -> Result<String, Fail> {
     let files = files_of(alloc, call, number)?;
     let writes = failing(alloc, Call::Write, call, number)?;
     let out = MemorySink::make(alloc, writes, usize::MAX);
-    let mut dial = dial_of(alloc, call, number)?;
-    let mut listen = listen_of(alloc, call, number)?;
-    let shown = answer_with(alloc, command.words, files, out, &mut dial, &mut listen)?;
-    if let Some((exchanges, table)) = came_back(&dial) {
+    answer_with(alloc, words, files, out, dial, listen)
+}
+
+/// What a command came to that showed this, by what came back to its Dial and its listener.
+fn outcome_of(
+    alloc: Global,
+    command: &Command<'_>,
+    shown: String,
+    dial: &MemoryDial<FailingLink>,
+    listen: &MemoryListen,
+) -> Result<Outcome, Fail> {
+    if let Some((exchanges, table)) = came_back(dial) {
         same_table(alloc, command, exchanges, table)?;
     }
     Ok(Outcome {
         shown,
-        exchanges: exchanges_back(&dial),
-        replies: replies_to(alloc, &listen)?,
+        exchanges: exchanges_back(dial),
+        replies: replies_to(alloc, listen)?,
     })
+}
+
+/// What a command comes to where its call of a kind and a number fails.
+fn found(alloc: Global, command: &Command<'_>, call: Call, number: u64) -> Result<Outcome, Fail> {
+    let mut dial = dial_of(alloc, call, number)?;
+    let mut listen = listen_of(alloc, call, number)?;
+    let shown = shown_over(alloc, command.words, call, number, &mut dial, &mut listen)?;
+    outcome_of(alloc, command, shown, &dial, &listen)
 }
 
 /// Fails where the table of a link isn't as it is after so many exchanges of a command.

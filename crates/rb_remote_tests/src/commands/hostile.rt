@@ -139,7 +139,7 @@ const CASES: &[Case<'static>] = &[
 
 /// What came of what was sent.
 #[derive(Debug, Drop)]
-struct Found {
+struct Course {
     shown: String,
     replied: Seq<u8>,
 }
@@ -176,8 +176,8 @@ fn bytes_of(alloc: Global, sent: Sent<'_>) -> Result<Seq<u8>, Fail> {
 }
 
 /// What comes of bytes that a client gets.
-fn asked(alloc: Global, bytes: &[u8]) -> Result<Found, Fail> {
-    Ok(Found {
+fn asked(alloc: Global, bytes: &[u8]) -> Result<Course, Fail> {
+    Ok(Course {
         shown: replied(alloc, bytes)?,
         replied: Seq::new(alloc),
     })
@@ -197,7 +197,7 @@ fn listen_to(alloc: Global, bytes: Seq<u8>) -> Result<MemoryListen, Fail> {
 }
 
 /// What comes of bytes that a server gets.
-fn served(alloc: Global, bytes: Seq<u8>) -> Result<Found, Fail> {
+fn served(alloc: Global, bytes: Seq<u8>) -> Result<Course, Fail> {
     let mut listen = listen_to(alloc, bytes)?;
     let files = files_of(alloc, &[("s", NUMBER)])?;
     let mut dial = NullDial::make(alloc);
@@ -207,11 +207,11 @@ fn served(alloc: Global, bytes: Seq<u8>) -> Result<Found, Fail> {
     for (_source, sink) in listen.returned() {
         replied.extend_from_slice(sink.written())?;
     }
-    Ok(Found { shown, replied })
+    Ok(Course { shown, replied })
 }
 
 /// What comes of a case.
-fn found(alloc: Global, case: &Case<'_>) -> Result<Found, Fail> {
+fn found(alloc: Global, case: &Case<'_>) -> Result<Course, Fail> {
     let bytes = bytes_of(alloc, case.sent)?;
     match case.to {
         Receiver::Client => asked(alloc, bytes.as_slice()),
