@@ -1,12 +1,13 @@
 -- What the places of variables lead to.
-use Rattle.std.proofs.Common.{◌≡◌, ℕ, suc, zero, ◌<◌, ◌≤◌, List, [], ◌∷◌, ◌++◌, length, reverse, Bool, true, false, cond, nat_eq, nat_lt, Option, Some, None, slice_get, refl, sym, ap, ◌∙◌, subst, arith}
+use Rattle.std.proofs.Common.{◌≡◌, ℕ, suc, zero, ◌<◌, ◌≤◌, List, [], ◌∷◌, ◌++◌, ◌-◌, length, reverse, take, Bool, true, false, cond, nat_eq, nat_lt, Option, Some, None, slice_get, refl, sym, ap, ◌∙◌, subst, arith}
 use Rattle.std.specs.Option.{option_map}
 use Rattle.std.proofs.lemmas.Grind.{common_steps}
 use Rattle.std.proofs.lemmas.Bool.Decides.{nat_tests}
-use Rattle.std.proofs.lemmas.List.{reverse-append, reverse-reverse, length-reverse}
+use Rattle.std.proofs.lemmas.List.{reverse-append, reverse-reverse, length-reverse, length-append}
+use Rattle.std.proofs.Math.Seq.{take-append_seam}
 use Rattle.rb_trees.specs.declared.values.Value.{Value}
 use Rattle.rb_meaning_code.specs.ScriptRun.{Vars, latest}
-use Rattle.rb_exec.specs.Bindings.{as_variables, Guides, oldest, without_latest}
+use Rattle.rb_exec.specs.Bindings.{as_variables, Guides, latest_binding, oldest, Sets, without_latest}
 use Rattle.rb_exec.specs.declared.variables.Binding.{Binding}
 
 same_number : (a b : ℕ) → nat_eq a b ≡ true → a ≡ b
@@ -170,3 +171,29 @@ pub bound_more : (xs ys : List Binding) (b : Binding) (p q : ℕ → Option ℕ)
 bound_more xs ys b p q place e l f h u =
     subst (λ zs. Guides q zs) (sym (ap reverse e ∙ reverse_last xs b))
     (guides_more b (reverse xs) p q f (λ n. u n ∙ ap (λ k. cond (nat_eq b.number n) (Some k) (p n)) (l ∙ sym (length-reverse xs))) h)
+
+-- a binding less at the end
+shorter : (bs xs : List Binding) (b : Binding) (size : ℕ) → reverse xs ≡ b ∷ bs → size ≡ length xs → reverse (take (size - 1) xs) ≡ bs
+shorter bs xs b size r s =
+    let whole : xs ≡ reverse bs ++ b ∷ [] = sym (reverse-reverse xs) ∙ ap reverse r ∙ reverse-append (b ∷ []) bs in
+    let less : size - 1 ≡ length (reverse bs) = omega (arith, s, ap length whole, length-append (reverse bs) (b ∷ [])) in
+    ap reverse (ap (λ n. take n xs) less ∙ ap (take (length (reverse bs))) whole ∙ take-append_seam (reverse bs) (b ∷ [])) ∙ reverse-reverse bs
+
+guides_latest : (b : Binding) (bs : List Binding) (p q : ℕ → Option ℕ) (number : ℕ) (before : Option ℕ) → latest_binding (b ∷ bs) ≡ Some (number, before)
+    → Sets number before p q → Guides p (b ∷ bs) → Guides q bs
+guides_latest b bs p q number before l u h =
+    let pair : (b.number, b.before) ≡ (number, before) = cc in
+    let same : b.number ≡ number = ap (λ (x : ℕ × Option ℕ). x.0) pair in
+    let then : b.before ≡ before = ap (λ (x : ℕ × Option ℕ). x.1) pair in
+    guides_less b bs p q (λ n. u n ∙ ap (λ k. cond (nat_eq k n) before (p n)) (sym same) ∙ ap (λ o. cond (nat_eq b.number n) o (p n)) (sym then)) h
+
+less_by : (bs xs : List Binding) (p q : ℕ → Option ℕ) (number : ℕ) (before : Option ℕ) (size : ℕ) → reverse xs ≡ bs → size ≡ length xs
+    → latest_binding bs ≡ Some (number, before) → Guides p bs → Sets number before p q → Guides q (reverse (take (size - 1) xs))
+less_by [] xs p q number before size r s l h u = absurd (cc l)
+less_by (b ∷ bs) xs p q number before size r s l h u =
+    subst (λ zs. Guides q zs) (sym (shorter bs xs b size r s)) (guides_latest b bs p q number before l u h)
+
+pub bound_less : (xs ys : List Binding) (p q : ℕ → Option ℕ) (number : ℕ) (before : Option ℕ) (size : ℕ) → ys ≡ take (size - 1) xs → size ≡ length xs
+    → latest_binding (reverse xs) ≡ Some (number, before) → Guides p (reverse xs) → Sets number before p q → Guides q (reverse ys)
+bound_less xs ys p q number before size e s l h u =
+    subst (λ zs. Guides q (reverse zs)) (sym e) (less_by (reverse xs) xs p q number before size refl s l h u)

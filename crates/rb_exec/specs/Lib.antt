@@ -5,5 +5,6 @@ pub mod Ends
 pub mod Holes
 pub mod Hosted
 pub mod Hosts
+pub mod Places
 pub mod Stages
 pub mod Written

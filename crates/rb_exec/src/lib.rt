@@ -10,6 +10,7 @@ mod expressions;
 mod holes;
 mod host;
 mod nodes;
+mod places;
 mod rules;
 mod run;
 mod stage;

@@ -1,15 +1,13 @@
 // The variables of a script.
 
-ghost use Rattle.std.specs.Prelude.{◌≡◌, ℕ, [], ◌∷◌, length, reverse, slice_get, OnOk, OnErr};
+ghost use Rattle.std.specs.Prelude.{◌≡◌, [], ◌∷◌, length, reverse, slice_get, OnOk, OnErr};
 ghost use Rattle.std.specs.Option.{option_copied, option_map};
-ghost use Rattle.std.specs.Ordering.{nat_cmp};
-ghost use Rattle.std.specs.BTreeMap.{get};
 ghost use Rattle.rb_meaning_code.specs.ScriptRun.{latest};
-ghost use Rattle.rb_exec.specs.Bindings.{latest_binding, oldest, Sets, without_latest};
+ghost use Rattle.rb_exec.specs.Bindings.{latest_binding, oldest, without_latest};
 
+use crate::places::Places;
 use rb_trees::{Memory, Value};
 use std::alloc::Global;
-use std::collections::BTreeMap;
 use std::marker::Model;
 
 /// A variable that was bound to a value, and the place of its binding before.
@@ -27,17 +25,16 @@ pub struct Variables {
     // in order of binding
     bindings: Vec<Binding>,
     // the place of each variable's latest binding
-    places: BTreeMap<u32, usize>,
+    places: Places,
 }
 
 impl Model for Variables {
     ghost use Rattle.std.specs.Prelude.{reverse};
     ghost use Rattle.std.specs.Coded.{coded×, coded_list, coded_ℕ};
-    ghost use Rattle.std.specs.Ordering.{nat_cmp};
-    ghost use Rattle.std.specs.BTreeMap.{get};
     ghost use Rattle.rb_trees.specs.contracts.values.Value as value_code;
     ghost use Rattle.rb_meaning_code.specs.ScriptRun.{Vars};
     ghost use Rattle.rb_exec.specs.Bindings.{Guides, as_variables};
+    ghost use Rattle.rb_exec.specs.Places.{place_at};
 
     ghost Value = { Vars };
 
@@ -45,7 +42,7 @@ impl Model for Variables {
 
     ghost view = { λ v. as_variables (reverse v.bindings.items) };
 
-    ghost invariant = { λ v. Guides (get nat_cmp v.places) (reverse v.bindings.items) };
+    ghost invariant = { λ v. Guides (place_at v.places) (reverse v.bindings.items) };
 }
 
 impl Variables {
@@ -55,7 +52,7 @@ impl Variables {
     {
         Variables {
             bindings: Vec::new(alloc),
-            places: BTreeMap::new(alloc),
+            places: Places::new(alloc),
         }
     }
 
@@ -71,7 +68,7 @@ impl Variables {
     pub fn find(&self, number: u32) -> Option<&Value>
         ensures { option_copied result ≡ latest self.now number }
     {
-        match place_of(&self.places, number) {
+        match self.places.find(number) {
             Some(place) => value_at(self.bindings.as_slice(), place),
             None => None,
         }
@@ -82,14 +79,14 @@ impl Variables {
         ensures bound { OnOk result (self.new ≡ (number, value) ∷ self.old) }
         ensures kept { OnErr result (self.new ≡ self.old) }
     {
-        let before = place_of(&self.places, number);
+        let before = self.places.find(number);
         let place = self.bindings.len();
         self.bindings.push(Binding {
             number,
             value,
             before,
         })?;
-        match set_place(&mut self.places, number, Some(place)) {
+        match self.places.set(number, Some(place)) {
             Ok(()) => Ok(()),
             Err(_) => {
                 self.bindings.truncate(place);
@@ -114,7 +111,7 @@ impl Variables {
         ensures { OnOk result (self.new ≡ without_latest self.old) }
     {
         if let Some((number, before)) = latest_of(self.bindings.as_slice()) {
-            set_place(&mut self.places, number, before)?;
+            self.places.set(number, before)?;
             let _latest = self.bindings.pop();
         }
         Ok(())
@@ -129,36 +126,6 @@ fn value_at(bindings: &[Binding], place: usize) -> Option<&Value>
         Some(binding) => Some(&binding.value),
         None => None,
     }
-}
-
-// The place that is kept of a variable.
-fn place_of(places: &BTreeMap<u32, usize>, number: u32) -> Option<usize>
-    ensures { result ≡ get nat_cmp places.now number }
-{
-    match places.get(&number) {
-        Some(place) => Some(*place),
-        None => None,
-    }
-}
-
-// Keeps another place of a variable, or none. After an error the places are as they were.
-fn set_place(
-    places: &mut BTreeMap<u32, usize>,
-    number: u32,
-    place: Option<usize>,
-) -> Result<(), Memory>
-    ensures set { OnOk result (Sets number place (get nat_cmp places.old) (get nat_cmp places.new)) }
-    ensures kept { OnErr result ((n : ℕ) → get nat_cmp places.new n ≡ get nat_cmp places.old n) }
-{
-    match place {
-        Some(place) => {
-            let _before = places.insert(number, place)?;
-        }
-        None => {
-            let _before = places.remove(&number);
-        }
-    }
-    Ok(())
 }
 
 // The variable of the last binding, and the place of its binding before.

@@ -1,9 +1,8 @@
 -- The places lead to the binding whose value is the latest.
 use Rattle.std.proofs.Common.{sym, ap, ◌∙◌, slice_get}
 use Rattle.std.specs.Option.{option_map}
-use Rattle.std.specs.Ordering.{nat_cmp}
-use Rattle.std.specs.BTreeMap.{get}
 use Rattle.rb_meaning_code.specs.ScriptRun.{latest}
+use Rattle.rb_exec.specs.Places.{place_at}
 use Rattle.rb_exec.proofs.Guided.{find_placed}
 use Rattle.rb_exec.proofs.variables.Variables.find.Goals as goal
 
@@ -12,4 +11,4 @@ returns-in-Some c =
     c.value_at.ensures
     ∙ ap (λ xs. option_map (λ b. b.value) (slice_get xs c.in-Some.place)) c.as_slice.ensures.value
     ∙ sym (ap (λ vs. latest vs c.args.number) (sym c.self.view_is)
-    ∙ find_placed c.self.inside.bindings.items (get nat_cmp c.self.inside.places) c.args.number c.in-Some.place c.self.invariant (sym c.place_of.ensures ∙ c.in-Some.is))
+    ∙ find_placed c.self.inside.bindings.items (place_at c.self.inside.places) c.args.number c.in-Some.place c.self.invariant (sym c.find.ensures ∙ c.in-Some.is))
