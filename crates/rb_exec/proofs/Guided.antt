@@ -197,3 +197,12 @@ pub bound_less : (xs ys : List Binding) (p q : ℕ → Option ℕ) (number : ℕ
     → latest_binding (reverse xs) ≡ Some (number, before) → Guides p (reverse xs) → Sets number before p q → Guides q (reverse ys)
 bound_less xs ys p q number before size e s l h u =
     subst (λ zs. Guides q (reverse zs)) (sym e) (less_by (reverse xs) xs p q number before size refl s l h u)
+
+seen_by : (bs xs : List Binding) (number : ℕ) (before : Option ℕ) (size : ℕ) → reverse xs ≡ bs → size ≡ length xs → latest_binding bs ≡ Some (number, before)
+    → as_variables (reverse (take (size - 1) xs)) ≡ without_latest (as_variables bs)
+seen_by [] xs number before size r s l = absurd (cc l)
+seen_by (b ∷ bs) xs number before size r s l = ap as_variables (shorter bs xs b size r s)
+
+pub seen_less : (xs ys : List Binding) (number : ℕ) (before : Option ℕ) (size : ℕ) → ys ≡ take (size - 1) xs → size ≡ length xs
+    → latest_binding (reverse xs) ≡ Some (number, before) → as_variables (reverse ys) ≡ without_latest (as_variables (reverse xs))
+seen_less xs ys number before size e s l = ap (λ zs. as_variables (reverse zs)) e ∙ seen_by (reverse xs) xs number before size refl s l

@@ -1,6 +1,6 @@
 // The variables of a script.
 
-ghost use Rattle.std.specs.Prelude.{◌≡◌, [], ◌∷◌, length, reverse, slice_get, OnOk, OnErr};
+ghost use Rattle.std.specs.Prelude.{◌≡◌, ◌-◌, [], ◌∷◌, length, reverse, take, slice_get, vec_len, OnOk, OnErr};
 ghost use Rattle.std.specs.Option.{option_copied, option_map};
 ghost use Rattle.rb_meaning_code.specs.ScriptRun.{latest};
 ghost use Rattle.rb_exec.specs.Bindings.{latest_binding, oldest, without_latest};
@@ -112,7 +112,7 @@ impl Variables {
     {
         if let Some((number, before)) = latest_of(self.bindings.as_slice()) {
             self.places.set(number, before)?;
-            let _latest = self.bindings.pop();
+            drop_last(&mut self.bindings);
         }
         Ok(())
     }
@@ -126,6 +126,13 @@ fn value_at(bindings: &[Binding], place: usize) -> Option<&Value>
         Some(binding) => Some(&binding.value),
         None => None,
     }
+}
+
+// Lets the last binding go.
+fn drop_last(bindings: &mut Vec<Binding>)
+    ensures { bindings.new.items ≡ take (vec_len bindings.old - 1) bindings.old.items }
+{
+    let _last = bindings.pop();
 }
 
 // The variable of the last binding, and the place of its binding before.
