@@ -10,7 +10,8 @@ use rb_trees::Memory;
 use std::alloc::Global;
 use std::collections::BTreeMap;
 
-// How many numbers are indexes of a list. A script numbers its variables from 0, so few have more.
+// How many numbers are indexes of a list. A client numbers the variables of a script from 0, so few are greater; a sender
+// that numbers them otherwise makes the list no longer than this.
 const INDEXED: u32 = 256;
 
 /// For each number the place that was set last, if any: `place_at`.
