@@ -1,6 +1,5 @@
--- Frames as they are written, and fronts of a stream as they are found.
-use Rattle.std.proofs.Common.{◌≡◌, ◌⊎◌, ℕ, zero, suc, ◌+◌, ◌<◌, ◌≤◌, Bool, false, List, [], ◌∷◌, ◌++◌, length, take, drop, get_or, refl, ap, sym, ◌∙◌, arith, append_assoc, inl, inr, take_all}
-use Rattle.std.specs.Int.{w64, to_be_bytes}
+-- Fronts of a stream as they are found.
+use Rattle.std.proofs.Common.{◌≡◌, ◌⊎◌, ℕ, zero, suc, ◌+◌, ◌<◌, ◌≤◌, Bool, false, List, [], ◌∷◌, ◌++◌, length, take, drop, get_or, refl, ap, sym, ◌∙◌, arith, inl, inr, take_all}
 use Rattle.std.proofs.lemmas.Bool.{cases_eq, eqb-true, eq-eqb, ne_eqb, le-leb, lt-leb, and_from, and_left, and_right, cases_lt}
 use Rattle.rb_meaning_bytes.specs.formats.Fields.{IsBytes}
 use Rattle.rb_meaning.specs.Answers.{longest_request}
@@ -9,14 +8,6 @@ use Rattle.rb_meaning_frames.specs.Frames.{header_bytes, frame_bytes, request_ki
 use Rattle.rb_meaning_frames.specs.Streams.{BreaksRequest, Waits}
 use Rattle.rb_meaning_frames.specs.Laws.{HeadersAreSpelled, FramesAreWhole}
 use Rattle.rb_session.specs.Fronts.{is_between, IsHeader, IsWhole}
-
--- a frame in three pieces
-pub written : (old payload : List ℕ) (kind : ℕ)
-    → ((old ++ 0x52 ∷ 0x42 ∷ kind ∷ []) ++ to_be_bytes w64 (length payload)) ++ payload ≡ old ++ frame_bytes kind payload
-unfolding header_bytes
-written old payload kind =
-    ap (λ x. x ++ payload) (append_assoc old (0x52 ∷ 0x42 ∷ kind ∷ []) (to_be_bytes w64 (length payload)))
-    ∙ append_assoc old (header_bytes kind (length payload)) payload
 
 -- the one kind between 1 and 1
 one_kind : (kind : ℕ) → is_between request_kind request_kind kind ≡ is_request kind

@@ -12,6 +12,7 @@ pub mod Receiving
 pub mod FrameLinks
 pub mod Codes
 pub mod Fronts
+pub mod Rooms
 pub mod Taking
 pub mod Sessions
 pub mod Serving

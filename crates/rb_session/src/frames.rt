@@ -1,11 +1,12 @@
-// Frames: their headers, and what stands at the front of a stream.
+// Frames: how they are made, and what stands at the front of a stream.
 
-ghost use Rattle.std.specs.Prelude.{◌≡◌, ◌≤◌, ◌++◌, length, IfOk, IfErr, OnOk};
+ghost use Rattle.std.specs.Prelude.{◌≡◌, ◌+◌, ◌≤◌, ◌++◌, length, IfOk, IfErr, OnOk};
 ghost use Rattle.rb_meaning.specs.Replies.{header_length, announced};
-ghost use Rattle.rb_meaning_frames.specs.Frames.{frame_bytes, is_kind, BreaksAt, may_stand};
+ghost use Rattle.rb_meaning_frames.specs.Frames.{header_bytes, frame_bytes, is_kind, BreaksAt, may_stand};
 ghost use Rattle.rb_session.specs.Fronts.{is_between, IsFirstWrong, IsHeader, IsFront};
+ghost use Rattle.rb_session.specs.Rooms.{framed_at, room};
 
-use bytes::{BufMut, BytesMut};
+use bytes::BytesMut;
 use rb_meaning_frames::headers_are_spelled;
 use rb_trees::Memory;
 
@@ -101,12 +102,40 @@ fn may_stand(at: usize, byte: u8, least: u8, most: u8) -> bool
     }
 }
 
+/// The header of a frame whose payload has so many bytes.
+#[tactic(auto, unfolding(rb_meaning_frames::specs::Frames::header_bytes))]
+fn header_of(kind: u8, size: u64) -> [u8; HEADER]
+    ensures { result ≡ header_bytes kind size }
+{
+    let mut header = [b'R', b'B', kind, 0, 0, 0, 0, 0, 0, 0, 0];
+    header[3..].copy_from_slice(&size.to_be_bytes());
+    header
+}
+
 /// Appends a frame.
 pub fn put_frame(kind: u8, payload: &[u8], out: &mut BytesMut) -> Result<(), Memory>
     ensures { OnOk result (out.new.items ≡ out.old.items ++ frame_bytes kind payload.now) }
 {
-    out.extend_from_slice(&[b'R', b'B', kind])?;
-    out.put_u64(payload.len() as u64)?;
+    out.extend_from_slice(&header_of(kind, payload.len() as u64))?;
     out.extend_from_slice(payload)?;
     Ok(())
+}
+
+/// Appends room for the header of a frame whose payload is appended next, and gives its place.
+pub fn leave_room(out: &mut BytesMut) -> Result<usize, Memory>
+    ensures at { IfOk result (λ at. at ≡ length out.old.items) }
+    ensures room { OnOk result (out.new.items ≡ out.old.items ++ room) }
+{
+    let at = out.len();
+    out.extend_from_slice(&[0; HEADER])?;
+    Ok(at)
+}
+
+/// Puts the header of a frame over the room that was left for it at a place. What stands behind the room is the payload.
+pub fn fill_room(kind: u8, at: usize, out: &mut BytesMut)
+    requires { at + header_length ≤ length out.old.items }
+    ensures { out.new.items ≡ framed_at at kind out.old.items }
+{
+    let size = (out.len() - at - HEADER) as u64;
+    out.as_mut_slice()[at..at + HEADER].copy_from_slice(&header_of(kind, size));
 }

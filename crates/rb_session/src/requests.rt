@@ -6,7 +6,7 @@ ghost use Rattle.rb_session.specs.Answering.{IsTypedHost};
 ghost use Rattle.rb_session.specs.Taking.{GainsReply, TakesAll};
 
 use crate::answers::answer;
-use crate::frames::{Front, HEADER, front_of, put_frame};
+use crate::frames::{Front, HEADER, fill_room, front_of, leave_room};
 use bytes::BytesMut;
 use rb_exec::Host;
 use rb_trees::Memory;
@@ -21,7 +21,7 @@ pub struct Taken {
     pub front: Front,
 }
 
-/// Answers a request, and appends the frame of the reply.
+/// Answers a request, and appends the frame of the reply. The payload is made where it stays, behind room for the header.
 fn answer_frame(
     alloc: Global,
     host: &mut Host,
@@ -34,9 +34,10 @@ fn answer_frame(
     ensures typed { OnOk result (IsTypedHost host.new) }
     ensures service { host.new.service ≡ host.old.service }
 {
-    let mut reply = BytesMut::new(alloc);
-    let kind = answer(alloc, host, payload, &mut reply)?;
-    put_frame(kind, reply.as_slice(), out)
+    let at = leave_room(out)?;
+    let kind = answer(alloc, host, payload, out)?;
+    fill_room(kind, at, out);
+    Ok(())
 }
 
 /// Answers the requests that stand whole at the front of a stream, in order, but at most so many, and appends the frames of
