@@ -13,6 +13,9 @@ use std::test::Fail;
 /// A service of one class, whose one method gives a number.
 pub const NUMBER: &[u8] = b"class D { fun n(): Int { return 7; } } object 0: D { } root 0;";
 
+/// The lines of its table.
+pub const NUMBER_TABLE: &[u8] = b"object 0: D { }\n";
+
 /// A directory with two files, which can grow.
 pub const FILES: &[u8] =
     b"class File { name: Text; size: Int; fun name(): Text { return this.name; } fun size(): Int { return this.size; } fun grow(by: Int) { this.size = this.size + by; } }
@@ -22,7 +25,13 @@ object 1: File { name = \"a\"; size = 10; }
 object 2: File { name = \"bb\"; size = 200; }
 root 0;";
 
-/// The payload of a request that calls that method.
+/// The lines of its table.
+pub const FILES_TABLE: &[u8] = b"object 0: Dir { list = [#1, #2]; }
+object 1: File { name = \"a\"; size = 10; }
+object 2: File { name = \"bb\"; size = 200; }
+";
+
+/// The payload of a request that calls the method that gives a number.
 pub const CALL: &[u8] =
     b"\x01\x00\x00\x00\x00\x01\x11\x00\x00\x00\x00\x00\x00\x00\x3b\x26\x00\x00\x00\x3b\x01\x00\x00\x00\x01n\x23\x00\x00\x00\x00";
 

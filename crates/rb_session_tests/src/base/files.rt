@@ -1,77 +1,88 @@
 // Files: what a read takes, and where it fails.
 
+use crate::expected::expect_bytes;
 use bytes::BytesMut;
 use rb_base::{Files, FilesStop, MemoryFiles, SameFiles};
-use rb_trees::Seq;
+use rb_trees::{Memory, Seq};
 use std::alloc::Global;
 use std::test::Fail;
 
-/// Files `p` and `s`, and another `p` behind them; the reads of these numbers fail.
-fn three_files(alloc: Global, failing: &[u64]) -> Result<MemoryFiles, Fail> {
-    let mut files = MemoryFiles::make(alloc, Seq::from_slice(alloc, failing)?);
-    files.add("p", b"first")?;
-    files.add("s", b"second")?;
-    files.add("p", b"third")?;
-    Ok(files)
+/// The names of files, and what they hold.
+const FILES: &[(&str, &[u8])] = &[("p", b"first"), ("s", b"second"), ("p", b"third")];
+
+/// Adds all files.
+fn add_files(files: &mut MemoryFiles) -> Result<(), Memory> {
+    for (name, content) in FILES {
+        files.add(name, content)?;
+    }
+    Ok(())
 }
 
-/// What stands behind `> ` once a file was read there, or None where the read fails.
-fn read_behind<F: Files>(
+/// A read that failed, in a word.
+fn word_of(stop: &FilesStop) -> &'static [u8] {
+    match stop {
+        FilesStop::Failed => b"failed",
+        FilesStop::Memory => b"out of memory",
+    }
+}
+
+/// Fails where a read behind `> ` comes to something else: what stands in the buffer then, or a word where it fails.
+fn expect_read<F: Files>(
+    files: &mut F,
+    (name, limit, want): &(&str, usize, &[u8]),
+    into: &mut BytesMut,
+) -> Result<(), Fail> {
+    into.clear();
+    into.extend_from_slice(b"> ")?;
+    match files.read(name, *limit, into) {
+        Ok(()) => expect_bytes(into.as_slice(), want),
+        Err(stop) => expect_bytes(word_of(&stop), want),
+    }
+}
+
+/// Fails at the first such read: of the file of a name, up to a limit.
+fn expect_reads<F: Files>(
     alloc: Global,
     files: &mut F,
-    name: &str,
-    limit: usize,
-) -> Result<Option<Seq<u8>>, Fail> {
-    let mut into = BytesMut::copy_from_slice(alloc, b"> ")?;
-    match files.read(name, limit, &mut into) {
-        Err(FilesStop::Failed) => Ok(None),
-        Err(FilesStop::Memory) => Err(Fail::new("out of memory")),
-        Ok(()) => Ok(Some(Seq::from_slice(alloc, into.as_slice())?)),
-    }
-}
-
-#[test]
-fn a_read_takes_one_byte_more_than_its_limit(rt: HostRuntime) -> Result<(), Fail> {
-    let alloc = rt.alloc();
-    let mut files = three_files(alloc, &[])?;
-    for (name, limit, want) in [
-        ("p", 3, "> firs"),
-        ("p", 4, "> first"),
-        ("s", usize::MAX, "> second"),
-    ] {
-        let found = read_behind(alloc, &mut files, name, limit)?;
-        assert!(rt;
-            found.is_some_and(|it| it.as_slice() == want.as_bytes()),
-            "{name} up to {limit}"
-        );
+    rows: &[(&str, usize, &[u8])],
+) -> Result<(), Fail> {
+    let mut into = BytesMut::new(alloc);
+    for row in rows {
+        expect_read(files, row, &mut into)?;
     }
     Ok(())
 }
 
+/// Adds the files, and reads them. The fifth read is listed, and the sixth has no file.
+fn read_all(alloc: Global, files: &mut MemoryFiles) -> Result<(), Fail> {
+    add_files(files)?;
+    expect_reads(
+        alloc,
+        files,
+        &[
+            ("p", 3, b"> firs"),
+            ("p", 4, b"> first"),
+            ("s", usize::MAX, b"> second"),
+            ("p", 9, b"> first"),
+            ("p", 9, b"failed"),
+            ("P", 9, b"failed"),
+            ("p", 9, b"> first"),
+        ],
+    )
+}
+
 #[test]
-fn a_read_fails_where_it_is_listed_or_has_no_file(rt: HostRuntime) -> Result<(), Fail> {
+fn a_read_takes_one_byte_more_than_its_limit_unless_it_fails(rt: HostRuntime) -> Result<(), Fail> {
     let alloc = rt.alloc();
-    let mut files = three_files(alloc, &[2])?;
-    for (name, fails) in [("p", false), ("p", true), ("P", true), ("p", false)] {
-        assert_eq!(rt;
-            read_behind(alloc, &mut files, name, 9)?.is_none(),
-            fails,
-            "{name}"
-        );
-    }
-    Ok(())
+    read_all(
+        alloc,
+        &mut MemoryFiles::make(alloc, Seq::from_slice(alloc, &[5])?),
+    )
 }
 
 #[test]
 fn same_files_have_each_name(rt: HostRuntime) -> Result<(), Fail> {
     let alloc = rt.alloc();
     let mut files = SameFiles::make(Seq::from_slice(alloc, b"text")?);
-    for (name, limit, want) in [("p", 1, "> te"), ("s", 4, "> text")] {
-        let found = read_behind(alloc, &mut files, name, limit)?;
-        assert!(rt;
-            found.is_some_and(|it| it.as_slice() == want.as_bytes()),
-            "{name} up to {limit}"
-        );
-    }
-    Ok(())
+    expect_reads(alloc, &mut files, &[("p", 1, b"> te"), ("s", 4, b"> text")])
 }

@@ -1,86 +1,137 @@
 // Listeners: the sessions that come at an address, and how they come back.
 
-use rb_base::{Coming, Listen, ListenStop, MemoryListen, Source, SteadyListen, write_whole};
-use rb_trees::Seq;
+use crate::expected::{expect, expect_bytes};
+use rb_base::{Coming, Listen, ListenStop, MemoryListen, Sink, Source, SteadyListen, write_whole};
+use rb_trees::{Memory, Seq};
 use std::alloc::Global;
 use std::test::Fail;
 
-/// A session of these bytes, of which no call fails.
-fn session_of(alloc: Global, bytes: &[u8]) -> Result<Coming, Fail> {
-    Ok(Coming {
-        bytes: Seq::from_slice(alloc, bytes)?,
-        reads: Seq::new(alloc),
-        writes: Seq::new(alloc),
-    })
-}
-
-/// A listener with two sessions under the address `a`, which move two bytes at once; its third call fails.
-fn two_sessions(alloc: Global) -> Result<MemoryListen, Fail> {
+/// Two sessions under the address `a`, of which no call fails.
+fn two_sessions(alloc: Global) -> Result<Seq<(Seq<u8>, Seq<Coming>)>, Memory> {
     let mut sessions = Seq::new(alloc);
-    sessions.push(session_of(alloc, b"one")?)?;
-    sessions.push(session_of(alloc, b"two")?)?;
+    for bytes in [b"one", b"two"] {
+        sessions.push(Coming {
+            bytes: Seq::from_slice(alloc, bytes)?,
+            reads: Seq::new(alloc),
+            writes: Seq::new(alloc),
+        })?;
+    }
     let mut addresses = Seq::new(alloc);
     addresses.push((Seq::from_slice(alloc, b"a")?, sessions))?;
-    Ok(MemoryListen::make(alloc, addresses, Seq::from_slice(alloc, &[3])?, 2))
+    Ok(addresses)
 }
 
-/// Takes the next session, reads once, writes the three bytes of its buffer, and gives the session back; answers how many
-/// bytes were read, or None where no session comes.
-fn serve_one<N: Listen>(listen: &mut N) -> Result<Option<usize>, Fail> {
+/// Reads once from a session, writes the three bytes of its buffer, and says how much was read.
+fn word_of_session<S: Source, K: Sink>(source: &mut S, sink: &mut K) -> &'static [u8] {
+    let mut buffer = *b"...";
+    let read = source.read(&mut buffer);
+    let written = write_whole(sink, &buffer);
+    match (read, written) {
+        (Ok(2), Ok(())) => b"two bytes",
+        (Ok(3), Ok(())) => b"three bytes",
+        _ => b"another session",
+    }
+}
+
+/// Serves the next session and gives it back, and says what it came to.
+fn word_of_next<N: Listen>(listen: &mut N) -> &'static [u8] {
     match listen.next() {
         Ok(Some((mut source, mut sink))) => {
-            let mut buffer = [b'.'; 3];
-            let read = source.read(&mut buffer);
-            let written = write_whole(&mut sink, &buffer);
+            let word = word_of_session(&mut source, &mut sink);
             listen.back(source, sink);
-            match (read, written) {
-                (Ok(count), Ok(())) => Ok(Some(count)),
-                _ => Err(Fail::new("a session fails")),
-            }
+            word
         }
-        Ok(None) => Ok(None),
-        Err(ListenStop::Failed) => Err(Fail::new("no session can be had")),
-        Err(ListenStop::Memory) => Err(Fail::new("out of memory")),
+        Ok(None) => b"no session",
+        Err(ListenStop::Failed) => b"failed",
+        Err(ListenStop::Memory) => b"out of memory",
     }
 }
 
-/// Whether the session that came back so far down the list has these bytes left, and these written.
-fn came_back(listen: &MemoryListen, place: usize, left: &str, written: &str) -> bool {
-    match listen.returned().get(place) {
-        Some((source, sink)) => {
-            source.left() == left.as_bytes() && sink.written() == written.as_bytes()
-        }
-        None => false,
+/// Says what a call came to: the start of an address, or of the next session, where there is none.
+fn word_of_call<N: Listen>(listen: &mut N, address: Option<&str>) -> &'static [u8] {
+    match address {
+        Some(address) => match listen.start(address) {
+            Ok(()) => b"started",
+            Err(_) => b"failed",
+        },
+        None => word_of_next(listen),
     }
+}
+
+/// Fails at the first such call that comes to something else.
+fn expect_calls<N: Listen>(listen: &mut N, rows: &[(Option<&str>, &[u8])]) -> Result<(), Fail> {
+    for (address, want) in rows {
+        expect_bytes(word_of_call(listen, *address), want)?;
+    }
+    Ok(())
+}
+
+/// Whether just these sessions came back, with these bytes left and these written.
+fn came_back(listen: &MemoryListen, rows: &[(&[u8], &[u8])]) -> bool {
+    let ends = listen.returned();
+    for ((source, sink), (left, written)) in ends.iter().zip(rows) {
+        if source.left() != *left || sink.written() != *written {
+            return false;
+        }
+    }
+    ends.len() == rows.len()
+}
+
+/// Calls a listener whose third call fails.
+fn hand_out(listen: &mut MemoryListen) -> Result<(), Fail> {
+    expect_calls(
+        listen,
+        &[
+            (Some("b"), b"failed"),
+            (Some("a"), b"started"),
+            (None, b"failed"),
+            (None, b"two bytes"),
+            (None, b"two bytes"),
+            (None, b"no session"),
+        ],
+    )?;
+    expect(
+        came_back(listen, &[(b"e", b"on."), (b"o", b"tw.")]),
+        "other sessions came back",
+    )
 }
 
 #[test]
 fn a_listener_hands_out_the_sessions_of_its_address(rt: HostRuntime) -> Result<(), Fail> {
-    let mut listen = two_sessions(rt.alloc())?;
-    assert!(rt; listen.start("b").is_err());
-    assert!(rt; listen.start("a").is_ok());
-    assert!(rt; matches!(listen.next(), Err(ListenStop::Failed)));
-    for want in [Some(2), Some(2), None] {
-        assert_eq!(rt; serve_one(&mut listen)?, want);
-    }
-    assert_eq!(rt; listen.returned().len(), 2);
-    assert!(rt; came_back(&listen, 0, "e", "on."));
-    assert!(rt; came_back(&listen, 1, "o", "tw."));
-    Ok(())
+    let alloc = rt.alloc();
+    let failing = Seq::from_slice(alloc, &[3])?;
+    hand_out(&mut MemoryListen::make(alloc, two_sessions(alloc)?, failing, 2))
+}
+
+/// Calls a listener with one session at each address.
+fn hand_out_steadily(listen: &mut SteadyListen) -> Result<(), Fail> {
+    expect_calls(
+        listen,
+        &[
+            (None, b"no session"),
+            (Some("a"), b"started"),
+            (None, b"three bytes"),
+            (None, b"no session"),
+            (Some("b"), b"started"),
+            (None, b"three bytes"),
+            (None, b"no session"),
+        ],
+    )?;
+    expect(
+        listen.returned().len() == 2,
+        "another number of sessions came back",
+    )
+}
+
+/// One session.
+fn one_session(alloc: Global) -> Result<Seq<Seq<u8>>, Memory> {
+    let mut sessions = Seq::new(alloc);
+    sessions.push(Seq::from_slice(alloc, b"one")?)?;
+    Ok(sessions)
 }
 
 #[test]
 fn a_steady_listener_has_each_address(rt: HostRuntime) -> Result<(), Fail> {
     let alloc = rt.alloc();
-    let mut sessions = Seq::new(alloc);
-    sessions.push(Seq::from_slice(alloc, b"one")?)?;
-    let mut listen = SteadyListen::make(alloc, sessions);
-    assert_eq!(rt; serve_one(&mut listen)?, None);
-    for address in ["a", "b"] {
-        assert!(rt; listen.start(address).is_ok());
-        assert_eq!(rt; serve_one(&mut listen)?, Some(3));
-        assert_eq!(rt; serve_one(&mut listen)?, None);
-    }
-    assert_eq!(rt; listen.returned().len(), 2);
-    Ok(())
+    hand_out_steadily(&mut SteadyListen::make(alloc, one_session(alloc)?))
 }

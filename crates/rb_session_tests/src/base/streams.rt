@@ -1,87 +1,131 @@
 // Sinks and sources: the pieces that they take and give, and where they fail.
 
-ghost use Rattle.std.specs.Prelude.{◌<◌, length};
-
+use crate::expected::expect;
 use rb_base::{MemorySink, MemorySource, NullSink, Sink, Source, SteadySource, write_whole};
 use rb_trees::Seq;
 use std::alloc::Global;
 use std::test::Fail;
 
+/// How many bytes of a piece are taken by one write, or by as many as it takes; None where a write fails.
+fn taken<K: Sink>(sink: &mut K, piece: &[u8], is_whole: bool) -> Option<usize> {
+    if is_whole || piece.is_empty() {
+        match write_whole(sink, piece) {
+            Ok(()) => Some(piece.len()),
+            Err(_) => None,
+        }
+    } else {
+        sink.write(piece).ok()
+    }
+}
+
+/// Fails at the first piece of which a sink takes another number of bytes, or has other bytes then.
+fn expect_taken(
+    sink: &mut MemorySink,
+    rows: &[(&[u8], bool, Option<usize>, &[u8])],
+) -> Result<(), Fail> {
+    for (piece, is_whole, count, written) in rows {
+        let is_wanted = taken(sink, piece, *is_whole) == *count && sink.written() == *written;
+        expect(is_wanted, "other bytes are taken or written")?;
+    }
+    Ok(())
+}
+
 #[test]
 fn a_piece_is_written_byte_by_byte_up_to_a_fault(rt: HostRuntime) -> Result<(), Fail> {
     let alloc = rt.alloc();
     let mut sink = MemorySink::make(alloc, Seq::from_slice(alloc, &[3])?, 1);
-    assert!(rt; write_whole(&mut sink, b"abc").is_err());
-    assert_eq!(rt; sink.written(), b"ab".as_slice());
-    assert!(rt; write_whole(&mut sink, b"cd").is_ok());
-    assert_eq!(rt; sink.written(), b"abcd".as_slice());
-    assert!(rt; matches!(sink.write(b"ef"), Ok(1)));
-    Ok(())
+    expect_taken(
+        &mut sink,
+        &[
+            (b"abc", true, None, b"ab"),
+            (b"cd", true, Some(2), b"abcd"),
+            (b"ef", false, Some(1), b"abcde"),
+        ],
+    )
 }
 
 #[test]
-fn a_null_sink_takes_all(rt: HostRuntime) {
-    let mut sink = NullSink;
-    assert!(rt; write_whole(&mut sink, b"abc").is_ok());
-    assert!(rt; matches!(sink.write(b"abc"), Ok(3)));
+fn a_null_sink_takes_all(_rt: HostRuntime) -> Result<(), Fail> {
+    let whole = taken(&mut NullSink, b"abc", true);
+    let once = taken(&mut NullSink, b"abc", false);
+    expect(whole == Some(3) && once == Some(3), "a part alone")
 }
 
-/// What a read into a buffer of dots gives, or None where it fails. The dots behind it have to stay.
-fn read_into<S: Source>(
-    alloc: Global,
-    source: &mut S,
-    buffer: &mut [u8],
-) -> Result<Option<Seq<u8>>, Fail>
-    requires { 0 < length buffer.old }
-{
-    let Ok(count) = source.read(buffer) else {
-        return Ok(None);
-    };
-    let (read, rest) = buffer.split_at(count.min(buffer.len()));
-    if rest.iter().any(|byte| *byte != b'.') {
-        return Err(Fail::new("more bytes are written than are read"));
+/// Whether a read into so many dots, up to three, gives these bytes and leaves the dots behind them; or fails, where None are
+/// wanted.
+fn reads_so<S: Source>(source: &mut S, size: usize, want: Option<&[u8]>) -> bool {
+    let mut buffer = *b"...";
+    match (source.read(&mut buffer[..size.clamp(1, 3)]), want) {
+        (Ok(count), Some(want)) => {
+            let (read, rest) = buffer.split_at(count.min(3));
+            read == want && b"...".starts_with(rest)
+        }
+        (Err(_), None) => true,
+        _ => false,
     }
-    Ok(Some(Seq::from_slice(alloc, read)?))
+}
+
+/// Fails at the first such read that goes otherwise, or leaves other bytes.
+fn expect_reads(
+    source: &mut MemorySource,
+    rows: &[(usize, Option<&[u8]>, &[u8])],
+) -> Result<(), Fail> {
+    for (size, want, left) in rows {
+        let is_wanted = reads_so(source, *size, *want) && source.left() == *left;
+        expect(is_wanted, "other bytes are read or left")?;
+    }
+    Ok(())
+}
+
+/// The same of a source of these bytes, of which these reads fail and the others give two bytes at most.
+fn expect_reads_of(
+    alloc: Global,
+    (bytes, failing): (&[u8], &[u64]),
+    rows: &[(usize, Option<&[u8]>, &[u8])],
+) -> Result<(), Fail> {
+    let bytes = Seq::from_slice(alloc, bytes)?;
+    let failing = Seq::from_slice(alloc, failing)?;
+    expect_reads(&mut MemorySource::make(bytes, failing, 2), rows)
 }
 
 #[test]
 fn a_source_gives_pieces_and_then_its_end(rt: HostRuntime) -> Result<(), Fail> {
-    let alloc = rt.alloc();
-    let bytes = Seq::from_slice(alloc, b"abcde")?;
-    let mut source = MemorySource::make(bytes, Seq::new(alloc), 2);
-    for (want, left) in [("ab", "cde"), ("cd", "e"), ("e", ""), ("", "")] {
-        let read = read_into(alloc, &mut source, &mut [b'.'; 3])?;
-        assert!(rt;
-            read.is_some_and(|it| it.as_slice() == want.as_bytes()),
-            "{want}"
-        );
-        assert_eq!(rt; source.left(), left.as_bytes());
-    }
-    Ok(())
+    expect_reads_of(
+        rt.alloc(),
+        (b"abcde", &[]),
+        &[
+            (3, Some(b"ab"), b"cde"),
+            (3, Some(b"cd"), b"e"),
+            (3, Some(b"e"), b""),
+            (3, Some(b""), b""),
+        ],
+    )
 }
 
 #[test]
 fn a_listed_read_fails_and_takes_nothing(rt: HostRuntime) -> Result<(), Fail> {
-    let alloc = rt.alloc();
-    let bytes = Seq::from_slice(alloc, b"abc")?;
-    let mut source = MemorySource::make(bytes, Seq::from_slice(alloc, &[1])?, 2);
-    assert!(rt; read_into(alloc, &mut source, &mut [b'.'; 3])?.is_none());
-    assert_eq!(rt; source.left(), b"abc".as_slice());
-    assert!(rt; read_into(alloc, &mut source, &mut [b'.'; 1])?.is_some());
-    assert_eq!(rt; source.left(), b"bc".as_slice());
-    Ok(())
+    expect_reads_of(
+        rt.alloc(),
+        (b"abc", &[1]),
+        &[(3, None, b"abc"), (1, Some(b"a"), b"bc")],
+    )
+}
+
+/// Whether reads into three dots give these bytes, one after the other.
+fn all_read_so<S: Source>(source: &mut S, wants: &[&[u8]]) -> bool {
+    for want in wants {
+        if !reads_so(source, 3, Some(*want)) {
+            return false;
+        }
+    }
+    true
 }
 
 #[test]
 fn a_steady_source_fills_its_buffer(rt: HostRuntime) -> Result<(), Fail> {
-    let alloc = rt.alloc();
-    let mut source = SteadySource::make(Seq::from_slice(alloc, b"abcd")?);
-    for want in ["abc", "d", ""] {
-        let read = read_into(alloc, &mut source, &mut [b'.'; 3])?;
-        assert!(rt;
-            read.is_some_and(|it| it.as_slice() == want.as_bytes()),
-            "{want}"
-        );
-    }
-    Ok(())
+    let mut source = SteadySource::make(Seq::from_slice(rt.alloc(), b"abcd")?);
+    expect(
+        all_read_so(&mut source, &[b"abc", b"d", b""]),
+        "another piece",
+    )
 }

@@ -1,17 +1,51 @@
 // What is dialled, in memory.
 
+use crate::expected::{expect, expect_bytes};
 use crate::hosts::{CALL, number_host};
 use rb_base::{Link, LinkStop};
 use rb_session::{AnyLink, Dial, DialStop, FailingLink, MemoryDial, MemoryLink, NullDial, Target};
-use rb_trees::Seq;
+use rb_trees::{Memory, Seq};
 use std::alloc::Global;
 use std::test::Fail;
 
-fn address(alloc: Global, name: &[u8]) -> Result<Target, Fail> {
+/// Says what an exchange of the call over a link comes to, and whether the link has a table.
+fn word_of_link<L: Link>(link: &mut L) -> &'static [u8] {
+    let answer = link.exchange(CALL);
+    match (&answer, link.table()) {
+        (Ok(reply), Some(_)) if reply.kind == 2 => b"a forest, and a table",
+        (Ok(reply), None) if reply.kind == 2 => b"a forest, and no table",
+        (Err(LinkStop::Cut { got: 0, bytes: _ }), None) => b"no byte, and no table",
+        (Err(LinkStop::Memory), _) => b"out of memory",
+        _ => b"another answer",
+    }
+}
+
+/// Dials a target and gives the link back, and says what came of it.
+fn word_of_dial<D: Dial>(dial: &mut D, target: &Target) -> &'static [u8] {
+    match dial.dial(target) {
+        Ok(mut link) => {
+            let word = word_of_link(&mut link);
+            dial.back(link);
+            word
+        }
+        Err(DialStop::Failed) => b"failed",
+        Err(DialStop::Memory) => b"out of memory",
+    }
+}
+
+/// Takes a link to a server round a dial and gives it back, and says what came of it.
+fn word_of_around<D: Dial>(alloc: Global, dial: &mut D) -> Result<&'static [u8], Fail> {
+    let mut link = dial.around(MemoryLink::make(alloc, number_host(alloc)?)?)?;
+    let word = word_of_link(&mut link);
+    dial.back(link);
+    Ok(word)
+}
+
+fn address(alloc: Global, name: &[u8]) -> Result<Target, Memory> {
     Ok(Target::Address(Seq::from_slice(alloc, name)?))
 }
 
-fn child(alloc: Global, name: &[u8]) -> Result<Target, Fail> {
+fn child(alloc: Global, name: &[u8]) -> Result<Target, Memory> {
     Ok(Target::Child(Seq::from_slice(alloc, name)?))
 }
 
@@ -21,32 +55,39 @@ fn add_link(alloc: Global, dial: &mut MemoryDial<FailingLink>, target: Target) -
     Ok(dial.add(target, link)?)
 }
 
-/// The kind of the reply to the call.
-fn kind_of_reply<L: Link>(link: &mut L) -> Result<u8, Fail> {
-    Ok(link.exchange(CALL)?.kind)
-}
-
-/// Whether a target is dialled; over its link, which has no table, one exchange gives a forest.
-fn is_dialled(dial: &mut MemoryDial<FailingLink>, target: &Target) -> Result<bool, Fail> {
-    match dial.dial(target) {
-        Ok(mut link) => {
-            let kind = kind_of_reply(&mut link);
-            let has_table = link.table().is_some();
-            dial.back(link);
-            Ok(kind? == 2 && !has_table)
-        }
-        Err(DialStop::Failed) => Ok(false),
-        Err(DialStop::Memory) => Err(Fail::new("out of memory")),
+/// Fails at the first address that comes to something else when it is dialled.
+fn expect_dials<D: Dial>(alloc: Global, dial: &mut D, rows: &[(&[u8], &[u8])]) -> Result<(), Fail> {
+    for (name, want) in rows {
+        let target = address(alloc, name)?;
+        expect_bytes(word_of_dial(dial, &target), want)?;
     }
+    Ok(())
 }
 
-/// How many exchanges each link that came back had, and whether it was dialled.
-fn came_back(dial: &MemoryDial<FailingLink>) -> Option<(bool, usize)> {
+/// Whether just one link came back, which was dialled or not, and had one exchange.
+fn one_came_back(dial: &MemoryDial<FailingLink>, is_dialled: bool) -> bool {
     match dial.came_back() {
-        [AnyLink::Dialled(link)] => Some((true, link.pairs().len())),
-        [AnyLink::Around(link)] => Some((false, link.pairs().len())),
-        _ => None,
+        [AnyLink::Dialled(link)] => is_dialled && link.pairs().len() == 1,
+        [AnyLink::Around(link)] => !is_dialled && link.pairs().len() == 1,
+        _ => false,
     }
+}
+
+/// Adds a link under an address and one to a child, and dials.
+fn dial_two(alloc: Global, dial: &mut MemoryDial<FailingLink>) -> Result<(), Fail> {
+    add_link(alloc, dial, address(alloc, b"a")?)?;
+    add_link(alloc, dial, child(alloc, b"b")?)?;
+    expect_dials(
+        alloc,
+        dial,
+        &[
+            (b"b", b"failed"),
+            (b"a", b"a forest, and no table"),
+            (b"a", b"failed"),
+            (b"a", b"failed"),
+        ],
+    )?;
+    expect(one_came_back(dial, true), "another link came back")
 }
 
 #[test]
@@ -54,52 +95,21 @@ fn a_dial_takes_the_first_link_of_its_target(rt: HostRuntime) -> Result<(), Fail
     let alloc = rt.alloc();
     // The third dial is listed.
     let mut dial = MemoryDial::make(alloc, Seq::from_slice(alloc, &[3])?);
-    add_link(alloc, &mut dial, address(alloc, b"a")?)?;
-    add_link(alloc, &mut dial, child(alloc, b"b")?)?;
-    for (name, want) in [(b"b", false), (b"a", true), (b"a", false), (b"a", false)] {
-        let target = address(alloc, name)?;
-        assert_eq!(rt; is_dialled(&mut dial, &target)?, want, "{name:?}");
-    }
-    assert_eq!(rt; came_back(&dial), Some((true, 1)));
-    Ok(())
-}
-
-/// Takes a link to a server round a dial, and has one exchange over it; answers its reply's kind, and whether it has a table.
-fn goes_round<D: Dial>(alloc: Global, dial: &mut D) -> Result<(u8, bool), Fail> {
-    let mut link = dial.around(MemoryLink::make(alloc, number_host(alloc)?)?)?;
-    let kind = kind_of_reply(&mut link);
-    let has_table = link.table().is_some();
-    dial.back(link);
-    Ok((kind?, has_table))
+    dial_two(alloc, &mut dial)
 }
 
 #[test]
 fn a_link_in_memory_goes_round_a_dial(rt: HostRuntime) -> Result<(), Fail> {
     let alloc = rt.alloc();
     let mut dial: MemoryDial<FailingLink> = MemoryDial::make(alloc, Seq::from_slice(alloc, &[1])?);
-    assert_eq!(rt; goes_round(alloc, &mut dial)?, (2, true));
-    assert_eq!(rt; came_back(&dial), Some((false, 1)));
-    Ok(())
-}
-
-/// Whether an exchange ended before the reply's first byte.
-fn ends_at_once<L: Link>(link: &mut L) -> bool {
-    match link.exchange(CALL) {
-        Err(LinkStop::Cut { got, bytes: _bytes }) => got == 0,
-        Err(_stop) => false,
-        Ok(_reply) => false,
-    }
+    expect_bytes(word_of_around(alloc, &mut dial)?, b"a forest, and a table")?;
+    expect(one_came_back(&dial, false), "another link came back")
 }
 
 #[test]
 fn a_link_of_the_null_dial_leads_nowhere(rt: HostRuntime) -> Result<(), Fail> {
     let alloc = rt.alloc();
     let mut dial = NullDial::make(alloc);
-    let target = address(alloc, b"a")?;
-    let mut link = dial.dial(&target)?;
-    let ends = ends_at_once(&mut link);
-    dial.back(link);
-    assert!(rt; ends);
-    assert_eq!(rt; goes_round(alloc, &mut dial)?.0, 2);
-    Ok(())
+    expect_dials(alloc, &mut dial, &[(b"a", b"no byte, and no table")])?;
+    expect_bytes(word_of_around(alloc, &mut dial)?, b"a forest, and a table")
 }

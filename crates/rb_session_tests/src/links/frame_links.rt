@@ -1,9 +1,10 @@
 // Links over frames, with both ends in memory.
 
+use crate::expected::expect;
 use crate::hosts::CALL;
 use rb_base::{Link, LinkStop, MemorySink, MemorySource, Reply};
 use rb_session::FrameLink;
-use rb_trees::Seq;
+use rb_trees::{Memory, Seq};
 use std::alloc::Global;
 use std::test::Fail;
 
@@ -25,16 +26,16 @@ fn link_over(
     most: usize,
     reads: &[u64],
     writes: &[u64],
-) -> Result<FrameLink<MemorySource, MemorySink>, Fail> {
+) -> Result<FrameLink<MemorySource, MemorySink>, Memory> {
     let most = most.max(1);
     let bytes = Seq::from_slice(alloc, bytes)?;
-    let source = MemorySource::make(bytes, Seq::from_slice(alloc, reads)?, most);
+    let reads = Seq::from_slice(alloc, reads)?;
     let sink = MemorySink::make(alloc, Seq::from_slice(alloc, writes)?, most);
-    Ok(FrameLink::make(alloc, source, sink))
+    Ok(FrameLink::make(alloc, MemorySource::make(bytes, reads, most), sink))
 }
 
-/// What an exchange came to.
-#[derive(Debug, Drop, PartialEq)]
+/// What an exchange comes to.
+#[derive(Clone, Copy)]
 enum Outcome {
     /// A reply of this kind.
     Reply(u8),
@@ -46,123 +47,168 @@ enum Outcome {
     Frame(u64),
 }
 
-/// What an exchange came to, with the bytes that it took of its reply: all of them, or of a reply the payload.
-fn outcome_of(alloc: Global, answer: Result<Reply, LinkStop>) -> Result<(Outcome, Seq<u8>), Fail> {
-    match answer {
-        Ok(reply) => {
-            let payload = Seq::from_slice(alloc, reply.payload.as_slice())?;
-            Ok((Outcome::Reply(reply.kind), payload))
+/// Such a link, and what is wanted of an exchange of the call over it.
+#[derive(Clone, Copy)]
+struct Case<'a> {
+    bytes: &'a [u8],
+    most: usize,
+    reads: &'a [u64],
+    writes: &'a [u64],
+    outcome: Outcome,
+    /// The bytes that the answer keeps: all that were taken, or of a reply the payload.
+    kept: &'a [u8],
+    /// How many bytes of the call's frame are written.
+    written: usize,
+    /// The bytes that the source has left.
+    left: &'a [u8],
+}
+
+/// Whether an exchange was answered as a case wants it.
+fn is_answered(answer: &Result<Reply, LinkStop>, case: &Case<'_>) -> bool {
+    match (answer, case.outcome) {
+        (Ok(reply), Outcome::Reply(kind)) => {
+            reply.kind == kind && reply.payload.as_slice() == case.kept
         }
-        Err(LinkStop::Cut { got, bytes }) => Ok((Outcome::Cut(got), bytes)),
-        Err(LinkStop::Frame { at, bytes }) => Ok((Outcome::Frame(at), bytes)),
-        Err(LinkStop::Failed) => Ok((Outcome::Failed, Seq::new(alloc))),
-        Err(LinkStop::Memory) => Err(Fail::new("out of memory")),
+        (Err(LinkStop::Cut { got, bytes }), Outcome::Cut(count)) => {
+            *got == count && bytes.as_slice() == case.kept
+        }
+        (Err(LinkStop::Frame { at, bytes }), Outcome::Frame(place)) => {
+            *at == place && bytes.as_slice() == case.kept
+        }
+        (Err(LinkStop::Failed), Outcome::Failed) => case.kept.is_empty(),
+        _ => false,
     }
 }
 
-/// What is seen of a link after one exchange.
-#[derive(Drop)]
-struct Seen {
-    outcome: Outcome,
-    taken: Seq<u8>,
-    written: Seq<u8>,
-    left: Seq<u8>,
+/// Whether the ends of a link stand as a case wants them.
+fn ends_stand(link: &FrameLink<MemorySource, MemorySink>, case: &Case<'_>) -> bool {
+    SENT.get(..case.written) == Some(link.sink().written()) && link.source().left() == case.left
 }
 
-/// What is seen of a link over which one call went.
-fn seen_of(
-    alloc: Global,
-    link: &FrameLink<MemorySource, MemorySink>,
-    (outcome, taken): (Outcome, Seq<u8>),
-) -> Result<Seen, Fail> {
-    Ok(Seen {
-        outcome,
-        taken,
-        written: Seq::from_slice(alloc, link.sink().written())?,
-        left: Seq::from_slice(alloc, link.source().left())?,
-    })
+/// Fails where an exchange goes otherwise.
+fn expect_exchange(alloc: Global, case: &Case<'_>) -> Result<(), Fail> {
+    let mut link = link_over(alloc, case.bytes, case.most, case.reads, case.writes)?;
+    let answer = link.exchange(CALL);
+    expect(is_answered(&answer, case), "another answer")?;
+    expect(ends_stand(&link, case), "other bytes are written or left")
 }
 
-/// What is seen after one exchange of the call over a link with such ends.
-fn exchanged(
-    alloc: Global,
-    bytes: &[u8],
-    most: usize,
-    reads: &[u64],
-    writes: &[u64],
-) -> Result<Seen, Fail> {
-    let mut link = link_over(alloc, bytes, most, reads, writes)?;
-    let answer = outcome_of(alloc, link.exchange(CALL))?;
-    seen_of(alloc, &link, answer)
+/// Fails at the first such exchange.
+fn expect_exchanges(alloc: Global, cases: &[Case<'_>]) -> Result<(), Fail> {
+    for case in cases {
+        expect_exchange(alloc, case)?;
+    }
+    Ok(())
+}
+
+/// A whole reply, to be taken by so many bytes at once.
+fn whole(most: usize) -> Case<'static> {
+    Case {
+        bytes: RECEIVED,
+        most,
+        reads: &[],
+        writes: &[],
+        outcome: Outcome::Reply(2),
+        kept: REPLY,
+        written: 42,
+        left: b"R",
+    }
 }
 
 #[test]
 fn an_exchange_writes_one_frame_and_takes_one(rt: HostRuntime) -> Result<(), Fail> {
-    for most in [1, 7, usize::MAX] {
-        let seen = exchanged(rt.alloc(), RECEIVED, most, &[], &[])?;
-        assert_eq!(rt; seen.outcome, Outcome::Reply(2));
-        assert_eq!(rt; seen.taken.as_slice(), REPLY);
-        assert_eq!(rt; seen.written.as_slice(), SENT);
-        assert_eq!(rt; seen.left.as_slice(), b"R".as_slice());
-    }
-    Ok(())
+    expect_exchanges(rt.alloc(), &[whole(1), whole(7), whole(usize::MAX)])
 }
 
 #[test]
 fn the_ends_of_a_link_come_back(rt: HostRuntime) -> Result<(), Fail> {
     let link = link_over(rt.alloc(), RECEIVED, 1, &[], &[])?;
-    assert!(rt; link.table().is_none());
+    let has_table = link.table().is_some();
     let (source, sink) = link.into_ends();
-    assert_eq!(rt; source.left(), RECEIVED);
-    assert_eq!(rt; sink.written(), b"".as_slice());
+    let are_same = source.left() == RECEIVED && sink.written().is_empty();
+    expect(are_same && !has_table, "other ends, or a table")
+}
+
+/// Fails at the first reply, all of whose bytes are taken, that ends an exchange otherwise.
+fn expect_ends(alloc: Global, most: usize, rows: &[(&[u8], Outcome)]) -> Result<(), Fail> {
+    for (bytes, outcome) in rows {
+        let case = Case {
+            bytes,
+            most,
+            reads: &[],
+            writes: &[],
+            outcome: *outcome,
+            kept: bytes,
+            written: 42,
+            left: b"",
+        };
+        expect_exchange(alloc, &case)?;
+    }
     Ok(())
 }
 
 #[test]
 fn a_reply_breaks_its_form_at_its_first_wrong_byte(rt: HostRuntime) -> Result<(), Fail> {
-    for (bytes, want) in [
-        (b"B".as_slice(), 0),
-        (b"RC\x02".as_slice(), 1),
-        (b"RB\x01\x00\x00\x00\x00\x00\x00\x00\x00".as_slice(), 2),
-        (b"RB\x04".as_slice(), 2),
-        (b"XX\x02".as_slice(), 0),
-    ] {
-        let seen = exchanged(rt.alloc(), bytes, 64, &[], &[])?;
-        assert_eq!(rt; seen.outcome, Outcome::Frame(want), "{bytes:?}");
-        assert_eq!(rt; seen.taken.as_slice(), bytes);
-    }
-    Ok(())
+    expect_ends(
+        rt.alloc(),
+        64,
+        &[
+            (b"B", Outcome::Frame(0)),
+            (b"RC\x02", Outcome::Frame(1)),
+            (b"RB\x01\x00\x00\x00\x00\x00\x00\x00\x00", Outcome::Frame(2)),
+            (b"RB\x04", Outcome::Frame(2)),
+            (b"XX\x02", Outcome::Frame(0)),
+        ],
+    )
 }
 
 #[test]
 fn a_reply_that_ends_too_early_is_cut(rt: HostRuntime) -> Result<(), Fail> {
-    for (bytes, want) in [
-        (b"".as_slice(), 0),
-        (b"RB".as_slice(), 2),
-        (b"RB\x03\x00\x00".as_slice(), 5),
-        (b"RB\x02\x00\x00\x00\x00\x00\x00\x00\x05ab".as_slice(), 13),
-        // The greatest length, and then the end.
-        (b"RB\x02\xff\xff\xff\xff\xff\xff\xff\xff".as_slice(), 11),
-    ] {
-        let seen = exchanged(rt.alloc(), bytes, 4, &[], &[])?;
-        assert_eq!(rt; seen.outcome, Outcome::Cut(want), "{bytes:?}");
-        assert_eq!(rt; seen.taken.as_slice(), bytes);
+    expect_ends(
+        rt.alloc(),
+        4,
+        &[
+            (b"", Outcome::Cut(0)),
+            (b"RB", Outcome::Cut(2)),
+            (b"RB\x03\x00\x00", Outcome::Cut(5)),
+            (
+                b"RB\x02\x00\x00\x00\x00\x00\x00\x00\x05ab",
+                Outcome::Cut(13),
+            ),
+            // The greatest length, and then the end.
+            (b"RB\x02\xff\xff\xff\xff\xff\xff\xff\xff", Outcome::Cut(11)),
+        ],
+    )
+}
+
+/// An exchange of which this read or this write fails, where so many bytes are written and these left.
+fn failed<'a>(reads: &'a [u64], writes: &'a [u64], written: usize, left: &'a [u8]) -> Case<'a> {
+    Case {
+        bytes: RECEIVED,
+        most: 20,
+        reads,
+        writes,
+        outcome: Outcome::Failed,
+        kept: b"",
+        written,
+        left,
     }
-    Ok(())
 }
 
 #[test]
 fn a_fault_of_an_end_is_one_of_the_link(rt: HostRuntime) -> Result<(), Fail> {
-    // The second read, the first write, and the second.
-    for (reads, writes, written) in [
-        ([2].as_slice(), [].as_slice(), 42),
-        ([].as_slice(), [1].as_slice(), 0),
-        ([].as_slice(), [2].as_slice(), 20),
-    ] {
-        let seen = exchanged(rt.alloc(), RECEIVED, 20, reads, writes)?;
-        assert_eq!(rt; seen.outcome, Outcome::Failed);
-        assert_eq!(rt; seen.written.len(), written);
-        assert!(rt; SENT.starts_with(seen.written.as_slice()));
-    }
-    Ok(())
+    // The second read, of the payload; the first write; and the second.
+    expect_exchanges(
+        rt.alloc(),
+        &[
+            failed(
+                &[2],
+                &[],
+                42,
+                b"\x01\x00\x00\x00\x01\x31\x01\x00\x00\x00\x00\x00\x00\x00\x07\x00R",
+            ),
+            failed(&[], &[1], 0, RECEIVED),
+            failed(&[], &[2], 20, RECEIVED),
+        ],
+    )
 }

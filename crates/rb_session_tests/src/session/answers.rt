@@ -1,35 +1,46 @@
 // Payloads with their answers.
 
-use crate::hosts::{FILES, NUMBER, host_of, lines_of};
+ghost use Rattle.std.specs.Prelude.{OnOk};
+ghost use Rattle.rb_session.specs.Answering.{IsTypedHost};
+
+use crate::expected::{expect, expect_bytes};
+use crate::hosts::{CALL, FILES, FILES_TABLE, NUMBER, NUMBER_TABLE, host_of, lines_of};
 use bytes::BytesMut;
+use rb_exec::Host;
 use rb_session::answer;
 use std::alloc::Global;
 use std::test::Fail;
 
-/// The reply to a payload on the host of a text: its kind, then its payload. The table has to stay as it was.
-fn reply_of(alloc: Global, source: &[u8], payload: &[u8]) -> Result<(u8, BytesMut), Fail> {
-    let mut host = host_of(alloc, source)?;
-    let before = lines_of(alloc, &host)?;
-    let mut reply = BytesMut::new(alloc);
+/// Fails where a payload has another reply than one of this kind with these bytes, or the table has other lines then.
+fn expect_reply(
+    alloc: Global,
+    host: &mut Host,
+    row: &(&[u8], u8, &[u8]),
+    table: &[u8],
+) -> Result<(), Fail>
+    requires { IsTypedHost host.old }
+    ensures { OnOk result (IsTypedHost host.new) }
+{
+    let (payload, kind, want) = row;
     if payload.len() > 16_777_216 {
         return Err(Fail::new("the payload is too long"));
     }
-    let kind = answer(alloc, &mut host, payload, &mut reply)?;
-    if lines_of(alloc, &host)? != before {
-        return Err(Fail::new("the table has changed"));
-    }
-    Ok((kind, reply))
+    let mut reply = BytesMut::new(alloc);
+    let found = answer(alloc, host, payload, &mut reply)?;
+    expect(found == *kind, "a reply of another kind")?;
+    expect_bytes(reply.as_slice(), want)?;
+    expect_bytes(lines_of(alloc, host)?.as_slice(), table)
 }
 
-/// Fails at the first payload whose reply, on the host of a text, isn't of this kind with this payload.
-fn expect_replies(alloc: Global, source: &[u8], rows: &[(&[u8], u8, &[u8])]) -> Result<(), Fail> {
-    for (payload, kind, want) in rows {
-        let (found, reply) = reply_of(alloc, source, payload)?;
-        if found != *kind || reply.as_slice() != *want {
-            return Err(Fail::new(format_args!(
-                "kind {found}, {reply:?}, not kind {kind}, {want:?}, to {payload:?}"
-            )));
-        }
+/// Fails at the first such payload on the host of a text.
+fn expect_replies(
+    alloc: Global,
+    (source, table): (&[u8], &[u8]),
+    rows: &[(&[u8], u8, &[u8])],
+) -> Result<(), Fail> {
+    let mut host = host_of(alloc, source)?;
+    for row in rows {
+        expect_reply(alloc, &mut host, row, table)?;
     }
     Ok(())
 }
@@ -38,9 +49,9 @@ fn expect_replies(alloc: Global, source: &[u8], rows: &[(&[u8], u8, &[u8])]) -> 
 fn a_kept_call_gives_its_value(rt: HostRuntime) -> Result<(), Fail> {
     expect_replies(
         rt.alloc(),
-        NUMBER,
+        (NUMBER, NUMBER_TABLE),
         &[(
-            b"\x01\x00\x00\x00\x00\x01\x11\x00\x00\x00\x00\x00\x00\x00\x3b\x26\x00\x00\x00\x3b\x01\x00\x00\x00\x01n\x23\x00\x00\x00\x00",
+            CALL,
             2,
             b"\x01\x00\x00\x00\x01\x31\x01\x00\x00\x00\x00\x00\x00\x00\x07\x00",
         )],
@@ -51,7 +62,7 @@ fn a_kept_call_gives_its_value(rt: HostRuntime) -> Result<(), Fail> {
 fn hostile_payloads_leave_the_table(rt: HostRuntime) -> Result<(), Fail> {
     expect_replies(
         rt.alloc(),
-        FILES,
+        (FILES, FILES_TABLE),
         &[
             // A variable that nothing binds, in the first step.
             (

@@ -1,44 +1,54 @@
 // The link in memory.
 
-use crate::hosts::{CALL, NUMBER, host_of};
-use rb_base::Link;
+use crate::expected::expect;
+use crate::hosts::{CALL, number_host};
+use rb_base::{Link, Reply};
 use rb_session::MemoryLink;
+use std::alloc::Global;
 use std::test::Fail;
 
-/// Fails where a request over a link has a reply of another kind, or where the last pair isn't that of both.
-fn expect_pair(link: &mut MemoryLink, request: &[u8], kind: u8) -> Result<(), Fail> {
-    if request.len() > 16_777_216 {
-        return Err(Fail::new("the request is too long"));
+/// Whether the last pair of a link is this request with this reply.
+fn is_last(link: &MemoryLink, request: &[u8], reply: &Reply) -> bool {
+    match link.pairs().last() {
+        Some(pair) => {
+            pair.request.as_slice() == request
+                && pair.kind == reply.kind
+                && pair.reply.as_slice() == reply.payload.as_slice()
+        }
+        None => false,
     }
-    let reply = link.exchange(request)?;
-    let is_last = link.pairs().last().is_some_and(|pair| {
-        pair.request.as_slice() == request
-            && pair.kind == kind
-            && pair.reply.as_slice() == reply.payload.as_slice()
-    });
-    if reply.kind != kind || !is_last {
-        return Err(Fail::new(format_args!("a reply of another kind or no pair to {request:?}")));
+}
+
+/// Fails at the first request whose reply is of another kind, or isn't the last pair with it.
+fn expect_pairs(link: &mut MemoryLink, rows: &[(&[u8], u8)]) -> Result<(), Fail> {
+    for (request, kind) in rows {
+        if request.len() > 16_777_216 {
+            return Err(Fail::new("the request is too long"));
+        }
+        let reply = link.exchange(request)?;
+        let is_wanted = reply.kind == *kind && is_last(link, request, &reply);
+        expect(is_wanted, "a reply of another kind, or no pair")?;
     }
     Ok(())
 }
 
-/// Fails at the first of two exchanges that isn't a pair, and where the link then has other pairs or tables.
-fn expect_pairs(link: &mut MemoryLink) -> Result<(), Fail> {
-    expect_pair(link, CALL, 2)?;
-    expect_pair(link, b"\x07", 3)?;
-    let counts = (link.pairs().len(), link.first_table().len());
-    let now = link.table().map(|table| table.len());
-    if counts != (2, 1) || now != Some(1) {
-        return Err(Fail::new(format_args!(
-            "pairs and objects at first: {counts:?}, objects now: {now:?}"
-        )));
-    }
-    Ok(())
+/// Whether a link has two pairs, and had one object first and has one now.
+fn has_two_pairs(link: &MemoryLink) -> bool {
+    let objects = match link.table() {
+        Some(table) => table.len(),
+        None => 0,
+    };
+    link.pairs().len() == 2 && link.first_table().len() == 1 && objects == 1
+}
+
+/// The link to a host whose one method gives a number.
+fn number_link(alloc: Global) -> Result<MemoryLink, Fail> {
+    Ok(MemoryLink::make(alloc, number_host(alloc)?)?)
 }
 
 #[test]
 fn each_exchange_is_a_pair(rt: HostRuntime) -> Result<(), Fail> {
-    let alloc = rt.alloc();
-    let mut link = MemoryLink::make(alloc, host_of(alloc, NUMBER)?)?;
-    expect_pairs(&mut link)
+    let mut link = number_link(rt.alloc())?;
+    expect_pairs(&mut link, &[(CALL, 2), (b"\x07", 3)])?;
+    expect(has_two_pairs(&link), "other pairs or tables")
 }

@@ -1,11 +1,5 @@
-// Streams of requests.
+// Streams of requests, and of their replies.
 
-ghost use Rattle.std.specs.Prelude.{◌<◌, OnOk};
-ghost use Rattle.rb_session.specs.Answering.{IsTypedHost};
-
-use bytes::BytesMut;
-use rb_exec::Host;
-use rb_session::{Session, SessionStop};
 use rb_trees::{Memory, Seq};
 use std::alloc::Global;
 
@@ -30,21 +24,14 @@ pub fn joined(alloc: Global, streams: &[&[u8]]) -> Result<Seq<u8>, Memory> {
     Ok(all)
 }
 
-/// Feeds a session a stream in pieces of so many bytes.
-pub fn feed_all(
-    alloc: Global,
-    host: &mut Host,
-    session: &mut Session,
-    stream: &[u8],
-    size: usize,
-    out: &mut BytesMut,
-) -> Result<(), SessionStop>
-    requires typed { IsTypedHost host.old }
-    requires size { 0 < size }
-    ensures { OnOk result (IsTypedHost host.new) }
-{
-    for piece in stream.chunks(size) {
-        session.feed(alloc, host, piece, out)?;
+/// Whether bytes are these pieces, one after the other.
+pub fn is_joined(bytes: &[u8], pieces: &[&[u8]]) -> bool {
+    let mut rest = bytes;
+    for piece in pieces {
+        match rest.strip_prefix(*piece) {
+            Some(behind) => rest = behind,
+            None => return false,
+        }
     }
-    Ok(())
+    rest.is_empty()
 }

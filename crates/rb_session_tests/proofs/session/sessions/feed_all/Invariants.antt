@@ -1,5 +1,5 @@
 use Rattle.rb_session.specs.Answering.{IsTypedHost}
-use Rattle.rb_session_tests.proofs.session.streams.feed_all.Given as goal
+use Rattle.rb_session_tests.proofs.session.sessions.feed_all.Given as goal
 
 abbrev pub invariant-loop-piece : goal.invariant-loop-piece
 invariant-loop-piece l = IsTypedHost l.host
