@@ -53,22 +53,21 @@ fn expect_reads<F: Files>(
     Ok(())
 }
 
-/// Adds the files, and reads them. The fifth read is listed, and the sixth has no file.
+/// Reads of those files, with what they come to. The fifth is listed, and the sixth has no file.
+const READS: &[(&str, usize, &[u8])] = &[
+    ("p", 3, b"> firs"),
+    ("p", 4, b"> first"),
+    ("s", usize::MAX, b"> second"),
+    ("p", 9, b"> first"),
+    ("p", 9, b"failed"),
+    ("P", 9, b"failed"),
+    ("p", 9, b"> first"),
+];
+
+/// Adds the files, and reads them.
 fn read_all(alloc: Global, files: &mut MemoryFiles) -> Result<(), Fail> {
     add_files(files)?;
-    expect_reads(
-        alloc,
-        files,
-        &[
-            ("p", 3, b"> firs"),
-            ("p", 4, b"> first"),
-            ("s", usize::MAX, b"> second"),
-            ("p", 9, b"> first"),
-            ("p", 9, b"failed"),
-            ("P", 9, b"failed"),
-            ("p", 9, b"> first"),
-        ],
-    )
+    expect_reads(alloc, files, READS)
 }
 
 #[test]
@@ -80,9 +79,12 @@ fn a_read_takes_one_byte_more_than_its_limit_unless_it_fails(rt: HostRuntime) ->
     )
 }
 
+/// Reads of files that are all alike.
+const SAME_READS: &[(&str, usize, &[u8])] = &[("p", 1, b"> te"), ("s", 4, b"> text")];
+
 #[test]
 fn same_files_have_each_name(rt: HostRuntime) -> Result<(), Fail> {
     let alloc = rt.alloc();
-    let mut files = SameFiles::make(Seq::from_slice(alloc, b"text")?);
-    expect_reads(alloc, &mut files, &[("p", 1, b"> te"), ("s", 4, b"> text")])
+    let text = Seq::from_slice(alloc, b"text")?;
+    expect_reads(alloc, &mut SameFiles::make(text), SAME_READS)
 }

@@ -1,7 +1,10 @@
 // Listeners: the sessions that come at an address, and how they come back.
 
 use crate::expected::{expect, expect_bytes};
-use rb_base::{Coming, Listen, ListenStop, MemoryListen, Sink, Source, SteadyListen, write_whole};
+use rb_base::{
+    Coming, Listen, ListenStop, MemoryListen, MemorySink, MemorySource, Sink, Source, SteadyListen,
+    write_whole,
+};
 use rb_trees::{Memory, Seq};
 use std::alloc::Global;
 use std::test::Fail;
@@ -66,34 +69,33 @@ fn expect_calls<N: Listen>(listen: &mut N, rows: &[(Option<&str>, &[u8])]) -> Re
     Ok(())
 }
 
-/// Whether just these sessions came back, with these bytes left and these written.
-fn came_back(listen: &MemoryListen, rows: &[(&[u8], &[u8])]) -> bool {
-    let ends = listen.returned();
-    for ((source, sink), (left, written)) in ends.iter().zip(rows) {
-        if source.left() != *left || sink.written() != *written {
-            return false;
-        }
-    }
-    ends.len() == rows.len()
+/// Calls of a listener of which the third is listed, with what they come to.
+const CALLS: &[(Option<&str>, &[u8])] = &[
+    (Some("b"), b"failed"),
+    (Some("a"), b"started"),
+    (None, b"failed"),
+    (None, b"two bytes"),
+    (None, b"two bytes"),
+    (None, b"no session"),
+];
+
+/// Whether the ends of a session have these bytes left, and these written.
+fn stand_so((source, sink): &(MemorySource, MemorySink), left: &[u8], written: &[u8]) -> bool {
+    source.left() == left && sink.written() == written
 }
 
-/// Calls a listener whose third call fails.
+/// Whether just two sessions came back, with one byte left of each.
+fn both_came_back(listen: &MemoryListen) -> bool {
+    match listen.returned() {
+        [one, two] => stand_so(one, b"e", b"on.") && stand_so(two, b"o", b"tw."),
+        _ => false,
+    }
+}
+
+/// Makes those calls.
 fn hand_out(listen: &mut MemoryListen) -> Result<(), Fail> {
-    expect_calls(
-        listen,
-        &[
-            (Some("b"), b"failed"),
-            (Some("a"), b"started"),
-            (None, b"failed"),
-            (None, b"two bytes"),
-            (None, b"two bytes"),
-            (None, b"no session"),
-        ],
-    )?;
-    expect(
-        came_back(listen, &[(b"e", b"on."), (b"o", b"tw.")]),
-        "other sessions came back",
-    )
+    expect_calls(listen, CALLS)?;
+    expect(both_came_back(listen), "other sessions came back")
 }
 
 #[test]
@@ -103,20 +105,20 @@ fn a_listener_hands_out_the_sessions_of_its_address(rt: HostRuntime) -> Result<(
     hand_out(&mut MemoryListen::make(alloc, two_sessions(alloc)?, failing, 2))
 }
 
-/// Calls a listener with one session at each address.
+/// Calls of a listener with one session at each address, with what they come to.
+const STEADY_CALLS: &[(Option<&str>, &[u8])] = &[
+    (None, b"no session"),
+    (Some("a"), b"started"),
+    (None, b"three bytes"),
+    (None, b"no session"),
+    (Some("b"), b"started"),
+    (None, b"three bytes"),
+    (None, b"no session"),
+];
+
+/// Makes those calls.
 fn hand_out_steadily(listen: &mut SteadyListen) -> Result<(), Fail> {
-    expect_calls(
-        listen,
-        &[
-            (None, b"no session"),
-            (Some("a"), b"started"),
-            (None, b"three bytes"),
-            (None, b"no session"),
-            (Some("b"), b"started"),
-            (None, b"three bytes"),
-            (None, b"no session"),
-        ],
-    )?;
+    expect_calls(listen, STEADY_CALLS)?;
     expect(
         listen.returned().len() == 2,
         "another number of sessions came back",

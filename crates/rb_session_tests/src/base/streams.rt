@@ -30,18 +30,18 @@ fn expect_taken(
     Ok(())
 }
 
+/// Pieces for a sink that takes one byte at once, and whose third write is listed.
+const PIECES: &[(&[u8], bool, Option<usize>, &[u8])] = &[
+    (b"abc", true, None, b"ab"),
+    (b"cd", true, Some(2), b"abcd"),
+    (b"ef", false, Some(1), b"abcde"),
+];
+
 #[test]
 fn a_piece_is_written_byte_by_byte_up_to_a_fault(rt: HostRuntime) -> Result<(), Fail> {
     let alloc = rt.alloc();
-    let mut sink = MemorySink::make(alloc, Seq::from_slice(alloc, &[3])?, 1);
-    expect_taken(
-        &mut sink,
-        &[
-            (b"abc", true, None, b"ab"),
-            (b"cd", true, Some(2), b"abcd"),
-            (b"ef", false, Some(1), b"abcde"),
-        ],
-    )
+    let failing = Seq::from_slice(alloc, &[3])?;
+    expect_taken(&mut MemorySink::make(alloc, failing, 1), PIECES)
 }
 
 #[test]
@@ -88,27 +88,25 @@ fn expect_reads_of(
     expect_reads(&mut MemorySource::make(bytes, failing, 2), rows)
 }
 
+/// Reads up to the end of a source, with what they give and what is left then.
+const READS: &[(usize, Option<&[u8]>, &[u8])] = &[
+    (3, Some(b"ab"), b"cde"),
+    (3, Some(b"cd"), b"e"),
+    (3, Some(b"e"), b""),
+    (3, Some(b""), b""),
+];
+
 #[test]
 fn a_source_gives_pieces_and_then_its_end(rt: HostRuntime) -> Result<(), Fail> {
-    expect_reads_of(
-        rt.alloc(),
-        (b"abcde", &[]),
-        &[
-            (3, Some(b"ab"), b"cde"),
-            (3, Some(b"cd"), b"e"),
-            (3, Some(b"e"), b""),
-            (3, Some(b""), b""),
-        ],
-    )
+    expect_reads_of(rt.alloc(), (b"abcde", &[]), READS)
 }
+
+/// A read that is listed, and the next one.
+const LISTED: &[(usize, Option<&[u8]>, &[u8])] = &[(3, None, b"abc"), (1, Some(b"a"), b"bc")];
 
 #[test]
 fn a_listed_read_fails_and_takes_nothing(rt: HostRuntime) -> Result<(), Fail> {
-    expect_reads_of(
-        rt.alloc(),
-        (b"abc", &[1]),
-        &[(3, None, b"abc"), (1, Some(b"a"), b"bc")],
-    )
+    expect_reads_of(rt.alloc(), (b"abc", &[1]), LISTED)
 }
 
 /// Whether reads into three dots give these bytes, one after the other.

@@ -73,37 +73,40 @@ fn one_came_back(dial: &MemoryDial<FailingLink>, is_dialled: bool) -> bool {
     }
 }
 
+/// Addresses in the order in which they are dialled, with what they come to. The third dial is listed.
+const DIALS: &[(&[u8], &[u8])] = &[
+    (b"b", b"failed"),
+    (b"a", b"a forest, and no table"),
+    (b"a", b"failed"),
+    (b"a", b"failed"),
+];
+
 /// Adds a link under an address and one to a child, and dials.
-fn dial_two(alloc: Global, dial: &mut MemoryDial<FailingLink>) -> Result<(), Fail> {
+fn dial_all(alloc: Global, dial: &mut MemoryDial<FailingLink>) -> Result<(), Fail> {
     add_link(alloc, dial, address(alloc, b"a")?)?;
     add_link(alloc, dial, child(alloc, b"b")?)?;
-    expect_dials(
-        alloc,
-        dial,
-        &[
-            (b"b", b"failed"),
-            (b"a", b"a forest, and no table"),
-            (b"a", b"failed"),
-            (b"a", b"failed"),
-        ],
-    )?;
+    expect_dials(alloc, dial, DIALS)?;
     expect(one_came_back(dial, true), "another link came back")
 }
 
 #[test]
 fn a_dial_takes_the_first_link_of_its_target(rt: HostRuntime) -> Result<(), Fail> {
     let alloc = rt.alloc();
-    // The third dial is listed.
-    let mut dial = MemoryDial::make(alloc, Seq::from_slice(alloc, &[3])?);
-    dial_two(alloc, &mut dial)
+    let failing = Seq::from_slice(alloc, &[3])?;
+    dial_all(alloc, &mut MemoryDial::make(alloc, failing))
+}
+
+/// Takes a link round a dial in memory.
+fn go_round(alloc: Global, dial: &mut MemoryDial<FailingLink>) -> Result<(), Fail> {
+    expect_bytes(word_of_around(alloc, dial)?, b"a forest, and a table")?;
+    expect(one_came_back(dial, false), "another link came back")
 }
 
 #[test]
 fn a_link_in_memory_goes_round_a_dial(rt: HostRuntime) -> Result<(), Fail> {
     let alloc = rt.alloc();
-    let mut dial: MemoryDial<FailingLink> = MemoryDial::make(alloc, Seq::from_slice(alloc, &[1])?);
-    expect_bytes(word_of_around(alloc, &mut dial)?, b"a forest, and a table")?;
-    expect(one_came_back(&dial, false), "another link came back")
+    let failing = Seq::from_slice(alloc, &[1])?;
+    go_round(alloc, &mut MemoryDial::make(alloc, failing))
 }
 
 #[test]

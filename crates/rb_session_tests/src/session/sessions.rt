@@ -183,25 +183,23 @@ fn a_session_that_stopped_answers_the_same_stop(rt: HostRuntime) -> Result<(), F
     stop_twice(alloc, &mut host, &mut Session::make(alloc))
 }
 
-/// Fails at the first header that isn't read like this: as a kind and a length, or as none for the byte at an offset.
-fn expect_headers(rows: &[(&[u8; 11], Result<(u8, u64), usize>)]) -> Result<(), Fail> {
-    for (header, want) in rows {
-        let found = frame_header(header);
-        if found != *want {
-            return Err(Fail::new(format_args!("{found:?} in place of {want:?}, from {header:?}")));
-        }
-    }
-    Ok(())
-}
+/// Headers, with what they are read as.
+const HEADERS: &[(&[u8; 11], Result<(u8, u64), usize>)] = &[
+    (b"RB\x01\x00\x00\x00\x00\x00\x00\x01\x02", Ok((1, 258))),
+    (b"RB\x03\xff\xff\xff\xff\xff\xff\xff\xff", Ok((3, u64::MAX))),
+    (b"RB\x04\x00\x00\x00\x00\x00\x00\x00\x00", Err(2)),
+    (b"RB\x00\x00\x00\x00\x00\x00\x00\x00\x00", Err(2)),
+    (b"Rb\x00\x00\x00\x00\x00\x00\x00\x00\x00", Err(1)),
+    (b"rB\x01\x00\x00\x00\x00\x00\x00\x00\x00", Err(0)),
+];
 
 #[test]
 fn headers_have_a_kind_and_a_length(_rt: HostRuntime) -> Result<(), Fail> {
-    expect_headers(&[
-        (b"RB\x01\x00\x00\x00\x00\x00\x00\x01\x02", Ok((1, 258))),
-        (b"RB\x03\xff\xff\xff\xff\xff\xff\xff\xff", Ok((3, u64::MAX))),
-        (b"RB\x04\x00\x00\x00\x00\x00\x00\x00\x00", Err(2)),
-        (b"RB\x00\x00\x00\x00\x00\x00\x00\x00\x00", Err(2)),
-        (b"Rb\x00\x00\x00\x00\x00\x00\x00\x00\x00", Err(1)),
-        (b"rB\x01\x00\x00\x00\x00\x00\x00\x00\x00", Err(0)),
-    ])
+    for (header, want) in HEADERS {
+        expect(
+            frame_header(header) == *want,
+            "another kind, length or place",
+        )?;
+    }
+    Ok(())
 }
