@@ -1,5 +1,4 @@
-// Tests of the heap.
+// Tests of the heap: what heaps answer, as texts.
 
-mod fields;
-mod layouts;
-mod objects;
+mod answers;
+mod heaps;

@@ -11,3 +11,5 @@ mod exec;
 mod heap;
 #[cfg(test)]
 mod store;
+#[cfg(test)]
+mod told;

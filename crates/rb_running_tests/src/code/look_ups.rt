@@ -1,42 +1,80 @@
 // Look-ups by name in code that was read.
 
-use rb_code::{Code, classes_differ};
+use crate::code::classes::{code_in, code_of};
+use crate::told::expect;
+use rb_code::Code;
 use rb_parse::parse_program;
+use rb_trees::{Class, Memory, Method, Program, ReadError, Seq, Word};
 use std::alloc::Global;
 use std::test::Fail;
 
 /// Two classes with a method of one name.
 static TEXT: &str = "class A { x: Int; fun f() { } fun g() { } } class B { fun g() { } } main { }";
 
-#[test]
-fn classes_and_methods_are_found_by_name(rt: HostRuntime) -> Result<(), Fail> {
-    let alloc = rt.alloc();
-    let program = parse_program(alloc, TEXT.as_bytes())?;
-    assert!(rt; classes_differ(alloc, program.classes.as_slice())?);
-    let code = Code::make(alloc, &program.classes)?;
-    assert_eq!(rt; code.classes().len(), 2);
-    for (name, at) in [(b"A", Some(6u32)), (b"B", Some(50)), (b"C", None)] {
-        assert_eq!(rt; code.find_class(name).map(|class| class.at), at);
+/// Classes and their methods, of which none stands for the class itself.
+static NAMES: [(&str, &str); 8] = [
+    ("A", ""),
+    ("B", ""),
+    ("C", ""),
+    ("A", "f"),
+    ("A", "g"),
+    ("B", "g"),
+    ("B", "f"),
+    ("C", "f"),
+];
+
+/// The number of classes, and the positions of the names, or a line where there is nothing of that name.
+static FOUND: &str = "2 classes 6 50 - 22 34 58 - -";
+
+/// The position of a class, or of a method where one is named.
+fn at(code: &Code, class: &[u8], method: &[u8]) -> Option<u32> {
+    if method.is_empty() {
+        return match code.find_class(class) {
+            Some(found) => Some(found.at),
+            None => None,
+        };
     }
-    for (class, name, at) in [
-        (b"A", b"f", Some(22u32)),
-        (b"A", b"g", Some(34)),
-        (b"B", b"g", Some(58)),
-        (b"B", b"f", None),
-        (b"C", b"f", None),
-    ] {
-        assert_eq!(rt;
-            code.find_method(class, name)
-                .map(|method| method.signature.at),
-            at
-        );
+    match code.find_method(class, method) {
+        Some(found) => Some(found.signature.at),
+        None => None,
+    }
+}
+
+/// Adds a position behind a space.
+fn add_position(alloc: Global, at: Option<u32>, into: &mut Word) -> Result<(), Memory> {
+    let Some(at) = at else {
+        return into.extend_from_slice(b" -");
+    };
+    let text = format!(in alloc; " {at}")?;
+    into.extend_from_slice(text.as_bytes())
+}
+
+/// Adds the number of classes, and the positions of the names.
+fn add_found(alloc: Global, code: &Code, told: &mut Word) -> Result<(), Memory> {
+    let count = format!(in alloc; "{} classes", code.classes().len())?;
+    told.extend_from_slice(count.as_bytes())?;
+    for (class, method) in &NAMES {
+        add_position(alloc, at(code, class.as_bytes(), method.as_bytes()), told)?;
     }
     Ok(())
 }
 
+/// The same of the code of a text.
+fn found_in(alloc: Global, text: &str) -> Result<Word, ReadError> {
+    let mut told = Seq::new(alloc);
+    let code = code_in(alloc, text)?;
+    add_found(alloc, &code, &mut told)?;
+    Ok(told)
+}
+
+#[test]
+fn classes_and_methods_are_found_by_name(rt: HostRuntime) -> Result<(), Fail> {
+    expect(TEXT, found_in(rt.alloc(), TEXT)?.as_slice(), FOUND)
+}
+
 /// A program of 300 classes, from C0 on, with the methods f, g and h.
-fn many_classes(alloc: Global) -> Result<Vec<u8>, Fail> {
-    let mut text = Vec::new(alloc);
+fn many_classes(alloc: Global) -> Result<Word, Memory> {
+    let mut text = Seq::new(alloc);
     for number in 0..300u32 {
         let class = format!(in alloc;
             "class C{number} {{ fun f() {{ }} fun g() {{ }} fun h() {{ }} }} "
@@ -47,27 +85,51 @@ fn many_classes(alloc: Global) -> Result<Vec<u8>, Fail> {
     Ok(text)
 }
 
+fn are_found(code: &Code, class: &[u8], methods: &[Method]) -> bool {
+    for method in methods {
+        let signature = &method.signature;
+        if at(code, class, signature.name.as_slice()) != Some(signature.at) {
+            return false;
+        }
+    }
+    true
+}
+
+/// Whether a class is found with its methods, and no method i.
+fn is_found(code: &Code, class: &Class) -> bool {
+    let name = class.name.as_slice();
+    at(code, name, b"") == Some(class.at)
+        && are_found(code, name, class.methods.as_slice())
+        && at(code, name, b"i").is_none()
+}
+
+/// How many classes are found, up to the first that isn't.
+fn count_found(code: &Code, classes: &[Class]) -> usize {
+    for (count, class) in classes.iter().enumerate() {
+        if !is_found(code, class) {
+            return count;
+        }
+    }
+    classes.len()
+}
+
+/// How many classes the code of a program has and how many are found; and whether a class or a method of C300 is.
+fn look_ups(alloc: Global, program: &Program) -> Result<(usize, usize, bool), ReadError> {
+    let code = code_of(alloc, program)?;
+    let beyond = at(&code, b"C300", b"").is_some() || at(&code, b"C300", b"f").is_some();
+    let count = count_found(&code, program.classes.as_slice());
+    Ok((code.classes().len(), count, beyond))
+}
+
+/// The same of the program that a text is.
+fn look_ups_in(alloc: Global, text: &[u8]) -> Result<(usize, usize, bool), ReadError> {
+    let program = parse_program(alloc, text)?;
+    look_ups(alloc, &program)
+}
+
 #[test]
 fn each_of_many_classes_and_methods_is_found(rt: HostRuntime) -> Result<(), Fail> {
-    let alloc = rt.alloc();
-    let text = many_classes(alloc)?;
-    let program = parse_program(alloc, text.as_slice())?;
-    assert!(rt; classes_differ(alloc, program.classes.as_slice())?);
-    let code = Code::make(alloc, &program.classes)?;
-    assert_eq!(rt; code.classes().len(), 300);
-    for class in program.classes.as_slice() {
-        let name = class.name.as_slice();
-        assert_eq!(rt; code.find_class(name).map(|found| found.at), Some(class.at));
-        for method in class.methods.as_slice() {
-            let found = code.find_method(name, method.signature.name.as_slice());
-            assert_eq!(rt;
-                found.map(|found| found.signature.at),
-                Some(method.signature.at)
-            );
-        }
-        assert!(rt; code.find_method(name, b"i").is_none());
-    }
-    assert!(rt; code.find_class(b"C300").is_none());
-    assert!(rt; code.find_method(b"C300", b"f").is_none());
+    let text = many_classes(rt.alloc())?;
+    assert!(rt; look_ups_in(rt.alloc(), text.as_slice())? == (300, 300, false));
     Ok(())
 }

@@ -1,10 +1,11 @@
 // A World that keeps what it is asked.
 
 use rb_engine::{Frame, Halt, RunResult, State, World};
-use rb_trees::{Memory, Seq, Value};
+use rb_trees::{Memory, ReadError, Seq, Value};
 use std::alloc::Global;
 
-/// What code asked, a line each: what it prints, and the other questions by their names.
+/// What code asked, a line each: what it prints, and the turns of its loops over lists. Nothing else is asked by code without
+/// a batch and without a remote object, and would cut a run off.
 #[derive(Drop)]
 pub struct Record {
     asked: Seq<u8>,
@@ -22,17 +23,27 @@ impl Record {
         self.asked.as_slice()
     }
 
-    /// Adds a line.
-    pub fn note(&mut self, line: &[u8]) -> Result<(), Halt<Memory>> {
+    fn add(&mut self, line: &[u8]) -> Result<(), Memory> {
+        self.asked.extend_from_slice(line)?;
+        self.asked.push(b'\n')
+    }
+
+    /// Adds a line, which is an answer that gives nothing.
+    fn note(&mut self, line: &[u8]) -> RunResult<(), Memory> {
         match self.add(line) {
-            Ok(()) => Ok(()),
+            Ok(()) => Ok(Ok(())),
             Err(_) => Err(Halt::Memory),
         }
     }
 
-    fn add(&mut self, line: &[u8]) -> Result<(), Memory> {
-        self.asked.extend_from_slice(line)?;
-        self.asked.push(b'\n')
+    /// Adds the end of a run where a fault ended it, by its code.
+    pub fn end(&mut self, end: &RunResult<(), Memory>) -> Result<(), ReadError> {
+        match end {
+            Ok(Ok(())) => Ok(()),
+            Ok(Err(raised)) if raised.fault.code == 7 => Ok(self.add(b"no fuel")?),
+            Ok(Err(_)) => Ok(self.add(b"fault")?),
+            Err(_) => Err(ReadError::Memory),
+        }
     }
 }
 
@@ -44,37 +55,32 @@ impl World for Record {
     ghost performs = { λ before at l ended after. Unit {0} };
 
     fn line(&mut self, _at: u32, bytes: &[u8]) -> RunResult<(), Memory> {
-        self.note(bytes)?;
-        Ok(Ok(()))
+        self.note(bytes)
     }
 
     fn batch(&mut self, _at: u32, _state: &mut State, _frame: &mut Frame) -> RunResult<(), Memory> {
-        self.note(b"batch")?;
-        Ok(Ok(()))
+        Err(Halt::Memory)
     }
 
-    fn taken(&mut self, step: u32) -> RunResult<Value, Memory> {
-        Ok(Ok(Value::Int(i64::from(step))))
+    fn taken(&mut self, _step: u32) -> RunResult<Value, Memory> {
+        Err(Halt::Memory)
     }
 
     fn invoke(
         &mut self,
         _at: u32,
-        target: Value,
-        method: &[u8],
+        _target: Value,
+        _method: &[u8],
         _args: Seq<Value>,
     ) -> RunResult<Value, Memory> {
-        self.note(method)?;
-        Ok(Ok(target))
+        Err(Halt::Memory)
     }
 
     fn turn(&mut self, _at: u32) -> RunResult<(), Memory> {
-        self.note(b"a row")?;
-        Ok(Ok(()))
+        Err(Halt::Memory)
     }
 
     fn list_turn(&mut self, _at: u32) -> RunResult<(), Memory> {
-        self.note(b"an item")?;
-        Ok(Ok(()))
+        self.note(b"an item")
     }
 }

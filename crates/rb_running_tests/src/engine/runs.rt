@@ -1,68 +1,59 @@
 // Runs of programs that are read from texts.
 
+use crate::code::classes::code_of;
 use crate::engine::record::Record;
-use rb_code::classes_differ;
-use rb_engine::{Code, Frame, Halt, State, exec};
+use crate::told::expect;
+use rb_engine::{Code, Frame, State, exec};
 use rb_heap::Heap;
 use rb_parse::parse_program;
-use rb_trees::{Memory, Program, Seq};
+use rb_trees::{Program, ReadError, Seq, Stmt};
 use std::alloc::Global;
 use std::test::Fail;
 
-/// The code of a program, without classes where two of them have one name.
-fn code_of(alloc: Global, program: &Program) -> Result<Code, Memory> {
-    if classes_differ(alloc, program.classes.as_slice())? {
-        return Code::make(alloc, &program.classes);
-    }
-    Code::make(alloc, &Seq::new(alloc))
-}
+/// What is shown, a program, the fuel that its `main` has, and the lines that it asks.
+pub type Row = (&'static str, &'static str, u64, &'static str);
 
-/// Runs the statements of `main` with so much fuel. A fault that ends them is a line too, by its code.
-fn run(
+/// Runs statements with so much fuel.
+fn run_body(
     alloc: Global,
-    program: &Program,
+    code: &Code,
+    body: &Seq<Stmt>,
     fuel: u64,
     record: &mut Record,
-) -> Result<(), Halt<Memory>> {
-    let Ok(code) = code_of(alloc, program) else {
-        return Err(Halt::Memory);
-    };
+) -> Result<(), ReadError> {
     let mut state = State {
         heap: Heap::make(alloc),
         fuel,
         depth: 0,
     };
     let mut frame = Frame::make(alloc);
-    let body = &program.body.statements;
-    match exec(alloc, &code, &mut state, &mut frame, record, body)? {
-        Ok(()) => Ok(()),
-        Err(raised) => {
-            let code: &[u8] = if raised.fault.code == 7 {
-                b"no fuel"
-            } else {
-                b"fault"
-            };
-            record.note(code)
-        }
-    }
+    let end = exec(alloc, code, &mut state, &mut frame, record, body);
+    record.end(&end)
 }
 
-/// Fails where a program's `main`, with so much fuel, asks other lines than are wanted.
-pub fn expect_asked(alloc: Global, text: &str, fuel: u64, want: &[u8]) -> Result<(), Fail> {
+/// Runs the statements of `main`.
+fn run(alloc: Global, program: &Program, fuel: u64, record: &mut Record) -> Result<(), ReadError> {
+    let code = code_of(alloc, program)?;
+    run_body(alloc, &code, &program.body.statements, fuel, record)
+}
+
+/// Runs the program that a text is.
+fn run_text(alloc: Global, text: &str, fuel: u64, record: &mut Record) -> Result<(), ReadError> {
     let program = parse_program(alloc, text.as_bytes())?;
-    let mut record = Record::make(alloc);
-    match run(alloc, &program, fuel, &mut record) {
-        Ok(()) => same_lines(record.lines(), want),
-        Err(_) => Err(Memory)?,
-    }
+    run(alloc, &program, fuel, record)
 }
 
-/// Fails where lines aren't those that are wanted.
-fn same_lines(lines: &[u8], want: &[u8]) -> Result<(), Fail> {
-    if lines == want {
-        return Ok(());
+/// What the program of a text asks.
+fn asked(alloc: Global, text: &str, fuel: u64) -> Result<Record, ReadError> {
+    let mut record = Record::make(alloc);
+    run_text(alloc, text, fuel, &mut record)?;
+    Ok(record)
+}
+
+/// Fails where a program asks other lines than stand beside it.
+pub fn expect_asked(alloc: Global, rows: &[Row]) -> Result<(), Fail> {
+    for (shown, text, fuel, wanted) in rows {
+        expect(shown, asked(alloc, text, *fuel)?.lines(), wanted)?;
     }
-    let lines = str::from_utf8(lines)?;
-    let want = str::from_utf8(want)?;
-    Err(Fail::new(format_args!("{lines:?} in place of {want:?}")))
+    Ok(())
 }

@@ -1,15 +1,22 @@
 // A service of two files, and scripts on it.
 
-use crate::exec::notation::{steps_of, text_value};
-use crate::exec::shown::add_node;
+use crate::exec::shown::add_forest;
+use crate::exec::words::add_payload;
+use crate::told::expect;
 use rb_code::classes_differ;
 use rb_exec::{Host, run_into};
 use rb_heap::Heap;
 use rb_store::read_service;
-use rb_trees::{Memory, Script, Seq, Value, Word, valid};
-use rb_wire_forest::{ForestStop, decode_forest};
+use rb_trees::{Memory, Script, Seq, Service, StoreError, Value, Word};
+use rb_wire_script::{ScriptStop, decode_script};
 use std::alloc::Global;
 use std::test::Fail;
+
+/// A script, and what it gives.
+pub type Row = (&'static str, &'static str);
+
+/// How many bytes a payload has at most.
+const MOST_BYTES: usize = 16_777_216;
 
 /// A folder, a file of size 10, and one of size 200.
 static SERVICE: &str = "class File { name: Text; size: Int; \
@@ -48,13 +55,18 @@ static SERVICE: &str = "class File { name: Text; size: Int; \
      object 2: File { name = \"bb\"; size = 200; } \
      root 0;";
 
-/// The host of the files.
-pub fn host(alloc: Global) -> Result<Host, Fail> {
-    let (service, table) = read_service(alloc, SERVICE.as_bytes())?;
-    if classes_differ(alloc, service.classes.as_slice())? {
-        return Ok(Host::make(alloc, service, table)?);
+/// The host of a service and its table, if the names of its classes differ.
+fn host_of(alloc: Global, service: Service, table: Heap) -> Result<Host, StoreError> {
+    match classes_differ(alloc, service.classes.as_slice()) {
+        Ok(true) => Ok(Host::make(alloc, service, table)?),
+        _ => Err(StoreError::Memory),
     }
-    Err(Fail::new("two classes or methods have one name"))
+}
+
+/// The host of the files.
+pub fn host(alloc: Global) -> Result<Host, StoreError> {
+    let (service, table) = read_service(alloc, SERVICE.as_bytes())?;
+    host_of(alloc, service, table)
 }
 
 /// The size of a file.
@@ -75,39 +87,83 @@ fn add_sizes(alloc: Global, table: &Heap, into: &mut Word) -> Result<(), Memory>
     into.extend_from_slice(sizes.as_bytes())
 }
 
-/// Adds the node that a valid script gives. Its inputs are an Int, a Bool, a Text, and an object that isn't there.
-fn add_run(alloc: Global, host: &mut Host, script: &Script, into: &mut Word) -> Result<(), Memory> {
-    if valid(script).is_err() {
-        return into.extend_from_slice(b"not valid");
-    }
-    let word = text_value(alloc, "in")?;
-    let inputs = [Value::Int(10), Value::Bool(true), word, Value::Remote(7)];
+/// Adds the forest that a script gives. The last of its inputs is an object that isn't there.
+fn add_run(
+    alloc: Global,
+    host: &mut Host,
+    script: &Script,
+    inputs: &mut Seq<Value>,
+    into: &mut Word,
+) -> Result<(), Memory> {
+    inputs.truncate(3);
+    inputs.push(Value::Remote(7))?;
     let mut forest = Seq::new(alloc);
-    run_into(alloc, host, script, &inputs, &mut forest)?;
-    match decode_forest(alloc, forest.as_slice()) {
-        Ok(node) => add_node(alloc, &node, into),
-        Err(ForestStop::Refused { number: _, at: _ }) => into.extend_from_slice(b"no forest"),
-        Err(ForestStop::Memory) => Err(Memory),
+    run_into(alloc, host, script, inputs.as_slice(), &mut forest)?;
+    add_forest(alloc, forest.as_slice(), into)
+}
+
+/// Adds what the script of a payload gives.
+fn add_script(
+    alloc: Global,
+    host: &mut Host,
+    payload: &[u8],
+    into: &mut Word,
+) -> Result<(), Memory> {
+    if payload.len() > MOST_BYTES {
+        return into.extend_from_slice(b"too long");
+    }
+    match decode_script(alloc, payload) {
+        Ok((script, mut inputs)) => add_run(alloc, host, &script, &mut inputs, into),
+        Err(ScriptStop::Refused { number: _, at: _ }) => into.extend_from_slice(b"no script"),
+        Err(ScriptStop::Memory) => Err(Memory),
     }
 }
 
-/// Adds the node that a script gives on a host, and the sizes of the files then, where one of them has changed.
-fn add_script(alloc: Global, host: &mut Host, text: &str, into: &mut Word) -> Result<(), Memory> {
-    let body = steps_of(alloc, text)?;
-    let script = Script { inputs: 4, body };
-    add_run(alloc, host, &script, into)?;
-    add_sizes(alloc, host.table(), into)
+/// What a script gives on a host, and the sizes of the files then, where one of them has changed.
+fn given(alloc: Global, host: &mut Host, text: &str) -> Result<Word, Memory> {
+    let mut payload = Seq::new(alloc);
+    add_payload(text, &mut payload)?;
+    let mut told = Seq::new(alloc);
+    add_script(alloc, host, payload.as_slice(), &mut told)?;
+    add_sizes(alloc, host.table(), &mut told)?;
+    Ok(told)
 }
 
-/// Whether a script gives this on a host.
-pub fn gives_on(alloc: Global, host: &mut Host, text: &str, wanted: &str) -> Result<bool, Memory> {
-    let mut found = Seq::new(alloc);
-    add_script(alloc, host, text, &mut found)?;
-    Ok(found.as_slice() == wanted.as_bytes())
+/// Fails where a script gives something else on a host.
+pub fn expect_given(
+    alloc: Global,
+    host: &mut Host,
+    script: &str,
+    wanted: &str,
+) -> Result<(), Fail> {
+    let told = given(alloc, host, script)?;
+    expect(script, told.as_slice(), wanted)
 }
 
-/// Whether a script gives this on a host of its own.
-pub fn gives(alloc: Global, text: &str, wanted: &str) -> Result<bool, Fail> {
+/// Fails where a script gives something else on a host than stands beside it.
+fn expect_rows(alloc: Global, host: &mut Host, rows: &[Row]) -> Result<(), Fail> {
+    for (script, wanted) in rows {
+        expect_given(alloc, host, script, wanted)?;
+    }
+    Ok(())
+}
+
+/// Fails where a script gives something else than stands beside it. All are run on one host, one after the other.
+pub fn expect_in_turn(alloc: Global, rows: &[Row]) -> Result<(), Fail> {
     let mut host = host(alloc)?;
-    Ok(gives_on(alloc, &mut host, text, wanted)?)
+    expect_rows(alloc, &mut host, rows)
+}
+
+/// Fails where a script gives something else on a host of its own.
+fn expect_alone(alloc: Global, script: &str, wanted: &str) -> Result<(), Fail> {
+    let mut host = host(alloc)?;
+    expect_given(alloc, &mut host, script, wanted)
+}
+
+/// Fails where a script gives something else than stands beside it. Each is run on a host of its own.
+pub fn expect_each(alloc: Global, rows: &[Row]) -> Result<(), Fail> {
+    for (script, wanted) in rows {
+        expect_alone(alloc, script, wanted)?;
+    }
+    Ok(())
 }

@@ -1,74 +1,60 @@
 // Each kind of result with a value of each form.
 
-use crate::exec::files::{gives_on, host};
+use crate::exec::files::{expect_given, host};
 use rb_exec::Host;
-use rb_trees::Memory;
 use std::alloc::Global;
 use std::test::Fail;
 
-/// The numbers of the kinds.
-static KINDS: [&str; 9] = ["0", "1", "2", "3", "4", "5", "6", "7", "8"];
-
-/// Methods that give a value of each form, and the kinds that it is of. A list without items is rows of any kind.
-static FORMS: [(&str, &str); 11] = [
-    ("nothing", "0"),
-    ("number", "1"),
-    ("truth", "2"),
-    ("word", "3"),
-    ("first", "4"),
-    ("numbers", "5"),
-    ("truths", "6"),
-    ("words", "7"),
-    ("files", "8"),
-    ("none", "5678"),
-    ("lists", ""),
+/// Methods that give a value of each form, and the kinds from 0 to 8 that it is of. A list without items is rows of any kind.
+static FORMS: [(&str, &[u8; 9]); 11] = [
+    ("nothing", b"y........"),
+    ("number", b".y......."),
+    ("truth", b"..y......"),
+    ("word", b"...y....."),
+    ("first", b"....y...."),
+    ("numbers", b".....y..."),
+    ("truths", b"......y.."),
+    ("words", b".......y."),
+    ("files", b"........y"),
+    ("none", b".....yyyy"),
+    ("lists", b"........."),
 ];
 
-/// Whether a call of a method gives this.
-fn answers(
+/// Fails where a method's result is of a kind and shouldn't be, or the other way round. Then the call faults.
+fn expect_kind(
     alloc: Global,
     host: &mut Host,
     method: &str,
-    kind: &str,
-    wanted: &str,
-) -> Result<bool, Memory> {
-    let script = format!(in alloc; "do 1 call 0 {kind} {method} root")?;
-    gives_on(alloc, host, script.as_str(), wanted)
+    kind: usize,
+    fits: bool,
+) -> Result<(), Fail> {
+    let script = format!(in alloc; "do 1 call {kind} {method} root :0")?;
+    expect_given(
+        alloc,
+        host,
+        script.as_str(),
+        if fits { "" } else { "!11@1#1" },
+    )
 }
 
-/// Whether the result of a method is of these kinds, and faults WrongKind for all others.
-fn has_kinds(alloc: Global, host: &mut Host, method: &str, wanted: &str) -> Result<bool, Memory> {
-    for kind in &KINDS {
-        let fault = if wanted.contains(*kind) {
-            ""
-        } else {
-            "!11@1#1"
-        };
-        if !answers(alloc, host, method, kind, fault)? {
-            return Ok(false);
-        }
+/// Fails where the result of a method isn't of just these kinds.
+fn expect_kinds(alloc: Global, host: &mut Host, method: &str, kinds: &[u8]) -> Result<(), Fail> {
+    for (kind, letter) in kinds.iter().enumerate() {
+        expect_kind(alloc, host, method, kind, *letter == b'y')?;
     }
-    Ok(true)
+    Ok(())
 }
 
-/// The first method whose result is of other kinds; none where there is none.
-fn wrong_on(alloc: Global, host: &mut Host) -> Result<&'static str, Memory> {
-    for (method, wanted) in &FORMS {
-        if !has_kinds(alloc, host, method, wanted)? {
-            return Ok(method);
-        }
+/// Fails where the result of a method isn't of the kinds that stand beside it.
+fn expect_all_kinds(alloc: Global, host: &mut Host) -> Result<(), Fail> {
+    for (method, kinds) in &FORMS {
+        expect_kinds(alloc, host, method, kinds.as_slice())?;
     }
-    Ok("")
-}
-
-/// The first method whose result is of other kinds; none where there is none.
-fn first_wrong(alloc: Global) -> Result<&'static str, Fail> {
-    let mut host = host(alloc)?;
-    Ok(wrong_on(alloc, &mut host)?)
+    Ok(())
 }
 
 #[test]
 fn a_result_of_another_kind_faults(rt: HostRuntime) -> Result<(), Fail> {
-    assert_eq!(rt; first_wrong(rt.alloc())?, "");
-    Ok(())
+    let mut host = host(rt.alloc())?;
+    expect_all_kinds(rt.alloc(), &mut host)
 }

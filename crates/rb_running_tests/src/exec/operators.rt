@@ -1,10 +1,10 @@
 // Operators in scripts: their values, and operands of no use to them.
 
-use crate::exec::files::gives;
+use crate::exec::files::{Row, expect_each};
 use std::test::Fail;
 
 /// Each operator, at its edges too.
-static VALUES: [(&str, &str); 15] = [
+static VALUES: [Row; 15] = [
     (
         "keep 1 not true keep 2 neg 7 keep 3 len 'four keep 4 str -30",
         "f -7 4 -30 ",
@@ -56,28 +56,28 @@ static VALUES: [(&str, &str); 15] = [
         "f t f ",
     ),
     (
-        "keep 1 || true == 15 call 1 1 raise call 1 4 file root 0 5",
+        "keep 1 || true == 15 call 1 raise call 4 file root :1 0 :1 5",
         "t ",
     ),
     (
-        "keep 1 || false == 15 call 1 1 raise call 1 4 file root 0 5",
+        "keep 1 || false == 15 call 1 raise call 4 file root :1 0 :1 5",
         "t ; 15, 200",
     ),
 ];
 
 /// Operands of a wrong kind, and other faults.
-static FAULTS: [(&str, &str); 28] = [
+static FAULTS: [Row; 28] = [
     ("keep 1 not 7", "!12@1#1"),
     ("keep 1 not 'true", "!12@1#1"),
     ("keep 1 neg true", "!12@1#1"),
     ("keep 1 len 7", "!12@1#1"),
-    ("keep 1 len call 0 8 files root", "!12@1#1"),
+    ("keep 1 len call 8 files root :0", "!12@1#1"),
     ("keep 1 str 'a", "!12@1#1"),
     ("keep 1 str root", "!12@1#1"),
     ("keep 1 + 1 'a", "!12@1#1"),
     ("keep 1 + true true", "!12@1#1"),
     (
-        "keep 1 + call 0 5 numbers root call 0 5 numbers root",
+        "keep 1 + call 5 numbers root :0 call 5 numbers root :0",
         "!12@1#1",
     ),
     ("keep 1 - 'a 'a", "!12@1#1"),
@@ -87,35 +87,29 @@ static FAULTS: [(&str, &str); 28] = [
     ("keep 1 == 1 true", "!12@1#1"),
     ("keep 1 == root root", "!12@1#1"),
     ("keep 1 != 'a 1", "!12@1#1"),
-    ("let 1 3 call 0 0 nothing root keep 2 == $3 $3", "!12@2#2"),
+    ("let 1 3 call 0 nothing root :0 keep 2 == $3 $3", "!12@2#2"),
     ("keep 1 < 'a 'b", "!12@1#1"),
     ("keep 1 >= true false", "!12@1#1"),
     ("keep 1 && 1 true", "!12@1#1"),
     ("keep 1 && true 1", "!12@1#1"),
     ("keep 1 || false root", "!12@1#1"),
     ("keep 1 % 5 0", "!1@1#1"),
-    ("keep 1 + call 0 3 page root 'x", "!3@1#1"),
+    ("keep 1 + call 3 page root :0 'x", "!3@1#1"),
     // The left operand comes first, and both before the operator.
-    ("keep 1 + / 1 0 call 0 1 absent root", "!1@2#1"),
+    ("keep 1 + / 1 0 call 1 absent root :0", "!1@2#1"),
     ("keep 1 + root / 1 0", "!1@2#1"),
     (
-        "keep 1 + call 1 1 raise call 1 4 file root 0 1 * 100 call 1 1 raise call 1 4 file root 0 1 keep 2 not 1",
+        "keep 1 + call 1 raise call 4 file root :1 0 :1 1 * 100 call 1 raise call 4 file root :1 0 :1 1 keep 2 not 1",
         "1211 !12@7#2; 12, 200",
     ),
 ];
 
 #[test]
 fn each_operator_gives_its_value(rt: HostRuntime) -> Result<(), Fail> {
-    for (script, wanted) in &VALUES {
-        assert!(rt; gives(rt.alloc(), script, wanted)?, "{script}");
-    }
-    Ok(())
+    expect_each(rt.alloc(), &VALUES)
 }
 
 #[test]
 fn operands_of_a_wrong_kind_fault_at_the_operator(rt: HostRuntime) -> Result<(), Fail> {
-    for (script, wanted) in &FAULTS {
-        assert!(rt; gives(rt.alloc(), script, wanted)?, "{script}");
-    }
-    Ok(())
+    expect_each(rt.alloc(), &FAULTS)
 }

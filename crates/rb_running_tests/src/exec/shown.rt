@@ -1,9 +1,10 @@
-// Nodes as texts.
+// Forests as texts.
 //
 // Entries have a space behind. A branch is `yes(..)` or `no(..)`, rows are `[(..)(..)]`, and a fault is `Big!8@3#2`: its text,
 // its code, its position and its step.
 
-use rb_trees::{Entry, Memory, Node, NodeFault, Seq, Value, Word};
+use rb_trees::{Entry, Memory, Node, NodeFault, Value, Word};
+use rb_wire_forest::{ForestStop, decode_forest};
 use std::alloc::Global;
 
 fn add_value(alloc: Global, value: &Value, into: &mut Word) -> Result<(), Memory> {
@@ -28,7 +29,7 @@ fn add_fault(alloc: Global, fault: &NodeFault, into: &mut Word) -> Result<(), Me
 
 /// Adds the text of a node.
 #[cycle(nodes)]
-pub fn add_node(alloc: Global, node: &Node, into: &mut Word) -> Result<(), Memory> {
+fn add_node(alloc: Global, node: &Node, into: &mut Word) -> Result<(), Memory> {
     for entry in node.entries.as_slice() {
         add_entry(alloc, entry, into)?;
         into.push(b' ')?;
@@ -65,4 +66,13 @@ fn add_turns(alloc: Global, nodes: &[Node], into: &mut Word) -> Result<(), Memor
         into.push(b')')?;
     }
     Ok(())
+}
+
+/// Adds the text of a forest.
+pub fn add_forest(alloc: Global, forest: &[u8], into: &mut Word) -> Result<(), Memory> {
+    match decode_forest(alloc, forest) {
+        Ok(node) => add_node(alloc, &node, into),
+        Err(ForestStop::Refused { number: _, at: _ }) => into.extend_from_slice(b"no forest"),
+        Err(ForestStop::Memory) => Err(Memory),
+    }
 }

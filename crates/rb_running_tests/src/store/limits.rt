@@ -1,59 +1,94 @@
 // The limits of lists: the last text within each, and the first beyond it.
 
-use crate::store::texts::{library, repeated, told};
+use crate::store::texts::told;
+use crate::told::expect;
+use rb_trees::{Memory, Seq, Word};
 use std::alloc::Global;
 use std::test::Fail;
 
-/// Why the text of one object whose list has so many items is no service; nothing where it is one.
-fn list_refusal(alloc: Global, count: usize) -> Result<String, Fail> {
-    let text = repeated(
-        alloc,
-        "object 0: Plan { rows = [[",
-        "7, ",
-        count.saturating_sub(1),
-        "7]]; } root 0;",
-    )?;
-    let found = library(alloc, text.as_str())?;
-    if found.starts_with("object 0: Plan") {
-        return Ok(String::new(alloc));
-    }
-    Ok(found)
-}
+/// A piece of a text, and how often it stands there.
+type Piece = (&'static str, usize);
 
-#[test]
-fn a_list_has_at_most_ten_thousand_items(rt: HostRuntime) -> Result<(), Fail> {
-    for (count, wanted) in [
-        (10_000usize, ""),
-        (
-            10_001,
-            "object 0 has a value of another type than its field",
-        ),
-    ] {
-        let found = list_refusal(rt.alloc(), count)?;
-        assert_eq!(rt; found.as_str(), wanted);
+/// What is shown, a text, and the first 64 bytes of what is told of it.
+static TEXTS: [(&str, &[Piece], &str); 4] = [
+    (
+        "a list has at most ten thousand items",
+        &[
+            ("class Plan { rows: List<List<Int>>; } ", 1),
+            ("object 0: Plan { rows = [[", 1),
+            ("7, ", 9_999),
+            ("7]]; } root 0;", 1),
+        ],
+        "object 0: Plan { rows = [[7, 7, 7, 7, 7, 7, 7, 7, 7, 7, 7, 7, 7,",
+    ),
+    (
+        "a list of ten thousand and one is none",
+        &[
+            ("class Plan { rows: List<List<Int>>; } ", 1),
+            ("object 0: Plan { rows = [[", 1),
+            ("7, ", 10_000),
+            ("7]]; } root 0;", 1),
+        ],
+        "object 0 has a value of another type than its field",
+    ),
+    (
+        "lists nest as deep as types do",
+        &[
+            ("class Nest { list: ", 1),
+            ("List<", 64),
+            ("Int", 1),
+            (">", 64),
+            ("; } object 0: Nest { list = ", 1),
+            ("[", 64),
+            ("]", 64),
+            ("; } root 0;", 1),
+        ],
+        "object 0: Nest { list = [[[[[[[[[[[[[[[[[[[[[[[[[[[[[[[[[[[[[[[[",
+    ),
+    (
+        "lists nest no deeper than types do",
+        &[
+            ("class Nest { list: ", 1),
+            ("List<", 64),
+            ("Int", 1),
+            (">", 64),
+            ("; } object 0: Nest { list = ", 1),
+            ("[", 65),
+            ("]", 65),
+            ("; } root 0;", 1),
+        ],
+        "the token at offset 498 nests too deep",
+    ),
+];
+
+fn add_piece(piece: &str, count: usize, into: &mut Word) -> Result<(), Memory> {
+    for _ in 0..count {
+        into.extend_from_slice(piece.as_bytes())?;
     }
     Ok(())
 }
 
+/// The text of these pieces.
+fn text_of(alloc: Global, pieces: &[Piece]) -> Result<Word, Memory> {
+    let mut text = Seq::new(alloc);
+    for (piece, count) in pieces {
+        add_piece(piece, *count, &mut text)?;
+    }
+    Ok(text)
+}
+
+/// The first 64 bytes of what is told of the text of these pieces.
+fn front_told(alloc: Global, pieces: &[Piece]) -> Result<Word, Memory> {
+    let text = text_of(alloc, pieces)?;
+    let mut front = told(alloc, text.as_slice())?;
+    front.truncate(64);
+    Ok(front)
+}
+
 #[test]
-fn lists_nest_as_deep_as_types_do(rt: HostRuntime) -> Result<(), Fail> {
-    let alloc = rt.alloc();
-    for (depth, wanted) in [
-        (64usize, "object 0: Nest { list = [[[["),
-        (65, "the token at offset 498 nests too deep"),
-    ] {
-        let open = repeated(alloc, "class Nest { list: ", "List<", 64, "Int")?;
-        let class = repeated(
-            alloc,
-            open.as_str(),
-            ">",
-            64,
-            "; } object 0: Nest { list = ",
-        )?;
-        let inner = repeated(alloc, class.as_str(), "[", depth, "")?;
-        let source = repeated(alloc, inner.as_str(), "]", depth, "; } root 0;")?;
-        let found = told(alloc, source.as_str())?;
-        assert!(rt; found.starts_with(wanted), "{found}");
+fn lists_are_as_long_and_as_deep_as_they_may_be(rt: HostRuntime) -> Result<(), Fail> {
+    for (shown, pieces, wanted) in &TEXTS {
+        expect(shown, front_told(rt.alloc(), pieces)?.as_slice(), wanted)?;
     }
     Ok(())
 }

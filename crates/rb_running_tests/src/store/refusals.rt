@@ -1,6 +1,7 @@
 // Texts that are no services: each refusal, and which of two comes first.
 
 use crate::store::texts::{library, told};
+use crate::told::expect;
 use std::test::Fail;
 
 /// Whole texts that aren't read, or whose classes aren't typed. What is wrong with the objects counts for nothing there.
@@ -128,18 +129,20 @@ static OBJECTS: [(&str, &str); 21] = [
 
 #[test]
 fn what_is_wrong_with_a_text_or_its_classes_comes_first(rt: HostRuntime) -> Result<(), Fail> {
-    for (source, wanted) in TEXTS {
-        let found = told(rt.alloc(), source)?;
-        assert_eq!(rt; found.as_str(), wanted, "{source}");
+    for (source, wanted) in &TEXTS {
+        expect(
+            source,
+            told(rt.alloc(), source.as_bytes())?.as_slice(),
+            wanted,
+        )?;
     }
     Ok(())
 }
 
 #[test]
 fn the_first_refusal_of_the_objects_is_told(rt: HostRuntime) -> Result<(), Fail> {
-    for (objects, wanted) in OBJECTS {
-        let found = library(rt.alloc(), objects)?;
-        assert_eq!(rt; found.as_str(), wanted, "{objects}");
+    for (objects, wanted) in &OBJECTS {
+        expect(objects, library(rt.alloc(), objects)?.as_slice(), wanted)?;
     }
     Ok(())
 }

@@ -1,8 +1,10 @@
 // Texts that are services, and their tables as they are printed.
 
-use crate::store::texts::{CLASSES, library};
-use rb_heap::Heap;
-use rb_store::{print_table, read_service};
+use crate::store::texts::{behind_classes, library};
+use crate::told::expect;
+use rb_store::read_service;
+use rb_trees::StoreError;
+use std::alloc::Global;
 use std::test::Fail;
 
 /// Objects and a root, and the table.
@@ -54,29 +56,22 @@ object 1: Shelf { books = [#0, #0]; best = #0; }\n",
 
 #[test]
 fn each_object_stands_in_the_table_as_it_is_written(rt: HostRuntime) -> Result<(), Fail> {
-    for (objects, wanted) in TABLES {
-        let found = library(rt.alloc(), objects)?;
-        assert_eq!(rt; found.as_str(), wanted, "{objects}");
+    for (objects, wanted) in &TABLES {
+        expect(objects, library(rt.alloc(), objects)?.as_slice(), wanted)?;
     }
     Ok(())
 }
 
-#[test]
-fn a_service_has_the_classes_and_the_root_of_its_text(rt: HostRuntime) -> Result<(), Fail> {
-    let alloc = rt.alloc();
-    let source = format!(in alloc;
-        "{CLASSES}object 0: Plan {{ rows = []; }} object 1: Plan {{ rows = []; }} root 1;"
-    )?;
-    let (service, table) = read_service(alloc, source.as_bytes())?;
-    assert_eq!(rt; service.classes.len(), 3);
-    assert_eq!(rt; service.root, 1);
-    assert_eq!(rt; table.len(), 2);
-    Ok(())
+/// How many classes and objects a text has, and its root.
+fn counted(alloc: Global, source: &[u8]) -> Result<(usize, u32, u32), StoreError> {
+    let (service, table) = read_service(alloc, source)?;
+    Ok((service.classes.len(), table.len(), service.root))
 }
 
 #[test]
-fn a_table_without_objects_is_printed_as_nothing(rt: HostRuntime) -> Result<(), Fail> {
-    let text = print_table(rt.alloc(), &Heap::make(rt.alloc()))?;
-    assert!(rt; text.is_empty());
+fn a_service_has_the_classes_and_the_root_of_its_text(rt: HostRuntime) -> Result<(), Fail> {
+    let objects = "object 0: Plan { rows = []; } object 1: Plan { rows = []; } root 1;";
+    let source = behind_classes(rt.alloc(), objects)?;
+    assert!(rt; counted(rt.alloc(), source.as_slice())? == (3, 2, 1));
     Ok(())
 }
