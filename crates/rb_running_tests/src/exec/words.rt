@@ -5,15 +5,16 @@
 // Expressions: `7`, `true`, `false`, `'word`, `root`, `$V`, `%I`, `not E`, `+ E E`, and `call K NAME E :C E ..` for a call of
 // kind K, with the receiver, and then C arguments. Operators and calls stand at the positions from 1 on, in order.
 //
-// A payload has its parts in this order too, so one word after the other is put in bytes. What they are is told in docs/wire.md.
+// A payload has its parts in this order too, so one word after the other is put in bytes, as docs/wire.md tells.
 
 use rb_trees::{Memory, Word};
 
 /// The version, and four inputs: 10, true, "in", and one of which nothing is used.
 const HEAD: &[u8] = b"\x01\x04\x01\0\0\0\0\0\0\0\x0a\x02\x01\x03\0\0\0\x02in\x02\0";
 
-/// Words, with the bytes that they begin with, and a letter for each part that follows: the number and the position of a
-/// step, a variable, whether something is kept, the position of an operator or a call, a kind, a name, the count of a block.
+/// Words, with the bytes that they begin with, and a letter for each part that follows. An `s` is a step's number with its
+/// position, a `v` a variable, `+` or `-` whether its value is kept, and a `c` the count of a block's steps. A `p` is the
+/// position of an operator or a call, a `k` a kind, and an `n` a name.
 static WORDS: [(&str, &[u8], &[u8]); 30] = [
     ("do", b"\x10", b"s"),
     ("keep", b"\x11", b"s"),

@@ -125,9 +125,9 @@ fn add_answer(
 
 /// Adds the answers to questions, each with a space behind it.
 ///
-/// Questions are `+Px1y2`, an object of class P with fields x and y; `=0x5`, another value of a field of object 0; `.0x`, the
-/// value of a field; `:0`, its class; `?0`, the object itself, which is told of by its class; `#`, the number of objects; and
-/// `*`, the lines of all objects.
+/// `+Px1y2` adds an object of class P with fields x and y, and `=0x5` gives a field of object 0 another value. `.0x` asks for
+/// the value of a field, `:0` for the class of an object, and `?0` for the object itself, of which the class is told. `#` asks
+/// for the number of objects, and `*` for the lines of all.
 pub fn add_answers(
     alloc: Global,
     heap: &mut Heap,

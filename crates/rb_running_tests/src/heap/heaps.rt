@@ -109,7 +109,7 @@ fn answers(alloc: Global, count: u32, questions: &str) -> Result<Word, AddStop> 
 
 /// What is shown; questions to a heap; then to the heap, to the copy that was made of it in between, and to the heap again;
 /// and the answers.
-static COPIES: [(&str, &str, [&str; 3], &str); 2] = [
+static COPIES: [(&str, &str, [&str; 3], &str); 3] = [
     (
         "a copy has the same objects",
         "+A",
@@ -127,6 +127,15 @@ object 1: P { y = 3; x = 5; }\n\
 object 2: P { x = 6; y = 7; }\n \
 object 0: P { x = 1; y = 2; }\n\
 object 1: P { y = 3; x = 4; }\n - ",
+    ),
+    (
+        "writes beside a copy are not seen there",
+        "+Px1y2 +Px3y4",
+        ["=0x5 =0y6 =0x7", "*", "*"],
+        "0 1 . . . object 0: P { x = 1; y = 2; }\n\
+object 1: P { x = 3; y = 4; }\n \
+object 0: P { x = 7; y = 6; }\n\
+object 1: P { x = 3; y = 4; }\n ",
     ),
 ];
 
