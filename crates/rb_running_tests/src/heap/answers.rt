@@ -1,6 +1,6 @@
 // What a heap answers.
 
-use rb_heap::{AddStop, Heap};
+use rb_heap::{AddStop, Heap, SetStop};
 use rb_store::print_table;
 use rb_trees::{Memory, Object, Seq, Value, Word};
 use std::alloc::Global;
@@ -73,10 +73,11 @@ fn tell_added(alloc: Global, added: Result<u32, AddStop>, into: &mut Word) -> Re
 }
 
 /// Tells that a field has another value, or of the value that is handed back.
-fn tell_set(alloc: Global, set: Result<(), Value>, into: &mut Word) -> Result<(), Memory> {
+fn tell_set(alloc: Global, set: Result<(), SetStop>, into: &mut Word) -> Result<(), Memory> {
     match set {
         Ok(()) => into.push(b'.'),
-        Err(value) => add_value(alloc, Some(&value), into),
+        Err(SetStop::Missing(value)) => add_value(alloc, Some(&value), into),
+        Err(SetStop::Memory) => Err(Memory),
     }
 }
 
