@@ -14,7 +14,7 @@ ghost use Rattle.rb_plain.specs.Walks.{Kept, Walked, block_meant, branch_meant, 
 
 use crate::remote_parts::{perform_both, perform_in};
 use crate::remote_world::{RemoteWorld, value_of};
-use rb_engine::{Failure, Frame, Miss, at_place, truth_of};
+use rb_engine::{Failure, Frame, Miss, PlainFault, at_place, truth_of};
 use rb_flow::is_portable;
 use rb_marks::branches_hold;
 use rb_meaning_flow::Role;
@@ -48,7 +48,7 @@ fn rows_in(alloc: Global, value: &Value) -> Result<Shared<Seq<Value>>, Failure>
 {
     match value {
         Value::Rows(rows) => Ok(rows.share()?),
-        _ => Err(Failure::Fault(plain_fault(alloc, fault_codes::KIND))),
+        _ => Err(Failure::Fault(PlainFault::of(alloc, fault_codes::KIND))),
     }
 }
 
