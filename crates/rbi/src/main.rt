@@ -14,6 +14,7 @@ use std::io::{IsTerminal, Stdin, Stdout};
 use std::net::{Net, TcpListener, TcpStream};
 use std::process::{ExitCode, Processes, SystemProcess};
 use std::rt::{Clock, Env, Files};
+use std::time::Duration;
 use std::{env, io};
 use timeouts::timeout_for;
 
@@ -44,8 +45,13 @@ fn run<
         + AllocGlobal,
 >(rt: &R, standard: (Stdin, Stdout), in_colours: bool) -> Status {
     match called(rt) {
-        Ok(Call { program, words }) => {
-            let timeout = timeout_for(rt, words.as_slice());
+        Ok(
+            Call {
+                program,
+                words,
+                timeout,
+            },
+        ) => {
             let mut files = KeptFiles::make(rt.alloc(), RealFiles::make(rt));
             let status = top(
                 rt.alloc(),
@@ -62,15 +68,28 @@ fn run<
     }
 }
 
-/// The name that the program was started by, and the words behind it.
+/// The name that the program was started by, the words behind it, and how long a connection of theirs may be silent.
 #[derive(Drop)]
 struct Call {
     program: String,
     words: Vec<String>,
+    timeout: Option<Duration>,
 }
 
-/// The words that the program was started with. Where one isn't UTF-8 there are none, since no command has such a word.
-fn called<R: Env + AllocGlobal>(rt: &R) -> Result<Call, Memory> {
+/// What the program was started with.
+fn called<R: Env + Eprint + AllocGlobal>(rt: &R) -> Result<Call, Memory> {
+    let (program, words) = words_of(rt)?;
+    let timeout = timeout_for(rt, words.as_slice())?;
+    Ok(Call {
+        program,
+        words,
+        timeout,
+    })
+}
+
+/// The name and the words that the program was started with. Where one isn't UTF-8 there are none, since no command has such a
+/// word.
+fn words_of<R: Env + AllocGlobal>(rt: &R) -> Result<(String, Vec<String>), Memory> {
     let mut words = Vec::new(rt.alloc());
     let mut program = String::new(rt.alloc());
     match env::args(rt) {
@@ -81,9 +100,9 @@ fn called<R: Env + AllocGlobal>(rt: &R) -> Result<Call, Memory> {
             for word in all {
                 words.push(word)?;
             }
-            Ok(Call { program, words })
+            Ok((program, words))
         }
         Err(error) if error.kind() == io::ErrorKind::OutOfMemory => Err(Memory),
-        Err(_) => Ok(Call { program, words }),
+        Err(_) => Ok((program, words)),
     }
 }

@@ -1,5 +1,6 @@
 // How long the other side of a connection may be silent.
 
+use rb_trees::Memory;
 use std::env;
 use std::env::VarError;
 use std::rt::Env;
@@ -12,16 +13,20 @@ const NAME: &str = "RBI_TIMEOUT";
 const USUAL: u64 = 60;
 
 /// How long a connection of these words may send nothing, or take nothing: so many seconds as the environment says, or without
-/// end where it says 0. Where it says no number, that is told on standard error, and the usual time counts.
+/// end where it says 0. Where it says no number, that is told on standard error, and the usual time counts. Its error is want of
+/// memory.
 ///
 /// Commands without connections ask for nothing.
-pub fn timeout_for<R: Env + Eprint + AllocGlobal>(rt: &R, words: &[String]) -> Option<Duration> {
+pub fn timeout_for<R: Env + Eprint + AllocGlobal>(
+    rt: &R,
+    words: &[String],
+) -> Result<Option<Duration>, Memory> {
     if !has_connections(words) {
-        return None;
+        return Ok(None);
     }
-    match seconds_asked(rt) {
-        0 => None,
-        seconds => Some(Duration::from_secs(seconds)),
+    match seconds_asked(rt)? {
+        0 => Ok(None),
+        seconds => Ok(Some(Duration::from_secs(seconds))),
     }
 }
 
@@ -34,17 +39,18 @@ fn has_connections(words: &[String]) -> bool {
 }
 
 /// How many seconds the environment asks for.
-fn seconds_asked<R: Env + Eprint + AllocGlobal>(rt: &R) -> u64 {
+fn seconds_asked<R: Env + Eprint + AllocGlobal>(rt: &R) -> Result<u64, Memory> {
     let asked = match env::var(rt, NAME) {
         Ok(text) => seconds_in(text.as_str()),
-        Err(VarError::NotPresent) => return USUAL,
-        Err(VarError::NotUnicode | VarError::OutOfMemory) => None,
+        Err(VarError::NotPresent) => return Ok(USUAL),
+        Err(VarError::NotUnicode) => None,
+        Err(VarError::OutOfMemory) => return Err(Memory),
     };
     match asked {
-        Some(seconds) => seconds,
+        Some(seconds) => Ok(seconds),
         None => {
             let _ = eprintln!(rt; "rbi: {NAME} is no number of seconds, so it counts as {USUAL}");
-            USUAL
+            Ok(USUAL)
         }
     }
 }
