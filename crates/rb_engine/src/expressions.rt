@@ -22,9 +22,9 @@ use rb_code::Code;
 use rb_trees::{BinOp, Expr, ExprForm, Seq, UnOp, Value, Word};
 use std::alloc::Global;
 
-/// The value of an expression.
+/// The value of an expression. It only chooses the form, so it takes no place of its own on the machine's stack.
 #[cycle(running)]
-#[inline(never)]
+#[inline(always)]
 pub fn value_of<W: World>(
     alloc: Global,
     code: &Code,

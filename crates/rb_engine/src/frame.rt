@@ -138,7 +138,7 @@ impl Frame {
     }
 
     /// Keeps the first `count` names.
-    #[inline(never)]
+    #[inline]
     pub fn truncate(&mut self, count: usize)
         ensures { self.new ≡ take count self.old }
     {

@@ -26,7 +26,7 @@ pub fn copied<X>(value: &Value) -> Result<Value, End<X>>
 }
 
 /// Adds a value at the end.
-#[inline(never)]
+#[inline]
 pub fn add<X>(values: &mut Seq<Value>, value: Value) -> Result<(), End<X>>
     ensures { UnlessMemory result (λ u. values.new ≡ values.old ++ value ∷ []) }
 {
@@ -82,7 +82,7 @@ pub fn bind_copy<X>(
 }
 
 /// Gives a name another value: `assigned`. After an error the names are as they were.
-#[inline(never)]
+#[inline]
 pub fn set_name(alloc: Global, frame: &mut Frame, name: &[u8], value: Value) -> Result<(), Failure>
     ensures gives { Gives (λ u. frame.new) fault_of result (statements.assigned frame.old name.now value) }
     ensures kept { OnErr result (frame.new ≡ frame.old) }

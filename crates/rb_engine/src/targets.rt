@@ -21,7 +21,7 @@ pub enum LeftSide<'a> {
 
 /// What an assignment to this left side writes.
 #[tactic(auto, using(crate::proofs::Exprs::expr_steps))]
-#[inline(never)]
+#[inline]
 pub fn target_of(left: &Expr) -> LeftSide<'_>
     ensures { mirror_target result ≡ target_form (mirror_expr left.now) }
 {

@@ -12,7 +12,7 @@ use std::alloc::Global;
 const DEEPEST_CALL: u32 = 32;
 
 /// Whether there is a unit of fuel, which is due: `unit_due`.
-#[inline(never)]
+#[inline]
 pub fn check_unit(alloc: Global, fuel: u64) -> Result<(), Failure>
     ensures { Gives (λ u. u) fault_of result (unit_due fuel) }
 {
@@ -23,7 +23,7 @@ pub fn check_unit(alloc: Global, fuel: u64) -> Result<(), Failure>
 }
 
 /// Whether one call more may be active: `call_fits`.
-#[inline(never)]
+#[inline]
 pub fn check_depth(alloc: Global, depth: u32) -> Result<(), Failure>
     ensures { Gives (λ u. u) fault_of result (call_fits depth) }
 {

@@ -20,9 +20,9 @@ pub struct Scope<'a> {
 }
 
 impl Scope<'_> {
-    /// The value of an expression.
+    /// The value of an expression. It only chooses the form, so it takes no place of its own on the machine's stack.
     #[cycle(evaluating)]
-    #[inline(never)]
+    #[inline(always)]
     pub fn value_of(&self, server: &mut Server, expr: &SExpr) -> Result<Value, Miss>
         ensures { Replied (value_run self.now expr.now server.old) result server.new }
     {
