@@ -12,10 +12,11 @@ use Rattle.rb_meaning_code.specs.Remote.{Server, Reply, Got, Stopped, and_then, 
 use Rattle.rb_meaning_code.specs.Expressions.{evaluates}
 use Rattle.rb_meaning_code.specs.Statements.{truth_of}
 use Rattle.rb_meaning_code.specs.Bodies.{bodies_of}
+use Rattle.rb_meaning_flow.specs.declared.forms.PlacedForm.{PlacedForm}
 use Rattle.rb_meaning_flow.specs.declared.scopes.Role.{Role}
-use Rattle.rb_meaning_flow.specs.Facts.{facts_of, over_rows}
+use Rattle.rb_meaning_flow.specs.Facts.{facts_of}
 use Rattle.rb_meaning_flow.specs.Scopes.{Scope, with_variable}
-use Rattle.rb_meaning_flow.specs.Portable.{portable, branches_hold}
+use Rattle.rb_meaning_flow.specs.Forms.{placed_form}
 use Rattle.rb_meaning_flow.specs.Sites.{scope_after}
 use Rattle.rb_meaning.specs.RemoteAnswers.{unit_of, remote_answer}
 use Rattle.rb_meaning.specs.RemoteExprs.{remote_of}
@@ -70,32 +71,30 @@ module _ (p : Program) (service : Service) where
   skims scope stmt names s go = and_then (performed (remote_of (facts_of p) scope stmt) names s) (λ u s1. go names s1)
 
   abbrev mutual
-    -- A statement at a script place, and what follows it. A portable `val` is carried; an `if` that holds a remote operation
-    -- in its branches, and a loop over rows, are performed with their blocks, whose names end with them.
-    pub walk : Scope → Stmt → Names → Server → Rest → Walked
-    walk scope (Val at name e) names s go =
-        cond (portable (facts_of p) scope e)
-        (and_then (value_of e names s) (λ v s1. go (with_name name v names) s1))
-        (skims scope (Val at name e) names s go)
-    walk scope (If at c a b) names s go =
-        cond (branches_hold (facts_of p) a b)
-        (and_then (value_of c names s) (λ v s1.
+    -- A statement at a script place, by its form, and what follows it. A carried val is bound; a carried `if` and a loop over
+    -- rows are performed with their blocks, whose names end with them.
+    pub walk_as : PlacedForm → Scope → Stmt → Names → Server → Rest → Walked
+    walk_as PlacedForm.CarriedVal scope (Val at name e) names s go = and_then (value_of e names s) (λ v s1. go (with_name name v names) s1)
+    walk_as PlacedForm.CarriedIf scope (If at c a b) names s go =
+        and_then (value_of c names s) (λ v s1.
         and_then (replies at (truth_of (out-Value v)) s1) (λ holds s2.
-        and_then (cond holds (walk_block scope a names s2 ended) (walk_block scope b names s2 ended)) (λ u s3. go names s3))))
-        (skims scope (If at c a b) names s go)
-    walk scope (For at name e a) names s go =
-        cond (over_rows (facts_of p) e)
-        (and_then (value_of e names s) (λ v s1.
+        and_then (cond holds (walk_block scope a names s2 ended) (walk_block scope b names s2 ended)) (λ u s3. go names s3)))
+    walk_as PlacedForm.RowsLoop scope (For at name e a) names s go =
+        and_then (value_of e names s) (λ v s1.
         and_then (replies at (rows_in (out-Value v)) s1) (λ rows s2.
-        and_then (turns at (λ row s3. walk_block (with_variable scope name Role.Row at) a (with_name name row names) s3 ended) rows s2) (λ u s3. go names s3))))
-        (skims scope (For at name e a) names s go)
-    walk scope stmt names s go = skims scope stmt names s go
+        and_then (turns at (λ row s3. walk_block (with_variable scope name Role.Row at) a (with_name name row names) s3 ended) rows s2) (λ u s3. go names s3)))
+    walk_as form scope stmt names s go = skims scope stmt names s go
 
     -- statements in order, and what follows them
     pub walk_block : Scope → Stmts → Names → Server → Rest → Walked
     walk_block scope NoStmts names s go = go names s
     walk_block scope (MoreStmts stmt stmts) names s go =
-        walk scope stmt names s (λ names1 s1. walk_block (scope_after (facts_of p) [] scope stmt) stmts names1 s1 go)
+        walk_as (placed_form (facts_of p) scope stmt) scope stmt names s (λ names1 s1.
+        walk_block (scope_after (facts_of p) [] scope stmt) stmts names1 s1 go)
+
+  -- a statement at a script place, and what follows it
+  abbrev pub walk : Scope → Stmt → Names → Server → Rest → Walked
+  walk scope stmt names s go = walk_as (placed_form (facts_of p) scope stmt) scope stmt names s go
 
   -- the remote part of a batch's block, with the names and the server of its start
   abbrev pub remote_only : Scope → Stmts → Names → Server → Walked

@@ -4,6 +4,7 @@ pub mod Scopes
 pub mod Portable
 pub mod Sites
 pub mod Marks
+pub mod Forms
 pub mod Outermost
 pub mod Chains
 pub mod Flow

@@ -5,6 +5,8 @@
 //! here are plain ones that the definitions name.
 #![tactic(auto)]
 
+mod forms;
 mod scopes;
 
+pub use forms::PlacedForm;
 pub use scopes::{Role, Variable};

@@ -3,10 +3,11 @@ use Rattle.std.specs.Prelude.{ℕ, List, [], ◌∷◌, ◌++◌, cond}
 use Rattle.std.specs.List.{flat_map}
 use Rattle.rb_trees.specs.mirror.Code.{Expr, Exprs, Name, Unary, Binary, Call, NoExprs, MoreExprs, Stmt, Stmts, Val, If, For, NoStmts, MoreStmts}
 use Rattle.rb_meaning_types.specs.Names.{is_new}
+use Rattle.rb_meaning_flow.specs.declared.forms.PlacedForm.{PlacedForm}
 use Rattle.rb_meaning_flow.specs.declared.scopes.Role.{Role}
-use Rattle.rb_meaning_flow.specs.Facts.{Facts, over_rows}
+use Rattle.rb_meaning_flow.specs.Facts.{Facts}
 use Rattle.rb_meaning_flow.specs.Scopes.{Scope, with_variable, role_of, is_constant_role}
-use Rattle.rb_meaning_flow.specs.Portable.{portable, branches_hold}
+use Rattle.rb_meaning_flow.specs.Forms.{placed_form}
 use Rattle.rb_meaning_flow.specs.Sites.{scope_after}
 use Rattle.rb_meaning.specs.RemoteExprs.{remote_of}
 
@@ -27,21 +28,21 @@ abbrev mutual
 abbrev pub kept_constants : Facts → Scope → Stmt → List (List ℕ)
 kept_constants x scope stmt = flat_map (constants scope) (remote_of x scope stmt)
 
--- those that a statement at a script place, and those in its blocks, give to the script
+-- those that a statement at a script place, by its form, and those in its blocks, give to the script
 abbrev mutual
-  pub used : Facts → Scope → Stmt → List (List ℕ)
-  used x scope (Val at name e) = cond (portable x scope e) (constants scope e) (kept_constants x scope (Val at name e))
-  used x scope (If at c a b) = cond (branches_hold x a b)
-      (constants scope c ++ used_in x scope a ++ used_in x scope b)
-      (kept_constants x scope (If at c a b))
-  used x scope (For at name e a) = cond (over_rows x e)
-      (constants scope e ++ used_in x (with_variable scope name Role.Row at) a)
-      (kept_constants x scope (For at name e a))
-  used x scope stmt = kept_constants x scope stmt
+  pub used_as : Facts → PlacedForm → Scope → Stmt → List (List ℕ)
+  used_as x PlacedForm.CarriedVal scope (Val at name e) = constants scope e
+  used_as x PlacedForm.CarriedIf scope (If at c a b) = constants scope c ++ used_in x scope a ++ used_in x scope b
+  used_as x PlacedForm.RowsLoop scope (For at name e a) = constants scope e ++ used_in x (with_variable scope name Role.Row at) a
+  used_as x form scope stmt = kept_constants x scope stmt
 
   pub used_in : Facts → Scope → Stmts → List (List ℕ)
   used_in x scope NoStmts = []
-  used_in x scope (MoreStmts s ss) = used x scope s ++ used_in x (scope_after x [] scope s) ss
+  used_in x scope (MoreStmts s ss) = used_as x (placed_form x scope s) scope s ++ used_in x (scope_after x [] scope s) ss
+
+-- those of a statement at a script place
+abbrev pub used : Facts → Scope → Stmt → List (List ℕ)
+used x scope stmt = used_as x (placed_form x scope stmt) scope stmt
 
 -- names without those of a list, and each once
 abbrev pub first_uses : List (List ℕ) → List (List ℕ) → List (List ℕ)

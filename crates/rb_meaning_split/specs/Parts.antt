@@ -3,11 +3,12 @@ use Rattle.std.specs.Prelude.{ℕ, suc, ◌-◌, List, [], ◌∷◌, cond}
 use Rattle.rb_trees.specs.mirror.Code.{Expr, expr_at, Stmt, Stmts, Val, Run, If, For, NoStmts, MoreStmts}
 use Rattle.rb_trees.specs.mirror.Declarations.{Program}
 use Rattle.rb_trees.specs.mirror.Remainders.{Part, Parts, Plain, Pass, Bind, Both, Branch, Turns, NoParts, MoreParts}
+use Rattle.rb_meaning_flow.specs.declared.forms.PlacedForm.{PlacedForm}
 use Rattle.rb_meaning_flow.specs.declared.scopes.Role.{Role}
-use Rattle.rb_meaning_flow.specs.Facts.{facts_of, over_rows}
+use Rattle.rb_meaning_flow.specs.Facts.{facts_of}
 use Rattle.rb_meaning_flow.specs.Scopes.{Scope, with_variable}
-use Rattle.rb_meaning_flow.specs.Portable.{portable, holds_call, branches_hold}
-use Rattle.rb_meaning_flow.specs.Marks.{is_portable_call}
+use Rattle.rb_meaning_flow.specs.Portable.{holds_call}
+use Rattle.rb_meaning_flow.specs.Forms.{placed_form}
 use Rattle.rb_meaning_flow.specs.Sites.{scope_after}
 use Rattle.rb_meaning_types.specs.CallKinds.{call_kind}
 use Rattle.rb_meaning.specs.RemoteExprs.{remote_of}
@@ -37,21 +38,22 @@ module _ (p : Program) where
   row_kind e = call_kind p (expr_at e) - 4
 
   abbrev mutual
-    -- the part of a statement at a script place, whose first step has the number n
-    pub part : Scope → ℕ → Stmt → Part
-    part scope n (Val at name e) = cond (portable (facts_of p) scope e) (carried n at name e) (plain scope n (Val at name e))
-    part scope n (Run at e) = cond (is_portable_call (facts_of p) scope e) (Pass n) (plain scope n (Run at e))
-    part scope n (If at c a b) =
-        cond (branches_hold (facts_of p) a b)
-        (Branch n (block_parts scope (suc n) a) (block_parts scope (steps_after (facts_of p) scope a (suc n)) b))
-        (plain scope n (If at c a b))
-    part scope n (For at name e a) =
-        cond (over_rows (facts_of p) e)
-        (Turns n name (row_kind e) (block_parts (with_variable scope name Role.Row at) (suc n) a))
-        (plain scope n (For at name e a))
-    part scope n stmt = plain scope n stmt
+    -- the part of a statement at a script place, by its form, whose first step has the number n
+    pub part_as : PlacedForm → Scope → ℕ → Stmt → Part
+    part_as PlacedForm.CarriedVal scope n (Val at name e) = carried n at name e
+    part_as PlacedForm.CallAlone scope n (Run at e) = Pass n
+    part_as PlacedForm.CarriedIf scope n (If at c a b) =
+        Branch n (block_parts scope (suc n) a) (block_parts scope (steps_after (facts_of p) scope a (suc n)) b)
+    part_as PlacedForm.RowsLoop scope n (For at name e a) =
+        Turns n name (row_kind e) (block_parts (with_variable scope name Role.Row at) (suc n) a)
+    part_as form scope n stmt = plain scope n stmt
 
     pub block_parts : Scope → ℕ → Stmts → Parts
     block_parts scope n NoStmts = NoParts
     block_parts scope n (MoreStmts s ss) =
-        MoreParts (part scope n s) (block_parts (scope_after (facts_of p) [] scope s) (step_after (facts_of p) scope s n) ss)
+        MoreParts (part_as (placed_form (facts_of p) scope s) scope n s)
+        (block_parts (scope_after (facts_of p) [] scope s) (step_after (facts_of p) scope s n) ss)
+
+  -- the part of a statement at a script place
+  abbrev pub part : Scope → ℕ → Stmt → Part
+  part scope n stmt = part_as (placed_form (facts_of p) scope stmt) scope n stmt
