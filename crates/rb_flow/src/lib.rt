@@ -8,6 +8,7 @@ mod batch;
 mod chain;
 mod earliest;
 mod findings;
+mod forms;
 mod frames;
 mod laws;
 mod levels;
@@ -27,6 +28,7 @@ mod writers;
 
 pub use admission::{AdmitStop, Admitted, admit};
 pub use chain::{Reach, chain_to, least_chain, search_levels};
+pub use forms::{is_portable_call, placed_form};
 pub use laws::{admitted_programs_send_only_portable_parts, each_bad_part_has_a_refusal};
 pub use outermost::{OpenBatch, collect_batches};
 pub use portable::is_portable;
