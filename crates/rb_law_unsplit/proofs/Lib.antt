@@ -13,5 +13,6 @@ pub mod Whole
 pub mod Conditions
 pub mod Carried
 pub mod Walking
+pub mod Placed
 pub mod Walked
 pub mod Admitted

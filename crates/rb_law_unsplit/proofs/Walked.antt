@@ -25,16 +25,18 @@ use Rattle.rb_meaning_types.specs.Fits.{AreRows, Fits}
 use Rattle.rb_meaning_code.specs.State.{Names}
 use Rattle.rb_meaning_code.specs.Statements.{truth_of}
 use Rattle.rb_meaning_code.specs.Remote.{Server, Reply, Got, Stopped, and_then, replies, rows_in}
+use Rattle.rb_meaning_flow.specs.declared.forms.PlacedForm.{PlacedForm}
 use Rattle.rb_meaning_flow.specs.declared.scopes.Role.{Role}
 use Rattle.rb_meaning_flow.specs.Facts.{Facts, facts_of, over_rows, is_rows}
 use Rattle.rb_meaning_flow.specs.Scopes.{Scope, with_variable}
 use Rattle.rb_meaning_flow.specs.Portable.{portable, holds_call, branches_hold}
 use Rattle.rb_meaning_flow.specs.Marks.{is_portable_call}
+use Rattle.rb_meaning_flow.specs.Forms.{placed_form}
 use Rattle.rb_meaning_flow.specs.Sites.{Around, Branch, Turn, is_script_place, StmtSite, scope_after, stmt_site, sites, block_sites}
 use Rattle.rb_meaning_flow.specs.Refusals.{IsRefusal}
 use Rattle.rb_meaning.specs.RemoteExprs.{whole_or, remote_in, all_remote_in, remote_of}
 use Rattle.rb_meaning.specs.RemoteAnswers.{unit_of}
-use Rattle.rb_meaning.specs.RemotePart.{Walked, Rest, ended, with_name, turns, value_of, performed, skims, walk, walk_block}
+use Rattle.rb_meaning.specs.RemotePart.{Walked, Rest, ended, with_name, turns, value_of, performed, skims, walk_as, walk, walk_block}
 use Rattle.rb_flow.specs.Laws.{SendsPortable}
 use Rattle.rb_flow.proofs.Members.{first_contained}
 use Rattle.rb_law_types.specs.Kept.{Fair}
@@ -47,6 +49,7 @@ use Rattle.rb_law_types.proofs.Parts.{val_parts, var_parts, assign_parts, run_pa
 use Rattle.rb_law_types.proofs.TypeFacts.{kind_here, rows_fact}
 use Rattle.rb_law_types.proofs.SitesWithin.{Within, within_left, within_right, within_tail, stmt_first}
 use Rattle.rb_law_unsplit.proofs.Conditions.{condition_portable}
+use Rattle.rb_law_unsplit.proofs.Placed.{if_holds, loop_over}
 use Rattle.rb_law_unsplit.proofs.Carried.{Carry, carry_more, carry_skip}
 use Rattle.rb_law_unsplit.proofs.Handling.{Fine, unit_fine}
 use Rattle.rb_law_unsplit.proofs.Walking.{Laws, rest_typed, Table, value_fine}
@@ -196,44 +199,41 @@ module _ (laws : Laws) (conditions : ConditionsHold) (p : Program) (service : Se
   script_inside around b h e = ap (λ t. t && b) h ∙ e
 
   -- an `if`, whose blocks are walked where a remote operation stands in them
-  branches_good : (around : List Around) (vs : Scope) (ws : typed.Scope) (at : ℕ) (c : Expr) (a b : Stmts) (ns : Names) (srv : Server) (go : Rest) → Within (sites f around vs (If at c a b)) ss
+  branches_good : (form : PlacedForm) (around : List Around) (vs : Scope) (ws : typed.Scope) (at : ℕ) (c : Expr) (a b : Stmts) (ns : Names) (srv : Server) (go : Rest) → placed_form f vs (If at c a b) ≡ form
+      → Within (sites f around vs (If at c a b)) ss
       → type_of x ws c ≡ Ok kind.Bool → IsNotedExpr types x ws c → IsFormedExpr c → Carry is vs ws ns → Fits' srv → ((s1 : Server) → Fits' s1 → Good (go ns s1))
       → (branches_hold f a b ≡ true → (s1 : Server) → Fits' s1 → Good (walk_block p service vs a ns s1 ended)) → (branches_hold f a b ≡ true → (s1 : Server) → Fits' s1 → Good (walk_block p service vs b ns s1 ended))
-      → Good (walk p service vs (If at c a b) ns srv go)
-  branches_good around vs ws at c a b ns srv go w t n g carry table ends first second = by (branches_hold f a b) refl
-    where
-      by : (h : Truth) → branches_hold f a b ≡ h → Good (cond h
-          (and_then (value_of p service c ns srv) (λ v s1.
-          and_then (replies at (truth_of (out-Value v)) s1) (λ holds s2.
-          and_then (cond holds (walk_block p service vs a ns s2 ended) (walk_block p service vs b ns s2 ended)) (λ u s3. go ns s3))))
-          (skims p service vs (If at c a b) ns srv go))
-      by true h =
-          then_good (Fits is [] kind.Bool) (value_of p service c ns srv) _ (value_good vs ws ns carry c kind.Bool srv (condition_portable f ss none around vs at c a b w h) t n g table) (λ v s1 fv t1.
-          then_good (λ (q : Truth). Unit {0}) (replies at (truth_of (out-Value v)) s1) _ (rule_fine (λ (q : Truth). Unit {0}) at (truth_of (out-Value v)) s1 (conditions is [] v fv) t1) (λ holds s2 fh t2.
-          then_good (λ (u : Unit {0}). Unit {0}) (cond holds (walk_block p service vs a ns s2 ended) (walk_block p service vs b ns s2 ended)) _
-          (chosen_good holds (walk_block p service vs a ns s2 ended) (walk_block p service vs b ns s2 ended) (first h s2 t2) (second h s2 t2)) (λ u s3 fu t3. ends s3 t3)))
-      by false h = skims_good vs ws ns carry (If at c a b) srv go (one_ready vs ws c kind.Bool t n g) table ends
+      → Good (walk_as p service form vs (If at c a b) ns srv go)
+  branches_good PlacedForm.CarriedIf around vs ws at c a b ns srv go placing w t n g carry table ends first second =
+      let holding = if_holds f vs at c a b placing in
+      then_good (Fits is [] kind.Bool) (value_of p service c ns srv) _ (value_good vs ws ns carry c kind.Bool srv (condition_portable f ss none around vs at c a b w holding) t n g table) (λ v s1 fv t1.
+      then_good (λ (q : Truth). Unit {0}) (replies at (truth_of (out-Value v)) s1) _ (rule_fine (λ (q : Truth). Unit {0}) at (truth_of (out-Value v)) s1 (conditions is [] v fv) t1) (λ holds s2 fh t2.
+      then_good (λ (u : Unit {0}). Unit {0}) (cond holds (walk_block p service vs a ns s2 ended) (walk_block p service vs b ns s2 ended)) _
+      (chosen_good holds (walk_block p service vs a ns s2 ended) (walk_block p service vs b ns s2 ended) (first holding s2 t2) (second holding s2 t2)) (λ u s3 fu t3. ends s3 t3)))
+  branches_good form around vs ws at c a b ns srv go placing w t n g carry table ends first second =
+      skims_good vs ws ns carry (If at c a b) srv go (one_ready vs ws c kind.Bool t n g) table ends
+
+  -- an expression alone, of which the remote expressions are performed in each form
+  alone_good : (form : PlacedForm) (vs : Scope) (at : ℕ) (e : Expr) (ns : Names) (srv : Server) (go : Rest) → Good (skims p service vs (Run at e) ns srv go) → Good (walk_as p service form vs (Run at e) ns srv go)
+  alone_good PlacedForm.CallAlone vs at e ns srv go h = h
+  alone_good form vs at e ns srv go h = h
 
   -- a loop, which is walked where it goes over rows
-  loop_good : (around : List Around) (vs : Scope) (ws : typed.Scope) (at : ℕ) (name : List ℕ) (e : Expr) (a : Stmts) (list item : Kind) (ns : Names) (srv : Server) (go : Rest) → Within (sites f around vs (For at name e a)) ss
+  loop_good : (form : PlacedForm) (around : List Around) (vs : Scope) (ws : typed.Scope) (at : ℕ) (name : List ℕ) (e : Expr) (a : Stmts) (list item : Kind) (ns : Names) (srv : Server) (go : Rest)
+      → placed_form f vs (For at name e a) ≡ form → Within (sites f around vs (For at name e a)) ss
       → type_of x ws e ≡ Ok list → (list ≡ kind.ListOf item) ⊎ (list ≡ kind.RowsOf item) → IsNotedExpr types x ws e → IsFormedExpr e → Carry is vs ws ns → Fits' srv → ((s1 : Server) → Fits' s1 → Good (go ns s1))
       → (over_rows f e ≡ true → (row : Value) (s1 : Server) → Fits is [] item row → Fits' s1 → Good (walk_block p service (with_variable vs name Role.Row at) a (with_name name row ns) s1 ended))
-      → Good (walk p service vs (For at name e a) ns srv go)
-  loop_good around vs ws at name e a list item ns srv go w t over n g carry table ends each = by (over_rows f e) refl
-    where
-      by : (h : Truth) → over_rows f e ≡ h → Good (cond h
-          (and_then (value_of p service e ns srv) (λ v s1.
-          and_then (replies at (rows_in (out-Value v)) s1) (λ rows s2.
-          and_then (turns at (λ row s3. walk_block p service (with_variable vs name Role.Row at) a (with_name name row ns) s3 ended) rows s2) (λ u s3. go ns s3))))
-          (skims p service vs (For at name e a) ns srv go))
-      by true h =
-          let rows_kind = rows_only e list item (kind_here types x ws e list n t) h over in
-          then_good (Fits is [] list) (value_of p service e ns srv) _ (value_good vs ws ns carry e list srv (loop_portable around vs at name e a w h) t n g table) (λ v s1 fv t1.
-          then_good (All (Fits is [] item)) (replies at (rows_in (out-Value v)) s1) _
-          (rule_fine (All (Fits is [] item)) at (rows_in (out-Value v)) s1 (rows_fair (Fits is [] item) (out-Value v) (subst (λ m. Fits is [] m v) rows_kind fv)) t1) (λ rows s2 fr t2.
-          then_good (λ (u : Unit {0}). Unit {0}) (turns at (λ row s3. walk_block p service (with_variable vs name Role.Row at) a (with_name name row ns) s3 ended) rows s2) _
-          (turns_good item at (λ row s3. walk_block p service (with_variable vs name Role.Row at) a (with_name name row ns) s3 ended) (each h) rows s2 fr t2) (λ u s3 fu t3. ends s3 t3)))
-      by false h = skims_good vs ws ns carry (For at name e a) srv go (one_ready vs ws e list t n g) table ends
+      → Good (walk_as p service form vs (For at name e a) ns srv go)
+  loop_good PlacedForm.RowsLoop around vs ws at name e a list item ns srv go placing w t over n g carry table ends each =
+      let holding = loop_over f vs at name e a placing in
+      let rows_kind = rows_only e list item (kind_here types x ws e list n t) holding over in
+      then_good (Fits is [] list) (value_of p service e ns srv) _ (value_good vs ws ns carry e list srv (loop_portable around vs at name e a w holding) t n g table) (λ v s1 fv t1.
+      then_good (All (Fits is [] item)) (replies at (rows_in (out-Value v)) s1) _
+      (rule_fine (All (Fits is [] item)) at (rows_in (out-Value v)) s1 (rows_fair (Fits is [] item) (out-Value v) (subst (λ m. Fits is [] m v) rows_kind fv)) t1) (λ rows s2 fr t2.
+      then_good (λ (u : Unit {0}). Unit {0}) (turns at (λ row s3. walk_block p service (with_variable vs name Role.Row at) a (with_name name row ns) s3 ended) rows s2) _
+      (turns_good item at (λ row s3. walk_block p service (with_variable vs name Role.Row at) a (with_name name row ns) s3 ended) (each holding) rows s2 fr t2) (λ u s3 fu t3. ends s3 t3)))
+  loop_good form around vs ws at name e a list item ns srv go placing w t over n g carry table ends each =
+      skims_good vs ws ns carry (For at name e a) srv go (one_ready vs ws e list t n g) table ends
 
   mutual
     walk_good : (around : List Around) → is_script_place f around ≡ true → (vs : Scope) (ws after : typed.Scope) (s : Stmt) (ns : Names) (srv : Server) (go : Rest) → check_stmt x ws s ≡ Ok after → IsNotedStmt types x ws s → IsFormedStmt s
@@ -241,7 +241,7 @@ module _ (laws : Laws) (conditions : ConditionsHold) (p : Program) (service : Se
     walk_good around script vs ws after (Val at name e) ns srv go t n g w carry table more = by (portable f vs e) refl more
       where
         by : (b : Truth) → portable f vs e ≡ b → ((ns1 : Names) (s1 : Server) → Carry is (with_variable vs name (cond b Role.Carried Role.Plain) at) after ns1 → Fits' s1 → Good (go ns1 s1))
-            → Good (cond b (and_then (value_of p service e ns srv) (λ v s1. go (with_name name v ns) s1)) (skims p service vs (Val at name e) ns srv go))
+            → Good (walk_as p service (cond b PlacedForm.CarriedVal PlacedForm.Plain) vs (Val at name e) ns srv go)
         by true e' more' =
             let d = val_parts x ws at name e after t in
             then_good (Fits is [] d.kind) (value_of p service e ns srv) _ (value_good vs ws ns carry e d.kind srv e' d.typed n g table) (λ v s1 fv t1.
@@ -261,7 +261,8 @@ module _ (laws : Laws) (conditions : ConditionsHold) (p : Program) (service : Se
         more ns s1 (subst (λ i. Carry is vs i ns) d.same carry) t1)
     walk_good around script vs ws after (Run at e) ns srv go t n g w carry table more =
         let d = run_parts x ws at e after t in
-        skims_good vs ws ns carry (Run at e) srv go (one_ready vs ws e d.kind d.typed n g) table (λ s1 t1. more ns s1 (subst (λ i. Carry is vs i ns) d.same carry) t1)
+        alone_good (placed_form f vs (Run at e)) vs at e ns srv go
+        (skims_good vs ws ns carry (Run at e) srv go (one_ready vs ws e d.kind d.typed n g) table (λ s1 t1. more ns s1 (subst (λ i. Carry is vs i ns) d.same carry) t1))
     walk_good around script vs ws after (Print at e) ns srv go t n g w carry table more =
         let d = print_parts x ws at e after t in
         skims_good vs ws ns carry (Print at e) srv go (one_ready vs ws e d.kind d.typed n g) table (λ s1 t1. more ns s1 (subst (λ i. Carry is vs i ns) d.same carry) t1)
@@ -273,7 +274,7 @@ module _ (laws : Laws) (conditions : ConditionsHold) (p : Program) (service : Se
         let frame = Branch at vs c a b ∷ around in
         let rest = within_tail _ _ _ w in
         let ends = λ (s1 : Server) (t1 : Fits' s1). more ns s1 (subst (λ i. Carry is vs i ns) d.same carry) t1 in
-        branches_good around vs ws at c a b ns srv go w d.typed n.0 g.0 carry table ends
+        branches_good (placed_form f vs (If at c a b)) around vs ws at c a b ns srv go refl w d.typed n.0 g.0 carry table ends
         (λ holding s1 t1. block_good frame (script_inside around (branches_hold f a b) script holding) vs ws d.first a ns s1 ended d.first_typed n.1 g.1 (within_left (block_sites f frame vs a) (block_sites f frame vs b) _ rest) carry t1 (λ ns2 s2 t2. (tt, t2)))
         (λ holding s1 t1. block_good frame (script_inside around (branches_hold f a b) script holding) vs ws d.second b ns s1 ended d.second_typed n.2 g.2 (within_right (block_sites f frame vs a) (block_sites f frame vs b) _ rest) carry t1 (λ ns2 s2 t2. (tt, t2)))
     walk_good around script vs ws after (While at c a) ns srv go t n g w carry table more =
@@ -287,7 +288,7 @@ module _ (laws : Laws) (conditions : ConditionsHold) (p : Program) (service : Se
         let frame = Turn at vs e ∷ around in
         let turn_scope = with_variable vs name Role.Row at in
         let rest = within_tail _ _ _ w in
-        loop_good around vs ws at name e a d.list d.item ns srv go w d.typed d.over n.0 g.0 carry table (λ s1 t1. more ns s1 (subst (λ i. Carry is vs i ns) d.same carry) t1)
+        loop_good (placed_form f vs (For at name e a)) around vs ws at name e a d.list d.item ns srv go refl w d.typed d.over n.0 g.0 carry table (λ s1 t1. more ns s1 (subst (λ i. Carry is vs i ns) d.same carry) t1)
         (λ rows row s1 fr t1.
         block_good frame (script_inside around (over_rows f e) script rows) turn_scope inner d.last a (with_name name row ns) s1 ended d.block_typed noted g.1
         (subst (λ r. Within (block_sites f frame (with_variable vs name (cond r Role.Row Role.Plain) at) a) ss) rows rest) (carry_more is vs ws ns name Role.Row at d.item true row fr carry) t1 (λ ns2 s2 t2. (tt, t2)))
