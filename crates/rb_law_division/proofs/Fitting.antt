@@ -22,11 +22,12 @@ use Rattle.rb_meaning_types.specs.Kinds.{is_primitive}
 use Rattle.rb_meaning_flow.specs.Facts.{has_primitive_items}
 use Rattle.rb_meaning_code.specs.Statements.{truth_of}
 use Rattle.rb_meaning_code.specs.Remote.{Server, Reply, Got, Stopped, and_then, replies, rows_in}
+use Rattle.rb_meaning_flow.specs.declared.forms.PlacedForm.{PlacedForm}
 use Rattle.rb_meaning_flow.specs.declared.scopes.Role.{Role}
 use Rattle.rb_meaning_flow.specs.Facts.{Facts, facts_of, over_rows}
 use Rattle.rb_meaning_flow.specs.Scopes.{Scope, with_variable}
 use Rattle.rb_meaning_flow.specs.Portable.{portable, holds_call, branches_hold}
-use Rattle.rb_meaning_flow.specs.Marks.{is_portable_call}
+use Rattle.rb_meaning_flow.specs.Forms.{placed_form}
 use Rattle.rb_meaning_flow.specs.Sites.{Around, Branch, Turn, is_script_place, StmtSite, scope_after, sites, block_sites}
 use Rattle.rb_meaning_flow.specs.Refusals.{IsRefusal}
 use Rattle.rb_flow.specs.Laws.{SendsPortable}
@@ -41,8 +42,7 @@ use Rattle.rb_law_types.proofs.SitesWithin.{Within, within_left, within_right, w
 use Rattle.rb_law_unsplit.proofs.Conditions.{condition_portable}
 use Rattle.rb_trees.specs.mirror.Code.{Expr, expr_at, Stmt, Stmts, Val, Var, Assign, Run, Print, Throw, If, While, For, Try, Batch, NoStmts, MoreStmts}
 use Rattle.rb_trees.specs.declared.services.Object.{Object}
-use Rattle.rb_trees.specs.mirror.Scripts as script
-use Rattle.rb_trees.specs.mirror.Scripts.{SExpr, Steps, MoreSteps}
+use Rattle.rb_trees.specs.mirror.Scripts.{SExpr, Steps}
 use Rattle.rb_trees.specs.mirror.Forests as forest
 use Rattle.rb_trees.specs.mirror.Remainders as part_of
 use Rattle.rb_trees.specs.mirror.Remainders.{Part, Parts, NoParts, MoreParts}
@@ -53,10 +53,11 @@ use Rattle.rb_meaning_types.specs.CallKinds.{kind_number, kind_noted, call_kind}
 use Rattle.rb_meaning.specs.RemoteExprs.{remote_in, remote_of}
 use Rattle.rb_meaning_split.specs.Refs.{Refs, with_var, sexpr}
 use Rattle.rb_meaning_split.specs.Cuts.{counted}
-use Rattle.rb_meaning_split.specs.Inputs.{constants, kept_constants, used, used_in}
-use Rattle.rb_meaning_split.specs.Numbers.{kept_after, step_after, steps_after, var_after, vars_after}
-use Rattle.rb_meaning_split.specs.Steps.{refs_after, keeps_val, keeps, steps, block_steps}
-use Rattle.rb_meaning_split.specs.Parts.{takes, plain, carried, row_kind, part, block_parts}
+use Rattle.rb_meaning_split.specs.Inputs.{constants, kept_constants, used_as, used, used_in}
+use Rattle.rb_meaning_split.specs.Numbers.{kept_after, step_after_as, step_after, steps_after, var_after_as, var_after, vars_after}
+use Rattle.rb_meaning_split.specs.Steps.{refs_after_as, refs_after, keeps_val, keeps, steps_as, block_steps}
+use Rattle.rb_meaning_split.specs.Parts.{takes, plain, carried, row_kind, part_as, block_parts}
+use Rattle.rb_law_unsplit.proofs.Placed.{alone_calls, if_holds, loop_over}
 use Rattle.rb_law_unsplit.proofs.Walking.{Laws}
 use Rattle.rb_law_unsplit.proofs.Walked.{Ready, script_scope, rows_fair, one_ready, remote_ready, loop_portable, rows_only, script_inside}
 use Rattle.rb_law_division.proofs.Lists.{all_both, all_left, all_right, recursively}
@@ -271,13 +272,13 @@ module _ (laws : Laws) (conditions : ConditionsHold) (p : Program) (service : Se
   abbrev Follows : (n : ℕ) (ps : Parts) (rest : Steps) (go : Vars → Server → Ran) → Scope → typed.Scope → Refs → ℕ → Type 0
   Follows n ps rest go vs ws refs m = (vars : Vars) (s : Server) → Known vs ws refs m vars → Good s.table → Reads n ps (run_steps g rest vars s go)
 
-  of_cond : (t : Truth) (xs ys : List (List ℕ)) → AreIn names (cond t xs ys) → t ≡ true → AreIn names xs
-  of_cond true xs ys h e = h
-  of_cond false xs ys h e = absurd (cc e)
+  -- what follows a statement of a form
+  abbrev FollowsAs : PlacedForm → Scope → (n m : ℕ) → Stmt → Refs → (ps : Parts) (rest : Steps) (go : Vars → Server → Ran) → Scope → typed.Scope → Type 0
+  FollowsAs form vs n m s refs ps rest go later after = Follows (step_after_as f form vs s n) ps rest go later after (refs_after_as p form refs m s) (var_after_as f form vs s m)
 
-  or_cond : (t : Truth) (xs ys : List (List ℕ)) → AreIn names (cond t xs ys) → t ≡ false → AreIn names ys
-  or_cond true xs ys h e = absurd (cc e)
-  or_cond false xs ys h e = h
+  -- the part of a statement of a form reads the node of its steps, and the parts that follow it read what follows
+  abbrev ReadsAs : PlacedForm → Scope → (n m : ℕ) → Stmt → Refs → (ps : Parts) (rest : Steps) (go : Vars → Server → Ran) → Vars → Server → Type 0
+  ReadsAs form vs n m s refs ps rest go vars srv = Reads n (MoreParts (part_as p form vs n s) ps) (run_steps g (steps_as p form refs vs n m s rest) vars srv go)
 
   truth_serves : (at : ℕ) (r : Reply Value) → Serves Good (Fits is [] kind.Bool) r → Serves Good (λ (t : Truth). Unit {0}) (and_then r (condition at))
   truth_serves at r h =
@@ -287,85 +288,85 @@ module _ (laws : Laws) (conditions : ConditionsHold) (p : Program) (service : Se
   later_reads n m ps r l h = record { later = later_less n m r.node l h.later; last = h.last; read = h.read; left = h.left; same = h.same; table = h.table }
 
   -- an `if`
-  if_walks : (around : List Around) (vs : Scope) (ws after : typed.Scope) (refs : Refs) (n m : ℕ) (vars : Vars) (at : ℕ) (c : Expr) (a b : Stmts) (rest : Steps) (ps : Parts) (go : Vars → Server → Ran) (srv : Server)
-      → type_of x ws c ≡ Ok kind.Bool → IsNotedExpr types x ws c → IsFormedExpr c → Within (sites f around vs (If at c a b)) ss → AreIn names (used f vs (If at c a b)) → Known vs ws refs m vars → Good srv.table → ws ≡ after
+  if_walks : (form : PlacedForm) (around : List Around) (vs : Scope) (ws after : typed.Scope) (refs : Refs) (n m : ℕ) (vars : Vars) (at : ℕ) (c : Expr) (a b : Stmts) (rest : Steps) (ps : Parts) (go : Vars → Server → Ran) (srv : Server)
+      → placed_form f vs (If at c a b) ≡ form
+      → type_of x ws c ≡ Ok kind.Bool → IsNotedExpr types x ws c → IsFormedExpr c → Within (sites f around vs (If at c a b)) ss → AreIn names (used_as f form vs (If at c a b)) → Known vs ws refs m vars → Good srv.table → ws ≡ after
       → (branches_hold f a b ≡ true → (s : Server) → Good s.table → Reads (suc n) (block_parts p vs (suc n) a) (run_steps g (block_steps p refs vs (suc n) m a) vars s ended))
       → (branches_hold f a b ≡ true → (s : Server) → Good s.table → Reads (suc n) (block_parts p vs (steps_after f vs a (suc n)) b) (run_steps g (block_steps p refs vs (steps_after f vs a (suc n)) (vars_after f vs a m) b) vars s ended))
-      → Follows (step_after f vs (If at c a b) n) ps rest go vs after refs (var_after f vs (If at c a b) m)
-      → Reads n (MoreParts (part p vs n (If at c a b)) ps) (run_steps g (steps p refs vs n m (If at c a b) rest) vars srv go)
-  if_walks around vs ws after refs n m vars at c a b rest ps go srv t nt fm w i k table same first second more = by (branches_hold f a b) refl more
-    where
-      middle : ℕ
-      middle = steps_after f vs a (suc n)
-
-      between : ℕ
-      between = vars_after f vs a m
-
-      by : (h : Truth) → branches_hold f a b ≡ h → Follows (cond h (steps_after f vs b middle) (kept_after f vs (If at c a b) n)) ps rest go vs after refs (cond h (vars_after f vs b between) m)
-          → Reads n (MoreParts (cond h (part_of.Branch n (block_parts p vs (suc n) a) (block_parts p vs middle b)) (plain p vs n (If at c a b))) ps)
-          (run_steps g (cond h (MoreSteps (script.If n at (sexpr p refs c) (block_steps p refs vs (suc n) m a) (block_steps p refs vs middle between b)) rest) (keeps p refs n (remote_of f vs (If at c a b)) rest)) vars srv go)
-      by true h more' =
-          let r : ReadyHere vs ws c = record { kind = kind.Bool; typed_here = t; noted = nt; formed = fm; sent = condition_portable f ss none around vs at c a b w h } in
-          let own = all_left (IsIn names) (constants vs c) (used_in f vs a) (all_left (IsIn names) (constants vs c ++ used_in f vs a) (used_in f vs b) (of_cond (branches_hold f a b) _ (kept_constants f vs (If at c a b)) i h)) in
-          branch_walks n (steps_after f vs b middle) at (block_parts p vs (suc n) a) (block_parts p vs middle b) ps (and_then (value_of g at vars (sexpr p refs c) srv) (condition at))
-          (λ s1. run_steps g (block_steps p refs vs (suc n) m a) vars s1 ended) (λ s1. run_steps g (block_steps p refs vs middle between b) vars s1 ended) (λ s2. run_steps g rest vars s2 go)
-          (truth_serves at (value_of g at vars (sexpr p refs c) srv) (value_sent vs ws refs m vars k at c r srv own table))
-          (omega (arith, grows_all f vs a (suc n), grows_all f vs b middle)) (first h) (second h)
-          (λ s2 t2. more' vars s2 (subst (λ z. Known vs z refs (vars_after f vs b between) vars) same (knows_later is names g vs ws refs m (vars_after f vs b between) vars (omega (arith, vars_grow f vs a m, vars_grow f vs b between)) k)) t2)
-      by false h more' =
-          skims_walks vs ws refs m vars k (If at c a b) n rest ps go srv (one_ready laws conditions p service service_typed service_formed declared this remote ss none sends vs ws c kind.Bool t nt fm)
-          (or_cond (branches_hold f a b) _ (kept_constants f vs (If at c a b)) i h) table (λ s1 t1. more' vars s1 (subst (λ z. Known vs z refs m vars) same k) t1)
+      → FollowsAs form vs n m (If at c a b) refs ps rest go vs after → ReadsAs form vs n m (If at c a b) refs ps rest go vars srv
+  if_walks PlacedForm.CarriedIf around vs ws after refs n m vars at c a b rest ps go srv placing t nt fm w i k table same first second more =
+      let holding = if_holds f vs at c a b placing in
+      let middle = steps_after f vs a (suc n) in
+      let between = vars_after f vs a m in
+      let r : ReadyHere vs ws c = record { kind = kind.Bool; typed_here = t; noted = nt; formed = fm; sent = condition_portable f ss none around vs at c a b w holding } in
+      let own = all_left (IsIn names) (constants vs c) (used_in f vs a) (all_left (IsIn names) (constants vs c ++ used_in f vs a) (used_in f vs b) i) in
+      branch_walks n (steps_after f vs b middle) at (block_parts p vs (suc n) a) (block_parts p vs middle b) ps (and_then (value_of g at vars (sexpr p refs c) srv) (condition at))
+      (λ s1. run_steps g (block_steps p refs vs (suc n) m a) vars s1 ended) (λ s1. run_steps g (block_steps p refs vs middle between b) vars s1 ended) (λ s2. run_steps g rest vars s2 go)
+      (truth_serves at (value_of g at vars (sexpr p refs c) srv) (value_sent vs ws refs m vars k at c r srv own table))
+      (omega (arith, grows_all f vs a (suc n), grows_all f vs b middle)) (first holding) (second holding)
+      (λ s2 t2. more vars s2 (subst (λ z. Known vs z refs (vars_after f vs b between) vars) same (knows_later is names g vs ws refs m (vars_after f vs b between) vars (omega (arith, vars_grow f vs a m, vars_grow f vs b between)) k)) t2)
+  if_walks form around vs ws after refs n m vars at c a b rest ps go srv placing t nt fm w i k table same first second more =
+      skims_walks vs ws refs m vars k (If at c a b) n rest ps go srv (one_ready laws conditions p service service_typed service_formed declared this remote ss none sends vs ws c kind.Bool t nt fm) i table
+      (λ s1 t1. more vars s1 (subst (λ z. Known vs z refs m vars) same k) t1)
 
   -- a loop
-  for_walks : (around : List Around) (vs : Scope) (ws after : typed.Scope) (refs : Refs) (n m : ℕ) (vars : Vars) (at : ℕ) (name : List ℕ) (e : Expr) (a : Stmts) (list item : Kind) (rest : Steps) (ps : Parts) (go : Vars → Server → Ran) (srv : Server)
-      → type_of x ws e ≡ Ok list → (list ≡ kind.ListOf item) ⊎ (list ≡ kind.RowsOf item) → IsNotedExpr types x ws e → IsFormedExpr e → Within (sites f around vs (For at name e a)) ss → AreIn names (used f vs (For at name e a)) → Known vs ws refs m vars
-      → Good srv.table → ws ≡ after
+  for_walks : (form : PlacedForm) (around : List Around) (vs : Scope) (ws after : typed.Scope) (refs : Refs) (n m : ℕ) (vars : Vars) (at : ℕ) (name : List ℕ) (e : Expr) (a : Stmts) (list item : Kind) (rest : Steps) (ps : Parts)
+      (go : Vars → Server → Ran) (srv : Server) → placed_form f vs (For at name e a) ≡ form
+      → type_of x ws e ≡ Ok list → (list ≡ kind.ListOf item) ⊎ (list ≡ kind.RowsOf item) → IsNotedExpr types x ws e → IsFormedExpr e → Within (sites f around vs (For at name e a)) ss → AreIn names (used_as f form vs (For at name e a))
+      → Known vs ws refs m vars → Good srv.table → ws ≡ after
       → (over_rows f e ≡ true → (row : Value) (s : Server) → Fits is [] item row → Good s.table
       → Reads (suc n) (block_parts p (with_variable vs name Role.Row at) (suc n) a) (run_steps g (block_steps p (with_var refs name m) (with_variable vs name Role.Row at) (suc n) (suc m) a) ((m, row) ∷ vars) s ended))
-      → Follows (step_after f vs (For at name e a) n) ps rest go vs after refs (var_after f vs (For at name e a) m)
-      → Reads n (MoreParts (part p vs n (For at name e a)) ps) (run_steps g (steps p refs vs n m (For at name e a) rest) vars srv go)
-  for_walks around vs ws after refs n m vars at name e a list item rest ps go srv t overs nt fm w i k table same each more = by (over_rows f e) refl more
-    where
-      inner : Scope
-      inner = with_variable vs name Role.Row at
+      → FollowsAs form vs n m (For at name e a) refs ps rest go vs after → ReadsAs form vs n m (For at name e a) refs ps rest go vars srv
+  for_walks PlacedForm.RowsLoop around vs ws after refs n m vars at name e a list item rest ps go srv placing t overs nt fm w i k table same each more =
+      let holding = loop_over f vs at name e a placing in
+      let inner = with_variable vs name Role.Row at in
+      let noted = kind_here types x ws e list nt t in
+      let is_rows_of : list ≡ kind.RowsOf item = rows_only laws conditions p service service_typed service_formed declared this remote ss none sends e list item noted holding overs in
+      let r : ReadyHere vs ws e = record { kind = list; typed_here = t; noted = nt; formed = fm; sent = loop_portable laws conditions p service service_typed service_formed declared this remote ss none sends around vs at name e a w holding } in
+      let own = all_left (IsIn names) (constants vs e) (used_in f inner a) i in
+      let number : row_kind p e ≡ kind_number (kind.RowsOf item) - 4 = ap (λ q. kind_noted q - 4) (noted ∙ ap (λ q. Some (Ok q)) is_rows_of) in
+      let keeping : f.items (expr_at e) ≡ is_primitive item = items_fact p (expr_at e) list noted ∙ ap has_primitive_items is_rows_of in
+      loop_walks item n (steps_after f inner a (suc n)) at (row_kind p e) (f.items (expr_at e)) name (block_parts p inner (suc n) a) ps (value_of g at vars (sexpr p refs e) srv)
+      (λ row s1. run_steps g (block_steps p (with_var refs name m) inner (suc n) (suc m) a) ((m, row) ∷ vars) s1 ended) (λ s2. run_steps g rest vars s2 go) keeping number (grows_all f inner a (suc n))
+      (subst (λ q. Serves Good (Fits is [] q) (value_of g at vars (sexpr p refs e) srv)) is_rows_of (value_sent vs ws refs m vars k at e r srv own table)) (each holding)
+      (λ s2 t2. more vars s2 (subst (λ z. Known vs z refs (vars_after f inner a (suc m)) vars) same (knows_later is names g vs ws refs m (vars_after f inner a (suc m)) vars (omega (arith, vars_grow f inner a (suc m))) k)) t2)
+  for_walks form around vs ws after refs n m vars at name e a list item rest ps go srv placing t overs nt fm w i k table same each more =
+      skims_walks vs ws refs m vars k (For at name e a) n rest ps go srv (one_ready laws conditions p service service_typed service_formed declared this remote ss none sends vs ws e list t nt fm) i table
+      (λ s1 t1. more vars s1 (subst (λ z. Known vs z refs m vars) same k) t1)
 
-      by : (h : Truth) → over_rows f e ≡ h → Follows (cond h (steps_after f inner a (suc n)) (kept_after f vs (For at name e a) n)) ps rest go vs after refs (cond h (vars_after f inner a (suc m)) m)
-          → Reads n (MoreParts (cond h (part_of.Turns n name (row_kind p e) (block_parts p inner (suc n) a)) (plain p vs n (For at name e a))) ps)
-          (run_steps g (cond h (MoreSteps (script.Each n at m (f.items (expr_at e)) (sexpr p refs e) (block_steps p (with_var refs name m) inner (suc n) (suc m) a)) rest) (keeps p refs n (remote_of f vs (For at name e a)) rest)) vars srv go)
-      by true h more' =
-          let noted = kind_here types x ws e list nt t in
-          let is_rows_of : list ≡ kind.RowsOf item = rows_only laws conditions p service service_typed service_formed declared this remote ss none sends e list item noted h overs in
-          let r : ReadyHere vs ws e = record { kind = list; typed_here = t; noted = nt; formed = fm; sent = loop_portable laws conditions p service service_typed service_formed declared this remote ss none sends around vs at name e a w h } in
-          let own = all_left (IsIn names) (constants vs e) (used_in f inner a) (of_cond (over_rows f e) _ (kept_constants f vs (For at name e a)) i h) in
-          let number : row_kind p e ≡ kind_number (kind.RowsOf item) - 4 = ap (λ q. kind_noted q - 4) (noted ∙ ap (λ q. Some (Ok q)) is_rows_of) in
-          let keeping : f.items (expr_at e) ≡ is_primitive item = items_fact p (expr_at e) list noted ∙ ap has_primitive_items is_rows_of in
-          loop_walks item n (steps_after f inner a (suc n)) at (row_kind p e) (f.items (expr_at e)) name (block_parts p inner (suc n) a) ps (value_of g at vars (sexpr p refs e) srv)
-          (λ row s1. run_steps g (block_steps p (with_var refs name m) inner (suc n) (suc m) a) ((m, row) ∷ vars) s1 ended) (λ s2. run_steps g rest vars s2 go) keeping number (grows_all f inner a (suc n))
-          (subst (λ q. Serves Good (Fits is [] q) (value_of g at vars (sexpr p refs e) srv)) is_rows_of (value_sent vs ws refs m vars k at e r srv own table)) (each h)
-          (λ s2 t2. more' vars s2 (subst (λ z. Known vs z refs (vars_after f inner a (suc m)) vars) same (knows_later is names g vs ws refs m (vars_after f inner a (suc m)) vars (omega (arith, vars_grow f inner a (suc m))) k)) t2)
-      by false h more' =
-          skims_walks vs ws refs m vars k (For at name e a) n rest ps go srv (one_ready laws conditions p service service_typed service_formed declared this remote ss none sends vs ws e list t nt fm)
-          (or_cond (over_rows f e) _ (kept_constants f vs (For at name e a)) i h) table (λ s1 t1. more' vars s1 (subst (λ z. Known vs z refs m vars) same k) t1)
+  -- an expression alone
+  run_walks : (form : PlacedForm) (vs : Scope) (ws after : typed.Scope) (refs : Refs) (n m : ℕ) (vars : Vars) (at : ℕ) (e : Expr) (k : Kind) (rest : Steps) (ps : Parts) (go : Vars → Server → Ran) (srv : Server) → placed_form f vs (Run at e) ≡ form
+      → type_of x ws e ≡ Ok k → IsNotedExpr types x ws e → IsFormedExpr e → AreIn names (used_as f form vs (Run at e)) → Known vs ws refs m vars → Good srv.table → ws ≡ after
+      → FollowsAs form vs n m (Run at e) refs ps rest go vs after → ReadsAs form vs n m (Run at e) refs ps rest go vars srv
+  run_walks PlacedForm.CallAlone vs ws after refs n m vars at e own_kind rest ps go srv placing t nt fm i k table same more =
+      let calls = alone_calls f vs at e placing in
+      let r : ReadyHere vs ws e = record { kind = own_kind; typed_here = t; noted = nt; formed = fm; sent = (and_parts (portable f vs e) (holds_call f e) calls).0 } in
+      let own : AreIn names (constants vs e) = (subst (λ es. EachIn names vs (es ++ [])) (whole_remote f vs e calls) (each_in names vs (remote_of f vs (Run at e)) i)).0 in
+      pass_walks vs ws refs m vars k n (part_of.Pass n) ps (Fits is [] own_kind) (value_of g at vars (sexpr p refs e) srv) (λ v s1. run_steps g rest vars s1 go) (λ w1. refl) (value_sent vs ws refs m vars k at e r srv own table) (λ v s1 fv t1.
+      subst (λ q. Reads q ps (run_steps g rest vars s1 go)) (one_step f vs at e n calls) (more vars s1 (subst (λ z. Known vs z refs m vars) same k) t1))
+  run_walks form vs ws after refs n m vars at e own_kind rest ps go srv placing t nt fm i k table same more =
+      skims_walks vs ws refs m vars k (Run at e) n rest ps go srv (one_ready laws conditions p service service_typed service_formed declared this remote ss none sends vs ws e own_kind t nt fm) i table
+      (λ s1 t1. more vars s1 (subst (λ z. Known vs z refs m vars) same k) t1)
 
   mutual
     stmt_walks : (around : List Around) → is_script_place f around ≡ true → (vs : Scope) (ws after : typed.Scope) (refs : Refs) (n m : ℕ) (vars : Vars) (s : Stmt) (rest : Steps) (ps : Parts) (go : Vars → Server → Ran) (srv : Server)
         → check_stmt x ws s ≡ Ok after → IsNotedStmt types x ws s → IsFormedStmt s → Within (sites f around vs s) ss → AreIn names (used f vs s) → Known vs ws refs m vars → Good srv.table
-        → Follows (step_after f vs s n) ps rest go (scope_after f [] vs s) after (refs_after p refs m vs s) (var_after f vs s m)
-        → Reads n (MoreParts (part p vs n s) ps) (run_steps g (steps p refs vs n m s rest) vars srv go)
-    stmt_walks around place vs ws after refs n m vars (Val at name e) rest ps go srv t nt fm w i k table more = by (portable f vs e) refl more
+        → FollowsAs (placed_form f vs s) vs n m s refs ps rest go (scope_after f [] vs s) after → ReadsAs (placed_form f vs s) vs n m s refs ps rest go vars srv
+    stmt_walks around place vs ws after refs n m vars (Val at name e) rest ps go srv t nt fm w i k table more = by (portable f vs e) refl i more
       where
-        by : (b : Truth) → portable f vs e ≡ b → Follows (cond b (suc n) (kept_after f vs (Val at name e) n)) ps rest go (with_variable vs name (cond b Role.Carried Role.Plain) at) after (cond b (with_var refs name m) refs) (cond b (suc m) m)
-            → Reads n (MoreParts (cond b (carried p n at name e) (plain p vs n (Val at name e))) ps)
-            (run_steps g (cond b (MoreSteps (script.Let n at m (keeps_val p e) (sexpr p refs e)) rest) (keeps p refs n (remote_of f vs (Val at name e)) rest)) vars srv go)
-        by true e' more' =
+        form_by : Truth → PlacedForm
+        form_by b = cond b PlacedForm.CarriedVal PlacedForm.Plain
+
+        by : (b : Truth) → portable f vs e ≡ b → AreIn names (used_as f (form_by b) vs (Val at name e))
+            → FollowsAs (form_by b) vs n m (Val at name e) refs ps rest go (with_variable vs name (cond b Role.Carried Role.Plain) at) after → ReadsAs (form_by b) vs n m (Val at name e) refs ps rest go vars srv
+        by true e' i' more' =
             let d = val_parts x ws at name e after t in
             let r : ReadyHere vs ws e = record { kind = d.kind; typed_here = d.typed; noted = nt; formed = fm; sent = e' } in
-            val_walks vs ws refs m vars k n at name e r ps (λ v s1. run_steps g rest ((m, v) ∷ vars) s1 go) srv (of_cond (portable f vs e) (constants vs e) (kept_constants f vs (Val at name e)) i e') table (λ v s1 fv t1.
+            val_walks vs ws refs m vars k n at name e r ps (λ v s1. run_steps g rest ((m, v) ∷ vars) s1 go) srv i' table (λ v s1 fv t1.
             more' ((m, v) ∷ vars) s1 (subst (λ z. Known (with_variable vs name Role.Carried at) z (with_var refs name m) (suc m) ((m, v) ∷ vars)) d.same (knows_more is names g vs ws refs m vars name Role.Carried at d.kind true v fv k)) t1)
-        by false e' more' =
+        by false e' i' more' =
             let d = val_parts x ws at name e after t in
-            skims_walks vs ws refs m vars k (Val at name e) n rest ps go srv (one_ready laws conditions p service service_typed service_formed declared this remote ss none sends vs ws e d.kind d.typed nt fm)
-            (or_cond (portable f vs e) (constants vs e) (kept_constants f vs (Val at name e)) i e') table (λ s1 t1.
+            skims_walks vs ws refs m vars k (Val at name e) n rest ps go srv (one_ready laws conditions p service service_typed service_formed declared this remote ss none sends vs ws e d.kind d.typed nt fm) i' table (λ s1 t1.
             more' vars s1 (subst (λ z. Known (with_variable vs name Role.Plain at) z refs m vars) d.same (knows_plain is names g vs ws refs m vars name at d.kind true k)) t1)
     stmt_walks around place vs ws after refs n m vars (Var at name e) rest ps go srv t nt fm w i k table more =
         let d = var_parts x ws at name e after t in
@@ -378,20 +379,9 @@ module _ (laws : Laws) (conditions : ConditionsHold) (p : Program) (service : Se
         (remote_ready laws conditions p service service_typed service_formed declared this remote ss none sends vs ws a d.left d.left_typed nt.0 fm.0)
         (one_ready laws conditions p service service_typed service_formed declared this remote ss none sends vs ws b d.right d.right_typed nt.1 fm.1)) i table (λ s1 t1.
         more vars s1 (subst (λ z. Known vs z refs m vars) d.same k) t1)
-    stmt_walks around place vs ws after refs n m vars (Run at e) rest ps go srv t nt fm w i k table more = by (is_portable_call f vs e) refl
-      where
-        by : (b : Truth) → is_portable_call f vs e ≡ b → Reads n (MoreParts (cond b (part_of.Pass n) (plain p vs n (Run at e))) ps)
-            (run_steps g (cond b (MoreSteps (script.Do n at (sexpr p refs e)) rest) (keeps p refs n (remote_of f vs (Run at e)) rest)) vars srv go)
-        by true e' =
-            let d = run_parts x ws at e after t in
-            let r : ReadyHere vs ws e = record { kind = d.kind; typed_here = d.typed; noted = nt; formed = fm; sent = (and_parts (portable f vs e) (holds_call f e) e').0 } in
-            let own : AreIn names (constants vs e) = (subst (λ es. EachIn names vs (es ++ [])) (whole_remote f vs e e') (each_in names vs (remote_of f vs (Run at e)) i)).0 in
-            pass_walks vs ws refs m vars k n (part_of.Pass n) ps (Fits is [] d.kind) (value_of g at vars (sexpr p refs e) srv) (λ v s1. run_steps g rest vars s1 go) (λ w1. refl) (value_sent vs ws refs m vars k at e r srv own table) (λ v s1 fv t1.
-            subst (λ q. Reads q ps (run_steps g rest vars s1 go)) (one_step f vs at e n e') (more vars s1 (subst (λ z. Known vs z refs m vars) d.same k) t1))
-        by false e' =
-            let d = run_parts x ws at e after t in
-            skims_walks vs ws refs m vars k (Run at e) n rest ps go srv (one_ready laws conditions p service service_typed service_formed declared this remote ss none sends vs ws e d.kind d.typed nt fm) i table (λ s1 t1.
-            more vars s1 (subst (λ z. Known vs z refs m vars) d.same k) t1)
+    stmt_walks around place vs ws after refs n m vars (Run at e) rest ps go srv t nt fm w i k table more =
+        let d = run_parts x ws at e after t in
+        run_walks (placed_form f vs (Run at e)) vs ws after refs n m vars at e d.kind rest ps go srv refl d.typed nt fm i k table d.same more
     stmt_walks around place vs ws after refs n m vars (Print at e) rest ps go srv t nt fm w i k table more =
         let d = print_parts x ws at e after t in
         skims_walks vs ws refs m vars k (Print at e) n rest ps go srv (one_ready laws conditions p service service_typed service_formed declared this remote ss none sends vs ws e d.kind d.typed nt fm) i table (λ s1 t1.
@@ -416,14 +406,16 @@ module _ (laws : Laws) (conditions : ConditionsHold) (p : Program) (service : Se
         let inside = within_tail _ _ _ w in
         let middle = steps_after f vs a (suc n) in
         let between = vars_after f vs a m in
-        if_walks around vs ws after refs n m vars at c a b rest ps go srv d.typed nt.0 fm.0 w i k table d.same
+        let used_there : branches_hold f a b ≡ true → AreIn names (constants vs c ++ used_in f vs a ++ used_in f vs b) =
+        λ holding. subst (λ (t : Truth). AreIn names (used_as f (cond t PlacedForm.CarriedIf PlacedForm.Plain) vs (If at c a b))) holding i in
+        if_walks (placed_form f vs (If at c a b)) around vs ws after refs n m vars at c a b rest ps go srv refl d.typed nt.0 fm.0 w i k table d.same
         (λ holding s1 t1. block_walks frame (script_inside laws conditions p service service_typed service_formed declared this remote ss none sends around (branches_hold f a b) place holding) vs ws d.first refs (suc n) m vars a s1
         d.first_typed nt.1 fm.1 (within_left (block_sites f frame vs a) (block_sites f frame vs b) _ inside)
-        (all_right (IsIn names) (constants vs c) (used_in f vs a) (all_left (IsIn names) (constants vs c ++ used_in f vs a) (used_in f vs b) (of_cond (branches_hold f a b) _ (kept_constants f vs (If at c a b)) i holding))) k t1)
+        (all_right (IsIn names) (constants vs c) (used_in f vs a) (all_left (IsIn names) (constants vs c ++ used_in f vs a) (used_in f vs b) (used_there holding))) k t1)
         (λ holding s1 t1. later_reads (suc n) middle (block_parts p vs middle b) (run_steps g (block_steps p refs vs middle between b) vars s1 ended) (grows_all f vs a (suc n))
         (block_walks frame (script_inside laws conditions p service service_typed service_formed declared this remote ss none sends around (branches_hold f a b) place holding) vs ws d.second refs middle between vars b s1
         d.second_typed nt.2 fm.2 (within_right (block_sites f frame vs a) (block_sites f frame vs b) _ inside)
-        (all_right (IsIn names) (constants vs c ++ used_in f vs a) (used_in f vs b) (of_cond (branches_hold f a b) _ (kept_constants f vs (If at c a b)) i holding)) (knows_later is names g vs ws refs m between vars (vars_grow f vs a m) k) t1))
+        (all_right (IsIn names) (constants vs c ++ used_in f vs a) (used_in f vs b) (used_there holding)) (knows_later is names g vs ws refs m between vars (vars_grow f vs a m) k) t1))
         more
     stmt_walks around place vs ws after refs n m vars (For at name e a) rest ps go srv t nt fm w i k table more =
         let d = for_parts x ws at name e a after t in
@@ -433,10 +425,12 @@ module _ (laws : Laws) (conditions : ConditionsHold) (p : Program) (service : Se
         let frame = Turn at vs e ∷ around in
         let turn_scope = with_variable vs name Role.Row at in
         let inside = within_tail _ _ _ w in
-        for_walks around vs ws after refs n m vars at name e a d.list d.item rest ps go srv d.typed d.over nt.0 fm.0 w i k table d.same
+        let used_there : over_rows f e ≡ true → AreIn names (constants vs e ++ used_in f turn_scope a) =
+        λ rows. subst (λ (t : Truth). AreIn names (used_as f (cond t PlacedForm.RowsLoop PlacedForm.Plain) vs (For at name e a))) rows i in
+        for_walks (placed_form f vs (For at name e a)) around vs ws after refs n m vars at name e a d.list d.item rest ps go srv refl d.typed d.over nt.0 fm.0 w i k table d.same
         (λ rows row s1 fits t1. block_walks frame (script_inside laws conditions p service service_typed service_formed declared this remote ss none sends around (over_rows f e) place rows) turn_scope inner d.last (with_var refs name m) (suc n) (suc m) ((m, row) ∷ vars) a s1
         d.block_typed noted fm.1 (subst (λ r. Within (block_sites f frame (with_variable vs name (cond r Role.Row Role.Plain) at) a) ss) rows inside)
-        (all_right (IsIn names) (constants vs e) (used_in f turn_scope a) (of_cond (over_rows f e) _ (kept_constants f vs (For at name e a)) i rows)) (knows_more is names g vs ws refs m vars name Role.Row at d.item true row fits k) t1)
+        (all_right (IsIn names) (constants vs e) (used_in f turn_scope a) (used_there rows)) (knows_more is names g vs ws refs m vars name Role.Row at d.item true row fits k) t1)
         more
 
     pub block_walks : (around : List Around) → is_script_place f around ≡ true → (vs : Scope) (ws after : typed.Scope) (refs : Refs) (n m : ℕ) (vars : Vars) (block : Stmts) (srv : Server)

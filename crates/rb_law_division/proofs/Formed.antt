@@ -8,10 +8,10 @@ use Rattle.rb_trees.specs.Spelling.{is_letter, is_word_byte, IsName}
 use Rattle.rb_trees.specs.CodeSize.{expr_size, exprs_size, steps_size}
 use Rattle.rb_trees.specs.declared.values.Value.{Value, out-Value}
 use Rattle.rb_trees.specs.declared.values.Value.TheOpen.{Value-F}
-use Rattle.rb_trees.specs.mirror.Code.{Expr, Exprs, Lit, Name, This, Unary, Binary, Field, Call, Index, New, Items, Taken, NoExprs, MoreExprs, expr_at, Stmt, Stmts, Val, Var, Assign, Run, Print, Throw, If, While, For, Try, Batch, NoStmts, MoreStmts}
+use Rattle.rb_trees.specs.mirror.Code.{Expr, Exprs, Lit, Name, This, Unary, Binary, Field, Call, Index, New, Items, Taken, NoExprs, MoreExprs, Stmt, Stmts, Val, Var, Run, If, For, NoStmts, MoreStmts}
 use Rattle.rb_trees.specs.mirror.Declarations.{Program}
 use Rattle.rb_trees.specs.mirror.Scripts as script
-use Rattle.rb_trees.specs.mirror.Scripts.{SExpr, SExprs, Steps, NoSteps, MoreSteps}
+use Rattle.rb_trees.specs.mirror.Scripts.{SExpr, SExprs, Steps, NoSteps}
 use Rattle.rb_meaning_bytes.specs.formats.Fields.{Name as NameField, Fits, are_word_bytes}
 use Rattle.rb_meaning_bytes.specs.formats.ScriptBytes.{count_exprs}
 use Rattle.rb_meaning_bytes.specs.formats.FormedScripts.{primitive_form, FormedExpr, FormedExprs, FormedSteps}
@@ -20,18 +20,19 @@ use Rattle.rb_meaning_types.specs.Kinds.{Kind}
 use Rattle.rb_meaning_types.specs.Notes.{type_at}
 use Rattle.rb_meaning_types.specs.Violations.{Checked}
 use Rattle.rb_meaning_types.specs.Lawful.{IsLiteralForm}
+use Rattle.rb_meaning_flow.specs.declared.forms.PlacedForm.{PlacedForm}
 use Rattle.rb_meaning_flow.specs.declared.scopes.Role.{Role}
-use Rattle.rb_meaning_flow.specs.Facts.{Facts, facts_of, over_rows}
+use Rattle.rb_meaning_flow.specs.Facts.{Facts, facts_of}
 use Rattle.rb_meaning_flow.specs.Scopes.{Scope, with_variable}
-use Rattle.rb_meaning_flow.specs.Portable.{portable, branches_hold}
-use Rattle.rb_meaning_flow.specs.Marks.{is_portable_call}
+use Rattle.rb_meaning_flow.specs.Forms.{placed_form}
 use Rattle.rb_meaning_flow.specs.Sites.{scope_after}
 use Rattle.rb_meaning_types.specs.CallKinds.{item_number, kind_number, kind_noted}
 use Rattle.rb_meaning.specs.RemoteExprs.{remote_of}
 use Rattle.rb_meaning_split.specs.Cuts.{counted}
 use Rattle.rb_meaning_split.specs.Refs.{Ref, Root, Input, Var as Bound, Refs, with_var, ref_expr, sexpr, sexprs}
-use Rattle.rb_meaning_split.specs.Numbers.{step_after, steps_after, var_after, vars_after}
-use Rattle.rb_meaning_split.specs.Steps.{refs_after, keeps_val, keeps, steps, block_steps}
+use Rattle.rb_meaning_split.specs.Numbers.{step_after_as, step_after, steps_after, var_after_as, var_after, vars_after}
+use Rattle.rb_meaning_split.specs.Steps.{refs_after_as, refs_after, keeps, steps_as, block_steps}
+use Rattle.rb_law_unsplit.proofs.Placed.{alone_calls}
 use Rattle.rb_law_division.proofs.Lists.{all_both}
 use Rattle.rb_law_division.proofs.Carriable.{Carriable, AllCarriable, EachWhole, StmtCarriable, StmtsCarriable, place_of, remotes_whole}
 use Rattle.rb_law_division.proofs.Numbers.{one_step, count_within, block_room, block_vars}
@@ -177,38 +178,19 @@ module _ (p : Program) where
   abbrev Formed : ℕ → ℕ → Steps → Steps → ℕ → ℕ → Refs → Type 0
   Formed n m ss rest n1 m1 refs1 = (Fit n1 m1 rest → AreFormed refs1 → FormedSteps rest) → Fit n m ss → FormedSteps ss
 
-  formed_cases : (n m : ℕ) (rest : Steps) (t : Bool) (ss ss' : Steps) (n1 n1' m1 m1' : ℕ) (refs refs' : Refs) → Formed n m ss rest n1 m1 refs → Formed n m ss' rest n1' m1' refs'
-      → Formed n m (cond t ss ss') rest (cond t n1 n1') (cond t m1 m1') (cond t refs refs')
-  formed_cases n m rest true ss ss' n1 n1' m1 m1' refs refs' h g = h
-  formed_cases n m rest false ss ss' n1 n1' m1 m1' refs refs' h g = g
-
-  -- the same names by any truth
-  same_formed : (t : Bool) (refs : Refs) → AreFormed (cond t refs refs) → AreFormed refs
-  same_formed true refs h = h
-  same_formed false refs h = h
-
   mutual
-    stmt_formed : (refs : Refs) → AreFormed refs → (scope : Scope) (n m : ℕ) (s : Stmt) (rest : Steps) → StmtCarriable s
-        → Formed n m (steps p refs scope n m s rest) rest (step_after x scope s n) (var_after x scope s m) (refs_after p refs m scope s)
-    stmt_formed refs r scope n m (Val at name e) rest w =
-        formed_cases n m rest (portable x scope e) (MoreSteps (script.Let n at m (keeps_val p e) (sexpr p refs e)) rest) (keeps p refs n (remote_of x scope (Val at name e)) rest)
-        (suc n) (counted (remote_of x scope (Val at name e)) n) (suc m) m (with_var refs name m) refs
-        (λ h f. ((omega (arith, f.0), w.0, omega (arith, f.1), expr_formed refs r e w.1.0 (omega (arith, f.0))), h (omega (arith, f.0), omega (arith, f.1)) (one_more refs name m r (omega (arith, f.1)))))
-        (λ h f. skip_formed refs r scope n m (Val at name e) rest w h f)
-    stmt_formed refs r scope n m (Run at e) rest w = by (is_portable_call x scope e) refl
-      where
-        by : (t : Bool) → is_portable_call x scope e ≡ t
-            → Formed n m (cond t (MoreSteps (script.Do n at (sexpr p refs e)) rest) (keeps p refs n (remote_of x scope (Run at e)) rest)) rest (step_after x scope (Run at e) n) m refs
-        by true i = λ h f. ((omega (arith, f.0), w.0, expr_formed refs r e w.1.0 (omega (arith, f.0))), h (omega (arith, f.0, one_step x scope at e n i), omega (arith, f.1)) r)
-        by false i = λ h f. skip_formed refs r scope n m (Run at e) rest w h f
-    stmt_formed refs r scope n m (If at c a b) rest w =
+    stmt_formed : (form : PlacedForm) (refs : Refs) → AreFormed refs → (scope : Scope) (n m : ℕ) (s : Stmt) (rest : Steps) → placed_form x scope s ≡ form → StmtCarriable s
+        → Formed n m (steps_as p form refs scope n m s rest) rest (step_after_as x form scope s n) (var_after_as x form scope s m) (refs_after_as p form refs m s)
+    stmt_formed PlacedForm.CarriedVal refs r scope n m (Val at name e) rest placing w =
+        λ h f. ((omega (arith, f.0), w.0, omega (arith, f.1), expr_formed refs r e w.1.0 (omega (arith, f.0))), h (omega (arith, f.0), omega (arith, f.1)) (one_more refs name m r (omega (arith, f.1))))
+    stmt_formed PlacedForm.CallAlone refs r scope n m (Run at e) rest placing w =
+        λ h f. ((omega (arith, f.0), w.0, expr_formed refs r e w.1.0 (omega (arith, f.0))), h (omega (arith, f.0, one_step x scope at e n (alone_calls x scope at e placing)), omega (arith, f.1)) r)
+    stmt_formed PlacedForm.CarriedIf refs r scope n m (If at c a b) rest placing w =
         let middle = steps_after x scope a (suc n) in
         let between = vars_after x scope a m in
         let first = block_steps p refs scope (suc n) m a in
         let second = block_steps p refs scope middle between b in
-        λ h. formed_cases n m rest (branches_hold x a b) (MoreSteps (script.If n at (sexpr p refs c) first second) rest) (keeps p refs n (remote_of x scope (If at c a b)) rest)
-        (steps_after x scope b middle) (counted (remote_of x scope (If at c a b)) n) (vars_after x scope b between) m refs refs
-        (λ h f. (
+        λ h f. (
           (
             omega (arith, f.0),
             w.0,
@@ -219,16 +201,12 @@ module _ (p : Program) where
             stmts_formed refs r scope middle between b w.3 (omega (arith, f.0, block_room p refs scope (suc n) m a), omega (arith, f.1, block_vars p refs scope (suc n) m a)),
           ),
           h (omega (arith, f.0, block_room p refs scope (suc n) m a, block_room p refs scope middle between b), omega (arith, f.1, block_vars p refs scope (suc n) m a, block_vars p refs scope middle between b)) r,
-        ))
-        (λ h f. skip_formed refs r scope n m (If at c a b) rest w h f)
-        (λ f k. h f (same_formed (branches_hold x a b) refs k))
-    stmt_formed refs r scope n m (For at name e a) rest w =
+        )
+    stmt_formed PlacedForm.RowsLoop refs r scope n m (For at name e a) rest placing w =
         let inner = with_variable scope name Role.Row at in
         let names = with_var refs name m in
         let block = block_steps p names inner (suc n) (suc m) a in
-        λ h. formed_cases n m rest (over_rows x e) (MoreSteps (script.Each n at m (x.items (expr_at e)) (sexpr p refs e) block) rest) (keeps p refs n (remote_of x scope (For at name e a)) rest)
-        (steps_after x inner a (suc n)) (counted (remote_of x scope (For at name e a)) n) (vars_after x inner a (suc m)) m refs refs
-        (λ h f. (
+        λ h f. (
           (
             omega (arith, f.0),
             w.0,
@@ -238,16 +216,8 @@ module _ (p : Program) where
             stmts_formed names (one_more refs name m r (omega (arith, f.1))) inner (suc n) (suc m) a w.2 (omega (arith, f.0), omega (arith, f.1)),
           ),
           h (omega (arith, f.0, block_room p names inner (suc n) (suc m) a), omega (arith, f.1, block_vars p names inner (suc n) (suc m) a)) r,
-        ))
-        (λ h f. skip_formed refs r scope n m (For at name e a) rest w h f)
-        (λ f k. h f (same_formed (over_rows x e) refs k))
-    stmt_formed refs r scope n m (Var at name e) rest w = λ h f. skip_formed refs r scope n m (Var at name e) rest w h f
-    stmt_formed refs r scope n m (Assign at a b) rest w = λ h f. skip_formed refs r scope n m (Assign at a b) rest w h f
-    stmt_formed refs r scope n m (Print at e) rest w = λ h f. skip_formed refs r scope n m (Print at e) rest w h f
-    stmt_formed refs r scope n m (Throw at e) rest w = λ h f. skip_formed refs r scope n m (Throw at e) rest w h f
-    stmt_formed refs r scope n m (While at c a) rest w = λ h f. skip_formed refs r scope n m (While at c a) rest w h f
-    stmt_formed refs r scope n m (Try at a name b) rest w = λ h f. skip_formed refs r scope n m (Try at a name b) rest w h f
-    stmt_formed refs r scope n m (Batch at interface root a) rest w = λ h f. skip_formed refs r scope n m (Batch at interface root a) rest w h f
+        )
+    stmt_formed form refs r scope n m s rest placing w = λ h f. skip_formed refs r scope n m s rest w h f
 
     pub stmts_formed : (refs : Refs) → AreFormed refs → (scope : Scope) (n m : ℕ) (ss : Stmts) → StmtsCarriable ss → Fit n m (block_steps p refs scope n m ss) → FormedSteps (block_steps p refs scope n m ss)
     stmts_formed refs r scope n m NoStmts w f = tt
@@ -256,4 +226,4 @@ module _ (p : Program) where
         let scope1 = scope_after x [] scope s in
         let n1 = step_after x scope s n in
         let m1 = var_after x scope s m in
-        stmt_formed refs r scope n m s (block_steps p refs1 scope1 n1 m1 ss) w.0 (λ g k. stmts_formed refs1 k scope1 n1 m1 ss w.1 g) f
+        stmt_formed (placed_form x scope s) refs r scope n m s (block_steps p refs1 scope1 n1 m1 ss) refl w.0 (λ g k. stmts_formed refs1 k scope1 n1 m1 ss w.1 g) f

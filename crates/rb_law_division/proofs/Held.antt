@@ -9,33 +9,31 @@ use Rattle.rb_meaning_types.specs.Kinds.{Kind}
 use Rattle.rb_meaning_types.specs.Fits.{IsIntValue, IsBoolValue, IsTextValue, IsUnitValue, IsObjectOf, IsRemoteValue, AreItems, AreRows, FitsNamed, Fits}
 use Rattle.rb_meaning_types.specs.Kinds.{is_primitive}
 use Rattle.rb_meaning_types.specs.Names.{interface_named}
+use Rattle.rb_meaning_flow.specs.declared.forms.PlacedForm.{PlacedForm}
 use Rattle.rb_meaning_flow.specs.declared.scopes.Role.{Role}
-use Rattle.rb_meaning_flow.specs.Facts.{Facts, over_rows}
+use Rattle.rb_meaning_flow.specs.Facts.{Facts}
 use Rattle.rb_meaning_flow.specs.Scopes.{Scope, with_variable}
-use Rattle.rb_meaning_flow.specs.Portable.{portable, branches_hold}
+use Rattle.rb_meaning_flow.specs.Forms.{placed_form}
 use Rattle.rb_meaning_flow.specs.Sites.{scope_after}
 use Rattle.rb_trees.specs.mirror.Code.{Stmt, Stmts, Val, If, For, NoStmts, MoreStmts}
 use Rattle.rb_meaning_bytes.specs.Fits.{form_has_kind, is_kept}
 use Rattle.rb_meaning_code.specs.ScriptRun.{is_primitive as primitive_form}
 use Rattle.rb_meaning_types.specs.CallKinds.{item_number, kind_number}
-use Rattle.rb_meaning_split.specs.Numbers.{var_after, vars_after}
-use Rattle.rb_law_division.proofs.Lists.{cond_is}
+use Rattle.rb_meaning_split.specs.Numbers.{var_after_as, var_after, vars_after}
 
 -- ---- numbers of variables
 
 module _ (x : Facts) where
   mutual
-    pub var_grows : (scope : Scope) (s : Stmt) (m : ℕ) → m ≤ var_after x scope s m
-    var_grows scope (Val at name e) m = cond_is (λ (v : ℕ). m ≤ v) (portable x scope e) (suc m) m (omega arith) (omega arith)
-    var_grows scope (If at c a b) m =
-        cond_is (λ (v : ℕ). m ≤ v) (branches_hold x a b) (vars_after x scope b (vars_after x scope a m)) m (omega (arith, vars_grow scope a m, vars_grow scope b (vars_after x scope a m))) (omega arith)
-    var_grows scope (For at name e a) m =
-        cond_is (λ (v : ℕ). m ≤ v) (over_rows x e) (vars_after x (with_variable scope name Role.Row at) a (suc m)) m (omega (arith, vars_grow (with_variable scope name Role.Row at) a (suc m))) (omega arith)
-    var_grows scope s m = omega arith
+    var_grows : (form : PlacedForm) (scope : Scope) (s : Stmt) (m : ℕ) → m ≤ var_after_as x form scope s m
+    var_grows PlacedForm.CarriedVal scope (Val at name e) m = omega arith
+    var_grows PlacedForm.CarriedIf scope (If at c a b) m = omega (arith, vars_grow scope a m, vars_grow scope b (vars_after x scope a m))
+    var_grows PlacedForm.RowsLoop scope (For at name e a) m = omega (arith, vars_grow (with_variable scope name Role.Row at) a (suc m))
+    var_grows form scope s m = omega arith
 
     pub vars_grow : (scope : Scope) (ss : Stmts) (m : ℕ) → m ≤ vars_after x scope ss m
     vars_grow scope NoStmts m = omega arith
-    vars_grow scope (MoreStmts s ss) m = omega (arith, var_grows scope s m, vars_grow (scope_after x [] scope s) ss (var_after x scope s m))
+    vars_grow scope (MoreStmts s ss) m = omega (arith, var_grows (placed_form x scope s) scope s m, vars_grow (scope_after x [] scope s) ss (var_after x scope s m))
 
 -- ---- what is kept has the kind that is demanded
 

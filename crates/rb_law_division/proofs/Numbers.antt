@@ -3,28 +3,26 @@ use Rattle.std.proofs.Common.{◌≡◌, refl, ap, ℕ, suc, ◌+◌, ◌≤◌,
 use Rattle.std.specs.List.{AllByRecursion}
 use Rattle.rb_trees.specs.CodeSize.{steps_size}
 use Rattle.rb_trees.specs.Validity.{steps_numbers}
-use Rattle.rb_trees.specs.mirror.Code.{Expr, Lit, Name, This, Unary, Binary, Field, Call, Index, New, Items, Taken, expr_at, Stmt, Stmts, Val, Run, If, For, NoStmts, MoreStmts}
+use Rattle.rb_trees.specs.mirror.Code.{Expr, Lit, Name, This, Unary, Binary, Field, Call, Index, New, Items, Taken, Stmt, Stmts, Val, Run, If, For, NoStmts, MoreStmts}
 use Rattle.rb_trees.specs.mirror.Declarations.{Program}
 use Rattle.rb_trees.specs.mirror.Scripts as script
 use Rattle.rb_trees.specs.mirror.Scripts.{Steps, NoSteps, MoreSteps}
 use Rattle.rb_meaning_bytes.specs.formats.ScriptBytes.{count_steps}
+use Rattle.rb_meaning_flow.specs.declared.forms.PlacedForm.{PlacedForm}
 use Rattle.rb_meaning_flow.specs.declared.scopes.Role.{Role}
-use Rattle.rb_meaning_flow.specs.Facts.{Facts, facts_of, over_rows}
+use Rattle.rb_meaning_flow.specs.Facts.{Facts, facts_of}
 use Rattle.rb_meaning_flow.specs.Scopes.{Scope, with_variable}
-use Rattle.rb_meaning_flow.specs.Portable.{portable, branches_hold}
+use Rattle.rb_meaning_flow.specs.Portable.{portable}
 use Rattle.rb_meaning_flow.specs.Marks.{is_portable_call}
+use Rattle.rb_meaning_flow.specs.Forms.{placed_form}
 use Rattle.rb_meaning_flow.specs.Sites.{scope_after}
 use Rattle.rb_meaning.specs.RemoteExprs.{remote_in, all_remote_in, remote_of}
 use Rattle.rb_meaning_split.specs.Cuts.{counted}
-use Rattle.rb_meaning_split.specs.Refs.{Refs, with_var, sexpr}
-use Rattle.rb_meaning_split.specs.Numbers.{kept_after, step_after, steps_after, var_after, vars_after}
-use Rattle.rb_meaning_split.specs.Steps.{refs_after, keeps_val, keeps, steps, block_steps}
-use Rattle.rb_law_division.proofs.Lists.{all_both, cond_is}
-
--- one of two, by the same truth in both
-pub by_cases : {A B : Type 0} (P : A → B → Type 0) (t : Bool) (a a' : A) (b b' : B) → P a b → P a' b' → P (cond t a a') (cond t b b')
-by_cases P true a a' b b' h g = h
-by_cases P false a a' b b' h g = g
+use Rattle.rb_meaning_split.specs.Refs.{Refs, with_var}
+use Rattle.rb_meaning_split.specs.Numbers.{kept_after, step_after_as, step_after, steps_after, var_after_as, var_after, vars_after}
+use Rattle.rb_meaning_split.specs.Steps.{refs_after, keeps, steps_as, block_steps}
+use Rattle.rb_law_unsplit.proofs.Placed.{alone_calls}
+use Rattle.rb_law_division.proofs.Lists.{all_both}
 
 pub count_within : (ss : Steps) → count_steps ss ≤ steps_size ss
 count_within NoSteps = omega arith
@@ -51,20 +49,15 @@ module _ (x : Facts) where
   kept_grows scope s n = counts (remote_of x scope s) n
 
   mutual
-    pub grows : (scope : Scope) (s : Stmt) (n : ℕ) → n ≤ step_after x scope s n
-    grows scope (Val at name e) n =
-        cond_is (λ (v : ℕ). n ≤ v) (portable x scope e) (suc n) (kept_after x scope (Val at name e) n) (omega arith) (kept_grows scope (Val at name e) n)
-    grows scope (If at c a b) n =
-        cond_is (λ (v : ℕ). n ≤ v) (branches_hold x a b) (steps_after x scope b (steps_after x scope a (suc n))) (kept_after x scope (If at c a b) n)
-        (omega (arith, grows_all scope a (suc n), grows_all scope b (steps_after x scope a (suc n)))) (kept_grows scope (If at c a b) n)
-    grows scope (For at name e a) n =
-        cond_is (λ (v : ℕ). n ≤ v) (over_rows x e) (steps_after x (with_variable scope name Role.Row at) a (suc n)) (kept_after x scope (For at name e a) n)
-        (omega (arith, grows_all (with_variable scope name Role.Row at) a (suc n))) (kept_grows scope (For at name e a) n)
-    grows scope s n = kept_grows scope s n
+    grows : (form : PlacedForm) (scope : Scope) (s : Stmt) (n : ℕ) → n ≤ step_after_as x form scope s n
+    grows PlacedForm.CarriedVal scope (Val at name e) n = omega arith
+    grows PlacedForm.CarriedIf scope (If at c a b) n = omega (arith, grows_all scope a (suc n), grows_all scope b (steps_after x scope a (suc n)))
+    grows PlacedForm.RowsLoop scope (For at name e a) n = omega (arith, grows_all (with_variable scope name Role.Row at) a (suc n))
+    grows form scope s n = kept_grows scope s n
 
     pub grows_all : (scope : Scope) (ss : Stmts) (n : ℕ) → n ≤ steps_after x scope ss n
     grows_all scope NoStmts n = omega arith
-    grows_all scope (MoreStmts s ss) n = omega (arith, grows scope s n, grows_all (scope_after x [] scope s) ss (step_after x scope s n))
+    grows_all scope (MoreStmts s ss) n = omega (arith, grows (placed_form x scope s) scope s n, grows_all (scope_after x [] scope s) ss (step_after x scope s n))
 
   -- a portable expression that holds a call is its own remote expression
   pub whole_remote : (scope : Scope) (e : Expr) → is_portable_call x scope e ≡ true → remote_in x scope e ≡ e ∷ []
@@ -81,7 +74,7 @@ module _ (x : Facts) where
   whole_remote scope (Taken at step) h = absurd (cc h)
 
   -- it takes one step
-  pub one_step : (scope : Scope) (at : ℕ) (e : Expr) (n : ℕ) → is_portable_call x scope e ≡ true → step_after x scope (Run at e) n ≡ suc n
+  pub one_step : (scope : Scope) (at : ℕ) (e : Expr) (n : ℕ) → is_portable_call x scope e ≡ true → kept_after x scope (Run at e) n ≡ suc n
   one_step scope at e n h = ap (λ es. counted (es ++ []) n) (whole_remote scope e h)
 
 -- ---- the code has room for its numbers
@@ -109,32 +102,14 @@ module _ (p : Program) where
   skip_vars refs scope n m s rest = omega (arith, keeps_size refs (remote_of x scope s) n rest)
 
   mutual
-    pub room : (refs : Refs) (scope : Scope) (n m : ℕ) (s : Stmt) (rest : Steps) → Room n rest (step_after x scope s n) (steps p refs scope n m s rest)
-    room refs scope n m (Val at name e) rest =
-        by_cases (Room n rest) (portable x scope e) (suc n) (kept_after x scope (Val at name e) n)
-        (MoreSteps (script.Let n at m (keeps_val p e) (sexpr p refs e)) rest) (keeps p refs n (remote_of x scope (Val at name e)) rest)
-        (omega arith) (skip_room refs scope n (Val at name e) rest)
-    room refs scope n m (Run at e) rest = by (is_portable_call x scope e) refl
-      where
-        by : (t : Bool) → is_portable_call x scope e ≡ t
-            → Room n rest (step_after x scope (Run at e) n) (cond t (MoreSteps (script.Do n at (sexpr p refs e)) rest) (keeps p refs n (remote_of x scope (Run at e)) rest))
-        by true h = omega (arith, one_step x scope at e n h)
-        by false h = skip_room refs scope n (Run at e) rest
-    room refs scope n m (If at c a b) rest =
-        let middle = steps_after x scope a (suc n) in
-        let first = block_steps p refs scope (suc n) m a in
-        let second = block_steps p refs scope middle (vars_after x scope a m) b in
-        by_cases (Room n rest) (branches_hold x a b) (steps_after x scope b middle) (kept_after x scope (If at c a b) n)
-        (MoreSteps (script.If n at (sexpr p refs c) first second) rest) (keeps p refs n (remote_of x scope (If at c a b)) rest)
-        (omega (arith, block_room refs scope (suc n) m a, block_room refs scope middle (vars_after x scope a m) b))
-        (skip_room refs scope n (If at c a b) rest)
-    room refs scope n m (For at name e a) rest =
-        let inner = with_variable scope name Role.Row at in
-        by_cases (Room n rest) (over_rows x e) (steps_after x inner a (suc n)) (kept_after x scope (For at name e a) n)
-        (MoreSteps (script.Each n at m (x.items (expr_at e)) (sexpr p refs e) (block_steps p (with_var refs name m) inner (suc n) (suc m) a)) rest)
-        (keeps p refs n (remote_of x scope (For at name e a)) rest)
-        (omega (arith, block_room (with_var refs name m) inner (suc n) (suc m) a)) (skip_room refs scope n (For at name e a) rest)
-    room refs scope n m s rest = skip_room refs scope n s rest
+    room : (form : PlacedForm) (refs : Refs) (scope : Scope) (n m : ℕ) (s : Stmt) (rest : Steps) → placed_form x scope s ≡ form → Room n rest (step_after_as x form scope s n) (steps_as p form refs scope n m s rest)
+    room PlacedForm.CarriedVal refs scope n m (Val at name e) rest placing = omega arith
+    room PlacedForm.CallAlone refs scope n m (Run at e) rest placing = omega (arith, one_step x scope at e n (alone_calls x scope at e placing))
+    room PlacedForm.CarriedIf refs scope n m (If at c a b) rest placing =
+        omega (arith, block_room refs scope (suc n) m a, block_room refs scope (steps_after x scope a (suc n)) (vars_after x scope a m) b)
+    room PlacedForm.RowsLoop refs scope n m (For at name e a) rest placing =
+        omega (arith, block_room (with_var refs name m) (with_variable scope name Role.Row at) (suc n) (suc m) a)
+    room form refs scope n m s rest placing = skip_room refs scope n s rest
 
     pub block_room : (refs : Refs) (scope : Scope) (n m : ℕ) (ss : Stmts) → Room n NoSteps (steps_after x scope ss n) (block_steps p refs scope n m ss)
     block_room refs scope n m NoStmts = omega arith
@@ -143,32 +118,17 @@ module _ (p : Program) where
         let scope1 = scope_after x [] scope s in
         let n1 = step_after x scope s n in
         let m1 = var_after x scope s m in
-        omega (arith, room refs scope n m s (block_steps p refs1 scope1 n1 m1 ss), block_room refs1 scope1 n1 m1 ss)
+        omega (arith, room (placed_form x scope s) refs scope n m s (block_steps p refs1 scope1 n1 m1 ss) refl, block_room refs1 scope1 n1 m1 ss)
 
   mutual
-    pub var_room : (refs : Refs) (scope : Scope) (n m : ℕ) (s : Stmt) (rest : Steps) → Room m rest (var_after x scope s m) (steps p refs scope n m s rest)
-    var_room refs scope n m (Val at name e) rest =
-        by_cases (Room m rest) (portable x scope e) (suc m) m
-        (MoreSteps (script.Let n at m (keeps_val p e) (sexpr p refs e)) rest) (keeps p refs n (remote_of x scope (Val at name e)) rest)
-        (omega arith) (skip_vars refs scope n m (Val at name e) rest)
-    var_room refs scope n m (Run at e) rest =
-        cond_is (λ (ss : Steps). Room m rest m ss) (is_portable_call x scope e) (MoreSteps (script.Do n at (sexpr p refs e)) rest) (keeps p refs n (remote_of x scope (Run at e)) rest)
-        (omega arith) (skip_vars refs scope n m (Run at e) rest)
-    var_room refs scope n m (If at c a b) rest =
-        let middle = steps_after x scope a (suc n) in
-        let first = block_steps p refs scope (suc n) m a in
-        let second = block_steps p refs scope middle (vars_after x scope a m) b in
-        by_cases (Room m rest) (branches_hold x a b) (vars_after x scope b (vars_after x scope a m)) m
-        (MoreSteps (script.If n at (sexpr p refs c) first second) rest) (keeps p refs n (remote_of x scope (If at c a b)) rest)
-        (omega (arith, block_vars refs scope (suc n) m a, block_vars refs scope middle (vars_after x scope a m) b))
-        (skip_vars refs scope n m (If at c a b) rest)
-    var_room refs scope n m (For at name e a) rest =
-        let inner = with_variable scope name Role.Row at in
-        by_cases (Room m rest) (over_rows x e) (vars_after x inner a (suc m)) m
-        (MoreSteps (script.Each n at m (x.items (expr_at e)) (sexpr p refs e) (block_steps p (with_var refs name m) inner (suc n) (suc m) a)) rest)
-        (keeps p refs n (remote_of x scope (For at name e a)) rest)
-        (omega (arith, block_vars (with_var refs name m) inner (suc n) (suc m) a)) (skip_vars refs scope n m (For at name e a) rest)
-    var_room refs scope n m s rest = skip_vars refs scope n m s rest
+    var_room : (form : PlacedForm) (refs : Refs) (scope : Scope) (n m : ℕ) (s : Stmt) (rest : Steps) → Room m rest (var_after_as x form scope s m) (steps_as p form refs scope n m s rest)
+    var_room PlacedForm.CarriedVal refs scope n m (Val at name e) rest = omega arith
+    var_room PlacedForm.CallAlone refs scope n m (Run at e) rest = omega arith
+    var_room PlacedForm.CarriedIf refs scope n m (If at c a b) rest =
+        omega (arith, block_vars refs scope (suc n) m a, block_vars refs scope (steps_after x scope a (suc n)) (vars_after x scope a m) b)
+    var_room PlacedForm.RowsLoop refs scope n m (For at name e a) rest =
+        omega (arith, block_vars (with_var refs name m) (with_variable scope name Role.Row at) (suc n) (suc m) a)
+    var_room form refs scope n m s rest = skip_vars refs scope n m s rest
 
     pub block_vars : (refs : Refs) (scope : Scope) (n m : ℕ) (ss : Stmts) → Room m NoSteps (vars_after x scope ss m) (block_steps p refs scope n m ss)
     block_vars refs scope n m NoStmts = omega arith
@@ -177,7 +137,7 @@ module _ (p : Program) where
         let scope1 = scope_after x [] scope s in
         let n1 = step_after x scope s n in
         let m1 = var_after x scope s m in
-        omega (arith, var_room refs scope n m s (block_steps p refs1 scope1 n1 m1 ss), block_vars refs1 scope1 n1 m1 ss)
+        omega (arith, var_room (placed_form x scope s) refs scope n m s (block_steps p refs1 scope1 n1 m1 ss), block_vars refs1 scope1 n1 m1 ss)
 
   -- ---- the numbers of steps are below the one that follows
 
@@ -190,39 +150,25 @@ module _ (p : Program) where
   Lower limit after ss = after ≤ limit → Below limit (steps_numbers ss)
 
   mutual
-    pub below : (refs : Refs) (scope : Scope) (n m : ℕ) (s : Stmt) (rest : Steps) (limit : ℕ) → Below limit (steps_numbers rest) → Lower limit (step_after x scope s n) (steps p refs scope n m s rest)
-    below refs scope n m (Val at name e) rest limit h =
-        by_cases (Lower limit) (portable x scope e) (suc n) (kept_after x scope (Val at name e) n)
-        (MoreSteps (script.Let n at m (keeps_val p e) (sexpr p refs e)) rest) (keeps p refs n (remote_of x scope (Val at name e)) rest)
-        (λ l. (l, h)) (λ l. keeps_below refs (remote_of x scope (Val at name e)) n rest limit l h)
-    below refs scope n m (Run at e) rest limit h = by (is_portable_call x scope e) refl
-      where
-        by : (t : Bool) → is_portable_call x scope e ≡ t
-            → Lower limit (step_after x scope (Run at e) n) (cond t (MoreSteps (script.Do n at (sexpr p refs e)) rest) (keeps p refs n (remote_of x scope (Run at e)) rest))
-        by true i = λ l. (omega (arith, one_step x scope at e n i), h)
-        by false i = λ l. keeps_below refs (remote_of x scope (Run at e)) n rest limit l h
-    below refs scope n m (If at c a b) rest limit h =
+    below : (form : PlacedForm) (refs : Refs) (scope : Scope) (n m : ℕ) (s : Stmt) (rest : Steps) (limit : ℕ) → placed_form x scope s ≡ form → Below limit (steps_numbers rest)
+        → Lower limit (step_after_as x form scope s n) (steps_as p form refs scope n m s rest)
+    below PlacedForm.CarriedVal refs scope n m (Val at name e) rest limit placing h = λ l. (l, h)
+    below PlacedForm.CallAlone refs scope n m (Run at e) rest limit placing h = λ l. (omega (arith, l, one_step x scope at e n (alone_calls x scope at e placing)), h)
+    below PlacedForm.CarriedIf refs scope n m (If at c a b) rest limit placing h =
         let middle = steps_after x scope a (suc n) in
         let first = block_steps p refs scope (suc n) m a in
         let second = block_steps p refs scope middle (vars_after x scope a m) b in
-        by_cases (Lower limit) (branches_hold x a b) (steps_after x scope b middle) (kept_after x scope (If at c a b) n)
-        (MoreSteps (script.If n at (sexpr p refs c) first second) rest) (keeps p refs n (remote_of x scope (If at c a b)) rest)
-        (λ l. all_both (λ i. i < limit) (n ∷ steps_numbers first ++ steps_numbers second) (steps_numbers rest) (
-          omega (arith, grows_all x scope a (suc n), grows_all x scope b middle),
+        λ l. all_both (λ i. i < limit) (n ∷ steps_numbers first ++ steps_numbers second) (steps_numbers rest) (
+          omega (arith, l, grows_all x scope a (suc n), grows_all x scope b middle),
           all_both (λ i. i < limit) (steps_numbers first) (steps_numbers second)
-              (block_below refs scope (suc n) m a limit (omega (arith, grows_all x scope b middle))) (block_below refs scope middle (vars_after x scope a m) b limit l),
-        ) h)
-        (λ l. keeps_below refs (remote_of x scope (If at c a b)) n rest limit l h)
-    below refs scope n m (For at name e a) rest limit h =
+              (block_below refs scope (suc n) m a limit (omega (arith, l, grows_all x scope b middle))) (block_below refs scope middle (vars_after x scope a m) b limit l),
+        ) h
+    below PlacedForm.RowsLoop refs scope n m (For at name e a) rest limit placing h =
         let inner = with_variable scope name Role.Row at in
         let block = block_steps p (with_var refs name m) inner (suc n) (suc m) a in
-        by_cases (Lower limit) (over_rows x e) (steps_after x inner a (suc n)) (kept_after x scope (For at name e a) n)
-        (MoreSteps (script.Each n at m (x.items (expr_at e)) (sexpr p refs e) block) rest)
-        (keeps p refs n (remote_of x scope (For at name e a)) rest)
-        (λ l. all_both (λ i. i < limit) (n ∷ steps_numbers block) (steps_numbers rest)
-        (omega (arith, grows_all x inner a (suc n)), block_below (with_var refs name m) inner (suc n) (suc m) a limit l) h)
-        (λ l. keeps_below refs (remote_of x scope (For at name e a)) n rest limit l h)
-    below refs scope n m s rest limit h = λ l. keeps_below refs (remote_of x scope s) n rest limit l h
+        λ l. all_both (λ i. i < limit) (n ∷ steps_numbers block) (steps_numbers rest)
+        (omega (arith, l, grows_all x inner a (suc n)), block_below (with_var refs name m) inner (suc n) (suc m) a limit l) h
+    below form refs scope n m s rest limit placing h = λ l. keeps_below refs (remote_of x scope s) n rest limit l h
 
     pub block_below : (refs : Refs) (scope : Scope) (n m : ℕ) (ss : Stmts) (limit : ℕ) → Lower limit (steps_after x scope ss n) (block_steps p refs scope n m ss)
     block_below refs scope n m NoStmts limit l = tt
@@ -231,4 +177,4 @@ module _ (p : Program) where
         let scope1 = scope_after x [] scope s in
         let n1 = step_after x scope s n in
         let m1 = var_after x scope s m in
-        below refs scope n m s (block_steps p refs1 scope1 n1 m1 ss) limit (block_below refs1 scope1 n1 m1 ss limit l) (omega (arith, grows_all x scope1 ss n1))
+        below (placed_form x scope s) refs scope n m s (block_steps p refs1 scope1 n1 m1 ss) limit refl (block_below refs1 scope1 n1 m1 ss limit l) (omega (arith, grows_all x scope1 ss n1))

@@ -7,15 +7,17 @@ use Rattle.rb_trees.specs.mirror.Declarations.{Param, Method, Class, Program}
 use Rattle.rb_meaning_types.specs.Kinds.{kind_of, is_primitive}
 use Rattle.rb_meaning_types.specs.Names.{is_new}
 use Rattle.rb_meaning_types.specs.Scopes as typed
+use Rattle.rb_meaning_flow.specs.declared.forms.PlacedForm.{PlacedForm}
 use Rattle.rb_meaning_flow.specs.declared.scopes.Role.{Role}
 use Rattle.rb_meaning_flow.specs.declared.scopes.Variable.{Variable}
-use Rattle.rb_meaning_flow.specs.Facts.{Facts, facts_of, over_rows}
+use Rattle.rb_meaning_flow.specs.Facts.{Facts, facts_of}
 use Rattle.rb_meaning_flow.specs.Scopes.{Scope, variable_named, with_variable, role_in, role_of, is_constant_role, is_portable_role, role_with, variable_with, scope_with}
-use Rattle.rb_meaning_flow.specs.Portable.{portable, branches_hold}
+use Rattle.rb_meaning_flow.specs.Portable.{portable}
+use Rattle.rb_meaning_flow.specs.Forms.{placed_form}
 use Rattle.rb_meaning_flow.specs.Sites.{scope_after}
 use Rattle.rb_meaning_flow.specs.Outermost.{Outermost, outer_role, outer_after, outermost, outermost_in, parameters, method_batches, class_batches, program_batches}
 use Rattle.rb_meaning.specs.RemoteExprs.{remote_of}
-use Rattle.rb_meaning_split.specs.Inputs.{constants, all_constants, kept_constants, used, used_in, first_uses}
+use Rattle.rb_meaning_split.specs.Inputs.{constants, all_constants, kept_constants, used_as, used, used_in, first_uses}
 use Rattle.rb_law_division.proofs.Lists.{each, all_both, all_weaker, cond_is}
 use Rattle.rb_law_division.proofs.Known.{else_first, first_more, SameNames}
 
@@ -173,23 +175,19 @@ module _ (f : Facts) where
   before_after vs (Batch at interface root a) qs h = h
 
   mutual
-    used_constant : (vs : Scope) (s : Stmt) → AllConstant vs (used f vs s)
-    used_constant vs (Val at name e) = cond_is (AllConstant vs) (portable f vs e) (constants vs e) (kept_constants f vs (Val at name e)) (constants_constant vs e) (kept_constant vs (Val at name e))
-    used_constant vs (If at c a b) =
-        cond_is (AllConstant vs) (branches_hold f a b) (constants vs c ++ used_in f vs a ++ used_in f vs b) (kept_constants f vs (If at c a b))
-        (all_both (IsConstantIn vs) (constants vs c ++ used_in f vs a) (used_in f vs b) (all_both (IsConstantIn vs) (constants vs c) (used_in f vs a) (constants_constant vs c) (block_constant vs a)) (block_constant vs b))
-        (kept_constant vs (If at c a b))
-    used_constant vs (For at name e a) =
+    used_constant : (form : PlacedForm) (vs : Scope) (s : Stmt) → AllConstant vs (used_as f form vs s)
+    used_constant PlacedForm.CarriedVal vs (Val at name e) = constants_constant vs e
+    used_constant PlacedForm.CarriedIf vs (If at c a b) =
+        all_both (IsConstantIn vs) (constants vs c ++ used_in f vs a) (used_in f vs b) (all_both (IsConstantIn vs) (constants vs c) (used_in f vs a) (constants_constant vs c) (block_constant vs a)) (block_constant vs b)
+    used_constant PlacedForm.RowsLoop vs (For at name e a) =
         let inner = with_variable vs name Role.Row at in
-        cond_is (AllConstant vs) (over_rows f e) (constants vs e ++ used_in f inner a) (kept_constants f vs (For at name e a))
-        (all_both (IsConstantIn vs) (constants vs e) (used_in f inner a) (constants_constant vs e) (all_less vs name Role.Row at (used_in f inner a) refl (block_constant inner a)))
-        (kept_constant vs (For at name e a))
-    used_constant vs s = kept_constant vs s
+        all_both (IsConstantIn vs) (constants vs e) (used_in f inner a) (constants_constant vs e) (all_less vs name Role.Row at (used_in f inner a) refl (block_constant inner a))
+    used_constant form vs s = kept_constant vs s
 
     pub block_constant : (vs : Scope) (ss : Stmts) → AllConstant vs (used_in f vs ss)
     block_constant vs NoStmts = tt
     block_constant vs (MoreStmts s ss) =
-        all_both (IsConstantIn vs) (used f vs s) (used_in f (scope_after f [] vs s) ss) (used_constant vs s)
+        all_both (IsConstantIn vs) (used f vs s) (used_in f (scope_after f [] vs s) ss) (used_constant (placed_form f vs s) vs s)
         (before_after vs s (used_in f (scope_after f [] vs s) ss) (block_constant (scope_after f [] vs s) ss))
 
 pub uses_so : (P : List ℕ → Type 0) (before qs : List (List ℕ)) → AllByRecursion P qs → AllByRecursion P (first_uses before qs)

@@ -7,22 +7,22 @@ use Rattle.rb_trees.specs.Named.{first_named, lookup}
 use Rattle.rb_trees.specs.ScriptLimits.{most_blocks, most_exprs}
 use Rattle.rb_trees.specs.Validity.{has, when, nested_exprs, expr_refusals, exprs_refusals, whole_refusals, steps_numbers, repeated, nested_blocks, steps_refusals}
 use Rattle.rb_trees.specs.declared.validity.ScriptRefusal.TheVariants.{UnknownVariable, UnknownInput, StepRepeated, TooDeep}
-use Rattle.rb_trees.specs.mirror.Code.{Expr, Exprs, Lit, Name, This, Unary, Binary, Field, Call, Index, New, Items, Taken, NoExprs, MoreExprs, expr_at, Stmt, Stmts, Val, Var, Assign, Run, Print, Throw, If, While, For, Try, Batch, NoStmts, MoreStmts}
+use Rattle.rb_trees.specs.mirror.Code.{Expr, Exprs, Lit, Name, This, Unary, Binary, Field, Call, Index, New, Items, Taken, NoExprs, MoreExprs, Stmt, Stmts, Val, Run, If, For, NoStmts, MoreStmts}
 use Rattle.rb_trees.specs.mirror.Declarations.{Program}
-use Rattle.rb_trees.specs.mirror.Scripts as script
-use Rattle.rb_trees.specs.mirror.Scripts.{SExpr, Steps, NoSteps, MoreSteps}
+use Rattle.rb_trees.specs.mirror.Scripts.{SExpr, Steps, NoSteps}
 use Rattle.rb_meaning_types.specs.Lawful.{expr_depth, exprs_depth, stmt_depth, stmts_depth}
+use Rattle.rb_meaning_flow.specs.declared.forms.PlacedForm.{PlacedForm}
 use Rattle.rb_meaning_flow.specs.declared.scopes.Role.{Role}
-use Rattle.rb_meaning_flow.specs.Facts.{Facts, facts_of, over_rows}
+use Rattle.rb_meaning_flow.specs.Facts.{Facts, facts_of}
 use Rattle.rb_meaning_flow.specs.Scopes.{Scope, with_variable}
-use Rattle.rb_meaning_flow.specs.Portable.{portable, branches_hold}
-use Rattle.rb_meaning_flow.specs.Marks.{is_portable_call}
+use Rattle.rb_meaning_flow.specs.Forms.{placed_form}
 use Rattle.rb_meaning_flow.specs.Sites.{scope_after}
 use Rattle.rb_meaning.specs.RemoteExprs.{remote_of}
 use Rattle.rb_meaning_split.specs.Cuts.{counted}
 use Rattle.rb_meaning_split.specs.Refs.{Ref, Root, Input, Var as Bound, Refs, with_var, ref_expr, sexpr, sexprs}
-use Rattle.rb_meaning_split.specs.Numbers.{kept_after, step_after, steps_after, var_after, vars_after}
-use Rattle.rb_meaning_split.specs.Steps.{refs_after, keeps_val, keeps, steps, block_steps}
+use Rattle.rb_meaning_split.specs.Numbers.{kept_after, step_after_as, step_after, steps_after, var_after, vars_after}
+use Rattle.rb_meaning_split.specs.Steps.{refs_after_as, refs_after, keeps, steps_as, block_steps}
+use Rattle.rb_law_unsplit.proofs.Placed.{alone_calls}
 use Rattle.rb_law_division.proofs.Lists.{all_both, all_weaker, none_both}
 use Rattle.rb_law_division.proofs.Carriable.{Whole, EachWhole, StmtCarriable, StmtsCarriable, remotes_whole}
 use Rattle.rb_law_division.proofs.Numbers.{Below, grows_all, one_step, block_below}
@@ -178,42 +178,22 @@ module _ (inputs : ℕ) where
         → Onward depth n refs (keeps p refs n (remote_of x scope s) rest)
     skip_fine depth refs scope n s rest w h = keeps_fine depth refs (remote_of x scope s) n rest (remotes_whole x scope s w) h
 
-    -- steps by cases, where what follows them goes by the same truth
-    fine_cases : (depth n : ℕ) (refs : Refs) (rest : Steps) (t : Bool) (after after' : ℕ) (names names' : Refs) (ss ss' : Steps)
-        → (Onward depth after names rest → Onward depth n refs ss) → (Onward depth after' names' rest → Onward depth n refs ss')
-        → Onward depth (cond t after after') (cond t names names') rest → Onward depth n refs (cond t ss ss')
-    fine_cases depth n refs rest true after after' names names' ss ss' f g h = f h
-    fine_cases depth n refs rest false after after' names names' ss ss' f g h = g h
-
-    -- the same names by any truth
-    same_names : (t : Bool) (depth : ℕ) (refs : Refs) (rest : Steps) (after : ℕ) → Onward depth after refs rest → Onward depth after (cond t refs refs) rest
-    same_names true depth refs rest after h = h
-    same_names false depth refs rest after h = h
-
     mutual
-      stmt_fine : (depth : ℕ) (refs : Refs) (scope : Scope) (n m : ℕ) (s : Stmt) (rest : Steps) → StmtCarriable s → depth + stmt_depth s ≤ 64
-          → Onward depth (step_after x scope s n) (refs_after p refs m scope s) rest → Onward depth n refs (steps p refs scope n m s rest)
-      stmt_fine depth refs scope n m (Val at name e) rest w d h =
-          fine_cases depth n refs rest (portable x scope e) (suc n) (kept_after x scope (Val at name e) n) (with_var refs name m) refs
-          (MoreSteps (script.Let n at m (keeps_val p e) (sexpr p refs e)) rest) (keeps p refs n (remote_of x scope (Val at name e)) rest)
-          (λ h' seen bound b t. none_both (repeated n seen ++ whole_refusals inputs bound n (sexpr p refs e)) (steps_refusals inputs depth (seen ++ n ∷ []) (bound ++ m ∷ []) rest)
-          (one_fine n refs e seen bound w.1 b t) (h' (seen ++ n ∷ []) (bound ++ m ∷ []) (next_below n seen b) (one_there_more bound refs name m t)))
-          (λ h'. skip_fine depth refs scope n (Val at name e) rest w h') h
-      stmt_fine depth refs scope n m (Run at e) rest w d h = by (is_portable_call x scope e) refl
-        where
-          by : (t : Bool) → is_portable_call x scope e ≡ t → Onward depth n refs (cond t (MoreSteps (script.Do n at (sexpr p refs e)) rest) (keeps p refs n (remote_of x scope (Run at e)) rest))
-          by true i = λ seen bound b t. none_both (repeated n seen ++ whole_refusals inputs bound n (sexpr p refs e)) (steps_refusals inputs depth (seen ++ n ∷ []) (bound ++ []) rest)
-              (one_fine n refs e seen bound w.1 b t)
-              (h (seen ++ n ∷ []) (bound ++ []) (subst (λ k. Below k (seen ++ n ∷ [])) (sym (one_step x scope at e n i)) (next_below n seen b)) (all_there_more bound [] refs t))
-          by false i = skip_fine depth refs scope n (Run at e) rest w h
-      stmt_fine depth refs scope n m (If at c a b) rest w d h =
+      stmt_fine : (form : PlacedForm) (depth : ℕ) (refs : Refs) (scope : Scope) (n m : ℕ) (s : Stmt) (rest : Steps) → placed_form x scope s ≡ form → StmtCarriable s → depth + stmt_depth s ≤ 64
+          → Onward depth (step_after_as x form scope s n) (refs_after_as p form refs m s) rest → Onward depth n refs (steps_as p form refs scope n m s rest)
+      stmt_fine PlacedForm.CarriedVal depth refs scope n m (Val at name e) rest placing w d h = λ seen bound b t.
+          none_both (repeated n seen ++ whole_refusals inputs bound n (sexpr p refs e)) (steps_refusals inputs depth (seen ++ n ∷ []) (bound ++ m ∷ []) rest)
+          (one_fine n refs e seen bound w.1 b t) (h (seen ++ n ∷ []) (bound ++ m ∷ []) (next_below n seen b) (one_there_more bound refs name m t))
+      stmt_fine PlacedForm.CallAlone depth refs scope n m (Run at e) rest placing w d h = λ seen bound b t.
+          none_both (repeated n seen ++ whole_refusals inputs bound n (sexpr p refs e)) (steps_refusals inputs depth (seen ++ n ∷ []) (bound ++ []) rest)
+          (one_fine n refs e seen bound w.1 b t)
+          (h (seen ++ n ∷ []) (bound ++ []) (subst (λ k. Below k (seen ++ n ∷ [])) (sym (one_step x scope at e n (alone_calls x scope at e placing))) (next_below n seen b)) (all_there_more bound [] refs t))
+      stmt_fine PlacedForm.CarriedIf depth refs scope n m (If at c a b) rest placing w d h =
           let middle = steps_after x scope a (suc n) in
           let first = block_steps p refs scope (suc n) m a in
           let second = block_steps p refs scope middle (vars_after x scope a m) b in
           let last = steps_after x scope b middle in
-          fine_cases depth n refs rest (branches_hold x a b) last (kept_after x scope (If at c a b) n) refs refs
-          (MoreSteps (script.If n at (sexpr p refs c) first second) rest) (keeps p refs n (remote_of x scope (If at c a b)) rest)
-          (λ h' seen bound below t.
+          λ seen bound below t.
           let numbers : Below middle (n ∷ steps_numbers first) = (omega (arith, grows_all x scope a (suc n)), block_below p refs scope (suc n) m a middle (omega arith)) in
           none_both (repeated n seen ++ nested_blocks n depth ++ whole_refusals inputs bound n (sexpr p refs c)
           ++ steps_refusals inputs (depth + 1) (seen ++ n ∷ []) bound first ++ steps_refusals inputs (depth + 1) (seen ++ n ∷ steps_numbers first) bound second)
@@ -225,34 +205,24 @@ module _ (inputs : ℕ) where
           (stmts_fine (depth + 1) refs scope (suc n) m a w.2 (omega (arith, d)) (seen ++ n ∷ []) bound (next_below n seen below) t))
           (stmts_fine (depth + 1) refs scope middle (vars_after x scope a m) b w.3 (omega (arith, d)) (seen ++ n ∷ steps_numbers first) bound
           (below_more n middle seen (n ∷ steps_numbers first) (omega (arith, grows_all x scope a (suc n))) below numbers) t))
-          (h' (seen ++ (n ∷ steps_numbers first ++ steps_numbers second)) (bound ++ [])
+          (h (seen ++ (n ∷ steps_numbers first ++ steps_numbers second)) (bound ++ [])
           (below_more n last seen (n ∷ steps_numbers first ++ steps_numbers second) (omega (arith, grows_all x scope a (suc n), grows_all x scope b middle)) below
           (below_more middle last (n ∷ steps_numbers first) (steps_numbers second) (grows_all x scope b middle) numbers (block_below p refs scope middle (vars_after x scope a m) b last (omega arith))))
-          (all_there_more bound [] refs t)))
-          (λ h'. skip_fine depth refs scope n (If at c a b) rest w h') (same_names (branches_hold x a b) depth refs rest (step_after x scope (If at c a b) n) h)
-      stmt_fine depth refs scope n m (For at name e a) rest w d h =
+          (all_there_more bound [] refs t))
+      stmt_fine PlacedForm.RowsLoop depth refs scope n m (For at name e a) rest placing w d h =
           let inner = with_variable scope name Role.Row at in
           let block = block_steps p (with_var refs name m) inner (suc n) (suc m) a in
           let last = steps_after x inner a (suc n) in
-          fine_cases depth n refs rest (over_rows x e) last (kept_after x scope (For at name e a) n) refs refs
-          (MoreSteps (script.Each n at m (x.items (expr_at e)) (sexpr p refs e) block) rest) (keeps p refs n (remote_of x scope (For at name e a)) rest)
-          (λ h' seen bound below t.
+          λ seen bound below t.
           let numbers : Below last (n ∷ steps_numbers block) = (omega (arith, grows_all x inner a (suc n)), block_below p (with_var refs name m) inner (suc n) (suc m) a last (omega arith)) in
           none_both (repeated n seen ++ nested_blocks n depth ++ whole_refusals inputs bound n (sexpr p refs e) ++ steps_refusals inputs (depth + 1) (seen ++ n ∷ []) (bound ++ m ∷ []) block)
           (steps_refusals inputs depth (seen ++ (n ∷ steps_numbers block)) (bound ++ []) rest)
           (none_both (repeated n seen ++ nested_blocks n depth ++ whole_refusals inputs bound n (sexpr p refs e)) (steps_refusals inputs (depth + 1) (seen ++ n ∷ []) (bound ++ m ∷ []) block)
           (block_step_fine n depth refs e seen bound w.1 (omega (arith, d)) below t)
           (stmts_fine (depth + 1) (with_var refs name m) inner (suc n) (suc m) a w.2 (omega (arith, d)) (seen ++ n ∷ []) (bound ++ m ∷ []) (next_below n seen below) (one_there_more bound refs name m t)))
-          (h' (seen ++ (n ∷ steps_numbers block)) (bound ++ [])
-          (below_more n last seen (n ∷ steps_numbers block) (omega (arith, grows_all x inner a (suc n))) below numbers) (all_there_more bound [] refs t)))
-          (λ h'. skip_fine depth refs scope n (For at name e a) rest w h') (same_names (over_rows x e) depth refs rest (step_after x scope (For at name e a) n) h)
-      stmt_fine depth refs scope n m (Var at name e) rest w d h = skip_fine depth refs scope n (Var at name e) rest w h
-      stmt_fine depth refs scope n m (Assign at a b) rest w d h = skip_fine depth refs scope n (Assign at a b) rest w h
-      stmt_fine depth refs scope n m (Print at e) rest w d h = skip_fine depth refs scope n (Print at e) rest w h
-      stmt_fine depth refs scope n m (Throw at e) rest w d h = skip_fine depth refs scope n (Throw at e) rest w h
-      stmt_fine depth refs scope n m (While at c a) rest w d h = skip_fine depth refs scope n (While at c a) rest w h
-      stmt_fine depth refs scope n m (Try at a name b) rest w d h = skip_fine depth refs scope n (Try at a name b) rest w h
-      stmt_fine depth refs scope n m (Batch at interface root a) rest w d h = skip_fine depth refs scope n (Batch at interface root a) rest w h
+          (h (seen ++ (n ∷ steps_numbers block)) (bound ++ [])
+          (below_more n last seen (n ∷ steps_numbers block) (omega (arith, grows_all x inner a (suc n))) below numbers) (all_there_more bound [] refs t))
+      stmt_fine form depth refs scope n m s rest placing w d h = skip_fine depth refs scope n s rest w h
 
       pub stmts_fine : (depth : ℕ) (refs : Refs) (scope : Scope) (n m : ℕ) (ss : Stmts) → StmtsCarriable ss → depth + stmts_depth ss ≤ 64 → Onward depth n refs (block_steps p refs scope n m ss)
       stmts_fine depth refs scope n m NoStmts w d = λ seen bound b t. refl
@@ -261,4 +231,4 @@ module _ (inputs : ℕ) where
           let scope1 = scope_after x [] scope s in
           let n1 = step_after x scope s n in
           let m1 = var_after x scope s m in
-          stmt_fine depth refs scope n m s (block_steps p refs1 scope1 n1 m1 ss) w.0 (omega (arith, d)) (stmts_fine depth refs1 scope1 n1 m1 ss w.1 (omega (arith, d)))
+          stmt_fine (placed_form x scope s) depth refs scope n m s (block_steps p refs1 scope1 n1 m1 ss) refl w.0 (omega (arith, d)) (stmts_fine depth refs1 scope1 n1 m1 ss w.1 (omega (arith, d)))
