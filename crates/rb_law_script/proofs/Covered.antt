@@ -7,21 +7,24 @@ use Rattle.std.proofs.lemmas.List.Elements.{Contains-append_cases}
 use Rattle.rb_trees.specs.Named.{lookup}
 use Rattle.rb_trees.specs.mirror.Code.{Expr, Exprs, Lit, Name, This, Unary, Binary, Field, Call, Index, New, Items, Taken, NoExprs, MoreExprs, Stmt, Stmts, Val, Var as VarStmt, Assign, Run, Print, Throw, If, While, For, Try, Batch, NoStmts, MoreStmts}
 use Rattle.rb_trees.specs.mirror.Declarations.{Program}
+use Rattle.rb_meaning_flow.specs.declared.forms.PlacedForm.{PlacedForm}
 use Rattle.rb_meaning_flow.specs.declared.scopes.Role.{Role}
 use Rattle.rb_meaning_flow.specs.declared.scopes.Variable.{Variable}
-use Rattle.rb_meaning_flow.specs.Facts.{Facts, facts_of, is_remote, over_rows}
+use Rattle.rb_meaning_flow.specs.Facts.{Facts, facts_of, is_remote}
 use Rattle.rb_meaning_flow.specs.Scopes.{Scope, variable_named, with_variable, role_in, role_of, is_constant_role, is_portable_role}
-use Rattle.rb_meaning_flow.specs.Portable.{portable, all_portable, branches_hold}
+use Rattle.rb_meaning_flow.specs.Portable.{portable, all_portable}
+use Rattle.rb_meaning_flow.specs.Forms.{placed_form}
 use Rattle.rb_meaning_flow.specs.Sites.{scope_after}
 use Rattle.rb_meaning.specs.RemoteExprs.{remote_of}
 use Rattle.rb_meaning_split.specs.Refs.{Ref, Var, Refs, with_var}
-use Rattle.rb_meaning_split.specs.Inputs.{constants, all_constants, kept_constants, used, used_in}
-use Rattle.rb_meaning_split.specs.Steps.{refs_after}
+use Rattle.rb_meaning_split.specs.Inputs.{constants, all_constants, kept_constants, used_as, used, used_in}
+use Rattle.rb_meaning_split.specs.Steps.{refs_after_as, refs_after}
 use Rattle.rb_flow.proofs.Members.{first_contained, given_by, cond_contained, none_contained}
 use Rattle.rb_law_types.specs.Formed.{IsFormedExpr, AreFormedExprs}
 use Rattle.rb_law_types.proofs.SitesWithin.{Within, within_left, within_right}
 use Rattle.rb_law_script.proofs.Lookups.{first_or, lookup_old, lookup_new, first_old, first_new}
 use Rattle.rb_law_script.proofs.Linked.{IsFound, Closed, AllClosed}
+use Rattle.rb_law_script.proofs.Numbers.{same_refs}
 
 -- each portable variable is one of the script, if it isn't constant or if it is one of these
 abbrev pub Covered : List (List ℕ) → Refs → Scope → Type 0
@@ -86,19 +89,11 @@ covered_plain names refs vs name at h y r c = by (variable_named vs y) refl
 pub covered_after : (p : Program) (names : List (List ℕ)) (refs : Refs) (m : ℕ) (vs : Scope) (s : Stmt) → Covered names refs vs → Covered names (refs_after p refs m vs s) (scope_after (facts_of p) [] vs s)
 covered_after p names refs m vs (Val at name e) h = by (portable (facts_of p) vs e)
   where
-    by : (t : Bool) → Covered names (cond t (with_var refs name m) refs) (with_variable vs name (cond t Role.Carried Role.Plain) at)
+    by : (t : Bool) → Covered names (refs_after_as p (cond t PlacedForm.CarriedVal PlacedForm.Plain) refs m (Val at name e)) (with_variable vs name (cond t Role.Carried Role.Plain) at)
     by true = covered_with names refs vs name m Role.Carried at h
     by false = covered_plain names refs vs name at h
 covered_after p names refs m vs (VarStmt at name e) h = covered_plain names refs vs name at h
-covered_after p names refs m vs (Assign at a b) h = h
-covered_after p names refs m vs (Run at e) h = h
-covered_after p names refs m vs (Print at e) h = h
-covered_after p names refs m vs (Throw at e) h = h
-covered_after p names refs m vs (If at c a b) h = h
-covered_after p names refs m vs (While at c a) h = h
-covered_after p names refs m vs (For at name e a) h = h
-covered_after p names refs m vs (Try at a name b) h = h
-covered_after p names refs m vs (Batch at interface root a) h = h
+covered_after p names refs m vs s h = subst (λ r. Covered names r vs) (sym (same_refs p (placed_form (facts_of p) vs s) refs m s tt)) h
 
 -- a portable expression whose constant variables are such
 module _ (f : Facts) (names : List (List ℕ)) (refs : Refs) (vs : Scope) (covered : Covered names refs vs) where
@@ -186,32 +181,18 @@ mutual
 kept_constant : (f : Facts) (vs : Scope) (s : Stmt) (y : List ℕ) → Contains (kept_constants f vs s) y → IsConstantIn vs y
 kept_constant f vs s y h = let it = given_by (constants vs) (remote_of f vs s) y h in constants_constant vs it.by y it.gives
 
-either_constant : (vs : Scope) (t : Bool) (xs ys : List (List ℕ)) (y : List ℕ) → (Contains xs y → IsConstantIn vs y) → (Contains ys y → IsConstantIn vs y) → Contains (cond t xs ys) y → IsConstantIn vs y
-either_constant vs true xs ys y f g h = f h
-either_constant vs false xs ys y f g h = g h
-
 mutual
-  pub used_constant : (f : Facts) (vs : Scope) (s : Stmt) (y : List ℕ) → Contains (used f vs s) y → IsConstantIn vs y
-  used_constant f vs (Val at name e) y h =
-      either_constant vs (portable f vs e) (constants vs e) (kept_constants f vs (Val at name e)) y (constants_constant vs e y) (kept_constant f vs (Val at name e) y) h
-  used_constant f vs (If at c a b) y h =
-      either_constant vs (branches_hold f a b) (constants vs c ++ used_in f vs a ++ used_in f vs b) (kept_constants f vs (If at c a b)) y
-      (of_both (constants vs c ++ used_in f vs a) (used_in f vs b) y
-      (of_both (constants vs c) (used_in f vs a) y (constants_constant vs c y) (block_constant f vs a y)) (block_constant f vs b y)) (kept_constant f vs (If at c a b) y) h
-  used_constant f vs (For at name e a) y h =
+  used_as_constant : (f : Facts) (form : PlacedForm) (vs : Scope) (s : Stmt) (y : List ℕ) → Contains (used_as f form vs s) y → IsConstantIn vs y
+  used_as_constant f PlacedForm.CarriedVal vs (Val at name e) y h = constants_constant vs e y h
+  used_as_constant f PlacedForm.CarriedIf vs (If at c a b) y h =
+      of_both (constants vs c ++ used_in f vs a) (used_in f vs b) y
+      (of_both (constants vs c) (used_in f vs a) y (constants_constant vs c y) (block_constant f vs a y)) (block_constant f vs b y) h
+  used_as_constant f PlacedForm.RowsLoop vs (For at name e a) y h =
       let inner = with_variable vs name Role.Row at in
-      either_constant vs (over_rows f e) (constants vs e ++ used_in f inner a) (kept_constants f vs (For at name e a)) y
-      (of_both (constants vs e) (used_in f inner a) y (constants_constant vs e y) (λ k. constant_less vs y name Role.Row at refl (block_constant f inner a y k))) (kept_constant f vs (For at name e a) y) h
-  used_constant f vs (VarStmt at name e) y h = kept_constant f vs (VarStmt at name e) y h
-  used_constant f vs (Assign at a b) y h = kept_constant f vs (Assign at a b) y h
-  used_constant f vs (Run at e) y h = kept_constant f vs (Run at e) y h
-  used_constant f vs (Print at e) y h = kept_constant f vs (Print at e) y h
-  used_constant f vs (Throw at e) y h = kept_constant f vs (Throw at e) y h
-  used_constant f vs (While at c a) y h = kept_constant f vs (While at c a) y h
-  used_constant f vs (Try at a name b) y h = kept_constant f vs (Try at a name b) y h
-  used_constant f vs (Batch at interface root a) y h = kept_constant f vs (Batch at interface root a) y h
+      of_both (constants vs e) (used_in f inner a) y (constants_constant vs e y) (λ k. constant_less vs y name Role.Row at refl (block_constant f inner a y k)) h
+  used_as_constant f form vs s y h = kept_constant f vs s y h
 
   pub block_constant : (f : Facts) (vs : Scope) (ss : Stmts) (y : List ℕ) → Contains (used_in f vs ss) y → IsConstantIn vs y
   block_constant f vs NoStmts y h = absurd (none_contained y h)
   block_constant f vs (MoreStmts s ss) y h =
-      of_both (used f vs s) (used_in f (scope_after f [] vs s) ss) y (used_constant f vs s y) (λ k. constant_before f vs s y (block_constant f (scope_after f [] vs s) ss y k)) h
+      of_both (used f vs s) (used_in f (scope_after f [] vs s) ss) y (used_as_constant f (placed_form f vs s) vs s y) (λ k. constant_before f vs s y (block_constant f (scope_after f [] vs s) ss y k)) h

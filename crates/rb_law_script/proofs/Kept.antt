@@ -16,7 +16,8 @@ use Rattle.rb_meaning_types.specs.Scopes as typed
 use Rattle.rb_meaning_types.specs.Expressions.{type_of}
 use Rattle.rb_meaning_types.specs.Statements.{is_open_variable, is_assignable, is_printable, check_stmt}
 use Rattle.rb_meaning_types.specs.Notes.{type_at}
-use Rattle.rb_meaning_flow.specs.Facts.{Facts, facts_of, over_rows}
+use Rattle.rb_meaning_flow.specs.declared.forms.PlacedForm.{PlacedForm}
+use Rattle.rb_meaning_flow.specs.Facts.{Facts, facts_of}
 use Rattle.rb_meaning_flow.specs.Scopes.{Scope}
 use Rattle.rb_meaning_flow.specs.Portable.{portable, holds_call}
 use Rattle.rb_meaning_flow.specs.Marks.{is_portable_call}
@@ -33,6 +34,7 @@ use Rattle.rb_law_types.proofs.Parts.{val_parts, var_parts, assign_parts, run_pa
 use Rattle.rb_law_types.proofs.SitesWithin.{Within, within_left, within_right, site_first, stmt_first, own_among, first_among}
 use Rattle.rb_law_unsplit.proofs.Agreed.{Agree}
 use Rattle.rb_law_unsplit.proofs.Walked.{all_append}
+use Rattle.rb_law_script.proofs.Forms.{Tells}
 use Rattle.rb_law_script.proofs.NoUnit.{NoUnit, field_kind_no_unit}
 use Rattle.rb_law_script.proofs.Sent.{Sent, not_remote, remote_sent}
 
@@ -71,13 +73,6 @@ printable_no_unit d (kind.RowsOf row) h = refl
 over_no_unit : (list item : Kind) → (list ≡ kind.ListOf item) ⊎ (list ≡ kind.RowsOf item) → NoUnit list
 over_no_unit list item (inl e) = ap is_unit e
 over_no_unit list item (inr e) = ap is_unit e
-
--- The statement has no step of its own, but each of its remote expressions is kept.
-abbrev pub IsKept : Facts → Scope → Stmt → Type 0
-IsKept f vs (Val at name e) = portable f vs e ≡ false
-IsKept f vs (Run at e) = is_portable_call f vs e ≡ false
-IsKept f vs (For at name e a) = over_rows f e ≡ false
-IsKept f vs s = Unit {0}
 
 module _ (given : RemoteCallsGiveFar) (p : Program) (declared : AreTyped (of_program p)) (this : Option (List ℕ)) (remote : Truth) (ss : List StmtSite) (none : (r : Refusal) → IsRefusal (facts_of p) ss r → ⊥) (sends : SendsPortable (facts_of p) ss) where
   abbrev x : Context
@@ -159,7 +154,8 @@ module _ (given : RemoteCallsGiveFar) (p : Program) (declared : AreTyped (of_pro
     assignable_no_unit opens (Items at item items) k h t = absurd (cc (h))
     assignable_no_unit opens (Taken at step) k h t = absurd (cc (h))
 
-    pub kept_sent : OpenScope ws → (after : typed.Scope) (s : Stmt) → check_stmt x ws s ≡ Ok after → IsNotedStmt types x ws s → IsFormedStmt s → Within (sites f around vs s) ss → IsKept f vs s → AllByRecursion (Sent' vs ws) (remote_of f vs s)
+    -- of a statement that has no step of its own, each remote expression is kept
+    pub kept_sent : OpenScope ws → (after : typed.Scope) (s : Stmt) → check_stmt x ws s ≡ Ok after → IsNotedStmt types x ws s → IsFormedStmt s → Within (sites f around vs s) ss → Tells f vs PlacedForm.Plain s → AllByRecursion (Sent' vs ws) (remote_of f vs s)
     kept_sent opens after (Val at name e) t n g w kept =
         let c = val_parts x ws at name e after t in
         one_sent (Val at name e) e c.kind (first_among f ss around vs (Val at name e) e [] refl w) c.typed n g

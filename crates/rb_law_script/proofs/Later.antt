@@ -3,7 +3,7 @@ use Rattle.std.proofs.Common.{◌≡◌, ◌≤◌, refl, ap, arith, ℕ, suc, L
 use Rattle.std.proofs.lemmas.Bool.{ne_eqb}
 use Rattle.rb_trees.specs.declared.values.Value.{Value}
 use Rattle.rb_trees.specs.declared.forests.NodeFault.{NodeFault}
-use Rattle.rb_trees.specs.mirror.Code.{Expr, expr_at, Stmt, Stmts, Val, Var, Assign, Run, Print, Throw, If, While, For, Try, Batch, NoStmts, MoreStmts}
+use Rattle.rb_trees.specs.mirror.Code.{Expr, expr_at, Stmt, Stmts, Val, Run, If, For, NoStmts, MoreStmts}
 use Rattle.rb_trees.specs.mirror.Declarations.{Program}
 use Rattle.rb_trees.specs.mirror.Forests as forest
 use Rattle.rb_trees.specs.mirror.Forests.{Node, Holds, Entry, NoEntries, MoreEntries}
@@ -12,19 +12,19 @@ use Rattle.rb_trees.specs.mirror.Scripts.{Steps, MoreSteps}
 use Rattle.rb_meaning_code.specs.Remote.{Server, Reply, Got, Stopped, and_then}
 use Rattle.rb_meaning_code.specs.ScriptRun as run
 use Rattle.rb_meaning_code.specs.ScriptRun.{Ground, Vars, PlacedFault, Ran, in_front, with_entry, on_reply, kept, with_kept, condition, rows_of, goes_on, branched, chosen, Why, AllDone, InTurn, NoUnit, after_turns, turn_over, walked, run_steps}
+use Rattle.rb_meaning_flow.specs.declared.forms.PlacedForm.{PlacedForm}
 use Rattle.rb_meaning_flow.specs.declared.scopes.Role.{Role}
-use Rattle.rb_meaning_flow.specs.Facts.{Facts, facts_of, over_rows}
+use Rattle.rb_meaning_flow.specs.Facts.{Facts, facts_of}
 use Rattle.rb_meaning_flow.specs.Scopes.{Scope, with_variable}
-use Rattle.rb_meaning_flow.specs.Portable.{portable, branches_hold}
-use Rattle.rb_meaning_flow.specs.Marks.{is_portable_call}
+use Rattle.rb_meaning_flow.specs.Forms.{placed_form}
 use Rattle.rb_meaning_flow.specs.Sites.{scope_after}
 use Rattle.rb_meaning.specs.RemoteExprs.{remote_of}
 use Rattle.rb_meaning_split.specs.Refs.{Refs, with_var, sexpr}
 use Rattle.rb_meaning_split.specs.Cuts.{counted}
-use Rattle.rb_meaning_split.specs.Numbers.{kept_after, step_after, steps_after, var_after, vars_after}
-use Rattle.rb_meaning_split.specs.Steps.{refs_after, keeps_val, keeps, steps, block_steps}
+use Rattle.rb_meaning_split.specs.Numbers.{step_after_as, step_after, steps_after, var_after, vars_after}
+use Rattle.rb_meaning_split.specs.Steps.{refs_after, keeps_val, keeps, steps_as, steps, block_steps}
 use Rattle.rb_meaning_split.specs.Replay.{fault_at}
-use Rattle.rb_law_script.proofs.Numbers.{le_same, le_suc, le_trans, suc_le, either_le}
+use Rattle.rb_law_script.proofs.Numbers.{le_same, le_suc, le_trans, suc_le}
 
 pub counts : (es : List Expr) (n : ℕ) → n ≤ counted es n
 counts [] n = le_same n
@@ -32,29 +32,21 @@ counts (e ∷ es) n = suc_le n (counted es (suc n)) (counts es (suc n))
 
 module _ (f : Facts) where
   mutual
-    pub grows : (vs : Scope) (s : Stmt) (n : ℕ) → n ≤ step_after f vs s n
-    grows vs (Val at name e) n = either_le (portable f vs e) n (suc n) (kept_after f vs (Val at name e) n) (le_suc n) (counts (remote_of f vs (Val at name e)) n)
-    grows vs (If at c a b) n =
+    grows_as : (form : PlacedForm) (vs : Scope) (s : Stmt) (n : ℕ) → n ≤ step_after_as f form vs s n
+    grows_as PlacedForm.CarriedVal vs (Val at name e) n = le_suc n
+    grows_as PlacedForm.CarriedIf vs (If at c a b) n =
         let first = steps_after f vs a (suc n) in
-        either_le (branches_hold f a b) n (steps_after f vs b first) (kept_after f vs (If at c a b) n)
-        (le_trans n first (steps_after f vs b first) (suc_le n first (grows_block vs a (suc n))) (grows_block vs b first)) (counts (remote_of f vs (If at c a b)) n)
-    grows vs (For at name e a) n =
+        le_trans n first (steps_after f vs b first) (suc_le n first (grows_block vs a (suc n))) (grows_block vs b first)
+    grows_as PlacedForm.RowsLoop vs (For at name e a) n =
         let inner = with_variable vs name Role.Row at in
-        either_le (over_rows f e) n (steps_after f inner a (suc n)) (kept_after f vs (For at name e a) n) (suc_le n (steps_after f inner a (suc n)) (grows_block inner a (suc n))) (counts (remote_of f vs (For at name e a)) n)
-    grows vs (Var at name e) n = counts (remote_of f vs (Var at name e)) n
-    grows vs (Assign at a b) n = counts (remote_of f vs (Assign at a b)) n
-    grows vs (Run at e) n = counts (remote_of f vs (Run at e)) n
-    grows vs (Print at e) n = counts (remote_of f vs (Print at e)) n
-    grows vs (Throw at e) n = counts (remote_of f vs (Throw at e)) n
-    grows vs (While at c a) n = counts (remote_of f vs (While at c a)) n
-    grows vs (Try at a name b) n = counts (remote_of f vs (Try at a name b)) n
-    grows vs (Batch at interface root a) n = counts (remote_of f vs (Batch at interface root a)) n
+        suc_le n (steps_after f inner a (suc n)) (grows_block inner a (suc n))
+    grows_as form vs s n = counts (remote_of f vs s) n
 
     pub grows_block : (vs : Scope) (ss : Stmts) (n : ℕ) → n ≤ steps_after f vs ss n
     grows_block vs NoStmts n = le_same n
     grows_block vs (MoreStmts s ss) n =
         let after = scope_after f [] vs s in
-        le_trans n (step_after f vs s n) (steps_after f after ss (step_after f vs s n)) (grows vs s n) (grows_block after ss (step_after f vs s n))
+        le_trans n (step_after f vs s n) (steps_after f after ss (step_after f vs s n)) (grows_as (placed_form f vs s) vs s n) (grows_block after ss (step_after f vs s n))
 
 -- the fault that a node itself holds
 abbrev pub fault_in : Node → Option NodeFault
@@ -141,55 +133,22 @@ module _ (p : Program) (g : Ground) where
       (λ rows s1. let t = run.turns (λ row s2. turn_over n at keep (λ s3. run_steps g a ((m, row) ∷ vars) s3 run.ended) row s2) rows s1 in
       later_entry n (forest.Rows t.nodes) (after_turns n at t.why t.server (λ s2. run_steps g rest vars s2 kr)) (later_turns n k at t.why t.server (λ s2. run_steps g rest vars s2 kr) h (λ s2. l vars s2)))
 
-  -- the steps of a statement, before those that follow
-  pub later_steps : (refs : Refs) (vs : Scope) (s : Stmt) (n m : ℕ) (rest : Steps) (kr : Vars → Server → Ran) → AllLater (step_after f vs s n) (runs rest kr) → AllLater n (runs (steps p refs vs n m s rest) kr)
-  later_steps refs vs (Val at name e) n m rest kr l = by (portable f vs e) l
-    where
-      by : (b : Bool) → AllLater (cond b (suc n) (kept_after f vs (Val at name e) n)) (runs rest kr)
-          → AllLater n (runs (cond b (MoreSteps (script.Let n at m (keeps_val p e) (sexpr p refs e)) rest) (keeps p refs n (remote_of f vs (Val at name e)) rest)) kr)
-      by true h = later_let n at m (keeps_val p e) (sexpr p refs e) rest kr h
-      by false h = later_keeps refs (remote_of f vs (Val at name e)) n rest kr h
-  later_steps refs vs (Run at e) n m rest kr l = by (is_portable_call f vs e)
-    where
-      by : (b : Bool) → AllLater n (runs (cond b (MoreSteps (script.Do n at (sexpr p refs e)) rest) (keeps p refs n (remote_of f vs (Run at e)) rest)) kr)
-      by true = later_do n (step_after f vs (Run at e) n) at (sexpr p refs e) rest kr (grows f vs (Run at e) n) l
-      by false = later_keeps refs (remote_of f vs (Run at e)) n rest kr l
-  later_steps refs vs (If at c a b) n m rest kr l = by (branches_hold f a b) l (grows f vs (If at c a b) n)
-    where
-      first : Steps
-      first = block_steps p refs vs (suc n) m a
-
-      second : Steps
-      second = block_steps p refs vs (steps_after f vs a (suc n)) (vars_after f vs a m) b
-
-      by : (h : Bool) → AllLater (cond h (steps_after f vs b (steps_after f vs a (suc n))) (kept_after f vs (If at c a b) n)) (runs rest kr) → n ≤ cond h (steps_after f vs b (steps_after f vs a (suc n))) (kept_after f vs (If at c a b) n)
-          → AllLater n (runs (cond h (MoreSteps (script.If n at (sexpr p refs c) first second) rest) (keeps p refs n (remote_of f vs (If at c a b)) rest)) kr)
-      by true h le = later_if n (steps_after f vs b (steps_after f vs a (suc n))) at (sexpr p refs c) first second rest kr le h
-      by false h le = later_keeps refs (remote_of f vs (If at c a b)) n rest kr h
-  later_steps refs vs (For at name e a) n m rest kr l = by (over_rows f e) l (grows f vs (For at name e a) n)
-    where
-      inner : Scope
-      inner = with_variable vs name Role.Row at
-
-      block : Steps
-      block = block_steps p (with_var refs name m) inner (suc n) (suc m) a
-
-      by : (h : Bool) → AllLater (cond h (steps_after f inner a (suc n)) (kept_after f vs (For at name e a) n)) (runs rest kr) → n ≤ cond h (steps_after f inner a (suc n)) (kept_after f vs (For at name e a) n)
-          → AllLater n (runs (cond h (MoreSteps (script.Each n at m (f.items (expr_at e)) (sexpr p refs e) block) rest) (keeps p refs n (remote_of f vs (For at name e a)) rest)) kr)
-      by true h le = later_each n (steps_after f inner a (suc n)) at m (f.items (expr_at e)) (sexpr p refs e) block rest kr le h
-      by false h le = later_keeps refs (remote_of f vs (For at name e a)) n rest kr h
-  later_steps refs vs (Var at name e) n m rest kr l = later_keeps refs (remote_of f vs (Var at name e)) n rest kr l
-  later_steps refs vs (Assign at a b) n m rest kr l = later_keeps refs (remote_of f vs (Assign at a b)) n rest kr l
-  later_steps refs vs (Print at e) n m rest kr l = later_keeps refs (remote_of f vs (Print at e)) n rest kr l
-  later_steps refs vs (Throw at e) n m rest kr l = later_keeps refs (remote_of f vs (Throw at e)) n rest kr l
-  later_steps refs vs (While at c a) n m rest kr l = later_keeps refs (remote_of f vs (While at c a)) n rest kr l
-  later_steps refs vs (Try at a name b) n m rest kr l = later_keeps refs (remote_of f vs (Try at a name b)) n rest kr l
-  later_steps refs vs (Batch at interface root a) n m rest kr l = later_keeps refs (remote_of f vs (Batch at interface root a)) n rest kr l
+  -- the steps of a statement, by its form, before those that follow
+  later_as : (form : PlacedForm) (refs : Refs) (vs : Scope) (s : Stmt) (n m : ℕ) (rest : Steps) (kr : Vars → Server → Ran) → AllLater (step_after_as f form vs s n) (runs rest kr) → AllLater n (runs (steps_as p form refs vs n m s rest) kr)
+  later_as PlacedForm.CarriedVal refs vs (Val at name e) n m rest kr l = later_let n at m (keeps_val p e) (sexpr p refs e) rest kr l
+  later_as PlacedForm.CallAlone refs vs (Run at e) n m rest kr l = later_do n (counted (remote_of f vs (Run at e)) n) at (sexpr p refs e) rest kr (counts (remote_of f vs (Run at e)) n) l
+  later_as PlacedForm.CarriedIf refs vs (If at c a b) n m rest kr l =
+      let middle = steps_after f vs a (suc n) in
+      later_if n (steps_after f vs b middle) at (sexpr p refs c) (block_steps p refs vs (suc n) m a) (block_steps p refs vs middle (vars_after f vs a m) b) rest kr (grows_as f PlacedForm.CarriedIf vs (If at c a b) n) l
+  later_as PlacedForm.RowsLoop refs vs (For at name e a) n m rest kr l =
+      let inner = with_variable vs name Role.Row at in
+      later_each n (steps_after f inner a (suc n)) at m (f.items (expr_at e)) (sexpr p refs e) (block_steps p (with_var refs name m) inner (suc n) (suc m) a) rest kr (grows_as f PlacedForm.RowsLoop vs (For at name e a) n) l
+  later_as form refs vs s n m rest kr l = later_keeps refs (remote_of f vs s) n rest kr l
 
   -- the steps of a block, and what follows it
   pub later_block : (refs : Refs) (vs : Scope) (ss : Stmts) (n m : ℕ) (kr : Vars → Server → Ran) → AllLater (steps_after f vs ss n) kr → AllLater n (runs (block_steps p refs vs n m ss) kr)
   later_block refs vs NoStmts n m kr l = l
   later_block refs vs (MoreStmts s ss) n m kr l =
       let after = scope_after f [] vs s in
-      later_steps refs vs s n m (block_steps p (refs_after p refs m vs s) after (step_after f vs s n) (var_after f vs s m) ss) kr
+      later_as (placed_form f vs s) refs vs s n m (block_steps p (refs_after p refs m vs s) after (step_after f vs s n) (var_after f vs s m) ss) kr
       (later_block (refs_after p refs m vs s) after ss (step_after f vs s n) (var_after f vs s m) kr l)

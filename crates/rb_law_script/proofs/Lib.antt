@@ -2,6 +2,7 @@
 pub mod Lookups
 pub mod Linked
 pub mod Values
+pub mod Forms
 pub mod Numbers
 pub mod Covered
 pub mod Inputs

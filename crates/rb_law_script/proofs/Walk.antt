@@ -27,21 +27,23 @@ use Rattle.rb_meaning_code.specs.State.{Names}
 use Rattle.rb_meaning_code.specs.Statements.{truth_of}
 use Rattle.rb_meaning_code.specs.Remote.{Server, Reply, Got, and_then, replies, rows_in}
 use Rattle.rb_meaning_code.specs.ScriptRun as run
-use Rattle.rb_meaning_code.specs.ScriptRun.{Ground, Vars, Ran, on_reply, with_entry, kept, with_kept, condition, rows_of, branched, chosen, turn_over, walked, run_steps}
+use Rattle.rb_meaning_code.specs.ScriptRun.{Ground, Vars, Ran, with_entry, kept, with_kept, condition, rows_of, branched, chosen, turn_over, walked, run_steps}
+use Rattle.rb_meaning_flow.specs.declared.forms.PlacedForm.{PlacedForm}
 use Rattle.rb_meaning_flow.specs.declared.scopes.Role.{Role}
 use Rattle.rb_meaning_flow.specs.Facts.{Facts, facts_of, over_rows, is_rows}
 use Rattle.rb_meaning_flow.specs.Scopes.{Scope, with_variable}
 use Rattle.rb_meaning_flow.specs.Portable.{portable, holds_call, branches_hold}
 use Rattle.rb_meaning_flow.specs.Marks.{is_portable_call}
+use Rattle.rb_meaning_flow.specs.Forms.{placed_form}
 use Rattle.rb_meaning_flow.specs.Sites.{Around, Branch, Turn, is_script_place, StmtSite, scope_after, stmt_site, sites, block_sites}
 use Rattle.rb_meaning_flow.specs.Refusals.{IsRefusal}
 use Rattle.rb_meaning.specs.RemoteExprs.{remote_in, all_remote_in, remote_of}
 use Rattle.rb_meaning.specs.RemotePart as part
-use Rattle.rb_meaning.specs.RemotePart.{Walked, Rest, with_name, performed, skims, walk, walk_block}
+use Rattle.rb_meaning.specs.RemotePart.{Walked, Rest, with_name, performed, skims, walk_as, walk, walk_block}
 use Rattle.rb_meaning_split.specs.Refs.{Refs, with_var, sexpr}
-use Rattle.rb_meaning_split.specs.Inputs.{constants, kept_constants, used, used_in}
-use Rattle.rb_meaning_split.specs.Numbers.{step_after, steps_after, var_after, vars_after}
-use Rattle.rb_meaning_split.specs.Steps.{refs_after, keeps_val, keeps, steps, block_steps}
+use Rattle.rb_meaning_split.specs.Inputs.{constants, kept_constants, used_as, used, used_in}
+use Rattle.rb_meaning_split.specs.Numbers.{step_after, steps_after, var_after_as, var_after, vars_after}
+use Rattle.rb_meaning_split.specs.Steps.{refs_after_as, refs_after, keeps_val, keeps, steps_as, steps, block_steps}
 use Rattle.rb_flow.specs.Laws.{SendsPortable}
 use Rattle.rb_flow.proofs.Members.{first_contained}
 use Rattle.rb_law_types.specs.Own.{IsFarItem, IsFarKind}
@@ -54,7 +56,8 @@ use Rattle.rb_law_types.proofs.SitesWithin.{Within, within_left, within_right, w
 use Rattle.rb_law_unsplit.proofs.Conditions.{condition_portable}
 use Rattle.rb_law_unsplit.proofs.Walking.{Laws}
 use Rattle.rb_law_unsplit.proofs.Walked.{script_scope}
-use Rattle.rb_law_script.proofs.Numbers.{var_grows, vars_grow}
+use Rattle.rb_law_script.proofs.Forms.{Tells, told}
+use Rattle.rb_law_script.proofs.Numbers.{var_grows, vars_grow, IsNoVal, same_refs}
 use Rattle.rb_law_script.proofs.Sent.{Sent}
 use Rattle.rb_law_script.proofs.Kept.{kept_sent}
 use Rattle.rb_law_script.proofs.Alike.{Table, Sound, then_sound, rule_sound, kept_same, and_then_after, Alike, reply_alike, entry_alike, kept_alike, branch_alike, turns_alike, turn_alike}
@@ -232,6 +235,13 @@ module _ (laws : Laws) (p : Program) (service : Service) (service_typed : check_
       → (s1 : Server) → Table service s1 → Like (go ns s1) (run_steps g rest vars s1 kr)
   on_same refs m vs ws after go rest kr ns vars e more j s1 t1 = more ns s1 vars (subst (λ i. At refs m vs i ns vars) e j) t1
 
+  -- so it goes on after a statement that is no val
+  on_after : (s : Stmt) → IsNoVal s → (refs : Refs) (m : ℕ) (vs : Scope) (ws after : typed.Scope) (go : Rest) (rest : Steps) (kr : Vars → Server → Ran) (ns : Names) (vars : Vars) → ws ≡ after
+      → More (refs_after p refs m vs s) (var_after f vs s m) vs after go rest kr → At refs m vs ws ns vars → (s1 : Server) → Table service s1 → Like (go ns s1) (run_steps g rest vars s1 kr)
+  on_after s unbound refs m vs ws after go rest kr ns vars e more j =
+      on_same (refs_after p refs m vs s) (var_after f vs s m) vs ws after go rest kr ns vars e more
+      (subst (λ r. At r (var_after f vs s m) vs ws ns vars) (sym (same_refs p (placed_form f vs s) refs m s unbound)) (joined_up is g inputs refs m (var_after f vs s m) vs ws ns vars (var_grows f vs s m) j))
+
   -- a `val`, by whether it is carried
   val_alike : (around : List Around) (vs : Scope) (ws after : typed.Scope) (at : ℕ) (name : List ℕ) (e : Expr) (ns : Names) (srv : Server) (go : Rest) (refs : Refs) (n m : ℕ) (vars : Vars) (rest : Steps) (kr : Vars → Server → Ran)
       → check_stmt x ws (Val at name e) ≡ Ok after → IsNotedExpr types x ws e → IsFormedExpr e → Within (sites f around vs (Val at name e)) ss → Within (used f vs (Val at name e)) inputs → At refs m vs ws ns vars → Table service srv
@@ -239,10 +249,11 @@ module _ (laws : Laws) (p : Program) (service : Service) (service_typed : check_
       → Like (walk p service vs (Val at name e) ns srv go) (run_steps g (steps p refs vs n m (Val at name e) rest) vars srv kr)
   val_alike around vs ws after at name e ns srv go refs n m vars rest kr t noted formed w u j table more = by (portable f vs e) refl u more
     where
-      by : (b : Truth) → portable f vs e ≡ b → Within (cond b (constants vs e) (kept_constants f vs (Val at name e))) inputs
-          → More (cond b (with_var refs name m) refs) (cond b (suc m) m) (with_variable vs name (cond b Role.Carried Role.Plain) at) after go rest kr
-          → Like (cond b (and_then (part.value_of p service e ns srv) (λ v s1. go (with_name name v ns) s1)) (skims p service vs (Val at name e) ns srv go))
-          (run_steps g (cond b (MoreSteps (script.Let n at m (keeps_val p e) (sexpr p refs e)) rest) (keeps p refs n (remote_of f vs (Val at name e)) rest)) vars srv kr)
+      by : (b : Truth) → portable f vs e ≡ b → Within (used_as f (cond b PlacedForm.CarriedVal PlacedForm.Plain) vs (Val at name e)) inputs
+          → More (refs_after_as p (cond b PlacedForm.CarriedVal PlacedForm.Plain) refs m (Val at name e)) (var_after_as f (cond b PlacedForm.CarriedVal PlacedForm.Plain) vs (Val at name e) m)
+          (with_variable vs name (cond b Role.Carried Role.Plain) at) after go rest kr
+          → Like (walk_as p service (cond b PlacedForm.CarriedVal PlacedForm.Plain) vs (Val at name e) ns srv go)
+          (run_steps g (steps_as p (cond b PlacedForm.CarriedVal PlacedForm.Plain) refs vs n m (Val at name e) rest) vars srv kr)
       by true r u' more' =
           let q = val_parts x ws at name e after t in
           carried_alike refs m vs ws ns vars j n at name e q.kind srv go rest kr r q.typed noted formed u' table q.free
@@ -256,17 +267,17 @@ module _ (laws : Laws) (p : Program) (service : Service) (service_typed : check_
   -- an expression alone, by whether it is remote
   run_alike : (around : List Around) (vs : Scope) (ws after : typed.Scope) (at : ℕ) (e : Expr) (ns : Names) (srv : Server) (go : Rest) (refs : Refs) (n m : ℕ) (vars : Vars) (rest : Steps) (kr : Vars → Server → Ran)
       → check_stmt x ws (Run at e) ≡ Ok after → IsNotedExpr types x ws e → IsFormedExpr e → Within (sites f around vs (Run at e)) ss → Within (used f vs (Run at e)) inputs → At refs m vs ws ns vars → Table service srv
-      → More refs m vs after go rest kr → Like (walk p service vs (Run at e) ns srv go) (run_steps g (steps p refs vs n m (Run at e) rest) vars srv kr)
-  run_alike around vs ws after at e ns srv go refs n m vars rest kr t noted formed w u j table more = by (is_portable_call f vs e) refl
+      → ((s1 : Server) → Table service s1 → Like (go ns s1) (run_steps g rest vars s1 kr)) → Like (walk p service vs (Run at e) ns srv go) (run_steps g (steps p refs vs n m (Run at e) rest) vars srv kr)
+  run_alike around vs ws after at e ns srv go refs n m vars rest kr t noted formed w u j table more = by (placed_form f vs (Run at e)) (told f vs (Run at e)) u
     where
-      by : (b : Truth) → is_portable_call f vs e ≡ b → Like (skims p service vs (Run at e) ns srv go) (run_steps g (cond b (MoreSteps (script.Do n at (sexpr p refs e)) rest) (keeps p refs n (remote_of f vs (Run at e)) rest)) vars srv kr)
-      by true whole =
+      by : (form : PlacedForm) → Tells f vs form (Run at e) → Within (used_as f form vs (Run at e)) inputs
+          → Like (walk_as p service form vs (Run at e) ns srv go) (run_steps g (steps_as p form refs vs n m (Run at e) rest) vars srv kr)
+      by PlacedForm.CallAlone whole u' =
           let q = run_parts x ws at e after t in
-          done_alike refs m vs ws ns vars j n at e q.kind srv go rest kr whole q.typed noted formed u table (on_same refs m vs ws after go rest kr ns vars q.same more j)
-      by false whole =
-          let q = run_parts x ws at e after t in
-          skims_alike refs m vs ws ns vars j (Run at e) n srv go rest kr (kept_sent laws.given p declared this remote ss none sends around vs ws j.agree j.opens after (Run at e) t noted formed w whole) u table
-          (on_same refs m vs ws after go rest kr ns vars q.same more j)
+          done_alike refs m vs ws ns vars j n at e q.kind srv go rest kr whole q.typed noted formed u' table more
+      by PlacedForm.Plain whole u' =
+          skims_alike refs m vs ws ns vars j (Run at e) n srv go rest kr (kept_sent laws.given p declared this remote ss none sends around vs ws j.agree j.opens after (Run at e) t noted formed w whole) u' table more
+      by form other u' = absurd other
 
   -- an `if`, by whether a remote operation stands in its branches
   if_alike : (around : List Around) (vs : Scope) (ws after : typed.Scope) (at : ℕ) (c : Expr) (a b : Stmts) (ns : Names) (srv : Server) (go : Rest) (refs : Refs) (n m : ℕ) (vars : Vars) (rest : Steps) (kr : Vars → Server → Ran)
@@ -275,26 +286,20 @@ module _ (laws : Laws) (p : Program) (service : Service) (service_typed : check_
       → (branches_hold f a b ≡ true → Within (used_in f vs b) inputs → (s1 : Server) → Table service s1 → Like (walk_block p service vs b ns s1 part.ended) (run_steps g (block_steps p refs vs (steps_after f vs a (suc n)) (vars_after f vs a m) b) vars s1 run.ended))
       → ((s1 : Server) → Table service s1 → Like (go ns s1) (run_steps g rest vars s1 kr))
       → Like (walk p service vs (If at c a b) ns srv go) (run_steps g (steps p refs vs n m (If at c a b) rest) vars srv kr)
-  if_alike around vs ws after at c a b ns srv go refs n m vars rest kr t noted formed w u j table first second more = by (branches_hold f a b) refl u
+  if_alike around vs ws after at c a b ns srv go refs n m vars rest kr t noted formed w u j table first second more = by (placed_form f vs (If at c a b)) (told f vs (If at c a b)) u
     where
-      by : (h : Truth) → branches_hold f a b ≡ h → Within (cond h (constants vs c ++ used_in f vs a ++ used_in f vs b) (kept_constants f vs (If at c a b))) inputs
-          → Like (cond h
-          (and_then (part.value_of p service c ns srv) (λ v s1.
-          and_then (replies at (truth_of (out-Value v)) s1) (λ holds s2.
-          and_then (cond holds (walk_block p service vs a ns s2 part.ended) (walk_block p service vs b ns s2 part.ended)) (λ u s3. go ns s3))))
-          (skims p service vs (If at c a b) ns srv go))
-          (run_steps g (cond h
-          (MoreSteps (script.If n at (sexpr p refs c) (block_steps p refs vs (suc n) m a) (block_steps p refs vs (steps_after f vs a (suc n)) (vars_after f vs a m) b)) rest)
-          (keeps p refs n (remote_of f vs (If at c a b)) rest)) vars srv kr)
-      by true h u' =
+      by : (form : PlacedForm) → Tells f vs form (If at c a b) → Within (used_as f form vs (If at c a b)) inputs
+          → Like (walk_as p service form vs (If at c a b) ns srv go) (run_steps g (steps_as p form refs vs n m (If at c a b) rest) vars srv kr)
+      by PlacedForm.CarriedIf h u' =
           let q = if_parts x ws at c a b after t in
           let both = within_left (constants vs c ++ used_in f vs a) (used_in f vs b) inputs u' in
           either_alike refs m vs ws ns vars j n at c (block_steps p refs vs (suc n) m a) (block_steps p refs vs (steps_after f vs a (suc n)) (vars_after f vs a m) b)
           (λ s2. walk_block p service vs a ns s2 part.ended) (λ s2. walk_block p service vs b ns s2 part.ended) srv go rest kr (condition_portable f ss none around vs at c a b w h) q.typed noted.0 formed.0
           (within_left (constants vs c) (used_in f vs a) inputs both) table
           (first h (within_right (constants vs c) (used_in f vs a) inputs both)) (second h (within_right (constants vs c ++ used_in f vs a) (used_in f vs b) inputs u')) more
-      by false h u' =
-          skims_alike refs m vs ws ns vars j (If at c a b) n srv go rest kr (kept_sent laws.given p declared this remote ss none sends around vs ws j.agree j.opens after (If at c a b) t noted formed w tt) u' table more
+      by PlacedForm.Plain h u' =
+          skims_alike refs m vs ws ns vars j (If at c a b) n srv go rest kr (kept_sent laws.given p declared this remote ss none sends around vs ws j.agree j.opens after (If at c a b) t noted formed w h) u' table more
+      by form other u' = absurd other
 
   -- a loop, by whether it goes over rows
   for_alike : (around : List Around) (vs : Scope) (ws after : typed.Scope) (at : ℕ) (name : List ℕ) (e : Expr) (a : Stmts) (item : Kind) (ns : Names) (srv : Server) (go : Rest) (refs : Refs) (n m : ℕ) (vars : Vars) (rest : Steps) (kr : Vars → Server → Ran)
@@ -304,28 +309,22 @@ module _ (laws : Laws) (p : Program) (service : Service) (service_typed : check_
       → Like (walk_block p service (with_variable vs name Role.Row at) a (with_name name row ns) s1 part.ended) (run_steps g (block_steps p (with_var refs name m) (with_variable vs name Role.Row at) (suc n) (suc m) a) ((m, row) ∷ vars) s1 run.ended))
       → ((s1 : Server) → Table service s1 → Like (go ns s1) (run_steps g rest vars s1 kr))
       → Like (walk p service vs (For at name e a) ns srv go) (run_steps g (steps p refs vs n m (For at name e a) rest) vars srv kr)
-  for_alike around vs ws after at name e a item ns srv go refs n m vars rest kr t list typed_here over noted formed w u j table each more = by (over_rows f e) refl u
+  for_alike around vs ws after at name e a item ns srv go refs n m vars rest kr t list typed_here over noted formed w u j table each more = by (placed_form f vs (For at name e a)) (told f vs (For at name e a)) u
     where
       inner : Scope
       inner = with_variable vs name Role.Row at
 
-      by : (h : Truth) → over_rows f e ≡ h → Within (cond h (constants vs e ++ used_in f inner a) (kept_constants f vs (For at name e a))) inputs
-          → Like (cond h
-          (and_then (part.value_of p service e ns srv) (λ v s1.
-          and_then (replies at (rows_in (out-Value v)) s1) (λ rows s2.
-          and_then (part.turns at (λ row s3. walk_block p service inner a (with_name name row ns) s3 part.ended) rows s2) (λ u s3. go ns s3))))
-          (skims p service vs (For at name e a) ns srv go))
-          (run_steps g (cond h
-          (MoreSteps (script.Each n at m (f.items (expr_at e)) (sexpr p refs e) (block_steps p (with_var refs name m) inner (suc n) (suc m) a)) rest)
-          (keeps p refs n (remote_of f vs (For at name e a)) rest)) vars srv kr)
-      by true h u' =
+      by : (form : PlacedForm) → Tells f vs form (For at name e a) → Within (used_as f form vs (For at name e a)) inputs
+          → Like (walk_as p service form vs (For at name e a) ns srv go) (run_steps g (steps_as p form refs vs n m (For at name e a) rest) vars srv kr)
+      by PlacedForm.RowsLoop h u' =
           let r = loop_portable around vs at name e a w h in
           let is_rows' = rows_only e list item (kind_here types x ws e list noted.0 typed_here) h over in
           let far_item = rows_far list item is_rows' (far refs m vs ws ns vars j e list r typed_here noted.0 formed.0) in
           each_alike refs m vs ws ns vars j n at e item (block_steps p (with_var refs name m) inner (suc n) (suc m) a) (λ row s3. walk_block p service inner a (with_name name row ns) s3 part.ended) srv go rest kr r
           (typed_here ∙ ap Ok is_rows') noted.0 formed.0 (within_left (constants vs e) (used_in f inner a) inputs u') table (each h far_item (within_right (constants vs e) (used_in f inner a) inputs u')) more
-      by false h u' =
+      by PlacedForm.Plain h u' =
           skims_alike refs m vs ws ns vars j (For at name e a) n srv go rest kr (kept_sent laws.given p declared this remote ss none sends around vs ws j.agree j.opens after (For at name e a) t noted formed w h) u' table more
+      by form other u' = absurd other
 
   mutual
     pub stmt_alike : (around : List Around) → is_script_place f around ≡ true → (vs : Scope) (ws after : typed.Scope) (s : Stmt) (ns : Names) (srv : Server) (go : Rest) (refs : Refs) (n m : ℕ) (vars : Vars) (rest : Steps) (kr : Vars → Server → Ran)
@@ -340,7 +339,8 @@ module _ (laws : Laws) (p : Program) (service : Service) (service_typed : check_
     stmt_alike around place vs ws after (Assign at a b) ns srv go refs n m vars rest kr t noted formed w u j table more =
         skims_alike refs m vs ws ns vars j (Assign at a b) n srv go rest kr (kept_sent laws.given p declared this remote ss none sends around vs ws j.agree j.opens after (Assign at a b) t noted formed w tt) u table
         (on_same refs m vs ws after go rest kr ns vars (assign_parts x ws at a b after t).same more j)
-    stmt_alike around place vs ws after (Run at e) ns srv go refs n m vars rest kr t noted formed w u j table more = run_alike around vs ws after at e ns srv go refs n m vars rest kr t noted formed w u j table more
+    stmt_alike around place vs ws after (Run at e) ns srv go refs n m vars rest kr t noted formed w u j table more =
+        run_alike around vs ws after at e ns srv go refs n m vars rest kr t noted formed w u j table (on_after (Run at e) tt refs m vs ws after go rest kr ns vars (run_parts x ws at e after t).same more j)
     stmt_alike around place vs ws after (Print at e) ns srv go refs n m vars rest kr t noted formed w u j table more =
         skims_alike refs m vs ws ns vars j (Print at e) n srv go rest kr (kept_sent laws.given p declared this remote ss none sends around vs ws j.agree j.opens after (Print at e) t noted formed w tt) u table
         (on_same refs m vs ws after go rest kr ns vars (print_parts x ws at e after t).same more j)
@@ -359,13 +359,12 @@ module _ (laws : Laws) (p : Program) (service : Service) (service_typed : check_
         let frame = Branch at vs c a b ∷ around in
         let tail = within_tail _ _ _ w in
         let up = joined_up is g inputs refs m (vars_after f vs a m) vs ws ns vars (vars_grow f vs a m) j in
-        let over = joined_up is g inputs refs m (var_after f vs (If at c a b) m) vs ws ns vars (var_grows f vs (If at c a b) m) j in
         if_alike around vs ws after at c a b ns srv go refs n m vars rest kr t noted formed w u j table
         (λ holding ua s1 t1. block_alike frame (script_inside around (branches_hold f a b) place holding) vs ws q.first a ns s1 part.ended refs (suc n) m vars run.ended q.first_typed noted.1 formed.1
         (within_left (block_sites f frame vs a) (block_sites f frame vs b) _ tail) ua j t1 (λ ns2 s2 vars2 t2. record { fault = refl; server = refl; table = t2 }))
         (λ holding ub s1 t1. block_alike frame (script_inside around (branches_hold f a b) place holding) vs ws q.second b ns s1 part.ended refs (steps_after f vs a (suc n)) (vars_after f vs a m) vars run.ended q.second_typed noted.2 formed.2
         (within_right (block_sites f frame vs a) (block_sites f frame vs b) _ tail) ub up t1 (λ ns2 s2 vars2 t2. record { fault = refl; server = refl; table = t2 }))
-        (λ s1 t1. more ns s1 vars (subst (λ i. At refs (var_after f vs (If at c a b) m) vs i ns vars) q.same over) t1)
+        (on_after (If at c a b) tt refs m vs ws after go rest kr ns vars q.same more j)
     stmt_alike around place vs ws after (For at name e a) ns srv go refs n m vars rest kr t noted formed w u j table more =
         let q = for_parts x ws at name e a after t in
         let inner = typed.with_variable ws name q.item true in
@@ -374,13 +373,12 @@ module _ (laws : Laws) (p : Program) (service : Service) (service_typed : check_
         let frame = Turn at vs e ∷ around in
         let turn_scope = with_variable vs name Role.Row at in
         let tail = within_tail _ _ _ w in
-        let over = joined_up is g inputs refs m (var_after f vs (For at name e a) m) vs ws ns vars (var_grows f vs (For at name e a) m) j in
         for_alike around vs ws after at name e a q.item ns srv go refs n m vars rest kr t q.list q.typed q.over noted formed w u j table
         (λ rows far_item ua row s1 fits t1.
         block_alike frame (script_inside around (over_rows f e) place rows) turn_scope inner q.last a (with_name name row ns) s1 part.ended (with_var refs name m) (suc n) (suc m) ((m, row) ∷ vars) run.ended q.block_typed block_noted formed.1
         (subst (λ r. Within (block_sites f frame (with_variable vs name (cond r Role.Row Role.Plain) at) a) ss) rows tail) ua (joined_more is g inputs refs m vs ws ns vars name Role.Row at q.item row j far_item q.free fits) t1
         (λ ns2 s2 vars2 t2. record { fault = refl; server = refl; table = t2 }))
-        (λ s1 t1. more ns s1 vars (subst (λ i. At refs (var_after f vs (For at name e a) m) vs i ns vars) q.same over) t1)
+        (on_after (For at name e a) tt refs m vs ws after go rest kr ns vars q.same more j)
 
     pub block_alike : (around : List Around) → is_script_place f around ≡ true → (vs : Scope) (ws after : typed.Scope) (block : Stmts) (ns : Names) (srv : Server) (go : Rest) (refs : Refs) (n m : ℕ) (vars : Vars) (kr : Vars → Server → Ran)
         → check_stmts x ws block ≡ Ok after → AreNotedStmts types x ws block → AreFormedStmts block → Within (block_sites f around vs block) ss → Within (used_in f vs block) inputs → At refs m vs ws ns vars → Table service srv
