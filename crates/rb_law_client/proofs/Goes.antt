@@ -1,9 +1,9 @@
 -- How the code of a batch, its script and its replay go on together; and those of a statement that stays with the client.
-use Rattle.std.proofs.Common.{◌≡◌, inl, inr, refl, sym, ap, ◌∙◌, subst, ℕ, suc, List, [], ◌∷◌, ◌++◌, true, false, cond, ◌||◌, Some}
+use Rattle.std.proofs.Common.{◌≡◌, inl, inr, refl, sym, ap, ◌∙◌, subst, ℕ, suc, List, [], ◌∷◌, true, false, cond, ◌||◌, Some}
 use Rattle.std.specs.List.{AllByRecursion, Contains, flat_map}
 use Rattle.std.proofs.lemmas.List.Elements.{Contains-append_left}
 use Rattle.rb_trees.specs.declared.outcomes.Raised.{Raised}
-use Rattle.rb_trees.specs.mirror.Code.{Expr, expr_at, Stmt, Val, Var, Assign, Run as RunStmt, Print, Throw, If, While, For, Try, Batch}
+use Rattle.rb_trees.specs.mirror.Code.{Expr, expr_at, Stmt, Val, Run as RunStmt, If, For}
 use Rattle.rb_trees.specs.mirror.Forests as forest
 use Rattle.rb_trees.specs.mirror.Scripts.{Steps, NoSteps}
 use Rattle.rb_meaning_types.specs.Kinds.{Kind, is_primitive}
@@ -17,20 +17,21 @@ use Rattle.rb_meaning_code.specs.Statements.{performs}
 use Rattle.rb_meaning_code.specs.Remote.{Server, Reply, Got, Stopped, and_then}
 use Rattle.rb_meaning_code.specs.ScriptRun as run
 use Rattle.rb_meaning_code.specs.ScriptRun.{Vars, Ran, kept, on_reply, with_entry, run_steps}
-use Rattle.rb_meaning_flow.specs.declared.scopes.Role.{Role}
-use Rattle.rb_meaning_flow.specs.Scopes.{Scope, with_variable}
+use Rattle.rb_meaning_flow.specs.declared.forms.PlacedForm.{PlacedForm}
+use Rattle.rb_meaning_flow.specs.Scopes.{Scope}
 use Rattle.rb_meaning_flow.specs.Portable.{portable}
+use Rattle.rb_meaning_flow.specs.Forms.{placed_form}
 use Rattle.rb_meaning_flow.specs.Sites.{Around, stmt_site, site, scope_after}
 use Rattle.rb_meaning.specs.State.{Outside}
 use Rattle.rb_meaning.specs.Unsplit.{stands_remote, with_side}
 use Rattle.rb_meaning.specs.RemoteExprs.{remote_of}
 use Rattle.rb_meaning.specs.RemotePart as part
 use Rattle.rb_meaning_split.specs.Refs.{Refs, sexpr}
-use Rattle.rb_meaning_split.specs.Inputs.{constants, used, used_in, kept_constants}
+use Rattle.rb_meaning_split.specs.Inputs.{constants, used_as, kept_constants}
 use Rattle.rb_meaning_split.specs.Steps.{keeps}
 use Rattle.rb_meaning_split.specs.Parts as parts
 use Rattle.rb_meaning_split.specs.Replay as replay
-use Rattle.rb_meaning_split.specs.Replay.{Seen, in_replay, Replayed}
+use Rattle.rb_meaning_split.specs.Replay.{Seen, Replayed}
 use Rattle.rb_law_types.specs.Ends.{Place, context, LocalHolds, Ends, Nothing, FitsPlace}
 use Rattle.rb_law_types.specs.Formed.{IsFormedExpr}
 use Rattle.rb_law_types.specs.Noted.{IsNotedExpr}
@@ -38,7 +39,8 @@ use Rattle.rb_law_types.specs.Code.{HasKind}
 use Rattle.rb_law_types.proofs.SitesWithin.{Within, within_left, within_right, stmt_first}
 use Rattle.rb_law_script.proofs.Values.{value_same}
 use Rattle.rb_law_script.proofs.Covered.{closed_of}
-use Rattle.rb_law_script.proofs.Kept.{IsKept, kept_sent}
+use Rattle.rb_law_script.proofs.Forms.{Tells, told}
+use Rattle.rb_law_script.proofs.Kept.{kept_sent}
 use Rattle.rb_law_script.proofs.Sent.{Sent}
 use Rattle.rb_law_local.specs.Shown.{at_client, Fronts, LeftSeen}
 use Rattle.rb_law_local.specs.Local.{HoldsTable, IsLocalAt, Stand}
@@ -121,44 +123,29 @@ module _ (c : Scene) where
         let there = sent_stands e among in
         c.faults (site (stmt_site around vs s) there.above e) at (record { stands = there.stands; remote = there.remote; portable = is_portable; kind = k; typed = typed'.0; noted = noted; formed = typed'.1 }) l fits o holds
 
-    to_kept : StaysWhole (f c) vs s → IsKept (f c) vs s
-    to_kept = by s
+    -- a statement that stays with the client has the plain form
+    plain_form : StaysWhole (f c) vs s → placed_form (f c) vs s ≡ PlacedForm.Plain
+    plain_form = by s
       where
-        by : (t : Stmt) → StaysWhole (f c) vs t → IsKept (f c) vs t
-        by (Val at name e) w = w
-        by (RunStmt at e) w = w
-        by (For at name e a) w = w
-        by (Var at name e) w = tt
-        by (Assign at a b) w = tt
-        by (Print at e) w = tt
-        by (Throw at e) w = tt
-        by (If at e a b) w = tt
-        by (While at e a) w = tt
-        by (Try at a name b) w = tt
-        by (Batch at interface root a) w = tt
+        by : (t : Stmt) → StaysWhole (f c) vs t → placed_form (f c) vs t ≡ PlacedForm.Plain
+        by (Val at name e) w = ap (λ b. cond b PlacedForm.CarriedVal PlacedForm.Plain) w
+        by (RunStmt at e) w = ap (λ b. cond b PlacedForm.CallAlone PlacedForm.Plain) w
+        by (If at e a b) w = ap (λ b. cond b PlacedForm.CarriedIf PlacedForm.Plain) w
+        by (For at name e a) w = ap (λ b. cond b PlacedForm.RowsLoop PlacedForm.Plain) w
+        by t w = refl
+
+    to_plain : StaysWhole (f c) vs s → Tells (f c) vs PlacedForm.Plain s
+    to_plain whole = subst (λ form. Tells (f c) vs form s) (plain_form whole) (told (f c) vs s)
 
     used_kept : StaysWhole (f c) vs s → Within (kept_constants (f c) vs s) c.inputs
-    used_kept whole = by s whole stands.used
-      where
-        by : (t : Stmt) → StaysWhole (f c) vs t → Within (used (f c) vs t) c.inputs → Within (kept_constants (f c) vs t) c.inputs
-        by (Val at name e) w u = subst (λ t. Within (cond t (constants vs e) (kept_constants (f c) vs (Val at name e))) c.inputs) w u
-        by (If at e a b) w u = subst (λ t. Within (cond t (constants vs e ++ used_in (f c) vs a ++ used_in (f c) vs b) (kept_constants (f c) vs (If at e a b))) c.inputs) w u
-        by (For at name e a) w u = subst (λ t. Within (cond t (constants vs e ++ used_in (f c) (with_variable vs name Role.Row at) a) (kept_constants (f c) vs (For at name e a))) c.inputs) w u
-        by (RunStmt at e) w u = u
-        by (Var at name e) w u = u
-        by (Assign at a b) w u = u
-        by (Print at e) w u = u
-        by (Throw at e) w u = u
-        by (While at e a) w u = u
-        by (Try at a name b) w u = u
-        by (Batch at interface root a) w u = u
+    used_kept whole = subst (λ form. Within (used_as (f c) form vs s) c.inputs) (plain_form whole) stands.used
 
     module _ (refs : Refs) (m : ℕ) (vars : Vars) (l : Local) (at : At c refs m vs ws vars l) where
       abbrev here : Stand
       here = record { place = place c ws; scope = vs; ground = c.ground; refs = refs; vars = vars; gas = c.gas }
 
       all_sent : StaysWhole (f c) vs s → AllByRecursion (SentHere vs ws) (remote_of (f c) vs s)
-      all_sent whole = kept_sent c.laws.given c.p c.fits.declared c.this c.remote (ss c) c.none c.sends around vs ws at.joined.agree at.joined.opens after s stands.typed stands.noted stands.formed stands.within (to_kept whole)
+      all_sent whole = kept_sent c.laws.given c.p c.fits.declared c.this c.remote (ss c) c.none c.sends around vs ws at.joined.agree at.joined.opens after s stands.typed stands.noted stands.formed stands.within (to_plain whole)
 
       -- what a portable expression reads is the same in the script
       pub reads_same : (e : Expr) → portable (f c) vs e ≡ true → IsFormedExpr e → Within (constants vs e) c.inputs → (step : ℕ) (s1 : Server) → run.value_of c.ground step vars (sexpr c.p refs e) s1 ≡ part.value_of c.p c.service e l.names s1

@@ -1,5 +1,5 @@
 -- The code of a batch, its script and its replay go on together, statement by statement.
-use Rattle.std.proofs.Common.{◌≡◌, ◌≤◌, ◌⊎◌, inl, inr, refl, sym, ap, ◌∙◌, subst, ℕ, suc, ◌-◌, List, [], ◌∷◌, ◌++◌, Bool as Truth, true, false, cond, ◌&&◌, Ok}
+use Rattle.std.proofs.Common.{◌≡◌, ◌≤◌, ◌⊎◌, inl, inr, refl, sym, ap, ◌∙◌, subst, ℕ, suc, ◌-◌, List, [], ◌∷◌, ◌++◌, true, cond, ◌&&◌, Ok}
 use Rattle.std.specs.List.{Contains}
 use Rattle.std.proofs.lemmas.List.Elements.{Contains-append_right}
 use Rattle.rb_trees.specs.Outcome.{◌>>=◌}
@@ -10,7 +10,7 @@ use Rattle.rb_trees.specs.mirror.Remainders as part
 use Rattle.rb_trees.specs.mirror.Scripts as script
 use Rattle.rb_trees.specs.mirror.Scripts.{Steps, MoreSteps}
 use Rattle.rb_meaning_types.specs.Kinds as kind
-use Rattle.rb_meaning_types.specs.Kinds.{Kind, is_primitive}
+use Rattle.rb_meaning_types.specs.Kinds.{Kind}
 use Rattle.rb_meaning_types.specs.Scopes as typed
 use Rattle.rb_meaning_types.specs.Statements.{placed, loop_scope, check_stmt}
 use Rattle.rb_meaning_types.specs.Notes.{scope_or, type_at}
@@ -21,19 +21,21 @@ use Rattle.rb_meaning_code.specs.Expressions.{evaluates}
 use Rattle.rb_meaning_code.specs.Statements.{block, by_truth, turns, performs, performs_all}
 use Rattle.rb_meaning_code.specs.ScriptRun as run
 use Rattle.rb_meaning_code.specs.ScriptRun.{Vars, Ran, run_steps}
+use Rattle.rb_meaning_flow.specs.declared.forms.PlacedForm.{PlacedForm}
 use Rattle.rb_meaning_flow.specs.declared.scopes.Role.{Role}
 use Rattle.rb_meaning_flow.specs.Facts.{is_rows, over_rows}
 use Rattle.rb_meaning_flow.specs.Scopes.{Scope, with_variable, assigned_by, assigned_in}
 use Rattle.rb_meaning_flow.specs.Portable.{portable, branches_hold}
 use Rattle.rb_meaning_flow.specs.Marks.{is_remote_whole}
+use Rattle.rb_meaning_flow.specs.Forms.{placed_form}
 use Rattle.rb_meaning_flow.specs.Sites.{Around, Branch, Turn, is_script_place, own, stmt_site, scope_after, sites, block_sites}
 use Rattle.rb_meaning.specs.State.{Outside}
 use Rattle.rb_meaning_types.specs.CallKinds.{kind_noted}
 use Rattle.rb_meaning.specs.RemoteExprs.{remote_of}
 use Rattle.rb_meaning_split.specs.Refs.{Refs, with_var, sexpr}
-use Rattle.rb_meaning_split.specs.Inputs.{constants, used, used_in, kept_constants}
-use Rattle.rb_meaning_split.specs.Numbers.{kept_after, step_after, steps_after, var_after, vars_after}
-use Rattle.rb_meaning_split.specs.Steps.{refs_after, keeps, block_steps}
+use Rattle.rb_meaning_split.specs.Inputs.{constants, used_as, used, used_in}
+use Rattle.rb_meaning_split.specs.Numbers.{step_after_as, step_after, steps_after, var_after_as, var_after, vars_after}
+use Rattle.rb_meaning_split.specs.Steps.{refs_after_as, refs_after, steps_as, block_steps}
 use Rattle.rb_meaning_split.specs.Parts as parts
 use Rattle.rb_meaning_split.specs.Replay as replay
 use Rattle.rb_law_types.specs.Own.{IsFarItem}
@@ -46,6 +48,7 @@ use Rattle.rb_law_unsplit.proofs.Conditions.{condition_portable}
 use Rattle.rb_law_unsplit.proofs.Walked.{script_scope}
 use Rattle.rb_flow.proofs.Members.{first_contained}
 use Rattle.rb_law_script.proofs.Later.{AllLater, later_up, fault_in, grows_block, later_block}
+use Rattle.rb_law_script.proofs.Forms.{Tells, told}
 use Rattle.rb_law_script.proofs.NoUnit.{NoUnit}
 use Rattle.rb_law_script.proofs.Numbers.{le_trans, suc_le, vars_grow}
 use Rattle.rb_law_script.proofs.Walk.{item_kind}
@@ -100,7 +103,7 @@ module _ (c : Scene) where
     place_inside holding = ap (λ t. t && branches_hold (f c) a b) stands.script ∙ holding
 
     used_if : branches_hold (f c) a b ≡ true → Within (constants vs e ++ used_in (f c) vs a ++ used_in (f c) vs b) c.inputs
-    used_if holding = subst (λ t. Within (cond t (constants vs e ++ used_in (f c) vs a ++ used_in (f c) vs b) (kept_constants (f c) vs s)) c.inputs) holding stands.used
+    used_if holding = subst (λ t. Within (used_as (f c) (cond t PlacedForm.CarriedIf PlacedForm.Plain) vs s) c.inputs) holding stands.used
 
     pub first_stands : branches_hold (f c) a b ≡ true → AllStand c frame vs ws (if_parts (x c) ws position e a b after stands.typed).first a
     first_stands holding = record {
@@ -137,7 +140,7 @@ module _ (c : Scene) where
       pub choice_goes : (branches_hold (f c) a b ≡ true → BlockHere vs ws (if_parts (x c) ws position e a b after stands.typed).first a refs m (suc n))
           → (branches_hold (f c) a b ≡ true → BlockHere vs ws (if_parts (x c) ws position e a b after stands.typed).second b refs (vars_after (f c) vs a m) (steps_after (f c) vs a (suc n)))
           → StmtGoes c vs ws after s refs m vars l n rest kr ke o
-      choice_goes first second = by (branches_hold (f c) a b) refl
+      choice_goes first second = by (placed_form (f c) vs s) (told (f c) vs s)
         where
           q : Branches (x c) ws e a b after
           q = if_parts (x c) ws position e a b after stands.typed
@@ -190,12 +193,13 @@ module _ (c : Scene) where
                 over = (stmts_from c.p c.service (code c) (InScript refs) b c.gas (stmts_free (written c) (InScript refs) (x c) b ws q.second q.second_typed at.held (written_right (written c) (assigned_in a) (assigned_in b) stands.writes)) l).left o1;
               })))
 
-          by : (t : Truth) → branches_hold (f c) a b ≡ t
-              → let ran = run_steps c.ground (cond t (MoreSteps (script.If n position (sexpr c.p refs e) sa sb) rest) (keeps c.p refs n (remote_of (f c) vs s) rest)) vars o.server kr in
-              Goes c refs (cond t (vars_after (f c) vs b m1) m) vs ws after (handle (h c) (performs (code c) c.gas s l) o) ran
-              (replay.replay c.p.classes c.gas (cond t (part.Branch n pa pb) (parts.plain c.p vs n s)) client (at_node c o ran) ke) go ke
-          by true holding = chosen holding
-          by false holding = plain_goes c around vs ws after s stands refs m vars l at holding n rest kr ke o holds
+          by : (form : PlacedForm) → Tells (f c) vs form s
+              → let ran = run_steps c.ground (steps_as c.p form refs vs n m s rest) vars o.server kr in
+              Goes c (refs_after_as c.p form refs m s) (var_after_as (f c) form vs s m) vs ws after (handle (h c) (performs (code c) c.gas s l) o) ran
+              (replay.replay c.p.classes c.gas (parts.part_as c.p form vs n s) client (at_node c o ran) ke) go ke
+          by PlacedForm.CarriedIf holding = chosen holding
+          by PlacedForm.Plain holding = plain_goes c around vs ws after s stands refs m vars l at holding n rest kr ke o holds
+          by form other = absurd other
 
   -- ---- a loop over rows
 
@@ -216,7 +220,7 @@ module _ (c : Scene) where
     turn_typed = typed.with_variable ws name (for_parts (x c) ws position name e a after stands.typed).item true
 
     used_for : over_rows (f c) e ≡ true → Within (constants vs e ++ used_in (f c) turn_scope a) c.inputs
-    used_for rows = subst (λ t. Within (cond t (constants vs e ++ used_in (f c) turn_scope a) (kept_constants (f c) vs loop)) c.inputs) rows stands.used
+    used_for rows = subst (λ t. Within (used_as (f c) (cond t PlacedForm.RowsLoop PlacedForm.Plain) vs loop) c.inputs) rows stands.used
 
     pub turn_stands : over_rows (f c) e ≡ true → AllStand c turn_frame turn_scope turn_typed (for_parts (x c) ws position name e a after stands.typed).last a
     turn_stands rows =
@@ -244,7 +248,7 @@ module _ (c : Scene) where
       pub loop_goes : AllLater (step_after (f c) vs loop n) go_on
           → (over_rows (f c) e ≡ true → BlockHere turn_scope turn_typed (for_parts (x c) ws position name e a after stands.typed).last a (with_var refs name m) (suc m) (suc n))
           → StmtGoes c vs ws after loop refs m vars l n rest kr ke o
-      loop_goes later each = by (over_rows (f c) e) refl later
+      loop_goes later each = by (placed_form (f c) vs loop) (told (f c) vs loop) later
         where
           q : Loops (x c) ws position name e a after
           q = for_parts (x c) ws position name e a after stands.typed
@@ -292,12 +296,13 @@ module _ (c : Scene) where
               o w (value c refs m vs ws vars l at position e o.server)
               (worth c refs m vs ws vars l at e (kind.RowsOf q.item) r typed' stands.noted.0 stands.formed.0 (within_left (constants vs e) (used_in (f c) turn_scope a) c.inputs (used_for rows)) position o holds) far))
 
-          by : (t : Truth) → over_rows (f c) e ≡ t → AllLater (cond t (steps_after (f c) turn_scope a (suc n)) (kept_after (f c) vs loop n)) go_on
-              → let ran = run_steps c.ground (cond t (MoreSteps (script.Each n position m ((f c).items (expr_at e)) (sexpr c.p refs e) sa) rest) (keeps c.p refs n (remote_of (f c) vs loop) rest)) vars o.server kr in
-              Goes c refs (cond t (vars_after (f c) turn_scope a (suc m)) m) vs ws after (handle (h c) (performs (code c) c.gas loop l) o) ran
-              (replay.replay c.p.classes c.gas (cond t (part.Turns n name (parts.row_kind c.p e) pa) (parts.plain c.p vs n loop)) at_client_here (at_node c o ran) ke) go_on ke
-          by true rows later' = turned rows later'
-          by false rows later' = plain_goes c around vs ws after loop stands refs m vars l at rows n rest kr ke o holds
+          by : (form : PlacedForm) → Tells (f c) vs form loop → AllLater (step_after_as (f c) form vs loop n) go_on
+              → let ran = run_steps c.ground (steps_as c.p form refs vs n m loop rest) vars o.server kr in
+              Goes c (refs_after_as c.p form refs m loop) (var_after_as (f c) form vs loop m) vs ws after (handle (h c) (performs (code c) c.gas loop l) o) ran
+              (replay.replay c.p.classes c.gas (parts.part_as c.p form vs n loop) at_client_here (at_node c o ran) ke) go_on ke
+          by PlacedForm.RowsLoop rows later' = turned rows later'
+          by PlacedForm.Plain rows later' = plain_goes c around vs ws after loop stands refs m vars l at rows n rest kr ke o holds
+          by form other later' = absurd other
 
   -- ---- statements in order
 

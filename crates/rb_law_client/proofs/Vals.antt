@@ -19,19 +19,21 @@ use Rattle.rb_meaning_code.specs.Expressions.{evaluates}
 use Rattle.rb_meaning_code.specs.Statements.{nothing, performs}
 use Rattle.rb_meaning_code.specs.Remote.{Reply}
 use Rattle.rb_meaning_code.specs.ScriptRun.{Vars, run_steps}
+use Rattle.rb_meaning_flow.specs.declared.forms.PlacedForm.{PlacedForm}
 use Rattle.rb_meaning_flow.specs.declared.scopes.Role.{Role}
 use Rattle.rb_meaning_flow.specs.Scopes.{Scope, with_variable}
 use Rattle.rb_meaning_flow.specs.Portable.{portable, holds_call}
 use Rattle.rb_meaning_flow.specs.Marks.{is_portable_call}
+use Rattle.rb_meaning_flow.specs.Forms.{placed_form}
 use Rattle.rb_meaning_flow.specs.Sites.{Around, stmt_site, scope_after}
 use Rattle.rb_meaning.specs.State.{Outside}
 use Rattle.rb_meaning_types.specs.CallKinds.{call_kind}
 use Rattle.rb_meaning.specs.RemoteExprs.{remote_in, remote_of}
 use Rattle.rb_meaning_split.specs.Refs.{Refs, with_var, sexpr}
-use Rattle.rb_meaning_split.specs.Inputs.{constants, kept_constants}
+use Rattle.rb_meaning_split.specs.Inputs.{constants, used_as}
 use Rattle.rb_meaning_split.specs.Cuts.{counted, cut}
-use Rattle.rb_meaning_split.specs.Numbers.{kept_after, step_after, var_after}
-use Rattle.rb_meaning_split.specs.Steps.{refs_after, keeps_val, keeps, steps}
+use Rattle.rb_meaning_split.specs.Numbers.{step_after_as, step_after, var_after_as, var_after}
+use Rattle.rb_meaning_split.specs.Steps.{refs_after_as, refs_after, keeps_val, steps_as, steps}
 use Rattle.rb_meaning_split.specs.Parts as parts
 use Rattle.rb_meaning_split.specs.Replay as replay
 use Rattle.rb_law_types.specs.Own.{IsFarKind}
@@ -40,6 +42,7 @@ use Rattle.rb_law_types.proofs.Parts.{val_parts, run_parts}
 use Rattle.rb_law_types.proofs.TypeFacts.{kind_here, primitive_fact}
 use Rattle.rb_law_types.proofs.SitesWithin.{Within, within_left, first_among}
 use Rattle.rb_flow.proofs.Members.{first_contained}
+use Rattle.rb_law_script.proofs.Forms.{Tells, told}
 use Rattle.rb_law_script.proofs.NoUnit.{NoUnit}
 use Rattle.rb_law_script.proofs.Later.{AllLater}
 use Rattle.rb_law_script.proofs.Walk.{one_remote}
@@ -113,7 +116,7 @@ module _ (c : Scene) (around : List Around) (vs : Scope) (ws after : typed.Scope
         sent_faults c around vs ws after s stands e (one_sent s e refl (ap (λ b. b && holds_call (f c) e) r ∙ call)) r (place c ws) k (t, stands.formed) stands.noted l at.fits o holds
 
     used_carried : portable (f c) vs e ≡ true → Within (constants vs e) c.inputs
-    used_carried r = subst (λ b. Within (cond b (constants vs e) (kept_constants (f c) vs s)) c.inputs) r stands.used
+    used_carried r = subst (λ b. Within (used_as (f c) (cond b PlacedForm.CarriedVal PlacedForm.Plain) vs s) c.inputs) r stands.used
 
     abbrev CarriedGoes : Kind → Truth → part.Part → Type 0
     CarriedGoes k keep p =
@@ -146,7 +149,7 @@ module _ (c : Scene) (around : List Around) (vs : Scope) (ws after : typed.Scope
             (none_faults (IsRemote c.p) w.0 (never_falls c refs m vs ws vars l at e k r g1 t far unit g2 (closed_here c refs m vs ws vars l at e r stands.formed (used_carried r)) o)) later
 
     pub val_goes : AllLater (step_after (f c) vs s n) go → StmtGoes c vs ws after s refs m vars l n rest kr ke o
-    val_goes later = by (portable (f c) vs e) refl later
+    val_goes later = by (placed_form (f c) vs s) (told (f c) vs s) later
       where
         carried : portable (f c) vs e ≡ true → AllLater (suc n) go
             → let ran = run_steps c.ground (MoreSteps (script.Let n position m (keeps_val c.p e) (sexpr c.p refs e)) rest) vars o.server kr in
@@ -168,39 +171,41 @@ module _ (c : Scene) (around : List Around) (vs : Scope) (ws after : typed.Scope
             (sym (handle_seq (h c) (evaluates (code c) e l) (on (λ v l1. nothing (bound name v l1))) o))
             (cases r q.kind far q.free known q.typed q.no_unit fact ends later' (holds_call (f c) e) ((f c).primitive (expr_at e)) refl refl))
 
-        by : (b : Truth) → portable (f c) vs e ≡ b → AllLater (cond b (suc n) (kept_after (f c) vs s n)) go
-            → let ran = run_steps c.ground (cond b (MoreSteps (script.Let n position m (keeps_val c.p e) (sexpr c.p refs e)) rest) (keeps c.p refs n (remote_of (f c) vs s) rest)) vars o.server kr in
-            Goes c (cond b (with_var refs name m) refs) (cond b (suc m) m) (with_variable vs name (cond b Role.Carried Role.Plain) position) ws after (handle (h c) (performs (code c) c.gas s l) o) ran
-            (replay.replay c.p.classes c.gas (cond b (parts.carried c.p n position name e) (parts.plain c.p vs n s)) client (at_node c o ran) ke) go ke
-        by true r later' = carried r later'
-        by false r later' =
-            let ran = run_steps c.ground (keeps c.p refs n (remote_of (f c) vs s) rest) vars o.server kr in
-            subst (λ b. Goes c refs m (with_variable vs name (cond b Role.Carried Role.Plain) position) ws after (handle (h c) (performs (code c) c.gas s l) o) ran
-            (replay.replay c.p.classes c.gas (parts.plain c.p vs n s) client (at_node c o ran) ke) go ke) r
-            (plain_goes c around vs ws after s stands refs m vars l at r n rest kr ke o holds)
+        by : (form : PlacedForm) → Tells (f c) vs form s → AllLater (step_after_as (f c) form vs s n) go
+            → let ran = run_steps c.ground (steps_as c.p form refs vs n m s rest) vars o.server kr in
+            Goes c (refs_after_as c.p form refs m s) (var_after_as (f c) form vs s m) (scope_after (f c) [] vs s) ws after (handle (h c) (performs (code c) c.gas s l) o) ran
+            (replay.replay c.p.classes c.gas (parts.part_as c.p form vs n s) client (at_node c o ran) ke) go ke
+        by PlacedForm.CarriedVal r later' =
+            let ran = run_steps c.ground (MoreSteps (script.Let n position m (keeps_val c.p e) (sexpr c.p refs e)) rest) vars o.server kr in
+            subst (λ b. Goes c (with_var refs name m) (suc m) (with_variable vs name (cond b Role.Carried Role.Plain) position) ws after (handle (h c) (performs (code c) c.gas s l) o) ran
+            (replay.replay c.p.classes c.gas (parts.carried c.p n position name e) client (at_node c o ran) ke) go ke) (sym r) (carried r later')
+        by PlacedForm.Plain r later' = plain_goes c around vs ws after s stands refs m vars l at r n rest kr ke o holds
+        by form other later' = absurd other
 
   module _ (position : ℕ) (e : Expr) (stands : Stands c around vs ws after (RunStmt position e)) where
     abbrev alone : Stmt
     alone = RunStmt position e
 
     pub run_goes : AllLater (step_after (f c) vs alone n) go → StmtGoes c vs ws after alone refs m vars l n rest kr ke o
-    run_goes later = by (is_portable_call (f c) vs e) refl
+    run_goes later = by (placed_form (f c) vs alone) (told (f c) vs alone) later stands.used
       where
-        by : (b : Truth) → is_portable_call (f c) vs e ≡ b
-            → let ran = run_steps c.ground (cond b (MoreSteps (script.Do n position (sexpr c.p refs e)) rest) (keeps c.p refs n (remote_of (f c) vs alone) rest)) vars o.server kr in
-            Goes c refs m vs ws after (handle (h c) (performs (code c) c.gas alone l) o) ran (replay.replay c.p.classes c.gas (cond b (part.Pass n) (parts.plain c.p vs n alone)) client (at_node c o ran) ke) go ke
-        by true whole =
+        by : (form : PlacedForm) → Tells (f c) vs form alone → AllLater (step_after_as (f c) form vs alone n) go → Within (used_as (f c) form vs alone) c.inputs
+            → let ran = run_steps c.ground (steps_as c.p form refs vs n m alone rest) vars o.server kr in
+            Goes c (refs_after_as c.p form refs m alone) (var_after_as (f c) form vs alone m) vs ws after (handle (h c) (performs (code c) c.gas alone l) o) ran
+            (replay.replay c.p.classes c.gas (parts.part_as c.p form vs n alone) client (at_node c o ran) ke) go ke
+        by PlacedForm.CallAlone whole later' used =
             let q = run_parts (x c) ws position e after stands.typed in
             let r = (and_parts (portable (f c) vs e) (holds_call (f c) e) whole).0 in
             let list : remote_of (f c) vs alone ≡ e ∷ [] = ap (λ es. es ++ []) (one_remote (f c) vs e whole) in
-            let used = subst (λ es. Within (flat_map (constants vs) es) c.inputs) list stands.used in
+            let used' = subst (λ es. Within (flat_map (constants vs) es) c.inputs) list used in
             let w = handle (h c) (evaluates (code c) e l) o in
             let reply = value c refs m vs ws vars l at position e o.server in
             let ran = run_steps c.ground (MoreSteps (script.Do n position (sexpr c.p refs e)) rest) vars o.server kr in
             subst (λ i. Goes c refs m vs ws i (handle (h c) (performs (code c) c.gas alone l) o) ran (replay.replay c.p.classes c.gas (part.Pass n) client (at_node c o ran) ke) go ke) q.same
             (subst (λ i. Goes c refs m vs ws ws i ran (replay.replay c.p.classes c.gas (part.Pass n) client (at_node c o ran) ke) go ke) (sym (handle_seq (h c) (evaluates (code c) e l) (on (λ v l1. nothing l1)) o))
             (done_goes c refs m vs ws vars l at n go ke o q.kind w reply
-            (worth c refs m vs ws vars l at e q.kind r q.typed stands.noted stands.formed (within_left (constants vs e) [] c.inputs used) position o holds)
+            (worth c refs m vs ws vars l at e q.kind r q.typed stands.noted stands.formed (within_left (constants vs e) [] c.inputs used') position o holds)
             (sent_faults c around vs ws after alone stands e (one_sent alone e refl whole) r (place c ws) q.kind (q.typed, stands.formed) stands.noted l at.fits o holds)
-            (subst (λ es. AllLater (counted es n) go) list later)))
-        by false whole = plain_goes c around vs ws after alone stands refs m vars l at whole n rest kr ke o holds
+            (subst (λ es. AllLater (counted es n) go) list later')))
+        by PlacedForm.Plain whole later' used = plain_goes c around vs ws after alone stands refs m vars l at whole n rest kr ke o holds
+        by form other later' used = absurd other
