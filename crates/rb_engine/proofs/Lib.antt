@@ -5,6 +5,7 @@ pub mod BothNumbers
 pub mod Exprs
 pub mod Forms
 pub mod Items
+pub mod Kept
 pub mod Known
 pub mod Lent
 pub mod Loops

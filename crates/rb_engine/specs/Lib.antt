@@ -6,6 +6,7 @@ pub mod Keys
 pub mod Kinds
 pub mod Lent
 pub mod Locals
+pub mod Machines
 pub mod Makes
 pub mod Meets
 pub mod Methods

@@ -2,96 +2,82 @@
 
 ghost use Rattle.rb_trees.specs.declared.values.Value.{out-Value};
 ghost use Rattle.rb_engine.specs.Code.{line_run, begin_run, taken_run, invoked_run, batch_run};
-ghost use Rattle.rb_engine.specs.Worlds.{AnyNames, Effects};
+ghost use Rattle.rb_engine.specs.Machines.{EvaluatesAnywhere, Keeps, Performs};
 
 use crate::conditions::shown;
 use crate::ends::{End, flat, lift};
 use crate::frame::Frame;
-use crate::state::State;
+use crate::machine::Machine;
 use crate::targets::Turns;
 use crate::units::check_unit;
 use crate::world::World;
 use rb_trees::{Seq, Value, copy_value};
-use std::alloc::Global;
 
-/// A turn of a loop begins.
-#[inline(never)]
-pub fn begin_turn<W: World>(
-    alloc: Global,
-    state: &mut State,
-    world: &mut W,
-    at: u32,
-    turns: Turns,
-) -> Result<(), End<W::Stop>>
-    ensures { AnyNames W.World (begin_run turns at) state.old world.old result state.new world.new }
-{
-    match turns {
-        Turns::List => {
-            lift(at, check_unit(alloc, state.fuel))?;
-            state.fuel -= 1;
-            flat(alloc, world.list_turn(at))
+impl<'a, W: World> Machine<'a, W> {
+    /// A turn of a loop begins.
+    #[inline(never)]
+    pub fn begin_turn(&mut self, at: u32, turns: Turns) -> Result<(), End<W::Stop>>
+        ensures runs { let meant = begin_run turns at in
+            EvaluatesAnywhere W.World meant self.old result self.new }
+        ensures same { Keeps self.old self.new }
+    {
+        match turns {
+            Turns::List => {
+                lift(at, check_unit(self.alloc, self.state.fuel))?;
+                self.state.fuel -= 1;
+                flat(self.alloc, self.world.list_turn(at))
+            }
+            Turns::Rows => flat(self.alloc, self.world.turn(at)),
         }
-        Turns::Rows => flat(alloc, world.turn(at)),
     }
-}
 
-/// Prints the line of a value.
-#[inline(never)]
-pub fn print<W: World>(
-    alloc: Global,
-    state: &State,
-    world: &mut W,
-    at: u32,
-    value: &Value,
-) -> Result<(), End<W::Stop>>
-    ensures { AnyNames W.World (line_run at value.now) state.now world.old result state.now world.new }
-{
-    let line = lift(at, shown(alloc, value))?;
-    flat(alloc, world.line(at, line.as_slice()))
-}
-
-/// The value that a step of the script kept.
-#[inline(never)]
-pub fn taken<W: World>(
-    alloc: Global,
-    state: &State,
-    world: &mut W,
-    step: u32,
-) -> Result<Value, End<W::Stop>>
-    ensures { AnyNames W.World (taken_run step) state.now world.old result state.now world.new }
-{
-    flat(alloc, world.taken(step))
-}
-
-/// The value of a remote call whose receiver and arguments were evaluated.
-#[inline(never)]
-pub fn invoke<W: World>(
-    alloc: Global,
-    state: &State,
-    world: &mut W,
-    at: u32,
-    target: &Value,
-    name: &[u8],
-    args: Seq<Value>,
-) -> Result<Value, End<W::Stop>>
-    ensures { AnyNames W.World (invoked_run at target.now name.now args) state.now world.old result state.now world.new }
-{
-    match copy_value(target) {
-        Ok(target) => flat(alloc, world.invoke(at, target, name, args)),
-        Err(_) => Err(End::NoMemory),
+    /// Prints the line of a value.
+    #[inline(never)]
+    pub fn print(&mut self, at: u32, value: &Value) -> Result<(), End<W::Stop>>
+        ensures runs { let meant = line_run at value.now in
+            EvaluatesAnywhere W.World meant self.old result self.new }
+        ensures same { Keeps self.old self.new }
+    {
+        let line = lift(at, shown(self.alloc, value))?;
+        flat(self.alloc, self.world.line(at, line.as_slice()))
     }
-}
 
-/// A batch, which is lent the state and the names.
-#[inline(never)]
-pub fn perform_batch<W: World>(
-    alloc: Global,
-    state: &mut State,
-    frame: &mut Frame,
-    world: &mut W,
-    at: u32,
-) -> Result<(), End<W::Stop>>
-    ensures { Effects W.World (batch_run at) frame.old state.old world.old result frame.new state.new world.new }
-{
-    flat(alloc, world.batch(at, state, frame))
+    /// The value that a step of the script kept.
+    #[inline(never)]
+    pub fn taken(&mut self, step: u32) -> Result<Value, End<W::Stop>>
+        ensures runs { let meant = taken_run step in
+            EvaluatesAnywhere W.World meant self.old result self.new }
+        ensures same { Keeps self.old self.new }
+    {
+        flat(self.alloc, self.world.taken(step))
+    }
+
+    /// The value of a remote call whose receiver and arguments were evaluated.
+    #[inline(never)]
+    pub fn invoke(
+        &mut self,
+        at: u32,
+        target: &Value,
+        name: &[u8],
+        args: Seq<Value>,
+    ) -> Result<Value, End<W::Stop>>
+        ensures runs { let meant = invoked_run at target.now name.now args in
+            EvaluatesAnywhere W.World meant self.old result self.new }
+        ensures same { Keeps self.old self.new }
+    {
+        match copy_value(target) {
+            Ok(target) => flat(self.alloc, self.world.invoke(at, target, name, args)),
+            Err(_) => Err(End::NoMemory),
+        }
+    }
+
+    /// A batch, which is lent the state and the names.
+    #[inline(never)]
+    pub fn perform_batch(&mut self, frame: &mut Frame, at: u32) -> Result<(), End<W::Stop>>
+        ensures runs { let meant = batch_run at in
+            Performs W.World meant self.old frame.old result self.new frame.new }
+        ensures same { Keeps self.old self.new }
+    {
+        flat(self.alloc, self.world.batch(at, self.state, frame))
+    }
 }

@@ -6,12 +6,10 @@ ghost use Rattle.rb_engine.specs.Ends.{flattened};
 ghost use Rattle.rb_engine.specs.Methods.{IsMethod};
 ghost use Rattle.rb_engine.specs.Worlds.{AnyNames, Effects, Values};
 
-use crate::calls::{call_method, run_call};
 use crate::ends::step_of;
-use crate::expressions::value_of;
 use crate::frame::Frame;
+use crate::machine::Machine;
 use crate::state::State;
-use crate::statements::run_all;
 use crate::world::{RunResult, World};
 use rb_code::Code;
 use rb_trees::{Expr, Method, Seq, Stmt, Value};
@@ -31,8 +29,13 @@ pub fn call<W: World>(
 ) -> RunResult<Value, W::Stop>
     ensures { AnyNames W.World (call_run code.now at (value.Ref object) method.now args) state.old world.old (flattened result) state.new world.new }
 {
-    let receiver = Value::Ref(object);
-    step_of(call_method(alloc, code, state, world, at, &receiver, method, args))
+    let mut machine = Machine {
+        alloc,
+        code,
+        state,
+        world,
+    };
+    machine.call_own(at, object, method, args)
 }
 
 /// Calls a method that was found of an object of the own side, at a position.
@@ -50,8 +53,13 @@ pub fn call_found<W: World>(
     requires { IsMethod code.now method.now }
     ensures { AnyNames W.World (found_run code.now at method.now (value.Ref object) args) state.old world.old (flattened result) state.new world.new }
 {
-    let receiver = Value::Ref(object);
-    step_of(run_call(alloc, code, state, world, at, &receiver, method, args))
+    let mut machine = Machine {
+        alloc,
+        code,
+        state,
+        world,
+    };
+    machine.call_own_found(at, object, method, args)
 }
 
 /// Runs statements in order: `performs_all`.
@@ -66,7 +74,13 @@ pub fn exec<W: World>(
 ) -> RunResult<(), W::Stop>
     ensures { Effects W.World (stmts_run code.now body.now) frame.old state.old world.old (flattened result) frame.new state.new world.new }
 {
-    step_of(run_all(alloc, code, state, frame, world, body.as_slice()))
+    let mut machine = Machine {
+        alloc,
+        code,
+        state,
+        world,
+    };
+    step_of(machine.run_all(frame, body.as_slice()))
 }
 
 /// Runs the statements of a slice in order: `performs_all`.
@@ -81,7 +95,13 @@ pub fn exec_slice<W: World>(
 ) -> RunResult<(), W::Stop>
     ensures { Effects W.World (stmts_run code.now body.now) frame.old state.old world.old (flattened result) frame.new state.new world.new }
 {
-    step_of(run_all(alloc, code, state, frame, world, body))
+    let mut machine = Machine {
+        alloc,
+        code,
+        state,
+        world,
+    };
+    step_of(machine.run_all(frame, body))
 }
 
 /// The value of an expression: `evaluates`.
@@ -96,5 +116,11 @@ pub fn eval<W: World>(
 ) -> RunResult<Value, W::Stop>
     ensures { Values W.World (value_run code.now expr.now) frame.now state.old world.old (flattened result) state.new world.new }
 {
-    step_of(value_of(alloc, code, state, frame, world, expr))
+    let mut machine = Machine {
+        alloc,
+        code,
+        state,
+        world,
+    };
+    step_of(machine.value_of(frame, expr))
 }

@@ -1,5 +1,5 @@
-use Rattle.rb_engine.proofs.Runs.{by_result}
+use Rattle.std.proofs.Common.{rules}
 use Rattle.rb_engine.proofs.engine.call.Goals as goal
 
 pub returns : goal.returns
-returns g c = λ names. by_result c.step_of.ensures (c.call_method.ensures names)
+returns g c = λ names. let h = c.call_own.ensures.runs names in search rules

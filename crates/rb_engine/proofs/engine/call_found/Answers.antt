@@ -1,5 +1,5 @@
-use Rattle.rb_engine.proofs.Runs.{by_result}
+use Rattle.std.proofs.Common.{rules}
 use Rattle.rb_engine.proofs.engine.call_found.Goals as goal
 
 pub returns : goal.returns
-returns g c = λ names. by_result c.step_of.ensures (c.run_call.ensures names)
+returns g c = λ names. let h = c.call_own_found.ensures.runs names in search rules
