@@ -49,8 +49,8 @@ impl PlainFault {
         }
     }
 
-    // Where it stands in memory.
-    pub fn alloc(&self) -> Global {
+    // Where its memory comes from, if it takes any.
+    pub(crate) fn alloc(&self) -> Global {
         self.alloc
     }
 }

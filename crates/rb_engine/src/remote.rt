@@ -142,15 +142,20 @@ fn serve(
     state: &mut State,
     at: u32,
     kind: u8,
-    object: u32,
-    method: &Method,
-    args: Seq<Value>,
+    checked: Checked<'_>,
 ) -> Result<Result<Value, Raised>, Memory>
     requires idle { state.old.depth ≡ 0 }
-    requires found { IsMethod code.now method.now }
-    ensures replies { RepliesAt at (found_served code.now at kind object method.now args (server state.old)) result (server state.new) }
+    requires found { IsMethod code.now checked.method.now }
+    ensures replies { let call = checked.entry in
+        let reply = found_served code.now at kind call.object call.method.now call.args (server state.old) in
+        RepliesAt at reply result (server state.new) }
     ensures depth { state.new.depth ≡ 0 }
 {
+    let Checked {
+        object,
+        method,
+        args,
+    } = checked;
     let mut world = ServiceWorld::new(alloc);
     match call_found(alloc, code, state, &mut world, at, object, method, args) {
         Ok(Ok(value)) => answered(at, at_client(alloc, kind, &value)),
@@ -181,15 +186,8 @@ pub fn invoke(
     ensures replies { RepliesAt at (call_invoked code.now at kind target method.now args (server state.old)) result (server state.new) }
     ensures depth { state.new.depth ≡ 0 }
 {
-    let checked = check(alloc, code, &state.heap, &target, method, args.as_slice());
-    match checked {
-        Ok(
-            Checked {
-                object,
-                method: found,
-                args: values,
-            },
-        ) => serve(alloc, code, state, at, kind, object, found, values),
+    match check(alloc, code, &state.heap, &target, method, args.as_slice()) {
+        Ok(checked) => serve(alloc, code, state, at, kind, checked),
         Err(Failure::Fault(fault)) => Ok(Err(remotely(at, fault.into_fault()))),
         Err(Failure::Memory) => Err(Memory),
     }

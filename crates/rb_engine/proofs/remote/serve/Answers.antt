@@ -8,7 +8,7 @@ use Rattle.rb_engine.proofs.remote.serve.Goals as goal
 
 pub returns-in-Ok-Ok-clause-replies : goal.returns-in-Ok-Ok-clause-replies
 returns-in-Ok-Ok-clause-replies c =
-    value_served c.args.code.now c.args.at c.args.kind c.args.object c.args.method.now c.args.args c.args.state.now c.call_found.new.state c.new-world.result c.call_found.new.world
+    value_served c.args.code.now c.args.at c.args.kind c.args.checked.object c.args.checked.method.now c.args.checked.args c.args.state.now c.call_found.new.state c.new-world.result c.call_found.new.world
     c.call_found.result c.in-Ok-Ok.value c.at_client.result c.answered.result c.requires.idle (c.in-Ok-Ok.is ∙ ap Ok c.in-Ok-Ok.field-0-is)
     ((c.call_found.ensures []).led c.args.state.now.fuel (omega arith)) c.at_client.ensures c.answered.ensures
 
@@ -17,7 +17,7 @@ returns-in-Ok-Ok-clause-depth c = (c.call_found.ensures []).depth ∙ c.requires
 
 pub returns-in-Ok-Err-clause-replies : goal.returns-in-Ok-Err-clause-replies
 returns-in-Ok-Err-clause-replies c = (
-  fault_served c.args.code.now c.args.at c.args.kind c.args.object c.args.method.now c.args.args c.args.state.now c.call_found.new.state c.new-world.result c.call_found.new.world
+  fault_served c.args.code.now c.args.at c.args.kind c.args.checked.object c.args.checked.method.now c.args.checked.args c.args.state.now c.call_found.new.state c.new-world.result c.call_found.new.world
       c.call_found.result c.in-Ok-Err.raised c.requires.idle (c.in-Ok-Err.is ∙ ap Ok c.in-Ok-Err.field-0-is) ((c.call_found.ensures []).led c.args.state.now.fuel (omega arith))
       ∙ ap (λ r. Stopped c.args.at r.fault (server c.call_found.new.state)) (sym c.remotely.ensures),
   c.remotely.ensures ∙ ap (λ r. raised_remotely r.fault c.args.at) (sym c.remotely.ensures),
