@@ -27,6 +27,22 @@ pub struct Loop<'a> {
     pub body: &'a [Part],
 }
 
+/// A value that both sides evaluate: its step, the name that it is bound to, and what is evaluated.
+#[derive(Clone, Copy)]
+pub struct Twin<'a> {
+    pub step: u32,
+    pub name: &'a Word,
+    pub value: &'a Expr,
+}
+
+/// An `if` that the script decides: its step, and what is performed in its branches.
+#[derive(Clone, Copy)]
+pub struct Choice<'a> {
+    pub step: u32,
+    pub yes: &'a Seq<Part>,
+    pub no: &'a Seq<Part>,
+}
+
 // Whether rows of a kind are kept: `is_kept`.
 fn is_kept(kind: u8) -> bool
     ensures { result ≡ meaning.is_kept kind }
@@ -101,18 +117,16 @@ fn perform_both<W: Sink>(
     state: &mut State,
     frame: &mut Frame,
     world: &mut ReplayWorld<'_, '_, W>,
-    step: u32,
-    name: &Word,
-    expr: &Expr,
+    twin: &Twin<'_>,
 ) -> Result<(), Early>
-    ensures { let meant = both_meant code.now step name.now expr.now in
+    ensures { let meant = both_meant code.now twin.now.step twin.now.name.now twin.now.value.now in
         Performs W.Sink meant (local frame.old state.old) world.old result (local frame.new state.new) world.new }
 {
-    if let Some(fault) = world.fault_at(step) {
+    if let Some(fault) = world.fault_at(twin.step) {
         return Err(Early::Raised(own_fault(alloc, &fault)?));
     }
-    let value = flat(eval(alloc, code, state, frame, world, expr))?;
-    frame.bind(alloc, name.as_slice(), value)?;
+    let value = flat(eval(alloc, code, state, frame, world, twin.value))?;
+    frame.bind(alloc, twin.name.as_slice(), value)?;
     Ok(())
 }
 
@@ -139,9 +153,21 @@ fn perform_part<W: Sink>(
             name,
             value,
             ..
-        } => perform_both(alloc, code, state, frame, world, *step, name, value),
+        } => {
+            let twin = Twin {
+                step: *step,
+                name,
+                value,
+            };
+            perform_both(alloc, code, state, frame, world, &twin)
+        }
         Part::Branch { step, yes, no } => {
-            perform_branch(alloc, code, state, frame, world, *step, yes, no)
+            let choice = Choice {
+                step: *step,
+                yes,
+                no,
+            };
+            perform_branch(alloc, code, state, frame, world, &choice)
         }
         Part::Turns {
             step,
@@ -210,17 +236,15 @@ fn perform_branch<W: Sink>(
     state: &mut State,
     frame: &mut Frame,
     world: &mut ReplayWorld<'_, '_, W>,
-    step: u32,
-    yes: &Seq<Part>,
-    no: &Seq<Part>,
+    choice: &Choice<'_>,
 ) -> Result<(), Early>
-    ensures { let meant = branch_meant code.now step yes.now no.now in
+    ensures { let meant = branch_meant code.now choice.now.step choice.now.yes.now choice.now.no.now in
         Performs W.Sink meant (local frame.old state.old) world.old result (local frame.new state.new) world.new }
 {
     let Some(holds) = world.left.branch() else {
-        return Err(Early::Raised(world.missed(step)?));
+        return Err(Early::Raised(world.missed(choice.step)?));
     };
-    let parts = chosen(holds, yes, no);
+    let parts = chosen(holds, choice.yes, choice.no);
     perform_block(alloc, code, state, frame, world, parts.as_slice())
 }
 

@@ -158,7 +158,8 @@ fn run_body(
     body: &Seq<Step>,
     bytes: &mut BytesMut,
 ) -> Result<(), Memory>
-    ensures forest { OnOk result (bytes.new.items ≡ bytes.old.items ++ forest_bytes (body_run stage.now body.now server.old).node) }
+    ensures forest { let ran = body_run stage.now body.now server.old in
+        OnOk result (bytes.new.items ≡ bytes.old.items ++ forest_bytes ran.node) }
     ensures server { OnOk result (server.new ≡ (body_run stage.now body.now server.old).server) }
     ensures kept { OnErr result (Keeps bytes.old.items bytes.new.items) }
 {

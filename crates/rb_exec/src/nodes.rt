@@ -43,7 +43,8 @@ fn put_value_entry(value: &Value, bytes: &mut BytesMut) -> Result<(), Memory>
 
 /// Appends the entry of a value, which is primitive, and counts it.
 pub fn put_entry(value: &Value, count: &mut u32, bytes: &mut BytesMut) -> Result<(), Memory>
-    ensures ok { OnOk result (AddsEntries (one_value value.now) (written bytes.old.items count.old) (written bytes.new.items count.new)) }
+    ensures ok { let before = written bytes.old.items count.old in
+        OnOk result (AddsEntries (one_value value.now) before (written bytes.new.items count.new)) }
     ensures err { OnErr result (Keeps bytes.old.items bytes.new.items) }
 {
     put_value_entry(value, bytes)?;
@@ -53,7 +54,9 @@ pub fn put_entry(value: &Value, count: &mut u32, bytes: &mut BytesMut) -> Result
 
 /// The same of the value that a node begins with, where there is one.
 pub fn put_first(first: Option<&Value>, count: &mut u32, bytes: &mut BytesMut) -> Result<(), Memory>
-    ensures ok { OnOk result (AddsEntries (first_entries (option_copied first.entry)) (written bytes.old.items count.old) (written bytes.new.items count.new)) }
+    ensures ok { let entries = first_entries (option_copied first.entry) in
+        let before = written bytes.old.items count.old in
+        OnOk result (AddsEntries entries before (written bytes.new.items count.new)) }
     ensures err { OnErr result (Keeps bytes.old.items bytes.new.items) }
 {
     match first {
@@ -117,7 +120,8 @@ pub fn end_node(
     end: Result<(), Stop>,
 ) -> Result<bool, Stop>
     requires { at + 4 ≤ length bytes.old.items }
-    ensures ended { UnlessMemory result (λ stopped. Ended end (filled at (number count) bytes.old.items) stopped bytes.new.items) }
+    ensures ended { let before = filled at (number count) bytes.old.items in
+        UnlessMemory result (λ stopped. Ended end before stopped bytes.new.items) }
     ensures kept { OnErr result (Keeps (filled at (number count) bytes.old.items) bytes.new.items) }
 {
     fill(bytes, at, count);

@@ -34,7 +34,7 @@ pub fn fuel_used(alloc: Global) -> Fault
 }
 
 /// The value of an input, which has to be there.
-#[inline(never)]
+#[inline]
 pub fn input(alloc: Global, inputs: &[Value], number: u8) -> Result<Value, Failure>
     ensures { Gives (λ v. v) fault_of result (known faults.kind (slice_get inputs.now number)) }
 {
@@ -45,7 +45,7 @@ pub fn input(alloc: Global, inputs: &[Value], number: u8) -> Result<Value, Failu
 }
 
 /// The latest value of a variable, which has to be bound.
-#[inline(never)]
+#[inline]
 pub fn variable(alloc: Global, variables: &Variables, number: u32) -> Result<Value, Failure>
     ensures { Gives (λ v. v) fault_of result (known faults.kind (meant.latest variables.now number)) }
 {

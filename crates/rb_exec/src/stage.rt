@@ -33,7 +33,7 @@ pub struct Site<'a> {
 
 impl Site<'_> {
     /// The value of an expression in the step.
-    #[inline(never)]
+    #[inline(always)]
     pub fn value(
         self,
         variables: &Variables,

@@ -32,12 +32,12 @@ perform_block-returns g t c =
 
 pub perform_branch-returns-in_default-holds : goal.perform_branch-returns-in_default-holds
 perform_branch-returns-in_default-holds g t c =
-    branch_missed g.W.Sink c.args.code.now c.args.step c.args.yes.now c.args.no.now (local c.args.frame.now c.args.state.now) c.args.world.now _ _ _
+    branch_missed g.W.Sink c.args.code.now c.args.choice.now.step c.args.choice.now.yes.now c.args.choice.now.no.now (local c.args.frame.now c.args.state.now) c.args.world.now _ _ _
     c.in_default-holds.ensures.0 c.in_default-holds.ensures.1 refl c.in_ok-missed.ensures refl
 
 pub perform_branch-returns : goal.perform_branch-returns
 perform_branch-returns g t c =
-    branch_so g.W.Sink c.args.code.now c.args.step c.args.yes.now c.args.no.now c.chosen-parts.result.now c.in_Some-holds.holds (local c.args.frame.now c.args.state.now) _ c.args.world.now _ _ c.perform_block.result
+    branch_so g.W.Sink c.args.code.now c.args.choice.now.step c.args.choice.now.yes.now c.args.choice.now.no.now c.chosen-parts.result.now c.in_Some-holds.holds (local c.args.frame.now c.args.state.now) _ c.args.world.now _ _ c.perform_block.result
     c.in_Some-holds.ensures refl c.chosen-parts.ensures (rw c.as_slice.ensures at c.perform_block.ensures)
 
 pub perform_part-perform_branch-requires : goal.perform_part-perform_branch-requires

@@ -16,7 +16,7 @@ abbrev pub decreases-perform_block : goal.decreases-perform_block
 decreases-perform_block g l = parts_of l.parts.now + 2
 
 abbrev pub decreases-perform_branch : goal.decreases-perform_branch
-decreases-perform_branch g l = max (parts_of l.yes.now) (parts_of l.no.now) + 3
+decreases-perform_branch g l = max (parts_of l.choice.now.yes.now) (parts_of l.choice.now.no.now) + 3
 
 abbrev pub decreases-perform_rows : goal.decreases-perform_rows
 decreases-perform_rows g l = parts_of l.turns.now.body.now + 6
