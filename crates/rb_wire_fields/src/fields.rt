@@ -9,6 +9,7 @@ ghost use Rattle.rb_wire_fields.specs.Stops.{told};
 use crate::stop::{BAD_TAG, NOT_CANONICAL, TOO_DEEP, TRUNCATED, Violation};
 
 /// The violation where a field lacks bytes.
+#[inline(always)]
 pub fn cut() -> Violation
     ensures { result ≡ record { number = 1; left = 0 } }
 {
@@ -19,6 +20,7 @@ pub fn cut() -> Violation
 }
 
 /// The violation at the first of the bytes.
+#[inline(always)]
 pub fn refused(number: u8, bytes: &[u8]) -> Violation
     ensures { result ≡ record { number = number; left = length bytes.now } }
 {
@@ -29,6 +31,7 @@ pub fn refused(number: u8, bytes: &[u8]) -> Violation
 }
 
 /// The violation at a tag that stands for nothing, with these bytes after it.
+#[inline(always)]
 pub fn bad_tag(rest: &[u8]) -> Violation
     ensures { result ≡ record { number = 2; left = length rest.now + 1 } }
 {
@@ -50,6 +53,7 @@ pub fn too_deep(bytes: &[u8]) -> Violation
 
 /// A byte.
 #[tactic(auto, unfolding(rb_meaning_bytes::specs::formats::Reading::look))]
+#[inline(always)]
 pub fn byte(bytes: &[u8]) -> Result<(u8, &[u8]), Violation>
     ensures { Gives (λ x. (x.0, x.1.now)) told result (look Byte bytes.now) }
 {
@@ -61,6 +65,7 @@ pub fn byte(bytes: &[u8]) -> Result<(u8, &[u8]), Violation>
 
 /// A number of 32 bits.
 #[tactic(auto, unfolding(rb_meaning_bytes::specs::formats::Reading::look))]
+#[inline(always)]
 pub fn number(bytes: &[u8]) -> Result<(u32, &[u8]), Violation>
     ensures { Gives (λ x. (x.0, x.1.now)) told result (look Number bytes.now) }
 {
@@ -74,6 +79,7 @@ pub fn number(bytes: &[u8]) -> Result<(u32, &[u8]), Violation>
 
 /// A signed number of 64 bits.
 #[tactic(auto, unfolding(rb_meaning_bytes::specs::formats::Reading::look))]
+#[inline(always)]
 pub fn wide(bytes: &[u8]) -> Result<(i64, &[u8]), Violation>
     ensures { Gives (λ x. (x.0, x.1.now)) told result (look Wide bytes.now) }
 {
@@ -89,6 +95,7 @@ pub fn wide(bytes: &[u8]) -> Result<(i64, &[u8]), Violation>
 
 /// A truth value.
 #[tactic(auto, unfolding(rb_meaning_bytes::specs::formats::Reading::look))]
+#[inline(always)]
 pub fn truth(bytes: &[u8]) -> Result<(bool, &[u8]), Violation>
     ensures { Gives (λ x. (x.0, x.1.now)) told result (look Truth bytes.now) }
 {

@@ -86,6 +86,7 @@ pub fn text(alloc: Global, bytes: &[u8]) -> Result<(Word, &[u8]), Stop>
 
 /// A primitive value. A text of it stays where it stands.
 #[tactic(auto, using(crate::proofs::Equations::value_read), unfolding(rb_meaning_bytes::specs::formats::Reading::read))]
+#[inline(always)]
 pub fn primitive(bytes: &[u8]) -> Result<(Item<'_>, &[u8]), Violation>
     ensures { Gives (λ x. (value_seen x.0, x.1.now)) told result (read format.value bytes.now) }
 {

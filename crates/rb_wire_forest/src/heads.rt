@@ -109,6 +109,7 @@ fn fault_text(code: u8, bytes: &[u8]) -> Result<(&[u8], &[u8]), Violation>
 
 /// The fault that a node ends with.
 #[tactic(auto, using(rb_meaning_bytes::proofs::formats::Exact::bound), unfolding(rb_meaning_bytes::specs::formats::Reading::read))]
+#[inline(never)]
 fn fault(bytes: &[u8]) -> Result<(Option<LentFault<'_>>, &[u8]), Violation>
     ensures { Gives (λ x. (end_seen x.0, x.1.now)) told result (read format.fault bytes.now) }
 {
@@ -129,6 +130,7 @@ fn fault(bytes: &[u8]) -> Result<(Option<LentFault<'_>>, &[u8]), Violation>
 
 /// How a node ends.
 #[tactic(auto, using(crate::proofs::Equations::end_read), unfolding(rb_meaning_bytes::specs::formats::Reading::read))]
+#[inline(always)]
 pub fn end(bytes: &[u8]) -> Result<(Option<LentFault<'_>>, &[u8]), Violation>
     ensures { Gives (λ x. (end_seen x.0, x.1.now)) told result (read format.end bytes.now) }
 {

@@ -1,4 +1,7 @@
 // Parts of a forest, passed over at the front of the bytes.
+//
+// One function of the machine's stack stands for each node that is open. What stands in a node is inlined there, since what a
+// function gives goes through memory, and a row is a node of few bytes.
 
 ghost use Rattle.std.specs.Prelude.{◌≡◌, ◌<◌, ◌^◌};
 ghost use Rattle.rb_meaning_bytes.specs.formats.Reading.{read};
@@ -17,6 +20,7 @@ use rb_wire_fields::texts::primitive;
 /// A node, with at most so many within each other.
 #[cycle(skips)]
 #[tactic(auto, using(crate::proofs::Skipped::nodes))]
+#[inline(never)]
 pub fn skip_node(left: usize, bytes: &[u8]) -> Result<&[u8], Violation>
     requires { left < 2 ^ 32 }
     ensures { Gives (λ x. x.now) told result (behind (read (format.node left) bytes.now)) }
@@ -31,6 +35,7 @@ pub fn skip_node(left: usize, bytes: &[u8]) -> Result<&[u8], Violation>
 /// What is left of a node of which so many entries are left, with at most so many nodes within each other below it.
 #[cycle(skips)]
 #[tactic(auto, using(crate::proofs::Skipped::left_skipped))]
+#[inline(always)]
 pub fn skip_left(left: usize, count: u32, bytes: &[u8]) -> Result<&[u8], Violation>
     requires { left < 2 ^ 32 }
     ensures { Gives (λ x. x.now) told result (behind (read (node_left left count) bytes.now)) }
@@ -43,6 +48,7 @@ pub fn skip_left(left: usize, count: u32, bytes: &[u8]) -> Result<&[u8], Violati
 /// So many entries, in which at most so many nodes are within each other.
 #[cycle(skips)]
 #[tactic(auto, using(crate::proofs::Skipped::loops))]
+#[inline(always)]
 fn skip_entries(left: usize, count: u32, bytes: &[u8]) -> Result<&[u8], Violation>
     requires { left < 2 ^ 32 }
     ensures { Gives (λ x. x.now) told result (behind (read (times count (format.entry (format.node left))) bytes.now)) }
@@ -57,6 +63,7 @@ fn skip_entries(left: usize, count: u32, bytes: &[u8]) -> Result<&[u8], Violatio
 /// An entry, in which at most so many nodes are within each other.
 #[cycle(skips)]
 #[tactic(auto, using(crate::proofs::Skipped::entries))]
+#[inline(always)]
 fn skip_entry(left: usize, bytes: &[u8]) -> Result<&[u8], Violation>
     requires { left < 2 ^ 32 }
     ensures { Gives (λ x. x.now) told result (behind (read (format.entry (format.node left)) bytes.now)) }
