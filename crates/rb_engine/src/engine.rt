@@ -27,7 +27,8 @@ pub fn call<W: World>(
     method: &[u8],
     args: Seq<Value>,
 ) -> RunResult<Value, W::Stop>
-    ensures { AnyNames W.World (call_run code.now at (value.Ref object) method.now args) state.old world.old (flattened result) state.new world.new }
+    ensures { let meant = call_run code.now at (value.Ref object) method.now args in
+        AnyNames W.World meant state.old world.old (flattened result) state.new world.new }
 {
     let mut machine = Machine {
         alloc,
@@ -51,7 +52,8 @@ pub fn call_found<W: World>(
     args: Seq<Value>,
 ) -> RunResult<Value, W::Stop>
     requires { IsMethod code.now method.now }
-    ensures { AnyNames W.World (found_run code.now at method.now (value.Ref object) args) state.old world.old (flattened result) state.new world.new }
+    ensures { let meant = found_run code.now at method.now (value.Ref object) args in
+        AnyNames W.World meant state.old world.old (flattened result) state.new world.new }
 {
     let mut machine = Machine {
         alloc,
@@ -72,7 +74,8 @@ pub fn exec<W: World>(
     world: &mut W,
     body: &Seq<Stmt>,
 ) -> RunResult<(), W::Stop>
-    ensures { Effects W.World (stmts_run code.now body.now) frame.old state.old world.old (flattened result) frame.new state.new world.new }
+    ensures { let meant = stmts_run code.now body.now in
+        Effects W.World meant frame.old state.old world.old (flattened result) frame.new state.new world.new }
 {
     let mut machine = Machine {
         alloc,
@@ -93,7 +96,8 @@ pub fn exec_slice<W: World>(
     world: &mut W,
     body: &[Stmt],
 ) -> RunResult<(), W::Stop>
-    ensures { Effects W.World (stmts_run code.now body.now) frame.old state.old world.old (flattened result) frame.new state.new world.new }
+    ensures { let meant = stmts_run code.now body.now in
+        Effects W.World meant frame.old state.old world.old (flattened result) frame.new state.new world.new }
 {
     let mut machine = Machine {
         alloc,
@@ -114,7 +118,8 @@ pub fn eval<W: World>(
     world: &mut W,
     expr: &Expr,
 ) -> RunResult<Value, W::Stop>
-    ensures { Values W.World (value_run code.now expr.now) frame.now state.old world.old (flattened result) state.new world.new }
+    ensures { let meant = value_run code.now expr.now in
+        Values W.World meant frame.now state.old world.old (flattened result) state.new world.new }
 {
     let mut machine = Machine {
         alloc,

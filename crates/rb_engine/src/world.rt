@@ -47,7 +47,9 @@ pub trait World {
     fn batch(&mut self, at: u32, state: &mut State, frame: &mut Frame) -> RunResult<(), Self::Stop>
         ensures fuel { state.new.fuel ≤ state.old.fuel }
         ensures depth { state.new.depth ≡ state.old.depth }
-        ensures performs { Answered (performed (local frame.new state.new) result) (λ o. performs self.old at (local frame.old state.old) o self.new) };
+        ensures performs { let before = local frame.old state.old in
+            let ended = performed (local frame.new state.new) result in
+            Answered ended (λ o. performs self.old at before o self.new) };
 
     /// The value that a step of the script kept.
     fn taken(&mut self, step: u32) -> RunResult<Value, Self::Stop>
