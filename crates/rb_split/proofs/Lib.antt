@@ -5,6 +5,7 @@ pub mod Forms
 pub mod Fronts
 pub mod Given
 pub mod Joined
+pub mod Left
 pub mod Noted
 pub mod Placed
 pub mod Remotes
@@ -12,3 +13,4 @@ pub mod Scoped
 pub mod Scripted
 pub mod Steps
 pub mod Walked
+pub mod Weight

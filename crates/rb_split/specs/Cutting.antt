@@ -1,13 +1,11 @@
 -- What an expression is without its remote parts, where it isn't remote as a whole.
 use Rattle.std.specs.Prelude.{ℕ, List, [], ◌++◌}
 use Rattle.rb_trees.specs.declared.code.Expr as expr
-use Rattle.rb_trees.specs.declared.declarations.Program as program
-use Rattle.rb_trees.specs.mirror.Code.{Expr, Exprs, Unary, Binary, Field, Call, Index, New, Items, Stmt, Assign, mirror_expr, mirror_exprs}
+use Rattle.rb_trees.specs.mirror.Code.{Expr, Exprs, Unary, Binary, Field, Call, Index, New, Items, mirror_expr, mirror_exprs}
 use Rattle.rb_meaning_flow.specs.Facts.{Facts}
 use Rattle.rb_meaning_flow.specs.Scopes.{Scope}
 use Rattle.rb_meaning.specs.RemoteExprs.{remote_in, all_remote_in}
-use Rattle.rb_meaning_split.specs.Cuts.{counted, cut, cut_all, cut_stmt}
-use Rattle.rb_split.specs.Views.{facts}
+use Rattle.rb_meaning_split.specs.Cuts.{counted, cut, cut_all}
 
 -- the remote expressions in the parts of an expression alone
 abbrev pub below : Facts → Scope → Expr → List Expr
@@ -47,7 +45,3 @@ parts_cut x scope n (Index at a b) = Index at (cut x scope n a) (cut x scope (nu
 parts_cut x scope n (New at class args) = New at class (cut_all x scope n args)
 parts_cut x scope n (Items at item items) = Items at item (cut_all x scope n items)
 parts_cut x scope n e = e
-
--- an assignment without its remote expressions, which are numbered from a number on
-abbrev pub assignment_cut : program.Program → Scope → (number at : ℕ) → (a b : expr.Expr) → Stmt
-assignment_cut p scope number at a b = cut_stmt (facts p) scope number (Assign at (mirror_expr a) (mirror_expr b))

@@ -3,7 +3,6 @@ use Rattle.std.specs.Prelude.{ℕ, List, [], length, nat_lt, cond, Result, Ok, E
 use Rattle.rb_trees.specs.declared.refusals.Refusal.{Refusal}
 use Rattle.rb_trees.specs.declared.refusals.Refusal.TheVariants.{TooManyInputs}
 use Rattle.rb_trees.specs.Outcome.{◌>>=◌}
-use Rattle.rb_trees.specs.declared.code.Stmt as stmt
 use Rattle.rb_trees.specs.declared.declarations.Program as program
 use Rattle.rb_trees.specs.mirror.Code.{Stmts, mirror_stmts}
 use Rattle.rb_trees.specs.mirror.Declarations.{Program, mirror_program}
@@ -37,8 +36,8 @@ module _ (p : Program) where
   divided_from at root scope block = divided_with at root scope block (first_uses [] (used_in (facts_of p) scope block))
 
 -- the division of the batch at a place with these inputs, and what comes of the batch, by the trees of the code
-abbrev pub division_at : program.Program → Place → Scope → List stmt.Stmt → List (List ℕ) → Division
-division_at p place scope block inputs = division_with (mirror_program p) place.at place.root.now scope (mirror_stmts block) inputs
+abbrev pub division_at : program.Program → Place → Scope → List (List ℕ) → Division
+division_at p place scope inputs = division_with (mirror_program p) place.at place.root.now scope (mirror_stmts place.block.now) inputs
 
-abbrev pub divided_at : program.Program → Place → Scope → List stmt.Stmt → Result Division Refusal
-divided_at p place scope block = divided_from (mirror_program p) place.at place.root.now scope (mirror_stmts block)
+abbrev pub divided_at : program.Program → Place → Scope → Result Division Refusal
+divided_at p place scope = divided_from (mirror_program p) place.at place.root.now scope (mirror_stmts place.block.now)

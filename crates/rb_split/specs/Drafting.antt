@@ -9,50 +9,55 @@ use Rattle.rb_trees.specs.mirror.Code.{mirror_expr, mirror_stmt, mirror_stmts}
 use Rattle.rb_trees.specs.mirror.Declarations.{mirror_program}
 use Rattle.rb_trees.specs.mirror.Scripts.{Step, mirror_steps}
 use Rattle.rb_meaning_flow.specs.Scopes.{Scope}
+use Rattle.rb_meaning_split.specs.Refs.{Refs}
+use Rattle.rb_meaning_split.specs.Steps.{refs_after}
 use Rattle.rb_split.specs.declared.drafts.Draft.{Draft}
+use Rattle.rb_split.specs.declared.loops.Loop.{Loop}
 use Rattle.rb_split.specs.declared.refs.Known.{Known}
+use Rattle.rb_split.specs.declared.terms.Terms.{Terms}
 use Rattle.rb_split.specs.Drafts as words
-use Rattle.rb_split.specs.Drafts.{Drafted, drafted, fresh}
-use Rattle.rb_split.specs.Views.{refs_of, trees}
+use Rattle.rb_split.specs.Drafts.{Drafted, drafted}
+use Rattle.rb_split.specs.Views.{program_of, refs_of, trees, variables}
 
-module _ (p : program.Program) (refs : List Known) where
+module _ (t : Terms) where
   -- the step of a carried val, of a remote expression alone, of a carried `if`, and of a loop over rows
   abbrev pub let_of : (id var at : ℕ) → expr.Expr → Step
-  let_of id var at e = words.let_of (mirror_program p) (refs_of refs) id var at (mirror_expr e)
+  let_of id var at e = words.let_of (program_of t) (variables t) id var at (mirror_expr e)
 
   abbrev pub do_of : (id at : ℕ) → expr.Expr → Step
-  do_of id at e = words.do_of (mirror_program p) (refs_of refs) id at (mirror_expr e)
+  do_of id at e = words.do_of (program_of t) (variables t) id at (mirror_expr e)
 
   abbrev pub if_of : (id at : ℕ) → expr.Expr → (a b : List step.Step) → Step
-  if_of id at c a b = words.if_of (mirror_program p) (refs_of refs) id at (mirror_expr c) (mirror_steps a) (mirror_steps b)
+  if_of id at c a b = words.if_of (program_of t) (variables t) id at (mirror_expr c) (mirror_steps a) (mirror_steps b)
 
   abbrev pub each_of : (id var at : ℕ) → expr.Expr → List step.Step → Step
-  each_of id var at e body = words.each_of (mirror_program p) (refs_of refs) id var at (mirror_expr e) (mirror_steps body)
+  each_of id var at e body = words.each_of (program_of t) (variables t) id var at (mirror_expr e) (mirror_steps body)
 
   -- the draft with a step that keeps the value of an expression, and with one for each of some
   abbrev pub with_one_kept : Draft → expr.Expr → Drafted
-  with_one_kept d e = words.one_kept (mirror_program p) (refs_of refs) (drafted d) (mirror_expr e)
+  with_one_kept d e = words.one_kept (program_of t) (variables t) (drafted d) (mirror_expr e)
 
   abbrev pub with_all_kept : Draft → List (Bor expr.Expr) → Drafted
-  with_all_kept d found = words.all_kept (mirror_program p) (refs_of refs) (drafted d) (trees found)
+  with_all_kept d found = words.all_kept (program_of t) (variables t) (drafted d) (trees found)
 
   -- the draft with a statement that is left to the client, a carried val, a remote expression alone
   abbrev pub with_plain : Scope → Draft → stmt.Stmt → Drafted
-  with_plain scope d s = words.plain_drafted (mirror_program p) (refs_of refs) scope (drafted d) (mirror_stmt s)
+  with_plain scope d s = words.plain_drafted (program_of t) (variables t) scope (drafted d) (mirror_stmt s)
 
   abbrev pub with_carried : Draft → ℕ → List ℕ → expr.Expr → Drafted
-  with_carried d at name e = words.carried_drafted (mirror_program p) (refs_of refs) (drafted d) at name (mirror_expr e)
+  with_carried d at name e = words.carried_drafted (program_of t) (variables t) (drafted d) at name (mirror_expr e)
 
   abbrev pub with_do : Draft → ℕ → expr.Expr → Drafted
-  with_do d at e = words.do_drafted (mirror_program p) (refs_of refs) (drafted d) at (mirror_expr e)
+  with_do d at e = words.do_drafted (program_of t) (variables t) (drafted d) at (mirror_expr e)
 
   -- the draft with a carried `if`, or a loop over rows, whose blocks are drafted already
   abbrev pub with_branch : Draft → ℕ → expr.Expr → (one two : Draft) → Drafted
-  with_branch d at c one two = words.closed_branch (mirror_program p) (refs_of refs) (drafted d) at (mirror_expr c) (drafted one) (drafted two)
+  with_branch d at c one two = words.closed_branch (program_of t) (variables t) (drafted d) at (mirror_expr c) (drafted one) (drafted two)
 
   abbrev pub with_turns : Draft → ℕ → List ℕ → expr.Expr → Draft → Drafted
-  with_turns d at name e body = words.closed_turns (mirror_program p) (refs_of refs) (drafted d) at name (mirror_expr e) (drafted body)
+  with_turns d at name e body = words.closed_turns (program_of t) (variables t) (drafted d) at name (mirror_expr e) (drafted body)
 
+module _ (p : program.Program) (refs : List Known) where
   -- the draft with a statement at a script place, and with those of a block
   abbrev pub with_stmt : Scope → Draft → stmt.Stmt → Drafted
   with_stmt scope d s = words.stmt_drafted (mirror_program p) (refs_of refs) scope (drafted d) (mirror_stmt s)
@@ -60,9 +65,10 @@ module _ (p : program.Program) (refs : List Known) where
   abbrev pub with_stmts : Scope → Draft → List stmt.Stmt → Drafted
   with_stmts scope d ss = words.block_drafted (mirror_program p) (refs_of refs) scope (drafted d) (mirror_stmts ss)
 
-  -- the draft of a block, and of that of a loop over rows, whose first step and variable have these numbers
-  abbrev pub block_draft : Scope → (n m : ℕ) → List stmt.Stmt → Drafted
-  block_draft scope n m ss = words.block_drafted (mirror_program p) (refs_of refs) scope (fresh n m) (mirror_stmts ss)
+  -- the draft with the statements of a loop over rows, whose row is its next variable
+  abbrev pub with_turn : Scope → Draft → Loop → Drafted
+  with_turn scope d l = words.turn_drafted (mirror_program p) (refs_of refs) scope (drafted d) l.at l.name.now (mirror_stmts l.block.now)
 
-  abbrev pub turn_draft : Scope → (n m at : ℕ) → List ℕ → List stmt.Stmt → Drafted
-  turn_draft scope n m at name ss = words.turn_drafted (mirror_program p) (refs_of refs) scope n m at name (mirror_stmts ss)
+  -- the portable variables after a statement, where the draft is before it
+  abbrev pub refs_behind : Scope → Draft → stmt.Stmt → Refs
+  refs_behind scope d s = refs_after (mirror_program p) (refs_of refs) d.var scope (mirror_stmt s)

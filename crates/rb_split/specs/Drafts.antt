@@ -6,15 +6,17 @@ use Rattle.rb_trees.specs.mirror.Scripts as script
 use Rattle.rb_trees.specs.mirror.Scripts.{Step, Steps, NoSteps, MoreSteps, mirror_steps}
 use Rattle.rb_trees.specs.mirror.Remainders as remainder
 use Rattle.rb_trees.specs.mirror.Remainders.{Part, Parts, NoParts, MoreParts, mirror_parts}
+use Rattle.rb_meaning_flow.specs.declared.forms.PlacedForm.{PlacedForm}
 use Rattle.rb_meaning_flow.specs.declared.scopes.Role.{Role}
 use Rattle.rb_meaning_flow.specs.Facts.{facts_of}
+use Rattle.rb_meaning_flow.specs.Forms.{placed_form}
 use Rattle.rb_meaning_flow.specs.Scopes.{Scope, with_variable}
 use Rattle.rb_meaning_flow.specs.Sites.{scope_after}
 use Rattle.rb_meaning.specs.RemoteExprs.{remote_of}
 use Rattle.rb_meaning_split.specs.Refs.{Refs, sexpr, with_var}
-use Rattle.rb_meaning_split.specs.Numbers.{step_after, var_after}
-use Rattle.rb_meaning_split.specs.Steps.{keeps_val, refs_after, steps}
-use Rattle.rb_meaning_split.specs.Parts.{carried, part, plain, row_kind}
+use Rattle.rb_meaning_split.specs.Numbers.{step_after_as, var_after_as}
+use Rattle.rb_meaning_split.specs.Steps.{keeps_val, refs_after, steps_as}
+use Rattle.rb_meaning_split.specs.Parts.{carried, part_as, plain, row_kind}
 use Rattle.rb_split.specs.declared.drafts.Draft.{Draft}
 
 -- some steps, and then others
@@ -48,6 +50,10 @@ with_step d s q n m = record { steps = joined d.steps (MoreSteps s NoSteps); par
 abbrev pub with_kept : Drafted → Step → ℕ → ℕ → Drafted
 with_kept d s n m = record { steps = joined d.steps (MoreSteps s NoSteps); parts = d.parts; step = n; var = m }
 
+-- one more variable alone
+abbrev pub with_row : Drafted → Drafted
+with_row d = record { steps = d.steps; parts = d.parts; step = d.step; var = suc d.var }
+
 -- one more part alone
 abbrev pub with_part : Drafted → Part → Drafted
 with_part d q = record { steps = d.steps; parts = joined_parts d.parts (MoreParts q NoParts); step = d.step; var = d.var }
@@ -79,14 +85,17 @@ module _ (p : Program) where
   abbrev pub do_drafted : Refs → Drafted → ℕ → Expr → Drafted
   do_drafted refs d at e = with_step d (do_of refs d.step at e) (remainder.Pass d.step) (suc d.step) d.var
 
-  -- a statement at a script place
-  abbrev pub stmt_drafted : Refs → Scope → Drafted → Stmt → Drafted
-  stmt_drafted refs scope d s = record {
-    steps = joined d.steps (steps p refs scope d.step d.var s NoSteps);
-    parts = joined_parts d.parts (MoreParts (part p scope d.step s) NoParts);
-    step = step_after (facts_of p) scope s d.step;
-    var = var_after (facts_of p) scope s d.var;
+  -- a statement at a script place, by its form
+  abbrev pub stmt_drafted_as : PlacedForm → Refs → Scope → Drafted → Stmt → Drafted
+  stmt_drafted_as form refs scope d s = record {
+    steps = joined d.steps (steps_as p form refs scope d.step d.var s NoSteps);
+    parts = joined_parts d.parts (MoreParts (part_as p form scope d.step s) NoParts);
+    step = step_after_as (facts_of p) form scope s d.step;
+    var = var_after_as (facts_of p) form scope s d.var;
   }
+
+  abbrev pub stmt_drafted : Refs → Scope → Drafted → Stmt → Drafted
+  stmt_drafted refs scope d s = stmt_drafted_as (placed_form (facts_of p) scope s) refs scope d s
 
   -- the statements of a block
   abbrev pub block_drafted : Refs → Scope → Drafted → Stmts → Drafted
@@ -122,11 +131,11 @@ module _ (p : Program) where
   branch_drafted refs scope d at c a b =
       closed_branch refs d at c (first_drafted refs scope d a) (second_drafted refs scope (first_drafted refs scope d a) b)
 
-  -- the block of a loop over rows, with its row
-  abbrev pub turn_drafted : Refs → Scope → ℕ → ℕ → ℕ → List ℕ → Stmts → Drafted
-  turn_drafted refs scope n m at name a =
-      block_drafted (with_var refs name m) (with_variable scope name Role.Row at) (fresh n (suc m)) a
+  -- the block of a loop over rows, whose row is the draft's next variable
+  abbrev pub turn_drafted : Refs → Scope → Drafted → ℕ → List ℕ → Stmts → Drafted
+  turn_drafted refs scope d at name a =
+      block_drafted (with_var refs name d.var) (with_variable scope name Role.Row at) (with_row d) a
 
   abbrev pub turns_drafted : Refs → Scope → Drafted → ℕ → List ℕ → Expr → Stmts → Drafted
   turns_drafted refs scope d at name e a =
-      closed_turns refs d at name e (turn_drafted refs scope (suc d.step) d.var at name a)
+      closed_turns refs d at name e (turn_drafted refs scope (fresh (suc d.step) d.var) at name a)

@@ -4,8 +4,10 @@ use Rattle.rb_trees.specs.declared.code.Stmt as stmt
 use Rattle.rb_trees.specs.declared.declarations.Program as program
 use Rattle.rb_trees.specs.mirror.Code.{mirror_stmts}
 use Rattle.rb_meaning_types.specs.Names.{is_new}
-use Rattle.rb_meaning_flow.specs.Scopes.{Scope, is_constant_role, role_of}
+use Rattle.rb_meaning_flow.specs.declared.scopes.Role.{Role}
+use Rattle.rb_meaning_flow.specs.Scopes.{Scope, is_constant_role, role_of, with_variable}
 use Rattle.rb_meaning_split.specs.Inputs.{used_in}
+use Rattle.rb_split.specs.declared.loops.Loop.{Loop}
 use Rattle.rb_split.specs.Views.{facts}
 
 -- the inputs so far, and one more where the name is new
@@ -24,3 +26,7 @@ constant_variable scope name = cond (is_constant_role (role_of scope name)) (nam
 -- the inputs that the statements of a block use
 abbrev pub used_by : program.Program → Scope → List stmt.Stmt → List (List ℕ)
 used_by p scope ss = used_in (facts p) scope (mirror_stmts ss)
+
+-- the inputs that the block of a loop over rows uses, with its row
+abbrev pub used_in_turn : program.Program → Scope → Loop → List (List ℕ)
+used_in_turn p scope l = used_by p (with_variable scope l.name.now Role.Row l.at) l.block.now

@@ -10,7 +10,7 @@ ghost use Rattle.rb_split.specs.Cutting.{all_cut_so, all_numbers_after, below_nu
 ghost use Rattle.rb_split.specs.Views.{facts};
 
 use crate::numbers::next;
-use crate::remote::is_remote;
+use rb_flow::is_portable_call;
 use rb_marks::Facts;
 use rb_scopes::Scope;
 use rb_trees::{
@@ -125,7 +125,7 @@ pub fn cut(
     ensures cut { IfOk result (λ c. mirror_expr c ≡ cut_so (facts x.now) scope.now number.old e.now) }
     ensures number { OnOk result (number.new ≡ number_after (facts x.now) scope.now number.old (mirror_expr e.now)) }
 {
-    if is_remote(x, scope, e) {
+    if is_portable_call(x, scope, e) {
         return taken(number, e.at);
     }
     cut_parts(alloc, x, scope, number, e)

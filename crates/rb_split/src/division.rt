@@ -26,12 +26,13 @@ const MOST_INPUTS: usize = 255;
 /// The greatest number of bytes of a script's code.
 const LONGEST_CODE: u64 = 4_194_304;
 
-/// Where a batch stands: its number, its position and the name of its root.
+/// Where a batch stands: its number, its position and the name of its root, and its block.
 #[derive(Clone, Copy)]
 struct Place<'a> {
     number: u32,
     at: u32,
     root: &'a Word,
+    block: &'a [Stmt],
 }
 
 // The portable variables with which a batch begins: its root, and its inputs.
@@ -79,16 +80,16 @@ fn write(
     x: &Facts<'_>,
     place: &Place<'_>,
     scope: &mut Scope,
-    block: &[Stmt],
     inputs: Seq<Word>,
     count: u8,
 ) -> Result<Split, Memory>
     requires { count ≡ length inputs }
-    ensures divided { IfOk result (λ s. seen s ≡ division_at x.now place.now scope.old block.now inputs) }
+    ensures divided { IfOk result (λ s. seen s ≡ division_at x.now place.now scope.old inputs) }
     ensures number { IfOk result (λ s. s.batch ≡ place.now.number) }
 {
     let mut refs = first_refs(alloc, place.root, inputs.as_slice())?;
-    let Draft { steps, parts, .. } = draft_block(alloc, x, scope, &mut refs, 0, 0, block)?;
+    let draft = Draft::new(alloc, 0, 0);
+    let Draft { steps, parts, .. } = draft_block(alloc, x, scope, &mut refs, draft, place.block)?;
     Ok(Split {
         batch: place.number,
         at: place.at,
@@ -107,14 +108,13 @@ fn divide_from(
     x: &Facts<'_>,
     place: &Place<'_>,
     scope: &mut Scope,
-    block: &[Stmt],
 ) -> Result<Split, SplitStop>
-    ensures divided { Gives seen refusal_of result (divided_at x.now place.now scope.old block.now) }
+    ensures divided { Gives seen refusal_of result (divided_at x.now place.now scope.old) }
     ensures number { IfOk result (λ s. s.batch ≡ place.now.number) }
 {
-    let inputs = inputs_of(alloc, x, scope, block)?;
+    let inputs = inputs_of(alloc, x, scope, place.block)?;
     let count = count_inputs(place.at, inputs.as_slice())?;
-    let split = write(alloc, x, place, scope, block, inputs, count)?;
+    let split = write(alloc, x, place, scope, inputs, count)?;
     checked(split)
 }
 
@@ -136,7 +136,8 @@ pub fn divide(
         number,
         at: root.1,
         root: root.0,
+        block: batch.block,
     };
     let mut scope = batch.scope.copy(alloc)?;
-    divide_from(alloc, x, &place, &mut scope, batch.block)
+    divide_from(alloc, x, &place, &mut scope)
 }

@@ -9,8 +9,8 @@ ghost use Rattle.rb_trees.specs.mirror.Scripts.{mirror_sexpr, mirror_sexprs};
 ghost use Rattle.rb_meaning_split.specs.Refs.{ref_expr};
 ghost use Rattle.rb_split.specs.Views.{all_in_script, in_script, ref_of};
 
-use crate::refs::{Referent, Refs};
-use rb_marks::Facts;
+use crate::refs::Referent;
+use crate::terms::Terms;
 use rb_trees::{
     BinOp, Boxed, Expr, ExprForm, Invocation, Memory, Operands, SExpr, Seq, UnOp, Word, copy_value,
     copy_word,
@@ -67,28 +67,28 @@ fn binary_of(alloc: Global, op: BinOp, at: u32, a: SExpr, b: SExpr) -> Result<SE
 
 /// A portable expression in a script: `sexpr`.
 #[cycle(portables)]
-pub fn script_expr(alloc: Global, x: &Facts<'_>, refs: &Refs, e: &Expr) -> Result<SExpr, Memory>
-    ensures { IfOk result (λ s. mirror_sexpr s ≡ in_script x.now refs.now e.now) }
+pub fn script_expr(terms: &Terms<'_, '_>, e: &Expr) -> Result<SExpr, Memory>
+    ensures { IfOk result (λ s. mirror_sexpr s ≡ in_script terms.now e.now) }
 {
     match &e.form {
-        ExprForm::Lit(value) => Ok(SExpr::Lit(Boxed::new(alloc, copy_value(value)?)?)),
-        ExprForm::Name(name) => Ok(of_target(refs.find(name))),
+        ExprForm::Lit(value) => Ok(SExpr::Lit(Boxed::new(terms.alloc, copy_value(value)?)?)),
+        ExprForm::Name(name) => Ok(of_target(terms.refs.find(name))),
         ExprForm::Unary(op, a) => {
-            let a = script_expr(alloc, x, refs, a.get())?;
-            unary_of(alloc, *op, e.at, a)
+            let a = script_expr(terms, a.get())?;
+            unary_of(terms.alloc, *op, e.at, a)
         }
         ExprForm::Binary(op, a, b) => {
-            let a = script_expr(alloc, x, refs, a.get())?;
-            let b = script_expr(alloc, x, refs, b.get())?;
-            binary_of(alloc, *op, e.at, a, b)
+            let a = script_expr(terms, a.get())?;
+            let b = script_expr(terms, b.get())?;
+            binary_of(terms.alloc, *op, e.at, a, b)
         }
         ExprForm::Call(a, method, args) => {
-            let target = script_expr(alloc, x, refs, a.get())?;
-            let args = script_exprs(alloc, x, refs, args.as_slice())?;
+            let target = script_expr(terms, a.get())?;
+            let args = script_exprs(terms, args.as_slice())?;
             call_of(
-                alloc,
+                terms.alloc,
                 e.at,
-                x.typed().call_kind(e.at).number(),
+                terms.facts.typed().call_kind(e.at).number(),
                 method,
                 target,
                 args,
@@ -100,17 +100,12 @@ pub fn script_expr(alloc: Global, x: &Facts<'_>, refs: &Refs, e: &Expr) -> Resul
 }
 
 #[cycle(portables)]
-fn script_exprs(
-    alloc: Global,
-    x: &Facts<'_>,
-    refs: &Refs,
-    es: &[Expr],
-) -> Result<Seq<SExpr>, Memory>
-    ensures { IfOk result (λ ss. mirror_sexprs ss ≡ all_in_script x.now refs.now es.now) }
+fn script_exprs(terms: &Terms<'_, '_>, es: &[Expr]) -> Result<Seq<SExpr>, Memory>
+    ensures { IfOk result (λ ss. mirror_sexprs ss ≡ all_in_script terms.now es.now) }
 {
-    let mut made = Seq::new(alloc);
+    let mut made = Seq::new(terms.alloc);
     'exprs: for e in es {
-        made.push(script_expr(alloc, x, refs, e)?)?;
+        made.push(script_expr(terms, e)?)?;
     }
     Ok(made)
 }

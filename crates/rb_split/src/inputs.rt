@@ -5,18 +5,18 @@
 ghost use Rattle.std.specs.Prelude.{◌≡◌, [], take, length, IfOk, OnOk};
 ghost use Rattle.std.specs.List.{flat_map};
 ghost use Rattle.rb_trees.specs.mirror.Code.{mirror_expr, mirror_exprs, mirror_stmt};
-ghost use Rattle.rb_meaning_flow.specs.declared.scopes.Role.{Role};
-ghost use Rattle.rb_meaning_flow.specs.Scopes.{is_constant_role, with_variable};
+ghost use Rattle.rb_meaning_flow.specs.Scopes.{is_constant_role};
 ghost use Rattle.rb_meaning_split.specs.Inputs as meant;
-ghost use Rattle.rb_split.specs.Uses.{constant_variable, noted, used_by};
-ghost use Rattle.rb_split.specs.Views.{facts, trees};
+ghost use Rattle.rb_split.specs.Uses.{constant_variable, noted, used_by, used_in_turn};
+ghost use Rattle.rb_split.specs.Views.{facts, scope_behind, trees};
 
+use crate::loops::Loop;
 use crate::remote::remote_of;
-use crate::scopes::bind_after;
+use crate::scopes::bind_plain;
 use crate::uses::Uses;
-use rb_flow::is_portable;
-use rb_marks::{Facts, branches_hold};
-use rb_meaning_flow::Role;
+use rb_flow::placed_form;
+use rb_marks::Facts;
+use rb_meaning_flow::{PlacedForm, Role};
 use rb_scopes::Scope;
 use rb_trees::{Expr, ExprForm, Memory, Seq, Stmt, StmtForm, Word};
 use std::alloc::Global;
@@ -102,7 +102,7 @@ fn note_kept(
     note_found(alloc, scope, uses, found.as_slice())
 }
 
-// Notes those that a statement at a script place gives to the script.
+// Notes those that a statement at a script place gives to the script, and binds what it declares.
 #[cycle(used)]
 fn note_stmt(
     alloc: Global,
@@ -112,40 +112,31 @@ fn note_stmt(
     s: &Stmt,
 ) -> Result<(), Memory>
     ensures uses { OnOk result (uses.new ≡ noted uses.old (meant.used (facts x.now) scope.old (mirror_stmt s.now))) }
-    ensures scope { OnOk result (scope.new ≡ scope.old) }
+    ensures scope { OnOk result (scope.new ≡ scope_behind x.now scope.old s.now) }
 {
-    match &s.form {
-        StmtForm::Val(_, e) => {
-            if is_portable(x, scope, e) {
-                note_constants(alloc, scope, uses, e)
-            } else {
-                note_kept(alloc, x, scope, uses, s)
-            }
+    match (&s.form, placed_form(x, scope, s)) {
+        (StmtForm::Val(name, e), PlacedForm::CarriedVal) => {
+            note_constants(alloc, scope, uses, e)?;
+            scope.bind(alloc, name, Role::Carried, s.at)
         }
-        StmtForm::If(c, a, b) => {
-            if branches_hold(x, a.as_slice(), b.as_slice()) {
-                note_constants(alloc, scope, uses, c)?;
-                note_block(alloc, x, scope, uses, a.as_slice())?;
-                note_block(alloc, x, scope, uses, b.as_slice())
-            } else {
-                note_kept(alloc, x, scope, uses, s)
-            }
+        (StmtForm::If(c, a, b), PlacedForm::CarriedIf) => {
+            note_constants(alloc, scope, uses, c)?;
+            note_block(alloc, x, scope, uses, a.as_slice())?;
+            note_block(alloc, x, scope, uses, b.as_slice())
         }
-        StmtForm::For(name, e, a) => {
-            if x.over_rows(e) {
-                note_constants(alloc, scope, uses, e)?;
-                note_turn(alloc, x, scope, uses, name, s.at, a.as_slice())
-            } else {
-                note_kept(alloc, x, scope, uses, s)
-            }
+        (StmtForm::For(name, e, a), PlacedForm::RowsLoop) => {
+            note_constants(alloc, scope, uses, e)?;
+            let turns = Loop {
+                at: s.at,
+                name,
+                block: a.as_slice(),
+            };
+            note_turn(alloc, x, scope, uses, &turns)
         }
-        StmtForm::Var(_, _) | StmtForm::Assign(_, _) | StmtForm::Run(_) => {
-            note_kept(alloc, x, scope, uses, s)
+        _ => {
+            note_kept(alloc, x, scope, uses, s)?;
+            bind_plain(alloc, scope, s)
         }
-        StmtForm::Print(_) | StmtForm::Throw(_) | StmtForm::While(_, _) => {
-            note_kept(alloc, x, scope, uses, s)
-        }
-        StmtForm::Try(_, _, _) | StmtForm::Batch(_, _, _) => { note_kept(alloc, x, scope, uses, s) }
     }
 }
 
@@ -174,16 +165,14 @@ fn note_turn(
     x: &Facts<'_>,
     scope: &mut Scope,
     uses: &mut Uses,
-    name: &Word,
-    at: u32,
-    ss: &[Stmt],
+    turns: &Loop<'_>,
 ) -> Result<(), Memory>
-    ensures uses { OnOk result (uses.new ≡ noted uses.old (used_by x.now (with_variable scope.old name.now Role.Row at) ss.now)) }
+    ensures uses { OnOk result (uses.new ≡ noted uses.old (used_in_turn x.now scope.old turns.now)) }
     ensures scope { OnOk result (scope.new ≡ scope.old) }
 {
     let count = scope.len();
-    scope.bind(alloc, name, Role::Row, at)?;
-    note_stmts(alloc, x, scope, uses, ss)?;
+    scope.bind(alloc, turns.name, Role::Row, turns.at)?;
+    note_stmts(alloc, x, scope, uses, turns.block)?;
     scope.truncate(count);
     Ok(())
 }
@@ -201,7 +190,6 @@ fn note_stmts(
 {
     'stmts: for s in ss {
         note_stmt(alloc, x, scope, uses, s)?;
-        bind_after(alloc, x, scope, s)?;
     }
     Ok(())
 }

@@ -11,6 +11,7 @@ mod drafts;
 mod exprs;
 mod inputs;
 mod keeps;
+mod loops;
 mod numbers;
 mod plain;
 mod refs;
@@ -18,6 +19,7 @@ mod remote;
 mod scopes;
 mod splits;
 mod stops;
+mod terms;
 mod uses;
 mod walk;
 

@@ -6,7 +6,6 @@ ghost use Rattle.std.specs.Prelude.{◌≡◌, IfOk};
 ghost use Rattle.rb_trees.specs.mirror.Code as code;
 ghost use Rattle.rb_trees.specs.mirror.Code.{mirror_expr, mirror_stmt, mirror_stmts};
 ghost use Rattle.rb_meaning_split.specs.Cuts as meant;
-ghost use Rattle.rb_split.specs.Cutting.{assignment_cut};
 ghost use Rattle.rb_split.specs.Views.{facts};
 
 use crate::cuts::cut;
@@ -118,24 +117,6 @@ fn cut_one(
     cut(alloc, x, scope, &mut number, e)
 }
 
-// The two sides of an assignment, cut.
-fn cut_sides(
-    alloc: Global,
-    x: &Facts<'_>,
-    scope: &Scope,
-    at: u32,
-    number: u32,
-    a: &Expr,
-    b: &Expr,
-) -> Result<Stmt, Memory>
-    ensures { IfOk result (λ c. mirror_stmt c ≡ assignment_cut x.now scope.now number at a.now b.now) }
-{
-    let mut number = number;
-    let a = cut(alloc, x, scope, &mut number, a)?;
-    let b = cut(alloc, x, scope, &mut number, b)?;
-    Ok(assign_of(at, a, b))
-}
-
 /// A statement without its remote expressions, which are numbered from `number` on: `cut_stmt`.
 pub fn cut_stmt(
     alloc: Global,
@@ -149,7 +130,12 @@ pub fn cut_stmt(
     match &s.form {
         StmtForm::Val(name, e) => val_of(alloc, s.at, name, cut_one(alloc, x, scope, number, e)?),
         StmtForm::Var(name, e) => var_of(alloc, s.at, name, cut_one(alloc, x, scope, number, e)?),
-        StmtForm::Assign(a, b) => cut_sides(alloc, x, scope, s.at, number, a, b),
+        StmtForm::Assign(a, b) => {
+            let mut number = number;
+            let a = cut(alloc, x, scope, &mut number, a)?;
+            let b = cut(alloc, x, scope, &mut number, b)?;
+            Ok(assign_of(s.at, a, b))
+        }
         StmtForm::Run(e) => Ok(run_of(s.at, cut_one(alloc, x, scope, number, e)?)),
         StmtForm::Print(e) => Ok(print_of(s.at, cut_one(alloc, x, scope, number, e)?)),
         StmtForm::Throw(e) => Ok(throw_of(s.at, cut_one(alloc, x, scope, number, e)?)),

@@ -4,23 +4,15 @@
 
 ghost use Rattle.std.specs.Prelude.{◌≡◌, ◌++◌, IfOk, OnOk};
 ghost use Rattle.rb_trees.specs.mirror.Code.{mirror_expr, mirror_exprs, mirror_stmt};
-ghost use Rattle.rb_meaning_flow.specs.Marks.{is_portable_call};
 ghost use Rattle.rb_meaning.specs.RemoteExprs as meant;
 ghost use Rattle.rb_split.specs.Cutting.{below};
 ghost use Rattle.rb_split.specs.Views.{facts, trees};
 
-use rb_flow::is_portable;
-use rb_marks::{Facts, holds_call};
+use rb_flow::is_portable_call;
+use rb_marks::Facts;
 use rb_scopes::Scope;
 use rb_trees::{Expr, ExprForm, Memory, Seq, Stmt, StmtForm};
 use std::alloc::Global;
-
-/// Whether an expression is portable and holds a remote call.
-pub fn is_remote(x: &Facts<'_>, scope: &Scope, e: &Expr) -> bool
-    ensures { result ≡ is_portable_call (facts x.now) scope.now (mirror_expr e.now) }
-{
-    is_portable(x, scope, e) && holds_call(x, e)
-}
 
 // Adds an expression, where it is a remote one as a whole, or else those in its parts.
 #[cycle(remotes)]
@@ -32,7 +24,7 @@ fn find_in<'e>(
 ) -> Result<(), Memory>
     ensures { OnOk result (trees found.new ≡ trees found.old ++ meant.remote_in (facts x.now) scope.now (mirror_expr e.now)) }
 {
-    if is_remote(x, scope, e) {
+    if is_portable_call(x, scope, e) {
         return found.push(e);
     }
     find_below(x, scope, found, e)
