@@ -9,8 +9,8 @@ pub mod Found
 pub mod Fronts
 pub mod Looked
 pub mod MainLed
+pub mod Placed
 pub mod Replies
-pub mod Skimmed
 pub mod Stepped
 pub mod Told
 pub mod Weight

@@ -15,7 +15,9 @@ use Rattle.rb_meaning_code.specs.Faults.{fuel_used}
 use Rattle.rb_meaning_code.specs.State.{Names}
 use Rattle.rb_meaning_code.specs.Remote.{Server, Reply, Got, Stopped, and_then, replies, rows_in}
 use Rattle.rb_meaning_code.specs.Statements.{truth_of}
+use Rattle.rb_meaning_flow.specs.declared.forms.PlacedForm.{PlacedForm}
 use Rattle.rb_meaning_flow.specs.Facts.{facts_of}
+use Rattle.rb_meaning_flow.specs.Forms.{placed_form}
 use Rattle.rb_meaning_flow.specs.declared.scopes.Role.{Role}
 use Rattle.rb_meaning_flow.specs.Scopes.{Scope, with_variable}
 use Rattle.rb_meaning_flow.specs.Sites.{own, scope_after}
@@ -30,8 +32,10 @@ use Rattle.rb_engine.specs.declared.misses.Miss.TheVariants as miss
 use Rattle.rb_plain.specs.Parts.{part_meant, performed_meant}
 use Rattle.rb_plain.specs.Remote.{Ended, SameStage, as_unit, value_meant}
 use Rattle.rb_plain.specs.Staged.{Staged, program_of, service_of}
-use Rattle.rb_plain.specs.Walks.{Does, Kept, Meaning, Walked, block_from, block_meant, branch_meant, carried_meant, form_meant, plain_meant, rows_meant, scope_behind, skim_meant, stmt_meant, stmts_meant, turn_from, turn_meant, turns_from, turns_meant}
+use Rattle.rb_plain.specs.Walks.{Does, Kept, Meaning, Walked, block_from, block_meant, branch_meant, carried_meant, form_meant, rows_meant, scope_behind, skim_meant, stmt_meant, stmts_meant, turn_from, turn_meant, turns_from, turns_meant}
 use Rattle.rb_plain.specs.declared.remote_world.RemoteWorld.{RemoteWorld}
+use Rattle.rb_plain.specs.declared.walk.Binding.{Binding}
+use Rattle.rb_plain.specs.declared.walk.Branch.{Branch}
 use Rattle.rb_plain.specs.declared.walk.Loop.{Loop}
 use Rattle.rb_plain.proofs.Dropped.{dropped_one}
 use Rattle.rb_plain.proofs.Fronts.{kept_added, kept_after, kept_far, kept_same}
@@ -58,10 +62,10 @@ want is so = by_result (is ∙ ap Err so) (record { does = tt; names_so = tt; st
 
 -- Values that are bound.
 
-pub carried : {t : Result Value Miss} {v : Value} {old new : Names} {w w1 : RemoteWorld} (name : List ℕ) (e : expr.Expr) → Ended (value_meant w.stage e old w.server) t w w1 → t ≡ Ok v → new ≡ old ++ (name, v) ∷ [] → Walked (carried_meant w name e old) old (Ok tt) w new w1
-carried {v = v} {old = old} {new = new} {w1 = w1} name e h is bound = record {
-  does = λ go. ap (λ x. and_then x (λ u s. go (old ++ (name, u) ∷ []) s)) (got h is) ∙ ap (λ ns. go ns w1.server) (sym bound);
-  names_so = kept_added old new ((name, v) ∷ []) bound;
+pub carried : {t : Result Value Miss} {v : Value} {old new : Names} {w w1 : RemoteWorld} (d : Binding) → Ended (value_meant w.stage d.expr.now old w.server) t w w1 → t ≡ Ok v → new ≡ old ++ (d.name.now, v) ∷ [] → Walked (carried_meant w d old) old (Ok tt) w new w1
+carried {v = v} {old = old} {new = new} {w1 = w1} d h is bound = record {
+  does = λ go. ap (λ x. and_then x (λ u s. go (old ++ (d.name.now, u) ∷ []) s)) (got h is) ∙ ap (λ ns. go ns w1.server) (sym bound);
+  names_so = kept_added old new ((d.name.now, v) ∷ []) bound;
   stage_so = same_by h is;
 }
 
@@ -69,25 +73,21 @@ missed_by : (h : Miss) (m : Reply Value) (k : Value → Rest → Server → part
 missed_by (miss.Fault at f) m k names s e = λ go. ap (λ x. and_then x (λ v s1. k v go s1)) e
 missed_by miss.Memory m k names s e = tt
 
-pub carried_missed : {t : Result Value Miss} {h : Miss} {r : Result (Unit {0}) Miss} {old new : Names} {w w1 : RemoteWorld} (name : List ℕ) (e : expr.Expr) → Ended (value_meant w.stage e old w.server) t w w1 → t ≡ Err h → r ≡ Err h → Walked (carried_meant w name e old) old r w new w1
-carried_missed {t = t} {h = h} {old = old} {new = new} {w = w} {w1 = w1} name e d is so = by_result so (record {
-  does = missed_by h (value_meant w.stage e old w.server) (λ v go s. go (old ++ (name, v) ∷ []) s) new w1.server (subst (λ x. Means (value_meant w.stage e old w.server) x w1.server) is d.means);
-  names_so = tt;
-  stage_so = unstarved_err (Unit {0}) t h (SameStage w w1) (SameStage w w1) (λ x. x) is d.stage_so;
-})
-
--- Statements of one of two kinds.
-
-pub on_true : {a : Meaning} {r : Result (Unit {0}) Miss} {old new : Names} {w w1 : RemoteWorld} (b : Meaning) (t x : Bool) → t ≡ x → t ≡ true → Walked a old r w new w1 → Walked (λ go. cond x (a go) (b go)) old r w new w1
-on_true {a = a} b t x is so h = as_meant (λ go. ap (λ y. cond y (a go) (b go)) (sym is ∙ so)) h
-
-pub on_false : {b : Meaning} {r : Result (Unit {0}) Miss} {old new : Names} {w w1 : RemoteWorld} (a : Meaning) (t x : Bool) → t ≡ x → t ≡ false → Walked b old r w new w1 → Walked (λ go. cond x (a go) (b go)) old r w new w1
-on_false {b = b} a t x is so h = as_meant (λ go. ap (λ y. cond y (a go) (b go)) (sym is ∙ so)) h
+pub carried_missed : {t : Result Value Miss} {h : Miss} {r : Result (Unit {0}) Miss} {old new : Names} {w w1 : RemoteWorld} (d : Binding) → Ended (value_meant w.stage d.expr.now old w.server) t w w1 → t ≡ Err h → r ≡ Err h → Walked (carried_meant w d old) old r w new w1
+carried_missed {t = t} {h = h} {old = old} {new = new} {w = w} {w1 = w1} d ended is so =
+    let meant = value_meant w.stage d.expr.now old w.server in
+    by_result so (record {
+      does = missed_by h meant (λ v go s. go (old ++ (d.name.now, v) ∷ []) s) new w1.server (subst (λ x. Means meant x w1.server) is ended.means);
+      names_so = tt;
+      stage_so = unstarved_err (Unit {0}) t h (SameStage w w1) (SameStage w w1) (λ x. x) is ended.stage_so;
+    })
 
 -- a statement of a known form
-pub of_form : {r : Result (Unit {0}) Miss} {old new : Names} {w1 : RemoteWorld} (w : RemoteWorld) (scope : Scope) (s : stmt.Stmt) (names : Names) (m : Stmt) → mirror_stmt s ≡ m
-    → Walked (form_meant w scope m names) old r w new w1 → Walked (stmt_meant w scope s names) old r w new w1
-of_form w scope s names m is h = as_meant (λ go. ap (λ x. form_meant w scope x names go) is) h
+pub of_form : {r : Result (Unit {0}) Miss} {old new : Names} {w1 : RemoteWorld} {form : PlacedForm} (w : RemoteWorld) (scope : Scope) (s : stmt.Stmt) (names : Names) (m : Stmt)
+    → placed_form (facts_of (program_of w.stage)) scope (mirror_stmt s) ≡ form → mirror_stmt s ≡ m
+    → Walked (form_meant form w scope m names) old r w new w1 → Walked (stmt_meant w scope s names) old r w new w1
+of_form {form = form} w scope s names m placed is h =
+    as_meant (λ go. ap (λ f. form_meant f w scope (mirror_stmt s) names go) placed ∙ ap (λ x. form_meant form w scope x names go) is) h
 
 -- Blocks.
 
@@ -123,10 +123,6 @@ to_end {x = x} {r = r} {names = names} {new = new} {w1 = w1} h e = record { does
 
 -- a statement of which only the remote expressions are performed
 
-pub plain : {r : Result (Unit {0}) Miss} {w w1 : RemoteWorld} (scope : Scope) (e : expr.Expr) (names new : Names) → Ended (part_meant w scope e names) r w w1 → OnOk r (new ≡ names)
-    → Walked (plain_meant w scope e names) names r w new w1
-plain scope e names new h same = to_end h same
-
 abbrev remote : RemoteWorld → Scope → expr.Expr → List code.Expr
 remote w scope e = remote_in (facts_of (program_of w.stage)) scope (mirror_expr e)
 
@@ -151,14 +147,6 @@ pub skims_none : {w : RemoteWorld} (scope : Scope) (s : Stmt) (names : Names) �
 skims_none {w = w} scope s names is =
     as_meant (λ go. ap (λ es. and_then (performed_meant w (flat_map (remote_in (facts_of (program_of w.stage)) scope) es) names) (λ u s1. go names s1)) is) went_on
 
--- a variable that isn't carried
-pub plain_skims : {r : Result (Unit {0}) Miss} {old new : Names} {w w1 : RemoteWorld} (scope : Scope) (s : Stmt) (e : expr.Expr) (names : Names) → own s ≡ mirror_expr e ∷ []
-    → Walked (plain_meant w scope e names) old r w new w1 → Walked (skim_meant w scope s names) old r w new w1
-plain_skims {w = w} scope s e names is h =
-    let all : remote_of (facts_of (program_of w.stage)) scope s ≡ remote w scope e =
-    ap (flat_map (remote_in (facts_of (program_of w.stage)) scope)) is ∙ append-nil (remote w scope e) in
-    as_meant (λ go. ap (λ es. and_then (performed_meant w es names) (λ u s1. go names s1)) all) h
-
 -- the block that a condition chose
 pub chosen_so : {r : Result (Unit {0}) Miss} {w1 w2 : RemoteWorld} (w : RemoteWorld) (holds : Bool) (scope : Scope) (a b ss : List stmt.Stmt) (names : Names) → ss ≡ cond holds a b → SameStage w w1
     → Ended (block_meant w1 scope ss names) r w1 w2 → Ended (cond holds (block_from w.stage scope a names w1.server) (block_from w.stage scope b names w1.server)) r w1 w2
@@ -166,12 +154,13 @@ chosen_so {w1 = w1} w true scope a b ss names e same h = as_reply (ap (λ st. bl
 chosen_so {w1 = w1} w false scope a b ss names e same h = as_reply (ap (λ st. block_from st scope b names w1.server) (sym same) ∙ ap (λ xs. block_from w1.stage scope xs names w1.server) (sym e)) h
 
 -- an `if` whose condition is carried
-pub branch_so : {r : Result (Unit {0}) Miss} {names new : Names} {w w1 : RemoteWorld} (scope : Scope) (at : ℕ) (c : expr.Expr) (a b : List stmt.Stmt) → OnOk r (new ≡ names)
-    → Ended (and_then (value_meant w.stage c names w.server) (λ v s1. and_then (replies at (truth_of (out-Value v)) s1) (λ holds s2. cond holds (block_from w.stage scope a names s2) (block_from w.stage scope b names s2)))) r w w1
-    → Walked (branch_meant w scope at c a b names) names r w new w1
-branch_so {names = names} {w = w} scope at c a b e h =
-    as_meant (λ go. in_row (value_meant w.stage c names w.server) (λ v s1. replies at (truth_of (out-Value v)) s1)
-    (λ holds s2. cond holds (block_from w.stage scope a names s2) (block_from w.stage scope b names s2)) (λ u s3. go names s3)) (to_end h e)
+pub branch_so : {r : Result (Unit {0}) Miss} {names new : Names} {w w1 : RemoteWorld} (scope : Scope) (b : Branch) → OnOk r (new ≡ names)
+    → Ended (and_then (value_meant w.stage b.condition.now names w.server) (λ v s1. and_then (replies b.at (truth_of (out-Value v)) s1)
+    (λ holds s2. cond holds (block_from w.stage scope b.yes.now names s2) (block_from w.stage scope b.no.now names s2)))) r w w1
+    → Walked (branch_meant w scope b names) names r w new w1
+branch_so {names = names} {w = w} scope b e h =
+    as_meant (λ go. in_row (value_meant w.stage b.condition.now names w.server) (λ v s1. replies b.at (truth_of (out-Value v)) s1)
+    (λ holds s2. cond holds (block_from w.stage scope b.yes.now names s2) (block_from w.stage scope b.no.now names s2)) (λ u s3. go names s3)) (to_end h e)
 
 -- Turns.
 

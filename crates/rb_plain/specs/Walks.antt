@@ -1,25 +1,26 @@
 -- What is remote in the statements of a batch, as the code performs it.
-use Rattle.std.specs.Prelude.{◌≡◌, ℕ, List, [], length, take, cond, OnOk, Result, Ok, Err}
+use Rattle.std.specs.Prelude.{◌≡◌, List, [], length, take, cond, OnOk, Result, Ok, Err}
 use Rattle.rb_trees.specs.declared.values.Value.{Value, out-Value}
 use Rattle.rb_trees.specs.declared.code.Expr as expr
 use Rattle.rb_trees.specs.declared.code.Stmt as stmt
-use Rattle.rb_trees.specs.mirror.Code as code
-use Rattle.rb_trees.specs.mirror.Code.{Stmt, mirror_expr, mirror_stmt, mirror_stmts}
+use Rattle.rb_trees.specs.mirror.Code.{Stmt, Val, Var, mirror_stmt, mirror_stmts}
 use Rattle.rb_meaning_code.specs.State.{Names}
 use Rattle.rb_meaning_code.specs.Remote.{Server, Stopped, and_then, replies, rows_in}
 use Rattle.rb_meaning_code.specs.Statements.{truth_of}
+use Rattle.rb_meaning_flow.specs.declared.forms.PlacedForm.{PlacedForm}
 use Rattle.rb_meaning_flow.specs.declared.scopes.Role.{Role}
 use Rattle.rb_meaning_flow.specs.Facts.{facts_of}
 use Rattle.rb_meaning_flow.specs.Scopes.{Scope, with_variable}
-use Rattle.rb_meaning_flow.specs.Sites.{scope_after, val_role}
+use Rattle.rb_meaning_flow.specs.Sites.{scope_after}
 use Rattle.rb_meaning.specs.RemotePart as part
-use Rattle.rb_meaning.specs.RemotePart.{Rest, ended, skims, turns, walk, walk_block, with_name}
+use Rattle.rb_meaning.specs.RemotePart.{Rest, ended, skims, turns, walk, walk_as, walk_block, with_name}
 use Rattle.rb_engine.specs.declared.misses.Miss.{Miss}
 use Rattle.rb_engine.specs.declared.misses.Miss.TheVariants as miss
-use Rattle.rb_plain.specs.Parts.{part_meant}
 use Rattle.rb_plain.specs.Remote.{SameStage, Unstarved, value_meant}
 use Rattle.rb_plain.specs.Staged.{Staged, program_of, service_of}
 use Rattle.rb_plain.specs.declared.remote_world.RemoteWorld.{RemoteWorld}
+use Rattle.rb_plain.specs.declared.walk.Binding.{Binding}
+use Rattle.rb_plain.specs.declared.walk.Branch.{Branch}
 use Rattle.rb_plain.specs.declared.walk.Loop.{Loop}
 
 -- what statements mean before whatever follows them
@@ -44,32 +45,19 @@ pub record Walked (meaning : Meaning) (old : Names) (result : Result (Unit {0}) 
   pub stage_so : Unstarved result (SameStage before after)
 
 -- a `val` that is carried
-abbrev pub carried_meant : RemoteWorld → List ℕ → expr.Expr → Names → Meaning
-carried_meant w name e names go = and_then (value_meant w.stage e names w.server) (λ v s. go (with_name name v names) s)
+abbrev pub carried_meant : RemoteWorld → Binding → Names → Meaning
+carried_meant w val names go = and_then (value_meant w.stage val.expr.now names w.server) (λ v s. go (with_name val.name.now v names) s)
 
 -- a statement of which only the remote expressions are performed
 abbrev pub skim_meant : RemoteWorld → Scope → Stmt → Names → Meaning
 skim_meant w scope s names go = skims (program_of w.stage) (service_of w.stage) scope s names w.server go
 
--- a variable that isn't carried
-abbrev pub plain_meant : RemoteWorld → Scope → expr.Expr → Names → Meaning
-plain_meant w scope e names go = and_then (part_meant w scope e names) (λ u s. go names s)
-
--- a statement of a form
-abbrev pub form_meant : RemoteWorld → Scope → Stmt → Names → Meaning
-form_meant w scope s names go = walk (program_of w.stage) (service_of w.stage) scope s names w.server go
-
-abbrev pub val_meant : RemoteWorld → Scope → ℕ → List ℕ → expr.Expr → Names → Meaning
-val_meant w scope at name e names go = form_meant w scope (code.Val at name (mirror_expr e)) names go
-
-abbrev pub if_meant : RemoteWorld → Scope → ℕ → expr.Expr → List stmt.Stmt → List stmt.Stmt → Names → Meaning
-if_meant w scope at c a b names go = form_meant w scope (code.If at (mirror_expr c) (mirror_stmts a) (mirror_stmts b)) names go
-
-abbrev pub for_meant : RemoteWorld → Scope → Loop → expr.Expr → Names → Meaning
-for_meant w scope l e names go = form_meant w scope (code.For l.at l.name.now (mirror_expr e) (mirror_stmts l.block.now)) names go
+-- a statement, as one of a form
+abbrev pub form_meant : PlacedForm → RemoteWorld → Scope → Stmt → Names → Meaning
+form_meant form w scope s names go = walk_as (program_of w.stage) (service_of w.stage) form scope s names w.server go
 
 abbrev pub stmt_meant : RemoteWorld → Scope → stmt.Stmt → Names → Meaning
-stmt_meant w scope s names go = form_meant w scope (mirror_stmt s) names go
+stmt_meant w scope s names go = walk (program_of w.stage) (service_of w.stage) scope (mirror_stmt s) names w.server go
 
 abbrev pub stmts_meant : RemoteWorld → Scope → List stmt.Stmt → Names → Meaning
 stmts_meant w scope ss names go = walk_block (program_of w.stage) (service_of w.stage) scope (mirror_stmts ss) names w.server go
@@ -82,11 +70,11 @@ abbrev pub block_meant : RemoteWorld → Scope → List stmt.Stmt → Names → 
 block_meant w scope ss names = block_from w.stage scope ss names w.server
 
 -- an `if` whose condition is carried
-abbrev pub branch_meant : RemoteWorld → Scope → ℕ → expr.Expr → List stmt.Stmt → List stmt.Stmt → Names → Meaning
-branch_meant w scope at c a b names go =
-    and_then (value_meant w.stage c names w.server) (λ v s1.
-    and_then (replies at (truth_of (out-Value v)) s1) (λ holds s2.
-    and_then (cond holds (block_from w.stage scope a names s2) (block_from w.stage scope b names s2)) (λ u s3. go names s3)))
+abbrev pub branch_meant : RemoteWorld → Scope → Branch → Names → Meaning
+branch_meant w scope b names go =
+    and_then (value_meant w.stage b.condition.now names w.server) (λ v s1.
+    and_then (replies b.at (truth_of (out-Value v)) s1) (λ holds s2.
+    and_then (cond holds (block_from w.stage scope b.yes.now names s2) (block_from w.stage scope b.no.now names s2)) (λ u s3. go names s3)))
 
 -- the block of a turn, with its row bound
 abbrev pub turn_from : Staged → Scope → Loop → Names → Value → Server → part.Walked
@@ -112,5 +100,11 @@ rows_meant w scope l e names go =
 abbrev pub scope_behind : RemoteWorld → Scope → stmt.Stmt → Scope
 scope_behind w scope s = scope_after (facts_of (program_of w.stage)) [] scope (mirror_stmt s)
 
-abbrev pub val_scope : RemoteWorld → Scope → ℕ → List ℕ → expr.Expr → Scope
-val_scope w scope at name e = with_variable scope name (val_role (facts_of (program_of w.stage)) [] scope (mirror_expr e)) at
+-- the same with a `val` that is carried, and behind a statement that carries nothing
+abbrev pub carried_scope : Scope → Binding → Scope
+carried_scope scope val = with_variable scope val.name.now Role.Carried val.at
+
+abbrev pub plain_scope : Scope → Stmt → Scope
+plain_scope scope (Val at name e) = with_variable scope name Role.Plain at
+plain_scope scope (Var at name e) = with_variable scope name Role.Plain at
+plain_scope scope _ = scope

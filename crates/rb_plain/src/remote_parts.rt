@@ -1,29 +1,16 @@
 // Performs what is remote in the expressions of a batch.
 
-ghost use Rattle.std.specs.Prelude.{◌≡◌, [], ◌∷◌};
+ghost use Rattle.std.specs.Prelude.{[], ◌∷◌};
 ghost use Rattle.rb_trees.specs.mirror.Code.{mirror_expr};
-ghost use Rattle.rb_meaning_flow.specs.Facts.{facts_of};
-ghost use Rattle.rb_meaning_flow.specs.Marks.{is_portable_call};
-ghost use Rattle.rb_plain.specs.Staged.{program_of};
 ghost use Rattle.rb_plain.specs.Parts.{all_parts_meant, both_meant, part_meant, parts_meant, performed_meant, sent_meant};
 ghost use Rattle.rb_plain.specs.Remote.{Ended};
 
 use crate::remote_world::{RemoteWorld, value_of};
-use crate::stage::Stage;
 use rb_engine::{Frame, Miss};
-use rb_flow::is_portable;
-use rb_marks::holds_call;
+use rb_flow::is_portable_call;
 use rb_scopes::Scope;
 use rb_trees::{Expr, ExprForm, Seq};
 use std::alloc::Global;
-
-// Whether an expression is portable and holds a remote call.
-fn is_remote(stage: &Stage<'_>, scope: &Scope, expr: &Expr) -> bool
-    ensures { result ≡ is_portable_call (facts_of (program_of stage.now)) scope.now (mirror_expr expr.now) }
-{
-    let facts = stage.facts();
-    is_portable(facts, scope, expr) && holds_call(facts, expr)
-}
 
 // A remote expression, whose value isn't of use.
 #[inline(never)]
@@ -51,7 +38,7 @@ pub fn perform_in(
 ) -> Result<(), Miss>
     ensures { Ended (part_meant world.old scope.now expr.now frame.now) result world.old world.new }
 {
-    if is_remote(&world.stage, scope, expr) {
+    if is_portable_call(world.stage.facts(), scope, expr) {
         return perform_whole(alloc, world, frame, expr);
     }
     perform_parts(alloc, world, scope, frame, expr)

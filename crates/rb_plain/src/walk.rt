@@ -3,24 +3,39 @@
 ghost use Rattle.std.specs.Prelude.{◌≡◌, cond, OnOk};
 ghost use Rattle.rb_trees.specs.Outcome.{Gives};
 ghost use Rattle.rb_trees.specs.declared.values.Value.{out-Value};
+ghost use Rattle.rb_trees.specs.mirror.Code.{mirror_stmt};
 ghost use Rattle.rb_meaning_code.specs.Faults as faults;
-ghost use Rattle.rb_meaning_flow.specs.declared.scopes.Role.{Role};
-ghost use Rattle.rb_meaning_flow.specs.Scopes.{with_variable};
 ghost use Rattle.rb_meaning_code.specs.Remote as remote;
 ghost use Rattle.rb_meaning.specs.RemoteAnswers as answers;
 ghost use Rattle.rb_engine.specs.Ends.{fault_of};
 ghost use Rattle.rb_plain.specs.Remote.{Ended, as_unit};
-ghost use Rattle.rb_plain.specs.Walks.{Kept, Walked, block_meant, branch_meant, carried_meant, for_meant, if_meant, plain_meant, rows_meant, scope_behind, stmt_meant, stmts_meant, turn_meant, turns_meant, val_meant, val_scope};
+ghost use Rattle.rb_plain.specs.Walks.{Kept, Walked, block_meant, branch_meant, carried_meant, carried_scope, plain_scope, rows_meant, scope_behind, skim_meant, stmt_meant, stmts_meant, turn_meant, turns_meant};
 
 use crate::remote_parts::{perform_both, perform_in};
 use crate::remote_world::{RemoteWorld, value_of};
 use rb_engine::{Failure, Frame, Miss, PlainFault, at_place, truth_of};
-use rb_flow::is_portable;
-use rb_marks::branches_hold;
-use rb_meaning_flow::Role;
+use rb_flow::placed_form;
+use rb_meaning_flow::{PlacedForm, Role};
 use rb_scopes::Scope;
 use rb_trees::{Expr, Fault, Seq, Shared, Stmt, StmtForm, Value, Word, copy_value, fault_codes};
 use std::alloc::Global;
+
+/// A `val`: its position, its name, and its expression.
+#[derive(Clone, Copy)]
+pub struct Binding<'a> {
+    pub at: u32,
+    pub name: &'a Word,
+    pub expr: &'a Expr,
+}
+
+/// An `if`: its position, its condition, and its blocks.
+#[derive(Clone, Copy)]
+pub struct Branch<'a> {
+    pub at: u32,
+    pub condition: &'a Expr,
+    pub yes: &'a Seq<Stmt>,
+    pub no: &'a Seq<Stmt>,
+}
 
 /// A loop over rows, without its rows: its position, the name of its rows, and its block.
 #[derive(Clone, Copy)]
@@ -76,59 +91,53 @@ fn perform_carried(
     world: &mut RemoteWorld<'_>,
     scope: &mut Scope,
     frame: &mut Frame,
-    at: u32,
-    name: &Word,
-    expr: &Expr,
+    val: &Binding<'_>,
 ) -> Result<(), Miss>
-    ensures walked { let meant = carried_meant world.old name.now expr.now frame.old in
+    ensures walked { let meant = carried_meant world.old val.now frame.old in
         Walked meant frame.old result world.old frame.new world.new }
-    ensures scope { OnOk result (scope.new ≡ with_variable scope.old name.now Role.Carried at) }
+    ensures scope { OnOk result (scope.new ≡ carried_scope scope.old val.now) }
 {
-    let value = value_of(alloc, world, frame, expr)?;
-    frame.bind(alloc, name.as_slice(), value)?;
-    scope.bind(alloc, name, Role::Carried, at)?;
+    let value = value_of(alloc, world, frame, val.expr)?;
+    frame.bind(alloc, val.name.as_slice(), value)?;
+    scope.bind(alloc, val.name, Role::Carried, val.at)?;
     Ok(())
 }
 
-// A variable that isn't carried: the remote expressions in its own are performed.
+// A statement of which only the remote expressions are performed. What it declares isn't carried.
 #[inline(never)]
+#[tactic(auto, using(rb_trees::proofs::mirror::Stmts::stmts))]
 fn perform_plain(
     alloc: Global,
     world: &mut RemoteWorld<'_>,
     scope: &mut Scope,
     frame: &Frame,
-    at: u32,
-    name: &Word,
-    expr: &Expr,
+    stmt: &Stmt,
 ) -> Result<(), Miss>
-    ensures walked { let meant = plain_meant world.old scope.old expr.now frame.now in
+    ensures walked { let meant = skim_meant world.old scope.old (mirror_stmt stmt.now) frame.now in
         Walked meant frame.now result world.old frame.now world.new }
-    ensures scope { OnOk result (scope.new ≡ with_variable scope.old name.now Role.Plain at) }
+    ensures scope { OnOk result (scope.new ≡ plain_scope scope.old (mirror_stmt stmt.now)) }
 {
-    perform_in(alloc, world, scope, frame, expr)?;
-    scope.bind(alloc, name, Role::Plain, at)?;
-    Ok(())
-}
-
-// A `val`.
-#[inline(never)]
-fn perform_val(
-    alloc: Global,
-    world: &mut RemoteWorld<'_>,
-    scope: &mut Scope,
-    frame: &mut Frame,
-    at: u32,
-    name: &Word,
-    expr: &Expr,
-) -> Result<(), Miss>
-    ensures walked { let meant = val_meant world.old scope.old at name.now expr.now frame.old in
-        Walked meant frame.old result world.old frame.new world.new }
-    ensures scope { OnOk result (scope.new ≡ val_scope world.old scope.old at name.now expr.now) }
-{
-    if is_portable(world.stage.facts(), scope, expr) {
-        return perform_carried(alloc, world, scope, frame, at, name, expr);
+    match &stmt.form {
+        StmtForm::Val(name, e) => {
+            perform_in(alloc, world, scope, frame, e)?;
+            scope.bind(alloc, name, Role::Plain, stmt.at)?;
+            Ok(())
+        }
+        StmtForm::Var(name, e) => {
+            perform_in(alloc, world, scope, frame, e)?;
+            scope.bind(alloc, name, Role::Plain, stmt.at)?;
+            Ok(())
+        }
+        StmtForm::Assign(a, b) => perform_both(alloc, world, scope, frame, a, b),
+        StmtForm::Run(e) => perform_in(alloc, world, scope, frame, e),
+        StmtForm::Print(e) => perform_in(alloc, world, scope, frame, e),
+        StmtForm::Throw(e) => perform_in(alloc, world, scope, frame, e),
+        StmtForm::If(e, _, _) => perform_in(alloc, world, scope, frame, e),
+        StmtForm::While(e, _) => perform_in(alloc, world, scope, frame, e),
+        StmtForm::For(_, e, _) => perform_in(alloc, world, scope, frame, e),
+        StmtForm::Try(_, _, _) => Ok(()),
+        StmtForm::Batch(_, _, _) => Ok(()),
     }
-    perform_plain(alloc, world, scope, frame, at, name, expr)
 }
 
 /// Performs what is remote in statements of a script place, in order: `walk_block`.
@@ -188,52 +197,32 @@ fn perform_stmt(
     ensures scope { OnOk result (scope.new ≡ scope_behind world.old scope.old stmt.now) }
 {
     let at = stmt.at;
-    match &stmt.form {
-        StmtForm::Val(name, e) => perform_val(alloc, world, scope, frame, at, name, e),
-        StmtForm::Var(name, e) => perform_plain(alloc, world, scope, frame, at, name, e),
-        StmtForm::Assign(a, b) => perform_both(alloc, world, scope, frame, a, b),
-        StmtForm::Run(e) => perform_in(alloc, world, scope, frame, e),
-        StmtForm::Print(e) => perform_in(alloc, world, scope, frame, e),
-        StmtForm::Throw(e) => perform_in(alloc, world, scope, frame, e),
-        StmtForm::While(e, _) => perform_in(alloc, world, scope, frame, e),
-        StmtForm::If(c, a, b) => perform_if(alloc, world, scope, frame, at, c, a, b),
-        StmtForm::For(name, e, a) => {
+    match (&stmt.form, placed_form(world.stage.facts(), scope, stmt)) {
+        (StmtForm::Val(name, expr), PlacedForm::CarriedVal) => {
+            perform_carried(alloc, world, scope, frame, &Binding { at, name, expr })
+        }
+        (StmtForm::If(condition, yes, no), PlacedForm::CarriedIf) => {
+            let branch = Branch {
+                at,
+                condition,
+                yes,
+                no,
+            };
+            perform_branch(alloc, world, scope, frame, &branch)
+        }
+        (StmtForm::For(name, list, block), PlacedForm::RowsLoop) => {
             let turns = Loop {
                 at,
                 name,
-                block: a.as_slice(),
+                block: block.as_slice(),
             };
-            perform_for(alloc, world, scope, frame, &turns, e)
+            perform_rows(alloc, world, scope, frame, &turns, list)
         }
-        StmtForm::Try(_, _, _) => Ok(()),
-        StmtForm::Batch(_, _, _) => Ok(()),
+        _ => perform_plain(alloc, world, scope, frame, stmt),
     }
 }
 
-// An `if`.
-#[cycle(walking)]
-#[inline(never)]
-fn perform_if(
-    alloc: Global,
-    world: &mut RemoteWorld<'_>,
-    scope: &mut Scope,
-    frame: &mut Frame,
-    at: u32,
-    condition: &Expr,
-    yes: &Seq<Stmt>,
-    no: &Seq<Stmt>,
-) -> Result<(), Miss>
-    ensures walked { let meant = if_meant world.old scope.old at condition.now yes.now no.now frame.old in
-        Walked meant frame.old result world.old frame.new world.new }
-    ensures scope { OnOk result (scope.new ≡ scope.old) }
-{
-    if branches_hold(world.stage.facts(), yes.as_slice(), no.as_slice()) {
-        return perform_branch(alloc, world, scope, frame, at, condition, yes, no);
-    }
-    perform_in(alloc, world, scope, frame, condition)
-}
-
-// An `if` whose condition is carried, with the branch that it chooses.
+// An `if` whose condition is carried, with the block that it chooses.
 #[cycle(walking)]
 #[inline(never)]
 fn perform_branch(
@@ -241,40 +230,16 @@ fn perform_branch(
     world: &mut RemoteWorld<'_>,
     scope: &mut Scope,
     frame: &mut Frame,
-    at: u32,
-    condition: &Expr,
-    yes: &Seq<Stmt>,
-    no: &Seq<Stmt>,
+    branch: &Branch<'_>,
 ) -> Result<(), Miss>
-    ensures walked { let meant = branch_meant world.old scope.old at condition.now yes.now no.now frame.old in
+    ensures walked { let meant = branch_meant world.old scope.old branch.now frame.old in
         Walked meant frame.old result world.old frame.new world.new }
     ensures scope { OnOk result (scope.new ≡ scope.old) }
 {
-    let value = value_of(alloc, world, frame, condition)?;
-    let holds = at_place(at, truth_of(alloc, value))?;
-    let block = chosen(holds, yes, no);
+    let value = value_of(alloc, world, frame, branch.condition)?;
+    let holds = at_place(branch.at, truth_of(alloc, value))?;
+    let block = chosen(holds, branch.yes, branch.no);
     perform_block(alloc, world, scope, frame, block.as_slice())
-}
-
-// A `for`.
-#[cycle(walking)]
-#[inline(never)]
-fn perform_for(
-    alloc: Global,
-    world: &mut RemoteWorld<'_>,
-    scope: &mut Scope,
-    frame: &mut Frame,
-    turns: &Loop<'_>,
-    list: &Expr,
-) -> Result<(), Miss>
-    ensures walked { let meant = for_meant world.old scope.old turns.now list.now frame.old in
-        Walked meant frame.old result world.old frame.new world.new }
-    ensures scope { OnOk result (scope.new ≡ scope.old) }
-{
-    if world.stage.facts().over_rows(list) {
-        return perform_rows(alloc, world, scope, frame, turns, list);
-    }
-    perform_in(alloc, world, scope, frame, list)
 }
 
 // A loop over rows.

@@ -1,11 +1,13 @@
 -- Each form of a statement is performed as it means.
-use Rattle.std.proofs.Common.{rules, arith, ap, ◌∙◌, take}
-use Rattle.rb_engine.proofs.Forms.{val_form, var_form, if_form, for_form}
+use Rattle.std.proofs.Common.{rules, arith, sym, ap, ◌∙◌, take}
+use Rattle.rb_trees.specs.mirror.Code.{mirror_stmt}
+use Rattle.rb_engine.proofs.Forms.{val_form, if_form, for_form}
 use Rattle.rb_plain.proofs.Fronts.{kept_opened}
 use Rattle.rb_plain.proofs.Replies.{ruled, same_by, went}
-use Rattle.rb_plain.proofs.Skimmed.{var_so, assign_so, run_so, print_so, throw_so, while_so, try_so, batch_so, assign_scope, run_scope, print_scope, throw_scope, while_scope, try_scope, batch_scope}
-use Rattle.rb_plain.proofs.Stepped.{block_cut, block_done, branch_so, chosen_so, named, of_form, on_true, scope_of, stmts_cut, stmts_end, stmts_more, turn_cut, turn_done, turns_cut, turns_more}
+use Rattle.rb_plain.proofs.Placed.{Left, for_left, if_left, on_ok, others_left, val_left, val_scope}
+use Rattle.rb_plain.proofs.Stepped.{as_meant, block_cut, block_done, branch_so, chosen_so, named, of_form, scope_of, stmts_cut, stmts_end, stmts_more, turn_cut, turn_done, turns_cut, turns_more}
 use Rattle.rb_plain.proofs.Weight.{stmt_in, stmt_of, stmt_weight, stmts_of}
+use Rattle.rb_plain.proofs.walk.+walking.Goals.{perform_stmt-in_default-via-in-Val+in_default, perform_stmt-in_default-via-in-If+in_default, perform_stmt-in_default-via-in-For+in_default, perform_stmt-in_default-via-in_default}
 use Rattle.rb_plain.proofs.walk.+walking.Goals as goal
 
 pub perform_all-perform_stmt-requires : goal.perform_all-perform_stmt-requires
@@ -30,92 +32,71 @@ perform_block-returns-clause-ended t c = block_done c.perform_all.ensures.walked
 
 pub perform_branch-returns-clause-walked : goal.perform_branch-returns-clause-walked
 perform_branch-returns-clause-walked t c =
-    branch_so c.args.scope.now c.args.at c.args.condition.now c.args.yes.now c.args.no.now c.perform_block.ensures.names
+    branch_so c.args.scope.now c.args.branch.now c.perform_block.ensures.names
     (went _ c.value_of.ensures c.in_ok-value.was
-    (went _ (ruled c.args.at _ _ c.truth_of.ensures.gives c.at_place.ensures) c.in_ok-holds.was
-    (chosen_so c.args.world.now c.in_ok-holds.holds c.args.scope.now c.args.yes.now c.args.no.now c.chosen-block.result.now c.args.frame.now c.chosen-block.ensures
+    (went _ (ruled c.args.branch.now.at _ _ c.truth_of.ensures.gives c.at_place.ensures) c.in_ok-holds.was
+    (chosen_so c.args.world.now c.in_ok-holds.holds c.args.scope.now c.args.branch.now.yes.now c.args.branch.now.no.now c.chosen-block.result.now c.args.frame.now c.chosen-block.ensures
     (same_by c.value_of.ensures c.in_ok-value.was) (rw c.as_slice.ensures at c.perform_block.ensures.ended))))
 
-pub perform_for-returns-then-over_rows-clause-walked : goal.perform_for-returns-then-over_rows-clause-walked
-perform_for-returns-then-over_rows-clause-walked t c = on_true _ c.over_rows.result _ (rw c.facts.ensures at c.over_rows.ensures) c.if-over_rows.true c.perform_rows.ensures.walked
+pub perform_stmt-perform_branch-requires : goal.perform_stmt-perform_branch-requires
+perform_stmt-perform_branch-requires t c =
+    let w = ap stmt_weight (if_form c.args.stmt.now c.in-If-CarriedIf.yes c.in-If-CarriedIf.no c.in-If-CarriedIf.is-0) in omega arith
 
-pub perform_if-returns-then-branches_hold-clause-walked : goal.perform_if-returns-then-branches_hold-clause-walked
-perform_if-returns-then-branches_hold-clause-walked t c =
-    on_true _ c.branches_hold.result _ (rw (c.facts.ensures, c.as_slice.ensures, c.as_slice-2.ensures) at c.branches_hold.ensures) c.if-branches_hold.true c.perform_branch.ensures.walked
+pub perform_stmt-perform_rows-requires : goal.perform_stmt-perform_rows-requires
+perform_stmt-perform_rows-requires t c =
+    let w = ap stmt_weight (for_form c.args.stmt.now c.in-For-RowsLoop.block c.in-For-RowsLoop.is-0) in
+    let e = ap stmts_of c.as_slice.ensures in
+    omega arith
 
-pub perform_stmt-perform_if-requires : goal.perform_stmt-perform_if-requires
-perform_stmt-perform_if-requires t c = let w = ap stmt_weight (if_form c.args.stmt.now c.in-If.a c.in-If.b c.in-If.is) in omega arith
+pub perform_stmt-returns-in-Val-CarriedVal-clause-walked : goal.perform_stmt-returns-in-Val-CarriedVal-clause-walked
+perform_stmt-returns-in-Val-CarriedVal-clause-walked t c =
+    of_form c.args.world.now c.args.scope.now c.args.stmt.now c.args.frame.now _ (sym (rw c.facts.ensures at c.placed_form.ensures) ∙ c.in-Val-CarriedVal.is-1)
+    (val_form c.args.stmt.now c.in-Val-CarriedVal.is-0) c.perform_carried.ensures.walked
 
-pub perform_stmt-perform_for-requires : goal.perform_stmt-perform_for-requires
-perform_stmt-perform_for-requires t c = let w = ap stmt_weight (for_form c.args.stmt.now c.in-For.a c.in-For.is) in let e = ap stmts_of c.as_slice.ensures in omega arith
+pub perform_stmt-returns-in-Val-CarriedVal-clause-scope : goal.perform_stmt-returns-in-Val-CarriedVal-clause-scope
+perform_stmt-returns-in-Val-CarriedVal-clause-scope t c =
+    on_ok c.perform_carried.result c.perform_carried.new.scope (val_scope c.args.world.now c.args.scope.now c.args.stmt.now (sym (rw c.facts.ensures at c.placed_form.ensures) ∙ c.in-Val-CarriedVal.is-1) c.in-Val-CarriedVal.is-0)
+    c.perform_carried.ensures.scope
 
-pub perform_stmt-returns-in-Val-clause-walked : goal.perform_stmt-returns-in-Val-clause-walked
-perform_stmt-returns-in-Val-clause-walked t c = of_form c.args.world.now c.args.scope.now c.args.stmt.now c.args.frame.now _ (val_form c.args.stmt.now c.in-Val.is) c.perform_val.ensures.walked
+pub perform_stmt-returns-in-If-CarriedIf-clause-walked : goal.perform_stmt-returns-in-If-CarriedIf-clause-walked
+perform_stmt-returns-in-If-CarriedIf-clause-walked t c =
+    of_form c.args.world.now c.args.scope.now c.args.stmt.now c.args.frame.now _ (sym (rw c.facts.ensures at c.placed_form.ensures) ∙ c.in-If-CarriedIf.is-1)
+    (if_form c.args.stmt.now c.in-If-CarriedIf.yes c.in-If-CarriedIf.no c.in-If-CarriedIf.is-0) c.perform_branch.ensures.walked
 
-pub perform_stmt-returns-in-Val-clause-scope : goal.perform_stmt-returns-in-Val-clause-scope
-perform_stmt-returns-in-Val-clause-scope t c = scope_of c.args.world.now c.args.scope.now c.args.stmt.now _ _ _ (val_form c.args.stmt.now c.in-Val.is) c.perform_val.ensures.scope
+pub perform_stmt-returns-in-If-CarriedIf-clause-scope : goal.perform_stmt-returns-in-If-CarriedIf-clause-scope
+perform_stmt-returns-in-If-CarriedIf-clause-scope t c =
+    scope_of c.args.world.now c.args.scope.now c.args.stmt.now _ _ _ (if_form c.args.stmt.now c.in-If-CarriedIf.yes c.in-If-CarriedIf.no c.in-If-CarriedIf.is-0) c.perform_branch.ensures.scope
 
-pub perform_stmt-returns-in-Var-clause-walked : goal.perform_stmt-returns-in-Var-clause-walked
-perform_stmt-returns-in-Var-clause-walked t c = var_so c.args.world.now c.args.scope.now c.args.stmt.now c.args.frame.now c.in-Var.is c.perform_plain.ensures.walked
+pub perform_stmt-returns-in-For-RowsLoop-clause-walked : goal.perform_stmt-returns-in-For-RowsLoop-clause-walked
+perform_stmt-returns-in-For-RowsLoop-clause-walked t c =
+    of_form c.args.world.now c.args.scope.now c.args.stmt.now c.args.frame.now _ (sym (rw c.facts.ensures at c.placed_form.ensures) ∙ c.in-For-RowsLoop.is-1)
+    (for_form c.args.stmt.now c.in-For-RowsLoop.block c.in-For-RowsLoop.is-0) (rw c.as_slice.ensures at c.perform_rows.ensures.walked)
 
-pub perform_stmt-returns-in-Var-clause-scope : goal.perform_stmt-returns-in-Var-clause-scope
-perform_stmt-returns-in-Var-clause-scope t c = scope_of c.args.world.now c.args.scope.now c.args.stmt.now _ _ _ (var_form c.args.stmt.now c.in-Var.is) c.perform_plain.ensures.scope
+pub perform_stmt-returns-in-For-RowsLoop-clause-scope : goal.perform_stmt-returns-in-For-RowsLoop-clause-scope
+perform_stmt-returns-in-For-RowsLoop-clause-scope t c =
+    scope_of c.args.world.now c.args.scope.now c.args.stmt.now _ _ _ (for_form c.args.stmt.now c.in-For-RowsLoop.block c.in-For-RowsLoop.is-0) c.perform_rows.ensures.scope
 
-pub perform_stmt-returns-in-Assign-clause-walked : goal.perform_stmt-returns-in-Assign-clause-walked
-perform_stmt-returns-in-Assign-clause-walked t c = assign_so c.args.world.now c.args.scope.now c.args.stmt.now c.args.frame.now c.in-Assign.is c.perform_both.ensures
+pub perform_stmt-returns-in_default-clause-walked : goal.perform_stmt-returns-in_default-clause-walked
+perform_stmt-returns-in_default-clause-walked t c =
+    let left : Left c.args.world.now c.args.scope.now (mirror_stmt c.args.stmt.now) =
+    elim c.in_default.branch [
+      | perform_stmt-in_default-via-in-Val+in_default w ↦ val_left c.args.world.now c.args.scope.now c.args.stmt.now (rw c.facts.ensures at c.placed_form.ensures) w.in_default.is-0 w.in_default.not-CarriedVal-1
+      | perform_stmt-in_default-via-in-If+in_default w ↦ if_left c.args.world.now c.args.scope.now c.args.stmt.now _ _ (rw c.facts.ensures at c.placed_form.ensures) w.in_default.is-0 w.in_default.not-CarriedIf-1
+      | perform_stmt-in_default-via-in-For+in_default w ↦ for_left c.args.world.now c.args.scope.now c.args.stmt.now _ (rw c.facts.ensures at c.placed_form.ensures) w.in_default.is-0 w.in_default.not-RowsLoop-1
+      | perform_stmt-in_default-via-in_default w ↦ others_left c.args.world.now c.args.scope.now c.args.stmt.now w.in_default.not-Val-0 w.in_default.not-If-0 w.in_default.not-For-0
+    ] in
+    as_meant (left.0 c.args.frame.now) c.perform_plain.ensures.walked
 
-pub perform_stmt-returns-in-Assign-clause-scope : goal.perform_stmt-returns-in-Assign-clause-scope
-perform_stmt-returns-in-Assign-clause-scope t c = assign_scope c.args.world.now c.args.scope.now c.args.stmt.now c.perform_both.result c.in-Assign.is
-
-pub perform_stmt-returns-in-Run-clause-walked : goal.perform_stmt-returns-in-Run-clause-walked
-perform_stmt-returns-in-Run-clause-walked t c = run_so c.args.world.now c.args.scope.now c.args.stmt.now c.args.frame.now c.in-Run.is c.perform_in.ensures
-
-pub perform_stmt-returns-in-Run-clause-scope : goal.perform_stmt-returns-in-Run-clause-scope
-perform_stmt-returns-in-Run-clause-scope t c = run_scope c.args.world.now c.args.scope.now c.args.stmt.now c.perform_in.result c.in-Run.is
-
-pub perform_stmt-returns-in-Print-clause-walked : goal.perform_stmt-returns-in-Print-clause-walked
-perform_stmt-returns-in-Print-clause-walked t c = print_so c.args.world.now c.args.scope.now c.args.stmt.now c.args.frame.now c.in-Print.is c.perform_in-in-Print.ensures
-
-pub perform_stmt-returns-in-Print-clause-scope : goal.perform_stmt-returns-in-Print-clause-scope
-perform_stmt-returns-in-Print-clause-scope t c = print_scope c.args.world.now c.args.scope.now c.args.stmt.now c.perform_in-in-Print.result c.in-Print.is
-
-pub perform_stmt-returns-in-Throw-clause-walked : goal.perform_stmt-returns-in-Throw-clause-walked
-perform_stmt-returns-in-Throw-clause-walked t c = throw_so c.args.world.now c.args.scope.now c.args.stmt.now c.args.frame.now c.in-Throw.is c.perform_in-in-Throw.ensures
-
-pub perform_stmt-returns-in-Throw-clause-scope : goal.perform_stmt-returns-in-Throw-clause-scope
-perform_stmt-returns-in-Throw-clause-scope t c = throw_scope c.args.world.now c.args.scope.now c.args.stmt.now c.perform_in-in-Throw.result c.in-Throw.is
-
-pub perform_stmt-returns-in-While-clause-walked : goal.perform_stmt-returns-in-While-clause-walked
-perform_stmt-returns-in-While-clause-walked t c = while_so _ c.args.world.now c.args.scope.now c.args.stmt.now c.args.frame.now c.in-While.is c.perform_in-in-While.ensures
-
-pub perform_stmt-returns-in-While-clause-scope : goal.perform_stmt-returns-in-While-clause-scope
-perform_stmt-returns-in-While-clause-scope t c = while_scope _ c.args.world.now c.args.scope.now c.args.stmt.now c.perform_in-in-While.result c.in-While.is
-
-pub perform_stmt-returns-in-If-clause-walked : goal.perform_stmt-returns-in-If-clause-walked
-perform_stmt-returns-in-If-clause-walked t c =
-    of_form c.args.world.now c.args.scope.now c.args.stmt.now c.args.frame.now _ (if_form c.args.stmt.now c.in-If.a c.in-If.b c.in-If.is) c.perform_if.ensures.walked
-
-pub perform_stmt-returns-in-If-clause-scope : goal.perform_stmt-returns-in-If-clause-scope
-perform_stmt-returns-in-If-clause-scope t c = scope_of c.args.world.now c.args.scope.now c.args.stmt.now _ _ _ (if_form c.args.stmt.now c.in-If.a c.in-If.b c.in-If.is) c.perform_if.ensures.scope
-
-pub perform_stmt-returns-in-For-clause-walked : goal.perform_stmt-returns-in-For-clause-walked
-perform_stmt-returns-in-For-clause-walked t c =
-    of_form c.args.world.now c.args.scope.now c.args.stmt.now c.args.frame.now _ (for_form c.args.stmt.now c.in-For.a c.in-For.is) (rw c.as_slice.ensures at c.perform_for.ensures.walked)
-
-pub perform_stmt-returns-in-For-clause-scope : goal.perform_stmt-returns-in-For-clause-scope
-perform_stmt-returns-in-For-clause-scope t c = scope_of c.args.world.now c.args.scope.now c.args.stmt.now _ _ _ (for_form c.args.stmt.now c.in-For.a c.in-For.is) c.perform_for.ensures.scope
-
-pub perform_stmt-returns-in-Try-clause-walked : goal.perform_stmt-returns-in-Try-clause-walked
-perform_stmt-returns-in-Try-clause-walked t c = try_so _ _ c.args.world.now c.args.scope.now c.args.stmt.now c.args.frame.now c.in-Try.is
-
-pub perform_stmt-returns-in-Try-clause-scope : goal.perform_stmt-returns-in-Try-clause-scope
-perform_stmt-returns-in-Try-clause-scope t c = try_scope _ _ c.args.world.now c.args.scope.now c.args.stmt.now c.in-Try.is
-
-pub perform_stmt-returns-in-Batch-clause-walked : goal.perform_stmt-returns-in-Batch-clause-walked
-perform_stmt-returns-in-Batch-clause-walked t c = batch_so _ c.args.world.now c.args.scope.now c.args.stmt.now c.args.frame.now c.in-Batch.is
-
-pub perform_stmt-returns-in-Batch-clause-scope : goal.perform_stmt-returns-in-Batch-clause-scope
-perform_stmt-returns-in-Batch-clause-scope t c = batch_scope _ c.args.world.now c.args.scope.now c.args.stmt.now c.in-Batch.is
+pub perform_stmt-returns-in_default-clause-scope : goal.perform_stmt-returns-in_default-clause-scope
+perform_stmt-returns-in_default-clause-scope t c =
+    let left : Left c.args.world.now c.args.scope.now (mirror_stmt c.args.stmt.now) =
+    elim c.in_default.branch [
+      | perform_stmt-in_default-via-in-Val+in_default w ↦ val_left c.args.world.now c.args.scope.now c.args.stmt.now (rw c.facts.ensures at c.placed_form.ensures) w.in_default.is-0 w.in_default.not-CarriedVal-1
+      | perform_stmt-in_default-via-in-If+in_default w ↦ if_left c.args.world.now c.args.scope.now c.args.stmt.now _ _ (rw c.facts.ensures at c.placed_form.ensures) w.in_default.is-0 w.in_default.not-CarriedIf-1
+      | perform_stmt-in_default-via-in-For+in_default w ↦ for_left c.args.world.now c.args.scope.now c.args.stmt.now _ (rw c.facts.ensures at c.placed_form.ensures) w.in_default.is-0 w.in_default.not-RowsLoop-1
+      | perform_stmt-in_default-via-in_default w ↦ others_left c.args.world.now c.args.scope.now c.args.stmt.now w.in_default.not-Val-0 w.in_default.not-If-0 w.in_default.not-For-0
+    ] in
+    on_ok c.perform_plain.result c.perform_plain.new.scope left.1 c.perform_plain.ensures.scope
 
 pub perform_turn-returns-in_err-perform_all-clause-ended : goal.perform_turn-returns-in_err-perform_all-clause-ended
 perform_turn-returns-in_err-perform_all-clause-ended t c =

@@ -12,14 +12,8 @@ decreases-perform_block l = stmts_of l.stmts.now + 2
 abbrev pub decreases-perform_stmt : goal.decreases-perform_stmt
 decreases-perform_stmt l = stmt_of l.stmt.now
 
-abbrev pub decreases-perform_if : goal.decreases-perform_if
-decreases-perform_if l = max (stmts_of l.yes.now) (stmts_of l.no.now) + 4
-
 abbrev pub decreases-perform_branch : goal.decreases-perform_branch
-decreases-perform_branch l = max (stmts_of l.yes.now) (stmts_of l.no.now) + 3
-
-abbrev pub decreases-perform_for : goal.decreases-perform_for
-decreases-perform_for l = stmts_of l.turns.now.block.now + 5
+decreases-perform_branch l = max (stmts_of l.branch.now.yes.now) (stmts_of l.branch.now.no.now) + 3
 
 abbrev pub decreases-perform_rows : goal.decreases-perform_rows
 decreases-perform_rows l = stmts_of l.turns.now.block.now + 4
