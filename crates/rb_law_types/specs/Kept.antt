@@ -29,7 +29,8 @@ IsBounded v = IsBoundedForm (out-Value v)
 -- A fault that typed code ends by: it isn't Kind, its text is one, and only Thrown has a text.
 pub record IsOwnFault (f : Fault) : Type 0 where
   pub least : 1 ≤ f.code
-  pub most : f.code ≤ 11
+  pub most : f.code ≤ 13
+  pub not_kind : f.code ≡ 12 → ⊥
   pub text : IsText f.text
   pub plain : (f.code ≡ 8) ⊎ (f.text ≡ [])
 

@@ -4,7 +4,7 @@ use Rattle.std.specs.List.{All}
 use Rattle.rb_trees.specs.Limits.{longest_list}
 use Rattle.rb_trees.specs.declared.values.Value as value
 use Rattle.rb_trees.specs.declared.services.Object.{Object}
-use Rattle.rb_trees.specs.mirror.Scripts.{Step, Steps, Script, Do, Keep, Let, If, Each, NoSteps, MoreSteps}
+use Rattle.rb_trees.specs.mirror.Scripts.{Step, Steps, Script, Do, Keep, Let, If, Each, Over, NoSteps, MoreSteps}
 use Rattle.rb_trees.specs.mirror.Forests.{Node, Nodes, Entry, Entries, Holds, Value, Branch, Rows, NoEntries, MoreEntries, NoNodes, MoreNodes}
 use Rattle.rb_trees.specs.mirror.Declarations.{Class}
 use Rattle.rb_meaning_types.specs.Programs.{check_service}
@@ -12,7 +12,7 @@ use Rattle.rb_meaning_types.specs.Fits.{TableFits}
 use Rattle.rb_meaning_code.specs.ScriptRun.{run_script}
 use Rattle.rb_law_types.specs.Kept.{IsPrimitive}
 use Rattle.rb_law_types.specs.Formed.{AreFormed}
-use Rattle.rb_law_types.specs.Scripts.{AreBoundedSteps, IsEnd, count_nodes}
+use Rattle.rb_law_types.specs.Scripts.{AreBoundedSteps, AreInputs, IsEnd, count_nodes}
 
 abbrev pub step_count : Steps → ℕ
 step_count NoSteps = 0
@@ -30,6 +30,7 @@ abbrev mutual
   step_depth (Let id at var keep e) = 0
   step_depth (If id at e a b) = suc (max (steps_depth a) (steps_depth b))
   step_depth (Each id at var keep e a) = suc (steps_depth a)
+  step_depth (Over id at var input a) = suc (steps_depth a)
 
   pub steps_depth : Steps → ℕ
   steps_depth NoSteps = 0
@@ -44,6 +45,7 @@ abbrev mutual
   step_most (Let id at var keep e) = 0
   step_most (If id at e a b) = max (max (suc (step_count a)) (steps_most a)) (max (suc (step_count b)) (steps_most b))
   step_most (Each id at var keep e a) = max (suc (step_count a)) (steps_most a)
+  step_most (Over id at var input a) = max (suc (step_count a)) (steps_most a)
 
   pub steps_most : Steps → ℕ
   steps_most NoSteps = 0
@@ -78,5 +80,5 @@ abbrev mutual
 abbrev pub NodesStayWithin : Type 0
 NodesStayWithin = (classes : List Class) → check_service classes ≡ Ok tt → AreFormed classes
     → (root : ℕ) (table : List Object) → TableFits classes root table
-    → (s : Script) (inputs : List value.Value) → AreBoundedSteps s.body → All IsPrimitive inputs
+    → (s : Script) (inputs : List value.Value) → AreBoundedSteps s.lists s.body → AreInputs s.lists inputs
     → IsNodeWithin (suc (steps_depth s.body)) (block_most s.body) (run_script s inputs classes root table).node

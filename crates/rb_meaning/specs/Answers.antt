@@ -4,9 +4,9 @@ use Rattle.rb_trees.specs.declared.services.Object.{Object}
 use Rattle.rb_trees.specs.mirror.Services.{Service}
 use Rattle.rb_meaning_bytes.specs.formats.Fields.{IsBytes}
 use Rattle.rb_meaning_bytes.specs.formats.Formats.{Spells}
-use Rattle.rb_meaning_bytes.specs.formats.Forests.{forest_message}
-use Rattle.rb_meaning_bytes.specs.formats.Refusals.{refusal_message}
-use Rattle.rb_meaning_bytes.specs.formats.ScriptPayloads.{Sent, Refused, Means}
+use Rattle.rb_meaning_bytes.specs.formats.Messages.{Sent, Refused}
+use Rattle.rb_meaning_bytes.specs.formats.Payloads.{IsForestOf, IsRefusalOf}
+use Rattle.rb_meaning_bytes.specs.formats.ScriptPayloads.{Means}
 use Rattle.rb_meaning_code.specs.ScriptRun.{Ran, run_script}
 
 -- The greatest number of bytes of a request.
@@ -22,14 +22,14 @@ refusal_kind = 3
 
 -- what a script with the values of its inputs gives on a service with a table
 abbrev pub performed : Service → List Object → Sent → Ran
-performed service table x = run_script x.0 x.1 service.classes service.root table
+performed service table x = run_script x.script x.values service.classes service.root table
 
 -- A payload that means a script is performed: the reply is the forest of its node, and the table is what it leaves. Any
 -- other payload is refused, with the number and the place of what is wrong, and the table stays.
 pub data Answers (service : Service) (table : List Object) (payload : List ℕ) : ℕ → List ℕ → List Object → Type 0 where
-  performs : (x : Sent) (reply : List ℕ) → Means payload (Ok x) → Spells forest_message reply (performed service table x).node
+  performs : (x : Sent) (reply : List ℕ) → Means payload (Ok x) → IsForestOf reply (performed service table x).node
       → Answers service table payload forest_kind reply (performed service table x).server.table
-  refuses : (wrong : Refused) (reply : List ℕ) → Means payload (Err wrong) → Spells refusal_message reply wrong
+  refuses : (wrong : Refused) (reply : List ℕ) → Means payload (Err wrong) → IsRefusalOf reply wrong.number wrong.at
       → Answers service table payload refusal_kind reply table
 
 -- Two answers to one payload are the same.

@@ -1,12 +1,12 @@
--- Whether a node fits a remainder. The parts are walked over the node's entries as in replay, but without local code.
+-- Whether a node fits a remainder, where the lists of inputs have these lengths. The parts are walked over the node's entries as in replay, but without local code.
 -- What is answered is the first step that doesn't find what its part demands, or that something is left over.
-use Rattle.std.specs.Prelude.{ℕ, List, [], ◌∷◌, Bool, true, false, ◌&&◌, ◌||◌, cond, nat_eq, nat_le, Option, None, Some, Result, Ok, Err}
+use Rattle.std.specs.Prelude.{ℕ, List, [], ◌∷◌, suc, get_or, Bool, true, false, not, ◌&&◌, ◌||◌, cond, nat_eq, nat_lt, nat_le, Option, None, Some, Result, Ok, Err}
 use Rattle.rb_trees.specs.Outcome.{◌>>=◌, known}
 use Rattle.rb_trees.specs.declared.values.Value.{Value, out-Value}
 use Rattle.rb_trees.specs.declared.values.Value.TheOpen.{Value-F}
 use Rattle.rb_trees.specs.declared.forests.NodeFault.{NodeFault}
 use Rattle.rb_trees.specs.mirror.Forests as forest
-use Rattle.rb_trees.specs.mirror.Forests.{Node, Holds, Entries, NoEntries, MoreEntries, Nodes, NoNodes, MoreNodes}
+use Rattle.rb_trees.specs.mirror.Forests.{Node, Holds, Entry, Entries, NoEntries, MoreEntries, Nodes, NoNodes, MoreNodes}
 use Rattle.rb_trees.specs.mirror.Remainders as part
 use Rattle.rb_trees.specs.mirror.Remainders.{Part, Parts, NoParts, MoreParts}
 
@@ -142,24 +142,69 @@ turns_read step kind body (MoreNodes n ns) w = cond w.stopped (Ok (with_spare w)
 abbrev pub turns_done : ℕ → Walk → Result Walk ℕ
 turns_done step w = cond w.stopped (Ok w) (passed step w)
 
--- ---- parts
+-- ---- how many turns a list has
+
+abbrev mutual
+  -- whether a fault ends a node: its own, or one within its last entry
+  pub ends_early : Node → Bool
+  ends_early (Holds es f) = is_left (step_of f) || last_ends_early es
+
+  -- whether a fault ends a node within the last of entries
+  pub last_ends_early : Entries → Bool
+  last_ends_early NoEntries = false
+  last_ends_early (MoreEntries e NoEntries) = entry_ends_early e
+  last_ends_early (MoreEntries e es) = last_ends_early es
+
+  pub entry_ends_early : Entry → Bool
+  entry_ends_early (forest.Value v) = false
+  entry_ends_early (forest.Branch taken n) = ends_early n
+  entry_ends_early (forest.Rows ns) = last_turn_ends_early ns
+
+  -- whether a fault ends the last of turns
+  pub last_turn_ends_early : Nodes → Bool
+  last_turn_ends_early NoNodes = false
+  last_turn_ends_early (MoreNodes n NoNodes) = ends_early n
+  last_turn_ends_early (MoreNodes n ns) = last_turn_ends_early ns
+
+abbrev pub count_turns : Nodes → ℕ
+count_turns NoNodes = 0
+count_turns (MoreNodes n ns) = suc (count_turns ns)
+
+-- Turns over so many items: each had its turn, and no fault at the step comes behind them; or fewer had one, and a fault ended
+-- the last of these or comes behind them.
+abbrev pub is_counted : ℕ → Nodes → Bool → Bool
+is_counted items ns faulted =
+    cond (nat_eq (count_turns ns) items) (not faulted) (nat_lt (count_turns ns) items && (faulted || last_turn_ends_early ns))
+
+-- the turns, where they are so many
+abbrev pub counted : (step items : ℕ) → Nodes → Walk → Result Walk ℕ → Result Walk ℕ
+counted step items ns w turned = cond (is_counted items ns (faults_at step w)) turned (Err step)
+
+-- the kind of what is no row
+abbrev pub no_kind : ℕ
+no_kind = 0
+
+-- ---- parts, where the lists of inputs have these lengths
 
 abbrev mutual
   -- The walk behind a part, or the step that doesn't fit.
-  pub part_read : Part → Walk → Result Walk ℕ
-  part_read (part.Plain stmt takes) w = values_read takes w
-  part_read (part.Pass step) w = passed step w
-  part_read (part.Bind step name kind) w = value_read step kind w
-  part_read (part.Both step at name value) w = passed step w
-  part_read (part.Branch step then_parts else_parts) w = demanded step w (first_branch w.left) (λ x.
-      cond x.0 (parts_read then_parts (begun x.1 w.spare)) (parts_read else_parts (begun x.1 w.spare)) >>= λ inner. Ok (behind w x.2 inner))
-  part_read (part.Turns step name kind body) w = demanded step w (first_rows w.left) (λ x.
-      turns_read step kind (λ inner. parts_read body inner) x.0 (went w x.1) >>= λ after. turns_done step after)
+  pub part_read : List ℕ → Part → Walk → Result Walk ℕ
+  part_read lengths (part.Plain stmt takes) w = values_read takes w
+  part_read lengths (part.Pass step) w = passed step w
+  part_read lengths (part.Bind step name kind) w = value_read step kind w
+  part_read lengths (part.Both step at name value) w = passed step w
+  part_read lengths (part.Branch step then_parts else_parts) w = demanded step w (first_branch w.left) (λ x.
+      cond x.0 (parts_read lengths then_parts (begun x.1 w.spare)) (parts_read lengths else_parts (begun x.1 w.spare)) >>= λ inner. Ok (behind w x.2 inner))
+  part_read lengths (part.Turns step name kind body) w = demanded step w (first_rows w.left) (λ x.
+      turns_read step kind (λ inner. parts_read lengths body inner) x.0 (went w x.1) >>= λ after. turns_done step after)
+  part_read lengths (part.Over step at name list input body) w = demanded step w (first_rows w.left) (λ x.
+      counted step (get_or lengths input 0) x.0 (went w x.1)
+      (turns_read step no_kind (λ inner. parts_read lengths body inner) x.0 (went w x.1) >>= λ after. turns_done step after))
 
   -- the walk behind parts in order, up to a fault
-  pub parts_read : Parts → Walk → Result Walk ℕ
-  parts_read NoParts w = Ok w
-  parts_read (MoreParts p ps) w = cond w.stopped (Ok w) (part_read p w >>= λ after. parts_read ps after)
+  pub parts_read : List ℕ → Parts → Walk → Result Walk ℕ
+  parts_read lengths NoParts w = Ok w
+  parts_read lengths (MoreParts p ps) w = cond w.stopped (Ok w) (part_read lengths p w >>= λ after. parts_read lengths ps after)
 
 -- ---- nodes
 
@@ -168,6 +213,6 @@ abbrev pub judged : Result Walk ℕ → Result (Unit {0}) Unfit
 judged (Ok w) = cond (leaves w) (Err Extra) (Ok tt)
 judged (Err step) = Err (At step)
 
--- whether a node fits a remainder, or what doesn't
-unfoldable pub fits : Node → Parts → Result (Unit {0}) Unfit
-fits n ps = judged (parts_read ps (begun n false))
+-- whether a node fits a remainder, or what doesn't; the list of each input that is one has the length at the input's number
+unfoldable pub fits : Node → Parts → List ℕ → Result (Unit {0}) Unfit
+fits n ps lengths = judged (parts_read lengths ps (begun n false))

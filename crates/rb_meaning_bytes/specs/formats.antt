@@ -4,6 +4,7 @@ pub mod Fields
 pub mod Formats
 pub mod Laws
 pub mod Values
+pub mod Messages
 pub mod Scripts
 pub mod Forests
 pub mod Refusals
@@ -11,4 +12,5 @@ pub mod Reading
 pub mod ScriptBytes
 pub mod FormedScripts
 pub mod ForestBytes
+pub mod Payloads
 pub mod ScriptPayloads

@@ -54,11 +54,16 @@ wrong_kind = plain_fault 11
 abbrev pub kind : Fault
 kind = plain_fault 12
 
+-- the lists that a batch would send have too many items together
+abbrev pub input_too_large : Fault
+input_too_large = plain_fault 13
+
 -- the names of the faults, by their codes from 1
 abbrev pub fault_names : List (List ℕ)
 fault_names =
     codes "DivZero" ∷ codes "Index" ∷ codes "TextTooLong" ∷ codes "ListTooLong" ∷ codes "HeapFull" ∷ codes "TooDeep" ∷ codes "FuelUsed"
-    ∷ codes "Thrown" ∷ codes "NoMethod" ∷ codes "BadArguments" ∷ codes "WrongKind" ∷ codes "Kind" ∷ []
+    ∷ codes "Thrown" ∷ codes "NoMethod" ∷ codes "BadArguments" ∷ codes "WrongKind" ∷ codes "Kind"
+    ∷ codes "InputTooLarge" ∷ []
 
 abbrev pub name_or_nothing : Option (List ℕ) → List ℕ
 name_or_nothing (Some name) = name

@@ -1,7 +1,7 @@
 -- What a script means on a service: the node that it gives, and the server after it. It means something whatever its tree
 -- and inputs are. Each step takes what follows it; a block is run to its end, and then goes on.
 use Rattle.std.specs.Prelude.{ℕ, zero, suc, List, [], ◌∷◌, Bool, true, false, cond, nat_eq, Option, None, Some, Result, Ok, slice_get}
-use Rattle.rb_trees.specs.Outcome.{known, must, ◌>>◌}
+use Rattle.rb_trees.specs.Outcome.{known, must, ◌>>=◌, ◌>>◌}
 use Rattle.rb_trees.specs.declared.values.Value.{Value, out-Value}
 use Rattle.rb_trees.specs.declared.values.Value.TheOpen.{Value-F}
 use Rattle.rb_trees.specs.declared.values.Value.TheVariants as value
@@ -145,7 +145,7 @@ chosen false a b = b
 abbrev pub branched : Bool → Ran → (Server → Ran) → Ran
 branched holds r go = with_entry (forest.Branch holds r.node) (goes_on r.fault r.server go)
 
--- why turns ended: all rows had theirs, a fault within the last one, or no unit of fuel for the next one
+-- why turns ended: all rows or items had theirs, a fault within the last one, or no unit of fuel for the next one
 pub data Why : Type 0 where
   AllDone : Why
   InTurn : PlacedFault → Why
@@ -170,12 +170,12 @@ abbrev pub turned_on : Node → Option PlacedFault → Server → (Server → Tu
 turned_on node None s go = before_turns node (go s)
 turned_on node (Some f) s go = record { nodes = MoreNodes node NoNodes; why = InTurn f; server = s }
 
--- the turns over rows, each as `turn` runs it
+-- the turns over rows or items, each as `turn` runs it
 abbrev pub turns : (Value → Server → Ran) → List Value → Server → Turned
 turns turn [] s = record { nodes = NoNodes; why = AllDone; server = s }
 turns turn (row ∷ rows) s = with_unit s.fuel s (λ s1. let r = turn row s1 in turned_on r.node r.fault r.server (turns turn rows))
 
--- A turn over a row. Where the row is kept it has to be primitive, and its value is the first entry.
+-- A turn over a row or an item. Where the row is kept it has to be primitive, and its value is the first entry.
 abbrev pub turn_over : ℕ → ℕ → Bool → (Server → Ran) → Value → Server → Ran
 turn_over id at keep block row s = on_reply id (kept keep at row s) (λ v s1. with_kept keep v (block s1))
 
@@ -187,6 +187,14 @@ after_turns id at NoUnit s go = stopped id at fuel_used s
 -- the entry of the turns, and what follows; without a unit for the next turn the entry stands, and the fault follows
 abbrev pub walked : ℕ → ℕ → Turned → (Server → Ran) → Ran
 walked id at t go = with_entry (forest.Rows t.nodes) (after_turns id at t.why t.server go)
+
+-- the items of an input that is a list
+abbrev pub items_in : Value-F Value → Result (List Value) Fault
+items_in (Value-F.List items) = Ok items
+items_in _ = Err kind
+
+abbrev pub items_of : Ground → ℕ → ℕ → Server → Reply (List Value)
+items_of g at number s = replies at (known kind (slice_get g.inputs number) >>= λ v. items_in (out-Value v)) s
 
 abbrev mutual
   -- a step, and what follows it
@@ -202,6 +210,9 @@ abbrev mutual
   run_step g (script.Each id at var keep e a) vars s go =
       on_reply id (and_then (value_of g at vars e s) (rows_of at)) (λ rows s1.
       walked id at (turns (λ row s2. turn_over id at keep (λ s3. run_steps g a ((var, row) ∷ vars) s3 ended) row s2) rows s1) (λ s2. go vars s2))
+  run_step g (script.Over id at var input a) vars s go =
+      on_reply id (items_of g at input s) (λ items s1.
+      walked id at (turns (λ item s2. turn_over id at false (λ s3. run_steps g a ((var, item) ∷ vars) s3 ended) item s2) items s1) (λ s2. go vars s2))
 
   -- steps in order, and what follows them
   pub run_steps : Ground → Steps → Vars → Server → (Vars → Server → Ran) → Ran

@@ -8,7 +8,8 @@ use Rattle.rb_trees.specs.declared.outcomes.Raised.{Raised}
 use Rattle.rb_trees.specs.declared.outcomes.Ending as ending
 use Rattle.rb_trees.specs.mirror.Declarations.{Program}
 use Rattle.rb_trees.specs.mirror.Forests.{Node}
-use Rattle.rb_trees.specs.mirror.Scripts.{Script}
+use Rattle.rb_meaning_bytes.specs.Fits.{Unfit, fits}
+use Rattle.rb_meaning_bytes.specs.formats.Messages.{Sent}
 use Rattle.rb_meaning_code.specs.Faults.{kind, raised}
 use Rattle.rb_meaning_code.specs.State.{Names, Local, closed}
 use Rattle.rb_meaning_code.specs.Dialogue as ask
@@ -31,6 +32,10 @@ abbrev pub input_values : List (List ℕ) → Names → List Value
 input_values [] names = []
 input_values (name ∷ inputs) names = value_or_unit (lookup names name) ∷ input_values inputs names
 
+-- whether a node fits what a batch leaves to the client that begins in a local state, or what doesn't; no input is a list
+abbrev pub fits_batch : Division → Local → Node → Result (Unit {0}) Unfit
+fits_batch d l n = fits n d.remainder []
+
 -- the names of a batch are gone at its end
 abbrev pub left : ℕ → Outcome (Unit {0}) → Outcome (Unit {0})
 left count (Gave u l) = Gave u (closed count l)
@@ -41,10 +46,6 @@ abbrev pub replays : Program → Division → Local → List Event → Node → 
 replays p d l events n =
     let r = replay_all p.classes l.fuel d.remainder l (record { events = events; node = n }) ended in
     record r { outcome = left (length l.names) r.outcome }
-
--- a script with the values of its inputs, as it is sent
-abbrev pub Sent : Type 0
-Sent = Script × List Value
 
 -- what surrounds a client's code: the events so far, the scripts that were sent, and the nodes that are still to come
 pub record Waiting : Type 0 where
@@ -62,7 +63,7 @@ with_replayed r s = (r.outcome, record s { events = r.events })
 
 -- what is sent for a batch, from the names of its start
 abbrev pub sent_for : Division → Local → Sent
-sent_for d l = (d.script, input_values d.inputs l.names)
+sent_for d l = record { script = d.script; values = input_values d.inputs l.names }
 
 -- A batch begins: its event, and its script is sent.
 abbrev pub begins : Division → Local → Waiting → Waiting

@@ -49,7 +49,7 @@ unfoldable pub division : Program → Outermost → Division
 division p b = record {
   at = b.at;
   inputs = inputs_of p b;
-  script = record { inputs = length (inputs_of p b); body = block_steps p (first_refs b.root (inputs_of p b)) (scope_of b) 0 0 b.block };
+  script = record { inputs = length (inputs_of p b); lists = []; body = block_steps p (first_refs b.root (inputs_of p b)) (scope_of b) 0 0 b.block };
   remainder = block_parts p (scope_of b) 0 b.block;
 }
 

@@ -2,8 +2,10 @@
 -- no entry is left and the node's fault is at the step, the fault is raised there, after the local effects before it. Each part
 -- takes what follows it; the parts of a block are performed to their end, and then it goes on.
 use Rattle.std.specs.Prelude.{ℕ, ◌==◌, List, [], ◌∷◌, ◌++◌, length, Bool, cond, nat_eq, Option, None, Some, Result, Ok, Err}
-use Rattle.rb_trees.specs.declared.values.Value.{Value}
+use Rattle.rb_trees.specs.Named.{lookup}
+use Rattle.rb_trees.specs.declared.values.Value.{Value, out-Value}
 use Rattle.rb_trees.specs.declared.values.Value.TheVariants as value
+use Rattle.rb_trees.specs.declared.values.Fault.{Fault}
 use Rattle.rb_trees.specs.declared.outcomes.Raised.{Raised}
 use Rattle.rb_trees.specs.declared.forests.NodeFault.{NodeFault}
 use Rattle.rb_trees.specs.mirror.Declarations.{Class}
@@ -13,9 +15,11 @@ use Rattle.rb_trees.specs.mirror.Remainders as part
 use Rattle.rb_trees.specs.mirror.Remainders.{Part, Parts, NoParts, MoreParts}
 use Rattle.rb_meaning_bytes.specs.Fits.{is_kept}
 use Rattle.rb_meaning_code.specs.Faults.{fuel_used, kind, raised, raised_remotely}
-use Rattle.rb_meaning_code.specs.State.{Local, bound, closed}
+use Rattle.rb_meaning_code.specs.State.{Local, bound, closed, spent}
 use Rattle.rb_meaning_code.specs.Dialogue as ask
 use Rattle.rb_meaning_code.specs.Dialogue.{Question, Outcome, Gave, Faulted, Handler, handle}
+use Rattle.rb_meaning_code.specs.Calls.{unit_due}
+use Rattle.rb_meaning_code.specs.ScriptRun.{items_in}
 use Rattle.rb_meaning_code.specs.Expressions.{evaluates}
 use Rattle.rb_meaning_code.specs.Statements.{performs}
 use Rattle.rb_meaning_code.specs.Bodies.{bodies_of}
@@ -118,6 +122,11 @@ abbrev pub on_rows : ℕ → Node → Local → Seen → (Nodes → Node → Rep
 on_rows step (Holds (MoreEntries (forest.Rows ns) es) f) l s go = go ns (Holds es f)
 on_rows step n l s go = stopped (missed (fault_at step n)) l s
 
+-- what follows, where a unit of fuel is there
+abbrev pub on_unit : ℕ → Result (Unit {0}) Fault → Local → List Event → (Local → Replayed) → Replayed
+on_unit at (Ok u) l events go = go (spent l)
+on_unit at (Err f) l events go = record { outcome = Faulted (raised f at) l; events = events }
+
 -- a turn, which begins with its row where rows are kept
 abbrev pub on_turn : Bool → ℕ → List ℕ → Local → Seen → Rest → Replayed
 on_turn kept step name l s go = cond kept (on_value (taken step s.node) l s (λ v s1. go (bound name v l) s1)) (go l s)
@@ -126,6 +135,28 @@ on_turn kept step name l s go = cond kept (on_value (taken step s.node) l s (λ 
 abbrev pub turns : (Node → Local → List Event → Replayed) → Nodes → Node → Local → List Event → Rest → Replayed
 turns turn NoNodes rest l events go = go l (record { events = events; node = rest })
 turns turn (MoreNodes n ns) rest l events go = behind (length l.names) rest (turn n l events) (λ l1 s1. turns turn ns rest l1 s1.events go)
+
+-- goes on with a unit of the client's own fuel less, which is due at a position
+abbrev pub after_unit : ℕ → Local → List Event → (Local → Replayed) → Replayed
+after_unit at l events go = on_unit at (unit_due l.fuel) l events go
+
+-- The turns over the items of a list in order, each with the next of the nodes. It takes a unit of fuel first. Where no node is
+-- left, the node's fault comes that stands at the step.
+abbrev pub list_turns : (step at : ℕ) → (Value → Node → Local → List Event → Replayed) → List Value → Nodes → Node → Local → List Event → Rest → Replayed
+list_turns step at turn [] ns rest l events go = go l (record { events = events; node = rest })
+list_turns step at turn (v ∷ vs) NoNodes rest l events go = after_unit at l events (λ l1. record { outcome = Faulted (missed (fault_at step rest)) l1; events = events })
+list_turns step at turn (v ∷ vs) (MoreNodes n ns) rest l events go =
+    after_unit at l events (λ l1. behind (length l1.names) rest (turn v n l1 events) (λ l2 s2. list_turns step at turn vs ns rest l2 s2.events go))
+
+-- the items of a list that has a name
+abbrev pub items_of : Option Value → Result (List Value) Fault
+items_of None = Err kind
+items_of (Some v) = items_in (out-Value v)
+
+-- goes on with items, or the fault in their place
+abbrev pub on_items : ℕ → Result (List Value) Fault → Local → List Event → (List Value → Replayed) → Replayed
+on_items at (Ok items) l events go = go items
+on_items at (Err f) l events go = record { outcome = Faulted (raised f at) l; events = events }
 
 -- of code with these classes, within so much gas
 module _ (classes : List Class) (gas : ℕ) where
@@ -146,6 +177,10 @@ module _ (classes : List Class) (gas : ℕ) where
         on_rows step s.node l s (λ ns rest.
         turns (λ n l1 events. on_turn (is_kept k) step name l1 (record { events = events; node = n }) (λ l2 s2. replay_all body l2 s2 ended)) ns rest l s.events
         (λ l1 s1. unless (fault_at step s1.node) far_fault l1 s1 (go l1 s1)))
+    replay (part.Over step at name list input body) l s go =
+        on_items at (items_of (lookup l.names list)) l s.events (λ items.
+        on_rows step s.node l s (λ ns rest.
+        list_turns step at (λ v n l1 events. replay_all body (bound name v l1) (record { events = events; node = n }) ended) items ns rest l s.events go))
 
     -- parts in order, and what follows them
     pub replay_all : Parts → Local → Seen → Rest → Replayed

@@ -2,7 +2,7 @@
 use Rattle.std.specs.Prelude.{ℕ, ◌+◌, ◌-◌, ◌^◌, min, length}
 use Rattle.rb_trees.specs.declared.values.Value.{Value, out-Value}
 use Rattle.rb_trees.specs.declared.values.Value.TheOpen.{Value-F}
-use Rattle.rb_trees.specs.mirror.Scripts.{SExpr, Lit, Input, Var, Root, Unary, Binary, Call, SExprs, NoSExprs, MoreSExprs, Step, Do, Keep, Let, If, Each, Steps, NoSteps, MoreSteps, Script}
+use Rattle.rb_trees.specs.mirror.Scripts.{SExpr, Lit, Input, Var, Root, Unary, Binary, Call, SExprs, NoSExprs, MoreSExprs, Step, Do, Keep, Let, If, Each, Over, Steps, NoSteps, MoreSteps, Script}
 
 -- Numbers have four bytes, an Int has eight, a text four and its own.
 abbrev pub value_form_size : Value-F Value → ℕ
@@ -35,6 +35,7 @@ abbrev mutual
   step_size (Let id at var keep e) = 14 + expr_size e
   step_size (If id at e a b) = 9 + expr_size e + (4 + steps_size a) + (4 + steps_size b)
   step_size (Each id at var keep e a) = 14 + expr_size e + (4 + steps_size a)
+  step_size (Over id at var input a) = 14 + (4 + steps_size a)
 
   pub steps_size : Steps → ℕ
   steps_size NoSteps = 0

@@ -24,3 +24,5 @@ pub const BAD_ARGUMENTS: u8 = 10;
 pub const WRONG_KIND: u8 = 11;
 /// Something has a kind that is of no use there, or is missing.
 pub const KIND: u8 = 12;
+/// The lists that a batch would send have too many items together. It stands on no wire.
+pub const INPUT_TOO_LARGE: u8 = 13;

@@ -38,6 +38,16 @@ pub enum Part {
         kind: u8,
         body: Seq<Part>,
     },
+    /// One turn for each item of a list of the own side, bound to a name; `list` is the list's name, and `input` its number
+    /// among the script's inputs.
+    Over {
+        step: u32,
+        at: u32,
+        name: Word,
+        list: Word,
+        input: u8,
+        body: Seq<Part>,
+    },
 }
 
 /// The division of a batch: its number, its position, the names of its inputs, its script and its

@@ -6,10 +6,11 @@ use crate::sequence::{Seq, Word};
 use crate::values::Value;
 use std::mem::size_of;
 
-/// A script: the number of its inputs, and its steps.
+/// A script: the number of its inputs, the numbers of those that are lists, rising, and its steps.
 #[derive(Drop)]
 pub struct Script {
     pub inputs: u8,
+    pub lists: Seq<u8>,
     pub body: Seq<Step>,
 }
 
@@ -43,6 +44,12 @@ pub enum StepForm {
         var: u32,
         keep: bool,
         rows: SExpr,
+        body: Seq<Step>,
+    },
+    /// A block for each item of a list input, bound to a variable.
+    Over {
+        var: u32,
+        input: u8,
         body: Seq<Step>,
     },
 }

@@ -18,6 +18,14 @@ pub struct Object {
     pub fields: Seq<(Word, Value)>,
 }
 
+/// A change of a table: the field of the object gets the value.
+#[derive(Drop)]
+pub struct Change {
+    pub object: u32,
+    pub field: Word,
+    pub value: Value,
+}
+
 /// The text of a service as it was read.
 #[derive(Drop)]
 pub struct ServiceText {

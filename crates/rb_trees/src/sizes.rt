@@ -90,6 +90,7 @@ fn size_of_step(step: &Step) -> u64
         StepForm::Each { rows, body, .. } => size_of_expr(rows)
             .saturating_add(size_of_block(body.as_slice()))
             .saturating_add(14),
+        StepForm::Over { body, .. } => size_of_block(body.as_slice()).saturating_add(14),
     }
 }
 

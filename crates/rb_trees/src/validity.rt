@@ -5,7 +5,7 @@
 
 ghost use Rattle.std.specs.Prelude.{◌≡◌, ◌+◌, ◌<◌, false, OnOk};
 ghost use Rattle.rb_trees.specs.mirror.Scripts.{mirror_sexpr, mirror_sexprs, mirror_step, mirror_steps, mirror_script};
-ghost use Rattle.rb_trees.specs.Validity.{has, first, nested_blocks, expr_refusals, exprs_refusals, whole_refusals, step_numbers, steps_numbers, step_lets, steps_lets, step_refusals, steps_refusals, verdict};
+ghost use Rattle.rb_trees.specs.Validity.{has, first, inputs_of, input_refusals, list_refusals, nested_blocks, expr_refusals, exprs_refusals, whole_refusals, step_numbers, steps_numbers, step_lets, steps_lets, step_refusals, steps_refusals, verdict};
 ghost use Rattle.rb_trees.specs.Scopes.{seen, bound};
 
 use crate::limits::{MOST_BLOCKS, MOST_EXPRS};
@@ -27,6 +27,9 @@ pub enum ScriptRefusal {
     /// More than 64 blocks or more than 256 expressions stand within each other.
     #[error("step {0} nests too deep")]
     TooDeep(u32),
+    /// An expression has a list as its input, or an Over an input that is no list.
+    #[error("step {0} has an input of another form")]
+    WrongInput(u32),
 }
 
 /// Whether one of these steps, or one in their blocks, has this number.
@@ -53,7 +56,8 @@ fn is_numbered(step: &Step, id: u32) -> bool
         StepForm::If(_, then_block, else_block) => id == step.id
             || any_numbered(then_block.as_slice(), id)
             || any_numbered(else_block.as_slice(), id),
-        StepForm::Each { body, .. } => id == step.id || any_numbered(body.as_slice(), id),
+        StepForm::Each { body, .. } | StepForm::Over { body, .. } => id == step.id
+            || any_numbered(body.as_slice(), id),
     }
 }
 
@@ -64,7 +68,11 @@ fn binds(step: &Step, var: u32) -> bool
 {
     match &step.form {
         StepForm::Let { var: own, .. } => var == *own,
-        StepForm::Do(_) | StepForm::Keep(_) | StepForm::If(..) | StepForm::Each { .. } => false,
+        StepForm::Do(_)
+        | StepForm::Keep(_)
+        | StepForm::If(..)
+        | StepForm::Each { .. }
+        | StepForm::Over { .. } => false,
     }
 }
 
@@ -85,7 +93,7 @@ fn any_binds(steps: &[Step], var: u32) -> bool
 #[derive(Drop)]
 enum Around<'a> {
     Root,
-    /// The variable of an Each whose block is read.
+    /// The variable of an Each or an Over whose block is read.
     Row(u32, &'a Around<'a>),
     /// The number of a step that is read.
     Step(u32, &'a Around<'a>),
@@ -120,29 +128,61 @@ fn is_bound(scope: &Around, var: u32) -> bool
     }
 }
 
+/// Whether one of the inputs that are lists has this number.
+fn is_list(script: &Script, number: u8) -> bool
+    ensures { result ≡ has number script.now.lists }
+{
+    for list in script.lists.as_slice() {
+        if number == *list {
+            return true;
+        }
+    }
+    false
+}
+
+/// An input that an expression of a step has.
+fn check_input(number: u8, script: &Script, step: u32) -> Result<(), ScriptRefusal>
+    ensures { result ≡ first (input_refusals (inputs_of (mirror_script script.now)) step number) }
+{
+    if number >= script.inputs {
+        Err(ScriptRefusal::UnknownInput(step))
+    } else if is_list(script, number) {
+        Err(ScriptRefusal::WrongInput(step))
+    } else {
+        Ok(())
+    }
+}
+
+/// The input that an Over of this number goes through.
+fn check_list(number: u8, script: &Script, step: u32) -> Result<(), ScriptRefusal>
+    ensures { result ≡ first (list_refusals (inputs_of (mirror_script script.now)) step number) }
+{
+    if number >= script.inputs {
+        Err(ScriptRefusal::UnknownInput(step))
+    } else if is_list(script, number) {
+        Ok(())
+    } else {
+        Err(ScriptRefusal::WrongInput(step))
+    }
+}
+
 #[cycle(check_exprs)]
 #[tactic(auto, using(crate::proofs::rules::Refusals::exprs))]
 fn check_expr(
     expr: &SExpr,
-    inputs: u8,
+    script: &Script,
     scope: &Around,
     step: u32,
     depth: u32,
 ) -> Result<(), ScriptRefusal>
-    ensures { result ≡ first (expr_refusals inputs (bound scope.now) step depth (mirror_sexpr expr.now)) }
+    ensures { result ≡ first (expr_refusals (inputs_of (mirror_script script.now)) (bound scope.now) step depth (mirror_sexpr expr.now)) }
 {
     if depth > MOST_EXPRS {
         return Err(ScriptRefusal::TooDeep(step));
     }
     match expr {
         SExpr::Lit(_) | SExpr::Root => Ok(()),
-        SExpr::Input(number) => {
-            if *number < inputs {
-                Ok(())
-            } else {
-                Err(ScriptRefusal::UnknownInput(step))
-            }
-        }
+        SExpr::Input(number) => check_input(*number, script, step),
         SExpr::Var(var) => {
             if is_bound(scope, *var) {
                 Ok(())
@@ -150,16 +190,16 @@ fn check_expr(
                 Err(ScriptRefusal::UnknownVariable(step))
             }
         }
-        SExpr::Unary(_, _, operand) => check_expr(operand.get(), inputs, scope, step, depth + 1),
+        SExpr::Unary(_, _, operand) => check_expr(operand.get(), script, scope, step, depth + 1),
         SExpr::Binary(_, _, operands) => {
             let Operands { left, right } = operands.get();
-            check_expr(left, inputs, scope, step, depth + 1)?;
-            check_expr(right, inputs, scope, step, depth + 1)
+            check_expr(left, script, scope, step, depth + 1)?;
+            check_expr(right, script, scope, step, depth + 1)
         }
         SExpr::Call { call, .. } => {
             let Invocation { target, args, .. } = call.get();
-            check_expr(target, inputs, scope, step, depth + 1)?;
-            check_exprs(args.as_slice(), inputs, scope, step, depth + 1)
+            check_expr(target, script, scope, step, depth + 1)?;
+            check_exprs(args.as_slice(), script, scope, step, depth + 1)
         }
     }
 }
@@ -168,25 +208,30 @@ fn check_expr(
 #[tactic(auto, using(crate::proofs::rules::Refusals::exprs))]
 fn check_exprs(
     exprs: &[SExpr],
-    inputs: u8,
+    script: &Script,
     scope: &Around,
     step: u32,
     depth: u32,
 ) -> Result<(), ScriptRefusal>
-    ensures { result ≡ first (exprs_refusals inputs (bound scope.now) step depth (mirror_sexprs exprs.now)) }
+    ensures { result ≡ first (exprs_refusals (inputs_of (mirror_script script.now)) (bound scope.now) step depth (mirror_sexprs exprs.now)) }
 {
     for expr in exprs {
-        check_expr(expr, inputs, scope, step, depth)?;
+        check_expr(expr, script, scope, step, depth)?;
     }
     Ok(())
 }
 
 /// An expression that stands in a step.
 #[tactic(auto, unfolding(crate::specs::Validity::whole_refusals))]
-fn check_whole(expr: &SExpr, inputs: u8, scope: &Around, step: u32) -> Result<(), ScriptRefusal>
-    ensures { result ≡ first (whole_refusals inputs (bound scope.now) step (mirror_sexpr expr.now)) }
+fn check_whole(
+    expr: &SExpr,
+    script: &Script,
+    scope: &Around,
+    step: u32,
+) -> Result<(), ScriptRefusal>
+    ensures { result ≡ first (whole_refusals (inputs_of (mirror_script script.now)) (bound scope.now) step (mirror_sexpr expr.now)) }
 {
-    check_expr(expr, inputs, scope, step, 1)
+    check_expr(expr, script, scope, step, 1)
 }
 
 /// Whether a step in the so-manieth block may have blocks.
@@ -205,15 +250,15 @@ fn check_depth(step: u32, depth: u32) -> Result<(), ScriptRefusal>
 #[tactic(auto, using(crate::proofs::rules::Refusals::steps))]
 fn check_block<'x>(
     steps: &'x [Step],
-    inputs: u8,
+    script: &'x Script,
     depth: u32,
     scope: &'x Around<'x>,
 ) -> Result<(), ScriptRefusal>
-    ensures { result ≡ first (steps_refusals inputs depth (seen scope.now) (bound scope.now) (mirror_steps steps.now)) }
+    ensures { result ≡ first (steps_refusals (inputs_of (mirror_script script.now)) depth (seen scope.now) (bound scope.now) (mirror_steps steps.now)) }
 {
     for i in 0..steps.len() {
         let here = Around::Block(&steps[..i], scope);
-        check_step(&steps[i], inputs, depth, &here)?;
+        check_step(&steps[i], script, depth, &here)?;
     }
     Ok(())
 }
@@ -222,16 +267,16 @@ fn check_block<'x>(
 #[tactic(auto, using(crate::proofs::rules::Refusals::numbered))]
 fn check_step<'x>(
     step: &'x Step,
-    inputs: u8,
+    script: &'x Script,
     depth: u32,
     scope: &'x Around<'x>,
 ) -> Result<(), ScriptRefusal>
-    ensures { result ≡ first (step_refusals inputs depth (seen scope.now) (bound scope.now) (mirror_step step.now)) }
+    ensures { result ≡ first (step_refusals (inputs_of (mirror_script script.now)) depth (seen scope.now) (bound scope.now) (mirror_step step.now)) }
 {
     if is_seen(scope, step.id) {
         return Err(ScriptRefusal::StepRepeated(step.id));
     }
-    check_form(step, inputs, depth, scope)
+    check_form(step, script, depth, scope)
 }
 
 /// A step whose number is new.
@@ -239,23 +284,23 @@ fn check_step<'x>(
 #[tactic(auto, using(crate::proofs::rules::Refusals::steps))]
 fn check_form<'x>(
     step: &'x Step,
-    inputs: u8,
+    script: &'x Script,
     depth: u32,
     scope: &'x Around<'x>,
 ) -> Result<(), ScriptRefusal>
     requires { has step.now.id (seen scope.now) ≡ false }
-    ensures { result ≡ first (step_refusals inputs depth (seen scope.now) (bound scope.now) (mirror_step step.now)) }
+    ensures { result ≡ first (step_refusals (inputs_of (mirror_script script.now)) depth (seen scope.now) (bound scope.now) (mirror_step step.now)) }
 {
     match &step.form {
-        StepForm::Do(expr) | StepForm::Keep(expr) => check_whole(expr, inputs, scope, step.id),
-        StepForm::Let { value, .. } => check_whole(value, inputs, scope, step.id),
+        StepForm::Do(expr) | StepForm::Keep(expr) => check_whole(expr, script, scope, step.id),
+        StepForm::Let { value, .. } => check_whole(value, script, scope, step.id),
         StepForm::If(condition, then_block, else_block) => {
             check_depth(step.id, depth)?;
-            check_whole(condition, inputs, scope, step.id)?;
+            check_whole(condition, script, scope, step.id)?;
             let own = Around::Step(step.id, scope);
-            check_block(then_block.as_slice(), inputs, depth + 1, &own)?;
+            check_block(then_block.as_slice(), script, depth + 1, &own)?;
             let after = Around::Closed(then_block.as_slice(), &own);
-            check_block(else_block.as_slice(), inputs, depth + 1, &after)
+            check_block(else_block.as_slice(), script, depth + 1, &after)
         }
         StepForm::Each {
             var,
@@ -264,19 +309,26 @@ fn check_form<'x>(
             ..
         } => {
             check_depth(step.id, depth)?;
-            check_whole(rows, inputs, scope, step.id)?;
+            check_whole(rows, script, scope, step.id)?;
             let own = Around::Step(step.id, scope);
             let row = Around::Row(*var, &own);
-            check_block(body.as_slice(), inputs, depth + 1, &row)
+            check_block(body.as_slice(), script, depth + 1, &row)
+        }
+        StepForm::Over { var, input, body } => {
+            check_depth(step.id, depth)?;
+            check_list(*input, script, step.id)?;
+            let own = Around::Step(step.id, scope);
+            let row = Around::Row(*var, &own);
+            check_block(body.as_slice(), script, depth + 1, &row)
         }
     }
 }
 
 /// Whether the script is valid, else its first refusal in reading order: at each step first its number, then how deep its
-/// blocks stand, then its expression from above, then its blocks. It takes no memory; it looks back for what was seen, so
+/// blocks stand, then its expression from above, or its list, then its blocks. It takes no memory; it looks back for what was seen, so
 /// its time is at most that of the square of the script's size.
 pub fn valid(script: &Script) -> Result<(), ScriptRefusal>
     ensures { result ≡ verdict (mirror_script script.now) }
 {
-    check_block(script.body.as_slice(), script.inputs, 1, &Around::Root)
+    check_block(script.body.as_slice(), script, 1, &Around::Root)
 }

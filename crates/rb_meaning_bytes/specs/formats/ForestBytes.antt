@@ -3,6 +3,7 @@ use Rattle.std.specs.Prelude.{◌≡◌, ◌<◌, ◌^◌, ℕ, zero, suc, nat_e
 use Rattle.rb_trees.specs.declared.forests.NodeFault.{NodeFault}
 use Rattle.rb_trees.specs.mirror.Forests as tree
 use Rattle.rb_trees.specs.mirror.Forests.{Node, Entry, Entries, Nodes}
+use Rattle.rb_meaning_bytes.specs.formats.Messages.{Refused}
 use Rattle.rb_meaning_bytes.specs.formats.Fields.{Text, Fits, number, text, truth}
 use Rattle.rb_meaning_bytes.specs.formats.Forests.{thrown, is_fault_code, most_nodes}
 use Rattle.rb_meaning_bytes.specs.formats.Refusals.{is_refusal_number}
@@ -47,8 +48,8 @@ abbrev pub forest_bytes : Node → List ℕ
 forest_bytes n = 0x01 ∷ node_bytes n
 
 -- the number of what is refused, and its place
-abbrev pub refusal_bytes : ℕ × ℕ → List ℕ
-refusal_bytes r = 0x01 ∷ r.0 ∷ number r.1
+abbrev pub refusal_bytes : Refused → List ℕ
+refusal_bytes r = 0x01 ∷ r.number ∷ number r.at
 
 -- ---- which forests have one
 
@@ -87,5 +88,5 @@ unfoldable pub FormedForest : Node → Type 0
 FormedForest n = FormedNode most_nodes n
 
 -- a refusal that has a spelling
-abbrev pub FormedRefusal : ℕ × ℕ → Type 0
-FormedRefusal r = (is_refusal_number r.0 ≡ true) × (r.1 < 2 ^ 32)
+abbrev pub FormedRefusal : Refused → Type 0
+FormedRefusal r = (is_refusal_number r.number ≡ true) × (r.at < 2 ^ 32)

@@ -1,8 +1,9 @@
 -- Which scripts are formed, and how deep they nest. A script that is formed and within the limits has a spelling.
-use Rattle.std.specs.Prelude.{◌≡◌, ◌<◌, ◌≤◌, ◌^◌, ℕ, zero, suc, List, [], ◌∷◌, length}
+use Rattle.std.specs.Prelude.{◌≡◌, ◌<◌, ◌≤◌, ◌^◌, ◌+◌, ℕ, zero, suc, Bool, true, false, List, [], ◌∷◌, length, get_or, Some, slice_get}
 use Rattle.rb_trees.specs.ScriptLimits.{most_exprs, most_blocks}
 use Rattle.rb_trees.specs.declared.values.Value.{Value, out-Value}
 use Rattle.rb_trees.specs.declared.values.Value.TheOpen.{Value-F}
+use Rattle.rb_trees.specs.Validity.{has}
 use Rattle.rb_trees.specs.mirror.Scripts as tree
 use Rattle.rb_trees.specs.mirror.Scripts.{SExpr, SExprs, Step, Steps, Script}
 use Rattle.rb_meaning_bytes.specs.formats.Fields.{Wide, Text, Name, Fits}
@@ -47,20 +48,68 @@ abbrev mutual
       × (count_steps a < 2 ^ 32) × FormedSteps a × (count_steps b < 2 ^ 32) × FormedSteps b
   FormedStep (tree.Each id at var keep e a) = (id < 2 ^ 32) × (at < 2 ^ 32) × (var < 2 ^ 32) × FormedExpr e
       × (count_steps a < 2 ^ 32) × FormedSteps a
+  FormedStep (tree.Over id at var input a) = (id < 2 ^ 32) × (at < 2 ^ 32) × (var < 2 ^ 32) × (input < 256)
+      × (count_steps a < 2 ^ 32) × FormedSteps a
 
   pub FormedSteps : Steps → Type 0
   FormedSteps tree.NoSteps = Unit {0}
   FormedSteps (tree.MoreSteps s ss) = FormedStep s × FormedSteps ss
 
+-- The numbers of the inputs that are lists rise, and each is below the number of inputs.
+abbrev pub AreListNumbers : ℕ → List ℕ → Type 0
+AreListNumbers inputs lists =
+    ((i j : ℕ) → i < j → j < length lists → get_or lists i 0 < get_or lists j 0) × ((i : ℕ) → i < length lists → get_or lists i 0 < inputs)
+
 pub record FormedScript (s : Script) : Type 0 where
   pub inputs : s.inputs < 256
+  pub lists : AreListNumbers s.inputs s.lists
   pub count : count_steps s.body < 2 ^ 32
   pub body : FormedSteps s.body
+
+-- Scripts that version 1 can spell: no input is a list, and no step is an Over.
+abbrev mutual
+  pub HasNoOver : Step → Type 0
+  HasNoOver (tree.If id at e a b) = HaveNoOver a × HaveNoOver b
+  HasNoOver (tree.Each id at var keep e a) = HaveNoOver a
+  HasNoOver (tree.Over id at var input a) = ⊥
+  HasNoOver _ = Unit {0}
+
+  pub HaveNoOver : Steps → Type 0
+  HaveNoOver tree.NoSteps = Unit {0}
+  HaveNoOver (tree.MoreSteps s ss) = HasNoOver s × HaveNoOver ss
+
+pub record IsWithoutLists (s : Script) : Type 0 where
+  pub lists : s.lists ≡ []
+  pub steps : HaveNoOver s.body
+
+-- a list of primitive values
+abbrev pub list_form : Value-F Value → Type 0
+list_form (Value-F.List items) = ArePrimitive items
+list_form _ = ⊥
+
+-- a value of an input: a list where the input is one, else primitive
+abbrev pub input_form : Bool → Value-F Value → Type 0
+input_form true v = list_form v
+input_form false v = primitive_form v
+
+-- the items of the lists among values
+abbrev pub form_items : Value-F Value → ℕ
+form_items (Value-F.List items) = length items
+form_items _ = 0
+
+abbrev pub count_items : List Value → ℕ
+count_items [] = 0
+count_items (v ∷ vs) = form_items (out-Value v) + count_items vs
+
+-- the greatest number of items of a script's inputs together
+abbrev pub most_items : ℕ
+most_items = 1000
 
 -- values for the inputs of a script
 pub record AreInputs (s : Script) (values : List Value) : Type 0 where
   pub count : length values ≡ s.inputs
-  pub primitive : ArePrimitive values
+  pub each : (number : ℕ) (v : Value) → slice_get values number ≡ Some v → input_form (has number s.lists) (out-Value v)
+  pub items : count_items values ≤ most_items
 
 -- ---- how deep they nest
 
@@ -91,6 +140,8 @@ abbrev mutual
   StepWithin (suc n) (tree.If id at e a b) = WholeWithin e × StepsWithin n a × StepsWithin n b
   StepWithin zero (tree.Each id at var keep e a) = ⊥
   StepWithin (suc n) (tree.Each id at var keep e a) = WholeWithin e × StepsWithin n a
+  StepWithin zero (tree.Over id at var input a) = ⊥
+  StepWithin (suc n) (tree.Over id at var input a) = StepsWithin n a
 
   pub StepsWithin : ℕ → Steps → Type 0
   StepsWithin n tree.NoSteps = Unit {0}

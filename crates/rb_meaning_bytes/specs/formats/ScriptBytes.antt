@@ -78,6 +78,8 @@ abbrev mutual
       0x13 ∷ number id ++ number at ++ expr_bytes e ++ number (count_steps a) ++ steps_bytes a ++ number (count_steps b) ++ steps_bytes b
   step_bytes (tree.Each id at var keep e a) =
       0x14 ∷ number id ++ number at ++ number var ++ truth keep ++ expr_bytes e ++ number (count_steps a) ++ steps_bytes a
+  -- An Over has no spelling.
+  step_bytes (tree.Over id at var input a) = []
 
   pub steps_bytes : Steps → List ℕ
   steps_bytes tree.NoSteps = []

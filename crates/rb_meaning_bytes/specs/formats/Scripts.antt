@@ -1,15 +1,15 @@
 -- The format of scripts.
 use Rattle.std.specs.Prelude.{ℕ, zero, suc, List, [], ◌∷◌, nat_le}
-use Rattle.rb_trees.specs.declared.values.Value.{Value}
 use Rattle.rb_trees.specs.declared.code.UnOp.{UnOp}
 use Rattle.rb_trees.specs.declared.code.UnOp.TheVariants as unary
 use Rattle.rb_trees.specs.declared.code.BinOp.{BinOp}
 use Rattle.rb_trees.specs.declared.code.BinOp.TheVariants as binary
 use Rattle.rb_trees.specs.ScriptLimits.{most_exprs, most_blocks}
 use Rattle.rb_trees.specs.mirror.Scripts as tree
-use Rattle.rb_trees.specs.mirror.Scripts.{SExpr, Step, Steps, Script, sexprs_from, steps_from}
+use Rattle.rb_trees.specs.mirror.Scripts.{SExpr, Step, Steps, sexprs_from, steps_from}
 use Rattle.rb_meaning_bytes.specs.formats.Fields.{Tag, Byte, Number, Truth, Name}
 use Rattle.rb_meaning_bytes.specs.formats.Formats.{Format, Done, ◌>>=◌, the, deeper, choose, times}
+use Rattle.rb_meaning_bytes.specs.formats.Messages.{Sent}
 use Rattle.rb_meaning_bytes.specs.formats.Values.{value}
 
 abbrev pub unary_ops : List (ℕ × Format UnOp)
@@ -145,14 +145,14 @@ block (suc n) = do
 
 -- ---- messages
 
--- behind the version: the number of inputs, their values, and the code
-abbrev pub script_1 : Format (Script × List Value)
+-- behind the version: the number of inputs, their values, and the code; no input is a list
+abbrev pub script_1 : Format Sent
 script_1 = do
   count ← the Byte
   values ← times count value
   body ← block most_blocks
-  Done (record { inputs = count; body = body }, values)
+  Done (record { script = record { inputs = count; lists = []; body = body }; values = values })
 
 -- a script with the values of its inputs
-unfoldable pub script_message : Format (Script × List Value)
+unfoldable pub script_message : Format Sent
 script_message = choose ((0x01, script_1) ∷ [])

@@ -7,7 +7,7 @@ use Rattle.rb_trees.specs.declared.remainders.Part as tree
 use Rattle.rb_trees.specs.declared.remainders.Part.TheVariants as form
 use Rattle.rb_trees.specs.declared.remainders.Part.TheOpen.{Part-F}
 use Rattle.rb_trees.specs.declared.remainders.Part.TheFolds.{fold-Part, fold-roll-Part}
-use Rattle.rb_trees.specs.mirror.Remainders.{Part, Plain, Pass, Bind, Both, Branch, Turns, MoreParts, parts_from, part_step, mirror_part, mirror_parts}
+use Rattle.rb_trees.specs.mirror.Remainders.{Part, Plain, Pass, Bind, Both, Branch, Turns, Over, MoreParts, parts_from, part_step, mirror_part, mirror_parts}
 
 pub parts_lists : (ts : List tree.Part) → parts_from (map (fold-Part Part part_step) ts) ≡ mirror_parts ts
 unfolding mirror_part
@@ -38,4 +38,8 @@ pub form_Turns : (step : ℕ) (name : List ℕ) (kind : ℕ) (a : List tree.Part
 unfolding mirror_part
 form_Turns step name kind a = ap mirror_part (sym (form.rolls-Turns step name kind a)) ∙ fold-roll-Part Part part_step (Part-F.Turns step name kind a) ∙ ap (λ x. Turns step name kind x) (parts_lists a)
 
-pub ruleset parts = (form_Plain, form_Pass, form_Bind, form_Both, form_Branch, form_Turns)
+pub form_Over : (step at : ℕ) (name list : List ℕ) (input : ℕ) (a : List tree.Part) → mirror_part (form.Over step at name list input a) ≡ Over step at name list input (mirror_parts a)
+unfolding mirror_part
+form_Over step at name list input a = ap mirror_part (sym (form.rolls-Over step at name list input a)) ∙ fold-roll-Part Part part_step (Part-F.Over step at name list input a) ∙ ap (λ x. Over step at name list input x) (parts_lists a)
+
+pub ruleset parts = (form_Plain, form_Pass, form_Bind, form_Both, form_Branch, form_Turns, form_Over)

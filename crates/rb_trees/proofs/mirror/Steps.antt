@@ -5,7 +5,7 @@ use Rattle.rb_trees.specs.declared.scripts.Step as tree
 use Rattle.rb_trees.specs.declared.scripts.StepForm.TheVariants as form
 use Rattle.rb_trees.specs.declared.scripts.StepForm.TheOpen.{StepForm-F}
 use Rattle.rb_trees.specs.declared.scripts.StepForm.TheFolds.{fold-Step, fold_out-Step, fold-roll-StepForm}
-use Rattle.rb_trees.specs.mirror.Scripts.{Step, Do, Keep, Let, If, Each, MoreSteps, steps_from, step_form_step, step_step, mirror_step, mirror_step_form, mirror_steps, mirror_sexpr}
+use Rattle.rb_trees.specs.mirror.Scripts.{Step, Do, Keep, Let, If, Each, Over, MoreSteps, steps_from, step_form_step, step_step, mirror_step, mirror_step_form, mirror_steps, mirror_sexpr}
 
 pub at_Step : (t : tree.Step) → mirror_step t ≡ mirror_step_form t.form t.id t.at
 unfolding mirror_step mirror_step_form
@@ -36,4 +36,8 @@ pub form_Each : (var : ℕ) (keep : Bool) (e : expr.SExpr) (a : List tree.Step) 
 unfolding mirror_step_form mirror_step
 form_Each var keep e a id at = ap (λ f. mirror_step_form f id at) (sym (form.rolls-Each var keep e a)) ∙ ap (λ f. f id at) (fold-roll-StepForm (ℕ → ℕ → Step) Step step_form_step step_step (StepForm-F.Each var keep e a)) ∙ ap (λ x. Each id at var keep (mirror_sexpr e) x) (steps_lists a)
 
-pub ruleset steps = (at_Step, form_Do, form_Keep, form_Let, form_If, form_Each)
+pub form_Over : (var input : ℕ) (a : List tree.Step) (id : ℕ) (at : ℕ) → mirror_step_form (form.Over var input a) id at ≡ Over id at var input (mirror_steps a)
+unfolding mirror_step_form mirror_step
+form_Over var input a id at = ap (λ f. mirror_step_form f id at) (sym (form.rolls-Over var input a)) ∙ ap (λ f. f id at) (fold-roll-StepForm (ℕ → ℕ → Step) Step step_form_step step_step (StepForm-F.Over var input a)) ∙ ap (λ x. Over id at var input x) (steps_lists a)
+
+pub ruleset steps = (at_Step, form_Do, form_Keep, form_Let, form_If, form_Each, form_Over)

@@ -9,8 +9,8 @@ use Rattle.rb_trees.specs.declared.scripts.StepForm.TheOpen.{StepForm-F}
 use Rattle.rb_trees.specs.declared.scripts.StepForm.TheFolds.{fold_out-StepForm}
 use Rattle.rb_trees.specs.declared.validity.ScriptRefusal.{ScriptRefusal}
 use Rattle.rb_trees.specs.declared.validity.ScriptRefusal.TheVariants.{TooDeep, StepRepeated}
-use Rattle.rb_trees.specs.mirror.Scripts.{SExpr, Lit, Input, Var, Root, Unary, Binary, Call, Step, Do, Keep, Let, If, Each, step_form_step, step_step, mirror_step, mirror_step_form, mirror_steps}
-use Rattle.rb_trees.specs.Validity.{has, when, first, expr_refusals, step_numbers, steps_numbers, steps_lets, step_lets, step_refusals}
+use Rattle.rb_trees.specs.mirror.Scripts.{SExpr, Lit, Input, Var, Root, Unary, Binary, Call, Step, Do, Keep, Let, If, Each, Over, step_form_step, step_step, mirror_step, mirror_step_form, mirror_steps}
+use Rattle.rb_trees.specs.Validity.{Inputs, has, when, first, expr_refusals, step_numbers, steps_numbers, steps_lets, step_lets, step_refusals}
 use Rattle.rb_trees.proofs.mirror.SExprs.{sexprs}
 use Rattle.rb_trees.proofs.mirror.Steps.{at_Step, steps as mirrored_steps}
 use Rattle.rb_trees.proofs.rules.Scopes.{scopes}
@@ -29,7 +29,7 @@ told false r h = cc
 
 -- ---- expressions
 
-pub too_deep : (inputs : ℕ) (bound : List ℕ) (step depth : ℕ) (e : SExpr) → nat_lt most_exprs depth ≡ true → first (expr_refusals inputs bound step depth e) ≡ Err (TooDeep step)
+pub too_deep : (inputs : Inputs) (bound : List ℕ) (step depth : ℕ) (e : SExpr) → nat_lt most_exprs depth ≡ true → first (expr_refusals inputs bound step depth e) ≡ Err (TooDeep step)
 too_deep inputs bound step depth (Lit v) h = told _ (TooDeep step) h
 too_deep inputs bound step depth (Input n) h = first-append_err _ _ (TooDeep step) (told _ (TooDeep step) h)
 too_deep inputs bound step depth (Var n) h = first-append_err _ _ (TooDeep step) (told _ (TooDeep step) h)
@@ -57,16 +57,18 @@ number_of (Keep id at e) = id
 number_of (Let id at var keep e) = id
 number_of (If id at e a b) = id
 number_of (Each id at var keep e a) = id
+number_of (Over id at var input a) = id
 
 four : (a b c d : List ScriptRefusal) (r : ScriptRefusal) → first a ≡ Err r → first (a ++ b ++ c ++ d) ≡ Err r
 four a b c d r h = first-append_err _ _ r (first-append_err _ _ r (first-append_err _ _ r h))
 
-repeated_in : (inputs depth : ℕ) (seen bound : List ℕ) (s : Step) → has (number_of s) seen ≡ true → first (step_refusals inputs depth seen bound s) ≡ Err (StepRepeated (number_of s))
+repeated_in : (inputs : Inputs) (depth : ℕ) (seen bound : List ℕ) (s : Step) → has (number_of s) seen ≡ true → first (step_refusals inputs depth seen bound s) ≡ Err (StepRepeated (number_of s))
 repeated_in inputs depth seen bound (Do id at e) h = first-append_err _ _ (StepRepeated id) (told _ (StepRepeated id) h)
 repeated_in inputs depth seen bound (Keep id at e) h = first-append_err _ _ (StepRepeated id) (told _ (StepRepeated id) h)
 repeated_in inputs depth seen bound (Let id at var keep e) h = first-append_err _ _ (StepRepeated id) (told _ (StepRepeated id) h)
 repeated_in inputs depth seen bound (If id at e a b) h = first-append_err _ _ (StepRepeated id) (four _ _ _ _ (StepRepeated id) (told _ (StepRepeated id) h))
 repeated_in inputs depth seen bound (Each id at var keep e a) h = four _ _ _ _ (StepRepeated id) (told _ (StepRepeated id) h)
+repeated_in inputs depth seen bound (Over id at var input a) h = four _ _ _ _ (StepRepeated id) (told _ (StepRepeated id) h)
 
 layer_number : (layer : StepForm-F (ℕ → ℕ → Step) Step) (id at : ℕ) → number_of (step_form_step layer id at) ≡ id
 layer_number (StepForm-F.Do e) id at = refl
@@ -74,6 +76,7 @@ layer_number (StepForm-F.Keep e) id at = refl
 layer_number (StepForm-F.Let var keep e) id at = refl
 layer_number (StepForm-F.If e a b) id at = refl
 layer_number (StepForm-F.Each var keep e a) id at = refl
+layer_number (StepForm-F.Over var input a) id at = refl
 
 form_number : (f : StepForm) (id at : ℕ) → number_of (mirror_step_form f id at) ≡ id
 unfolding mirror_step_form
@@ -82,7 +85,7 @@ form_number f id at = ap (λ g. number_of (g id at)) (fold_out-StepForm (ℕ →
 number_is : (s : rust.Step) → number_of (mirror_step s) ≡ s.id
 number_is s = ap number_of (at_Step s) ∙ form_number s.form s.id s.at
 
-pub repeats : (inputs depth : ℕ) (seen bound : List ℕ) (s : rust.Step) → has s.id seen ≡ true → first (step_refusals inputs depth seen bound (mirror_step s)) ≡ Err (StepRepeated s.id)
+pub repeats : (inputs : Inputs) (depth : ℕ) (seen bound : List ℕ) (s : rust.Step) → has s.id seen ≡ true → first (step_refusals inputs depth seen bound (mirror_step s)) ≡ Err (StepRepeated s.id)
 repeats inputs depth seen bound s h =
     repeated_in inputs depth seen bound (mirror_step s) (ap (λ n. has n seen) (number_is s) ∙ h) ∙ ap (λ n. Err (StepRepeated n)) (number_is s)
 

@@ -13,6 +13,7 @@ mutual
     Both : (step at : ℕ) (name : List ℕ) (value : Expr) → Part
     Branch : (step : ℕ) (then_parts else_parts : Parts) → Part
     Turns : (step : ℕ) (name : List ℕ) (kind : ℕ) (body : Parts) → Part
+    Over : (step at : ℕ) (name list : List ℕ) (input : ℕ) (body : Parts) → Part
 
   pub data Parts : Type 0 where
     NoParts : Parts
@@ -29,6 +30,7 @@ part_step (Part-F.Bind step name kind) = Bind step name kind
 part_step (Part-F.Both step at name value) = Both step at name (mirror_expr value)
 part_step (Part-F.Branch step a b) = Branch step (parts_from a) (parts_from b)
 part_step (Part-F.Turns step name kind a) = Turns step name kind (parts_from a)
+part_step (Part-F.Over step at name list input a) = Over step at name list input (parts_from a)
 
 -- a part in the mirror
 unfoldable pub mirror_part : part.Part → Part

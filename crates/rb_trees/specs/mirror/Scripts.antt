@@ -33,6 +33,7 @@ mutual
     Let : (id at var : ℕ) (keep : Bool) (value : SExpr) → Step
     If : (id at : ℕ) (condition : SExpr) (then_block else_block : Steps) → Step
     Each : (id at var : ℕ) (keep : Bool) (rows : SExpr) (block : Steps) → Step
+    Over : (id at var input : ℕ) (block : Steps) → Step
 
   pub data Steps : Type 0 where
     NoSteps : Steps
@@ -40,6 +41,7 @@ mutual
 
 pub record Script : Type 0 where
   pub inputs : ℕ
+  pub lists : List ℕ
   pub body : Steps
 
 abbrev pub sexprs_from : List SExpr → SExprs
@@ -73,6 +75,7 @@ step_form_step (StepForm-F.Keep e) id at = Keep id at (mirror_sexpr e)
 step_form_step (StepForm-F.Let var keep e) id at = Let id at var keep (mirror_sexpr e)
 step_form_step (StepForm-F.If e a b) id at = If id at (mirror_sexpr e) (steps_from a) (steps_from b)
 step_form_step (StepForm-F.Each var keep e a) id at = Each id at var keep (mirror_sexpr e) (steps_from a)
+step_form_step (StepForm-F.Over var input a) id at = Over id at var input (steps_from a)
 
 abbrev pub step_step : Step-F (ℕ → ℕ → Step) Step → Step
 step_step s = s.form s.id s.at
@@ -91,4 +94,4 @@ mirror_steps (s ∷ ss) = MoreSteps (mirror_step s) (mirror_steps ss)
 
 -- a script in the mirror
 abbrev pub mirror_script : script.Script → Script
-mirror_script s = record { inputs = s.inputs; body = mirror_steps s.body }
+mirror_script s = record { inputs = s.inputs; lists = s.lists; body = mirror_steps s.body }
