@@ -29,6 +29,7 @@ fn name_of(fault: &Fault) -> &'static [u8]
         10 => b"BadArguments",
         11 => b"WrongKind",
         12 => b"Kind",
+        13 => b"InputTooLarge",
         _ => b"",
     }
 }
