@@ -1,6 +1,5 @@
 -- What the code of a batch is answered fits, and the table keeps fitting.
-use Rattle.std.proofs.Common.{◌≡◌, ◌≤◌, refl, ap, subst, arith, ℕ, zero, suc, ◌-◌, List, [], length, Bool as Truth, true, false, nat_lt, All, Option, Some, None, Ok}
-use Rattle.std.proofs.lemmas.Bool.{ltb-true, ltb-false}
+use Rattle.std.proofs.Common.{◌≡◌, ◌≤◌, refl, ap, subst, arith, ℕ, zero, suc, ◌-◌, List, [], length, All, Option, Some, None, Ok}
 use Rattle.rb_trees.specs.declared.values.Value.{Value}
 use Rattle.rb_trees.specs.declared.values.Value.TheOpen.{Value-F}
 use Rattle.rb_trees.specs.declared.values.Value.TheVariants as value
@@ -39,14 +38,11 @@ remote_there _ h e = absurd h
 pub call_fault : (at : ℕ) (w : Value-F Value) (place : ℕ) (f : Fault) → IsRemoteValue w → IsCallFault at w place f → IsOwnFault f
 call_fault at w place f remote h = record {
   least = h.fault.least;
-  most = at_most (nat_lt 11 f.code) refl;
+  most = omega (arith, h.fault.most);
+  not_kind = λ e. remote_there w remote (h.kind e);
   text = h.fault.text;
   plain = h.fault.plain;
 }
-  where
-    at_most : (t : Truth) → nat_lt 11 f.code ≡ t → f.code ≤ 11
-    at_most true e = absurd (remote_there w remote (h.kind (omega (arith, h.fault.most, ltb-true 11 f.code e))))
-    at_most false e = ltb-false 11 f.code e
 
 -- what a reply gives is so, and the table that it leaves fits
 abbrev pub Fine : {A : Type 0} → Service → (A → Type 0) → Reply A → Type 0
