@@ -1,5 +1,5 @@
 -- The values of a batch's inputs, from the local state of its start: as many as its script takes, all primitive.
-use Rattle.std.proofs.Common.{◌≡◌, refl, sym, ap, ◌∙◌, subst, ℕ, zero, suc, List, [], ◌∷◌, length, slice_get, arith, Bool as Truth, true, false, not, ◌&&◌, cond, Option, Some, None}
+use Rattle.std.proofs.Common.{◌≡◌, refl, sym, ap, ◌∙◌, subst, ℕ, suc, List, [], ◌∷◌, length, Bool as Truth, true, false, not, ◌&&◌, cond, Option, Some, None}
 use Rattle.std.specs.Str.{bytes_eq}
 use Rattle.std.specs.List.{Contains}
 use Rattle.std.proofs.lemmas.Str.{is_utf8-from_IsUtf8}
@@ -8,7 +8,8 @@ use Rattle.rb_trees.specs.declared.values.Value.{Value}
 use Rattle.rb_trees.specs.declared.values.Value.TheOpen.{Value-F}
 use Rattle.rb_trees.specs.declared.values.Value.TheViews.{out-Value}
 use Rattle.rb_trees.specs.mirror.Declarations.{Program, Interface}
-use Rattle.rb_meaning_bytes.specs.formats.FormedScripts.{primitive_form, IsPrimitive, ArePrimitive, form_items, count_items, AreInputs}
+use Rattle.rb_meaning_bytes.specs.formats.FormedScripts.{primitive_form, IsPrimitive, ArePrimitive, AreInputs}
+use Rattle.rb_meaning_bytes.proofs.formats.Inputs.{primitive_inputs}
 use Rattle.rb_meaning_types.specs.Kinds as kind
 use Rattle.rb_meaning_types.specs.Kinds.{Kind, is_primitive}
 use Rattle.rb_meaning_types.specs.Names.{is_new}
@@ -124,30 +125,11 @@ values_count : (inputs : List (List ℕ)) (names : Names) → length (input_valu
 values_count [] names = refl
 values_count (x ∷ xs) names = ap suc (values_count xs names)
 
--- Each of primitive values is primitive, and none has items.
-primitive_at : (vs : List Value) → ArePrimitive vs → (number : ℕ) (v : Value) → slice_get vs number ≡ Some v → IsPrimitive v
-primitive_at [] h number v e = absurd (cc e)
-primitive_at (w ∷ vs) h zero v e = subst IsPrimitive (cc e) h.0
-primitive_at (w ∷ vs) h (suc number) v e = primitive_at vs h.1 number v e
-
-no_items : (v : Value-F Value) → primitive_form v → form_items v ≡ 0
-no_items (Value-F.List items) h = absurd h
-no_items Value-F.Unit h = absurd h
-no_items _ h = refl
-
-none_counted : (vs : List Value) → ArePrimitive vs → count_items vs ≡ 0
-none_counted [] h = refl
-none_counted (v ∷ vs) h = omega (arith, no_items (out-Value v) h.0, none_counted vs h.1)
-
 pub inputs_given : (p : Program) (b : Outermost) (place : Place) (l : Local) → Sure b.outer place.scope → FitsPlace (of_program p) place l → AreInputs (division p b).script (sent_for (division p b) l).values
 unfolding division
 inputs_given p b place l sure fits =
     let names = used_in (facts_of p) (scope_of b) b.block in
     let each : (y : List ℕ) → Contains (inputs_of p b) y → HasPrimitive l.names y =
     λ y c. framed_has p.interfaces (classes_of l.heap) (assigned_in b.block) b.root b.at y place.this b.outer place.scope l.names sure fits.holds.names_fit (block_constant (facts_of p) (scope_of b) b.block y (input_used [] names y c)) in
-    let primitive = all_primitive (inputs_of p b) l.names each in
-    record {
-      count = values_count (inputs_of p b) l.names;
-      each = primitive_at (input_values (inputs_of p b) l.names) primitive;
-      items = omega (arith, none_counted (input_values (inputs_of p b) l.names) primitive);
-    }
+    let values = input_values (inputs_of p b) l.names in
+    primitive_inputs (division p b).script values refl (values_count (inputs_of p b) l.names) (all_primitive (inputs_of p b) l.names each)

@@ -1,16 +1,17 @@
 -- The scripts of divided batches can be sent.
-use Rattle.std.proofs.Common.{◌≡◌, refl, subst, ap, ℕ, suc, ◌+◌, ◌*◌, ◌≤◌, ◌<◌, List, [], ◌∷◌, length, Bool, true, false, cond, arith, Some, Ok, Err, nat_lt, slice_get, length-append}
+use Rattle.std.proofs.Common.{◌≡◌, refl, subst, ap, ℕ, suc, ◌+◌, ◌*◌, ◌≤◌, ◌<◌, List, [], ◌∷◌, length, Bool, true, false, cond, arith, Ok, Err, nat_lt, length-append}
 use Rattle.std.proofs.lemmas.Bool.{ltb-false}
 use Rattle.rb_trees.specs.CodeSize.{block_size, capped, code_size_of}
-use Rattle.rb_trees.specs.Validity.{has, first}
+use Rattle.rb_trees.specs.Validity.{first}
 use Rattle.rb_trees.specs.declared.refusals.Refusal.TheVariants.{TooManyInputs, ScriptTooLarge}
 use Rattle.rb_trees.specs.declared.values.Value.{Value, out-Value}
 use Rattle.rb_trees.specs.declared.values.Value.TheOpen.{Value-F}
 use Rattle.rb_trees.specs.mirror.Declarations.{Program}
 use Rattle.rb_trees.specs.mirror.Scripts.{Script, Steps}
 use Rattle.rb_meaning_bytes.specs.formats.Fields.{number, wide_number}
-use Rattle.rb_meaning_bytes.specs.formats.FormedScripts.{primitive_form, input_form, ArePrimitive, HaveNoOver, IsWithoutLists, AreInputs}
+use Rattle.rb_meaning_bytes.specs.formats.FormedScripts.{primitive_form, ArePrimitive, HaveNoOver, IsWithoutLists, AreInputs}
 use Rattle.rb_meaning_bytes.specs.formats.ScriptBytes.{value_form, value_bytes, values_bytes, block_bytes, script_bytes}
+use Rattle.rb_meaning_bytes.proofs.formats.Inputs.{inputs_primitive, no_list_numbers}
 use Rattle.rb_meaning_flow.specs.Outermost.{Outermost}
 use Rattle.rb_meaning.specs.Answers.{longest_request}
 use Rattle.rb_meaning_split.specs.Division.{Division, numbered, first_refs, scope_of, inputs_of, division, most_inputs, longest_code, divided}
@@ -39,14 +40,6 @@ values_short : (vs : List Value) → ArePrimitive vs → length (values_bytes vs
 values_short [] h = omega arith
 values_short (v ∷ vs) h = omega (arith, length-append (value_bytes v) (values_bytes vs), value_short (out-Value v) h.0, values_short vs h.1)
 
--- the values of inputs that aren't lists are primitive
-all_primitive : (vs : List Value) → ((number : ℕ) (v : Value) → slice_get vs number ≡ Some v → primitive_form (out-Value v)) → ArePrimitive vs
-all_primitive [] h = tt
-all_primitive (v ∷ vs) h = (h 0 v refl, all_primitive vs (λ i w e. h (suc i) w e))
-
-are_primitive : (s : Script) → s.lists ≡ [] → (vs : List Value) → AreInputs s vs → ArePrimitive vs
-are_primitive s none vs h = all_primitive vs (λ i v e. subst (λ ns. input_form (has i ns) (out-Value v)) none (h.each i v e))
-
 -- the code of a script without Over has as many bytes as its size says
 abbrev pub CodeHasSize : Type 0
 CodeHasSize = (code : Steps) → HaveNoOver code → length (block_bytes code) ≡ block_size code
@@ -58,7 +51,7 @@ capped_low n h = omega arith
 request_short : CodeHasSize → (s : Script) → IsWithoutLists s → s.inputs < 256 → code_size_of s ≤ longest_code → (vs : List Value) → AreInputs s vs → length (script_bytes s vs) ≤ longest_request
 request_short law s plain i c vs h =
     let size = capped_low (block_size s.body) c in
-    omega (arith, length-append (values_bytes vs) (block_bytes s.body), law s.body plain.steps, values_short vs (are_primitive s plain.lists vs h), h.count, size, i)
+    omega (arith, length-append (values_bytes vs) (block_bytes s.body), law s.body plain.steps, values_short vs (inputs_primitive s vs plain.lists h), h.count, size, i)
 
 -- ---- what is divided
 
@@ -99,7 +92,7 @@ divided_sent law p b w i c =
     record {
       formed = record {
         inputs = i;
-        lists = (λ j k l h. absurd (omega (arith, h)), λ j h. absurd (omega (arith, h)));
+        lists = no_list_numbers (length names);
         count = omega (arith, count_within (division p b).script.body, size);
         body = stmts_formed p refs (tt, inputs_formed 0 names (omega (arith, i))) scope 0 0 b.block w.0 (omega (arith, size), omega (arith, size));
       };
