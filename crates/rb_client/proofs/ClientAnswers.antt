@@ -7,6 +7,7 @@ use Rattle.rb_trees.specs.declared.values.Value.{Value}
 use Rattle.rb_trees.specs.declared.values.Value.TheVariants as value
 use Rattle.rb_trees.specs.mirror.Declarations.{mirror_program}
 use Rattle.rb_trees.specs.mirror.Forests.{Node}
+use Rattle.rb_meaning_bytes.specs.formats.Messages.{Sent}
 use Rattle.rb_meaning_bytes.specs.formats.ScriptPayloads.{taken}
 use Rattle.rb_meaning_code.specs.Dialogue as ask
 use Rattle.rb_meaning_code.specs.Dialogue.{Question, Outcome, Gave, Faulted}
@@ -14,7 +15,7 @@ use Rattle.rb_meaning_code.specs.Faults.{kind, raised}
 use Rattle.rb_meaning_code.specs.State.{Local, Names}
 use Rattle.rb_meaning.specs.Shown.{line, shown_events}
 use Rattle.rb_meaning.specs.Unsplit.{batch_at}
-use Rattle.rb_meaning_split.specs.Client.{Sent, answers_waiting, performs_divided}
+use Rattle.rb_meaning_split.specs.Client.{answers_waiting, performs_divided}
 use Rattle.rb_meaning_split.specs.Division.{division, mirror_split}
 use Rattle.rb_base.specs.Devices.{failed}
 use Rattle.rb_base.specs.Sinks.{with_bytes, WrotePrefix}

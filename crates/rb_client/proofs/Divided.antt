@@ -131,7 +131,7 @@ all_sent_in p lawful places law [] (s ∷ ss) within h = absurd (cc h)
 all_sent_in p lawful places law (b ∷ bs) (s ∷ ss) within h =
     let parts = before (divided p b) (divided_all p bs) (mirror_split s) (map mirror_split ss) h in
     let can = law p lawful places b (within b (first_contained b bs)) (mirror_split s) parts.first in
-    (record { formed = can.formed; valid = can.valid }, all_sent_in p lawful places law bs ss (λ c is. within c (more_contained b bs c is)) parts.others)
+    (record { formed = can.formed; plain = can.plain; valid = can.valid }, all_sent_in p lawful places law bs ss (λ c is. within c (more_contained b bs c is)) parts.others)
 
 pub all_sent : (p : Program) → IsLawful p → HasPlaces p → DividedCanBeSent → (ss : List Split) → divisions p ≡ Ok (map mirror_split ss) → AllCanBeSent ss
 all_sent p lawful places law ss h = all_sent_in p lawful places law (program_batches (facts_of p) p) ss (λ b is. is) h

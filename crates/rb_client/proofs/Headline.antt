@@ -10,6 +10,7 @@ use Rattle.rb_trees.specs.mirror.Forests.{Node}
 use Rattle.rb_trees.specs.mirror.Remainders.{Parts}
 use Rattle.rb_trees.specs.mirror.Services.{Service}
 use Rattle.rb_meaning_bytes.specs.Fits.{fits}
+use Rattle.rb_meaning_bytes.specs.formats.Messages.{Sent}
 use Rattle.rb_meaning_types.specs.Lawful.{IsLawful}
 use Rattle.rb_meaning_types.specs.Programs.{check_program}
 use Rattle.rb_meaning_code.specs.Dialogue as ask
@@ -22,7 +23,7 @@ use Rattle.rb_meaning.specs.Shown.{exchanges, line, shown_events}
 use Rattle.rb_meaning.specs.State.{Event, Outside}
 use Rattle.rb_meaning.specs.Unsplit.{batch_at, performs_batch}
 use Rattle.rb_meaning_flow.specs.Outermost.{Outermost}
-use Rattle.rb_meaning_split.specs.Client.{Sent, client, sent_for}
+use Rattle.rb_meaning_split.specs.Client.{client, fits_batch, sent_for}
 use Rattle.rb_meaning_split.specs.Division.{Division, division, divisions}
 use Rattle.rb_law_division.specs.Fitting.{node_of}
 use Rattle.rb_law_division.specs.Sendable.{HasPlaces}
@@ -74,8 +75,8 @@ may_have service table x (Some m) None is h = absurd h
 may_have service table x None after is h = absurd is
 
 -- a node that doesn't fit is given on the server's own table
-misfit_here : (service : Service) (table : List Object) (x : Sent) (remainder : Parts) (told : Option Behind) → IsServer told service table → GivesMisfit told x remainder → fits (sent_run service table x).node remainder ≡ Ok tt → ⊥
-misfit_here service table x remainder (Some m) is misfit e = misfit (ap (λ s. fits (sent_run s m.table x).node remainder) is.0 ∙ ap (λ t. fits (sent_run service t x).node remainder) is.1 ∙ e)
+misfit_here : (service : Service) (table : List Object) (x : Sent) (remainder : Parts) (told : Option Behind) → IsServer told service table → GivesMisfit told x remainder → fits (sent_run service table x).node remainder [] ≡ Ok tt → ⊥
+misfit_here service table x remainder (Some m) is misfit e = misfit (ap (λ s. fits (sent_run s m.table x).node remainder []) is.0 ∙ ap (λ t. fits (sent_run service t x).node remainder []) is.1 ∙ e)
 misfit_here service table x remainder None is misfit e = is
 
 same_some : {A : Type 0} (o : Option A) (a b : A) → o ≡ Some a → o ≡ Some b → a ≡ b
@@ -233,10 +234,10 @@ module _ (laws : Laws) (p : Program) (lawful : IsLawful p) (checked : check_prog
       let x = exchanged e.at e.local e.go c.outside c.comes in
       let same = same_some (batch_at p e.at) x.batch e.batch x.stands e.stands in
       let d = division p e.batch in
-      let fitted : fits (node_of p e.batch b.service c.outside.server.table e.local) d.remainder ≡ Ok tt =
-      subst (λ y. fits (node_of p y b.service c.outside.server.table e.local) (division p y).remainder ≡ Ok tt) same x.fits_so in
+      let fitted : fits (node_of p e.batch b.service c.outside.server.table e.local) d.remainder [] ≡ Ok tt =
+      subst (λ y. fits_batch (division p y) e.local (node_of p y b.service c.outside.server.table e.local) ≡ Ok tt) same x.fits_so in
       misfit_here b.service t.table (sent_for d e.local) d.remainder e.stops_so.server t.is (e.stops_so.lost.1 honest)
-      (subst (λ u. fits (node_of p e.batch b.service u e.local) d.remainder ≡ Ok tt) c.table fitted)
+      (subst (λ u. fits (node_of p e.batch b.service u e.local) d.remainder [] ≡ Ok tt) c.table fitted)
 
   ends_as_meant : (r : Result runs.Run RunStop) → Leaves p fuel r before after → EndsAsMeant p fuel b r before after
   ends_as_meant (Ok run) e = means_program run (ran_so p fuel before after run e)

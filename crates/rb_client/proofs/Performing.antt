@@ -8,9 +8,9 @@ use Rattle.rb_trees.specs.mirror.Declarations.{Program, mirror_class, mirror_pro
 use Rattle.rb_trees.specs.mirror.Forests.{Node}
 use Rattle.rb_trees.specs.mirror.Remainders.{mirror_parts}
 use Rattle.rb_meaning_bytes.specs.Fits.{fits}
-use Rattle.rb_meaning_bytes.specs.formats.Formats.{Spells}
+use Rattle.rb_meaning_bytes.specs.formats.Messages.{Sent}
+use Rattle.rb_meaning_bytes.specs.formats.Payloads.{IsRequestOf}
 use Rattle.rb_meaning_bytes.specs.formats.ScriptPayloads.{Means}
-use Rattle.rb_meaning_bytes.specs.formats.Scripts.{script_message}
 use Rattle.rb_meaning_code.specs.Dialogue.{Outcome, Gave, Faulted}
 use Rattle.rb_meaning_code.specs.State.{Local, Names}
 use Rattle.rb_meaning.specs.Answers.{forest_kind}
@@ -20,7 +20,7 @@ use Rattle.rb_meaning.specs.State as state
 use Rattle.rb_meaning.specs.State.{Event}
 use Rattle.rb_meaning.specs.Unsplit.{batch_at}
 use Rattle.rb_meaning_flow.specs.Outermost.{Outermost}
-use Rattle.rb_meaning_split.specs.Client.{Sent, input_values, replays, sent_for}
+use Rattle.rb_meaning_split.specs.Client.{input_values, replays, sent_for}
 use Rattle.rb_meaning_split.specs.Division.{Division, division, mirror_split}
 use Rattle.rb_meaning_split.specs.Replay.{Replayed, ended, replay_all}
 use Rattle.rb_base.specs.Counts.{risen}
@@ -85,7 +85,7 @@ sent_so split d l is = ap (λ x. (x.script, input_values x.inputs l.names)) is
 -- The exchange of a batch and the reading of its reply: all else stands, but for the count of exchanges.
 pub record Tried {L W : Type 0} (gl : links.Ghosts L) (split : Split) (names : Names) (w : ClientWorld L W) (result : Result Node RunStop) (w' : ClientWorld L W) : Type 0 where
   pub request : List ℕ
-  pub request_so : Spells script_message request (to_send split names)
+  pub request_so : IsRequestOf request (to_send split names).script (to_send split names).values
   pub means : Means request (Ok (to_send split names))
   pub trades : Trades gl (mirror_split split).remainder w.exchanges request w.link.now result w'.link.now
   pub same_link : w'.link.ghost_name ≡ w.link.ghost_name
@@ -182,10 +182,10 @@ module _ {L W : Type 0} (gl : links.Ghosts L) (gw : sinks.Ghosts W) (split : Spl
       batch = b;
       stands = stands;
       script_so = refl;
-      request = subst (Spells script_message fetched.request) (sent_so split d l is) fetched.request_so;
+      request = subst (λ x. IsRequestOf fetched.request x.script x.values) (sent_so split d l is) fetched.request_so;
       kind = refl;
       reply = fetched.trades.forest.spells;
-      fits_so = subst (λ x. fits n x.remainder ≡ Ok tt) is fetched.trades.forest.fits_so;
+      fits_so = subst (λ x. fits n x.remainder [] ≡ Ok tt) is fetched.trades.forest.fits_so;
     }
 
     exchanged_so : ExchangedAll o.program first last past.sent past.nodes
@@ -319,7 +319,7 @@ stops_so {L = L} {W = W} gl gw split at w w1 l stop x same h = subst (λ y. Answ
           record {
             pairs = sees.done.exchanged.exchanged.pairs;
             request = f.request;
-            request_so = subst (Spells script_message f.request) (sent_so split (division o.program b) l is) f.request_so;
+            request_so = subst (λ x. IsRequestOf f.request x.script x.values) (sent_so split (division o.program b) l is) f.request_so;
             pairs_so = f.trades.1.pairs_so ∙ ap (more_pairs (refused_pairs why (pair_of f.request kind bytes))) sees.done.exchanged.exchanged.pairs_so;
             exchanges = sees.done.exchanged.exchanged.exchanges;
           },

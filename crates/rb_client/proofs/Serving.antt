@@ -5,8 +5,8 @@ use Rattle.std.specs.List.{list_any}
 use Rattle.rb_trees.specs.declared.services.Object.{Object}
 use Rattle.rb_trees.specs.mirror.Forests.{Node}
 use Rattle.rb_trees.specs.mirror.Services.{Service}
+use Rattle.rb_meaning_bytes.specs.formats.Messages.{Sent}
 use Rattle.rb_meaning.specs.Links.{Behind, TellsTyped}
-use Rattle.rb_meaning_split.specs.Client.{Sent}
 use Rattle.rb_law_client.specs.Clients.{ScriptsGive, sent_run}
 use Rattle.rb_base.specs.Counts.{risen}
 use Rattle.rb_base.specs.Links.{IsLater, fails_next}

@@ -10,11 +10,11 @@ use Rattle.rb_meaning_bytes.specs.Fits.{Unfit, At, Extra, fits}
 use Rattle.rb_meaning_bytes.specs.formats.Fields.{IsBytes}
 use Rattle.rb_meaning_bytes.specs.formats.Formats.{Format, FirstViolation, Spells}
 use Rattle.rb_meaning_bytes.specs.formats.Forests.{forest_message}
+use Rattle.rb_meaning_bytes.specs.formats.Messages.{Sent, Refused}
+use Rattle.rb_meaning_bytes.specs.formats.Payloads.{IsForestOf}
 use Rattle.rb_meaning_bytes.specs.formats.ScriptPayloads as script
-use Rattle.rb_meaning_bytes.specs.formats.ScriptPayloads.{Refused}
 use Rattle.rb_meaning.specs.Answers.{Answers, forest_kind, performs, refusal_kind, refuses}
 use Rattle.rb_meaning.specs.Links.{Behind, Pair}
-use Rattle.rb_meaning_split.specs.Client.{Sent}
 use Rattle.rb_law_client.specs.Clients.{sent_run}
 use Rattle.rb_base.specs.Links.{IsListedWhereTold, IsReplyKind, KeepsCause, ServesAsTold, faults_after, pairs_after}
 use Rattle.rb_base.specs.declared.links.Link as links
@@ -57,7 +57,7 @@ Only payload read = (meant : Result Node Violation) → Means forest_message pay
 alone : (payload : List ℕ) (n : Node) → Only payload (Ok n) → IsAlone payload n
 alone payload n only other s = cc (only (Ok other) (spelled other s))
 
-pub forest_so : (remainder : Parts) (payload : List ℕ) (n : Node) → Means forest_message payload (Ok n) → Only payload (Ok n) → fits n remainder ≡ Ok tt → IsForest remainder forest_kind payload n × IsAlone payload n
+pub forest_so : (remainder : Parts) (payload : List ℕ) (n : Node) → Means forest_message payload (Ok n) → Only payload (Ok n) → fits n remainder [] ≡ Ok tt → IsForest remainder forest_kind payload n × IsAlone payload n
 forest_so remainder payload n means only e = (record { kind_so = refl; spells = spelled_of forest_message payload n (Ok n) refl means; fits_so = e }, alone payload n only)
 
 pub no_node : (remainder : Parts) (payload : List ℕ) (v : Violation) → Only payload (Err v) → GivesNoNode remainder forest_kind payload
@@ -67,13 +67,13 @@ unfit_so : (misfit : Misfit) (r : Result (Unit {0}) Unfit) → Refuses (unfit mi
 unfit_so (amiss.At step) r e = (At step, e, refl)
 unfit_so amiss.Extra r e = (Extra, e, refl)
 
-pub misfit_so : (remainder : Parts) (payload : List ℕ) (n : Node) (misfit : Misfit) → Means forest_message payload (Ok n) → Only payload (Ok n) → Refuses (unfit misfit) (fits n remainder)
+pub misfit_so : (remainder : Parts) (payload : List ℕ) (n : Node) (misfit : Misfit) → Means forest_message payload (Ok n) → Only payload (Ok n) → Refuses (unfit misfit) (fits n remainder [])
     → IsMisfit remainder forest_kind payload (unfit misfit) × GivesNoNode remainder forest_kind payload
 misfit_so remainder payload n misfit means only e =
-    let u = unfit_so misfit (fits n remainder) e in (
+    let u = unfit_so misfit (fits n remainder []) e in (
       record { node = n; why = u.0; kind_so = refl; spells = spelled_of forest_message payload n (Ok n) refl means; misfits = u.1; cause_so = u.2 },
       λ other f.
-          let fitted : fits n remainder ≡ Ok tt = ap (λ m. fits m remainder) (sym (alone payload n only other f.spells)) ∙ f.fits_so in
+          let fitted : fits n remainder [] ≡ Ok tt = ap (λ m. fits m remainder []) (sym (alone payload n only other f.spells)) ∙ f.fits_so in
           absurd (cc (fitted, u.1)),
     )
 
@@ -106,7 +106,7 @@ MeansOne = (payload : List ℕ) (meant other : Result Sent Refused) → IsBytes 
 -- its node's forest, and the table that it leaves
 record Gave (service : Service) (table : List Object) (x : Sent) (kind : ℕ) (reply : List ℕ) (after : List Object) : Type 0 where
   kind_is : kind ≡ forest_kind
-  spells : Spells forest_message reply (sent_run service table x).node
+  spells : IsForestOf reply (sent_run service table x).node
   leaves : after ≡ (sent_run service table x).server.table
 
 gave : MeansOne → (service : Service) (table : List Object) (request : List ℕ) (kind : ℕ) (reply : List ℕ) (after : List Object) → IsBytes request
@@ -115,7 +115,7 @@ gave once service table request _ _ _ bytes (performs y reply m s) x means =
     let same : y ≡ x = cc (once request (Ok y) (Ok x) bytes m means) in
     record {
       kind_is = refl;
-      spells = subst (λ z. Spells forest_message reply (sent_run service table z).node) same s;
+      spells = subst (λ z. IsForestOf reply (sent_run service table z).node) same s;
       leaves = ap (λ z. (sent_run service table z).server.table) same;
     }
 gave once service table request _ _ _ bytes (refuses wrong reply m s) x means = let same = once request (Err wrong) (Ok x) bytes m means in absurd (cc (same))

@@ -7,21 +7,20 @@ use Rattle.rb_trees.specs.mirror.Declarations.{Program, mirror_program}
 use Rattle.rb_trees.specs.mirror.Forests.{Node}
 use Rattle.rb_trees.specs.mirror.Scripts.{Script, mirror_script}
 use Rattle.rb_meaning_bytes.specs.Fits.{fits}
-use Rattle.rb_meaning_bytes.specs.formats.FormedScripts.{FormedScript}
-use Rattle.rb_meaning_bytes.specs.formats.Formats.{Spells}
-use Rattle.rb_meaning_bytes.specs.formats.Forests.{forest_message}
-use Rattle.rb_meaning_bytes.specs.formats.Scripts.{script_message}
+use Rattle.rb_meaning_bytes.specs.formats.FormedScripts.{FormedScript, IsWithoutLists}
+use Rattle.rb_meaning_bytes.specs.formats.Messages.{Sent}
+use Rattle.rb_meaning_bytes.specs.formats.Payloads.{IsForestOf, IsRequestOf}
 use Rattle.rb_meaning.specs.Answers.{forest_kind}
 use Rattle.rb_meaning.specs.Links.{Pair}
 use Rattle.rb_meaning.specs.Unsplit.{batch_at}
 use Rattle.rb_meaning_flow.specs.Outermost.{Outermost}
-use Rattle.rb_meaning_split.specs.Client.{Sent}
 use Rattle.rb_meaning_split.specs.Division.{division, divisions, mirror_split}
 use Rattle.rb_client.specs.Replies.{more_pairs}
 
--- A script that can be sent, with values for its inputs: it is formed and valid.
+-- A script that can be sent, with values for its inputs: it is formed and valid, and version 1 can spell it.
 pub record CanBeSent (s : Script) : Type 0 where
   pub formed : FormedScript s
+  pub plain : IsWithoutLists s
   pub valid : verdict s ≡ Ok tt
 
 -- each script of divisions can be sent
@@ -35,11 +34,11 @@ pub record IsExchange (p : Program) (pair : Pair) (x : Sent) (n : Node) : Type 0
   pub at : ℕ
   pub batch : Outermost
   pub stands : batch_at p at ≡ Some batch
-  pub script_so : x.0 ≡ (division p batch).script
-  pub request : Spells script_message pair.request x
+  pub script_so : x.script ≡ (division p batch).script
+  pub request : IsRequestOf pair.request x.script x.values
   pub kind : pair.kind ≡ forest_kind
-  pub reply : Spells forest_message pair.reply n
-  pub fits_so : fits n (division p batch).remainder ≡ Ok tt
+  pub reply : IsForestOf pair.reply n
+  pub fits_so : fits n (division p batch).remainder [] ≡ Ok tt
 
 -- as many pairs as were sent, and as many nodes, each an exchange, in order
 abbrev pub Exchanges : Program → List Pair → List Sent → List Node → Type 0

@@ -3,14 +3,14 @@ use Rattle.std.specs.Prelude.{◌≡◌, ℕ, List, [], ◌∷◌, ◌++◌, len
 use Rattle.rb_trees.specs.mirror.Forests.{Node}
 use Rattle.rb_trees.specs.mirror.Remainders.{Parts}
 use Rattle.rb_meaning_bytes.specs.Fits.{Unfit, fits}
-use Rattle.rb_meaning_bytes.specs.formats.Formats.{Spells, FirstViolation}
+use Rattle.rb_meaning_bytes.specs.formats.Formats.{FirstViolation}
 use Rattle.rb_meaning_bytes.specs.formats.Forests.{forest_message}
-use Rattle.rb_meaning_bytes.specs.formats.Refusals.{refusal_message}
+use Rattle.rb_meaning_bytes.specs.formats.Messages.{Sent}
+use Rattle.rb_meaning_bytes.specs.formats.Payloads.{IsForestOf, IsRefusalOf}
 use Rattle.rb_meaning_bytes.specs.formats.ScriptPayloads.{Means}
 use Rattle.rb_meaning.specs.Answers.{forest_kind, refusal_kind}
 use Rattle.rb_meaning.specs.Links.{Pair, pairs_told}
 use Rattle.rb_meaning.specs.Replies.{BreaksAt, IsCut}
-use Rattle.rb_meaning_split.specs.Client.{Sent}
 use Rattle.rb_base.specs.Counts.{risen}
 use Rattle.rb_base.specs.Links.{IsReplyKind}
 use Rattle.rb_base.specs.declared.links.Link as links
@@ -24,19 +24,19 @@ use Rattle.rb_client.specs.declared.stops.BadReason.TheVariants as reason
 use Rattle.rb_client.specs.declared.stops.RunStop.{RunStop}
 use Rattle.rb_client.specs.declared.stops.RunStop.TheVariants as stops
 
--- A payload is the forest of a node that fits a remainder.
+-- A payload is the forest of a node that fits a remainder; no input of its script is a list.
 pub record IsForest (remainder : Parts) (kind : ℕ) (payload : List ℕ) (n : Node) : Type 0 where
   pub kind_so : kind ≡ forest_kind
-  pub spells : Spells forest_message payload n
-  pub fits_so : fits n remainder ≡ Ok tt
+  pub spells : IsForestOf payload n
+  pub fits_so : fits n remainder [] ≡ Ok tt
 
 -- A payload is the forest of a node that doesn't fit a remainder, for this cause.
 pub record IsMisfit (remainder : Parts) (kind : ℕ) (payload : List ℕ) (cause : Option Unfit) : Type 0 where
   pub node : Node
   pub why : Unfit
   pub kind_so : kind ≡ forest_kind
-  pub spells : Spells forest_message payload node
-  pub misfits : fits node remainder ≡ Err why
+  pub spells : IsForestOf payload node
+  pub misfits : fits node remainder [] ≡ Err why
   pub cause_so : cause ≡ Some why
 
 -- A reply has this reason to be refused: by its kind and its payload, or by the bytes that were taken.
@@ -45,12 +45,12 @@ HasReason (reason.Cut got) remainder kind bytes = (kind ≡ 0) × (got ≡ lengt
 HasReason (reason.Frame at) remainder kind bytes = (kind ≡ 0) × BreaksAt at bytes
 HasReason (reason.Forest number at) remainder kind bytes = (kind ≡ forest_kind) × FirstViolation forest_message bytes number at
 HasReason (reason.Misfit misfit) remainder kind bytes = IsMisfit remainder kind bytes (unfit misfit)
-HasReason (reason.Refused number at) remainder kind bytes = (kind ≡ refusal_kind) × Spells refusal_message bytes (number, at)
-HasReason reason.Garbled remainder kind bytes = (kind ≡ refusal_kind) × ((x : ℕ × ℕ) → Spells refusal_message bytes x → ⊥)
+HasReason (reason.Refused number at) remainder kind bytes = (kind ≡ refusal_kind) × IsRefusalOf bytes number at
+HasReason reason.Garbled remainder kind bytes = (kind ≡ refusal_kind) × ((number at : ℕ) → IsRefusalOf bytes number at → ⊥)
 
 -- No other node has this forest.
 abbrev pub IsAlone : List ℕ → Node → Type 0
-IsAlone payload n = (other : Node) → Spells forest_message payload other → other ≡ n
+IsAlone payload n = (other : Node) → IsForestOf payload other → other ≡ n
 
 -- A reply is no forest of a node that fits a remainder.
 abbrev pub GivesNoNode : Parts → ℕ → List ℕ → Type 0

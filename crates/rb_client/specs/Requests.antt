@@ -2,17 +2,17 @@
 use Rattle.std.specs.Prelude.{◌≤◌, ℕ, List, length}
 use Rattle.rb_meaning_split.specs.Division.{mirror_split}
 use Rattle.rb_trees.specs.declared.remainders.Split.{Split}
-use Rattle.rb_meaning_bytes.specs.formats.Formats.{Spells}
-use Rattle.rb_meaning_bytes.specs.formats.Scripts.{script_message}
+use Rattle.rb_meaning_bytes.specs.formats.Messages.{Sent}
+use Rattle.rb_meaning_bytes.specs.formats.Payloads.{IsRequestOf}
 use Rattle.rb_meaning_code.specs.State.{Names}
 use Rattle.rb_meaning.specs.Answers.{longest_request}
-use Rattle.rb_meaning_split.specs.Client.{Sent, input_values}
+use Rattle.rb_meaning_split.specs.Client.{input_values}
 
 -- a batch's script and the values of its inputs, as they are sent
 abbrev pub to_send : Split → Names → Sent
-to_send split names = ((mirror_split split).script, input_values split.inputs names)
+to_send split names = record { script = (mirror_split split).script; values = input_values split.inputs names }
 
--- The bytes spell that, and are short enough.
+-- The bytes are the request of that, and short enough.
 pub record IsRequest (split : Split) (names : Names) (bytes : List ℕ) : Type 0 where
-  pub spells : Spells script_message bytes (to_send split names)
+  pub spells : IsRequestOf bytes (mirror_split split).script (input_values split.inputs names)
   pub short : length bytes ≤ longest_request

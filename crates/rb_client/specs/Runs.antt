@@ -7,8 +7,8 @@ use Rattle.rb_trees.specs.declared.remainders.Split.{Split}
 use Rattle.rb_trees.specs.declared.values.Value.{Value}
 use Rattle.rb_trees.specs.mirror.Declarations.{Program, mirror_program}
 use Rattle.rb_trees.specs.mirror.Forests.{Node}
-use Rattle.rb_meaning_bytes.specs.formats.Formats.{Spells}
-use Rattle.rb_meaning_bytes.specs.formats.Scripts.{script_message}
+use Rattle.rb_meaning_bytes.specs.formats.Messages.{Sent}
+use Rattle.rb_meaning_bytes.specs.formats.Payloads.{IsRequestOf}
 use Rattle.rb_meaning_code.specs.Dialogue as ask
 use Rattle.rb_meaning_code.specs.Dialogue.{Outcome, Dialogue, Ask, AskBatch}
 use Rattle.rb_meaning_code.specs.State.{Local}
@@ -18,7 +18,7 @@ use Rattle.rb_meaning.specs.State as state
 use Rattle.rb_meaning.specs.State.{Event}
 use Rattle.rb_meaning.specs.Unsplit.{batch_at}
 use Rattle.rb_meaning_flow.specs.Outermost.{Outermost}
-use Rattle.rb_meaning_split.specs.Client.{Sent, Waiting, client, replays, sent_for}
+use Rattle.rb_meaning_split.specs.Client.{Waiting, client, replays, sent_for}
 use Rattle.rb_meaning_split.specs.Division.{Division, division, divisions, mirror_split}
 use Rattle.rb_law_division.specs.Sendable.{HasPlaces}
 use Rattle.rb_flow.specs.Program.{HasNoRefusal}
@@ -117,7 +117,7 @@ CutInWriting p fuel before after = CutAtLine p fuel before after ⊎ CutInBatch 
 pub record ExchangedBut (p : Program) (before after : Option (List Pair)) (sent : List Sent) (nodes : List Node) (asked : Sent) (why : BadReason) (kind : ℕ) (bytes : List ℕ) : Type 0 where
   pub pairs : List Pair
   pub request : List ℕ
-  pub request_so : Spells script_message request asked
+  pub request_so : IsRequestOf request asked.script asked.values
   pub pairs_so : after ≡ more_pairs (refused_pairs why (pair_of request kind bytes)) (more_pairs pairs before)
   pub exchanges : Exchanges p pairs sent nodes
 

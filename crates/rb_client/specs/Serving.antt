@@ -2,11 +2,10 @@
 use Rattle.std.specs.Prelude.{◌≡◌, ◌⊎◌, ◌<◌, ℕ, List, Bool, false, Option, None, Some, Ok}
 use Rattle.rb_trees.specs.mirror.Remainders.{Parts}
 use Rattle.rb_meaning_bytes.specs.Fits.{fits}
-use Rattle.rb_meaning_bytes.specs.formats.Formats.{Spells}
-use Rattle.rb_meaning_bytes.specs.formats.Forests.{forest_message}
+use Rattle.rb_meaning_bytes.specs.formats.Messages.{Sent}
+use Rattle.rb_meaning_bytes.specs.formats.Payloads.{IsForestOf}
 use Rattle.rb_meaning.specs.Answers.{forest_kind}
 use Rattle.rb_meaning.specs.Links.{Behind, server_told}
-use Rattle.rb_meaning_split.specs.Client.{Sent}
 use Rattle.rb_law_client.specs.Clients.{sent_run}
 use Rattle.rb_base.specs.Links.{IsLater, fails_next}
 use Rattle.rb_base.specs.declared.links.Link as links
@@ -42,10 +41,10 @@ MayPerform _ _ x = ⊥
 -- The server performed a script that was sent with its values, and replied with the forest of its node.
 abbrev pub GivesReply : Option Behind → Option Behind → Sent → ℕ → List ℕ → Type 0
 GivesReply (Some before) (Some after) x kind payload =
-    (after.service ≡ before.service) × (after.table ≡ (sent_run before.service before.table x).server.table) × (kind ≡ forest_kind) × Spells forest_message payload (sent_run before.service before.table x).node
+    (after.service ≡ before.service) × (after.table ≡ (sent_run before.service before.table x).server.table) × (kind ≡ forest_kind) × IsForestOf payload (sent_run before.service before.table x).node
 GivesReply _ _ x kind payload = ⊥
 
 -- The node that a script gives on the server, with the values that were sent, doesn't fit a remainder.
 abbrev pub GivesMisfit : Option Behind → Sent → Parts → Type 0
-GivesMisfit (Some before) x remainder = fits (sent_run before.service before.table x).node remainder ≡ Ok tt → ⊥
+GivesMisfit (Some before) x remainder = fits (sent_run before.service before.table x).node remainder [] ≡ Ok tt → ⊥
 GivesMisfit None x remainder = ⊥

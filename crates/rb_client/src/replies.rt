@@ -22,7 +22,7 @@ fn read_forest<'p>(payload: &'p [u8], remainder: &Seq<Part>) -> Result<Forest<'p
     ensures { Reads (mirror_parts remainder.now) forest_kind payload.now result }
 {
     match scan_forest(payload) {
-        Ok(forest) => match forest.fits(remainder) {
+        Ok(forest) => match forest.fits(remainder, &[]) {
             Ok(()) => Ok(forest),
             Err(misfit) => Err(BadReason::Misfit(misfit)),
         },

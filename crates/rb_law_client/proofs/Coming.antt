@@ -5,6 +5,7 @@ use Rattle.rb_trees.specs.declared.services.Object.{Object}
 use Rattle.rb_trees.specs.mirror.Declarations.{Program}
 use Rattle.rb_trees.specs.mirror.Services.{Service}
 use Rattle.rb_trees.specs.mirror.Forests.{Node}
+use Rattle.rb_meaning_bytes.specs.formats.Messages.{Sent}
 use Rattle.rb_meaning_types.specs.Declared.{Declarations, of_program}
 use Rattle.rb_meaning_types.specs.Lawful.{IsLawful}
 use Rattle.rb_meaning_types.specs.Programs.{check_program}
@@ -19,7 +20,7 @@ use Rattle.rb_meaning.specs.Unsplit.{batch_at}
 use Rattle.rb_meaning.specs.Links.{IsTyped}
 use Rattle.rb_meaning.specs.Meaning.{in_main, outside_of}
 use Rattle.rb_meaning_split.specs.Division.{division}
-use Rattle.rb_meaning_split.specs.Client.{Sent, Waiting, answers_waiting, sent_for, begins, performs_divided, in_client}
+use Rattle.rb_meaning_split.specs.Client.{Waiting, answers_waiting, sent_for, begins, performs_divided, in_client}
 use Rattle.rb_flow.specs.Program.{HasNoRefusal}
 use Rattle.rb_law_types.specs.Asked.{Side, Own, Site, Keeps, IsAskedBatch}
 use Rattle.rb_law_types.specs.Around.{HandlerFits}

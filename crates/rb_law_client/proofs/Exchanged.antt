@@ -76,7 +76,7 @@ exchanged below nodes sendable p lawful checked none places ds divides service t
       batch = b;
       stands = found;
       inputs = inputs;
-      request = sent.request (sent_for (division p b) l).1 inputs;
+      request = sent.request (sent_for (division p b) l).values inputs;
       fits_so = nodes p lawful checked none service s.server.table served_now at l site asked b found;
       keeps = dividing_keeps below p lawful checked none service s served_now at l site asked b found;
     }

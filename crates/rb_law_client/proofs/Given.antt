@@ -9,6 +9,7 @@ use Rattle.rb_trees.specs.declared.values.Value.TheOpen.{Value-F}
 use Rattle.rb_trees.specs.declared.values.Value.TheViews.{out-Value}
 use Rattle.rb_trees.specs.mirror.Declarations.{Program, Interface}
 use Rattle.rb_meaning_bytes.specs.formats.FormedScripts.{primitive_form, IsPrimitive, ArePrimitive, AreInputs}
+use Rattle.rb_meaning_bytes.proofs.formats.Inputs.{primitive_inputs}
 use Rattle.rb_meaning_types.specs.Kinds as kind
 use Rattle.rb_meaning_types.specs.Kinds.{Kind, is_primitive}
 use Rattle.rb_meaning_types.specs.Names.{is_new}
@@ -124,10 +125,11 @@ values_count : (inputs : List (List ℕ)) (names : Names) → length (input_valu
 values_count [] names = refl
 values_count (x ∷ xs) names = ap suc (values_count xs names)
 
-pub inputs_given : (p : Program) (b : Outermost) (place : Place) (l : Local) → Sure b.outer place.scope → FitsPlace (of_program p) place l → AreInputs (division p b).script (sent_for (division p b) l).1
+pub inputs_given : (p : Program) (b : Outermost) (place : Place) (l : Local) → Sure b.outer place.scope → FitsPlace (of_program p) place l → AreInputs (division p b).script (sent_for (division p b) l).values
 unfolding division
 inputs_given p b place l sure fits =
     let names = used_in (facts_of p) (scope_of b) b.block in
     let each : (y : List ℕ) → Contains (inputs_of p b) y → HasPrimitive l.names y =
     λ y c. framed_has p.interfaces (classes_of l.heap) (assigned_in b.block) b.root b.at y place.this b.outer place.scope l.names sure fits.holds.names_fit (block_constant (facts_of p) (scope_of b) b.block y (input_used [] names y c)) in
-    record { count = values_count (inputs_of p b) l.names; primitive = all_primitive (inputs_of p b) l.names each }
+    let values = input_values (inputs_of p b) l.names in
+    primitive_inputs (division p b).script values refl (values_count (inputs_of p b) l.names) (all_primitive (inputs_of p b) l.names each)

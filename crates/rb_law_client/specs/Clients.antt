@@ -4,17 +4,18 @@ use Rattle.rb_trees.specs.declared.services.Object.{Object}
 use Rattle.rb_trees.specs.mirror.Declarations.{Program}
 use Rattle.rb_trees.specs.mirror.Services.{Service}
 use Rattle.rb_trees.specs.mirror.Forests.{Node}
+use Rattle.rb_meaning_bytes.specs.formats.Messages.{Sent}
 use Rattle.rb_meaning_types.specs.Lawful.{IsLawful}
 use Rattle.rb_meaning_types.specs.Programs.{check_program}
 use Rattle.rb_meaning_code.specs.ScriptRun.{Ran, run_script}
 use Rattle.rb_meaning.specs.Links.{IsTyped}
 use Rattle.rb_meaning.specs.Meaning.{meaning}
-use Rattle.rb_meaning_split.specs.Client.{Sent, client}
+use Rattle.rb_meaning_split.specs.Client.{client}
 use Rattle.rb_flow.specs.Program.{HasNoRefusal}
 
 -- the run of a script that is sent, with its values, on a service and a table
 abbrev pub sent_run : Service → List Object → Sent → Ran
-sent_run service table q = run_script q.0 q.1 service.classes service.root table
+sent_run service table q = run_script q.script q.values service.classes service.root table
 
 -- These scripts, sent in order to a service, give these nodes, each on the table that the one before left; and then there is
 -- this table.

@@ -6,7 +6,6 @@ use Rattle.rb_trees.specs.declared.services.Object.{Object}
 use Rattle.rb_trees.specs.mirror.Declarations.{Program}
 use Rattle.rb_trees.specs.mirror.Services.{Service}
 use Rattle.rb_trees.specs.mirror.Forests.{Node}
-use Rattle.rb_meaning_bytes.specs.Fits.{fits}
 use Rattle.rb_meaning_bytes.specs.formats.FormedScripts.{AreInputs}
 use Rattle.rb_meaning_bytes.specs.formats.ScriptBytes.{script_bytes}
 use Rattle.rb_meaning_types.specs.Lawful.{IsLawful}
@@ -20,7 +19,7 @@ use Rattle.rb_meaning.specs.Links.{IsTyped}
 use Rattle.rb_meaning.specs.Meaning.{at_start, in_main, meaning, outside_of, runs_main}
 use Rattle.rb_meaning.specs.State.{Event, Outside}
 use Rattle.rb_meaning.specs.Unsplit.{batch_at}
-use Rattle.rb_meaning_split.specs.Client.{Waiting, in_client, sent_for}
+use Rattle.rb_meaning_split.specs.Client.{Waiting, fits_batch, in_client, sent_for}
 use Rattle.rb_meaning_split.specs.Division.{Division, division, divisions}
 use Rattle.rb_law_division.specs.Fitting.{node_of}
 use Rattle.rb_law_division.specs.Sendable.{HasPlaces}
@@ -76,9 +75,9 @@ FrontsAreShown = (p : Program) (service : Service) (table : List Object) (fuel :
 pub record CanBeExchanged (p : Program) (service : Service) (at : ℕ) (l : Local) (s : Outside) : Type 0 where
   pub batch : Outermost
   pub stands : batch_at p at ≡ Some batch
-  pub inputs : AreInputs (division p batch).script (sent_for (division p batch) l).1
-  pub request : length (script_bytes (division p batch).script (sent_for (division p batch) l).1) ≤ longest_request
-  pub fits_so : fits (node_of p batch service s.server.table l) (division p batch).remainder ≡ Ok tt
+  pub inputs : AreInputs (division p batch).script (sent_for (division p batch) l).values
+  pub request : length (script_bytes (division p batch).script (sent_for (division p batch) l).values) ≤ longest_request
+  pub fits_so : fits_batch (division p batch) l (node_of p batch service s.server.table l) ≡ Ok tt
   pub keeps : KeepsMeaning p service batch l s
 
 -- So it is with each batch that an accepted program reaches on a typed service.

@@ -97,7 +97,7 @@ module _ (laws : Laws) (conditions : ConditionsHold) (p : Program) (service : Se
 
   -- the parts read the node of a run
   abbrev pub Reads : ℕ → Parts → Ran → Type 0
-  Reads n ps r = Walks Good n (λ w. parts_read ps w) r
+  Reads n ps r = Walks Good n (λ w. parts_read [] ps w) r
 
   -- ---- a reply, and what follows it
 
@@ -107,8 +107,8 @@ module _ (laws : Laws) (conditions : ConditionsHold) (p : Program) (service : Se
   reply_walks P n R (Stopped at fault s) go h stop more = walks_stopped Good n n at fault s R (omega arith) stop
 
   -- a part that is stopped where its step is
-  stops : (n : ℕ) (q : Part) (ps : Parts) → part_read q (standing forest.NoEntries (Some n)) ≡ Ok (over forest.NoEntries None) → parts_read (MoreParts q ps) (standing forest.NoEntries (Some n)) ≡ Ok (over forest.NoEntries None)
-  stops n q ps h = then_reads (part_read q (standing forest.NoEntries (Some n))) (over forest.NoEntries None) (λ w. parts_read ps w) (Ok (over forest.NoEntries None)) h (parts_rest ps (over forest.NoEntries None) refl)
+  stops : (n : ℕ) (q : Part) (ps : Parts) → part_read [] q (standing forest.NoEntries (Some n)) ≡ Ok (over forest.NoEntries None) → parts_read [] (MoreParts q ps) (standing forest.NoEntries (Some n)) ≡ Ok (over forest.NoEntries None)
+  stops n q ps h = then_reads (part_read [] q (standing forest.NoEntries (Some n))) (over forest.NoEntries None) (λ w. parts_read [] ps w) (Ok (over forest.NoEntries None)) h (parts_rest ps (over forest.NoEntries None) refl)
 
   kept_here : (k : Kind) (at : ℕ) (v : Value) (s : Server) → Fits is [] k v → Good s.table → Serves Good (λ w. Fits is [] k w × (primitive_form (out-Value w) ≡ true)) (kept true at v s)
   kept_here k at v s h t = by (primitive_form (out-Value v)) refl
@@ -160,15 +160,15 @@ module _ (laws : Laws) (conditions : ConditionsHold) (p : Program) (service : Se
     skims_walks stmt n rest ps go s r i t more =
         let es = remote_of f vs stmt in
         let run = run_steps g (keeps p refs n es rest) vars s go in
-        walks_same Good n (λ w. parts_read (MoreParts (plain p vs n stmt) ps) w) (taking (takes p n es) (λ w. parts_read ps w)) run.node run.fault run.server (first_part (plain p vs n stmt) ps)
-        (keeps_walks es n rest (λ w. parts_read ps w) go s (parts_rest ps) r (each_in names vs es i) t more)
+        walks_same Good n (λ w. parts_read [] (MoreParts (plain p vs n stmt) ps) w) (taking (takes p n es) (λ w. parts_read [] ps w)) run.node run.fault run.server (first_part (plain p vs n stmt) ps)
+        (keeps_walks es n rest (λ w. parts_read [] ps w) go s (parts_rest ps) r (each_in names vs es i) t more)
 
     -- ---- a step that gives no entry
 
-    pass_walks : (n : ℕ) (q : Part) (ps : Parts) (P : Value → Type 0) (r : Reply Value) (go : Value → Server → Ran) → ((w : Walk) → part_read q w ≡ passed n w) → Serves Good P r
+    pass_walks : (n : ℕ) (q : Part) (ps : Parts) (P : Value → Type 0) (r : Reply Value) (go : Value → Server → Ran) → ((w : Walk) → part_read [] q w ≡ passed n w) → Serves Good P r
         → ((v : Value) (s1 : Server) → P v → Good s1.table → Reads (suc n) ps (go v s1)) → Reads n (MoreParts q ps) (on_reply n r go)
     pass_walks n q ps P r go passing h more =
-        reply_walks P n (λ w. parts_read (MoreParts q ps) w) r go h (stops n q ps (passing (standing forest.NoEntries (Some n)) ∙ raises_here n (Ok (standing forest.NoEntries (Some n)))))
+        reply_walks P n (λ w. parts_read [] (MoreParts q ps) w) r go h (stops n q ps (passing (standing forest.NoEntries (Some n)) ∙ raises_here n (Ok (standing forest.NoEntries (Some n)))))
         (λ v s1 fv t1. walks_passed Good n n (suc n) ps (go v s1).node (go v s1).fault (go v s1).server q passing (omega arith) (omega arith) (more v s1 fv t1))
 
     -- a carried val
@@ -177,7 +177,7 @@ module _ (laws : Laws) (conditions : ConditionsHold) (p : Program) (service : Se
         → Reads n (MoreParts (carried p n at name e) ps) (on_reply n (and_then (value_of g at vars (sexpr p refs e) s) (kept (keeps_val p e) at)) (λ v s1. with_kept (keeps_val p e) v (go v s1)))
     val_walks n at name e r ps go s i t more = by (f.primitive (expr_at e)) (holds_call f e)
       where
-        unkept : (q : Part) → ((w : Walk) → part_read q w ≡ passed n w) → Reads n (MoreParts q ps) (on_reply n (and_then (value_of g at vars (sexpr p refs e) s) (kept false at)) (λ v s1. go v s1))
+        unkept : (q : Part) → ((w : Walk) → part_read [] q w ≡ passed n w) → Reads n (MoreParts q ps) (on_reply n (and_then (value_of g at vars (sexpr p refs e) s) (kept false at)) (λ v s1. go v s1))
         unkept q passing =
             pass_walks n q ps (Fits is [] r.kind) (and_then (value_of g at vars (sexpr p refs e) s) (kept false at)) go passing
             (then_serves Good (Fits is [] r.kind) (Fits is [] r.kind) (value_of g at vars (sexpr p refs e) s) (kept false at) (value_sent at e r s i t) (λ v s1 h t1. (h, t1))) more
@@ -188,8 +188,8 @@ module _ (laws : Laws) (conditions : ConditionsHold) (p : Program) (service : Se
         by : (primitive call : Truth) → Reads n (MoreParts (cond primitive (cond call (part_of.Bind n name (call_kind p (expr_at e))) (part_of.Both n at name e)) (part_of.Pass n)) ps)
             (on_reply n (and_then (value_of g at vars (sexpr p refs e) s) (kept (call && primitive) at)) (λ v s1. with_kept (call && primitive) v (go v s1)))
         by true true =
-            walks_same Good n (λ w. parts_read (MoreParts (part_of.Bind n name (call_kind p (expr_at e))) ps) w) (λ w. value_read n (call_kind p (expr_at e)) w >>= λ w1. parts_read ps w1) bound_run.node bound_run.fault bound_run.server
-            (first_part (part_of.Bind n name (call_kind p (expr_at e))) ps) (value_walks n (suc n) at e r (λ w. parts_read ps w) go s (omega arith) (parts_rest ps) i t more)
+            walks_same Good n (λ w. parts_read [] (MoreParts (part_of.Bind n name (call_kind p (expr_at e))) ps) w) (λ w. value_read n (call_kind p (expr_at e)) w >>= λ w1. parts_read [] ps w1) bound_run.node bound_run.fault bound_run.server
+            (first_part (part_of.Bind n name (call_kind p (expr_at e))) ps) (value_walks n (suc n) at e r (λ w. parts_read [] ps w) go s (omega arith) (parts_rest ps) i t more)
         by true false = unkept (part_of.Both n at name e) (λ w. refl)
         by false true = unkept (part_of.Pass n) (λ w. refl)
         by false false = unkept (part_of.Pass n) (λ w. refl)
@@ -201,7 +201,7 @@ module _ (laws : Laws) (conditions : ConditionsHold) (p : Program) (service : Se
       → ((s : Server) → Good s.table → Reads (suc n) a (first s)) → ((s : Server) → Good s.table → Reads (suc n) b (second s)) → ((s : Server) → Good s.table → Reads after ps (go s))
       → Reads n (MoreParts (part_of.Branch n a b) ps) (on_reply n r (λ holds s. branched holds (chosen holds (first s) (second s)) go))
   branch_walks n after at a b ps r first second go h l one two more =
-      reply_walks (λ (t : Truth). Unit {0}) n (λ w. parts_read (MoreParts (part_of.Branch n a b) ps) w) r (λ holds s. branched holds (chosen holds (first s) (second s)) go) h
+      reply_walks (λ (t : Truth). Unit {0}) n (λ w. parts_read [] (MoreParts (part_of.Branch n a b) ps) w) r (λ holds s. branched holds (chosen holds (first s) (second s)) go) h
       (stops n (part_of.Branch n a b) ps (raises_here n (Err n))) taken
     where
       taken : (holds : Truth) (s : Server) → Unit {0} → Good s.table → Reads n (MoreParts (part_of.Branch n a b) ps) (branched holds (chosen holds (first s) (second s)) go)
@@ -226,10 +226,10 @@ module _ (laws : Laws) (conditions : ConditionsHold) (p : Program) (service : Se
       by : (b : Truth) → b ≡ is_primitive item → TurnWalks Good n number body (turn_over n at b block row s)
       by true e = row_first (primitive_form (out-Value row)) refl
         where
-          front : (nd : forest.Node) → form_has_kind number (out-Value row) ≡ true → (row_read n number (begun (in_front (forest.Value row) nd) false) >>= λ w. parts_read body w) ≡ parts_read body (begun nd false)
+          front : (nd : forest.Node) → form_has_kind number (out-Value row) ≡ true → (row_read n number (begun (in_front (forest.Value row) nd) false) >>= λ w. parts_read [] body w) ≡ parts_read [] body (begun nd false)
           front (forest.Holds es q) hk =
-              ap (λ (b : Truth). cond b (known n (behind_value number (forest.MoreEntries (forest.Value row) es)) >>= λ xs. Ok (went (standing (forest.MoreEntries (forest.Value row) es) (step_of q)) xs)) (Ok (standing (forest.MoreEntries (forest.Value row) es) (step_of q))) >>= λ w. parts_read body w) (is_kept_so ∙ sym e)
-              ∙ ap (λ (b : Truth). (known n (cond b (Some es) None) >>= λ xs. Ok (went (standing (forest.MoreEntries (forest.Value row) es) (step_of q)) xs)) >>= λ w. parts_read body w) hk
+              ap (λ (b : Truth). cond b (known n (behind_value number (forest.MoreEntries (forest.Value row) es)) >>= λ xs. Ok (went (standing (forest.MoreEntries (forest.Value row) es) (step_of q)) xs)) (Ok (standing (forest.MoreEntries (forest.Value row) es) (step_of q))) >>= λ w. parts_read [] body w) (is_kept_so ∙ sym e)
+              ∙ ap (λ (b : Truth). (known n (cond b (Some es) None) >>= λ xs. Ok (went (standing (forest.MoreEntries (forest.Value row) es) (step_of q)) xs)) >>= λ w. parts_read [] body w) hk
 
           row_first : (b : Truth) → primitive_form (out-Value row) ≡ b → TurnWalks Good n number body (on_reply n (replies at (must b faults.kind >> Ok row) s) (λ v s1. with_kept true v (block s1)))
           row_first true h = record {
@@ -242,7 +242,7 @@ module _ (laws : Laws) (conditions : ConditionsHold) (p : Program) (service : Se
           row_first false h = absurd (cc (sym (primitive_is is item row (sym e) fits) ∙ h))
       by false e = record {
         last = inner.last;
-        read = ap (λ (b : Truth). cond b (known n (behind_value number (begun (block s).node false).left) >>= λ xs. Ok (went (begun (block s).node false) xs)) (Ok (begun (block s).node false)) >>= λ w. parts_read body w) (is_kept_so ∙ sym e) ∙ inner.read;
+        read = ap (λ (b : Truth). cond b (known n (behind_value number (begun (block s).node false).left) >>= λ xs. Ok (went (begun (block s).node false) xs)) (Ok (begun (block s).node false)) >>= λ w. parts_read [] body w) (is_kept_so ∙ sym e) ∙ inner.read;
         left = inner.left;
         same = inner.same;
         table = inner.table;
@@ -259,7 +259,7 @@ module _ (laws : Laws) (conditions : ConditionsHold) (p : Program) (service : Se
       → suc n ≤ after → Serves Good (Fits is [] (kind.RowsOf item)) r → ((row : Value) (s : Server) → Fits is [] item row → Good s.table → Reads (suc n) body (block row s)) → ((s : Server) → Good s.table → Reads after ps (go s))
       → Reads n (MoreParts (part_of.Turns n name number body) ps) (on_reply n (and_then r (rows_of at)) (λ rows s. walked n at (turns (λ row s1. turn_over n at keep (block row) row s1) rows s) go))
   loop_walks item n after at number keep name body ps r block go keeping kinds l h each more =
-      reply_walks (All (Fits is [] item)) n (λ w. parts_read (MoreParts (part_of.Turns n name number body) ps) w) (and_then r (rows_of at)) (λ rows s. walked n at (turns (λ row s1. turn_over n at keep (block row) row s1) rows s) go)
+      reply_walks (All (Fits is [] item)) n (λ w. parts_read [] (MoreParts (part_of.Turns n name number body) ps) w) (and_then r (rows_of at)) (λ rows s. walked n at (turns (λ row s1. turn_over n at keep (block row) row s1) rows s) go)
       (rows_serve item at r h) (stops n (part_of.Turns n name number body) ps (raises_here n (Err n))) (λ rows s fr t.
       let turn = λ (row : Value) (s1 : Server). turn_over n at keep (block row) row s1 in
       let t1 = turns turn rows s in

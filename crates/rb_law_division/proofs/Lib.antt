@@ -3,6 +3,7 @@ pub mod Lists
 mod Carriable
 mod Batches
 mod Numbers
+mod NoOver
 mod Valid
 mod Formed
 mod Sent

@@ -33,7 +33,7 @@ use Rattle.rb_meaning.specs.Links.{IsTyped}
 use Rattle.rb_meaning.specs.Unsplit.{batch_at}
 use Rattle.rb_meaning_split.specs.Refs.{Ref, Root, Input}
 use Rattle.rb_meaning_split.specs.Inputs.{used_in}
-use Rattle.rb_meaning_split.specs.Client.{value_or_unit, input_values}
+use Rattle.rb_meaning_split.specs.Client.{fits_batch, value_or_unit, input_values}
 use Rattle.rb_meaning_split.specs.Division.{numbered, first_refs, inputs_of, division}
 use Rattle.rb_law_types.specs.Formed.{LawfulExprsAreFormed, LawfulStmtsAreFormed, LawfulClassesAreFormed}
 use Rattle.rb_law_types.specs.Noted.{AreNotedStmts}
@@ -212,7 +212,7 @@ module _ (laws : Laws) (conditions : ConditionsHold) (exprs_formed : LawfulExprs
     site_of o interface place = record { at = o.at; interface = interface; root = o.root; block = o.block; place = place }
 
     node_fits : (o : Outermost) (interface : List ℕ) (place : Place) (at : ℕ) (l : Local) → IsBatchOf p (program_batches f p) (site_of o interface place) → Agree is o.outer place.scope → Contains (program_batches f p) o
-        → IsAskedBatch d (Own batches) at l (site_of o interface place) → fits (node_of p o service table l) (division p o).remainder ≡ Ok tt
+        → IsAskedBatch d (Own batches) at l (site_of o interface place) → fits_batch (division p o) l (node_of p o service table l) ≡ Ok tt
     unfolding division fits
     node_fits o interface place at l known agree among asked =
         let x : Context = context d place in
@@ -239,16 +239,16 @@ module _ (laws : Laws) (conditions : ConditionsHold) (exprs_formed : LawfulExprs
         (declared laws.calls exprs_formed stmts_formed classes_formed types_keep p lawful t no_refusal service table served) place.this place.remote ss (λ r e. no_refusal r (ss, is_one, e)) (sends p lawful no_refusal ss is_one)
         qs (input_values qs l.names) [] refl begun_scope scope parts.last (first_refs o.root qs) 0 0 [] o.block (record { table = table; fuel = batch_fuel }) parts.block_typed noted (stmts_formed o.block (block_lawful o.block known.lawful.2)) (λ y c. c)
         (uses_in (used_in f begun_scope o.block)) knows served.fits in
-        is_judged (parts_read (block_parts p begun_scope 0 o.block) (begun (node_of p o service table l) false)) walk.last walk.read walk.left
+        is_judged (parts_read [] (block_parts p begun_scope 0 o.block) (begun (node_of p o service table l) false)) walk.last walk.read walk.left
 
-    pub asked_fits : (at : ℕ) (l : Local) (site : Site) → IsAskedBatch d (Own batches) at l site → (b : Outermost) → batch_at p at ≡ Some b → fits (node_of p b service table l) (division p b).remainder ≡ Ok tt
+    pub asked_fits : (at : ℕ) (l : Local) (site : Site) → IsAskedBatch d (Own batches) at l site → (b : Outermost) → batch_at p at ≡ Some b → fits_batch (division p b) l (node_of p b service table l) ≡ Ok tt
     asked_fits at l site asked b found =
         let known = batches_in p lawful (program_typed p checked) (notes p lawful) site asked.may in
         let o = known.begun in
         let same : site_of o site.interface site.place ≡ site =
         ap (λ q. site_with q o.root o.block) known.at ∙ ap (λ q. site_with site.at q o.block) known.root ∙ ap (λ q. site_with site.at site.root q) known.block in
         let same_batch : o ≡ b = cc (sym (ap (batch_at p) (sym (known.at ∙ asked.here)) ∙ batch_found p lawful o known.among) ∙ found) in
-        subst (λ q. fits (node_of p q service table l) (division p q).remainder ≡ Ok tt) same_batch
+        subst (λ q. fits_batch (division p q) l (node_of p q service table l) ≡ Ok tt) same_batch
         (node_fits o site.interface site.place at l (subst (IsBatchOf p (program_batches f p)) (sym same) known) known.agree known.among (subst (IsAskedBatch d (Own batches) at l) (sym same) asked))
       where
         site_with : ℕ → List ℕ → Stmts → Site

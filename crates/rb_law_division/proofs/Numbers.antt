@@ -31,6 +31,7 @@ count_within (MoreSteps (script.Keep id at e) ss) = omega (arith, count_within s
 count_within (MoreSteps (script.Let id at var keep e) ss) = omega (arith, count_within ss)
 count_within (MoreSteps (script.If id at e a b) ss) = omega (arith, count_within ss)
 count_within (MoreSteps (script.Each id at var keep e a) ss) = omega (arith, count_within ss)
+count_within (MoreSteps (script.Over id at var input a) ss) = omega (arith, count_within ss)
 
 -- all below a limit
 abbrev pub Below : ℕ → List ℕ → Type 0

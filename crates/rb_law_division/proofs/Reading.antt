@@ -25,9 +25,9 @@ Reader = Walk → Result Walk ℕ
 abbrev pub Rests : Reader → Type 0
 Rests R = (w : Walk) → w.stopped ≡ true → R w ≡ Ok w
 
-pub parts_rest : (ps : Parts) → Rests (λ w. parts_read ps w)
+pub parts_rest : (ps : Parts) → Rests (λ w. parts_read [] ps w)
 parts_rest NoParts w h = refl
-parts_rest (MoreParts p ps) w h = ap (λ (t : Truth). cond t (Ok w) (part_read p w >>= λ after. parts_read ps after)) h
+parts_rest (MoreParts p ps) w h = ap (λ (t : Truth). cond t (Ok w) (part_read [] p w >>= λ after. parts_read [] ps after)) h
 
 -- the values of a statement, and what follows them
 abbrev pub taking : List (ℕ × ℕ) → Reader → Reader
@@ -46,8 +46,8 @@ regroup (Ok w) F G = refl
 regroup (Err e) F G = refl
 
 -- what reads the first of some parts, and of some values, where nothing stopped the walk
-pub first_part : (p : Part) (ps : Parts) (w : Walk) → w.stopped ≡ false → parts_read (MoreParts p ps) w ≡ (part_read p w >>= λ after. parts_read ps after)
-first_part p ps w h = ap (λ (t : Truth). cond t (Ok w) (part_read p w >>= λ after. parts_read ps after)) h
+pub first_part : (p : Part) (ps : Parts) (w : Walk) → w.stopped ≡ false → parts_read [] (MoreParts p ps) w ≡ (part_read [] p w >>= λ after. parts_read [] ps after)
+first_part p ps w h = ap (λ (t : Truth). cond t (Ok w) (part_read [] p w >>= λ after. parts_read [] ps after)) h
 
 pub first_taken : (t : ℕ × ℕ) (ts : List (ℕ × ℕ)) (R : Reader) (w : Walk) → w.stopped ≡ false → taking (t ∷ ts) R w ≡ (value_read t.0 t.1 w >>= taking ts R)
 first_taken t ts R w h =
@@ -117,12 +117,12 @@ module _ (Fit : List Object → Type 0) where
   walks_stopped n id at f s R l h = record { later = l; last = over NoEntries None; read = h; left = refl; same = refl; table = λ e. absurd (cc e) }
 
   -- a step that gives no entry
-  pub walks_passed : (n id after : ℕ) (ps : Parts) (nd : Node) (fault : Option PlacedFault) (s : Server) (p : Part) → ((w : Walk) → part_read p w ≡ passed id w) → n ≤ id → suc id ≤ after
-      → WalksOf after (λ w. parts_read ps w) nd fault s → WalksOf n (λ w. parts_read (MoreParts p ps) w) nd fault s
+  pub walks_passed : (n id after : ℕ) (ps : Parts) (nd : Node) (fault : Option PlacedFault) (s : Server) (p : Part) → ((w : Walk) → part_read [] p w ≡ passed id w) → n ≤ id → suc id ≤ after
+      → WalksOf after (λ w. parts_read [] ps w) nd fault s → WalksOf n (λ w. parts_read [] (MoreParts p ps) w) nd fault s
   walks_passed n id after ps (Holds es f) fault s p is l k h = record {
     later = later_fault n after f (omega arith) h.later;
     last = h.last;
-    read = then_reads (part_read p (standing es (step_of f))) (standing es (step_of f)) (λ w. parts_read ps w) (Ok h.last)
+    read = then_reads (part_read [] p (standing es (step_of f))) (standing es (step_of f)) (λ w. parts_read [] ps w) (Ok h.last)
         (is (standing es (step_of f)) ∙ passes id (Holds es f) (later_fault (suc id) after f k h.later)) h.read;
     left = h.left;
     same = h.same;
@@ -147,23 +147,23 @@ module _ (Fit : List Object → Type 0) where
       ap (λ (b : Truth). record { left = rest; fault = f; stopped = inner.stopped; spare = b }) l ∙ ap (λ (b : Truth). record { left = rest; fault = f; stopped = b; spare = false }) s
 
   -- the branch that was taken, and what follows it
-  module _ (n id after : ℕ) (a b : Parts) (ps : Parts) (holds : Truth) (nd : Node) (inner : Walk) (read : cond holds (parts_read a (begun nd false)) (parts_read b (begun nd false)) ≡ Ok inner) (left : leaves inner ≡ false) where
+  module _ (n id after : ℕ) (a b : Parts) (ps : Parts) (holds : Truth) (nd : Node) (inner : Walk) (read : cond holds (parts_read [] a (begun nd false)) (parts_read [] b (begun nd false)) ≡ Ok inner) (left : leaves inner ≡ false) where
     whole : Reader
-    whole w = parts_read (MoreParts (part.Branch id a b) ps) w
+    whole w = parts_read [] (MoreParts (part.Branch id a b) ps) w
 
-    branch_read : (es : Entries) (f : Option NodeFault) (t : Truth) (o : Result Walk ℕ) → inner.stopped ≡ t → parts_read ps (record { left = es; fault = step_of f; stopped = t; spare = false }) ≡ o
-        → parts_read (MoreParts (part.Branch id a b) ps) (begun (Holds (MoreEntries (forest.Branch holds nd) es) f) false) ≡ o
+    branch_read : (es : Entries) (f : Option NodeFault) (t : Truth) (o : Result Walk ℕ) → inner.stopped ≡ t → parts_read [] ps (record { left = es; fault = step_of f; stopped = t; spare = false }) ≡ o
+        → parts_read [] (MoreParts (part.Branch id a b) ps) (begun (Holds (MoreEntries (forest.Branch holds nd) es) f) false) ≡ o
     branch_read es f t o s h =
         let w = standing (MoreEntries (forest.Branch holds nd) es) (step_of f) in
-        subst (λ q. ((q >>= λ i. Ok (behind w es i)) >>= λ x. parts_read ps x) ≡ o) (sym read)
-        (subst (λ q. parts_read ps q ≡ o) (sym (behind_is (MoreEntries (forest.Branch holds nd) es) es (step_of f) inner t left s)) h)
+        subst (λ q. ((q >>= λ i. Ok (behind w es i)) >>= λ x. parts_read [] ps x) ≡ o) (sym read)
+        (subst (λ q. parts_read [] ps q ≡ o) (sym (behind_is (MoreEntries (forest.Branch holds nd) es) es (step_of f) inner t left s)) h)
 
-    walks_behind : (nd2 : Node) (fault : Option PlacedFault) (s : Server) → inner.stopped ≡ false → n ≤ after → WalksOf after (λ w. parts_read ps w) nd2 fault s
-        → WalksOf n (λ w. parts_read (MoreParts (part.Branch id a b) ps) w) (in_front (forest.Branch holds nd) nd2) fault s
+    walks_behind : (nd2 : Node) (fault : Option PlacedFault) (s : Server) → inner.stopped ≡ false → n ≤ after → WalksOf after (λ w. parts_read [] ps w) nd2 fault s
+        → WalksOf n (λ w. parts_read [] (MoreParts (part.Branch id a b) ps) w) (in_front (forest.Branch holds nd) nd2) fault s
     walks_behind (Holds es f) fault s e l h = record { later = later_fault n after f l h.later; last = h.last; read = branch_read es f false (Ok h.last) e h.read; left = h.left; same = h.same; table = h.table }
 
-    pub walks_branch : (fl : Option PlacedFault) (s : Server) (go : Server → Ran) → inner.stopped ≡ is_some fl → n ≤ after → (fl ≡ None → Walks after (λ w. parts_read ps w) (go s))
-        → Walks n (λ w. parts_read (MoreParts (part.Branch id a b) ps) w) (with_entry (forest.Branch holds nd) (goes_on fl s go))
+    pub walks_branch : (fl : Option PlacedFault) (s : Server) (go : Server → Ran) → inner.stopped ≡ is_some fl → n ≤ after → (fl ≡ None → Walks after (λ w. parts_read [] ps w) (go s))
+        → Walks n (λ w. parts_read [] (MoreParts (part.Branch id a b) ps) w) (with_entry (forest.Branch holds nd) (goes_on fl s go))
     walks_branch None s go e l h = walks_behind (go s).node (go s).fault (go s).server e l (h refl)
     walks_branch (Some f) s go e l h = record {
       later = tt;
@@ -179,7 +179,7 @@ module _ (Fit : List Object → Type 0) where
   -- The node of a turn is read.
   pub record TurnWalks (id kind : ℕ) (body : Parts) (r : Ran) : Type 0 where
     pub last : Walk
-    pub read : (row_read id kind (begun r.node false) >>= λ row. parts_read body row) ≡ Ok last
+    pub read : (row_read id kind (begun r.node false) >>= λ row. parts_read [] body row) ≡ Ok last
     pub left : leaves last ≡ false
     pub same : last.stopped ≡ is_some r.fault
     pub table : r.fault ≡ None → Fit r.server.table
@@ -191,20 +191,20 @@ module _ (Fit : List Object → Type 0) where
   after_why NoUnit es f = standing es f
 
   pub record TurnsWalk (id kind : ℕ) (body : Parts) (nodes : Nodes) (why : Why) (server : Server) : Type 0 where
-    pub read : (es : Entries) (f : Option ℕ) → turns_read id kind (λ inner. parts_read body inner) nodes (standing es f) ≡ Ok (after_why why es f)
+    pub read : (es : Entries) (f : Option ℕ) → turns_read id kind (λ inner. parts_read [] body inner) nodes (standing es f) ≡ Ok (after_why why es f)
     pub table : why ≡ AllDone → Fit server.table
 
   module _ (id kind : ℕ) (body : Parts) where
-    one_turn : (nd : Node) (ns : Nodes) (es : Entries) (f : Option ℕ) (last : Walk) (t : Truth) (o : Result Walk ℕ) → (row_read id kind (begun nd false) >>= λ row. parts_read body row) ≡ Ok last → leaves last ≡ false → last.stopped ≡ t
-        → turns_read id kind (λ inner. parts_read body inner) ns (record { left = es; fault = f; stopped = t; spare = false }) ≡ o
-        → turns_read id kind (λ inner. parts_read body inner) (MoreNodes nd ns) (standing es f) ≡ o
+    one_turn : (nd : Node) (ns : Nodes) (es : Entries) (f : Option ℕ) (last : Walk) (t : Truth) (o : Result Walk ℕ) → (row_read id kind (begun nd false) >>= λ row. parts_read [] body row) ≡ Ok last → leaves last ≡ false → last.stopped ≡ t
+        → turns_read id kind (λ inner. parts_read [] body inner) ns (record { left = es; fault = f; stopped = t; spare = false }) ≡ o
+        → turns_read id kind (λ inner. parts_read [] body inner) (MoreNodes nd ns) (standing es f) ≡ o
     one_turn nd ns es f last t o read left s h =
-        regroup (row_read id kind (begun nd false)) (λ row. parts_read body row) (λ inner. turns_read id kind (λ i. parts_read body i) ns (behind (standing es f) es inner))
-        ∙ then_reads (row_read id kind (begun nd false) >>= λ row. parts_read body row) last (λ inner. turns_read id kind (λ i. parts_read body i) ns (behind (standing es f) es inner)) o read
-        (subst (λ q. turns_read id kind (λ i. parts_read body i) ns q ≡ o) (sym (behind_is es es f last t left s)) h)
+        regroup (row_read id kind (begun nd false)) (λ row. parts_read [] body row) (λ inner. turns_read id kind (λ i. parts_read [] body i) ns (behind (standing es f) es inner))
+        ∙ then_reads (row_read id kind (begun nd false) >>= λ row. parts_read [] body row) last (λ inner. turns_read id kind (λ i. parts_read [] body i) ns (behind (standing es f) es inner)) o read
+        (subst (λ q. turns_read id kind (λ i. parts_read [] body i) ns q ≡ o) (sym (behind_is es es f last t left s)) h)
 
     module _ (P : Value → Type 0) (turn : Value → Server → Ran) (each : (row : Value) (s : Server) → P row → Fit s.table → TurnWalks id kind body (turn row s)) where
-      turned : (nd : Node) (fault : Option PlacedFault) (s : Server) (go : Server → Turned) (last : Walk) → (row_read id kind (begun nd false) >>= λ row. parts_read body row) ≡ Ok last → leaves last ≡ false → last.stopped ≡ is_some fault
+      turned : (nd : Node) (fault : Option PlacedFault) (s : Server) (go : Server → Turned) (last : Walk) → (row_read id kind (begun nd false) >>= λ row. parts_read [] body row) ≡ Ok last → leaves last ≡ false → last.stopped ≡ is_some fault
           → (fault ≡ None → TurnsWalk id kind body (go s).nodes (go s).why (go s).server)
           → TurnsWalk id kind body (turned_on nd fault s go).nodes (turned_on nd fault s go).why (turned_on nd fault s go).server
       turned nd None s go last read left same h =
@@ -228,25 +228,25 @@ module _ (Fit : List Object → Type 0) where
               turned (turn row s1).node (turn row s1).fault (turn row s1).server (turns turn rows) w.last w.read w.left w.same (λ e. more (turn row s1).server (w.table e))
 
     -- the turns, and what follows them
-    module _ (n at after : ℕ) (name : List ℕ) (ps : Parts) (go : Server → Ran) (l : n ≤ id) (k : suc id ≤ after) (follow : (s : Server) → Fit s.table → Walks after (λ w. parts_read ps w) (go s)) where
-      turns_read_by : (nodes : Nodes) (es : Entries) (f : Option NodeFault) (w1 : Walk) (o : Result Walk ℕ) → turns_read id kind (λ inner. parts_read body inner) nodes (standing es (step_of f)) ≡ Ok w1 → (turns_done id w1 >>= λ x. parts_read ps x) ≡ o
-          → parts_read (MoreParts (part.Turns id name kind body) ps) (begun (Holds (MoreEntries (forest.Rows nodes) es) f) false) ≡ o
-      turns_read_by nodes es f w1 o e h = subst (λ q. ((q >>= λ x. turns_done id x) >>= λ x. parts_read ps x) ≡ o) (sym e) h
+    module _ (n at after : ℕ) (name : List ℕ) (ps : Parts) (go : Server → Ran) (l : n ≤ id) (k : suc id ≤ after) (follow : (s : Server) → Fit s.table → Walks after (λ w. parts_read [] ps w) (go s)) where
+      turns_read_by : (nodes : Nodes) (es : Entries) (f : Option NodeFault) (w1 : Walk) (o : Result Walk ℕ) → turns_read id kind (λ inner. parts_read [] body inner) nodes (standing es (step_of f)) ≡ Ok w1 → (turns_done id w1 >>= λ x. parts_read [] ps x) ≡ o
+          → parts_read [] (MoreParts (part.Turns id name kind body) ps) (begun (Holds (MoreEntries (forest.Rows nodes) es) f) false) ≡ o
+      turns_read_by nodes es f w1 o e h = subst (λ q. ((q >>= λ x. turns_done id x) >>= λ x. parts_read [] ps x) ≡ o) (sym e) h
 
-      walks_done : (nodes : Nodes) (nd : Node) (fault : Option PlacedFault) (s : Server) → ((es : Entries) (f : Option ℕ) → turns_read id kind (λ inner. parts_read body inner) nodes (standing es f) ≡ Ok (standing es f))
-          → WalksOf after (λ w. parts_read ps w) nd fault s → WalksOf n (λ w. parts_read (MoreParts (part.Turns id name kind body) ps) w) (in_front (forest.Rows nodes) nd) fault s
+      walks_done : (nodes : Nodes) (nd : Node) (fault : Option PlacedFault) (s : Server) → ((es : Entries) (f : Option ℕ) → turns_read id kind (λ inner. parts_read [] body inner) nodes (standing es f) ≡ Ok (standing es f))
+          → WalksOf after (λ w. parts_read [] ps w) nd fault s → WalksOf n (λ w. parts_read [] (MoreParts (part.Turns id name kind body) ps) w) (in_front (forest.Rows nodes) nd) fault s
       walks_done nodes (Holds es f) fault s read h = record {
         later = later_fault n after f (omega arith) h.later;
         last = h.last;
         read = turns_read_by nodes es f (standing es (step_of f)) (Ok h.last) (read es (step_of f))
-            (then_reads (passed id (standing es (step_of f))) (standing es (step_of f)) (λ x. parts_read ps x) (Ok h.last) (passes id (Holds es f) (later_fault (suc id) after f k h.later)) h.read);
+            (then_reads (passed id (standing es (step_of f))) (standing es (step_of f)) (λ x. parts_read [] ps x) (Ok h.last) (passes id (Holds es f) (later_fault (suc id) after f k h.later)) h.read);
         left = h.left;
         same = h.same;
         table = h.table;
       }
 
       pub walks_turns : (nodes : Nodes) (why : Why) (s : Server) → TurnsWalk id kind body nodes why s
-          → Walks n (λ w. parts_read (MoreParts (part.Turns id name kind body) ps) w) (with_entry (forest.Rows nodes) (after_turns id at why s go))
+          → Walks n (λ w. parts_read [] (MoreParts (part.Turns id name kind body) ps) w) (with_entry (forest.Rows nodes) (after_turns id at why s go))
       walks_turns nodes AllDone s h = walks_done nodes (go s).node (go s).fault (go s).server h.read (follow s (h.table refl))
       walks_turns nodes (InTurn f) s h = record {
         later = tt;
@@ -260,7 +260,7 @@ module _ (Fit : List Object → Type 0) where
         later = l;
         last = over NoEntries None;
         read = turns_read_by nodes NoEntries (Some (record { step = id; at = at; fault = fuel_used })) (standing NoEntries (Some id)) (Ok (over NoEntries None)) (h.read NoEntries (Some id))
-            (then_reads (passed id (standing NoEntries (Some id))) (over NoEntries None) (λ x. parts_read ps x) (Ok (over NoEntries None)) (raises_here id (Ok (standing NoEntries (Some id)))) (parts_rest ps (over NoEntries None) refl));
+            (then_reads (passed id (standing NoEntries (Some id))) (over NoEntries None) (λ x. parts_read [] ps x) (Ok (over NoEntries None)) (raises_here id (Ok (standing NoEntries (Some id)))) (parts_rest ps (over NoEntries None) refl));
         left = refl;
         same = refl;
         table = λ e. absurd (cc e);

@@ -9,13 +9,15 @@ use Rattle.rb_trees.specs.declared.values.Value.TheOpen.{Value-F}
 use Rattle.rb_trees.specs.mirror.Declarations.{Program}
 use Rattle.rb_trees.specs.mirror.Scripts.{Script, Steps}
 use Rattle.rb_meaning_bytes.specs.formats.Fields.{number, wide_number}
-use Rattle.rb_meaning_bytes.specs.formats.FormedScripts.{primitive_form, ArePrimitive, AreInputs}
+use Rattle.rb_meaning_bytes.specs.formats.FormedScripts.{primitive_form, ArePrimitive, HaveNoOver, IsWithoutLists, AreInputs}
 use Rattle.rb_meaning_bytes.specs.formats.ScriptBytes.{value_form, value_bytes, values_bytes, block_bytes, script_bytes}
+use Rattle.rb_meaning_bytes.proofs.formats.Inputs.{inputs_primitive, no_list_numbers}
 use Rattle.rb_meaning_flow.specs.Outermost.{Outermost}
 use Rattle.rb_meaning.specs.Answers.{longest_request}
 use Rattle.rb_meaning_split.specs.Division.{Division, numbered, first_refs, scope_of, inputs_of, division, most_inputs, longest_code, divided}
 use Rattle.rb_law_division.specs.Sendable.{CanBeSent, DividedCanBeSent}
 use Rattle.rb_law_division.proofs.Batches.{BatchCarriable, batches_carriable}
+use Rattle.rb_law_division.proofs.NoOver.{block_plain}
 use Rattle.rb_law_division.proofs.Numbers.{count_within}
 use Rattle.rb_law_division.proofs.Valid.{AreThere, stmts_fine}
 use Rattle.rb_law_division.proofs.Formed.{AreFormed, stmts_formed}
@@ -38,18 +40,18 @@ values_short : (vs : List Value) → ArePrimitive vs → length (values_bytes vs
 values_short [] h = omega arith
 values_short (v ∷ vs) h = omega (arith, length-append (value_bytes v) (values_bytes vs), value_short (out-Value v) h.0, values_short vs h.1)
 
--- the code has as many bytes as its size says
+-- the code of a script without Over has as many bytes as its size says
 abbrev pub CodeHasSize : Type 0
-CodeHasSize = (code : Steps) → length (block_bytes code) ≡ block_size code
+CodeHasSize = (code : Steps) → HaveNoOver code → length (block_bytes code) ≡ block_size code
 
 -- a number within the greatest that counts is itself
 capped_low : (n : ℕ) → capped n ≤ longest_code → n ≤ longest_code
 capped_low n h = omega arith
 
-request_short : CodeHasSize → (s : Script) → s.inputs < 256 → code_size_of s ≤ longest_code → (vs : List Value) → AreInputs s vs → length (script_bytes s vs) ≤ longest_request
-request_short law s i c vs h =
+request_short : CodeHasSize → (s : Script) → IsWithoutLists s → s.inputs < 256 → code_size_of s ≤ longest_code → (vs : List Value) → AreInputs s vs → length (script_bytes s vs) ≤ longest_request
+request_short law s plain i c vs h =
     let size = capped_low (block_size s.body) c in
-    omega (arith, length-append (values_bytes vs) (block_bytes s.body), law s.body, values_short vs h.primitive, h.count, size, i)
+    omega (arith, length-append (values_bytes vs) (block_bytes s.body), law s.body plain.steps, values_short vs (inputs_primitive s vs plain.lists h), h.count, size, i)
 
 -- ---- what is divided
 
@@ -85,16 +87,19 @@ divided_sent law p b w i c =
     let names = inputs_of p b in
     let refs = first_refs b.root names in
     let scope = scope_of b in
+    let plain : IsWithoutLists (division p b).script = record { lists = refl; steps = block_plain p refs scope 0 0 b.block } in
     let size : block_size (division p b).script.body ≤ longest_code = capped_low (block_size (division p b).script.body) c in
     record {
       formed = record {
         inputs = i;
+        lists = no_list_numbers (length names);
         count = omega (arith, count_within (division p b).script.body, size);
         body = stmts_formed p refs (tt, inputs_formed 0 names (omega (arith, i))) scope 0 0 b.block w.0 (omega (arith, size), omega (arith, size));
       };
+      plain = plain;
       valid = ap first (stmts_fine (length names) p 1 refs scope 0 0 b.block w.0 w.1 [] [] tt (tt, inputs_there 0 (length names) names (omega arith)));
       code = c;
-      request = λ vs h. request_short law (division p b).script i c vs h;
+      request = λ vs h. request_short law (division p b).script plain i c vs h;
     }
 
 pub sent : CodeHasSize → DividedCanBeSent

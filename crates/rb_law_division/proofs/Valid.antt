@@ -5,7 +5,7 @@ use Rattle.std.specs.Str.{bytes_eq}
 use Rattle.std.proofs.lemmas.Bool.{le-ltb, lt-ltb, ne_eqb, eq-eqb}
 use Rattle.rb_trees.specs.Named.{first_named, lookup}
 use Rattle.rb_trees.specs.ScriptLimits.{most_blocks, most_exprs}
-use Rattle.rb_trees.specs.Validity.{has, when, nested_exprs, expr_refusals, exprs_refusals, whole_refusals, steps_numbers, repeated, nested_blocks, steps_refusals}
+use Rattle.rb_trees.specs.Validity.{Inputs, has, when, unknown_input, nested_exprs, expr_refusals, exprs_refusals, whole_refusals, steps_numbers, repeated, nested_blocks, steps_refusals}
 use Rattle.rb_trees.specs.declared.validity.ScriptRefusal.TheVariants.{UnknownVariable, UnknownInput, StepRepeated, TooDeep}
 use Rattle.rb_trees.specs.mirror.Code.{Expr, Exprs, Lit, Name, This, Unary, Binary, Field, Call, Index, New, Items, Taken, NoExprs, MoreExprs, Stmt, Stmts, Val, Run, If, For, NoStmts, MoreStmts}
 use Rattle.rb_trees.specs.mirror.Declarations.{Program}
@@ -49,10 +49,14 @@ has_below : (n : ℕ) (seen : List ℕ) → Below n seen → has n seen ≡ fals
 has_below n [] h = refl
 has_below n (y ∷ ys) h = subst (λ (t : Bool). (t || has n ys) ≡ false) (sym (ne_eqb n y (λ e. omega (arith, h.0, e)))) (has_below n ys h.1)
 
-module _ (inputs : ℕ) where
+-- where there are so many inputs, none of which is a list
+module _ (count : ℕ) where
+  abbrev inputs : Inputs
+  inputs = record { count = count; lists = [] }
+
   abbrev IsThere : List ℕ → Ref → Type 0
   IsThere bound Root = Unit {0}
-  IsThere bound (Input n) = n < inputs
+  IsThere bound (Input n) = n < count
   IsThere bound (Bound m) = has m bound ≡ true
 
   abbrev pub AreThere : List ℕ → Refs → Type 0
@@ -90,7 +94,8 @@ module _ (inputs : ℕ) where
   name_valid : (bound : List ℕ) (step depth : ℕ) (o : Option Ref) → MayBeThere bound o → depth ≤ 256 → expr_refusals inputs bound step depth (ref_expr o) ≡ []
   name_valid bound step depth (Some Root) h d = not_deep step depth d
   name_valid bound step depth (Some (Input n)) h d =
-      none_both (nested_exprs step depth) (when (not (nat_lt n inputs)) (UnknownInput step)) (not_deep step depth d) (ap (λ (t : Bool). when (not t) (UnknownInput step)) (lt-ltb n inputs h))
+      none_both (nested_exprs step depth) (unknown_input inputs step n ++ []) (not_deep step depth d)
+      (none_both (unknown_input inputs step n) [] (ap (λ (t : Bool). when (not t) (UnknownInput step)) (lt-ltb n count h)) refl)
   name_valid bound step depth (Some (Bound m)) h d =
       none_both (nested_exprs step depth) (when (not (has m bound)) (UnknownVariable step)) (not_deep step depth d) (ap (λ (t : Bool). when (not t) (UnknownVariable step)) h)
   name_valid bound step depth None h d = not_deep step depth d

@@ -4,7 +4,6 @@ use Rattle.rb_trees.specs.declared.services.Object.{Object}
 use Rattle.rb_trees.specs.mirror.Declarations.{Program}
 use Rattle.rb_trees.specs.mirror.Services.{Service}
 use Rattle.rb_trees.specs.mirror.Forests.{Node}
-use Rattle.rb_meaning_bytes.specs.Fits.{fits}
 use Rattle.rb_meaning_types.specs.Declared.{of_program}
 use Rattle.rb_meaning_types.specs.Lawful.{IsLawful}
 use Rattle.rb_meaning_types.specs.Programs.{check_program}
@@ -13,7 +12,7 @@ use Rattle.rb_meaning_code.specs.ScriptRun.{run_script}
 use Rattle.rb_meaning_flow.specs.Outermost.{Outermost}
 use Rattle.rb_meaning.specs.Links.{IsTyped}
 use Rattle.rb_meaning.specs.Unsplit.{batch_at}
-use Rattle.rb_meaning_split.specs.Client.{input_values}
+use Rattle.rb_meaning_split.specs.Client.{fits_batch, input_values}
 use Rattle.rb_meaning_split.specs.Division.{division}
 use Rattle.rb_law_types.specs.Asked.{Site, Own, IsAskedBatch}
 use Rattle.rb_flow.specs.Program.{HasNoRefusal}
@@ -30,4 +29,4 @@ abbrev pub NodesFit : Type 0
 NodesFit = (p : Program) → IsLawful p → check_program p ≡ Ok tt → HasNoRefusal p
     → (service : Service) (table : List Object) → IsTyped service table
     → (at : ℕ) (l : Local) (site : Site) → IsAskedBatch (of_program p) (Own (program_sites p)) at l site
-    → (b : Outermost) → batch_at p at ≡ Some b → fits (node_of p b service table l) (division p b).remainder ≡ Ok tt
+    → (b : Outermost) → batch_at p at ≡ Some b → fits_batch (division p b) l (node_of p b service table l) ≡ Ok tt

@@ -6,7 +6,7 @@ use Rattle.rb_trees.specs.Validity.{verdict}
 use Rattle.rb_trees.specs.declared.values.Value.{Value}
 use Rattle.rb_trees.specs.mirror.Declarations.{Program}
 use Rattle.rb_trees.specs.mirror.Scripts.{Script}
-use Rattle.rb_meaning_bytes.specs.formats.FormedScripts.{FormedScript, AreInputs}
+use Rattle.rb_meaning_bytes.specs.formats.FormedScripts.{FormedScript, IsWithoutLists, AreInputs}
 use Rattle.rb_meaning_bytes.specs.formats.ScriptBytes.{script_bytes}
 use Rattle.rb_meaning_types.specs.Lawful.{IsLawful, classes_positions, body_positions}
 use Rattle.rb_meaning_flow.specs.Facts.{facts_of}
@@ -19,9 +19,10 @@ use Rattle.rb_meaning_split.specs.Division.{Division, divided, longest_code}
 abbrev pub HasPlaces : Program → Type 0
 HasPlaces p = AllByRecursion IsPlace (classes_positions p.classes ++ body_positions p.body)
 
--- A script that can be sent: it is formed and valid, its code is short enough, and so is a request of it.
+-- A script that can be sent: it is formed and valid, version 1 can spell it, its code is short enough, and so is a request of it.
 pub record CanBeSent (s : Script) : Type 0 where
   pub formed : FormedScript s
+  pub plain : IsWithoutLists s
   pub valid : verdict s ≡ Ok tt
   pub code : code_size_of s ≤ longest_code
   pub request : (values : List Value) → AreInputs s values → length (script_bytes s values) ≤ longest_request

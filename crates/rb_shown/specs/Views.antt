@@ -7,7 +7,8 @@ use Rattle.rb_trees.specs.declared.code.BinOp.{BinOp}
 use Rattle.rb_trees.specs.declared.code.BinOp.TheVariants as binary
 use Rattle.rb_trees.specs.mirror.Code.{Expr}
 use Rattle.rb_trees.specs.mirror.Scripts.{SExpr, Lit, Input, Var, Root, Unary, Binary, Call, SExprs, NoSExprs, MoreSExprs}
-use Rattle.rb_trees.specs.mirror.Scripts.{Step, Do, Keep, Let, If, Each, Steps, NoSteps, MoreSteps}
+use Rattle.rb_trees.specs.mirror.Scripts.{Step, Do, Keep, Let, If, Each, Over, Steps, NoSteps, MoreSteps}
+use Rattle.rb_trees.specs.mirror.Remainders as part
 use Rattle.rb_trees.specs.mirror.Remainders.{Part, Plain, Pass, Bind, Both, Branch, Turns, Parts, NoParts, MoreParts}
 use Rattle.rb_trees.specs.printing.Pieces.{spelled}
 use Rattle.rb_trees.specs.printing.Exprs.{expr_pieces}
@@ -40,11 +41,15 @@ binary_name binary.Or = codes "or"
 abbrev pub shown_variable : ℕ → List ℕ
 shown_variable n = codes "v" ++ decimal n
 
+-- an input of a script
+abbrev pub shown_input : ℕ → List ℕ
+shown_input n = codes "in" ++ decimal n
+
 -- An operator stands by its name before its operands, a call behind its receiver.
 abbrev mutual
   pub shown_sexpr : SExpr → List ℕ
   shown_sexpr (Lit value) = literal value
-  shown_sexpr (Input n) = codes "in" ++ decimal n
+  shown_sexpr (Input n) = shown_input n
   shown_sexpr (Var n) = shown_variable n
   shown_sexpr Root = codes "root"
   shown_sexpr (Unary op at a) = unary_name op ++ codes "(" ++ shown_sexpr a ++ codes ")"
@@ -84,6 +89,10 @@ binding_front indent id word var keep = step_front indent id word ++ shown_varia
 abbrev pub bound_line : List ℕ → ℕ → List ℕ → ℕ → Bool → List ℕ → SExpr → List ℕ
 bound_line indent id word var keep behind e = binding_front indent id word var keep ++ behind ++ line (shown_sexpr e)
 
+-- the line of an Over
+abbrev pub over_line : List ℕ → ℕ → ℕ → ℕ → List ℕ
+over_line indent id var input = line (step_front indent id (codes "over ") ++ shown_variable var ++ codes " in " ++ shown_input input)
+
 -- the second block of an `if`, given its lines; an empty one isn't shown
 abbrev pub else_lines : List ℕ → Steps → List ℕ → List ℕ
 else_lines indent NoSteps lines = []
@@ -99,6 +108,7 @@ abbrev mutual
       sent_line indent id (codes "if ") e ++ shown_steps (deeper indent) a ++ else_lines indent b (shown_steps (deeper indent) b)
   shown_step indent (Each id at var keep e a) =
       bound_line indent id (codes "each ") var keep (codes " in ") e ++ shown_steps (deeper indent) a
+  shown_step indent (Over id at var input a) = over_line indent id var input ++ shown_steps (deeper indent) a
 
   pub shown_steps : List ℕ → Steps → List ℕ
   shown_steps indent NoSteps = []
@@ -132,6 +142,10 @@ branch_line indent step = line (indent ++ codes "if " ++ shown_taken step ++ cod
 abbrev pub turns_line : List ℕ → List ℕ → ℕ → List ℕ
 turns_line indent name step = line (indent ++ codes "for " ++ name ++ codes " in " ++ shown_taken step ++ codes " {")
 
+-- the line that opens the turns over the items of a list
+abbrev pub list_turns_line : List ℕ → (name list : List ℕ) → ℕ → List ℕ
+list_turns_line indent name list step = line (indent ++ codes "for " ++ name ++ codes " in " ++ list ++ codes " " ++ shown_taken step ++ codes " {")
+
 abbrev pub closing_line : List ℕ → List ℕ
 closing_line indent = line (indent ++ codes "}")
 
@@ -150,6 +164,8 @@ abbrev mutual
   shown_part indent (Branch step a b) =
       branch_line indent step ++ shown_parts (deeper indent) a ++ ending_lines indent b (shown_parts (deeper indent) b)
   shown_part indent (Turns step name kind a) = turns_line indent name step ++ shown_parts (deeper indent) a ++ closing_line indent
+  shown_part indent (part.Over step at name list input a) =
+      list_turns_line indent name list step ++ shown_parts (deeper indent) a ++ closing_line indent
 
   pub shown_parts : List ℕ → Parts → List ℕ
   shown_parts indent NoParts = []

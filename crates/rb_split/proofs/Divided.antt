@@ -56,7 +56,7 @@ gives_by view r m m' e h = subst (λ x. Gives view refusal_of r x) (sym e) h
 
 -- a division, by what is drafted of its block
 abbrev division_by : ℕ → List (List ℕ) → ℕ → Drafted → Division
-division_by at inputs n d = record { at = at; inputs = inputs; script = record { inputs = n; body = d.steps }; remainder = d.parts }
+division_by at inputs n d = record { at = at; inputs = inputs; script = record { inputs = n; lists = []; body = d.steps }; remainder = d.parts }
 
 pub division_so : (p : Program) (at n : ℕ) (root : List ℕ) (scope : Scope) (block : Stmts) (inputs slice : List (List ℕ)) (refs : Refs) (d : Drafted)
     → d ≡ block_drafted p refs scope (fresh 0 0) block → refs ≡ first_refs root slice → slice ≡ inputs → n ≡ length inputs

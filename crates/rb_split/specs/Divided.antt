@@ -24,7 +24,7 @@ module _ (p : Program) where
   division_with at root scope block inputs = record {
     at = at;
     inputs = inputs;
-    script = record { inputs = length inputs; body = block_steps p (first_refs root inputs) scope 0 0 block };
+    script = record { inputs = length inputs; lists = []; body = block_steps p (first_refs root inputs) scope 0 0 block };
     remainder = block_parts p scope 0 block;
   }
 

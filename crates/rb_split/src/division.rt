@@ -96,6 +96,7 @@ fn write(
         inputs,
         script: Script {
             inputs: count,
+            lists: Seq::new(alloc),
             body: steps,
         },
         remainder: parts,

@@ -1,10 +1,9 @@
 // The expressions of scripts.
 
 ghost use Rattle.std.specs.Prelude.{◌≡◌, ◌++◌, codes};
-ghost use Rattle.std.specs.Fmt.{decimal};
 ghost use Rattle.rb_trees.specs.mirror.Scripts.{mirror_sexpr, mirror_sexprs};
 ghost use Rattle.rb_shown.specs.Appends.{Appends};
-ghost use Rattle.rb_shown.specs.Views.{unary_name, binary_name, shown_variable, shown_sexpr, shown_args, shown_call};
+ghost use Rattle.rb_shown.specs.Views.{unary_name, binary_name, shown_variable, shown_input, shown_sexpr, shown_args, shown_call};
 
 use crate::literals::add_literal;
 use crate::primitives::add_number;
@@ -62,10 +61,10 @@ pub fn add_variable(alloc: Global, number: u32, into: &mut Word) -> Result<(), M
     add_number(alloc, u64::from(number), into)
 }
 
-// Adds an input.
+/// Adds an input of a script.
 #[tactic(auto, using(crate::proofs::Pieces::pieces))]
-fn add_input(alloc: Global, number: u8, into: &mut Word) -> Result<(), Memory>
-    ensures { Appends (codes "in" ++ decimal number) into.old result into.new }
+pub fn add_input(alloc: Global, number: u8, into: &mut Word) -> Result<(), Memory>
+    ensures { Appends (shown_input number) into.old result into.new }
 {
     into.extend_from_slice(b"in")?;
     add_number(alloc, u64::from(number), into)

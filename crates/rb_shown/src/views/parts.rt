@@ -4,7 +4,7 @@ ghost use Rattle.std.specs.Prelude.{◌++◌, codes};
 ghost use Rattle.rb_trees.specs.mirror.Code.{mirror_expr};
 ghost use Rattle.rb_trees.specs.mirror.Remainders.{mirror_part, mirror_parts};
 ghost use Rattle.rb_shown.specs.Appends.{Appends};
-ghost use Rattle.rb_shown.specs.Views.{shown_taken, pass_line, bind_line, both_line, branch_line, turns_line, closing_line};
+ghost use Rattle.rb_shown.specs.Views.{shown_taken, pass_line, bind_line, both_line, branch_line, turns_line, list_turns_line, closing_line};
 ghost use Rattle.rb_shown.specs.Views.{shown_part, shown_parts, inner_lines, ending_block_lines};
 
 use crate::primitives::add_number;
@@ -108,6 +108,28 @@ fn add_turns(
     into.extend_from_slice(b" {\n")
 }
 
+// Adds the line that opens turns over the items of a list.
+#[tactic(auto, using(crate::proofs::Pieces::pieces))]
+fn add_list_turns(
+    alloc: Global,
+    indent: &[u8],
+    name: &Word,
+    list: &Word,
+    step: u32,
+    into: &mut Word,
+) -> Result<(), Memory>
+    ensures { Appends (list_turns_line indent.now name.now list.now step) into.old result into.new }
+{
+    into.extend_from_slice(indent)?;
+    into.extend_from_slice(b"for ")?;
+    into.extend_from_slice(name.as_slice())?;
+    into.extend_from_slice(b" in ")?;
+    into.extend_from_slice(list.as_slice())?;
+    into.push(b' ')?;
+    add_taken(alloc, step, into)?;
+    into.extend_from_slice(b" {\n")
+}
+
 // Adds the line that closes a block.
 #[tactic(auto, using(crate::proofs::Pieces::pieces))]
 fn add_closing(indent: &[u8], into: &mut Word) -> Result<(), Memory>
@@ -145,6 +167,17 @@ fn add_part(alloc: Global, indent: &[u8], part: &Part, into: &mut Word) -> Resul
             ..
         } => {
             add_turns(alloc, indent, name, *step, into)?;
+            add_inner(alloc, indent, body.as_slice(), into)?;
+            add_closing(indent, into)
+        }
+        Part::Over {
+            step,
+            name,
+            list,
+            body,
+            ..
+        } => {
+            add_list_turns(alloc, indent, name, list, *step, into)?;
             add_inner(alloc, indent, body.as_slice(), into)?;
             add_closing(indent, into)
         }

@@ -4,9 +4,9 @@ ghost use Rattle.std.specs.Prelude.{◌++◌};
 ghost use Rattle.rb_trees.specs.mirror.Scripts.{mirror_sexpr, mirror_step, mirror_steps};
 ghost use Rattle.rb_meaning.specs.Shown.{line};
 ghost use Rattle.rb_shown.specs.Appends.{Appends};
-ghost use Rattle.rb_shown.specs.Views.{shown_sexpr, shown_keep, step_front, sent_line, binding_front, shown_step, shown_steps, block_lines, else_block_lines};
+ghost use Rattle.rb_shown.specs.Views.{shown_sexpr, shown_keep, step_front, sent_line, binding_front, over_line, shown_step, shown_steps, block_lines, else_block_lines};
 
-use super::expressions::{add_sexpr, add_variable};
+use super::expressions::{add_input, add_sexpr, add_variable};
 use crate::primitives::add_number;
 use rb_trees::{Memory, SExpr, Step, StepForm, Word, two_more};
 use std::alloc::Global;
@@ -84,6 +84,25 @@ fn add_value(alloc: Global, behind: &[u8], expr: &SExpr, into: &mut Word) -> Res
     into.push(b'\n')
 }
 
+// Adds the line of an Over.
+#[tactic(auto, using(crate::proofs::Pieces::pieces))]
+fn add_over(
+    alloc: Global,
+    indent: &[u8],
+    id: u32,
+    var: u32,
+    input: u8,
+    into: &mut Word,
+) -> Result<(), Memory>
+    ensures { Appends (over_line indent.now id var input) into.old result into.new }
+{
+    add_front(alloc, indent, id, b"over ", into)?;
+    add_variable(alloc, var, into)?;
+    into.extend_from_slice(b" in ")?;
+    add_input(alloc, input, into)?;
+    into.push(b'\n')
+}
+
 // Adds a step with its blocks.
 #[cycle(steps)]
 #[tactic(auto, using(crate::proofs::ViewForms::steps))]
@@ -111,6 +130,10 @@ fn add_step(alloc: Global, indent: &[u8], step: &Step, into: &mut Word) -> Resul
         } => {
             add_binding(alloc, indent, id, b"each ", *var, *keep, into)?;
             add_value(alloc, b" in ", rows, into)?;
+            add_block(alloc, indent, body.as_slice(), into)
+        }
+        StepForm::Over { var, input, body } => {
+            add_over(alloc, indent, id, *var, *input, into)?;
             add_block(alloc, indent, body.as_slice(), into)
         }
     }

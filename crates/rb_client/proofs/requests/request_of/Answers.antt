@@ -7,6 +7,6 @@ use Rattle.rb_client.proofs.requests.request_of.Goals as goal
 
 pub encode_script-requires-clause-inputs : goal.encode_script-requires-clause-inputs
 encode_script-requires-clause-inputs c =
-    are_inputs (mirror_script c.args.split.now.script) c.as_slice-3.result.now c.args.split.now.inputs c.args.frame.now
+    are_inputs (mirror_script c.args.split.now.script) c.as_slice-3.result.now c.args.split.now.inputs c.args.frame.now c.requires.sent.plain.lists
     (c.as_slice-3.ensures ∙ c.in_ok-values.ensures ∙ ap (λ xs. input_values xs c.args.frame.now) c.as_slice.ensures) c.requires.counted
     (subst ArePrimitive (c.as_slice-2.ensures ∙ sym c.as_slice-3.ensures) (c.are_primitive.ensures (search rules)))
