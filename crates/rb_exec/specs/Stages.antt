@@ -1,6 +1,8 @@
 -- What the trees of a script mean on a stage.
-use Rattle.std.specs.Prelude.{ℕ, List, [], ◌∷◌, map, Bool, true, false, Option, None, Some}
-use Rattle.rb_trees.specs.declared.values.Value.{Value}
+use Rattle.std.specs.Prelude.{ℕ, List, [], ◌∷◌, map, Bool, true, false, Option, None, Some, Result, slice_get}
+use Rattle.rb_trees.specs.Outcome.{known, ◌>>=◌}
+use Rattle.rb_trees.specs.declared.values.Value.{Value, out-Value}
+use Rattle.rb_trees.specs.declared.values.Fault.{Fault}
 use Rattle.rb_trees.specs.declared.code.UnOp.{UnOp}
 use Rattle.rb_trees.specs.declared.code.BinOp.{BinOp}
 use Rattle.rb_trees.specs.declared.scripts.Operands.{Operands}
@@ -11,8 +13,9 @@ use Rattle.rb_trees.specs.mirror.Scripts as script
 use Rattle.rb_trees.specs.mirror.Scripts.{mirror_sexpr, mirror_sexprs, mirror_step, mirror_steps}
 use Rattle.rb_trees.specs.mirror.Forests as forest
 use Rattle.rb_trees.specs.mirror.Declarations.{mirror_class}
+use Rattle.rb_meaning_code.specs.Faults.{kind}
 use Rattle.rb_meaning_code.specs.Remote.{Server, Reply}
-use Rattle.rb_meaning_code.specs.ScriptRun.{Ground, Vars, Ran, Turned, value_of, values_of, ended, with_entry, run_step, run_steps, turn_over, turns, walked}
+use Rattle.rb_meaning_code.specs.ScriptRun.{Ground, Vars, Ran, Turned, value_of, values_of, items_in, ended, with_entry, run_step, run_steps, turn_over, turns, walked}
 use Rattle.rb_exec.specs.declared.stage.Stage.{Stage}
 use Rattle.rb_exec.specs.declared.stage.Site.{Site}
 use Rattle.rb_exec.specs.declared.expressions.Scope.{Scope}
@@ -82,6 +85,10 @@ each_run w e = site_run w.site (script.Each w.site.id w.site.at w.variable w.kee
 
 abbrev pub over_run : Walk → ℕ → Course
 over_run w input = site_run w.site (script.Over w.site.id w.site.at w.variable input (mirror_steps w.body.now))
+
+-- the items of an input that is a list
+abbrev pub input_items : List Value → ℕ → Result (List Value) Fault
+input_items inputs number = known kind (slice_get inputs number) >>= λ v. items_in (out-Value v)
 
 -- a block, to its end
 abbrev pub block_run : Stage → List Step → Vars → Server → Ran

@@ -2,7 +2,7 @@
 
 ghost use Rattle.std.specs.Prelude.{◌≡◌, slice_get};
 ghost use Rattle.std.specs.Option.{option_copied};
-ghost use Rattle.rb_trees.specs.Outcome.{Gives, known, ◌>>=◌};
+ghost use Rattle.rb_trees.specs.Outcome.{Gives, known};
 ghost use Rattle.rb_trees.specs.declared.values.Value.{out-Value};
 ghost use Rattle.rb_engine.specs.Ends.{fault_of};
 ghost use Rattle.rb_engine.specs.declared.ends.Failure.TheVariants as failure;
@@ -109,7 +109,7 @@ pub fn input_items(
     inputs: &[Value],
     number: u8,
 ) -> Result<Shared<Seq<Value>>, Failure>
-    ensures { Gives (λ items. items) fault_of result (known faults.kind (slice_get inputs.now number) >>= λ v. meant.items_in (out-Value v)) }
+    ensures { Gives (λ items. items) fault_of result (stages.input_items inputs.now number) }
 {
     match inputs.get(number as usize) {
         Some(value) => items_in(alloc, value),

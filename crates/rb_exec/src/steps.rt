@@ -1,6 +1,6 @@
 // Performs the steps of a script.
 
-ghost use Rattle.std.specs.Prelude.{◌≡◌, cond, OnErr};
+ghost use Rattle.std.specs.Prelude.{◌≡◌, cond, false, OnErr};
 ghost use Rattle.std.specs.Option.{option_copied};
 ghost use Rattle.rb_wire_fields.specs.Buffers.{Keeps};
 ghost use Rattle.rb_exec.specs.Blocks.{Closes, Runs, RunsBlock, RunsQuietly};
@@ -196,12 +196,7 @@ impl Run {
     // The entry of the turns over rows or items.
     #[cycle(running)]
     #[inline(always)]
-    fn run_walk(
-        &mut self,
-        entries: &mut u32,
-        walk: &Walk<'_>,
-        rows: &[Value],
-    ) -> Result<(), Stop>
+    fn run_walk(&mut self, entries: &mut u32, walk: &Walk<'_>, rows: &[Value]) -> Result<(), Stop>
         ensures { Runs (walk_run walk.now rows.now) entries.old self.old result entries.new self.new }
     {
         let at = put_rows(&mut self.bytes)?;

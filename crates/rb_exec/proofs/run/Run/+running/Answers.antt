@@ -139,7 +139,7 @@ pub run_step-run_each-requires : goal.run_step-run_each-requires
 run_step-run_each-requires t c = let w = ap step_weight (each_form c.args.step.now c.in-Each.body c.in-Each.is) in omega arith
 
 pub run_step-run_over-requires : goal.run_step-run_over-requires
-run_step-run_over-requires t c = let w = ap step_weight (over_form c.args.step.now c.in-Over.body c.in-Over.is) in omega arith
+run_step-run_over-requires t c = let w = ap step_weight (over_form c.args.step.now c.in-Over.body c.in-Over.is) in (omega arith, refl)
 
 pub run_step-returns-in-Do : goal.run_step-returns-in-Do
 run_step-returns-in-Do t c = of_step c.args.stage.now c.args.step.now c.args.self.now.variables c.args.self.now.server (do_form c.args.step.now c.in-Do.is) (c.run_do.ensures c.args.entries.now)
