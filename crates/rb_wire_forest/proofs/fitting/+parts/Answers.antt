@@ -7,6 +7,6 @@ use Rattle.rb_wire_forest.proofs.fitting.+parts.Goals as goal
 pub read_part-returns-in-Some : goal.read_part-returns-in-Some
 read_part-returns-in-Some n c =
     subst (λ m. Gives seen step_told c.read_turns.result m)
-    (turns_same c.args.part.now c.in-Turns.step c.in-Turns.kind c.in-Turns.name c.in-Turns.body c.as_slice-in-Some.result.now c.in-Some.turns.now c.in-Some.rest.now
+    (turns_same c.args.lengths.now c.args.part.now c.in-Turns.step c.in-Turns.kind c.in-Turns.name c.in-Turns.body c.as_slice-in-Some.result.now c.in-Some.turns.now c.in-Some.rest.now
     (seen c.args.walk.now) (seen c.go.result) c.in-Turns.is c.as_slice-in-Some.ensures c.in-Some.ensures c.go.ensures)
     c.read_turns.ensures
