@@ -1,6 +1,6 @@
 use Rattle.std.proofs.Common.{arith, rules}
 use Rattle.rb_wire_forest.specs.Opened.{opened}
-use Rattle.rb_wire_forest.proofs.ForestTurned.{plain_part, pass_part, bind_part, both_part, yes_part, no_part, branch_missed, rows_part, rows_missed, turn_stops, turn_walks, turns_on, turns_stop, turns_left, turns_end}
+use Rattle.rb_wire_forest.proofs.ForestTurned.{plain_part, pass_part, bind_part, both_part, yes_part, no_part, branch_missed, rows_part, rows_missed, list_part, list_missed, turn_stops, turn_walks, turns_on, turns_stop, turns_left, turns_end}
 use Rattle.rb_wire_forest.proofs.forest_fitting.+forest_parts.Goals as goal
 
 pub read_part-returns-in-Plain : goal.read_part-returns-in-Plain
@@ -72,3 +72,15 @@ pub read_turns-returns : goal.read_turns-returns
 read_turns-returns n c =
     turns_end c.args.lengths.now c.args.step c.args.kind c.args.body.now c.args.turns c.loop.counter (opened c.args.cursor.now) (opened c.loop.cursor) (opened c.close-2.new.self) c.args.from c.loop.progress c.end_turns.result c.close-2.result
     (omega arith) c.loop.invariant c.close-2.ensures c.end_turns.ensures
+
+pub read_part-returns-in-Some-rows : goal.read_part-returns-in-Some-rows
+read_part-returns-in-Some-rows n c =
+    list_part c.args.lengths.now c.args.part.now c.in-Over.step c.in-Over.at c.in-Over.name c.in-Over.list c.in-Over.input c.length_of-items.result c.in-Over.body c.as_slice-in-Some-rows.result.now
+    c.in-Some-rows.turns c.args.from (opened c.args.cursor.now) (opened c.rows-in-Over.new.self) (opened c.read_list.new.cursor) c.read_list.result
+    c.in-Over.is c.length_of-items.ensures c.as_slice-in-Some-rows.ensures c.in-Some-rows.ensures c.read_list.ensures
+
+pub read_part-returns-in-None-rows : goal.read_part-returns-in-None-rows
+read_part-returns-in-None-rows n c =
+    list_missed c.args.lengths.now c.args.part.now c.in-Over.step c.in-Over.at c.in-Over.name c.in-Over.list c.in-Over.input c.in-Over.body c.args.from
+    (opened c.args.cursor.now) (opened c.rows-in-Over.new.self) c.miss-in-None-rows.result
+    c.in-Over.is c.in-None-rows.ensures.0 c.in-None-rows.ensures.1 c.miss-in-None-rows.ensures
