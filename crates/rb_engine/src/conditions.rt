@@ -118,6 +118,7 @@ fn name_of(code: u8) -> &'static [u8]
         fault_codes::BAD_ARGUMENTS => b"BadArguments",
         fault_codes::WRONG_KIND => b"WrongKind",
         fault_codes::KIND => b"Kind",
+        fault_codes::INPUT_TOO_LARGE => b"InputTooLarge",
         _ => b"",
     }
 }

@@ -1,6 +1,6 @@
 -- What a script means on a service: the node that it gives, and the server after it. It means something whatever its tree
 -- and inputs are. Each step takes what follows it; a block is run to its end, and then goes on.
-use Rattle.std.specs.Prelude.{ℕ, zero, suc, List, [], ◌∷◌, Bool, true, false, cond, nat_eq, Option, None, Some, Result, Ok, slice_get}
+use Rattle.std.specs.Prelude.{ℕ, zero, suc, List, [], ◌∷◌, Bool, true, false, cond, nat_eq, Option, None, Some, Result, Ok, Err, slice_get}
 use Rattle.rb_trees.specs.Outcome.{known, must, ◌>>=◌, ◌>>◌}
 use Rattle.rb_trees.specs.declared.values.Value.{Value, out-Value}
 use Rattle.rb_trees.specs.declared.values.Value.TheOpen.{Value-F}
