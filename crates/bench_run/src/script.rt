@@ -51,6 +51,7 @@ pub fn script_of(alloc: Global, rounds: u32) -> Result<Script, Memory> {
     whole.add(form)?;
     Ok(Script {
         inputs: 1,
+        lists: Seq::new(alloc),
         body: whole.into_steps(),
     })
 }

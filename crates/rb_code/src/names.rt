@@ -1,6 +1,7 @@
 // Sets of names.
 
-ghost use Rattle.std.specs.Prelude.{◌≡◌, [], ◌∷◌, ◌++◌, not, if◌then◌else◌, IfOk};
+ghost use Rattle.std.specs.Prelude.{◌≡◌, [], ◌∷◌, ◌++◌, not, if◌then◌else◌, IfOk, position};
+ghost use Rattle.std.specs.Str.{bytes_eq};
 ghost use Rattle.rb_code.specs.Places.{place_of, is_among};
 
 use indexmap::IndexSet;
@@ -8,7 +9,17 @@ use rb_trees::Memory;
 use std::alloc::Global;
 use std::marker::Model;
 
-/// Names that differ, in order. Each is found by its hash, however many there are. Contracts see their list.
+/// Up to so many names are compared one after the other, which takes less time than a hash.
+const FEW: usize = 8;
+
+// The first place of a name among names.
+fn place_among(names: &[Vec<u8>], name: &[u8]) -> Option<usize>
+    ensures { result ≡ position (λ n. bytes_eq name.now n.items) names.now }
+{
+    names.iter().position(|n| name == n.as_slice())
+}
+
+/// Names that differ, in order. Where there are many, each is found by its hash. Contracts see their list.
 #[derive(Drop)]
 pub struct NameSet {
     set: IndexSet<Vec<u8>>,
@@ -37,7 +48,10 @@ impl NameSet {
     pub fn find(&self, name: &[u8]) -> Option<usize>
         ensures { result ≡ place_of name.now self.now }
     {
-        self.set.get_index_of(name)
+        if self.set.len() > FEW {
+            return self.set.get_index_of(name);
+        }
+        place_among(self.set.as_slice(), name)
     }
 
     /// Adds a name at the end, unless it is among them. Answers whether it was new.

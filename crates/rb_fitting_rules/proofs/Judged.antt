@@ -1,5 +1,5 @@
 -- What is judged of a walk, by what the rules decide.
-use Rattle.std.proofs.Common.{◌≡◌, ◌⊎◌, inl, inr, ℕ, Bool, true, false, Result, Ok, Err, refl, subst}
+use Rattle.std.proofs.Common.{◌≡◌, ◌⊎◌, inl, inr, ℕ, List, Bool, true, false, Result, Ok, Err, refl, subst}
 use Rattle.rb_trees.specs.mirror.Forests.{Node}
 use Rattle.rb_trees.specs.mirror.Remainders.{Parts}
 use Rattle.rb_meaning_bytes.specs.Fits.{Walk, begun, leaves, parts_read, judged, Unfit, At, Extra, fits}
@@ -23,47 +23,48 @@ walk_judged w false e = rw e refl
 came_judged : (r : Result Walk ℕ) (end : End) (left : Bool) → Came r end left → judged r ≡ outcome_of left
 came_judged r end left c = rw c.is (walk_judged c.walk left c.over)
 
--- where parts are served, what is judged tells whether something is left over
-served_judged : (n : Node) (ps : Parts) (end : End) (left : Bool) → Served ps n end left → fits n ps ≡ outcome_of left
-unfolding fits
-served_judged n ps end left s = came_judged (parts_read ps (begun n false)) end left (node_came ps n end left s false)
+module _ (lengths : List ℕ) where
+  -- where parts are served, what is judged tells whether something is left over
+  served_judged : (n : Node) (ps : Parts) (end : End) (left : Bool) → Served lengths ps n end left → fits n ps lengths ≡ outcome_of left
+  unfolding fits
+  served_judged n ps end left s = came_judged (parts_read lengths ps (begun n false)) end left (node_came lengths ps n end left s false)
 
-missed_judged : (n : Node) (ps : Parts) (wrong : ℕ) → Misfit ps n wrong → fits n ps ≡ Err (At wrong)
-unfolding fits
-missed_judged n ps wrong m = rw (node_missed ps n wrong m false) refl
+  missed_judged : (n : Node) (ps : Parts) (wrong : ℕ) → Misfit lengths ps n wrong → fits n ps lengths ≡ Err (At wrong)
+  unfolding fits
+  missed_judged n ps wrong m = rw (node_missed lengths ps n wrong m false) refl
 
-pub fit_judged : (n : Node) (ps : Parts) → IsFit n ps → fits n ps ≡ Ok tt
-fit_judged n ps t = served_judged n ps t.0 false (fits_clean ps n t.0 t.1)
+  pub fit_judged : (n : Node) (ps : Parts) → IsFit lengths n ps → fits n ps lengths ≡ Ok tt
+  fit_judged n ps t = served_judged n ps t.0 false (fits_clean lengths ps n t.0 t.1)
 
-pub unfit_judged : (n : Node) (ps : Parts) (wrong : Unfit) → FirstUnfit n ps wrong → fits n ps ≡ Err wrong
-unfit_judged n ps (At step) m = missed_judged n ps step m
-unfit_judged n ps Extra s = served_judged n ps s.0 true s.1
+  pub unfit_judged : (n : Node) (ps : Parts) (wrong : Unfit) → FirstUnfit lengths n ps wrong → fits n ps lengths ≡ Err wrong
+  unfit_judged n ps (At step) m = missed_judged n ps step m
+  unfit_judged n ps Extra s = served_judged n ps s.0 true s.1
 
-decided_fit : (n : Node) (ps : Parts) → Decided ps n → fits n ps ≡ Ok tt → IsFit n ps
-decided_fit n ps (serves end true s) e = absurd (let f = served_judged n ps end true s in cc)
-decided_fit n ps (serves end false s) e = (end, clean_fits ps n end false s refl)
-decided_fit n ps (misses wrong m) e = absurd (let f = missed_judged n ps wrong m in cc)
+  decided_fit : (n : Node) (ps : Parts) → Decided lengths ps n → fits n ps lengths ≡ Ok tt → IsFit lengths n ps
+  decided_fit n ps (serves end true s) e = absurd (let f = served_judged n ps end true s in cc)
+  decided_fit n ps (serves end false s) e = (end, clean_fits lengths ps n end false s refl)
+  decided_fit n ps (misses wrong m) e = absurd (let f = missed_judged n ps wrong m in cc)
 
-pub judged_fit : (n : Node) (ps : Parts) → fits n ps ≡ Ok tt → IsFit n ps
-judged_fit n ps e = decided_fit n ps (decide_parts ps n) e
+  pub judged_fit : (n : Node) (ps : Parts) → fits n ps lengths ≡ Ok tt → IsFit lengths n ps
+  judged_fit n ps e = decided_fit n ps (decide_parts lengths ps n) e
 
-decided_unfit : (n : Node) (ps : Parts) (wrong : Unfit) → Decided ps n → fits n ps ≡ Err wrong → FirstUnfit n ps wrong
-decided_unfit n ps wrong (serves end true s) e =
-    let same : Extra ≡ wrong = (let f = served_judged n ps end true s in cc) in subst (FirstUnfit n ps) same (end, s)
-decided_unfit n ps wrong (serves end false s) e = absurd (let f = served_judged n ps end false s in cc)
-decided_unfit n ps wrong (misses step m) e =
-    let same : At step ≡ wrong = (let f = missed_judged n ps step m in cc) in subst (FirstUnfit n ps) same m
+  decided_unfit : (n : Node) (ps : Parts) (wrong : Unfit) → Decided lengths ps n → fits n ps lengths ≡ Err wrong → FirstUnfit lengths n ps wrong
+  decided_unfit n ps wrong (serves end true s) e =
+      let same : Extra ≡ wrong = (let f = served_judged n ps end true s in cc) in subst (FirstUnfit lengths n ps) same (end, s)
+  decided_unfit n ps wrong (serves end false s) e = absurd (let f = served_judged n ps end false s in cc)
+  decided_unfit n ps wrong (misses step m) e =
+      let same : At step ≡ wrong = (let f = missed_judged n ps step m in cc) in subst (FirstUnfit lengths n ps) same m
 
-pub judged_unfit : (n : Node) (ps : Parts) (wrong : Unfit) → fits n ps ≡ Err wrong → FirstUnfit n ps wrong
-judged_unfit n ps wrong e = decided_unfit n ps wrong (decide_parts ps n) e
+  pub judged_unfit : (n : Node) (ps : Parts) (wrong : Unfit) → fits n ps lengths ≡ Err wrong → FirstUnfit lengths n ps wrong
+  judged_unfit n ps wrong e = decided_unfit n ps wrong (decide_parts lengths ps n) e
 
-either : (n : Node) (ps : Parts) (r : Result (Unit {0}) Unfit) → fits n ps ≡ r → IsFit n ps ⊎ ((wrong : Unfit) × FirstUnfit n ps wrong)
-either n ps (Ok u) e = inl (judged_fit n ps e)
-either n ps (Err wrong) e = inr (wrong, judged_unfit n ps wrong e)
+  either : (n : Node) (ps : Parts) (r : Result (Unit {0}) Unfit) → fits n ps lengths ≡ r → IsFit lengths n ps ⊎ ((wrong : Unfit) × FirstUnfit lengths n ps wrong)
+  either n ps (Ok u) e = inl (judged_fit n ps e)
+  either n ps (Err wrong) e = inr (wrong, judged_unfit n ps wrong e)
 
-pub outcome : (n : Node) (ps : Parts) → HasOneOutcome n ps
-outcome n ps = (
-  either n ps (fits n ps) refl,
-  λ wrong t u. let e = fit_judged n ps t in let f = unfit_judged n ps wrong u in cc,
-  λ wrong other u v. let e = unfit_judged n ps wrong u in let f = unfit_judged n ps other v in cc,
-)
+  pub outcome : (n : Node) (ps : Parts) → HasOneOutcome lengths n ps
+  outcome n ps = (
+    either n ps (fits n ps lengths) refl,
+    λ wrong t u. let e = fit_judged n ps t in let f = unfit_judged n ps wrong u in cc,
+    λ wrong other u v. let e = unfit_judged n ps wrong u in let f = unfit_judged n ps other v in cc,
+  )

@@ -1,10 +1,10 @@
 -- Tests by their two truths, and what a step does to a walk.
-use Rattle.std.proofs.Common.{◌≡◌, ℕ, List, [], ◌∷◌, Bool, true, false, ◌||◌, cond, Option, Some, None, Result, Ok, refl, sym, ◌∙◌, subst}
+use Rattle.std.proofs.Common.{◌≡◌, ℕ, List, [], ◌∷◌, Bool, true, false, ◌||◌, cond, Option, Some, None, Result, Ok, refl, ap, sym, ◌∙◌, subst}
 use Rattle.rb_trees.specs.declared.forests.NodeFault.{NodeFault}
-use Rattle.rb_trees.specs.mirror.Forests.{Holds, Entries, NoEntries, MoreEntries}
+use Rattle.rb_trees.specs.mirror.Forests.{Node, Holds, Entries, Nodes, NoEntries, MoreEntries}
 use Rattle.rb_trees.specs.mirror.Remainders.{Parts, NoParts, MoreParts}
 use Rattle.rb_meaning_bytes.specs.Fits.{Walk, begun, leaves, step_of, are_left, is_left, faults_at, passed, values_read, parts_read}
-use Rattle.rb_fitting_rules.specs.Heads.{chosen, faults_now, holds_anything}
+use Rattle.rb_fitting_rules.specs.Heads.{chosen, faults_now, holds_anything, Loop, have_turns}
 use Rattle.rb_fitting_rules.specs.Rules.{End, Whole, Stopped}
 
 -- by the two truths of a test
@@ -53,14 +53,14 @@ held_same NoEntries None = refl
 held_same NoEntries (Some f) = refl
 held_same (MoreEntries e es) f = refl
 
-pub chosen_read : (side : Bool) (a b : Parts) (w : Walk) → cond side (parts_read a w) (parts_read b w) ≡ parts_read (chosen side a b) w
-chosen_read true a b w = refl
-chosen_read false a b w = refl
+pub chosen_read : (lengths : List ℕ) (side : Bool) (a b : Parts) (w : Walk) → cond side (parts_read lengths a w) (parts_read lengths b w) ≡ parts_read lengths (chosen side a b) w
+chosen_read lengths true a b w = refl
+chosen_read lengths false a b w = refl
 
 -- a stopped walk stays
-pub rest_stays : (ps : Parts) (w : Walk) → w.stopped ≡ true → parts_read ps w ≡ Ok w
-rest_stays NoParts w e = refl
-rest_stays (MoreParts p ps) w e = rw e refl
+pub rest_stays : (lengths : List ℕ) (ps : Parts) (w : Walk) → w.stopped ≡ true → parts_read lengths ps w ≡ Ok w
+rest_stays lengths NoParts w e = refl
+rest_stays lengths (MoreParts p ps) w e = rw e refl
 
 pub takes_stay : (takes : List (ℕ × ℕ)) (w : Walk) → w.stopped ≡ true → values_read takes w ≡ Ok w
 takes_stay [] w e = refl
@@ -70,3 +70,12 @@ takes_stay (take ∷ takes) w e = rw e refl
 pub step_passed : (step : ℕ) (es : Entries) (f : Option NodeFault) (spare : Bool) → faults_now step (Holds es f) ≡ false
     → passed step (begun (Holds es f) spare) ≡ Ok (begun (Holds es f) spare)
 step_passed step es f spare miss = rw (faults_same step es f spare ∙ miss) refl
+
+-- where it is known whether the fault is at the step behind rows, there are as many turns, and the other way round
+pub counts_behind : (loop : Loop) (ns : Nodes) (n : Node) (faulted : Bool) → faults_now loop.step n ≡ faulted → have_turns loop.items ns faulted ≡ true
+    → have_turns loop.items ns (faults_now loop.step n) ≡ true
+counts_behind loop ns n faulted same counts = ap (λ (b : Bool). have_turns loop.items ns b) same ∙ counts
+
+pub still : (loop : Loop) (ns : Nodes) (n : Node) (faulted : Bool) → faults_now loop.step n ≡ faulted → have_turns loop.items ns (faults_now loop.step n) ≡ true
+    → have_turns loop.items ns faulted ≡ true
+still loop ns n faulted same counts = ap (λ (b : Bool). have_turns loop.items ns b) (sym same) ∙ counts

@@ -1,10 +1,10 @@
--- What stands first in a node, and which step of a part comes first.
-use Rattle.std.specs.Prelude.{ℕ, [], ◌∷◌, Bool, true, false, nat_eq, Option, Some, None}
+-- What stands first in a node, which step of a part comes first, and what its turns go through.
+use Rattle.std.specs.Prelude.{ℕ, List, [], ◌∷◌, get_or, Bool, true, false, nat_eq, Option, Some, None}
 use Rattle.rb_trees.specs.declared.values.Value.{out-Value}
 use Rattle.rb_trees.specs.mirror.Forests as forest
 use Rattle.rb_trees.specs.mirror.Forests.{Node, Holds, NoEntries, MoreEntries, Nodes, NoNodes, MoreNodes}
-use Rattle.rb_trees.specs.mirror.Remainders.{Part, Parts, Plain, Pass, Bind, Both, Branch, Turns}
-use Rattle.rb_meaning_bytes.specs.Fits.{form_has_kind}
+use Rattle.rb_trees.specs.mirror.Remainders.{Part, Parts, Plain, Pass, Bind, Both, Branch, Turns, Over}
+use Rattle.rb_meaning_bytes.specs.Fits.{form_has_kind, is_counted, no_kind}
 
 -- the side of a branch that was taken
 abbrev pub chosen : Bool → Parts → Parts → Parts
@@ -20,6 +20,25 @@ first_step (Bind step name kind) = Some step
 first_step (Both step at name value) = Some step
 first_step (Branch step then_parts else_parts) = Some step
 first_step (Turns step name kind body) = Some step
+first_step (Over step at name list input body) = Some step
+
+-- what a part goes through in turns: its step, the kind of the rows, its body, and how many items its list has, if it has one
+pub record Loop : Type 0 where
+  pub step : ℕ
+  pub kind : ℕ
+  pub body : Parts
+  pub items : Option ℕ
+
+-- what a part goes through, if it has turns, where the lists of inputs have these lengths
+abbrev pub loop_of : List ℕ → Part → Option Loop
+loop_of lengths (Turns step name kind body) = Some (record { step = step; kind = kind; body = body; items = None })
+loop_of lengths (Over step at name list input body) = Some (record { step = step; kind = no_kind; body = body; items = Some (get_or lengths input 0) })
+loop_of lengths _ = None
+
+-- whether there are as many turns as a list has items, if there is one, where a fault at the step comes behind them or not
+abbrev pub have_turns : Option ℕ → Nodes → Bool → Bool
+have_turns None ns faulted = true
+have_turns (Some items) ns faulted = is_counted items ns faulted
 
 -- whether a node has no entry, and its fault is at the step
 abbrev pub faults_now : ℕ → Node → Bool

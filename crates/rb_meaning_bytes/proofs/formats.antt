@@ -5,6 +5,7 @@ pub mod Steps
 pub mod Only
 pub mod Spelled
 pub mod Values
+pub mod Inputs
 pub mod ScriptsSpelled
 pub mod OnlyScripts
 pub mod ForestsSpelled

@@ -12,8 +12,9 @@ ghost use Rattle.rb_meaning_bytes.specs.formats.Forests.{forest_message};
 ghost use Rattle.rb_meaning_bytes.specs.formats.Refusals.{refusal_message, is_refusal_number};
 ghost use Rattle.rb_meaning_bytes.specs.formats.ScriptBytes.{block_bytes};
 ghost use Rattle.rb_meaning_bytes.specs.formats.ForestBytes.{forest_bytes, refusal_bytes, FormedForest, FormedRefusal};
-ghost use Rattle.rb_meaning_bytes.specs.formats.FormedScripts.{IsWithinLimits};
-ghost use Rattle.rb_meaning_bytes.specs.formats.ScriptPayloads.{Sent, Refused, Means, sent_bytes, CanBeSent};
+ghost use Rattle.rb_meaning_bytes.specs.formats.FormedScripts.{HaveNoOver, IsWithinLimits};
+ghost use Rattle.rb_meaning_bytes.specs.formats.Messages.{Sent, Refused};
+ghost use Rattle.rb_meaning_bytes.specs.formats.ScriptPayloads.{Means, sent_bytes, CanBeSent};
 
 /// No spelling of a message is a proper prefix of another, and no bytes spell two.
 pub fn no_spelling_begins_another()
@@ -58,9 +59,9 @@ pub fn each_refusal_has_one_spelling()
     ensures { IsSpelling refusal_message refusal_bytes FormedRefusal }
 {}
 
-/// The code of a script has as many bytes as its size says.
+/// The code of a script without an Over has as many bytes as its size says.
 pub fn the_code_has_its_size()
-    ensures { (code : Steps) → length (block_bytes code) ≡ block_size code }
+    ensures { (code : Steps) → HaveNoOver code → length (block_bytes code) ≡ block_size code }
 {}
 
 /// A valid script is within the limits of nesting.
@@ -77,6 +78,6 @@ pub fn script_payloads_mean_one_thing()
 
 /// The number of a violation is one that refusals have, and so is that of what a script's payload is refused with.
 pub fn refusals_have_numbers()
-    ensures scripts { (payload : List ℕ) → (wrong : Refused) → Means payload (Err wrong) → is_refusal_number wrong.0 ≡ true }
+    ensures scripts { (payload : List ℕ) → (wrong : Refused) → Means payload (Err wrong) → is_refusal_number wrong.number ≡ true }
     ensures forests { (payload : List ℕ) → (number : ℕ) → (at : ℕ) → FirstViolation forest_message payload number at → is_refusal_number number ≡ true }
 {}

@@ -128,6 +128,7 @@ step_has_bytes (script.Keep id at e) = omega arith
 step_has_bytes (script.Let id at var keep e) = omega arith
 step_has_bytes (script.If id at e a b) = omega arith
 step_has_bytes (script.Each id at var keep e a) = omega arith
+step_has_bytes (script.Over id at var input a) = omega arith
 
 few_steps : (ss : Steps) → count_steps ss ≤ steps_size ss
 few_steps script.NoSteps = omega arith
@@ -151,6 +152,11 @@ mutual
       then_good (suc n) m _ P
       (turns_formed n (suc (count_steps a + 0)) (λ xs. KeptFirst keep (λ ys. StepsGive a AreNone ys) xs) (omega arith)
       (first_good keep n (count_steps a + 0) (λ ys. StepsGive a AreNone ys) (steps_good n a within.1 (omega arith) 0 AreNone (none_good n)))) good
+  step_good zero (script.Over id at var input a) within small m P good = absurd within
+  step_good (suc n) (script.Over id at var input a) within small m P good =
+      let few = few_steps a in
+      then_good (suc n) m _ P
+      (turns_formed n (count_steps a + 0) (λ xs. StepsGive a AreNone xs) (omega arith) (steps_good n a within (omega arith) 0 AreNone (none_good n))) good
 
   pub steps_good : (n : ℕ) (ss : Steps) → StepsWithin n ss → steps_size ss ≤ most → (m : ℕ) (P : Entries → Type 0) → AllGood n m P → AllGood n (count_steps ss + m) (StepsGive ss P)
   steps_good n script.NoSteps within small m P good = more_good n m (0 + m) P (omega arith) good

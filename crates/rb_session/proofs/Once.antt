@@ -6,7 +6,8 @@ use Rattle.rb_meaning_bytes.specs.formats.Fields.{IsBytes}
 use Rattle.rb_meaning_bytes.specs.formats.Formats.{Format, Spells}
 use Rattle.rb_meaning_bytes.specs.formats.Forests.{forest_message}
 use Rattle.rb_meaning_bytes.specs.formats.Refusals.{refusal_message}
-use Rattle.rb_meaning_bytes.specs.formats.ScriptPayloads.{Sent, Refused, Means}
+use Rattle.rb_meaning_bytes.specs.formats.Messages.{Sent, Refused}
+use Rattle.rb_meaning_bytes.specs.formats.ScriptPayloads.{Means}
 use Rattle.rb_meaning.specs.Answers.{performed, performs, refuses, HasOneAnswer}
 
 -- A payload means one thing.

@@ -8,7 +8,7 @@ use Rattle.rb_meaning_bytes.specs.formats.FormedScripts.{IsWithinLimits, StepsWi
 use Rattle.rb_meaning_bytes.specs.formats.Forests.{forest_message}
 use Rattle.rb_meaning_bytes.specs.formats.ForestBytes.{forest_bytes, FormedForest, FormedNode}
 use Rattle.rb_meaning_bytes.specs.formats.Laws.{IsSpelling}
-use Rattle.rb_meaning_bytes.specs.formats.ScriptPayloads.{Sent}
+use Rattle.rb_meaning_bytes.specs.formats.Messages.{Sent}
 use Rattle.rb_law_types.specs.Scripts.{ScriptsKeep, RanKeeps, StepsGive, AreNone}
 use Rattle.rb_law_types.specs.Formed.{LawfulClassesAreFormed}
 use Rattle.rb_exec.specs.Hosted.{Hosted}
@@ -17,9 +17,9 @@ use Rattle.rb_wire_forest.specs.Buffers.{Appends}
 use Rattle.rb_session.specs.Answering.{IsTypedHost, Performs, performed_on}
 use Rattle.rb_session.specs.Readings.{IsSent, sent_of}
 use Rattle.rb_session.proofs.Nodes.{root_formed}
-use Rattle.rb_session.proofs.Bounded.{steps_bounded, inputs_bounded}
+use Rattle.rb_session.proofs.Bounded.{script_bounded, inputs_fit}
 
-limits_within : (x : Sent) → IsWithinLimits x.0 → StepsWithin 63 x.0.body
+limits_within : (x : Sent) → IsWithinLimits x.script → StepsWithin 63 x.script.body
 unfolding IsWithinLimits
 limits_within x h = h
 
@@ -28,18 +28,18 @@ unfolding FormedForest
 as_forest node h = h
 
 gives : ScriptsKeep → LawfulClassesAreFormed → (host : Hosted) (x : Sent) → IsTypedHost host → IsSent x
-    → RanKeeps (mirror_service host.service).classes host.service.root host.table (λ es. StepsGive x.0.body AreNone es) (performed_on host x)
+    → RanKeeps (mirror_service host.service).classes host.service.root host.table (λ es. StepsGive x.script.body AreNone es) (performed_on host x)
 gives law formed host x typed sent =
     let classes = (mirror_service host.service).classes in
-    law classes typed.typed (formed classes typed.lawful.each) host.service.root host.table typed.fits x.0 x.1
-    (steps_bounded x.0.body sent.formed.formed.body) (inputs_bounded x.1 sent.formed.values.primitive)
+    law classes typed.typed (formed classes typed.lawful.each) host.service.root host.table typed.fits x.script x.values
+    (script_bounded x.script sent.formed.formed.body sent.valid) (inputs_fit x.script x.values sent.formed.values)
 
 -- its node
 pub node_spelled : ScriptsKeep → LawfulClassesAreFormed → (host : Hosted) (x : Sent) → IsTypedHost host → IsSent x → FormedForest (performed_on host x).node
 node_spelled law formed host x typed sent =
     let ran = gives law formed host x typed sent in
     let size = sent.size in
-    as_forest (performed_on host x).node (root_formed x.0.body (limits_within x sent.formed.within) (omega arith) (performed_on host x).node ran.node)
+    as_forest (performed_on host x).node (root_formed x.script.body (limits_within x sent.formed.within) (omega arith) (performed_on host x).node ran.node)
 
 -- its forest, where its bytes were appended
 pub node_appended : ScriptsKeep → LawfulClassesAreFormed → IsSpelling forest_message forest_bytes FormedForest → (host : Hosted) (x : Sent) (old new : List ℕ) → IsTypedHost host → IsSent x

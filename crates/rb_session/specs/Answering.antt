@@ -2,7 +2,8 @@
 use Rattle.std.specs.Prelude.{◌≡◌, ℕ, List, ◌++◌, Err}
 use Rattle.rb_trees.specs.mirror.Services.{mirror_service}
 use Rattle.rb_meaning_bytes.specs.formats.Forests.{forest_message}
-use Rattle.rb_meaning_bytes.specs.formats.ScriptPayloads.{Sent, Refused, Means}
+use Rattle.rb_meaning_bytes.specs.formats.Messages.{Sent, Refused}
+use Rattle.rb_meaning_bytes.specs.formats.ScriptPayloads.{Means}
 use Rattle.rb_meaning_code.specs.ScriptRun.{Ran}
 use Rattle.rb_meaning.specs.Answers.{performed, Answers}
 use Rattle.rb_meaning.specs.Links.{IsTyped}

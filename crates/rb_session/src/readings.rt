@@ -1,10 +1,10 @@
 // Requests that are read.
 
 ghost use Rattle.std.specs.Prelude.{◌≡◌, ◌≤◌, ℕ, List, Result, length, IfOk, OnErr};
-ghost use Rattle.rb_trees.specs.mirror.Scripts.{mirror_script};
 ghost use Rattle.rb_meaning.specs.Answers.{longest_request};
-ghost use Rattle.rb_meaning_bytes.specs.formats.ScriptPayloads.{Sent, Refused, Means};
-ghost use Rattle.rb_session.specs.Readings.{IsSent, ReadAs, Reads};
+ghost use Rattle.rb_meaning_bytes.specs.formats.Messages.{Sent, Refused};
+ghost use Rattle.rb_meaning_bytes.specs.formats.ScriptPayloads.{Means};
+ghost use Rattle.rb_session.specs.Readings.{IsSent, ReadAs, Reads, sent_of};
 
 use bytes::BytesMut;
 use rb_meaning_bytes::{
@@ -30,8 +30,7 @@ impl Model for Ready {
     ghost use Rattle.rb_trees.specs.contracts.values.Value as value_code;
     ghost use Rattle.rb_trees.specs.declared.scripts.Script as scripts;
     ghost use Rattle.rb_trees.specs.declared.values.Value as values;
-    ghost use Rattle.rb_trees.specs.mirror.Scripts.{mirror_script};
-    ghost use Rattle.rb_session.specs.Readings.{IsSent};
+    ghost use Rattle.rb_session.specs.Readings.{IsSent, sent_of};
 
     ghost Value = { scripts.Script × List values.Value };
 
@@ -39,12 +38,12 @@ impl Model for Ready {
 
     ghost view = { λ r. (r.script, r.inputs) };
 
-    ghost invariant = { λ r. IsSent (mirror_script r.script, r.inputs) };
+    ghost invariant = { λ r. IsSent (sent_of (r.script, r.inputs)) };
 }
 
 // A request that may be performed.
 fn ready_of(script: Script, inputs: Seq<Value>) -> Ready
-    requires { IsSent (mirror_script script, inputs) }
+    requires { IsSent (sent_of (script, inputs)) }
     ensures { result ≡ (script, inputs) }
 {
     Ready { script, inputs }

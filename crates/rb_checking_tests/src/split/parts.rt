@@ -122,6 +122,17 @@ fn add_part(alloc: Global, part: &Part, into: &mut Word) -> Result<(), Memory> {
             add_name(alloc, name, *kind, into)?;
             add_parts(alloc, body, into)
         }
+        Part::Over {
+            step,
+            name,
+            input,
+            body,
+            ..
+        } => {
+            add_number(alloc, "over ", *step, into)?;
+            add_name(alloc, name, *input, into)?;
+            add_parts(alloc, body, into)
+        }
     }
 }
 

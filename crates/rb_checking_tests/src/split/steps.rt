@@ -91,6 +91,11 @@ fn add_form(alloc: Global, form: &StepForm, into: &mut Word) -> Result<(), Memor
             add_expr(alloc, rows, into)?;
             add_steps(alloc, body, into)
         }
+        StepForm::Over { var, input, body } => {
+            add_number(alloc, " over v", *var, into)?;
+            add_number(alloc, " in", u32::from(*input), into)?;
+            add_steps(alloc, body, into)
+        }
     }
 }
 

@@ -3,4 +3,4 @@ use Rattle.rb_fitting_rules.proofs.Judged.{outcome}
 use Rattle.rb_fitting_rules.proofs.one_outcome.Goals as goal
 
 pub returns : goal.returns
-returns c = λ n ps. outcome n ps
+returns c = λ lengths n ps. outcome lengths n ps

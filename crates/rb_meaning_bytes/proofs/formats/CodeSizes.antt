@@ -7,6 +7,7 @@ use Rattle.rb_trees.specs.mirror.Scripts.{SExpr, SExprs, Step, Steps}
 use Rattle.rb_trees.specs.CodeSize.{value_form_size, expr_size, exprs_size, step_size, steps_size, block_size}
 use Rattle.rb_meaning_bytes.specs.formats.Fields.{number, wide_number, text, truth}
 use Rattle.rb_meaning_bytes.specs.formats.ScriptBytes.{value_form, expr_bytes, exprs_bytes, count_exprs, step_bytes, steps_bytes, count_steps, block_bytes}
+use Rattle.rb_meaning_bytes.specs.formats.FormedScripts.{HasNoOver, HaveNoOver}
 
 number_size : (n : ℕ) → length (number n) ≡ 4
 unfolding number
@@ -65,27 +66,28 @@ binding_sized id at var keep = joined (number id ++ number at ++ number var) (tr
     (joined (number id ++ number at) (number var) 8 4 (head_sized id at) (number_size var)) (truth_size keep)
 
 mutual
-  step_sized : (s : Step) → length (step_bytes s) ≡ step_size s
-  step_sized (tree.Do id at e) = omega (arith, joined (number id ++ number at) (expr_bytes e) 8 (expr_size e) (head_sized id at) (expr_sized e))
-  step_sized (tree.Keep id at e) = omega (arith, joined (number id ++ number at) (expr_bytes e) 8 (expr_size e) (head_sized id at) (expr_sized e))
-  step_sized (tree.Let id at var keep e) =
+  step_sized : (s : Step) → HasNoOver s → length (step_bytes s) ≡ step_size s
+  step_sized (tree.Do id at e) h = omega (arith, joined (number id ++ number at) (expr_bytes e) 8 (expr_size e) (head_sized id at) (expr_sized e))
+  step_sized (tree.Keep id at e) h = omega (arith, joined (number id ++ number at) (expr_bytes e) 8 (expr_size e) (head_sized id at) (expr_sized e))
+  step_sized (tree.Let id at var keep e) h =
       omega (arith, joined (number id ++ number at ++ number var ++ truth keep) (expr_bytes e) 13 (expr_size e) (binding_sized id at var keep) (expr_sized e))
-  step_sized (tree.If id at e a b) =
+  step_sized (tree.If id at e a b) h =
       let one = joined (number id ++ number at) (expr_bytes e) 8 (expr_size e) (head_sized id at) (expr_sized e) in
       let two = joined (number id ++ number at ++ expr_bytes e) (number (count_steps a)) _ 4 one (number_size (count_steps a)) in
-      let three = joined (number id ++ number at ++ expr_bytes e ++ number (count_steps a)) (steps_bytes a) _ (steps_size a) two (steps_sized a) in
+      let three = joined (number id ++ number at ++ expr_bytes e ++ number (count_steps a)) (steps_bytes a) _ (steps_size a) two (steps_sized a h.0) in
       let four = joined (number id ++ number at ++ expr_bytes e ++ number (count_steps a) ++ steps_bytes a) (number (count_steps b)) _ 4 three (number_size (count_steps b)) in
-      let five = joined (number id ++ number at ++ expr_bytes e ++ number (count_steps a) ++ steps_bytes a ++ number (count_steps b)) (steps_bytes b) _ (steps_size b) four (steps_sized b) in
+      let five = joined (number id ++ number at ++ expr_bytes e ++ number (count_steps a) ++ steps_bytes a ++ number (count_steps b)) (steps_bytes b) _ (steps_size b) four (steps_sized b h.1) in
       omega arith
-  step_sized (tree.Each id at var keep e a) =
+  step_sized (tree.Each id at var keep e a) h =
       let one = joined (number id ++ number at ++ number var ++ truth keep) (expr_bytes e) 13 (expr_size e) (binding_sized id at var keep) (expr_sized e) in
       let two = joined (number id ++ number at ++ number var ++ truth keep ++ expr_bytes e) (number (count_steps a)) _ 4 one (number_size (count_steps a)) in
-      let three = joined (number id ++ number at ++ number var ++ truth keep ++ expr_bytes e ++ number (count_steps a)) (steps_bytes a) _ (steps_size a) two (steps_sized a) in
+      let three = joined (number id ++ number at ++ number var ++ truth keep ++ expr_bytes e ++ number (count_steps a)) (steps_bytes a) _ (steps_size a) two (steps_sized a h) in
       omega arith
+  step_sized (tree.Over id at var input a) h = absurd h
 
-  steps_sized : (ss : Steps) → length (steps_bytes ss) ≡ steps_size ss
-  steps_sized tree.NoSteps = refl
-  steps_sized (tree.MoreSteps s ss) = joined (step_bytes s) (steps_bytes ss) (step_size s) (steps_size ss) (step_sized s) (steps_sized ss)
+  steps_sized : (ss : Steps) → HaveNoOver ss → length (steps_bytes ss) ≡ steps_size ss
+  steps_sized tree.NoSteps h = refl
+  steps_sized (tree.MoreSteps s ss) h = joined (step_bytes s) (steps_bytes ss) (step_size s) (steps_size ss) (step_sized s h.0) (steps_sized ss h.1)
 
-pub block_sized : (ss : Steps) → length (block_bytes ss) ≡ block_size ss
-block_sized ss = joined (number (count_steps ss)) (steps_bytes ss) 4 (steps_size ss) (number_size (count_steps ss)) (steps_sized ss)
+pub block_sized : (ss : Steps) → HaveNoOver ss → length (block_bytes ss) ≡ block_size ss
+block_sized ss h = joined (number (count_steps ss)) (steps_bytes ss) 4 (steps_size ss) (number_size (count_steps ss)) (steps_sized ss h)

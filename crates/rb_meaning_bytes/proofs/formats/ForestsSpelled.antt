@@ -8,6 +8,7 @@ use Rattle.rb_meaning_bytes.specs.formats.Fields.{Text, number, text}
 use Rattle.rb_meaning_bytes.specs.formats.Formats.{Done, the, times, Spells, done, more}
 use Rattle.rb_meaning_bytes.specs.formats.Values.{value}
 use Rattle.rb_meaning_bytes.specs.formats.Forests.{thrown, is_fault_code, fault_text, ends, end, rows_entry, entry_forms, entry, node, forest_message}
+use Rattle.rb_meaning_bytes.specs.formats.Messages.{Refused}
 use Rattle.rb_meaning_bytes.specs.formats.Refusals.{is_refusal_number, refusal_1, refusal_message}
 use Rattle.rb_meaning_bytes.specs.formats.ScriptBytes.{value_bytes}
 use Rattle.rb_meaning_bytes.specs.formats.ForestBytes.{words_bytes, end_bytes, count_entries, count_nodes, node_bytes, entry_bytes, entries_bytes, nodes_bytes, forest_bytes, refusal_bytes, formed_text, FormedText, FormedEnd, FormedNode, FormedEntry, FormedEntries, FormedNodes, FormedForest, FormedRefusal}
@@ -100,10 +101,10 @@ forest_spelled n h = under ((0x01, node 64) ∷ []) 0x01 (node_bytes n) n refl (
 number_below : (n : ℕ) → is_refusal_number n ≡ true → n < 256
 number_below n h = grind (arith, nat_tests)
 
-abbrev refused : ℕ → ℕ → ℕ × ℕ
-refused n at = (n, at)
+abbrev refused : ℕ → ℕ → Refused
+refused n at = record { number = n; at = at }
 
-pub refusal_spelled : (r : ℕ × ℕ) → FormedRefusal r → Spells refusal_message (refusal_bytes r) r
+pub refusal_spelled : (r : Refused) → FormedRefusal r → Spells refusal_message (refusal_bytes r) r
 unfolding refusal_message
-refusal_spelled (n, at) h = under ((0x01, refusal_1) ∷ []) 0x01 _ (refused n at) refl (omega arith)
-    (more n (h.0, number_below n h.0) (moved (append-nil (number at)) (more at h.1 (done (refused n at)))))
+refusal_spelled r h = under ((0x01, refusal_1) ∷ []) 0x01 _ (refused r.number r.at) refl (omega arith)
+    (more r.number (h.0, number_below r.number h.0) (moved (append-nil (number r.at)) (more r.at h.1 (done (refused r.number r.at)))))

@@ -6,6 +6,7 @@ use Rattle.rb_meaning_bytes.specs.formats.Fields.{Tag, Number, Truth, Text, numb
 use Rattle.rb_meaning_bytes.specs.formats.Formats.{Done, the, times}
 use Rattle.rb_meaning_bytes.specs.formats.Values.{value}
 use Rattle.rb_meaning_bytes.specs.formats.Forests.{thrown, is_fault_code, fault_text, ends, end, entry_forms, entry, node, forest_message}
+use Rattle.rb_meaning_bytes.specs.formats.Messages.{Refused}
 use Rattle.rb_meaning_bytes.specs.formats.Refusals.{is_refusal_number, refusal_1, refusal_message}
 use Rattle.rb_meaning_bytes.specs.formats.ScriptBytes.{value_bytes}
 use Rattle.rb_meaning_bytes.specs.formats.FormedScripts.{IsPrimitive}
@@ -86,8 +87,8 @@ forest_only = only_choose forest_bytes FormedForest ((0x01, node 64) ∷ []) (fo
     forest_root : (F : _) → Only F [] node_bytes (FormedNode 64) → Only F (0x01 ∷ []) forest_bytes (FormedNode 64)
     forest_root F one = record { made = λ bytes n s. (let m = one.made bytes n s in record { is = ap (λ l. 0x01 ∷ l) m.is; fits = m.fits }) }
 
-abbrev refused : ℕ → ℕ → ℕ × ℕ
-refused n at = (n, at)
+abbrev refused : ℕ → ℕ → Refused
+refused n at = record { number = n; at = at }
 
 pub refusal_only : Only refusal_message [] refusal_bytes FormedRefusal
 unfolding refusal_message

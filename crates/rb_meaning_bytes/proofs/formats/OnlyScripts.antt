@@ -13,10 +13,12 @@ use Rattle.rb_meaning_bytes.specs.formats.Formats.{Format, times}
 use Rattle.rb_meaning_bytes.specs.formats.Values.{value}
 use Rattle.rb_meaning_bytes.specs.formats.Scripts.{unary_op, unary_ops, binary_op, binary_ops, kind, expr, expr_forms, whole_expr, step, step_forms, block, script_message, script_1}
 use Rattle.rb_meaning_bytes.specs.formats.ScriptBytes.{value_bytes, values_bytes, unary_code, binary_code, expr_bytes, exprs_bytes, count_exprs, step_bytes, steps_bytes, block_bytes, count_steps}
-use Rattle.rb_meaning_bytes.specs.formats.FormedScripts.{IsPrimitive, ArePrimitive, FormedExpr, FormedExprs, FormedStep, FormedSteps, Within, AllWithin, WholeWithin, StepWithin, StepsWithin, BlockWithin, IsWithinLimits}
-use Rattle.rb_meaning_bytes.specs.formats.ScriptPayloads.{Sent, CanBeSent, sent_bytes}
+use Rattle.rb_meaning_bytes.specs.formats.FormedScripts.{IsPrimitive, ArePrimitive, FormedExpr, FormedExprs, FormedStep, FormedSteps, Within, AllWithin, WholeWithin, StepWithin, StepsWithin, BlockWithin, HasNoOver, HaveNoOver, IsWithinLimits}
+use Rattle.rb_meaning_bytes.specs.formats.Messages.{Sent}
+use Rattle.rb_meaning_bytes.specs.formats.ScriptPayloads.{CanBeSent, sent_bytes}
 use Rattle.rb_meaning_bytes.proofs.formats.Only.{Only, only_done, only_more, only_deeper, only_bind, only_choose, only_times}
 use Rattle.rb_meaning_bytes.proofs.formats.Values.{value_only}
+use Rattle.rb_meaning_bytes.proofs.formats.Inputs.{primitive_inputs, no_list_numbers}
 
 abbrev any : {A : Type 0} → A → Type 0
 any x = Unit {0}
@@ -141,23 +143,23 @@ abbrev listed_steps : List Step → List ℕ
 listed_steps ss = steps_bytes (steps_from ss)
 
 abbrev steps_formed : ℕ → ℕ → List Step → Type 0
-steps_formed n count ss = (count_steps (steps_from ss) ≡ count) × FormedSteps (steps_from ss) × StepsWithin n (steps_from ss)
+steps_formed n count ss = (count_steps (steps_from ss) ≡ count) × FormedSteps (steps_from ss) × StepsWithin n (steps_from ss) × HaveNoOver (steps_from ss)
 
 abbrev FineStep : ℕ → Step → Type 0
-FineStep n s = FormedStep s × StepWithin n s
+FineStep n s = FormedStep s × StepWithin n s × HasNoOver s
 
 -- a block within which so many may be, itself among them
 abbrev FineBlock : ℕ → Steps → Type 0
-FineBlock n ss = (count_steps ss < 2 ^ 32) × FormedSteps ss × BlockWithin n ss
+FineBlock n ss = (count_steps ss < 2 ^ 32) × FormedSteps ss × BlockWithin n ss × HaveNoOver ss
 
 block_from : (n : ℕ) → Only (step (block n)) [] step_bytes (FineStep n) → Only (block (suc n)) [] block_bytes (FineBlock (suc n))
 unfolding block
 block_from n one =
     only_more block_bytes (FineBlock (suc n)) Number _ _ (λ count c.
     only_bind block_bytes (FineBlock (suc n)) (times count (step (block n))) _ _ listed_steps (steps_formed n count)
-    (only_times (step (block n)) step_bytes (FineStep n) listed_steps (steps_formed n) refl (λ x xs. refl) (refl, tt, tt) (λ m x xs f l. (ap suc l.0, (f.0, l.1), (f.1, l.2))) one count)
+    (only_times (step (block n)) step_bytes (FineStep n) listed_steps (steps_formed n) refl (λ x xs. refl) (refl, tt, tt, tt) (λ m x xs f l. (ap suc l.0, (f.0, l.1), (f.1, l.2), (f.2, l.3))) one count)
     (λ ss l. only_done block_bytes (FineBlock (suc n)) (steps_from ss) _
-    (ap (λ m. number m ++ listed_steps ss) (sym l.0)) (subst (λ m. m < 2 ^ 32) (sym l.0) c, l.1, l.2)))
+    (ap (λ m. number m ++ listed_steps ss) (sym l.0)) (subst (λ m. m < 2 ^ 32) (sym l.0) c, l.1, l.2, l.3)))
 
 regroup_if : (a b c d e f g : List ℕ) → (((a ++ b) ++ c) ++ (d ++ e)) ++ (f ++ g) ≡ a ++ b ++ c ++ d ++ e ++ f ++ g
 regroup_if a b c d e f g = simp append_assoc
@@ -175,12 +177,12 @@ step_from n F good block_only if_formed each_formed =
     let p : Step → List ℕ = λ x. step_bytes x in
     let ok : Step → Type 0 = λ x. FineStep n x in
     only_choose p ok (step_forms F) (
-      only_more p ok Number _ _ (λ id i. only_more p ok Number _ _ (λ at j. only_bind p ok whole_expr _ _ expr_bytes Whole whole_only (λ e k. only_done p ok (tree.Do id at e) _ refl ((i, j, k.0), k.1)))),
+      only_more p ok Number _ _ (λ id i. only_more p ok Number _ _ (λ at j. only_bind p ok whole_expr _ _ expr_bytes Whole whole_only (λ e k. only_done p ok (tree.Do id at e) _ refl ((i, j, k.0), k.1, tt)))),
       (
-        only_more p ok Number _ _ (λ id i. only_more p ok Number _ _ (λ at j. only_bind p ok whole_expr _ _ expr_bytes Whole whole_only (λ e k. only_done p ok (tree.Keep id at e) _ refl ((i, j, k.0), k.1)))),
+        only_more p ok Number _ _ (λ id i. only_more p ok Number _ _ (λ at j. only_bind p ok whole_expr _ _ expr_bytes Whole whole_only (λ e k. only_done p ok (tree.Keep id at e) _ refl ((i, j, k.0), k.1, tt)))),
         (
           only_more p ok Number _ _ (λ id i. only_more p ok Number _ _ (λ at j. only_more p ok Number _ _ (λ var v. only_more p ok Truth _ _ (λ keep u.
-              only_bind p ok whole_expr _ _ expr_bytes Whole whole_only (λ e k. only_done p ok (tree.Let id at var keep e) _ refl ((i, j, v, k.0), k.1)))))),
+              only_bind p ok whole_expr _ _ expr_bytes Whole whole_only (λ e k. only_done p ok (tree.Let id at var keep e) _ refl ((i, j, v, k.0), k.1, tt)))))),
           (
             only_more p ok Number _ _ (λ id i. only_more p ok Number _ _ (λ at j. only_bind p ok whole_expr _ _ expr_bytes Whole whole_only (λ e k.
                 only_bind p ok F _ _ block_bytes good block_only (λ a f. only_bind p ok F _ _ block_bytes good block_only (λ b g.
@@ -201,7 +203,7 @@ unfolding block
 block_only zero = only_deeper block_bytes (FineBlock 0) []
 block_only (suc zero) = block_from 0 (step_from 0 (block 0) (FineBlock 0) (block_only zero) (λ id at e a b i j k f g. absurd f.2) (λ id at var keep e a i j v k f. absurd f.2))
 block_only (suc (suc n)) = block_from (suc n) (step_from (suc n) (block (suc n)) (FineBlock (suc n)) (block_only (suc n))
-    (λ id at e a b i j k f g. ((i, j, k.0, f.0, f.1, g.0, g.1), (k.1, f.2, g.2))) (λ id at var keep e a i j v k f. ((i, j, v, k.0, f.0, f.1), (k.1, f.2))))
+    (λ id at e a b i j k f g. ((i, j, k.0, f.0, f.1, g.0, g.1), (k.1, f.2, g.2), (f.3, g.3))) (λ id at var keep e a i j v k f. ((i, j, v, k.0, f.0, f.1), (k.1, f.2), f.3)))
 
 -- ---- scripts
 
@@ -209,7 +211,7 @@ abbrev values_formed : ℕ → List Value → Type 0
 values_formed n vs = (length vs ≡ n) × ArePrimitive vs
 
 abbrev sent : Script → List Value → Sent
-sent s vs = (s, vs)
+sent s vs = record { script = s; values = vs }
 
 pub script_only : Only script_message [] sent_bytes CanBeSent
 unfolding script_message IsWithinLimits
@@ -219,9 +221,11 @@ script_only =
           only_bind sent_bytes CanBeSent (times n value) _ _ values_bytes (values_formed n)
           (only_times value value_bytes IsPrimitive values_bytes values_formed refl (λ x xs. refl) (refl, tt) (λ m x xs f l. (ap suc l.0, (f, l.1))) value_only n)
           (λ vs l. only_bind sent_bytes CanBeSent (block 64) _ _ block_bytes (FineBlock 64) (block_only 64) (λ body f.
-          only_done sent_bytes CanBeSent (sent (record { inputs = n; body = body }) vs) _ refl (record {
-            formed = record { inputs = i; count = f.0; body = f.1 };
-            values = record { count = l.0; primitive = l.1 };
+          let s : Script = record { inputs = n; lists = []; body = body } in
+          only_done sent_bytes CanBeSent (sent s vs) _ refl (record {
+            formed = record { inputs = i; lists = no_list_numbers n; count = f.0; body = f.1 };
+            plain = record { lists = refl; steps = f.3 };
+            values = primitive_inputs s vs refl l.0 l.1;
             within = f.2;
           })))),
       tt,

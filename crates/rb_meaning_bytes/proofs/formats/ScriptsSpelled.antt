@@ -13,10 +13,12 @@ use Rattle.rb_meaning_bytes.specs.formats.Formats.{times, Spells, done, more}
 use Rattle.rb_meaning_bytes.specs.formats.Values.{value}
 use Rattle.rb_meaning_bytes.specs.formats.Scripts.{unary_op, binary_op, kind, expr, expr_forms, call, whole_expr, step, step_forms, block, script_message, script_1}
 use Rattle.rb_meaning_bytes.specs.formats.ScriptBytes.{value_bytes, values_bytes, unary_code, binary_code, expr_bytes, exprs_bytes, count_exprs, step_bytes, steps_bytes, block_bytes, count_steps}
-use Rattle.rb_meaning_bytes.specs.formats.FormedScripts.{ArePrimitive, FormedExpr, FormedExprs, FormedStep, FormedSteps, Within, AllWithin, WholeWithin, StepWithin, StepsWithin, IsWithinLimits}
-use Rattle.rb_meaning_bytes.specs.formats.ScriptPayloads.{Sent, CanBeSent, sent_bytes}
+use Rattle.rb_meaning_bytes.specs.formats.FormedScripts.{ArePrimitive, FormedExpr, FormedExprs, FormedStep, FormedSteps, HasNoOver, HaveNoOver, Within, AllWithin, WholeWithin, StepWithin, StepsWithin, IsWithinLimits}
+use Rattle.rb_meaning_bytes.specs.formats.Messages.{Sent}
+use Rattle.rb_meaning_bytes.specs.formats.ScriptPayloads.{CanBeSent, sent_bytes}
 use Rattle.rb_meaning_bytes.proofs.formats.Spelled.{moved, after, finally, under}
 use Rattle.rb_meaning_bytes.proofs.formats.Values.{value_spelled}
+use Rattle.rb_meaning_bytes.proofs.formats.Inputs.{inputs_primitive}
 
 unary_spelled : (op : UnOp) → Spells unary_op (unary_code op ∷ []) op
 unfolding unary_op
@@ -122,38 +124,39 @@ block_of n ss h l =
 mutual
   unfolding step times
 
-  step_spelled : (n : ℕ) (s : Step) → FormedStep s → StepWithin n s → Spells (step (block n)) (step_bytes s) s
-  step_spelled n (tree.Do id at e) h w = under (step_forms (block n)) 0x10 _ (tree.Do id at e) refl (omega arith)
+  step_spelled : (n : ℕ) (s : Step) → FormedStep s → StepWithin n s → HasNoOver s → Spells (step (block n)) (step_bytes s) s
+  step_spelled n (tree.Do id at e) h w o = under (step_forms (block n)) 0x10 _ (tree.Do id at e) refl (omega arith)
       (moved (grouped_3 (number id) (number at) (expr_bytes e))
       (more id h.0 (more at h.1 (finally whole_expr (λ x. tree.Do id at x) (expr_bytes e) e (whole_expr_spelled e h.2 w)))))
-  step_spelled n (tree.Keep id at e) h w = under (step_forms (block n)) 0x11 _ (tree.Keep id at e) refl (omega arith)
+  step_spelled n (tree.Keep id at e) h w o = under (step_forms (block n)) 0x11 _ (tree.Keep id at e) refl (omega arith)
       (moved (grouped_3 (number id) (number at) (expr_bytes e))
       (more id h.0 (more at h.1 (finally whole_expr (λ x. tree.Keep id at x) (expr_bytes e) e (whole_expr_spelled e h.2 w)))))
-  step_spelled n (tree.Let id at var keep e) h w = under (step_forms (block n)) 0x12 _ (tree.Let id at var keep e) refl (omega arith)
+  step_spelled n (tree.Let id at var keep e) h w o = under (step_forms (block n)) 0x12 _ (tree.Let id at var keep e) refl (omega arith)
       (moved (grouped_5 (number id) (number at) (number var) (truth keep) (expr_bytes e))
       (more id h.0 (more at h.1 (more var h.2 (more keep tt (finally whole_expr (λ x. tree.Let id at var keep x) (expr_bytes e) e (whole_expr_spelled e h.3 w)))))))
-  step_spelled zero (tree.If id at e a b) h w = absurd w
-  step_spelled (suc n) (tree.If id at e a b) h w = under (step_forms (block (suc n))) 0x13 _ (tree.If id at e a b) refl (omega arith)
+  step_spelled zero (tree.If id at e a b) h w o = absurd w
+  step_spelled (suc n) (tree.If id at e a b) h w o = under (step_forms (block (suc n))) 0x13 _ (tree.If id at e a b) refl (omega arith)
       (moved (grouped_if (number id) (number at) (expr_bytes e) (number (count_steps a)) (steps_bytes a) (number (count_steps b)) (steps_bytes b))
       (more id h.0 (more at h.1
       (after whole_expr _ (expr_bytes e) _ e _ (whole_expr_spelled e h.2 w.0)
-      (after (block (suc n)) _ (block_bytes a) _ a _ (block_of n a h.3 (steps_spelled n a h.4 w.1))
-      (finally (block (suc n)) (λ x. tree.If id at e a x) (block_bytes b) b (block_of n b h.5 (steps_spelled n b h.6 w.2))))))))
-  step_spelled zero (tree.Each id at var keep e a) h w = absurd w
-  step_spelled (suc n) (tree.Each id at var keep e a) h w = under (step_forms (block (suc n))) 0x14 _ (tree.Each id at var keep e a) refl (omega arith)
+      (after (block (suc n)) _ (block_bytes a) _ a _ (block_of n a h.3 (steps_spelled n a h.4 w.1 o.0))
+      (finally (block (suc n)) (λ x. tree.If id at e a x) (block_bytes b) b (block_of n b h.5 (steps_spelled n b h.6 w.2 o.1))))))))
+  step_spelled zero (tree.Each id at var keep e a) h w o = absurd w
+  step_spelled (suc n) (tree.Each id at var keep e a) h w o = under (step_forms (block (suc n))) 0x14 _ (tree.Each id at var keep e a) refl (omega arith)
       (moved (grouped_each (number id) (number at) (number var) (truth keep) (expr_bytes e) (number (count_steps a)) (steps_bytes a))
       (more id h.0 (more at h.1 (more var h.2 (more keep tt
       (after whole_expr _ (expr_bytes e) _ e _ (whole_expr_spelled e h.3 w.0)
-      (finally (block (suc n)) (λ x. tree.Each id at var keep e x) (block_bytes a) a (block_of n a h.4 (steps_spelled n a h.5 w.1)))))))))
+      (finally (block (suc n)) (λ x. tree.Each id at var keep e x) (block_bytes a) a (block_of n a h.4 (steps_spelled n a h.5 w.1 o)))))))))
+  step_spelled n (tree.Over id at var input a) h w o = absurd o
 
-  steps_spelled : (n : ℕ) (ss : Steps) → FormedSteps ss → StepsWithin n ss → ListedSteps n ss
-  steps_spelled n tree.NoSteps h w = record { items = []; is = refl; spells = done [] }
-  steps_spelled n (tree.MoreSteps s ss) h w =
-      let l = steps_spelled n ss h.1 w.1 in
+  steps_spelled : (n : ℕ) (ss : Steps) → FormedSteps ss → StepsWithin n ss → HaveNoOver ss → ListedSteps n ss
+  steps_spelled n tree.NoSteps h w o = record { items = []; is = refl; spells = done [] }
+  steps_spelled n (tree.MoreSteps s ss) h w o =
+      let l = steps_spelled n ss h.1 w.1 o.1 in
       record {
         items = s ∷ l.items;
         is = ap (tree.MoreSteps s) l.is;
-        spells = after (step (block n)) _ (step_bytes s) (steps_bytes ss) s _ (step_spelled n s h.0 w.0) (finally (times (count_steps ss) (step (block n))) (λ xs. s ∷ xs) (steps_bytes ss) l.items l.spells);
+        spells = after (step (block n)) _ (step_bytes s) (steps_bytes ss) s _ (step_spelled n s h.0 w.0 o.0) (finally (times (count_steps ss) (step (block n))) (λ xs. s ∷ xs) (steps_bytes ss) l.items l.spells);
       }
 
 values_spelled : (vs : List Value) → ArePrimitive vs → Spells (times (length vs) value) (values_bytes vs) vs
@@ -162,15 +165,22 @@ values_spelled [] h = done []
 values_spelled (v ∷ vs) h = after value _ (value_bytes v) (values_bytes vs) v _ (value_spelled v h.0) (finally (times (length vs) value) (λ xs. v ∷ xs) (values_bytes vs) vs (values_spelled vs h.1))
 
 abbrev sent : Script → List Value → Sent
-sent s values = (s, values)
+sent s values = record { script = s; values = values }
+
+-- a script without lists
+abbrev plain : ℕ → Steps → Script
+plain inputs body = record { inputs = inputs; lists = []; body = body }
 
 -- A script that can be sent spells its bytes.
 pub script_spelled : (x : Sent) → CanBeSent x → Spells script_message (sent_bytes x) x
 unfolding script_message IsWithinLimits
-script_spelled (s, values) h =
-    under ((0x01, script_1) ∷ []) 0x01 _ (sent s values) refl (omega arith)
+script_spelled x h =
+    let s = x.script in
+    let values = x.values in
+    subst (λ l. Spells script_message (sent_bytes x) (sent (record { inputs = s.inputs; lists = l; body = s.body }) values)) (sym h.plain.lists)
+    (under ((0x01, script_1) ∷ []) 0x01 _ (sent (plain s.inputs s.body) values) refl (omega arith)
     (more s.inputs h.formed.inputs
     (after (times s.inputs value) _ (values_bytes values) (block_bytes s.body) values _
-    (subst (λ n. Spells (times n value) (values_bytes values) values) h.values.count (values_spelled values h.values.primitive))
-    (finally (block 64) (λ x. sent (record { inputs = s.inputs; body = x }) values) (block_bytes s.body) s.body
-    (block_of 63 s.body h.formed.count (steps_spelled 63 s.body h.formed.body h.within)))))
+    (subst (λ n. Spells (times n value) (values_bytes values) values) h.values.count (values_spelled values (inputs_primitive s values h.plain.lists h.values)))
+    (finally (block 64) (λ body. sent (plain s.inputs body) values) (block_bytes s.body) s.body
+    (block_of 63 s.body h.formed.count (steps_spelled 63 s.body h.formed.body h.within h.plain.steps))))))

@@ -6,7 +6,7 @@ use Rattle.rb_trees.specs.declared.validity.ScriptRefusal.{ScriptRefusal}
 use Rattle.rb_trees.specs.declared.validity.ScriptRefusal.TheVariants.{TooDeep}
 use Rattle.rb_trees.specs.mirror.Scripts as tree
 use Rattle.rb_trees.specs.mirror.Scripts.{SExpr, SExprs, Step, Steps, Script}
-use Rattle.rb_trees.specs.Validity.{when, first, repeated, nested_exprs, nested_blocks, step_numbers, steps_numbers, step_lets, expr_refusals, exprs_refusals, whole_refusals, step_refusals, steps_refusals, verdict}
+use Rattle.rb_trees.specs.Validity.{Inputs, inputs_of, list_refusals, when, first, repeated, nested_exprs, nested_blocks, step_numbers, steps_numbers, step_lets, expr_refusals, exprs_refusals, whole_refusals, step_refusals, steps_refusals, verdict}
 use Rattle.rb_trees.proofs.rules.Refusals.{too_deep}
 use Rattle.rb_meaning_bytes.specs.formats.FormedScripts.{Within, AllWithin, WholeWithin, StepWithin, StepsWithin, IsWithinLimits}
 
@@ -19,7 +19,7 @@ right_ok [] ys h = h
 right_ok (x ∷ xs) ys h = absurd cc
 
 mutual
-  expr_within : (inputs : ℕ) (bound : List ℕ) (step n depth : ℕ) (e : SExpr) → n + depth ≡ 257 → first (expr_refusals inputs bound step depth e) ≡ Ok tt → Within n e
+  expr_within : (inputs : Inputs) (bound : List ℕ) (step n depth : ℕ) (e : SExpr) → n + depth ≡ 257 → first (expr_refusals inputs bound step depth e) ≡ Ok tt → Within n e
   expr_within inputs bound step zero depth e p h = let t = too_deep inputs bound step depth e (lt-ltb 256 depth (omega arith)) in absurd cc
   expr_within inputs bound step (suc n) depth (tree.Lit v) p h = tt
   expr_within inputs bound step (suc n) depth (tree.Input i) p h = tt
@@ -41,14 +41,14 @@ mutual
         exprs_within inputs bound step n (depth + 1) args (omega arith) (right_ok (one ++ two) three h),
       )
 
-  exprs_within : (inputs : ℕ) (bound : List ℕ) (step n depth : ℕ) (es : SExprs) → n + depth ≡ 257 → first (exprs_refusals inputs bound step depth es) ≡ Ok tt → AllWithin n es
+  exprs_within : (inputs : Inputs) (bound : List ℕ) (step n depth : ℕ) (es : SExprs) → n + depth ≡ 257 → first (exprs_refusals inputs bound step depth es) ≡ Ok tt → AllWithin n es
   exprs_within inputs bound step n depth tree.NoSExprs p h = tt
   exprs_within inputs bound step n depth (tree.MoreSExprs e es) p h = (
     expr_within inputs bound step n depth e p (left_ok (expr_refusals inputs bound step depth e) (exprs_refusals inputs bound step depth es) h),
     exprs_within inputs bound step n depth es p (right_ok (expr_refusals inputs bound step depth e) (exprs_refusals inputs bound step depth es) h),
   )
 
-whole_within : (inputs : ℕ) (bound : List ℕ) (step : ℕ) (e : SExpr) → first (whole_refusals inputs bound step e) ≡ Ok tt → WholeWithin e
+whole_within : (inputs : Inputs) (bound : List ℕ) (step : ℕ) (e : SExpr) → first (whole_refusals inputs bound step e) ≡ Ok tt → WholeWithin e
 unfolding whole_refusals WholeWithin
 whole_within inputs bound step e h = expr_within inputs bound step 256 1 e refl h
 
@@ -67,7 +67,7 @@ fourth_of_4 : (a b c d : List ScriptRefusal) → first (a ++ b ++ c ++ d) ≡ Ok
 fourth_of_4 a b c d h = right_ok (a ++ b ++ c) d h
 
 mutual
-  step_within : (inputs n depth : ℕ) (seen bound : List ℕ) (s : Step) → n + depth ≡ 64 → first (step_refusals inputs depth seen bound s) ≡ Ok tt → StepWithin n s
+  step_within : (inputs : Inputs) (n depth : ℕ) (seen bound : List ℕ) (s : Step) → n + depth ≡ 64 → first (step_refusals inputs depth seen bound s) ≡ Ok tt → StepWithin n s
   step_within inputs n depth seen bound (tree.Do id at e) p h = whole_within inputs bound id e (right_ok (repeated id seen) (whole_refusals inputs bound id e) h)
   step_within inputs n depth seen bound (tree.Keep id at e) p h = whole_within inputs bound id e (right_ok (repeated id seen) (whole_refusals inputs bound id e) h)
   step_within inputs n depth seen bound (tree.Let id at var keep e) p h = whole_within inputs bound id e (right_ok (repeated id seen) (whole_refusals inputs bound id e) h)
@@ -92,8 +92,14 @@ mutual
         whole_within inputs bound id e (third_of_4 (repeated id seen) (nested_blocks id depth) (whole_refusals inputs bound id e) one h),
         steps_within inputs n (depth + 1) (seen ++ id ∷ []) (bound ++ var ∷ []) a (omega arith) (fourth_of_4 (repeated id seen) (nested_blocks id depth) (whole_refusals inputs bound id e) one h),
       )
+  step_within inputs zero depth seen bound (tree.Over id at var input a) p h =
+      let one = steps_refusals inputs (depth + 1) (seen ++ id ∷ []) (bound ++ var ∷ []) a in
+      too_nested (nat_lt depth 64) (TooDeep id) (le-ltb depth 64 (omega arith)) (second_of_4 (repeated id seen) (nested_blocks id depth) (list_refusals inputs id input) one h)
+  step_within inputs (suc n) depth seen bound (tree.Over id at var input a) p h =
+      let one = steps_refusals inputs (depth + 1) (seen ++ id ∷ []) (bound ++ var ∷ []) a in
+      steps_within inputs n (depth + 1) (seen ++ id ∷ []) (bound ++ var ∷ []) a (omega arith) (fourth_of_4 (repeated id seen) (nested_blocks id depth) (list_refusals inputs id input) one h)
 
-  steps_within : (inputs n depth : ℕ) (seen bound : List ℕ) (ss : Steps) → n + depth ≡ 64 → first (steps_refusals inputs depth seen bound ss) ≡ Ok tt → StepsWithin n ss
+  steps_within : (inputs : Inputs) (n depth : ℕ) (seen bound : List ℕ) (ss : Steps) → n + depth ≡ 64 → first (steps_refusals inputs depth seen bound ss) ≡ Ok tt → StepsWithin n ss
   steps_within inputs n depth seen bound tree.NoSteps p h = tt
   steps_within inputs n depth seen bound (tree.MoreSteps s ss) p h =
       let one = step_refusals inputs depth seen bound s in
@@ -103,4 +109,4 @@ mutual
 -- A valid script is within the limits.
 pub valid_within : (s : Script) → verdict s ≡ Ok tt → IsWithinLimits s
 unfolding IsWithinLimits
-valid_within s h = steps_within s.inputs 63 1 [] [] s.body refl h
+valid_within s h = steps_within (inputs_of s) 63 1 [] [] s.body refl h

@@ -16,7 +16,32 @@ fn nested(alloc: Global, exprs: u32) -> Result<Script, Fail> {
 fn script(alloc: Global, id: u32, form: StepForm) -> Result<Script, Fail> {
     let mut body = Seq::new(alloc);
     body.push(Step { id, at: 0, form })?;
-    Ok(Script { inputs: 1, body })
+    let lists = Seq::new(alloc);
+    Ok(Script {
+        inputs: 1,
+        lists,
+        body,
+    })
+}
+
+/// A script whose one input is a list, of one step that goes through the input of this number.
+fn over(alloc: Global, input: u8, body: Seq<Step>) -> Result<Script, Fail> {
+    let form = StepForm::Over {
+        var: 2,
+        input,
+        body,
+    };
+    let mut script = script(alloc, 0, form)?;
+    script.lists.push(0)?;
+    Ok(script)
+}
+
+/// A block of one step, `keep`.
+fn keeps(alloc: Global, value: SExpr) -> Result<Seq<Step>, Fail> {
+    let mut body = Seq::new(alloc);
+    let form = StepForm::Keep(value);
+    body.push(Step { id: 1, at: 0, form })?;
+    Ok(body)
 }
 
 #[test]
@@ -46,5 +71,21 @@ fn inputs_and_variables_are_known(rt: HostRuntime) -> Result<(), Fail> {
     assert_eq!(rt; valid(&input), Err(ScriptRefusal::UnknownInput(4)));
     let variable = script(rt.alloc(), 5, StepForm::Keep(SExpr::Var(0)))?;
     assert_eq!(rt; valid(&variable), Err(ScriptRefusal::UnknownVariable(5)));
+    Ok(())
+}
+
+#[test]
+fn lists_are_gone_through_alone(rt: HostRuntime) -> Result<(), Fail> {
+    let alloc = rt.alloc();
+    let good = over(alloc, 0, keeps(alloc, SExpr::Var(2))?)?;
+    assert_eq!(rt; valid(&good), Ok(()));
+    assert_eq!(rt; code_size(&good), 36);
+    let kept = over(alloc, 0, keeps(alloc, SExpr::Input(0))?)?;
+    assert_eq!(rt; valid(&kept), Err(ScriptRefusal::WrongInput(1)));
+    let unknown = over(alloc, 1, keeps(alloc, SExpr::Root)?)?;
+    assert_eq!(rt; valid(&unknown), Err(ScriptRefusal::UnknownInput(0)));
+    let mut plain = over(alloc, 0, keeps(alloc, SExpr::Root)?)?;
+    plain.lists = Seq::new(alloc);
+    assert_eq!(rt; valid(&plain), Err(ScriptRefusal::WrongInput(0)));
     Ok(())
 }
