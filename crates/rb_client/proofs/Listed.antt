@@ -19,7 +19,6 @@ use Rattle.rb_meaning.specs.State.{Event}
 use Rattle.rb_meaning_split.specs.Replay.{Seen, Replayed, Rest, after_unit, behind, behind_end, ended, fault_at, items_of, list_turns, missed, on_items, on_rows, on_unit, stopped}
 use Rattle.rb_base.specs.Devices.{Device}
 use Rattle.rb_base.specs.declared.sinks.Sink as sinks
-use Rattle.rb_engine.proofs.Values.{values as value_forms}
 use Rattle.rb_wire_forest.specs.CursorSteps.{Moves, next_rows, next_turn}
 use Rattle.rb_wire_forest.specs.CursorSteps as steps
 use Rattle.rb_wire_forest.specs.Opens.{Open, AtNode, AtRows}
@@ -39,8 +38,6 @@ use Rattle.rb_client.proofs.Enclosed.{behind_does, gave_behind, has_turn, miss_s
 use Rattle.rb_client.proofs.Events.{adding, no_more}
 use Rattle.rb_client.proofs.Missed.{missed_at, no_rows, rowed, turned_to}
 use Rattle.rb_client.proofs.Parted.{On, all_adds, as_meant, by_result, does_as, stops_early}
-
-pub ruleset values = (value_forms)
 
 -- ---- items that have nodes, and those that have none
 

@@ -29,7 +29,7 @@ pub struct ListLoop<'a> {
 }
 
 // The items of a value that is a list.
-#[tactic(auto, using(crate::proofs::Listed::values))]
+#[tactic(auto, using(rb_engine::proofs::Values::values))]
 fn items_in(alloc: Global, value: &Value, at: u32) -> Result<Shared<Seq<Value>>, Early>
     ensures { GivesItems at (run.items_in (out-Value value.now)) result }
 {

@@ -304,7 +304,15 @@ fn perform_list<W: Sink>(
         Performs W.Sink meant (local frame.old state.old) world.old result (local frame.new state.new) world.new }
 {
     let items = items_of(alloc, frame, turns.list, turns.at)?;
-    turn_list(alloc, code, state, frame, world, turns, items.get().as_slice())
+    turn_list(
+        alloc,
+        code,
+        state,
+        frame,
+        world,
+        turns,
+        items.get().as_slice(),
+    )
 }
 
 // The turns over items on the rows that stand first, at whose end the rows are closed, by a fault too. Then come the items
