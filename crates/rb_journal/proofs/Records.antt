@@ -1,10 +1,10 @@
 -- What stands at the front of bytes: a record and its next gate, or none.
-use Rattle.std.proofs.Common.{◌≡◌, ◌≢◌, ℕ, ◌+◌, ◌-◌, ◌^◌, ◌≤◌, ◌<◌, true, false, List, [], ◌∷◌, ◌++◌, length, get_or, take, drop, Option, Some, None, Ok, refl, sym, ◌∙◌, ap, subst, arith, append_assoc, length-append, length-take, length-drop, take-append-drop}
+use Rattle.std.proofs.Common.{◌≡◌, ◌≢◌, ℕ, ◌+◌, ◌-◌, ◌^◌, ◌≤◌, ◌<◌, List, [], ◌∷◌, ◌++◌, length, get_or, take, drop, Option, Some, None, Ok, refl, sym, ◌∙◌, ap, subst, arith, append_assoc, length-append, length-take, length-drop, take-append-drop}
 use Rattle.std.specs.Int.{w32, to_be_bytes, from_be_bytes}
 use Rattle.std.proofs.lemmas.List.{take_at, drop_at, drop-drop, take_all, take-take, take_more}
 use Rattle.std.proofs.lemmas.Nat.{from_be_bytes-to_be_bytes_4}
 use Rattle.rb_disk.specs.Images.{DiskRecord, shown, IsPart, IsPastEnd}
-use Rattle.rb_journal.specs.Form.{IsRequest, IsPayload, record_of, before_gate, IsNoJournal, HasBadRecord}
+use Rattle.rb_journal.specs.Form.{IsAccepted, IsPayload, record_of, before_gate, IsNoJournal, HasBadRecord}
 use Rattle.rb_journal.specs.Readings.{WhereLong, WhereTold, FindsHead, FindsSize, FindsPayload, FindsRecord, ReadsAs, Passes}
 use Rattle.rb_journal.proofs.Crash.{before_gate-push, ArePayloads-push}
 
@@ -69,14 +69,14 @@ module _ (at size count : ℕ) (text : List ℕ) (text_size : length text ≡ si
       let all_came : count ≡ size + 1 = omega arith in
       sym (subst (λ (n : ℕ). take n text ≡ take n (drop at (shown d))) all_came part.0) ∙ take_all (size + 1) text (omega arith)
 
-  pub payload_none_refused : (t : Option DiskRecord) → IsPart at count text t → (IsRequest (take size text) → ⊥) → WhereTold t (λ bytes. FindsPayload (drop at bytes) size None)
+  pub payload_none_refused : (t : Option DiskRecord) → IsPart at count text t → (IsAccepted (take size text) → ⊥) → WhereTold t (λ bytes. FindsPayload (drop at bytes) size None)
   payload_none_refused None part refused = tt
   payload_none_refused (Some d) part refused = λ payload gate rest is_size accepted is.
       let front : take size text ≡ payload =
       ap (λ (l : List ℕ). take size l) (sym (text_is d part)) ∙ take-take size (size + 1) (drop at (shown d)) (omega arith) ∙ ap (λ (l : List ℕ). take size l) is ∙ take_at payload (gate ∷ rest) size is_size in
-      refused (subst IsRequest (sym front) accepted)
+      refused (subst IsAccepted (sym front) accepted)
 
-  pub payload_found : (t : Option DiskRecord) (gate : ℕ) → IsPart at count text t → gate ≡ get_or text size 0 → IsRequest (take size text) → WhereTold t (λ bytes. FindsPayload (drop at bytes) size (Some (take size text, gate)))
+  pub payload_found : (t : Option DiskRecord) (gate : ℕ) → IsPart at count text t → gate ≡ get_or text size 0 → IsAccepted (take size text) → WhereTold t (λ bytes. FindsPayload (drop at bytes) size (Some (take size text, gate)))
   payload_found None gate part gate_is accepted = tt
   payload_found (Some d) gate part gate_is accepted =
       let behind = drop at (shown d) in

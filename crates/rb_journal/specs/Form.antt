@@ -10,13 +10,13 @@ abbrev pub head : List ℕ
 head = 0x52 ∷ 0x42 ∷ 0x4a ∷ 1 ∷ []
 
 -- The payload spells a valid script with the values of its inputs.
-abbrev pub IsRequest : List ℕ → Type 0
-IsRequest payload = (x : Sent) × Means payload (Ok x)
+abbrev pub IsAccepted : List ℕ → Type 0
+IsAccepted payload = (x : Sent) × Means payload (Ok x)
 
 -- what a record may hold
 pub record IsPayload (payload : List ℕ) : Type 0 where
   pub fits : length payload ≤ 16777216
-  pub accepted : IsRequest payload
+  pub accepted : IsAccepted payload
 
 abbrev pub ArePayloads : List (List ℕ) → Type 0
 ArePayloads payloads = AllByRecursion IsPayload payloads

@@ -5,12 +5,12 @@ use Rattle.rb_base.specs.Devices.{Device, failed}
 use Rattle.rb_disk.specs.Images.{Call, wrote, tore, synced, looked, DiskRecord, shown, with_calls}
 use Rattle.rb_journal.specs.declared.stops.JournalStop.{JournalStop}
 use Rattle.rb_journal.specs.declared.stops.JournalStop.TheVariants.{DiskFault, Closed, Full, NotAJournal, BadRecord, Memory}
-use Rattle.rb_journal.specs.Form.{IsPayload, ArePayloads, IsRequest, record_of, before_gate, StandsFor, IsNoJournal, HasBadRecord}
+use Rattle.rb_journal.specs.Form.{IsPayload, ArePayloads, IsAccepted, record_of, before_gate, StandsFor, IsNoJournal, HasBadRecord}
 
 -- The answer says whether the payload is a request.
 abbrev pub Tests : Bool → List ℕ → Type 0
-Tests true payload = IsRequest payload
-Tests false payload = IsRequest payload → ⊥
+Tests true payload = IsAccepted payload
+Tests false payload = IsAccepted payload → ⊥
 
 -- The only stops of reading a record.
 abbrev pub IsFaultOrMemory : JournalStop → Type 0
@@ -97,8 +97,8 @@ FindsSize bytes None = (payload : List ℕ) (gate : ℕ) (rest : List ℕ) → I
 
 -- The bytes begin with a payload of that size that is accepted, and a gate; or with none.
 abbrev pub FindsPayload : List ℕ → ℕ → Option (List ℕ × ℕ) → Type 0
-FindsPayload bytes size (Some found) = (length found.0 ≡ size) × IsRequest found.0 × (rest : List ℕ) × (bytes ≡ found.0 ++ found.1 ∷ rest)
-FindsPayload bytes size None = (payload : List ℕ) (gate : ℕ) (rest : List ℕ) → length payload ≡ size → IsRequest payload → bytes ≡ payload ++ gate ∷ rest → ⊥
+FindsPayload bytes size (Some found) = (length found.0 ≡ size) × IsAccepted found.0 × (rest : List ℕ) × (bytes ≡ found.0 ++ found.1 ∷ rest)
+FindsPayload bytes size None = (payload : List ℕ) (gate : ℕ) (rest : List ℕ) → length payload ≡ size → IsAccepted payload → bytes ≡ payload ++ gate ∷ rest → ⊥
 
 -- The bytes begin as a journal whose first gate is this; or they don't.
 abbrev pub FindsHead : List ℕ → Option ℕ → Type 0

@@ -18,7 +18,7 @@ use std::alloc::Global;
 const MAX_PAYLOAD: u32 = 16_777_216;
 
 /// Whether a payload spells a valid script with the values of its inputs.
-fn is_request(alloc: Global, payload: &[u8]) -> Result<bool, Memory>
+fn is_accepted(alloc: Global, payload: &[u8]) -> Result<bool, Memory>
     requires { length payload.now ≤ 16777216 }
     ensures { IfOk result (λ is. Tests is payload.now) }
 {
@@ -125,7 +125,7 @@ fn payload_at<D: Disk>(
     }
     let gate = text[size];
     text.truncate(size);
-    if !is_request(alloc, text.as_slice())? {
+    if !is_accepted(alloc, text.as_slice())? {
         return Ok(None);
     }
     Ok(Some((Seq::from_vec(text), gate)))
@@ -181,10 +181,7 @@ fn read_records<D: Disk>(
 }
 
 /// Syncs the disk, and reads the payloads of its journal and the offset of the gate behind them. It writes nothing.
-pub fn read_journal<D: Disk>(
-    alloc: Global,
-    disk: &mut D,
-) -> Result<(Seq<Word>, u64), JournalStop>
+pub fn read_journal<D: Disk>(alloc: Global, disk: &mut D) -> Result<(Seq<Word>, u64), JournalStop>
     ensures read { WhereTold (D.told disk.old) (λ bytes. ReadsAs bytes result) }
     ensures after { SyncsAndGlances result (device D.told D.faults disk.old) (device D.told D.faults disk.new) }
     ensures stops { IfErr result IsOpeningStop }

@@ -10,10 +10,7 @@ use rb_disk::Disk;
 use rb_trees::Word;
 
 /// Adds payloads in order, up to a stop. A crash at any moment of the run leaves the payloads before it and a front of these.
-pub fn append_all<D: Disk>(
-    journal: &mut Journal<D>,
-    payloads: &[Word],
-) -> Result<(), JournalStop>
+pub fn append_all<D: Disk>(journal: &mut Journal<D>, payloads: &[Word]) -> Result<(), JournalStop>
     requires { All IsPayload payloads.now }
     ensures kept { OnOk result ((before : List (List ℕ)) → Keeps D.told journal.old before → Keeps D.told journal.new (before ++ payloads.now)) }
     ensures any_moment { (before : List (List ℕ)) → Keeps D.told journal.old before

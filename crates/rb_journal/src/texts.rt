@@ -3,7 +3,7 @@
 ghost use Rattle.std.specs.Prelude.{◌≡◌, ◌<◌, ◌^◌, length, IfOk};
 ghost use Rattle.rb_journal.specs.Form.{text_of};
 
-use rb_trees::{Memory, Word, Seq};
+use rb_trees::{Memory, Seq, Word};
 use std::alloc::Global;
 
 /// The bytes that an append writes behind its gate.
