@@ -33,7 +33,7 @@ pub record Division (stream : List ℕ) : Type 0 where
 IsBytes-rest : (stream front rest : List ℕ) → stream ≡ front ++ rest → IsBytes stream → IsBytes rest
 IsBytes-rest stream front rest is b = subst IsBytes (ap (λ l. drop (length front) l) is ∙ drop-append_seam front rest) (IsBytes-drop (length front) stream b)
 
-length-frame : (kind : ℕ) (payload more : List ℕ) → length (frame_bytes kind payload ++ more) ≡ 11 + length payload + length more
+pub length-frame : (kind : ℕ) (payload more : List ℕ) → length (frame_bytes kind payload ++ more) ≡ 11 + length payload + length more
 length-frame kind payload more =
     length-append (frame_bytes kind payload) more
     ∙ ap (λ n. n + length more) (length-append (header_bytes kind (length payload)) payload ∙ ap (λ n. n + length payload) (length-header kind (length payload)))
@@ -57,7 +57,7 @@ divided (suc n) stream le b =
 
 -- ---- there is no other
 
-announced_of : (payload more : List ℕ) → IsRequest payload → announced (frame_bytes request_kind payload ++ more) ≡ length payload
+pub announced_of : (payload more : List ℕ) → IsRequest payload → announced (frame_bytes request_kind payload ++ more) ≡ length payload
 announced_of payload more request =
     ap announced (append_assoc (header_bytes request_kind (length payload)) payload more)
     ∙ announced-header request_kind (length payload) (payload ++ more) (omega arith)
@@ -95,7 +95,7 @@ one_front payload more payload' more' request request' e =
     ∙ ap (λ n. header_bytes request_kind n ++ (payload' ++ more')) (sym size) in
     same_length payload more payload' more' (same_length header (payload ++ more) header (payload' ++ more') apart refl).1 size
 
-at_three : (k : ℕ) (byte : ℕ) → 3 ≤ k → may_stand is_request k byte ≡ true
+pub at_three : (k : ℕ) (byte : ℕ) → 3 ≤ k → may_stand is_request k byte ≡ true
 at_three zero byte le = absurd (omega arith)
 at_three (suc zero) byte le = absurd (omega arith)
 at_three (suc (suc zero)) byte le = absurd (omega arith)
@@ -144,10 +144,10 @@ one_rest bytes (Broken k) Cut p q = absurd (cut_breaks_nothing bytes k q p)
 one_rest bytes (Broken k) (Broken n) p q = ap Broken (one_break bytes k n p q)
 
 -- the first of all, and the others
-first : (payload : List ℕ) (ps : List (List ℕ)) → All IsRequest (payload ∷ ps) → IsRequest payload
+pub first : (payload : List ℕ) (ps : List (List ℕ)) → All IsRequest (payload ∷ ps) → IsRequest payload
 first payload ps all = all 0 payload (omega arith)
 
-others : (payload : List ℕ) (ps : List (List ℕ)) → All IsRequest (payload ∷ ps) → All IsRequest ps
+pub others : (payload : List ℕ) (ps : List (List ℕ)) → All IsRequest (payload ∷ ps) → All IsRequest ps
 others payload ps all k d lt = all (suc k) d (omega arith)
 
 same_division : (ps qs : List (List ℕ)) (r s : List ℕ) (a b : Rest) → All IsRequest ps → All IsRequest qs → request_frames ps ++ r ≡ request_frames qs ++ s

@@ -2,3 +2,4 @@ pub mod Frames
 pub mod Streams
 pub mod Laws
 pub mod Served
+pub mod Reading

@@ -1,6 +1,7 @@
 // Laws of frames and streams. They take no memory and do nothing.
 
 ghost use Rattle.rb_meaning_frames.specs.Laws.{HeadersAreSpelled, FramesAreWhole, EachIsDividedOnce, IsCutAnywhere, StaysBroken};
+ghost use Rattle.rb_meaning_frames.specs.Reading.{StreamsAreRead, FrontsAreRead, RequestsStay};
 
 /// A header whose first three bytes are right spells its kind and the length that it announces, and its frame stands at the
 /// front of the bytes where they are no fewer.
@@ -19,4 +20,11 @@ pub fn each_stream_is_divided_once()
 pub fn streams_are_cut_anywhere()
     ensures cut { IsCutAnywhere }
     ensures broken { StaysBroken }
+{}
+
+/// A stream is read as it is divided, and what follows its requests as it stands. A stream that goes on keeps its requests.
+pub fn streams_are_read()
+    ensures streams { StreamsAreRead }
+    ensures fronts { FrontsAreRead }
+    ensures stay { RequestsStay }
 {}

@@ -5,4 +5,6 @@
 
 mod laws;
 
-pub use laws::{each_stream_is_divided_once, headers_are_spelled, streams_are_cut_anywhere};
+pub use laws::{
+    each_stream_is_divided_once, headers_are_spelled, streams_are_cut_anywhere, streams_are_read,
+};
