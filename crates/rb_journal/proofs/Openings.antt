@@ -1,18 +1,20 @@
 -- What opening a journal makes of its disk.
 use Rattle.std.proofs.Common.{◌≡◌, inl, inr, ℕ, false, List, [], ◌∷◌, ◌++◌, length, Option, Some, None, Result, Ok, Err, refl, sym, ◌∙◌, ap, subst, arith, append_assoc}
-use Rattle.std.specs.Prelude.{IsSome}
 use Rattle.rb_base.specs.Devices.{Device, device, failed}
 use Rattle.rb_disk.specs.Images.{Call, wrote, tore, synced, looked, DiskRecord, read_after, IsImage, IsImageSince, shown, further, told_further, with_calls, IsLook, Fails, IsLength}
 use Rattle.rb_journal.specs.declared.stops.JournalStop.{JournalStop}
 use Rattle.rb_journal.specs.declared.stops.JournalStop.TheVariants.{DiskFault, Closed, Full, NotAJournal, BadRecord, Memory}
-use Rattle.rb_journal.specs.Form.{StandsFor}
+use Rattle.rb_exec.specs.Hosted.{Hosted}
+use Rattle.rb_journal.specs.Form.{before_gate, StandsFor}
 use Rattle.rb_journal.specs.Appends.{Holds}
 use Rattle.rb_journal.specs.Journals.{Keeps, CrashesAsBefore}
-use Rattle.rb_journal.specs.Readings.{AreLooks, AreQuiet, Glanced, GlancesOrStops, SyncedAndGlanced, SyncsAndGlances, WhereLong, WhereTold, ReadsAs, IsOpeningStop}
+use Rattle.rb_journal.specs.Readings.{AreLooks, AreQuiet, Glanced, GlancesOrStops, SyncedAndGlanced, SyncsAndGlances, WhereLong, WhereTold, TellsPayloads, IsOpeningStop}
+use Rattle.rb_journal.specs.Replays.{Reopens}
 use Rattle.rb_journal.specs.Answers.{StopsOpening}
 use Rattle.rb_journal.proofs.Calls.{joined, joined_failed}
 use Rattle.rb_journal.proofs.Looks.{looks_read, looks_image, looks_more, trace_looks, glanced_twice}
 use Rattle.rb_journal.proofs.Moments.{since_now}
+use Rattle.rb_journal.proofs.OneReading.{stands_once}
 
 quiet_looks : (looks rest : List Call) → AreLooks looks → AreQuiet rest → AreQuiet (looks ++ rest)
 quiet_looks [] rest are quiet = quiet
@@ -121,7 +123,7 @@ module _ {D : Type 0} (told : D → Option DiskRecord) (faults : D → ℕ) (rea
   stopped_faults A disk new (BadRecord number) is h = ap (λ (d : Device DiskRecord). d.faults) h.2
   stopped_faults A disk new Memory is h = ap (λ (d : Device DiskRecord). d.faults) h.2
 
-holds_opened : (d : DiskRecord) (looks : List Call) (gate : ℕ) (payloads : List (List ℕ)) → AreLooks looks → ReadsAs (shown d) (Ok (payloads, gate)) → Holds (further (looks ++ synced ∷ []) d) gate payloads
+holds_opened : (d : DiskRecord) (looks : List Call) (gate : ℕ) (payloads : List (List ℕ)) → AreLooks looks → StandsFor (shown d) payloads × (gate ≡ length (before_gate payloads)) → Holds (further (looks ++ synced ∷ []) d) gate payloads
 holds_opened d looks gate payloads are h =
     let grouped : (looks ++ synced ∷ []) ++ d.calls ≡ looks ++ synced ∷ d.calls = append_assoc looks (synced ∷ []) d.calls in
     let same : shown (further (looks ++ synced ∷ []) d) ≡ shown d = ap (λ (cs : List Call). read_after d.first cs) grouped ∙ looks_read d.first looks (synced ∷ d.calls) are in
@@ -131,13 +133,23 @@ holds_opened d looks gate payloads are h =
       kept = λ image left. looks_image d.first looks (synced ∷ d.calls) image are (subst (λ (cs : List Call). IsImage d.first cs image) grouped left) ∙ sym same;
     }
 
-keeps_told : {D : Type 0} (told : D → Option DiskRecord) (new : D) (t : Option DiskRecord) (looks : List Call) (gate : ℕ) (payloads : List (List ℕ))
-    → AreLooks looks → IsSome t → told new ≡ told_further (looks ++ synced ∷ []) t → WhereTold t (λ bytes. ReadsAs bytes (Ok (payloads, gate))) → Keeps told (record { disk = new; gate = gate; is_closed = false }) payloads
-keeps_told told new None looks gate payloads are some is h = absurd (let none : IsSome {T = DiskRecord} None = some in cc)
-keeps_told told new (Some d) looks gate payloads are some is h =
-    record { record_is = further (looks ++ synced ∷ []) d; tells = is; is_open = refl; holds = holds_opened d looks gate payloads are h }
+-- what was reopened, told by the payloads for which the bytes stand
+reopened_as : (bytes : List ℕ) (gate : ℕ) (before after : Hosted) (payloads : List (List ℕ)) → Reopens bytes gate before after → StandsFor bytes payloads → gate ≡ length (before_gate payloads)
+reopened_as bytes gate before after payloads r stands = r.gate_is ∙ ap (λ (ps : List (List ℕ)). length (before_gate ps)) (stands_once bytes r.payloads payloads r.stands stands)
 
-pub keeps_opened : {D : Type 0} (told : D → Option DiskRecord) (faults : D → ℕ) (disk new : D) (gate : ℕ) (payloads : List (List ℕ))
-    → IsSome (told disk) → SyncedAndGlanced (device told faults disk) (device told faults new) → WhereTold (told disk) (λ bytes. ReadsAs bytes (Ok (payloads, gate))) → Keeps told (record { disk = new; gate = gate; is_closed = false }) payloads
-keeps_opened told faults disk new gate payloads some glanced h =
-    keeps_told told new (told disk) glanced.0 gate payloads glanced.1 some (ap (λ (d : Device DiskRecord). d.told) glanced.2) h
+keeps_told : {D : Type 0} (told : D → Option DiskRecord) (new : D) (t : Option DiskRecord) (looks : List Call) (gate : ℕ) (before after : Hosted) (payloads : List (List ℕ))
+    → AreLooks looks → TellsPayloads t payloads → told new ≡ told_further (looks ++ synced ∷ []) t → WhereTold t (λ bytes. Reopens bytes gate before after) → Keeps told (record { disk = new; gate = gate; is_closed = false }) payloads
+keeps_told told new None looks gate before after payloads are stands is h = absurd stands
+keeps_told told new (Some d) looks gate before after payloads are stands is h =
+    record {
+      record_is = further (looks ++ synced ∷ []) d;
+      tells = is;
+      is_open = refl;
+      holds = holds_opened d looks gate payloads are (stands, reopened_as (shown d) gate before after payloads h stands);
+    }
+
+pub keeps_opened : {D : Type 0} (told : D → Option DiskRecord) (faults : D → ℕ) (disk new : D) (gate : ℕ) (before after : Hosted) (payloads : List (List ℕ))
+    → TellsPayloads (told disk) payloads → SyncedAndGlanced (device told faults disk) (device told faults new) → WhereTold (told disk) (λ bytes. Reopens bytes gate before after)
+    → Keeps told (record { disk = new; gate = gate; is_closed = false }) payloads
+keeps_opened told faults disk new gate before after payloads stands glanced h =
+    keeps_told told new (told disk) glanced.0 gate before after payloads glanced.1 stands (ap (λ (d : Device DiskRecord). d.told) glanced.2) h

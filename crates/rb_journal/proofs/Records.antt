@@ -1,11 +1,16 @@
 -- What stands at the front of bytes: a record and its next gate, or none.
-use Rattle.std.proofs.Common.{◌≡◌, ◌≢◌, ℕ, ◌+◌, ◌-◌, ◌^◌, ◌≤◌, ◌<◌, List, [], ◌∷◌, ◌++◌, length, get_or, take, drop, Option, Some, None, Ok, refl, sym, ◌∙◌, ap, subst, arith, append_assoc, length-append, length-take, length-drop, take-append-drop}
+use Rattle.std.proofs.Common.{◌≡◌, ◌≢◌, ℕ, ◌+◌, ◌-◌, ◌^◌, ◌≤◌, ◌<◌, List, [], ◌∷◌, ◌++◌, length, get_or, take, drop, Option, Some, None, refl, sym, ◌∙◌, ap, subst, arith, append_assoc, length-append, length-take, length-drop, take-append-drop}
 use Rattle.std.specs.Int.{w32, to_be_bytes, from_be_bytes}
 use Rattle.std.proofs.lemmas.List.{take_at, drop_at, drop-drop, take_all, take-take, take_more}
 use Rattle.std.proofs.lemmas.Nat.{from_be_bytes-to_be_bytes_4}
+use Rattle.rb_trees.specs.declared.services.Object.{Object}
+use Rattle.rb_trees.specs.declared.services.Service as services
+use Rattle.rb_trees.specs.mirror.Services.{Service, mirror_service}
+use Rattle.rb_exec.specs.Hosted.{Hosted}
 use Rattle.rb_disk.specs.Images.{DiskRecord, shown, IsPart, IsPastEnd}
 use Rattle.rb_journal.specs.Form.{IsAccepted, IsPayload, record_of, before_gate, IsNoJournal, HasBadRecord}
-use Rattle.rb_journal.specs.Readings.{WhereLong, WhereTold, FindsHead, FindsSize, FindsPayload, FindsRecord, ReadsAs, Passes}
+use Rattle.rb_journal.specs.Readings.{WhereLong, WhereTold, FindsHead, FindsSize, FindsPayload, FindsRecord}
+use Rattle.rb_journal.specs.Replays.{Replays, ReplaysAll, Passes, Reopens}
 use Rattle.rb_journal.proofs.Crash.{before_gate-push, ArePayloads-push}
 
 length-record : (payload : List ℕ) (gate : ℕ) (rest : List ℕ) → length (record_of payload ++ gate ∷ rest) ≡ 5 + length payload + length rest
@@ -134,17 +139,28 @@ pub no_journal_short : (end : ℕ) (t : Option DiskRecord) → end < 5 → Where
 no_journal_short end None short = tt
 no_journal_short end (Some d) short = λ long gate rest is. omega (arith, long, ap length is)
 
-pub passes_head : (bytes : List ℕ) (gate : ℕ) → FindsHead bytes (Some gate) → Passes bytes [] gate 4
-passes_head bytes gate found = record {
+-- one payload more is performed, behind the others
+pub replays_more : (service : Service) (table : List Object) (payloads : List (List ℕ)) (payload : List ℕ) (between after : List Object)
+    → ReplaysAll service table payloads between → Replays service between payload after → ReplaysAll service table (payloads ++ payload ∷ []) after
+replays_more service table [] payload between after all one = (after, subst (λ (t : List Object). Replays service t payload after) all one, refl)
+replays_more service table (p ∷ payloads) payload between after all one = (all.0, all.1, replays_more service all.0 payloads payload between after all.2 one)
+
+pub passes_head : (bytes : List ℕ) (gate : ℕ) (host : Hosted) → FindsHead bytes (Some gate) → Passes bytes 0 gate 4 host host
+passes_head bytes gate host found = record {
+  payloads = [];
   fit = tt;
+  count_is = refl;
   at_is = refl;
   is = found.1 ∙ ap (λ (l : List ℕ). before_gate [] ++ gate ∷ l) (sym (ap (λ (l : List ℕ). drop 5 l) found.1));
+  performed = refl;
 }
 
-pub passes_more : (bytes : List ℕ) (payloads : List (List ℕ)) (gate at : ℕ) (payload : List ℕ) (next : ℕ) → gate ≡ 1
-    → Passes bytes payloads gate at → FindsRecord (drop (at + 1) bytes) (Some (payload, next)) → Passes bytes (payloads ++ payload ∷ []) next (at + (5 + length payload))
-passes_more bytes payloads gate at payload next is_open passes found =
+pub passes_more : (bytes : List ℕ) (count gate at : ℕ) (start host after : Hosted) (payload : List ℕ) (next : ℕ) → gate ≡ 1 → host.service ≡ start.service
+    → Replays (mirror_service host.service) host.table payload after.table
+    → Passes bytes count gate at start host → FindsRecord (drop (at + 1) bytes) (Some (payload, next)) → Passes bytes (count + 1) next (at + (5 + length payload)) start after
+passes_more bytes count gate at start host after payload next is_open same performs passes found =
     let rest = found.1 in
+    let payloads = passes.payloads in
     let before = before_gate (payloads ++ payload ∷ []) in
     let whole : bytes ≡ before ++ next ∷ rest =
     passes.is
@@ -158,21 +174,29 @@ passes_more bytes payloads gate at payload next is_open passes found =
     ap (λ (l : List ℕ). drop (at + (5 + length payload) + 1) l) (whole ∙ sym (append_assoc before (next ∷ []) rest))
     ∙ drop_at (before ++ next ∷ []) rest (at + (5 + length payload) + 1) (omega (arith, size, length-append before (next ∷ []))) in
     record {
+      payloads = payloads ++ payload ∷ [];
       fit = ArePayloads-push payloads payload passes.fit found.0;
+      count_is = length-append payloads (payload ∷ []) ∙ ap (λ (n : ℕ). n + 1) passes.count_is;
       at_is = sym size;
       is = whole ∙ ap (λ (l : List ℕ). before ++ next ∷ l) (sym left);
+      performed = replays_more (mirror_service start.service) start.table payloads payload host.table after.table passes.performed
+          (subst (λ (s : services.Service). Replays (mirror_service s) host.table payload after.table) same performs);
     }
 
-pub bad_record : (bytes : List ℕ) (payloads : List (List ℕ)) (gate at : ℕ) → gate ≡ 1 → Passes bytes payloads gate at → FindsRecord (drop (at + 1) bytes) None → HasBadRecord bytes (length payloads)
-bad_record bytes payloads gate at is_open passes none = record {
-  before = payloads;
+pub bad_record : (bytes : List ℕ) (count gate at : ℕ) (start host : Hosted) → gate ≡ 1 → Passes bytes count gate at start host → FindsRecord (drop (at + 1) bytes) None → HasBadRecord bytes count
+bad_record bytes count gate at start host is_open passes none = record {
+  before = passes.payloads;
   fit = passes.fit;
-  count = refl;
+  count = passes.count_is;
   behind = drop (at + 1) bytes;
-  is = passes.is ∙ ap (λ (n : ℕ). before_gate payloads ++ n ∷ drop (at + 1) bytes) is_open;
+  is = passes.is ∙ ap (λ (n : ℕ). before_gate passes.payloads ++ n ∷ drop (at + 1) bytes) is_open;
   bad = none;
 }
 
-pub all_read : (bytes : List ℕ) (payloads : List (List ℕ)) (gate at : ℕ) → gate ≢ 1 → Passes bytes payloads gate at → ReadsAs bytes (Ok (payloads, at))
-all_read bytes payloads gate at shut passes =
-    (record { fit = passes.fit; gate = gate; behind = drop (at + 1) bytes; is_closed = shut; is = passes.is }, passes.at_is)
+pub all_read : (bytes : List ℕ) (count gate at : ℕ) (start host : Hosted) → gate ≢ 1 → Passes bytes count gate at start host → Reopens bytes at start host
+all_read bytes count gate at start host shut passes = record {
+  payloads = passes.payloads;
+  stands = record { fit = passes.fit; gate = gate; behind = drop (at + 1) bytes; is_closed = shut; is = passes.is };
+  gate_is = passes.at_is;
+  performed = passes.performed;
+}

@@ -1,16 +1,13 @@
 -- What is read of a disk, and what reading leaves of it.
-use Rattle.std.specs.Prelude.{◌≡◌, ◌<◌, ◌≤◌, ℕ, ◌+◌, List, [], ◌∷◌, ◌++◌, length, take, drop, Bool, true, false, Option, Some, None, Result, Ok, Err}
+use Rattle.std.specs.Prelude.{◌≡◌, ◌<◌, ◌≤◌, ℕ, ◌+◌, List, [], ◌∷◌, ◌++◌, length, take, Option, Some, None, Result, Ok, Err}
 use Rattle.std.specs.Int.{w32, to_be_bytes}
 use Rattle.rb_base.specs.Devices.{Device, failed}
 use Rattle.rb_disk.specs.Images.{Call, wrote, tore, synced, looked, DiskRecord, shown, with_calls}
 use Rattle.rb_journal.specs.declared.stops.JournalStop.{JournalStop}
 use Rattle.rb_journal.specs.declared.stops.JournalStop.TheVariants.{DiskFault, Closed, Full, NotAJournal, BadRecord, Memory}
-use Rattle.rb_journal.specs.Form.{IsPayload, ArePayloads, IsAccepted, record_of, before_gate, StandsFor, IsNoJournal, HasBadRecord}
-
--- The answer says whether the payload is a request.
-abbrev pub Tests : Bool → List ℕ → Type 0
-Tests true payload = IsAccepted payload
-Tests false payload = IsAccepted payload → ⊥
+use Rattle.rb_exec.specs.Hosted.{Hosted}
+use Rattle.rb_journal.specs.Form.{IsPayload, IsAccepted, record_of, before_gate, StandsFor, IsNoJournal, HasBadRecord}
+use Rattle.rb_journal.specs.Replays.{Reopens}
 
 -- The only stops of reading a record.
 abbrev pub IsFaultOrMemory : JournalStop → Type 0
@@ -105,18 +102,21 @@ abbrev pub FindsHead : List ℕ → Option ℕ → Type 0
 FindsHead bytes (Some gate) = (rest : List ℕ) × (bytes ≡ before_gate [] ++ gate ∷ rest)
 FindsHead bytes None = IsNoJournal bytes
 
--- Behind the records of these payloads that gate stands at that offset.
-pub record Passes (bytes : List ℕ) (payloads : List (List ℕ)) (gate at : ℕ) : Type 0 where
-  pub fit : ArePayloads payloads
-  pub at_is : at ≡ length (before_gate payloads)
-  pub is : bytes ≡ before_gate payloads ++ gate ∷ drop (at + 1) bytes
+-- Why bytes can't be read as a journal.
+abbrev pub StopsAs : List ℕ → JournalStop → Type 0
+StopsAs bytes NotAJournal = IsNoJournal bytes
+StopsAs bytes (BadRecord number) = HasBadRecord bytes number
+StopsAs bytes DiskFault = Unit {0}
+StopsAs bytes Memory = Unit {0}
+StopsAs bytes Closed = ⊥
+StopsAs bytes Full = ⊥
 
--- Each answer of reading a journal: its payloads with the offset of the gate behind them, or why it can't be read.
-abbrev pub ReadsAs : List ℕ → Result (List (List ℕ) × ℕ) JournalStop → Type 0
-ReadsAs bytes (Ok found) = StandsFor bytes found.0 × (found.1 ≡ length (before_gate found.0))
-ReadsAs bytes (Err NotAJournal) = IsNoJournal bytes
-ReadsAs bytes (Err (BadRecord number)) = HasBadRecord bytes number
-ReadsAs bytes (Err DiskFault) = Unit {0}
-ReadsAs bytes (Err Memory) = Unit {0}
-ReadsAs bytes (Err Closed) = ⊥
-ReadsAs bytes (Err Full) = ⊥
+-- Each answer of reading a journal: the offset of its last gate, with its payloads performed on the host; or why it can't be read.
+abbrev pub ReadsAs : List ℕ → Hosted → Hosted → Result ℕ JournalStop → Type 0
+ReadsAs bytes before after (Ok gate) = Reopens bytes gate before after
+ReadsAs bytes before after (Err stop) = StopsAs bytes stop
+
+-- The disk tells, and reads as these payloads.
+abbrev pub TellsPayloads : Option DiskRecord → List (List ℕ) → Type 0
+TellsPayloads None payloads = ⊥
+TellsPayloads (Some d) payloads = StandsFor (shown d) payloads

@@ -6,7 +6,9 @@ ghost use Rattle.rb_base.specs.Devices.{device};
 ghost use Rattle.rb_journal.specs.Form.{IsPayload};
 ghost use Rattle.rb_journal.specs.Appends.{MakesBeginning, MakesAppend, IsBeforeOrAfter};
 ghost use Rattle.rb_journal.specs.Journals.{Keeps, CrashesOnly, CrashesAsBefore, IsEmpty};
-ghost use Rattle.rb_journal.specs.Readings.{WhereTold, ReadsAs};
+ghost use Rattle.rb_session.specs.Answering.{IsTypedHost};
+ghost use Rattle.rb_journal.specs.Readings.{WhereTold, StopsAs, TellsPayloads};
+ghost use Rattle.rb_journal.specs.Replays.{Reopens};
 ghost use Rattle.rb_journal.specs.Answers.{AnswersAppend, IsFresh, StopsOpening};
 
 use crate::reading::read_journal;
@@ -14,7 +16,7 @@ use crate::stops::{JournalStop, Stopped};
 use crate::texts::text_of;
 use rb_base::Failed;
 use rb_disk::{Disk, reading_is_an_image};
-use rb_trees::{Seq, Word};
+use rb_exec::Host;
 use std::alloc::Global;
 use std::marker::Model;
 
@@ -40,13 +42,6 @@ impl<D: Disk> Model for Journal<D> {
     ghost view = { λ it. record { disk = it.disk; gate = it.gate; is_closed = it.closed } };
 }
 
-/// A journal that was opened, and its payloads.
-#[derive(Drop)]
-pub struct Opened<D: Disk> {
-    pub journal: Journal<D>,
-    pub payloads: Seq<Word>,
-}
-
 impl<D: Disk> Journal<D> {
     /// A journal of no payloads on an empty disk.
     pub fn create(alloc: Global, disk: D) -> Result<Journal<D>, Stopped<D>>
@@ -70,29 +65,31 @@ impl<D: Disk> Journal<D> {
         }
     }
 
-    /// Opens the journal on a disk. It syncs first, and writes nothing.
-    pub fn open(alloc: Global, disk: D) -> Result<Opened<D>, Stopped<D>>
-        ensures kept { IfOk result (λ opened. IsSome (D.told disk) → Keeps D.told opened.journal opened.payloads) }
+    /// Opens the journal on a disk. It syncs first, writes nothing, and performs each kept payload on the host, in order.
+    ///
+    /// After a stop nothing is said of the host's table.
+    pub fn open(alloc: Global, disk: D, host: &mut Host) -> Result<Journal<D>, Stopped<D>>
+        requires { IsTypedHost host.old }
+        ensures kept { IfOk result (λ journal. (payloads : List (List ℕ)) → TellsPayloads (D.told disk) payloads → Keeps D.told journal payloads) }
         ensures read { MatchResult result
-            (λ opened. WhereTold (D.told disk) (λ bytes. ReadsAs bytes (Ok (opened.payloads, opened.journal.gate))))
-            (λ stopped. WhereTold (D.told disk) (λ bytes. ReadsAs bytes (Err stopped.stop))) }
+            (λ journal. WhereTold (D.told disk) (λ bytes. Reopens bytes journal.gate host.old host.new))
+            (λ stopped. WhereTold (D.told disk) (λ bytes. StopsAs bytes stopped.stop)) }
+        ensures typed { OnOk result (IsTypedHost host.new) }
+        ensures service { host.new.service ≡ host.old.service }
         ensures any_moment { MatchResult result
-            (λ opened. CrashesAsBefore (D.told disk) (D.told opened.journal.disk))
+            (λ journal. CrashesAsBefore (D.told disk) (D.told journal.disk))
             (λ stopped. CrashesAsBefore (D.told disk) (D.told stopped.disk)) }
-        ensures ok { IfOk result (λ opened. (opened.journal.is_closed ≡ false) × (D.faults opened.journal.disk ≡ D.faults disk)) }
+        ensures ok { IfOk result (λ journal. (journal.is_closed ≡ false) × (D.faults journal.disk ≡ D.faults disk)) }
         ensures stop { IfErr result (λ stopped. StopsOpening (D.faults disk) stopped.stop (D.faults stopped.disk)) }
     {
         reading_is_an_image();
         let mut disk = disk;
-        match read_journal(alloc, &mut disk) {
-            Ok((payloads, gate)) => Ok(Opened {
-                journal: Journal {
-                    alloc,
-                    disk,
-                    gate,
-                    closed: false,
-                },
-                payloads,
+        match read_journal(alloc, &mut disk, host) {
+            Ok(gate) => Ok(Journal {
+                alloc,
+                disk,
+                gate,
+                closed: false,
             }),
             Err(stop) => Err(Stopped { stop, disk }),
         }

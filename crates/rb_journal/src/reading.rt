@@ -1,33 +1,25 @@
 // Reading a journal.
 
-ghost use Rattle.std.specs.Prelude.{◌≡◌, ◌+◌, ◌^◌, ◌<◌, ◌≤◌, ◌++◌, ◌∷◌, [], ℕ, length, drop, IfOk, IfErr, IfSome, IfNone};
+ghost use Rattle.std.specs.Prelude.{◌≡◌, ◌+◌, ◌^◌, ◌<◌, ◌≤◌, ◌++◌, ◌∷◌, [], ℕ, length, drop, OnOk, IfOk, IfErr, IfSome, IfNone};
 ghost use Rattle.std.specs.Int.{w32, to_be_bytes};
 ghost use Rattle.rb_base.specs.Devices.{device};
 ghost use Rattle.rb_disk.specs.Images.{IsPart, IsPastEnd};
+ghost use Rattle.rb_trees.specs.mirror.Services.{mirror_service};
+ghost use Rattle.rb_session.specs.Answering.{IsTypedHost};
 ghost use Rattle.rb_journal.specs.Form.{head};
-ghost use Rattle.rb_journal.specs.Readings.{Glances, GlancesOrStops, WhereLong, WhereTold, FindsHead, FindsSize, FindsPayload, FindsRecord, Tests, IsFaultOrMemory, IsOpeningStop, SyncsAndGlances, ReadsAs};
+ghost use Rattle.rb_journal.specs.Replays.{Replays};
+ghost use Rattle.rb_journal.specs.Readings.{Glances, GlancesOrStops, WhereLong, WhereTold, FindsHead, FindsSize, FindsPayload, FindsRecord, IsFaultOrMemory, IsOpeningStop, SyncsAndGlances, ReadsAs};
 
+use crate::replays::replay;
 use crate::stops::JournalStop;
 use rb_base::Failed;
 use rb_disk::Disk;
-use rb_trees::{Memory, Seq, Word};
-use rb_wire_script::{ScriptStop, decode_script};
+use rb_exec::Host;
+use rb_trees::{Seq, Word};
 use std::alloc::Global;
 
 /// How many bytes a payload may have.
 const MAX_PAYLOAD: u32 = 16_777_216;
-
-/// Whether a payload spells a valid script with the values of its inputs.
-fn is_accepted(alloc: Global, payload: &[u8]) -> Result<bool, Memory>
-    requires { length payload.now ≤ 16777216 }
-    ensures { IfOk result (λ is. Tests is payload.now) }
-{
-    match decode_script(alloc, payload) {
-        Ok(_) => Ok(true),
-        Err(ScriptStop::Refused { .. }) => Ok(false),
-        Err(ScriptStop::Memory) => Err(Memory),
-    }
-}
 
 /// Reads from an offset on until the buffer is full or the bytes end, and answers how many came.
 fn fill<D: Disk>(disk: &mut D, at: u64, into: &mut [u8]) -> Result<usize, Failed>
@@ -110,11 +102,16 @@ fn payload_at<D: Disk>(
     disk: &mut D,
     at: u64,
     size: usize,
+    host: &mut Host,
 ) -> Result<Option<(Word, u8)>, JournalStop>
     requires within { at + size + 1 < 2 ^ 64 }
     requires size { size ≤ 16777216 }
+    requires typed { IsTypedHost host.old }
     ensures found { IfOk result (λ found. WhereTold (D.told disk.old) (λ bytes. FindsPayload (drop at bytes) size found)) }
     ensures size { IfOk result (λ found. IfSome found (λ x. length x.0 ≡ size)) }
+    ensures performs { IfOk result (λ found. IfSome found (λ x. Replays (mirror_service host.old.service) host.old.table x.0 host.new.table)) }
+    ensures typed { OnOk result (IsTypedHost host.new) }
+    ensures service { host.new.service ≡ host.old.service }
     ensures after { GlancesOrStops result (device D.told D.faults disk.old) (device D.told D.faults disk.new) }
     ensures stops { IfErr result IsFaultOrMemory }
 {
@@ -125,7 +122,7 @@ fn payload_at<D: Disk>(
     }
     let gate = text[size];
     text.truncate(size);
-    if !is_accepted(alloc, text.as_slice())? {
+    if !replay(alloc, host, text.as_slice())? {
         return Ok(None);
     }
     Ok(Some((Seq::from_vec(text), gate)))
@@ -137,26 +134,35 @@ fn record_at<D: Disk>(
     disk: &mut D,
     at: u64,
     end: u64,
+    host: &mut Host,
 ) -> Result<Option<(Word, u8)>, JournalStop>
-    requires { at ≤ end }
+    requires end { at ≤ end }
+    requires typed { IsTypedHost host.old }
     ensures found { IfOk result (λ found. WhereLong (D.told disk.old) end (λ bytes. FindsRecord (drop at bytes) found)) }
     ensures room { IfOk result (λ found. IfSome found (λ x. at + 4 + length x.0 < end)) }
+    ensures performs { IfOk result (λ found. IfSome found (λ x. Replays (mirror_service host.old.service) host.old.table x.0 host.new.table)) }
+    ensures typed { OnOk result (IsTypedHost host.new) }
+    ensures service { host.new.service ≡ host.old.service }
     ensures after { GlancesOrStops result (device D.told D.faults disk.old) (device D.told D.faults disk.new) }
     ensures stops { IfErr result IsFaultOrMemory }
 {
     match size_at(disk, at, end)? {
         None => Ok(None),
-        Some(size) => payload_at(alloc, disk, at + 4, size),
+        Some(size) => payload_at(alloc, disk, at + 4, size, host),
     }
 }
 
-/// The payloads of a journal, and the offset of the gate behind their records.
+/// The offset of the gate behind the records of a journal, whose payloads are performed.
 fn read_records<D: Disk>(
     alloc: Global,
     disk: &mut D,
     end: u64,
-) -> Result<(Seq<Word>, u64), JournalStop>
-    ensures read { WhereLong (D.told disk.old) end (λ bytes. ReadsAs bytes result) }
+    host: &mut Host,
+) -> Result<u64, JournalStop>
+    requires { IsTypedHost host.old }
+    ensures read { WhereLong (D.told disk.old) end (λ bytes. ReadsAs bytes host.old host.new result) }
+    ensures typed { OnOk result (IsTypedHost host.new) }
+    ensures service { host.new.service ≡ host.old.service }
     ensures after { GlancesOrStops result (device D.told D.faults disk.old) (device D.told D.faults disk.new) }
     ensures stops { IfErr result IsOpeningStop }
 {
@@ -168,25 +174,33 @@ fn read_records<D: Disk>(
     };
     let mut gate = first;
     let mut at = 4;
-    let mut payloads = Seq::new(alloc);
+    let mut count = 0;
     'records: while gate == 1 {
-        let Some((payload, next)) = record_at(alloc, disk, at + 1, end)? else {
-            return Err(JournalStop::BadRecord(payloads.len() as u64));
+        let Some((payload, next)) = record_at(alloc, disk, at + 1, end, host)? else {
+            return Err(JournalStop::BadRecord(count));
         };
         at += 5 + payload.len() as u64;
+        count += 1;
         gate = next;
-        payloads.push(payload)?;
     }
-    Ok((payloads, at))
+    Ok(at)
 }
 
-/// Syncs the disk, and reads the payloads of its journal and the offset of the gate behind them. It writes nothing.
-pub fn read_journal<D: Disk>(alloc: Global, disk: &mut D) -> Result<(Seq<Word>, u64), JournalStop>
-    ensures read { WhereTold (D.told disk.old) (λ bytes. ReadsAs bytes result) }
+/// Syncs the disk, reads its journal, performs the payloads, and answers the offset of the gate behind them. It writes
+/// nothing.
+pub fn read_journal<D: Disk>(
+    alloc: Global,
+    disk: &mut D,
+    host: &mut Host,
+) -> Result<u64, JournalStop>
+    requires { IsTypedHost host.old }
+    ensures read { WhereTold (D.told disk.old) (λ bytes. ReadsAs bytes host.old host.new result) }
+    ensures typed { OnOk result (IsTypedHost host.new) }
+    ensures service { host.new.service ≡ host.old.service }
     ensures after { SyncsAndGlances result (device D.told D.faults disk.old) (device D.told D.faults disk.new) }
     ensures stops { IfErr result IsOpeningStop }
 {
     disk.sync()?;
     let end = disk.len()?;
-    read_records(alloc, disk, end)
+    read_records(alloc, disk, end, host)
 }
