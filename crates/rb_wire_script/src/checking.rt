@@ -138,7 +138,12 @@ fn check_exprs(
 
 /// An expression that stands in a step.
 #[tactic(auto, unfolding(rb_trees::specs::Validity::whole_refusals))]
-fn check_whole(expr: &SExpr, script: &Script, bound: &Numbers, step: u32) -> Result<(), ScriptRefusal>
+fn check_whole(
+    expr: &SExpr,
+    script: &Script,
+    bound: &Numbers,
+    step: u32,
+) -> Result<(), ScriptRefusal>
     ensures { result ≡ first (whole_refusals (inputs_of (mirror_script script.now)) bound.now step (mirror_sexpr expr.now)) }
 {
     check_expr(expr, script, bound, step, 1)
@@ -296,11 +301,5 @@ pub(crate) fn check(alloc: Global, script: &Script) -> Result<(), RuleStop>
 {
     let mut seen = Numbers::new(alloc);
     let mut bound = Numbers::new(alloc);
-    check_steps(
-        script.body.as_slice(),
-        script,
-        1,
-        &mut seen,
-        &mut bound,
-    )
+    check_steps(script.body.as_slice(), script, 1, &mut seen, &mut bound)
 }
