@@ -14,7 +14,7 @@ use Rattle.rb_trees.specs.mirror.Scripts.{Steps, mirror_step, mirror_steps}
 use Rattle.rb_meaning_bytes.specs.formats.Fields.{number, truth}
 use Rattle.rb_meaning_bytes.specs.formats.ForestBytes.{entries_bytes}
 use Rattle.rb_meaning_code.specs.Remote.{Server, Reply, Got, Stopped, and_then, replies}
-use Rattle.rb_meaning_code.specs.ScriptRun.{Ground, Vars, PlacedFault, Ran, ended, stopped, halted, with_entry, with_kept, on_reply, may_keep, kept, goes_on, chosen, branched, condition, rows_of, walked, run_step, run_steps}
+use Rattle.rb_meaning_code.specs.ScriptRun.{Ground, Vars, PlacedFault, Ran, ended, stopped, halted, with_entry, with_kept, on_reply, may_keep, kept, goes_on, chosen, branched, condition, rows_of, items_of, turns, turn_over, walked, run_step, run_steps}
 use Rattle.rb_wire_fields.specs.Buffers.{Keeps}
 use Rattle.rb_wire_fields.proofs.Kept.{keeps_same, keeps_after}
 use Rattle.rb_engine.specs.Ends as failed
@@ -26,7 +26,7 @@ use Rattle.rb_exec.specs.Holes.{filled}
 use Rattle.rb_exec.specs.Written.{Written, written, AddsEntries, Gains}
 use Rattle.rb_exec.specs.Blocks.{with_entries, Does, Extends, Binds, Did, Closes, WroteNode, Ended, one_value, first_entries}
 use Rattle.rb_exec.specs.Ends.{Gets, at_step, UnlessMemory}
-use Rattle.rb_exec.specs.Stages.{Rest, Meaning, ground, site_value, with_first, if_kept, block_run, block_from, step_run, steps_run, if_run, each_run, turns_run}
+use Rattle.rb_exec.specs.Stages.{Rest, Meaning, ground, site_value, with_first, if_kept, block_run, block_from, step_run, steps_run, if_run, each_run, over_run, row_run, turns_run, walk_run}
 use Rattle.rb_exec.specs.Bindings.{oldest}
 use Rattle.rb_exec.specs.declared.stage.Stage.{Stage}
 use Rattle.rb_exec.specs.declared.stage.Site.{Site}
@@ -367,3 +367,11 @@ pub each_so : {before after : Written} {old new : Vars} {r : Result (Unit {0}) S
     → Did (each_run w e vars s) before old r after new s1
 each_so w e vars s d =
     as_step (λ go. both_replies w.site.id (site_value w.site vars e s) (rows_of w.site.at) (λ rows s3. walked w.site.id w.site.at (turns_run w rows vars s3) (λ s4. go vars s4))) d
+
+-- an `Over`: the items of its list, and then the turns, which keep none
+pub over_so : {before after : Written} {old new : Vars} {r : Result (Unit {0}) Stop} {s1 : Server} (w : Walk) (input : ℕ) (vars : Vars) (s : Server) → w.keep ≡ false
+    → Did (λ go. on_reply w.site.id (items_of (ground w.site.stage.now) w.site.at input s) (λ items s2. walk_run w items vars s2 go)) before old r after new s1
+    → Did (over_run w input vars s) before old r after new s1
+over_so w input vars s plain d =
+    as_step (λ go. ap (λ keep. on_reply w.site.id (items_of (ground w.site.stage.now) w.site.at input s) (λ items s2.
+    walked w.site.id w.site.at (turns (λ item s3. turn_over w.site.id w.site.at keep (row_run w item vars) item s3) items s2) (λ s3. go vars s3))) (sym plain)) d

@@ -53,3 +53,6 @@ if_form t {e = e} a b is = steps.at_Step t ∙ ap (λ f. mirror_step_form f t.id
 pub each_form : (t : Step) {var : ℕ} {keep : Bool} {e : SExpr} (a : List Step) → t.form ≡ form.Each var keep e a
     → mirror_step t ≡ script.Each t.id t.at var keep (mirror_sexpr e) (mirror_steps a)
 each_form t {var = var} {keep = keep} {e = e} a is = steps.at_Step t ∙ ap (λ f. mirror_step_form f t.id t.at) is ∙ steps.form_Each var keep e a t.id t.at
+
+pub over_form : (t : Step) {var input : ℕ} (a : List Step) → t.form ≡ form.Over var input a → mirror_step t ≡ script.Over t.id t.at var input (mirror_steps a)
+over_form t {var = var} {input = input} a is = steps.at_Step t ∙ ap (λ f. mirror_step_form f t.id t.at) is ∙ steps.form_Over var input a t.id t.at

@@ -28,6 +28,7 @@ abbrev mutual
   step_weight (script.Let id at var keep e) = 0
   step_weight (script.If id at e a b) = 5 + max (steps_weight a) (steps_weight b)
   step_weight (script.Each id at var keep e a) = 8 + steps_weight a
+  step_weight (script.Over id at var input a) = 8 + steps_weight a
 
   pub steps_weight : Steps → ℕ
   steps_weight script.NoSteps = 0

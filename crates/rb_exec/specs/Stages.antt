@@ -12,7 +12,7 @@ use Rattle.rb_trees.specs.mirror.Scripts.{mirror_sexpr, mirror_sexprs, mirror_st
 use Rattle.rb_trees.specs.mirror.Forests as forest
 use Rattle.rb_trees.specs.mirror.Declarations.{mirror_class}
 use Rattle.rb_meaning_code.specs.Remote.{Server, Reply}
-use Rattle.rb_meaning_code.specs.ScriptRun.{Ground, Vars, Ran, Turned, value_of, values_of, ended, with_entry, run_step, run_steps, turn_over, turns}
+use Rattle.rb_meaning_code.specs.ScriptRun.{Ground, Vars, Ran, Turned, value_of, values_of, ended, with_entry, run_step, run_steps, turn_over, turns, walked}
 use Rattle.rb_exec.specs.declared.stage.Stage.{Stage}
 use Rattle.rb_exec.specs.declared.stage.Site.{Site}
 use Rattle.rb_exec.specs.declared.expressions.Scope.{Scope}
@@ -80,6 +80,9 @@ if_run site e a b = site_run site (script.If site.id site.at (mirror_sexpr e) (m
 abbrev pub each_run : Walk → SExpr → Course
 each_run w e = site_run w.site (script.Each w.site.id w.site.at w.variable w.keep (mirror_sexpr e) (mirror_steps w.body.now))
 
+abbrev pub over_run : Walk → ℕ → Course
+over_run w input = site_run w.site (script.Over w.site.id w.site.at w.variable input (mirror_steps w.body.now))
+
 -- a block, to its end
 abbrev pub block_run : Stage → List Step → Vars → Server → Ran
 block_run st steps vars s = run_steps (ground st) (mirror_steps steps) vars s ended
@@ -116,3 +119,7 @@ turn_run w row vars s = turn_over w.site.id w.site.at w.keep (row_run w row vars
 
 abbrev pub turns_run : Walk → List Value → Vars → Server → Turned
 turns_run w rows vars s = turns (λ row. turn_run w row vars) rows s
+
+-- the entry of the turns, and what follows
+abbrev pub walk_run : Walk → List Value → Course
+walk_run w rows vars s go = walked w.site.id w.site.at (turns_run w rows vars s) (λ s1. go vars s1)

@@ -2,7 +2,7 @@
 
 ghost use Rattle.std.specs.Prelude.{◌≡◌, slice_get};
 ghost use Rattle.std.specs.Option.{option_copied};
-ghost use Rattle.rb_trees.specs.Outcome.{Gives, known};
+ghost use Rattle.rb_trees.specs.Outcome.{Gives, known, ◌>>=◌};
 ghost use Rattle.rb_trees.specs.declared.values.Value.{out-Value};
 ghost use Rattle.rb_engine.specs.Ends.{fault_of};
 ghost use Rattle.rb_engine.specs.declared.ends.Failure.TheVariants as failure;
@@ -88,6 +88,32 @@ pub fn rows_in(alloc: Global, value: &Value) -> Result<Shared<Seq<Value>>, Failu
     match value {
         Value::Rows(rows) => Ok(rows.share()?),
         _ => Err(kind(alloc)),
+    }
+}
+
+// The items of a value that is a list: `items_in`.
+#[tactic(auto, using(rb_engine::proofs::Values::values))]
+fn items_in(alloc: Global, value: &Value) -> Result<Shared<Seq<Value>>, Failure>
+    ensures { Gives (λ items. items) fault_of result (meant.items_in (out-Value value.now)) }
+{
+    match value {
+        Value::List(items) => Ok(items.share()?),
+        _ => Err(kind(alloc)),
+    }
+}
+
+/// The items of an input, which has to be there and a list.
+#[inline(never)]
+pub fn input_items(
+    alloc: Global,
+    inputs: &[Value],
+    number: u8,
+) -> Result<Shared<Seq<Value>>, Failure>
+    ensures { Gives (λ items. items) fault_of result (known faults.kind (slice_get inputs.now number) >>= λ v. meant.items_in (out-Value v)) }
+{
+    match inputs.get(number as usize) {
+        Some(value) => items_in(alloc, value),
+        None => Err(kind(alloc)),
     }
 }
 

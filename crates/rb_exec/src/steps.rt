@@ -5,12 +5,12 @@ ghost use Rattle.std.specs.Option.{option_copied};
 ghost use Rattle.rb_wire_fields.specs.Buffers.{Keeps};
 ghost use Rattle.rb_exec.specs.Blocks.{Closes, Runs, RunsBlock, RunsQuietly};
 ghost use Rattle.rb_exec.specs.Ends.{UnlessMemory};
-ghost use Rattle.rb_exec.specs.Stages.{block_from, do_run, each_run, if_run, keep_run, let_run, step_run, steps_run};
+ghost use Rattle.rb_exec.specs.Stages.{block_from, do_run, each_run, if_run, keep_run, let_run, over_run, step_run, steps_run, walk_run};
 
 use crate::ends::Stop;
 use crate::holes::{add_one, fill, leave_hole};
 use crate::nodes::{end_node, put_branch, put_entry, put_first, put_rows};
-use crate::rules::{if_kept, may_keep, rows_in};
+use crate::rules::{if_kept, input_items, may_keep, rows_in};
 use crate::run::Run;
 use crate::stage::{Site, Stage};
 use crate::turns::{Walk, end_turns};
@@ -91,6 +91,15 @@ impl Run {
                 };
                 self.run_each(entries, &walk, rows)
             }
+            StepForm::Over { var, input, body } => {
+                let walk = Walk {
+                    site,
+                    variable: *var,
+                    keep: false,
+                    body,
+                };
+                self.run_over(entries, &walk, *input)
+            }
         }
     }
 
@@ -168,11 +177,38 @@ impl Run {
         let site = walk.site;
         let value = site.value(&self.variables, &mut self.server, rows)?;
         let rows = site.ruled(rows_in(site.stage.alloc, &value))?;
+        self.run_walk(entries, walk, rows.get().as_slice())
+    }
+
+    // An `Over`: the entry of its turns. Its walk keeps no items.
+    #[cycle(running)]
+    #[inline(never)]
+    fn run_over(&mut self, entries: &mut u32, walk: &Walk<'_>, input: u8) -> Result<(), Stop>
+        requires plain { walk.now.keep ≡ false }
+        ensures { Runs (over_run walk.now input) entries.old self.old result entries.new self.new }
+    {
+        let site = walk.site;
+        let stage = site.stage;
+        let items = site.ruled(input_items(stage.alloc, stage.inputs, input))?;
+        self.run_walk(entries, walk, items.get().as_slice())
+    }
+
+    // The entry of the turns over rows or items.
+    #[cycle(running)]
+    #[inline(always)]
+    fn run_walk(
+        &mut self,
+        entries: &mut u32,
+        walk: &Walk<'_>,
+        rows: &[Value],
+    ) -> Result<(), Stop>
+        ensures { Runs (walk_run walk.now rows.now) entries.old self.old result entries.new self.new }
+    {
         let at = put_rows(&mut self.bytes)?;
         let mut begun = 0;
-        let end = self.run_turns(walk, &mut begun, rows.get().as_slice())?;
+        let end = self.run_turns(walk, &mut begun, rows)?;
         fill(&mut self.bytes, at, begun);
         add_one(entries);
-        end_turns(site, end)
+        end_turns(walk.site, end)
     }
 }

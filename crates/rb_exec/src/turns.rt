@@ -1,4 +1,4 @@
-// Performs the turns of an `Each`.
+// Performs the turns of an `Each` or an `Over`.
 
 ghost use Rattle.std.specs.Prelude.{◌≡◌, OnErr};
 ghost use Rattle.rb_wire_fields.specs.Buffers.{Keeps};
@@ -15,7 +15,8 @@ use crate::stage::Site;
 use rb_engine::{Miss, at_place};
 use rb_trees::{NodeFault, Seq, Step, Value, copy_value};
 
-/// An `Each`, without its rows: where its step stands, the variable of its rows, whether they are kept, and its block.
+/// An `Each` without its rows, or an `Over` without its items: where its step stands, the variable of its rows, whether they
+/// are kept, and its block.
 #[derive(Clone, Copy)]
 pub struct Walk<'a> {
     pub site: Site<'a>,

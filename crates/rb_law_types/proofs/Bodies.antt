@@ -15,6 +15,7 @@ use Rattle.rb_meaning_types.specs.Expressions.{type_of}
 use Rattle.rb_meaning_types.specs.Statements.{check_stmts}
 use Rattle.rb_meaning_types.specs.Bodies.{check_return}
 use Rattle.rb_meaning_types.specs.Fits.{classes_of}
+use Rattle.rb_meaning_code.specs.Faults.{raised, fuel_used}
 use Rattle.rb_meaning_code.specs.State.{Local}
 use Rattle.rb_meaning_code.specs.Dialogue.{Question, Line, Taken, Invoke, Turn, ListTurn, Outcome, Gave, Faulted, Dialogue, Done, Ask, AskBatch, Run}
 use Rattle.rb_meaning_code.specs.Calls.{Bodies}
@@ -29,7 +30,7 @@ use Rattle.rb_law_types.specs.Batches.{sites, sites_in, MayHold, AreAmong, Metho
 use Rattle.rb_law_types.specs.Code.{AreTyped, LeadTo, AllAsk, IsBatchExpr, AreBatchExprs, IsBatchStmt, AreBatchStmts, bodies, TypesKeep, BatchesKeep}
 use Rattle.rb_law_types.proofs.Checks.{bind_ok, must_ok, placed_ok, same_sound}
 use Rattle.rb_law_types.proofs.Values.{grown_same, unit_fits}
-use Rattle.rb_law_types.proofs.Faults.{plain_own}
+use Rattle.rb_law_types.proofs.Faults.{plain_rule, rule_fits}
 use Rattle.rb_law_types.proofs.Known.{Known, typed_known, class_known, class_apart, method_known}
 use Rattle.rb_law_types.proofs.OwnKinds.{own_parameters}
 use Rattle.rb_law_types.proofs.Exprs.{NotedExpr, SafeBodies, MayCall, value_runs, values_run, call_runs}
@@ -110,7 +111,7 @@ AskKnown d batches all = (class name : List ℕ) (m : Method) → HasMethod d cl
     → AreAmong batches (sites_in (method_context d class m.remote) (parameters m.signature.params) m.body.statements)
 
 pub bodies_keep : (d : Declarations) → Known d → (batches : List Site) (all : Truth) → AskKnown d batches all → (gas : ℕ) → SafeBodies d (Own batches) all (body_within d.classes gas)
-bodies_keep d known' batches all asks zero at class name m l has may state = (plain_own 7 (omega arith) (omega arith), record { heap = state.holds.heap_fits; grown = grown_same (classes_of l.heap) })
+bodies_keep d known' batches all asks zero at class name m l has may state = (rule_fits d (raised fuel_used at) (plain_rule 7 (omega arith) (omega arith)), record { heap = state.holds.heap_fits; grown = grown_same (classes_of l.heap) })
 bodies_keep d known' batches all asks (suc gas) at class name m l has may state =
     method_keeps d known' batches all (body_within d.classes gas) (bodies_keep d known' batches all asks gas) gas class name m l has may (asks class name m has may) state
 

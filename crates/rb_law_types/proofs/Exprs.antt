@@ -35,7 +35,7 @@ use Rattle.rb_law_types.specs.Admitted.{HasMethod, CallsNoRemote}
 use Rattle.rb_law_types.specs.Code.{ArgumentsFit, IsBatchExpr, AreBatchExprs}
 use Rattle.rb_law_types.proofs.Checks.{bind_ok, then_ok, known_ok, placed_ok, wanted_ok}
 use Rattle.rb_law_types.proofs.Values.{of_class, grown_same, fits_more, names_more}
-use Rattle.rb_law_types.proofs.Faults.{plain_own}
+use Rattle.rb_law_types.proofs.Faults.{plain_rule}
 use Rattle.rb_law_types.proofs.Results.{one_keeps, two_keep, left_keeps, index_keeps, lists_keep}
 use Rattle.rb_law_types.proofs.Known.{Known, class_apart}
 use Rattle.rb_law_types.proofs.OwnKinds.{field_ok, IsCall, IsFarCall, call_how, not_far, new_ok, items_ok, type_own}
@@ -65,7 +65,7 @@ abbrev Any : Unit {0} → Type 0
 Any u = Unit {0}
 
 pub unit_fair : (fuel : ℕ) → Fair Any (unit_due fuel)
-unit_fair zero = plain_own 7 (omega arith) (omega arith)
+unit_fair zero = plain_rule 7 (omega arith) (omega arith)
 unit_fair (suc n) = tt
 
 depth_fair : (depth : ℕ) → Fair Any (call_fits depth)
@@ -73,7 +73,7 @@ depth_fair depth = by (nat_lt depth 32)
   where
     by : (t : Truth) → Fair Any (must t too_deep)
     by true = tt
-    by false = plain_own 6 (omega arith) (omega arith)
+    by false = plain_rule 6 (omega arith) (omega arith)
 
 with_first_ok : (p : Placed) (r : Checked (List Placed)) (ps : List Placed) → with_first p r ≡ Ok ps → (qs : List Placed) × (r ≡ Ok qs) × ((p ∷ qs) ≡ ps)
 with_first_ok p (Ok qs) ps h = (qs, refl, cc (h))

@@ -78,6 +78,13 @@ module _ (n : ℕ) where
   primitive_far Value-F.Unit h = absurd h
   primitive_far _ h = absurd h
 
+  pub primitive_single : (w : Value-F Value) → IsPrimitiveForm w → IsSingleForm n w
+  primitive_single (Value-F.Int z) h = h
+  primitive_single (Value-F.Bool b) h = tt
+  primitive_single (Value-F.Text t) h = h
+  primitive_single Value-F.Unit h = absurd h
+  primitive_single _ h = absurd h
+
   pub single_far : (w : Value-F Value) → IsSingleForm n w → IsFarForm n w
   single_far (Value-F.Int z) h = h
   single_far (Value-F.Bool b) h = tt

@@ -4,17 +4,42 @@ use Rattle.rb_trees.specs.declared.values.Fault.{Fault}
 use Rattle.rb_trees.specs.Outcome.{known}
 use Rattle.rb_meaning_types.specs.Values.{IsText}
 use Rattle.rb_meaning_code.specs.Faults.{plain_fault, thrown, fault_names, name_or_nothing, fault_name, caught_text}
-use Rattle.rb_law_types.specs.Kept.{IsOwnFault, Fair}
+use Rattle.rb_trees.specs.declared.outcomes.Raised.{Raised}
+use Rattle.rb_meaning_types.specs.Declared.{Declarations}
+use Rattle.rb_law_types.specs.Kept.{IsRuleFault, IsOwnFault, IsFaultOf, FaultFits, Fair}
 
 pub empty_text : IsText []
 empty_text = (([], (refl, refl)), omega arith)
 
 -- a fault without a text
-pub plain_own : (code : ℕ) → 1 ≤ code → code ≤ 11 → IsOwnFault (plain_fault code)
-plain_own code least most = record { least = least; most = most; text = empty_text; plain = inr refl }
+pub plain_rule : (code : ℕ) → 1 ≤ code → code ≤ 11 → IsRuleFault (plain_fault code)
+plain_rule code least most = record { least = least; most = most; text = empty_text; plain = inr refl }
 
-pub thrown_own : (text : List ℕ) → IsText text → IsOwnFault (thrown text)
-thrown_own text h = record { least = omega arith; most = omega arith; text = h; plain = inl refl }
+pub thrown_rule : (text : List ℕ) → IsText text → IsRuleFault (thrown text)
+thrown_rule text h = record { least = omega arith; most = omega arith; text = h; plain = inl refl }
+
+-- a rule's fault is one that code ends by
+pub rule_own : (f : Fault) → IsRuleFault f → IsOwnFault f
+rule_own f h = record { least = h.least; most = omega (arith, h.most); not_kind = λ e. absurd (omega (arith, e, h.most)); text = h.text; plain = h.plain }
+
+pub plain_own : (code : ℕ) → 1 ≤ code → code ≤ 11 → IsOwnFault (plain_fault code)
+plain_own code least most = rule_own (plain_fault code) (plain_rule code least most)
+
+-- a rule's fault, in a program or a service
+pub rule_fits : (d : Declarations) (r : Raised) → IsRuleFault r.fault → FaultFits d r
+rule_fits d r h = by d.service
+  where
+    by : (service : Bool) → IsFaultOf service r.fault
+    by true = h
+    by false = rule_own r.fault h
+
+-- the text of a fault that code ends by
+pub text_of_fault : (d : Declarations) (r : Raised) → FaultFits d r → IsText r.fault.text
+text_of_fault d r h = by d.service h
+  where
+    by : (service : Bool) → IsFaultOf service r.fault → IsText r.fault.text
+    by true is = is.text
+    by false is = is.text
 
 -- the names of faults are texts
 
@@ -46,7 +71,10 @@ names_are_texts = (
                     ((codes "BadArguments", (refl, refl)), omega arith),
                     (
                       ((codes "WrongKind", (refl, refl)), omega arith),
-                      (((codes "Kind", (refl, refl)), omega arith), tt),
+                      (
+                        ((codes "Kind", (refl, refl)), omega arith),
+                        (((codes "InputTooLarge", (refl, refl)), omega arith), tt),
+                      ),
                     ),
                   ),
                 ),

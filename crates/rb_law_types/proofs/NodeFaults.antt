@@ -7,7 +7,7 @@ use Rattle.rb_trees.specs.mirror.Forests as forest
 use Rattle.rb_trees.specs.mirror.Forests.{Node, Nodes, Entry, Entries, Holds, NoEntries, NoNodes, MoreNodes}
 use Rattle.rb_meaning_code.specs.Remote.{Server, Reply, Got, Stopped, and_then}
 use Rattle.rb_meaning_code.specs.ScriptRun as run
-use Rattle.rb_meaning_code.specs.ScriptRun.{Ground, Vars, PlacedFault, Ran, in_front, with_entry, on_reply, kept, with_kept, goes_on, halted, chosen, branched, condition, rows_of, Why, AllDone, InTurn, NoUnit, Turned, with_unit, turned_on, turns, turn_over, after_turns, walked, run_step, run_steps, value_of}
+use Rattle.rb_meaning_code.specs.ScriptRun.{Ground, Vars, PlacedFault, Ran, in_front, with_entry, on_reply, kept, with_kept, goes_on, halted, chosen, branched, condition, rows_of, items_of, Why, AllDone, InTurn, NoUnit, Turned, with_unit, turned_on, turns, turn_over, after_turns, walked, run_step, run_steps, value_of}
 use Rattle.rb_law_types.specs.NodeFaults.{at_most_one, last_fault, faults_in, faults_among, faults_within, faults_of_turns, HoldsItsFault, NodesHoldTheFault}
 
 -- an entry in front
@@ -74,6 +74,14 @@ walk_holds id at t go h more = by t.why h
     by (InTurn f) e = last_entry (forest.Rows t.nodes) f t.server e
     by NoUnit e = plain_entry (forest.Rows t.nodes) (after_turns id at NoUnit t.server go) e refl
 
+-- turns of a block over rows or items, and what follows them
+walks_hold : (id at : ℕ) (keep : Truth) (block : Value → Server → Ran) → ((row : Value) (s : Server) → HoldsItsFault (block row s)) → (rows : List Value) (s : Server) (go : Server → Ran) → ((s1 : Server) → HoldsItsFault (go s1))
+    → HoldsItsFault (walked id at (turns (λ row s1. turn_over id at keep (λ s2. block row s2) row s1) rows s) go)
+walks_hold id at keep block each rows s go more =
+    let turn = λ (row : Value) (s1 : Server). turn_over id at keep (λ s2. block row s2) row s1 in
+    walk_holds id at (turns turn rows s) go
+    (turns_hold turn (λ row s1. reply_holds id (kept keep at row s1) (λ v s2. with_kept keep v (block row s2)) (λ v s2. kept_holds keep v (block row s2) (each row s2))) rows s) more
+
 -- steps
 
 module _ (g : Ground) where
@@ -90,10 +98,10 @@ module _ (g : Ground) where
         (chosen_holds holds _ _ (steps_hold a vars s1 run.ended (λ vars1 s2. refl)) (steps_hold b vars s1 run.ended (λ vars1 s2. refl))) (λ s2. more vars s2))
     step_holds (script.Each id at var keep e a) vars s go more =
         reply_holds id (and_then (value_of g at vars e s) (rows_of at)) _ (λ rows s1.
-        let turn = λ (row : Value) (s2 : Server). turn_over id at keep (λ s3. run_steps g a ((var, row) ∷ vars) s3 run.ended) row s2 in
-        walk_holds id at (turns turn rows s1) (λ s2. go vars s2)
-        (turns_hold turn (λ row s2. reply_holds id (kept keep at row s2) _ (λ v s3. kept_holds keep v _ (steps_hold a ((var, row) ∷ vars) s3 run.ended (λ vars1 s4. refl)))) rows s1)
-        (λ s2. more vars s2))
+        walks_hold id at keep (λ row s2. run_steps g a ((var, row) ∷ vars) s2 run.ended) (λ row s2. steps_hold a ((var, row) ∷ vars) s2 run.ended (λ vars1 s3. refl)) rows s1 (λ s2. go vars s2) (λ s2. more vars s2))
+    step_holds (script.Over id at var input a) vars s go more =
+        reply_holds id (items_of g at input s) _ (λ items s1.
+        walks_hold id at false (λ item s2. run_steps g a ((var, item) ∷ vars) s2 run.ended) (λ item s2. steps_hold a ((var, item) ∷ vars) s2 run.ended (λ vars1 s3. refl)) items s1 (λ s2. go vars s2) (λ s2. more vars s2))
 
     steps_hold : (steps : Steps) (vars : Vars) (s : Server) (go : Vars → Server → Ran) → ((vars1 : Vars) (s1 : Server) → HoldsItsFault (go vars1 s1)) → HoldsItsFault (run_steps g steps vars s go)
     steps_hold script.NoSteps vars s go more = more vars s

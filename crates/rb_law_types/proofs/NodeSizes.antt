@@ -1,6 +1,6 @@
 -- Nodes of steps are as deep as their blocks, and have as many entries as these have steps.
 use Rattle.std.proofs.Common.{ℕ, zero, suc, ◌+◌, ◌≤◌, arith, Bool as Truth, true, false}
-use Rattle.rb_trees.specs.mirror.Scripts.{Step, Steps, Do, Keep, Let, If, Each, NoSteps, MoreSteps}
+use Rattle.rb_trees.specs.mirror.Scripts.{Step, Steps, Do, Keep, Let, If, Each, Over, NoSteps, MoreSteps}
 use Rattle.rb_trees.specs.mirror.Forests.{Node, Nodes, Entry, Entries, Holds, Value, Branch, Rows, NoEntries, MoreEntries, NoNodes, MoreNodes}
 use Rattle.rb_law_types.specs.Scripts.{IsKept, IsNode, IsBranch, AreNodes, AreTurns, Then, AreNone, KeptFirst, StepGives, StepsGive}
 use Rattle.rb_law_types.specs.Nodes.{step_count, count_entries, step_depth, steps_depth, step_most, steps_most, block_most, IsNodeWithin, IsEntryWithin, AreEntriesWithin, AreNodesWithin, NodesStayWithin}
@@ -64,6 +64,11 @@ mutual
       (turns_within depth most (suc (step_count a + 0)) (λ xs. KeptFirst keep (λ ys. StepsGive a AreNone ys) xs) (omega (arith, m))
       (first_within depth most (step_count a + 0) keep (λ ys. StepsGive a AreNone ys)
       (steps_within a depth most 0 AreNone (omega (arith, d)) (omega (arith, m)) (none_within depth most)))) p es h
+  step_within (Over id at var input a) zero most count P d m p es h = absurd (omega (arith, d))
+  step_within (Over id at var input a) (suc depth) most count P d m p es h =
+      then_within (suc depth) most count (AreTurns (λ xs. StepsGive a AreNone xs)) P
+      (turns_within depth most (step_count a + 0) (λ xs. StepsGive a AreNone xs) (omega (arith, m))
+      (steps_within a depth most 0 AreNone (omega (arith, d)) (omega (arith, m)) (none_within depth most))) p es h
 
   steps_within : (ss : Steps) (depth most count : ℕ) (P : Entries → Type 0) → steps_depth ss ≤ depth → steps_most ss ≤ most → ((es : Entries) → P es → Within depth most count es)
       → (es : Entries) → StepsGive ss P es → Within depth most (step_count ss + count) es
@@ -73,7 +78,7 @@ mutual
       (all.0, omega (arith, all.1))
 
 pub nodes_stay_within : NodesStayWithin
-nodes_stay_within classes typed formed root table fits s inputs bounded primitive =
+nodes_stay_within classes typed formed root table fits s inputs bounded given =
     node_within (steps_depth s.body) (block_most s.body) (step_count s.body + 0) (λ es. StepsGive s.body AreNone es) (omega arith)
     (steps_within s.body (steps_depth s.body) (block_most s.body) 0 AreNone (omega arith) (omega arith) (none_within (steps_depth s.body) (block_most s.body)))
-    _ (scripts_keep classes typed formed root table fits s inputs bounded primitive).node
+    _ (scripts_keep classes typed formed root table fits s inputs bounded given).node

@@ -27,7 +27,7 @@ use Rattle.rb_law_types.specs.Kept.{Fair}
 use Rattle.rb_law_types.specs.Ends.{Grown, OfKinds}
 use Rattle.rb_law_types.specs.Code.{ArgumentsFit}
 use Rattle.rb_law_types.proofs.Checks.{then_ok, must_ok, wanted_ok}
-use Rattle.rb_law_types.proofs.Faults.{plain_own, SomeIs, known_fair}
+use Rattle.rb_law_types.proofs.Faults.{plain_rule, SomeIs, known_fair}
 use Rattle.rb_law_types.proofs.Values.{object_fits, fields_more, objects_more}
 use Rattle.rb_law_types.proofs.Names.{field_there, field_put}
 
@@ -134,7 +134,7 @@ module _ (is : List Interface) (classes : List Class) (heap : List Object) (h : 
             (record { class = c; found = found; fields = fields_more is (classes_of heap) (classes_of (heap ++ new ∷ [])) g c.fields (matched c.fields vs) (matched_fields is (classes_of heap) c.fields vs args) });
         grown = g;
       }
-      by false = plain_own 5 (omega arith) (omega arith)
+      by false = plain_rule 5 (omega arith) (omega arith)
 
   pub constructed_fits : (name : List ℕ) (c : Class) (vs : List Value) → interface_named is name ≡ None → class_named classes name ≡ Some c → ArgumentsFit is (classes_of heap) c.fields vs
       → Fair (IsMade is classes heap name) (constructed classes heap name vs)

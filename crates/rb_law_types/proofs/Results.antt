@@ -36,7 +36,7 @@ use Rattle.rb_law_types.specs.Kept.{Fair}
 use Rattle.rb_law_types.specs.Operators.{IfDecided, OneKeeps, TwoKeep, LeftKeeps, IndexKeeps, ListsKeep, ConditionsHold}
 use Rattle.rb_law_types.proofs.Checks.{bind_ok, then_ok, must_ok, wanted_ok}
 use Rattle.rb_law_types.proofs.Values.{int_fits, bool_fits, text_fits, list_fits}
-use Rattle.rb_law_types.proofs.Faults.{plain_own}
+use Rattle.rb_law_types.proofs.Faults.{plain_rule}
 
 -- numbers and texts within their limits
 
@@ -136,21 +136,21 @@ module _ (is : List Interface) (cs : List (List ℕ)) where
   divided_fair f a b h = by (int_eq b (pos 0))
     where
       by : (t : Truth) → Fair (Fits is cs kind.Int) (cond t (Err division_by_zero) (Ok (value.Int (f a b))))
-      by true = plain_own 1 (omega arith) (omega arith)
+      by true = plain_rule 1 (omega arith) (omega arith)
       by false = int_fits is cs (f a b) h
 
   texts_joined : (a b : List ℕ) → IsText a → IsText b → Fair (Fits is cs kind.Text) (joined_text a b)
   texts_joined a b h k = by (nat_lt longest_text (length (a ++ b))) refl
     where
       by : (t : Truth) → nat_lt longest_text (length (a ++ b)) ≡ t → Fair (Fits is cs kind.Text) (cond t (Err text_too_long) (Ok (value.Text (a ++ b))))
-      by true e = plain_own 3 (omega arith) (omega arith)
+      by true e = plain_rule 3 (omega arith) (omega arith)
       by false e = text_fits is cs (a ++ b) (IsUtf8-append a b h.0 k.0, ltb-false longest_text (length (a ++ b)) e)
 
   lists_joined : (item : Kind) (a b : List Value) → All (Fits is cs item) a → All (Fits is cs item) b → Fair (Fits is cs (kind.ListOf item)) (joined_list a b)
   lists_joined item a b h k = by (nat_lt longest_list (length (a ++ b))) refl
     where
       by : (t : Truth) → nat_lt longest_list (length (a ++ b)) ≡ t → Fair (Fits is cs (kind.ListOf item)) (cond t (Err list_too_long) (Ok (value.List (a ++ b))))
-      by true e = plain_own 4 (omega arith) (omega arith)
+      by true e = plain_rule 4 (omega arith) (omega arith)
       by false e = list_fits is cs item (a ++ b) (ltb-false longest_list (length (a ++ b)) e) (All-append (Fits is cs item) a b h k)
 
   plus_ints : (v w : Value-F Value) → IsIntValue v → IsIntValue w → Fair (Fits is cs kind.Int) (plus v w)
@@ -261,13 +261,13 @@ module _ (is : List Interface) (cs : List (List ℕ)) where
   -- items
 
   got : {A : Type 0} (P : A → Type 0) (xs : List A) (n : ℕ) → All P xs → Fair P (known index_outside (slice_get xs n))
-  got P [] n h = plain_own 2 (omega arith) (omega arith)
+  got P [] n h = plain_rule 2 (omega arith) (omega arith)
   got P (x ∷ xs) zero h = All-head P x xs h
   got P (x ∷ xs) (suc n) h = got P xs n (All-tail P x xs h)
 
   item_got : (P : Value → Type 0) (items : List Value) (n : ℤ) → All P items → Fair P (item_at items n)
   item_got P items (pos place) h = got P items place h
-  item_got P items (negsuc place) h = plain_own 2 (omega arith) (omega arith)
+  item_got P items (negsuc place) h = plain_rule 2 (omega arith) (omega arith)
 
   index_got : (P : Value → Type 0) (v w : Value-F Value) → AreItems P v → IsIntValue w → Fair P (indexed v w)
   index_got P (Value-F.List items) (Value-F.Int place) m n = item_got P items place m.1
@@ -333,7 +333,7 @@ lists_keep is cs item vs h = by (nat_le (length vs) longest_list) refl
   where
     by : (t : Truth) → nat_le (length vs) longest_list ≡ t → Fair (Fits is cs (kind.ListOf item)) (must t list_too_long >> Ok (value.List vs))
     by true e = list_fits is cs item vs (leb-true (length vs) longest_list e) h
-    by false e = plain_own 4 (omega arith) (omega arith)
+    by false e = plain_rule 4 (omega arith) (omega arith)
 
 pub conditions_hold : ConditionsHold
 conditions_hold is cs v h = truth_got is cs (out-Value v) h

@@ -2,7 +2,8 @@
 use Rattle.std.proofs.Common.{◌≡◌, refl, sym, subst, ℕ, zero, suc, ◌≤◌, List, [], ◌∷◌, length, arith, Bool as Truth, true, false, cond, nat_eq, All, Option, Some, None, slice_get, Result, Ok, Err}
 use Rattle.std.proofs.lemmas.List.Elements.{All-nil, All-cons, All-head, All-tail, All-weaker}
 use Rattle.rb_trees.specs.Limits.{longest_list}
-use Rattle.rb_trees.specs.Outcome.{known, must, ◌>>◌}
+use Rattle.rb_trees.specs.Validity.{has}
+use Rattle.rb_trees.specs.Outcome.{known, must, ◌>>=◌, ◌>>◌}
 use Rattle.rb_trees.specs.declared.values.Value.{Value}
 use Rattle.rb_trees.specs.declared.values.Value.TheOpen.{Value-F}
 use Rattle.rb_trees.specs.declared.values.Value.TheVariants as value
@@ -21,16 +22,16 @@ use Rattle.rb_meaning_code.specs.Faults.{kind}
 use Rattle.rb_meaning_code.specs.Operators.{on_one, on_two, by_left}
 use Rattle.rb_meaning_code.specs.Statements.{truth_of}
 use Rattle.rb_meaning_code.specs.Remote.{Server, Reply, Got, Stopped, and_then, replies, rows_in, invoke, batch_fuel}
-use Rattle.rb_meaning_code.specs.ScriptRun.{Ground, Vars, latest, PlacedFault, Ran, ended, in_front, with_entry, on_reply, decided_or, value_of, values_of, is_primitive, kept, with_kept, condition, rows_of, goes_on, chosen, branched, Why, AllDone, InTurn, NoUnit, Turned, with_unit, turned_on, turns, turn_over, after_turns, walked, run_step, run_steps}
+use Rattle.rb_meaning_code.specs.ScriptRun.{Ground, Vars, latest, PlacedFault, Ran, ended, in_front, with_entry, on_reply, decided_or, value_of, values_of, is_primitive, kept, with_kept, condition, rows_of, items_in, items_of, goes_on, chosen, branched, Why, AllDone, InTurn, NoUnit, Turned, with_unit, turned_on, turns, turn_over, after_turns, walked, run_step, run_steps}
 use Rattle.rb_law_types.specs.Kept.{IsPrimitiveForm, IsPrimitive, IsBounded}
 use Rattle.rb_law_types.specs.Formed.{AreFormed}
 use Rattle.rb_law_types.specs.Ends.{Grown}
 use Rattle.rb_law_types.specs.Operators.{IfDecided}
 use Rattle.rb_law_types.specs.Remote.{IsOfKind, IsFault, IsCallFault, TableKeeps, ReplyKeeps}
-use Rattle.rb_law_types.specs.Scripts.{IsPlace, IsBoundedSExpr, AreBoundedSExprs, IsBoundedStep, AreBoundedSteps, IsKept, IsNode, IsBranch, count_nodes, AreNodes, AreTurns, Then, AreNone, KeptFirst, StepGives, StepsGive, RanKeeps, ScriptsKeep}
+use Rattle.rb_law_types.specs.Scripts.{IsPlace, IsInputForm, AreInputs, IsBoundedSExpr, AreBoundedSExprs, IsBoundedStep, AreBoundedSteps, IsKept, IsNode, IsBranch, count_nodes, AreNodes, AreTurns, Then, AreNone, KeptFirst, StepGives, StepsGive, RanKeeps, ScriptsKeep}
 use Rattle.rb_law_types.proofs.Values.{grown_on}
 use Rattle.rb_law_types.proofs.Served.{remote_out, still_within, table_same, invoke_keeps}
-use Rattle.rb_law_types.proofs.Far.{IsSingle, IsFar, IsFarForm, single_more, far_more, primitive_far, single_far, far_bounded, kind_far, kind_is, plain_is, Given, far_one, far_two, far_left}
+use Rattle.rb_law_types.proofs.Far.{IsSingle, IsFar, IsFarForm, single_more, far_more, primitive_far, primitive_single, single_far, far_bounded, kind_far, kind_is, plain_is, Given, far_one, far_two, far_left}
 
 -- tables that grow
 
@@ -88,10 +89,37 @@ module _ (classes : List Class) (root : ℕ) where
       by true rest = h.0
       by false rest = rest
 
-  input_given : (n : ℕ) (inputs : List Value) (number : ℕ) → All IsPrimitive inputs → Given (Far n) (known kind (slice_get inputs number))
-  input_given n [] number h = kind_is
-  input_given n (v ∷ vs) zero h = primitive_far n (out-Value v) (All-head IsPrimitive v vs h)
-  input_given n (v ∷ vs) (suc number) h = input_given n vs number (All-tail IsPrimitive v vs h)
+  input_given : (n : ℕ) (lists : List ℕ) (inputs : List Value) (number : ℕ) → AreInputs lists inputs → has number lists ≡ false → Given (Far n) (known kind (slice_get inputs number))
+  input_given n lists inputs number h plain = by (slice_get inputs number) refl
+    where
+      by : (o : Option Value) → slice_get inputs number ≡ o → Given (Far n) (known kind o)
+      by (Some v) e = primitive_far n (out-Value v) (subst (λ t. IsInputForm t (out-Value v)) plain (h number v e))
+      by None e = kind_is
+
+  -- rows of a value
+  abbrev RowsFar : ℕ → List Value → Type 0
+  RowsFar n rows = IsList rows × All (IsSingle n) rows
+
+  rows_given : (n : ℕ) (w : Value-F Value) → IsFarForm n w → Given (RowsFar n) (rows_in w)
+  rows_given n (Value-F.Rows rows) h = h
+  rows_given n Value-F.Unit h = kind_is
+  rows_given n _ h = kind_is
+
+  -- the items of an input
+  items_given : (n : ℕ) (lists : List ℕ) (inputs : List Value) (number : ℕ) → AreInputs lists inputs → Given (RowsFar n) (known kind (slice_get inputs number) >>= λ v. items_in (out-Value v))
+  items_given n lists inputs number h = by (slice_get inputs number) refl
+    where
+      of : (is_list : Truth) (w : Value-F Value) → IsInputForm is_list w → Given (RowsFar n) (items_in w)
+      of true (Value-F.List items) is = (is.0, All-weaker IsPrimitive (IsSingle n) (λ v. primitive_single n (out-Value v)) items is.1)
+      of true Value-F.Unit is = absurd is
+      of true _ is = absurd is
+      of false (Value-F.List items) is = absurd is
+      of false Value-F.Unit is = kind_is
+      of false _ is = kind_is
+
+      by : (o : Option Value) → slice_get inputs number ≡ o → Given (RowsFar n) (known kind o >>= λ v. items_in (out-Value v))
+      by (Some v) e = of (has number lists) (out-Value v) (h number v e)
+      by None e = kind_is
 
   given_far : (n : ℕ) (r : Result Value Fault) → Given IsPrimitive r → Given (Far n) r
   given_far n (Ok v) h = primitive_far n (out-Value v) h
@@ -109,7 +137,7 @@ module _ (classes : List Class) (root : ℕ) where
   abbrev AllFar : ℕ → List Value → Type 0
   AllFar n vs = All (Far n) vs
 
-  module _ (typed : check_service classes ≡ Ok tt) (formed : AreFormed classes) (inputs : List Value) (inputs_are : All IsPrimitive inputs) where
+  module _ (typed : check_service classes ≡ Ok tt) (formed : AreFormed classes) (lists : List ℕ) (inputs : List Value) (inputs_are : AreInputs lists inputs) where
     abbrev ground : Ground
     ground = record { classes = classes; root = root; inputs = inputs }
 
@@ -123,9 +151,9 @@ module _ (classes : List Class) (root : ℕ) where
         by (Stopped stands f s1) h = ((subst IsPlace (sym h.0.here) place, h.0.fault), h.1)
 
     mutual
-      value_keeps : (e : SExpr) (at : ℕ) (vars : Vars) (s : Server) → IsPlace at → IsBoundedSExpr e → TableFits classes root s.table → VarsFar (length s.table) vars → Keeps s.table Far (value_of ground at vars e s)
+      value_keeps : (e : SExpr) (at : ℕ) (vars : Vars) (s : Server) → IsPlace at → IsBoundedSExpr lists e → TableFits classes root s.table → VarsFar (length s.table) vars → Keeps s.table Far (value_of ground at vars e s)
       value_keeps (script.Lit v) at vars s place b fits far = got_keeps Far v s fits (primitive_far (length s.table) (out-Value v) b)
-      value_keeps (script.Input number) at vars s place b fits far = rule_keeps Far at (known kind (slice_get inputs number)) s place fits (input_given (length s.table) inputs number inputs_are)
+      value_keeps (script.Input number) at vars s place b fits far = rule_keeps Far at (known kind (slice_get inputs number)) s place fits (input_given (length s.table) lists inputs number inputs_are b)
       value_keeps (script.Var number) at vars s place b fits far = rule_keeps Far at (known kind (latest vars number)) s place fits (var_given (length s.table) vars number far)
       value_keeps script.Root at vars s place b fits far = got_keeps Far (value.Remote root) s fits (subst (IsFarForm (length s.table)) (sym (remote_out root)) fits.root_is)
       value_keeps (script.Unary o here a) at vars s place b fits far =
@@ -145,7 +173,7 @@ module _ (classes : List Class) (root : ℕ) where
           then_keeps s1.table AllFar Far _ _ (values_keep args at vars s1 place b.2 t1.fits (vars_more (length s.table) (length s1.table) (grown_count s.table s1.table t1.grown) vars far)) (λ vs s2 fvs t2.
           call_keeps here kind' b.0 v method vs s2 t2.fits (All-weaker (Far (length s2.table)) IsBounded (λ w. far_bounded (length s2.table) (out-Value w)) vs fvs)))
 
-      values_keep : (es : SExprs) (at : ℕ) (vars : Vars) (s : Server) → IsPlace at → AreBoundedSExprs es → TableFits classes root s.table → VarsFar (length s.table) vars → Keeps s.table AllFar (values_of ground at vars es s)
+      values_keep : (es : SExprs) (at : ℕ) (vars : Vars) (s : Server) → IsPlace at → AreBoundedSExprs lists es → TableFits classes root s.table → VarsFar (length s.table) vars → Keeps s.table AllFar (values_of ground at vars es s)
       values_keep script.NoSExprs at vars s place b fits far = got_keeps AllFar [] s fits (All-nil (Far (length s.table)))
       values_keep (script.MoreSExprs e es) at vars s place b fits far =
           then_keeps s.table Far AllFar _ _ (value_keeps e at vars s place b.0 fits far) (λ v s1 fv t1.
@@ -213,6 +241,7 @@ module _ (classes : List Class) (root : ℕ) where
       step_open (script.Let id at var keep e) P ready = kept_open keep P ready
       step_open (script.If id at e a b) P ready = tt
       step_open (script.Each id at var keep e a) P ready = tt
+      step_open (script.Over id at var input a) P ready = tt
 
       steps_open : (ss : Steps) (P : Entries → Type 0) → P NoEntries → StepsGive ss P NoEntries
       steps_open script.NoSteps P ready = ready
@@ -284,15 +313,6 @@ module _ (classes : List Class) (root : ℕ) where
         entry_runs before (AreTurns A) P (forest.Rows t.nodes) (after_turns id at t.why t.server go) (omega (arith, short, h.most), h.nodes)
         (after_runs before P id at t.why t.server go place here ready h.table (λ fits. more h.table))
 
-    -- rows of a value
-    abbrev RowsFar : ℕ → List Value → Type 0
-    RowsFar n rows = IsList rows × All (IsSingle n) rows
-
-    rows_given : (n : ℕ) (w : Value-F Value) → IsFarForm n w → Given (RowsFar n) (rows_in w)
-    rows_given n (Value-F.Rows rows) h = h
-    rows_given n Value-F.Unit h = kind_is
-    rows_given n _ h = kind_is
-
     -- steps
 
     -- what follows, from a table of at least so many objects on
@@ -308,8 +328,26 @@ module _ (classes : List Class) (root : ℕ) where
         reply_runs s.table (Keepable keep) (λ es. KeptFirst keep P es) id (kept keep at row s) _ place (kept_open keep P ready) (kept_keeps keep at row s here fits (single_far (length s.table) (out-Value row) single)) (λ v s1 fv t1.
         with_kept_runs keep (length s1.table) v s1.table P (block s1) fv (h s1 t1))
 
+    -- the turns of a block over rows or items, and what follows them
+    walk_runs : (id at var : ℕ) (keep : Truth) (B P : Entries → Type 0) (block : Vars → Server → Ran) (vars : Vars) (rows : List Value) (s : Server) (go : Vars → Server → Ran)
+        → IsPlace id → IsPlace at → B NoEntries → P NoEntries → VarsFar (length s.table) vars → TableFits classes root s.table → RowsFar (length s.table) rows
+        → ((vars1 : Vars) (s1 : Server) → VarsFar (length s1.table) vars1 → TableFits classes root s1.table → Runs s1.table B (block vars1 s1)) → Follows (length s.table) P go
+        → Runs s.table (Then (AreTurns (λ es. KeptFirst keep B es)) P) (walked id at (turns (λ row s2. turn_over id at keep (λ s3. block ((var, row) ∷ vars) s3) row s2) rows s) (λ s2. go vars s2))
+    walk_runs id at var keep B P block vars rows s go place here empty ready far fits are b h =
+        let turn = λ (row : Value) (s2 : Server). turn_over id at keep (λ s3. block ((var, row) ∷ vars) s3) row s2 in
+        let each : EachTurn (length s.table) (λ es. KeptFirst keep B es) turn = λ row s2 more single fits2.
+        turn_runs id at keep B (λ s3. block ((var, row) ∷ vars) s3) row s2 place here empty single fits2 (λ s3 t3.
+        let most = grown_count s2.table s3.table t3.grown in
+        b ((var, row) ∷ vars) s3
+        (far_more (length s2.table) (length s3.table) most (out-Value row) (single_far (length s2.table) (out-Value row) single), vars_more (length s.table) (length s3.table) (omega (arith, more, most)) vars far)
+        t3.fits) in
+        walked_runs s.table (λ es. KeptFirst keep B es) P id at (length rows) (turns turn rows s) (λ s2. go vars s2) place here ready are.0
+        (rows_run (λ es. KeptFirst keep B es) turn (length s.table) each rows s (omega arith) are.1 fits) (λ t2.
+        let most = grown_count s.table (turns turn rows s).server.table t2.grown in
+        h vars (turns turn rows s).server most (vars_more (length s.table) (length (turns turn rows s).server.table) most vars far) t2.fits)
+
     mutual
-      step_runs : (step : Step) (P : Entries → Type 0) (vars : Vars) (s : Server) (go : Vars → Server → Ran) → IsBoundedStep step → P NoEntries → VarsFar (length s.table) vars → TableFits classes root s.table
+      step_runs : (step : Step) (P : Entries → Type 0) (vars : Vars) (s : Server) (go : Vars → Server → Ran) → IsBoundedStep lists step → P NoEntries → VarsFar (length s.table) vars → TableFits classes root s.table
           → Follows (length s.table) P go → Runs s.table (λ es. StepGives step P es) (run_step ground step vars s go)
       step_runs (script.Do id at e) P vars s go b ready far fits h =
           reply_runs s.table Far P id (value_of ground at vars e s) _ b.0 ready (value_keeps e at vars s b.1 b.2 fits far) (λ v s1 fv t1.
@@ -340,20 +378,20 @@ module _ (classes : List Class) (root : ℕ) where
           reply_runs s.table RowsFar (Then (AreTurns (λ es. KeptFirst keep (λ xs. StepsGive x AreNone xs) es)) P) id _ _ b.0 tt
           (then_keeps s.table Far RowsFar (value_of ground at vars e s) (rows_of at) (value_keeps e at vars s b.1 b.2 fits far) (λ v s1 fv t1. rule_keeps RowsFar at (rows_in (out-Value v)) s1 b.1 t1.fits (rows_given (length s1.table) (out-Value v) fv))) (λ rows s1 fr t1.
           let le = grown_count s.table s1.table t1.grown in
-          let far1 = vars_more (length s.table) (length s1.table) le vars far in
-          let turn = λ (row : Value) (s2 : Server). turn_over id at keep (λ s3. run_steps ground x ((var, row) ∷ vars) s3 ended) row s2 in
-          let each : EachTurn (length s1.table) (λ es. KeptFirst keep (λ xs. StepsGive x AreNone xs) es) turn = λ row s2 more single fits2.
-          turn_runs id at keep (λ xs. StepsGive x AreNone xs) (λ s3. run_steps ground x ((var, row) ∷ vars) s3 ended) row s2 b.0 b.1 (steps_open x AreNone tt) single fits2 (λ s3 t3.
-          let most = grown_count s2.table s3.table t3.grown in
-          steps_run x AreNone ((var, row) ∷ vars) s3 ended b.3 tt
-          (far_more (length s2.table) (length s3.table) most (out-Value row) (single_far (length s2.table) (out-Value row) single), vars_more (length s1.table) (length s3.table) (omega (arith, more, most)) vars far1)
-          t3.fits (none_runs (length s3.table))) in
-          walked_runs s1.table (λ es. KeptFirst keep (λ xs. StepsGive x AreNone xs) es) P id at (length rows) (turns turn rows s1) (λ s2. go vars s2) b.0 b.1 ready fr.0
-          (rows_run (λ es. KeptFirst keep (λ xs. StepsGive x AreNone xs) es) turn (length s1.table) each rows s1 (omega arith) fr.1 t1.fits) (λ t2.
-          let most = grown_count s1.table (turns turn rows s1).server.table t2.grown in
-          h vars (turns turn rows s1).server (omega (arith, le, most)) (vars_more (length s1.table) (length (turns turn rows s1).server.table) most vars far1) t2.fits))
+          walk_runs id at var keep (λ es. StepsGive x AreNone es) P (λ vars2 s2. run_steps ground x vars2 s2 ended) vars rows s1 go b.0 b.1 (steps_open x AreNone tt) ready
+          (vars_more (length s.table) (length s1.table) le vars far) t1.fits fr
+          (λ vars2 s2 far2 fits2. steps_run x AreNone vars2 s2 ended b.3 tt far2 fits2 (none_runs (length s2.table))) (λ vars2 s2 more far2 fits2.
+          h vars2 s2 (omega (arith, le, more)) far2 fits2))
+      step_runs (script.Over id at var input x) P vars s go b ready far fits h =
+          reply_runs s.table RowsFar (Then (AreTurns (λ es. StepsGive x AreNone es)) P) id (items_of ground at input s) _ b.0 tt
+          (rule_keeps RowsFar at (known kind (slice_get inputs input) >>= λ v. items_in (out-Value v)) s b.1 fits (items_given (length s.table) lists inputs input inputs_are)) (λ items s1 fr t1.
+          let le = grown_count s.table s1.table t1.grown in
+          walk_runs id at var false (λ es. StepsGive x AreNone es) P (λ vars2 s2. run_steps ground x vars2 s2 ended) vars items s1 go b.0 b.1 (steps_open x AreNone tt) ready
+          (vars_more (length s.table) (length s1.table) le vars far) t1.fits fr
+          (λ vars2 s2 far2 fits2. steps_run x AreNone vars2 s2 ended b.2 tt far2 fits2 (none_runs (length s2.table))) (λ vars2 s2 more far2 fits2.
+          h vars2 s2 (omega (arith, le, more)) far2 fits2))
 
-      steps_run : (steps : Steps) (P : Entries → Type 0) (vars : Vars) (s : Server) (go : Vars → Server → Ran) → AreBoundedSteps steps → P NoEntries → VarsFar (length s.table) vars → TableFits classes root s.table
+      steps_run : (steps : Steps) (P : Entries → Type 0) (vars : Vars) (s : Server) (go : Vars → Server → Ran) → AreBoundedSteps lists steps → P NoEntries → VarsFar (length s.table) vars → TableFits classes root s.table
           → Follows (length s.table) P go → Runs s.table (λ es. StepsGive steps P es) (run_steps ground steps vars s go)
       steps_run script.NoSteps P vars s go b ready far fits h = h vars s (omega arith) far fits
       steps_run (script.MoreSteps step steps) P vars s go b ready far fits h =
@@ -361,5 +399,5 @@ module _ (classes : List Class) (root : ℕ) where
           steps_run steps P vars1 s1 go b.1 ready far1 fits1 (λ vars2 s2 le2 far2 fits2. h vars2 s2 (omega (arith, le, le2)) far2 fits2))
 
 pub scripts_keep : ScriptsKeep
-scripts_keep classes typed formed root table fits s inputs bounded primitive =
-    steps_run classes root typed formed inputs primitive s.body AreNone [] (record { table = table; fuel = batch_fuel }) ended bounded tt tt fits (none_runs classes root typed formed inputs primitive (length table))
+scripts_keep classes typed formed root table fits s inputs bounded given =
+    steps_run classes root typed formed s.lists inputs given s.body AreNone [] (record { table = table; fuel = batch_fuel }) ended bounded tt tt fits (none_runs classes root typed formed s.lists inputs given (length table))

@@ -10,6 +10,7 @@ use Rattle.rb_meaning_code.specs.Faults.{raised, raises}
 use Rattle.rb_meaning_code.specs.Dialogue.{Outcome, Gave, Faulted, Dialogue, Done, Ask, AskBatch, Run, seq, on, next, gives, end}
 use Rattle.rb_meaning_code.specs.Statements.{Effect, closes, block}
 use Rattle.rb_law_types.specs.Kept.{FaultFits, Fair}
+use Rattle.rb_law_types.proofs.Faults.{rule_fits}
 use Rattle.rb_law_types.specs.Ends.{Grown, LocalFits, LocalHolds, Ends, Nothing}
 use Rattle.rb_law_types.specs.Asked.{Side, Keeps}
 use Rattle.rb_law_types.proofs.Values.{grown_same, grown_on, names_take, names_count}
@@ -63,18 +64,18 @@ then_goes {side = side} {x = x} {scope = scope} k h more = goes k (within_same x
 pub ends : {A : Type 0} {side : Side} {x : Context} {scope after : Scope} {P : List (List ℕ) → A → Type 0} {cs : List (List ℕ)} {l1 : Local} (a : A) → P (classes_of l1.heap) a → LocalFits x after l1 → Grown cs (classes_of l1.heap) → Runs side x scope after P cs (gives a l1)
 ends a given state grown = record { keeps = record { gives = given; state = state; grown = grown } }
 
-pub falls : {A : Type 0} {side : Side} {x : Context} {scope after : Scope} {P : List (List ℕ) → A → Type 0} {cs : List (List ℕ)} {l1 : Local} (r : Raised) → FaultFits r → LocalFits x scope l1 → Grown cs (classes_of l1.heap) → Runs {A = A} side x scope after P cs (Done (Faulted r l1))
+pub falls : {A : Type 0} {side : Side} {x : Context} {scope after : Scope} {P : List (List ℕ) → A → Type 0} {cs : List (List ℕ)} {l1 : Local} (r : Raised) → FaultFits x.declared r → LocalFits x scope l1 → Grown cs (classes_of l1.heap) → Runs {A = A} side x scope after P cs (Done (Faulted r l1))
 falls r fault state grown = record { keeps = record { fault = fault; state = state.holds; grown = grown } }
 
 -- a check of a rule and what follows it, in the same state
 pub helped : {A B : Type 0} {side : Side} {x : Context} {scope after : Scope} {Q : List (List ℕ) → B → Type 0} {l : Local} (P : A → Type 0) (at : ℕ) (r : Result A Fault) (k : A → Local → Run B) → LocalFits x scope l → Fair P r
     → ((a : A) → P a → Runs side x scope after Q (classes_of l.heap) (k a l)) → Runs side x scope after Q (classes_of l.heap) (next (end l (raises at r)) k)
 helped P at (Ok a) k state h more = more a h
-helped {side = side} {x = x} {l = l} P at (Err f) k state h more = falls (raised f at) h state (grown_same (classes_of l.heap))
+helped {side = side} {x = x} {l = l} P at (Err f) k state h more = falls (raised f at) (rule_fits x.declared (raised f at) h) state (grown_same (classes_of l.heap))
 
 pub helped_end : {A : Type 0} {side : Side} {x : Context} {scope : Scope} (l : Local) (P : List (List ℕ) → A → Type 0) (at : ℕ) (r : Result A Fault) → LocalFits x scope l → Fair (P (classes_of l.heap)) r → Runs side x scope scope P (classes_of l.heap) (end l (raises at r))
 helped_end l P at (Ok a) state h = ends a h state (grown_same (classes_of l.heap))
-helped_end {side = side} {x = x} l P at (Err f) state h = falls (raised f at) h state (grown_same (classes_of l.heap))
+helped_end {side = side} {x = x} l P at (Err f) state h = falls (raised f at) (rule_fits x.declared (raised f at) h) state (grown_same (classes_of l.heap))
 
 -- a block that has ended: the scope fits after a fault, too
 pub record Left (x : Context) (scope : Scope) (cs : List (List ℕ)) (l1 : Local) : Type 0 where
@@ -83,7 +84,7 @@ pub record Left (x : Context) (scope : Scope) (cs : List (List ℕ)) (l1 : Local
 
 abbrev pub Closes : Context → Scope → List (List ℕ) → Outcome (Unit {0}) → Type 0
 Closes x scope cs (Gave u l1) = Left x scope cs l1
-Closes x scope cs (Faulted r l1) = FaultFits r × Left x scope cs l1
+Closes x scope cs (Faulted r l1) = FaultFits x.declared r × Left x scope cs l1
 
 pub left_taken : (x : Context) (scope : Scope) (cs : List (List ℕ)) (n : ℕ) (l1 : Local) → length (frame_scope x.this scope) ≡ n → LocalHolds x scope l1 → Grown cs (classes_of l1.heap) → Left x scope cs (closed n l1)
 left_taken x scope cs n l1 e h g =

@@ -35,7 +35,7 @@ use Rattle.rb_meaning_code.specs.Objects.{with_field_of}
 use Rattle.rb_meaning_code.specs.Calls.{Bodies, unit_due}
 use Rattle.rb_meaning_code.specs.Expressions.{value_of, evaluates}
 use Rattle.rb_meaning_code.specs.Statements.{Effect, nothing, block, truth_of, either, by_truth, after_unit, while_turns, turns_over, list_turn, row_turn, turns, prints, throws, handles, assigned, assigns, writes, assignment, performs, performs_all}
-use Rattle.rb_law_types.specs.Kept.{IsOwnFault, Fair}
+use Rattle.rb_law_types.specs.Kept.{IsRuleFault, Fair}
 use Rattle.rb_law_types.specs.Formed.{IsFormedExpr, IsFormedStmt, AreFormedStmts}
 use Rattle.rb_law_types.specs.Own.{IsOwnKind, IsOwnPlace}
 use Rattle.rb_law_types.specs.Ends.{Grown, LocalFits, Ends, OfKind, Nothing}
@@ -44,7 +44,7 @@ use Rattle.rb_law_types.specs.Batches.{sites, sites_in, MayHold, AreAmong}
 use Rattle.rb_law_types.specs.Code.{IsBatchStmt, AreBatchStmts}
 use Rattle.rb_law_types.proofs.Checks.{bind_ok, then_ok, known_ok, must_ok, placed_ok, wanted_ok}
 use Rattle.rb_law_types.proofs.Values.{of_class, grown_same, grown_on, fits_more, all_more, names_less, names_added, frame_longer, text_fits}
-use Rattle.rb_law_types.proofs.Faults.{plain_own, thrown_own, caught_is_text, SomeIs}
+use Rattle.rb_law_types.proofs.Faults.{plain_rule, thrown_rule, rule_fits, text_of_fault, caught_is_text, SomeIs}
 use Rattle.rb_law_types.proofs.Results.{conditions_hold}
 use Rattle.rb_law_types.proofs.Known.{Known, class_apart}
 use Rattle.rb_law_types.proofs.OwnKinds.{field_ok, type_own, place_added}
@@ -79,10 +79,10 @@ bind_fair : {A B : Type 0} (P : A → Type 0) (Q : B → Type 0) (r : Result A F
 bind_fair P Q (Ok a) b h q = q
 bind_fair P Q (Err f) b h q = h
 
-throws_own : (w : Value-F Value) → IsTextValue w → IsOwnFault (throws w)
-throws_own (Value-F.Text text) h = thrown_own text h
-throws_own Value-F.Unit h = absurd h
-throws_own _ h = absurd h
+throws_rule : (w : Value-F Value) → IsTextValue w → IsRuleFault (throws w)
+throws_rule (Value-F.Text text) h = thrown_rule text h
+throws_rule Value-F.Unit h = absurd h
+throws_rule _ h = absurd h
 
 abbrev Shown : List ℕ → Type 0
 Shown bytes = Unit {0}
@@ -199,7 +199,7 @@ while_runs : (side : Side) (x : Context) (scope : Scope) (gas at : ℕ) (test : 
     → ((l1 : Local) → LocalFits x scope l1 → Runs side x scope scope (OfKind x kind.Bool) (classes_of l1.heap) (test l1))
     → ((l1 : Local) → LocalFits x scope l1 → Runs side x scope scope Nothing (classes_of l1.heap) (body l1))
     → (l : Local) → LocalFits x scope l → Runs side x scope scope Nothing (classes_of l.heap) (while_turns gas at test body l)
-while_runs side x scope zero at test body ht hb l state = falls (raised fuel_used at) (plain_own 7 (omega arith) (omega arith)) state (grown_same (classes_of l.heap))
+while_runs side x scope zero at test body ht hb l state = falls (raised fuel_used at) (rule_fits x.declared (raised fuel_used at) (plain_rule 7 (omega arith) (omega arith))) state (grown_same (classes_of l.heap))
 while_runs side x scope (suc gas) at test body ht hb l state =
     then_goes _ (ht l state) (λ v l1 fv state1 g1.
     truth_runs side x scope at v _ nothing l1 state1 fv
@@ -261,7 +261,7 @@ handles_keep side x scope after cs name handler h (Faulted r l) e = by (is_caugh
     text = value.Text (caught_text r.fault)
 
     fits : Fits x.declared.interfaces (classes_of l.heap) kind.Text text
-    fits = text_fits x.declared.interfaces (classes_of l.heap) (caught_text r.fault) (caught_is_text r.fault e.0.text)
+    fits = text_fits x.declared.interfaces (classes_of l.heap) (caught_text r.fault) (caught_is_text r.fault (text_of_fault x.declared r e.0))
 
     wider : (o : Outcome (Unit {0})) → Closes x scope (classes_of l.heap) o → Ends x scope scope Nothing cs o
     wider (Gave u l1) c = record { gives = tt; state = c.state; grown = grown_on cs (classes_of l.heap) (classes_of l1.heap) e.1.grown c.grown }
@@ -412,8 +412,8 @@ module _ (side : Side) (x : Context) (known' : Known x.declared) (all : Truth) (
         let p : Placed = record { at = expr_at e; kind = s.0 } in
         let t = then_ok (wanted kind.Text p) (Ok scope) after s.2 in
         adds_none _ (cc (t.1)) own (λ l state. then_goes _ (here scope own e l s.0 s.1 f n state) (λ v l1 fv state1 g1.
-        let own_fault = throws_own (out-Value v) (subst (λ m. Fits is (classes_of l1.heap) m v) (sym (wanted_ok kind.Text p t.0)) fv) in
-        falls (raised (throws (out-Value v)) at) own_fault state1 (grown_same (classes_of l1.heap))))
+        let rule_fault = throws_rule (out-Value v) (subst (λ m. Fits is (classes_of l1.heap) m v) (sym (wanted_ok kind.Text p t.0)) fv) in
+        falls (raised (throws (out-Value v)) at) (rule_fits x.declared (raised (throws (out-Value v)) at) rule_fault) state1 (grown_same (classes_of l1.heap))))
     stmt_runs (If at c a b) gas scope after own h f n b' =
         let t = bind_ok (condition x scope c >> closed scope (check_stmts x scope a)) _ after h in
         let u = then_ok (condition x scope c) (closed scope (check_stmts x scope a)) t.0 t.1 in

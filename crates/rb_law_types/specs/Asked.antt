@@ -76,7 +76,7 @@ AnswerGives d side (Turn at) v = Unit {0}
 -- an answer that fits what is asked
 abbrev pub IsAnswer : Declarations → Side → Question → Result Value Raised → Type 0
 IsAnswer d side q (Ok v) = AnswerGives d side q v
-IsAnswer d side q (Err r) = FaultFits r
+IsAnswer d side q (Err r) = FaultFits d r
 
 -- Code in a batch asks no batch.
 abbrev pub MayAsk : Side → Site → Type 0

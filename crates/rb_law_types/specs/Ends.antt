@@ -43,7 +43,7 @@ pub record GaveFit {A : Type 0} (x : Context) (after : Scope) (P : List (List �
 
 -- Code ended by a fault that fits, and left a state that holds the scope before it.
 pub record FellFit (x : Context) (scope : Scope) (before : List (List ℕ)) (r : Raised) (l : Local) : Type 0 where
-  pub fault : FaultFits r
+  pub fault : FaultFits x.declared r
   pub state : LocalHolds x scope l
   pub grown : Grown before (classes_of l.heap)
 
@@ -76,4 +76,4 @@ pub record Returned (d : Declarations) (before : List (List ℕ)) (l : Local) : 
 
 abbrev pub Returns : Declarations → Kind → List (List ℕ) → Outcome Value → Type 0
 Returns d kind before (Gave v l) = Fits d.interfaces (classes_of l.heap) kind v × Returned d before l
-Returns d kind before (Faulted r l) = FaultFits r × Returned d before l
+Returns d kind before (Faulted r l) = FaultFits d r × Returned d before l

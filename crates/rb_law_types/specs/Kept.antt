@@ -1,11 +1,12 @@
 -- Values and faults as typed code keeps them: within their limits, and no fault Kind.
-use Rattle.std.specs.Prelude.{◌≡◌, ◌≤◌, ◌⊎◌, [], Result, Ok, Err}
+use Rattle.std.specs.Prelude.{◌≡◌, ◌≤◌, ◌⊎◌, [], Bool, true, false, Result, Ok, Err}
 use Rattle.rb_trees.specs.declared.values.Value.{Value}
 use Rattle.rb_trees.specs.declared.values.Value.TheOpen.{Value-F}
 use Rattle.rb_trees.specs.declared.values.Value.TheViews.{out-Value}
 use Rattle.rb_trees.specs.declared.values.Fault.{Fault}
 use Rattle.rb_trees.specs.declared.outcomes.Raised.{Raised}
 use Rattle.rb_meaning_types.specs.Values.{IsInt, IsText}
+use Rattle.rb_meaning_types.specs.Declared.{Declarations}
 
 -- a primitive value within its limits
 abbrev pub IsPrimitiveForm : Value-F Value → Type 0
@@ -26,7 +27,14 @@ IsBoundedForm _ = Unit {0}
 abbrev pub IsBounded : Value → Type 0
 IsBounded v = IsBoundedForm (out-Value v)
 
--- A fault that typed code ends by: it isn't Kind, its text is one, and only Thrown has a text.
+-- A fault that a rule of typed code gives: it isn't Kind, its text is one, and only Thrown has a text.
+pub record IsRuleFault (f : Fault) : Type 0 where
+  pub least : 1 ≤ f.code
+  pub most : f.code ≤ 11
+  pub text : IsText f.text
+  pub plain : (f.code ≡ 8) ⊎ (f.text ≡ [])
+
+-- A fault that typed code ends by: such a one, or that the lists of a batch are too large.
 pub record IsOwnFault (f : Fault) : Type 0 where
   pub least : 1 ≤ f.code
   pub most : f.code ≤ 13
@@ -34,10 +42,15 @@ pub record IsOwnFault (f : Fault) : Type 0 where
   pub text : IsText f.text
   pub plain : (f.code ≡ 8) ⊎ (f.text ≡ [])
 
-abbrev pub FaultFits : Raised → Type 0
-FaultFits r = IsOwnFault r.fault
+-- No batch stands in a service, so its code ends by a rule's fault.
+abbrev pub IsFaultOf : Bool → Fault → Type 0
+IsFaultOf true f = IsRuleFault f
+IsFaultOf false f = IsOwnFault f
 
--- what is given is such a value, or such a fault
+abbrev pub FaultFits : Declarations → Raised → Type 0
+FaultFits d r = IsFaultOf d.service r.fault
+
+-- what is given is such a value, or a rule's fault
 abbrev pub Fair : {A : Type 0} → (A → Type 0) → Result A Fault → Type 0
 Fair P (Ok a) = P a
-Fair P (Err f) = IsOwnFault f
+Fair P (Err f) = IsRuleFault f

@@ -1,6 +1,5 @@
 -- How deep and how large the nodes of a script get.
 use Rattle.std.specs.Prelude.{◌≡◌, ◌≤◌, ℕ, zero, suc, max, List, Ok}
-use Rattle.std.specs.List.{All}
 use Rattle.rb_trees.specs.Limits.{longest_list}
 use Rattle.rb_trees.specs.declared.values.Value as value
 use Rattle.rb_trees.specs.declared.services.Object.{Object}

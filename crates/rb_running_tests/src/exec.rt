@@ -5,6 +5,7 @@ mod files;
 mod fuel;
 mod kinds;
 mod operators;
+mod over;
 mod shown;
 mod steps;
 mod words;

@@ -4,9 +4,9 @@ use Rattle.std.specs.Option.{option_copied}
 use Rattle.rb_meaning_bytes.specs.formats.Fields.{number, truth}
 use Rattle.rb_wire_fields.proofs.Kept.{keeps_same, keeps_after, keeps_through}
 use Rattle.rb_exec.specs.Stages.{turn_run}
-use Rattle.rb_exec.proofs.Done.{on_value, on_rule, on_fault, if_so, each_so, want, wanted, leads_begin, leads_more, leads_cut, leads_end, block_so, closes_so, back_to, of_step, branch_run, branch_went, branch_stopped, did_keeps, unless_run, unless_closes}
+use Rattle.rb_exec.proofs.Done.{on_value, on_rule, on_fault, if_so, each_so, over_so, want, wanted, leads_begin, leads_more, leads_cut, leads_end, block_so, closes_so, back_to, of_step, branch_run, branch_went, branch_stopped, did_keeps, unless_run, unless_closes}
 use Rattle.rb_exec.proofs.Entries.{adds_keeps, kept_first}
-use Rattle.rb_exec.proofs.Forms.{do_form, keep_form, let_form, if_form, each_form}
+use Rattle.rb_exec.proofs.Forms.{do_form, keep_form, let_form, if_form, each_form, over_form}
 use Rattle.rb_exec.proofs.Patched.{on_err, hole_within, filled_keeps}
 use Rattle.rb_exec.proofs.Turned.{turns_begin, turn_begins, begins_so, turn_faulted, turn_more, turns_done, turns_short, turns_stopped, turns_walked, unit_missing, unit_taken}
 use Rattle.rb_exec.proofs.Weight.{step_weight, step_of, step_in}
@@ -64,25 +64,38 @@ run_each-returns-in_err-rows t c =
     each_so c.args.walk.now c.args.rows.now c.args.self.now.variables c.args.self.now.server
     (on_value _ c.value.ensures c.in_ok-value.was (on_fault _ (on_rule _ _ _ c.rows_in.ensures c.ruled.ensures) c.in_err-rows.was (search rules)))
 
-pub run_each-returns-in_err-at : goal.run_each-returns-in_err-at
-run_each-returns-in_err-at t c = want (search rules) c.in_err-at.ensures.err
-
-pub run_each-returns-in_err-end : goal.run_each-returns-in_err-end
-run_each-returns-in_err-end t c = wanted (search rules) c.in_err-end.ensures.turns
-    (keeps_after c.args.self.now.bytes.items c.put_rows.new.bytes.items c.run_turns.new.self.bytes.items (0x33 ∷ [] ++ number 0) (c.in_ok-at.ensures.ok ∙ append_assoc c.args.self.now.bytes.items (0x33 ∷ []) (number 0)) c.in_err-end.ensures.kept)
-
-pub run_each-fill-requires : goal.run_each-fill-requires
-run_each-fill-requires t c = hole_within (c.args.self.now.bytes.items ++ 0x33 ∷ []) c.put_rows.new.bytes.items c.run_turns.new.self.bytes.items c.in_ok-at.at c.in_ok-at.ensures.at c.in_ok-at.ensures.ok (adds_keeps c.in_ok-end.ensures.turns.adds)
-
 pub run_each-returns : goal.run_each-returns
 run_each-returns t c =
     each_so c.args.walk.now c.args.rows.now c.args.self.now.variables c.args.self.now.server
     (on_value _ c.value.ensures c.in_ok-value.was
-    (on_value _ (on_rule _ _ _ c.rows_in.ensures c.ruled.ensures) c.in_ok-rows.was
-    (back_to c.in_ok-end.ensures.closes
+    (on_value _ (on_rule _ _ _ c.rows_in.ensures c.ruled.ensures) c.in_ok-rows.was (rw (c.as_slice.ensures, c.get.ensures) at c.run_walk.ensures)))
+
+pub run_over-returns-in_err-items : goal.run_over-returns-in_err-items
+run_over-returns-in_err-items t c =
+    over_so c.args.walk.now c.args.input c.args.self.now.variables c.args.self.now.server c.requires.plain
+    (on_fault _ (on_rule _ _ _ c.input_items.ensures c.ruled.ensures) c.in_err-items.was (search rules))
+
+pub run_over-returns : goal.run_over-returns
+run_over-returns t c =
+    over_so c.args.walk.now c.args.input c.args.self.now.variables c.args.self.now.server c.requires.plain
+    (on_value _ (on_rule _ _ _ c.input_items.ensures c.ruled.ensures) c.in_ok-items.was (rw (c.as_slice.ensures, c.get.ensures) at c.run_walk.ensures))
+
+pub run_walk-returns-in_err-at : goal.run_walk-returns-in_err-at
+run_walk-returns-in_err-at t c = want (search rules) c.in_err-at.ensures.err
+
+pub run_walk-returns-in_err-end : goal.run_walk-returns-in_err-end
+run_walk-returns-in_err-end t c = wanted (search rules) c.in_err-end.ensures.turns
+    (keeps_after c.args.self.now.bytes.items c.put_rows.new.bytes.items c.run_turns.new.self.bytes.items (0x33 ∷ [] ++ number 0) (c.in_ok-at.ensures.ok ∙ append_assoc c.args.self.now.bytes.items (0x33 ∷ []) (number 0)) c.in_err-end.ensures.kept)
+
+pub run_walk-fill-requires : goal.run_walk-fill-requires
+run_walk-fill-requires t c = hole_within (c.args.self.now.bytes.items ++ 0x33 ∷ []) c.put_rows.new.bytes.items c.run_turns.new.self.bytes.items c.in_ok-at.at c.in_ok-at.ensures.at c.in_ok-at.ensures.ok (adds_keeps c.in_ok-end.ensures.turns.adds)
+
+pub run_walk-returns : goal.run_walk-returns
+run_walk-returns t c =
+    back_to c.in_ok-end.ensures.closes
     (turns_walked c.args.walk.now.site.id c.args.walk.now.site.at _ c.args.self.now.bytes.items c.put_rows.new.bytes.items c.run_turns.new.self.bytes.items c.fill.new.bytes.items
     c.in_ok-at.at c.run_turns.new.begun c.args.entries.now c.add_one.new.count c.in_ok-end.end
-    c.in_ok-at.ensures.at c.in_ok-at.ensures.ok (rw (c.as_slice.ensures, c.get.ensures) at c.in_ok-end.ensures.turns) c.fill.ensures c.add_one.ensures c.end_turns.ensures))))
+    c.in_ok-at.ensures.at c.in_ok-at.ensures.ok c.in_ok-end.ensures.turns c.fill.ensures c.add_one.ensures c.end_turns.ensures)
 
 pub run_if-returns-in_err-value : goal.run_if-returns-in_err-value
 run_if-returns-in_err-value t c =
@@ -125,6 +138,9 @@ run_step-run_if-requires t c = let w = ap step_weight (if_form c.args.step.now c
 pub run_step-run_each-requires : goal.run_step-run_each-requires
 run_step-run_each-requires t c = let w = ap step_weight (each_form c.args.step.now c.in-Each.body c.in-Each.is) in omega arith
 
+pub run_step-run_over-requires : goal.run_step-run_over-requires
+run_step-run_over-requires t c = let w = ap step_weight (over_form c.args.step.now c.in-Over.body c.in-Over.is) in omega arith
+
 pub run_step-returns-in-Do : goal.run_step-returns-in-Do
 run_step-returns-in-Do t c = of_step c.args.stage.now c.args.step.now c.args.self.now.variables c.args.self.now.server (do_form c.args.step.now c.in-Do.is) (c.run_do.ensures c.args.entries.now)
 
@@ -139,6 +155,9 @@ run_step-returns-in-If t c = of_step c.args.stage.now c.args.step.now c.args.sel
 
 pub run_step-returns-in-Each : goal.run_step-returns-in-Each
 run_step-returns-in-Each t c = of_step c.args.stage.now c.args.step.now c.args.self.now.variables c.args.self.now.server (each_form c.args.step.now _ c.in-Each.is) c.run_each.ensures
+
+pub run_step-returns-in-Over : goal.run_step-returns-in-Over
+run_step-returns-in-Over t c = of_step c.args.stage.now c.args.step.now c.args.self.now.variables c.args.self.now.server (over_form c.args.step.now _ c.in-Over.is) c.run_over.ensures
 
 pub run_row-returns-in_err-bind-clause-kept : goal.run_row-returns-in_err-bind-clause-kept
 run_row-returns-in_err-bind-clause-kept t c = on_err _ (keeps_same _ _ refl)

@@ -19,7 +19,13 @@ abbrev pub decreases-run_if : goal.decreases-run_if
 decreases-run_if l = max (steps_of l.yes.now) (steps_of l.no.now) + 3
 
 abbrev pub decreases-run_each : goal.decreases-run_each
-decreases-run_each l = steps_of l.walk.now.body.now + 6
+decreases-run_each l = steps_of l.walk.now.body.now + 7
+
+abbrev pub decreases-run_over : goal.decreases-run_over
+decreases-run_over l = steps_of l.walk.now.body.now + 7
+
+abbrev pub decreases-run_walk : goal.decreases-run_walk
+decreases-run_walk l = steps_of l.walk.now.body.now + 6
 
 abbrev pub decreases-run_turns : goal.decreases-run_turns
 decreases-run_turns l = steps_of l.walk.now.body.now + 5

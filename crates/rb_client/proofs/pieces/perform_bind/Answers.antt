@@ -1,7 +1,7 @@
 use Rattle.std.proofs.Common.{rules, ap, ◌∙◌, [], ◌∷◌, ◌++◌}
 use Rattle.rb_engine.specs.Locals.{local}
 use Rattle.rb_client.proofs.Parted.{bind_so, bind_stops}
-use Rattle.rb_client.proofs.replay.perform_bind.Goals as goal
+use Rattle.rb_client.proofs.pieces.perform_bind.Goals as goal
 
 pub returns : goal.returns
 returns g c =

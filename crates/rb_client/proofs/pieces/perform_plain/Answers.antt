@@ -1,6 +1,6 @@
 use Rattle.rb_engine.specs.Locals.{local}
 use Rattle.rb_client.proofs.Parted.{plain_so}
-use Rattle.rb_client.proofs.replay.perform_plain.Goals as goal
+use Rattle.rb_client.proofs.pieces.perform_plain.Goals as goal
 
 pub returns : goal.returns
 returns g c =

@@ -1,7 +1,7 @@
 use Rattle.std.proofs.Common.{rules, refl, ap, ◌∙◌, [], ◌∷◌, ◌++◌}
 use Rattle.rb_engine.specs.Locals.{local}
 use Rattle.rb_client.proofs.Parted.{both_fault, both_so, both_stops}
-use Rattle.rb_client.proofs.replay.perform_both.Goals as goal
+use Rattle.rb_client.proofs.pieces.perform_both.Goals as goal
 
 pub returns-in_err-value : goal.returns-in_err-value
 returns-in_err-value g c =

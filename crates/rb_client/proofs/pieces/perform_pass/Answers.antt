@@ -3,7 +3,7 @@ use Rattle.rb_engine.specs.Locals.{local}
 use Rattle.rb_meaning_split.specs.Replay.{far_fault}
 use Rattle.rb_client.specs.Walks.{pass_meant}
 use Rattle.rb_client.proofs.Parted.{fault_so, pass_so}
-use Rattle.rb_client.proofs.replay.perform_pass.Goals as goal
+use Rattle.rb_client.proofs.pieces.perform_pass.Goals as goal
 
 pub returns-in_ok-far_fault-in-Some : goal.returns-in_ok-far_fault-in-Some
 returns-in_ok-far_fault-in-Some g c =
