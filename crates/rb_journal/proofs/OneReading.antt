@@ -3,6 +3,8 @@ use Rattle.std.proofs.Common.{◌≡◌, ◌≢◌, ℕ, suc, List, [], ◌∷�
 use Rattle.std.specs.Int.{w32, from_be_bytes}
 use Rattle.std.proofs.lemmas.List.{take_at, drop_at, append_cancel_left}
 use Rattle.std.proofs.lemmas.Nat.{from_be_bytes-to_be_bytes_4}
+use Rattle.rb_journal.specs.declared.stops.JournalStop.TheVariants.{DiskFault, Closed, Full, NotAJournal, BadRecord, Memory}
+use Rattle.rb_journal.specs.Readings.{IsOpened}
 use Rattle.rb_journal.specs.Form.{head, IsPayload, ArePayloads, record_of, opened, StandsFor, IsNoJournal, HasBadRecord}
 
 first_of_record : (p a : List ℕ) → IsPayload p → from_be_bytes w32 (take 4 (record_of p ++ a)) ≡ length p
@@ -85,3 +87,12 @@ bad_is_journal bytes number b none =
 pub bad_once : (bytes : List ℕ) (m n : ℕ) → HasBadRecord bytes m → HasBadRecord bytes n → m ≡ n
 bad_once bytes m n b d =
     sym b.count ∙ one_bad b.before d.before b.behind d.behind b.fit d.fit b.bad d.bad (behind_head (opened b.before ++ 1 ∷ b.behind) (opened d.before ++ 1 ∷ d.behind) (sym b.is ∙ d.is)) ∙ d.count
+
+-- bytes that stand for payloads are opened, unless a call fails or memory is wanting
+pub stands_is_opened : (bytes : List ℕ) (ps : List (List ℕ)) → StandsFor bytes ps → IsOpened bytes
+stands_is_opened bytes ps s DiskFault stops = tt
+stands_is_opened bytes ps s Memory stops = tt
+stands_is_opened bytes ps s Closed stops = stops
+stands_is_opened bytes ps s Full stops = stops
+stands_is_opened bytes ps s NotAJournal stops = stands_is_journal bytes ps s stops
+stands_is_opened bytes ps s (BadRecord number) stops = stands_is_whole bytes ps number s stops

@@ -7,8 +7,8 @@ use Rattle.rb_journal.specs.declared.stops.JournalStop.TheVariants.{DiskFault, C
 use Rattle.rb_exec.specs.Hosted.{Hosted}
 use Rattle.rb_journal.specs.Form.{before_gate, StandsFor}
 use Rattle.rb_journal.specs.Appends.{Holds}
-use Rattle.rb_journal.specs.Journals.{Keeps, CrashesAsBefore}
-use Rattle.rb_journal.specs.Readings.{AreLooks, AreQuiet, Glanced, GlancesOrStops, SyncedAndGlanced, SyncsAndGlances, WhereLong, WhereTold, TellsPayloads, IsOpeningStop}
+use Rattle.rb_journal.specs.Journals.{Keeps, TellsPayloads, CrashesAsBefore}
+use Rattle.rb_journal.specs.Readings.{AreLooks, AreQuiet, Glanced, GlancesOrStops, SyncedAndGlanced, SyncsAndGlances, WhereLong, WhereTold, IsOpeningStop}
 use Rattle.rb_journal.specs.Replays.{Reopens}
 use Rattle.rb_journal.specs.Answers.{StopsOpening}
 use Rattle.rb_journal.proofs.Calls.{joined, joined_failed}

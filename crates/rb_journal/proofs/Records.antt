@@ -10,7 +10,7 @@ use Rattle.rb_exec.specs.Hosted.{Hosted}
 use Rattle.rb_disk.specs.Images.{DiskRecord, shown, IsPart, IsPastEnd}
 use Rattle.rb_journal.specs.Form.{IsAccepted, IsPayload, record_of, before_gate, IsNoJournal, HasBadRecord}
 use Rattle.rb_journal.specs.Readings.{WhereLong, WhereTold, FindsHead, FindsSize, FindsPayload, FindsRecord}
-use Rattle.rb_journal.specs.Replays.{Replays, ReplaysAll, Passes, Reopens}
+use Rattle.rb_journal.specs.Replays.{LeavesTable, LeaveTable, Replays, Passes, Reopens}
 use Rattle.rb_journal.proofs.Crash.{before_gate-push, ArePayloads-push}
 
 length-record : (payload : List ℕ) (gate : ℕ) (rest : List ℕ) → length (record_of payload ++ gate ∷ rest) ≡ 5 + length payload + length rest
@@ -141,8 +141,8 @@ no_journal_short end (Some d) short = λ long gate rest is. omega (arith, long, 
 
 -- one payload more is performed, behind the others
 pub replays_more : (service : Service) (table : List Object) (payloads : List (List ℕ)) (payload : List ℕ) (between after : List Object)
-    → ReplaysAll service table payloads between → Replays service between payload after → ReplaysAll service table (payloads ++ payload ∷ []) after
-replays_more service table [] payload between after all one = (after, subst (λ (t : List Object). Replays service t payload after) all one, refl)
+    → LeaveTable service table payloads between → LeavesTable service between payload after → LeaveTable service table (payloads ++ payload ∷ []) after
+replays_more service table [] payload between after all one = (after, subst (λ (t : List Object). LeavesTable service t payload after) all one, refl)
 replays_more service table (p ∷ payloads) payload between after all one = (all.0, all.1, replays_more service all.0 payloads payload between after all.2 one)
 
 pub passes_head : (bytes : List ℕ) (gate : ℕ) (host : Hosted) → FindsHead bytes (Some gate) → Passes bytes 0 gate 4 host host
@@ -156,7 +156,7 @@ passes_head bytes gate host found = record {
 }
 
 pub passes_more : (bytes : List ℕ) (count gate at : ℕ) (start host after : Hosted) (payload : List ℕ) (next : ℕ) → gate ≡ 1 → host.service ≡ start.service
-    → Replays (mirror_service host.service) host.table payload after.table
+    → Replays host payload after
     → Passes bytes count gate at start host → FindsRecord (drop (at + 1) bytes) (Some (payload, next)) → Passes bytes (count + 1) next (at + (5 + length payload)) start after
 passes_more bytes count gate at start host after payload next is_open same performs passes found =
     let rest = found.1 in
@@ -180,7 +180,7 @@ passes_more bytes count gate at start host after payload next is_open same perfo
       at_is = sym size;
       is = whole ∙ ap (λ (l : List ℕ). before ++ next ∷ l) (sym left);
       performed = replays_more (mirror_service start.service) start.table payloads payload host.table after.table passes.performed
-          (subst (λ (s : services.Service). Replays (mirror_service s) host.table payload after.table) same performs);
+          (subst (λ (s : services.Service). LeavesTable (mirror_service s) host.table payload after.table) same performs);
     }
 
 pub bad_record : (bytes : List ℕ) (count gate at : ℕ) (start host : Hosted) → gate ≡ 1 → Passes bytes count gate at start host → FindsRecord (drop (at + 1) bytes) None → HasBadRecord bytes count

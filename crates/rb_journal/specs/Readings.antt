@@ -6,7 +6,7 @@ use Rattle.rb_disk.specs.Images.{Call, wrote, tore, synced, looked, DiskRecord, 
 use Rattle.rb_journal.specs.declared.stops.JournalStop.{JournalStop}
 use Rattle.rb_journal.specs.declared.stops.JournalStop.TheVariants.{DiskFault, Closed, Full, NotAJournal, BadRecord, Memory}
 use Rattle.rb_exec.specs.Hosted.{Hosted}
-use Rattle.rb_journal.specs.Form.{IsPayload, IsAccepted, record_of, before_gate, StandsFor, IsNoJournal, HasBadRecord}
+use Rattle.rb_journal.specs.Form.{IsPayload, IsAccepted, record_of, before_gate, IsNoJournal, HasBadRecord}
 use Rattle.rb_journal.specs.Replays.{Reopens}
 
 -- The only stops of reading a record.
@@ -116,7 +116,6 @@ abbrev pub ReadsAs : List ℕ → Hosted → Hosted → Result ℕ JournalStop �
 ReadsAs bytes before after (Ok gate) = Reopens bytes gate before after
 ReadsAs bytes before after (Err stop) = StopsAs bytes stop
 
--- The disk tells, and reads as these payloads.
-abbrev pub TellsPayloads : Option DiskRecord → List (List ℕ) → Type 0
-TellsPayloads None payloads = ⊥
-TellsPayloads (Some d) payloads = StandsFor (shown d) payloads
+-- Nothing stops the bytes from being opened but a call that fails, or want of memory.
+abbrev pub IsOpened : List ℕ → Type 0
+IsOpened bytes = (stop : JournalStop) → StopsAs bytes stop → IsFaultOrMemory stop

@@ -1,13 +1,13 @@
 // A journal on a disk.
 
-ghost use Rattle.std.specs.Prelude.{◌≡◌, ◌+◌, ◌^◌, ◌<◌, ◌++◌, ◌∷◌, [], ℕ, List, length, OnOk, IfOk, IfErr, IsSome, MatchResult, false};
+ghost use Rattle.std.specs.Prelude.{◌≡◌, ◌+◌, ◌^◌, ◌<◌, ◌∷◌, [], ℕ, length, OnOk, IfOk, IfErr, IsSome, MatchResult, false};
 ghost use Rattle.rb_base.specs.Counts.{risen};
 ghost use Rattle.rb_base.specs.Devices.{device};
 ghost use Rattle.rb_journal.specs.Form.{IsPayload};
-ghost use Rattle.rb_journal.specs.Appends.{MakesBeginning, MakesAppend, IsBeforeOrAfter};
-ghost use Rattle.rb_journal.specs.Journals.{Keeps, CrashesOnly, CrashesAsBefore, IsEmpty};
+ghost use Rattle.rb_journal.specs.Appends.{MakesBeginning, MakesAppend};
+ghost use Rattle.rb_journal.specs.Journals.{Keeps, KeepsWhatStood, KeepsMore, LeavesBeforeOrAfter, CrashesAsBefore, IsEmpty};
 ghost use Rattle.rb_session.specs.Answering.{IsTypedHost};
-ghost use Rattle.rb_journal.specs.Readings.{WhereTold, StopsAs, TellsPayloads};
+ghost use Rattle.rb_journal.specs.Readings.{WhereTold, StopsAs};
 ghost use Rattle.rb_journal.specs.Replays.{Reopens};
 ghost use Rattle.rb_journal.specs.Answers.{AnswersAppend, IsFresh, StopsOpening};
 
@@ -43,12 +43,13 @@ impl<D: Disk> Model for Journal<D> {
 }
 
 impl<D: Disk> Journal<D> {
-    /// A journal of no payloads on an empty disk.
+    /// A journal of no payloads on an empty disk: the four bytes of its head and a closed gate are written and kept.
     pub fn create(alloc: Global, disk: D) -> Result<Journal<D>, Stopped<D>>
         requires { IsEmpty (D.told disk) }
         ensures kept { IfOk result (λ journal. IsSome (D.told disk) → Keeps D.told journal []) }
         ensures made { IfOk result (λ journal. IsFresh D.faults disk journal) }
-        ensures stop { IfErr result (λ stopped. (stopped.stop ≡ JournalStop.DiskFault) × (D.faults stopped.disk ≡ risen (D.faults disk))) }
+        ensures stop { IfErr result (λ stopped. stopped.stop ≡ JournalStop.DiskFault) }
+        ensures fault { IfErr result (λ stopped. D.faults stopped.disk ≡ risen (D.faults disk)) }
     {
         let mut disk = disk;
         match begin(&mut disk) {
@@ -70,7 +71,7 @@ impl<D: Disk> Journal<D> {
     /// After a stop nothing is said of the host's table.
     pub fn open(alloc: Global, disk: D, host: &mut Host) -> Result<Journal<D>, Stopped<D>>
         requires { IsTypedHost host.old }
-        ensures kept { IfOk result (λ journal. (payloads : List (List ℕ)) → TellsPayloads (D.told disk) payloads → Keeps D.told journal payloads) }
+        ensures kept { IfOk result (KeepsWhatStood D.told disk) }
         ensures read { MatchResult result
             (λ journal. WhereTold (D.told disk) (λ bytes. Reopens bytes journal.gate host.old host.new))
             (λ stopped. WhereTold (D.told disk) (λ bytes. StopsAs bytes stopped.stop)) }
@@ -79,7 +80,8 @@ impl<D: Disk> Journal<D> {
         ensures any_moment { MatchResult result
             (λ journal. CrashesAsBefore (D.told disk) (D.told journal.disk))
             (λ stopped. CrashesAsBefore (D.told disk) (D.told stopped.disk)) }
-        ensures ok { IfOk result (λ journal. (journal.is_closed ≡ false) × (D.faults journal.disk ≡ D.faults disk)) }
+        ensures is_open { IfOk result (λ journal. journal.is_closed ≡ false) }
+        ensures no_fault { IfOk result (λ journal. D.faults journal.disk ≡ D.faults disk) }
         ensures stop { IfErr result (λ stopped. StopsOpening (D.faults disk) stopped.stop (D.faults stopped.disk)) }
     {
         reading_is_an_image();
@@ -112,9 +114,8 @@ impl<D: Disk> Journal<D> {
     /// payloads before it or for these and the new one, and the journal is to be opened again.
     pub fn append(&mut self, payload: &[u8]) -> Result<(), JournalStop>
         requires { IsPayload payload.now }
-        ensures kept { OnOk result ((payloads : List (List ℕ)) → Keeps D.told self.old payloads → Keeps D.told self.new (payloads ++ payload.now ∷ [])) }
-        ensures any_moment { (payloads : List (List ℕ)) → Keeps D.told self.old payloads
-            → CrashesOnly (D.told self.old.disk) (D.told self.new.disk) (IsBeforeOrAfter payloads payload.now) }
+        ensures kept { OnOk result (KeepsMore D.told self.old (payload.now ∷ []) self.new) }
+        ensures any_moment { LeavesBeforeOrAfter D.told self.old payload.now self.new }
         ensures answer { AnswersAppend D.faults payload.now result self.old self.new }
     {
         if self.closed {

@@ -4,7 +4,6 @@ ghost use Rattle.std.specs.Prelude.{◌≡◌, ◌+◌, ◌^◌, ◌<◌, ◌≤
 ghost use Rattle.std.specs.Int.{w32, to_be_bytes};
 ghost use Rattle.rb_base.specs.Devices.{device};
 ghost use Rattle.rb_disk.specs.Images.{IsPart, IsPastEnd};
-ghost use Rattle.rb_trees.specs.mirror.Services.{mirror_service};
 ghost use Rattle.rb_session.specs.Answering.{IsTypedHost};
 ghost use Rattle.rb_journal.specs.Form.{head};
 ghost use Rattle.rb_journal.specs.Replays.{Replays};
@@ -109,7 +108,7 @@ fn payload_at<D: Disk>(
     requires typed { IsTypedHost host.old }
     ensures found { IfOk result (λ found. WhereTold (D.told disk.old) (λ bytes. FindsPayload (drop at bytes) size found)) }
     ensures size { IfOk result (λ found. IfSome found (λ x. length x.0 ≡ size)) }
-    ensures performs { IfOk result (λ found. IfSome found (λ x. Replays (mirror_service host.old.service) host.old.table x.0 host.new.table)) }
+    ensures performs { IfOk result (λ found. IfSome found (λ x. Replays host.old x.0 host.new)) }
     ensures typed { OnOk result (IsTypedHost host.new) }
     ensures service { host.new.service ≡ host.old.service }
     ensures after { GlancesOrStops result (device D.told D.faults disk.old) (device D.told D.faults disk.new) }
@@ -140,7 +139,7 @@ fn record_at<D: Disk>(
     requires typed { IsTypedHost host.old }
     ensures found { IfOk result (λ found. WhereLong (D.told disk.old) end (λ bytes. FindsRecord (drop at bytes) found)) }
     ensures room { IfOk result (λ found. IfSome found (λ x. at + 4 + length x.0 < end)) }
-    ensures performs { IfOk result (λ found. IfSome found (λ x. Replays (mirror_service host.old.service) host.old.table x.0 host.new.table)) }
+    ensures performs { IfOk result (λ found. IfSome found (λ x. Replays host.old x.0 host.new)) }
     ensures typed { OnOk result (IsTypedHost host.new) }
     ensures service { host.new.service ≡ host.old.service }
     ensures after { GlancesOrStops result (device D.told D.faults disk.old) (device D.told D.faults disk.new) }

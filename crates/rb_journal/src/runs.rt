@@ -1,8 +1,8 @@
 // Whole runs.
 
-ghost use Rattle.std.specs.Prelude.{◌++◌, ℕ, List, All, OnOk};
+ghost use Rattle.std.specs.Prelude.{All, OnOk};
 ghost use Rattle.rb_journal.specs.Form.{IsPayload};
-ghost use Rattle.rb_journal.specs.Journals.{Keeps, CrashesOnly, IsFrontOf};
+ghost use Rattle.rb_journal.specs.Journals.{KeepsMore, LeavesFronts};
 
 use crate::journal::Journal;
 use crate::stops::JournalStop;
@@ -12,9 +12,8 @@ use rb_trees::Word;
 /// Adds payloads in order, up to a stop. A crash at any moment of the run leaves the payloads before it and a front of these.
 pub fn append_all<D: Disk>(journal: &mut Journal<D>, payloads: &[Word]) -> Result<(), JournalStop>
     requires { All IsPayload payloads.now }
-    ensures kept { OnOk result ((before : List (List ℕ)) → Keeps D.told journal.old before → Keeps D.told journal.new (before ++ payloads.now)) }
-    ensures any_moment { (before : List (List ℕ)) → Keeps D.told journal.old before
-        → CrashesOnly (D.told journal.old.disk) (D.told journal.new.disk) (IsFrontOf before payloads.now) }
+    ensures kept { OnOk result (KeepsMore D.told journal.old payloads.now journal.new) }
+    ensures any_moment { LeavesFronts D.told journal.old payloads.now journal.new }
 {
     for payload in payloads {
         journal.append(payload.as_slice())?;

@@ -1,7 +1,6 @@
 use Rattle.std.proofs.Common.{◌≡◌, ◌+◌, ◌<◌, ◌∙◌, ℕ, List, Option, Some, None, Err, length, drop, arith, rules, sym, subst}
 use Rattle.std.specs.Prelude.{IfSome}
 use Rattle.std.proofs.lemmas.Result.{err_from_is_err_and}
-use Rattle.rb_trees.specs.mirror.Services.{mirror_service}
 use Rattle.rb_base.specs.Devices.{device}
 use Rattle.rb_journal.specs.Form.{HasBadRecord}
 use Rattle.rb_journal.specs.Readings.{WhereLong, FindsRecord}
@@ -45,8 +44,8 @@ records-preserved g c =
     let room = subst (λ (o : Option (List ℕ × ℕ)). IfSome o (λ x. gate + 1 + 4 + length x.0 < c.args.end)) c.in-Some-2.is c.in_ok-payload.ensures.room in
     let found = long_before (λ bytes. FindsRecord (drop (gate + 1) bytes) c.in_ok-payload.field-0) c.args.end (at c.args.disk.now) (at c.records.disk) c.records.invariant.glanced c.in_ok-payload.ensures.found in
     let one = subst (λ (o : Option (List ℕ × ℕ)). WhereLong t c.args.end (λ bytes. FindsRecord (drop (gate + 1) bytes) o)) c.in-Some-2.is found in
-    let performs : Replays (mirror_service host.service) host.table payload after.table =
-    subst (λ (o : Option (List ℕ × ℕ)). IfSome o (λ x. Replays (mirror_service host.service) host.table x.0 after.table)) c.in-Some-2.is c.in_ok-payload.ensures.performs in
+    let performs : Replays host payload after =
+    subst (λ (o : Option (List ℕ × ℕ)). IfSome o (λ x. Replays host x.0 after)) c.in-Some-2.is c.in_ok-payload.ensures.performs in
     record {
       room = omega (arith, room, size);
       few = omega (arith, c.records.invariant.few);
