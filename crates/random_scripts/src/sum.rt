@@ -140,6 +140,10 @@ impl Sum {
                 self.add_expr(rows);
                 self.add_steps(body);
             }
+            StepForm::Over { var, input, body } => {
+                self.add_two(*var, u32::from(*input));
+                self.add_steps(body);
+            }
         }
     }
 
@@ -155,6 +159,9 @@ impl Sum {
     /// Adds a script with the values of its inputs.
     pub fn add_script(&mut self, script: &Script, values: &Seq<Value>) {
         self.add(u32::from(script.inputs));
+        for list in script.lists.as_slice() {
+            self.add(u32::from(*list));
+        }
         for value in values.as_slice() {
             self.add_value(value);
         }

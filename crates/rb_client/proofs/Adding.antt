@@ -1,8 +1,10 @@
 -- What a remainder does to the events, where what follows it does so.
-use Rattle.std.proofs.Common.{ℕ, List, length}
+use Rattle.std.proofs.Common.{ℕ, List, [], ◌∷◌, length}
 use Rattle.std.specs.Prelude.{Bool, true, false, cond, Option, None, Some, Result, Ok, Err}
 use Rattle.rb_trees.specs.declared.forests.NodeFault.{NodeFault}
 use Rattle.rb_trees.specs.declared.outcomes.Raised.{Raised}
+use Rattle.rb_trees.specs.Named.{lookup}
+use Rattle.rb_trees.specs.declared.values.Fault.{Fault}
 use Rattle.rb_trees.specs.declared.values.Value.{Value}
 use Rattle.rb_trees.specs.mirror.Declarations.{Class}
 use Rattle.rb_trees.specs.mirror.Forests as forest
@@ -11,12 +13,13 @@ use Rattle.rb_trees.specs.mirror.Remainders as part
 use Rattle.rb_trees.specs.mirror.Remainders.{Part, Parts, NoParts, MoreParts}
 use Rattle.rb_meaning_bytes.specs.Fits.{is_kept}
 use Rattle.rb_meaning_code.specs.Bodies.{bodies_of}
+use Rattle.rb_meaning_code.specs.Calls.{unit_due}
 use Rattle.rb_meaning_code.specs.Dialogue.{Outcome, Gave, Faulted, handle}
 use Rattle.rb_meaning_code.specs.Expressions.{evaluates}
-use Rattle.rb_meaning_code.specs.State.{Local, bound}
+use Rattle.rb_meaning_code.specs.State.{Local, bound, spent}
 use Rattle.rb_meaning_code.specs.Statements.{performs}
 use Rattle.rb_meaning.specs.State.{Event}
-use Rattle.rb_meaning_split.specs.Replay.{Seen, Replayed, Rest, after, behind, ended, far_fault, fault_at, in_replay, on_branch, on_rows, on_turn, on_value, own_fault, replay, replay_all, taken, turns, unless}
+use Rattle.rb_meaning_split.specs.Replay.{Seen, Replayed, Rest, after, behind, ended, far_fault, fault_at, in_replay, items_of, list_turns, missed, on_branch, on_items, on_rows, on_turn, on_unit, on_value, own_fault, replay, replay_all, taken, turns, unless}
 use Rattle.rb_client.proofs.Events.{Coming, replay_more}
 
 module _ (c : Coming) where
@@ -72,6 +75,24 @@ module _ (c : Coming) where
   turns_more turn (MoreNodes n ns) rest l events go m adds =
       behind_more (length l.names) rest (turn n l events) (λ l1 s1. turns turn ns rest l1 s1.events go) events (m n l events) (λ l1 s1. turns_more turn ns rest l1 s1.events go m adds)
 
+  pub on_unit_more : (at : ℕ) (u : Result (Unit {0}) Fault) (l : Local) (events : List Event) (go : Local → Replayed) → ((l1 : Local) → c.Later events (go l1).events) → c.Later events (on_unit at u l events go).events
+  on_unit_more at (Ok u) l events go m = m (spent l)
+  on_unit_more at (Err f) l events go m = c.same events
+
+  on_items_more : (at : ℕ) (r : Result (List Value) Fault) (l : Local) (events : List Event) (go : List Value → Replayed) → ((vs : List Value) → c.Later events (go vs).events) → c.Later events (on_items at r l events go).events
+  on_items_more at (Ok vs) l events go m = m vs
+  on_items_more at (Err f) l events go m = c.same events
+
+  pub list_turns_more : (step at : ℕ) (turn : Value → Node → Local → List Event → Replayed) (vs : List Value) (ns : Nodes) (rest : Node) (l : Local) (events : List Event) (go : Rest)
+      → ((v : Value) (n : Node) (l1 : Local) (es : List Event) → c.Later es (turn v n l1 es).events) → AddsBy go → c.Later events (list_turns step at turn vs ns rest l events go).events
+  list_turns_more step at turn [] ns rest l events go m adds = adds l (record { events = events; node = rest })
+  list_turns_more step at turn (v ∷ vs) NoNodes rest l events go m adds =
+      on_unit_more at (unit_due l.fuel) l events (λ l1. record { outcome = Faulted (missed (fault_at step rest)) l1; events = events }) (λ l1. c.same events)
+  list_turns_more step at turn (v ∷ vs) (MoreNodes n ns) rest l events go m adds =
+      on_unit_more at (unit_due l.fuel) l events (λ l1. behind (length l1.names) rest (turn v n l1 events) (λ l2 s2. list_turns step at turn vs ns rest l2 s2.events go)) (λ l1.
+      behind_more (length l1.names) rest (turn v n l1 events) (λ l2 s2. list_turns step at turn vs ns rest l2 s2.events go) events (m v n l1 events)
+      (λ l2 s2. list_turns_more step at turn vs ns rest l2 s2.events go m adds))
+
   chosen_more : (holds : Bool) (a b : Replayed) (es : List Event) → c.Later es a.events → c.Later es b.events → c.Later es (cond holds a b).events
   chosen_more true a b es m n = m
   chosen_more false a b es m n = n
@@ -105,6 +126,11 @@ module _ (c : Coming) where
           (λ l1 s1. unless (fault_at step s1.node) far_fault l1 s1 (go l1 s1))
           (λ n l1 es. on_turn_more (is_kept k) step name l1 (record { events = es; node = n }) (λ l2 s2. replay_all classes gas body l2 s2 ended) (λ l2 s2. parts_more body l2 s2 ended ended_adds))
           (λ l1 s1. unless_more (fault_at step s1.node) far_fault l1 s1 (go l1 s1) (adds l1 s1)))
+      part_more (part.Over step at name list input body) l s go adds =
+          let turn = λ v n l1 events. replay_all classes gas body (bound name v l1) (record { events = events; node = n }) ended in
+          on_items_more at (items_of (lookup l.names list)) l s.events (λ vs. on_rows step s.node l s (λ ns rest. list_turns step at turn vs ns rest l s.events go)) (λ vs.
+          on_rows_more step s.node l s (λ ns rest. list_turns step at turn vs ns rest l s.events go) (λ ns rest.
+          list_turns_more step at turn vs ns rest l s.events go (λ v n l1 es. parts_more body (bound name v l1) (record { events = es; node = n }) ended ended_adds) adds))
 
       pub parts_more : (ps : Parts) (l : Local) (s : Seen) (go : Rest) → AddsBy go → c.Later s.events (replay_all classes gas ps l s go).events
       parts_more NoParts l s go adds = adds l s

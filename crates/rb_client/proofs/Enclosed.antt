@@ -72,7 +72,7 @@ enclosed_so g m l l1 l3 w w2 w3 r did h same shut end =
     }
 
 -- what follows a block goes on from its end
-gave_behind : (count : ℕ) (rest : Node) (o : Outcome (Unit {0})) (events : List Event) (go : Rest) (l : Local) → left count o ≡ Gave tt l → behind_end count rest o events go ≡ go l (record { events = events; node = rest })
+pub gave_behind : (count : ℕ) (rest : Node) (o : Outcome (Unit {0})) (events : List Event) (go : Rest) (l : Local) → left count o ≡ Gave tt l → behind_end count rest o events go ≡ go l (record { events = events; node = rest })
 gave_behind count rest (Gave u l1) events go l e = let same : closed count l1 ≡ l = cc e in ap (λ x. go x (record { events = events; node = rest })) same
 gave_behind count rest (Faulted r l1) events go l e = absurd (cc e)
 
@@ -181,12 +181,12 @@ turns_add classes t ns rest gas go adds l s =
     (λ n l1 es. turn_more classes t gas n l1 (record { events = es; node = n })) adds
 
 -- there is a node for a turn
-record HasTurn (ns : Nodes) : Type 0 where
-  node : Node
-  nodes : Nodes
-  is : ns ≡ MoreNodes node nodes
+pub record HasTurn (ns : Nodes) : Type 0 where
+  pub node : Node
+  pub nodes : Nodes
+  pub is : ns ≡ MoreNodes node nodes
 
-has_turn : (ns : Nodes) → 0 < count_nodes ns → HasTurn ns
+pub has_turn : (ns : Nodes) → 0 < count_nodes ns → HasTurn ns
 has_turn NoNodes h = absurd (omega arith)
 has_turn (MoreNodes n ns) h = record { node = n; nodes = ns; is = refl }
 
@@ -288,7 +288,7 @@ module _ {W : Type 0} (g : sinks.Ghosts W) (out : MutBor W) (start : Device (Lis
   rows_shut : (s : Seen) → SeesSomeRows g out start below w s → SeesReplay g out start below w1 s
   rows_shut s (ns, sees) = sees_moved g out start (AtRows ns ∷ AtNode s.node ∷ below) (AtNode s.node ∷ below) w w1 s.events sees same (closed_to (AtRows ns) (AtNode s.node) below (opened w.left) (opened w1.left) did sees.open_so shut)
 
-  shut_does : (r : Result (Unit {0}) Early) → Does g out start (SeesSomeRows g out start below) m r l w → Does g out start (SeesReplay g out start below) m r l w1
+  pub shut_does : (r : Result (Unit {0}) Early) → Does g out start (SeesSomeRows g out start below) m r l w → Does g out start (SeesReplay g out start below) m r l w1
   shut_does (Ok u) (s, sees, h) = (s, rows_shut s sees, h)
   shut_does (Err (early.Raised f)) (s, sees, h) = (s, rows_shut s sees, h)
   shut_does (Err early.WriteFault) h = λ go adds.

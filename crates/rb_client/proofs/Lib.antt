@@ -2,6 +2,7 @@ pub mod Adding
 pub mod Answering
 pub mod Dropped
 pub mod Enclosed
+pub mod Listed
 pub mod Events
 pub mod Fronts
 pub mod Missed

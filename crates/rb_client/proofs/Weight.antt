@@ -12,6 +12,7 @@ abbrev mutual
   part_weight (part.Both step at name e) = 0
   part_weight (part.Branch step a b) = 4 + max (parts_weight a) (parts_weight b)
   part_weight (part.Turns step name k a) = 8 + parts_weight a
+  part_weight (part.Over step at name list input a) = 8 + parts_weight a
 
   pub parts_weight : Parts → ℕ
   parts_weight part.NoParts = 0

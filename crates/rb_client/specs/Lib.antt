@@ -4,6 +4,7 @@ pub mod Missed
 pub mod Events
 pub mod Worlds
 pub mod Walks
+pub mod Lists
 pub mod Replays
 pub mod Scenes
 pub mod Servers

@@ -37,16 +37,30 @@ pub fn own_fault(alloc: Global, fault: &LentFault<'_>) -> Result<Raised, Memory>
     raise(alloc, fault, fault.code == fault_codes::FUEL_USED)
 }
 
-/// The fault Kind at a position, of the own side.
-pub fn refuse(alloc: Global, at: u32) -> Raised
-    ensures { result ≡ causes.raised causes.kind at }
+// A fault without a text at a position, of the own side.
+fn own(alloc: Global, code: u8, at: u32) -> Raised
+    ensures { result ≡ causes.raised (causes.plain_fault code) at }
 {
     Raised {
         fault: Fault {
-            code: fault_codes::KIND,
+            code,
             text: Seq::new(alloc),
         },
         at,
         remote: false,
     }
+}
+
+/// The fault Kind at a position, of the own side.
+pub fn refuse(alloc: Global, at: u32) -> Raised
+    ensures { result ≡ causes.raised causes.kind at }
+{
+    own(alloc, fault_codes::KIND, at)
+}
+
+/// The fault FuelUsed at a position, of the own side.
+pub fn fuel_used(alloc: Global, at: u32) -> Raised
+    ensures { result ≡ causes.raised causes.fuel_used at }
+{
+    own(alloc, fault_codes::FUEL_USED, at)
 }

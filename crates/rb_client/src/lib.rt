@@ -10,6 +10,8 @@ mod early;
 mod faults;
 mod laws;
 mod lines;
+mod lists;
+mod pieces;
 mod plan;
 mod replay;
 mod replay_world;

@@ -5,18 +5,19 @@ ghost use Rattle.rb_meaning_bytes.specs.Fits as meaning;
 ghost use Rattle.rb_engine.specs.Locals.{local};
 ghost use Rattle.rb_wire_forest.specs.Opened.{root_of};
 ghost use Rattle.rb_client.specs.Replays.{Replays, remainder_meant};
-ghost use Rattle.rb_client.specs.Walks.{Encloses, Performs, PerformsTurns, all_meant, bind_meant, both_meant, branch_meant, part_meant, pass_meant, plain_meant, rows_meant, rows_turned, turn_meant};
+ghost use Rattle.rb_client.specs.Walks.{Encloses, Performs, PerformsTurns, all_meant, branch_meant, part_meant, rows_meant, rows_turned, turn_meant};
+ghost use Rattle.rb_client.specs.Lists.{PerformsItems, item_meant, list_meant, list_turned};
 
-use crate::early::{Early, flat};
-use crate::faults::{far_fault, own_fault};
+use crate::early::Early;
+use crate::lists::{ListLoop, items_of, perform_lack, spend, split_items};
+use crate::pieces::{Twin, perform_bind, perform_both, perform_pass, perform_plain};
 use crate::replay_world::ReplayWorld;
 use rb_base::Sink;
 use rb_code::Code;
-use rb_engine::{Frame, State, eval, exec_slice};
-use rb_trees::{Expr, Item, Part, Seq, Stmt, Word};
+use rb_engine::{Frame, State};
+use rb_trees::{Item, Part, Seq, Value, Word, copy_value};
 use rb_wire_forest::Forest;
 use std::alloc::Global;
-use std::slice;
 
 /// A loop over rows, without its nodes: its step, the name of its rows, whether they are kept, and what is performed in a turn.
 #[derive(Clone, Copy)]
@@ -25,14 +26,6 @@ pub struct Loop<'a> {
     pub name: &'a Word,
     pub kept: bool,
     pub body: &'a [Part],
-}
-
-/// A value that both sides evaluate: its step, the name that it is bound to, and what is evaluated.
-#[derive(Clone, Copy)]
-pub struct Twin<'a> {
-    pub step: u32,
-    pub name: &'a Word,
-    pub value: &'a Expr,
 }
 
 /// An `if` that the script decides: its step, and what is performed in its branches.
@@ -55,79 +48,6 @@ fn chosen<'a>(holds: bool, yes: &'a Seq<Part>, no: &'a Seq<Part>) -> &'a Seq<Par
     ensures { result.now ≡ cond holds yes.now no.now }
 {
     if holds { yes } else { no }
-}
-
-// A statement.
-#[inline(never)]
-fn perform_plain<W: Sink>(
-    alloc: Global,
-    code: &Code,
-    state: &mut State,
-    frame: &mut Frame,
-    world: &mut ReplayWorld<'_, '_, W>,
-    stmt: &Stmt,
-) -> Result<(), Early>
-    ensures { let meant = plain_meant code.now stmt.now in
-        Performs W.Sink meant (local frame.old state.old) world.old result (local frame.new state.new) world.new }
-{
-    flat(exec_slice(alloc, code, state, frame, world, slice::from_ref(stmt)))
-}
-
-// The place of a step that gives no entry.
-#[inline(never)]
-fn perform_pass<W: Sink>(
-    alloc: Global,
-    state: &State,
-    frame: &Frame,
-    world: &ReplayWorld<'_, '_, W>,
-    step: u32,
-) -> Result<(), Early>
-    ensures { let meant = pass_meant step in
-        Performs W.Sink meant (local frame.now state.now) world.now result (local frame.now state.now) world.now }
-{
-    match world.fault_at(step) {
-        Some(fault) => Err(Early::Raised(far_fault(alloc, &fault)?)),
-        None => Ok(()),
-    }
-}
-
-// A value that was kept, and is bound.
-#[inline(never)]
-fn perform_bind<W: Sink>(
-    alloc: Global,
-    state: &State,
-    frame: &mut Frame,
-    world: &mut ReplayWorld<'_, '_, W>,
-    step: u32,
-    name: &Word,
-) -> Result<(), Early>
-    ensures { let meant = bind_meant step name.now in
-        Performs W.Sink meant (local frame.old state.now) world.old result (local frame.new state.now) world.new }
-{
-    let value = world.take(step)?;
-    frame.bind(alloc, name.as_slice(), value)?;
-    Ok(())
-}
-
-// A value that both sides evaluate.
-#[inline(never)]
-fn perform_both<W: Sink>(
-    alloc: Global,
-    code: &Code,
-    state: &mut State,
-    frame: &mut Frame,
-    world: &mut ReplayWorld<'_, '_, W>,
-    twin: &Twin<'_>,
-) -> Result<(), Early>
-    ensures { let meant = both_meant code.now twin.now.step twin.now.name.now twin.now.value.now in
-        Performs W.Sink meant (local frame.old state.old) world.old result (local frame.new state.new) world.new }
-{
-    if let Some(fault) = world.fault_at(twin.step) {
-        return Err(Early::Raised(own_fault(alloc, &fault)?));
-    }
-    let value = flat(eval(alloc, code, state, frame, world, twin.value))?;
-    frame.bind(alloc, twin.name.as_slice(), value)?;
-    Ok(())
 }
 
 // A part.
@@ -182,6 +102,23 @@ fn perform_part<W: Sink>(
                 body: body.as_slice(),
             };
             perform_rows(alloc, code, state, frame, world, &turns)
+        }
+        Part::Over {
+            step,
+            at,
+            name,
+            list,
+            body,
+            ..
+        } => {
+            let turns = ListLoop {
+                step: *step,
+                at: *at,
+                name,
+                list,
+                body: body.as_slice(),
+            };
+            perform_list(alloc, code, state, frame, world, &turns)
         }
     }
 }
@@ -349,6 +286,123 @@ fn perform_row<W: Sink>(
         perform_bind(alloc, state, frame, world, turns.step, turns.name)?;
         return perform_all(alloc, code, state, frame, world, turns.body);
     }
+    perform_all(alloc, code, state, frame, world, turns.body)
+}
+
+// A loop over the list that has a name, whose items are shared.
+#[cycle(parts)]
+#[inline(never)]
+fn perform_list<W: Sink>(
+    alloc: Global,
+    code: &Code,
+    state: &mut State,
+    frame: &mut Frame,
+    world: &mut ReplayWorld<'_, '_, W>,
+    turns: &ListLoop<'_>,
+) -> Result<(), Early>
+    ensures { let meant = list_meant code.now turns.now in
+        Performs W.Sink meant (local frame.old state.old) world.old result (local frame.new state.new) world.new }
+{
+    let items = items_of(alloc, frame, turns.list, turns.at)?;
+    turn_list(
+        alloc,
+        code,
+        state,
+        frame,
+        world,
+        turns,
+        items.get().as_slice(),
+    )
+}
+
+// The turns over items on the rows that stand first, at whose end the rows are closed, by a fault too. Then come the items
+// that no node is left for.
+#[cycle(parts)]
+#[inline(never)]
+fn turn_list<W: Sink>(
+    alloc: Global,
+    code: &Code,
+    state: &mut State,
+    frame: &mut Frame,
+    world: &mut ReplayWorld<'_, '_, W>,
+    turns: &ListLoop<'_>,
+    items: &[Value],
+) -> Result<(), Early>
+    ensures { let meant = list_turned code.now turns.now items.now in
+        Performs W.Sink meant (local frame.old state.old) world.old result (local frame.new state.new) world.new }
+{
+    let Some(count) = world.left.rows() else {
+        return Err(Early::Raised(world.missed(turns.step)?));
+    };
+    let (given, lacking) = split_items(items, count);
+    let ended = perform_items(alloc, code, state, frame, world, turns, given);
+    world.left.close();
+    ended?;
+    perform_lack(alloc, state, frame, world, turns, lacking)
+}
+
+// The turns over items on rows that are open, each on the next of their nodes.
+#[cycle(parts)]
+#[inline(never)]
+fn perform_items<W: Sink>(
+    alloc: Global,
+    code: &Code,
+    state: &mut State,
+    frame: &mut Frame,
+    world: &mut ReplayWorld<'_, '_, W>,
+    turns: &ListLoop<'_>,
+    items: &[Value],
+) -> Result<(), Early>
+    ensures { let before = local frame.old state.old in
+        PerformsItems W.Sink code.now turns.now items.now before world.old result (local frame.new state.new) world.new }
+{
+    'items: for item in items {
+        spend(alloc, state, turns.at)?;
+        world.left.turn();
+        perform_item(alloc, code, state, frame, world, turns, item)?;
+    }
+    Ok(())
+}
+
+// A turn over an item on the innermost node, at whose end its names go and the node is closed, by a fault too.
+#[cycle(parts)]
+#[inline(never)]
+fn perform_item<W: Sink>(
+    alloc: Global,
+    code: &Code,
+    state: &mut State,
+    frame: &mut Frame,
+    world: &mut ReplayWorld<'_, '_, W>,
+    turns: &ListLoop<'_>,
+    item: &Value,
+) -> Result<(), Early>
+    ensures { let meant = item_meant code.now turns.now item.now in
+        Encloses W.Sink meant (local frame.old state.old) world.old result (local frame.new state.new) world.new }
+{
+    let count = frame.len();
+    let ended = perform_named(alloc, code, state, frame, world, turns, item);
+    frame.truncate(count);
+    world.left.close();
+    ended
+}
+
+// What is performed in a turn over an item, which is bound to its name first.
+#[cycle(parts)]
+#[inline(never)]
+fn perform_named<W: Sink>(
+    alloc: Global,
+    code: &Code,
+    state: &mut State,
+    frame: &mut Frame,
+    world: &mut ReplayWorld<'_, '_, W>,
+    turns: &ListLoop<'_>,
+    item: &Value,
+) -> Result<(), Early>
+    ensures { let meant = item_meant code.now turns.now item.now in
+        Performs W.Sink meant (local frame.old state.old) world.old result (local frame.new state.new) world.new }
+{
+    let value = copy_value(item)?;
+    frame.bind(alloc, turns.name.as_slice(), value)?;
     perform_all(alloc, code, state, frame, world, turns.body)
 }
 

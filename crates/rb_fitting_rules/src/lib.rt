@@ -3,8 +3,8 @@
 
 ghost use Rattle.rb_fitting_rules.specs.Agree.{FitsAgree, MisfitsAgree, EachHasOneOutcome};
 
-/// Whatever the lengths of the lists of inputs are: a node fits a remainder by the rules exactly where the walk finds that it does, and what the walk finds wrong is the
-/// first misfit by the rules.
+/// Whatever the lengths of lists are, a node fits a remainder by the rules exactly where the walk finds that it does. What
+/// the walk finds wrong is the first misfit by the rules.
 pub fn rules_agree()
     ensures fits { FitsAgree }
     ensures misfits { MisfitsAgree }

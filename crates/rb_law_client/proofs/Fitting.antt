@@ -1,8 +1,9 @@
 -- What an accepted program is answered on its way fits, each piece of its code keeps types, and no script of it faults Kind.
-use Rattle.std.proofs.Common.{◌≡◌, sym, ap, ◌∙◌, subst, ℕ, List, [], All, Option, Some, None, Ok}
+use Rattle.std.proofs.Common.{◌≡◌, sym, ap, ◌∙◌, subst, ℕ, List, [], Bool as Truth, true, false, All, Option, Some, None, Ok}
 use Rattle.std.proofs.lemmas.List.Elements.{All-nil, All-cons, Contains-append_left}
 use Rattle.rb_trees.specs.declared.values.Value.{Value}
 use Rattle.rb_trees.specs.declared.values.Value.TheVariants as value
+use Rattle.rb_trees.specs.declared.outcomes.Raised.{Raised}
 use Rattle.rb_trees.specs.declared.services.Object.{Object}
 use Rattle.rb_trees.specs.mirror.Declarations.{Program}
 use Rattle.rb_trees.specs.mirror.Services.{Service}
@@ -31,8 +32,9 @@ use Rattle.rb_law_types.specs.Asked.{Side, Own, InBatch, Site, Keeps, IsAskedBat
 use Rattle.rb_law_types.specs.Batches.{sites_in}
 use Rattle.rb_law_types.specs.Code.{AreTyped}
 use Rattle.rb_law_types.specs.Ends.{Place, context, Ends}
-use Rattle.rb_law_types.specs.Kept.{IsOwnFault}
+use Rattle.rb_law_types.specs.Kept.{IsFaultOf, IsOwnFault, FaultFits}
 use Rattle.rb_law_types.specs.NodeFaults.{at_most_one, NodesHoldTheFault}
+use Rattle.rb_law_types.proofs.Faults.{rule_own}
 use Rattle.rb_law_types.proofs.InSurroundings.{types_keep_handled, batches_keep_handled}
 use Rattle.rb_law_types.proofs.Parts.{try_parts}
 use Rattle.rb_law_types.proofs.Steps.{keeps_more}
@@ -64,10 +66,18 @@ always service d side h fits P less run s k holds rest now way =
     let reached = reaches d side (HasFittingTable service) h fits EndsWithoutKind run rest s now way (keeps_more d side P EndsWithoutKind run less k) holds in
     record { next = next_fits d side (HasFittingTable service) h fits rest now reached.0 reached.1; table = reached.1 }
 
+-- a fault that fits, in a program or a service, is one that typed code ends by
+fits_own : (d : Declarations) (r : Raised) → FaultFits d r → IsOwnFault r.fault
+fits_own d r h = by d.service h
+  where
+    by : (service : Truth) → IsFaultOf service r.fault → IsOwnFault r.fault
+    by true h = rule_own r.fault h
+    by false h = h
+
 -- code that ends as its types say ends without Kind
 ends_well : {A : Type 0} (x : Context) (scope after : Scope) (P : List (List ℕ) → A → Type 0) (before : List (List ℕ)) (o : Outcome A) → Ends x scope after P before o → EndsWithoutKind o
 ends_well x scope after P before (Gave a l) e = tt
-ends_well x scope after P before (Faulted r l) e = e.fault
+ends_well x scope after P before (Faulted r l) e = fits_own x.declared r e.fault
 
 -- where a run stops without Kind, no other fault stands in its node
 none_in_node : (fault : Option PlacedFault) → StopsWithoutKind fault → All (λ f. IsOwnFault f.fault) (at_most_one fault)

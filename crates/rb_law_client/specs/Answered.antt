@@ -28,14 +28,14 @@ use Rattle.rb_law_types.specs.Around.{EndsHandled}
 use Rattle.rb_law_types.specs.Asked.{Side, Own, InBatch, Site, IsAsked, IsAnswer, IsAskedBatch}
 use Rattle.rb_law_types.specs.Code.{LeadsTo, Asks, Stands, IsBatchStmt, bodies, OfTypedCode, OfBatchCode}
 use Rattle.rb_law_types.specs.Ends.{Place, context, FitsPlace, EndsThere}
-use Rattle.rb_law_types.specs.Kept.{FaultFits}
+use Rattle.rb_law_types.specs.Kept.{IsOwnFault}
 use Rattle.rb_law_unsplit.specs.Batches.{program_sites}
 use Rattle.rb_law_division.specs.Faults.{EachFault}
 use Rattle.rb_law_client.specs.Reached.{main_run, ProgramComesTo}
 
 -- an end by a value, or by a fault that typed code may end by, which isn't Kind
 abbrev pub EndsWithoutKind : {A : Type 0} → Outcome A → Type 0
-EndsWithoutKind o = EachFault FaultFits o
+EndsWithoutKind o = EachFault (λ r. IsOwnFault r.fault) o
 
 -- the server's table fits the service
 abbrev pub HasFittingTable : Service → Outside → Type 0

@@ -44,6 +44,7 @@ use Rattle.rb_law_types.specs.Formed.{IsFormedExpr, AreFormedExprs, IsFormedStmt
 use Rattle.rb_law_types.specs.Noted.{IsNotedExpr, AreNotedExprs, IsNotedStmt, AreNotedStmts}
 use Rattle.rb_law_types.specs.Operators.{ConditionsHold}
 use Rattle.rb_law_types.specs.Code.{AreTyped}
+use Rattle.rb_law_types.proofs.Faults.{rule_own}
 use Rattle.rb_law_types.proofs.Checks.{bind_ok, placed_ok}
 use Rattle.rb_law_types.proofs.Parts.{val_parts, var_parts, assign_parts, run_parts, print_parts, throw_parts, if_parts, while_parts, for_parts, try_parts, batch_parts, stmts_parts}
 use Rattle.rb_law_types.proofs.TypeFacts.{kind_here, rows_fact}
@@ -103,7 +104,7 @@ module _ (laws : Laws) (conditions : ConditionsHold) (p : Program) (service : Se
 
   rule_fine : {A : Type 0} (P : A → Type 0) (at : ℕ) (r : Result A Fault) (s : Server) → Fair P r → Fits' s → Fine service P (replies at r s)
   rule_fine P at (Ok a) s h t = (h, t)
-  rule_fine P at (Err fault) s h t = (h, t)
+  rule_fine P at (Err fault) s h t = (rule_own fault h, t)
 
   chosen_good : (t : Truth) (a b : Walked) → Good a → Good b → Good (cond t a b)
   chosen_good true a b h g = h

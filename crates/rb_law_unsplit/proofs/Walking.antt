@@ -45,6 +45,7 @@ use Rattle.rb_law_types.specs.Operators.{IfDecided, OneKeeps, TwoKeep, LeftKeeps
 use Rattle.rb_law_types.specs.Far.{FittingAreBounded, RemoteCallsGiveFar}
 use Rattle.rb_law_types.specs.Remote.{CallsKeep}
 use Rattle.rb_law_types.specs.Code.{AreTyped}
+use Rattle.rb_law_types.proofs.Faults.{rule_own}
 use Rattle.rb_law_types.proofs.Checks.{bind_ok, known_ok, placed_ok}
 use Rattle.rb_law_types.proofs.Exprs.{literal_fits}
 use Rattle.rb_law_types.proofs.TypeFacts.{kind_here, object_fact}
@@ -115,7 +116,7 @@ module _ (laws : Laws) (p : Program) (service : Service) (service_typed : check_
 
   end_fits : {A : Type 0} (P : A → Type 0) (at : ℕ) (r : Result A Fault) (l : Local) (s : Server) → Fair P r → Table s → OutFits P l (handle h (end l (raises at r)) s)
   end_fits P at (Ok a) l s e t = (e, refl, t)
-  end_fits P at (Err fault) l s e t = (e, t)
+  end_fits P at (Err fault) l s e t = (rule_own fault e, t)
 
   answer_fits : (P : Value → Type 0) (l : Local) (r : Reply Value) → Fine service P r → OutFits P l (handle h (end l (answer_of r).0) (answer_of r).1)
   answer_fits P l (Got v s1) e = (e.0, refl, e.1)

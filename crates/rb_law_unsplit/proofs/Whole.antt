@@ -258,7 +258,7 @@ module _ (calls : CallsKeep) (exprs_formed : LawfulExprsAreFormed) (stmts_formed
     -- how `main` ends
     abbrev pub MainEnds : Outcome (Option Value) → Type 0
     MainEnds (Gave v l) = IsResult result v
-    MainEnds (Faulted r l) = FaultFits r
+    MainEnds (Faulted r l) = FaultFits d r
 
     -- the value of a primitive type holds no object
     primitive_fits : (k : Kind) (cs : List (List ℕ)) (v : Value) → is_primitive k ≡ true → Fits is cs k v → Fits [] [] k v

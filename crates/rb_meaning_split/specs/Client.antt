@@ -20,7 +20,7 @@ use Rattle.rb_meaning.specs.State.{Event}
 use Rattle.rb_meaning.specs.Unsplit.{batch_at}
 use Rattle.rb_meaning.specs.Meaning.{local_answer, runs_main, ending_of, at_start}
 use Rattle.rb_meaning_split.specs.Division.{Division, division}
-use Rattle.rb_meaning_split.specs.Replay.{Seen, Replayed, ended, replay_all}
+use Rattle.rb_meaning_split.specs.Replay.{Replayed, ended, replay_all}
 
 -- the value of a name, as a batch takes it for an input; each input has one
 abbrev pub value_or_unit : Option Value → Value

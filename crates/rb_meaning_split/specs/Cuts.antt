@@ -4,7 +4,7 @@ use Rattle.rb_trees.specs.mirror.Code.{Expr, Exprs, Unary, Binary, Field, Call, 
 use Rattle.rb_meaning_flow.specs.Facts.{Facts}
 use Rattle.rb_meaning_flow.specs.Scopes.{Scope}
 use Rattle.rb_meaning_flow.specs.Marks.{is_portable_call}
-use Rattle.rb_meaning.specs.RemoteExprs.{remote_in, all_remote_in}
+use Rattle.rb_meaning.specs.RemoteExprs.{remote_in}
 
 -- the number that follows those of some expressions
 abbrev pub counted : List Expr → ℕ → ℕ

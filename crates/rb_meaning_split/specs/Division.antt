@@ -1,5 +1,5 @@
 -- The division of a batch: its inputs, its script, and the remainder that is left to the client.
-use Rattle.std.specs.Prelude.{ℕ, suc, ◌<◌, List, [], ◌∷◌, length, nat_lt, cond, Option, None, Some, Result, Ok, Err}
+use Rattle.std.specs.Prelude.{ℕ, suc, List, [], ◌∷◌, length, nat_lt, cond, Result, Ok, Err}
 use Rattle.rb_trees.specs.CodeSize.{code_size_of}
 use Rattle.rb_trees.specs.declared.refusals.Refusal.{Refusal}
 use Rattle.rb_trees.specs.declared.refusals.Refusal.TheVariants.{TooManyInputs, ScriptTooLarge}
@@ -10,7 +10,7 @@ use Rattle.rb_trees.specs.mirror.Remainders.{Parts, mirror_parts}
 use Rattle.rb_meaning_flow.specs.Facts.{facts_of}
 use Rattle.rb_meaning_flow.specs.Scopes.{Scope, opened}
 use Rattle.rb_meaning_flow.specs.Outermost.{Outermost, program_batches}
-use Rattle.rb_meaning_split.specs.Refs.{Ref, Root, Input, Refs}
+use Rattle.rb_meaning_split.specs.Refs.{Root, Input, Refs}
 use Rattle.rb_meaning_split.specs.Inputs.{used_in, first_uses}
 use Rattle.rb_meaning_split.specs.Steps.{block_steps}
 use Rattle.rb_meaning_split.specs.Parts.{block_parts}

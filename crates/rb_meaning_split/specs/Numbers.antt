@@ -1,7 +1,7 @@
 -- How the steps and the variables of a script are numbered: steps in reading order, one before those of its blocks, and
 -- variables in order of declaration.
 use Rattle.std.specs.Prelude.{ℕ, suc, []}
-use Rattle.rb_trees.specs.mirror.Code.{Expr, Stmt, Stmts, Val, If, For, NoStmts, MoreStmts}
+use Rattle.rb_trees.specs.mirror.Code.{Stmt, Stmts, Val, If, For, NoStmts, MoreStmts}
 use Rattle.rb_meaning_flow.specs.declared.forms.PlacedForm.{PlacedForm}
 use Rattle.rb_meaning_flow.specs.declared.scopes.Role.{Role}
 use Rattle.rb_meaning_flow.specs.Facts.{Facts}

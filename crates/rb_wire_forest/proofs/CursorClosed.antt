@@ -70,7 +70,7 @@ level_is s =
     let e : 64 - suc (s.depth - 1) ≡ 64 - s.depth = omega arith in
     ap levels_below (frames_count s.frames (s.depth - 1)) ∙ e
 
-rows_now : (s : Cursor) (turns : ℕ) → (top s).turns ≡ Some turns → all_open (top s ∷ outer s) s.rest.now ≡ rows_open (64 - s.depth) turns (below_rows (top s) (outer s)) s.rest.now
+pub rows_now : (s : Cursor) (turns : ℕ) → (top s).turns ≡ Some turns → all_open (top s ∷ outer s) s.rest.now ≡ rows_open (64 - s.depth) turns (below_rows (top s) (outer s)) s.rest.now
 rows_now s turns h = rows_top (top s) (outer s) s.rest.now turns h ∙ ap (λ n. rows_open n turns (below_rows (top s) (outer s)) s.rest.now) (level_is s)
 
 node_now : (s : Cursor) → (top s).turns ≡ None → all_open (top s ∷ outer s) s.rest.now ≡ node_open (64 - s.depth) (top s).entries (all_open (outer s)) s.rest.now

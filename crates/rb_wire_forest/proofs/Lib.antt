@@ -7,6 +7,8 @@ pub mod Refused
 pub mod Walked
 pub mod Lefts
 pub mod Skipped
+pub mod LastTurns
+pub mod EndedEarly
 pub mod InArray
 pub mod Scanned
 pub mod Ahead

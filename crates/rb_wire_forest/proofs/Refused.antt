@@ -3,8 +3,9 @@ use Rattle.std.proofs.Common.{◌≡◌, ℕ, zero, suc, ◌<◌, ◌^◌, List,
 use Rattle.std.specs.Int.{w32, from_be_bytes, to_be_bytes}
 use Rattle.std.proofs.lemmas.Nat.{be_bytes_4, from_be_bytes-to_be_bytes_4}
 use Rattle.rb_meaning_bytes.specs.formats.Fields.{IsBytes, number}
-use Rattle.rb_meaning_bytes.specs.formats.Formats.{Spells}
-use Rattle.rb_meaning_bytes.specs.formats.Refusals.{is_refusal_number, refusal_message}
+use Rattle.rb_meaning_bytes.specs.formats.Messages.{Refused}
+use Rattle.rb_meaning_bytes.specs.formats.Payloads.{IsRefusalOf}
+use Rattle.rb_meaning_bytes.specs.formats.Refusals.{is_refusal_number}
 use Rattle.rb_meaning_bytes.specs.formats.ForestBytes.{refusal_bytes, FormedRefusal}
 use Rattle.rb_meaning_bytes.proofs.formats.ForestsSpelled.{refusal_spelled}
 use Rattle.rb_meaning_bytes.proofs.formats.OnlyForests.{refusal_only}
@@ -36,36 +37,40 @@ place_fits payload b (suc (suc zero)) = b 4
 place_fits payload b (suc (suc (suc zero))) = b 5
 place_fits payload b (suc (suc (suc (suc i)))) = omega arith
 
+abbrev pub made : ℕ → ℕ → Refused
+made n at = record { number = n; at = at }
+
 -- Six bytes of the form of a refusal spell it.
 pub spells_refusal : (payload : List ℕ) → IsBytes payload → length payload ≡ 6 → get_or payload 0 0 ≡ 1 → is_refusal_number (get_or payload 1 0) ≡ true
-    → Spells refusal_message payload (get_or payload 1 0, place payload)
+    → IsRefusalOf payload (get_or payload 1 0) (place payload)
 unfolding number
 spells_refusal payload b h v n =
+    let wrong = made (get_or payload 1 0) (place payload) in
     let back : to_be_bytes w32 (place payload) ≡ place_bytes payload = be_bytes_4 (place_bytes payload) (place payload) refl (place_fits payload b) refl in
-    let is : payload ≡ refusal_bytes (get_or payload 1 0, place payload) =
+    let is : payload ≡ refusal_bytes wrong =
     six payload h ∙ ap (λ w. w ∷ get_or payload 1 0 ∷ place_bytes payload) v ∙ ap (λ (l : List ℕ). 1 ∷ get_or payload 1 0 ∷ l) (sym back) in
     let fits : place payload < 2 ^ 32 = four (get_or payload 2 0) (get_or payload 3 0) (get_or payload 4 0) (get_or payload 5 0) (b 2) (b 3) (b 4) (b 5) in
-    subst (λ l. Spells refusal_message l (get_or payload 1 0, place payload)) (sym is) (refusal_spelled (get_or payload 1 0, place payload) (n, fits))
+    subst (λ l. IsRefusalOf l (get_or payload 1 0) (place payload)) (sym is) (refusal_spelled wrong (n, fits))
 
 -- what a payload that spells a refusal has in its bytes
-pub record Seen (payload : List ℕ) (x : ℕ × ℕ) : Type 0 where
+pub record Seen (payload : List ℕ) (n at : ℕ) : Type 0 where
   pub six : length payload ≡ 6
   pub version : get_or payload 0 0 ≡ 1
-  pub number : get_or payload 1 0 ≡ x.0
+  pub number : get_or payload 1 0 ≡ n
   pub known : is_refusal_number (get_or payload 1 0) ≡ true
-  pub place_is : place payload ≡ x.1
+  pub place_is : place payload ≡ at
 
-abbrev pub made : ℕ → ℕ → ℕ × ℕ
-made n at = (n, at)
-
-seen : (n at : ℕ) → FormedRefusal (n, at) → Seen (refusal_bytes (n, at)) (n, at)
+seen : (n at : ℕ) → FormedRefusal (made n at) → Seen (refusal_bytes (made n at)) n at
 unfolding number
 seen n at h = record { six = refl; version = refl; number = refl; known = h.0; place_is = from_be_bytes-to_be_bytes_4 at h.1 }
 
-pub seen_refusal : (payload : List ℕ) (x : ℕ × ℕ) → Spells refusal_message payload x → Seen payload x
-seen_refusal payload (n, at) s =
-    let m = refusal_only.made payload (n, at) s in
-    subst (λ l. Seen l (n, at)) (sym m.is) (seen n at m.fits)
+pub seen_refusal : (payload : List ℕ) (n at : ℕ) → IsRefusalOf payload n at → Seen payload n at
+seen_refusal payload n at s =
+    let m = refusal_only.made payload (made n at) s in
+    subst (λ l. Seen l n at) (sym m.is) (seen n at m.fits)
 
-pub paired : (n at : ℕ) (x : ℕ × ℕ) → n ≡ x.0 → at ≡ x.1 → made n at ≡ x
-paired n at (m, i) h k = cc
+abbrev pub pair : ℕ → ℕ → ℕ × ℕ
+pair n at = (n, at)
+
+pub paired : (n at m i : ℕ) → n ≡ m → at ≡ i → pair n at ≡ pair m i
+paired n at m i h k = ap (λ x. pair x at) h ∙ ap (λ y. pair m y) k

@@ -1,9 +1,8 @@
 -- What a call that appends leaves of a buffer.
 use Rattle.std.specs.Prelude.{◌≡◌, ℕ, List, ◌++◌}
-use Rattle.rb_meaning_bytes.specs.formats.Formats.{Format, Spells}
 
--- The buffer keeps its bytes, and has gained the value's spelling.
-pub record Appends {A : Type 0} (F : Format A) (old new : List ℕ) (x : A) : Type 0 where
+-- The buffer keeps its bytes, and has gained bytes of which this is so.
+pub record Appends (So : List ℕ → Type 0) (old new : List ℕ) : Type 0 where
   pub bytes : List ℕ
-  pub spells : Spells F bytes x
+  pub is_so : So bytes
   pub is : new ≡ old ++ bytes

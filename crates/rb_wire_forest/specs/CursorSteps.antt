@@ -4,6 +4,7 @@ use Rattle.rb_trees.specs.declared.values.Value.{Value}
 use Rattle.rb_trees.specs.declared.forests.NodeFault.{NodeFault}
 use Rattle.rb_trees.specs.mirror.Forests as forest
 use Rattle.rb_trees.specs.mirror.Forests.{Node, Holds, NoEntries, MoreEntries, Nodes, NoNodes, MoreNodes}
+use Rattle.rb_meaning_bytes.specs.Fits.{last_turn_ends_early}
 use Rattle.rb_meaning_bytes.specs.formats.ForestBytes.{count_nodes}
 use Rattle.rb_wire_forest.specs.Opens.{Open, AtNode, AtRows}
 
@@ -31,6 +32,11 @@ next_turn _ = None
 abbrev pub next_fault : List Open → Option NodeFault
 next_fault (AtNode (Holds NoEntries f) ∷ os) = f
 next_fault _ = None
+
+-- whether a fault ends the last node of the innermost Rows
+abbrev pub ends_early : List Open → Bool
+ends_early (AtRows ns ∷ os) = last_turn_ends_early ns
+ends_early _ = false
 
 -- whether the innermost node has an entry left
 abbrev pub has_entry : List Open → Bool

@@ -9,7 +9,7 @@ use Rattle.rb_trees.specs.Outcome.{◌>>=◌}
 use Rattle.rb_meaning_bytes.specs.Fits.{Walk, step_of, begun, raised, with_spare, leaves, row_read, parts_read}
 use Rattle.rb_meaning_bytes.specs.formats.ForestBytes.{count_nodes}
 use Rattle.rb_wire_forest.specs.Opens.{Open, AtNode, AtRows}
-use Rattle.rb_wire_forest.specs.Walks.{loop_read}
+use Rattle.rb_wire_forest.specs.Walks.{loop_read, list_read}
 use Rattle.rb_wire_forest.specs.declared.forest_walk.Progress.{Progress}
 
 -- the walk of a node of which these entries are left, and which has this fault
@@ -32,6 +32,10 @@ Spares old new = (es : Entries) (f : Option NodeFault) → walk_of new es f ≡ 
 abbrev pub InNode : List Open → (Entries → Option NodeFault → Type 0) → Type 0
 InNode now So = (es : Entries) (f : Option NodeFault) (around : List Open) → now ≡ AtNode (Holds es f) ∷ around → So es f
 
+-- Where the innermost is a Rows of a node, this is so of its nodes, and of the entries that are left of the node and its fault.
+abbrev pub InRows : List Open → (Nodes → Entries → Option NodeFault → Type 0) → Type 0
+InRows now So = (ns : Nodes) (es : Entries) (f : Option NodeFault) (around : List Open) → now ≡ AtRows ns ∷ AtNode (Holds es f) ∷ around → So ns es f
+
 -- What the definition reads was read: the walk goes on in the same node, or a step doesn't fit.
 abbrev pub Reaches : Result Walk ℕ → Option NodeFault → List Open → Result Progress ℕ → List Open → Type 0
 Reaches meant f around (Ok p) new = (es : Entries) × (new ≡ AtNode (Holds es f) ∷ around) × (meant ≡ Ok (walk_of p es f))
@@ -52,22 +56,29 @@ Closes meant around (Ok p) new = (meant ≡ Ok p) × (new ≡ around)
 Closes meant around (Err step) new = meant ≡ Err step
 
 -- The parts were read in the innermost node, which is closed.
-abbrev pub ReadsNode : List part.Part → List Open → (inner outer : Progress) → Result Progress ℕ → List Open → Type 0
-ReadsNode parts old inner outer result new =
+abbrev pub ReadsNode : List ℕ → List part.Part → List Open → (inner outer : Progress) → Result Progress ℕ → List Open → Type 0
+ReadsNode lengths parts old inner outer result new =
     (es : Entries) (f : Option NodeFault) (o : Open) (os : List Open) → old ≡ AtNode (Holds es f) ∷ o ∷ os
-    → Closes (parts_read (mirror_parts parts) (walk_of inner es f) >>= λ w. Ok (after_node outer w)) (o ∷ os) result new
+    → Closes (parts_read lengths (mirror_parts parts) (walk_of inner es f) >>= λ w. Ok (after_node outer w)) (o ∷ os) result new
 
 -- a turn in this node: the row where rows are kept, and the parts
-abbrev pub turn_read : (step kind : ℕ) → List part.Part → Node → Progress → Result Progress ℕ
-turn_read step kind body n from = row_read step kind (begun n from.spare) >>= λ row. parts_read (mirror_parts body) row >>= λ w. Ok (after_node from w)
+abbrev pub turn_read : List ℕ → (step kind : ℕ) → List part.Part → Node → Progress → Result Progress ℕ
+turn_read lengths step kind body n from =
+    row_read step kind (begun n from.spare) >>= λ row. parts_read lengths (mirror_parts body) row >>= λ w. Ok (after_node from w)
 
 -- The next turn of the innermost Rows was read.
-abbrev pub ReadsTurn : (step kind : ℕ) → List part.Part → List Open → Progress → Result Progress ℕ → List Open → Type 0
-ReadsTurn step kind body old from result new =
-    (n : Node) (ns : Nodes) (os : List Open) → old ≡ AtRows (MoreNodes n ns) ∷ os → Closes (turn_read step kind body n from) (AtRows ns ∷ os) result new
+abbrev pub ReadsTurn : List ℕ → (step kind : ℕ) → List part.Part → List Open → Progress → Result Progress ℕ → List Open → Type 0
+ReadsTurn lengths step kind body old from result new =
+    (n : Node) (ns : Nodes) (os : List Open) → old ≡ AtRows (MoreNodes n ns) ∷ os → Closes (turn_read lengths step kind body n from) (AtRows ns ∷ os) result new
 
 -- The turns of the innermost Rows were read, and it is closed.
-abbrev pub ReadsTurns : (step kind : ℕ) → List part.Part → ℕ → List Open → Progress → Result Progress ℕ → List Open → Type 0
-ReadsTurns step kind body turns old from result new =
+abbrev pub ReadsTurns : List ℕ → (step kind : ℕ) → List part.Part → ℕ → List Open → Progress → Result Progress ℕ → List Open → Type 0
+ReadsTurns lengths step kind body turns old from result new =
     (ns : Nodes) (es : Entries) (f : Option NodeFault) (around : List Open) → count_nodes ns ≡ turns → old ≡ AtRows ns ∷ AtNode (Holds es f) ∷ around
-    → Reaches (loop_read step kind body ns (walk_of from es f)) f around result new
+    → Reaches (loop_read lengths step kind body ns (walk_of from es f)) f around result new
+
+-- The turns of the innermost Rows were read, which go over a list of so many items, and it is closed.
+abbrev pub ReadsList : List ℕ → (step items : ℕ) → List part.Part → ℕ → List Open → Progress → Result Progress ℕ → List Open → Type 0
+ReadsList lengths step items body turns old from result new =
+    (ns : Nodes) (es : Entries) (f : Option NodeFault) (around : List Open) → count_nodes ns ≡ turns → old ≡ AtRows ns ∷ AtNode (Holds es f) ∷ around
+    → Reaches (list_read lengths step items body ns (walk_of from es f)) f around result new

@@ -13,3 +13,8 @@ behind_all (Err e) = Err e
 abbrev pub is_read : {A : Type 0} → Result A Fault → Bool
 is_read (Ok x) = true
 is_read (Err e) = false
+
+-- .. and whether this is so of the value
+abbrev pub tested : {A : Type 0} → (A → Bool) → Read A → Read Bool
+tested test (Ok x) = Ok (test x.0, x.1)
+tested test (Err e) = Err e

@@ -3,6 +3,7 @@
 ghost use Rattle.std.specs.Prelude.{◌≡◌, ◌<◌, ◌≤◌, true, is_some, length};
 ghost use Rattle.rb_wire_forest.specs.Opens.{all_open, frames_from};
 
+use crate::early::turns_early;
 use crate::forest::Forest;
 use crate::frames::{Frame, MOST_NODES, root_frames};
 use crate::heads::{Head, LentFault, end, end_step, first_head};
@@ -50,7 +51,7 @@ impl<'a> Cursor<'a> {
     ghost use Rattle.rb_meaning_bytes.specs.Fits.{step_of};
     ghost use Rattle.rb_wire_fields.specs.Items.{value_seen};
     ghost use Rattle.rb_wire_forest.specs.Fronts.{end_seen};
-    ghost use Rattle.rb_wire_forest.specs.CursorSteps.{Takes, Moves, next_value, next_branch, next_rows, next_turn, next_fault, has_entry, closing, closed};
+    ghost use Rattle.rb_wire_forest.specs.CursorSteps.{Takes, Moves, next_value, next_branch, next_rows, next_turn, next_fault, has_entry, ends_early, closing, closed};
     ghost use Rattle.rb_wire_forest.specs.Opened.{opened};
 
     /// Takes the next entry of the innermost node, where that is a value. Else nothing changes.
@@ -188,6 +189,32 @@ impl<'a> Cursor<'a> {
             return None;
         }
         end_step(self.rest)
+    }
+
+    /// Whether a fault ends the last node of the innermost Rows.
+    pub(crate) fn ends_early(&self) -> bool
+        ensures { result ≡ ends_early (opened self.now) }
+    {
+        let top = self.frames[self.depth - 1];
+        let below = MOST_NODES - self.depth;
+        let Some(turns) = top.turns else {
+            return false;
+        };
+        match turns_early(below, turns, self.rest) {
+            Ok((early, _)) => early,
+            Err(_) => false,
+        }
+    }
+
+    /// The same walk, which goes on by itself.
+    pub(crate) fn copy(&self) -> Cursor<'a>
+        ensures { opened result ≡ opened self.now }
+    {
+        Cursor {
+            rest: self.rest,
+            frames: self.frames,
+            depth: self.depth,
+        }
     }
 
     /// Closes the innermost, where nothing of it is left and it isn't the root. Else nothing changes.

@@ -2,7 +2,7 @@
 
 ghost use Rattle.std.specs.Prelude.{◌≡◌, ◌++◌, OnOk, OnErr};
 ghost use Rattle.rb_trees.specs.mirror.Forests.{mirror_node};
-ghost use Rattle.rb_meaning_bytes.specs.formats.Forests.{forest_message};
+ghost use Rattle.rb_meaning_bytes.specs.formats.Payloads.{IsForestOf};
 ghost use Rattle.rb_meaning_bytes.specs.formats.ForestBytes.{forest_bytes, FormedForest};
 ghost use Rattle.rb_wire_fields.specs.Buffers.{Keeps};
 ghost use Rattle.rb_wire_forest.specs.Buffers.{Appends};
@@ -29,7 +29,7 @@ fn put_forest(root: &Node, into: &mut BytesMut) -> Result<(), Memory>
 #[tactic(auto, using(rb_wire_fields::proofs::Kept::kept, crate::proofs::Appended::appends))]
 pub fn encode_forest(root: &Node, into: &mut BytesMut) -> Result<(), Memory>
     requires { FormedForest (mirror_node root.now) }
-    ensures ok { OnOk result (Appends forest_message into.old.items into.new.items (mirror_node root.now)) }
+    ensures ok { OnOk result (Appends (λ bytes. IsForestOf bytes (mirror_node root.now)) into.old.items into.new.items) }
     ensures err { OnErr result (into.new.items ≡ into.old.items) }
 {
     let len = into.len();

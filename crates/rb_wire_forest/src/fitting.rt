@@ -5,12 +5,13 @@ ghost use Rattle.rb_trees.specs.Outcome.{Gives};
 ghost use Rattle.rb_trees.specs.mirror.Forests.{mirror_node};
 ghost use Rattle.rb_trees.specs.mirror.Remainders.{mirror_part, mirror_parts};
 ghost use Rattle.rb_meaning_bytes.specs.Fits as meaning;
-ghost use Rattle.rb_wire_forest.specs.Walks.{seen, step_told, turns_walked};
+ghost use Rattle.rb_wire_forest.specs.Walks.{seen, step_told, turns_walked, list_walked};
 ghost use Rattle.rb_wire_forest.specs.Misfits.{nothing, unfit};
 
+use crate::turns::{is_counted, length_of};
 use crate::walk::{
-    Walk, begin, behind, first_branch, first_rows, go, leaves, miss, pass, read_row, read_value,
-    read_values,
+    Walk, begin, behind, faults_at, first_branch, first_rows, go, leaves, miss, pass, read_row,
+    read_value, read_values,
 };
 use rb_trees::{Node, Part, Seq};
 
@@ -25,11 +26,14 @@ pub enum Misfit {
     Extra,
 }
 
+/// The kind of what is no row.
+pub(crate) const NO_KIND: u8 = 0;
+
 /// The walk behind a part, or the step that doesn't fit.
 #[cycle(parts)]
 #[tactic(auto, using(crate::proofs::Walked::parts))]
-fn read_part<'a>(part: &Part, walk: &Walk<'a>) -> Result<Walk<'a>, u32>
-    ensures { Gives seen step_told result (meaning.part_read (mirror_part part.now) (seen walk.now)) }
+fn read_part<'a>(part: &Part, walk: &Walk<'a>, lengths: &[u32]) -> Result<Walk<'a>, u32>
+    ensures { Gives seen step_told result (meaning.part_read lengths.now (mirror_part part.now) (seen walk.now)) }
 {
     match part {
         Part::Plain(_, takes) => read_values(walk, takes.as_slice()),
@@ -38,11 +42,11 @@ fn read_part<'a>(part: &Part, walk: &Walk<'a>) -> Result<Walk<'a>, u32>
         Part::Both { step, .. } => Ok(pass(walk, *step)),
         Part::Branch { step, yes, no } => match first_branch(walk.left) {
             Some((true, node, rest)) => {
-                let inner = read_parts(yes.as_slice(), &begin(node, walk.spare))?;
+                let inner = read_parts(yes.as_slice(), &begin(node, walk.spare), lengths)?;
                 Ok(behind(walk, rest, &inner))
             }
             Some((false, node, rest)) => {
-                let inner = read_parts(no.as_slice(), &begin(node, walk.spare))?;
+                let inner = read_parts(no.as_slice(), &begin(node, walk.spare), lengths)?;
                 Ok(behind(walk, rest, &inner))
             }
             None => miss(walk, *step),
@@ -59,6 +63,23 @@ fn read_part<'a>(part: &Part, walk: &Walk<'a>) -> Result<Walk<'a>, u32>
                 *kind,
                 turns,
                 &go(walk, rest),
+                lengths,
+            ),
+            None => miss(walk, *step),
+        },
+        Part::Over {
+            step,
+            input,
+            body,
+            ..
+        } => match first_rows(walk.left) {
+            Some((turns, rest)) => read_list(
+                body.as_slice(),
+                *step,
+                length_of(lengths, *input),
+                turns,
+                &go(walk, rest),
+                lengths,
             ),
             None => miss(walk, *step),
         },
@@ -67,15 +88,15 @@ fn read_part<'a>(part: &Part, walk: &Walk<'a>) -> Result<Walk<'a>, u32>
 
 /// The walk behind parts in order, up to a fault.
 #[cycle(parts)]
-fn read_parts<'a>(parts: &[Part], from: &Walk<'a>) -> Result<Walk<'a>, u32>
-    ensures { Gives seen step_told result (meaning.parts_read (mirror_parts parts.now) (seen from.now)) }
+fn read_parts<'a>(parts: &[Part], from: &Walk<'a>, lengths: &[u32]) -> Result<Walk<'a>, u32>
+    ensures { Gives seen step_told result (meaning.parts_read lengths.now (mirror_parts parts.now) (seen from.now)) }
 {
     let mut walk = *from;
     for part in parts {
         if walk.stopped {
             return Ok(walk);
         }
-        walk = read_part(part, &walk)?;
+        walk = read_part(part, &walk, lengths)?;
     }
     Ok(walk)
 }
@@ -88,8 +109,9 @@ fn read_turns<'a>(
     kind: u8,
     turns: &'a [Node],
     from: &Walk<'a>,
+    lengths: &[u32],
 ) -> Result<Walk<'a>, u32>
-    ensures { Gives seen step_told result (turns_walked step kind body.now turns.now (seen from.now)) }
+    ensures { Gives seen step_told result (turns_walked lengths.now step kind body.now turns.now (seen from.now)) }
 {
     let mut walk = *from;
     for turn in turns {
@@ -97,10 +119,29 @@ fn read_turns<'a>(
             return Ok(spare(&walk));
         }
         let row = read_row(&begin(turn, walk.spare), step, kind)?;
-        let inner = read_parts(body, &row)?;
+        let inner = read_parts(body, &row, lengths)?;
         walk = behind(&walk, walk.left, &inner);
     }
     Ok(end_turns(&walk, step))
+}
+
+/// The walk behind a loop over a list of so many items, with this body and these turns.
+#[cycle(parts)]
+fn read_list<'a>(
+    body: &[Part],
+    step: u32,
+    items: u32,
+    turns: &'a [Node],
+    from: &Walk<'a>,
+    lengths: &[u32],
+) -> Result<Walk<'a>, u32>
+    ensures { Gives seen step_told result (list_walked lengths.now step items body.now turns.now (seen from.now)) }
+{
+    if is_counted(items, turns, faults_at(from, step)) {
+        read_turns(body, step, NO_KIND, turns, from, lengths)
+    } else {
+        Err(step)
+    }
 }
 
 /// The walk where something is left over.
@@ -127,12 +168,13 @@ fn end_turns<'a>(walk: &Walk<'a>, step: u32) -> Walk<'a>
 }
 
 /// Whether a node fits a remainder: whether replay will find in it what each step demands, or a fault
-/// in its place, and nothing besides. It takes no memory.
+/// in its place, and nothing besides; and whether it has as many turns over a list as that has items, of which `lengths` tells
+/// by the input's number. It takes no memory.
 #[tactic(auto, unfolding(rb_meaning_bytes::specs::Fits::fits))]
-pub fn fits(node: &Node, remainder: &Seq<Part>) -> Result<(), Misfit>
-    ensures { Gives nothing unfit result (meaning.fits (mirror_node node.now) (mirror_parts remainder.now)) }
+pub fn fits(node: &Node, remainder: &Seq<Part>, lengths: &[u32]) -> Result<(), Misfit>
+    ensures { Gives nothing unfit result (meaning.fits (mirror_node node.now) (mirror_parts remainder.now) lengths.now) }
 {
-    match read_parts(remainder.as_slice(), &begin(node, false)) {
+    match read_parts(remainder.as_slice(), &begin(node, false), lengths) {
         Ok(walk) => {
             if leaves(&walk) {
                 Err(Misfit::Extra)

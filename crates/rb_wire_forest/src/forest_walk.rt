@@ -61,7 +61,7 @@ pub(crate) fn leaves(cursor: &Cursor<'_>, end: Progress) -> bool
 }
 
 /// Whether the node's fault is at the step, with no entry left before it.
-fn faults_at(cursor: &Cursor<'_>, from: Progress, step: u32) -> bool
+pub(crate) fn faults_at(cursor: &Cursor<'_>, from: Progress, step: u32) -> bool
     ensures { InNode (opened cursor.now) (λ es f. result ≡ meaning.faults_at step (walk_of from es f)) }
 {
     if from.raised {

@@ -9,6 +9,7 @@
 
 mod cursor;
 mod decoding;
+mod early;
 mod encoding;
 mod fitting;
 mod forest;
@@ -20,6 +21,7 @@ mod nodes;
 mod refusals;
 mod scan;
 mod skips;
+mod turns;
 mod walk;
 mod writing;
 

@@ -1,8 +1,8 @@
 // Refusals as bytes, both ways.
 
 ghost use Rattle.std.specs.Prelude.{◌≡◌, ◌++◌, ℕ, true, IfSome, OnOk, OnErr};
-ghost use Rattle.rb_meaning_bytes.specs.formats.Formats.{Spells};
-ghost use Rattle.rb_meaning_bytes.specs.formats.Refusals.{is_refusal_number, refusal_message};
+ghost use Rattle.rb_meaning_bytes.specs.formats.Payloads.{IsRefusalOf};
+ghost use Rattle.rb_meaning_bytes.specs.formats.Refusals.{is_refusal_number};
 ghost use Rattle.rb_meaning_bytes.specs.formats.ForestBytes.{refusal_bytes};
 ghost use Rattle.rb_wire_fields.specs.Buffers.{Keeps};
 ghost use Rattle.rb_wire_forest.specs.Buffers.{Appends};
@@ -13,7 +13,7 @@ use rb_wire_fields::puts::put_number;
 
 #[tactic(auto, using(rb_wire_fields::proofs::Kept::kept))]
 fn put_refusal(number: u8, at: u32, into: &mut BytesMut) -> Result<(), Memory>
-    ensures ok { OnOk result (into.new.items ≡ into.old.items ++ refusal_bytes (number, at)) }
+    ensures ok { OnOk result (into.new.items ≡ into.old.items ++ refusal_bytes (record { number = number; at = at })) }
     ensures err { OnErr result (Keeps into.old.items into.new.items) }
 {
     into.put_u8(0x01)?;
@@ -27,7 +27,7 @@ fn put_refusal(number: u8, at: u32, into: &mut BytesMut) -> Result<(), Memory>
 #[tactic(auto, using(rb_wire_fields::proofs::Kept::kept, crate::proofs::Appended::appends_refusal))]
 pub fn encode_refusal(number: u8, at: u32, into: &mut BytesMut) -> Result<(), Memory>
     requires { is_refusal_number number ≡ true }
-    ensures ok { OnOk result (Appends refusal_message into.old.items into.new.items (number, at)) }
+    ensures ok { OnOk result (Appends (λ bytes. IsRefusalOf bytes number at) into.old.items into.new.items) }
     ensures err { OnErr result (into.new.items ≡ into.old.items) }
 {
     let len = into.len();
@@ -49,8 +49,8 @@ fn is_refusal(number: u8) -> bool
 
 /// The number and the place of the refusal that a payload spells, or None where it spells none.
 pub fn decode_refusal(payload: &[u8]) -> Option<(u8, u32)>
-    ensures told { IfSome result (λ x. Spells refusal_message payload.now x) }
-    ensures only { (x : ℕ × ℕ) → Spells refusal_message payload.now x → result ≡ Some x }
+    ensures told { IfSome result (λ x. IsRefusalOf payload.now x.0 x.1) }
+    ensures only { (number : ℕ) (at : ℕ) → IsRefusalOf payload.now number at → result ≡ Some (number, at) }
 {
     if payload.len() != 6 {
         return None;

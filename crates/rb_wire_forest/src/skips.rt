@@ -49,7 +49,7 @@ pub fn skip_left(left: usize, count: u32, bytes: &[u8]) -> Result<&[u8], Violati
 #[cycle(skips)]
 #[tactic(auto, using(crate::proofs::Skipped::loops))]
 #[inline(always)]
-fn skip_entries(left: usize, count: u32, bytes: &[u8]) -> Result<&[u8], Violation>
+pub fn skip_entries(left: usize, count: u32, bytes: &[u8]) -> Result<&[u8], Violation>
     requires { left < 2 ^ 32 }
     ensures { Gives (λ x. x.now) told result (behind (read (times count (format.entry (format.node left))) bytes.now)) }
 {

@@ -81,7 +81,7 @@ pub(crate) fn go<'a>(walk: &Walk<'a>, left: &'a [Entry]) -> Walk<'a>
 }
 
 /// Whether the node's fault is at the step, with no entry left before it.
-fn faults_at(walk: &Walk, step: u32) -> bool
+pub(crate) fn faults_at(walk: &Walk, step: u32) -> bool
     ensures { result ≡ meaning.faults_at step (seen walk.now) }
 {
     if are_left(walk.left) {

@@ -11,8 +11,9 @@ use Rattle.rb_trees.specs.Validity.{verdict}
 use Rattle.rb_meaning_bytes.specs.formats.Fields.{IsBytes}
 use Rattle.rb_meaning_bytes.specs.formats.Formats.{Spells}
 use Rattle.rb_meaning_bytes.specs.formats.Scripts.{script_message}
-use Rattle.rb_meaning_bytes.specs.formats.FormedScripts.{FormedScript, AreInputs}
-use Rattle.rb_meaning_bytes.specs.formats.ScriptPayloads.{Sent, Refused, refused, Means, taken, violated, not_valid}
+use Rattle.rb_meaning_bytes.specs.formats.FormedScripts.{FormedScript, IsWithoutLists, AreInputs}
+use Rattle.rb_meaning_bytes.specs.formats.Messages.{Sent, Refused}
+use Rattle.rb_meaning_bytes.specs.formats.ScriptPayloads.{refused, Means, taken, violated, not_valid}
 use Rattle.rb_meaning_bytes.specs.formats.Reading.{read_all}
 use Rattle.rb_meaning_bytes.proofs.formats.Exact.{all_refused, left_within}
 use Rattle.rb_meaning_bytes.proofs.formats.OnlyScripts.{script_only}
@@ -21,26 +22,26 @@ use Rattle.rb_wire_script.specs.declared.decoding.ScriptStop.{ScriptStop}
 use Rattle.rb_wire_script.specs.Stops.{refusal_of, seen}
 
 -- A script that was read is valid, or is refused so.
-pub accepted : (payload : List ℕ) (x : Sent) → Spells script_message payload x → refused_as refused (verdict x.0) ≡ Ok tt → Means payload (Ok x)
-accepted payload x s h = go (verdict x.0) refl h
+pub accepted : (payload : List ℕ) (x : Sent) → Spells script_message payload x → refused_as refused (verdict x.script) ≡ Ok tt → Means payload (Ok x)
+accepted payload x s h = go (verdict x.script) refl h
   where
-    go : (v : Result (Unit {0}) ScriptRefusal) → verdict x.0 ≡ v → refused_as refused v ≡ Ok tt → Means payload (Ok x)
+    go : (v : Result (Unit {0}) ScriptRefusal) → verdict x.script ≡ v → refused_as refused v ≡ Ok tt → Means payload (Ok x)
     go (Ok u) i k = taken x s i
     go (Err r) i k = absurd cc
 
-pub denied : (payload : List ℕ) (x : Sent) (told : Option Refused) → Spells script_message payload x → Refuses told (refused_as refused (verdict x.0)) → outcome.Refused (Means payload) told
+pub denied : (payload : List ℕ) (x : Sent) (told : Option Refused) → Spells script_message payload x → Refuses told (refused_as refused (verdict x.script)) → outcome.Refused (Means payload) told
 denied payload x None s h = tt
-denied payload x (Some d) s h = go (verdict x.0) refl h
+denied payload x (Some d) s h = go (verdict x.script) refl h
   where
-    go : (v : Result (Unit {0}) ScriptRefusal) → verdict x.0 ≡ v → refused_as refused v ≡ Err d → Means payload (Err d)
+    go : (v : Result (Unit {0}) ScriptRefusal) → verdict x.script ≡ v → refused_as refused v ≡ Err d → Means payload (Err d)
     go (Ok u) i k = absurd cc
     go (Err r) i k = let e : refused r ≡ d = cc in subst (λ z. Means payload (Err z)) e (not_valid x r s i)
 
-abbrev place : ℕ → ℕ → Refused
-place number at = (number, at)
+abbrev pub place : ℕ → ℕ → Refused
+place number at = record { number = number; at = at }
 
 -- A payload that reading stops in is violated there.
-pub violated_at : (payload : List ℕ) (number left : ℕ) → IsBytes payload → read_all script_message payload ≡ Err (number, left) → Means payload (Err (number, length payload - left))
+pub violated_at : (payload : List ℕ) (number left : ℕ) → IsBytes payload → read_all script_message payload ≡ Err (number, left) → Means payload (Err (place number (length payload - left)))
 violated_at payload number left b h =
     let l = left_within script_message payload number left b h in
     violated (place number (length payload - left)) (all_refused script_message payload number left (length payload - left) b h (omega arith))
@@ -56,12 +57,16 @@ told_alone payload (Err e) b told meant m = go (refusal_of e) told
     go (Some d) told = means_once payload meant (Err d) b m told
 
 -- What is taken spells a valid script.
-taken_of : (payload : List ℕ) (x : Sent) → Means payload (Ok x) → Spells script_message payload x × (verdict x.0 ≡ Ok tt)
+taken_of : (payload : List ℕ) (x : Sent) → Means payload (Ok x) → Spells script_message payload x × (verdict x.script ≡ Ok tt)
 taken_of payload _ (taken x s e) = (s, e)
 
 pub told_formed : (payload : List ℕ) (result : Result (script.Script × List Value) ScriptStop) → Tells seen refusal_of result (Means payload) → IfOk result (λ x. FormedScript (mirror_script x.0))
 told_formed payload (Ok x) told = (script_only.made payload (seen x) (taken_of payload (seen x) told).0).fits.formed
 told_formed payload (Err e) told = tt
+
+pub told_plain : (payload : List ℕ) (result : Result (script.Script × List Value) ScriptStop) → Tells seen refusal_of result (Means payload) → IfOk result (λ x. IsWithoutLists (mirror_script x.0))
+told_plain payload (Ok x) told = (script_only.made payload (seen x) (taken_of payload (seen x) told).0).fits.plain
+told_plain payload (Err e) told = tt
 
 pub told_inputs : (payload : List ℕ) (result : Result (script.Script × List Value) ScriptStop) → Tells seen refusal_of result (Means payload) → IfOk result (λ x. AreInputs (mirror_script x.0) x.1)
 told_inputs payload (Ok x) told = (script_only.made payload (seen x) (taken_of payload (seen x) told).0).fits.values

@@ -3,7 +3,7 @@ use Rattle.std.specs.Prelude.{List, Option, None, Some}
 use Rattle.rb_trees.specs.declared.values.Value.{Value}
 use Rattle.rb_trees.specs.declared.scripts.Script as script
 use Rattle.rb_trees.specs.mirror.Scripts.{mirror_script}
-use Rattle.rb_meaning_bytes.specs.formats.ScriptPayloads.{Sent, Refused}
+use Rattle.rb_meaning_bytes.specs.formats.Messages.{Sent, Refused}
 use Rattle.rb_trees.specs.declared.validity.ScriptRefusal.{ScriptRefusal}
 use Rattle.rb_wire_script.specs.declared.checking.RuleStop.{RuleStop}
 use Rattle.rb_wire_script.specs.declared.checking.RuleStop.TheVariants as rules
@@ -12,7 +12,7 @@ use Rattle.rb_wire_script.specs.declared.decoding.ScriptStop.TheVariants as answ
 
 -- A refusal, by its place in the payload.
 abbrev pub refusal_of : ScriptStop → Option Refused
-refusal_of (answers.Refused number at) = Some (number, at)
+refusal_of (answers.Refused number at) = Some (record { number = number; at = at })
 refusal_of answers.Memory = None
 
 -- A refusal of the script's rules.
@@ -22,4 +22,4 @@ rule_of rules.Memory = None
 
 -- a script with its values in the mirror
 abbrev pub seen : script.Script × List Value → Sent
-seen x = (mirror_script x.0, x.1)
+seen x = record { script = mirror_script x.0; values = x.1 }

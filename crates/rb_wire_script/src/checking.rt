@@ -4,7 +4,7 @@
 ghost use Rattle.std.specs.Prelude.{◌≡◌, [], ◌∷◌, ◌<◌, ◌++◌, false, OnOk};
 ghost use Rattle.rb_trees.specs.Outcome.{Gives};
 ghost use Rattle.rb_trees.specs.mirror.Scripts.{mirror_sexpr, mirror_sexprs, mirror_step, mirror_steps, mirror_script};
-ghost use Rattle.rb_trees.specs.Validity.{has, first, nested_blocks, expr_refusals, exprs_refusals, whole_refusals, step_numbers, steps_numbers, step_lets, steps_lets, step_refusals, steps_refusals, verdict};
+ghost use Rattle.rb_trees.specs.Validity.{has, first, inputs_of, input_refusals, list_refusals, nested_blocks, expr_refusals, exprs_refusals, whole_refusals, step_numbers, steps_numbers, step_lets, steps_lets, step_refusals, steps_refusals, verdict};
 ghost use Rattle.rb_wire_script.specs.Stops.{rule_of};
 
 use crate::numbers::Numbers;
@@ -42,30 +42,62 @@ impl From<ScriptRefusal> for RuleStop {
     }
 }
 
+/// Whether one of the inputs that are lists has this number.
+fn is_list(script: &Script, number: u8) -> bool
+    ensures { result ≡ has number script.now.lists }
+{
+    for list in script.lists.as_slice() {
+        if number == *list {
+            return true;
+        }
+    }
+    false
+}
+
+/// An input that an expression of a step has.
+fn check_input(number: u8, script: &Script, step: u32) -> Result<(), ScriptRefusal>
+    ensures { result ≡ first (input_refusals (inputs_of (mirror_script script.now)) step number) }
+{
+    if number >= script.inputs {
+        Err(ScriptRefusal::UnknownInput(step))
+    } else if is_list(script, number) {
+        Err(ScriptRefusal::WrongInput(step))
+    } else {
+        Ok(())
+    }
+}
+
+/// The input that an Over of this number goes through.
+fn check_list(number: u8, script: &Script, step: u32) -> Result<(), ScriptRefusal>
+    ensures { result ≡ first (list_refusals (inputs_of (mirror_script script.now)) step number) }
+{
+    if number >= script.inputs {
+        Err(ScriptRefusal::UnknownInput(step))
+    } else if is_list(script, number) {
+        Ok(())
+    } else {
+        Err(ScriptRefusal::WrongInput(step))
+    }
+}
+
 /// An expression that stands within so many, itself among them.
 #[cycle(check_exprs)]
 #[tactic(auto, using(rb_trees::proofs::rules::Refusals::exprs))]
 fn check_expr(
     expr: &SExpr,
-    inputs: u8,
+    script: &Script,
     bound: &Numbers,
     step: u32,
     depth: u32,
 ) -> Result<(), ScriptRefusal>
-    ensures { result ≡ first (expr_refusals inputs bound.now step depth (mirror_sexpr expr.now)) }
+    ensures { result ≡ first (expr_refusals (inputs_of (mirror_script script.now)) bound.now step depth (mirror_sexpr expr.now)) }
 {
     if depth > MOST_EXPRS {
         return Err(ScriptRefusal::TooDeep(step));
     }
     match expr {
         SExpr::Lit(_) | SExpr::Root => Ok(()),
-        SExpr::Input(number) => {
-            if *number < inputs {
-                Ok(())
-            } else {
-                Err(ScriptRefusal::UnknownInput(step))
-            }
-        }
+        SExpr::Input(number) => check_input(*number, script, step),
         SExpr::Var(var) => {
             if bound.has(*var) {
                 Ok(())
@@ -73,16 +105,16 @@ fn check_expr(
                 Err(ScriptRefusal::UnknownVariable(step))
             }
         }
-        SExpr::Unary(_, _, operand) => check_expr(operand.get(), inputs, bound, step, depth + 1),
+        SExpr::Unary(_, _, operand) => check_expr(operand.get(), script, bound, step, depth + 1),
         SExpr::Binary(_, _, operands) => {
             let Operands { left, right } = operands.get();
-            check_expr(left, inputs, bound, step, depth + 1)?;
-            check_expr(right, inputs, bound, step, depth + 1)
+            check_expr(left, script, bound, step, depth + 1)?;
+            check_expr(right, script, bound, step, depth + 1)
         }
         SExpr::Call { call, .. } => {
             let Invocation { target, args, .. } = call.get();
-            check_expr(target, inputs, bound, step, depth + 1)?;
-            check_exprs(args.as_slice(), inputs, bound, step, depth + 1)
+            check_expr(target, script, bound, step, depth + 1)?;
+            check_exprs(args.as_slice(), script, bound, step, depth + 1)
         }
     }
 }
@@ -91,25 +123,30 @@ fn check_expr(
 #[tactic(auto, using(rb_trees::proofs::rules::Refusals::exprs))]
 fn check_exprs(
     exprs: &[SExpr],
-    inputs: u8,
+    script: &Script,
     bound: &Numbers,
     step: u32,
     depth: u32,
 ) -> Result<(), ScriptRefusal>
-    ensures { result ≡ first (exprs_refusals inputs bound.now step depth (mirror_sexprs exprs.now)) }
+    ensures { result ≡ first (exprs_refusals (inputs_of (mirror_script script.now)) bound.now step depth (mirror_sexprs exprs.now)) }
 {
     for expr in exprs {
-        check_expr(expr, inputs, bound, step, depth)?;
+        check_expr(expr, script, bound, step, depth)?;
     }
     Ok(())
 }
 
 /// An expression that stands in a step.
 #[tactic(auto, unfolding(rb_trees::specs::Validity::whole_refusals))]
-fn check_whole(expr: &SExpr, inputs: u8, bound: &Numbers, step: u32) -> Result<(), ScriptRefusal>
-    ensures { result ≡ first (whole_refusals inputs bound.now step (mirror_sexpr expr.now)) }
+fn check_whole(
+    expr: &SExpr,
+    script: &Script,
+    bound: &Numbers,
+    step: u32,
+) -> Result<(), ScriptRefusal>
+    ensures { result ≡ first (whole_refusals (inputs_of (mirror_script script.now)) bound.now step (mirror_sexpr expr.now)) }
 {
-    check_expr(expr, inputs, bound, step, 1)
+    check_expr(expr, script, bound, step, 1)
 }
 
 /// Whether a step in the so-manieth block may have blocks.
@@ -129,17 +166,17 @@ fn check_depth(step: u32, depth: u32) -> Result<(), ScriptRefusal>
 #[tactic(auto, using(crate::proofs::Rules::steps))]
 fn check_steps(
     steps: &[Step],
-    inputs: u8,
+    script: &Script,
     depth: u32,
     seen: &mut Numbers,
     bound: &mut Numbers,
 ) -> Result<(), RuleStop>
-    ensures gives { Gives (λ x. x) rule_of result (first (steps_refusals inputs depth seen.old bound.old (mirror_steps steps.now))) }
+    ensures gives { Gives (λ x. x) rule_of result (first (steps_refusals (inputs_of (mirror_script script.now)) depth seen.old bound.old (mirror_steps steps.now))) }
     ensures seen { OnOk result (seen.new ≡ seen.old ++ steps_numbers (mirror_steps steps.now)) }
     ensures bound { OnOk result (bound.new ≡ bound.old ++ steps_lets (mirror_steps steps.now)) }
 {
     for step in steps {
-        check_step(step, inputs, depth, seen, bound)?;
+        check_step(step, script, depth, seen, bound)?;
     }
     Ok(())
 }
@@ -149,39 +186,39 @@ fn check_steps(
 #[tactic(auto, using(crate::proofs::Rules::steps))]
 fn check_block(
     steps: &[Step],
-    inputs: u8,
+    script: &Script,
     depth: u32,
     seen: &mut Numbers,
     bound: &mut Numbers,
 ) -> Result<(), RuleStop>
-    ensures gives { Gives (λ x. x) rule_of result (first (steps_refusals inputs depth seen.old bound.old (mirror_steps steps.now))) }
+    ensures gives { Gives (λ x. x) rule_of result (first (steps_refusals (inputs_of (mirror_script script.now)) depth seen.old bound.old (mirror_steps steps.now))) }
     ensures seen { OnOk result (seen.new ≡ seen.old ++ steps_numbers (mirror_steps steps.now)) }
     ensures bound { OnOk result (bound.new ≡ bound.old) }
 {
     let outer = bound.len();
-    check_steps(steps, inputs, depth, seen, bound)?;
+    check_steps(steps, script, depth, seen, bound)?;
     bound.truncate(outer);
     Ok(())
 }
 
-/// A block whose rows are bound to a variable.
+/// A block whose rows or items are bound to a variable.
 #[cycle(check_steps)]
 #[tactic(auto, using(crate::proofs::Rules::steps))]
 fn check_turns(
     var: u32,
     steps: &[Step],
-    inputs: u8,
+    script: &Script,
     depth: u32,
     seen: &mut Numbers,
     bound: &mut Numbers,
 ) -> Result<(), RuleStop>
-    ensures gives { Gives (λ x. x) rule_of result (first (steps_refusals inputs depth seen.old (bound.old ++ var ∷ []) (mirror_steps steps.now))) }
+    ensures gives { Gives (λ x. x) rule_of result (first (steps_refusals (inputs_of (mirror_script script.now)) depth seen.old (bound.old ++ var ∷ []) (mirror_steps steps.now))) }
     ensures seen { OnOk result (seen.new ≡ seen.old ++ steps_numbers (mirror_steps steps.now)) }
     ensures bound { OnOk result (bound.new ≡ bound.old) }
 {
     let outer = bound.len();
     bound.push(var)?;
-    check_steps(steps, inputs, depth, seen, bound)?;
+    check_steps(steps, script, depth, seen, bound)?;
     bound.truncate(outer);
     Ok(())
 }
@@ -190,19 +227,19 @@ fn check_turns(
 #[tactic(auto, using(crate::proofs::Rules::steps))]
 fn check_step(
     step: &Step,
-    inputs: u8,
+    script: &Script,
     depth: u32,
     seen: &mut Numbers,
     bound: &mut Numbers,
 ) -> Result<(), RuleStop>
-    ensures gives { Gives (λ x. x) rule_of result (first (step_refusals inputs depth seen.old bound.old (mirror_step step.now))) }
+    ensures gives { Gives (λ x. x) rule_of result (first (step_refusals (inputs_of (mirror_script script.now)) depth seen.old bound.old (mirror_step step.now))) }
     ensures seen { OnOk result (seen.new ≡ seen.old ++ step_numbers (mirror_step step.now)) }
     ensures bound { OnOk result (bound.new ≡ bound.old ++ step_lets (mirror_step step.now)) }
 {
     if seen.has(step.id) {
         return Err(RuleStop::Refused(ScriptRefusal::StepRepeated(step.id)));
     }
-    check_form(step, inputs, depth, seen, bound)
+    check_form(step, script, depth, seen, bound)
 }
 
 /// A step whose number is new.
@@ -210,32 +247,32 @@ fn check_step(
 #[tactic(auto, using(crate::proofs::Rules::steps))]
 fn check_form(
     step: &Step,
-    inputs: u8,
+    script: &Script,
     depth: u32,
     seen: &mut Numbers,
     bound: &mut Numbers,
 ) -> Result<(), RuleStop>
     requires { has step.now.id seen.old ≡ false }
-    ensures gives { Gives (λ x. x) rule_of result (first (step_refusals inputs depth seen.old bound.old (mirror_step step.now))) }
+    ensures gives { Gives (λ x. x) rule_of result (first (step_refusals (inputs_of (mirror_script script.now)) depth seen.old bound.old (mirror_step step.now))) }
     ensures seen { OnOk result (seen.new ≡ seen.old ++ step_numbers (mirror_step step.now)) }
     ensures bound { OnOk result (bound.new ≡ bound.old ++ step_lets (mirror_step step.now)) }
 {
     seen.push(step.id)?;
     match &step.form {
         StepForm::Do(expr) | StepForm::Keep(expr) => {
-            check_whole(expr, inputs, bound, step.id)?;
+            check_whole(expr, script, bound, step.id)?;
             Ok(())
         }
         StepForm::Let { var, value, .. } => {
-            check_whole(value, inputs, bound, step.id)?;
+            check_whole(value, script, bound, step.id)?;
             bound.push(*var)?;
             Ok(())
         }
         StepForm::If(condition, then_block, else_block) => {
             check_depth(step.id, depth)?;
-            check_whole(condition, inputs, bound, step.id)?;
-            check_block(then_block.as_slice(), inputs, depth + 1, seen, bound)?;
-            check_block(else_block.as_slice(), inputs, depth + 1, seen, bound)?;
+            check_whole(condition, script, bound, step.id)?;
+            check_block(then_block.as_slice(), script, depth + 1, seen, bound)?;
+            check_block(else_block.as_slice(), script, depth + 1, seen, bound)?;
             Ok(())
         }
         StepForm::Each {
@@ -245,8 +282,14 @@ fn check_form(
             ..
         } => {
             check_depth(step.id, depth)?;
-            check_whole(rows, inputs, bound, step.id)?;
-            check_turns(*var, body.as_slice(), inputs, depth + 1, seen, bound)?;
+            check_whole(rows, script, bound, step.id)?;
+            check_turns(*var, body.as_slice(), script, depth + 1, seen, bound)?;
+            Ok(())
+        }
+        StepForm::Over { var, input, body } => {
+            check_depth(step.id, depth)?;
+            check_list(*input, script, step.id)?;
+            check_turns(*var, body.as_slice(), script, depth + 1, seen, bound)?;
             Ok(())
         }
     }
@@ -258,11 +301,5 @@ pub(crate) fn check(alloc: Global, script: &Script) -> Result<(), RuleStop>
 {
     let mut seen = Numbers::new(alloc);
     let mut bound = Numbers::new(alloc);
-    check_steps(
-        script.body.as_slice(),
-        script.inputs,
-        1,
-        &mut seen,
-        &mut bound,
-    )
+    check_steps(script.body.as_slice(), script, 1, &mut seen, &mut bound)
 }

@@ -4,8 +4,9 @@ ghost use Rattle.std.specs.Prelude.{◌≡◌, ◌≤◌, ◌^◌, IfOk, Ok, Res
 ghost use Rattle.rb_trees.specs.mirror.Scripts.{mirror_script};
 ghost use Rattle.rb_trees.specs.Outcome.{Gives, Tells, refused_as};
 ghost use Rattle.rb_trees.specs.Validity.{verdict};
-ghost use Rattle.rb_meaning_bytes.specs.formats.ScriptPayloads.{Sent, Refused, Means, number_of, step_of, refused};
-ghost use Rattle.rb_meaning_bytes.specs.formats.FormedScripts.{FormedScript, AreInputs};
+ghost use Rattle.rb_meaning_bytes.specs.formats.Messages.{Sent, Refused};
+ghost use Rattle.rb_meaning_bytes.specs.formats.ScriptPayloads.{Means, number_of, step_of, refused};
+ghost use Rattle.rb_meaning_bytes.specs.formats.FormedScripts.{FormedScript, IsWithoutLists, AreInputs};
 ghost use Rattle.rb_wire_script.specs.Stops.{refusal_of, seen};
 
 use crate::checking::{RuleStop, check};
@@ -35,6 +36,7 @@ fn number_of(refusal: ScriptRefusal) -> u8
         ScriptRefusal::UnknownInput(_) => 12,
         ScriptRefusal::StepRepeated(_) => 13,
         ScriptRefusal::TooDeep(_) => 14,
+        ScriptRefusal::WrongInput(_) => 15,
     }
 }
 
@@ -46,7 +48,8 @@ fn step_of(refusal: ScriptRefusal) -> u32
         ScriptRefusal::UnknownVariable(step)
         | ScriptRefusal::UnknownInput(step)
         | ScriptRefusal::StepRepeated(step)
-        | ScriptRefusal::TooDeep(step) => step,
+        | ScriptRefusal::TooDeep(step)
+        | ScriptRefusal::WrongInput(step) => step,
     }
 }
 
@@ -91,6 +94,7 @@ pub fn decode_script(alloc: Global, payload: &[u8]) -> Result<(Script, Seq<Value
     ensures told { Tells seen refusal_of result (Means payload.now) }
     // A script that is answered may be run, and sent on.
     ensures formed { IfOk result (λ x. FormedScript (mirror_script x.0)) }
+    ensures plain { IfOk result (λ x. IsWithoutLists (mirror_script x.0)) }
     ensures inputs { IfOk result (λ x. AreInputs (mirror_script x.0) x.1) }
     ensures valid { IfOk result (λ x. verdict (mirror_script x.0) ≡ Ok tt) }
     // What the payload comes to is answered, unless memory runs out.

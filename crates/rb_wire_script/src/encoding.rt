@@ -3,10 +3,9 @@
 ghost use Rattle.std.specs.Prelude.{◌≡◌, ◌++◌, Ok, OnOk, OnErr};
 ghost use Rattle.rb_trees.specs.mirror.Scripts.{mirror_script};
 ghost use Rattle.rb_trees.specs.Validity.{verdict};
-ghost use Rattle.rb_meaning_bytes.specs.formats.Formats.{Spells};
-ghost use Rattle.rb_meaning_bytes.specs.formats.Scripts.{script_message};
+ghost use Rattle.rb_meaning_bytes.specs.formats.Payloads.{IsRequestOf};
 ghost use Rattle.rb_meaning_bytes.specs.formats.ScriptBytes.{script_bytes};
-ghost use Rattle.rb_meaning_bytes.specs.formats.FormedScripts.{FormedScript, AreInputs};
+ghost use Rattle.rb_meaning_bytes.specs.formats.FormedScripts.{FormedScript, IsWithoutLists, AreInputs};
 ghost use Rattle.rb_wire_fields.specs.Buffers.{Keeps};
 
 use crate::writing::put_block;
@@ -29,17 +28,18 @@ fn put_script(script: &Script, values: &[Value], into: &mut BytesMut) -> Result<
     Ok(())
 }
 
-/// Appends the spelling of a script with the values of its inputs: a valid script, and as many primitive values as it has
-/// inputs. After Memory `into` is unchanged. The format is that of `specs/formats/Scripts.antt` in rb_meaning_bytes.
+/// Appends the spelling of a script with the values of its inputs: a valid script without lists, and as many primitive
+/// values as it has inputs. After Memory `into` is unchanged. The format is that of `specs/formats/Scripts.antt` in rb_meaning_bytes.
 #[tactic(auto, using(rb_wire_fields::proofs::Kept::kept))]
 pub fn encode_script(script: &Script, values: &[Value], into: &mut BytesMut) -> Result<(), Memory>
     requires formed { FormedScript (mirror_script script.now) }
+    requires plain { IsWithoutLists (mirror_script script.now) }
     requires valid { verdict (mirror_script script.now) ≡ Ok tt }
     requires inputs { AreInputs (mirror_script script.now) values.now }
     ensures ok { OnOk result (into.new.items ≡ into.old.items ++ script_bytes (mirror_script script.now) values.now) }
     ensures err { OnErr result (into.new.items ≡ into.old.items) }
     // These bytes spell the script with the values; no others do.
-    ensures spelling { Spells script_message (script_bytes (mirror_script script.now) values.now) (mirror_script script.now, values.now) }
+    ensures spelling { IsRequestOf (script_bytes (mirror_script script.now) values.now) (mirror_script script.now) values.now }
 {
     let len = into.len();
     match put_script(script, values, into) {

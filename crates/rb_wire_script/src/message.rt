@@ -48,7 +48,13 @@ fn message(alloc: Global, bytes: &[u8]) -> Result<((Script, Seq<Value>), &[u8]),
     let (inputs, rest) = byte(rest)?;
     let (values, rest) = values(alloc, inputs, rest)?;
     let (body, rest) = block(alloc, MOST_BLOCKS as usize, rest)?;
-    Ok(((Script { inputs, body }, values), rest))
+    let lists = Seq::new(alloc);
+    let script = Script {
+        inputs,
+        lists,
+        body,
+    };
+    Ok(((script, values), rest))
 }
 
 /// The message that all the bytes are.

@@ -184,5 +184,7 @@ fn put_form(form: &StepForm, id: u32, at: u32, into: &mut BytesMut) -> Result<()
             put_block(body.as_slice(), into)?;
             Ok(())
         }
+        // It has no spelling, and no script that is encoded has one.
+        StepForm::Over { .. } => Ok(()),
     }
 }

@@ -61,6 +61,34 @@ static ROWS: [(&str, i64); 34] = [
     ("2iy2ii..", 5),
 ];
 
+/// Forests of a loop over a list with two items, in letters.
+static LISTS: [(&str, i64); 16] = [
+    // As many turns as items, and a fault in the last of them.
+    ("1r22iy1i..2in1t...", FITS),
+    ("1r22iy1i..0G.", FITS),
+    // Fewer turns, where a fault stands behind them, or ends the last: its own, or one within its last entry.
+    ("0F", FITS),
+    ("1r0F", FITS),
+    ("1r12iy1i..F", FITS),
+    ("1r10G.", FITS),
+    ("1r12iy0D..", FITS),
+    // Other numbers of turns, and as many before a fault.
+    ("0.", 5),
+    ("1r0.", 5),
+    ("1r12iy1i...", 5),
+    ("1r32iy1i..2iy1i..2iy1i...", 5),
+    ("1r22iy1i..2iy1i..F", 5),
+    // Another number comes before a turn without its value.
+    ("1r12ty1i...", 5),
+    ("1r22ty1i..2iy1i...", 6),
+    // A turn behind a fault, and something left over in a turn.
+    ("1r20G2iy1i...", EXTRA),
+    ("1r22iy2ii..2iy1i...", EXTRA),
+];
+
+/// Forests of such a loop where nothing is told of the list's length.
+static UNTOLD: [(&str, i64); 3] = [("1r0.", FITS), ("1r0F", 5), ("1r12iy1i...", 5)];
+
 /// What the letters stand for, in hexadecimal digits.
 static LETTERS: [(u8, &str); 19] = [
     (b'i', "31 01 0000000000000007"),
@@ -139,6 +167,21 @@ fn add_turns(alloc: Global, into: &mut Seq<Part>) -> Result<(), Memory> {
     })
 }
 
+/// Adds a loop over the second input, with a print and a branch in each turn.
+fn add_list(alloc: Global, into: &mut Seq<Part>) -> Result<(), Memory> {
+    let mut body = Seq::new(alloc);
+    add_print(alloc, 6, &mut body)?;
+    add_branch(alloc, &mut body)?;
+    into.push(Part::Over {
+        step: 5,
+        at: 0,
+        name: Seq::new(alloc),
+        list: Seq::new(alloc),
+        input: 1,
+        body,
+    })
+}
+
 /// Adds a value that both sides evaluate.
 fn add_both(alloc: Global, into: &mut Seq<Part>) -> Result<(), Memory> {
     let value = Expr {
@@ -172,22 +215,27 @@ fn told(fit: Result<(), Misfit>) -> i64 {
 }
 
 /// What doesn't fit of a forest. It is the same in its bytes and as a tree.
-fn misfit(alloc: Global, parts: &Seq<Part>, payload: &[u8]) -> Result<i64, Fail> {
+fn misfit(alloc: Global, parts: &Seq<Part>, lengths: &[u32], payload: &[u8]) -> Result<i64, Fail> {
     let root = decode_forest(alloc, payload)?;
     let forest = scan_forest(payload)?;
-    let fit = told(fits(&root, parts));
-    Ok(if told(forest.fits(parts)) == fit {
+    let fit = told(fits(&root, parts, lengths));
+    Ok(if told(forest.fits(parts, lengths)) == fit {
         fit
     } else {
         DISPUTED
     })
 }
 
-/// The first forest of which something else doesn't fit than what stands beside it; no letters where there is none.
-fn first_wrong(alloc: Global, parts: &Seq<Part>) -> Result<&'static str, Fail> {
-    for (letters, unfit) in &ROWS {
+/// The first of these forests of which something else doesn't fit than what stands beside it; no letters where there is none.
+fn first_wrong(
+    alloc: Global,
+    parts: &Seq<Part>,
+    lengths: &[u32],
+    rows: &[(&'static str, i64)],
+) -> Result<&'static str, Fail> {
+    for (letters, unfit) in rows {
         let payload = payload_of(alloc, letters)?;
-        if misfit(alloc, parts, payload.as_slice())? != *unfit {
+        if misfit(alloc, parts, lengths, payload.as_slice())? != *unfit {
             return Ok(letters);
         }
     }
@@ -198,6 +246,15 @@ fn first_wrong(alloc: Global, parts: &Seq<Part>) -> Result<&'static str, Fail> {
 fn the_first_misfit_is_answered(rt: HostRuntime) -> Result<(), Fail> {
     let mut parts = Seq::new(rt.alloc());
     add_remainder(rt.alloc(), &mut parts)?;
-    assert_eq!(rt; first_wrong(rt.alloc(), &parts)?, "");
+    assert_eq!(rt; first_wrong(rt.alloc(), &parts, &[], &ROWS)?, "");
+    Ok(())
+}
+
+#[test]
+fn a_list_has_a_turn_for_each_item(rt: HostRuntime) -> Result<(), Fail> {
+    let mut parts = Seq::new(rt.alloc());
+    add_list(rt.alloc(), &mut parts)?;
+    assert_eq!(rt; first_wrong(rt.alloc(), &parts, &[7, 2], &LISTS)?, "");
+    assert_eq!(rt; first_wrong(rt.alloc(), &parts, &[7], &UNTOLD)?, "");
     Ok(())
 }

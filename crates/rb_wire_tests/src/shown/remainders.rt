@@ -69,3 +69,17 @@ pub fn add_turns(alloc: Global, into: &mut Seq<Part>) -> Result<(), Memory> {
         body,
     })
 }
+
+/// Adds a loop over the list `rows`, in which a loop of local code stands.
+pub fn add_list(alloc: Global, into: &mut Seq<Part>) -> Result<(), Memory> {
+    let mut body = Seq::new(alloc);
+    add_local_loop(alloc, &mut body)?;
+    into.push(Part::Over {
+        step: 12,
+        at: 1,
+        name: word(alloc, "g")?,
+        list: word(alloc, "rows")?,
+        input: 2,
+        body,
+    })
+}

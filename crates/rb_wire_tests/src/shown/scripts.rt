@@ -140,3 +140,17 @@ pub fn add_each(alloc: Global, keep: bool, into: &mut Seq<Step>) -> Result<(), M
         into,
     )
 }
+
+/// Adds a loop over the third input, in which one such branch stands.
+pub fn add_over(alloc: Global, into: &mut Seq<Step>) -> Result<(), Memory> {
+    let mut body = Seq::new(alloc);
+    add_if(alloc, 0, &mut body)?;
+    add(
+        StepForm::Over {
+            var: 6,
+            input: 2,
+            body,
+        },
+        into,
+    )
+}

@@ -1,8 +1,10 @@
 // Views of divisions.
 
-use crate::shown::remainders::{add_bind, add_both, add_branch, add_local_loop, add_turns};
+use crate::shown::remainders::{
+    add_bind, add_both, add_branch, add_list, add_local_loop, add_turns,
+};
 use crate::shown::scripts::{
-    add_binary, add_calls, add_each, add_if, add_kept, add_literals, add_unary, word,
+    add_binary, add_calls, add_each, add_if, add_kept, add_literals, add_over, add_unary, word,
 };
 use rb_places::Places;
 use rb_shown::split_view;
@@ -14,12 +16,17 @@ use std::test::Fail;
 const SOURCE: &[u8] = b"main {\n  batch (D r) { }\n}\n";
 
 /// The division of the batch in that text, with these steps and parts.
-fn split(inputs: Seq<Word>, body: Seq<Step>, remainder: Seq<Part>) -> Split {
+fn split(alloc: Global, inputs: Seq<Word>, body: Seq<Step>, remainder: Seq<Part>) -> Split {
+    let lists = Seq::new(alloc);
     Split {
         batch: 0,
         at: 9,
         inputs,
-        script: Script { inputs: 0, body },
+        script: Script {
+            inputs: 0,
+            lists,
+            body,
+        },
         remainder,
     }
 }
@@ -33,13 +40,13 @@ fn views(alloc: Global, split: &Split, view: &str) -> Result<bool, Memory> {
 
 /// Whether steps are shown so.
 fn steps(alloc: Global, body: Seq<Step>, view: &str) -> Result<bool, Memory> {
-    let split = split(Seq::new(alloc), body, Seq::new(alloc));
+    let split = split(alloc, Seq::new(alloc), body, Seq::new(alloc));
     views(alloc, &split, view)
 }
 
 /// Whether parts are shown so.
 fn parts(alloc: Global, remainder: Seq<Part>, view: &str) -> Result<bool, Memory> {
-    let split = split(Seq::new(alloc), Seq::new(alloc), remainder);
+    let split = split(alloc, Seq::new(alloc), Seq::new(alloc), remainder);
     views(alloc, &split, view)
 }
 
@@ -100,6 +107,7 @@ fn steps_stand_behind_the_spaces_of_their_blocks(rt: HostRuntime) -> Result<(), 
     add_if(alloc, 1, &mut body)?;
     add_each(alloc, false, &mut body)?;
     add_each(alloc, true, &mut body)?;
+    add_over(alloc, &mut body)?;
     let view = "batch 2:3\ninputs\nscript
   0 keep root
   1 let v4 = v0
@@ -124,6 +132,9 @@ fn steps_stand_behind_the_spaces_of_their_blocks(rt: HostRuntime) -> Result<(), 
     else
       0 do root
       1 do root
+  6 over v6 in in2
+    0 if in0
+      0 do root
 remainder\n";
     assert!(rt; steps(alloc, body, view)?);
     Ok(())
@@ -138,6 +149,7 @@ fn parts_are_shown_as_statements(rt: HostRuntime) -> Result<(), Fail> {
     add_both(alloc, &mut remainder)?;
     add_branch(alloc, 1, &mut remainder)?;
     add_turns(alloc, &mut remainder)?;
+    add_list(alloc, &mut remainder)?;
     let view = "batch 2:3\ninputs\nscript\nremainder
   while (<1>) {
     throw <2>;
@@ -162,6 +174,11 @@ fn parts_are_shown_as_statements(rt: HostRuntime) -> Result<(), Fail> {
     while (<1>) {
       throw <2>;
     }
+  }
+  for g in rows <12> {
+    while (<1>) {
+      throw <2>;
+    }
   }\n";
     assert!(rt; parts(alloc, remainder, view)?);
     Ok(())
@@ -173,7 +190,7 @@ fn inputs_stand_on_their_line(rt: HostRuntime) -> Result<(), Fail> {
     let mut inputs = Seq::new(alloc);
     inputs.push(word(alloc, "a")?)?;
     inputs.push(word(alloc, "long")?)?;
-    let split = split(inputs, Seq::new(alloc), Seq::new(alloc));
+    let split = split(alloc, inputs, Seq::new(alloc), Seq::new(alloc));
     let view = "batch 2:3\ninputs a long\nscript\nremainder\n";
     assert!(rt; views(alloc, &split, view)?);
     Ok(())

@@ -2,6 +2,7 @@ use Rattle.std.proofs.Common.{◌+◌, max, drop}
 use Rattle.rb_engine.specs.Locals.{local}
 use Rattle.rb_client.specs.Walks.{all_meant}
 use Rattle.rb_client.proofs.Enclosed.{TurnsOn}
+use Rattle.rb_client.proofs.Listed.{ItemsOn}
 use Rattle.rb_client.proofs.Parted.{On}
 use Rattle.rb_client.proofs.Weight.{part_of, parts_of}
 use Rattle.rb_client.proofs.replay.+parts.Given as goal
@@ -33,9 +34,28 @@ decreases-perform_turn g l = parts_of l.turns.now.body.now + 3
 abbrev pub decreases-perform_row : goal.decreases-perform_row
 decreases-perform_row g l = parts_of l.turns.now.body.now + 2
 
+abbrev pub decreases-perform_list : goal.decreases-perform_list
+decreases-perform_list g l = parts_of l.turns.now.body.now + 6
+
+abbrev pub decreases-turn_list : goal.decreases-turn_list
+decreases-turn_list g l = parts_of l.turns.now.body.now + 5
+
+abbrev pub decreases-perform_items : goal.decreases-perform_items
+decreases-perform_items g l = parts_of l.turns.now.body.now + 4
+
+abbrev pub decreases-perform_item : goal.decreases-perform_item
+decreases-perform_item g l = parts_of l.turns.now.body.now + 3
+
+abbrev pub decreases-perform_named : goal.decreases-perform_named
+decreases-perform_named g l = parts_of l.turns.now.body.now + 2
+
 abbrev pub invariant-perform_all-parts : goal.invariant-perform_all-parts
 invariant-perform_all-parts g l =
     On g.W.Sink (all_meant l.fn.code l.parts) (all_meant l.fn.code (drop l.part-index l.parts)) (local l.fn.frame l.fn.state) l.fn.world (local l.frame l.state) l.world
 
 abbrev pub invariant-perform_turns-nodes : goal.invariant-perform_turns-nodes
 invariant-perform_turns-nodes g l = TurnsOn g.W.Sink l.fn.code l.fn.turns l.count l.counter (local l.fn.frame l.fn.state) l.fn.world (local l.frame l.state) l.world
+
+abbrev pub invariant-perform_items-items : goal.invariant-perform_items-items
+invariant-perform_items-items g l =
+    ItemsOn g.W.Sink l.fn.code l.fn.turns l.items (drop l.item-index l.items) (local l.fn.frame l.fn.state) l.fn.world (local l.frame l.state) l.world

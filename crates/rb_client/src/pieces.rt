@@ -1,0 +1,95 @@
+// The parts of a remainder that hold no parts.
+
+ghost use Rattle.rb_engine.specs.Locals.{local};
+ghost use Rattle.rb_client.specs.Walks.{Performs, bind_meant, both_meant, pass_meant, plain_meant};
+
+use crate::early::{Early, flat};
+use crate::faults::{far_fault, own_fault};
+use crate::replay_world::ReplayWorld;
+use rb_base::Sink;
+use rb_code::Code;
+use rb_engine::{Frame, State, eval, exec_slice};
+use rb_trees::{Expr, Stmt, Word};
+use std::alloc::Global;
+use std::slice;
+
+/// A value that both sides evaluate: its step, the name that it is bound to, and what is evaluated.
+#[derive(Clone, Copy)]
+pub struct Twin<'a> {
+    pub step: u32,
+    pub name: &'a Word,
+    pub value: &'a Expr,
+}
+
+/// A statement.
+#[inline(never)]
+pub fn perform_plain<W: Sink>(
+    alloc: Global,
+    code: &Code,
+    state: &mut State,
+    frame: &mut Frame,
+    world: &mut ReplayWorld<'_, '_, W>,
+    stmt: &Stmt,
+) -> Result<(), Early>
+    ensures { let meant = plain_meant code.now stmt.now in
+        Performs W.Sink meant (local frame.old state.old) world.old result (local frame.new state.new) world.new }
+{
+    flat(exec_slice(alloc, code, state, frame, world, slice::from_ref(stmt)))
+}
+
+/// The place of a step that gives no entry.
+#[inline(never)]
+pub fn perform_pass<W: Sink>(
+    alloc: Global,
+    state: &State,
+    frame: &Frame,
+    world: &ReplayWorld<'_, '_, W>,
+    step: u32,
+) -> Result<(), Early>
+    ensures { let meant = pass_meant step in
+        Performs W.Sink meant (local frame.now state.now) world.now result (local frame.now state.now) world.now }
+{
+    match world.fault_at(step) {
+        Some(fault) => Err(Early::Raised(far_fault(alloc, &fault)?)),
+        None => Ok(()),
+    }
+}
+
+/// A value that was kept, and is bound.
+#[inline(never)]
+pub fn perform_bind<W: Sink>(
+    alloc: Global,
+    state: &State,
+    frame: &mut Frame,
+    world: &mut ReplayWorld<'_, '_, W>,
+    step: u32,
+    name: &Word,
+) -> Result<(), Early>
+    ensures { let meant = bind_meant step name.now in
+        Performs W.Sink meant (local frame.old state.now) world.old result (local frame.new state.now) world.new }
+{
+    let value = world.take(step)?;
+    frame.bind(alloc, name.as_slice(), value)?;
+    Ok(())
+}
+
+/// A value that both sides evaluate.
+#[inline(never)]
+pub fn perform_both<W: Sink>(
+    alloc: Global,
+    code: &Code,
+    state: &mut State,
+    frame: &mut Frame,
+    world: &mut ReplayWorld<'_, '_, W>,
+    twin: &Twin<'_>,
+) -> Result<(), Early>
+    ensures { let meant = both_meant code.now twin.now.step twin.now.name.now twin.now.value.now in
+        Performs W.Sink meant (local frame.old state.old) world.old result (local frame.new state.new) world.new }
+{
+    if let Some(fault) = world.fault_at(twin.step) {
+        return Err(Early::Raised(own_fault(alloc, &fault)?));
+    }
+    let value = flat(eval(alloc, code, state, frame, world, twin.value))?;
+    frame.bind(alloc, twin.name.as_slice(), value)?;
+    Ok(())
+}
