@@ -1,5 +1,5 @@
 -- What the code of a batch is answered fits, and the table keeps fitting.
-use Rattle.std.proofs.Common.{◌≡◌, ◌≤◌, refl, ap, subst, arith, ℕ, zero, suc, ◌-◌, List, [], length, All, Option, Some, None, Ok}
+use Rattle.std.proofs.Common.{◌≡◌, ap, subst, arith, ℕ, zero, suc, ◌-◌, List, [], length, All, Option, Some, None, Ok}
 use Rattle.rb_trees.specs.declared.values.Value.{Value}
 use Rattle.rb_trees.specs.declared.values.Value.TheOpen.{Value-F}
 use Rattle.rb_trees.specs.declared.values.Value.TheVariants as value
