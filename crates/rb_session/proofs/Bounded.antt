@@ -1,6 +1,6 @@
 -- A valid script that was sent has literals within their limits, numbers of 32 bits, and no list as the input of an expression; and
 -- the values of its inputs are of their forms.
-use Rattle.std.proofs.Common.{◌≡◌, refl, arith, ℕ, zero, suc, ◌+◌, ◌≤◌, Bool, true, false, List, [], ◌∷◌, ◌++◌, length, Some, slice_get, Ok}
+use Rattle.std.proofs.Common.{◌≡◌, refl, subst, arith, ℕ, zero, suc, ◌+◌, ◌≤◌, Bool, true, false, List, [], ◌∷◌, ◌++◌, length, Some, slice_get, Ok}
 use Rattle.std.proofs.lemmas.List.Elements.{All-from_recursion}
 use Rattle.std.specs.List.{All, AllByRecursion}
 use Rattle.rb_trees.specs.declared.values.Value.{Value, out-Value}
@@ -137,7 +137,8 @@ input_fits false v few h = fitting_primitive v h
 -- a list among values has at most the items of all lists
 items_within : (vs : List Value) (number : ℕ) (v : Value) → slice_get vs number ≡ Some v → form_items (out-Value v) ≤ count_items vs
 items_within [] number v is = absurd cc
-items_within (w ∷ ws) zero v is = let same : w ≡ v = cc in rw same in omega arith
+items_within (w ∷ ws) zero v is =
+    let same : w ≡ v = (cc) in subst (λ x. form_items (out-Value x) ≤ form_items (out-Value w) + count_items ws) same (omega arith)
 items_within (w ∷ ws) (suc number) v is = omega (arith, items_within ws number v is)
 
 pub inputs_fit : (s : Script) (values : List Value) → formed.AreInputs s values → given.AreInputs s.lists values
