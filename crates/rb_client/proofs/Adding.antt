@@ -127,7 +127,7 @@ module _ (c : Coming) where
           (λ n l1 es. on_turn_more (is_kept k) step name l1 (record { events = es; node = n }) (λ l2 s2. replay_all classes gas body l2 s2 ended) (λ l2 s2. parts_more body l2 s2 ended ended_adds))
           (λ l1 s1. unless_more (fault_at step s1.node) far_fault l1 s1 (go l1 s1) (adds l1 s1)))
       part_more (part.Over step at name list input body) l s go adds =
-          let turn = λ v n l1 events. replay_all classes gas body (bound name v l1) (record { events = events; node = n }) ended in
+          let turn : Value → Node → Local → List Event → Replayed = λ v n l1 events. replay_all classes gas body (bound name v l1) (record { events = events; node = n }) ended in
           on_items_more at (items_of (lookup l.names list)) l s.events (λ vs. on_rows step s.node l s (λ ns rest. list_turns step at turn vs ns rest l s.events go)) (λ vs.
           on_rows_more step s.node l s (λ ns rest. list_turns step at turn vs ns rest l s.events go) (λ ns rest.
           list_turns_more step at turn vs ns rest l s.events go (λ v n l1 es. parts_more body (bound name v l1) (record { events = es; node = n }) ended ended_adds) adds))

@@ -42,7 +42,7 @@ use Rattle.rb_law_types.proofs.SitesWithin.{Within, within_left, within_right, w
 use Rattle.rb_law_unsplit.proofs.Conditions.{condition_portable}
 use Rattle.rb_trees.specs.mirror.Code.{Expr, expr_at, Stmt, Stmts, Val, Var, Assign, Run, Print, Throw, If, While, For, Try, Batch, NoStmts, MoreStmts}
 use Rattle.rb_trees.specs.declared.services.Object.{Object}
-use Rattle.rb_trees.specs.mirror.Scripts.{SExpr, Steps}
+use Rattle.rb_trees.specs.mirror.Scripts.{Steps}
 use Rattle.rb_trees.specs.mirror.Forests as forest
 use Rattle.rb_trees.specs.mirror.Remainders as part_of
 use Rattle.rb_trees.specs.mirror.Remainders.{Part, Parts, NoParts, MoreParts}

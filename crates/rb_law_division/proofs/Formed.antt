@@ -8,7 +8,7 @@ use Rattle.rb_trees.specs.Spelling.{is_letter, is_word_byte, IsName}
 use Rattle.rb_trees.specs.CodeSize.{expr_size, exprs_size, steps_size}
 use Rattle.rb_trees.specs.declared.values.Value.{Value, out-Value}
 use Rattle.rb_trees.specs.declared.values.Value.TheOpen.{Value-F}
-use Rattle.rb_trees.specs.mirror.Code.{Expr, Exprs, Lit, Name, This, Unary, Binary, Field, Call, Index, New, Items, Taken, NoExprs, MoreExprs, Stmt, Stmts, Val, Var, Run, If, For, NoStmts, MoreStmts}
+use Rattle.rb_trees.specs.mirror.Code.{Expr, Exprs, Lit, Name, This, Unary, Binary, Field, Call, Index, New, Items, Taken, NoExprs, MoreExprs, Stmt, Stmts, Val, Run, If, For, NoStmts, MoreStmts}
 use Rattle.rb_trees.specs.mirror.Declarations.{Program}
 use Rattle.rb_trees.specs.mirror.Scripts as script
 use Rattle.rb_trees.specs.mirror.Scripts.{SExpr, SExprs, Steps, NoSteps}

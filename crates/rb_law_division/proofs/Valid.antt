@@ -1,5 +1,5 @@
 -- The script of a batch is valid.
-use Rattle.std.proofs.Common.{◌≡◌, refl, subst, ap, sym, ℕ, suc, ◌+◌, ◌≤◌, ◌<◌, List, [], ◌∷◌, ◌++◌, Bool, true, false, cond, not, ◌||◌, arith, nat_eq, nat_lt, Option, Some, None, option_map}
+use Rattle.std.proofs.Common.{◌≡◌, refl, subst, ap, sym, ℕ, suc, ◌+◌, ◌≤◌, ◌<◌, List, [], ◌∷◌, ◌++◌, Bool, true, false, cond, not, ◌||◌, arith, nat_eq, Option, Some, None, option_map}
 use Rattle.std.specs.List.{AllByRecursion}
 use Rattle.std.specs.Str.{bytes_eq}
 use Rattle.std.proofs.lemmas.Bool.{le-ltb, lt-ltb, ne_eqb, eq-eqb}
@@ -9,7 +9,7 @@ use Rattle.rb_trees.specs.Validity.{Inputs, has, when, unknown_input, nested_exp
 use Rattle.rb_trees.specs.declared.validity.ScriptRefusal.TheVariants.{UnknownVariable, UnknownInput, StepRepeated, TooDeep}
 use Rattle.rb_trees.specs.mirror.Code.{Expr, Exprs, Lit, Name, This, Unary, Binary, Field, Call, Index, New, Items, Taken, NoExprs, MoreExprs, Stmt, Stmts, Val, Run, If, For, NoStmts, MoreStmts}
 use Rattle.rb_trees.specs.mirror.Declarations.{Program}
-use Rattle.rb_trees.specs.mirror.Scripts.{SExpr, Steps, NoSteps}
+use Rattle.rb_trees.specs.mirror.Scripts.{SExpr, Steps}
 use Rattle.rb_meaning_types.specs.Lawful.{expr_depth, exprs_depth, stmt_depth, stmts_depth}
 use Rattle.rb_meaning_flow.specs.declared.forms.PlacedForm.{PlacedForm}
 use Rattle.rb_meaning_flow.specs.declared.scopes.Role.{Role}
