@@ -21,7 +21,7 @@ performed_replies before after payload r ready old mid new is read done =
     let was : Reads payload (Some ready) old mid = subst (λ x. Reads payload x old mid) is read in
     record {
       reply = bytes;
-      answers = subst (λ t. Answers (mirror_service before.service) before.table payload forest_kind bytes t) (sym done.table) (performs (sent_of ready) bytes was.0 done.gains.spells);
+      answers = subst (λ t. Answers (mirror_service before.service) before.table payload forest_kind bytes t) (sym done.table) (performs (sent_of ready) bytes was.0 done.gains.is_so);
       is = done.gains.is ∙ ap (λ xs. xs ++ bytes) was.1;
     }
 
@@ -32,6 +32,6 @@ refused_replies host payload r old new is read =
     let bytes = was.2.bytes in
     record {
       reply = bytes;
-      answers = refuses was.0 bytes was.1 was.2.spells;
+      answers = refuses was.0 bytes was.1 was.2.is_so;
       is = was.2.is;
     }

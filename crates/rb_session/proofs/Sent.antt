@@ -9,6 +9,7 @@ use Rattle.rb_meaning_bytes.specs.formats.Forests.{forest_message}
 use Rattle.rb_meaning_bytes.specs.formats.ForestBytes.{forest_bytes, FormedForest, FormedNode}
 use Rattle.rb_meaning_bytes.specs.formats.Laws.{IsSpelling}
 use Rattle.rb_meaning_bytes.specs.formats.Messages.{Sent}
+use Rattle.rb_meaning_bytes.specs.formats.Payloads.{IsForestOf}
 use Rattle.rb_law_types.specs.Scripts.{ScriptsKeep, RanKeeps, StepsGive, AreNone}
 use Rattle.rb_law_types.specs.Formed.{LawfulClassesAreFormed}
 use Rattle.rb_exec.specs.Hosted.{Hosted}
@@ -43,10 +44,10 @@ node_spelled law formed host x typed sent =
 
 -- its forest, where its bytes were appended
 pub node_appended : ScriptsKeep → LawfulClassesAreFormed → IsSpelling forest_message forest_bytes FormedForest → (host : Hosted) (x : Sent) (old new : List ℕ) → IsTypedHost host → IsSent x
-    → new ≡ old ++ forest_bytes (performed_on host x).node → Appends forest_message old new (performed_on host x).node
+    → new ≡ old ++ forest_bytes (performed_on host x).node → Appends (λ bytes. IsForestOf bytes (performed_on host x).node) old new
 node_appended law formed spelling host x old new typed sent is = record {
   bytes = forest_bytes (performed_on host x).node;
-  spells = spelling.spelled (performed_on host x).node (node_spelled law formed host x typed sent);
+  is_so = spelling.spelled (performed_on host x).node (node_spelled law formed host x typed sent);
   is = is;
 }
 

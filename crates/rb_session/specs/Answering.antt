@@ -1,8 +1,8 @@
 -- What an answer appends, and what it makes of the host.
 use Rattle.std.specs.Prelude.{◌≡◌, ℕ, List, ◌++◌, Err}
 use Rattle.rb_trees.specs.mirror.Services.{mirror_service}
-use Rattle.rb_meaning_bytes.specs.formats.Forests.{forest_message}
 use Rattle.rb_meaning_bytes.specs.formats.Messages.{Sent, Refused}
+use Rattle.rb_meaning_bytes.specs.formats.Payloads.{IsForestOf}
 use Rattle.rb_meaning_bytes.specs.formats.ScriptPayloads.{Means}
 use Rattle.rb_meaning_code.specs.ScriptRun.{Ran}
 use Rattle.rb_meaning.specs.Answers.{performed, Answers}
@@ -28,7 +28,7 @@ performed_on h x = performed (mirror_service h.service) h.table x
 
 -- A script with its values was performed, and the buffer has gained the forest of its node.
 pub record Performs (before after : Hosted) (x : Sent) (old new : List ℕ) : Type 0 where
-  pub gains : Appends forest_message old new (performed_on before x).node
+  pub gains : Appends (λ bytes. IsForestOf bytes (performed_on before x).node) old new
   pub table : after.table ≡ (performed_on before x).server.table
 
 -- The buffer has gained the reply to the payload, which is of this kind, and the host has the table that the answer leaves.

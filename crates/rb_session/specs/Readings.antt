@@ -5,8 +5,8 @@ use Rattle.rb_trees.specs.Validity.{verdict}
 use Rattle.rb_trees.specs.declared.values.Value.{Value}
 use Rattle.rb_trees.specs.declared.scripts.Script.{Script}
 use Rattle.rb_trees.specs.mirror.Scripts.{mirror_script}
-use Rattle.rb_meaning_bytes.specs.formats.Refusals.{refusal_message}
 use Rattle.rb_meaning_bytes.specs.formats.Messages.{Sent, Refused}
+use Rattle.rb_meaning_bytes.specs.formats.Payloads.{IsRefusalOf}
 use Rattle.rb_meaning_bytes.specs.formats.ScriptPayloads.{Means, CanBeSent}
 use Rattle.rb_meaning.specs.Answers.{longest_request}
 use Rattle.rb_wire_forest.specs.Buffers.{Appends}
@@ -24,7 +24,7 @@ sent_of p = record { script = mirror_script p.0; values = p.1 }
 -- A script was read, and the buffer is as it was; or the payload is refused, and the buffer has gained the refusal.
 abbrev pub Reads : List ℕ → Option (Script × List Value) → List ℕ → List ℕ → Type 0
 Reads payload (Some p) old new = Means payload (Ok (sent_of p)) × (new ≡ old)
-Reads payload None old new = (wrong : Refused) × Means payload (Err wrong) × Appends refusal_message old new wrong
+Reads payload None old new = (wrong : Refused) × Means payload (Err wrong) × Appends (λ bytes. IsRefusalOf bytes wrong.number wrong.at) old new
 
 -- A script was read exactly where the payload comes to it.
 abbrev pub ReadAs : Option (Script × List Value) → Result Sent Refused → Type 0
