@@ -1,5 +1,5 @@
 -- How turns over the items of a list are performed.
-use Rattle.std.proofs.Common.{◌≡◌, ◌≢◌, refl, sym, ap, ◌∙◌, subst, ℕ, zero, suc, ◌-◌, ◌<◌, ◌≤◌, arith, List, [], ◌∷◌, length, take, drop}
+use Rattle.std.proofs.Common.{◌≡◌, ◌≢◌, refl, sym, ap, ◌∙◌, subst, ℕ, zero, suc, ◌≤◌, arith, List, [], ◌∷◌, length, take, drop}
 use Rattle.std.specs.Prelude.{Bool, None, Some, Result, Ok, Err}
 use Rattle.std.specs.Borrow.{MutBor}
 use Rattle.rb_trees.specs.Named.{lookup}
@@ -14,11 +14,13 @@ use Rattle.rb_meaning_bytes.specs.formats.ForestBytes.{count_nodes}
 use Rattle.rb_meaning_code.specs.Calls.{unit_due}
 use Rattle.rb_meaning_code.specs.Dialogue.{Outcome, Gave, Faulted}
 use Rattle.rb_meaning_code.specs.Faults.{fuel_used, raised}
-use Rattle.rb_meaning_code.specs.State.{Local, bound, closed, spent}
+use Rattle.rb_meaning_code.specs.State.{Local, Names, bound, closed, spent}
 use Rattle.rb_meaning.specs.State.{Event}
 use Rattle.rb_meaning_split.specs.Replay.{Seen, Replayed, Rest, after_unit, behind, behind_end, ended, fault_at, items_of, list_turns, missed, on_items, on_rows, on_unit, stopped}
 use Rattle.rb_base.specs.Devices.{Device}
 use Rattle.rb_base.specs.declared.sinks.Sink as sinks
+use Rattle.rb_engine.specs.Locals.{local}
+use Rattle.rb_engine.specs.declared.state.State.{State}
 use Rattle.rb_wire_forest.specs.CursorSteps.{Moves, next_rows, next_turn}
 use Rattle.rb_wire_forest.specs.CursorSteps as steps
 use Rattle.rb_wire_forest.specs.Opens.{Open, AtNode, AtRows}
@@ -126,6 +128,24 @@ items_unspent {W = W} {g = g} {classes = classes} {t = t} {whole = whole} v vs {
       subst (λ z. Does g out start (SeesSomeRows g out start below) (items_over classes t whole ns s.node gas l0 s) z l w) (sym end)
       (s1, (x.0, x.3), λ go. x.4 go ∙ no_unit classes t v vs x.0 s.node gas l s1 go fuel_used none ∙ ap (λ z. stopped z l s1) (sym is));
 }
+
+-- a unit that was spent was there
+pub spent_due : (at : ℕ) (before after : State) {u : Unit {0}} (given : Result (Unit {0}) Early) → Spends at before given after → given ≡ Ok u → unit_due before.fuel ≡ Ok tt
+spent_due at before after given spends is = (subst (λ x. Spends at before x after) is spends).0
+
+pub spent_less : (at : ℕ) (names : Names) (before after : State) {u : Unit {0}} (given : Result (Unit {0}) Early) → Spends at before given after → given ≡ Ok u → local names after ≡ spent (local names before)
+spent_less at names before after given spends is = ap (local names) (subst (λ x. Spends at before x after) is spends).1
+
+-- the unit of fuel for an item was wanting
+pub items_stop : {W : Type 0} {g : sinks.Ghosts W} {classes : List class.Class} {t : ListLoop} {whole : List Value} (v : Value) (vs : List Value) {l0 : Local} {names : Names} {before after : State} {w0 w : ReplayWorld W} (given : Result (Unit {0}) Early) {e : Early} {q : Result (Unit {0}) Early}
+    → ItemsOn g classes t whole (v ∷ vs) l0 w0 (local names before) w → Spends t.at before given after → given ≡ Err e → q ≡ Err e → PerformsItems g classes t whole l0 w0 q (local names after) w
+items_stop {W = W} {g = g} {classes = classes} {t = t} {whole = whole} v vs {l0 = l0} {names = names} {before = before} {after = after} {w0 = w0} {w = w} given {e = e} {q = q} on spends is end =
+    by e (subst (λ x. Spends t.at before x after) is spends) end
+  where
+    by : (x : Early) → Spends t.at before (Err x) after → q ≡ Err x → PerformsItems g classes t whole l0 w0 q (local names after) w
+    by (early.Raised r) (none, raises, same) end = subst (λ s. PerformsItems g classes t whole l0 w0 q (local names s) w) (sym same) (items_unspent v vs on none raises end)
+    by early.WriteFault h end = absurd h
+    by early.Memory h end = absurd h
 
 -- a turn was performed on the first node that was left
 record Turned {W : Type 0} (g : sinks.Ghosts W) (classes : List class.Class) (t : ListLoop) (whole : List Value) (v : Value) (vs : List Value) (l0 l l2 : Local) (w : ReplayWorld W) (r : Result (Unit {0}) Early) (gas : ℕ) (out : MutBor W) (start : Device (List ℕ)) (below : List Open)

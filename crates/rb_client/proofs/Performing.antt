@@ -20,7 +20,7 @@ use Rattle.rb_meaning.specs.State as state
 use Rattle.rb_meaning.specs.State.{Event}
 use Rattle.rb_meaning.specs.Unsplit.{batch_at}
 use Rattle.rb_meaning_flow.specs.Outermost.{Outermost}
-use Rattle.rb_meaning_split.specs.Client.{input_values, replays, sent_for}
+use Rattle.rb_meaning_split.specs.Client.{replays, sent_for}
 use Rattle.rb_meaning_split.specs.Division.{Division, division, mirror_split}
 use Rattle.rb_meaning_split.specs.Replay.{Replayed, ended, replay_all}
 use Rattle.rb_base.specs.Counts.{risen}
@@ -80,7 +80,7 @@ exchanged_more p before mid after sent nodes pair x n e is i = record {
 
 -- what is sent is what the division says
 sent_so : (split : Split) (d : Division) (l : Local) → mirror_split split ≡ d → to_send split l.names ≡ sent_for d l
-sent_so split d l is = ap (λ x. (x.script, input_values x.inputs l.names)) is
+sent_so split d l is = ap (λ x. sent_for x l) is
 
 -- The exchange of a batch and the reading of its reply: all else stands, but for the count of exchanges.
 pub record Tried {L W : Type 0} (gl : links.Ghosts L) (split : Split) (names : Names) (w : ClientWorld L W) (result : Result Node RunStop) (w' : ClientWorld L W) : Type 0 where

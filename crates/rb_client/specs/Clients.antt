@@ -15,7 +15,7 @@ use Rattle.rb_meaning.specs.Shown.{line, shown_events}
 use Rattle.rb_meaning.specs.State.{Event}
 use Rattle.rb_meaning.specs.Unsplit.{batch_at}
 use Rattle.rb_meaning_flow.specs.Outermost.{Outermost}
-use Rattle.rb_meaning_split.specs.Client.{Waiting, answers_waiting, performs_divided, sent_for}
+use Rattle.rb_meaning_split.specs.Client.{Waiting, answers_waiting, input_values, performs_divided, sent_for}
 use Rattle.rb_meaning_split.specs.Division.{Division, division, mirror_split}
 use Rattle.rb_base.specs.Sinks.{with_bytes}
 use Rattle.rb_base.specs.declared.links.Link as links

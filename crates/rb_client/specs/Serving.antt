@@ -1,5 +1,5 @@
 -- What exchanges do to the server that a link tells: how many are made, and what it performs.
-use Rattle.std.specs.Prelude.{◌≡◌, ◌⊎◌, ◌<◌, ℕ, List, Bool, false, Option, None, Some, Ok}
+use Rattle.std.specs.Prelude.{◌≡◌, ◌⊎◌, ◌<◌, ℕ, List, [], Bool, false, Option, None, Some, Ok}
 use Rattle.rb_trees.specs.mirror.Remainders.{Parts}
 use Rattle.rb_meaning_bytes.specs.Fits.{fits}
 use Rattle.rb_meaning_bytes.specs.formats.Messages.{Sent}

@@ -1,13 +1,15 @@
 -- Each part is performed as it means.
-use Rattle.std.proofs.Common.{rules, arith, refl, ap, ◌∙◌, take}
+use Rattle.std.proofs.Common.{rules, arith, refl, ap, ◌∙◌, ◌+◌, [], ◌∷◌, ◌++◌, take, drop}
+use Rattle.std.proofs.lemmas.List.{drop_all}
 use Rattle.rb_trees.specs.mirror.Code.{mirror_expr, mirror_stmt}
 use Rattle.rb_trees.specs.mirror.Remainders.{Plain, Pass, Bind, Both, Branch, Turns, Over, mirror_part, mirror_parts}
 use Rattle.rb_trees.proofs.mirror.Parts.{form_Plain, form_Pass, form_Bind, form_Both, form_Branch, form_Turns, form_Over}
 use Rattle.rb_engine.specs.Locals.{local}
 use Rattle.rb_client.specs.Lists.{item_meant}
 use Rattle.rb_client.specs.Walks.{all_meant, turn_meant}
+use Rattle.rb_client.proofs.Dropped.{dropped_one}
 use Rattle.rb_client.proofs.Enclosed.{branch_missed, branch_so, enclosed_so, loop_so, row_kept, row_missed, row_none, rows_cut, rows_so, turned_missed, turned_so, turns_begin, turns_cut, turns_end, turns_next}
-use Rattle.rb_client.proofs.Listed.{item_so, items_begin, items_cut, items_end, items_next, items_unspent, list_cut, list_missed, list_on, list_refused, list_so, over_so}
+use Rattle.rb_client.proofs.Listed.{item_so, items_begin, items_cut, items_end, items_next, items_stop, list_cut, list_missed, list_on, list_refused, list_so, over_so, spent_due, spent_less}
 use Rattle.rb_client.proofs.Parted.{all_cut, all_end, all_more, of_form, on_ends}
 use Rattle.rb_client.proofs.Weight.{part_in, part_of, part_weight, parts_of}
 use Rattle.rb_client.proofs.replay.+parts.Goals as goal
@@ -74,13 +76,13 @@ perform_part-returns-in-Turns g t c =
 
 pub perform_part-perform_list-requires : goal.perform_part-perform_list-requires
 perform_part-perform_list-requires g t c κs within =
-    (let w = ap part_weight (ap mirror_part c.in-Over.is ∙ form_Over c.in-Over.step c.in-Over.at c.in-Over.name c.in-Over.list _ c.in-Over.body) in let e = ap parts_of c.as_slice.ensures in omega arith, within)
+    (let w = ap part_weight (ap mirror_part c.in-Over.is ∙ form_Over c.in-Over.step c.in-Over.at c.in-Over.name c.in-Over.list _ c.in-Over.body) in let e = ap parts_of c.as_slice-in-Over.ensures in omega arith, within)
 
 pub perform_part-returns-in-Over : goal.perform_part-returns-in-Over
 perform_part-returns-in-Over g t c =
     of_form c.args.code.now c.args.part.now (Over c.in-Over.step c.in-Over.at c.in-Over.name c.in-Over.list _ (mirror_parts c.in-Over.body))
     (ap mirror_part c.in-Over.is ∙ form_Over c.in-Over.step c.in-Over.at c.in-Over.name c.in-Over.list _ c.in-Over.body)
-    (over_so c.args.code.now c.in-Over.step c.in-Over.at c.in-Over.name c.in-Over.list _ c.as_slice.result.now c.in-Over.body c.as_slice.ensures c.perform_list.ensures)
+    (over_so c.args.code.now c.in-Over.step c.in-Over.at c.in-Over.name c.in-Over.list 0 c.as_slice-in-Over.result.now c.in-Over.body c.as_slice-in-Over.ensures c.perform_list.ensures)
 
 pub perform_rows-returns-in_err-turn_rows : goal.perform_rows-returns-in_err-turn_rows
 perform_rows-returns-in_err-turn_rows g t c =
@@ -135,29 +137,29 @@ perform_row-returns g t c = row_none g.W.Sink c.args.code.now c.args.turns.now (
 
 pub perform_list-returns-in_err-items : goal.perform_list-returns-in_err-items
 perform_list-returns-in_err-items g t c =
-    list_refused g.W.Sink c.args.code.now c.args.turns.now _ c.items_of-items.result (local c.args.frame.now c.args.state.now) c.args.world.now _ _
-    refl c.items_of-items.ensures c.in_err-items.was (search rules)
+    list_refused g.W.Sink c.args.code.now c.args.turns.now _ c.items_of.result (local c.args.frame.now c.args.state.now) c.args.world.now _ _
+    refl c.items_of.ensures c.in_err-items.was (search rules)
 
 pub perform_list-returns : goal.perform_list-returns
 perform_list-returns g t c =
     list_so g.W.Sink c.args.code.now c.args.turns.now c.in_ok-items.items (local c.args.frame.now c.args.state.now) _ c.args.world.now _ c.turn_list.result
-    (rw c.in_ok-items.was at c.items_of-items.ensures) (rw (c.as_slice.ensures ∙ c.get.ensures) at c.turn_list.ensures)
+    (rw c.in_ok-items.was at c.items_of.ensures) (rw (c.as_slice.ensures ∙ c.get.ensures) at c.turn_list.ensures)
 
-pub turn_list-returns-in_default-count : goal.turn_list-returns-in_default-count
-turn_list-returns-in_default-count g t c =
+pub turn_list-returns-in_default : goal.turn_list-returns-in_default
+turn_list-returns-in_default g t c =
     list_missed g.W.Sink c.args.code.now c.args.turns.now c.args.items.now (local c.args.frame.now c.args.state.now) c.args.world.now _ _ _
-    c.in_default-count.ensures.0 c.in_default-count.ensures.1 refl c.in_ok-missed.ensures refl
+    c.in_default.ensures.0 c.in_default.ensures.1 refl c.in_ok-missed.ensures refl
 
 pub turn_list-returns-in_err-ended : goal.turn_list-returns-in_err-ended
 turn_list-returns-in_err-ended g t c =
-    list_cut g.W.Sink c.args.code.now c.args.turns.now c.args.items.now _ _ c.in-Some-count.count (local c.args.frame.now c.args.state.now) _ c.args.world.now _ _ _ c.perform_items-ended.result c.close.result
-    c.in-Some-count.ensures refl c.split_items.ensures.given c.split_items.ensures.lacking c.perform_items-ended.ensures refl c.close.ensures c.in_err-ended.was (search rules)
+    list_cut g.W.Sink c.args.code.now c.args.turns.now c.args.items.now _ _ c.in-Some.count (local c.args.frame.now c.args.state.now) _ c.args.world.now _ _ _ c.perform_items-ended.result c.close.result
+    c.in-Some.ensures refl c.split_items.ensures.given c.split_items.ensures.lacking c.perform_items-ended.ensures refl c.close.ensures c.in_err-ended.was (search rules)
 
 pub turn_list-returns : goal.turn_list-returns
 turn_list-returns g t c =
     on_ends
-    (list_on g.W.Sink c.args.code.now c.args.turns.now c.args.items.now _ _ c.in-Some-count.count (local c.args.frame.now c.args.state.now) _ c.args.world.now _ _ _ c.perform_items-ended.result c.close.result
-    c.in-Some-count.ensures refl c.split_items.ensures.given c.split_items.ensures.lacking c.perform_items-ended.ensures refl c.close.ensures c.in_ok-ended.was)
+    (list_on g.W.Sink c.args.code.now c.args.turns.now c.args.items.now _ _ c.in-Some.count (local c.args.frame.now c.args.state.now) _ c.args.world.now _ _ _ c.perform_items-ended.result c.close.result
+    c.in-Some.ensures refl c.split_items.ensures.given c.split_items.ensures.lacking c.perform_items-ended.ensures refl c.close.ensures c.in_ok-ended.was)
     c.perform_lack.ensures
 
 pub perform_item-returns : goal.perform_item-returns
@@ -170,10 +172,30 @@ perform_item-returns g t c =
 pub perform_named-returns : goal.perform_named-returns
 perform_named-returns g t c =
     item_so g.W.Sink c.args.code.now c.args.turns.now c.args.item.now (local c.args.frame.now c.args.state.now) (local c.bind.new.self c.args.state.now) _ c.args.world.now _ c.perform_all.result
-    (ap (λ ns. local ns c.args.state.now) ?) c.perform_all.ensures
+    (ap (λ ns. local ns c.args.state.now)
+    (c.in_ok-bind.ensures.bound ∙ ap (λ y. c.args.frame.now ++ (y, c.in_ok-value.value) ∷ []) c.as_slice.ensures ∙ ap (λ v. c.args.frame.now ++ (c.args.turns.now.name.now, v) ∷ []) c.in_ok-value.ensures))
+    c.perform_all.ensures
 
 pub perform_items-items-init : goal.perform_items-items-init
 perform_items-items-init g t c = items_begin g.W.Sink c.args.code.now c.args.turns.now c.args.items.now (local c.args.frame.now c.args.state.now) c.args.world.now
 
 pub perform_items-returns : goal.perform_items-returns
-perform_items-returns g t c = items_end ? c.items.invariant
+perform_items-returns g t c = items_end (drop_all c.items.item-index c.args.items.now (omega arith)) c.items.invariant
+
+pub perform_items-items-preserved : goal.perform_items-items-preserved
+perform_items-items-preserved g t c =
+    items_next c.item-item.result (drop (c.items.item-index + 1) c.args.items.now) c.turn.result
+    (rw (dropped_one c.args.items.now c.items.item-index c.item-item.result (omega arith) c.item-item.is) at c.items.invariant)
+    (spent_due _ _ _ c.spend.result c.spend.ensures c.in_ok-spend.was) (spent_less _ _ _ _ c.spend.result c.spend.ensures c.in_ok-spend.was) refl c.turn.ensures c.perform_item.ensures c.in_ok-perform_item.was
+
+pub perform_items-returns-in_err-perform_item : goal.perform_items-returns-in_err-perform_item
+perform_items-returns-in_err-perform_item g t c =
+    items_cut c.item-item.result (drop (c.items.item-index + 1) c.args.items.now) c.turn.result
+    (rw (dropped_one c.args.items.now c.items.item-index c.item-item.result (omega arith) c.item-item.is) at c.items.invariant)
+    (spent_due _ _ _ c.spend.result c.spend.ensures c.in_ok-spend.was) (spent_less _ _ _ _ c.spend.result c.spend.ensures c.in_ok-spend.was) refl c.turn.ensures c.perform_item.ensures c.in_err-perform_item.was (search rules)
+
+pub perform_items-returns-in_err-spend : goal.perform_items-returns-in_err-spend
+perform_items-returns-in_err-spend g t c =
+    items_stop c.item-item.result (drop (c.items.item-index + 1) c.args.items.now) c.spend.result
+    (rw (dropped_one c.args.items.now c.items.item-index c.item-item.result (omega arith) c.item-item.is) at c.items.invariant)
+    c.spend.ensures c.in_err-spend.was (search rules)
