@@ -8,10 +8,10 @@ use rb_base::Failed;
 
 /// A disk that holds one file.
 ///
-/// What a disk tells is the record of its calls, which says what a read gives (`shown`), what a crash now may leave
-/// (`MayLeave`), and what a crash at some moment since an earlier one may have left (`MayHaveLeft`). Between two syncs each
-/// written range, and the part past the old end, may hold any bytes after a crash, and the bytes outside stay. After a sync
-/// that succeeds a crash leaves what a read gives. A real device tells nothing.
+/// What a disk tells is the record of its calls. It says what a read gives (`shown`), what a crash now may leave
+/// (`MayLeave`), and what a crash at some moment since an earlier one may have left (`MayHaveLeft`). A crash can spoil only
+/// the ranges written since the last sync, and what stands behind the old end; every other byte is safe. Right after a sync
+/// that answers `Ok`, it spoils nothing. A real device tells nothing.
 pub trait Disk {
     /// The record of the calls, where the disk tells it. Whether it does is kept by each call.
     ghost told: { Self → Option DiskRecord };
@@ -37,7 +37,7 @@ pub trait Disk {
     fn write(&mut self, at: u64, bytes: &[u8]) -> Result<(), Failed>
         ensures after { Writes at bytes.now result (device told faults self.old) (device told faults self.new) };
 
-    /// After it, a crash leaves what a read gives.
+    /// Makes what was written safe: right after an `Ok`, a crash leaves what a read gives.
     fn sync(&mut self) -> Result<(), Failed>
         ensures after { Syncs result (device told faults self.old) (device told faults self.new) };
 }

@@ -66,7 +66,8 @@ impl<D: Disk> Journal<D> {
         }
     }
 
-    /// Opens the journal on a disk. It syncs first, writes nothing, and performs each kept payload on the host, in order.
+    /// Opens the journal on a disk. A sync comes before all else. The kept payloads are then performed on the host, in their
+    /// order, and the disk isn't written.
     ///
     /// After a stop nothing is said of the host's table.
     pub fn open(alloc: Global, disk: D, host: &mut Host) -> Result<Journal<D>, Stopped<D>>
@@ -110,8 +111,8 @@ impl<D: Disk> Journal<D> {
         disk
     }
 
-    /// Adds a payload. At `Ok` it is kept: each crash from then on leaves it. After `DiskFault` the disk may stand for the
-    /// payloads before it or for these and the new one, and the journal is to be opened again.
+    /// Adds a payload. At `Ok` it is kept: each crash from then on leaves it. After `DiskFault` nobody knows whether the disk
+    /// stands for the old payloads alone or has this one too, and the journal is to be opened again.
     pub fn append(&mut self, payload: &[u8]) -> Result<(), JournalStop>
         requires { IsPayload payload.now }
         ensures kept { OnOk result (KeepsMore D.told self.old (payload.now ∷ []) self.new) }
