@@ -55,15 +55,16 @@ pub gives_by : {X Y : Type 0} (view : X → Y) (r : Result X SplitStop) (m m' : 
 gives_by view r m m' e h = subst (λ x. Gives view refusal_of r x) (sym e) h
 
 -- a division, by what is drafted of its block
-abbrev division_by : ℕ → List (List ℕ) → ℕ → Drafted → Division
-division_by at inputs n d = record { at = at; inputs = inputs; script = record { inputs = n; lists = []; body = d.steps }; remainder = d.parts }
+abbrev division_by : ℕ → List (List ℕ) → ℕ → List ℕ → Drafted → Division
+division_by at inputs n lists d = record { at = at; inputs = inputs; script = record { inputs = n; lists = lists; body = d.steps }; remainder = d.parts }
 
-pub division_so : (p : Program) (at n : ℕ) (root : List ℕ) (scope : Scope) (block : Stmts) (inputs slice : List (List ℕ)) (refs : Refs) (d : Drafted)
-    → d ≡ block_drafted p refs scope (fresh 0 0) block → refs ≡ first_refs root slice → slice ≡ inputs → n ≡ length inputs
-    → division_by at inputs n d ≡ division_with p at root scope block inputs
-division_so p at n root scope block inputs slice refs d ed er es en =
-    ap (division_by at inputs n) (ed ∙ block_so p refs scope (fresh 0 0) block ∙ ap (λ x. block_put p x scope (fresh 0 0) block) (er ∙ ap (first_refs root) es))
-    ∙ ap (λ x. division_by at inputs x (block_put p (first_refs root inputs) scope (fresh 0 0) block)) en
+pub division_so : (p : Program) (at n : ℕ) (root lists : List ℕ) (scope : Scope) (block : Stmts) (inputs slice : List (List ℕ)) (refs : Refs) (d : Drafted)
+    → lists ≡ [] → d ≡ block_drafted p refs scope (fresh 0 0) block → refs ≡ first_refs root slice → slice ≡ inputs → n ≡ length inputs
+    → division_by at inputs n lists d ≡ division_with p at root scope block inputs
+division_so p at n root lists scope block inputs slice refs d el ed er es en =
+    ap (λ x. division_by at inputs n x d) el
+    ∙ ap (division_by at inputs n []) (ed ∙ block_so p refs scope (fresh 0 0) block ∙ ap (λ x. block_put p x scope (fresh 0 0) block) (er ∙ ap (first_refs root) es))
+    ∙ ap (λ x. division_by at inputs x [] (block_put p (first_refs root inputs) scope (fresh 0 0) block)) en
 
 -- the batch at a place
 pub begun_at : (bs : List OpenBatch) (os : List Outermost) (i : ℕ) (b : OpenBatch) → map begun_of bs ≡ map begun os → i < length bs → b ≡ get_or bs i b
