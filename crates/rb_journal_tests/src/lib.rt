@@ -1,0 +1,11 @@
+//! Tests of the journal over disks in memory.
+#![tactic(auto)]
+
+#[cfg(test)]
+mod crashes;
+#[cfg(test)]
+mod hosts;
+#[cfg(test)]
+mod payloads;
+#[cfg(test)]
+mod rows;
