@@ -4,9 +4,9 @@
 // and tests of scripts that were made otherwise ask this one.
 
 ghost use Rattle.std.specs.Prelude.{◌≡◌, ◌+◌, ◌<◌, false, OnOk};
-ghost use Rattle.rb_trees.specs.mirror.Scripts.{mirror_sexpr, mirror_sexprs, mirror_step, mirror_steps, mirror_script};
-ghost use Rattle.rb_trees.specs.Validity.{has, first, inputs_of, input_refusals, list_refusals, nested_blocks, expr_refusals, exprs_refusals, whole_refusals, step_numbers, steps_numbers, step_lets, steps_lets, step_refusals, steps_refusals, verdict};
-ghost use Rattle.rb_trees.specs.Scopes.{seen, bound};
+ghost use Rattle.rb_trees.specs.mirror.Scripts.{mirror_step, mirror_steps, mirror_script};
+ghost use Rattle.rb_trees.specs.Validity.{has, first, inputs_of, input_refusals, list_refusals, nested_blocks, step_numbers, steps_numbers, step_lets, steps_lets, verdict};
+ghost use Rattle.rb_trees.specs.Scopes.{seen, bound, expr_verdict, exprs_verdict, whole_verdict, step_verdict, steps_verdict};
 
 use crate::limits::{MOST_BLOCKS, MOST_EXPRS};
 use crate::scripts::{Invocation, Operands, SExpr, Script, Step, StepForm};
@@ -175,7 +175,7 @@ fn check_expr(
     step: u32,
     depth: u32,
 ) -> Result<(), ScriptRefusal>
-    ensures { result ≡ first (expr_refusals (inputs_of (mirror_script script.now)) (bound scope.now) step depth (mirror_sexpr expr.now)) }
+    ensures { result ≡ expr_verdict script.now scope.now step depth expr.now }
 {
     if depth > MOST_EXPRS {
         return Err(ScriptRefusal::TooDeep(step));
@@ -213,7 +213,7 @@ fn check_exprs(
     step: u32,
     depth: u32,
 ) -> Result<(), ScriptRefusal>
-    ensures { result ≡ first (exprs_refusals (inputs_of (mirror_script script.now)) (bound scope.now) step depth (mirror_sexprs exprs.now)) }
+    ensures { result ≡ exprs_verdict script.now scope.now step depth exprs.now }
 {
     for expr in exprs {
         check_expr(expr, script, scope, step, depth)?;
@@ -229,7 +229,7 @@ fn check_whole(
     scope: &Around,
     step: u32,
 ) -> Result<(), ScriptRefusal>
-    ensures { result ≡ first (whole_refusals (inputs_of (mirror_script script.now)) (bound scope.now) step (mirror_sexpr expr.now)) }
+    ensures { result ≡ whole_verdict script.now scope.now step expr.now }
 {
     check_expr(expr, script, scope, step, 1)
 }
@@ -254,7 +254,7 @@ fn check_block<'x>(
     depth: u32,
     scope: &'x Around<'x>,
 ) -> Result<(), ScriptRefusal>
-    ensures { result ≡ first (steps_refusals (inputs_of (mirror_script script.now)) depth (seen scope.now) (bound scope.now) (mirror_steps steps.now)) }
+    ensures { result ≡ steps_verdict script.now scope.now depth steps.now }
 {
     for i in 0..steps.len() {
         let here = Around::Block(&steps[..i], scope);
@@ -271,7 +271,7 @@ fn check_step<'x>(
     depth: u32,
     scope: &'x Around<'x>,
 ) -> Result<(), ScriptRefusal>
-    ensures { result ≡ first (step_refusals (inputs_of (mirror_script script.now)) depth (seen scope.now) (bound scope.now) (mirror_step step.now)) }
+    ensures { result ≡ step_verdict script.now scope.now depth step.now }
 {
     if is_seen(scope, step.id) {
         return Err(ScriptRefusal::StepRepeated(step.id));
@@ -289,7 +289,7 @@ fn check_form<'x>(
     scope: &'x Around<'x>,
 ) -> Result<(), ScriptRefusal>
     requires { has step.now.id (seen scope.now) ≡ false }
-    ensures { result ≡ first (step_refusals (inputs_of (mirror_script script.now)) depth (seen scope.now) (bound scope.now) (mirror_step step.now)) }
+    ensures { result ≡ step_verdict script.now scope.now depth step.now }
 {
     match &step.form {
         StepForm::Do(expr) | StepForm::Keep(expr) => check_whole(expr, script, scope, step.id),
