@@ -1,7 +1,7 @@
 // The script: a loop over the files of the root, in whose body ten steps stand again and again.
 
 use rb_trees::{
-    BinOp, Boxed, Invocation, Memory, Operands, SExpr, Script, Seq, Step, StepForm, UnOp, Value,
+    BinOp, Boxed, Invocation, Memory, Operands, SExpr, Script, Seq, Shared, Step, StepForm, UnOp, Value,
 };
 use std::alloc::Global;
 
@@ -191,7 +191,7 @@ fn call(
         args.push(argument)?;
     }
     let call = Invocation {
-        method: Seq::from_slice(alloc, method)?,
+        method: Shared::new(alloc, Seq::from_slice(alloc, method)?)?,
         target,
         args,
     };

@@ -97,7 +97,7 @@ impl Sum {
                     args,
                 } = call.get();
                 self.add_two(*at, u32::from(*kind));
-                self.add_bytes(method.as_slice());
+                self.add_bytes(method.get().as_slice());
                 self.add_expr(target);
                 self.add_exprs(args);
             }

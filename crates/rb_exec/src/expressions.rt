@@ -106,7 +106,7 @@ impl Scope<'_> {
             place,
             kind,
             receiver,
-            call.method.as_slice(),
+            call.method.get().as_slice(),
             values,
         )
     }

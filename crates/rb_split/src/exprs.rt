@@ -12,7 +12,7 @@ ghost use Rattle.rb_split.specs.Views.{all_in_script, in_script, ref_of};
 use crate::refs::Referent;
 use crate::terms::Terms;
 use rb_trees::{
-    BinOp, Boxed, Expr, ExprForm, Invocation, Memory, Operands, SExpr, Seq, UnOp, Word, copy_value,
+    BinOp, Boxed, Expr, ExprForm, Invocation, Memory, Operands, SExpr, Seq, Shared, UnOp, Word, copy_value,
     copy_word,
 };
 use std::alloc::Global;
@@ -41,7 +41,7 @@ fn call_of(
     ensures { IfOk result (λ e. mirror_sexpr e ≡ script.Call at kind method.now (mirror_sexpr target) (mirror_sexprs args)) }
 {
     let call = Invocation {
-        method: copy_word(alloc, method)?,
+        method: Shared::new(alloc, copy_word(alloc, method)?)?,
         target,
         args,
     };

@@ -3,6 +3,7 @@
 use crate::boxes::Boxed;
 use crate::code::{BinOp, UnOp};
 use crate::sequence::{Seq, Word};
+use crate::shared::Shared;
 use crate::values::Value;
 use std::mem::size_of;
 
@@ -61,10 +62,10 @@ pub struct Operands<E> {
     pub right: E,
 }
 
-/// What a remote call names: the method, the object that has it, and the arguments.
+/// What a remote call names: the method, the object that has it, and the arguments. Calls of one method may share its name.
 #[derive(Drop)]
 pub struct Invocation<E> {
-    pub method: Word,
+    pub method: Shared<Word>,
     pub target: E,
     pub args: Seq<E>,
 }

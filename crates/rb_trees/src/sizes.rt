@@ -46,7 +46,7 @@ fn size_of_expr(expr: &SExpr) -> u64
             size_of_expr(target)
                 .saturating_add(args)
                 .saturating_add(14)
-                .saturating_add(method.len() as u64)
+                .saturating_add(method.get().len() as u64)
         }
     }
 }

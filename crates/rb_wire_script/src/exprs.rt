@@ -11,7 +11,7 @@ ghost use Rattle.rb_wire_fields.specs.Stops.{fault_of};
 use crate::lists::fitted;
 use crate::names::name;
 use crate::operators::{binary_op, kind, unary_op};
-use rb_trees::{Boxed, Invocation, Operands, SExpr, Seq};
+use rb_trees::{Boxed, Invocation, Operands, SExpr, Seq, Shared};
 use rb_wire_fields::fields::{bad_tag, byte, number, too_deep};
 use rb_wire_fields::stop::Stop;
 use rb_wire_fields::texts::value;
@@ -94,7 +94,7 @@ fn call(alloc: Global, left: usize, bytes: &[u8]) -> Result<(SExpr, &[u8]), Stop
     let (count, rest) = number(rest)?;
     let (args, rest) = exprs(alloc, left, count, rest)?;
     let call = Invocation {
-        method,
+        method: Shared::new(alloc, method)?,
         target,
         args,
     };

@@ -81,7 +81,7 @@ fn put_expr(e: &SExpr, into: &mut BytesMut) -> Result<(), Memory>
                 target,
                 args,
             } = call.get();
-            put_method(*at, *kind, method.as_slice(), into)?;
+            put_method(*at, *kind, method.get().as_slice(), into)?;
             put_expr(target, into)?;
             put_count(args.len(), into)?;
             put_exprs(args.as_slice(), into)?;

@@ -37,7 +37,7 @@ fn add_expr(alloc: Global, e: &SExpr, into: &mut Word) -> Result<(), Memory> {
             } = call.get();
             add_expr(alloc, target, into)?;
             add_number(alloc, ".", u32::from(*kind), into)?;
-            into.extend_from_slice(method.as_slice())?;
+            into.extend_from_slice(method.get().as_slice())?;
             add_exprs(alloc, args, into)
         }
     }

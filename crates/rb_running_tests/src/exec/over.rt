@@ -34,7 +34,7 @@ fn with_item(alloc: Global, op: BinOp, left: SExpr) -> Result<SExpr, Memory> {
 /// The numbers of the service's root.
 fn numbers(alloc: Global) -> Result<SExpr, Memory> {
     let call = Invocation {
-        method: Seq::from_slice(alloc, b"numbers")?,
+        method: Shared::new(alloc, Seq::from_slice(alloc, b"numbers")?)?,
         target: SExpr::Root,
         args: Seq::new(alloc),
     };

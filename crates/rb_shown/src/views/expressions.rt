@@ -99,7 +99,7 @@ pub fn add_sexpr(alloc: Global, expr: &SExpr, into: &mut Word) -> Result<(), Mem
                 args,
             } = call.get();
             add_sexpr(alloc, target, into)?;
-            add_call(alloc, method, args.as_slice(), into)
+            add_call(alloc, method.get(), args.as_slice(), into)
         }
     }
 }

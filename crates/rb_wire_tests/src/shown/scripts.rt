@@ -77,7 +77,7 @@ pub fn add_binary(alloc: Global, into: &mut Seq<Step>) -> Result<(), Memory> {
 /// A call on the root with these arguments.
 pub fn call(alloc: Global, method: &str, args: Seq<SExpr>) -> Result<SExpr, Memory> {
     let call = Invocation {
-        method: word(alloc, method)?,
+        method: Shared::new(alloc, word(alloc, method)?)?,
         target: SExpr::Root,
         args,
     };
