@@ -1,11 +1,16 @@
--- The formats of messages, version 1: which bytes spell a script, a forest or a refusal, and what is violated first in
+-- The formats of messages, by the version: which bytes spell a script, a forest or a refusal, and what is violated first in
 -- other bytes.
+pub mod Shorts
 pub mod Fields
 pub mod Formats
+pub mod Staged
+pub mod Pools
 pub mod Laws
 pub mod Values
+pub mod Items
 pub mod Messages
 pub mod Scripts
+pub mod ScriptMessages
 pub mod Forests
 pub mod Refusals
 pub mod Reading

@@ -1,11 +1,11 @@
 -- Reading a format gives its value where the bytes spell one, and else the first violation. Nothing here knows a message.
-use Rattle.std.proofs.Common.{◌≡◌, ℕ, zero, suc, ◌+◌, ◌-◌, ◌≤◌, List, [], ◌∷◌, ◌++◌, length, Result, Ok, Err, refl, ap, sym, ◌∙◌, subst, arith, append_assoc, append-nil, length-append, Bool, true, false, cond, ◌⊎◌, inl, inr}
+use Rattle.std.proofs.Common.{◌≡◌, ℕ, ◌+◌, ◌-◌, ◌≤◌, List, [], ◌∷◌, ◌++◌, length, Result, Ok, Err, refl, ap, sym, ◌∙◌, subst, arith, append_assoc, append-nil, length-append, ◌⊎◌, inl, inr}
 use Rattle.rb_meaning_bytes.specs.formats.Fields.{Field, Of, spelled, Violates, wrong, cut, trailing}
 use Rattle.rb_meaning_bytes.specs.formats.Formats.{Format, Done, Then, ◌>>=◌, Spells, done, more, Reaches, here, behind, FirstViolation, within, behind_all}
 use Rattle.rb_meaning_bytes.specs.formats.Reading.{Fault, Read, on, look, read, on_all, read_all}
 use Rattle.rb_meaning_bytes.proofs.formats.FieldLaws as fields
 use Rattle.rb_meaning_bytes.specs.formats.Fields.{IsBytes}
-use Rattle.rb_meaning_bytes.proofs.formats.FieldLaws.{rest_bytes}
+use Rattle.rb_meaning_bytes.proofs.formats.FieldParts.{rest_bytes}
 
 -- reading one format after another
 pub bound : {A B : Type 0} (F : Format A) (k : A → Format B) (bytes : List ℕ) → read (F >>= k) bytes ≡ on (read F bytes) (λ a rest. read (k a) rest)

@@ -1,5 +1,5 @@
 -- Looking at a field gives the value that the bytes spell, or what is violated.
-use Rattle.std.proofs.Common.{◌≡◌, ◌⊎◌, ℕ, ℤ, zero, suc, ◌+◌, ◌-◌, ◌<◌, ◌≤◌, ◌^◌, Bool, true, false, cond, ltb, List, [], ◌∷◌, ◌++◌, length, take, drop, Result, Ok, Err, refl, ap, sym, ◌∙◌, subst, arith, append_assoc, length-append, inl, inr, drop-drop}
+use Rattle.std.proofs.Common.{◌≡◌, ℕ, ℤ, zero, suc, ◌+◌, ◌<◌, ◌≤◌, ◌^◌, true, false, cond, ltb, List, [], ◌∷◌, ◌++◌, length, take, drop, None, Some, Ok, Err, refl, ap, sym, ◌∙◌, subst, arith, append_assoc, length-append, inl, inr, drop-drop}
 use Rattle.std.specs.Int.{Width, w32, w64, byte_len, from_be_bytes, to_be_bytes, cast_signed, cast_unsigned}
 use Rattle.std.specs.Int.RustNames.{FitsSigned}
 use Rattle.std.specs.Str.{is_utf8}
@@ -7,43 +7,15 @@ use Rattle.std.proofs.lemmas.Int.{to_z-of_z, of_z-to_z}
 use borrow.Author.Gap.{read_sfits}
 use mir.Facts.{Fits-of_z, Fits-lt-pow}
 use Rattle.std.proofs.lemmas.Bool.{cases_lt, ltb-true, ltb-false, le-ltb, lt-ltb}
-use Rattle.std.proofs.lemmas.List.{take_at, drop_at, take-append-drop, length-take, length-drop, get_or-drop, get_or-take, get_or_past}
+use Rattle.std.proofs.lemmas.List.{take_at, drop_at, take-append-drop, length-take, length-drop}
 use Rattle.std.proofs.lemmas.Nat.{be_bytes_4, be_bytes_8, from_be_bytes-to_be_bytes_4, from_be_bytes-to_be_bytes_8}
 use Rattle.rb_trees.specs.Limits.{longest_text}
-use Rattle.rb_meaning_bytes.specs.formats.Fields.{IsBytes, Field, Tag, Byte, Number, Wide, Truth, Text, Name, Deeper, Of, spelled, number, wide_number, text, Fits, is_name, announced, content, needs, Wrong, no_such_tag, no_truth, too_long, no_utf8, no_name, deeper, Violates, wrong, cut, bad_tag, bad_text, not_canonical, too_deep}
+use Rattle.rb_meaning_bytes.specs.formats.Fields.{IsBytes, Field, Tag, Byte, Number, Wide, Truth, Text, Name, Short, Zig, Brief, Check, Deeper, Of, spelled, number, wide_number, text, Fits, is_name, announced, content, needs, Wrong, no_such_tag, no_truth, too_long, no_utf8, no_name, no_short, refused_number, no_zig, no_length, too_much, refused_bytes, refused_here, deeper, Violates, wrong, cut, bad_tag, bad_text, not_canonical, too_deep}
 use Rattle.std.proofs.Math.Seq.{take-append_seam, drop-append_seam}
-use Rattle.rb_meaning_bytes.specs.formats.Reading.{Fault, look, is_cut, fixed}
-
-pub IsBytes-drop : (n : ℕ) (bytes : List ℕ) → IsBytes bytes → IsBytes (drop n bytes)
-IsBytes-drop n bytes h i = rw get_or-drop (h (n + i))
-
-IsBytes-take : (n : ℕ) (bytes : List ℕ) → IsBytes bytes → IsBytes (take n bytes)
-IsBytes-take n bytes h i =
-    elim (cases_lt i n) [
-      | inl lt ↦ rw (get_or-take n bytes i 0 lt) (h i)
-      | inr le ↦ rw (get_or_past (take n bytes) i 0 (omega (arith, length-take n bytes))) (omega arith)
-    ]
-
-IsBytes-rest : (b : ℕ) (bytes : List ℕ) → IsBytes (b ∷ bytes) → IsBytes bytes
-IsBytes-rest b bytes h i = h (suc i)
-
-pub rest_bytes : (payload front rest : List ℕ) → payload ≡ front ++ rest → IsBytes payload → IsBytes rest
-rest_bytes payload front rest i b = subst IsBytes (ap (λ l. drop (length front) l) i ∙ drop-append_seam front rest) (IsBytes-drop (length front) payload b)
-
--- a field at the front of the bytes
-pub record Took (f : Field) (bytes : List ℕ) (x : Of f × List ℕ) : Type 0 where
-  pub is : bytes ≡ spelled f x.0 ++ x.1
-  pub fits : Fits f x.0
-  pub rest_fits : IsBytes x.1
-
--- what a test says of the answer
-good : {A : Type 0} (b : Bool) (y x : A) (e : Fault) → cond b (Ok y) (Err e) ≡ Ok x → (b ≡ true) × (y ≡ x)
-good true y x e h = (refl, cc)
-good false y x e h = absurd cc
-
-good_else : {A : Type 0} (b : Bool) (r : Result A Fault) (x : A) (e : Fault) → cond b (Err e) r ≡ Ok x → (b ≡ false) × (r ≡ Ok x)
-good_else true r x e h = absurd cc
-good_else false r x e h = (refl, h)
+use Rattle.rb_meaning_bytes.specs.formats.Reading.{Fault, look, is_cut, fixed, unrefused}
+use Rattle.rb_meaning_bytes.proofs.formats.FieldParts.{IsBytes-drop, IsBytes-take, IsBytes-rest, Took, good, good_else, bad, bad_else, cut_at, wrong_at}
+use Rattle.rb_meaning_bytes.proofs.formats.GroupLaws.{short_took_field, short_again_field, short_wrongly, short_seen, short_lacking, zig_took, zig_again, zig_wrongly, zig_seen, zig_lacking}
+use Rattle.rb_meaning_bytes.proofs.formats.BriefLaws.{brief_took, brief_again, brief_wrongly, brief_seen, brief_lacking}
 
 -- ---- numbers
 
@@ -159,6 +131,9 @@ text_there bytes rest h =
 
 -- ---- fields
 
+abbrev checked : List ℕ → Unit {0} × List ℕ
+checked bytes = (tt, bytes)
+
 pub took : (f : Field) (bytes : List ℕ) (x : Of f × List ℕ) → IsBytes bytes → look f bytes ≡ Ok x → Took f bytes x
 unfolding look number wide_number
 took (Tag test) [] x b e = absurd cc
@@ -204,6 +179,11 @@ took Name bytes x b e =
     let formed = good (is_name (content bytes)) (content bytes, drop (4 + announced bytes) bytes) x (bad_text, length bytes) whole.1 in
     let t = text_took bytes b (ltb-false _ _ whole.0) in
     subst (λ y. Took Name bytes y) formed.1 (record { is = t.is; fits = (t.fits, formed.0); rest_fits = t.rest_fits })
+took (Short test) bytes x b e = short_took_field test bytes x b e
+took Zig bytes x b e = zig_took bytes x b e
+took (Brief most test) bytes x b e = brief_took most test bytes x b e
+took (Check None) bytes x b e = let i : checked bytes ≡ x = cc in subst (λ y. Took (Check None) bytes y) i (record { is = refl; fits = refl; rest_fits = b })
+took (Check (Some n)) bytes x b e = absurd cc
 took Deeper bytes x b e = absurd x.0
 
 fixed_again : {A : Type 0} (w : Width) (limit : ℕ) (wide : IsWide w limit) (g : ℕ → A) (n : ℕ) (rest : List ℕ) → n < limit → fixed (byte_len w) (λ front. g (from_be_bytes w front)) (to_be_bytes w n ++ rest) ≡ Ok (g n, rest)
@@ -235,24 +215,13 @@ again Truth false rest h = refl
 again Truth true rest h = refl
 again Text bytes rest h = let t = text_there bytes rest (omega (arith, h.0)) in text_again (text bytes ++ rest) bytes rest t.announced_is t.content_is t.rest_is t.long h.0 h.1
 again Name bytes rest h = let t = text_there bytes rest h.0 in name_again (text bytes ++ rest) bytes rest t.content_is t.rest_is t.long h.1
+again (Short test) n rest h = short_again_field test n rest h.0 h.1
+again Zig z rest h = zig_again z rest h
+again (Brief most test) bytes rest h = brief_again most test bytes rest h.0 h.1 h.2
+again (Check refused) x rest h = ap (λ v. unrefused v rest (Ok (checked rest))) h
 again Deeper x rest h = absurd x
 
 -- ---- what is violated
-
-bad : {A : Type 0} (b : Bool) (y : A) (d e : Fault) → cond b (Ok y) (Err d) ≡ Err e → (b ≡ false) × (d ≡ e)
-bad true y d e h = absurd cc
-bad false y d e h = (refl, cc)
-
-bad_else : {A : Type 0} (b : Bool) (r : Result A Fault) (d e : Fault) → cond b (Err d) r ≡ Err e → ((b ≡ true) × (d ≡ e)) ⊎ ((b ≡ false) × (r ≡ Err e))
-bad_else true r d e h = inl (refl, cc)
-bad_else false r d e h = inr (refl, h)
-
--- a violation at its place
-cut_at : (f : Field) (bytes : List ℕ) (e : Fault) → is_cut ≡ e → length bytes < needs f bytes → ((n : ℕ) → ¬ Wrong f bytes n) → Violates f bytes e.0 e.1
-cut_at f bytes e i h w = subst (λ z. Violates f bytes z.0 z.1) i (cut h w)
-
-wrong_at : (f : Field) (bytes : List ℕ) (n : ℕ) (e : Fault) → (n, length bytes) ≡ e → Wrong f bytes n → Violates f bytes e.0 e.1
-wrong_at f bytes n e i w = subst (λ z. Violates f bytes z.0 z.1) i (wrong w)
 
 right_text : (bytes : List ℕ) (n : ℕ) → announced bytes ≤ longest_text → length bytes < 4 + announced bytes → Wrong Text bytes n → ⊥
 right_text _ _ h k (too_long bytes l) = omega arith
@@ -304,6 +273,11 @@ wrongly Name bytes e bb h =
       | inl g ↦ cut_at Name bytes e g.1 (ltb-true _ _ g.0) (λ n. right_name bytes n (ltb-true _ _ g.0))
       | inr whole ↦ let g = bad (is_name (content bytes)) _ (bad_text, length bytes) e whole.1 in wrong_at Name bytes _ e g.1 (no_name bytes (ltb-false _ _ whole.0) g.0)
     ]
+wrongly (Short test) bytes e bb h = short_wrongly test bytes e bb h
+wrongly Zig bytes e bb h = zig_wrongly bytes e bb h
+wrongly (Brief most test) bytes e bb h = brief_wrongly most test bytes e bb h
+wrongly (Check None) bytes e bb h = absurd cc
+wrongly (Check (Some n)) bytes e bb h = wrong_at (Check (Some n)) bytes n e (cc) (refused_here n bytes)
 wrongly Deeper [] e bb h = cut_at Deeper [] e (cc) (omega arith) (λ n w. elim w [ ])
 wrongly Deeper (b ∷ rest) e bb h = wrong_at Deeper (b ∷ rest) too_deep e (cc) (deeper b rest)
 
@@ -321,6 +295,13 @@ seen _ _ _ bb (no_utf8 bytes h u) =
           rw (short, whole, u) refl
     ]
 seen _ _ _ bb (no_name bytes h u) = let whole : ltb (length bytes) (4 + announced bytes) ≡ false = le-ltb _ _ h in rw (whole, u) refl
+seen (Short test) _ _ bb (no_short bytes none) = short_seen test bytes _ bb (no_short bytes none)
+seen (Short test) _ _ bb (refused_number n number rest h t) = short_seen test _ number bb (refused_number n number rest h t)
+seen _ _ _ bb (no_zig bytes none) = zig_seen bytes _ bb (no_zig bytes none)
+seen (Brief most test) _ _ bb (no_length bytes none) = brief_seen most test bytes _ bb (no_length bytes none)
+seen (Brief most test) _ _ bb (too_much n rest h m) = brief_seen most test _ _ bb (too_much n rest h m)
+seen (Brief most test) _ _ bb (refused_bytes bytes rest number h few t) = brief_seen most test _ number bb (refused_bytes bytes rest number h few t)
+seen _ _ _ bb (refused_here number bytes) = refl
 seen _ _ _ bb (deeper b rest) = refl
 
 -- a field that lacks bytes is seen to
@@ -342,6 +323,10 @@ lacking Text bytes bb h w =
           rw (short, t) refl
     ]
 lacking Name bytes bb h w = let t = lt-ltb _ _ h in rw t refl
+lacking (Short test) bytes bb h w = short_lacking test bytes bb h w
+lacking Zig bytes bb h w = zig_lacking bytes bb h w
+lacking (Brief most test) bytes bb h w = brief_lacking most test bytes bb h w
+lacking (Check refused) bytes bb h w = absurd (omega arith)
 lacking Deeper [] bb h w = refl
 lacking Deeper (b ∷ rest) bb h w = absurd (omega arith)
 

@@ -1,5 +1,5 @@
 -- What a format spells is what a function of the value gives, and the value is a good one. By the format's steps.
-use Rattle.std.proofs.Common.{◌≡◌, ℕ, zero, suc, ◌+◌, Bool, true, false, cond, nat_eq, List, [], ◌∷◌, ◌++◌, refl, ap, sym, ◌∙◌, subst, append_assoc, append-nil}
+use Rattle.std.proofs.Common.{◌≡◌, ℕ, zero, suc, Bool, true, false, cond, nat_eq, List, [], ◌∷◌, ◌++◌, refl, ap, sym, ◌∙◌, subst, append_assoc, append-nil}
 use Rattle.std.proofs.lemmas.Bool.{eqb-true}
 use Rattle.rb_meaning_bytes.specs.formats.Fields.{Field, Of, spelled, Fits}
 use Rattle.rb_meaning_bytes.specs.formats.Formats.{Format, Done, Then, ◌>>=◌, deeper, choose, picked, is_tag, times, Spells, done, more}
@@ -15,15 +15,15 @@ Making {A} F front p ok = (bytes : List ℕ) (a : A) → Spells F bytes a → Ma
 pub record Only {A : Type 0} (F : Format A) (front : List ℕ) (p : A → List ℕ) (ok : A → Type 0) : Type 0 where
   pub made : Making F front p ok
 
-record Split {A B : Type 0} (F : Format A) (k : A → Format B) (bytes : List ℕ) (b : B) : Type 0 where
-  xs : List ℕ
-  ys : List ℕ
-  a : A
-  is : bytes ≡ xs ++ ys
-  one : Spells F xs a
-  two : Spells (k a) ys b
+pub record Split {A B : Type 0} (F : Format A) (k : A → Format B) (bytes : List ℕ) (b : B) : Type 0 where
+  pub xs : List ℕ
+  pub ys : List ℕ
+  pub a : A
+  pub is : bytes ≡ xs ++ ys
+  pub one : Spells F xs a
+  pub two : Spells (k a) ys b
 
-split : {A B : Type 0} (F : Format A) (k : A → Format B) (bytes : List ℕ) (b : B) → Spells (F >>= k) bytes b → Split F k bytes b
+pub split : {A B : Type 0} (F : Format A) (k : A → Format B) (bytes : List ℕ) (b : B) → Spells (F >>= k) bytes b → Split F k bytes b
 split (Done a) k bytes b s = record { xs = []; ys = bytes; a = a; is = refl; one = done a; two = s }
 split (Then f next) k _ _ (more {bytes = bytes} {a = b} x h s) =
     let t = split (next x) k bytes b s in

@@ -1,232 +1,126 @@
 -- What a script is spelled by is its bytes, and it can be sent.
-use Rattle.std.proofs.Common.{◌≡◌, ℕ, zero, suc, ◌<◌, ◌^◌, Bool, nat_le, List, [], ◌∷◌, ◌++◌, length, refl, ap, sym, ◌∙◌, subst, arith, append_assoc}
-use Rattle.std.proofs.lemmas.Bool.Decides.{nat_tests}
+use Rattle.std.proofs.Common.{◌≡◌, ℕ, ◌<◌, ◌^◌, List, [], ◌∷◌, ◌++◌, length, refl, ap, sym, ◌∙◌, subst, arith, append_assoc, append-nil, take_all}
 use Rattle.rb_trees.specs.declared.values.Value.{Value}
-use Rattle.rb_trees.specs.declared.code.UnOp.{UnOp}
-use Rattle.rb_trees.specs.declared.code.UnOp.TheVariants as un
-use Rattle.rb_trees.specs.declared.code.BinOp.{BinOp}
-use Rattle.rb_trees.specs.declared.code.BinOp.TheVariants as bin
-use Rattle.rb_trees.specs.mirror.Scripts as tree
-use Rattle.rb_trees.specs.mirror.Scripts.{SExpr, Step, Steps, Script, sexprs_from, steps_from}
-use Rattle.rb_meaning_bytes.specs.formats.Fields.{Byte, Number, Truth, Name, Tag, number, text, truth}
-use Rattle.rb_meaning_bytes.specs.formats.Formats.{Format, times}
-use Rattle.rb_meaning_bytes.specs.formats.Values.{value}
-use Rattle.rb_meaning_bytes.specs.formats.Scripts.{unary_op, unary_ops, binary_op, binary_ops, kind, expr, expr_forms, whole_expr, step, step_forms, block, script_message, script_1}
-use Rattle.rb_meaning_bytes.specs.formats.ScriptBytes.{value_bytes, values_bytes, unary_code, binary_code, expr_bytes, exprs_bytes, count_exprs, step_bytes, steps_bytes, block_bytes, count_steps}
-use Rattle.rb_meaning_bytes.specs.formats.FormedScripts.{IsPrimitive, ArePrimitive, FormedExpr, FormedExprs, FormedStep, FormedSteps, Within, AllWithin, WholeWithin, StepWithin, StepsWithin, BlockWithin, HasNoOver, HaveNoOver, IsWithinLimits}
+use Rattle.rb_trees.specs.declared.versions.Version.{Version}
+use Rattle.rb_trees.specs.declared.versions.Version.TheVariants.{One, Two}
+use Rattle.rb_trees.specs.mirror.Scripts.{Steps, Script}
+use Rattle.rb_meaning_bytes.specs.formats.Fields.{Byte}
+use Rattle.rb_meaning_bytes.specs.formats.Formats.{Spells}
+use Rattle.rb_meaning_bytes.specs.formats.Staged.{Used}
+use Rattle.rb_meaning_bytes.specs.formats.Items.{list_numbers}
+use Rattle.rb_meaning_bytes.specs.formats.Values.{version_byte}
+use Rattle.rb_meaning_bytes.specs.formats.Scripts.{block, input_values, values_and_code}
+use Rattle.rb_meaning_bytes.specs.formats.ScriptMessages.{pool, all_used, script, script_message}
+use Rattle.rb_meaning_bytes.specs.formats.ScriptBytes.{pool_of, pool_bytes, inputs_bytes, inputs_texts, block_bytes, steps_texts, message_bytes}
+use Rattle.rb_meaning_bytes.specs.formats.FormedScripts.{IsWithinLimits}
 use Rattle.rb_meaning_bytes.specs.formats.Messages.{Sent}
-use Rattle.rb_meaning_bytes.specs.formats.ScriptPayloads.{CanBeSent, sent_bytes}
-use Rattle.rb_meaning_bytes.proofs.formats.Only.{Only, only_done, only_more, only_deeper, only_bind, only_choose, only_times}
-use Rattle.rb_meaning_bytes.proofs.formats.Values.{value_only}
-use Rattle.rb_meaning_bytes.proofs.formats.Inputs.{primitive_inputs, no_list_numbers}
+use Rattle.rb_meaning_bytes.specs.formats.ScriptPayloads.{CanBeSent, Suits, sent_bytes, version_of}
+use Rattle.rb_meaning_bytes.proofs.formats.Only.{Only, only_done, only_more, only_bind, only_choose}
+use Rattle.rb_meaning_bytes.proofs.formats.Inputs.{fine_inputs, list_numbers_rise, primitive_numbers}
+use Rattle.rb_meaning_bytes.proofs.formats.PoolLaws.{Words, Uses}
+use Rattle.rb_meaning_bytes.proofs.formats.StagedOnly.{StagedOnly, staged_give, staged_bind}
+use Rattle.rb_meaning_bytes.proofs.formats.PooledTexts.{IsPool}
+use Rattle.rb_meaning_bytes.proofs.formats.OnlySteps.{BlockSuits, FineBlock, block_only}
+use Rattle.rb_meaning_bytes.proofs.formats.OnlyInputs.{InputsSuit, FineInputs, inputs_only}
+use Rattle.rb_meaning_bytes.proofs.formats.PoolFields.{AllUsed, pool_only, all_used_only}
 
-abbrev any : {A : Type 0} → A → Type 0
-any x = Unit {0}
+-- the values of inputs and the code
+abbrev Contents : Type 0
+Contents = List Value × Steps
 
-abbrev unary_bytes : UnOp → List ℕ
-unary_bytes op = unary_code op ∷ []
+abbrev pub sent : Version → ℕ → Contents → Sent
+sent version count x = record { version = version; script = record { inputs = count; lists = list_numbers 0 x.0; body = x.1 }; values = x.0 }
 
-abbrev binary_bytes : BinOp → List ℕ
-binary_bytes op = binary_code op ∷ []
+abbrev contents_texts : Contents → Words
+contents_texts x = inputs_texts x.0 ++ steps_texts x.1
 
-unary_only : Only unary_op [] unary_bytes any
-unfolding unary_op
-unary_only = only_choose unary_bytes any unary_ops (
-  only_done _ _ un.Not _ refl tt,
-  (only_done _ _ un.Neg _ refl tt, (only_done _ _ un.Len _ refl tt, (only_done _ _ un.Str _ refl tt, tt))),
-)
+module _ (version : Version) (texts : Words) where
+  abbrev contents_bytes : Contents → List ℕ
+  contents_bytes x = inputs_bytes version texts x.0 ++ block_bytes version texts x.1
 
-binary_only : Only binary_op [] binary_bytes any
-unfolding binary_op
-binary_only = only_choose binary_bytes any binary_ops (
-  only_done _ _ bin.Add _ refl tt,
-  (
-    only_done _ _ bin.Sub _ refl tt,
-    (
-      only_done _ _ bin.Mul _ refl tt,
-      (
-        only_done _ _ bin.Div _ refl tt,
-        (
-          only_done _ _ bin.Rem _ refl tt,
-          (
-            only_done _ _ bin.Eq _ refl tt,
-            (
-              only_done _ _ bin.Ne _ refl tt,
-              (
-                only_done _ _ bin.Lt _ refl tt,
-                (
-                  only_done _ _ bin.Le _ refl tt,
-                  (
-                    only_done _ _ bin.Gt _ refl tt,
-                    (
-                      only_done _ _ bin.Ge _ refl tt,
-                      (
-                        only_done _ _ bin.And _ refl tt,
-                        (only_done _ _ bin.Or _ refl tt, tt),
-                      ),
-                    ),
-                  ),
-                ),
-              ),
-            ),
-          ),
-        ),
-      ),
-    ),
-  ),
-)
+  abbrev FineContents : ℕ → Contents → Type 0
+  FineContents count x = FineInputs version 1000 count x.0 × FineBlock version 64 x.1
 
--- the bytes of a list of expressions
-abbrev listed_bytes : List SExpr → List ℕ
-listed_bytes es = exprs_bytes (sexprs_from es)
+  contents_only : IsPool version texts → (count : ℕ) → StagedOnly version texts (values_and_code version texts count) [] [] contents_bytes contents_texts (FineContents count)
+  contents_only pool count =
+      let p : Contents → List ℕ = λ x. contents_bytes x in
+      let ws : Contents → Words = λ x. contents_texts x in
+      let ok : Contents → Type 0 = λ x. FineContents count x in
+      staged_bind version texts p ws ok (input_values version texts 1000 count) _ _ _ (λ vs. inputs_bytes version texts vs) (λ vs. inputs_texts vs) (FineInputs version 1000 count)
+      (inputs_only version texts pool count 1000) (λ vs f.
+      staged_bind version texts p ws ok (block version texts 64) _ _ _ (λ ss. block_bytes version texts ss) (λ ss. steps_texts ss) (FineBlock version 64)
+      (block_only version texts pool 64) (λ body g.
+      staged_give version texts p ws ok (vs, body) _ _ refl refl (f, g)))
 
--- an expression that is formed and stands within so many
-abbrev Fine : ℕ → SExpr → Type 0
-Fine n e = FormedExpr e × Within n e
+  -- what is known behind the code, which begins with no text used
+  abbrev ReadContents : ℕ → Used Contents → Type 0
+  ReadContents count x = FineContents count x.0 × Uses version texts 0 (contents_texts x.0) x.1
 
-abbrev listed_formed : ℕ → ℕ → List SExpr → Type 0
-listed_formed n count es = (count_exprs (sexprs_from es) ≡ count) × FormedExprs (sexprs_from es) × AllWithin n (sexprs_from es)
+uses_start : (version : Version) (texts : Words) → Uses version texts 0 [] 0
+uses_start One texts = refl
+uses_start Two texts = (omega arith, omega arith, refl)
 
-name_split : (a b c : List ℕ) (k : ℕ) → (a ++ k ∷ []) ++ b ++ c ≡ a ++ (k ∷ b) ++ c
-name_split a b c k = simp append_assoc
+read_only : (version : Version) (texts : Words) → IsPool version texts → (count : ℕ)
+    → Only (values_and_code version texts count 0) [] (λ x. contents_bytes version texts x.0) (λ x. ReadContents version texts count x)
+read_only version texts pool count = record {
+  made = λ bytes x s.
+      let m = (contents_only version texts pool count).made 0 0 bytes x (uses_start version texts) s in
+      record { is = m.is; fits = (m.fits, m.uses) };
+}
 
-expr_only : (n : ℕ) → Only (expr n) [] expr_bytes (Fine n)
-unfolding expr kind
-expr_only zero = only_deeper expr_bytes (Fine 0) []
-expr_only (suc n) =
-    let p : SExpr → List ℕ = λ x. expr_bytes x in
-    let ok : SExpr → Type 0 = λ x. Fine (suc n) x in
-    only_choose p ok (expr_forms (expr n)) (
-      only_bind p ok value _ _ value_bytes IsPrimitive value_only (λ v h. only_done p ok (tree.Lit v) _ refl (h, tt)),
-      (
-        only_more p ok Byte _ _ (λ i h. only_done p ok (tree.Input i) _ refl (h, tt)),
-        (
-          only_more p ok Number _ _ (λ i h. only_done p ok (tree.Var i) _ refl (h, tt)),
-          (
-            only_done p ok tree.Root _ refl (tt, tt),
-            (
-              only_bind p ok unary_op _ _ unary_bytes any unary_only (λ op u. only_more p ok Number _ _ (λ at h.
-                  only_bind p ok (expr n) _ _ expr_bytes (Fine n) (expr_only n) (λ a i. only_done p ok (tree.Unary op at a) _ refl ((h, i.0), i.1)))),
-              (
-                only_bind p ok binary_op _ _ binary_bytes any binary_only (λ op u. only_more p ok Number _ _ (λ at h.
-                    only_bind p ok (expr n) _ _ expr_bytes (Fine n) (expr_only n) (λ a i.
-                    only_bind p ok (expr n) _ _ expr_bytes (Fine n) (expr_only n) (λ b j. only_done p ok (tree.Binary op at a b) _ refl ((h, i.0, j.0), (i.1, j.1)))))),
-                (
-                  only_more p ok Number _ _ (λ at h. only_more p ok (Tag (λ k. nat_le k 8)) _ _ (λ k t. only_more p ok Name _ _ (λ method m.
-                      only_bind p ok (expr n) _ _ expr_bytes (Fine n) (expr_only n) (λ target i. only_more p ok Number _ _ (λ count c.
-                      only_bind p ok (times count (expr n)) _ _ listed_bytes (listed_formed n count)
-                      (only_times (expr n) expr_bytes (Fine n) listed_bytes (listed_formed n) refl (λ x xs. refl) (refl, tt, tt) (λ m x xs f l. (ap suc l.0, (f.0, l.1), (f.1, l.2))) (expr_only n) count)
-                      (λ args l. only_done p ok (tree.Call at k method target (sexprs_from args)) _
-                      (ap (λ m. (((((0x26 ∷ number at) ++ k ∷ []) ++ text method) ++ expr_bytes target) ++ number m) ++ listed_bytes args) (sym l.0)
-                      ∙ ap (λ (w : List ℕ). 0x26 ∷ ((w ++ expr_bytes target) ++ number (count_exprs (sexprs_from args))) ++ listed_bytes args) (append_assoc (number at) (k ∷ []) (text method)))
-                      ((h, grind (arith, nat_tests, t.0), m, i.0, subst (λ m. m < 2 ^ 32) (sym l.0) c, l.1), (i.1, l.2)))))))),
-                  tt,
-                ),
-              ),
-            ),
-          ),
-        ),
-      ),
-    )
+-- Where all texts of a pool were used, it is that of the script.
+pool_is : (version : Version) (texts : Words) (count used : ℕ) (x : Contents) → IsPool version texts → Uses version texts 0 (contents_texts x) used → AllUsed version texts used
+    → texts ≡ pool_of version (sent version count x).script x.0
+pool_is One texts count used x pool uses all = pool
+pool_is Two texts count used x pool uses all = sym (uses.2 ∙ take_all used texts (omega (arith, all)))
 
--- ---- steps
+suits : (version : Version) (count : ℕ) (x : Contents) → InputsSuit version x.0 → BlockSuits version x.1 → Suits version (sent version count x).script
+suits One count x h k = record { lists = primitive_numbers 0 x.0 h; steps = k }
+suits Two count x h k = tt
 
--- an expression of a step that is formed and within the limit
-abbrev Whole : SExpr → Type 0
-Whole e = FormedExpr e × WholeWithin e
+small_pool : (version : Version) (texts : Words) → IsPool version texts → length texts < 2 ^ 32
+small_pool One texts h = let none = ap length h in omega (arith, none)
+small_pool Two texts h = h.0
 
-whole_only : Only whole_expr [] expr_bytes Whole
-unfolding whole_expr WholeWithin
-whole_only = expr_only 256
+can_be_sent : (version : Version) (texts : Words) (count : ℕ) (x : Contents) → IsPool version texts → count < 256 → FineContents version texts count x
+    → texts ≡ pool_of version (sent version count x).script x.0 → CanBeSent (sent version count x)
+unfolding IsWithinLimits
+can_be_sent version texts count x pool n f e = record {
+  formed = record { inputs = n; lists = list_numbers_rise count x.0 f.0.0; count = f.1.0; body = f.1.1 };
+  suits = suits version count x f.0.3 f.1.3;
+  values = fine_inputs (sent version count x).script x.0 refl f.0.0 f.0.1 f.0.2;
+  within = f.1.2;
+  pool = subst (λ l. length l < 2 ^ 32) e (small_pool version texts pool);
+}
 
-abbrev listed_steps : List Step → List ℕ
-listed_steps ss = steps_bytes (steps_from ss)
+regroup : (p i b : List ℕ) (v n : ℕ) → (((v ∷ []) ++ p) ++ n ∷ []) ++ (i ++ b) ++ [] ≡ (v ∷ p) ++ (n ∷ i) ++ b
+regroup p i b v n = ap (λ l. v ∷ l) (append-nil ((p ++ n ∷ []) ++ (i ++ b)) ∙ append_assoc p (n ∷ []) (i ++ b) ∙ sym (append_assoc p (n ∷ i) b))
 
-abbrev steps_formed : ℕ → ℕ → List Step → Type 0
-steps_formed n count ss = (count_steps (steps_from ss) ≡ count) × FormedSteps (steps_from ss) × StepsWithin n (steps_from ss) × HaveNoOver (steps_from ss)
-
-abbrev FineStep : ℕ → Step → Type 0
-FineStep n s = FormedStep s × StepWithin n s × HasNoOver s
-
--- a block within which so many may be, itself among them
-abbrev FineBlock : ℕ → Steps → Type 0
-FineBlock n ss = (count_steps ss < 2 ^ 32) × FormedSteps ss × BlockWithin n ss × HaveNoOver ss
-
-block_from : (n : ℕ) → Only (step (block n)) [] step_bytes (FineStep n) → Only (block (suc n)) [] block_bytes (FineBlock (suc n))
-unfolding block
-block_from n one =
-    only_more block_bytes (FineBlock (suc n)) Number _ _ (λ count c.
-    only_bind block_bytes (FineBlock (suc n)) (times count (step (block n))) _ _ listed_steps (steps_formed n count)
-    (only_times (step (block n)) step_bytes (FineStep n) listed_steps (steps_formed n) refl (λ x xs. refl) (refl, tt, tt, tt) (λ m x xs f l. (ap suc l.0, (f.0, l.1), (f.1, l.2), (f.2, l.3))) one count)
-    (λ ss l. only_done block_bytes (FineBlock (suc n)) (steps_from ss) _
-    (ap (λ m. number m ++ listed_steps ss) (sym l.0)) (subst (λ m. m < 2 ^ 32) (sym l.0) c, l.1, l.2, l.3)))
-
-regroup_if : (a b c d e f g : List ℕ) → (((a ++ b) ++ c) ++ (d ++ e)) ++ (f ++ g) ≡ a ++ b ++ c ++ d ++ e ++ f ++ g
-regroup_if a b c d e f g = simp append_assoc
-
-regroup_each : (a b c d e f g : List ℕ) → ((((a ++ b) ++ c) ++ d) ++ e) ++ (f ++ g) ≡ a ++ b ++ c ++ d ++ e ++ f ++ g
-regroup_each a b c d e f g = simp append_assoc
-
--- a step whose blocks are known
-step_from : (n : ℕ) (F : Format Steps) (good : Steps → Type 0) → Only F [] block_bytes good
-    → ((id at : ℕ) (e : SExpr) (a b : Steps) → id < 2 ^ 32 → at < 2 ^ 32 → Whole e → good a → good b → FineStep n (tree.If id at e a b))
-    → ((id at var : ℕ) (keep : Bool) (e : SExpr) (a : Steps) → id < 2 ^ 32 → at < 2 ^ 32 → var < 2 ^ 32 → Whole e → good a → FineStep n (tree.Each id at var keep e a))
-    → Only (step F) [] step_bytes (FineStep n)
-unfolding step
-step_from n F good block_only if_formed each_formed =
-    let p : Step → List ℕ = λ x. step_bytes x in
-    let ok : Step → Type 0 = λ x. FineStep n x in
-    only_choose p ok (step_forms F) (
-      only_more p ok Number _ _ (λ id i. only_more p ok Number _ _ (λ at j. only_bind p ok whole_expr _ _ expr_bytes Whole whole_only (λ e k. only_done p ok (tree.Do id at e) _ refl ((i, j, k.0), k.1, tt)))),
-      (
-        only_more p ok Number _ _ (λ id i. only_more p ok Number _ _ (λ at j. only_bind p ok whole_expr _ _ expr_bytes Whole whole_only (λ e k. only_done p ok (tree.Keep id at e) _ refl ((i, j, k.0), k.1, tt)))),
-        (
-          only_more p ok Number _ _ (λ id i. only_more p ok Number _ _ (λ at j. only_more p ok Number _ _ (λ var v. only_more p ok Truth _ _ (λ keep u.
-              only_bind p ok whole_expr _ _ expr_bytes Whole whole_only (λ e k. only_done p ok (tree.Let id at var keep e) _ refl ((i, j, v, k.0), k.1, tt)))))),
-          (
-            only_more p ok Number _ _ (λ id i. only_more p ok Number _ _ (λ at j. only_bind p ok whole_expr _ _ expr_bytes Whole whole_only (λ e k.
-                only_bind p ok F _ _ block_bytes good block_only (λ a f. only_bind p ok F _ _ block_bytes good block_only (λ b g.
-                only_done p ok (tree.If id at e a b) _ (ap (λ l. 0x13 ∷ l) (regroup_if (number id) (number at) (expr_bytes e) (number (count_steps a)) (steps_bytes a) (number (count_steps b)) (steps_bytes b))) (if_formed id at e a b i j k f g)))))),
-            (
-              only_more p ok Number _ _ (λ id i. only_more p ok Number _ _ (λ at j. only_more p ok Number _ _ (λ var v. only_more p ok Truth _ _ (λ keep u.
-                  only_bind p ok whole_expr _ _ expr_bytes Whole whole_only (λ e k. only_bind p ok F _ _ block_bytes good block_only (λ a f.
-                  only_done p ok (tree.Each id at var keep e a) _ (ap (λ l. 0x14 ∷ l) (regroup_each (number id) (number at) (number var) (truth keep) (expr_bytes e) (number (count_steps a)) (steps_bytes a))) (each_formed id at var keep e a i j v k f))))))),
-              tt,
-            ),
-          ),
-        ),
-      ),
-    )
-
-block_only : (n : ℕ) → Only (block n) [] block_bytes (FineBlock n)
-unfolding block
-block_only zero = only_deeper block_bytes (FineBlock 0) []
-block_only (suc zero) = block_from 0 (step_from 0 (block 0) (FineBlock 0) (block_only zero) (λ id at e a b i j k f g. absurd f.2) (λ id at var keep e a i j v k f. absurd f.2))
-block_only (suc (suc n)) = block_from (suc n) (step_from (suc n) (block (suc n)) (FineBlock (suc n)) (block_only (suc n))
-    (λ id at e a b i j k f g. ((i, j, k.0, f.0, f.1, g.0, g.1), (k.1, f.2, g.2), (f.3, g.3))) (λ id at var keep e a i j v k f. ((i, j, v, k.0, f.0, f.1), (k.1, f.2), f.3)))
-
--- ---- scripts
-
-abbrev values_formed : ℕ → List Value → Type 0
-values_formed n vs = (length vs ≡ n) × ArePrimitive vs
-
-abbrev sent : Script → List Value → Sent
-sent s vs = record { script = s; values = vs }
+script_made : (version : Version) → Only (script version) (version_byte version ∷ []) sent_bytes CanBeSent
+script_made version =
+    let v = version_byte version in
+    only_bind sent_bytes CanBeSent (pool version) _ (v ∷ []) (λ texts. pool_bytes version texts) (λ texts. IsPool version texts) (pool_only version) (λ texts h.
+    only_more sent_bytes CanBeSent Byte _ _ (λ count n.
+    only_bind sent_bytes CanBeSent (values_and_code version texts count 0) _ _ (λ x. contents_bytes version texts x.0) (λ x. ReadContents version texts count x) (read_only version texts h count) (λ x f.
+    only_bind sent_bytes CanBeSent (all_used version texts x.1) _ _ (λ u. []) (λ u. AllUsed version texts x.1) (all_used_only version texts x.1) (λ u a.
+    let e = pool_is version texts count x.1 x.0 h f.1 a in
+    let s = sent version count x.0 in
+    only_done sent_bytes CanBeSent s _
+    (regroup (pool_bytes version texts) (inputs_bytes version texts x.0.0) (block_bytes version texts x.0.1) v count
+    ∙ ap (λ l. message_bytes version l s.script s.values) e)
+    (can_be_sent version texts count x.0 h n f.0 e)))))
 
 pub script_only : Only script_message [] sent_bytes CanBeSent
-unfolding script_message IsWithinLimits
-script_only =
-    only_choose sent_bytes CanBeSent ((0x01, script_1) ∷ []) (
-      only_more sent_bytes CanBeSent Byte _ _ (λ n i.
-          only_bind sent_bytes CanBeSent (times n value) _ _ values_bytes (values_formed n)
-          (only_times value value_bytes IsPrimitive values_bytes values_formed refl (λ x xs. refl) (refl, tt) (λ m x xs f l. (ap suc l.0, (f, l.1))) value_only n)
-          (λ vs l. only_bind sent_bytes CanBeSent (block 64) _ _ block_bytes (FineBlock 64) (block_only 64) (λ body f.
-          let s : Script = record { inputs = n; lists = []; body = body } in
-          only_done sent_bytes CanBeSent (sent s vs) _ refl (record {
-            formed = record { inputs = i; lists = no_list_numbers n; count = f.0; body = f.1 };
-            plain = record { lists = refl; steps = f.3 };
-            values = primitive_inputs s vs refl l.0 l.1;
-            within = f.2;
-          })))),
-      tt,
-    )
+unfolding script_message
+script_only = only_choose sent_bytes CanBeSent ((0x01, script One) ∷ (0x02, script Two) ∷ []) (script_made One, (script_made Two, tt))
+
+-- The version of what is read is that which the payload's first byte names.
+version_named : (x : Sent) → x.version ≡ version_of (sent_bytes x)
+version_named x = go x.version x.script x.values
+  where
+    go : (version : Version) (s : Script) (values : List Value) → version ≡ version_of (sent_bytes (record { version = version; script = s; values = values }))
+    go One s values = refl
+    go Two s values = refl
+
+pub version_read : (payload : List ℕ) (x : Sent) → Spells script_message payload x → x.version ≡ version_of payload
+version_read payload x s = version_named x ∙ ap version_of (sym (script_only.made payload x s).is)

@@ -5,9 +5,9 @@ use Rattle.rb_trees.specs.Validity.{verdict}
 use Rattle.rb_meaning_bytes.specs.formats.Fields.{IsBytes}
 use Rattle.rb_meaning_bytes.specs.formats.Formats.{Format, Spells}
 use Rattle.rb_meaning_bytes.specs.formats.Laws.{IsPrefixFree, IsTotal, IsEither, HasOneViolation}
-use Rattle.rb_meaning_bytes.specs.formats.Scripts.{script_message}
+use Rattle.rb_meaning_bytes.specs.formats.ScriptMessages.{script_message}
 use Rattle.rb_meaning_bytes.specs.formats.Messages.{Sent, Refused}
-use Rattle.rb_meaning_bytes.specs.formats.ScriptPayloads.{refused, Means, taken, violated, not_valid}
+use Rattle.rb_meaning_bytes.specs.formats.ScriptPayloads.{version_of, refused, Means, taken, violated, not_valid}
 use Rattle.rb_meaning_bytes.proofs.formats.Exact.{prefix_free, one_or_the_other, all_reads, all_violated, read_once, read_not_refused, refused_once}
 
 -- ---- the laws of any format
@@ -35,36 +35,35 @@ judged payload x s = go (verdict x.script) refl
   where
     go : (v : Result (Unit {0}) ScriptRefusal) → verdict x.script ≡ v → (meant : Result Sent Refused) × Means payload meant
     go (Ok tt) e = (Ok x, taken x s e)
-    go (Err r) e = (Err (refused r), not_valid x r s e)
+    go (Err r) e = (Err (refused x.version r), not_valid x r s e)
 
-abbrev at_place : ℕ → ℕ → Refused
-at_place number at = record { number = number; at = at }
+abbrev at_place : List ℕ → ℕ → ℕ → Refused
+at_place payload number at = record { version = version_of payload; number = number; at = at }
 
 -- Each payload comes to something.
 pub means_something : (payload : List ℕ) → IsBytes payload → (meant : Result Sent Refused) × Means payload meant
 means_something payload b =
     elim (one_or_the_other script_message payload b) [
       | inl y ↦ judged payload y.0 y.1
-      | inr v ↦ (Err (at_place v.0 v.1), violated (at_place v.0 v.1) v.2)
+      | inr v ↦ (Err (at_place payload v.0 v.1), violated v.0 v.1 v.2)
     ]
 
 same_value : (payload : List ℕ) (x y : Sent) → Spells script_message payload x → Spells script_message payload y → x ≡ y
 same_value payload x y s t = read_once script_message payload x y (all_reads script_message payload x s) t
 
-same_place : (p q : Refused) → p.number ≡ q.number → p.at ≡ q.at → p ≡ q
-same_place p q h k = ap (λ n. at_place n p.at) h ∙ ap (λ i. at_place q.number i) k
-
 -- And to nothing else.
 pub means_once : (payload : List ℕ) (meant other : Result Sent Refused) → IsBytes payload → Means payload meant → Means payload other → meant ≡ other
 means_once payload _ _ b (taken x s e) (taken y t f) = ap Ok (same_value payload x y s t)
-means_once payload _ _ b (taken x s e) (violated q v) = absurd (is_either script_message payload x q.number q.at b s v)
+means_once payload _ _ b (taken x s e) (violated n i v) = absurd (is_either script_message payload x n i b s v)
 means_once payload _ _ b (taken x s e) (not_valid y r t f) = let g = sym e ∙ ap (λ z. verdict z.script) (same_value payload x y s t) ∙ f in absurd cc
-means_once payload _ _ b (violated p v) (taken y t f) = absurd (is_either script_message payload y p.number p.at b t v)
-means_once payload _ _ b (violated p v) (violated q w) = let h = has_one_violation script_message payload p.number q.number p.at q.at b v w in ap Err (same_place p q h.0 h.1)
-means_once payload _ _ b (violated p v) (not_valid y r t f) = absurd (is_either script_message payload y p.number p.at b t v)
+means_once payload _ _ b (violated m i v) (taken y t f) = absurd (is_either script_message payload y m i b t v)
+means_once payload _ _ b (violated m i v) (violated n j w) =
+    let h = has_one_violation script_message payload m n i j b v w in
+    ap (λ k. Err (at_place payload k i)) h.0 ∙ ap (λ k. Err (at_place payload n k)) h.1
+means_once payload _ _ b (violated m i v) (not_valid y r t f) = absurd (is_either script_message payload y m i b t v)
 means_once payload _ _ b (not_valid x r s e) (taken y t f) = let g = sym e ∙ ap (λ z. verdict z.script) (same_value payload x y s t) ∙ f in absurd cc
-means_once payload _ _ b (not_valid x r s e) (violated q v) = absurd (is_either script_message payload x q.number q.at b s v)
+means_once payload _ _ b (not_valid x r s e) (violated n i v) = absurd (is_either script_message payload x n i b s v)
 means_once payload _ _ b (not_valid x r s e) (not_valid y q t f) =
     let g : Err r ≡ Err q = sym e ∙ ap (λ z. verdict z.script) (same_value payload x y s t) ∙ f in
     let h : r ≡ q = cc in
-    ap (λ z. Err (refused z)) h
+    ap (λ z. Err (refused z r)) (ap (λ z. z.version) (same_value payload x y s t)) ∙ ap (λ z. Err (refused y.version z)) h

@@ -1,5 +1,5 @@
 -- Reading a format a step at a time, as code does: a choice by the next byte, and so many in a loop.
-use Rattle.std.proofs.Common.{◌≡◌, ℕ, zero, suc, ◌+◌, ◌-◌, ◌<◌, ◌≤◌, List, [], ◌∷◌, ◌++◌, length, Ok, Err, refl, ap, sym, ◌∙◌, arith, append_assoc, append-nil, Bool, true, false, cond, nat_eq}
+use Rattle.std.proofs.Common.{◌≡◌, ℕ, suc, ◌+◌, ◌-◌, ◌<◌, ◌≤◌, List, [], ◌∷◌, ◌++◌, length, Ok, Err, refl, ap, sym, ◌∙◌, arith, append_assoc, append-nil, Bool, true, false, cond, nat_eq}
 use Rattle.rb_meaning_bytes.specs.formats.Fields.{Field, Byte, Tag, Of, bad_tag}
 use Rattle.rb_meaning_bytes.specs.formats.Formats.{Format, Done, Then, the, ◌>>=◌, choose, picked, is_tag, times, deeper}
 use Rattle.rb_meaning_bytes.specs.formats.Reading.{Fault, Read, on, look, read, deep}

@@ -1,10 +1,15 @@
 -- The fields that messages are made of: what value each has, how it is spelled, and what may be wrong with it.
-use Rattle.std.specs.Prelude.{◌≡◌, ◌<◌, ◌≤◌, ◌+◌, ◌^◌, ℕ, ℤ, List, [], ◌∷◌, ◌++◌, Bool, true, false, cond, length, take, drop, nat_lt, ◌&&◌, get_or}
+use Rattle.std.specs.Prelude.{◌≡◌, ◌<◌, ◌≤◌, ◌+◌, ◌^◌, ℕ, ℤ, List, [], ◌∷◌, ◌++◌, Bool, true, false, cond, length, take, drop, nat_lt, ◌&&◌, get_or, Option, Some, None}
 use Rattle.std.specs.Int.{w32, w64, to_be_bytes, from_be_bytes, cast_unsigned}
 use Rattle.std.specs.Int.RustNames.{FitsSigned}
 use Rattle.std.specs.Str.{is_utf8}
 use Rattle.rb_trees.specs.Limits.{longest_text}
 use Rattle.rb_trees.specs.Spelling.{is_letter, is_word_byte}
+use Rattle.rb_meaning_bytes.specs.formats.Shorts.{short, zig, needed, grouped, NoShort}
+
+-- A test of a value: the number with which it is refused, None where it isn't.
+abbrev pub Test : Type 0 → Type 0
+Test A = A → Option ℕ
 
 -- A list of bytes, which is what a payload is.
 abbrev pub IsBytes : List ℕ → Type 0
@@ -23,6 +28,14 @@ pub data Field : Type 0 where
   Text : Field
   -- a length, and so many bytes of a name
   Name : Field
+  -- a number of 32 bits in groups, which passes a test
+  Short : Test ℕ → Field
+  -- a signed number of 64 bits in groups
+  Zig : Field
+  -- a length in groups, which is at most so much, and so many bytes, which pass a test
+  Brief : ℕ → Test (List ℕ) → Field
+  -- no bytes, where nothing is refused with a number
+  Check : Option ℕ → Field
   -- what would be within too much: it has no value
   Deeper : Field
 
@@ -35,6 +48,10 @@ Of Wide = ℤ
 Of Truth = Bool
 Of Text = List ℕ
 Of Name = List ℕ
+Of (Short test) = ℕ
+Of Zig = ℤ
+Of (Brief most test) = List ℕ
+Of (Check refused) = Unit {0}
 Of Deeper = ⊥
 
 -- how numbers are spelled
@@ -51,6 +68,10 @@ abbrev pub truth : Bool → List ℕ
 truth false = 0 ∷ []
 truth true = 1 ∷ []
 
+-- a text behind a length in groups
+abbrev pub brief : List ℕ → List ℕ
+brief bytes = short (length bytes) ++ bytes
+
 -- how a field's value is spelled
 abbrev pub spelled : (f : Field) → Of f → List ℕ
 spelled (Tag test) c = c ∷ []
@@ -60,6 +81,10 @@ spelled Wide z = wide_number (cast_unsigned w64 z)
 spelled Truth b = truth b
 spelled Text bytes = text bytes
 spelled Name bytes = text bytes
+spelled (Short test) n = short n
+spelled Zig z = zig z
+spelled (Brief most test) bytes = brief bytes
+spelled (Check refused) x = []
 spelled Deeper x = absurd x
 
 abbrev pub are_word_bytes : List ℕ → Bool
@@ -80,6 +105,10 @@ Fits Wide z = FitsSigned w64 z
 Fits Truth b = Unit {0}
 Fits Text bytes = (length bytes ≤ longest_text) × (is_utf8 bytes ≡ true)
 Fits Name bytes = (length bytes < 2 ^ 32) × (is_name bytes ≡ true)
+Fits (Short test) n = (n < 2 ^ 32) × (test n ≡ None)
+Fits Zig z = FitsSigned w64 z
+Fits (Brief most test) bytes = (length bytes < 2 ^ 32) × (length bytes ≤ most) × (test bytes ≡ None)
+Fits (Check refused) x = refused ≡ None
 Fits Deeper x = Unit {0}
 
 -- ---- what may be wrong
@@ -96,7 +125,7 @@ bad_tag = 2
 abbrev pub bad_text : ℕ
 bad_text = 3
 
--- A truth value above 1.
+-- A truth value above 1, or a number with a needless group or beyond its bits.
 abbrev pub not_canonical : ℕ
 not_canonical = 4
 
@@ -107,6 +136,14 @@ too_deep = 5
 -- Bytes behind the message.
 abbrev pub trailing : ℕ
 trailing = 6
+
+-- A text of a pool that equals an earlier one, that is used before an earlier one, or that isn't used.
+abbrev pub bad_pool : ℕ
+bad_pool = 7
+
+-- Lists with too many items together.
+abbrev pub too_many_items : ℕ
+too_many_items = 8
 
 -- the length that stands before a text, 0 where it isn't there whole
 unfoldable pub announced : List ℕ → ℕ
@@ -122,6 +159,10 @@ needs Number bytes = 4
 needs Wide bytes = 8
 needs Text bytes = 4 + announced bytes
 needs Name bytes = 4 + announced bytes
+needs (Short test) bytes = needed bytes
+needs Zig bytes = needed bytes
+needs (Brief most test) bytes = needed bytes + grouped bytes
+needs (Check refused) bytes = 0
 needs _ bytes = 1
 
 -- Bytes with this wrong where a field should begin.
@@ -131,6 +172,14 @@ pub data Wrong : Field → List ℕ → ℕ → Type 0 where
   too_long : (bytes : List ℕ) → longest_text < announced bytes → Wrong Text bytes bad_text
   no_utf8 : (bytes : List ℕ) → 4 + announced bytes ≤ length bytes → is_utf8 (content bytes) ≡ false → Wrong Text bytes bad_text
   no_name : (bytes : List ℕ) → 4 + announced bytes ≤ length bytes → is_name (content bytes) ≡ false → Wrong Name bytes bad_text
+  no_short : {test : Test ℕ} (bytes : List ℕ) → NoShort 16 4 bytes → Wrong (Short test) bytes not_canonical
+  refused_number : {test : Test ℕ} (n number : ℕ) (rest : List ℕ) → n < 2 ^ 32 → test n ≡ Some number → Wrong (Short test) (short n ++ rest) number
+  no_zig : (bytes : List ℕ) → NoShort 2 9 bytes → Wrong Zig bytes not_canonical
+  no_length : {most : ℕ} {test : Test (List ℕ)} (bytes : List ℕ) → NoShort 16 4 bytes → Wrong (Brief most test) bytes not_canonical
+  too_much : {most : ℕ} {test : Test (List ℕ)} (n : ℕ) (rest : List ℕ) → n < 2 ^ 32 → most < n → Wrong (Brief most test) (short n ++ rest) bad_text
+  refused_bytes : {most : ℕ} {test : Test (List ℕ)} (bytes rest : List ℕ) (number : ℕ) → length bytes < 2 ^ 32 → length bytes ≤ most → test bytes ≡ Some number
+      → Wrong (Brief most test) (brief bytes ++ rest) number
+  refused_here : (number : ℕ) (bytes : List ℕ) → Wrong (Check (Some number)) bytes number
   deeper : (b : ℕ) (rest : List ℕ) → Wrong Deeper (b ∷ rest) too_deep
 
 -- The first violation at a field: its number, and how many bytes are left at its place. Something wrong stands at the

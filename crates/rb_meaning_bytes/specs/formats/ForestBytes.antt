@@ -1,22 +1,24 @@
--- The bytes of a forest and of a refusal, and which forests have a spelling.
+-- The bytes of a forest and of a refusal by the version, and which forests have a spelling.
 use Rattle.std.specs.Prelude.{◌≡◌, ◌<◌, ◌^◌, ℕ, zero, suc, nat_eq, List, [], ◌∷◌, ◌++◌, cond, Bool, true, false, Option, None, Some}
 use Rattle.rb_trees.specs.declared.forests.NodeFault.{NodeFault}
+use Rattle.rb_trees.specs.declared.versions.Version.{Version}
 use Rattle.rb_trees.specs.mirror.Forests as tree
 use Rattle.rb_trees.specs.mirror.Forests.{Node, Entry, Entries, Nodes}
 use Rattle.rb_meaning_bytes.specs.formats.Messages.{Refused}
-use Rattle.rb_meaning_bytes.specs.formats.Fields.{Text, Fits, number, text, truth}
+use Rattle.rb_meaning_bytes.specs.formats.Fields.{Text, Fits, number, truth}
 use Rattle.rb_meaning_bytes.specs.formats.Forests.{thrown, is_fault_code, most_nodes}
 use Rattle.rb_meaning_bytes.specs.formats.Refusals.{is_refusal_number}
-use Rattle.rb_meaning_bytes.specs.formats.ScriptBytes.{value_bytes}
+use Rattle.rb_meaning_bytes.specs.formats.ScriptBytes.{natural_bytes, words_bytes, value_bytes}
+use Rattle.rb_meaning_bytes.specs.formats.Values.{version_byte}
 use Rattle.rb_meaning_bytes.specs.formats.FormedScripts.{IsPrimitive}
 
 -- the bytes of a fault's text
-abbrev pub words_bytes : ℕ → List ℕ → List ℕ
-words_bytes code words = cond (nat_eq code thrown) (text words) []
+abbrev pub fault_text_bytes : Version → ℕ → List ℕ → List ℕ
+fault_text_bytes version code words = cond (nat_eq code thrown) (words_bytes version words) []
 
-abbrev pub end_bytes : Option NodeFault → List ℕ
-end_bytes None = 0x00 ∷ []
-end_bytes (Some f) = 0x01 ∷ number f.step ++ number f.at ++ f.fault.code ∷ words_bytes f.fault.code f.fault.text
+abbrev pub end_bytes : Version → Option NodeFault → List ℕ
+end_bytes version None = 0x00 ∷ []
+end_bytes version (Some f) = 0x01 ∷ natural_bytes version f.step ++ natural_bytes version f.at ++ f.fault.code ∷ fault_text_bytes version f.fault.code f.fault.text
 
 abbrev pub count_entries : Entries → ℕ
 count_entries tree.NoEntries = 0
@@ -27,29 +29,29 @@ count_nodes tree.NoNodes = 0
 count_nodes (tree.MoreNodes n ns) = suc (count_nodes ns)
 
 abbrev mutual
-  pub node_bytes : Node → List ℕ
-  node_bytes (tree.Holds es f) = number (count_entries es) ++ entries_bytes es ++ end_bytes f
+  pub node_bytes : Version → Node → List ℕ
+  node_bytes version (tree.Holds es f) = number (count_entries es) ++ entries_bytes version es ++ end_bytes version f
 
-  pub entry_bytes : Entry → List ℕ
-  entry_bytes (tree.Value v) = 0x31 ∷ value_bytes v
-  entry_bytes (tree.Branch taken n) = 0x32 ∷ truth taken ++ node_bytes n
-  entry_bytes (tree.Rows ns) = 0x33 ∷ number (count_nodes ns) ++ nodes_bytes ns
+  pub entry_bytes : Version → Entry → List ℕ
+  entry_bytes version (tree.Value v) = 0x31 ∷ value_bytes version v
+  entry_bytes version (tree.Branch taken n) = 0x32 ∷ truth taken ++ node_bytes version n
+  entry_bytes version (tree.Rows ns) = 0x33 ∷ number (count_nodes ns) ++ nodes_bytes version ns
 
-  pub entries_bytes : Entries → List ℕ
-  entries_bytes tree.NoEntries = []
-  entries_bytes (tree.MoreEntries e es) = entry_bytes e ++ entries_bytes es
+  pub entries_bytes : Version → Entries → List ℕ
+  entries_bytes version tree.NoEntries = []
+  entries_bytes version (tree.MoreEntries e es) = entry_bytes version e ++ entries_bytes version es
 
-  pub nodes_bytes : Nodes → List ℕ
-  nodes_bytes tree.NoNodes = []
-  nodes_bytes (tree.MoreNodes n ns) = node_bytes n ++ nodes_bytes ns
+  pub nodes_bytes : Version → Nodes → List ℕ
+  nodes_bytes version tree.NoNodes = []
+  nodes_bytes version (tree.MoreNodes n ns) = node_bytes version n ++ nodes_bytes version ns
 
 -- a forest, which is its root
-abbrev pub forest_bytes : Node → List ℕ
-forest_bytes n = 0x01 ∷ node_bytes n
+abbrev pub forest_bytes : Version → Node → List ℕ
+forest_bytes version n = version_byte version ∷ node_bytes version n
 
 -- the number of what is refused, and its place
 abbrev pub refusal_bytes : Refused → List ℕ
-refusal_bytes r = 0x01 ∷ r.number ∷ number r.at
+refusal_bytes r = version_byte r.version ∷ r.number ∷ natural_bytes r.version r.at
 
 -- ---- which forests have one
 
@@ -89,4 +91,4 @@ FormedForest n = FormedNode most_nodes n
 
 -- a refusal that has a spelling
 abbrev pub FormedRefusal : Refused → Type 0
-FormedRefusal r = (is_refusal_number r.number ≡ true) × (r.at < 2 ^ 32)
+FormedRefusal r = (is_refusal_number r.version r.number ≡ true) × (r.at < 2 ^ 32)

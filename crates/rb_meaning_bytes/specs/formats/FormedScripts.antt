@@ -1,5 +1,5 @@
 -- Which scripts are formed, and how deep they nest. A script that is formed and within the limits has a spelling.
-use Rattle.std.specs.Prelude.{◌≡◌, ◌<◌, ◌≤◌, ◌^◌, ◌+◌, ℕ, zero, suc, Bool, true, false, List, [], ◌∷◌, length, get_or, Some, slice_get}
+use Rattle.std.specs.Prelude.{◌≡◌, ◌<◌, ◌≤◌, ◌^◌, ℕ, zero, suc, Bool, true, false, List, [], ◌∷◌, length, get_or, Some, slice_get}
 use Rattle.rb_trees.specs.ScriptLimits.{most_exprs, most_blocks}
 use Rattle.rb_trees.specs.declared.values.Value.{Value, out-Value}
 use Rattle.rb_trees.specs.declared.values.Value.TheOpen.{Value-F}
@@ -7,6 +7,7 @@ use Rattle.rb_trees.specs.Validity.{has}
 use Rattle.rb_trees.specs.mirror.Scripts as tree
 use Rattle.rb_trees.specs.mirror.Scripts.{SExpr, SExprs, Step, Steps, Script}
 use Rattle.rb_meaning_bytes.specs.formats.Fields.{Wide, Text, Name, Fits}
+use Rattle.rb_meaning_bytes.specs.formats.Items.{count_items, most_items}
 use Rattle.rb_meaning_bytes.specs.formats.ScriptBytes.{count_exprs, count_steps}
 
 -- Int, Bool, or Text of at most 4,096 bytes of UTF-8
@@ -91,19 +92,6 @@ list_form _ = ⊥
 abbrev pub input_form : Bool → Value-F Value → Type 0
 input_form true v = list_form v
 input_form false v = primitive_form v
-
--- the items of the lists among values
-abbrev pub form_items : Value-F Value → ℕ
-form_items (Value-F.List items) = length items
-form_items _ = 0
-
-abbrev pub count_items : List Value → ℕ
-count_items [] = 0
-count_items (v ∷ vs) = form_items (out-Value v) + count_items vs
-
--- the greatest number of items of a script's inputs together
-abbrev pub most_items : ℕ
-most_items = 1000
 
 -- values for the inputs of a script
 pub record AreInputs (s : Script) (values : List Value) : Type 0 where

@@ -3,8 +3,8 @@ use Rattle.rb_meaning_bytes.proofs.formats.OnlyForests.{forest_only}
 use Rattle.rb_meaning_bytes.proofs.laws.each_forest_has_one_spelling.Goals as goal
 
 pub returns : goal.returns
-returns c = record {
-  spelled = forest_spelled;
-  alone = λ bytes x s. (forest_only.made bytes x s).is;
-  good = λ bytes x s. (forest_only.made bytes x s).fits;
+returns c version = record {
+  spelled = forest_spelled version;
+  alone = λ bytes x s. ((forest_only version).made bytes x s).is;
+  good = λ bytes x s. ((forest_only version).made bytes x s).fits;
 }

@@ -1,4 +1,4 @@
-use Rattle.rb_meaning_bytes.specs.formats.Scripts.{script_message}
+use Rattle.rb_meaning_bytes.specs.formats.ScriptMessages.{script_message}
 use Rattle.rb_meaning_bytes.specs.formats.Forests.{forest_message}
 use Rattle.rb_meaning_bytes.specs.formats.Refusals.{refusal_message}
 use Rattle.rb_meaning_bytes.proofs.formats.Payloads.{is_total}
