@@ -1,9 +1,10 @@
 -- What a buffer holds while bytes are put behind it.
-use Rattle.std.proofs.Common.{◌≡◌, ◌+◌, ◌%◌, ◌/◌, ℕ, zero, suc, List, [], ◌++◌, length, take, refl, ap, sym, ◌∙◌, arith, append_assoc, append-nil}
+use Rattle.std.proofs.Common.{◌≡◌, ◌+◌, ◌-◌, ◌*◌, ◌<◌, ◌%◌, ◌/◌, ℕ, zero, suc, List, [], ◌∷◌, ◌++◌, cond, nat_lt, length, take, refl, ap, sym, ◌∙◌, arith, append_assoc, append-nil}
 use Rattle.std.proofs.Math.Seq.{take-append_seam}
 use Rattle.std.proofs.lemmas.Grind.{common_steps}
 use Rattle.rb_trees.specs.declared.values.Value.TheViews.{the_lemmas}
 use Rattle.rb_meaning_bytes.specs.formats.Fields.{number}
+use Rattle.rb_meaning_bytes.specs.formats.Shorts.{groups as in_groups, limit}
 use Rattle.rb_wire_fields.specs.Buffers.{Keeps}
 
 pub keeps_same : (old new : List ℕ) → new ≡ old → Keeps old new
@@ -36,3 +37,23 @@ pub ruleset low_bits = (keeps_same, keeps_after, same_bits, common_steps)
 pub ruleset kept = (keeps_same, keeps_after, keeps_through, take_kept, append_assoc, common_steps)
 
 pub ruleset values = (keeps_same, keeps_after, the_lemmas, append_assoc, common_steps)
+
+-- ---- numbers in groups
+
+pub last_group : (more n : ℕ) → more ≡ 0 → in_groups more n ≡ n ∷ []
+last_group zero n h = refl
+last_group (suc k) n h = absurd (omega arith)
+
+pub more_groups : (more n : ℕ) → 0 < more → in_groups more n ≡ cond (nat_lt n 128) (n ∷ []) ((128 + n % 128) ∷ in_groups (more - 1) (n / 128))
+more_groups zero n h = absurd (omega arith)
+more_groups (suc k) n h = ap (λ m. cond (nat_lt n 128) (n ∷ []) ((128 + n % 128) ∷ in_groups m (n / 128))) (omega arith)
+
+pub last_limit : (more : ℕ) → more ≡ 0 → limit 128 more ≡ 128
+last_limit zero h = refl
+last_limit (suc k) h = absurd (omega arith)
+
+pub more_limit : (more : ℕ) → 0 < more → limit 128 more ≡ 128 * limit 128 (more - 1)
+more_limit zero h = absurd (omega arith)
+more_limit (suc k) h = ap (λ m. 128 * limit 128 m) (omega arith)
+
+pub ruleset groups = (last_group, more_groups, last_limit, more_limit, keeps_same, keeps_after, keeps_through, append_assoc, common_steps)

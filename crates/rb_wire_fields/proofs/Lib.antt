@@ -3,3 +3,4 @@ pub mod Utf8
 pub mod Equations
 pub mod Tags
 pub mod Kept
+pub mod Grouping

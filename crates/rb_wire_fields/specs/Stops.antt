@@ -1,6 +1,8 @@
 -- What the stops of reading tell.
-use Rattle.std.specs.Prelude.{Option, None, Some}
+use Rattle.std.specs.Prelude.{Bool, true, false, Option, None, Some}
 use Rattle.rb_meaning_bytes.specs.formats.Reading.{Fault}
+use Rattle.rb_wire_fields.specs.declared.groups.NoGroups.{NoGroups}
+use Rattle.rb_wire_fields.specs.declared.groups.NoGroups.TheVariants.{Cut, Wrong}
 use Rattle.rb_wire_fields.specs.declared.stop.Stop.{Stop}
 use Rattle.rb_wire_fields.specs.declared.stop.Stop.TheVariants as stops
 use Rattle.rb_wire_fields.specs.declared.stop.Violation.{Violation}
@@ -13,3 +15,8 @@ told violation = Some (violation.number, violation.left)
 abbrev pub fault_of : Stop → Option Fault
 fault_of (stops.Refused violation) = told violation
 fault_of stops.Memory = None
+
+-- Whether bytes lack where no number in groups stands.
+abbrev pub is_cut : NoGroups → Option Bool
+is_cut Cut = Some true
+is_cut Wrong = Some false

@@ -1,12 +1,16 @@
-// The fields of messages: each is read at the front of the bytes, and gives the bytes behind it.
+// The fields of messages: each is read at the front of the bytes, and gives the bytes behind it. What has another spelling in
+// each version is read by the version.
 
 ghost use Rattle.std.specs.Prelude.{◌≡◌, ◌+◌, length, Some};
 ghost use Rattle.rb_meaning_bytes.specs.formats.Fields.{Byte, Number, Wide, Truth};
-ghost use Rattle.rb_meaning_bytes.specs.formats.Reading.{look, deep};
+ghost use Rattle.rb_meaning_bytes.specs.formats.Reading.{look, read, deep};
+ghost use Rattle.rb_meaning_bytes.specs.formats.Values as format;
 ghost use Rattle.rb_trees.specs.Outcome.{Gives};
 ghost use Rattle.rb_wire_fields.specs.Stops.{told};
 
+use crate::groups::{short, zig};
 use crate::stop::{BAD_TAG, NOT_CANONICAL, TOO_DEEP, TRUNCATED, Violation};
+use rb_trees::Version;
 
 /// The violation where a field lacks bytes.
 #[inline(always)]
@@ -107,5 +111,29 @@ pub fn truth(bytes: &[u8]) -> Result<(bool, &[u8]), Violation>
             }
             Ok((*b == 1, rest))
         }
+    }
+}
+
+/// A number of 32 bits, as the version spells it.
+#[tactic(auto, using(crate::proofs::Equations::leaves))]
+#[inline(always)]
+pub fn natural(version: Version, bytes: &[u8]) -> Result<(u32, &[u8]), Violation>
+    ensures { Gives (λ x. (x.0, x.1.now)) told result (read (format.natural version) bytes.now) }
+{
+    match version {
+        Version::One => number(bytes),
+        Version::Two => short(bytes),
+    }
+}
+
+/// A signed number of 64 bits, as the version spells it.
+#[tactic(auto, using(crate::proofs::Equations::leaves))]
+#[inline(always)]
+pub fn integer(version: Version, bytes: &[u8]) -> Result<(i64, &[u8]), Violation>
+    ensures { Gives (λ x. (x.0, x.1.now)) told result (read (format.integer version) bytes.now) }
+{
+    match version {
+        Version::One => wide(bytes),
+        Version::Two => zig(bytes),
     }
 }

@@ -6,6 +6,7 @@
 #![tactic(auto)]
 
 pub mod fields;
+pub mod groups;
 pub mod puts;
 pub mod stop;
 pub mod texts;

@@ -47,7 +47,7 @@ pub const BAD_TAG: u8 = 2;
 /// A text that is too long or no UTF-8, or a name that is none.
 pub const BAD_TEXT: u8 = 3;
 
-/// A truth value above 1.
+/// A truth value above 1, or a number with a needless group or beyond its bits.
 pub const NOT_CANONICAL: u8 = 4;
 
 /// A part of the message within too many others.
@@ -55,3 +55,9 @@ pub const TOO_DEEP: u8 = 5;
 
 /// Bytes after the message.
 pub const TRAILING: u8 = 6;
+
+/// A text of a pool that equals an earlier one, is used too early, or isn't used.
+pub const BAD_POOL: u8 = 7;
+
+/// Lists with too many items together.
+pub const TOO_MANY_ITEMS: u8 = 8;

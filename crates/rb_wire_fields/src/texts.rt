@@ -2,17 +2,20 @@
 
 ghost use Rattle.std.specs.Prelude.{◌≡◌, ◌+◌, ◌≤◌, length, drop, IfOk};
 ghost use Rattle.std.specs.Str.{is_utf8};
-ghost use Rattle.rb_meaning_bytes.specs.formats.Fields.{Text, announced, content};
+ghost use Rattle.rb_meaning_bytes.specs.formats.Fields.{Text, Brief, announced, content};
+ghost use Rattle.rb_meaning_bytes.specs.formats.Pools.{text_test};
 ghost use Rattle.rb_meaning_bytes.specs.formats.Reading.{look, read};
 ghost use Rattle.rb_meaning_bytes.specs.formats.Values as format;
+ghost use Rattle.rb_trees.specs.Limits.{longest_text};
 ghost use Rattle.rb_trees.specs.Outcome.{Gives};
 ghost use Rattle.rb_wire_fields.specs.Items.{value_seen};
 ghost use Rattle.rb_wire_fields.specs.Stops.{fault_of, told};
 
-use crate::fields::{bad_tag, byte, cut, refused, truth, wide};
+use crate::fields::{bad_tag, byte, cut, integer, refused, truth};
+use crate::groups::brief;
 use crate::stop::{BAD_TEXT, Stop, Violation};
 use rb_trees::limits::LONGEST_TEXT;
-use rb_trees::{Memory, Seq, Shared, Value, Word};
+use rb_trees::{Memory, Seq, Shared, Value, Version};
 use std::alloc::Global;
 
 /// A primitive value, whose text stands in the bytes that it was read from.
@@ -25,7 +28,7 @@ pub enum Item<'a> {
 
 /// Whether the bytes are UTF-8.
 #[tactic(auto, using(crate::proofs::Utf8::not_utf8, crate::proofs::Utf8::utf8))]
-fn is_text(bytes: &[u8]) -> bool
+pub fn is_text(bytes: &[u8]) -> bool
     ensures { result ≡ is_utf8 bytes.now }
 {
     match str::from_utf8(bytes) {
@@ -76,24 +79,39 @@ pub fn lent_text(bytes: &[u8]) -> Result<(&[u8], &[u8]), Violation>
     Ok((text, rest))
 }
 
-/// A copy of a text.
-pub fn text(alloc: Global, bytes: &[u8]) -> Result<(Word, &[u8]), Stop>
-    ensures { Gives (λ x. (x.0, x.1.now)) fault_of result (look Text bytes.now) }
+/// A text behind its length in groups, which stays where it stands.
+#[tactic(auto, using(crate::proofs::Equations::texts))]
+fn brief_text(bytes: &[u8]) -> Result<(&[u8], &[u8]), Violation>
+    ensures { Gives (λ x. (x.0.now, x.1.now)) told result (look (Brief longest_text text_test) bytes.now) }
 {
-    let (text, rest) = lent_text(bytes)?;
-    Ok((Seq::from_slice(alloc, text)?, rest))
+    let (text, rest) = brief(LONGEST_TEXT, bytes)?;
+    if !is_text(text) {
+        return Err(refused(BAD_TEXT, bytes));
+    }
+    Ok((text, rest))
 }
 
-/// A primitive value. A text of it stays where it stands.
-#[tactic(auto, using(crate::proofs::Equations::value_read), unfolding(rb_meaning_bytes::specs::formats::Reading::read))]
+/// A text, as the version spells it where it stands in no pool. It stays where it stands.
+#[tactic(auto, using(crate::proofs::Equations::leaves))]
+pub fn words(version: Version, bytes: &[u8]) -> Result<(&[u8], &[u8]), Violation>
+    ensures { Gives (λ x. (x.0.now, x.1.now)) told result (read (format.words version) bytes.now) }
+{
+    match version {
+        Version::One => lent_text(bytes),
+        Version::Two => brief_text(bytes),
+    }
+}
+
+/// A primitive value, as the version spells it. A text of it stays where it stands.
+#[tactic(auto, using(crate::proofs::Equations::values), unfolding(rb_meaning_bytes::specs::formats::Reading::read))]
 #[inline(always)]
-pub fn primitive(bytes: &[u8]) -> Result<(Item<'_>, &[u8]), Violation>
-    ensures { Gives (λ x. (value_seen x.0, x.1.now)) told result (read format.value bytes.now) }
+pub fn primitive(version: Version, bytes: &[u8]) -> Result<(Item<'_>, &[u8]), Violation>
+    ensures { Gives (λ x. (value_seen x.0, x.1.now)) told result (read (format.value version) bytes.now) }
 {
     let (tag, rest) = byte(bytes)?;
     match tag {
         0x01 => {
-            let (number, rest) = wide(rest)?;
+            let (number, rest) = integer(version, rest)?;
             Ok((Item::Int(number), rest))
         }
         0x02 => {
@@ -101,7 +119,7 @@ pub fn primitive(bytes: &[u8]) -> Result<(Item<'_>, &[u8]), Violation>
             Ok((Item::Bool(truth), rest))
         }
         0x03 => {
-            let (text, rest) = lent_text(rest)?;
+            let (text, rest) = words(version, rest)?;
             Ok((Item::Text(text), rest))
         }
         _ => Err(bad_tag(rest)),
@@ -122,10 +140,10 @@ pub fn value_of(alloc: Global, item: Item<'_>) -> Result<Value, Memory>
     }
 }
 
-/// A primitive value, with a copy of its text.
-pub fn value(alloc: Global, bytes: &[u8]) -> Result<(Value, &[u8]), Stop>
-    ensures { Gives (λ x. (x.0, x.1.now)) fault_of result (read format.value bytes.now) }
+/// A primitive value, as the version spells it, with a copy of its text.
+pub fn value(alloc: Global, version: Version, bytes: &[u8]) -> Result<(Value, &[u8]), Stop>
+    ensures { Gives (λ x. (x.0, x.1.now)) fault_of result (read (format.value version) bytes.now) }
 {
-    let (item, rest) = primitive(bytes)?;
+    let (item, rest) = primitive(version, bytes)?;
     Ok((value_of(alloc, item)?, rest))
 }
