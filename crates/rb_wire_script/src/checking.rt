@@ -1,11 +1,12 @@
-// Which scripts are valid, found with an index of the numbers of steps and of the variables that are bound, so that nothing
-// is walked twice.
+// Which scripts are valid, found with an index of the numbers of steps and of the variables that are bound, so that
+// nothing is walked twice.
 
 ghost use Rattle.std.specs.Prelude.{◌≡◌, [], ◌∷◌, ◌<◌, ◌++◌, false, OnOk};
 ghost use Rattle.rb_trees.specs.Outcome.{Gives};
-ghost use Rattle.rb_trees.specs.mirror.Scripts.{mirror_sexpr, mirror_sexprs, mirror_step, mirror_steps, mirror_script};
-ghost use Rattle.rb_trees.specs.Validity.{has, first, inputs_of, input_refusals, list_refusals, nested_blocks, expr_refusals, exprs_refusals, whole_refusals, step_numbers, steps_numbers, step_lets, steps_lets, step_refusals, steps_refusals, verdict};
+ghost use Rattle.rb_trees.specs.mirror.Scripts.{mirror_step, mirror_steps, mirror_script};
+ghost use Rattle.rb_trees.specs.Validity.{has, first, nested_blocks, step_numbers, steps_numbers, step_lets, steps_lets, verdict};
 ghost use Rattle.rb_wire_script.specs.Stops.{rule_of};
+ghost use Rattle.rb_wire_script.specs.Verdicts.{input_verdict, list_verdict, expr_verdict, exprs_verdict, whole_verdict, step_verdict, steps_verdict};
 
 use crate::numbers::Numbers;
 use rb_trees::limits::{MOST_BLOCKS, MOST_EXPRS};
@@ -56,7 +57,7 @@ fn is_list(script: &Script, number: u8) -> bool
 
 /// An input that an expression of a step has.
 fn check_input(number: u8, script: &Script, step: u32) -> Result<(), ScriptRefusal>
-    ensures { result ≡ first (input_refusals (inputs_of (mirror_script script.now)) step number) }
+    ensures { result ≡ input_verdict script.now step number }
 {
     if number >= script.inputs {
         Err(ScriptRefusal::UnknownInput(step))
@@ -69,7 +70,7 @@ fn check_input(number: u8, script: &Script, step: u32) -> Result<(), ScriptRefus
 
 /// The input that an Over of this number goes through.
 fn check_list(number: u8, script: &Script, step: u32) -> Result<(), ScriptRefusal>
-    ensures { result ≡ first (list_refusals (inputs_of (mirror_script script.now)) step number) }
+    ensures { result ≡ list_verdict script.now step number }
 {
     if number >= script.inputs {
         Err(ScriptRefusal::UnknownInput(step))
@@ -90,7 +91,7 @@ fn check_expr(
     step: u32,
     depth: u32,
 ) -> Result<(), ScriptRefusal>
-    ensures { result ≡ first (expr_refusals (inputs_of (mirror_script script.now)) bound.now step depth (mirror_sexpr expr.now)) }
+    ensures { result ≡ expr_verdict script.now bound.now step depth expr.now }
 {
     if depth > MOST_EXPRS {
         return Err(ScriptRefusal::TooDeep(step));
@@ -128,7 +129,7 @@ fn check_exprs(
     step: u32,
     depth: u32,
 ) -> Result<(), ScriptRefusal>
-    ensures { result ≡ first (exprs_refusals (inputs_of (mirror_script script.now)) bound.now step depth (mirror_sexprs exprs.now)) }
+    ensures { result ≡ exprs_verdict script.now bound.now step depth exprs.now }
 {
     for expr in exprs {
         check_expr(expr, script, bound, step, depth)?;
@@ -144,7 +145,7 @@ fn check_whole(
     bound: &Numbers,
     step: u32,
 ) -> Result<(), ScriptRefusal>
-    ensures { result ≡ first (whole_refusals (inputs_of (mirror_script script.now)) bound.now step (mirror_sexpr expr.now)) }
+    ensures { result ≡ whole_verdict script.now bound.now step expr.now }
 {
     check_expr(expr, script, bound, step, 1)
 }
@@ -171,7 +172,7 @@ fn check_steps(
     seen: &mut Numbers,
     bound: &mut Numbers,
 ) -> Result<(), RuleStop>
-    ensures gives { Gives (λ x. x) rule_of result (first (steps_refusals (inputs_of (mirror_script script.now)) depth seen.old bound.old (mirror_steps steps.now))) }
+    ensures gives { Gives (λ x. x) rule_of result (steps_verdict script.now depth seen.old bound.old steps.now) }
     ensures seen { OnOk result (seen.new ≡ seen.old ++ steps_numbers (mirror_steps steps.now)) }
     ensures bound { OnOk result (bound.new ≡ bound.old ++ steps_lets (mirror_steps steps.now)) }
 {
@@ -191,7 +192,7 @@ fn check_block(
     seen: &mut Numbers,
     bound: &mut Numbers,
 ) -> Result<(), RuleStop>
-    ensures gives { Gives (λ x. x) rule_of result (first (steps_refusals (inputs_of (mirror_script script.now)) depth seen.old bound.old (mirror_steps steps.now))) }
+    ensures gives { Gives (λ x. x) rule_of result (steps_verdict script.now depth seen.old bound.old steps.now) }
     ensures seen { OnOk result (seen.new ≡ seen.old ++ steps_numbers (mirror_steps steps.now)) }
     ensures bound { OnOk result (bound.new ≡ bound.old) }
 {
@@ -212,7 +213,7 @@ fn check_turns(
     seen: &mut Numbers,
     bound: &mut Numbers,
 ) -> Result<(), RuleStop>
-    ensures gives { Gives (λ x. x) rule_of result (first (steps_refusals (inputs_of (mirror_script script.now)) depth seen.old (bound.old ++ var ∷ []) (mirror_steps steps.now))) }
+    ensures gives { Gives (λ x. x) rule_of result (steps_verdict script.now depth seen.old (bound.old ++ var ∷ []) steps.now) }
     ensures seen { OnOk result (seen.new ≡ seen.old ++ steps_numbers (mirror_steps steps.now)) }
     ensures bound { OnOk result (bound.new ≡ bound.old) }
 {
@@ -232,7 +233,7 @@ fn check_step(
     seen: &mut Numbers,
     bound: &mut Numbers,
 ) -> Result<(), RuleStop>
-    ensures gives { Gives (λ x. x) rule_of result (first (step_refusals (inputs_of (mirror_script script.now)) depth seen.old bound.old (mirror_step step.now))) }
+    ensures gives { Gives (λ x. x) rule_of result (step_verdict script.now depth seen.old bound.old step.now) }
     ensures seen { OnOk result (seen.new ≡ seen.old ++ step_numbers (mirror_step step.now)) }
     ensures bound { OnOk result (bound.new ≡ bound.old ++ step_lets (mirror_step step.now)) }
 {
@@ -253,7 +254,7 @@ fn check_form(
     bound: &mut Numbers,
 ) -> Result<(), RuleStop>
     requires { has step.now.id seen.old ≡ false }
-    ensures gives { Gives (λ x. x) rule_of result (first (step_refusals (inputs_of (mirror_script script.now)) depth seen.old bound.old (mirror_step step.now))) }
+    ensures gives { Gives (λ x. x) rule_of result (step_verdict script.now depth seen.old bound.old step.now) }
     ensures seen { OnOk result (seen.new ≡ seen.old ++ step_numbers (mirror_step step.now)) }
     ensures bound { OnOk result (bound.new ≡ bound.old ++ step_lets (mirror_step step.now)) }
 {

@@ -5,13 +5,13 @@ ghost use Rattle.rb_trees.specs.mirror.Scripts.{mirror_script};
 ghost use Rattle.rb_trees.specs.Outcome.{Gives, Tells, refused_as};
 ghost use Rattle.rb_trees.specs.Validity.{verdict};
 ghost use Rattle.rb_meaning_bytes.specs.formats.Messages.{Sent, Refused};
-ghost use Rattle.rb_meaning_bytes.specs.formats.ScriptPayloads.{Means, number_of, step_of, refused};
-ghost use Rattle.rb_meaning_bytes.specs.formats.FormedScripts.{FormedScript, IsWithoutLists, AreInputs};
+ghost use Rattle.rb_meaning_bytes.specs.formats.ScriptPayloads.{Means, Suits, number_of, step_of, refused, version_of};
+ghost use Rattle.rb_meaning_bytes.specs.formats.FormedScripts.{FormedScript, AreInputs};
 ghost use Rattle.rb_wire_script.specs.Stops.{refusal_of, seen};
 
 use crate::checking::{RuleStop, check};
 use crate::message::whole;
-use rb_trees::{Script, ScriptRefusal, Seq, Value};
+use rb_trees::{Script, ScriptRefusal, Seq, Value, Version};
 use rb_wire_fields::stop::Stop;
 use std::alloc::Global;
 use thiserror::Error;
@@ -19,10 +19,15 @@ use thiserror::Error;
 /// Why a payload isn't taken.
 #[derive(Debug, Drop, Error)]
 pub enum ScriptStop {
-    /// The first refusal: its number, and its place. From 1 to 6 the bytes violate the format, and the place is an offset in
-    /// the payload; from 11 to 13 they spell a script that isn't valid, and the place is the number of a step.
+    /// The first refusal: the version of the payload, its number, and its place. From 1 to 8 the bytes violate the
+    /// format, and the place is an offset in the payload. From 11 on they spell a script that isn't valid, and the
+    /// place is the number of a step.
     #[error("refusal {number} at {at}")]
-    Refused { number: u8, at: u32 },
+    Refused {
+        version: Version,
+        number: u8,
+        at: u32,
+    },
     #[error("out of memory")]
     Memory,
 }
@@ -53,13 +58,14 @@ fn step_of(refusal: ScriptRefusal) -> u32
     }
 }
 
-/// Whether the script is valid.
-fn judge(alloc: Global, script: &Script) -> Result<(), ScriptStop>
-    ensures { Gives (λ x. x) refusal_of result (refused_as refused (verdict (mirror_script script.now))) }
+/// Whether the script is valid, which was read in this version.
+fn judge(alloc: Global, version: Version, script: &Script) -> Result<(), ScriptStop>
+    ensures { Gives (λ x. x) refusal_of result (refused_as (refused version) (verdict (mirror_script script.now))) }
 {
     match check(alloc, script) {
         Ok(()) => Ok(()),
         Err(RuleStop::Refused(refusal)) => Err(ScriptStop::Refused {
+            version,
             number: number_of(refusal),
             at: step_of(refusal),
         }),
@@ -67,16 +73,27 @@ fn judge(alloc: Global, script: &Script) -> Result<(), ScriptStop>
     }
 }
 
-fn decoded(alloc: Global, payload: &[u8]) -> Result<(Script, Seq<Value>), ScriptStop>
+/// The version of a payload: that which its first byte names, and version 1 for any other byte and for none.
+fn version_of(payload: &[u8]) -> Version
+    ensures { result ≡ version_of payload.now }
+{
+    match payload {
+        [0x02, ..] => Version::Two,
+        _ => Version::One,
+    }
+}
+
+fn decoded(alloc: Global, payload: &[u8]) -> Result<(Version, Script, Seq<Value>), ScriptStop>
     requires { length payload.now ≤ 2 ^ 24 }
     ensures { Tells seen refusal_of result (Means payload.now) }
 {
     match whole(alloc, payload) {
-        Ok(sent) => match judge(alloc, &sent.0) {
+        Ok(sent) => match judge(alloc, sent.0, &sent.1) {
             Ok(()) => Ok(sent),
             Err(stop) => Err(stop),
         },
         Err(Stop::Refused(violation)) => Err(ScriptStop::Refused {
+            version: version_of(payload),
             number: violation.number,
             at: (payload.len() - violation.left) as u32,
         }),
@@ -84,19 +101,23 @@ fn decoded(alloc: Global, payload: &[u8]) -> Result<(Script, Seq<Value>), Script
     }
 }
 
-/// The script that a payload of at most 16,777,216 bytes spells, with the values of its inputs, if the script is valid; else
-/// the first refusal. What the bytes violate comes first, in reading order: 1 Truncated, 2 BadTag, 3 BadText,
-/// 4 NotCanonical, 5 TooDeep, 6 Trailing; then what the script's rules refuse: 11 UnknownVariable, 12 UnknownInput,
-/// 13 StepRepeated. The rule is `Means` in `specs/formats/ScriptPayloads.antt` of rb_meaning_bytes.
-pub fn decode_script(alloc: Global, payload: &[u8]) -> Result<(Script, Seq<Value>), ScriptStop>
+/// The script that a payload of at most 16,777,216 bytes spells, with its version and the values of its inputs, if the
+/// script is valid; else the first refusal. What the bytes violate comes first, in reading order: 1 Truncated,
+/// 2 BadTag, 3 BadText, 4 NotCanonical, 5 TooDeep, 6 Trailing, 7 BadPool, 8 TooManyItems; then what the script's rules
+/// refuse: 11 UnknownVariable, 12 UnknownInput, 13 StepRepeated, 15 WrongInput. The rule is `Means` in
+/// `specs/formats/ScriptPayloads.antt` of rb_meaning_bytes.
+pub fn decode_script(
+    alloc: Global,
+    payload: &[u8],
+) -> Result<(Version, Script, Seq<Value>), ScriptStop>
     requires { length payload.now ≤ 2 ^ 24 }
     // What is answered is what the payload comes to.
     ensures told { Tells seen refusal_of result (Means payload.now) }
     // A script that is answered may be run, and sent on.
-    ensures formed { IfOk result (λ x. FormedScript (mirror_script x.0)) }
-    ensures plain { IfOk result (λ x. IsWithoutLists (mirror_script x.0)) }
-    ensures inputs { IfOk result (λ x. AreInputs (mirror_script x.0) x.1) }
-    ensures valid { IfOk result (λ x. verdict (mirror_script x.0) ≡ Ok tt) }
+    ensures formed { IfOk result (λ x. FormedScript (mirror_script x.1)) }
+    ensures suits { IfOk result (λ x. Suits x.0 (mirror_script x.1)) }
+    ensures inputs { IfOk result (λ x. AreInputs (mirror_script x.1) x.2) }
+    ensures valid { IfOk result (λ x. verdict (mirror_script x.1) ≡ Ok tt) }
     // What the payload comes to is answered, unless memory runs out.
     ensures alone { (meant : Result Sent Refused) → Means payload.now meant → Gives seen refusal_of result meant }
 {

@@ -2,119 +2,157 @@
 
 ghost use Rattle.std.specs.Prelude.{◌≡◌, ◌<◌, ◌^◌, map};
 ghost use Rattle.rb_trees.specs.mirror.Scripts.{mirror_sexpr};
-ghost use Rattle.rb_meaning_bytes.specs.formats.Reading.{read};
-ghost use Rattle.rb_meaning_bytes.specs.formats.Formats.{times};
-ghost use Rattle.rb_meaning_bytes.specs.formats.Scripts as format;
 ghost use Rattle.rb_trees.specs.Outcome.{Gives};
 ghost use Rattle.rb_wire_fields.specs.Stops.{fault_of};
+ghost use Rattle.rb_wire_script.specs.Parts as parts;
+ghost use Rattle.rb_wire_script.specs.Parts.{reads};
+ghost use Rattle.rb_wire_script.specs.Stops.{seen_at};
 
 use crate::lists::fitted;
-use crate::names::name;
 use crate::operators::{binary_op, kind, unary_op};
-use rb_trees::{Boxed, Invocation, Operands, SExpr, Seq, Shared};
-use rb_wire_fields::fields::{bad_tag, byte, number, too_deep};
+use crate::pools::{Place, Pool, name};
+use crate::values::value;
+use rb_trees::{Boxed, Invocation, Operands, SExpr, Seq};
+use rb_wire_fields::fields::{bad_tag, byte, natural, too_deep};
 use rb_wire_fields::stop::Stop;
-use rb_wire_fields::texts::value;
 use std::alloc::Global;
 
 /// An expression, with at most so many within each other.
 #[cycle(exprs)]
 #[tactic(auto, using(crate::proofs::Equations::exprs), unfolding(rb_meaning_bytes::specs::formats::Reading::read))]
-pub(crate) fn expr(alloc: Global, left: usize, bytes: &[u8]) -> Result<(SExpr, &[u8]), Stop>
+pub(crate) fn expr<'a>(
+    alloc: Global,
+    pool: &Pool,
+    left: usize,
+    from: Place<'a>,
+) -> Result<(SExpr, Place<'a>), Stop>
     requires { left < 2 ^ 32 }
-    ensures { Gives (λ x. (mirror_sexpr x.0, x.1.now)) fault_of result (read (format.expr left) bytes.now) }
+    ensures { Gives (seen_at mirror_sexpr) fault_of result (reads (parts.expr pool.now left) from.entry) }
 {
     if left == 0 {
-        return Err(Stop::from(too_deep(bytes)));
+        return Err(Stop::from(too_deep(from.bytes)));
     }
-    let (tag, rest) = byte(bytes)?;
+    let (tag, bytes) = byte(from.bytes)?;
+    let used = from.used;
+    let behind = Place { used, bytes };
     match tag {
         0x20 => {
-            let (value, rest) = value(alloc, rest)?;
-            Ok((SExpr::Lit(Boxed::new(alloc, value)?), rest))
+            let (value, behind) = value(alloc, pool, behind)?;
+            Ok((SExpr::Lit(Boxed::new(alloc, value)?), behind))
         }
         0x21 => {
-            let (input, rest) = byte(rest)?;
-            Ok((SExpr::Input(input), rest))
+            let (input, bytes) = byte(bytes)?;
+            Ok((SExpr::Input(input), Place { used, bytes }))
         }
         0x22 => {
-            let (var, rest) = number(rest)?;
-            Ok((SExpr::Var(var), rest))
+            let (var, bytes) = natural(pool.version, bytes)?;
+            Ok((SExpr::Var(var), Place { used, bytes }))
         }
-        0x23 => Ok((SExpr::Root, rest)),
-        0x24 => unary(alloc, left - 1, rest),
-        0x25 => binary(alloc, left - 1, rest),
-        0x26 => call(alloc, left - 1, rest),
-        _ => Err(Stop::from(bad_tag(rest))),
+        0x23 => Ok((SExpr::Root, behind)),
+        0x24 => unary(alloc, pool, left - 1, behind),
+        0x25 => binary(alloc, pool, left - 1, behind),
+        0x26 => call(alloc, pool, left - 1, behind),
+        _ => Err(Stop::from(bad_tag(bytes))),
     }
 }
 
 /// An operator and its operand, in which at most so many are within each other.
 #[cycle(exprs)]
 #[tactic(auto, using(crate::proofs::Equations::parts), unfolding(rb_meaning_bytes::specs::formats::Reading::read))]
-fn unary(alloc: Global, left: usize, bytes: &[u8]) -> Result<(SExpr, &[u8]), Stop>
+fn unary<'a>(
+    alloc: Global,
+    pool: &Pool,
+    left: usize,
+    from: Place<'a>,
+) -> Result<(SExpr, Place<'a>), Stop>
     requires { left < 2 ^ 32 }
-    ensures { Gives (λ x. (mirror_sexpr x.0, x.1.now)) fault_of result (read (format.unary_expr (format.expr left)) bytes.now) }
+    ensures { Gives (seen_at mirror_sexpr) fault_of result (reads (parts.unary pool.now left) from.entry) }
 {
-    let (op, rest) = unary_op(bytes)?;
-    let (at, rest) = number(rest)?;
-    let (operand, rest) = expr(alloc, left, rest)?;
-    Ok((SExpr::Unary(op, at, Boxed::new(alloc, operand)?), rest))
+    let (op, rest) = unary_op(from.bytes)?;
+    let (at, bytes) = natural(pool.version, rest)?;
+    let used = from.used;
+    let (operand, behind) = expr(alloc, pool, left, Place { used, bytes })?;
+    Ok((SExpr::Unary(op, at, Boxed::new(alloc, operand)?), behind))
 }
 
 /// An operator and its two operands, in which at most so many are within each other.
 #[cycle(exprs)]
 #[tactic(auto, using(crate::proofs::Equations::parts), unfolding(rb_meaning_bytes::specs::formats::Reading::read))]
-fn binary(alloc: Global, left: usize, bytes: &[u8]) -> Result<(SExpr, &[u8]), Stop>
+fn binary<'a>(
+    alloc: Global,
+    pool: &Pool,
+    left: usize,
+    from: Place<'a>,
+) -> Result<(SExpr, Place<'a>), Stop>
     requires { left < 2 ^ 32 }
-    ensures { Gives (λ x. (mirror_sexpr x.0, x.1.now)) fault_of result (read (format.binary_expr (format.expr left)) bytes.now) }
+    ensures { Gives (seen_at mirror_sexpr) fault_of result (reads (parts.binary pool.now left) from.entry) }
 {
-    let (op, rest) = binary_op(bytes)?;
-    let (at, rest) = number(rest)?;
-    let (first, rest) = expr(alloc, left, rest)?;
-    let (second, rest) = expr(alloc, left, rest)?;
+    let (op, rest) = binary_op(from.bytes)?;
+    let (at, bytes) = natural(pool.version, rest)?;
+    let used = from.used;
+    let (first, behind) = expr(alloc, pool, left, Place { used, bytes })?;
+    let (second, behind) = expr(alloc, pool, left, behind)?;
     let operands = Operands {
         left: first,
         right: second,
     };
-    Ok((SExpr::Binary(op, at, Boxed::new(alloc, operands)?), rest))
+    Ok((SExpr::Binary(op, at, Boxed::new(alloc, operands)?), behind))
 }
 
 /// A call, in whose target and arguments at most so many are within each other.
 #[cycle(exprs)]
 #[tactic(auto, using(crate::proofs::Equations::parts), unfolding(rb_meaning_bytes::specs::formats::Reading::read))]
-fn call(alloc: Global, left: usize, bytes: &[u8]) -> Result<(SExpr, &[u8]), Stop>
+fn call<'a>(
+    alloc: Global,
+    pool: &Pool,
+    left: usize,
+    from: Place<'a>,
+) -> Result<(SExpr, Place<'a>), Stop>
     requires { left < 2 ^ 32 }
-    ensures { Gives (λ x. (mirror_sexpr x.0, x.1.now)) fault_of result (read (format.call (format.expr left)) bytes.now) }
+    ensures { Gives (seen_at mirror_sexpr) fault_of result (reads (parts.call pool.now left) from.entry) }
 {
-    let (at, rest) = number(bytes)?;
-    let (kind, rest) = kind(rest)?;
-    let (method, rest) = name(alloc, rest)?;
-    let (target, rest) = expr(alloc, left, rest)?;
-    let (count, rest) = number(rest)?;
-    let (args, rest) = exprs(alloc, left, count, rest)?;
+    let (at, rest) = natural(pool.version, from.bytes)?;
+    let (kind, bytes) = kind(rest)?;
+    let used = from.used;
+    let (method, behind) = name(alloc, pool, Place { used, bytes })?;
+    let (target, behind) = expr(alloc, pool, left, behind)?;
+    let (count, bytes) = natural(pool.version, behind.bytes)?;
+    let used = behind.used;
+    let (args, behind) = exprs(alloc, pool, left, count, Place { used, bytes })?;
     let call = Invocation {
-        method: Shared::new(alloc, method)?,
+        method,
         target,
         args,
     };
-    let call = Boxed::new(alloc, call)?;
-    Ok((SExpr::Call { kind, at, call }, rest))
+    Ok((
+        SExpr::Call {
+            kind,
+            at,
+            call: Boxed::new(alloc, call)?,
+        },
+        behind,
+    ))
 }
 
 /// So many expressions.
 #[cycle(exprs)]
-#[tactic(auto, using(rb_wire_fields::proofs::Equations::lists))]
-fn exprs(alloc: Global, left: usize, count: u32, bytes: &[u8]) -> Result<(Seq<SExpr>, &[u8]), Stop>
+#[tactic(auto, using(crate::proofs::Stages::lists))]
+fn exprs<'a>(
+    alloc: Global,
+    pool: &Pool,
+    left: usize,
+    count: u32,
+    from: Place<'a>,
+) -> Result<(Seq<SExpr>, Place<'a>), Stop>
     requires { left < 2 ^ 32 }
-    ensures { Gives (λ x. (map mirror_sexpr x.0, x.1.now)) fault_of result (read (times count (format.expr left)) bytes.now) }
+    ensures { Gives (seen_at (map mirror_sexpr)) fault_of result (reads (parts.exprs pool.now left count) from.entry) }
 {
     let mut items = Seq::new(alloc);
-    let mut rest = bytes;
+    let mut place = from;
     for _ in 0..count {
-        let (item, behind) = expr(alloc, left, rest)?;
+        let (item, behind) = expr(alloc, pool, left, place)?;
         items.push(item)?;
-        rest = behind;
+        place = behind;
     }
-    Ok((fitted(items), rest))
+    Ok((fitted(items), place))
 }

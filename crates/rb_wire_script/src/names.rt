@@ -5,13 +5,11 @@ ghost use Rattle.rb_trees.specs.Spelling.{is_letter, is_word_byte};
 ghost use Rattle.rb_meaning_bytes.specs.formats.Fields.{Name, is_name, are_word_bytes};
 ghost use Rattle.rb_meaning_bytes.specs.formats.Reading.{look};
 ghost use Rattle.rb_trees.specs.Outcome.{Gives};
-ghost use Rattle.rb_wire_fields.specs.Stops.{fault_of};
+ghost use Rattle.rb_wire_fields.specs.Stops.{told};
 
-use rb_trees::{Seq, Word};
 use rb_wire_fields::fields::{cut, refused};
-use rb_wire_fields::stop::{BAD_TEXT, Stop};
+use rb_wire_fields::stop::{BAD_TEXT, Violation};
 use rb_wire_fields::texts::{behind, length_of};
-use std::alloc::Global;
 
 /// Whether the byte may begin a name.
 #[tactic(auto, using(std::proofs::lemmas::Bool::Decides::nat_tests), unfolding(rb_trees::specs::Spelling::is_letter))]
@@ -42,7 +40,7 @@ fn all_go_on(bytes: &[u8]) -> bool
 }
 
 /// Whether the bytes are a name.
-fn is_name(bytes: &[u8]) -> bool
+pub(crate) fn is_name(bytes: &[u8]) -> bool
     ensures { result ≡ is_name bytes.now }
 {
     match bytes {
@@ -51,18 +49,18 @@ fn is_name(bytes: &[u8]) -> bool
     }
 }
 
-/// A name: its length, and so many bytes of a name.
+/// A name: its length, and so many bytes of a name. It stays where it stands.
 #[tactic(auto, unfolding(rb_meaning_bytes::specs::formats::Reading::look))]
-pub(crate) fn name(alloc: Global, bytes: &[u8]) -> Result<(Word, &[u8]), Stop>
-    ensures { Gives (λ x. (x.0, x.1.now)) fault_of result (look Name bytes.now) }
+pub(crate) fn lent_name(bytes: &[u8]) -> Result<(&[u8], &[u8]), Violation>
+    ensures { Gives (λ x. (x.0.now, x.1.now)) told result (look Name bytes.now) }
 {
     let count = length_of(bytes) as usize;
     if bytes.len() < 4 + count {
-        return Err(Stop::from(cut()));
+        return Err(cut());
     }
     let (name, rest) = behind(bytes, count);
     if !is_name(name) {
-        return Err(Stop::from(refused(BAD_TEXT, bytes)));
+        return Err(refused(BAD_TEXT, bytes));
     }
-    Ok((Seq::from_slice(alloc, name)?, rest))
+    Ok((name, rest))
 }

@@ -1,6 +1,6 @@
 use mir.Facts.{Fits-lt-pow}
 use Rattle.rb_meaning_bytes.specs.formats.Fields.{IsBytes}
-use Rattle.rb_meaning_bytes.specs.formats.Scripts.{script_message}
+use Rattle.rb_meaning_bytes.specs.formats.ScriptMessages.{script_message}
 use Rattle.rb_meaning_bytes.proofs.formats.Exact.{all_spells, left_within}
 use Rattle.rb_wire_script.specs.Stops.{refusal_of, seen}
 use Rattle.rb_wire_script.proofs.Payloads.{accepted, denied, violated_at}
@@ -20,4 +20,4 @@ returns-in-Err c = denied _ (seen c.in-Ok.sent) (refusal_of c.in-Err.stop) (all_
 pub returns-in-Err-Refused : goal.returns-in-Err-Refused
 returns-in-Err-Refused c =
     let b : IsBytes c.args.payload.now = λ i. Fits-lt-pow (c.type_inv.payload i) in
-    rw c.in-Err-Refused.field-0-is (violated_at _ c.in-Err-Refused.violation.number c.in-Err-Refused.violation.left b (rw c.in-Err-Refused.field-0-is at c.in-Err-Refused.ensures))
+    rw c.in-Err-Refused.field-0-is (violated_at _ _ c.in-Err-Refused.violation.number c.in-Err-Refused.violation.left b c.version_of.ensures (rw c.in-Err-Refused.field-0-is at c.in-Err-Refused.ensures))

@@ -1,9 +1,7 @@
 use Rattle.std.proofs.Common.{◌≡◌, ◌+◌, ◌*◌, ◌-◌, map}
 use Rattle.rb_trees.specs.mirror.Scripts.{mirror_sexpr}
-use Rattle.rb_meaning_bytes.specs.formats.Formats.{times}
-use Rattle.rb_meaning_bytes.specs.formats.Reading.{read}
-use Rattle.rb_meaning_bytes.specs.formats.Scripts.{expr}
-use Rattle.rb_meaning_bytes.proofs.formats.Steps.{with_front}
+use Rattle.rb_wire_script.specs.Parts.{reads, exprs}
+use Rattle.rb_wire_script.proofs.Stages.{with_front}
 use Rattle.rb_wire_script.proofs.exprs.+exprs.Given as goal
 
 abbrev pub decreases-expr : goal.decreases-expr
@@ -22,4 +20,4 @@ abbrev pub decreases-call : goal.decreases-call
 decreases-call l = 3 * l.left + 2
 
 abbrev pub invariant-exprs-loop : goal.invariant-exprs-loop
-invariant-exprs-loop l = with_front (map mirror_sexpr l.items) (read (times (l.count - l.counter) (expr l.left)) l.rest) ≡ read (times l.count (expr l.left)) l.bytes
+invariant-exprs-loop l = with_front (map mirror_sexpr l.items) (reads (exprs l.pool l.left (l.count - l.counter)) l.place) ≡ reads (exprs l.pool l.left l.count) l.from

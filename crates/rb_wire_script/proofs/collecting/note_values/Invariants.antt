@@ -1,0 +1,7 @@
+use Rattle.std.proofs.Common.{◌≡◌, drop}
+use Rattle.rb_meaning_bytes.specs.formats.Pools.{with_texts}
+use Rattle.rb_meaning_bytes.specs.formats.ScriptBytes.{literals_texts}
+use Rattle.rb_wire_script.proofs.collecting.note_values.Given as goal
+
+abbrev pub invariant-loop-value : goal.invariant-loop-value
+invariant-loop-value l = with_texts l.texts (literals_texts (drop l.value-index l.values)) ≡ with_texts l.fn.texts (literals_texts l.values)
