@@ -1,6 +1,7 @@
 -- The steps of a walk, as the frames and the bytes have them.
 use Rattle.std.proofs.Common.{◌≡◌, ◌-◌, ◌<◌, ℕ, suc, List, ◌∷◌, length, refl, ap, sym, ◌∙◌, subst, arith, Ok, Err, Option, Some, None, Bool, true, is_some, option_map}
 use mathlib.Core.Path.{fun_ext}
+use Rattle.rb_trees.specs.declared.versions.Version.{Version}
 use Rattle.rb_trees.specs.declared.values.Value.{Value}
 use Rattle.rb_trees.specs.declared.forests.NodeFault.{NodeFault}
 use Rattle.rb_trees.specs.mirror.Forests.{Holds, Entry, Entries, NoEntries, MoreEntries, Nodes, MoreNodes}
@@ -36,28 +37,28 @@ one_less : (e : ℕ) → 0 < e → e ≡ suc (e - 1)
 one_less e h = omega arith
 
 -- what stands first, by its front
-pub front : (top : Frame) (fs : List Frame) (bytes : List ℕ) (h : Head) (rest : List ℕ) → top.turns ≡ None → 0 < top.entries → head bytes ≡ Some (h, rest) → is_some (all_open (top ∷ fs) bytes) ≡ true
-    → Ahead (levels_below (length fs)) (top.entries - 1) (all_open fs) h rest (all_open (top ∷ fs) bytes)
-front top fs bytes h rest t e i s =
-    let is = node_top top fs bytes (suc (top.entries - 1)) t (one_less top.entries e) in
-    subst (λ o. Ahead (levels_below (length fs)) (top.entries - 1) (all_open fs) h rest o) (sym is)
-    (ahead (levels_below (length fs)) (top.entries - 1) (all_open fs) bytes h rest i (ap is_some (sym is) ∙ s))
+pub front : (version : Version) (top : Frame) (fs : List Frame) (bytes : List ℕ) (h : Head) (rest : List ℕ) → top.turns ≡ None → 0 < top.entries → head version bytes ≡ Some (h, rest) → is_some (all_open version (top ∷ fs) bytes) ≡ true
+    → Ahead version (levels_below (length fs)) (top.entries - 1) (all_open version fs) h rest (all_open version (top ∷ fs) bytes)
+front version top fs bytes h rest t e i s =
+    let is = node_top version top fs bytes (suc (top.entries - 1)) t (one_less top.entries e) in
+    subst (λ o. Ahead version (levels_below (length fs)) (top.entries - 1) (all_open version fs) h rest o) (sym is)
+    (ahead version (levels_below (length fs)) (top.entries - 1) (all_open version fs) bytes h rest i (ap is_some (sym is) ∙ s))
 
-pub no_front : (top : Frame) (fs : List Frame) (bytes : List ℕ) → top.turns ≡ None → 0 < top.entries → head bytes ≡ None → is_some (all_open (top ∷ fs) bytes) ≡ true → ⊥
-no_front top fs bytes t e i s =
-    let is = node_top top fs bytes (suc (top.entries - 1)) t (one_less top.entries e) in
-    let h = has_head (levels_below (length fs)) (top.entries - 1) (all_open fs) bytes (ap is_some (sym is) ∙ s) in
+pub no_front : (version : Version) (top : Frame) (fs : List Frame) (bytes : List ℕ) → top.turns ≡ None → 0 < top.entries → head version bytes ≡ None → is_some (all_open version (top ∷ fs) bytes) ≡ true → ⊥
+no_front version top fs bytes t e i s =
+    let is = node_top version top fs bytes (suc (top.entries - 1)) t (one_less top.entries e) in
+    let h = has_head version (levels_below (length fs)) (top.entries - 1) (all_open version fs) bytes (ap is_some (sym is) ∙ s) in
     absurd cc
 
-pub value_step : (top next : Frame) (fs : List Frame) (bytes : List ℕ) (v : Value) (rest : List ℕ) → top.turns ≡ None → 0 < top.entries → next.turns ≡ None → next.entries ≡ top.entries - 1
-    → head bytes ≡ Some (ValueHead v, rest) → is_some (all_open (top ∷ fs) bytes) ≡ true → Went next_value v (all_open (top ∷ fs) bytes) (all_open (next ∷ fs) rest)
-value_step top next fs bytes v rest t e nt ne i s =
-    let a = front top fs bytes (ValueHead v) rest t e i s in
+pub value_step : (version : Version) (top next : Frame) (fs : List Frame) (bytes : List ℕ) (v : Value) (rest : List ℕ) → top.turns ≡ None → 0 < top.entries → next.turns ≡ None → next.entries ≡ top.entries - 1
+    → head version bytes ≡ Some (ValueHead v, rest) → is_some (all_open version (top ∷ fs) bytes) ≡ true → Went next_value v (all_open version (top ∷ fs) bytes) (all_open version (next ∷ fs) rest)
+value_step version top next fs bytes v rest t e nt ne i s =
+    let a = front version top fs bytes (ValueHead v) rest t e i s in
     record {
       before = AtNode (Holds (MoreEntries a.first a.es) a.f) ∷ a.os;
       after = AtNode (Holds a.es a.f) ∷ a.os;
       old_is = a.old_is;
-      new_is = node_top next fs rest (top.entries - 1) nt ne ∙ a.leads.1;
+      new_is = node_top version next fs rest (top.entries - 1) nt ne ∙ a.leads.1;
       step = ap (λ x. next_value (AtNode (Holds (MoreEntries x a.es) a.f) ∷ a.os)) a.leads.0;
     }
 
@@ -65,112 +66,112 @@ value_step top next fs bytes v rest t e nt ne i s =
 level_less : (d m : ℕ) → levels_below d ≡ suc m → levels_below (suc d) ≡ m
 level_less d m h = omega arith
 
-pub branch_step : (top next inner : Frame) (fs : List Frame) (bytes : List ℕ) (taken : Bool) (count : ℕ) (rest : List ℕ) → top.turns ≡ None → 0 < top.entries → next.turns ≡ None → next.entries ≡ top.entries - 1
-    → inner.turns ≡ None → inner.entries ≡ count → head bytes ≡ Some (BranchHead taken count, rest) → is_some (all_open (top ∷ fs) bytes) ≡ true
-    → Went next_branch taken (all_open (top ∷ fs) bytes) (all_open (inner ∷ next ∷ fs) rest)
-branch_step top next inner fs bytes taken count rest t e nt ne it ie i s =
-    let a = front top fs bytes (BranchHead taken count) rest t e i s in
+pub branch_step : (version : Version) (top next inner : Frame) (fs : List Frame) (bytes : List ℕ) (taken : Bool) (count : ℕ) (rest : List ℕ) → top.turns ≡ None → 0 < top.entries → next.turns ≡ None → next.entries ≡ top.entries - 1
+    → inner.turns ≡ None → inner.entries ≡ count → head version bytes ≡ Some (BranchHead taken count, rest) → is_some (all_open version (top ∷ fs) bytes) ≡ true
+    → Went next_branch taken (all_open version (top ∷ fs) bytes) (all_open version (inner ∷ next ∷ fs) rest)
+branch_step version top next inner fs bytes taken count rest t e nt ne it ie i s =
+    let a = front version top fs bytes (BranchHead taken count) rest t e i s in
     let nd = a.leads.0 in
     let m = a.leads.1 in
     let down : levels_below (length (next ∷ fs)) ≡ m = level_less (length fs) m a.leads.2 in
-    let outer : (bytes : List ℕ) → all_open (next ∷ fs) bytes ≡ node_open (levels_below (length fs)) (top.entries - 1) (all_open fs) bytes = λ b. node_top next fs b (top.entries - 1) nt ne in
+    let outer : (bytes : List ℕ) → all_open version (next ∷ fs) bytes ≡ node_open version (levels_below (length fs)) (top.entries - 1) (all_open version fs) bytes = λ b. node_top version next fs b (top.entries - 1) nt ne in
     record {
       before = AtNode (Holds (MoreEntries a.first a.es) a.f) ∷ a.os;
       after = AtNode nd ∷ AtNode (Holds a.es a.f) ∷ a.os;
       old_is = a.old_is;
-      new_is = node_top inner (next ∷ fs) rest count it ie ∙ ap (λ n. node_open n count (all_open (next ∷ fs)) rest) down ∙ ap (λ (k : Below). node_open m count k rest) (fun_ext outer) ∙ a.leads.4;
+      new_is = node_top version inner (next ∷ fs) rest count it ie ∙ ap (λ n. node_open version n count (all_open version (next ∷ fs)) rest) down ∙ ap (λ (k : Below). node_open version m count k rest) (fun_ext outer) ∙ a.leads.4;
       step = ap (λ x. next_branch (AtNode (Holds (MoreEntries x a.es) a.f) ∷ a.os)) a.leads.3;
     }
 
-pub rows_step : (top next : Frame) (fs : List Frame) (bytes : List ℕ) (count : ℕ) (rest : List ℕ) → top.turns ≡ None → 0 < top.entries → next.turns ≡ Some count → next.entries ≡ top.entries - 1
-    → head bytes ≡ Some (RowsHead count, rest) → is_some (all_open (top ∷ fs) bytes) ≡ true → Went next_rows count (all_open (top ∷ fs) bytes) (all_open (next ∷ fs) rest)
-rows_step top next fs bytes count rest t e nt ne i s =
-    let a = front top fs bytes (RowsHead count) rest t e i s in
+pub rows_step : (version : Version) (top next : Frame) (fs : List Frame) (bytes : List ℕ) (count : ℕ) (rest : List ℕ) → top.turns ≡ None → 0 < top.entries → next.turns ≡ Some count → next.entries ≡ top.entries - 1
+    → head version bytes ≡ Some (RowsHead count, rest) → is_some (all_open version (top ∷ fs) bytes) ≡ true → Went next_rows count (all_open version (top ∷ fs) bytes) (all_open version (next ∷ fs) rest)
+rows_step version top next fs bytes count rest t e nt ne i s =
+    let a = front version top fs bytes (RowsHead count) rest t e i s in
     let ns = a.leads.0 in
     record {
       before = AtNode (Holds (MoreEntries a.first a.es) a.f) ∷ a.os;
       after = AtRows ns ∷ AtNode (Holds a.es a.f) ∷ a.os;
       old_is = a.old_is;
-      new_is = rows_top next fs rest count nt ∙ ap (λ c. rows_open (levels_below (length fs)) count (node_open (levels_below (length fs)) c (all_open fs)) rest) ne ∙ a.leads.3;
+      new_is = rows_top version next fs rest count nt ∙ ap (λ c. rows_open version (levels_below (length fs)) count (node_open version (levels_below (length fs)) c (all_open version fs)) rest) ne ∙ a.leads.3;
       step = ap (λ x. next_rows (AtNode (Holds (MoreEntries x a.es) a.f) ∷ a.os)) a.leads.2 ∙ ap (λ c. Some (c, AtRows ns ∷ AtNode (Holds a.es a.f) ∷ a.os)) a.leads.1;
     }
 
 -- ---- a Rows with nodes left
 
-pub rows_front : (top : Frame) (fs : List Frame) (bytes : List ℕ) (turns count : ℕ) (rest : List ℕ) → top.turns ≡ Some turns → 0 < turns → look Number bytes ≡ Ok (count, rest) → is_some (all_open (top ∷ fs) bytes) ≡ true
-    → Turned (levels_below (length fs)) count (turns - 1) (below_rows top fs) rest (all_open (top ∷ fs) bytes)
-rows_front top fs bytes turns count rest t e i s =
-    let is : all_open (top ∷ fs) bytes ≡ rows_open (levels_below (length fs)) (suc (turns - 1)) (below_rows top fs) bytes = rows_top top fs bytes turns t ∙ ap (λ c. rows_open (levels_below (length fs)) c (below_rows top fs) bytes) (one_less turns e) in
-    subst (λ o. Turned (levels_below (length fs)) count (turns - 1) (below_rows top fs) rest o) (sym is)
-    (turned (levels_below (length fs)) (turns - 1) (below_rows top fs) bytes count rest i (ap is_some (sym is) ∙ s))
+pub rows_front : (version : Version) (top : Frame) (fs : List Frame) (bytes : List ℕ) (turns count : ℕ) (rest : List ℕ) → top.turns ≡ Some turns → 0 < turns → look Number bytes ≡ Ok (count, rest) → is_some (all_open version (top ∷ fs) bytes) ≡ true
+    → Turned version (levels_below (length fs)) count (turns - 1) (below_rows version top fs) rest (all_open version (top ∷ fs) bytes)
+rows_front version top fs bytes turns count rest t e i s =
+    let is : all_open version (top ∷ fs) bytes ≡ rows_open version (levels_below (length fs)) (suc (turns - 1)) (below_rows version top fs) bytes = rows_top version top fs bytes turns t ∙ ap (λ c. rows_open version (levels_below (length fs)) c (below_rows version top fs) bytes) (one_less turns e) in
+    subst (λ o. Turned version (levels_below (length fs)) count (turns - 1) (below_rows version top fs) rest o) (sym is)
+    (turned version (levels_below (length fs)) (turns - 1) (below_rows version top fs) bytes count rest i (ap is_some (sym is) ∙ s))
 
-pub no_count : (top : Frame) (fs : List Frame) (bytes : List ℕ) (turns : ℕ) (e : _) → top.turns ≡ Some turns → 0 < turns → look Number bytes ≡ Err e → is_some (all_open (top ∷ fs) bytes) ≡ true → ⊥
-no_count top fs bytes turns e t l i s =
-    let is : all_open (top ∷ fs) bytes ≡ rows_open (levels_below (length fs)) (suc (turns - 1)) (below_rows top fs) bytes = rows_top top fs bytes turns t ∙ ap (λ c. rows_open (levels_below (length fs)) c (below_rows top fs) bytes) (one_less turns l) in
-    has_count (levels_below (length fs)) (turns - 1) (below_rows top fs) bytes e i (ap is_some (sym is) ∙ s)
+pub no_count : (version : Version) (top : Frame) (fs : List Frame) (bytes : List ℕ) (turns : ℕ) (e : _) → top.turns ≡ Some turns → 0 < turns → look Number bytes ≡ Err e → is_some (all_open version (top ∷ fs) bytes) ≡ true → ⊥
+no_count version top fs bytes turns e t l i s =
+    let is : all_open version (top ∷ fs) bytes ≡ rows_open version (levels_below (length fs)) (suc (turns - 1)) (below_rows version top fs) bytes = rows_top version top fs bytes turns t ∙ ap (λ c. rows_open version (levels_below (length fs)) c (below_rows version top fs) bytes) (one_less turns l) in
+    has_count version (levels_below (length fs)) (turns - 1) (below_rows version top fs) bytes e i (ap is_some (sym is) ∙ s)
 
 -- a step that gives nothing
 abbrev pub quietly : (List Open → Option (List Open)) → List Open → Option (Unit {0} × List Open)
 quietly next os = option_map (λ after. (tt, after)) (next os)
 
-pub turn_step : (top next inner : Frame) (fs : List Frame) (bytes : List ℕ) (turns count : ℕ) (rest : List ℕ) → top.turns ≡ Some turns → 0 < turns → next.turns ≡ Some (turns - 1) → next.entries ≡ top.entries
-    → inner.turns ≡ None → inner.entries ≡ count → look Number bytes ≡ Ok (count, rest) → is_some (all_open (top ∷ fs) bytes) ≡ true
-    → Went (quietly next_turn) tt (all_open (top ∷ fs) bytes) (all_open (inner ∷ next ∷ fs) rest)
-turn_step top next inner fs bytes turns count rest t l nt ne it ie i s =
-    let a = rows_front top fs bytes turns count rest t l i s in
+pub turn_step : (version : Version) (top next inner : Frame) (fs : List Frame) (bytes : List ℕ) (turns count : ℕ) (rest : List ℕ) → top.turns ≡ Some turns → 0 < turns → next.turns ≡ Some (turns - 1) → next.entries ≡ top.entries
+    → inner.turns ≡ None → inner.entries ≡ count → look Number bytes ≡ Ok (count, rest) → is_some (all_open version (top ∷ fs) bytes) ≡ true
+    → Went (quietly next_turn) tt (all_open version (top ∷ fs) bytes) (all_open version (inner ∷ next ∷ fs) rest)
+turn_step version top next inner fs bytes turns count rest t l nt ne it ie i s =
+    let a = rows_front version top fs bytes turns count rest t l i s in
     let down : levels_below (length (next ∷ fs)) ≡ a.m = level_less (length fs) a.m a.n_is in
-    let outer : (bytes : List ℕ) → all_open (next ∷ fs) bytes ≡ rows_open (levels_below (length fs)) (turns - 1) (below_rows top fs) bytes =
-    λ b. rows_top next fs b (turns - 1) nt ∙ ap (λ c. rows_open (levels_below (length fs)) (turns - 1) (node_open (levels_below (length fs)) c (all_open fs)) b) ne in
+    let outer : (bytes : List ℕ) → all_open version (next ∷ fs) bytes ≡ rows_open version (levels_below (length fs)) (turns - 1) (below_rows version top fs) bytes =
+    λ b. rows_top version next fs b (turns - 1) nt ∙ ap (λ c. rows_open version (levels_below (length fs)) (turns - 1) (node_open version (levels_below (length fs)) c (all_open version fs)) b) ne in
     record {
       before = AtRows (MoreNodes a.nd a.ns) ∷ a.os;
       after = AtNode a.nd ∷ AtRows a.ns ∷ a.os;
       old_is = a.old_is;
-      new_is = node_top inner (next ∷ fs) rest count it ie ∙ ap (λ n. node_open n count (all_open (next ∷ fs)) rest) down ∙ ap (λ (k : Below). node_open a.m count k rest) (fun_ext outer) ∙ a.new_is;
+      new_is = node_top version inner (next ∷ fs) rest count it ie ∙ ap (λ n. node_open version n count (all_open version (next ∷ fs)) rest) down ∙ ap (λ (k : Below). node_open version a.m count k rest) (fun_ext outer) ∙ a.new_is;
       step = refl;
     }
 
 -- ---- nothing is left
 
-pub end_front : (top : Frame) (fs : List Frame) (bytes : List ℕ) (f : Option NodeFault) (rest : List ℕ) → top.turns ≡ None → top.entries ≡ 0 → read end bytes ≡ Ok (f, rest) → is_some (all_open (top ∷ fs) bytes) ≡ true
-    → Ended (all_open fs) f rest (all_open (top ∷ fs) bytes)
-end_front top fs bytes f rest t e i s =
-    let is = node_top top fs bytes 0 t e in
-    subst (λ o. Ended (all_open fs) f rest o) (sym is) (ended (levels_below (length fs)) (all_open fs) bytes f rest i (ap is_some (sym is) ∙ s))
+pub end_front : (version : Version) (top : Frame) (fs : List Frame) (bytes : List ℕ) (f : Option NodeFault) (rest : List ℕ) → top.turns ≡ None → top.entries ≡ 0 → read (end version) bytes ≡ Ok (f, rest) → is_some (all_open version (top ∷ fs) bytes) ≡ true
+    → Ended (all_open version fs) f rest (all_open version (top ∷ fs) bytes)
+end_front version top fs bytes f rest t e i s =
+    let is = node_top version top fs bytes 0 t e in
+    subst (λ o. Ended (all_open version fs) f rest o) (sym is) (ended version (levels_below (length fs)) (all_open version fs) bytes f rest i (ap is_some (sym is) ∙ s))
 
-pub no_end : (top : Frame) (fs : List Frame) (bytes : List ℕ) (d : _) → top.turns ≡ None → top.entries ≡ 0 → read end bytes ≡ Err d → is_some (all_open (top ∷ fs) bytes) ≡ true → ⊥
-no_end top fs bytes d t e i s =
-    let is = node_top top fs bytes 0 t e in
-    has_end (levels_below (length fs)) (all_open fs) bytes d i (ap is_some (sym is) ∙ s)
+pub no_end : (version : Version) (top : Frame) (fs : List Frame) (bytes : List ℕ) (d : _) → top.turns ≡ None → top.entries ≡ 0 → read (end version) bytes ≡ Err d → is_some (all_open version (top ∷ fs) bytes) ≡ true → ⊥
+no_end version top fs bytes d t e i s =
+    let is = node_top version top fs bytes 0 t e in
+    has_end version (levels_below (length fs)) (all_open version fs) bytes d i (ap is_some (sym is) ∙ s)
 
-pub end_shown : (top : Frame) (fs : List Frame) (bytes : List ℕ) (f : Option NodeFault) (rest : List ℕ) → top.turns ≡ None → top.entries ≡ 0 → read end bytes ≡ Ok (f, rest) → is_some (all_open (top ∷ fs) bytes) ≡ true
-    → f ≡ next_fault (or_none (all_open (top ∷ fs) bytes))
-end_shown top fs bytes f rest t e i s = let a = end_front top fs bytes f rest t e i s in sym (ap next_fault (ap or_none a.old_is))
+pub end_shown : (version : Version) (top : Frame) (fs : List Frame) (bytes : List ℕ) (f : Option NodeFault) (rest : List ℕ) → top.turns ≡ None → top.entries ≡ 0 → read (end version) bytes ≡ Ok (f, rest) → is_some (all_open version (top ∷ fs) bytes) ≡ true
+    → f ≡ next_fault (or_none (all_open version (top ∷ fs) bytes))
+end_shown version top fs bytes f rest t e i s = let a = end_front version top fs bytes f rest t e i s in sym (ap next_fault (ap or_none a.old_is))
 
 -- what an answer without a step says: the shape of what stands first
 pub data Stuck : List Open → Type 0 where
   at_rows : (ns : Nodes) (os : List Open) → Stuck (AtRows ns ∷ os)
 
 -- A Rows is open: no entry of a node is next, and it has no fault.
-pub rows_shown : (top : Frame) (fs : List Frame) (bytes : List ℕ) (count : ℕ) → top.turns ≡ Some count → is_some (all_open (top ∷ fs) bytes) ≡ true
-    → (ns : Nodes) × (os : List Open) × (count_nodes ns ≡ count) × (all_open (top ∷ fs) bytes ≡ Some (AtRows ns ∷ os))
-rows_shown top fs bytes count t s =
-    let is = rows_top top fs bytes count t in
-    let r = rows_first (levels_below (length fs)) count (below_rows top fs) bytes (ap is_some (sym is) ∙ s) in
+pub rows_shown : (version : Version) (top : Frame) (fs : List Frame) (bytes : List ℕ) (count : ℕ) → top.turns ≡ Some count → is_some (all_open version (top ∷ fs) bytes) ≡ true
+    → (ns : Nodes) × (os : List Open) × (count_nodes ns ≡ count) × (all_open version (top ∷ fs) bytes ≡ Some (AtRows ns ∷ os))
+rows_shown version top fs bytes count t s =
+    let is = rows_top version top fs bytes count t in
+    let r = rows_first version (levels_below (length fs)) count (below_rows version top fs) bytes (ap is_some (sym is) ∙ s) in
     (r.0, r.1, r.2, is ∙ r.3)
 
 -- A node without entries left.
-pub end_open : (top : Frame) (fs : List Frame) (bytes : List ℕ) → top.turns ≡ None → top.entries ≡ 0 → is_some (all_open (top ∷ fs) bytes) ≡ true → (f : Option NodeFault) × (os : List Open) × (all_open (top ∷ fs) bytes ≡ Some (AtNode (Holds NoEntries f) ∷ os))
-end_open top fs bytes t e s = go (read end bytes) refl
+pub end_open : (version : Version) (top : Frame) (fs : List Frame) (bytes : List ℕ) → top.turns ≡ None → top.entries ≡ 0 → is_some (all_open version (top ∷ fs) bytes) ≡ true → (f : Option NodeFault) × (os : List Open) × (all_open version (top ∷ fs) bytes ≡ Some (AtNode (Holds NoEntries f) ∷ os))
+end_open version top fs bytes t e s = go (read (end version) bytes) refl
   where
-    go : (r : Read (Option NodeFault)) → read end bytes ≡ r → (f : Option NodeFault) × (os : List Open) × (all_open (top ∷ fs) bytes ≡ Some (AtNode (Holds NoEntries f) ∷ os))
-    go (Ok x) i = let a = end_front top fs bytes x.0 x.1 t e i s in (x.0, a.os, a.old_is)
-    go (Err d) i = absurd (no_end top fs bytes d t e i s)
+    go : (r : Read (Option NodeFault)) → read (end version) bytes ≡ r → (f : Option NodeFault) × (os : List Open) × (all_open version (top ∷ fs) bytes ≡ Some (AtNode (Holds NoEntries f) ∷ os))
+    go (Ok x) i = let a = end_front version top fs bytes x.0 x.1 t e i s in (x.0, a.os, a.old_is)
+    go (Err d) i = absurd (no_end version top fs bytes d t e i s)
 
 -- A node with entries left.
-pub entry_open : (top : Frame) (fs : List Frame) (bytes : List ℕ) → top.turns ≡ None → 0 < top.entries → is_some (all_open (top ∷ fs) bytes) ≡ true
-    → (x : Entry) × (es : Entries) × (f : Option NodeFault) × (os : List Open) × (all_open (top ∷ fs) bytes ≡ Some (AtNode (Holds (MoreEntries x es) f) ∷ os))
-entry_open top fs bytes t e s = go (head bytes) refl
+pub entry_open : (version : Version) (top : Frame) (fs : List Frame) (bytes : List ℕ) → top.turns ≡ None → 0 < top.entries → is_some (all_open version (top ∷ fs) bytes) ≡ true
+    → (x : Entry) × (es : Entries) × (f : Option NodeFault) × (os : List Open) × (all_open version (top ∷ fs) bytes ≡ Some (AtNode (Holds (MoreEntries x es) f) ∷ os))
+entry_open version top fs bytes t e s = go (head version bytes) refl
   where
-    go : (o : Option (Head × List ℕ)) → head bytes ≡ o → (x : Entry) × (es : Entries) × (f : Option NodeFault) × (os : List Open) × (all_open (top ∷ fs) bytes ≡ Some (AtNode (Holds (MoreEntries x es) f) ∷ os))
-    go (Some h) i = let a = front top fs bytes h.0 h.1 t e i s in (a.first, a.es, a.f, a.os, a.old_is)
-    go None i = absurd (no_front top fs bytes t e i s)
+    go : (o : Option (Head × List ℕ)) → head version bytes ≡ o → (x : Entry) × (es : Entries) × (f : Option NodeFault) × (os : List Open) × (all_open version (top ∷ fs) bytes ≡ Some (AtNode (Holds (MoreEntries x es) f) ∷ os))
+    go (Some h) i = let a = front version top fs bytes h.0 h.1 t e i s in (a.first, a.es, a.f, a.os, a.old_is)
+    go None i = absurd (no_front version top fs bytes t e i s)

@@ -2,6 +2,7 @@
 use Rattle.std.proofs.Common.{◌≡◌, ◌+◌, ◌-◌, ◌<◌, ℕ, zero, suc, List, [], ◌∷◌, ◌||◌, refl, ap, sym, ◌∙◌, arith, Result, Ok, Err, Bool, true, false, cond, nat_eq, length, Option, None, Some, is_some}
 use Rattle.std.proofs.lemmas.Bool.Decides.{nat_tests}
 use Rattle.std.proofs.lemmas.Grind.{common_steps}
+use Rattle.rb_trees.specs.declared.versions.Version.{Version}
 use Rattle.rb_trees.specs.declared.forests.NodeFault.{NodeFault}
 use Rattle.rb_trees.specs.declared.values.Value.{Value}
 use Rattle.rb_trees.specs.mirror.Forests as tree
@@ -129,24 +130,24 @@ value_tested : (r : Read Value) → tested (λ v. false) r ≡ skip_on r (λ v r
 value_tested (Ok x) = refl
 value_tested (Err e) = refl
 
-abbrev pub test_by : Format Node → ℕ → List ℕ → Read Bool
-test_by F b rest = cond (nat_eq b 0x31) (skip_on (read value rest) (λ v after. Ok (false, after)))
+abbrev pub test_by : Version → Format Node → ℕ → List ℕ → Read Bool
+test_by version F b rest = cond (nat_eq b 0x31) (skip_on (read (value version) rest) (λ v after. Ok (false, after)))
     (cond (nat_eq b 0x32) (skip_on (look Truth rest) (λ taken after. tested ends_early (read F after)))
     (cond (nat_eq b 0x33) (skip_on (look Number rest) (λ count after. tested last_turn (read (times count F) after))) (Err (bad_tag, length rest + 1))))
 
-pub entry_tested : (F : Format Node) (bytes : List ℕ) → tested entry_ends_early (read (entry F) bytes) ≡ skip_on (look Byte bytes) (λ b rest. test_by F b rest)
-entry_tested F bytes = ap (λ r. tested entry_ends_early r) (entry_read F bytes) ∙ go (look Byte bytes)
+pub entry_tested : (version : Version) (F : Format Node) (bytes : List ℕ) → tested entry_ends_early (read (entry version F) bytes) ≡ skip_on (look Byte bytes) (λ b rest. test_by version F b rest)
+entry_tested version F bytes = ap (λ r. tested entry_ends_early r) (entry_read version F bytes) ∙ go (look Byte bytes)
   where
-    form : (b : ℕ) (rest : List ℕ) → tested entry_ends_early (by_tag (entry_forms F) b rest) ≡ test_by F b rest
+    form : (b : ℕ) (rest : List ℕ) → tested entry_ends_early (by_tag (entry_forms version F) b rest) ≡ test_by version F b rest
     form b rest =
         tested_cond entry_ends_early (nat_eq b 0x31) _ _
-        ∙ both (nat_eq b 0x31) _ _ _ _ (finally value (λ v. tree.Value v) entry_ends_early rest ∙ value_tested (read value rest))
+        ∙ both (nat_eq b 0x31) _ _ _ _ (finally (value version) (λ v. tree.Value v) entry_ends_early rest ∙ value_tested (read (value version) rest))
         (tested_cond entry_ends_early (nat_eq b 0x32) _ _
         ∙ both (nat_eq b 0x32) _ _ _ _ (branch_tested F rest)
         (tested_cond entry_ends_early (nat_eq b 0x33) _ _
         ∙ both (nat_eq b 0x33) _ _ _ _ (rows_tested F rest) refl))
 
-    go : (r : Read ℕ) → tested entry_ends_early (on r (λ b rest. by_tag (entry_forms F) b rest)) ≡ skip_on r (λ b rest. test_by F b rest)
+    go : (r : Read ℕ) → tested entry_ends_early (on r (λ b rest. by_tag (entry_forms version F) b rest)) ≡ skip_on r (λ b rest. test_by version F b rest)
     go (Ok x) = form x.0 x.1
     go (Err e) = refl
 
@@ -156,31 +157,31 @@ entry_tested F bytes = ap (λ r. tested entry_ends_early r) (entry_read F bytes)
 abbrev pub with_fault : Bool → Read (Option NodeFault) → Read Bool
 with_fault early r = skip_on r (λ f rest. Ok (is_left (step_of f) || early, rest))
 
-left_tested : (n count : ℕ) (bytes : List ℕ) → tested ends_early (read (node_left n count) bytes)
-    ≡ skip_on (tested last_entry (read (times count (entry (node n))) bytes)) (λ early rest. with_fault early (read end rest))
-left_tested n count bytes = ap (λ r. tested ends_early r) (left_read n count bytes) ∙ go (read (times count (entry (node n))) bytes)
+left_tested : (version : Version) (n count : ℕ) (bytes : List ℕ) → tested ends_early (read (node_left version n count) bytes)
+    ≡ skip_on (tested last_entry (read (times count (entry version (node version n))) bytes)) (λ early rest. with_fault early (read (end version) rest))
+left_tested version n count bytes = ap (λ r. tested ends_early r) (left_read version n count bytes) ∙ go (read (times count (entry version (node version n))) bytes)
   where
     ended : (es : List Entry) (r : Read (Option NodeFault)) → tested ends_early (on r (λ f rest. Ok (Holds (entries_from es) f, rest))) ≡ with_fault (last_entry es) r
     ended es (Ok x) = refl
     ended es (Err e) = refl
 
-    go : (r : Read (List Entry)) → tested ends_early (on r (λ es rest. with_end es rest)) ≡ skip_on (tested last_entry r) (λ early rest. with_fault early (read end rest))
-    go (Ok x) = ended x.0 (read end x.1)
+    go : (r : Read (List Entry)) → tested ends_early (on r (λ es rest. with_end version es rest)) ≡ skip_on (tested last_entry r) (λ early rest. with_fault early (read (end version) rest))
+    go (Ok x) = ended x.0 (read (end version) x.1)
     go (Err e) = refl
 
-abbrev pub test_parts : ℕ → List ℕ → Read Bool
-test_parts n bytes = skip_on (look Number bytes) (λ count rest.
-    skip_on (tested last_entry (read (times count (entry (node n))) rest)) (λ early after. with_fault early (read end after)))
+abbrev pub test_parts : Version → ℕ → List ℕ → Read Bool
+test_parts version n bytes = skip_on (look Number bytes) (λ count rest.
+    skip_on (tested last_entry (read (times count (entry version (node version n))) rest)) (λ early after. with_fault early (read (end version) after)))
 
-pub node_tested : (n : ℕ) (bytes : List ℕ) → 0 < n → tested ends_early (read (node n) bytes) ≡ test_parts (n - 1) bytes
-node_tested zero bytes h = absurd (omega arith)
-node_tested (suc n) bytes h =
+pub node_tested : (version : Version) (n : ℕ) (bytes : List ℕ) → 0 < n → tested ends_early (read (node version n) bytes) ≡ test_parts version (n - 1) bytes
+node_tested version zero bytes h = absurd (omega arith)
+node_tested version (suc n) bytes h =
     let e : suc n - 1 ≡ n = omega arith in
-    ap (λ r. tested ends_early r) (node_front n bytes) ∙ go (look Number bytes) ∙ ap (λ m. test_parts m bytes) (sym e)
+    ap (λ r. tested ends_early r) (node_front version n bytes) ∙ go (look Number bytes) ∙ ap (λ m. test_parts version m bytes) (sym e)
   where
-    go : (r : Read ℕ) → tested ends_early (on r (λ count rest. read (node_left n count) rest))
-        ≡ skip_on r (λ count rest. skip_on (tested last_entry (read (times count (entry (node n))) rest)) (λ early after. with_fault early (read end after)))
-    go (Ok x) = left_tested n x.0 x.1
+    go : (r : Read ℕ) → tested ends_early (on r (λ count rest. read (node_left version n count) rest))
+        ≡ skip_on r (λ count rest. skip_on (tested last_entry (read (times count (entry version (node version n))) rest)) (λ early after. with_fault early (read (end version) after)))
+    go (Ok x) = left_tested version n x.0 x.1
     go (Err e) = refl
 
 -- what is seen of a fault

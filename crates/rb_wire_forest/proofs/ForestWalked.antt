@@ -4,7 +4,7 @@ use Rattle.std.proofs.lemmas.List.{at_drop_more}
 use Rattle.rb_trees.specs.declared.values.Value.{Value, out-Value}
 use Rattle.rb_trees.specs.declared.forests.NodeFault.{NodeFault}
 use Rattle.rb_trees.specs.mirror.Forests as forest
-use Rattle.rb_trees.specs.mirror.Forests.{Node, Holds, Entries, NoEntries, MoreEntries}
+use Rattle.rb_trees.specs.mirror.Forests.{Holds, Entries, NoEntries, MoreEntries}
 use Rattle.rb_trees.specs.Outcome.{◌>>=◌, known, Gives}
 use Rattle.rb_meaning_bytes.specs.Fits.{Walk, step_of, is_at, is_left, are_left, leaves, faults_at, raised_or, went, form_has_kind, is_kept, behind_value, demanded, value_read, values_read, row_read}
 use Rattle.rb_wire_forest.specs.Opens.{Open, AtNode}

@@ -2,6 +2,7 @@
 use Rattle.std.proofs.Common.{◌≡◌, ◌+◌, ◌-◌, ◌<◌, ◌≤◌, ◌≢◌, ℕ, zero, suc, List, [], ◌∷◌, length, get_or, set, replicate, refl, ap, sym, ◌∙◌, arith, Some, None}
 use Rattle.std.proofs.lemmas.List.{get_or-set_same, get_or-set_other}
 use Rattle.std.proofs.lemmas.Grind.{common_steps}
+use Rattle.rb_trees.specs.declared.versions.Version.{Version}
 use Rattle.rb_wire_forest.specs.declared.frames.Frame.{Frame}
 use Rattle.rb_wire_forest.specs.Opens.{Below, all_open, frames_from, no_frame, levels_below, node_open, rows_open, turns_open}
 
@@ -46,19 +47,19 @@ set_further all d x y h i =
     ∙ ap (λ f. f ∷ frames_from (set (set all (d - 1) x) d y) d) (get_or-set_same (set all (d - 1) x) d y no_frame within)
     ∙ ap (λ fs. y ∷ fs) (frames_set (set all (d - 1) x) d y d (omega arith) ∙ set_top all d x h (omega arith))
 
-pub node_top : (f : Frame) (fs : List Frame) (bytes : List ℕ) (e : ℕ) → f.turns ≡ None → f.entries ≡ e → all_open (f ∷ fs) bytes ≡ node_open (levels_below (length fs)) e (all_open fs) bytes
+pub node_top : (version : Version) (f : Frame) (fs : List Frame) (bytes : List ℕ) (e : ℕ) → f.turns ≡ None → f.entries ≡ e → all_open version (f ∷ fs) bytes ≡ node_open version (levels_below (length fs)) e (all_open version fs) bytes
 unfolding all_open
-node_top f fs bytes e h i =
-    ap (λ t. turns_open (levels_below (length fs)) t (node_open (levels_below (length fs)) f.entries (all_open fs)) bytes) h
-    ∙ ap (λ c. node_open (levels_below (length fs)) c (all_open fs) bytes) i
+node_top version f fs bytes e h i =
+    ap (λ t. turns_open version (levels_below (length fs)) t (node_open version (levels_below (length fs)) f.entries (all_open version fs)) bytes) h
+    ∙ ap (λ c. node_open version (levels_below (length fs)) c (all_open version fs) bytes) i
 
 -- what is open by a frame without its Rows
-abbrev pub below_rows : Frame → List Frame → Below
-below_rows f fs = node_open (levels_below (length fs)) f.entries (all_open fs)
+abbrev pub below_rows : Version → Frame → List Frame → Below
+below_rows version f fs = node_open version (levels_below (length fs)) f.entries (all_open version fs)
 
-pub rows_top : (f : Frame) (fs : List Frame) (bytes : List ℕ) (count : ℕ) → f.turns ≡ Some count → all_open (f ∷ fs) bytes ≡ rows_open (levels_below (length fs)) count (below_rows f fs) bytes
+pub rows_top : (version : Version) (f : Frame) (fs : List Frame) (bytes : List ℕ) (count : ℕ) → f.turns ≡ Some count → all_open version (f ∷ fs) bytes ≡ rows_open version (levels_below (length fs)) count (below_rows version f fs) bytes
 unfolding all_open
-rows_top f fs bytes count h = ap (λ t. turns_open (levels_below (length fs)) t (below_rows f fs) bytes) h
+rows_top version f fs bytes count h = ap (λ t. turns_open version (levels_below (length fs)) t (below_rows version f fs) bytes) h
 
 -- the first of many alike
 pub first_of : (x : Frame) (n : ℕ) → 0 < n → get_or (replicate n x) 0 no_frame ≡ x

@@ -1,5 +1,6 @@
 -- What is left of a node, an entry at a time.
 use Rattle.std.proofs.Common.{◌≡◌, ℕ, zero, suc, List, [], ◌∷◌, length, refl, ap, sym, ◌∙◌, Ok, Err, Option}
+use Rattle.rb_trees.specs.declared.versions.Version.{Version}
 use Rattle.rb_trees.specs.declared.forests.NodeFault.{NodeFault}
 use Rattle.rb_trees.specs.mirror.Forests.{Node, Holds, Entry, MoreEntries, entries_from}
 use Rattle.rb_meaning_bytes.specs.formats.Fields.{Number}
@@ -11,21 +12,21 @@ use Rattle.rb_meaning_bytes.proofs.formats.Steps.{one_more}
 use Rattle.rb_wire_forest.specs.Opens.{node_left}
 
 -- a node of these entries, by how it ends
-abbrev pub with_end : List Entry → List ℕ → Read Node
-with_end es rest = on (read end rest) (λ f r. Ok (Holds (entries_from es) f, r))
+abbrev pub with_end : Version → List Entry → List ℕ → Read Node
+with_end version es rest = on (read (end version) rest) (λ f r. Ok (Holds (entries_from es) f, r))
 
-pub left_read : (n count : ℕ) (bytes : List ℕ) → read (node_left n count) bytes ≡ on (read (times count (entry (node n))) bytes) (λ es rest. with_end es rest)
+pub left_read : (version : Version) (n count : ℕ) (bytes : List ℕ) → read (node_left version n count) bytes ≡ on (read (times count (entry version (node version n))) bytes) (λ es rest. with_end version es rest)
 unfolding node_left read
-left_read n count bytes = bound (times count (entry (node n))) (λ es. end >>= λ f. Done (Holds (entries_from es) f)) bytes ∙ go (read (times count (entry (node n))) bytes)
+left_read version n count bytes = bound (times count (entry version (node version n))) (λ es. end version >>= λ f. Done (Holds (entries_from es) f)) bytes ∙ go (read (times count (entry version (node version n))) bytes)
   where
-    go : (r : Read (List Entry)) → on r (λ es rest. read (end >>= λ f. Done (Holds (entries_from es) f)) rest) ≡ on r (λ es rest. with_end es rest)
-    go (Ok x) = bound end (λ f. Done (Holds (entries_from x.0) f)) x.1
+    go : (r : Read (List Entry)) → on r (λ es rest. read (end version >>= λ f. Done (Holds (entries_from es) f)) rest) ≡ on r (λ es rest. with_end version es rest)
+    go (Ok x) = bound (end version) (λ f. Done (Holds (entries_from x.0) f)) x.1
     go (Err e) = refl
 
 -- a node is the number of its entries, and what is left of it
-pub node_front : (m : ℕ) (bytes : List ℕ) → read (node (suc m)) bytes ≡ on (look Number bytes) (λ count rest. read (node_left m count) rest)
+pub node_front : (version : Version) (m : ℕ) (bytes : List ℕ) → read (node version (suc m)) bytes ≡ on (look Number bytes) (λ count rest. read (node_left version m count) rest)
 unfolding node node_left read
-node_front m bytes = refl
+node_front version m bytes = refl
 
 abbrev pub with_first : Entry → Node → Node
 with_first x (Holds es f) = Holds (MoreEntries x es) f
@@ -33,26 +34,26 @@ with_first x (Holds es f) = Holds (MoreEntries x es) f
 abbrev pub first_on : Entry → Read Node → Read Node
 first_on x r = on r (λ nd rest. Ok (with_first x nd, rest))
 
-pub entry_left : (n e : ℕ) (bytes : List ℕ) → read (node_left n (suc e)) bytes ≡ on (read (entry (node n)) bytes) (λ x rest. first_on x (read (node_left n e) rest))
-entry_left n e bytes = left_read n (suc e) bytes ∙ ap (λ r. on r (λ es rest. with_end es rest)) (one_more e (entry (node n)) bytes) ∙ go (read (entry (node n)) bytes)
+pub entry_left : (version : Version) (n e : ℕ) (bytes : List ℕ) → read (node_left version n (suc e)) bytes ≡ on (read (entry version (node version n)) bytes) (λ x rest. first_on x (read (node_left version n e) rest))
+entry_left version n e bytes = left_read version n (suc e) bytes ∙ ap (λ r. on r (λ es rest. with_end version es rest)) (one_more e (entry version (node version n)) bytes) ∙ go (read (entry version (node version n)) bytes)
   where
     ended : (x : Entry) (xs : List Entry) (r : Read (Option NodeFault)) → on r (λ f rest. Ok (Holds (entries_from (x ∷ xs)) f, rest)) ≡ first_on x (on r (λ f rest. Ok (Holds (entries_from xs) f, rest)))
     ended x xs (Ok y) = refl
     ended x xs (Err d) = refl
 
-    inner : (x : Entry) (r : Read (List Entry)) → on (on r (λ xs rest. Ok (x ∷ xs, rest))) (λ es rest. with_end es rest) ≡ first_on x (on r (λ es rest. with_end es rest))
-    inner x (Ok y) = ended x y.0 (read end y.1)
+    inner : (x : Entry) (r : Read (List Entry)) → on (on r (λ xs rest. Ok (x ∷ xs, rest))) (λ es rest. with_end version es rest) ≡ first_on x (on r (λ es rest. with_end version es rest))
+    inner x (Ok y) = ended x y.0 (read (end version) y.1)
     inner x (Err d) = refl
 
-    go : (r : Read Entry) → on (on r (λ x rest. on (read (times e (entry (node n))) rest) (λ xs rest. Ok (x ∷ xs, rest)))) (λ es rest. with_end es rest)
-        ≡ on r (λ x rest. first_on x (read (node_left n e) rest))
-    go (Ok x) = inner x.0 (read (times e (entry (node n))) x.1) ∙ ap (first_on x.0) (sym (left_read n e x.1))
+    go : (r : Read Entry) → on (on r (λ x rest. on (read (times e (entry version (node version n))) rest) (λ xs rest. Ok (x ∷ xs, rest)))) (λ es rest. with_end version es rest)
+        ≡ on r (λ x rest. first_on x (read (node_left version n e) rest))
+    go (Ok x) = inner x.0 (read (times e (entry version (node version n))) x.1) ∙ ap (first_on x.0) (sym (left_read version n e x.1))
     go (Err d) = refl
 
 -- no entries are left: the end comes
-pub end_left : (n : ℕ) (bytes : List ℕ) → read (node_left n 0) bytes ≡ with_end [] bytes
+pub end_left : (version : Version) (n : ℕ) (bytes : List ℕ) → read (node_left version n 0) bytes ≡ with_end version [] bytes
 unfolding times read
-end_left n bytes = left_read n 0 bytes
+end_left version n bytes = left_read version n 0 bytes
 
 -- one more of so many nodes
 pub turn_left : (c : ℕ) (F : Format Node) (bytes : List ℕ) → read (times (suc c) F) bytes ≡ on (read F bytes) (λ x rest. on (read (times c F) rest) (λ xs rest. Ok (x ∷ xs, rest)))

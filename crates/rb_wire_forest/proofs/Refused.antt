@@ -1,76 +1,66 @@
--- A payload of six bytes, and the refusal that it spells.
-use Rattle.std.proofs.Common.{◌≡◌, ℕ, zero, suc, ◌<◌, ◌^◌, List, [], ◌∷◌, length, get_or, true, refl, ap, sym, ◌∙◌, subst, arith}
-use Rattle.std.specs.Int.{w32, from_be_bytes, to_be_bytes}
-use Rattle.std.proofs.lemmas.Nat.{be_bytes_4, from_be_bytes-to_be_bytes_4}
-use Rattle.rb_meaning_bytes.specs.formats.Fields.{IsBytes, number}
+-- What reading a refusal is, and what a payload that spells one gives.
+use Rattle.std.proofs.Common.{◌≡◌, ◌+◌, ℕ, Bool, true, false, cond, nat_eq, List, [], ◌∷◌, length, refl, ap, ◌∙◌, Option, Some, Ok, Err}
+use Rattle.rb_trees.specs.declared.versions.Version.{Version}
+use Rattle.rb_trees.specs.declared.versions.Version.TheVariants.{One, Two}
+use Rattle.rb_meaning_bytes.specs.formats.Fields.{IsBytes, Byte, Tag, bad_tag}
+use Rattle.rb_meaning_bytes.specs.formats.Formats.{Done, ◌>>=◌}
 use Rattle.rb_meaning_bytes.specs.formats.Messages.{Refused}
-use Rattle.rb_meaning_bytes.specs.formats.Payloads.{IsRefusalOf}
-use Rattle.rb_meaning_bytes.specs.formats.Refusals.{is_refusal_number}
-use Rattle.rb_meaning_bytes.specs.formats.ForestBytes.{refusal_bytes, FormedRefusal}
-use Rattle.rb_meaning_bytes.proofs.formats.ForestsSpelled.{refusal_spelled}
-use Rattle.rb_meaning_bytes.proofs.formats.OnlyForests.{refusal_only}
+use Rattle.rb_meaning_bytes.specs.formats.Payloads.{IsRefusal}
+use Rattle.rb_meaning_bytes.specs.formats.Reading.{Fault, Read, read, look, on, read_all}
+use Rattle.rb_meaning_bytes.specs.formats.Refusals.{is_refusal_number, refusal, refusal_message}
+use Rattle.rb_meaning_bytes.specs.formats.Values.{natural}
+use Rattle.rb_meaning_bytes.proofs.formats.Exact.{bound, all_spells, read_once, refused_not_read}
+use Rattle.rb_meaning_bytes.proofs.formats.Steps.{by_tag, chosen}
+use Rattle.rb_wire_forest.specs.Refused.{refused_with}
+use Rattle.rb_wire_forest.specs.Versions.{version_at, version_by}
 
--- the four bytes of the place
-abbrev pub place_bytes : List ℕ → List ℕ
-place_bytes payload = get_or payload 2 0 ∷ get_or payload 3 0 ∷ get_or payload 4 0 ∷ get_or payload 5 0 ∷ []
+-- behind the number of a refusal: its place
+abbrev pub placed : Version → ℕ → List ℕ → Read Refused
+placed version number bytes = on (read (natural version) bytes) (λ at rest. Ok (refused_with version number at, rest))
 
-abbrev pub place : List ℕ → ℕ
-place payload = from_be_bytes w32 (place_bytes payload)
+-- behind its version
+abbrev pub numbered : Version → List ℕ → Read Refused
+numbered version bytes = on (look (Tag (λ n. is_refusal_number version n)) bytes) (λ number rest. placed version number rest)
 
-six : (payload : List ℕ) → length payload ≡ 6 → payload ≡ get_or payload 0 0 ∷ get_or payload 1 0 ∷ place_bytes payload
-six [] h = absurd (omega arith)
-six (a ∷ []) h = absurd (omega arith)
-six (a ∷ b ∷ []) h = absurd (omega arith)
-six (a ∷ b ∷ c ∷ []) h = absurd (omega arith)
-six (a ∷ b ∷ c ∷ d ∷ []) h = absurd (omega arith)
-six (a ∷ b ∷ c ∷ d ∷ e ∷ []) h = absurd (omega arith)
-six (a ∷ b ∷ c ∷ d ∷ e ∷ f ∷ []) h = refl
-six (a ∷ b ∷ c ∷ d ∷ e ∷ f ∷ g ∷ rest) h = absurd (omega arith)
+numbered_read : (version : Version) (bytes : List ℕ) → read (refusal version) bytes ≡ numbered version bytes
+unfolding read
+numbered_read version bytes = go (look (Tag (λ n. is_refusal_number version n)) bytes)
+  where
+    go : (r : Read ℕ) → on r (λ number rest. read (natural version >>= λ at. Done (refused_with version number at)) rest) ≡ on r (λ number rest. placed version number rest)
+    go (Ok x) = bound (natural version) (λ at. Done (refused_with version x.0 at)) x.1
+    go (Err e) = refl
 
-four : (a b c d : ℕ) → a < 256 → b < 256 → c < 256 → d < 256 → from_be_bytes w32 (a ∷ b ∷ c ∷ d ∷ []) < 2 ^ 32
-four a b c d h i j k = omega arith
+refusal_by : (b : ℕ) (rest : List ℕ) → by_tag ((0x01, refusal One) ∷ (0x02, refusal Two) ∷ []) b rest ≡ on (version_by b rest) (λ version after. numbered version after)
+refusal_by b rest =
+    ap (λ r. cond (nat_eq b 0x01) r (cond (nat_eq b 0x02) (read (refusal Two) rest) (Err (bad_tag, length rest + 1)))) (numbered_read One rest)
+    ∙ ap (λ r. cond (nat_eq b 0x01) (numbered One rest) (cond (nat_eq b 0x02) r (Err (bad_tag, length rest + 1)))) (numbered_read Two rest)
+    ∙ go (nat_eq b 0x01) (nat_eq b 0x02)
+  where
+    go : (v w : Bool) → cond v (numbered One rest) (cond w (numbered Two rest) (Err (bad_tag, length rest + 1)))
+        ≡ on (cond v (Ok (One, rest)) (cond w (Ok (Two, rest)) (Err (bad_tag, length rest + 1)))) (λ version after. numbered version after)
+    go true w = refl
+    go false true = refl
+    go false false = refl
 
-place_fits : (payload : List ℕ) → IsBytes payload → IsBytes (place_bytes payload)
-place_fits payload b zero = b 2
-place_fits payload b (suc zero) = b 3
-place_fits payload b (suc (suc zero)) = b 4
-place_fits payload b (suc (suc (suc zero))) = b 5
-place_fits payload b (suc (suc (suc (suc i)))) = omega arith
+-- a refusal: its version, its number and its place
+pub refusal_read : (bytes : List ℕ) → read refusal_message bytes ≡ on (version_at bytes) (λ version rest. numbered version rest)
+unfolding refusal_message version_at
+refusal_read bytes = chosen ((0x01, refusal One) ∷ (0x02, refusal Two) ∷ []) bytes ∙ go (look Byte bytes)
+  where
+    go : (r : Read ℕ) → on r (λ b rest. by_tag ((0x01, refusal One) ∷ (0x02, refusal Two) ∷ []) b rest) ≡ on (on r (λ b rest. version_by b rest)) (λ version rest. numbered version rest)
+    go (Ok x) = refusal_by x.0 x.1
+    go (Err e) = refl
 
-abbrev pub made : ℕ → ℕ → Refused
-made n at = record { number = n; at = at }
+-- ---- a payload as a whole
 
--- Six bytes of the form of a refusal spell it.
-pub spells_refusal : (payload : List ℕ) → IsBytes payload → length payload ≡ 6 → get_or payload 0 0 ≡ 1 → is_refusal_number (get_or payload 1 0) ≡ true
-    → IsRefusalOf payload (get_or payload 1 0) (place payload)
-unfolding number
-spells_refusal payload b h v n =
-    let wrong = made (get_or payload 1 0) (place payload) in
-    let back : to_be_bytes w32 (place payload) ≡ place_bytes payload = be_bytes_4 (place_bytes payload) (place payload) refl (place_fits payload b) refl in
-    let is : payload ≡ refusal_bytes wrong =
-    six payload h ∙ ap (λ w. w ∷ get_or payload 1 0 ∷ place_bytes payload) v ∙ ap (λ (l : List ℕ). 1 ∷ get_or payload 1 0 ∷ l) (sym back) in
-    let fits : place payload < 2 ^ 32 = four (get_or payload 2 0) (get_or payload 3 0) (get_or payload 4 0) (get_or payload 5 0) (b 2) (b 3) (b 4) (b 5) in
-    subst (λ l. IsRefusalOf l (get_or payload 1 0) (place payload)) (sym is) (refusal_spelled wrong (n, fits))
+pub is_refusal : (payload : List ℕ) (r : Refused) → IsBytes payload → read_all refusal_message payload ≡ Ok r → IsRefusal payload r.number r.at
+is_refusal payload r b h = (r.version, all_spells refusal_message payload r b h)
 
--- what a payload that spells a refusal has in its bytes
-pub record Seen (payload : List ℕ) (n at : ℕ) : Type 0 where
-  pub six : length payload ≡ 6
-  pub version : get_or payload 0 0 ≡ 1
-  pub number : get_or payload 1 0 ≡ n
-  pub known : is_refusal_number (get_or payload 1 0) ≡ true
-  pub place_is : place payload ≡ at
+abbrev told : Refused → Option (ℕ × ℕ)
+told r = Some (r.number, r.at)
 
-seen : (n at : ℕ) → FormedRefusal (made n at) → Seen (refusal_bytes (made n at)) n at
-unfolding number
-seen n at h = record { six = refl; version = refl; number = refl; known = h.0; place_is = from_be_bytes-to_be_bytes_4 at h.1 }
+pub only_refusal : (payload : List ℕ) (r : Refused) (number at : ℕ) → read_all refusal_message payload ≡ Ok r → IsRefusal payload number at → told r ≡ Some (number, at)
+only_refusal payload r number at h s = ap told (read_once refusal_message payload r (refused_with s.0 number at) h s.1)
 
-pub seen_refusal : (payload : List ℕ) (n at : ℕ) → IsRefusalOf payload n at → Seen payload n at
-seen_refusal payload n at s =
-    let m = refusal_only.made payload (made n at) s in
-    subst (λ l. Seen l n at) (sym m.is) (seen n at m.fits)
-
-abbrev pub pair : ℕ → ℕ → ℕ × ℕ
-pair n at = (n, at)
-
-pub paired : (n at m i : ℕ) → n ≡ m → at ≡ i → pair n at ≡ pair m i
-paired n at m i h k = ap (λ x. pair x at) h ∙ ap (λ y. pair m y) k
+pub no_refusal : (payload : List ℕ) (e : Fault) (number at : ℕ) → read_all refusal_message payload ≡ Err e → IsRefusal payload number at → ⊥
+no_refusal payload e number at h s = refused_not_read refusal_message payload e (refused_with s.0 number at) h s.1

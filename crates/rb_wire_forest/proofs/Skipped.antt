@@ -2,6 +2,7 @@
 use Rattle.std.proofs.Common.{◌≡◌, ◌+◌, ◌-◌, ◌<◌, ◌≤◌, ℕ, zero, suc, List, [], ◌∷◌, refl, ap, sym, ◌∙◌, arith, Result, Ok, Err, Bool, true, false, cond, nat_eq, length}
 use Rattle.std.proofs.lemmas.Bool.Decides.{nat_tests}
 use Rattle.std.proofs.lemmas.Grind.{common_steps}
+use Rattle.rb_trees.specs.declared.versions.Version.{Version}
 use Rattle.rb_trees.specs.mirror.Forests as tree
 use Rattle.rb_trees.specs.mirror.Forests.{Node, Holds, Entry, entries_from, nodes_from}
 use Rattle.rb_meaning_bytes.specs.formats.Fields.{Byte, Number, Truth, bad_tag, trailing}
@@ -11,6 +12,7 @@ use Rattle.rb_meaning_bytes.specs.formats.Reading.{Fault, Read, read, look, on, 
 use Rattle.rb_meaning_bytes.specs.formats.Forests.{entry, entry_forms, end, node, forest_message, most_nodes, branch_entry, rows_entry}
 use Rattle.rb_meaning_bytes.proofs.formats.Exact.{bound}
 use Rattle.rb_meaning_bytes.proofs.formats.Steps.{by_tag, one_more, more_left}
+use Rattle.rb_wire_forest.specs.Versions.{version_at}
 use Rattle.rb_wire_forest.specs.Passed.{behind, behind_all}
 use Rattle.rb_wire_forest.specs.Opens.{node_left}
 use Rattle.rb_wire_forest.proofs.Equations.{entry_read, forest_read, node_deep}
@@ -57,48 +59,48 @@ rows_skipped F bytes = go (look Number bytes)
     go (Ok x) = finally (times x.0 F) (λ turns. tree.Rows (nodes_from turns)) x.1
     go (Err e) = refl
 
-abbrev pub skip_by : Format Node → ℕ → List ℕ → Result (List ℕ) Fault
-skip_by F b rest = cond (nat_eq b 0x31) (behind (read value rest))
+abbrev pub skip_by : Version → Format Node → ℕ → List ℕ → Result (List ℕ) Fault
+skip_by version F b rest = cond (nat_eq b 0x31) (behind (read (value version) rest))
     (cond (nat_eq b 0x32) (skip_on (look Truth rest) (λ taken after. behind (read F after)))
     (cond (nat_eq b 0x33) (skip_on (look Number rest) (λ count after. behind (read (times count F) after))) (Err (bad_tag, length rest + 1))))
 
-pub entry_skipped : (F : Format Node) (bytes : List ℕ) → behind (read (entry F) bytes) ≡ skip_on (look Byte bytes) (λ b rest. skip_by F b rest)
-entry_skipped F bytes = ap behind (entry_read F bytes) ∙ go (look Byte bytes)
+pub entry_skipped : (version : Version) (F : Format Node) (bytes : List ℕ) → behind (read (entry version F) bytes) ≡ skip_on (look Byte bytes) (λ b rest. skip_by version F b rest)
+entry_skipped version F bytes = ap behind (entry_read version F bytes) ∙ go (look Byte bytes)
   where
-    form : (b : ℕ) (rest : List ℕ) → behind (by_tag (entry_forms F) b rest) ≡ skip_by F b rest
+    form : (b : ℕ) (rest : List ℕ) → behind (by_tag (entry_forms version F) b rest) ≡ skip_by version F b rest
     form b rest =
         behind_cond (nat_eq b 0x31) _ _
-        ∙ both (nat_eq b 0x31) _ _ _ _ (finally value (λ v. tree.Value v) rest)
+        ∙ both (nat_eq b 0x31) _ _ _ _ (finally (value version) (λ v. tree.Value v) rest)
         (behind_cond (nat_eq b 0x32) _ _
         ∙ both (nat_eq b 0x32) _ _ _ _ (branch_skipped F rest)
         (behind_cond (nat_eq b 0x33) _ _
         ∙ both (nat_eq b 0x33) _ _ _ _ (rows_skipped F rest) refl))
 
-    go : (r : Read ℕ) → behind (on r (λ b rest. by_tag (entry_forms F) b rest)) ≡ skip_on r (λ b rest. skip_by F b rest)
+    go : (r : Read ℕ) → behind (on r (λ b rest. by_tag (entry_forms version F) b rest)) ≡ skip_on r (λ b rest. skip_by version F b rest)
     go (Ok x) = form x.0 x.1
     go (Err e) = refl
 
-pub left_skipped : (n count : ℕ) (bytes : List ℕ) → behind (read (node_left n count) bytes) ≡ skip_next (behind (read (times count (entry (node n))) bytes)) (λ rest. behind (read end rest))
-left_skipped n count bytes = ap behind (left_read n count bytes) ∙ go (read (times count (entry (node n))) bytes)
+pub left_skipped : (version : Version) (n count : ℕ) (bytes : List ℕ) → behind (read (node_left version n count) bytes) ≡ skip_next (behind (read (times count (entry version (node version n))) bytes)) (λ rest. behind (read (end version) rest))
+left_skipped version n count bytes = ap behind (left_read version n count bytes) ∙ go (read (times count (entry version (node version n))) bytes)
   where
     ended : (es : List Entry) (r : Read _) → behind (on r (λ f rest. Ok (Holds (entries_from es) f, rest))) ≡ behind r
     ended es (Ok x) = refl
     ended es (Err e) = refl
 
-    go : (r : Read (List Entry)) → behind (on r (λ es rest. with_end es rest)) ≡ skip_next (behind r) (λ rest. behind (read end rest))
-    go (Ok x) = ended x.0 (read end x.1)
+    go : (r : Read (List Entry)) → behind (on r (λ es rest. with_end version es rest)) ≡ skip_next (behind r) (λ rest. behind (read (end version) rest))
+    go (Ok x) = ended x.0 (read (end version) x.1)
     go (Err e) = refl
 
-abbrev pub skip_parts : ℕ → List ℕ → Result (List ℕ) Fault
-skip_parts n bytes = skip_on (look Number bytes) (λ count rest. behind (read (node_left n count) rest))
+abbrev pub skip_parts : Version → ℕ → List ℕ → Result (List ℕ) Fault
+skip_parts version n bytes = skip_on (look Number bytes) (λ count rest. behind (read (node_left version n count) rest))
 
-pub node_skipped : (n : ℕ) (bytes : List ℕ) → 0 < n → behind (read (node n) bytes) ≡ skip_parts (n - 1) bytes
-node_skipped zero bytes h = absurd (omega arith)
-node_skipped (suc n) bytes h =
+pub node_skipped : (version : Version) (n : ℕ) (bytes : List ℕ) → 0 < n → behind (read (node version n) bytes) ≡ skip_parts version (n - 1) bytes
+node_skipped version zero bytes h = absurd (omega arith)
+node_skipped version (suc n) bytes h =
     let e : suc n - 1 ≡ n = omega arith in
-    ap behind (node_front n bytes) ∙ go (look Number bytes) ∙ ap (λ m. skip_parts m bytes) (sym e)
+    ap behind (node_front version n bytes) ∙ go (look Number bytes) ∙ ap (λ m. skip_parts version m bytes) (sym e)
   where
-    go : (r : Read ℕ) → behind (on r (λ count rest. read (node_left n count) rest)) ≡ skip_on r (λ count rest. behind (read (node_left n count) rest))
+    go : (r : Read ℕ) → behind (on r (λ count rest. read (node_left version n count) rest)) ≡ skip_on r (λ count rest. behind (read (node_left version n count) rest))
     go (Ok x) = refl
     go (Err e) = refl
 
@@ -134,11 +136,11 @@ skips_done F count i bytes total le so_far =
 
 -- ---- whole forests
 
-pub forest_skipped : (bytes : List ℕ) → behind (read forest_message bytes) ≡ skip_on (look Byte bytes) (λ b rest. cond (nat_eq b 0x01) (behind (read (node most_nodes) rest)) (Err (bad_tag, length rest + 1)))
-forest_skipped bytes = ap behind (forest_read bytes) ∙ go (look Byte bytes)
+pub forest_skipped : (bytes : List ℕ) → behind (read forest_message bytes) ≡ skip_on (version_at bytes) (λ version rest. behind (read (node version most_nodes) rest))
+forest_skipped bytes = ap behind (forest_read bytes) ∙ go (version_at bytes)
   where
-    go : (r : Read ℕ) → behind (on r (λ b rest. by_tag ((0x01, node most_nodes) ∷ []) b rest)) ≡ skip_on r (λ b rest. cond (nat_eq b 0x01) (behind (read (node most_nodes) rest)) (Err (bad_tag, length rest + 1)))
-    go (Ok x) = behind_cond (nat_eq x.0 0x01) _ _
+    go : (r : Read Version) → behind (on r (λ version rest. read (node version most_nodes) rest)) ≡ skip_on r (λ version rest. behind (read (node version most_nodes) rest))
+    go (Ok x) = refl
     go (Err e) = refl
 
 abbrev pub nothing_behind : List ℕ → Result (Unit {0}) Fault
@@ -160,6 +162,6 @@ pub ruleset loops = (skips_on, skips_end, skips_done)
 
 pub ruleset entries = (entry_skipped, nat_tests)
 
-pub ruleset forest = (forest_skipped, nat_tests)
+pub ruleset forest = (forest_skipped)
 
 pub ruleset all = (all_skipped, common_steps)

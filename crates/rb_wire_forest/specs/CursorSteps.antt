@@ -3,7 +3,7 @@ use Rattle.std.specs.Prelude.{◌≡◌, ℕ, List, ◌∷◌, Bool, true, false
 use Rattle.rb_trees.specs.declared.values.Value.{Value}
 use Rattle.rb_trees.specs.declared.forests.NodeFault.{NodeFault}
 use Rattle.rb_trees.specs.mirror.Forests as forest
-use Rattle.rb_trees.specs.mirror.Forests.{Node, Holds, NoEntries, MoreEntries, Nodes, NoNodes, MoreNodes}
+use Rattle.rb_trees.specs.mirror.Forests.{Holds, NoEntries, MoreEntries, NoNodes, MoreNodes}
 use Rattle.rb_meaning_bytes.specs.Fits.{last_turn_ends_early}
 use Rattle.rb_meaning_bytes.specs.formats.ForestBytes.{count_nodes}
 use Rattle.rb_wire_forest.specs.Opens.{Open, AtNode, AtRows}

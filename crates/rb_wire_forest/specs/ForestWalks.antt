@@ -4,9 +4,9 @@ use Rattle.std.specs.Prelude.{◌≡◌, ℕ, List, ◌∷◌, Bool, cond, Optio
 use Rattle.rb_trees.specs.declared.forests.NodeFault.{NodeFault}
 use Rattle.rb_trees.specs.declared.remainders.Part as part
 use Rattle.rb_trees.specs.mirror.Forests.{Node, Holds, Entries, Nodes, MoreNodes}
-use Rattle.rb_trees.specs.mirror.Remainders.{mirror_parts}
+use Rattle.rb_trees.specs.mirror.Remainders.{mirror_part, mirror_parts}
 use Rattle.rb_trees.specs.Outcome.{◌>>=◌}
-use Rattle.rb_meaning_bytes.specs.Fits.{Walk, step_of, begun, raised, with_spare, leaves, row_read, parts_read}
+use Rattle.rb_meaning_bytes.specs.Fits.{Walk, step_of, begun, raised, with_spare, leaves, row_read, part_read, parts_read, faults_at, is_counted}
 use Rattle.rb_meaning_bytes.specs.formats.ForestBytes.{count_nodes}
 use Rattle.rb_wire_forest.specs.Opens.{Open, AtNode, AtRows}
 use Rattle.rb_wire_forest.specs.Walks.{loop_read, list_read}
@@ -46,6 +46,14 @@ abbrev pub Walks : (Walk → Result Walk ℕ) → List Open → Progress → Res
 Walks read old from result new =
     (es : Entries) (f : Option NodeFault) (around : List Open) → old ≡ AtNode (Holds es f) ∷ around → Reaches (read (walk_of from es f)) f around result new
 
+-- The part was read in the innermost node.
+abbrev pub ReadsPart : List ℕ → part.Part → List Open → Progress → Result Progress ℕ → List Open → Type 0
+ReadsPart lengths p old from result new = Walks (part_read lengths (mirror_part p)) old from result new
+
+-- The parts were read in the innermost node, up to a fault.
+abbrev pub ReadsParts : List ℕ → List part.Part → List Open → Progress → Result Progress ℕ → List Open → Type 0
+ReadsParts lengths parts old from result new = Walks (parts_read lengths (mirror_parts parts)) old from result new
+
 -- how a walk goes on behind a node within it, in which the walk ended so
 abbrev pub after_node : Progress → Walk → Progress
 after_node outer w = record { raised = outer.raised; stopped = w.stopped; spare = leaves w }
@@ -76,6 +84,11 @@ abbrev pub ReadsTurns : List ℕ → (step kind : ℕ) → List part.Part → �
 ReadsTurns lengths step kind body turns old from result new =
     (ns : Nodes) (es : Entries) (f : Option NodeFault) (around : List Open) → count_nodes ns ≡ turns → old ≡ AtRows ns ∷ AtNode (Holds es f) ∷ around
     → Reaches (loop_read lengths step kind body ns (walk_of from es f)) f around result new
+
+-- This tells whether the turns of the innermost Rows, which are so many, are those of a list with so many items.
+abbrev pub TellsCounted : (step turns items : ℕ) → List Open → Progress → Bool → Type 0
+TellsCounted step turns items now from told =
+    InRows now (λ ns es f. count_nodes ns ≡ turns → told ≡ is_counted items ns (faults_at step (walk_of from es f)))
 
 -- The turns of the innermost Rows were read, which go over a list of so many items, and it is closed.
 abbrev pub ReadsList : List ℕ → (step items : ℕ) → List part.Part → ℕ → List Open → Progress → Result Progress ℕ → List Open → Type 0

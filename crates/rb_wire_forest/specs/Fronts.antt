@@ -2,6 +2,7 @@
 use Rattle.std.specs.Prelude.{◌≡◌, ℕ, List, Bool, cond, nat_eq, Option, None, Some, Ok}
 use Rattle.std.specs.Borrow.{Bor}
 use Rattle.rb_trees.specs.declared.values.Value.{Value}
+use Rattle.rb_trees.specs.declared.versions.Version.{Version}
 use Rattle.rb_trees.specs.declared.forests.NodeFault.{NodeFault}
 use Rattle.rb_meaning_bytes.specs.formats.Fields.{Byte, Number, Truth}
 use Rattle.rb_meaning_bytes.specs.formats.Reading.{look, read}
@@ -23,8 +24,8 @@ pub data Head : Type 0 where
 abbrev pub and_rest : Head → List ℕ → Option (Head × List ℕ)
 and_rest h rest = Some (h, rest)
 
-abbrev pub value_at : List ℕ → Option (Head × List ℕ)
-value_at bytes = on_read (read format.value bytes) (λ v rest. and_rest (ValueHead v) rest)
+abbrev pub value_at : Version → List ℕ → Option (Head × List ℕ)
+value_at version bytes = on_read (read (format.value version) bytes) (λ v rest. and_rest (ValueHead v) rest)
 
 abbrev pub branch_at : List ℕ → Option (Head × List ℕ)
 branch_at bytes = on_read (look Truth bytes) (λ taken rest. on_read (look Number rest) (λ count rest. and_rest (BranchHead taken count) rest))
@@ -32,12 +33,12 @@ branch_at bytes = on_read (look Truth bytes) (λ taken rest. on_read (look Numbe
 abbrev pub rows_at : List ℕ → Option (Head × List ℕ)
 rows_at bytes = on_read (look Number bytes) (λ count rest. and_rest (RowsHead count) rest)
 
-abbrev pub head_by : ℕ → List ℕ → Option (Head × List ℕ)
-head_by tag rest = cond (nat_eq tag 0x31) (value_at rest) (cond (nat_eq tag 0x32) (branch_at rest) (cond (nat_eq tag 0x33) (rows_at rest) None))
+abbrev pub head_by : Version → ℕ → List ℕ → Option (Head × List ℕ)
+head_by version tag rest = cond (nat_eq tag 0x31) (value_at version rest) (cond (nat_eq tag 0x32) (branch_at rest) (cond (nat_eq tag 0x33) (rows_at rest) None))
 
 -- the front of the entry that stands first, and the bytes after it
-unfoldable pub head : List ℕ → Option (Head × List ℕ)
-head bytes = on_read (look Byte bytes) (λ tag rest. head_by tag rest)
+unfoldable pub head : Version → List ℕ → Option (Head × List ℕ)
+head version bytes = on_read (look Byte bytes) (λ tag rest. head_by version tag rest)
 
 -- as the code has it
 abbrev pub seen_head : code.Head → Head
@@ -56,5 +57,5 @@ end_seen None = None
 end_seen (Some f) = Some (fault_seen f)
 
 -- Where a node's end stands first, this is the step of its fault.
-abbrev pub EndsAt : List ℕ → Option ℕ → Type 0
-EndsAt bytes step = (f : Option NodeFault) (rest : List ℕ) → read end bytes ≡ Ok (f, rest) → step ≡ step_of f
+abbrev pub EndsAt : Version → List ℕ → Option ℕ → Type 0
+EndsAt version bytes step = (f : Option NodeFault) (rest : List ℕ) → read (end version) bytes ≡ Ok (f, rest) → step ≡ step_of f

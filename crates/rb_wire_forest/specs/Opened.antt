@@ -23,7 +23,7 @@ or_none None = []
 
 -- What is open, the innermost first, each with what is left of it: what the bytes that are left spell, frame after frame.
 unfoldable pub opened : Cursor → List Open
-opened c = or_none (all_open (frames_from c.frames c.depth) c.rest.now)
+opened c = or_none (all_open c.version (frames_from c.frames c.depth) c.rest.now)
 
 abbrev pub refusal : ForestRefusal → Option Violation
 refusal r = Some (r.number, r.at)

@@ -1,5 +1,5 @@
 -- Walks of the code as walks of the definition.
-use Rattle.std.specs.Prelude.{ℕ, Bool, List, Option, Some, Result}
+use Rattle.std.specs.Prelude.{ℕ, Bool, List, Option, Some, Result, Ok}
 use Rattle.std.specs.Borrow.{Bor}
 use Rattle.rb_trees.specs.declared.forests.Entry as entry
 use Rattle.rb_trees.specs.declared.forests.Node as node
@@ -7,7 +7,7 @@ use Rattle.rb_trees.specs.mirror.Forests.{Node, Nodes, Entries, mirror_node, mir
 use Rattle.rb_trees.specs.declared.remainders.Part as part
 use Rattle.rb_trees.specs.mirror.Remainders.{mirror_parts}
 use Rattle.rb_trees.specs.Outcome.{◌>>=◌}
-use Rattle.rb_meaning_bytes.specs.Fits.{Walk, parts_read, turns_read, turns_done, counted, no_kind}
+use Rattle.rb_meaning_bytes.specs.Fits.{Walk, begun, behind, parts_read, turns_read, turns_done, counted, no_kind}
 use Rattle.rb_wire_forest.specs.declared.walk.Walk as code
 
 abbrev pub seen : code.Walk → Walk
@@ -22,6 +22,11 @@ seen_branch x = (x.0, mirror_node x.1.now, mirror_entries x.2.now)
 
 abbrev pub seen_rows : Bor (List node.Node) × Bor (List entry.Entry) → Nodes × Entries
 seen_rows x = (mirror_nodes x.0.now, mirror_entries x.1.now)
+
+-- a branch with this node, in which the parts are read, and with these entries after it
+abbrev pub branch_walked : List ℕ → List part.Part → node.Node → List entry.Entry → Walk → Result Walk ℕ
+branch_walked lengths parts n rest w =
+    parts_read lengths (mirror_parts parts) (begun (mirror_node n) w.spare) >>= λ inner. Ok (behind w (mirror_entries rest) inner)
 
 -- a loop with this body and these turns, where the lists of inputs have these lengths
 abbrev pub loop_read : List ℕ → (step kind : ℕ) → List part.Part → Nodes → Walk → Result Walk ℕ

@@ -6,21 +6,23 @@ ghost use Rattle.rb_wire_forest.specs.Opens.{all_open, frames_from};
 use crate::early::turns_early;
 use crate::forest::Forest;
 use crate::frames::{Frame, MOST_NODES, root_frames};
-use crate::heads::{Head, LentFault, end, end_step, first_head};
+use crate::heads::{Head, LentFault, end, end_step, first_head, first_version};
 use crate::skips::{skip_left, skip_turns};
-use rb_wire_fields::fields::{byte, number};
+use rb_trees::Version;
+use rb_wire_fields::fields::number;
 use rb_wire_fields::texts::Item;
 
 /// A walk of a forest in its bytes. It takes no memory: the bytes that are left tell what is left of all that is open.
 #[derive(Drop)]
 pub struct Cursor<'a> {
+    version: Version,
     rest: &'a [u8],
     frames: [Frame; MOST_NODES],
     depth: usize,
     ghost some: { 0 < depth },
     ghost within: { depth ≤ 64 },
     ghost full: { length frames ≡ 64 },
-    ghost whole: { is_some (all_open (frames_from frames depth) rest.now) ≡ true },
+    ghost whole: { is_some (all_open version (frames_from frames depth) rest.now) ≡ true },
 }
 
 impl<'a> Forest<'a> {
@@ -32,13 +34,14 @@ impl<'a> Forest<'a> {
     pub fn cursor(&self) -> Cursor<'a>
         ensures { opened result ≡ AtNode (root_of self.now) ∷ [] }
     {
-        let Ok((_, behind)) = byte(self.payload) else {
+        let Ok((version, behind)) = first_version(self.payload) else {
             unreachable!();
         };
         let Ok((entries, rest)) = number(behind) else {
             unreachable!();
         };
         Cursor {
+            version,
             rest,
             frames: root_frames(entries),
             depth: 1,
@@ -47,7 +50,6 @@ impl<'a> Forest<'a> {
 }
 
 impl<'a> Cursor<'a> {
-    ghost use Rattle.std.specs.Prelude.{option_map};
     ghost use Rattle.rb_meaning_bytes.specs.Fits.{step_of};
     ghost use Rattle.rb_wire_fields.specs.Items.{value_seen};
     ghost use Rattle.rb_wire_forest.specs.Fronts.{end_seen};
@@ -62,7 +64,7 @@ impl<'a> Cursor<'a> {
         if top.turns.is_some() || top.entries == 0 {
             return None;
         }
-        match first_head(self.rest) {
+        match first_head(self.version, self.rest) {
             Some((Head::Value(item), rest)) => {
                 self.frames[self.depth - 1] = Frame {
                     entries: top.entries - 1,
@@ -85,7 +87,7 @@ impl<'a> Cursor<'a> {
         if top.turns.is_some() || top.entries == 0 {
             return None;
         }
-        match first_head(self.rest) {
+        match first_head(self.version, self.rest) {
             Some((Head::Branch(taken, count), rest)) => {
                 self.frames[self.depth - 1] = Frame {
                     entries: top.entries - 1,
@@ -113,7 +115,7 @@ impl<'a> Cursor<'a> {
         if top.turns.is_some() || top.entries == 0 {
             return None;
         }
-        match first_head(self.rest) {
+        match first_head(self.version, self.rest) {
             Some((Head::Rows(count), rest)) => {
                 self.frames[self.depth - 1] = Frame {
                     entries: top.entries - 1,
@@ -163,7 +165,7 @@ impl<'a> Cursor<'a> {
         if top.turns.is_some() || top.entries > 0 {
             return None;
         }
-        match end(self.rest) {
+        match end(self.version, self.rest) {
             Ok((fault, _)) => fault,
             Err(_) => None,
         }
@@ -188,7 +190,7 @@ impl<'a> Cursor<'a> {
         if top.turns.is_some() || top.entries > 0 {
             return None;
         }
-        end_step(self.rest)
+        end_step(self.version, self.rest)
     }
 
     /// Whether a fault ends the last node of the innermost Rows.
@@ -200,7 +202,7 @@ impl<'a> Cursor<'a> {
         let Some(turns) = top.turns else {
             return false;
         };
-        match turns_early(below, turns, self.rest) {
+        match turns_early(self.version, below, turns, self.rest) {
             Ok((early, _)) => early,
             Err(_) => false,
         }
@@ -211,6 +213,7 @@ impl<'a> Cursor<'a> {
         ensures { opened result ≡ opened self.now }
     {
         Cursor {
+            version: self.version,
             rest: self.rest,
             frames: self.frames,
             depth: self.depth,
@@ -235,7 +238,7 @@ impl<'a> Cursor<'a> {
         if top.entries > 0 || self.depth == 1 {
             return false;
         }
-        let Ok((_, rest)) = end(self.rest) else {
+        let Ok((_, rest)) = end(self.version, self.rest) else {
             return false;
         };
         self.depth -= 1;
@@ -250,7 +253,7 @@ impl<'a> Cursor<'a> {
         let top = self.frames[self.depth - 1];
         let below = MOST_NODES - self.depth;
         if let Some(turns) = top.turns {
-            let Ok(rest) = skip_turns(below, turns, self.rest) else {
+            let Ok(rest) = skip_turns(self.version, below, turns, self.rest) else {
                 return false;
             };
             self.frames[self.depth - 1] = Frame {
@@ -263,7 +266,7 @@ impl<'a> Cursor<'a> {
         if self.depth == 1 {
             return false;
         }
-        let Ok(rest) = skip_left(below, top.entries, self.rest) else {
+        let Ok(rest) = skip_left(self.version, below, top.entries, self.rest) else {
             return false;
         };
         self.depth -= 1;

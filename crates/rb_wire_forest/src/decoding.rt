@@ -10,9 +10,10 @@ ghost use Rattle.rb_wire_fields.specs.Stops.{fault_of};
 ghost use Rattle.rb_wire_forest.specs.Payloads.{Means, Violation, violation};
 
 use crate::frames::MOST_NODES;
+use crate::heads::first_version;
 use crate::nodes::node;
 use rb_trees::Node;
-use rb_wire_fields::fields::{bad_tag, byte, refused};
+use rb_wire_fields::fields::refused;
 use rb_wire_fields::stop::{Stop, TRAILING};
 use std::alloc::Global;
 
@@ -32,11 +33,8 @@ pub enum ForestStop {
 fn forest(alloc: Global, bytes: &[u8]) -> Result<(Node, &[u8]), Stop>
     ensures { Gives (λ x. (mirror_node x.0, x.1.now)) fault_of result (read forest_message bytes.now) }
 {
-    let (version, rest) = byte(bytes)?;
-    if version != 1 {
-        return Err(Stop::from(bad_tag(rest)));
-    }
-    let (root, rest) = node(alloc, MOST_NODES, rest)?;
+    let (version, rest) = first_version(bytes)?;
+    let (root, rest) = node(alloc, version, MOST_NODES, rest)?;
     Ok((root, rest))
 }
 
@@ -62,7 +60,8 @@ pub fn decode_forest(alloc: Global, payload: &[u8]) -> Result<Node, ForestStop>
     // A forest that is read is formed, so that it can be spelled again.
     ensures formed { IfOk result (λ root. FormedForest (mirror_node root)) }
     // What the payload spells or violates is answered.
-    ensures only { (meant : Result Tree Violation) → Means forest_message payload.now meant → Gives mirror_node violation result meant }
+    ensures only { (meant : Result Tree Violation) → Means forest_message payload.now meant
+        → Gives mirror_node violation result meant }
 {
     match whole(alloc, payload) {
         Ok(root) => Ok(root),

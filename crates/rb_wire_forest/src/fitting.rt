@@ -5,7 +5,7 @@ ghost use Rattle.rb_trees.specs.Outcome.{Gives};
 ghost use Rattle.rb_trees.specs.mirror.Forests.{mirror_node};
 ghost use Rattle.rb_trees.specs.mirror.Remainders.{mirror_part, mirror_parts};
 ghost use Rattle.rb_meaning_bytes.specs.Fits as meaning;
-ghost use Rattle.rb_wire_forest.specs.Walks.{seen, step_told, turns_walked, list_walked};
+ghost use Rattle.rb_wire_forest.specs.Walks.{seen, step_told, branch_walked, turns_walked, list_walked};
 ghost use Rattle.rb_wire_forest.specs.Misfits.{nothing, unfit};
 
 use crate::turns::{is_counted, length_of};
@@ -13,7 +13,7 @@ use crate::walk::{
     Walk, begin, behind, faults_at, first_branch, first_rows, go, leaves, miss, pass, read_row,
     read_value, read_values,
 };
-use rb_trees::{Node, Part, Seq};
+use rb_trees::{Entry, Node, Part, Seq};
 
 /// Why a node doesn't fit a remainder.
 #[derive(Clone, Copy, Debug, thiserror::Error)]
@@ -41,14 +41,8 @@ fn read_part<'a>(part: &Part, walk: &Walk<'a>, lengths: &[u32]) -> Result<Walk<'
         Part::Bind { step, kind, .. } => read_value(walk, *step, *kind),
         Part::Both { step, .. } => Ok(pass(walk, *step)),
         Part::Branch { step, yes, no } => match first_branch(walk.left) {
-            Some((true, node, rest)) => {
-                let inner = read_parts(yes.as_slice(), &begin(node, walk.spare), lengths)?;
-                Ok(behind(walk, rest, &inner))
-            }
-            Some((false, node, rest)) => {
-                let inner = read_parts(no.as_slice(), &begin(node, walk.spare), lengths)?;
-                Ok(behind(walk, rest, &inner))
-            }
+            Some((true, node, rest)) => read_node(yes.as_slice(), node, rest, walk, lengths),
+            Some((false, node, rest)) => read_node(no.as_slice(), node, rest, walk, lengths),
             None => miss(walk, *step),
         },
         Part::Turns {
@@ -57,14 +51,10 @@ fn read_part<'a>(part: &Part, walk: &Walk<'a>, lengths: &[u32]) -> Result<Walk<'
             body,
             ..
         } => match first_rows(walk.left) {
-            Some((turns, rest)) => read_turns(
-                body.as_slice(),
-                *step,
-                *kind,
-                turns,
-                &go(walk, rest),
-                lengths,
-            ),
+            Some((turns, rest)) => {
+                let from = go(walk, rest);
+                read_turns(body.as_slice(), *step, *kind, turns, &from, lengths)
+            }
             None => miss(walk, *step),
         },
         Part::Over {
@@ -73,14 +63,11 @@ fn read_part<'a>(part: &Part, walk: &Walk<'a>, lengths: &[u32]) -> Result<Walk<'
             body,
             ..
         } => match first_rows(walk.left) {
-            Some((turns, rest)) => read_list(
-                body.as_slice(),
-                *step,
-                length_of(lengths, *input),
-                turns,
-                &go(walk, rest),
-                lengths,
-            ),
+            Some((turns, rest)) => {
+                let from = go(walk, rest);
+                let items = length_of(lengths, *input);
+                read_list(body.as_slice(), *step, items, turns, &from, lengths)
+            }
             None => miss(walk, *step),
         },
     }
@@ -99,6 +86,21 @@ fn read_parts<'a>(parts: &[Part], from: &Walk<'a>, lengths: &[u32]) -> Result<Wa
         walk = read_part(part, &walk, lengths)?;
     }
     Ok(walk)
+}
+
+/// The walk behind a branch with this node, in which the parts are read, and with these entries after it.
+#[cycle(parts)]
+fn read_node<'a>(
+    parts: &[Part],
+    node: &'a Node,
+    rest: &'a [Entry],
+    walk: &Walk<'a>,
+    lengths: &[u32],
+) -> Result<Walk<'a>, u32>
+    ensures { Gives seen step_told result (branch_walked lengths.now parts.now node.now rest.now (seen walk.now)) }
+{
+    let inner = read_parts(parts, &begin(node, walk.spare), lengths)?;
+    Ok(behind(walk, rest, &inner))
 }
 
 /// The walk behind a loop with this body and these turns. A turn behind a fault is left over.

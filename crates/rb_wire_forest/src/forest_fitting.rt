@@ -2,10 +2,10 @@
 
 ghost use Rattle.std.specs.Prelude.{◌≡◌, Ok};
 ghost use Rattle.rb_trees.specs.Outcome.{Gives};
-ghost use Rattle.rb_trees.specs.mirror.Remainders.{mirror_part, mirror_parts};
+ghost use Rattle.rb_trees.specs.mirror.Remainders.{mirror_parts};
 ghost use Rattle.rb_meaning_bytes.specs.Fits as meaning;
-ghost use Rattle.rb_meaning_bytes.specs.formats.ForestBytes.{count_nodes};
-ghost use Rattle.rb_wire_forest.specs.ForestWalks.{walk_of, InNode, InRows, Spares, Walks, ReadsNode, ReadsTurn, ReadsTurns, ReadsList};
+ghost use Rattle.rb_wire_forest.specs.ForestWalks.{walk_of, InNode, Spares, TellsCounted};
+ghost use Rattle.rb_wire_forest.specs.ForestWalks.{ReadsPart, ReadsParts, ReadsNode, ReadsTurn, ReadsTurns, ReadsList};
 ghost use Rattle.rb_wire_forest.specs.Misfits.{nothing, unfit};
 ghost use Rattle.rb_wire_forest.specs.Opened.{root_of, opened};
 
@@ -26,7 +26,7 @@ fn read_part(
     from: Progress,
     lengths: &[u32],
 ) -> Result<Progress, u32>
-    ensures { Walks (meaning.part_read lengths.now (mirror_part part.now)) (opened cursor.old) from result (opened cursor.new) }
+    ensures { ReadsPart lengths.now part.now (opened cursor.old) from result (opened cursor.new) }
 {
     match part {
         Part::Plain(_, takes) => read_values(cursor, from, takes.as_slice()),
@@ -70,7 +70,7 @@ fn read_parts(
     from: Progress,
     lengths: &[u32],
 ) -> Result<Progress, u32>
-    ensures { Walks (meaning.parts_read lengths.now (mirror_parts parts.now)) (opened cursor.old) from result (opened cursor.new) }
+    ensures { ReadsParts lengths.now parts.now (opened cursor.old) from result (opened cursor.new) }
 {
     let mut progress = from;
     for part in parts {
@@ -169,8 +169,7 @@ fn read_list(
 /// Whether the turns of the innermost Rows, which are so many, are those of a list with so many items.
 #[inline(never)]
 fn is_counted(cursor: &Cursor<'_>, from: Progress, step: u32, turns: u32, items: u32) -> bool
-    ensures { InRows (opened cursor.now)
-        (λ ns es f. count_nodes ns ≡ turns → result ≡ meaning.is_counted items ns (meaning.faults_at step (walk_of from es f))) }
+    ensures { TellsCounted step turns items (opened cursor.now) from result }
 {
     if turns > items {
         return false;

@@ -1,4 +1,4 @@
-//! Forests and refusals as bytes, both ways; and whether a node fits a remainder.
+//! Forests and refusals as bytes, both ways, in each version of the wire; and whether a node fits a remainder.
 //!
 //! A server answers a script with a forest, or with a refusal. A [`Forest`] is seen in its bytes, and a [`Cursor`] walks it
 //! there, without memory: entry by entry, or past what is left of a node ([`Cursor::close`]). [`Forest::fits`] tells of the

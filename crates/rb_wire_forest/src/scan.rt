@@ -1,6 +1,6 @@
 // Forests, seen in payloads.
 
-ghost use Rattle.std.specs.Prelude.{◌≡◌, ℕ, Result};
+ghost use Rattle.std.specs.Prelude.{Result};
 ghost use Rattle.rb_trees.specs.mirror.Forests.{Node as Tree};
 ghost use Rattle.rb_meaning_bytes.specs.formats.Reading.{read, read_all};
 ghost use Rattle.rb_meaning_bytes.specs.formats.Forests.{forest_message};
@@ -12,8 +12,9 @@ ghost use Rattle.rb_wire_forest.specs.Payloads.{Means, Violation};
 
 use crate::forest::Forest;
 use crate::frames::MOST_NODES;
+use crate::heads::first_version;
 use crate::skips::skip_node;
-use rb_wire_fields::fields::{bad_tag, byte, refused};
+use rb_wire_fields::fields::refused;
 use rb_wire_fields::stop::{self, TRAILING};
 
 /// Why a payload is no forest: the number of its first violation, and its place.
@@ -31,11 +32,8 @@ pub struct ForestRefusal {
 fn skip_forest(bytes: &[u8]) -> Result<&[u8], stop::Violation>
     ensures { Gives (λ x. x.now) told result (behind (read forest_message bytes.now)) }
 {
-    let (version, rest) = byte(bytes)?;
-    if version != 1 {
-        return Err(bad_tag(rest));
-    }
-    skip_node(MOST_NODES, rest)
+    let (version, rest) = first_version(bytes)?;
+    skip_node(version, MOST_NODES, rest)
 }
 
 /// Whether the bytes are a forest and nothing else.
@@ -55,7 +53,8 @@ pub fn scan_forest(payload: &[u8]) -> Result<Forest<'_>, ForestRefusal>
     // What is answered is so: the payload spells this forest, or has this first violation.
     ensures told { Tells root_of refusal result (Means forest_message payload.now) }
     // What the payload spells or violates is answered.
-    ensures only { (meant : Result Tree Violation) → Means forest_message payload.now meant → Gives root_of refusal result meant }
+    ensures only { (meant : Result Tree Violation) → Means forest_message payload.now meant
+        → Gives root_of refusal result meant }
 {
     match pass_all(payload) {
         Ok(()) => Ok(Forest { payload }),

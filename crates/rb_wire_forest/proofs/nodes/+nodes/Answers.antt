@@ -7,4 +7,4 @@ use Rattle.rb_wire_fields.proofs.Tags.{no_tag}
 use Rattle.rb_wire_forest.proofs.nodes.+nodes.Goals as goal
 
 pub entry-returns-in_default : goal.entry-returns-in_default
-entry-returns-in_default n c = no_tag (entry (node c.args.left)) (entry_forms (node c.args.left)) _ c.in_ok-tag.tag _ _ (entry_read (node c.args.left) _) c.in_ok-tag.ensures (grind (arith, nat_tests, c.in_default)) (ap fault_of c.from.ensures ∙ ap told c.bad_tag.ensures)
+entry-returns-in_default n c = no_tag (entry c.args.version (node c.args.version c.args.left)) (entry_forms c.args.version (node c.args.version c.args.left)) _ c.in_ok-tag.tag _ _ (entry_read c.args.version (node c.args.version c.args.left) _) c.in_ok-tag.ensures (grind (arith, nat_tests, c.in_default)) (ap fault_of c.from.ensures ∙ ap told c.bad_tag.ensures)

@@ -19,7 +19,7 @@ abbrev pub decreases-entries : goal.decreases-entries
 decreases-entries l = 4 * l.left + 3
 
 abbrev pub invariant-entries-loop : goal.invariant-entries-loop
-invariant-entries-loop l = with_front (map mirror_entry l.items) (read (times (l.count - l.counter) (entry (node l.left))) l.rest) ≡ read (times l.count (entry (node l.left))) l.bytes
+invariant-entries-loop l = with_front (map mirror_entry l.items) (read (times (l.count - l.counter) (entry l.version (node l.version l.left))) l.rest) ≡ read (times l.count (entry l.version (node l.version l.left))) l.bytes
 
 abbrev pub invariant-turns-loop : goal.invariant-turns-loop
-invariant-turns-loop l = with_front (map mirror_node l.items) (read (times (l.count - l.counter) (node l.left)) l.rest) ≡ read (times l.count (node l.left)) l.bytes
+invariant-turns-loop l = with_front (map mirror_node l.items) (read (times (l.count - l.counter) (node l.version l.left)) l.rest) ≡ read (times l.count (node l.version l.left)) l.bytes

@@ -21,7 +21,7 @@ abbrev pub decreases-skip_left : goal.decreases-skip_left
 decreases-skip_left l = 5 * l.left + 4
 
 abbrev pub invariant-skip_entries-loop : goal.invariant-skip_entries-loop
-invariant-skip_entries-loop l = behind (read (times (l.count - l.counter) (entry (node l.left))) l.rest) ≡ behind (read (times l.count (entry (node l.left))) l.bytes)
+invariant-skip_entries-loop l = behind (read (times (l.count - l.counter) (entry l.version (node l.version l.left))) l.rest) ≡ behind (read (times l.count (entry l.version (node l.version l.left))) l.bytes)
 
 abbrev pub invariant-skip_turns-loop : goal.invariant-skip_turns-loop
-invariant-skip_turns-loop l = behind (read (times (l.count - l.counter) (node l.left)) l.rest) ≡ behind (read (times l.count (node l.left)) l.bytes)
+invariant-skip_turns-loop l = behind (read (times (l.count - l.counter) (node l.version l.left)) l.rest) ≡ behind (read (times l.count (node l.version l.left)) l.bytes)

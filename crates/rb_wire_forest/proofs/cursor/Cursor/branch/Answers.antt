@@ -10,16 +10,16 @@ pub returns-then-is_some : goal.returns-then-is_some
 returns-then-is_some c = elim c.then-is_some.branch [ then-is_some-via-then-is_some w ↦ (blocked_rows next_branch c.args.self.now on_branch (cc), refl) | then-is_some-via-else-is_some+then-top-eq0 w ↦ (blocked_end next_branch c.args.self.now on_branch (cc) (cc), refl) ]
 
 pub returns-in-None : goal.returns-in-None
-returns-in-None c = absurd (has_front c.args.self.now (sym c.is_some.ensures ∙ c.if-is_some.false) (more_of _ c.if-top-eq0.false) (head_none c.first_head.result _ c.first_head.ensures c.in-None.is))
+returns-in-None c = absurd (has_front c.args.self.now (sym c.is_some.ensures ∙ c.if-is_some.false) (more_of _ c.if-top-eq0.false) (head_none c.args.self.now.version c.first_head.result _ c.first_head.ensures c.in-None.is))
 
 pub bounds-self-self-in-Some-Branch-default-2 : goal.bounds-self-self-in-Some-Branch-default-2
 bounds-self-self-in-Some-Branch-default-2 c = branch_room c.args.self.now c.in-Some-Branch-default.taken c.in-Some-Branch-default.count c.in-Some-Branch-default.rest.now (sym c.is_some.ensures ∙ c.if-is_some.false) (more_of _ c.if-top-eq0.false)
-    (head_branch c.first_head.result _ c.in-Some-Branch-default.field-0-0 c.in-Some-Branch-default.rest c.in-Some-Branch-default.taken c.in-Some-Branch-default.count c.first_head.ensures c.in-Some-Branch-default.is c.in-Some-Branch-default.field-0-0-is)
+    (head_branch c.args.self.now.version c.first_head.result _ c.in-Some-Branch-default.field-0-0 c.in-Some-Branch-default.rest c.in-Some-Branch-default.taken c.in-Some-Branch-default.count c.first_head.ensures c.in-Some-Branch-default.is c.in-Some-Branch-default.field-0-0-is)
 
 pub invariant_of-self-clause-within : goal.invariant_of-self-clause-within
 invariant_of-self-clause-within c =
     let room = branch_room c.args.self.now c.in-Some-Branch-default.taken c.in-Some-Branch-default.count c.in-Some-Branch-default.rest.now (sym c.is_some.ensures ∙ c.if-is_some.false) (more_of _ c.if-top-eq0.false)
-    (head_branch c.first_head.result _ c.in-Some-Branch-default.field-0-0 c.in-Some-Branch-default.rest c.in-Some-Branch-default.taken c.in-Some-Branch-default.count c.first_head.ensures c.in-Some-Branch-default.is c.in-Some-Branch-default.field-0-0-is) in
+    (head_branch c.args.self.now.version c.first_head.result _ c.in-Some-Branch-default.field-0-0 c.in-Some-Branch-default.rest c.in-Some-Branch-default.taken c.in-Some-Branch-default.count c.first_head.ensures c.in-Some-Branch-default.is c.in-Some-Branch-default.field-0-0-is) in
     omega arith
 
 pub invariant_of-self-clause-full : goal.invariant_of-self-clause-full
@@ -27,23 +27,23 @@ invariant_of-self-clause-full c = set_length _ c.args.self.now.depth _ ∙ set_l
 
 pub invariant_of-self-clause-whole : goal.invariant_of-self-clause-whole
 invariant_of-self-clause-whole c = (branch_taken c.args.self.now c.in-Some-Branch-default.taken c.in-Some-Branch-default.count c.in-Some-Branch-default.rest.now (sym c.is_some.ensures ∙ c.if-is_some.false) (more_of _ c.if-top-eq0.false)
-    (head_branch c.first_head.result _ c.in-Some-Branch-default.field-0-0 c.in-Some-Branch-default.rest c.in-Some-Branch-default.taken c.in-Some-Branch-default.count c.first_head.ensures c.in-Some-Branch-default.is c.in-Some-Branch-default.field-0-0-is)).whole
+    (head_branch c.args.self.now.version c.first_head.result _ c.in-Some-Branch-default.field-0-0 c.in-Some-Branch-default.rest c.in-Some-Branch-default.taken c.in-Some-Branch-default.count c.first_head.ensures c.in-Some-Branch-default.is c.in-Some-Branch-default.field-0-0-is)).whole
 
 pub returns-in-Some-Branch-default : goal.returns-in-Some-Branch-default
 unfolding opened
 returns-in-Some-Branch-default c = (branch_taken c.args.self.now c.in-Some-Branch-default.taken c.in-Some-Branch-default.count c.in-Some-Branch-default.rest.now (sym c.is_some.ensures ∙ c.if-is_some.false) (more_of _ c.if-top-eq0.false)
-    (head_branch c.first_head.result _ c.in-Some-Branch-default.field-0-0 c.in-Some-Branch-default.rest c.in-Some-Branch-default.taken c.in-Some-Branch-default.count c.first_head.ensures c.in-Some-Branch-default.is c.in-Some-Branch-default.field-0-0-is)).step
+    (head_branch c.args.self.now.version c.first_head.result _ c.in-Some-Branch-default.field-0-0 c.in-Some-Branch-default.rest c.in-Some-Branch-default.taken c.in-Some-Branch-default.count c.first_head.ensures c.in-Some-Branch-default.is c.in-Some-Branch-default.field-0-0-is)).step
 
 pub returns-in-Some-Value-default : goal.returns-in-Some-Value-default
 returns-in-Some-Value-default c = (
   value_is_no_branch c.args.self.now _ c.in-Some-Value-default.field-0-1.now (sym c.is_some.ensures ∙ c.if-is_some.false) (more_of _ c.if-top-eq0.false)
-      (head_value c.first_head.result _ c.in-Some-Value-default.field-0-0 c.in-Some-Value-default.field-0-1 _ c.first_head.ensures c.in-Some-Value-default.is c.in-Some-Value-default.field-0-0-is),
+      (head_value c.args.self.now.version c.first_head.result _ c.in-Some-Value-default.field-0-0 c.in-Some-Value-default.field-0-1 _ c.first_head.ensures c.in-Some-Value-default.is c.in-Some-Value-default.field-0-0-is),
   refl,
 )
 
 pub returns-in-Some-Rows-default : goal.returns-in-Some-Rows-default
 returns-in-Some-Rows-default c = (
   rows_are_no_branch c.args.self.now c.in-Some-Rows-default.field-0-0-0 c.in-Some-Rows-default.field-0-1.now (sym c.is_some.ensures ∙ c.if-is_some.false) (more_of _ c.if-top-eq0.false)
-      (head_rows c.first_head.result _ c.in-Some-Rows-default.field-0-0 c.in-Some-Rows-default.field-0-1 _ c.first_head.ensures c.in-Some-Rows-default.is c.in-Some-Rows-default.field-0-0-is),
+      (head_rows c.args.self.now.version c.first_head.result _ c.in-Some-Rows-default.field-0-0 c.in-Some-Rows-default.field-0-1 _ c.first_head.ensures c.in-Some-Rows-default.is c.in-Some-Rows-default.field-0-0-is),
   refl,
 )

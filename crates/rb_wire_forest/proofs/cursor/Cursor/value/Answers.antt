@@ -12,29 +12,29 @@ returns-then-is_some c = elim c.then-is_some.branch [ then-is_some-via-then-is_s
 
 pub invariant_of-self-clause-whole : goal.invariant_of-self-clause-whole
 invariant_of-self-clause-whole c = (value_taken c.args.self.now (value_seen c.in-Some-Value-default.item) c.in-Some-Value-default.rest.now (sym c.is_some.ensures ∙ c.if-is_some.false) (more_of _ c.if-top-eq0.false)
-    (head_value c.first_head.result _ c.in-Some-Value-default.field-0-0 c.in-Some-Value-default.rest c.in-Some-Value-default.item c.first_head.ensures c.in-Some-Value-default.is c.in-Some-Value-default.field-0-0-is)).whole
+    (head_value c.args.self.now.version c.first_head.result _ c.in-Some-Value-default.field-0-0 c.in-Some-Value-default.rest c.in-Some-Value-default.item c.first_head.ensures c.in-Some-Value-default.is c.in-Some-Value-default.field-0-0-is)).whole
 
 pub returns-in-Some-Value-default : goal.returns-in-Some-Value-default
 unfolding opened
 returns-in-Some-Value-default c = (value_taken c.args.self.now (value_seen c.in-Some-Value-default.item) c.in-Some-Value-default.rest.now (sym c.is_some.ensures ∙ c.if-is_some.false) (more_of _ c.if-top-eq0.false)
-    (head_value c.first_head.result _ c.in-Some-Value-default.field-0-0 c.in-Some-Value-default.rest c.in-Some-Value-default.item c.first_head.ensures c.in-Some-Value-default.is c.in-Some-Value-default.field-0-0-is)).step
+    (head_value c.args.self.now.version c.first_head.result _ c.in-Some-Value-default.field-0-0 c.in-Some-Value-default.rest c.in-Some-Value-default.item c.first_head.ensures c.in-Some-Value-default.is c.in-Some-Value-default.field-0-0-is)).step
 
 pub returns-in-Some-Branch-default : goal.returns-in-Some-Branch-default
 returns-in-Some-Branch-default c = (
   branch_is_no_value c.args.self.now c.in-Some-Branch-default.field-0-0-0 c.in-Some-Branch-default.field-0-0-1 c.in-Some-Branch-default.field-0-1.now (sym c.is_some.ensures ∙ c.if-is_some.false) (more_of _ c.if-top-eq0.false)
-      (head_branch c.first_head.result _ c.in-Some-Branch-default.field-0-0 c.in-Some-Branch-default.field-0-1 _ _ c.first_head.ensures c.in-Some-Branch-default.is c.in-Some-Branch-default.field-0-0-is),
+      (head_branch c.args.self.now.version c.first_head.result _ c.in-Some-Branch-default.field-0-0 c.in-Some-Branch-default.field-0-1 _ _ c.first_head.ensures c.in-Some-Branch-default.is c.in-Some-Branch-default.field-0-0-is),
   refl,
 )
 
 pub returns-in-Some-Rows-default : goal.returns-in-Some-Rows-default
 returns-in-Some-Rows-default c = (
   rows_are_no_value c.args.self.now c.in-Some-Rows-default.field-0-0-0 c.in-Some-Rows-default.field-0-1.now (sym c.is_some.ensures ∙ c.if-is_some.false) (more_of _ c.if-top-eq0.false)
-      (head_rows c.first_head.result _ c.in-Some-Rows-default.field-0-0 c.in-Some-Rows-default.field-0-1 _ c.first_head.ensures c.in-Some-Rows-default.is c.in-Some-Rows-default.field-0-0-is),
+      (head_rows c.args.self.now.version c.first_head.result _ c.in-Some-Rows-default.field-0-0 c.in-Some-Rows-default.field-0-1 _ c.first_head.ensures c.in-Some-Rows-default.is c.in-Some-Rows-default.field-0-0-is),
   refl,
 )
 
 pub returns-in-None : goal.returns-in-None
-returns-in-None c = absurd (has_front c.args.self.now (sym c.is_some.ensures ∙ c.if-is_some.false) (more_of _ c.if-top-eq0.false) (head_none c.first_head.result _ c.first_head.ensures c.in-None.is))
+returns-in-None c = absurd (has_front c.args.self.now (sym c.is_some.ensures ∙ c.if-is_some.false) (more_of _ c.if-top-eq0.false) (head_none c.args.self.now.version c.first_head.result _ c.first_head.ensures c.in-None.is))
 
 pub invariant_of-self-clause-full : goal.invariant_of-self-clause-full
 invariant_of-self-clause-full c = set_length c.args.self.now.frames (c.args.self.now.depth - 1) _ ∙ c.args.self.now.full
