@@ -3,6 +3,7 @@ use Rattle.std.proofs.Common.{◌≡◌, ◌+◌, ◌%◌, ◌^◌, refl, sym, a
 use Rattle.std.specs.Prelude.{Bool, true, false, is_some, Option, None, Some}
 use Rattle.rb_trees.specs.declared.values.Value.{Value}
 use Rattle.rb_trees.specs.declared.forests.NodeFault.{NodeFault}
+use Rattle.rb_trees.specs.declared.versions.Version.{Version}
 use Rattle.rb_trees.specs.mirror.Forests as forest
 use Rattle.rb_trees.specs.mirror.Forests.{Node, Holds, Entry, Entries, NoEntries, MoreEntries, Nodes, NoNodes}
 use Rattle.rb_meaning_bytes.specs.formats.Fields.{number, truth}
@@ -23,9 +24,10 @@ abbrev pub entries_after : Entries → Entries → Entries
 entries_after NoEntries others = others
 entries_after (MoreEntries e es) others = MoreEntries e (entries_after es others)
 
-after_bytes : (es others : Entries) → entries_bytes (entries_after es others) ≡ entries_bytes es ++ entries_bytes others
-after_bytes NoEntries others = refl
-after_bytes (MoreEntries e es) others = ap (λ l. entry_bytes e ++ l) (after_bytes es others) ∙ sym (append_assoc (entry_bytes e) (entries_bytes es) (entries_bytes others))
+after_bytes : (version : Version) (es others : Entries) → entries_bytes version (entries_after es others) ≡ entries_bytes version es ++ entries_bytes version others
+after_bytes version NoEntries others = refl
+after_bytes version (MoreEntries e es) others =
+    ap (λ l. entry_bytes version e ++ l) (after_bytes version es others) ∙ sym (append_assoc (entry_bytes version e) (entries_bytes version es) (entries_bytes version others))
 
 after_count : (es others : Entries) → count_entries (entries_after es others) ≡ count_entries es + count_entries others
 after_count NoEntries others = omega arith
@@ -38,22 +40,23 @@ with_after (MoreEntries e es) others r = ap (with_entry e) (with_after es others
 wrap_sum : (a b c n m : ℕ) → b % 2 ^ 32 ≡ (a + n) % 2 ^ 32 → c % 2 ^ 32 ≡ (b + m) % 2 ^ 32 → c % 2 ^ 32 ≡ (a + (n + m)) % 2 ^ 32
 wrap_sum a b c n m h i = omega (arith, h, i)
 
-pub adds_both : (es others : Entries) (a b c : Written) → AddsEntries es a b → AddsEntries others b c → AddsEntries (entries_after es others) a c
-adds_both es others a b c g h = record {
-  bytes = h.bytes ∙ ap (λ l. l ++ entries_bytes others) g.bytes ∙ append_assoc a.bytes (entries_bytes es) (entries_bytes others) ∙ ap (λ l. a.bytes ++ l) (sym (after_bytes es others));
+pub adds_both : {version : Version} (es others : Entries) (a b c : Written version) → AddsEntries es a b → AddsEntries others b c → AddsEntries (entries_after es others) a c
+adds_both {version = version} es others a b c g h = record {
+  bytes = h.bytes ∙ ap (λ l. l ++ entries_bytes version others) g.bytes ∙ append_assoc a.bytes (entries_bytes version es) (entries_bytes version others)
+      ∙ ap (λ l. a.bytes ++ l) (sym (after_bytes version es others));
   counts = wrap_sum a.count b.count c.count (count_entries es) (count_entries others) g.counts h.counts ∙ ap (λ n. (a.count + n) % 2 ^ 32) (sym (after_count es others));
 }
 
 plus_nothing : (n : ℕ) → n % 2 ^ 32 ≡ (n + 0) % 2 ^ 32
 plus_nothing n = omega arith
 
-pub adds_none : (w : Written) → AddsEntries NoEntries w w
+pub adds_none : {version : Version} (w : Written version) → AddsEntries NoEntries w w
 adds_none w = record { bytes = sym (append-nil w.bytes); counts = plus_nothing w.count }
 
-pub gains_none : {Says : Entries → Type 0} (w : Written) → Says NoEntries → Gains w w Says
+pub gains_none : {version : Version} {Says : Entries → Type 0} (w : Written version) → Says NoEntries → Gains w w Says
 gains_none w h = record { entries = NoEntries; adds = adds_none w; says = h }
 
-pub adds_keeps : {more : List ℕ} {many : ℕ} {a b : Written} → Adds more many a b → Keeps a.bytes b.bytes
+pub adds_keeps : {version : Version} {more : List ℕ} {many : ℕ} {a b : Written version} → Adds more many a b → Keeps a.bytes b.bytes
 adds_keeps {more = more} {a = a} {b = b} g = keeps_more a.bytes b.bytes more g.bytes
 
 -- one entry
@@ -61,14 +64,14 @@ adds_keeps {more = more} {a = a} {b = b} g = keeps_more a.bytes b.bytes more g.b
 one_more : (n m : ℕ) → m ≡ (n + 1) % 2 ^ 32 → m % 2 ^ 32 ≡ (n + 1) % 2 ^ 32
 one_more n m h = omega (arith, h)
 
-pub one_added : (e : Entry) (old new : List ℕ) (count counted : ℕ) → new ≡ old ++ entry_bytes e → counted ≡ (count + 1) % 2 ^ 32
-    → AddsEntries (MoreEntries e NoEntries) (written old count) (written new counted)
-one_added e old new count counted b c = record { bytes = b ∙ ap (λ l. old ++ l) (sym (append-nil (entry_bytes e))); counts = one_more count counted c }
+pub one_added : {version : Version} (e : Entry) (old new : List ℕ) (count counted : ℕ) → new ≡ old ++ entry_bytes version e → counted ≡ (count + 1) % 2 ^ 32
+    → AddsEntries (MoreEntries e NoEntries) (written version old count) (written version new counted)
+one_added {version = version} e old new count counted b c = record { bytes = b ∙ ap (λ l. old ++ l) (sym (append-nil (entry_bytes version e))); counts = one_more count counted c }
 
-pub branch_added : (holds : Bool) (n : Node) (old front new : List ℕ) (count counted : ℕ) → front ≡ old ++ 0x32 ∷ truth holds → new ≡ front ++ node_bytes n → counted ≡ (count + 1) % 2 ^ 32
-    → AddsEntries (MoreEntries (forest.Branch holds n) NoEntries) (written old count) (written new counted)
-branch_added holds n old front new count counted f w c =
-    one_added (forest.Branch holds n) old new count counted (w ∙ ap (λ l. l ++ node_bytes n) f ∙ append_assoc old (0x32 ∷ truth holds) (node_bytes n)) c
+pub branch_added : {version : Version} (holds : Bool) (n : Node) (old front new : List ℕ) (count counted : ℕ) → front ≡ old ++ 0x32 ∷ truth holds → new ≡ front ++ node_bytes version n → counted ≡ (count + 1) % 2 ^ 32
+    → AddsEntries (MoreEntries (forest.Branch holds n) NoEntries) (written version old count) (written version new counted)
+branch_added {version = version} holds n old front new count counted f w c =
+    one_added (forest.Branch holds n) old new count counted (w ∙ ap (λ l. l ++ node_bytes version n) f ∙ append_assoc old (0x32 ∷ truth holds) (node_bytes version n)) c
 
 zero_plus : (n : ℕ) → 0 + n ≡ n
 zero_plus n = omega arith
@@ -77,15 +80,15 @@ zero_plus n = omega arith
 counted_so : (count all : ℕ) → count % 2 ^ 32 ≡ (0 + all) % 2 ^ 32 → number count ≡ number all
 counted_so count all h = sym (same_bits count) ∙ ap number (h ∙ ap (λ n. n % 2 ^ 32) (zero_plus all)) ∙ same_bits all
 
-pub rows_added : (ns : Nodes) (old holed now new : List ℕ) (at begun count counted : ℕ) → at ≡ length (old ++ 0x33 ∷ []) → holed ≡ old ++ 0x33 ∷ [] ++ number 0
-    → AddsNodes ns (written holed 0) (written now begun) → new ≡ filled at (number begun) now → counted ≡ (count + 1) % 2 ^ 32
-    → AddsEntries (MoreEntries (forest.Rows ns) NoEntries) (written old count) (written new counted)
-rows_added ns old holed now new at begun count counted a h w f c =
+pub rows_added : {version : Version} (ns : Nodes) (old holed now new : List ℕ) (at begun count counted : ℕ) → at ≡ length (old ++ 0x33 ∷ []) → holed ≡ old ++ 0x33 ∷ [] ++ number 0
+    → AddsNodes ns (written version holed 0) (written version now begun) → new ≡ filled at (number begun) now → counted ≡ (count + 1) % 2 ^ 32
+    → AddsEntries (MoreEntries (forest.Rows ns) NoEntries) (written version old count) (written version new counted)
+rows_added {version = version} ns old holed now new at begun count counted a h w f c =
     let front = old ++ 0x33 ∷ [] in
     let right : number begun ≡ number (count_nodes ns) = counted_so begun (count_nodes ns) w.counts in
     one_added (forest.Rows ns) old new count counted
-    (f ∙ filled_in front holed now (nodes_bytes ns) at begun a h w.bytes ∙ ap (λ l. front ++ l ++ nodes_bytes ns) right
-    ∙ grouped old (0x33 ∷ []) (number (count_nodes ns)) (nodes_bytes ns)) c
+    (f ∙ filled_in front holed now (nodes_bytes version ns) at begun a h w.bytes ∙ ap (λ l. front ++ l ++ nodes_bytes version ns) right
+    ∙ grouped old (0x33 ∷ []) (number (count_nodes ns)) (nodes_bytes version ns)) c
   where
     grouped : (a b c d : List ℕ) → a ++ b ++ c ++ d ≡ a ++ (b ++ c ++ d)
     grouped a b c d = simp (append_assoc) refl
@@ -96,7 +99,7 @@ pub first_is : (first : Option Value) (r : Ran) → with_first first r ≡ with_
 first_is None r = refl
 first_is (Some v) r = refl
 
-pub first_none : (first : Option Value) (w : Written) → first ≡ None → AddsEntries (first_entries first) w w
+pub first_none : {version : Version} (first : Option Value) (w : Written version) → first ≡ None → AddsEntries (first_entries first) w w
 first_none first w e = subst (λ x. AddsEntries (first_entries x) w w) (sym e) (adds_none w)
 
 pub kept_first : (keep : Bool) (v : Value) (r : Ran) → with_kept keep v r ≡ with_first (if_kept keep v) r
@@ -119,27 +122,27 @@ server_of NoEntries r = refl
 server_of (MoreEntries x es) r = server_of es r
 
 -- the count stands before the entries, and the end behind them
-node_so : (es : Entries) (f : Option NodeFault) (old holed now new : List ℕ) (at count : ℕ) → at ≡ length old → holed ≡ old ++ number 0
-    → AddsEntries es (written holed 0) (written now count) → new ≡ filled at (number count) now ++ end_bytes f → new ≡ old ++ node_bytes (Holds es f)
-node_so es f old holed now new at count a h w e =
+node_so : {version : Version} (es : Entries) (f : Option NodeFault) (old holed now new : List ℕ) (at count : ℕ) → at ≡ length old → holed ≡ old ++ number 0
+    → AddsEntries es (written version holed 0) (written version now count) → new ≡ filled at (number count) now ++ end_bytes version f → new ≡ old ++ node_bytes version (Holds es f)
+node_so {version = version} es f old holed now new at count a h w e =
     let right : number count ≡ number (count_entries es) = counted_so count (count_entries es) w.counts in
-    e ∙ ap (λ l. l ++ end_bytes f) (filled_in old holed now (entries_bytes es) at count a h w.bytes ∙ ap (λ l. old ++ l ++ entries_bytes es) right)
-    ∙ grouped old (number (count_entries es)) (entries_bytes es) (end_bytes f)
+    e ∙ ap (λ l. l ++ end_bytes version f) (filled_in old holed now (entries_bytes version es) at count a h w.bytes ∙ ap (λ l. old ++ l ++ entries_bytes version es) right)
+    ∙ grouped old (number (count_entries es)) (entries_bytes version es) (end_bytes version f)
   where
     grouped : (a b c d : List ℕ) → a ++ b ++ c ++ d ≡ a ++ (b ++ c ++ d)
     grouped a b c d = simp (append_assoc) refl
 
-pub wrote : (es : Entries) (f : Option NodeFault) (meant r : Ran) (old holed now new : List ℕ) (at count : ℕ) (halts : Bool) (s : Server) → at ≡ length old → holed ≡ old ++ number 0
-    → AddsEntries es (written holed 0) (written now count) → new ≡ filled at (number count) now ++ end_bytes f
-    → meant ≡ with_entries es r → r.node ≡ Holds NoEntries f → halts ≡ is_some r.fault → s ≡ r.server → WroteNode meant old halts new s
-wrote es f meant r old holed now new at count halts s a h w e is n t v = record {
-  bytes = node_so es f old holed now new at count a h w e ∙ ap (λ x. old ++ node_bytes x) (sym (ap (λ x. x.node) is ∙ nodes_of es f r n));
+pub wrote : {version : Version} (es : Entries) (f : Option NodeFault) (meant r : Ran) (old holed now new : List ℕ) (at count : ℕ) (halts : Bool) (s : Server) → at ≡ length old → holed ≡ old ++ number 0
+    → AddsEntries es (written version holed 0) (written version now count) → new ≡ filled at (number count) now ++ end_bytes version f
+    → meant ≡ with_entries es r → r.node ≡ Holds NoEntries f → halts ≡ is_some r.fault → s ≡ r.server → WroteNode version meant old halts new s
+wrote {version = version} es f meant r old holed now new at count halts s a h w e is n t v = record {
+  bytes = node_so es f old holed now new at count a h w e ∙ ap (λ x. old ++ node_bytes version x) (sym (ap (λ x. x.node) is ∙ nodes_of es f r n));
   stopped_so = t ∙ ap is_some (sym (ap (λ x. x.fault) is ∙ fault_of es r));
   server_so = v ∙ sym (ap (λ x. x.server) is ∙ server_of es r);
 }
 
 -- a node with a fault alone
-pub faulted_bytes : (f : NodeFault) (old mid new : List ℕ) → mid ≡ old ++ number 0 → new ≡ mid ++ end_bytes (Some f) → new ≡ old ++ node_bytes (Holds NoEntries (Some f))
-faulted_bytes f old mid new h e =
-    e ∙ ap (λ l. l ++ end_bytes (Some f)) h ∙ append_assoc old (number 0) (end_bytes (Some f))
-    ∙ ap (λ l. old ++ (l ++ end_bytes (Some f))) (sym (append-nil (number 0)))
+pub faulted_bytes : (version : Version) (f : NodeFault) (old mid new : List ℕ) → mid ≡ old ++ number 0 → new ≡ mid ++ end_bytes version (Some f) → new ≡ old ++ node_bytes version (Holds NoEntries (Some f))
+faulted_bytes version f old mid new h e =
+    e ∙ ap (λ l. l ++ end_bytes version (Some f)) h ∙ append_assoc old (number 0) (end_bytes version (Some f))
+    ∙ ap (λ l. old ++ (l ++ end_bytes version (Some f))) (sym (append-nil (number 0)))

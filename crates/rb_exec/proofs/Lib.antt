@@ -5,6 +5,7 @@ pub mod Forms
 pub mod Guided
 pub mod Hosted
 pub mod Patched
+pub mod ReadBack
 pub mod Replies
 pub mod Turned
 pub mod Weight

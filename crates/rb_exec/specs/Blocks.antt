@@ -2,6 +2,7 @@
 use Rattle.std.specs.Prelude.{◌≡◌, ℕ, List, ◌++◌, length, Bool, true, false, is_some, Option, None, Some, Result, Ok, Err}
 use Rattle.rb_trees.specs.declared.values.Value.{Value}
 use Rattle.rb_trees.specs.declared.values.Fault.{Fault}
+use Rattle.rb_trees.specs.declared.versions.Version.{Version}
 use Rattle.rb_trees.specs.mirror.Forests as forest
 use Rattle.rb_trees.specs.mirror.Forests.{Node, Holds, Entries, NoEntries, MoreEntries}
 use Rattle.rb_meaning_bytes.specs.formats.ForestBytes.{end_bytes, node_bytes}
@@ -23,16 +24,6 @@ abbrev pub with_entries : Entries → Ran → Ran
 with_entries NoEntries r = r
 with_entries (MoreEntries e es) r = with_entry e (with_entries es r)
 
--- What steps did, whatever follows them: they gave entries and went on; or a fault of their node stopped them, or one that
--- stands within their last entry. For want of memory the buffer kept its bytes.
-abbrev pub Does : Meaning → Written → Result (Unit {0}) Stop → Written → Vars → Server → Type 0
-Does meaning before (Ok u) after vars s = Gains before after (λ es. (go : Rest) → meaning go ≡ with_entries es (go vars s))
-Does meaning before (Err (stop.Fault f)) after vars s =
-    Gains before after (λ es. (go : Rest) → meaning go ≡ with_entries es (stopped f.step f.at f.fault s))
-Does meaning before (Err stop.Within) after vars s =
-    Gains before after (λ es. (f : PlacedFault) × ((go : Rest) → meaning go ≡ with_entries es (halted f s)))
-Does meaning before (Err stop.Memory) after vars s = Keeps before.bytes after.bytes
-
 -- Bindings were only added.
 abbrev pub Extends : Vars → Vars → Type 0
 Extends before after = (more : Vars) × (after ≡ more ++ before)
@@ -44,27 +35,41 @@ Binds (Err (stop.Fault f)) before after = Extends before after
 Binds (Err stop.Within) before after = Extends before after
 Binds (Err stop.Memory) before after = Unit {0}
 
--- what running steps ensures: what they did, and that they only bound variables
-pub record Did (meaning : Meaning) (before : Written) (old : Vars) (result : Result (Unit {0}) Stop) (after : Written) (new : Vars) (server : Server) : Type 0 where
-  pub does : Does meaning before result after new server
-  pub binds : Binds result old new
+-- where entries are written in a version
+module _ {version : Version} where
+  -- What steps did, whatever follows them: they gave entries and went on; or a fault of their node stopped them, or one
+  -- that stands within their last entry. For want of memory the buffer kept its bytes.
+  abbrev pub Does : Meaning → Written version → Result (Unit {0}) Stop → Written version → Vars → Server → Type 0
+  Does meaning before (Ok u) after vars s = Gains before after (λ es. (go : Rest) → meaning go ≡ with_entries es (go vars s))
+  Does meaning before (Err (stop.Fault f)) after vars s =
+      Gains before after (λ es. (go : Rest) → meaning go ≡ with_entries es (stopped f.step f.at f.fault s))
+  Does meaning before (Err stop.Within) after vars s =
+      Gains before after (λ es. (f : PlacedFault) × ((go : Rest) → meaning go ≡ with_entries es (halted f s)))
+  Does meaning before (Err stop.Memory) after vars s = Keeps before.bytes after.bytes
 
--- the same of a run that performs them, with a count of its entries
-abbrev pub Runs : Course → ℕ → Run → Result (Unit {0}) Stop → ℕ → Run → Type 0
-Runs course count old result counted new =
-    Did (course old.variables old.server) (written old.bytes.items count) old.variables result (written new.bytes.items counted) new.variables new.server
+  -- what running steps ensures: what they did, and that they only bound variables
+  pub record Did (meaning : Meaning) (before : Written version) (old : Vars) (result : Result (Unit {0}) Stop) (after : Written version) (new : Vars) (server : Server) : Type 0 where
+    pub does : Does meaning before result after new server
+    pub binds : Binds result old new
+
+-- the same of a run that performs them and writes their entries in a version, with a count of them
+abbrev pub Runs : Version → Course → ℕ → Run → Result (Unit {0}) Stop → ℕ → Run → Type 0
+Runs version course count old result counted new =
+    let before = written version old.bytes.items count in
+    Did (course old.variables old.server) before old.variables result (written version new.bytes.items counted) new.variables new.server
 
 -- the same of a step without an entry, whatever is counted
-abbrev pub RunsQuietly : Course → Run → Result (Unit {0}) Stop → Run → Type 0
-RunsQuietly course old result new = (count : ℕ) → Runs course count old result count new
+abbrev pub RunsQuietly : Version → Course → Run → Result (Unit {0}) Stop → Run → Type 0
+RunsQuietly version course old result new = (count : ℕ) → Runs version course count old result count new
 
 -- The bindings that are older than so many are left.
 abbrev pub Closes : ℕ → Vars → Vars → Type 0
 Closes count old new = (more rest : Vars) → old ≡ more ++ rest → count ≡ length rest → new ≡ rest
 
--- A block was performed: the buffer has gained its node, this tells whether a fault stopped it, and the server is the one after it.
-pub record WroteNode (meant : Ran) (old : List ℕ) (stopped : Bool) (new : List ℕ) (server : Server) : Type 0 where
-  pub bytes : new ≡ old ++ node_bytes meant.node
+-- A block was performed: the buffer has gained its node in a version, this tells whether a fault stopped it, and the server
+-- is the one after it.
+pub record WroteNode (version : Version) (meant : Ran) (old : List ℕ) (stopped : Bool) (new : List ℕ) (server : Server) : Type 0 where
+  pub bytes : new ≡ old ++ node_bytes version meant.node
   pub stopped_so : stopped ≡ is_some meant.fault
   pub server_so : server ≡ meant.server
 
@@ -74,20 +79,21 @@ end_of (InTurn f) = ends.InTurn
 end_of NoUnit = ends.NoUnit
 
 -- Turns were performed: the buffer has gained their nodes, this tells why they ended, and the server is the one after them.
-pub record WroteTurns (meant : Turned) (before : Written) (end : TurnsEnd) (after : Written) (server : Server) : Type 0 where
+pub record WroteTurns {version : Version} (meant : Turned) (before : Written version) (end : TurnsEnd) (after : Written version) (server : Server) : Type 0 where
   pub adds : AddsNodes meant.nodes before after
   pub end_so : end ≡ end_of meant.why
   pub server_so : server ≡ meant.server
 
--- what a run ensures that performs a block
-abbrev pub RunsBlock : (Vars → Server → Ran) → Run → Result Bool Stop → Run → Type 0
-RunsBlock meant old result new =
-    UnlessMemory result (λ stopped. WroteNode (meant old.variables old.server) old.bytes.items stopped new.bytes.items new.server)
+-- what a run ensures that performs a block and writes its node in a version
+abbrev pub RunsBlock : Version → (Vars → Server → Ran) → Run → Result Bool Stop → Run → Type 0
+RunsBlock version meant old result new =
+    UnlessMemory result (λ stopped. WroteNode version (meant old.variables old.server) old.bytes.items stopped new.bytes.items new.server)
 
 -- what a run ensures that performs turns, with a count of their nodes
-abbrev pub RunsTurns : (Vars → Server → Turned) → ℕ → Run → Result TurnsEnd Stop → ℕ → Run → Type 0
-RunsTurns meant count old result counted new =
-    UnlessMemory result (λ end. WroteTurns (meant old.variables old.server) (written old.bytes.items count) end (written new.bytes.items counted) new.server)
+abbrev pub RunsTurns : Version → (Vars → Server → Turned) → ℕ → Run → Result TurnsEnd Stop → ℕ → Run → Type 0
+RunsTurns version meant count old result counted new =
+    let before = written version old.bytes.items count in
+    UnlessMemory result (λ end. WroteTurns (meant old.variables old.server) before end (written version new.bytes.items counted) new.server)
 
 -- the node that has a fault as its only content
 abbrev pub faulted_node : ℕ → ℕ → Fault → Node
@@ -103,11 +109,11 @@ first_entries None = NoEntries
 first_entries (Some v) = one_value v
 
 -- What stands behind the entries of a node whose steps ended so, and whether a fault stopped them.
-abbrev pub Ended : Result (Unit {0}) Stop → List ℕ → Bool → List ℕ → Type 0
-Ended (Ok u) old halts new = (halts ≡ false) × (new ≡ old ++ end_bytes None)
-Ended (Err (stop.Fault f)) old halts new = (halts ≡ true) × (new ≡ old ++ end_bytes (Some f))
-Ended (Err stop.Within) old halts new = (halts ≡ true) × (new ≡ old ++ end_bytes None)
-Ended (Err stop.Memory) old halts new = ⊥
+abbrev pub Ended : Version → Result (Unit {0}) Stop → List ℕ → Bool → List ℕ → Type 0
+Ended version (Ok u) old halts new = (halts ≡ false) × (new ≡ old ++ end_bytes version None)
+Ended version (Err (stop.Fault f)) old halts new = (halts ≡ true) × (new ≡ old ++ end_bytes version (Some f))
+Ended version (Err stop.Within) old halts new = (halts ≡ true) × (new ≡ old ++ end_bytes version None)
+Ended version (Err stop.Memory) old halts new = ⊥
 
 -- how the steps go on after turns
 abbrev pub EndsTurns : ℕ → ℕ → TurnsEnd → Result (Unit {0}) Stop → Type 0

@@ -4,6 +4,7 @@ ghost use Rattle.std.specs.Prelude.{◌≡◌, ◌++◌, map, IfOk, OnOk, OnErr}
 ghost use Rattle.rb_trees.specs.mirror.Declarations.{mirror_class};
 ghost use Rattle.rb_trees.specs.mirror.Forests.{mirror_node};
 ghost use Rattle.rb_meaning_bytes.specs.formats.ForestBytes.{forest_bytes, FormedForest};
+ghost use Rattle.rb_meaning_bytes.specs.formats.Values.{version_byte};
 ghost use Rattle.rb_wire_fields.specs.Buffers.{Keeps};
 ghost use Rattle.rb_code.specs.Differ.{ClassesDiffer};
 ghost use Rattle.rb_exec.specs.Hosts.{forest_of, script_run};
@@ -17,8 +18,8 @@ use bytes::BytesMut;
 use rb_code::Code;
 use rb_engine::Server;
 use rb_heap::Heap;
-use rb_meaning_bytes::each_forest_has_one_spelling;
-use rb_trees::{Memory, Node, Script, Seq, Service, Step, Value};
+use rb_meaning_bytes::{each_forest_has_one_spelling, forests_have_a_version};
+use rb_trees::{Memory, Node, Script, Seq, Service, Step, Value, Version};
 use rb_wire_forest::decode_forest;
 use std::alloc::Global;
 use std::marker::Model;
@@ -26,9 +27,6 @@ use std::mem;
 
 /// The units of fuel of a script: `batch_fuel`.
 const BATCH_FUEL: u64 = 1_000_000;
-
-/// The first byte of a forest.
-const VERSION: u8 = 1;
 
 /// A service with its table of objects. Contracts see both.
 #[derive(Drop)]
@@ -72,7 +70,7 @@ impl Host {
     }
 }
 
-/// Runs a script with the values of its inputs, and appends the forest that it gives.
+/// Runs a script with the values of its inputs, and appends the forest that it gives, in a version of the wire.
 ///
 /// The forest's root and the table are what the script means there (`script_run`), whatever its tree and its inputs are; each
 /// fault is in the node. The service stays. The error is want of memory, after which the buffer is as it was, and nothing is
@@ -82,9 +80,10 @@ pub fn run_onto(
     host: &mut Host,
     script: &Script,
     inputs: &[Value],
+    version: Version,
     bytes: &mut BytesMut,
 ) -> Result<(), Memory>
-    ensures forest { OnOk result (bytes.new.items ≡ bytes.old.items ++ forest_of host.old script.now inputs.now) }
+    ensures forest { OnOk result (bytes.new.items ≡ bytes.old.items ++ forest_of version host.old script.now inputs.now) }
     ensures table { OnOk result (host.new.table ≡ (script_run host.old script.now inputs.now).server.table) }
     ensures service { host.new.service ≡ host.old.service }
     ensures unchanged { OnErr result (bytes.new.items ≡ bytes.old.items) }
@@ -95,6 +94,7 @@ pub fn run_onto(
         code: &host.code,
         root: host.root,
         inputs,
+        version,
     };
     let len = bytes.len();
     if let Err(want) = run_body(&stage, &mut host.server, &script.body, bytes) {
@@ -110,15 +110,16 @@ pub fn run_into(
     host: &mut Host,
     script: &Script,
     inputs: &[Value],
+    version: Version,
     out: &mut Seq<u8>,
 ) -> Result<(), Memory>
-    ensures forest { OnOk result (out.new ≡ out.old ++ forest_of host.old script.now inputs.now) }
+    ensures forest { OnOk result (out.new ≡ out.old ++ forest_of version host.old script.now inputs.now) }
     ensures table { OnOk result (host.new.table ≡ (script_run host.old script.now inputs.now).server.table) }
     ensures service { host.new.service ≡ host.old.service }
 {
     let before = mem::replace(out, Seq::new(alloc));
     let mut bytes = BytesMut::from_vec(before.into_vec());
-    let ran = run_onto(alloc, host, script, inputs, &mut bytes);
+    let ran = run_onto(alloc, host, script, inputs, version, &mut bytes);
     let after = bytes.into_vec()?;
     *out = Seq::from_vec(after);
     ran
@@ -140,11 +141,22 @@ pub fn run_script(
     ensures service { host.new.service ≡ host.old.service }
 {
     each_forest_has_one_spelling();
+    forests_have_a_version();
     let mut bytes = Seq::new(alloc);
-    run_into(alloc, host, script, inputs, &mut bytes)?;
+    run_into(alloc, host, script, inputs, Version::Two, &mut bytes)?;
     match decode_forest(alloc, bytes.as_slice()) {
         Ok(node) => Ok(node),
         Err(_) => Err(Memory),
+    }
+}
+
+// The byte with which a forest of a version begins.
+fn first_byte(version: Version) -> u8
+    ensures { result ≡ version_byte version }
+{
+    match version {
+        Version::One => 1,
+        Version::Two => 2,
     }
 }
 
@@ -159,11 +171,11 @@ fn run_body(
     bytes: &mut BytesMut,
 ) -> Result<(), Memory>
     ensures forest { let ran = body_run stage.now body.now server.old in
-        OnOk result (bytes.new.items ≡ bytes.old.items ++ forest_bytes ran.node) }
+        OnOk result (bytes.new.items ≡ bytes.old.items ++ forest_bytes stage.now.version ran.node) }
     ensures server { OnOk result (server.new ≡ (body_run stage.now body.now server.old).server) }
     ensures kept { OnErr result (Keeps bytes.old.items bytes.new.items) }
 {
-    put_tag(VERSION, bytes)?;
+    put_tag(first_byte(stage.version), bytes)?;
     let mut run = Run {
         server: mem::replace(server, Server::new(Heap::make(stage.alloc))),
         variables: Variables::new(stage.alloc),

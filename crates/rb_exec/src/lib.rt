@@ -1,5 +1,6 @@
-//! Runs scripts on a service: a [`Host`] holds the service and its table, and [`run_onto`] performs a script there and appends
-//! the bytes of the forest that it gives, while it runs. [`run_script`] answers the node of that forest.
+//! Runs scripts on a service: a [`Host`] holds the service and its table, and [`run_onto`] performs a script there. It appends
+//! the bytes of the forest that the script gives, in a version of the wire, while the script runs. [`run_script`] answers the
+//! node of that forest.
 //!
 //! What a script means stands in `specs/ScriptRun.antt` of `rb_meaning_code`; what is run is proved to be that, whatever
 //! the script and its inputs are.

@@ -1,4 +1,5 @@
-// The parts of a script's node, put at the end of a buffer. After an error the buffer has kept its bytes.
+// The parts of a script's node, put at the end of a buffer. After an error the buffer has kept its bytes. Values and ends
+// are spelled otherwise in each version of the wire, so they are put by the version.
 
 ghost use Rattle.std.specs.Prelude.{◌≡◌, ◌+◌, ◌≤◌, ◌++◌, [], ◌∷◌, length, IfOk, OnOk, OnErr};
 ghost use Rattle.std.specs.Option.{option_copied};
@@ -14,8 +15,8 @@ ghost use Rattle.rb_exec.specs.Written.{AddsEntries, written};
 use crate::ends::Stop;
 use crate::holes::{add_one, fill, leave_hole};
 use bytes::{BufMut, BytesMut};
-use rb_trees::{Fault, Memory, NodeFault, Value};
-use rb_wire_fields::puts::{put_number, put_text, put_truth, put_value};
+use rb_trees::{Fault, Memory, NodeFault, Value, Version};
+use rb_wire_fields::puts::{put_natural, put_number, put_truth, put_value, put_words};
 
 /// The code of the one fault that keeps a text.
 const THROWN: u8 = 8;
@@ -32,36 +33,46 @@ pub fn put_tag(tag: u8, bytes: &mut BytesMut) -> Result<(), Memory>
 
 // Appends the bytes of a value's entry.
 #[tactic(auto, using(rb_wire_fields::proofs::Kept::kept))]
-fn put_value_entry(value: &Value, bytes: &mut BytesMut) -> Result<(), Memory>
-    ensures ok { OnOk result (bytes.new.items ≡ bytes.old.items ++ 0x31 ∷ value_bytes value.now) }
+fn put_value_entry(version: Version, value: &Value, bytes: &mut BytesMut) -> Result<(), Memory>
+    ensures ok { OnOk result (bytes.new.items ≡ bytes.old.items ++ 0x31 ∷ value_bytes version value.now) }
     ensures err { OnErr result (Keeps bytes.old.items bytes.new.items) }
 {
     put_tag(0x31, bytes)?;
-    put_value(value, bytes)?;
+    put_value(version, value, bytes)?;
     Ok(())
 }
 
 /// Appends the entry of a value, which is primitive, and counts it.
-pub fn put_entry(value: &Value, count: &mut u32, bytes: &mut BytesMut) -> Result<(), Memory>
-    ensures ok { let before = written bytes.old.items count.old in
-        OnOk result (AddsEntries (one_value value.now) before (written bytes.new.items count.new)) }
+pub fn put_entry(
+    version: Version,
+    value: &Value,
+    count: &mut u32,
+    bytes: &mut BytesMut,
+) -> Result<(), Memory>
+    ensures ok { let before = written version bytes.old.items count.old in
+        OnOk result (AddsEntries (one_value value.now) before (written version bytes.new.items count.new)) }
     ensures err { OnErr result (Keeps bytes.old.items bytes.new.items) }
 {
-    put_value_entry(value, bytes)?;
+    put_value_entry(version, value, bytes)?;
     add_one(count);
     Ok(())
 }
 
 /// The same of the value that a node begins with, where there is one.
-pub fn put_first(first: Option<&Value>, count: &mut u32, bytes: &mut BytesMut) -> Result<(), Memory>
+pub fn put_first(
+    version: Version,
+    first: Option<&Value>,
+    count: &mut u32,
+    bytes: &mut BytesMut,
+) -> Result<(), Memory>
     ensures ok { let entries = first_entries (option_copied first.entry) in
-        let before = written bytes.old.items count.old in
-        OnOk result (AddsEntries entries before (written bytes.new.items count.new)) }
+        let before = written version bytes.old.items count.old in
+        OnOk result (AddsEntries entries before (written version bytes.new.items count.new)) }
     ensures err { OnErr result (Keeps bytes.old.items bytes.new.items) }
 {
     match first {
         Some(value) => {
-            put_entry(value, count, bytes)?;
+            put_entry(version, value, count, bytes)?;
             Ok(())
         }
         None => Ok(()),
@@ -93,16 +104,16 @@ pub fn put_rows(bytes: &mut BytesMut) -> Result<usize, Memory>
 
 // Appends the fault that a node ends with.
 #[tactic(auto, using(rb_wire_fields::proofs::Kept::kept))]
-fn put_fault(fault: &NodeFault, bytes: &mut BytesMut) -> Result<(), Memory>
-    ensures ok { OnOk result (bytes.new.items ≡ bytes.old.items ++ end_bytes (Some fault.now)) }
+fn put_fault(version: Version, fault: &NodeFault, bytes: &mut BytesMut) -> Result<(), Memory>
+    ensures ok { OnOk result (bytes.new.items ≡ bytes.old.items ++ end_bytes version (Some fault.now)) }
     ensures err { OnErr result (Keeps bytes.old.items bytes.new.items) }
 {
     bytes.put_u8(0x01)?;
-    put_number(fault.step, bytes)?;
-    put_number(fault.at, bytes)?;
+    put_natural(version, fault.step, bytes)?;
+    put_natural(version, fault.at, bytes)?;
     bytes.put_u8(fault.fault.code)?;
     if fault.fault.code == THROWN {
-        put_text(fault.fault.text.as_slice(), bytes)?;
+        put_words(version, fault.fault.text.as_slice(), bytes)?;
         Ok(())
     } else {
         Ok(())
@@ -114,6 +125,7 @@ fn put_fault(fault: &NodeFault, bytes: &mut BytesMut) -> Result<(), Memory>
 #[inline(never)]
 #[tactic(auto, using(rb_wire_fields::proofs::Kept::kept))]
 pub fn end_node(
+    version: Version,
     bytes: &mut BytesMut,
     at: usize,
     count: u32,
@@ -121,7 +133,7 @@ pub fn end_node(
 ) -> Result<bool, Stop>
     requires { at + 4 ≤ length bytes.old.items }
     ensures ended { let before = filled at (number count) bytes.old.items in
-        UnlessMemory result (λ stopped. Ended end before stopped bytes.new.items) }
+        UnlessMemory result (λ stopped. Ended version end before stopped bytes.new.items) }
     ensures kept { OnErr result (Keeps (filled at (number count) bytes.old.items) bytes.new.items) }
 {
     fill(bytes, at, count);
@@ -131,7 +143,7 @@ pub fn end_node(
             Ok(false)
         }
         Err(Stop::Fault(fault)) => {
-            put_fault(&fault, bytes)?;
+            put_fault(version, &fault, bytes)?;
             Ok(true)
         }
         Err(Stop::Within) => {
@@ -145,11 +157,17 @@ pub fn end_node(
 /// Appends the node that has a fault as its only content.
 #[inline(never)]
 #[tactic(auto, using(rb_wire_fields::proofs::Kept::kept))]
-pub fn put_faulted(step: u32, at: u32, fault: Fault, bytes: &mut BytesMut) -> Result<(), Memory>
-    ensures ok { OnOk result (bytes.new.items ≡ bytes.old.items ++ node_bytes (faulted_node step at fault)) }
+pub fn put_faulted(
+    version: Version,
+    step: u32,
+    at: u32,
+    fault: Fault,
+    bytes: &mut BytesMut,
+) -> Result<(), Memory>
+    ensures ok { OnOk result (bytes.new.items ≡ bytes.old.items ++ node_bytes version (faulted_node step at fault)) }
     ensures err { OnErr result (Keeps bytes.old.items bytes.new.items) }
 {
     put_number(0, bytes)?;
-    put_fault(&NodeFault { step, at, fault }, bytes)?;
+    put_fault(version, &NodeFault { step, at, fault }, bytes)?;
     Ok(())
 }

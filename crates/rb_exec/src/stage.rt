@@ -10,17 +10,18 @@ use crate::expressions::Scope;
 use crate::variables::Variables;
 use rb_code::Code;
 use rb_engine::{Failure, Server, at_place};
-use rb_trees::{SExpr, Value};
+use rb_trees::{SExpr, Value, Version};
 use std::alloc::Global;
 
-/// What stays the same while a script runs: the service's classes and the number of its root, and the values of the
-/// script's inputs.
+/// What stays the same while a script runs: the service's classes and the number of its root, the values of the script's
+/// inputs, and the version in which the forest is written.
 #[derive(Clone, Copy)]
 pub struct Stage<'a> {
     pub alloc: Global,
     pub code: &'a Code,
     pub root: u32,
     pub inputs: &'a [Value],
+    pub version: Version,
 }
 
 /// The number of a step and its position, on a stage.

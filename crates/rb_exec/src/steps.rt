@@ -36,16 +36,17 @@ impl Run {
         first: Option<&Value>,
         steps: &Seq<Step>,
     ) -> Result<bool, Stop>
-        ensures runs { RunsBlock (block_from stage.now (option_copied first.entry) steps.now) self.old result self.new }
+        ensures runs { let version = stage.now.version in
+            RunsBlock version (block_from stage.now (option_copied first.entry) steps.now) self.old result self.new }
         ensures closes { UnlessMemory result (λ stopped. Closes count self.old.variables self.new.variables) }
         ensures kept { OnErr result (Keeps self.old.bytes.items self.new.bytes.items) }
     {
         let at = leave_hole(&mut self.bytes)?;
         let mut entries = 0;
-        put_first(first, &mut entries, &mut self.bytes)?;
+        put_first(stage.version, first, &mut entries, &mut self.bytes)?;
         let end = self.run_all(stage, &mut entries, steps.as_slice());
         self.variables.close(count)?;
-        let stopped = end_node(&mut self.bytes, at, entries, end)?;
+        let stopped = end_node(stage.version, &mut self.bytes, at, entries, end)?;
         Ok(stopped)
     }
 
@@ -53,7 +54,8 @@ impl Run {
     #[cycle(running)]
     #[inline(never)]
     fn run_all(&mut self, stage: &Stage<'_>, entries: &mut u32, steps: &[Step]) -> Result<(), Stop>
-        ensures { Runs (steps_run stage.now steps.now) entries.old self.old result entries.new self.new }
+        ensures { let version = stage.now.version in
+            Runs version (steps_run stage.now steps.now) entries.old self.old result entries.new self.new }
     {
         'steps: for step in steps {
             self.run_step(stage, entries, step)?;
@@ -65,7 +67,8 @@ impl Run {
     #[cycle(running)]
     #[inline(never)]
     fn run_step(&mut self, stage: &Stage<'_>, entries: &mut u32, step: &Step) -> Result<(), Stop>
-        ensures { Runs (step_run stage.now step.now) entries.old self.old result entries.new self.new }
+        ensures { let version = stage.now.version in
+            Runs version (step_run stage.now step.now) entries.old self.old result entries.new self.new }
     {
         let site = Site {
             stage: &*stage,
@@ -106,7 +109,7 @@ impl Run {
     // A `Do`, which gives no entry.
     #[inline(never)]
     fn run_do(&mut self, site: Site<'_>, expr: &SExpr) -> Result<(), Stop>
-        ensures { RunsQuietly (do_run site.entry expr.now) self.old result self.new }
+        ensures { RunsQuietly site.entry.stage.now.version (do_run site.entry expr.now) self.old result self.new }
     {
         let _value = site.value(&self.variables, &mut self.server, expr)?;
         Ok(())
@@ -115,11 +118,12 @@ impl Run {
     // A `Keep`, whose value is an entry.
     #[inline(never)]
     fn run_keep(&mut self, entries: &mut u32, site: Site<'_>, expr: &SExpr) -> Result<(), Stop>
-        ensures { Runs (keep_run site.entry expr.now) entries.old self.old result entries.new self.new }
+        ensures { let version = site.entry.stage.now.version in
+            Runs version (keep_run site.entry expr.now) entries.old self.old result entries.new self.new }
     {
         let value = site.value(&self.variables, &mut self.server, expr)?;
         site.ruled(may_keep(site.stage.alloc, true, &value))?;
-        put_entry(&value, entries, &mut self.bytes)?;
+        put_entry(site.stage.version, &value, entries, &mut self.bytes)?;
         Ok(())
     }
 
@@ -133,11 +137,13 @@ impl Run {
         keep: bool,
         expr: &SExpr,
     ) -> Result<(), Stop>
-        ensures { Runs (let_run site.entry variable keep expr.now) entries.old self.old result entries.new self.new }
+        ensures { let version = site.entry.stage.now.version in
+            Runs version (let_run site.entry variable keep expr.now) entries.old self.old result entries.new self.new }
     {
         let value = site.value(&self.variables, &mut self.server, expr)?;
         site.ruled(may_keep(site.stage.alloc, keep, &value))?;
-        put_first(if_kept(keep, &value), entries, &mut self.bytes)?;
+        let kept = if_kept(keep, &value);
+        put_first(site.stage.version, kept, entries, &mut self.bytes)?;
         self.variables.bind(variable, value)?;
         Ok(())
     }
@@ -153,7 +159,8 @@ impl Run {
         yes: &Seq<Step>,
         no: &Seq<Step>,
     ) -> Result<(), Stop>
-        ensures { Runs (if_run site.entry test.now yes.now no.now) entries.old self.old result entries.new self.new }
+        ensures { let version = site.entry.stage.now.version in
+            Runs version (if_run site.entry test.now yes.now no.now) entries.old self.old result entries.new self.new }
     {
         let value = site.value(&self.variables, &mut self.server, test)?;
         let holds = site.ruled(truth_of(site.stage.alloc, value))?;
@@ -172,7 +179,8 @@ impl Run {
     #[cycle(running)]
     #[inline(never)]
     fn run_each(&mut self, entries: &mut u32, walk: &Walk<'_>, rows: &SExpr) -> Result<(), Stop>
-        ensures { Runs (each_run walk.now rows.now) entries.old self.old result entries.new self.new }
+        ensures { let version = walk.now.site.stage.now.version in
+            Runs version (each_run walk.now rows.now) entries.old self.old result entries.new self.new }
     {
         let site = walk.site;
         let value = site.value(&self.variables, &mut self.server, rows)?;
@@ -185,7 +193,8 @@ impl Run {
     #[inline(never)]
     fn run_over(&mut self, entries: &mut u32, walk: &Walk<'_>, input: u8) -> Result<(), Stop>
         requires plain { walk.now.keep ≡ false }
-        ensures { Runs (over_run walk.now input) entries.old self.old result entries.new self.new }
+        ensures { let version = walk.now.site.stage.now.version in
+            Runs version (over_run walk.now input) entries.old self.old result entries.new self.new }
     {
         let site = walk.site;
         let stage = site.stage;
@@ -197,7 +206,8 @@ impl Run {
     #[cycle(running)]
     #[inline(always)]
     fn run_walk(&mut self, entries: &mut u32, walk: &Walk<'_>, rows: &[Value]) -> Result<(), Stop>
-        ensures { Runs (walk_run walk.now rows.now) entries.old self.old result entries.new self.new }
+        ensures { let version = walk.now.site.stage.now.version in
+            Runs version (walk_run walk.now rows.now) entries.old self.old result entries.new self.new }
     {
         let at = put_rows(&mut self.bytes)?;
         let mut begun = 0;

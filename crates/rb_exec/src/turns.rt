@@ -43,7 +43,8 @@ impl Run {
         begun: &mut u32,
         rows: &[Value],
     ) -> Result<TurnsEnd, Stop>
-        ensures turns { RunsTurns (turns_run walk.now rows.now) begun.old self.old result begun.new self.new }
+        ensures turns { let version = walk.now.site.stage.now.version in
+            RunsTurns version (turns_run walk.now rows.now) begun.old self.old result begun.new self.new }
         ensures closes { UnlessMemory result (λ end. self.new.variables ≡ self.old.variables) }
         ensures kept { OnErr result (Keeps self.old.bytes.items self.new.bytes.items) }
     {
@@ -64,7 +65,7 @@ impl Run {
     #[cycle(running)]
     #[inline(never)]
     fn run_turn(&mut self, walk: &Walk<'_>, row: &Value) -> Result<bool, Stop>
-        ensures turn { RunsBlock (turn_run walk.now row.now) self.old result self.new }
+        ensures turn { RunsBlock walk.now.site.stage.now.version (turn_run walk.now row.now) self.old result self.new }
         ensures closes { UnlessMemory result (λ stopped. self.new.variables ≡ self.old.variables) }
         ensures kept { OnErr result (Keeps self.old.bytes.items self.new.bytes.items) }
     {
@@ -72,7 +73,7 @@ impl Run {
         match at_place(site.at, may_keep(site.stage.alloc, walk.keep, row)) {
             Ok(()) => self.run_row(walk, row),
             Err(Miss::Fault(at, fault)) => {
-                put_faulted(site.id, at, fault, &mut self.bytes)?;
+                put_faulted(site.stage.version, site.id, at, fault, &mut self.bytes)?;
                 Ok(true)
             }
             Err(Miss::Memory) => Err(Stop::Memory),
@@ -83,7 +84,8 @@ impl Run {
     #[cycle(running)]
     #[inline(never)]
     fn run_row(&mut self, walk: &Walk<'_>, row: &Value) -> Result<bool, Stop>
-        ensures turn { RunsBlock (kept_row_run walk.now row.now) self.old result self.new }
+        ensures turn { let version = walk.now.site.stage.now.version in
+            RunsBlock version (kept_row_run walk.now row.now) self.old result self.new }
         ensures closes { UnlessMemory result (λ stopped. self.new.variables ≡ self.old.variables) }
         ensures kept { OnErr result (Keeps self.old.bytes.items self.new.bytes.items) }
     {

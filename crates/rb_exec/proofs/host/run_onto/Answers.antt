@@ -8,7 +8,7 @@ use Rattle.rb_exec.proofs.host.run_onto.Goals as goal
 pub returns-clause-forest : goal.returns-clause-forest
 returns-clause-forest c =
     c.in_default.ensures.forest
-    ∙ ap (λ r. c.args.bytes.now.items ++ forest_bytes r.node)
+    ∙ ap (λ r. c.args.bytes.now.items ++ forest_bytes c.args.version r.node)
     (host_run c.args.host.now c.args.script.now c.args.inputs.now c.host.inside.code c.host.inside.root c.host.inside.server.table c.refuel.new.self (sym c.host.view_is) c.refuel.ensures)
 
 pub returns-clause-table : goal.returns-clause-table

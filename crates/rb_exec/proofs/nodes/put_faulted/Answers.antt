@@ -10,4 +10,4 @@ returns-in_err-put_fault-clause-err c = on_err _ (keeps_after c.args.bytes.now.i
 
 pub returns-clause-ok : goal.returns-clause-ok
 returns-clause-ok c =
-    faulted_bytes (record { step = c.args.step; at = c.args.at; fault = c.args.fault }) c.args.bytes.now.items c.put_number.new.into.items c.put_fault.new.bytes.items c.in_ok-put_number.ensures.ok c.in_ok-put_fault.ensures.ok
+    faulted_bytes c.args.version (record { step = c.args.step; at = c.args.at; fault = c.args.fault }) c.args.bytes.now.items c.put_number.new.into.items c.put_fault.new.bytes.items c.in_ok-put_number.ensures.ok c.in_ok-put_fault.ensures.ok

@@ -167,7 +167,7 @@ run_row-returns-clause-closes t c = unless_closes c.run_block.new.self.variables
 
 pub run_turn-returns-in-Ok-clause-turn : goal.run_turn-returns-in-Ok-clause-turn
 run_turn-returns-in-Ok-clause-turn t c =
-    unless_run c.run_row.result _ _ c.run_row.new.self.server (turn_begins c.args.walk.now.site.id c.args.walk.now.site.at c.args.walk.now.keep c.args.row.now _ c.args.self.now.server
+    unless_run _ c.run_row.result _ _ c.run_row.new.self.server (turn_begins c.args.walk.now.site.id c.args.walk.now.site.at c.args.walk.now.keep c.args.row.now _ c.args.self.now.server
     (begins_so c.args.walk.now.site.at _ _ _ _ c.may_keep.ensures c.at_place.ensures c.in-Ok.is) ∙ kept_first c.args.walk.now.keep c.args.row.now _) c.run_row.ensures.turn
 
 pub run_turn-returns-in_ok-put_faulted-in-Err-Fault-clause-turn : goal.run_turn-returns-in_ok-put_faulted-in-Err-Fault-clause-turn

@@ -37,11 +37,11 @@ abbrev pub decreases-run_row : goal.decreases-run_row
 decreases-run_row l = steps_of l.walk.now.body.now + 3
 
 abbrev pub invariant-run_all-steps : goal.invariant-run_all-steps
-invariant-run_all-steps l = LeadsOn l.stage l.steps (written l.fn.self.bytes.items l.fn.entries) l.fn.self.variables l.fn.self.server l.step-index (written l.self.bytes.items l.entries) l.self.variables l.self.server
+invariant-run_all-steps l = LeadsOn l.stage l.steps (written l.stage.version l.fn.self.bytes.items l.fn.entries) l.fn.self.variables l.fn.self.server l.step-index (written l.stage.version l.self.bytes.items l.entries) l.self.variables l.self.server
 
 abbrev pub invariant-run_turns-rows : goal.invariant-run_turns-rows
 invariant-run_turns-rows l = record {
   variables : l.self.variables ≡ l.fn.self.variables;
-  turns : TurnsSoFar (turns_run l.walk l.rows l.fn.self.variables l.fn.self.server) (written l.fn.self.bytes.items l.fn.begun)
-      (turns_run l.walk (drop l.row-index l.rows) l.fn.self.variables l.self.server) (written l.self.bytes.items l.begun);
+  turns : TurnsSoFar (turns_run l.walk l.rows l.fn.self.variables l.fn.self.server) (written l.walk.site.stage.now.version l.fn.self.bytes.items l.fn.begun)
+      (turns_run l.walk (drop l.row-index l.rows) l.fn.self.variables l.self.server) (written l.walk.site.stage.now.version l.self.bytes.items l.begun);
 }

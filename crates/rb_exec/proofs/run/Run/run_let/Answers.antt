@@ -24,4 +24,4 @@ returns c =
     as_step (λ go. kept_value c.args.site.id c.args.site.at c.args.keep _ _)
     (on_value _ c.value.ensures c.in_ok-value.was
     (on_value _ (on_rule _ _ _ c.may_keep.ensures c.ruled.ensures) c.in_ok-ruled.was
-    (bound_kept c.args.keep c.args.variable c.in_ok-value.value (option_copied c.if_kept.result) c.if_kept.ensures c.in_ok-put_first.ensures.ok c.in_ok-bind.ensures.bound)))
+    (bound_kept c.args.keep c.args.variable c.in_ok-value.value (option_copied c.if_kept-kept.result) c.if_kept-kept.ensures c.in_ok-put_first.ensures.ok c.in_ok-bind.ensures.bound)))
