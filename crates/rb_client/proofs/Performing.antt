@@ -20,7 +20,7 @@ use Rattle.rb_meaning.specs.State as state
 use Rattle.rb_meaning.specs.State.{Event}
 use Rattle.rb_meaning.specs.Unsplit.{batch_at}
 use Rattle.rb_meaning_flow.specs.Outermost.{Outermost}
-use Rattle.rb_meaning_split.specs.Client.{replays, sent_for}
+use Rattle.rb_meaning_split.specs.Client.{replays, sent_version, sent_for}
 use Rattle.rb_meaning_split.specs.Division.{Division, division, mirror_split}
 use Rattle.rb_meaning_split.specs.Replay.{Replayed, ended, replay_all}
 use Rattle.rb_base.specs.Counts.{risen}
@@ -85,7 +85,7 @@ sent_so split d l is = ap (λ x. sent_for x l) is
 -- The exchange of a batch and the reading of its reply: all else stands, but for the count of exchanges.
 pub record Tried {L W : Type 0} (gl : links.Ghosts L) (split : Split) (names : Names) (w : ClientWorld L W) (result : Result Node RunStop) (w' : ClientWorld L W) : Type 0 where
   pub request : List ℕ
-  pub request_so : IsRequestOf request (to_send split names).script (to_send split names).values
+  pub request_so : IsRequestOf sent_version request (to_send split names).script (to_send split names).values
   pub means : Means request (Ok (to_send split names))
   pub trades : Trades gl (mirror_split split).remainder w.exchanges request w.link.now result w'.link.now
   pub same_link : w'.link.ghost_name ≡ w.link.ghost_name
@@ -181,8 +181,9 @@ module _ {L W : Type 0} (gl : links.Ghosts L) (gw : sinks.Ghosts W) (split : Spl
       at = at;
       batch = b;
       stands = stands;
+      version_so = refl;
       script_so = refl;
-      request = subst (λ x. IsRequestOf fetched.request x.script x.values) (sent_so split d l is) fetched.request_so;
+      request = subst (λ x. IsRequestOf x.version fetched.request x.script x.values) (sent_so split d l is) fetched.request_so;
       kind = refl;
       reply = fetched.trades.forest.spells;
       fits_so = subst (λ x. fits n x.remainder [] ≡ Ok tt) is fetched.trades.forest.fits_so;
@@ -319,7 +320,7 @@ stops_so {L = L} {W = W} gl gw split at w w1 l stop x same h = subst (λ y. Answ
           record {
             pairs = sees.done.exchanged.exchanged.pairs;
             request = f.request;
-            request_so = subst (λ x. IsRequestOf f.request x.script x.values) (sent_so split (division o.program b) l is) f.request_so;
+            request_so = subst (λ x. IsRequestOf x.version f.request x.script x.values) (sent_so split (division o.program b) l is) f.request_so;
             pairs_so = f.trades.1.pairs_so ∙ ap (more_pairs (refused_pairs why (pair_of f.request kind bytes))) sees.done.exchanged.exchanged.pairs_so;
             exchanges = sees.done.exchanged.exchanged.exchanges;
           },

@@ -13,6 +13,7 @@ use Rattle.rb_meaning_bytes.specs.formats.Forests.{forest_message}
 use Rattle.rb_meaning_bytes.specs.formats.Messages.{Sent, Refused}
 use Rattle.rb_meaning_bytes.specs.formats.Payloads.{IsForestOf}
 use Rattle.rb_meaning_bytes.specs.formats.ScriptPayloads as script
+use Rattle.rb_meaning_bytes.proofs.formats.ForestVersions.{forest_any}
 use Rattle.rb_meaning.specs.Answers.{Answers, forest_kind, performs, refusal_kind, refuses}
 use Rattle.rb_meaning.specs.Links.{Behind, Pair}
 use Rattle.rb_law_client.specs.Clients.{sent_run}
@@ -106,7 +107,7 @@ MeansOne = (payload : List ℕ) (meant other : Result Sent Refused) → IsBytes 
 -- its node's forest, and the table that it leaves
 record Gave (service : Service) (table : List Object) (x : Sent) (kind : ℕ) (reply : List ℕ) (after : List Object) : Type 0 where
   kind_is : kind ≡ forest_kind
-  spells : IsForestOf reply (sent_run service table x).node
+  spells : IsForestOf x.version reply (sent_run service table x).node
   leaves : after ≡ (sent_run service table x).server.table
 
 gave : MeansOne → (service : Service) (table : List Object) (request : List ℕ) (kind : ℕ) (reply : List ℕ) (after : List Object) → IsBytes request
@@ -115,7 +116,7 @@ gave once service table request _ _ _ bytes (performs y reply m s) x means =
     let same : y ≡ x = cc (once request (Ok y) (Ok x) bytes m means) in
     record {
       kind_is = refl;
-      spells = subst (λ z. IsForestOf reply (sent_run service table z).node) same s;
+      spells = subst (λ z. IsForestOf z.version reply (sent_run service table z).node) same s;
       leaves = ap (λ z. (sent_run service table z).server.table) same;
     }
 gave once service table request _ _ _ bytes (refuses wrong reply m s) x means = let same = once request (Err wrong) (Ok x) bytes m means in absurd (cc (same))
@@ -255,12 +256,16 @@ Trades g remainder done request before (Err stops.WriteFault) after = ⊥
 Trades g remainder done request before (Err stops.Memory) after = Unit {0}
 
 performed_so : (x : Sent) (kind : ℕ) (payload : List ℕ) (n : Node) (a b : Option Behind) → IsAlone payload n → GivesReply a b x kind payload → PerformedAll a b (x ∷ []) (n ∷ [])
-performed_so x kind payload n (Some a) (Some b) is h = (h.0, (is (sent_run a.service a.table x).node h.3, sym h.1))
+performed_so x kind payload n (Some a) (Some b) is h =
+    let node = (sent_run a.service a.table x).node in
+    (h.0, (is node (forest_any x.version payload node h.3), sym h.1))
 performed_so x kind payload n (Some a) None is h = absurd h
 performed_so x kind payload n None b is h = absurd h
 
 misfit_given : (x : Sent) (kind : ℕ) (payload : List ℕ) (remainder : Parts) (a b : Option Behind) → GivesNoNode remainder kind payload → GivesReply a b x kind payload → GivesMisfit a x remainder
-misfit_given x kind payload remainder (Some a) (Some b) none h = λ e. none (sent_run a.service a.table x).node (record { kind_so = h.2; spells = h.3; fits_so = e })
+misfit_given x kind payload remainder (Some a) (Some b) none h = λ e.
+    let node = (sent_run a.service a.table x).node in
+    none node (record { kind_so = h.2; spells = forest_any x.version payload node h.3; fits_so = e })
 misfit_given x kind payload remainder (Some a) None none h = absurd h
 misfit_given x kind payload remainder None b none h = absurd h
 

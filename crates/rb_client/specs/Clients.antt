@@ -15,7 +15,7 @@ use Rattle.rb_meaning.specs.Shown.{line, shown_events}
 use Rattle.rb_meaning.specs.State.{Event}
 use Rattle.rb_meaning.specs.Unsplit.{batch_at}
 use Rattle.rb_meaning_flow.specs.Outermost.{Outermost}
-use Rattle.rb_meaning_split.specs.Client.{Waiting, answers_waiting, input_values, performs_divided, sent_for}
+use Rattle.rb_meaning_split.specs.Client.{Waiting, answers_waiting, input_values, performs_divided, sent_version, sent_for}
 use Rattle.rb_meaning_split.specs.Division.{Division, division, mirror_split}
 use Rattle.rb_base.specs.Sinks.{with_bytes}
 use Rattle.rb_base.specs.declared.links.Link as links
@@ -146,7 +146,7 @@ PerformsSplit {L = L} {W = W} gl gw split at w l e w' = (o : Origin L W) (h : Pa
 -- The exchange of a batch: its request was sent over the same link, and all else stands.
 pub record Fetched {L W : Type 0} (gl : links.Ghosts L) (split : Split) (names : Names) (w : ClientWorld L W) (result : Result Reply RunStop) (w' : ClientWorld L W) : Type 0 where
   pub request : List ℕ
-  pub request_so : IsRequestOf request (mirror_split split).script (input_values split.inputs names)
+  pub request_so : IsRequestOf sent_version request (mirror_split split).script (input_values split.inputs names)
   pub means : Means request (Ok (to_send split names))
   pub replied : Replied gl w.exchanges request w.link.now result w'.link.now
   pub same_link : w'.link.ghost_name ≡ w.link.ghost_name

@@ -9,11 +9,12 @@ use Rattle.rb_trees.specs.mirror.Scripts.{Script, mirror_script}
 use Rattle.rb_meaning_bytes.specs.Fits.{fits}
 use Rattle.rb_meaning_bytes.specs.formats.FormedScripts.{FormedScript, IsWithoutLists}
 use Rattle.rb_meaning_bytes.specs.formats.Messages.{Sent}
-use Rattle.rb_meaning_bytes.specs.formats.Payloads.{IsForestOf, IsRequestOf}
+use Rattle.rb_meaning_bytes.specs.formats.Payloads.{IsForest, IsRequestOf}
 use Rattle.rb_meaning.specs.Answers.{forest_kind}
 use Rattle.rb_meaning.specs.Links.{Pair}
 use Rattle.rb_meaning.specs.Unsplit.{batch_at}
 use Rattle.rb_meaning_flow.specs.Outermost.{Outermost}
+use Rattle.rb_meaning_split.specs.Client.{sent_version}
 use Rattle.rb_meaning_split.specs.Division.{division, divisions, mirror_split}
 use Rattle.rb_client.specs.Replies.{more_pairs}
 
@@ -28,16 +29,17 @@ abbrev pub AllCanBeSent : List Split → Type 0
 AllCanBeSent [] = Unit {0}
 AllCanBeSent (s ∷ ss) = CanBeSent (mirror_script s.script) × AllCanBeSent ss
 
--- The exchange of a batch: the request is its script with these values, and the reply is the forest of this node, which fits
--- its remainder.
+-- The exchange of a batch: the request is its script with these values, in the version in which clients send, and the reply is
+-- the forest of this node, in either version, which fits its remainder.
 pub record IsExchange (p : Program) (pair : Pair) (x : Sent) (n : Node) : Type 0 where
   pub at : ℕ
   pub batch : Outermost
   pub stands : batch_at p at ≡ Some batch
+  pub version_so : x.version ≡ sent_version
   pub script_so : x.script ≡ (division p batch).script
-  pub request : IsRequestOf pair.request x.script x.values
+  pub request : IsRequestOf x.version pair.request x.script x.values
   pub kind : pair.kind ≡ forest_kind
-  pub reply : IsForestOf pair.reply n
+  pub reply : IsForest pair.reply n
   pub fits_so : fits n (division p batch).remainder [] ≡ Ok tt
 
 -- as many pairs as were sent, and as many nodes, each an exchange, in order

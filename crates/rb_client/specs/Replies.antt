@@ -6,7 +6,7 @@ use Rattle.rb_meaning_bytes.specs.Fits.{Unfit, fits}
 use Rattle.rb_meaning_bytes.specs.formats.Formats.{FirstViolation}
 use Rattle.rb_meaning_bytes.specs.formats.Forests.{forest_message}
 use Rattle.rb_meaning_bytes.specs.formats.Messages.{Sent}
-use Rattle.rb_meaning_bytes.specs.formats.Payloads.{IsForestOf, IsRefusalOf}
+use Rattle.rb_meaning_bytes.specs.formats.Payloads as bytes_of
 use Rattle.rb_meaning_bytes.specs.formats.ScriptPayloads.{Means}
 use Rattle.rb_meaning.specs.Answers.{forest_kind, refusal_kind}
 use Rattle.rb_meaning.specs.Links.{Pair, pairs_told}
@@ -24,10 +24,10 @@ use Rattle.rb_client.specs.declared.stops.BadReason.TheVariants as reason
 use Rattle.rb_client.specs.declared.stops.RunStop.{RunStop}
 use Rattle.rb_client.specs.declared.stops.RunStop.TheVariants as stops
 
--- A payload is the forest of a node that fits a remainder; no input of its script is a list.
+-- A payload is the forest of a node, in either version, that fits a remainder; no input of its script is a list.
 pub record IsForest (remainder : Parts) (kind : ℕ) (payload : List ℕ) (n : Node) : Type 0 where
   pub kind_so : kind ≡ forest_kind
-  pub spells : IsForestOf payload n
+  pub spells : bytes_of.IsForest payload n
   pub fits_so : fits n remainder [] ≡ Ok tt
 
 -- A payload is the forest of a node that doesn't fit a remainder, for this cause.
@@ -35,7 +35,7 @@ pub record IsMisfit (remainder : Parts) (kind : ℕ) (payload : List ℕ) (cause
   pub node : Node
   pub why : Unfit
   pub kind_so : kind ≡ forest_kind
-  pub spells : IsForestOf payload node
+  pub spells : bytes_of.IsForest payload node
   pub misfits : fits node remainder [] ≡ Err why
   pub cause_so : cause ≡ Some why
 
@@ -45,12 +45,12 @@ HasReason (reason.Cut got) remainder kind bytes = (kind ≡ 0) × (got ≡ lengt
 HasReason (reason.Frame at) remainder kind bytes = (kind ≡ 0) × BreaksAt at bytes
 HasReason (reason.Forest number at) remainder kind bytes = (kind ≡ forest_kind) × FirstViolation forest_message bytes number at
 HasReason (reason.Misfit misfit) remainder kind bytes = IsMisfit remainder kind bytes (unfit misfit)
-HasReason (reason.Refused number at) remainder kind bytes = (kind ≡ refusal_kind) × IsRefusalOf bytes number at
-HasReason reason.Garbled remainder kind bytes = (kind ≡ refusal_kind) × ((number at : ℕ) → IsRefusalOf bytes number at → ⊥)
+HasReason (reason.Refused number at) remainder kind bytes = (kind ≡ refusal_kind) × bytes_of.IsRefusal bytes number at
+HasReason reason.Garbled remainder kind bytes = (kind ≡ refusal_kind) × ((number at : ℕ) → bytes_of.IsRefusal bytes number at → ⊥)
 
 -- No other node has this forest.
 abbrev pub IsAlone : List ℕ → Node → Type 0
-IsAlone payload n = (other : Node) → IsForestOf payload other → other ≡ n
+IsAlone payload n = (other : Node) → bytes_of.IsForest payload other → other ≡ n
 
 -- A reply is no forest of a node that fits a remainder.
 abbrev pub GivesNoNode : Parts → ℕ → List ℕ → Type 0

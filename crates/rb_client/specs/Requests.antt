@@ -6,13 +6,13 @@ use Rattle.rb_meaning_bytes.specs.formats.Messages.{Sent}
 use Rattle.rb_meaning_bytes.specs.formats.Payloads.{IsRequestOf}
 use Rattle.rb_meaning_code.specs.State.{Names}
 use Rattle.rb_meaning.specs.Answers.{longest_request}
-use Rattle.rb_meaning_split.specs.Client.{input_values}
+use Rattle.rb_meaning_split.specs.Client.{input_values, sent_version}
 
 -- a batch's script and the values of its inputs, as they are sent
 abbrev pub to_send : Split → Names → Sent
-to_send split names = record { script = (mirror_split split).script; values = input_values split.inputs names }
+to_send split names = record { version = sent_version; script = (mirror_split split).script; values = input_values split.inputs names }
 
 -- The bytes are the request of that, and short enough.
 pub record IsRequest (split : Split) (names : Names) (bytes : List ℕ) : Type 0 where
-  pub spells : IsRequestOf bytes (mirror_split split).script (input_values split.inputs names)
+  pub spells : IsRequestOf sent_version bytes (mirror_split split).script (input_values split.inputs names)
   pub short : length bytes ≤ longest_request

@@ -117,7 +117,7 @@ CutInWriting p fuel before after = CutAtLine p fuel before after ⊎ CutInBatch 
 pub record ExchangedBut (p : Program) (before after : Option (List Pair)) (sent : List Sent) (nodes : List Node) (asked : Sent) (why : BadReason) (kind : ℕ) (bytes : List ℕ) : Type 0 where
   pub pairs : List Pair
   pub request : List ℕ
-  pub request_so : IsRequestOf request asked.script asked.values
+  pub request_so : IsRequestOf asked.version request asked.script asked.values
   pub pairs_so : after ≡ more_pairs (refused_pairs why (pair_of request kind bytes)) (more_pairs pairs before)
   pub exchanges : Exchanges p pairs sent nodes
 

@@ -41,7 +41,7 @@ MayPerform _ _ x = ⊥
 -- The server performed a script that was sent with its values, and replied with the forest of its node.
 abbrev pub GivesReply : Option Behind → Option Behind → Sent → ℕ → List ℕ → Type 0
 GivesReply (Some before) (Some after) x kind payload =
-    (after.service ≡ before.service) × (after.table ≡ (sent_run before.service before.table x).server.table) × (kind ≡ forest_kind) × IsForestOf payload (sent_run before.service before.table x).node
+    (after.service ≡ before.service) × (after.table ≡ (sent_run before.service before.table x).server.table) × (kind ≡ forest_kind) × IsForestOf x.version payload (sent_run before.service before.table x).node
 GivesReply _ _ x kind payload = ⊥
 
 -- The node that a script gives on the server, with the values that were sent, doesn't fit a remainder.

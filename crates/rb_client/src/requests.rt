@@ -13,10 +13,13 @@ ghost use Rattle.rb_client.specs.Requests.{IsRequest};
 use bytes::BytesMut;
 use rb_engine::Frame;
 use rb_trees::limits::LONGEST_TEXT;
-use rb_trees::{Memory, Seq, Split, Value, Word, copy_value};
+use rb_trees::{Memory, Seq, Split, Value, Version, Word, copy_value};
 use rb_wire_script::encode_script;
 use std::alloc::Global;
 use std::str;
+
+/// The version in which requests are sent: `sent_version`.
+const SENT: Version = Version::One;
 
 /// The greatest number of bytes of a request: `longest_request`.
 const LONGEST_REQUEST: usize = 16_777_216;
@@ -99,7 +102,7 @@ pub fn request_of(alloc: Global, split: &Split, frame: &Frame) -> Result<BytesMu
         return Err(Memory);
     }
     let mut request = BytesMut::new(alloc);
-    encode_script(&split.script, values.as_slice(), &mut request)?;
+    encode_script(SENT, &split.script, values.as_slice(), &mut request)?;
     if request.len() > LONGEST_REQUEST {
         return Err(Memory);
     }

@@ -19,7 +19,7 @@ use Rattle.rb_meaning.specs.Links.{IsTyped}
 use Rattle.rb_meaning.specs.Meaning.{at_start, in_main, meaning, outside_of, runs_main}
 use Rattle.rb_meaning.specs.State.{Event, Outside}
 use Rattle.rb_meaning.specs.Unsplit.{batch_at}
-use Rattle.rb_meaning_split.specs.Client.{Waiting, fits_batch, in_client, sent_for}
+use Rattle.rb_meaning_split.specs.Client.{Waiting, fits_batch, in_client, sent_version, sent_for}
 use Rattle.rb_meaning_split.specs.Division.{Division, division, divisions}
 use Rattle.rb_law_division.specs.Fitting.{node_of}
 use Rattle.rb_law_division.specs.Sendable.{HasPlaces}
@@ -76,7 +76,7 @@ pub record CanBeExchanged (p : Program) (service : Service) (at : ℕ) (l : Loca
   pub batch : Outermost
   pub stands : batch_at p at ≡ Some batch
   pub inputs : AreInputs (division p batch).script (sent_for (division p batch) l).values
-  pub request : length (script_bytes (division p batch).script (sent_for (division p batch) l).values) ≤ longest_request
+  pub request : length (script_bytes sent_version (division p batch).script (sent_for (division p batch) l).values) ≤ longest_request
   pub fits_so : fits_batch (division p batch) l (node_of p batch service s.server.table l) ≡ Ok tt
   pub keeps : KeepsMeaning p service batch l s
 

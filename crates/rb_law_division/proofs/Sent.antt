@@ -6,11 +6,12 @@ use Rattle.rb_trees.specs.Validity.{first}
 use Rattle.rb_trees.specs.declared.refusals.Refusal.TheVariants.{TooManyInputs, ScriptTooLarge}
 use Rattle.rb_trees.specs.declared.values.Value.{Value, out-Value}
 use Rattle.rb_trees.specs.declared.values.Value.TheOpen.{Value-F}
+use Rattle.rb_trees.specs.declared.versions.Version.TheVariants.{One}
 use Rattle.rb_trees.specs.mirror.Declarations.{Program}
 use Rattle.rb_trees.specs.mirror.Scripts.{Script, Steps}
 use Rattle.rb_meaning_bytes.specs.formats.Fields.{number, wide_number}
 use Rattle.rb_meaning_bytes.specs.formats.FormedScripts.{primitive_form, ArePrimitive, HaveNoOver, IsWithoutLists, AreInputs}
-use Rattle.rb_meaning_bytes.specs.formats.ScriptBytes.{value_form, value_bytes, values_bytes, block_bytes, script_bytes}
+use Rattle.rb_meaning_bytes.specs.formats.ScriptBytes.{input_form, input_bytes, inputs_bytes, block_bytes, script_bytes}
 use Rattle.rb_meaning_bytes.proofs.formats.Inputs.{inputs_primitive, no_list_numbers}
 use Rattle.rb_meaning_flow.specs.Outermost.{Outermost}
 use Rattle.rb_meaning.specs.Answers.{longest_request}
@@ -24,7 +25,7 @@ use Rattle.rb_law_division.proofs.Formed.{AreFormed, stmts_formed}
 
 -- ---- requests
 
-value_short : (v : Value-F Value) → primitive_form v → length (value_form v) ≤ 4101
+value_short : (v : Value-F Value) → primitive_form v → length (input_form One [] v) ≤ 4101
 unfolding number wide_number
 value_short (Value-F.Int n) h = omega arith
 value_short (Value-F.Bool true) h = omega arith
@@ -36,22 +37,22 @@ value_short (Value-F.Remote object) h = absurd h
 value_short (Value-F.List items) h = absurd h
 value_short (Value-F.Rows rows) h = absurd h
 
-values_short : (vs : List Value) → ArePrimitive vs → length (values_bytes vs) ≤ 4101 * length vs
+values_short : (vs : List Value) → ArePrimitive vs → length (inputs_bytes One [] vs) ≤ 4101 * length vs
 values_short [] h = omega arith
-values_short (v ∷ vs) h = omega (arith, length-append (value_bytes v) (values_bytes vs), value_short (out-Value v) h.0, values_short vs h.1)
+values_short (v ∷ vs) h = omega (arith, length-append (input_bytes One [] v) (inputs_bytes One [] vs), value_short (out-Value v) h.0, values_short vs h.1)
 
 -- the code of a script without Over has as many bytes as its size says
 abbrev pub CodeHasSize : Type 0
-CodeHasSize = (code : Steps) → HaveNoOver code → length (block_bytes code) ≡ block_size code
+CodeHasSize = (code : Steps) → HaveNoOver code → length (block_bytes One [] code) ≡ block_size code
 
 -- a number within the greatest that counts is itself
 capped_low : (n : ℕ) → capped n ≤ longest_code → n ≤ longest_code
 capped_low n h = omega arith
 
-request_short : CodeHasSize → (s : Script) → IsWithoutLists s → s.inputs < 256 → code_size_of s ≤ longest_code → (vs : List Value) → AreInputs s vs → length (script_bytes s vs) ≤ longest_request
+request_short : CodeHasSize → (s : Script) → IsWithoutLists s → s.inputs < 256 → code_size_of s ≤ longest_code → (vs : List Value) → AreInputs s vs → length (script_bytes One s vs) ≤ longest_request
 request_short law s plain i c vs h =
     let size = capped_low (block_size s.body) c in
-    omega (arith, length-append (values_bytes vs) (block_bytes s.body), law s.body plain.steps, values_short vs (inputs_primitive s vs plain.lists h), h.count, size, i)
+    omega (arith, length-append (inputs_bytes One [] vs) (block_bytes One [] s.body), law s.body plain.steps, values_short vs (inputs_primitive s vs plain.lists h), h.count, size, i)
 
 -- ---- what is divided
 

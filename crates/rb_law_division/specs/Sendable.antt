@@ -4,6 +4,7 @@ use Rattle.std.specs.List.{AllByRecursion, Contains}
 use Rattle.rb_trees.specs.CodeSize.{code_size_of}
 use Rattle.rb_trees.specs.Validity.{verdict}
 use Rattle.rb_trees.specs.declared.values.Value.{Value}
+use Rattle.rb_trees.specs.declared.versions.Version.TheVariants.{One}
 use Rattle.rb_trees.specs.mirror.Declarations.{Program}
 use Rattle.rb_trees.specs.mirror.Scripts.{Script}
 use Rattle.rb_meaning_bytes.specs.formats.FormedScripts.{FormedScript, IsWithoutLists, AreInputs}
@@ -19,13 +20,14 @@ use Rattle.rb_meaning_split.specs.Division.{Division, divided, longest_code}
 abbrev pub HasPlaces : Program → Type 0
 HasPlaces p = AllByRecursion IsPlace (classes_positions p.classes ++ body_positions p.body)
 
--- A script that can be sent: it is formed and valid, version 1 can spell it, its code is short enough, and so is a request of it.
+-- A script that can be sent: it is formed and valid, version 1 can spell it, its code is short enough, and so is a request of it
+-- in that version.
 pub record CanBeSent (s : Script) : Type 0 where
   pub formed : FormedScript s
   pub plain : IsWithoutLists s
   pub valid : verdict s ≡ Ok tt
   pub code : code_size_of s ≤ longest_code
-  pub request : (values : List Value) → AreInputs s values → length (script_bytes s values) ≤ longest_request
+  pub request : (values : List Value) → AreInputs s values → length (script_bytes One s values) ≤ longest_request
 
 -- The script of each batch of a lawful program that is divided can be sent.
 abbrev pub DividedCanBeSent : Type 0

@@ -25,11 +25,12 @@ abbrev pub performed : Service → List Object → Sent → Ran
 performed service table x = run_script x.script x.values service.classes service.root table
 
 -- A payload that means a script is performed: the reply is the forest of its node, and the table is what it leaves. Any
--- other payload is refused, with the number and the place of what is wrong, and the table stays.
+-- other payload is refused, with the number and the place of what is wrong, and the table stays. Both are in the payload's
+-- version.
 pub data Answers (service : Service) (table : List Object) (payload : List ℕ) : ℕ → List ℕ → List Object → Type 0 where
-  performs : (x : Sent) (reply : List ℕ) → Means payload (Ok x) → IsForestOf reply (performed service table x).node
+  performs : (x : Sent) (reply : List ℕ) → Means payload (Ok x) → IsForestOf x.version reply (performed service table x).node
       → Answers service table payload forest_kind reply (performed service table x).server.table
-  refuses : (wrong : Refused) (reply : List ℕ) → Means payload (Err wrong) → IsRefusalOf reply wrong.number wrong.at
+  refuses : (wrong : Refused) (reply : List ℕ) → Means payload (Err wrong) → IsRefusalOf wrong.version reply wrong.number wrong.at
       → Answers service table payload refusal_kind reply table
 
 -- Two answers to one payload are the same.

@@ -4,6 +4,8 @@ use Rattle.std.specs.Prelude.{ℕ, List, [], ◌∷◌, ◌++◌, length, Option
 use Rattle.rb_trees.specs.Named.{lookup}
 use Rattle.rb_trees.specs.declared.values.Value.{Value}
 use Rattle.rb_trees.specs.declared.values.Value.TheVariants as value
+use Rattle.rb_trees.specs.declared.versions.Version.{Version}
+use Rattle.rb_trees.specs.declared.versions.Version.TheVariants.{One}
 use Rattle.rb_trees.specs.declared.outcomes.Raised.{Raised}
 use Rattle.rb_trees.specs.declared.outcomes.Ending as ending
 use Rattle.rb_trees.specs.mirror.Declarations.{Program}
@@ -61,9 +63,13 @@ answers_waiting s question = (local_answer question, s)
 abbrev pub with_replayed : Replayed → Waiting → Outcome (Unit {0}) × Waiting
 with_replayed r s = (r.outcome, record s { events = r.events })
 
+-- the version in which the client sends
+abbrev pub sent_version : Version
+sent_version = One
+
 -- what is sent for a batch, from the names of its start
 abbrev pub sent_for : Division → Local → Sent
-sent_for d l = record { script = d.script; values = input_values d.inputs l.names }
+sent_for d l = record { version = sent_version; script = d.script; values = input_values d.inputs l.names }
 
 -- A batch begins: its event, and its script is sent.
 abbrev pub begins : Division → Local → Waiting → Waiting

@@ -1,8 +1,8 @@
 -- A valid script that was sent has literals within their limits, numbers of 32 bits, and no list as the input of an expression; and
 -- the values of its inputs are of their forms.
-use Rattle.std.proofs.Common.{◌≡◌, refl, subst, arith, ℕ, zero, suc, ◌+◌, ◌≤◌, Bool, true, false, List, [], ◌∷◌, ◌++◌, length, Some, slice_get, Ok}
+use Rattle.std.proofs.Common.{◌≡◌, refl, subst, arith, ℕ, zero, suc, ◌+◌, ◌≤◌, Bool, true, false, List, [], ◌∷◌, ◌++◌, Some, slice_get, Ok}
 use Rattle.std.proofs.lemmas.List.Elements.{All-from_recursion}
-use Rattle.std.specs.List.{All, AllByRecursion}
+use Rattle.std.specs.List.{AllByRecursion}
 use Rattle.rb_trees.specs.declared.values.Value.{Value, out-Value}
 use Rattle.rb_trees.specs.declared.values.Value.TheOpen.{Value-F}
 use Rattle.rb_trees.specs.declared.validity.ScriptRefusal.{ScriptRefusal}
@@ -11,7 +11,8 @@ use Rattle.rb_trees.specs.mirror.Scripts as script
 use Rattle.rb_trees.specs.mirror.Scripts.{SExpr, SExprs, Step, Steps, Script}
 use Rattle.rb_trees.specs.Validity.{Inputs, inputs_of, has, when, first, repeated, nested_exprs, nested_blocks, unknown_input, input_refusals, list_refusals, expr_refusals, exprs_refusals, whole_refusals, step_numbers, steps_numbers, step_lets, step_refusals, steps_refusals, verdict}
 use Rattle.rb_meaning_bytes.specs.formats.FormedScripts as formed
-use Rattle.rb_meaning_bytes.specs.formats.FormedScripts.{ArePrimitive, FormedExpr, FormedExprs, FormedStep, FormedSteps, form_items, count_items}
+use Rattle.rb_meaning_bytes.specs.formats.FormedScripts.{ArePrimitive, FormedExpr, FormedExprs, FormedStep, FormedSteps}
+use Rattle.rb_meaning_bytes.specs.formats.Items.{form_items, count_items}
 use Rattle.rb_law_types.specs.Kept.{IsPrimitive}
 use Rattle.rb_law_types.specs.Scripts as given
 use Rattle.rb_law_types.specs.Scripts.{IsBoundedSExpr, AreBoundedSExprs, IsBoundedStep, AreBoundedSteps}

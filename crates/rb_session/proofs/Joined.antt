@@ -1,20 +1,14 @@
 -- What was appended is the server's reply.
 use Rattle.std.proofs.Common.{◌≡◌, sym, ap, ◌∙◌, subst, ℕ, List, ◌++◌}
 use Rattle.std.specs.Prelude.{Option, None, Some}
-use Rattle.rb_trees.specs.declared.values.Value.{Value}
-use Rattle.rb_trees.specs.declared.scripts.Script.{Script}
 use Rattle.rb_trees.specs.mirror.Services.{mirror_service}
 use Rattle.rb_meaning.specs.Answers.{forest_kind, refusal_kind, Answers, performs, refuses}
 use Rattle.rb_exec.specs.Hosted.{Hosted}
 use Rattle.rb_session.specs.Answering.{Performs, Replies}
-use Rattle.rb_session.specs.Readings.{sent_of, Reads}
-
--- a script of the code with its values
-abbrev Readable : Type 0
-Readable = Script × List Value
+use Rattle.rb_session.specs.Readings.{Request, sent_of, Reads}
 
 -- of a script that was performed
-pub performed_replies : (before after : Hosted) (payload : List ℕ) (r : Option Readable) (ready : Readable) (old mid new : List ℕ) → r ≡ Some ready → Reads payload r old mid
+pub performed_replies : (before after : Hosted) (payload : List ℕ) (r : Option Request) (ready : Request) (old mid new : List ℕ) → r ≡ Some ready → Reads payload r old mid
     → Performs before after (sent_of ready) mid new → Replies before after payload old new forest_kind
 performed_replies before after payload r ready old mid new is read done =
     let bytes = done.gains.bytes in
@@ -26,7 +20,7 @@ performed_replies before after payload r ready old mid new is read done =
     }
 
 -- of any other payload, where the host stays
-pub refused_replies : (host : Hosted) (payload : List ℕ) (r : Option Readable) (old new : List ℕ) → r ≡ None → Reads payload r old new → Replies host host payload old new refusal_kind
+pub refused_replies : (host : Hosted) (payload : List ℕ) (r : Option Request) (old new : List ℕ) → r ≡ None → Reads payload r old new → Replies host host payload old new refusal_kind
 refused_replies host payload r old new is read =
     let was : Reads payload None old new = subst (λ x. Reads payload x old new) is read in
     let bytes = was.2.bytes in

@@ -4,7 +4,6 @@ use Rattle.std.proofs.Common.{◌≡◌, refl, ap, ℕ, zero, suc, ◌+◌, ◌<
 use Rattle.std.proofs.lemmas.Bool.Decides.{nat_tests}
 use Rattle.std.proofs.lemmas.Str.{IsUtf8-from_is_utf8, is_utf8-from_IsUtf8}
 use Rattle.std.specs.Prelude.{Bool, true, false, nat_eq, Option, None, Some, ◌⊎◌}
-use Rattle.rb_trees.specs.CodeSize.{step_size, steps_size}
 use Rattle.rb_trees.specs.declared.values.Value.{Value, out-Value}
 use Rattle.rb_trees.specs.declared.values.Value.TheOpen.{Value-F}
 use Rattle.rb_trees.specs.declared.forests.NodeFault.{NodeFault}
@@ -15,7 +14,7 @@ use Rattle.rb_trees.specs.mirror.Forests.{Node, Nodes, Entry, Entries}
 use Rattle.rb_meaning_types.specs.Values.{IsText}
 use Rattle.rb_meaning_bytes.specs.formats.Fields.{Text, Fits}
 use Rattle.rb_meaning_bytes.specs.formats.Forests.{is_fault_code, thrown}
-use Rattle.rb_meaning_bytes.specs.formats.ScriptBytes.{count_steps}
+use Rattle.rb_meaning_bytes.specs.formats.ScriptBytes.{count_steps, step_weight, steps_weight}
 use Rattle.rb_meaning_bytes.specs.formats.FormedScripts as formed
 use Rattle.rb_meaning_bytes.specs.formats.FormedScripts.{StepWithin, StepsWithin}
 use Rattle.rb_meaning_bytes.specs.formats.ForestBytes.{count_entries, count_nodes, formed_text, FormedEnd, FormedNode, FormedNodes, FormedEntry, FormedEntries}
@@ -118,24 +117,24 @@ turns_formed n m P small good (forest.Branch taken node) h = absurd h
 turns_formed n m P small good (forest.Rows nodes) h =
     let same = same_count nodes in let few = h.0 in (omega arith, nodes_formed n m P small good nodes h.1)
 
--- the greatest number of bytes of a script
+-- the greatest number of steps of a script
 abbrev pub most : ℕ
 most = 16777216
 
-step_has_bytes : (s : Step) → 1 ≤ step_size s
-step_has_bytes (script.Do id at e) = omega arith
-step_has_bytes (script.Keep id at e) = omega arith
-step_has_bytes (script.Let id at var keep e) = omega arith
-step_has_bytes (script.If id at e a b) = omega arith
-step_has_bytes (script.Each id at var keep e a) = omega arith
-step_has_bytes (script.Over id at var input a) = omega arith
+step_counts : (s : Step) → 1 ≤ step_weight s
+step_counts (script.Do id at e) = omega arith
+step_counts (script.Keep id at e) = omega arith
+step_counts (script.Let id at var keep e) = omega arith
+step_counts (script.If id at e a b) = omega arith
+step_counts (script.Each id at var keep e a) = omega arith
+step_counts (script.Over id at var input a) = omega arith
 
-few_steps : (ss : Steps) → count_steps ss ≤ steps_size ss
+few_steps : (ss : Steps) → count_steps ss ≤ steps_weight ss
 few_steps script.NoSteps = omega arith
-few_steps (script.MoreSteps s ss) = let more = few_steps ss in let one = step_has_bytes s in omega arith
+few_steps (script.MoreSteps s ss) = let more = few_steps ss in let one = step_counts s in omega arith
 
 mutual
-  step_good : (n : ℕ) (s : Step) → StepWithin n s → step_size s ≤ most → (m : ℕ) (P : Entries → Type 0) → AllGood n m P → AllGood n (suc m) (StepGives s P)
+  step_good : (n : ℕ) (s : Step) → StepWithin n s → step_weight s ≤ most → (m : ℕ) (P : Entries → Type 0) → AllGood n m P → AllGood n (suc m) (StepGives s P)
   step_good n (script.Do id at e) within small m P good = more_good n m (suc m) P (omega arith) good
   step_good n (script.Keep id at e) within small m P good = then_good n m IsKept P (kept_formed n) good
   step_good n (script.Let id at var keep e) within small m P good = first_good keep n m P good
@@ -158,14 +157,14 @@ mutual
       then_good (suc n) m _ P
       (turns_formed n (count_steps a + 0) (λ xs. StepsGive a AreNone xs) (omega arith) (steps_good n a within (omega arith) 0 AreNone (none_good n))) good
 
-  pub steps_good : (n : ℕ) (ss : Steps) → StepsWithin n ss → steps_size ss ≤ most → (m : ℕ) (P : Entries → Type 0) → AllGood n m P → AllGood n (count_steps ss + m) (StepsGive ss P)
+  pub steps_good : (n : ℕ) (ss : Steps) → StepsWithin n ss → steps_weight ss ≤ most → (m : ℕ) (P : Entries → Type 0) → AllGood n m P → AllGood n (count_steps ss + m) (StepsGive ss P)
   steps_good n script.NoSteps within small m P good = more_good n m (0 + m) P (omega arith) good
   steps_good n (script.MoreSteps s ss) within small m P good =
       more_good n (suc (count_steps ss + m)) (suc (count_steps ss) + m) _ (omega arith)
       (step_good n s within.0 (omega arith) (count_steps ss + m) (λ xs. StepsGive ss P xs) (steps_good n ss within.1 (omega arith) m P good))
 
 -- the node of a script
-pub root_formed : (ss : Steps) → StepsWithin 63 ss → steps_size ss ≤ most → (node : Node) → IsNode (λ es. StepsGive ss AreNone es) node → FormedNode 64 node
+pub root_formed : (ss : Steps) → StepsWithin 63 ss → steps_weight ss ≤ most → (node : Node) → IsNode (λ es. StepsGive ss AreNone es) node → FormedNode 64 node
 root_formed ss within small node h =
     let few = few_steps ss in
     node_formed 63 (count_steps ss + 0) (λ es. StepsGive ss AreNone es) (omega arith) (steps_good 63 ss within small 0 AreNone (none_good 63)) node h

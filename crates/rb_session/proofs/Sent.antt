@@ -1,11 +1,11 @@
 -- What a script that was sent gives on a typed host: its node has a spelling, and the host stays typed.
-use Rattle.std.proofs.Common.{◌≡◌, ap, sym, ◌∙◌, subst, arith, ℕ, List, ◌++◌}
+use Rattle.std.proofs.Common.{◌≡◌, ap, sym, ◌∙◌, subst, ℕ, List, ◌++◌}
 use Rattle.rb_trees.specs.declared.values.Value.{Value}
-use Rattle.rb_trees.specs.declared.scripts.Script.{Script}
+use Rattle.rb_trees.specs.declared.versions.Version.{Version}
 use Rattle.rb_trees.specs.mirror.Forests.{Node}
 use Rattle.rb_trees.specs.mirror.Services.{mirror_service}
 use Rattle.rb_meaning_bytes.specs.formats.FormedScripts.{IsWithinLimits, StepsWithin}
-use Rattle.rb_meaning_bytes.specs.formats.Forests.{forest_message}
+use Rattle.rb_meaning_bytes.specs.formats.Forests.{forest_of}
 use Rattle.rb_meaning_bytes.specs.formats.ForestBytes.{forest_bytes, FormedForest, FormedNode}
 use Rattle.rb_meaning_bytes.specs.formats.Laws.{IsSpelling}
 use Rattle.rb_meaning_bytes.specs.formats.Messages.{Sent}
@@ -16,7 +16,7 @@ use Rattle.rb_exec.specs.Hosted.{Hosted}
 use Rattle.rb_exec.specs.Hosts.{script_run}
 use Rattle.rb_wire_forest.specs.Buffers.{Appends}
 use Rattle.rb_session.specs.Answering.{IsTypedHost, Performs, performed_on}
-use Rattle.rb_session.specs.Readings.{IsSent, sent_of}
+use Rattle.rb_session.specs.Readings.{Request, IsSent, sent_of}
 use Rattle.rb_session.proofs.Nodes.{root_formed}
 use Rattle.rb_session.proofs.Bounded.{script_bounded, inputs_fit}
 
@@ -39,15 +39,14 @@ gives law formed host x typed sent =
 pub node_spelled : ScriptsKeep → LawfulClassesAreFormed → (host : Hosted) (x : Sent) → IsTypedHost host → IsSent x → FormedForest (performed_on host x).node
 node_spelled law formed host x typed sent =
     let ran = gives law formed host x typed sent in
-    let size = sent.size in
-    as_forest (performed_on host x).node (root_formed x.script.body (limits_within x sent.formed.within) (omega arith) (performed_on host x).node ran.node)
+    as_forest (performed_on host x).node (root_formed x.script.body (limits_within x sent.formed.within) sent.few (performed_on host x).node ran.node)
 
 -- its forest, where its bytes were appended
-pub node_appended : ScriptsKeep → LawfulClassesAreFormed → IsSpelling forest_message forest_bytes FormedForest → (host : Hosted) (x : Sent) (old new : List ℕ) → IsTypedHost host → IsSent x
-    → new ≡ old ++ forest_bytes (performed_on host x).node → Appends (λ bytes. IsForestOf bytes (performed_on host x).node) old new
+pub node_appended : ScriptsKeep → LawfulClassesAreFormed → ((version : Version) → IsSpelling (forest_of version) (forest_bytes version) FormedForest) → (host : Hosted) (x : Sent) (old new : List ℕ) → IsTypedHost host → IsSent x
+    → new ≡ old ++ forest_bytes x.version (performed_on host x).node → Appends (λ bytes. IsForestOf x.version bytes (performed_on host x).node) old new
 node_appended law formed spelling host x old new typed sent is = record {
-  bytes = forest_bytes (performed_on host x).node;
-  is_so = spelling.spelled (performed_on host x).node (node_spelled law formed host x typed sent);
+  bytes = forest_bytes x.version (performed_on host x).node;
+  is_so = (spelling x.version).spelled (performed_on host x).node (node_spelled law formed host x typed sent);
   is = is;
 }
 
@@ -60,10 +59,9 @@ stays_typed law formed host after x typed sent same is =
     subst IsTypedHost (sym moved) (record { lawful = typed.lawful; typed = typed.typed; fits = ran.table.fits })
 
 -- the values of its inputs as they are lent
-pub as_lent : (host : Hosted) (script : Script) (inputs lent : List Value) → lent ≡ inputs → script_run host script lent ≡ performed_on host (sent_of (script, inputs))
-as_lent host script inputs lent same = ap (script_run host script) same
+pub as_lent : (host : Hosted) (r : Request) (lent : List Value) → lent ≡ r.inputs → script_run host r.script lent ≡ performed_on host (sent_of r)
+as_lent host r lent same = ap (script_run host r.script) same
 
 -- what was performed, as it is seen
-pub performs_so : (before after : Hosted) (script : Script) (inputs : List Value) (p : Script × List Value) (old new : List ℕ) → (script, inputs) ≡ p
-    → Performs before after (sent_of (script, inputs)) old new → Performs before after (sent_of p) old new
-performs_so before after script inputs p old new e d = subst (λ q. Performs before after (sent_of q) old new) e d
+pub performs_so : (before after : Hosted) (r s : Request) (old new : List ℕ) → r ≡ s → Performs before after (sent_of r) old new → Performs before after (sent_of s) old new
+performs_so before after r s old new e d = subst (λ q. Performs before after (sent_of q) old new) e d

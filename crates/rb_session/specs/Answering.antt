@@ -28,7 +28,7 @@ performed_on h x = performed (mirror_service h.service) h.table x
 
 -- A script with its values was performed, and the buffer has gained the forest of its node.
 pub record Performs (before after : Hosted) (x : Sent) (old new : List ℕ) : Type 0 where
-  pub gains : Appends (λ bytes. IsForestOf bytes (performed_on before x).node) old new
+  pub gains : Appends (λ bytes. IsForestOf x.version bytes (performed_on before x).node) old new
   pub table : after.table ≡ (performed_on before x).server.table
 
 -- The buffer has gained the reply to the payload, which is of this kind, and the host has the table that the answer leaves.

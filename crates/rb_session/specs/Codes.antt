@@ -1,8 +1,14 @@
--- The code of what a link in memory is seen as.
+-- The codes of what a request that was read and what a link in memory are seen as.
 use Rattle.std.specs.Prelude.{ℕ, Bool, List}
 use Rattle.std.specs.Coded.{Coded, code_by, coded×, coded_list, coded_ℕ, coded_bool}
 use mathlib.Core.Path.{refl}
+use Rattle.rb_trees.specs.contracts.scripts.Script as script_code
 use Rattle.rb_trees.specs.contracts.services.Object as object_code
+use Rattle.rb_trees.specs.contracts.values.Value as value_code
+use Rattle.rb_trees.specs.contracts.versions.Version as version_code
+use Rattle.rb_trees.specs.declared.scripts.Script.{Script}
+use Rattle.rb_trees.specs.declared.values.Value.{Value}
+use Rattle.rb_trees.specs.declared.versions.Version.{Version}
 use Rattle.rb_trees.specs.declared.services.Object.{Object}
 use Rattle.rb_meaning.specs.Links.{Pair}
 use Rattle.rb_exec.specs.Hosted.{Hosted}
@@ -10,6 +16,12 @@ use Rattle.rb_exec.specs.Codes.{host_code}
 use Rattle.rb_session.specs.MemoryLinks.{LinkInMemory}
 use Rattle.rb_session.specs.FailingLinks.{FailingInMemory}
 use Rattle.rb_session.specs.FrameLinks.{LinkOverEnds}
+use Rattle.rb_session.specs.Readings.{Request}
+
+abbrev pub request_code : Coded Request
+request_code =
+    code_by (Version × (Script × List Value)) (coded× version_code.the_row.coded (coded× script_code.the_row.coded (coded_list value_code.the_row.coded)))
+    (λ r. (r.version, (r.script, r.inputs))) (λ q. record { version = q.0; script = q.1.0; inputs = q.1.1 }) (λ _. refl)
 
 abbrev pub pair_code : Coded Pair
 pair_code =

@@ -38,7 +38,8 @@ pub fn perform(
     scripts_keep_tables();
     lawful_code_is_formed();
     each_forest_has_one_spelling();
-    run_onto(alloc, host, &ready.script, ready.inputs.as_slice(), reply)?;
+    let inputs = ready.inputs.as_slice();
+    run_onto(alloc, host, &ready.script, inputs, ready.version, reply)?;
     Ok(())
 }
 

@@ -12,8 +12,8 @@ ghost use Rattle.rb_split.specs.Views.{all_in_script, in_script, ref_of};
 use crate::refs::Referent;
 use crate::terms::Terms;
 use rb_trees::{
-    BinOp, Boxed, Expr, ExprForm, Invocation, Memory, Operands, SExpr, Seq, Shared, UnOp, Word, copy_value,
-    copy_word,
+    BinOp, Boxed, Expr, ExprForm, Invocation, Memory, Operands, SExpr, Seq, Shared, UnOp, Word,
+    copy_value, copy_word,
 };
 use std::alloc::Global;
 
