@@ -6,7 +6,7 @@ use crate::totals::Totals;
 use rb_code::classes_differ;
 use rb_exec::{Host, run_into};
 use rb_store::read_service;
-use rb_trees::{Memory, Seq, StoreError, Value};
+use rb_trees::{Memory, Seq, StoreError, Value, Version};
 use rb_wire_forest::{ForestStop, decode_forest};
 use std::alloc::Global;
 use thiserror::Error;
@@ -56,6 +56,7 @@ pub fn totals_of(alloc: Global, files: u32, rounds: u32) -> Result<Totals, Troub
         &mut host,
         &script,
         &[Value::Int(GROWTH)],
+        Version::One,
         &mut forest,
     )?;
     match decode_forest(alloc, forest.as_slice()) {

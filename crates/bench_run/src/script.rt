@@ -1,7 +1,8 @@
 // The script: a loop over the files of the root, in whose body ten steps stand again and again.
 
 use rb_trees::{
-    BinOp, Boxed, Invocation, Memory, Operands, SExpr, Script, Seq, Shared, Step, StepForm, UnOp, Value,
+    BinOp, Boxed, Invocation, Memory, Operands, SExpr, Script, Seq, Shared, Step, StepForm, UnOp,
+    Value,
 };
 use std::alloc::Global;
 

@@ -1,4 +1,5 @@
-//! Reads a thousand random scripts, each of them also with a byte changed, with one taken out and with one put in.
+//! Reads a thousand random scripts, half of them in each version of the wire, each of them also with a byte changed, with
+//! one taken out and with one put in.
 //!
 //! The payload of a valid script is written form by form, by the random numbers of a fixed seed, so that it is read as a
 //! script, whose spelling is the payload. A payload with another byte is refused, or is the spelling of another script. Each
@@ -9,6 +10,7 @@
 mod answers;
 mod edits;
 mod message;
+mod numbers;
 mod random;
 mod sum;
 mod tally;
@@ -17,7 +19,7 @@ use answers::answer_to;
 use edits::{Edit, edited};
 use message::message;
 use random::Random;
-use rb_trees::Memory;
+use rb_trees::{Memory, Version};
 use std::alloc::Global;
 use std::io;
 use sum::Sum;
@@ -36,7 +38,7 @@ const LINES: u32 = 10;
 const ROUNDS: u32 = 4;
 
 /// The numbers of refusals.
-static REFUSALS: [u8; 9] = [1, 2, 3, 4, 5, 6, 11, 12, 13];
+static REFUSALS: [u8; 12] = [1, 2, 3, 4, 5, 6, 7, 8, 11, 12, 13, 15];
 
 fn main(rt: HostRuntime) -> io::Result<()> {
     let mut random = Random::new(SEED);
@@ -68,20 +70,22 @@ fn take_line(
     tally: &mut Tally,
     sum: &mut Sum,
 ) -> Result<(), Memory> {
-    for _ in 0..LINE {
-        take(alloc, random, tally, sum)?;
+    for _ in 0..LINE / 2 {
+        take(alloc, Version::One, random, tally, sum)?;
+        take(alloc, Version::Two, random, tally, sum)?;
     }
     Ok(())
 }
 
-/// Takes a script, and its payload with another byte.
+/// Takes a script in a version, and its payload with another byte.
 fn take(
     alloc: Global,
+    version: Version,
     random: &mut Random,
     tally: &mut Tally,
     sum: &mut Sum,
 ) -> Result<(), Memory> {
-    let payload = message(alloc, random)?;
+    let payload = message(alloc, version, random)?;
     sum.add_bytes(payload.as_slice());
     tally.add_payload(payload.as_slice());
     tally.add_answer(answer_to(alloc, payload.as_slice(), sum)?);

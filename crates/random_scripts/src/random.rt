@@ -36,6 +36,16 @@ impl Random {
         self.below(256) as u8
     }
 
+    /// A word of the next four bytes.
+    pub fn word(&mut self) -> u32 {
+        u32::from_be_bytes([self.byte(), self.byte(), self.byte(), self.byte()])
+    }
+
+    /// A word of the next eight bytes.
+    pub fn long_word(&mut self) -> u64 {
+        u64::from(self.word()).wrapping_mul(4_294_967_296) | u64::from(self.word())
+    }
+
     /// Whether the next number is even.
     pub fn coin(&mut self) -> bool {
         self.below(2) == 0

@@ -64,12 +64,26 @@ impl Sum {
         }
     }
 
-    fn add_value(&mut self, value: &Value) {
+    /// Adds a value that is no list.
+    fn add_single(&mut self, value: &Value) {
         match value {
             Value::Int(number) => self.add_bytes(&number.to_be_bytes()),
             Value::Bool(truth) => self.add(u32::from(*truth)),
             Value::Text(text) => self.add_bytes(text.get().as_slice()),
             _ => self.add(99),
+        }
+    }
+
+    fn add_value(&mut self, value: &Value) {
+        match value {
+            Value::List(items) => {
+                self.add(97);
+                for item in items.get().as_slice() {
+                    self.add(98);
+                    self.add_single(item);
+                }
+            }
+            _ => self.add_single(value),
         }
     }
 
@@ -141,6 +155,7 @@ impl Sum {
                 self.add_steps(body);
             }
             StepForm::Over { var, input, body } => {
+                self.add(107);
                 self.add_two(*var, u32::from(*input));
                 self.add_steps(body);
             }

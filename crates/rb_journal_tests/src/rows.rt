@@ -57,6 +57,17 @@ const ONE: &[u8] = b"RBJ\x01\x01\x00\x00\x00\x06\x01\x00\x00\x00\x00\x00\x00";
 const TWO: &[u8] =
     b"RBJ\x01\x01\x00\x00\x00\x06\x01\x00\x00\x00\x00\x00\x01\x00\x00\x00\x06\x01\x00\x00\x00\x00\x00\x00";
 
+/// One record of the empty script in version 2.
+const OTHER: &[u8] = b"RBJ\x01\x01\x00\x00\x00\x04\x02\x00\x00\x00\x00";
+
+/// The same, and one in version 1.
+const OTHER_AND_ONE: &[u8] =
+    b"RBJ\x01\x01\x00\x00\x00\x04\x02\x00\x00\x00\x01\x00\x00\x00\x06\x01\x00\x00\x00\x00\x00\x00";
+
+/// The same, and two in version 1.
+const OTHER_AND_TWO: &[u8] =
+    b"RBJ\x01\x01\x00\x00\x00\x04\x02\x00\x00\x00\x01\x00\x00\x00\x06\x01\x00\x00\x00\x00\x00\x01\x00\x00\x00\x06\x01\x00\x00\x00\x00\x00\x00";
+
 #[test]
 fn an_append_writes_a_record_between_two_gates(rt: HostRuntime) -> Result<(), Fail> {
     let alloc = rt.alloc();
@@ -71,9 +82,12 @@ fn an_append_writes_a_record_between_two_gates(rt: HostRuntime) -> Result<(), Fa
 
 #[test]
 fn disks_are_opened_as_what_they_hold(rt: HostRuntime) -> Result<(), Fail> {
-    let rows: [Row<'_>; 15] = [
+    let rows: [Row<'_>; 17] = [
         (NONE, &[], Ok(ONE)),
         (ONE, &[], Ok(TWO)),
+        // A record may be in either version.
+        (OTHER, &[], Ok(OTHER_AND_ONE)),
+        (OTHER_AND_ONE, &[], Ok(OTHER_AND_TWO)),
         // A gate that isn't 1 is closed, whatever stands behind it.
         (
             b"RBJ\x01\x00\x00\x00\x00\x06\x01\x00\x00\x00\x00\x00\x00",

@@ -35,6 +35,9 @@ object 2: File { name = \"bb\"; size = 200; }
 pub const CALL: &[u8] =
     b"\x01\x00\x00\x00\x00\x01\x11\x00\x00\x00\x00\x00\x00\x00\x3b\x26\x00\x00\x00\x3b\x01\x00\x00\x00\x01n\x23\x00\x00\x00\x00";
 
+/// The same in version 2.
+pub const SHORT_CALL: &[u8] = b"\x02\x01\x01n\x00\x01\x11\x00\x3b\x26\x3b\x01\x00\x23\x00";
+
 /// The host of a service's text.
 pub fn host_of(alloc: Global, source: &[u8]) -> Result<Host, Fail>
     ensures { IfOk result IsTypedHost }

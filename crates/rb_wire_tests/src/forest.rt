@@ -8,4 +8,5 @@ mod forests;
 mod limits;
 mod opened;
 mod refusals;
+mod version_two;
 mod violations;

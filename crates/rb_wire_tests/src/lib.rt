@@ -2,8 +2,12 @@
 #![tactic(auto)]
 
 #[cfg(test)]
+mod changes;
+#[cfg(test)]
 mod forest;
 #[cfg(test)]
 mod script;
 #[cfg(test)]
 mod shown;
+#[cfg(test)]
+mod versions;

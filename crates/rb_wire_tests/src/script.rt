@@ -3,3 +3,4 @@
 mod limits;
 mod payloads;
 mod refusals;
+mod version_two;

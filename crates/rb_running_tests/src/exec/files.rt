@@ -7,7 +7,7 @@ use rb_code::classes_differ;
 use rb_exec::{Host, run_into};
 use rb_heap::Heap;
 use rb_store::read_service;
-use rb_trees::{Memory, Script, Seq, Service, StoreError, Value, Word};
+use rb_trees::{Memory, Script, Seq, Service, StoreError, Value, Version, Word};
 use rb_wire_script::{ScriptStop, decode_script};
 use std::alloc::Global;
 use std::test::Fail;
@@ -98,7 +98,14 @@ fn add_run(
     inputs.truncate(3);
     inputs.push(Value::Remote(7))?;
     let mut forest = Seq::new(alloc);
-    run_into(alloc, host, script, inputs.as_slice(), &mut forest)?;
+    run_into(
+        alloc,
+        host,
+        script,
+        inputs.as_slice(),
+        Version::One,
+        &mut forest,
+    )?;
     add_forest(alloc, forest.as_slice(), into)
 }
 
@@ -113,8 +120,8 @@ fn add_script(
         return into.extend_from_slice(b"too long");
     }
     match decode_script(alloc, payload) {
-        Ok((script, mut inputs)) => add_run(alloc, host, &script, &mut inputs, into),
-        Err(ScriptStop::Refused { number: _, at: _ }) => into.extend_from_slice(b"no script"),
+        Ok((_version, script, mut inputs)) => add_run(alloc, host, &script, &mut inputs, into),
+        Err(ScriptStop::Refused { .. }) => into.extend_from_slice(b"no script"),
         Err(ScriptStop::Memory) => Err(Memory),
     }
 }

@@ -6,6 +6,7 @@ use crate::told::expect;
 use rb_exec::run_into;
 use rb_trees::{
     BinOp, Boxed, Invocation, Memory, Operands, SExpr, Script, Seq, Shared, Step, StepForm, Value,
+    Version,
 };
 use std::alloc::Global;
 use std::test::Fail;
@@ -94,15 +95,27 @@ fn list(alloc: Global, numbers: &[i64]) -> Result<Value, Memory> {
     Ok(Value::List(Shared::new(alloc, items)?))
 }
 
-/// Fails where the script of a step gives something else with these inputs than is wanted.
-fn expect_given(alloc: Global, first: Step, inputs: &[Value], wanted: &str) -> Result<(), Fail> {
+/// Fails where a script gives something else with these inputs than is wanted, by the bytes of its forest in a version.
+fn expect_forest(
+    alloc: Global,
+    script: &Script,
+    inputs: &[Value],
+    version: Version,
+    wanted: &str,
+) -> Result<(), Fail> {
     let mut host = host(alloc)?;
-    let script = script_of(alloc, first)?;
     let mut forest = Seq::new(alloc);
-    run_into(alloc, &mut host, &script, inputs, &mut forest)?;
+    run_into(alloc, &mut host, script, inputs, version, &mut forest)?;
     let mut told = Seq::new(alloc);
     add_forest(alloc, forest.as_slice(), &mut told)?;
     expect("a step over a list", told.as_slice(), wanted)
+}
+
+/// Fails where the script of a step gives something else with these inputs than is wanted, in either version.
+fn expect_given(alloc: Global, first: Step, inputs: &[Value], wanted: &str) -> Result<(), Fail> {
+    let script = script_of(alloc, first)?;
+    expect_forest(alloc, &script, inputs, Version::One, wanted)?;
+    expect_forest(alloc, &script, inputs, Version::Two, wanted)
 }
 
 #[test]

@@ -1,7 +1,7 @@
 // The link in memory.
 
 use crate::expected::expect;
-use crate::hosts::{CALL, number_host};
+use crate::hosts::{CALL, SHORT_CALL, number_host};
 use rb_base::{Link, Reply};
 use rb_session::MemoryLink;
 use std::alloc::Global;
@@ -32,13 +32,13 @@ fn expect_pairs(link: &mut MemoryLink, rows: &[(&[u8], u8)]) -> Result<(), Fail>
     Ok(())
 }
 
-/// Whether a link has two pairs, and had one object first and has one now.
-fn has_two_pairs(link: &MemoryLink) -> bool {
+/// Whether a link has three pairs, and had one object first and has one now.
+fn has_three_pairs(link: &MemoryLink) -> bool {
     let objects = match link.table() {
         Some(table) => table.len(),
         None => 0,
     };
-    link.pairs().len() == 2 && link.first_table().len() == 1 && objects == 1
+    link.pairs().len() == 3 && link.first_table().len() == 1 && objects == 1
 }
 
 /// The link to a host whose one method gives a number.
@@ -49,6 +49,6 @@ fn number_link(alloc: Global) -> Result<MemoryLink, Fail> {
 #[test]
 fn each_exchange_is_a_pair(rt: HostRuntime) -> Result<(), Fail> {
     let mut link = number_link(rt.alloc())?;
-    expect_pairs(&mut link, &[(CALL, 2), (b"\x07", 3)])?;
-    expect(has_two_pairs(&link), "other pairs or tables")
+    expect_pairs(&mut link, &[(CALL, 2), (SHORT_CALL, 2), (b"\x07", 3)])?;
+    expect(has_three_pairs(&link), "other pairs or tables")
 }

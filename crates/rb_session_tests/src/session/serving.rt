@@ -4,7 +4,9 @@ ghost use Rattle.rb_session.specs.Answering.{IsTypedHost};
 
 use crate::expected::{expect, expect_bytes};
 use crate::hosts::{FILES, host_of};
-use crate::session::streams::{EMPTY, EMPTY_REPLY, SHORT, SHORT_REPLY, is_joined, joined};
+use crate::session::streams::{
+    EMPTY, EMPTY_REPLY, OTHER, OTHER_REPLY, SHORT, SHORT_REPLY, is_joined, joined,
+};
 use rb_base::{MemorySink, MemorySource};
 use rb_exec::Host;
 use rb_session::{ServeStop, Served, serve};
@@ -84,6 +86,11 @@ fn a_session_ends_with_its_source_or_at_a_broken_frame(rt: HostRuntime) -> Resul
                 &[EMPTY, SHORT, EMPTY],
                 "3 requests",
                 &[EMPTY_REPLY, SHORT_REPLY, EMPTY_REPLY],
+            ),
+            whole(
+                &[OTHER, EMPTY, OTHER],
+                "3 requests",
+                &[OTHER_REPLY, EMPTY_REPLY, OTHER_REPLY],
             ),
             whole(&[], "0 requests", &[]),
             whole(

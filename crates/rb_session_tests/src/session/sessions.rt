@@ -5,7 +5,10 @@ ghost use Rattle.rb_session.specs.Answering.{IsTypedHost};
 
 use crate::expected::{expect, expect_bytes};
 use crate::hosts::{FILES, FILES_TABLE, host_of, lines_of};
-use crate::session::streams::{EMPTY, EMPTY_REPLY, SHORT, SHORT_REPLY, is_joined, joined};
+use crate::session::streams::{
+    EMPTY, EMPTY_REPLY, OTHER, OTHER_REPLY, OTHER_SHORT, OTHER_SHORT_REPLY, SHORT, SHORT_REPLY,
+    is_joined, joined,
+};
 use bytes::BytesMut;
 use rb_exec::Host;
 use rb_session::{Session, SessionStop, frame_header};
@@ -76,6 +79,28 @@ fn two_requests_in_any_pieces_have_two_replies(rt: HostRuntime) -> Result<(), Fa
             size,
             None,
             &[EMPTY_REPLY, EMPTY_REPLY],
+        )?;
+    }
+    Ok(())
+}
+
+#[test]
+fn each_request_is_answered_in_its_version(rt: HostRuntime) -> Result<(), Fail> {
+    let alloc = rt.alloc();
+    for size in [1, 16, 64] {
+        expect_replies(
+            alloc,
+            &[EMPTY, OTHER, SHORT, OTHER_SHORT, OTHER, EMPTY],
+            size,
+            None,
+            &[
+                EMPTY_REPLY,
+                OTHER_REPLY,
+                SHORT_REPLY,
+                OTHER_SHORT_REPLY,
+                OTHER_REPLY,
+                EMPTY_REPLY,
+            ],
         )?;
     }
     Ok(())

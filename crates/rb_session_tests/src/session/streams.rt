@@ -15,6 +15,18 @@ pub const SHORT: &[u8] = b"RB\x01\x00\x00\x00\x00\x00\x00\x00\x05\x01\x00\x00\x0
 /// The reply to it: what is read ends at offset 5.
 pub const SHORT_REPLY: &[u8] = b"RB\x03\x00\x00\x00\x00\x00\x00\x00\x06\x01\x01\x00\x00\x00\x05";
 
+/// A request without steps in version 2.
+pub const OTHER: &[u8] = b"RB\x01\x00\x00\x00\x00\x00\x00\x00\x04\x02\x00\x00\x00";
+
+/// The reply to it.
+pub const OTHER_REPLY: &[u8] = b"RB\x02\x00\x00\x00\x00\x00\x00\x00\x06\x02\x00\x00\x00\x00\x00";
+
+/// The same request without its last byte.
+pub const OTHER_SHORT: &[u8] = b"RB\x01\x00\x00\x00\x00\x00\x00\x00\x03\x02\x00\x00";
+
+/// The reply to it: what is read ends at offset 3.
+pub const OTHER_SHORT_REPLY: &[u8] = b"RB\x03\x00\x00\x00\x00\x00\x00\x00\x03\x02\x01\x03";
+
 /// The streams in one.
 pub fn joined(alloc: Global, streams: &[&[u8]]) -> Result<Seq<u8>, Memory> {
     let mut all = Seq::new(alloc);

@@ -3,6 +3,7 @@
 use crate::forest::digits::bytes_of;
 use crate::forest::forests::ALL_FORMS;
 use crate::forest::opened::{Answer, Call, Opened};
+use crate::forest::version_two::spellings::ALL_FORMS as SHORT_FORMS;
 use rb_trees::Node;
 use rb_wire_forest::{Cursor, Forest, Item, decode_forest, scan_forest};
 use std::alloc::{AllocError, Global};
@@ -13,8 +14,12 @@ use std::test::Fail;
 const NESTED: &str =
     "01 00000002 32 01 00000002 33 00000002 00000002 31 01 0000000000000007 32 00 00000001 31 02 01 00 00 00000000 01 00000003 00000004 08 00000001 61 31 02 00 01 00000005 00000006 0c 31 01 0000000000000009 00";
 
-/// Forests: a root without entries; values; Rows without a node, and a fault; branches; Rows within Rows; each form.
-static FORESTS: [&str; 8] = [
+/// The same in version 2.
+const SHORT_NESTED: &str =
+    "02 00000002 32 01 00000002 33 00000002 00000002 31 01 0e 32 00 00000001 31 02 01 00 00 00000000 01 03 04 08 01 61 31 02 00 01 05 06 0c 31 01 12 00";
+
+/// Forests: a root without entries; values; Rows without a node, and a fault; branches; Rows within Rows; each form; the same in version 2.
+static FORESTS: [&str; 10] = [
     "01 00000000 00",
     "01 00000000 01 00000009 0000000a 08 00000002 c3a9",
     "01 00000003 31 01 8000000000000000 31 02 01 31 03 00000002 c3a9 00",
@@ -23,6 +28,8 @@ static FORESTS: [&str; 8] = [
     "01 00000001 33 00000001 00000001 33 00000001 00000001 31 02 01 00 00 00",
     ALL_FORMS,
     NESTED,
+    SHORT_FORMS,
+    SHORT_NESTED,
 ];
 
 /// All calls.

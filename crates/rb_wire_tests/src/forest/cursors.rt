@@ -2,13 +2,14 @@
 
 use crate::forest::digits::bytes_of;
 use crate::forest::forests::ALL_FORMS;
+use crate::forest::version_two::spellings::ALL_FORMS as SHORT_FORMS;
 use rb_wire_forest::{Cursor, Item, scan_forest};
 use std::alloc::Global;
 use std::test::Fail;
 
 /// Forests, and what their walks tell: each value; each branch, and the Rows with their number of nodes, which are open up to
 /// their `)`; each node of a Rows within its parentheses; and the step, the position, the code and the text of a fault.
-static WALKS: [(&str, &str); 7] = [
+static WALKS: [(&str, &str); 11] = [
     ("01 00000000 00", ""),
     (
         "01 00000001 31 01 8000000000000000 00",
@@ -31,6 +32,20 @@ static WALKS: [(&str, &str); 7] = [
         " 1( ( 1( ( true ) ) ) )",
     ),
     (ALL_FORMS, " 7 true( false ) 2( ( é ) ( 3@4:8Big ) ) 9@10:7"),
+    // The same in version 2, and numbers of more than one group.
+    ("02 00000000 00", ""),
+    (
+        "02 00000002 31 01 ff ff ff ff ff ff ff ff ff 01 31 01 80 01 00",
+        " -9223372036854775808 64",
+    ),
+    (
+        "02 00000001 33 00000001 00000000 01 ac 02 ff ff ff ff 0f 07 00",
+        " 1( ( 300@4294967295:7 ) )",
+    ),
+    (
+        SHORT_FORMS,
+        " 7 true( false ) 2( ( é ) ( 3@4:8Big ) ) 9@10:7",
+    ),
 ];
 
 /// More steps than any of the walks takes.

@@ -1,8 +1,9 @@
 // Nodes that fit a remainder, and nodes that don't.
 
 use crate::forest::digits::add_bytes;
-use rb_trees::{Expr, ExprForm, Memory, Part, Seq, Stmt, StmtForm};
-use rb_wire_forest::{Misfit, decode_forest, fits, scan_forest};
+use bytes::BytesMut;
+use rb_trees::{Expr, ExprForm, Memory, Part, Seq, Stmt, StmtForm, Version};
+use rb_wire_forest::{Misfit, decode_forest, encode_forest, fits, scan_forest};
 use std::alloc::{AllocError, Global};
 use std::test::Fail;
 
@@ -214,12 +215,15 @@ fn told(fit: Result<(), Misfit>) -> i64 {
     }
 }
 
-/// What doesn't fit of a forest. It is the same in its bytes and as a tree.
+/// What doesn't fit of a forest. It is the same as a tree, in its bytes, and in its bytes of version 2.
 fn misfit(alloc: Global, parts: &Seq<Part>, lengths: &[u32], payload: &[u8]) -> Result<i64, Fail> {
     let root = decode_forest(alloc, payload)?;
-    let forest = scan_forest(payload)?;
+    let mut other = BytesMut::new(alloc);
+    encode_forest(&root, Version::Two, &mut other)?;
     let fit = told(fits(&root, parts, lengths));
-    Ok(if told(forest.fits(parts, lengths)) == fit {
+    let first = told(scan_forest(payload)?.fits(parts, lengths));
+    let second = told(scan_forest(other.as_slice())?.fits(parts, lengths));
+    Ok(if first == fit && second == fit {
         fit
     } else {
         DISPUTED

@@ -1,6 +1,7 @@
 // Payloads that spell forests.
 
 use crate::forest::digits::bytes_of;
+use crate::versions::version_of;
 use bytes::BytesMut;
 use rb_wire_forest::{ForestRefusal, ForestStop, decode_forest, encode_forest, scan_forest};
 use std::alloc::Global;
@@ -58,7 +59,7 @@ fn decoded(alloc: Global, payload: &[u8]) -> Result<(u8, u64), Fail> {
     match decode_forest(alloc, payload) {
         Ok(root) => {
             let mut again = BytesMut::new(alloc);
-            encode_forest(&root, &mut again)?;
+            encode_forest(&root, version_of(payload), &mut again)?;
             Ok(if again.as_slice() == payload {
                 FOREST
             } else {
@@ -77,7 +78,7 @@ pub fn tells(alloc: Global, digits: &str, wanted: (u8, u64)) -> Result<bool, Fai
 }
 
 /// Whether each payload that lacks bytes at the end of this one is truncated at its own end.
-fn tells_cuts(alloc: Global, payload: &[u8]) -> Result<bool, Fail> {
+pub fn tells_cuts(alloc: Global, payload: &[u8]) -> Result<bool, Fail> {
     for n in 0..payload.len() {
         if told(alloc, &payload[..n])? != (1, n as u64) {
             return Ok(false);

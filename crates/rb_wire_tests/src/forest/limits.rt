@@ -76,7 +76,7 @@ fn payload_of(
 }
 
 /// Whether this is told of the payload of a row.
-fn tells_repeated(
+pub fn tells_repeated(
     alloc: Global,
     start: &str,
     part: &str,

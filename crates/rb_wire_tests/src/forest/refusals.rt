@@ -1,7 +1,9 @@
 // Refusals as bytes, both ways.
 
 use crate::forest::digits::bytes_of;
+use crate::versions::version_of;
 use bytes::BytesMut;
+use rb_trees::{Memory, Version};
 use rb_wire_forest::{decode_refusal, encode_refusal};
 use std::alloc::Global;
 use std::test::Fail;
@@ -34,21 +36,36 @@ static ROWS: [(&str, u8, u32); 21] = [
 /// What is told of a payload that spells a refusal with another spelling.
 const OTHER: (u8, u32) = (0, 1);
 
+/// Appends the spelling of a refusal in a version that has its number.
+fn spell(version: Version, number: u8, at: u32, into: &mut BytesMut) -> Result<(), Memory> {
+    match version {
+        Version::One => {
+            if (number >= 1 && number <= 6) || (number >= 11 && number <= 13) {
+                encode_refusal(number, at, Version::One, into)?;
+            }
+        }
+        Version::Two => {
+            if (number >= 1 && number <= 8) || (number >= 11 && number <= 13) || number == 15 {
+                encode_refusal(number, at, Version::Two, into)?;
+            }
+        }
+    }
+    Ok(())
+}
+
 /// The refusal of a payload, which has to be its spelling.
 fn told(alloc: Global, payload: &[u8]) -> Result<(u8, u32), Fail> {
     let (number, at) = decode_refusal(payload).unwrap_or((0, 0));
     let mut again = BytesMut::new(alloc);
-    if (number >= 1 && number <= 6) || (number >= 11 && number <= 13) {
-        encode_refusal(number, at, &mut again)?;
-        if again.as_slice() != payload {
-            return Ok(OTHER);
-        }
+    spell(version_of(payload), number, at, &mut again)?;
+    if number != 0 && again.as_slice() != payload {
+        return Ok(OTHER);
     }
     Ok((number, at))
 }
 
 /// Whether this is told of the payload of these digits.
-fn tells(alloc: Global, digits: &str, wanted: (u8, u32)) -> Result<bool, Fail> {
+pub fn tells(alloc: Global, digits: &str, wanted: (u8, u32)) -> Result<bool, Fail> {
     let payload = bytes_of(alloc, digits)?;
     Ok(told(alloc, payload.as_slice())? == wanted)
 }

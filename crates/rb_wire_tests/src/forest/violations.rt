@@ -7,7 +7,7 @@ static ROWS: [(&str, u8, u64); 39] = [
     // Nothing, and a version that isn't known.
     ("", 1, 0),
     ("00", 2, 0),
-    ("02 00000000 00", 2, 0),
+    ("03 00000000 00", 2, 0),
     // A root that isn't there, and counts of what isn't there.
     ("01", 1, 1),
     ("01 ffffffff", 1, 5),

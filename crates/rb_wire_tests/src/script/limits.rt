@@ -6,7 +6,7 @@ use std::alloc::Global;
 use std::test::Fail;
 
 /// A payload that goes on with the same bytes so many times, and then ends.
-fn repeated(
+pub fn repeated(
     alloc: Global,
     start: &str,
     part: &str,

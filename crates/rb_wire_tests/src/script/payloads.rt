@@ -55,14 +55,14 @@ pub fn bytes_of(alloc: Global, digits: &str) -> Result<Vec<u8>, Fail> {
 
 /// What a payload of a valid script tells: its inputs, its steps, the size of its code, and whether writing it gives its
 /// bytes again. None where it isn't taken.
-fn told(alloc: Global, payload: &[u8]) -> Result<Option<(u8, usize, u64, bool)>, Fail> {
+pub fn told(alloc: Global, payload: &[u8]) -> Result<Option<(u8, usize, u64, bool)>, Fail> {
     if payload.len() > 16_777_216 {
         return Ok(None);
     }
     match decode_script(alloc, payload) {
-        Ok((script, values)) => {
+        Ok((version, script, values)) => {
             let mut again = BytesMut::new(alloc);
-            encode_script(&script, values.as_slice(), &mut again)?;
+            encode_script(version, &script, values.as_slice(), &mut again)?;
             let same = again.as_slice() == payload && valid(&script).is_ok();
             Ok(Some((script.inputs, script.body.len(), code_size(&script), same)))
         }

@@ -1,16 +1,20 @@
 // Payloads that are refused, each with the number and the place of its refusal.
 
 use crate::script::payloads::{ALL_FORMS, bytes_of};
-use rb_wire_script::{ScriptStop, decode_script};
+use crate::versions::version_of;
+use bytes::BytesMut;
+use rb_wire_script::{ScriptStop, decode_script, encode_script};
 use std::alloc::Global;
 use std::test::Fail;
 
-static ROWS: [(&str, u8, u32); 37] = [
+static ROWS: [(&str, u8, u32); 38] = [
     // Nothing, and a version that isn't known.
     ("", 1, 0),
     ("07", 2, 0),
     ("00 00", 2, 0),
-    ("02 00 00000000", 2, 0),
+    ("03 00 00000000", 2, 0),
+    // What is a script in version 1 is none in version 2.
+    ("02 00 00000000", 6, 4),
     // Bytes behind the message.
     ("01 00 00000000 00", 6, 6),
     // Values: their tags, a truth value of 2, texts.
@@ -102,9 +106,54 @@ pub fn refused(alloc: Global, payload: &[u8]) -> Option<(u8, u32)> {
         return None;
     }
     match decode_script(alloc, payload) {
-        Err(ScriptStop::Refused { number, at }) => Some((number, at)),
+        Err(ScriptStop::Refused { number, at, .. }) => Some((number, at)),
         _ => None,
     }
+}
+
+/// What is told of a payload that is taken, and is the spelling of its script.
+const TAKEN: (u8, u32) = (0, 0);
+
+/// What is told of a payload that is taken, and is another spelling than that of its script.
+const OTHER: (u8, u32) = (0, 1);
+
+/// What is told of a refusal that names another version than that of the payload.
+const DISPUTED: (u8, u32) = (0, 2);
+
+/// The number and the place of a payload's refusal, or whether it is the spelling of its script.
+pub fn told(alloc: Global, payload: &[u8]) -> Result<(u8, u32), Fail> {
+    if payload.len() > 16_777_216 {
+        return Ok(OTHER);
+    }
+    match decode_script(alloc, payload) {
+        Ok((version, script, values)) => {
+            let mut again = BytesMut::new(alloc);
+            encode_script(version, &script, values.as_slice(), &mut again)?;
+            Ok(if again.as_slice() == payload {
+                TAKEN
+            } else {
+                OTHER
+            })
+        }
+        Err(
+            ScriptStop::Refused {
+                version,
+                number,
+                at,
+            },
+        ) => Ok(if version == version_of(payload) {
+            (number, at)
+        } else {
+            DISPUTED
+        }),
+        Err(stop) => Err(Fail::from(stop)),
+    }
+}
+
+/// Whether this is told of the payload of these digits.
+pub fn tells(alloc: Global, digits: &str, wanted: (u8, u32)) -> Result<bool, Fail> {
+    let payload = bytes_of(alloc, digits)?;
+    Ok(told(alloc, payload.as_slice())? == wanted)
 }
 
 #[test]
