@@ -1,5 +1,5 @@
-//! A scan of forests as one would write it by hand: whether a payload spells one, and what it violates first else, without a
-//! tree. `load FILE` prints how many bytes the file has, and `scan FILE` what they come to as a forest.
+//! A scan of forests as one would write it by hand: whether a payload of version 1 or 2 spells one, and what it violates
+//! first else, without a tree. `load FILE` prints how many bytes the file has, and `scan FILE` what they come to as a forest.
 
 use std::fmt::{self, Display};
 use std::{env, fs, process, str};
@@ -27,6 +27,7 @@ type Scan<T> = Result<T, Violation>;
 struct Scanner<'a> {
     bytes: &'a [u8],
     at: usize,
+    is_second: bool,
 }
 
 impl<'a> Scanner<'a> {
@@ -49,6 +50,39 @@ impl<'a> Scanner<'a> {
         Ok(u32::from_be_bytes([taken[0], taken[1], taken[2], taken[3]]) as usize)
     }
 
+    /// A number in so many groups of seven bits at most, the last of them below a bound.
+    fn groups(&mut self, most: u32, bound: u8) -> Scan<u64> {
+        let place = self.at;
+        let mut number = 0;
+        for group in 0..most {
+            let byte = self.byte()?;
+            let is_needless = byte == 0 && group > 0;
+            if is_needless || group == most - 1 && byte >= bound {
+                break;
+            }
+            number |= u64::from(byte & 127) << (7 * group);
+            if byte < 128 {
+                return Ok(number);
+            }
+        }
+        Err(Violation(NOT_CANONICAL, place))
+    }
+
+    /// A number that is short in version 2.
+    fn natural(&mut self) -> Scan<usize> {
+        if self.is_second {
+            return Ok(self.groups(5, 16)? as usize);
+        }
+        self.number()
+    }
+
+    fn int(&mut self) -> Scan<()> {
+        if self.is_second {
+            return self.groups(10, 2).map(|_| ());
+        }
+        self.take(8).map(|_| ())
+    }
+
     fn truth(&mut self) -> Scan<()> {
         if self.byte()? > 1 {
             return Err(Violation(NOT_CANONICAL, self.at - 1));
@@ -58,7 +92,7 @@ impl<'a> Scanner<'a> {
 
     fn text(&mut self) -> Scan<()> {
         let place = self.at;
-        let length = self.number()?;
+        let length = self.natural()?;
         if length > LONGEST_TEXT || str::from_utf8(self.take(length)?).is_err() {
             return Err(Violation(BAD_TEXT, place));
         }
@@ -71,7 +105,7 @@ impl<'a> Scanner<'a> {
 
     fn value(&mut self) -> Scan<()> {
         match self.byte()? {
-            1 => self.take(8).map(|_| ()),
+            1 => self.int(),
             2 => self.truth(),
             3 => self.text(),
             _ => self.bad_tag(),
@@ -112,7 +146,8 @@ impl<'a> Scanner<'a> {
         match self.byte()? {
             0 => Ok(()),
             1 => {
-                self.take(8)?;
+                self.natural()?;
+                self.natural()?;
                 match self.byte()? {
                     8 => self.text(),
                     1..=12 => Ok(()),
@@ -124,7 +159,7 @@ impl<'a> Scanner<'a> {
     }
 
     fn forest(&mut self) -> Scan<()> {
-        if self.byte()? != 1 {
+        if !matches!(self.byte()?, 1 | 2) {
             return self.bad_tag();
         }
         self.node(MOST_NODES)?;
@@ -145,7 +180,13 @@ fn main() {
     let count = bytes.len();
     match what.as_str() {
         "load" => println!("{count} bytes"),
-        _ => match (Scanner { bytes: &bytes, at: 0 }).forest() {
+        _ => match (Scanner {
+            bytes: &bytes,
+            at: 0,
+            is_second: bytes.first() == Some(&2),
+        })
+        .forest()
+        {
             Ok(()) => println!("valid, {count} bytes"),
             Err(violation) => println!("{violation}, {count} bytes"),
         },

@@ -1,19 +1,26 @@
-//! A decoder of scripts as one would write it by hand: a payload becomes a tree of boxes and vectors, which is then checked.
+//! A decoder of scripts as one would write it by hand: a payload of version 1 or 2 becomes a tree of boxes and vectors, which is
+//! then checked. The texts of a pool are shared.
 //! `load FILE` prints how many bytes the file has, `decode FILE` what they come to as a script, and `json FILE` writes the
 //! script as JSON.
 
-use std::collections::{HashMap, HashSet};
+mod script_json;
+mod script_rules;
+
+use std::collections::HashSet;
 use std::fmt::{self, Display};
-use std::io::{self, BufWriter, Write};
+use std::io;
+use std::rc::Rc;
 
 const MOST_BLOCKS: usize = 64;
 const MOST_EXPRS: usize = 256;
 const LONGEST_TEXT: usize = 4096;
+const MOST_ITEMS: usize = 1000;
 
 enum Value {
     Int(i64),
     Bool(bool),
-    Text(String),
+    Text(Rc<str>),
+    List(Vec<Value>),
 }
 
 enum Expr {
@@ -26,7 +33,7 @@ enum Expr {
     Call {
         at: u32,
         kind: u8,
-        method: String,
+        method: Rc<str>,
         target: Box<Expr>,
         args: Vec<Expr>,
     },
@@ -53,6 +60,11 @@ enum Form {
         rows: Expr,
         body: Vec<Step>,
     },
+    Over {
+        variable: u32,
+        input: u8,
+        body: Vec<Step>,
+    },
 }
 
 struct Script {
@@ -71,12 +83,37 @@ impl Display for Refusal {
 
 type Read<T> = Result<T, Refusal>;
 
+/// What is read of a payload, and in version 2 the texts of its pool, how many of them were used, and how many items lists may
+/// still have.
 struct Reader<'a> {
     bytes: &'a [u8],
     at: usize,
+    is_second: bool,
+    texts: Vec<Rc<str>>,
+    used: usize,
+    room: usize,
+}
+
+fn is_name(bytes: &[u8]) -> bool {
+    let begins = |b: &u8| b.is_ascii_alphabetic() || *b == b'_';
+    bytes.first().is_some_and(begins)
+        && bytes
+            .iter()
+            .all(|b| b.is_ascii_alphanumeric() || *b == b'_')
 }
 
 impl<'a> Reader<'a> {
+    fn new(bytes: &'a [u8]) -> Reader<'a> {
+        Reader {
+            bytes,
+            at: 0,
+            is_second: bytes.first() == Some(&2),
+            texts: Vec::new(),
+            used: 0,
+            room: MOST_ITEMS,
+        }
+    }
+
     fn take(&mut self, count: usize) -> Read<&'a [u8]> {
         match self.bytes[self.at..].get(..count) {
             Some(taken) => {
@@ -91,8 +128,68 @@ impl<'a> Reader<'a> {
         Ok(self.take(1)?[0])
     }
 
+    /// A number in so many groups of seven bits at most, the last of them below a bound.
+    fn groups(&mut self, most: u32, bound: u8) -> Read<u64> {
+        let start = self.at;
+        let mut number = 0;
+        for place in 0..most {
+            let group = self.byte()?;
+            let is_needless = group == 0 && place > 0;
+            if is_needless || place == most - 1 && group >= bound {
+                break;
+            }
+            number |= u64::from(group & 127) << (7 * place);
+            if group < 128 {
+                return Ok(number);
+            }
+        }
+        Err(Refusal(4, start))
+    }
+
     fn number(&mut self) -> Read<u32> {
+        if self.is_second {
+            return Ok(self.groups(5, 16)? as u32);
+        }
         Ok(u32::from_be_bytes(self.take(4)?.try_into().unwrap()))
+    }
+
+    fn int(&mut self) -> Read<i64> {
+        if self.is_second {
+            let folded = self.groups(10, 2)?;
+            return Ok((folded >> 1) as i64 ^ -((folded & 1) as i64));
+        }
+        Ok(i64::from_be_bytes(self.take(8)?.try_into().unwrap()))
+    }
+
+    /// The texts of the pool, each of which stands once.
+    fn pool(&mut self) -> Read<()> {
+        let mut earlier = HashSet::new();
+        for _ in 0..self.number()? {
+            let start = self.at;
+            let count = self.number()? as usize;
+            let Ok(text) = std::str::from_utf8(self.take(count)?) else {
+                return Err(Refusal(3, start));
+            };
+            if !earlier.insert(text) {
+                return Err(Refusal(7, start));
+            }
+            self.texts.push(text.into());
+        }
+        Ok(())
+    }
+
+    /// The text of the pool at a place, which passes a test.
+    fn pooled(&mut self, test: fn(&str) -> bool) -> Read<Rc<str>> {
+        let start = self.at;
+        let place = self.number()? as usize;
+        if place >= self.texts.len() || place > self.used {
+            return Err(Refusal(7, start));
+        }
+        if !test(&self.texts[place]) {
+            return Err(Refusal(3, start));
+        }
+        self.used = self.used.max(place + 1);
+        Ok(self.texts[place].clone())
     }
 
     fn truth(&mut self) -> Read<bool> {
@@ -111,39 +208,63 @@ impl<'a> Reader<'a> {
         }
     }
 
-    fn text(&mut self) -> Read<String> {
+    fn text(&mut self) -> Read<Rc<str>> {
+        if self.is_second {
+            return self.pooled(|text| text.len() <= LONGEST_TEXT);
+        }
         let start = self.at;
         let count = self.number()? as usize;
         if count > LONGEST_TEXT {
             return Err(Refusal(3, start));
         }
         match std::str::from_utf8(self.take(count)?) {
-            Ok(text) => Ok(text.to_owned()),
+            Ok(text) => Ok(text.into()),
             Err(_) => Err(Refusal(3, start)),
         }
     }
 
-    fn name(&mut self) -> Read<String> {
+    fn name(&mut self) -> Read<Rc<str>> {
+        if self.is_second {
+            return self.pooled(|text| is_name(text.as_bytes()));
+        }
         let start = self.at;
         let count = self.number()? as usize;
         let name = self.take(count)?;
-        let begins = name
-            .first()
-            .is_some_and(|b| b.is_ascii_alphabetic() || *b == b'_');
-        if !begins || !name.iter().all(|b| b.is_ascii_alphanumeric() || *b == b'_') {
+        if !is_name(name) {
             return Err(Refusal(3, start));
         }
-        Ok(String::from_utf8(name.to_vec()).unwrap())
+        Ok(std::str::from_utf8(name).unwrap().into())
     }
 
-    fn value(&mut self) -> Read<Value> {
-        match self.tag(1, 3)? {
-            1 => Ok(Value::Int(i64::from_be_bytes(
-                self.take(8)?.try_into().unwrap(),
-            ))),
+    fn value_of(&mut self, tag: u8) -> Read<Value> {
+        match tag {
+            1 => Ok(Value::Int(self.int()?)),
             2 => Ok(Value::Bool(self.truth()?)),
             _ => Ok(Value::Text(self.text()?)),
         }
+    }
+
+    fn value(&mut self) -> Read<Value> {
+        let tag = self.tag(1, 3)?;
+        self.value_of(tag)
+    }
+
+    /// The value of an input, which in version 2 may be a list.
+    fn input(&mut self) -> Read<Value> {
+        let tag = self.tag(1, if self.is_second { 4 } else { 3 })?;
+        if tag < 4 {
+            return self.value_of(tag);
+        }
+        let start = self.at;
+        let count = self.number()? as usize;
+        if count > self.room {
+            return Err(Refusal(8, start));
+        }
+        self.room -= count;
+        let items = (0..count)
+            .map(|_| self.value())
+            .collect::<Read<Vec<Value>>>()?;
+        Ok(Value::List(items))
     }
 
     /// What may stand within so many others; where that is too deep, its first byte is refused.
@@ -206,7 +327,7 @@ impl<'a> Reader<'a> {
     }
 
     fn step(&mut self, left: usize) -> Read<Step> {
-        let tag = self.tag(0x10, 0x14)?;
+        let tag = self.tag(0x10, if self.is_second { 0x15 } else { 0x14 })?;
         let (id, at) = (self.number()?, self.number()?);
         let form = match tag {
             0x10 => Form::Do(self.expr(MOST_EXPRS)?),
@@ -220,6 +341,11 @@ impl<'a> Reader<'a> {
                 }
             }
             0x13 => Form::If(self.expr(MOST_EXPRS)?, self.block(left)?, self.block(left)?),
+            0x15 => Form::Over {
+                variable: self.number()?,
+                input: self.byte()?,
+                body: self.block(left)?,
+            },
             _ => {
                 let (variable, keep) = (self.number()?, self.truth()?);
                 let rows = self.expr(MOST_EXPRS)?;
@@ -235,12 +361,18 @@ impl<'a> Reader<'a> {
     }
 
     fn script(&mut self) -> Read<Script> {
-        self.tag(1, 1)?;
+        self.tag(1, 2)?;
+        if self.is_second {
+            self.pool()?;
+        }
         let count = self.byte()?;
         let inputs = (0..count)
-            .map(|_| self.value())
+            .map(|_| self.input())
             .collect::<Read<Vec<Value>>>()?;
         let body = self.block(MOST_BLOCKS)?;
+        if self.used < self.texts.len() {
+            return Err(Refusal(7, self.at));
+        }
         if self.at < self.bytes.len() {
             return Err(Refusal(6, self.at));
         }
@@ -248,224 +380,10 @@ impl<'a> Reader<'a> {
     }
 }
 
-/// Whether a script is valid: the numbers of the steps so far, and how often each variable is bound.
-struct Checker {
-    inputs: usize,
-    steps: HashSet<u32>,
-    bound: HashMap<u32, u32>,
-    order: Vec<u32>,
-}
-
-impl Checker {
-    fn bind(&mut self, variable: u32) {
-        *self.bound.entry(variable).or_insert(0) += 1;
-        self.order.push(variable);
-    }
-
-    fn close(&mut self, count: usize) {
-        for variable in self.order.drain(count..) {
-            *self.bound.get_mut(&variable).unwrap() -= 1;
-        }
-    }
-
-    fn expr(&self, expr: &Expr, step: u32) -> Read<()> {
-        match expr {
-            Expr::Literal(_) | Expr::Root => Ok(()),
-            Expr::Input(input) if usize::from(*input) < self.inputs => Ok(()),
-            Expr::Input(_) => Err(Refusal(12, step as usize)),
-            Expr::Variable(variable) if self.bound.get(variable).is_some_and(|n| *n > 0) => Ok(()),
-            Expr::Variable(_) => Err(Refusal(11, step as usize)),
-            Expr::Unary(_, _, operand) => self.expr(operand, step),
-            Expr::Binary(_, _, left, right) => {
-                self.expr(left, step)?;
-                self.expr(right, step)
-            }
-            Expr::Call { target, args, .. } => {
-                self.expr(target, step)?;
-                args.iter().try_for_each(|arg| self.expr(arg, step))
-            }
-        }
-    }
-
-    fn block(&mut self, steps: &[Step]) -> Read<()> {
-        let count = self.order.len();
-        for step in steps {
-            self.step(step)?;
-        }
-        self.close(count);
-        Ok(())
-    }
-
-    fn step(&mut self, step: &Step) -> Read<()> {
-        if !self.steps.insert(step.id) {
-            return Err(Refusal(13, step.id as usize));
-        }
-        match &step.form {
-            Form::Do(expr) | Form::Keep(expr) => self.expr(expr, step.id),
-            Form::Let {
-                variable, value, ..
-            } => {
-                self.expr(value, step.id)?;
-                self.bind(*variable);
-                Ok(())
-            }
-            Form::If(condition, yes, no) => {
-                self.expr(condition, step.id)?;
-                self.block(yes)?;
-                self.block(no)
-            }
-            Form::Each {
-                variable,
-                rows,
-                body,
-                ..
-            } => {
-                self.expr(rows, step.id)?;
-                let count = self.order.len();
-                self.bind(*variable);
-                self.block(body)?;
-                self.close(count);
-                Ok(())
-            }
-        }
-    }
-}
-
 fn decode(payload: &[u8]) -> Read<Script> {
-    let script = Reader {
-        bytes: payload,
-        at: 0,
-    }
-    .script()?;
-    let mut checker = Checker {
-        inputs: script.inputs.len(),
-        steps: HashSet::new(),
-        bound: HashMap::new(),
-        order: Vec::new(),
-    };
-    checker.block(&script.body)?;
+    let script = Reader::new(payload).script()?;
+    script_rules::check(&script)?;
     Ok(script)
-}
-
-/// Writes items in brackets, with commas between them.
-fn list<T>(
-    items: &[T],
-    out: &mut impl Write,
-    each: fn(&T, &mut dyn Write) -> io::Result<()>,
-) -> io::Result<()> {
-    write!(out, "[")?;
-    for (place, item) in items.iter().enumerate() {
-        if place > 0 {
-            write!(out, ",")?;
-        }
-        each(item, out)?;
-    }
-    write!(out, "]")
-}
-
-fn value_json(value: &Value, out: &mut dyn Write) -> io::Result<()> {
-    match value {
-        Value::Int(number) => write!(out, "{number}"),
-        Value::Bool(truth) => write!(out, "{truth}"),
-        Value::Text(text) => write!(out, "{text:?}"),
-    }
-}
-
-fn expr_json(expr: &Expr, mut out: &mut dyn Write) -> io::Result<()> {
-    match expr {
-        Expr::Literal(value) => value_json(value, out),
-        Expr::Input(input) => write!(out, "{{\"input\":{input}}}"),
-        Expr::Variable(variable) => write!(out, "{{\"variable\":{variable}}}"),
-        Expr::Root => write!(out, "null"),
-        Expr::Unary(op, at, operand) => {
-            write!(out, "{{\"op\":{op},\"at\":{at},\"operand\":")?;
-            expr_json(operand, out)?;
-            write!(out, "}}")
-        }
-        Expr::Binary(op, at, left, right) => {
-            write!(out, "{{\"op\":{op},\"at\":{at},\"left\":")?;
-            expr_json(left, out)?;
-            write!(out, ",\"right\":")?;
-            expr_json(right, out)?;
-            write!(out, "}}")
-        }
-        Expr::Call {
-            at,
-            kind,
-            method,
-            target,
-            args,
-        } => {
-            write!(
-                out,
-                "{{\"call\":\"{method}\",\"kind\":{kind},\"at\":{at},\"target\":"
-            )?;
-            expr_json(target, out)?;
-            write!(out, ",\"args\":")?;
-            list(args, &mut out, expr_json)?;
-            write!(out, "}}")
-        }
-    }
-}
-
-fn step_json(step: &Step, mut out: &mut dyn Write) -> io::Result<()> {
-    write!(out, "{{\"id\":{},\"at\":{},", step.id, step.at)?;
-    match &step.form {
-        Form::Do(expr) => {
-            write!(out, "\"do\":")?;
-            expr_json(expr, out)?;
-        }
-        Form::Keep(expr) => {
-            write!(out, "\"keep\":")?;
-            expr_json(expr, out)?;
-        }
-        Form::Let {
-            variable,
-            keep,
-            value,
-        } => {
-            write!(out, "\"let\":{variable},\"keep\":{keep},\"value\":")?;
-            expr_json(value, out)?;
-        }
-        Form::If(condition, yes, no) => {
-            write!(out, "\"if\":")?;
-            expr_json(condition, out)?;
-            write!(out, ",\"then\":")?;
-            list(yes, &mut out, step_json)?;
-            write!(out, ",\"else\":")?;
-            list(no, &mut out, step_json)?;
-        }
-        Form::Each {
-            variable,
-            keep,
-            rows,
-            body,
-        } => {
-            write!(out, "\"each\":{variable},\"keep\":{keep},\"rows\":")?;
-            expr_json(rows, out)?;
-            write!(out, ",\"body\":")?;
-            list(body, &mut out, step_json)?;
-        }
-    }
-    write!(out, "}}")
-}
-
-/// Writes the script that a payload spells, whether it is valid or not; nothing where it spells none.
-fn write_json(payload: &[u8]) -> io::Result<()> {
-    let mut out = BufWriter::new(io::stdout());
-    if let Ok(script) = (Reader {
-        bytes: payload,
-        at: 0,
-    })
-    .script()
-    {
-        write!(out, "{{\"inputs\":")?;
-        list(&script.inputs, &mut out, value_json)?;
-        write!(out, ",\"body\":")?;
-        list(&script.body, &mut out, step_json)?;
-        write!(out, "}}")?;
-    }
-    out.flush()
 }
 
 fn main() -> io::Result<()> {
@@ -477,7 +395,7 @@ fn main() -> io::Result<()> {
             Ok(_) => println!("valid, {} bytes", payload.len()),
             Err(refusal) => println!("{refusal}, {} bytes", payload.len()),
         },
-        _ => write_json(&payload)?,
+        _ => script_json::write(&payload)?,
     }
     Ok(())
 }

@@ -32,7 +32,7 @@ pub fn outcome_of(alloc: Global, payload: &[u8]) -> Outcome {
     }
     match decode_script(alloc, payload) {
         Ok(_) => Outcome::Valid,
-        Err(ScriptStop::Refused { number, at }) => Outcome::Refused(number, u64::from(at)),
+        Err(ScriptStop::Refused { number, at, .. }) => Outcome::Refused(number, u64::from(at)),
         Err(ScriptStop::Memory) => Outcome::Memory,
     }
 }

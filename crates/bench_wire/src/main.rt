@@ -1,7 +1,7 @@
 //! Makes a payload of a shape, of at most so many bytes, and does to it what the first argument says: `make` prints how many
 //! bytes it has, `write` writes it, and `decode` prints what it comes to as a script; `all` does so to each shape. `load`
-//! prints how many bytes the text of a file has, and `json` reads it as JSON. `size` prints how many bytes a file has, `scan`
-//! what they come to as a forest, and `tree` what they come to as one whose tree is made.
+//! prints how many bytes the text of a file has, and `json` reads it as JSON. `size` prints how many bytes a file has, `script`
+//! what they come to as a script, `scan` what they come to as a forest, and `tree` what they come to as one whose tree is made.
 #![tactic(auto)]
 
 mod decoded;
@@ -37,7 +37,7 @@ fn main(rt: HostRuntime) -> io::Result<()> {
 /// Says what the program's words are.
 fn usage<R: Eprint>(rt: &R) -> io::Result<()> {
     eprintln!(rt;
-        "usage: bench_wire make|write|decode SHAPE BYTES | all BYTES | load|json|size|scan|tree FILE"
+        "usage: bench_wire make|write|decode SHAPE BYTES | all BYTES | load|json|size|script|scan|tree FILE"
     )
 }
 
@@ -60,6 +60,7 @@ fn one_word<R: Files + AllocGlobal + Print + Eprint>(
         ("load", _) => load(rt, word),
         ("json", _) => read_json(rt, word),
         ("size", _) => size(rt, word),
+        ("script", _) => script(rt, word),
         ("scan", _) => scan(rt, word),
         ("tree", _) => tree(rt, word),
         _ => usage(rt),
@@ -144,6 +145,16 @@ fn size<R: Files + AllocGlobal + Print>(rt: &R, path: &str) -> io::Result<()> {
     let payload = fs::read(rt, path)?;
     let count = payload.len();
     println!(rt; "{count} bytes")
+}
+
+/// Prints what the bytes of a file come to as a script.
+fn script<R: Files + AllocGlobal + Print>(rt: &R, path: &str) -> io::Result<()> {
+    let payload = fs::read(rt, path)?;
+    say(
+        rt,
+        &outcome_of(rt.alloc(), payload.as_slice()),
+        payload.len(),
+    )
 }
 
 /// Prints what the bytes of a file come to as a forest.

@@ -6,7 +6,7 @@ use crate::fields::{
 };
 use crate::shapes::Shape;
 use bytes::{BufMut, BytesMut};
-use rb_trees::{Memory, Value};
+use rb_trees::{Memory, Value, Version};
 use rb_wire_fields::puts::{put_number, put_text, put_value};
 use std::alloc::Global;
 
@@ -166,7 +166,7 @@ fn put_wide(most: u32, into: &mut BytesMut) -> Result<(), Memory> {
     put_number(count, into)?;
     for number in 0..count {
         into.put_u8(0x20)?;
-        put_value(&Value::Int(i64::from(number)), into)?;
+        put_value(Version::One, &Value::Int(i64::from(number)), into)?;
     }
     Ok(())
 }
