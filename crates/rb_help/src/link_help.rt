@@ -34,7 +34,7 @@ fn results_broken_by(number: u8) -> &'static [u8] {
         1 => texts::RESULTS_CUT,
         2 => texts::RESULTS_WITH_SIGN,
         3 => texts::RESULTS_WITH_TEXT,
-        4 => texts::RESULTS_WITH_BOOL,
+        4 => texts::RESULTS_MISSPELLED,
         5 => texts::RESULTS_NESTED,
         6 => texts::RESULTS_AND_MORE,
         _ => texts::RESULTS_BROKEN,

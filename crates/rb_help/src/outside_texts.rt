@@ -106,8 +106,8 @@ pub const RESULTS_WITH_SIGN: &[u8] = b"sent results with a byte that means nothi
 pub const RESULTS_WITH_TEXT: &[u8] =
     b"sent results with a Text that is too long or isn't UTF-8, at byte #.";
 
-pub const RESULTS_WITH_BOOL: &[u8] =
-    b"sent results with a Bool that is neither true nor false, at byte #.";
+pub const RESULTS_MISSPELLED: &[u8] =
+    b"sent results with a Bool or a number that is spelled as none is, at byte #.";
 
 pub const RESULTS_NESTED: &[u8] = b"sent results that are nested too deep, at byte #.";
 

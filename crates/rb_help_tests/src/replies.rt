@@ -92,7 +92,7 @@ fn results_that_can_not_be_read(rt: HostRuntime) -> Result<(), Fail> {
     replies(
         alloc,
         ReplyFlaw::Forest(4, 7),
-        "In exchange 3 `here:9` sent results with a Bool that is neither true nor false, at byte 7.\n",
+        "In exchange 3 `here:9` sent results with a Bool or a number that is spelled as none is, at byte 7.\n",
     )?;
     replies(
         alloc,
