@@ -14,7 +14,12 @@ const NO_FORESTS: &[Row<'static>] = &[
         b"\x01\x00\x00\x00\x01\x31\x01\x00\x00\x00\x00\x00\x00\x00",
         "bad reply 0 forest 1 14\n",
     ),
-    (b"\x02\x00\x00\x00\x00\x00", "bad reply 0 forest 2 0\n"),
+    (b"\x03\x00\x00\x00\x00\x00", "bad reply 0 forest 2 0\n"),
+    // A forest of version 2, whose number has a needless group.
+    (
+        b"\x02\x00\x00\x00\x01\x31\x01\x80\x00\x00",
+        "bad reply 0 forest 4 7\n",
+    ),
     // A text of 4,097 bytes is announced.
     (
         b"\x01\x00\x00\x00\x01\x31\x03\x00\x00\x10\x01",
