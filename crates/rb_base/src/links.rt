@@ -4,7 +4,7 @@ ghost use Rattle.std.specs.Prelude.{◌≡◌, ◌≤◌, ℕ, Bool, Option, len
 ghost use Rattle.std.specs.Option.{option_copied};
 ghost use Rattle.rb_meaning.specs.Answers.{longest_request};
 ghost use Rattle.rb_meaning.specs.Links.{Told, pairs_told, server_told, TellsTyped};
-ghost use Rattle.rb_base.specs.Links.{IsReplyKind, KeepsCause, pairs_after, faults_after, IsListedWhereTold, ServesAsTold, UnlessMemory, Lends};
+ghost use Rattle.rb_base.specs.Links.{IsReplyKind, KeepsCause, pairs_after, faults_after, FindsFitting, FindsStanding, IsListedWhereTold, ServesAsTold, UnlessMemory, Lends};
 
 use bytes::BytesMut;
 use rb_heap::Heap;
@@ -53,9 +53,13 @@ impl From<Memory> for LinkStop {
 /// says what stands behind it.
 ///
 /// A link is honest where it tells its server, which is typed, and each exchange over it is what that server does. Whoever
-/// writes a link says when it is so, by `honest`: then the server is told and typed, each reply is `Answers` of what was
-/// told before, with the table that is told then, no reply breaks off, and the link stays honest. A link that says
+/// writes a link says when it is so, by `honest`: then the server is told and typed, each reply is `Answers` on the table that
+/// its request found, with the table that is told then, no reply breaks off, and the link stays honest. A link that says
 /// of itself that it is never honest promises none of this.
+///
+/// Others may use the server too: a request finds any table that fits the service. A link is quiet where nobody else changes
+/// the table: each request finds the one that stood, and the link stays quiet. A link that tells its server notes for each
+/// reply which table its request found, and which one it left.
 ///
 /// After an error but want of memory the same link may be used again.
 pub trait Link {
@@ -71,6 +75,9 @@ pub trait Link {
     /// Whether it is honest.
     ghost honest: { Self → Type 0 };
 
+    /// Whether it is quiet.
+    ghost quiet: { Self → Type 0 };
+
     /// Sends the payload of a request, and answers the reply. Only after a reply there is a pair more.
     fn exchange(&mut self, request: &[u8]) -> Result<Reply, LinkStop>
         requires { length request.now ≤ longest_request }
@@ -80,8 +87,12 @@ pub trait Link {
         ensures listed { IsListedWhereTold result (server_told (told self.old)) (server_told (told self.new)) }
         ensures faults { faults self.new ≡ faults_after result (faults self.old) }
         ensures lends { lends self.new ≡ lends self.old }
-        ensures serves { honest self.old → ServesAsTold request.now result (server_told (told self.old)) (server_told (told self.new)) }
-        ensures stays { honest self.old → UnlessMemory result (honest self.new) };
+        ensures serves { honest self.old
+            → ServesAsTold FindsFitting request.now result (server_told (told self.old)) (server_told (told self.new)) }
+        ensures serves_alone { honest self.old → quiet self.old
+            → ServesAsTold FindsStanding request.now result (server_told (told self.old)) (server_told (told self.new)) }
+        ensures stays { honest self.old → UnlessMemory result (honest self.new) }
+        ensures stays_quiet { quiet self.old → UnlessMemory result (quiet self.new) };
 
     /// The table of a link that has a server of its own, which is the table told; None where it has none.
     fn table(&self) -> Option<&Heap>

@@ -52,7 +52,7 @@ module _ {L W : Type 0} (gl : links.Ghosts L) (gw : sinks.Ghosts W) where
   -- what was done with the link stands, where only the output changed
   exchanged_still : (o : Origin L W) (w w' : ClientWorld L W) (sent : List Sent) (nodes : List Node) → w'.link ≡ w.link → ExchangedAll o.program (first_scene gl gw o) (scene_of gl gw w) sent nodes → ExchangedAll o.program (first_scene gl gw o) (scene_of gl gw w') sent nodes
   exchanged_still o w w' sent nodes link e =
-      subst (λ x. ExchangedAll o.program (first_scene gl gw o) (scene gl gw x.now w'.out.now) sent nodes) (sym link) (record { exchanged = e.exchanged; lends_so = e.lends_so; stays = e.stays; served = e.served })
+      subst (λ x. ExchangedAll o.program (first_scene gl gw o) (scene gl gw x.now w'.out.now) sent nodes) (sym link) (record { exchanged = e.exchanged; lends_so = e.lends_so; stays = e.stays; stays_quiet = e.stays_quiet; served = e.served })
 
   pub line_whole : (w w' : ClientWorld L W) (at : ℕ) (bytes : List ℕ) → w'.plan ≡ w.plan → w'.link ≡ w.link → w'.exchanges ≡ w.exchanges → w'.out.ghost_name ≡ w.out.ghost_name
       → output gw w'.out.now ≡ with_bytes (output gw w.out.now) (line bytes) → client_answers gl gw w (ask.Line at bytes) (Ok (Ok value.Unit)) w'

@@ -341,7 +341,6 @@ rows_by classes step name kept ps gas l s go =
     on_rows step s.node l s (λ ns rest.
     turns (λ n l1 events. on_turn kept step name l1 (record { events = events; node = n }) (λ l2 s2. all_meant classes ps gas l2 s2 ended)) ns rest l s.events (λ l1 s1. pass_meant step gas l1 s1 go))
 
-pub loop_so : {W : Type 0} {g : sinks.Ghosts W} {l l' : Local} {w w' : ReplayWorld W} {r : Result (Unit {0}) Early} (classes : List class.Class) (step : ℕ) (name : List ℕ) (kept : Bool) (body : List part.Part) (kind : ℕ) (ps : List part.Part)
-    → kept ≡ is_kept kind → body ≡ ps → Performs g (rows_by classes step name kept body) l w r l' w' → Performs g (form_meant classes (Turns step name kind (mirror_parts ps))) l w r l' w'
-loop_so {l = l} classes step name kept body kind ps is same h =
-    as_meant (λ gas s go. ap (λ k. rows_by classes step name k ps gas l s go) (sym is) ∙ ap (λ xs. rows_by classes step name kept xs gas l s go) (sym same)) h
+pub loop_so : {W : Type 0} {g : sinks.Ghosts W} {l l' : Local} {w w' : ReplayWorld W} {r : Result (Unit {0}) Early} (classes : List class.Class) (step : ℕ) (name : List ℕ) (body : List part.Part) (kind : ℕ) (ps : List part.Part)
+    → body ≡ ps → Performs g (rows_by classes step name (is_kept kind) body) l w r l' w' → Performs g (form_meant classes (Turns step name kind (mirror_parts ps))) l w r l' w'
+loop_so {l = l} classes step name body kind ps same h = as_meant (λ gas s go. ap (λ xs. rows_by classes step name (is_kept kind) xs gas l s go) (sym same)) h

@@ -10,6 +10,7 @@ pub mod Parted
 pub mod Replaying
 pub mod Told
 pub mod Weight
+pub mod Given
 pub mod Serving
 pub mod Traded
 pub mod Utf8
@@ -23,6 +24,7 @@ pub mod WholeRun
 pub mod Showing
 pub mod RunsOver
 pub mod Reached
+pub mod Ways
 pub mod Headline
 pub mod Typed
 pub mod Requested

@@ -104,7 +104,8 @@ sees_first gl gw w tells count = record {
       exchanged = record { pairs = []; pairs_so = no_pairs (pairs_of gl w.link.now); exchanges = tt };
       lends_so = refl;
       stays = λ honest. honest;
-      served = λ honest. performed_none (server_of gl w.link.now) (tells honest);
+      stays_quiet = λ quiet. quiet;
+      served = λ honest. performed_none (gl.quiet w.link.now) (server_of gl w.link.now) (tells honest);
     };
     faults_so = refl;
     counts = counts_none (server_of gl w.link.now);

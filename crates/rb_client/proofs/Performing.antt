@@ -51,7 +51,7 @@ use Rattle.rb_client.specs.declared.stops.RunStop.{RunStop}
 use Rattle.rb_client.specs.declared.stops.RunStop.TheVariants as stops
 use Rattle.rb_client.proofs.Events.{shown_append, shown_batch}
 use Rattle.rb_client.proofs.Fronts.{beyond_whole}
-use Rattle.rb_client.proofs.Serving.{counts_more, none_failed, performed_more}
+use Rattle.rb_client.proofs.Serving.{counts_more, none_failed, performed_before, performed_on}
 use Rattle.rb_client.proofs.Showing.{batch_more}
 use Rattle.rb_client.proofs.Traded.{Trades, traded, unread, untraded}
 
@@ -195,9 +195,11 @@ module _ {L W : Type 0} (gl : links.Ghosts L) (gw : sinks.Ghosts W) (split : Spl
           sees.done.exchanged.exchanged fetched.trades.pairs_so exchange_so;
       lends_so = fetched.trades.lends_so ∙ sees.done.exchanged.lends_so;
       stays = λ honest. fetched.trades.stays (sees.done.exchanged.stays honest);
+      stays_quiet = λ quiet. fetched.trades.stays_quiet (sees.done.exchanged.stays_quiet quiet);
       served = λ honest.
-          performed_more h.sent h.nodes (sent_for d l) n first.server (server_of gl w.link.now) last.server (sees.done.exchanged.served honest)
-          (fetched.trades.served (sees.done.exchanged.stays honest) (sent_for d l) (subst (λ x. Means fetched.request (Ok x)) (sent_so split d l is) fetched.means));
+          performed_on first.quiet first.server (server_of gl w.link.now) last.server h.sent (sent_for d l ∷ []) h.nodes (n ∷ []) (sees.done.exchanged.served honest)
+          (performed_before first.quiet (gl.quiet w.link.now) (server_of gl w.link.now) last.server (sent_for d l ∷ []) (n ∷ []) sees.done.exchanged.stays_quiet
+          (fetched.trades.served (sees.done.exchanged.stays honest) (sent_for d l) (subst (λ x. Means fetched.request (Ok x)) (sent_so split d l is) fetched.means)));
     }
 
     longer : suc (length h.sent) ≡ length past.sent
@@ -306,7 +308,12 @@ stops_so {L = L} {W = W} gl gw split at w w1 l stop x same h = subst (λ y. Answ
         lends_so = f.trades.1.lends_so ∙ sees.done.exchanged.lends_so;
         counts = sees.done.counts;
         served = sees.done.exchanged.served;
-        lost = (f.trades.1.counts, λ honest. f.trades.1.lost (sees.done.exchanged.stays honest) (sent_for (division o.program b) l) (meant f.request (division o.program b) is f.means));
+        lost = (
+          f.trades.1.counts,
+          let lost = f.trades.1.lost (sent_for (division o.program b) l) (meant f.request (division o.program b) is f.means) in
+              let done = sees.done.exchanged in
+              record { fitting = λ honest. lost.fitting (done.stays honest); standing = λ honest quiet. lost.standing (done.stays honest) (done.stays_quiet quiet) },
+        );
       },
     )
     by_stop (stops.BadReply k why kind bytes) f = λ o h b sees stands is. (

@@ -1,11 +1,11 @@
--- A program that is under way stands on a table that fits, and asks for a batch only where one stands.
+-- A program that is under way asks for a batch only where one stands, and its script performs the batch's remote part on each table that
+-- fits.
 use Rattle.std.proofs.Common.{ap, ◌∙◌}
 use Rattle.rb_meaning_types.specs.Declared.{Declarations, of_program}
-use Rattle.rb_meaning_types.specs.Fits.{TableFits}
 use Rattle.rb_meaning_code.specs.Dialogue.{Dialogue, AskBatch, Handler}
 use Rattle.rb_meaning_code.specs.Led.{Passes, here, answered, performed}
 use Rattle.rb_meaning.specs.Links.{IsTyped}
-use Rattle.rb_meaning.specs.Meaning.{in_main, outside_of}
+use Rattle.rb_meaning.specs.Meaning.{around_of, in_main}
 use Rattle.rb_meaning.specs.Unsplit.{batch_at}
 use Rattle.rb_flow.specs.Laws.{AdmittedSendPortable}
 use Rattle.rb_law_types.specs.Around.{HandlerFits}
@@ -14,6 +14,7 @@ use Rattle.rb_law_types.specs.Code.{TypesKeep}
 use Rattle.rb_law_types.specs.Formed.{LawfulClassesAreFormed, LawfulExprsAreFormed, LawfulStmtsAreFormed}
 use Rattle.rb_law_types.specs.Operators.{ConditionsHold}
 use Rattle.rb_law_unsplit.specs.Batches.{program_sites}
+use Rattle.rb_law_unsplit.specs.Kept.{StandsAround}
 use Rattle.rb_law_unsplit.specs.Noted.{LawfulAreNoted}
 use Rattle.rb_law_unsplit.proofs.Admitted.{whole_fits}
 use Rattle.rb_law_unsplit.proofs.Programs.{program_typed}
@@ -34,13 +35,14 @@ passed d side Holds h fits P _ _ _ _ k holds (performed at l go s s' rest p) =
 
 module _ (laws : Laws) (conditions : ConditionsHold) (exprs : LawfulExprsAreFormed) (stmts : LawfulStmtsAreFormed) (classes : LawfulClassesAreFormed) (keep : TypesKeep) (sends : AdmittedSendPortable) (notes : LawfulAreNoted) (scripts : ScriptsPerformRemoteParts) where
   pub reached_perform : ReachedPerformRemoteParts
-  reached_perform p lawful checked none service table served fuel at l go s comes b stands =
+  reached_perform p lawful checked none service table served others kept fuel at l go a comes b stands found fits_so =
       let t = program_typed p checked in
       let whole = whole_fits laws conditions exprs stmts classes keep sends p lawful t none service table served in
       let noted = notes p lawful in
       let fits = main_handler_fits laws.calls exprs stmts classes keep p lawful t none service table served whole noted in
       let keeps = main_keeps laws.calls exprs stmts classes keep p lawful t none service table served whole noted fuel in
       let ends = MainEnds laws.calls exprs stmts classes keep p lawful t none service table served whole noted in
-      let reached = passed (of_program p) (Own (program_sites p)) (λ x. TableFits service.classes service.root x.server.table) (in_main p service) fits ends (main_run p fuel) (AskBatch at l go) (outside_of table) s keeps served.fits comes in
-      let typed : IsTyped service s.server.table = record { lawful = served.lawful; typed = served.typed; fits = reached.1 } in
-      scripts p lawful checked none service s.server.table typed reached.0.0 reached.0.1.may b (ap (batch_at p) reached.0.1.here ∙ stands) l reached.0.1.fits
+      let start = around_of table others in
+      let reached = passed (of_program p) (Own (program_sites p)) (StandsAround service) (in_main p service) fits ends (main_run p fuel) (AskBatch at l go) start a keeps (record { table = served.fits; others = kept }) comes in
+      let typed : IsTyped service found = record { lawful = served.lawful; typed = served.typed; fits = fits_so } in
+      scripts p lawful checked none service found typed reached.0.0 reached.0.1.may b (ap (batch_at p) reached.0.1.here ∙ stands) l reached.0.1.fits

@@ -1,17 +1,20 @@
 -- What exchanges do to the server that a link tells, one after the other.
-use Rattle.std.proofs.Common.{◌≡◌, ◌⊎◌, inl, inr, refl, sym, ap, ◌∙◌, subst, arith, ℕ, zero, suc, ◌<◌, List, [], ◌∷◌, ◌++◌, true, false, ◌==◌}
+use Rattle.std.proofs.Common.{◌≡◌, ◌⊎◌, inl, inr, refl, sym, ap, ◌∙◌, subst, arith, ℕ, zero, suc, ◌<◌, List, [], ◌++◌, append_assoc, append-nil, true, false, ◌==◌}
 use Rattle.std.specs.Prelude.{Option, None, Some}
-use Rattle.std.specs.List.{list_any}
+use Rattle.std.specs.List.{AllByRecursion, list_any}
 use Rattle.rb_trees.specs.declared.services.Object.{Object}
 use Rattle.rb_trees.specs.mirror.Forests.{Node}
 use Rattle.rb_trees.specs.mirror.Services.{Service}
 use Rattle.rb_meaning_bytes.specs.formats.Messages.{Sent}
+use Rattle.rb_meaning_types.specs.Fits.{TableFits}
 use Rattle.rb_meaning.specs.Links.{Behind, TellsTyped}
-use Rattle.rb_law_client.specs.Clients.{ScriptsGive, sent_run}
+use Rattle.rb_meaning.specs.Others.{FoundThrough, last_table}
+use Rattle.rb_law_client.specs.Clients.{ScriptsGive}
 use Rattle.rb_base.specs.Counts.{risen}
 use Rattle.rb_base.specs.Links.{IsLater, fails_next}
-use Rattle.rb_client.specs.Servers.{FailsAfter, IsServer, NoneFails, PerformedAll, fails_after, later}
+use Rattle.rb_client.specs.Servers.{FailsAfter, HasServed, IsServer, NoneFails, Performed, PerformedAll, fails_after, later}
 use Rattle.rb_client.specs.Serving.{Counts, CountsOne, IsLaterBy}
+use Rattle.rb_client.proofs.Given.{all_on, alone_on, gives_on, last_on}
 
 -- How many exchanges were made.
 
@@ -68,55 +71,68 @@ failed_after n None b c h one = tt
 
 -- What was performed.
 
-pub performed_none : (s : Option Behind) → TellsTyped s → PerformedAll s s [] []
-performed_none None h = absurd h
-performed_none (Some b) h = (refl, refl)
+-- what a server served, and then more
+pub served_on : (a b c : Behind) (f g l m : List (List Object)) (t u : List Object) → HasServed a b f l t → HasServed b c g m u → HasServed a c (f ++ g) (l ++ m) u
+served_on a b c f g l m t u h one = record {
+  service = one.service ∙ h.service;
+  found_so = one.found_so ∙ ap (λ fs. fs ++ g) h.found_so ∙ append_assoc a.found f g;
+  left_so = one.left_so ∙ ap (λ ls. ls ++ m) h.left_so ∙ append_assoc a.left l m;
+  table_so = one.table_so;
+}
 
-gives_more : (service : Service) (sent : List Sent) (nodes : List Node) (x : Sent) (n : Node) (a b c : List Object) → ScriptsGive service a sent nodes b → (sent_run service b x).node ≡ n → (sent_run service b x).server.table ≡ c
-    → ScriptsGive service a (sent ++ x ∷ []) (nodes ++ n ∷ []) c
-gives_more service [] [] x n a b c h gives leaves = (ap (λ t. (sent_run service t x).node) h ∙ gives, ap (λ t. (sent_run service t x).server.table) h ∙ leaves)
-gives_more service (q ∷ qs) (m ∷ ms) x n a b c h gives leaves = (h.0, gives_more service qs ms x n (sent_run service a q).server.table b c h.1 gives leaves)
-gives_more service [] (m ∷ ms) x n a b c h gives leaves = absurd h
-gives_more service (q ∷ qs) [] x n a b c h gives leaves = absurd h
+-- what the same server served, by equal words
+pub served_as : (told : Option Behind) (b : Behind) (f g l m : List (List Object)) (t u : List Object) → f ≡ g → l ≡ m → t ≡ u → IsServer told b f l t → IsServer told b g m u
+served_as told b f g l m t u found left table is =
+    subst (λ x. IsServer told b x m u) found (subst (λ x. IsServer told b f x u) left (subst (IsServer told b f l) table is))
 
-pub performed_more : (sent : List Sent) (nodes : List Node) (x : Sent) (n : Node) (a b c : Option Behind) → PerformedAll a b sent nodes → PerformedAll b c (x ∷ []) (n ∷ []) → PerformedAll a c (sent ++ x ∷ []) (nodes ++ n ∷ [])
-performed_more sent nodes x n (Some a) (Some b) (Some c) h one = (
-  one.0 ∙ h.0,
-  gives_more a.service sent nodes x n a.table b.table c.table h.1 (ap (λ s. (sent_run s b.table x).node) (sym h.0) ∙ one.1.0) (ap (λ s. (sent_run s b.table x).server.table) (sym h.0) ∙ one.1.1),
-)
-performed_more sent nodes x n (Some a) (Some b) None h one = absurd one
-performed_more sent nodes x n (Some a) None c h one = absurd h
-performed_more sent nodes x n None b c h one = absurd h
+-- what it served, where nothing was noted since
+pub served_still : (a b c : Behind) (f l : List (List Object)) (t u : List Object) → HasServed a b f l t → HasServed b c [] [] u → HasServed a c f l u
+served_still a b c f l t u h one =
+    subst (λ x. HasServed a c x l u) (append-nil f) (subst (λ x. HasServed a c (f ++ []) x u) (append-nil l) (served_on a b c f [] l [] t u h one))
 
--- the last of the scripts, on the table that those before it leave
-pub record LastGives (service : Service) (before after : List Object) (sent : List Sent) (nodes : List Node) (x : Sent) (n : Node) : Type 0 where
-  pub table : List Object
-  pub given : ScriptsGive service before sent nodes table
-  pub node_so : (sent_run service table x).node ≡ n
-  pub leaves : (sent_run service table x).server.table ≡ after
+pub served_none : (b : Behind) → HasServed b b [] [] b.table
+served_none b = record { service = refl; found_so = sym (append-nil b.found); left_so = sym (append-nil b.left); table_so = refl }
 
-none_at_end : (service : Service) (before after : List Object) (sent : List Sent) (x : Sent) → ScriptsGive service before (sent ++ x ∷ []) [] after → ⊥
-none_at_end service before after [] x h = h
-none_at_end service before after (q ∷ qs) x h = h
+pub performed_none : (quiet : Type 0) (s : Option Behind) → TellsTyped s → PerformedAll quiet s s [] []
+performed_none quiet None h = absurd h
+performed_none quiet (Some b) h = record { found = []; left = []; given = tt; fitting = tt; alone = λ q. tt; served = served_none b }
 
-more_than_sent : (service : Service) (before after : List Object) (nodes : List Node) (n : Node) → ScriptsGive service before [] (nodes ++ n ∷ []) after → ⊥
-more_than_sent service before after [] n h = h
-more_than_sent service before after (m ∷ ms) n h = h
+-- what was performed over a link that is quiet, of one that was quiet before
+pub performed_before : (before now : Type 0) (a b : Option Behind) (sent : List Sent) (nodes : List Node) → (before → now) → PerformedAll now a b sent nodes → PerformedAll before a b sent nodes
+performed_before before now (Some a) (Some b) sent nodes stays h =
+    record { found = h.found; left = h.left; given = h.given; fitting = h.fitting; alone = λ quiet. h.alone (stays quiet); served = h.served }
+performed_before before now (Some a) None sent nodes stays h = absurd h
+performed_before before now None b sent nodes stays h = absurd h
 
-pub last_gives : (service : Service) (before after : List Object) (sent : List Sent) (nodes : List Node) (x : Sent) (n : Node) → ScriptsGive service before (sent ++ x ∷ []) (nodes ++ n ∷ []) after → LastGives service before after sent nodes x n
-last_gives service before after [] [] x n h = record { table = before; given = refl; node_so = h.0; leaves = h.1 }
-last_gives service before after [] (m ∷ ms) x n h = absurd (more_than_sent service (sent_run service before x).server.table after ms n h.1)
-last_gives service before after (q ∷ qs) [] x n h = absurd (none_at_end service (sent_run service before q).server.table after qs x h.1)
-last_gives service before after (q ∷ qs) (m ∷ ms) x n h =
-    let r = last_gives service (sent_run service before q).server.table after qs ms x n h.1 in
-    record { table = r.table; given = (h.0, r.given); node_so = r.node_so; leaves = r.leaves }
+on_same_service : (quiet : Type 0) (a b c : Behind) (sent more : List Sent) (nodes ms : List Node) → Performed quiet a b sent nodes → Performed quiet b c more ms → Performed quiet a c (sent ++ more) (nodes ++ ms)
+on_same_service quiet a b c sent more nodes ms h one =
+    let same = h.served.service in
+    let fits = λ (s : Service). TableFits s.classes s.root in
+    record {
+      found = h.found ++ one.found;
+      left = h.left ++ one.left;
+      given = gives_on a.service h.found one.found sent more nodes ms h.left one.left h.given (subst (λ s. ScriptsGive s one.found more ms one.left) same one.given);
+      fitting = all_on (fits a.service) h.found one.found h.fitting (subst (λ s. AllByRecursion (fits s) one.found) same one.fitting);
+      alone = λ q. alone_on a.table h.found one.found h.left one.left (h.alone q) (subst (λ t. FoundThrough [] t one.found one.left) h.served.table_so (one.alone q));
+      served = subst (HasServed a c (h.found ++ one.found) (h.left ++ one.left)) (ap (λ t. last_table t one.left) h.served.table_so ∙ sym (last_on a.table h.left one.left))
+          (served_on a b c h.found one.found h.left one.left (last_table a.table h.left) (last_table b.table one.left) h.served one.served);
+    }
 
--- the table that a server has, of which it is told what it performed
-pub record Served (b : Behind) (told : Option Behind) (sent : List Sent) (nodes : List Node) : Type 0 where
-  pub table : List Object
-  pub given : ScriptsGive b.service b.table sent nodes table
-  pub is : IsServer told b.service table
+pub performed_on : (quiet : Type 0) (a b c : Option Behind) (sent more : List Sent) (nodes ms : List Node) → PerformedAll quiet a b sent nodes → PerformedAll quiet b c more ms → PerformedAll quiet a c (sent ++ more) (nodes ++ ms)
+performed_on quiet (Some a) (Some b) (Some c) sent more nodes ms h one = on_same_service quiet a b c sent more nodes ms h one
+performed_on quiet (Some a) (Some b) None sent more nodes ms h one = absurd one
+performed_on quiet (Some a) None c sent more nodes ms h one = absurd h
+performed_on quiet None b c sent more nodes ms h one = absurd h
 
-pub served_of : (b : Behind) (told : Option Behind) (sent : List Sent) (nodes : List Node) → PerformedAll (Some b) told sent nodes → Served b told sent nodes
-served_of b (Some a) sent nodes h = record { table = a.table; given = h.1; is = (h.0, refl) }
-served_of b None sent nodes h = absurd h
+-- what a server performed since it stood so, where its link tells it then
+pub record Served (quiet : Type 0) (b : Behind) (told : Option Behind) (sent : List Sent) (nodes : List Node) : Type 0 where
+  pub found : List (List Object)
+  pub left : List (List Object)
+  pub given : ScriptsGive b.service found sent nodes left
+  pub fitting : AllByRecursion (TableFits b.service.classes b.service.root) found
+  pub alone : quiet → FoundThrough [] b.table found left
+  pub is : IsServer told b found left (last_table b.table left)
+
+pub served_of : (quiet : Type 0) (b : Behind) (told : Option Behind) (sent : List Sent) (nodes : List Node) → PerformedAll quiet (Some b) told sent nodes → Served quiet b told sent nodes
+served_of quiet b (Some a) sent nodes h = record { found = h.found; left = h.left; given = h.given; fitting = h.fitting; alone = h.alone; is = h.served }
+served_of quiet b None sent nodes h = absurd h

@@ -1,5 +1,6 @@
 -- What an exchange over a link gives.
-use Rattle.std.proofs.Common.{◌≡◌, inl, inr, refl, sym, ap, ◌∙◌, subst, arith, ℕ, List, [], ◌∷◌, append-nil}
+use Rattle.std.proofs.Common.{◌≡◌, inl, inr, refl, sym, ap, ◌∙◌, subst, arith, ℕ, List, [], ◌∷◌, ◌++◌, append-nil}
+use Rattle.std.proofs.lemmas.List.{append_cancel_left}
 use Rattle.std.specs.Prelude.{true, false, Option, None, Some, Result, Ok, Err}
 use Rattle.rb_trees.specs.Outcome.{Refuses}
 use Rattle.rb_trees.specs.declared.services.Object.{Object}
@@ -15,9 +16,9 @@ use Rattle.rb_meaning_bytes.specs.formats.Payloads.{IsForestOf}
 use Rattle.rb_meaning_bytes.specs.formats.ScriptPayloads as script
 use Rattle.rb_meaning_bytes.proofs.formats.ForestVersions.{forest_any}
 use Rattle.rb_meaning.specs.Answers.{Answers, forest_kind, performs, refusal_kind, refuses}
-use Rattle.rb_meaning.specs.Links.{Behind, Pair}
+use Rattle.rb_meaning.specs.Links.{Behind, MayAnswer, Pair}
 use Rattle.rb_law_client.specs.Clients.{sent_run}
-use Rattle.rb_base.specs.Links.{IsListedWhereTold, IsReplyKind, KeepsCause, ServesAsTold, faults_after, pairs_after}
+use Rattle.rb_base.specs.Links.{Finds, FindsFitting, FindsStanding, IsLater, IsListedWhereTold, IsReplyKind, KeepsCause, NotesNone, ServesAsTold, faults_after, pairs_after}
 use Rattle.rb_base.specs.declared.links.Link as links
 use Rattle.rb_base.specs.declared.links.LinkStop.{LinkStop}
 use Rattle.rb_base.specs.declared.links.LinkStop.TheVariants as link_stops
@@ -28,9 +29,9 @@ use Rattle.rb_wire_forest.specs.Payloads.{Means, Violation, spelled, violated}
 use Rattle.rb_wire_forest.specs.declared.forest.Forest.{Forest}
 use Rattle.rb_wire_forest.specs.declared.fitting.Misfit.{Misfit}
 use Rattle.rb_wire_forest.specs.declared.fitting.Misfit.TheVariants as amiss
-use Rattle.rb_client.specs.Replies.{GivesNoNode, GotBad, GotFault, GotReply, HasReason, IsAlone, IsForest, IsMisfit, Reads, Replied, Takes, more_pairs, pair_of, pairs_of, refused_pairs}
-use Rattle.rb_client.specs.Servers.{PerformedAll}
-use Rattle.rb_client.specs.Serving.{CountsOne, GivesMisfit, GivesReply, MayPerform, server_of}
+use Rattle.rb_client.specs.Replies.{GivesNoNode, GotBad, GotFault, GotReply, HasReason, IsAlone, IsForest, IsMisfit, Reads, Replied, Takes, WhereSent, more_pairs, pair_of, pairs_of, refused_pairs}
+use Rattle.rb_client.specs.Servers.{HasServed, PerformedAll}
+use Rattle.rb_client.specs.Serving.{AsFound, CountsOne, GivesMisfit, GivesReply, LosesSent, MayPerform, server_of, table_left}
 use Rattle.rb_client.specs.declared.stops.BadReason.{BadReason}
 use Rattle.rb_client.specs.declared.stops.BadReason.TheVariants as reason
 use Rattle.rb_client.specs.declared.stops.RunStop.{RunStop}
@@ -124,52 +125,72 @@ gave once service table request _ _ _ bytes (refuses wrong reply m s) x means = 
 -- The link's own clauses as facts of the server.
 
 counts_one : (reply : Reply) (a b : Option Behind) → IsListedWhereTold (Ok reply) a b → CountsOne false a b
-counts_one reply (Some a) (Some b) h = h
+counts_one reply (Some a) (Some b) h = (h.0, h.1)
 counts_one reply (Some a) None h = absurd h
 counts_one reply None (Some b) h = absurd h
 counts_one reply None None h = tt
 
 counts_frame : (at : ℕ) (bytes : List ℕ) (a b : Option Behind) → IsListedWhereTold (Err (link_stops.Frame at bytes)) a b → CountsOne false a b
-counts_frame at bytes (Some a) (Some b) h = h
+counts_frame at bytes (Some a) (Some b) h = (h.0, h.1)
 counts_frame at bytes (Some a) None h = absurd h
 counts_frame at bytes None (Some b) h = absurd h
 counts_frame at bytes None None h = tt
 
 counts_cut : (got : ℕ) (bytes : List ℕ) (a b : Option Behind) → IsListedWhereTold (Err (link_stops.Cut got bytes)) a b → CountsOne false a b
-counts_cut got bytes (Some a) (Some b) h = h
+counts_cut got bytes (Some a) (Some b) h = (h.0, h.1)
 counts_cut got bytes (Some a) None h = absurd h
 counts_cut got bytes None (Some b) h = absurd h
 counts_cut got bytes None None h = tt
 
 counts_failed : (a b : Option Behind) → IsListedWhereTold (Err link_stops.Failed) a b → CountsOne true a b
-counts_failed (Some a) (Some b) h = h
+counts_failed (Some a) (Some b) h = (h.0, h.1)
 counts_failed (Some a) None h = absurd h
 counts_failed None (Some b) h = absurd h
 counts_failed None None h = tt
 
-no_frame : (request : List ℕ) (at : ℕ) (bytes : List ℕ) (a b : Option Behind) → ServesAsTold request (Err (link_stops.Frame at bytes)) a b → ⊥
+no_frame : (request : List ℕ) (at : ℕ) (bytes : List ℕ) (a b : Option Behind) → ServesAsTold FindsFitting request (Err (link_stops.Frame at bytes)) a b → ⊥
 no_frame request at bytes (Some a) (Some b) h = h
 no_frame request at bytes (Some a) None h = h
 no_frame request at bytes None b h = h
 
-no_cut : (request : List ℕ) (got : ℕ) (bytes : List ℕ) (a b : Option Behind) → ServesAsTold request (Err (link_stops.Cut got bytes)) a b → ⊥
+no_cut : (request : List ℕ) (got : ℕ) (bytes : List ℕ) (a b : Option Behind) → ServesAsTold FindsFitting request (Err (link_stops.Cut got bytes)) a b → ⊥
 no_cut request got bytes (Some a) (Some b) h = h
 no_cut request got bytes (Some a) None h = h
 no_cut request got bytes None b h = h
 
-module _ (once : MeansOne) (request : List ℕ) (bytes : IsBytes request) (x : Sent) (means : script.Means request (Ok x)) where
-  given_so : (reply : Reply) (a b : Option Behind) → CountsOne false a b → ServesAsTold request (Ok reply) a b → GivesReply a b x reply.kind reply.payload.items
-  given_so reply (Some a) (Some b) one h =
-      let g = gave once a.service a.table request reply.kind reply.payload.items b.table bytes h x means in
-      (one.1.service, g.leaves, g.kind_is, g.spells)
-  given_so reply (Some a) None one h = absurd h
-  given_so reply None b one h = absurd h
+-- where nothing was noted
+none_noted : (a b : Behind) (table : List Object) → IsLater a b → NotesNone a b → b.table ≡ table → HasServed a b [] [] table
+none_noted a b table later none is = record {
+  service = later.service;
+  found_so = none.found ∙ sym (append-nil a.found);
+  left_so = none.left ∙ sym (append-nil a.left);
+  table_so = is;
+}
 
-  lost_so : (a b : Option Behind) → CountsOne true a b → ServesAsTold request (Err link_stops.Failed) a b → MayPerform a b x
-  lost_so (Some a) (Some b) one (inl same) = (one.1.service, inl same)
-  lost_so (Some a) (Some b) one (inr (kind, reply, answers)) = (one.1.service, inr (gave once a.service a.table request kind reply b.table bytes answers x means).leaves)
-  lost_so (Some a) None one h = absurd h
-  lost_so None b one h = absurd h
+module _ (once : MeansOne) (request : List ℕ) (bytes : IsBytes request) (x : Sent) (means : script.Means request (Ok x)) where
+  given_so : (Found : Finds) (reply : Reply) (a b : Option Behind) → IsListedWhereTold (Ok reply) a b → ServesAsTold Found request (Ok reply) a b → GivesReply Found a b x reply.kind reply.payload.items
+  given_so Found reply (Some a) (Some b) listed (table, found, served) =
+      let g = gave once a.service table request reply.kind reply.payload.items b.table bytes served.answers x means in
+      record {
+        table = table;
+        found = found;
+        served = record { service = listed.1.service; found_so = served.found; left_so = listed.2.left ∙ ap (λ t. a.left ++ t ∷ []) g.leaves; table_so = g.leaves };
+        kind_so = g.kind_is;
+        forest = g.spells;
+      }
+  given_so Found reply (Some a) None listed h = absurd h
+  given_so Found reply None b listed h = absurd h
+
+  may_perform : (Found : Finds) (a b : Behind) (table : List Object) → Found a table → IsLater a b → NotesNone a b → MayAnswer a.service table request b.table → LosesSent Found a b x
+  may_perform Found a b table found later none (inl stays) = record { table = table; found = found; served = inl (none_noted a b table later none stays) }
+  may_perform Found a b table found later none (inr (kind, reply, answers)) =
+      let g = gave once a.service table request kind reply b.table bytes answers x means in
+      record { table = table; found = found; served = inr (none_noted a b (table_left a table x) later none g.leaves) }
+
+  lost_so : (Found : Finds) (a b : Option Behind) → IsListedWhereTold (Err link_stops.Failed) a b → ServesAsTold Found request (Err link_stops.Failed) a b → MayPerform Found a b x
+  lost_so Found (Some a) (Some b) listed (table, found, may) = may_perform Found a b table found listed.1 listed.2 may
+  lost_so Found (Some a) None listed h = absurd h
+  lost_so Found None b listed h = absurd h
 
 -- What an exchange gives.
 
@@ -182,22 +203,24 @@ stopped done link_stops.Memory = stops.Memory
 
 module _ {L : Type 0} (g : links.Ghosts L) (once : MeansOne) (done : ℕ) (request : List ℕ) (bytes : IsBytes request) (before after : L) where
   abbrev Serves : Result Reply LinkStop → Type 0
-  Serves answer = g.honest before → ServesAsTold request answer (server_of g before) (server_of g after)
+  Serves answer = AsFound (g.honest before) (g.quiet before) (λ Found. ServesAsTold Found request answer (server_of g before) (server_of g after))
 
   -- a whole reply came
   pub replied : (reply : Reply) → IsReplyKind reply.kind → pairs_of g after ≡ more_pairs (pair_of request reply.kind reply.payload.items ∷ []) (pairs_of g before) → g.faults after ≡ g.faults before → g.lends after ≡ g.lends before
-      → IsListedWhereTold (Ok reply) (server_of g before) (server_of g after) → Serves (Ok reply) → (g.honest before → g.honest after) → Replied g done request before (Ok reply) after
-  replied reply kind pairs faults lends listed serves stays =
-      let one = counts_one reply (server_of g before) (server_of g after) listed in
-      record {
-        kind_so = kind;
-        pairs_so = pairs;
-        faults_so = faults;
-        lends_so = lends;
-        counts = one;
-        stays = stays;
-        served = λ honest x means. given_so once request bytes x means reply (server_of g before) (server_of g after) one (serves honest);
-      }
+      → IsListedWhereTold (Ok reply) (server_of g before) (server_of g after) → Serves (Ok reply) → (g.honest before → g.honest after) → (g.quiet before → g.quiet after) → Replied g done request before (Ok reply) after
+  replied reply kind pairs faults lends listed serves stays quiet = record {
+    kind_so = kind;
+    pairs_so = pairs;
+    faults_so = faults;
+    lends_so = lends;
+    counts = counts_one reply (server_of g before) (server_of g after) listed;
+    stays = stays;
+    stays_quiet = quiet;
+    served = λ x means. record {
+      fitting = λ h. given_so once request bytes x means FindsFitting reply (server_of g before) (server_of g after) listed (serves.fitting h);
+      standing = λ h q. given_so once request bytes x means FindsStanding reply (server_of g before) (server_of g after) listed (serves.standing h q);
+    };
+  }
 
   no_pairs : (told : Option (List Pair)) → told ≡ more_pairs [] told
   no_pairs None = refl
@@ -207,8 +230,11 @@ module _ {L : Type 0} (g : links.Ghosts L) (once : MeansOne) (done : ℕ) (reque
   pub unreplied : (stop : LinkStop) → KeepsCause stop → pairs_of g after ≡ pairs_after request (Err stop) (pairs_of g before) → g.faults after ≡ faults_after (Err stop) (g.faults before) → g.lends after ≡ g.lends before → IsListedWhereTold (Err stop) (server_of g before) (server_of g after)
       → Serves (Err stop) → Replied g done request before (Err (stopped done stop)) after
   unreplied link_stops.Failed cause pairs faults lends listed serves =
-      let one = counts_failed (server_of g before) (server_of g after) listed in
-      (refl, record { pairs_so = pairs; faults_so = faults; lends_so = lends; counts = one; lost = λ honest x means. lost_so once request bytes x means (server_of g before) (server_of g after) one (serves honest) })
+      let lost : WhereSent g request before after MayPerform = λ x means. record {
+        fitting = λ h. lost_so once request bytes x means FindsFitting (server_of g before) (server_of g after) listed (serves.fitting h);
+        standing = λ h q. lost_so once request bytes x means FindsStanding (server_of g before) (server_of g after) listed (serves.standing h q);
+      } in
+      (refl, record { pairs_so = pairs; faults_so = faults; lends_so = lends; counts = counts_failed (server_of g before) (server_of g after) listed; lost = lost })
   unreplied (link_stops.Frame at taken) cause pairs faults lends listed serves = (
     refl,
     λ remainder. record {
@@ -217,7 +243,7 @@ module _ {L : Type 0} (g : links.Ghosts L) (once : MeansOne) (done : ℕ) (reque
       faults_so = faults;
       lends_so = lends;
       counts = counts_frame at taken (server_of g before) (server_of g after) listed;
-      misfit = λ honest x means. absurd (no_frame request at taken (server_of g before) (server_of g after) (serves honest));
+      misfit = λ honest x means. absurd (no_frame request at taken (server_of g before) (server_of g after) (serves.fitting honest));
     },
   )
   unreplied (link_stops.Cut got taken) cause pairs faults lends listed serves = (
@@ -228,7 +254,7 @@ module _ {L : Type 0} (g : links.Ghosts L) (once : MeansOne) (done : ℕ) (reque
       faults_so = faults;
       lends_so = lends;
       counts = counts_cut got taken (server_of g before) (server_of g after) listed;
-      misfit = λ honest x means. absurd (no_cut request got taken (server_of g before) (server_of g after) (serves honest));
+      misfit = λ honest x means. absurd (no_cut request got taken (server_of g before) (server_of g after) (serves.fitting honest));
     },
   )
   unreplied link_stops.Memory cause pairs faults lends listed serves = tt
@@ -245,7 +271,8 @@ pub record GotNode {L : Type 0} (g : links.Ghosts L) (remainder : Parts) (reques
   pub lends_so : g.lends after ≡ g.lends before
   pub counts : CountsOne false (server_of g before) (server_of g after)
   pub stays : g.honest before → g.honest after
-  pub served : g.honest before → (x : Sent) → script.Means request (Ok x) → PerformedAll (server_of g before) (server_of g after) (x ∷ []) (n ∷ [])
+  pub stays_quiet : g.quiet before → g.quiet after
+  pub served : g.honest before → (x : Sent) → script.Means request (Ok x) → PerformedAll (g.quiet before) (server_of g before) (server_of g after) (x ∷ []) (n ∷ [])
 
 -- What an exchange and the reading of its reply give, of which so many were before it. Nothing is said after want of memory.
 abbrev pub Trades : {L : Type 0} → links.Ghosts L → Parts → ℕ → List ℕ → L → Result Node RunStop → L → Type 0
@@ -255,17 +282,30 @@ Trades g remainder done request before (Err (stops.BadReply k why kind bytes)) a
 Trades g remainder done request before (Err stops.WriteFault) after = ⊥
 Trades g remainder done request before (Err stops.Memory) after = Unit {0}
 
-performed_so : (x : Sent) (kind : ℕ) (payload : List ℕ) (n : Node) (a b : Option Behind) → IsAlone payload n → GivesReply a b x kind payload → PerformedAll a b (x ∷ []) (n ∷ [])
-performed_so x kind payload n (Some a) (Some b) is h =
-    let node = (sent_run a.service a.table x).node in
-    (h.0, (is node (forest_any x.version payload node h.3), sym h.1))
-performed_so x kind payload n (Some a) None is h = absurd h
-performed_so x kind payload n None b is h = absurd h
+-- which table a reply was noted with is told by the notes
+same_found : (a b : Behind) (t u : List Object) → b.found ≡ a.found ++ t ∷ [] → b.found ≡ a.found ++ u ∷ [] → t ≡ u
+same_found a b t u e f = let ends = append_cancel_left a.found (t ∷ []) (u ∷ []) (sym e ∙ f) in cc ends
 
-misfit_given : (x : Sent) (kind : ℕ) (payload : List ℕ) (remainder : Parts) (a b : Option Behind) → GivesNoNode remainder kind payload → GivesReply a b x kind payload → GivesMisfit a x remainder
-misfit_given x kind payload remainder (Some a) (Some b) none h = λ e.
-    let node = (sent_run a.service a.table x).node in
-    none node (record { kind_so = h.2; spells = forest_any x.version payload node h.3; fits_so = e })
+performed_so : (honest quiet : Type 0) (x : Sent) (kind : ℕ) (payload : List ℕ) (n : Node) (a b : Option Behind) → IsAlone payload n → AsFound honest quiet (λ Found. GivesReply Found a b x kind payload) → honest
+    → PerformedAll quiet a b (x ∷ []) (n ∷ [])
+performed_so honest quiet x kind payload n (Some a) (Some b) is h so =
+    let r = h.fitting so in
+    let node = (sent_run a.service r.table x).node in
+    record {
+      found = r.table ∷ [];
+      left = table_left a r.table x ∷ [];
+      given = (is node (forest_any x.version payload node r.forest), refl, tt);
+      fitting = (r.found, tt);
+      alone = λ q. let s = h.standing so q in (same_found a b r.table s.table r.served.found_so s.served.found_so ∙ s.found, tt);
+      served = r.served;
+    }
+performed_so honest quiet x kind payload n (Some a) None is h so = absurd (h.fitting so)
+performed_so honest quiet x kind payload n None b is h so = absurd (h.fitting so)
+
+misfit_given : (x : Sent) (kind : ℕ) (payload : List ℕ) (remainder : Parts) (a b : Option Behind) → GivesNoNode remainder kind payload → GivesReply FindsFitting a b x kind payload → GivesMisfit a x remainder
+misfit_given x kind payload remainder (Some a) (Some b) none h =
+    let node = (sent_run a.service h.table x).node in
+    (h.table, h.found, λ e. none node (record { kind_so = h.kind_so; spells = forest_any x.version payload node h.forest; fits_so = e }))
 misfit_given x kind payload remainder (Some a) None none h = absurd h
 misfit_given x kind payload remainder None b none h = absurd h
 
@@ -288,7 +328,8 @@ module _ {L : Type 0} (g : links.Ghosts L) (remainder : Parts) (done : ℕ) (req
       lends_so = got.lends_so;
       counts = got.counts;
       stays = got.stays;
-      served = λ honest x means. performed_so x reply.kind reply.payload.items (root_of f) (server_of g before) (server_of g after) h.1 (got.served honest x means);
+      stays_quiet = got.stays_quiet;
+      served = λ honest x means. performed_so (g.honest before) (g.quiet before) x reply.kind reply.payload.items (root_of f) (server_of g before) (server_of g after) h.1 (got.served x means) honest;
     }
 
     -- it was refused
@@ -304,7 +345,7 @@ module _ {L : Type 0} (g : links.Ghosts L) (remainder : Parts) (done : ℕ) (req
             faults_so = got.faults_so;
             lends_so = got.lends_so;
             counts = got.counts;
-            misfit = λ honest x means. misfit_given x reply.kind reply.payload.items remainder (server_of g before) (server_of g after) w.1 (got.served honest x means);
+            misfit = λ honest x means. misfit_given x reply.kind reply.payload.items remainder (server_of g before) (server_of g after) w.1 ((got.served x means).fitting honest);
           },
         )
     unread stops.WriteFault h = absurd h

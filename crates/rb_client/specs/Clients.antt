@@ -27,7 +27,7 @@ use Rattle.rb_client.specs.Requests.{to_send}
 use Rattle.rb_client.specs.Runs.{ExchangedAll, FailsInBatch, FailsToWrite, GivesNone, with_batch}
 use Rattle.rb_client.specs.Scenes.{Scene, scene}
 use Rattle.rb_client.specs.Servers.{PerformedAll}
-use Rattle.rb_client.specs.Serving.{Counts, CountsOne, GivesMisfit, MayPerform}
+use Rattle.rb_client.specs.Serving.{AsFound, Counts, CountsOne, GivesMisfit, MayPerform}
 use Rattle.rb_client.specs.declared.client_world.ClientWorld.{ClientWorld}
 use Rattle.rb_client.specs.declared.stops.RunStop.{RunStop}
 use Rattle.rb_client.specs.declared.stops.RunStop.TheVariants as stops
@@ -70,12 +70,14 @@ FailsToAnswer p before after h (ask.Line at bytes) = FailsToWrite p before after
 FailsToAnswer p before after h _ = ⊥
 
 -- What an exchange that gave no node did to the server: it is one of those that fail just where it failed. Over an honest link
--- the script may have been performed where it failed, and else its node doesn't fit.
-abbrev pub Lost : Type 0 → Division → Local → RunStop → Option Behind → Option Behind → Type 0
-Lost Honest d l (stops.LinkFault k) server after = CountsOne true server after × (Honest → MayPerform server after (sent_for d l))
-Lost Honest d l (stops.BadReply k why kind bytes) server after = CountsOne false server after × (Honest → GivesMisfit server (sent_for d l) d.remainder)
-Lost Honest d l stops.WriteFault server after = ⊥
-Lost Honest d l stops.Memory server after = ⊥
+-- the script may have been performed where it failed, on the table that it found, and else its node doesn't fit.
+abbrev pub Lost : Type 0 → Type 0 → Division → Local → RunStop → Option Behind → Option Behind → Type 0
+Lost honest quiet d l (stops.LinkFault k) server after =
+    CountsOne true server after × AsFound honest quiet (λ Found. MayPerform Found server after (sent_for d l))
+Lost honest quiet d l (stops.BadReply k why kind bytes) server after =
+    CountsOne false server after × (honest → GivesMisfit server (sent_for d l) d.remainder)
+Lost honest quiet d l stops.WriteFault server after = ⊥
+Lost honest quiet d l stops.Memory server after = ⊥
 
 -- At a batch that was reached with this past the exchange gave no node. Nothing was written since. Whether the link lends a table
 -- is kept.
@@ -85,8 +87,8 @@ pub record StopsAt (p : Program) (before after : Scene) (h : Past) (d : Division
   pub gives_none : GivesNone p d l stop before after h.sent h.nodes
   pub lends_so : after.lends ≡ before.lends
   pub counts : Counts (length h.sent) before.server server
-  pub served : before.honest → PerformedAll before.server server h.sent h.nodes
-  pub lost : Lost before.honest d l stop server after.server
+  pub served : before.honest → PerformedAll before.quiet before.server server h.sent h.nodes
+  pub lost : Lost before.honest before.quiet d l stop server after.server
 
 -- A batch was cut off: by a failed write within its own events, or before them by its exchange.
 abbrev pub StopsIn : Program → Scene → Scene → Past → Division → Local → RunStop → Type 0

@@ -9,16 +9,16 @@ use Rattle.rb_meaning_bytes.specs.formats.Messages.{Sent}
 use Rattle.rb_meaning_bytes.specs.formats.Payloads as bytes_of
 use Rattle.rb_meaning_bytes.specs.formats.ScriptPayloads.{Means}
 use Rattle.rb_meaning.specs.Answers.{forest_kind, refusal_kind}
-use Rattle.rb_meaning.specs.Links.{Pair, pairs_told}
+use Rattle.rb_meaning.specs.Links.{Behind, Pair, pairs_told}
 use Rattle.rb_meaning.specs.Replies.{BreaksAt, IsCut}
 use Rattle.rb_base.specs.Counts.{risen}
-use Rattle.rb_base.specs.Links.{IsReplyKind}
+use Rattle.rb_base.specs.Links.{Finds, IsReplyKind}
 use Rattle.rb_base.specs.declared.links.Link as links
 use Rattle.rb_base.specs.declared.links.Reply.{Reply}
 use Rattle.rb_wire_forest.specs.Misfits.{unfit}
 use Rattle.rb_wire_forest.specs.Opened.{root_of}
 use Rattle.rb_wire_forest.specs.declared.forest.Forest.{Forest}
-use Rattle.rb_client.specs.Serving.{CountsOne, GivesMisfit, GivesReply, MayPerform, server_of}
+use Rattle.rb_client.specs.Serving.{AsFound, CountsOne, GivesMisfit, GivesReply, MayPerform, server_of}
 use Rattle.rb_client.specs.declared.stops.BadReason.{BadReason}
 use Rattle.rb_client.specs.declared.stops.BadReason.TheVariants as reason
 use Rattle.rb_client.specs.declared.stops.RunStop.{RunStop}
@@ -87,6 +87,12 @@ refused_pairs _ pair = pair ∷ []
 abbrev pub pairs_of : {L : Type 0} → links.Ghosts L → L → Option (List Pair)
 pairs_of g link = pairs_told (g.told link)
 
+-- This holds of the servers that a link tells before and after, and of the script that a request means, as requests find tables over
+-- the link.
+abbrev pub WhereSent : {L : Type 0} → links.Ghosts L → List ℕ → L → L → (Finds → Option Behind → Option Behind → Sent → Type 0) → Type 0
+WhereSent g request before after Holds =
+    (x : Sent) → Means request (Ok x) → AsFound (g.honest before) (g.quiet before) (λ Found. Holds Found (server_of g before) (server_of g after) x)
+
 -- A whole reply came, in a pair more. Whether the link lends a table is kept. Over an honest link the server gave it, by the script
 -- that the request means.
 pub record GotReply {L : Type 0} (g : links.Ghosts L) (request : List ℕ) (before after : L) (reply : Reply) : Type 0 where
@@ -96,16 +102,17 @@ pub record GotReply {L : Type 0} (g : links.Ghosts L) (request : List ℕ) (befo
   pub lends_so : g.lends after ≡ g.lends before
   pub counts : CountsOne false (server_of g before) (server_of g after)
   pub stays : g.honest before → g.honest after
-  pub served : g.honest before → (x : Sent) → Means request (Ok x) → GivesReply (server_of g before) (server_of g after) x reply.kind reply.payload.items
+  pub stays_quiet : g.quiet before → g.quiet after
+  pub served : WhereSent g request before after (λ Found b a x. GivesReply Found b a x reply.kind reply.payload.items)
 
 -- The exchange failed, which the link counted. Whether it lends a table is kept. Over an honest link the server may have
--- performed the script.
+-- performed the script, and nothing was noted.
 pub record GotFault {L : Type 0} (g : links.Ghosts L) (request : List ℕ) (before after : L) : Type 0 where
   pub pairs_so : pairs_of g after ≡ pairs_of g before
   pub faults_so : g.faults after ≡ risen (g.faults before)
   pub lends_so : g.lends after ≡ g.lends before
   pub counts : CountsOne true (server_of g before) (server_of g after)
-  pub lost : g.honest before → (x : Sent) → Means request (Ok x) → MayPerform (server_of g before) (server_of g after) x
+  pub lost : WhereSent g request before after MayPerform
 
 -- A reply was refused for this reason. Whether the link lends a table is kept. Over an honest link that is so only where the
 -- script gives a node that doesn't fit.

@@ -41,12 +41,13 @@ pub record IsAcceptedWith (p : program.Program) (splits : List Split) : Type 0 w
   pub places : HasPlaces (mirror_program p)
 
 -- Scripts were exchanged for nodes: the pairs that the link tells grew by one for each script. Whether the link lends a table is
--- kept. Where it was honest it is so still, and its server performed them.
+-- kept. Where it was honest or quiet it is so still; where it was honest its server performed the scripts.
 pub record ExchangedAll (p : Program) (before after : Scene) (sent : List Sent) (nodes : List Node) : Type 0 where
   pub exchanged : Exchanged p before.pairs after.pairs sent nodes
   pub lends_so : after.lends ≡ before.lends
   pub stays : before.honest → after.honest
-  pub served : before.honest → PerformedAll before.server after.server sent nodes
+  pub stays_quiet : before.quiet → after.quiet
+  pub served : before.honest → PerformedAll before.quiet before.server after.server sent nodes
 
 -- The client ran on the nodes that were replied: it ended so, with so many exchanges; its lines were written, and its scripts
 -- were exchanged for those nodes. No exchange failed.

@@ -6,13 +6,14 @@ use Rattle.rb_base.specs.declared.links.Link as links
 use Rattle.rb_base.specs.declared.sinks.Sink as sinks
 
 -- the pairs and the server that the link tells, how many of its exchanges failed, whether it lends a table, and whether it is
--- honest; and the output
+-- honest and quiet; and the output
 pub record Scene : Type 1 where
   pub pairs : Option (List Pair)
   pub server : Option Behind
   pub faults : ℕ
   pub lends : Bool
   pub honest : Type 0
+  pub quiet : Type 0
   pub out : Device (List ℕ)
 
 abbrev pub scene : {L W : Type 0} → links.Ghosts L → sinks.Ghosts W → L → W → Scene
@@ -22,6 +23,7 @@ scene gl gw link out = record {
   faults = gl.faults link;
   lends = gl.lends link;
   honest = gl.honest link;
+  quiet = gl.quiet link;
   out = device gw.told gw.faults out;
 }
 

@@ -3,7 +3,7 @@
 ghost use Rattle.std.specs.Prelude.{◌≡◌, []};
 ghost use Rattle.rb_trees.specs.mirror.Declarations.{mirror_program};
 ghost use Rattle.rb_engine.specs.Locals.{local};
-ghost use Rattle.rb_client.specs.Headline.{MeansWhereHonest};
+ghost use Rattle.rb_client.specs.Headline.{MeansWhereHonest, MeansWhereQuiet};
 ghost use Rattle.rb_client.specs.MainRuns.{Leads, LeadsWithin, Leaves, RunsMain, body_run, result_run};
 ghost use Rattle.rb_client.specs.Runs.{FailsAsListed, IsAcceptedWith, RunsOver};
 ghost use Rattle.rb_client.specs.Scenes.{Between};
@@ -17,8 +17,8 @@ use rb_code::Code;
 use rb_engine::{Frame, Halt, RunResult, State, eval, exec};
 use rb_heap::Heap;
 use rb_law_client::{
-    clients_mean_what_programs_mean, fronts_are_shown, programs_come_as_far_as_clients,
-    reached_batches_can_be_exchanged,
+    answers_fit_on_the_way, clients_mean_what_programs_mean, fronts_are_shown,
+    programs_come_as_far_as_clients, reached_batches_can_be_exchanged,
 };
 use rb_law_division::divided_scripts_can_be_sent;
 use rb_trees::{Body, Ending, Expr, Run, Seq, Split, Value};
@@ -129,10 +129,11 @@ fn run_plan<L: Link, W: Sink>(
 /// Runs an accepted program with so much fuel, whose batches have these divisions, over a link: `client`.
 ///
 /// Each line goes to the output as it comes. At each batch its script is sent with the values of its inputs, and its remainder
-/// is performed on the node that is replied. Over an honest link that is what the program means on the server behind it. After
-/// `WriteFault` all was written that comes before a line or a batch, and a front of that line or of the batch's own lines; nothing
-/// was exchanged after that. After `LinkFault` and `BadReply` the lines before that batch were written. Whether the link lends a
-/// table is kept. After `Memory` nothing is said.
+/// is performed on the node that is replied. Over an honest link that is what the program means on the server behind it, on the
+/// tables that its batches find there; where the link is quiet too, each finds the one that stood. After `WriteFault` all was
+/// written that comes before a line or a batch, and a front of that line or of the batch's own lines; nothing was exchanged after
+/// that. After `LinkFault` and `BadReply` the lines before that batch were written. Whether the link lends a table is kept. After
+/// `Memory` nothing is said.
 pub fn run_client<L: Link, W: Sink>(
     alloc: Global,
     typed: &Typed,
@@ -146,9 +147,12 @@ pub fn run_client<L: Link, W: Sink>(
     ensures runs { Between L.Link W.Sink link.old out.old link.new out.new (RunsOver (mirror_program typed.now) fuel result) }
     // An exchange fails exactly where the link lists it; where a write failed, `runs` says so.
     ensures lists { Between L.Link W.Sink link.old out.old link.new out.new (FailsAsListed result) }
-    // Over an honest link it is what the program means, and no reply is refused.
+    // Over an honest link it is what the program means on the tables that its batches find, and no reply is refused.
     ensures means { let program = mirror_program typed.now in
         Between L.Link W.Sink link.old out.old link.new out.new (MeansWhereHonest program fuel result) }
+    // Over one that is quiet, too, each batch finds the table that stood.
+    ensures means_alone { let program = mirror_program typed.now in
+        Between L.Link W.Sink link.old out.old link.new out.new (MeansWhereQuiet program fuel result) }
 {
     divided_scripts_can_be_sent();
     clients_mean_what_programs_mean();
@@ -156,6 +160,7 @@ pub fn run_client<L: Link, W: Sink>(
     fronts_are_shown();
     reached_batches_can_be_exchanged();
     reached_batches_perform_remote_parts();
+    answers_fit_on_the_way();
     let program = typed.program();
     let code = Code::make(alloc, &program.classes)?;
     let plan = Plan::new(typed, splits, &code);

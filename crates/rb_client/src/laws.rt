@@ -11,7 +11,7 @@ use rb_law_types::{
 use rb_law_unsplit::lawful_programs_are_noted;
 
 /// In a lawful, typed program without refusals, on a typed service, the script of each batch that the program reaches performs
-/// just the batch's whole remote part.
+/// just the batch's whole remote part, on whatever table that fits the service.
 pub fn reached_batches_perform_remote_parts()
     ensures { ReachedPerformRemoteParts }
 {

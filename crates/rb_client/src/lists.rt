@@ -28,6 +28,21 @@ pub struct ListLoop<'a> {
     pub body: &'a [Part],
 }
 
+impl<'a> ListLoop<'a> {
+    /// A loop at a step and a position over the list of a name.
+    pub fn new(step: u32, at: u32, name: &'a Word, list: &'a Word, body: &'a [Part]) -> ListLoop<'a>
+        ensures { result ≡ record { step = step; at = at; name = name.exit; list = list.exit; body = body.exit } }
+    {
+        ListLoop {
+            step,
+            at,
+            name,
+            list,
+            body,
+        }
+    }
+}
+
 // The items of a value that is a list.
 #[tactic(auto, using(rb_engine::proofs::Values::values))]
 fn items_in(alloc: Global, value: &Value, at: u32) -> Result<Shared<Seq<Value>>, Early>

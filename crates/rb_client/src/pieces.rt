@@ -1,5 +1,6 @@
 // The parts of a remainder that hold no parts.
 
+ghost use Rattle.std.specs.Prelude.{◌≡◌};
 ghost use Rattle.rb_engine.specs.Locals.{local};
 ghost use Rattle.rb_client.specs.Walks.{Performs, bind_meant, both_meant, pass_meant, plain_meant};
 
@@ -19,6 +20,15 @@ pub struct Twin<'a> {
     pub step: u32,
     pub name: &'a Word,
     pub value: &'a Expr,
+}
+
+impl<'a> Twin<'a> {
+    /// What is evaluated at a step, and bound to a name.
+    pub fn new(step: u32, name: &'a Word, value: &'a Expr) -> Twin<'a>
+        ensures { result ≡ record { step = step; name = name.exit; value = value.exit } }
+    {
+        Twin { step, name, value }
+    }
 }
 
 /// A statement.

@@ -28,12 +28,35 @@ pub struct Loop<'a> {
     pub body: &'a [Part],
 }
 
+impl<'a> Loop<'a> {
+    // A loop over rows of a kind.
+    fn new(step: u32, name: &'a Word, kind: u8, body: &'a [Part]) -> Loop<'a>
+        ensures { result ≡ record { step = step; name = name.exit; kept = meaning.is_kept kind; body = body.exit } }
+    {
+        Loop {
+            step,
+            name,
+            kept: is_kept(kind),
+            body,
+        }
+    }
+}
+
 /// An `if` that the script decides: its step, and what is performed in its branches.
 #[derive(Clone, Copy)]
 pub struct Choice<'a> {
     pub step: u32,
     pub yes: &'a Seq<Part>,
     pub no: &'a Seq<Part>,
+}
+
+impl<'a> Choice<'a> {
+    // The branches of a step.
+    fn new(step: u32, yes: &'a Seq<Part>, no: &'a Seq<Part>) -> Choice<'a>
+        ensures { result ≡ record { step = step; yes = yes.exit; no = no.exit } }
+    {
+        Choice { step, yes, no }
+    }
 }
 
 // Whether rows of a kind are kept: `is_kept`.
@@ -74,19 +97,11 @@ fn perform_part<W: Sink>(
             value,
             ..
         } => {
-            let twin = Twin {
-                step: *step,
-                name,
-                value,
-            };
+            let twin = Twin::new(*step, name, value);
             perform_both(alloc, code, state, frame, world, &twin)
         }
         Part::Branch { step, yes, no } => {
-            let choice = Choice {
-                step: *step,
-                yes,
-                no,
-            };
+            let choice = Choice::new(*step, yes, no);
             perform_branch(alloc, code, state, frame, world, &choice)
         }
         Part::Turns {
@@ -95,12 +110,7 @@ fn perform_part<W: Sink>(
             kind,
             body,
         } => {
-            let turns = Loop {
-                step: *step,
-                name,
-                kept: is_kept(*kind),
-                body: body.as_slice(),
-            };
+            let turns = Loop::new(*step, name, *kind, body.as_slice());
             perform_rows(alloc, code, state, frame, world, &turns)
         }
         Part::Over {
@@ -111,13 +121,7 @@ fn perform_part<W: Sink>(
             body,
             ..
         } => {
-            let turns = ListLoop {
-                step: *step,
-                at: *at,
-                name,
-                list,
-                body: body.as_slice(),
-            };
+            let turns = ListLoop::new(*step, *at, name, list, body.as_slice());
             perform_list(alloc, code, state, frame, world, &turns)
         }
     }

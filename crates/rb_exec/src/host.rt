@@ -5,6 +5,7 @@ ghost use Rattle.rb_trees.specs.mirror.Declarations.{mirror_class};
 ghost use Rattle.rb_trees.specs.mirror.Forests.{mirror_node};
 ghost use Rattle.rb_meaning_bytes.specs.formats.ForestBytes.{forest_bytes, FormedForest};
 ghost use Rattle.rb_meaning_bytes.specs.formats.Values.{version_byte};
+ghost use Rattle.rb_meaning.specs.Changes.{changed};
 ghost use Rattle.rb_wire_fields.specs.Buffers.{Keeps};
 ghost use Rattle.rb_code.specs.Differ.{ClassesDiffer};
 ghost use Rattle.rb_exec.specs.Hosts.{forest_of, script_run};
@@ -15,11 +16,12 @@ use crate::run::Run;
 use crate::stage::Stage;
 use crate::variables::Variables;
 use bytes::BytesMut;
+use rb_changes::apply;
 use rb_code::Code;
 use rb_engine::Server;
 use rb_heap::Heap;
 use rb_meaning_bytes::{each_forest_has_one_spelling, forests_have_a_version};
-use rb_trees::{Memory, Node, Script, Seq, Service, Step, Value, Version};
+use rb_trees::{Change, Memory, Node, Script, Seq, Service, Step, Value, Version};
 use rb_wire_forest::decode_forest;
 use std::alloc::Global;
 use std::marker::Model;
@@ -67,6 +69,19 @@ impl Host {
         ensures { result.now ≡ self.now.table }
     {
         self.server.table()
+    }
+
+    /// Applies a change by others to the table: `changed`. The service stays. The error is want of memory, after which nothing
+    /// changed.
+    pub fn change(&mut self, alloc: Global, change: &Change) -> Result<(), Memory>
+        ensures table { OnOk result (self.new.table ≡ changed change.now self.old.table) }
+        ensures unchanged { OnErr result (self.new ≡ self.old) }
+        ensures service { self.new.service ≡ self.old.service }
+    {
+        let mut table = self.server.replace_table(Heap::make(alloc));
+        let applied = apply(&mut table, change);
+        let _empty = self.server.replace_table(table);
+        applied
     }
 }
 

@@ -2,6 +2,8 @@
 //! the bytes of the forest that the script gives, in a version of the wire, while the script runs. [`run_script`] answers the
 //! node of that forest.
 //!
+//! Between scripts others may change the table: [`Host::change`].
+//!
 //! What a script means stands in `specs/ScriptRun.antt` of `rb_meaning_code`; what is run is proved to be that, whatever
 //! the script and its inputs are.
 #![tactic(auto)]

@@ -1,5 +1,5 @@
 -- A client runs a program's code as the program itself does, batch by batch.
-use Rattle.std.proofs.Common.{◌≡◌, refl, sym, ap, ◌∙◌, subst, ℕ, List, [], ◌∷◌, ◌++◌, append_assoc, append-nil, Option, Some, None, Ok}
+use Rattle.std.proofs.Common.{◌≡◌, refl, sym, ap, ◌∙◌, subst, ℕ, List, [], ◌∷◌, ◌++◌, append_assoc, append-nil, drop, Option, Some, None, Ok}
 use Rattle.rb_trees.specs.declared.values.Value.TheVariants as value
 use Rattle.rb_trees.specs.declared.services.Object.{Object}
 use Rattle.rb_trees.specs.mirror.Declarations.{Program}
@@ -9,22 +9,24 @@ use Rattle.rb_meaning_bytes.specs.formats.Messages.{Sent}
 use Rattle.rb_meaning_types.specs.Declared.{Declarations, of_program}
 use Rattle.rb_meaning_types.specs.Lawful.{IsLawful}
 use Rattle.rb_meaning_types.specs.Programs.{check_program}
-use Rattle.rb_meaning_types.specs.Fits.{TableFits}
 use Rattle.rb_meaning_code.specs.State.{Local}
 use Rattle.rb_meaning_code.specs.Dialogue.{Question, Line, Taken, Invoke, Turn, ListTurn, Outcome, Dialogue, Done, Ask, AskBatch, Handler, handle}
 use Rattle.rb_meaning_flow.specs.Outermost.{Outermost}
 use Rattle.rb_meaning.specs.State as state
-use Rattle.rb_meaning.specs.State.{Event, Outside, shows}
+use Rattle.rb_meaning.specs.State.{Event, Outside}
 use Rattle.rb_meaning.specs.Unsplit.{batch_at, performs_batch}
 use Rattle.rb_meaning.specs.Links.{IsTyped}
-use Rattle.rb_meaning.specs.Meaning.{performs_found, in_main, outside_of, ending_of}
+use Rattle.rb_meaning.specs.Meaning.{Around, answers_around, around_of, at_batch, behind_batch, performs_found, in_main, ending_of}
+use Rattle.rb_meaning.specs.Others.{FoundThrough}
 use Rattle.rb_meaning_split.specs.Division.{Division, division}
 use Rattle.rb_meaning_split.specs.Client.{Waiting, answers_waiting, sent_for, begins, replays, replays_next, performs_divided, in_client, client}
 use Rattle.rb_flow.specs.Program.{HasNoRefusal}
 use Rattle.rb_law_types.specs.Asked.{Side, Own, Site, Keeps, IsAskedBatch}
 use Rattle.rb_law_types.specs.Around.{HandlerFits}
 use Rattle.rb_law_unsplit.specs.Batches.{program_sites}
+use Rattle.rb_law_unsplit.specs.Kept.{HasFittingTable, StandsAround}
 use Rattle.rb_law_unsplit.proofs.Found.{batch_found}
+use Rattle.rb_law_unsplit.proofs.Others.{stands_at_batch}
 use Rattle.rb_law_unsplit.proofs.Programs.{program_typed, batches_in}
 use Rattle.rb_law_script.specs.Remote.{script_run}
 use Rattle.rb_law_client.specs.Below.{LawsBelow}
@@ -33,6 +35,7 @@ use Rattle.rb_law_client.specs.Clients.{sent_run, ScriptsGive, ClientsMeanWhatPr
 use Rattle.rb_law_client.specs.Reached.{main_run, with_nodes}
 use Rattle.rb_law_client.proofs.Divided.{dividing_keeps}
 use Rattle.rb_law_client.proofs.Mains.{Ends, main_fits, main_kept}
+use Rattle.rb_law_client.proofs.Others.{gives_none, gives_first, IsBehind, behind_none, behind_one}
 
 pub same_tail : {A : Type 0} (xs ys zs : List A) → xs ++ ys ≡ xs ++ zs → ys ≡ zs
 same_tail [] ys zs e = e
@@ -45,10 +48,10 @@ module _ (below : LawsBelow) (p : Program) (lawful : IsLawful p) (checked : chec
   abbrev side : Side
   side = Own (program_sites p)
 
-  abbrev Holds : Outside → Type 0
-  Holds s = TableFits service.classes service.root s.server.table
+  abbrev Holds : Around → Type 0
+  Holds = StandsAround service
 
-  abbrev main : Handler Outside
+  abbrev main : Handler Around
   main = in_main p service
 
   abbrev waiting : Handler Waiting
@@ -98,74 +101,122 @@ module _ (below : LawsBelow) (p : Program) (lawful : IsLawful p) (checked : chec
       let known = batches_in p lawful (program_typed p checked) (below.notes p lawful) site asked.may in
       record { batch = known.begun; found = ap (batch_at p) (sym (known.at ∙ asked.here)) ∙ batch_found p lawful known.begun known.among }
 
-  pub typed_now : (s : Outside) → Holds s → IsTyped service s.server.table
+  pub typed_now : (s : Outside) → HasFittingTable service s → IsTyped service s.server.table
   typed_now s h = record { lawful = served.lawful; typed = served.typed; fits = h }
 
-  pub keeps_here : (s : Outside) → Holds s → (at : ℕ) (l : Local) (site : Site) → IsAskedBatch d side at l site → (b : Outermost) → batch_at p at ≡ Some b → KeepsMeaning p service b l s
-  keeps_here s h at l site asked b found = dividing_keeps below p lawful checked none service s (typed_now s h) at l site asked b found
+  pub keeps_here : (a : Around) → Holds a → (at : ℕ) (l : Local) (site : Site) → IsAskedBatch d side at l site → (b : Outermost) → batch_at p at ≡ Some b → KeepsMeaning p service b l (at_batch a)
+  keeps_here a h at l site asked b found = dividing_keeps below p lawful checked none service (at_batch a) (typed_now (at_batch a) (stands_at_batch service a h)) at l site asked b found
 
   -- ---- the runs
 
-  -- A client and the program ended alike.
-  pub record Alike {A : Type 0} (c : A × Waiting) (u : A × Outside) (after : List Object) : Type 0 where
+  -- A client and the program ended alike, and meanwhile the program's batches found and left these tables.
+  pub record Alike {A : Type 0} (before : Around) (c : A × Waiting) (u : A × Around) (found left : List (List Object)) : Type 0 where
     pub same : c.0 ≡ u.0
-    pub events : c.1.events ≡ u.1.events
-    pub table : after ≡ u.1.server.table
+    pub events : c.1.events ≡ u.1.outside.events
+    pub behind_so : IsBehind before found left u.1
 
   -- the script that is sent for a batch
   abbrev pub sent_now : Outermost → Local → Sent
   sent_now b l = sent_for (division p b) l
 
-  -- the client's surroundings behind a batch
-  abbrev pub behind : Outside → List Sent → List Node → Waiting
-  behind s sent nodes = record { events = s.events; sent = sent; nodes = nodes }
+  -- the client's surroundings, where the program's are these
+  abbrev pub behind : Around → List Sent → List Node → Waiting
+  behind a sent nodes = record { events = a.outside.events; sent = sent; nodes = nodes }
 
-  pub none_given : (before after : List Object) (nodes : List Node) → ScriptsGive service before [] nodes after → after ≡ before
-  none_given before after [] h = sym h
-  none_given before after (n ∷ ns) h = absurd h
+  -- what the program does at a batch
+  abbrev pub done : Outermost → Local → Around → Outcome (Unit {0}) × Around
+  done b l a = behind_batch a (performs_batch p service b l (at_batch a))
+
+  pub done_is : (a : Around) (at : ℕ) (l : Local) (b : Outermost) → batch_at p at ≡ Some b → done b l a ≡ main.batch a at l
+  done_is a at l b found = ap (λ z. performs_found p service z at l a) (sym found)
+
+  -- what a client does on a node that its script gave is what the program does
+  pub batch_same : (a : Around) (w : Waiting) (at : ℕ) (l : Local) (b : Outermost) (n : Node) (ns : List Node) → batch_at p at ≡ Some b → w.events ≡ a.outside.events → KeepsMeaning p service b l (at_batch a)
+      → (script_run p service b l (at_batch a).server.table).node ≡ n → w.nodes ≡ n ∷ ns
+      → performs_divided p (batch_at p at) at l w ≡ ((done b l a).0, behind (done b l a).1 (w.sent ++ sent_now b l ∷ []) ns)
+  batch_same a w at l b n ns found e keeps given is =
+      let s = at_batch a in
+      ap (λ z. performs_divided p z at l w) found
+      ∙ ap (replays_next p (division p b) l (begins (division p b) l w)) is
+      ∙ ap (λ q. (q.outcome, record { events = q.events; sent = w.sent ++ sent_now b l ∷ []; nodes = ns }))
+      (ap (λ z. replays p (division p b) l (z ++ state.Batch ∷ []) n) e ∙ ap (replays p (division p b) l (s.events ++ state.Batch ∷ [])) (sym given))
+      ∙ ap (λ q. (q, record { events = (replays p (division p b) l (s.events ++ state.Batch ∷ []) (script_run p service b l s.server.table).node).events; sent = w.sent ++ sent_now b l ∷ []; nodes = ns })) keeps.outcome
+      ∙ ap (λ q. ((performs_batch p service b l s).0, record { events = q; sent = w.sent ++ sent_now b l ∷ []; nodes = ns })) keeps.events
+
+  -- A client's first script of these found the table that the program's batch finds, and left the one that the batch leaves. Behind
+  -- it client and program stand alike, and the others are still to come.
+  pub record Exchanges (a : Around) (w : Waiting) (at : ℕ) (l : Local) (b : Outermost) (more : List Sent) (found left : List (List Object)) : Type 0 where
+    pub founds : List (List Object)
+    pub nodes : List Node
+    pub lefts : List (List Object)
+    pub found_so : (at_batch a).server.table ∷ founds ≡ found
+    pub left_so : (done b l a).1.outside.server.table ∷ lefts ≡ left
+    pub same : performs_divided p (batch_at p at) at l w ≡ ((done b l a).0, behind (done b l a).1 (w.sent ++ sent_now b l ∷ []) nodes)
+    pub given : ScriptsGive service founds more nodes lefts
+    pub through : FoundThrough (done b l a).1.others (done b l a).1.outside.server.table founds lefts
+
+  pub exchanges : (a : Around) (w : Waiting) (at : ℕ) (l : Local) (b : Outermost) (more : List Sent) (found left : List (List Object)) → batch_at p at ≡ Some b → w.events ≡ a.outside.events → KeepsMeaning p service b l (at_batch a)
+      → ScriptsGive service found (sent_now b l ∷ more) w.nodes left → FoundThrough a.others a.outside.server.table found left → Exchanges a w at l b more found left
+  exchanges a w at l b more found left there e keeps given through =
+      let q = sent_now b l in
+      let g = gives_first service found q more w.nodes left given in
+      let both : FoundThrough a.others a.outside.server.table (g.table ∷ g.founds) (g.after ∷ g.lefts) =
+      subst (λ z. FoundThrough a.others a.outside.server.table z (g.after ∷ g.lefts)) g.found_so (subst (λ z. FoundThrough a.others a.outside.server.table found z) g.left_so through) in
+      let gives : (sent_run service (at_batch a).server.table q).node ≡ g.node = subst (λ z. (sent_run service z q).node ≡ g.node) both.0 g.gives in
+      let leaves : (sent_run service (at_batch a).server.table q).server.table ≡ g.after = subst (λ z. (sent_run service z q).server.table ≡ g.after) both.0 g.leaves in
+      let after : g.after ≡ (done b l a).1.outside.server.table = sym leaves ∙ keeps.table in
+      record {
+        founds = g.founds;
+        nodes = g.later;
+        lefts = g.lefts;
+        found_so = ap (λ z. z ∷ g.founds) (sym both.0) ∙ sym g.found_so;
+        left_so = ap (λ z. z ∷ g.lefts) (sym after) ∙ sym g.left_so;
+        same = batch_same a w at l b g.node g.later there e keeps gives g.nodes_so;
+        given = g.rest;
+        through = subst (λ z. FoundThrough (drop 1 a.others) z g.founds g.lefts) after both.1;
+      }
+
+  pub behind_exchange : (a now : Around) (w : Waiting) (at : ℕ) (l : Local) (b : Outermost) (more : List Sent) (found left : List (List Object)) (x : Exchanges a w at l b more found left)
+      → IsBehind (done b l a).1 x.founds x.lefts now → IsBehind a found left now
+  behind_exchange a now w at l b more found left x h =
+      subst (λ z. IsBehind a z left now) x.found_so (subst (λ z. IsBehind a ((at_batch a).server.table ∷ x.founds) z now) x.left_so (behind_one a now (performs_batch p service b l (at_batch a)) x.founds x.lefts h))
+
+  -- nothing was sent
+  pub behind_nothing : (a : Around) (found left : List (List Object)) (nodes : List Node) → ScriptsGive service found [] nodes left → IsBehind a found left a
+  behind_nothing a found left nodes given =
+      let g = gives_none service found nodes left given in
+      subst (λ z. IsBehind a z left a) (sym g.found_so) (subst (λ z. IsBehind a [] z a) (sym g.left_so) (behind_none a))
+
+  -- a question changes nothing of that
+  pub behind_answer : (a now : Around) (q : Question) (found left : List (List Object)) → IsBehind (answers_around a q).1 found left now → IsBehind a found left now
+  behind_answer a now (Line at bytes) found left h = record { found_so = h.found_so; left_so = h.left_so; table = h.table; others_so = h.others_so }
+  behind_answer a now (ListTurn at) found left h = record { found_so = h.found_so; left_so = h.left_so; table = h.table; others_so = h.others_so }
+  behind_answer a now (Taken step) found left h = record { found_so = h.found_so; left_so = h.left_so; table = h.table; others_so = h.others_so }
+  behind_answer a now (Invoke at target method args) found left h = record { found_so = h.found_so; left_so = h.left_so; table = h.table; others_so = h.others_so }
+  behind_answer a now (Turn at) found left h = record { found_so = h.found_so; left_so = h.left_so; table = h.table; others_so = h.others_so }
 
   module _ (fits : HandlerFits d side Holds main) where
-    -- what a client does on a node that its script gave is what the program does
-    pub batch_same : (s : Outside) (w : Waiting) (at : ℕ) (l : Local) (b : Outermost) (n : Node) (ns : List Node) → batch_at p at ≡ Some b → w.events ≡ s.events → KeepsMeaning p service b l s → (script_run p service b l s.server.table).node ≡ n → w.nodes ≡ n ∷ ns
-        → performs_divided p (batch_at p at) at l w ≡ ((main.batch s at l).0, behind (main.batch s at l).1 (w.sent ++ sent_now b l ∷ []) ns)
-    batch_same s w at l b n ns found e keeps given is =
-        ap (λ z. performs_divided p z at l w) found
-        ∙ ap (replays_next p (division p b) l (begins (division p b) l w)) is
-        ∙ ap (λ q. (q.outcome, record { events = q.events; sent = w.sent ++ sent_now b l ∷ []; nodes = ns }))
-        (ap (λ z. replays p (division p b) l (z ++ state.Batch ∷ []) n) e ∙ ap (replays p (division p b) l (s.events ++ state.Batch ∷ [])) (sym given))
-        ∙ ap (λ q. (q, record { events = (replays p (division p b) l (s.events ++ state.Batch ∷ []) (script_run p service b l s.server.table).node).events; sent = w.sent ++ sent_now b l ∷ []; nodes = ns })) keeps.outcome
-        ∙ ap (λ q. ((performs_batch p service b l s).0, record { events = q; sent = w.sent ++ sent_now b l ∷ []; nodes = ns })) keeps.events
-        ∙ ap (λ z. ((performs_found p service z at l s).0, behind (performs_found p service z at l s).1 (w.sent ++ sent_now b l ∷ []) ns)) (sym found)
-
-    -- the table that the script left is the program's
-    pub table_same : (s : Outside) (at : ℕ) (l : Local) (b : Outermost) → batch_at p at ≡ Some b → KeepsMeaning p service b l s → (sent_run service s.server.table (sent_now b l)).server.table ≡ (main.batch s at l).1.server.table
-    table_same s at l b found keeps = keeps.table ∙ ap (λ z. (performs_found p service z at l s).1.server.table) (sym found)
-
     module _ {A : Type 0} (P : A → Type 0) where
-      abbrev Runs : Dialogue A → Type 0
-      Runs run = (s : Outside) (w : Waiting) → w.events ≡ s.events → Holds s → (more : List Sent) (after : List Object) → (handle waiting run w).1.sent ≡ w.sent ++ more → ScriptsGive service s.server.table more w.nodes after
-          → Alike (handle waiting run w) (handle main run s) after
+      -- from here client and program end alike, on whatever the client's scripts find, give and leave
+      abbrev Runs : Dialogue A → Around → Type 0
+      Runs run a = (w : Waiting) → w.events ≡ a.outside.events → (more : List Sent) (found left : List (List Object)) → (handle waiting run w).1.sent ≡ w.sent ++ more → ScriptsGive service found more w.nodes left
+          → FoundThrough a.others a.outside.server.table found left → Alike a (handle waiting run w) (handle main run a) found left
 
       -- behind a batch the runs go on
-      batch_runs : (at : ℕ) (l : Local) (go : Outcome (Unit {0}) → Dialogue A) (site : Site) → IsAskedBatch d side at l site → (s : Outside) → Runs (go (main.batch s at l).0) → Holds (main.batch s at l).1
-          → (w : Waiting) → w.events ≡ s.events → Holds s → (more : List Sent) (after : List Object) → (handle waiting (AskBatch at l go) w).1.sent ≡ w.sent ++ more → ScriptsGive service s.server.table more w.nodes after
-          → Alike (handle waiting (AskBatch at l go) w) (handle main (AskBatch at l go) s) after
-      batch_runs at l go site asked s next holds1 w e holds more after sent given = by w.nodes refl (subst (λ q. ScriptsGive service s.server.table q w.nodes after) more_is given)
+      batch_runs : (at : ℕ) (l : Local) (go : Outcome (Unit {0}) → Dialogue A) (site : Site) → IsAskedBatch d side at l site → (a : Around) → Holds a → Runs (go (main.batch a at l).0) (main.batch a at l).1 → Runs (AskBatch at l go) a
+      batch_runs at l go site asked a holds next w e more found left sent given through = alike
         where
           b : Outermost
           b = (found_at at l site asked).batch
 
-          found : batch_at p at ≡ Some b
-          found = (found_at at l site asked).found
-
-          keeps : KeepsMeaning p service b l s
-          keeps = keeps_here s holds at l site asked b found
+          there : batch_at p at ≡ Some b
+          there = (found_at at l site asked).found
 
           reached : Outcome (Unit {0}) × Waiting
           reached = performs_divided p (batch_at p at) at l w
 
           reached_sent : reached.1.sent ≡ w.sent ++ sent_now b l ∷ []
-          reached_sent = ap (λ z. (performs_divided p z at l w).1.sent) found ∙ next_grows (division p b) l (begins (division p b) l w) w.nodes
+          reached_sent = ap (λ z. (performs_divided p z at l w).1.sent) there ∙ next_grows (division p b) l (begins (division p b) l w) w.nodes
 
           grown : Grows reached.1 (handle waiting (go reached.0) reached.1).1
           grown = run_grows (go reached.0) reached.1
@@ -173,79 +224,112 @@ module _ (below : LawsBelow) (p : Program) (lawful : IsLawful p) (checked : chec
           more_is : more ≡ sent_now b l ∷ grown.more
           more_is = same_tail w.sent more (sent_now b l ∷ grown.more) (sym sent ∙ grown.same ∙ ap (λ q. q ++ grown.more) reached_sent ∙ append_assoc w.sent (sent_now b l ∷ []) grown.more)
 
-          by : (nodes : List Node) → w.nodes ≡ nodes → ScriptsGive service s.server.table (sent_now b l ∷ grown.more) w.nodes after → Alike (handle waiting (go reached.0) reached.1) (handle main (go (main.batch s at l).0) (main.batch s at l).1) after
-          by [] is h = absurd (subst (λ q. ScriptsGive service s.server.table (sent_now b l ∷ grown.more) q after) is h)
-          by (n ∷ ns) is h =
-              let both = subst (λ q. ScriptsGive service s.server.table (sent_now b l ∷ grown.more) q after) is h in
-              let there = behind (main.batch s at l).1 (w.sent ++ sent_now b l ∷ []) ns in
-              let same : reached ≡ ((main.batch s at l).0, there) = batch_same s w at l b n ns found e keeps both.0 is in
-              let sent_on : (handle waiting (go (main.batch s at l).0) there).1.sent ≡ there.sent ++ grown.more =
-              sym (ap (λ z. (handle waiting (go z.0) z.1).1.sent) same) ∙ grown.same ∙ ap (λ q. q ++ grown.more) reached_sent in
-              subst (λ z. Alike (handle waiting (go z.0) z.1) (handle main (go (main.batch s at l).0) (main.batch s at l).1) after) (sym same)
-              (next (main.batch s at l).1 there refl holds1 grown.more after sent_on (subst (λ q. ScriptsGive service q grown.more ns after) (table_same s at l b found keeps) both.1))
+          x : Exchanges a w at l b grown.more found left
+          x = exchanges a w at l b grown.more found left there e (keeps_here a holds at l site asked b there) (subst (λ q. ScriptsGive service found q w.nodes left) more_is given) through
 
-      pub runs_alike : (run : Dialogue A) → Keeps d side P run → Runs run
-      runs_alike (Done a) k s w e holds more after sent given =
+          -- what the client stands at behind the batch
+          now : Waiting
+          now = behind (done b l a).1 (w.sent ++ sent_now b l ∷ []) x.nodes
+
+          sent_on : (handle waiting (go (done b l a).0) now).1.sent ≡ now.sent ++ grown.more
+          sent_on = sym (ap (λ z. (handle waiting (go z.0) z.1).1.sent) x.same) ∙ grown.same ∙ ap (λ q. q ++ grown.more) reached_sent
+
+          on : Alike (done b l a).1 (handle waiting (go (done b l a).0) now) (handle main (go (done b l a).0) (done b l a).1) x.founds x.lefts
+          on = subst (λ z. Runs (go z.0) z.1) (sym (done_is a at l b there)) next now refl grown.more x.founds x.lefts sent_on x.given x.through
+
+          alike : Alike a (handle waiting (AskBatch at l go) w) (handle main (AskBatch at l go) a) found left
+          alike =
+              subst (λ z. Alike a (handle waiting (go reached.0) reached.1) (handle main (go z.0) z.1) found left) (done_is a at l b there)
+              (subst (λ z. Alike a (handle waiting (go z.0) z.1) (handle main (go (done b l a).0) (done b l a).1) found left) (sym x.same)
+              (record { same = on.same; events = on.events; behind_so = behind_exchange a (handle main (go (done b l a).0) (done b l a).1).1 w at l b grown.more found left x on.behind_so }))
+
+      pub runs_alike : (run : Dialogue A) → Keeps d side P run → (a : Around) → Holds a → Runs run a
+      runs_alike (Done v) k a holds w e more found left sent given through =
           let nothing : [] ≡ more = same_tail w.sent [] more (append-nil w.sent ∙ sent) in
-          record { same = refl; events = e; table = none_given s.server.table after w.nodes (subst (λ q. ScriptsGive service s.server.table q w.nodes after) (sym nothing) given) }
-      runs_alike (Ask (Line at bytes) go) k s w e holds more after sent given =
-          runs_alike (go (Ok value.Unit)) (k.1 (Ok value.Unit) tt) (shows (state.Line bytes) s) (record w { events = w.events ++ state.Line bytes ∷ [] }) (ap (λ q. q ++ state.Line bytes ∷ []) e) holds more after sent given
-      runs_alike (Ask (ListTurn at) go) k s w e holds more after sent given = runs_alike (go (Ok value.Unit)) (k.1 (Ok value.Unit) tt) s w e holds more after sent given
-      runs_alike (Ask (Taken step) go) k s w e holds more after sent given = absurd k.0
-      runs_alike (Ask (Invoke at target method args) go) k s w e holds more after sent given = absurd k.0
-      runs_alike (Ask (Turn at) go) k s w e holds more after sent given = absurd k.0
-      runs_alike (AskBatch at l go) k s w e holds more after sent given =
-          batch_runs at l go k.0 k.1 s (runs_alike (go (main.batch s at l).0) (k.2 (main.batch s at l).0 (fits.batches s at l k.0 holds k.1))) (fits.performed s at l k.0 holds k.1) w e holds more after sent given
+          record { same = refl; events = e; behind_so = behind_nothing a found left w.nodes (subst (λ q. ScriptsGive service found q w.nodes left) (sym nothing) given) }
+      runs_alike (Ask (Line at bytes) go) k a holds w e more found left sent given through =
+          let q = Line at bytes in
+          let on = runs_alike (go (Ok value.Unit)) (k.1 (Ok value.Unit) tt) (answers_around a q).1 (fits.answered a q holds k.0) (record w { events = w.events ++ state.Line bytes ∷ [] }) (ap (λ z. z ++ state.Line bytes ∷ []) e)
+          more found left sent given through in
+          record { same = on.same; events = on.events; behind_so = behind_answer a _ q found left on.behind_so }
+      runs_alike (Ask (ListTurn at) go) k a holds w e more found left sent given through =
+          let on = runs_alike (go (Ok value.Unit)) (k.1 (Ok value.Unit) tt) (answers_around a (ListTurn at)).1 (fits.answered a (ListTurn at) holds k.0) w e more found left sent given through in
+          record { same = on.same; events = on.events; behind_so = behind_answer a _ (ListTurn at) found left on.behind_so }
+      runs_alike (Ask (Taken step) go) k a holds w e more found left sent given through = absurd k.0
+      runs_alike (Ask (Invoke at target method args) go) k a holds w e more found left sent given through = absurd k.0
+      runs_alike (Ask (Turn at) go) k a holds w e more found left sent given through = absurd k.0
+      runs_alike (AskBatch at l go) k a holds w e more found left sent given through =
+          batch_runs at l go k.0 k.1 a holds (runs_alike (go (main.batch a at l).0) (k.2 (main.batch a at l).0 (fits.batches a at l k.0 holds k.1)) (main.batch a at l).1 (fits.performed a at l k.0 holds k.1))
+          w e more found left sent given through
 
       -- ---- there are nodes
 
-      pub record Exists (run : Dialogue A) (s : Outside) (before : List Sent) : Type 0 where
+      pub record Exists (run : Dialogue A) (a : Around) (before : List Sent) : Type 0 where
+        pub found : List (List Object)
         pub nodes : List Node
+        pub left : List (List Object)
         pub more : List Sent
-        pub sent : (handle waiting run (behind s before nodes)).1.sent ≡ before ++ more
-        pub given : ScriptsGive service s.server.table more nodes (handle main run s).1.server.table
+        pub sent : (handle waiting run (behind a before nodes)).1.sent ≡ before ++ more
+        pub given : ScriptsGive service found more nodes left
+        pub through : FoundThrough a.others a.outside.server.table found left
 
-      batch_exists : (at : ℕ) (l : Local) (go : Outcome (Unit {0}) → Dialogue A) (site : Site) → IsAskedBatch d side at l site → (s : Outside) → Holds s → (before : List Sent)
-          → ((sent : List Sent) → Exists (go (main.batch s at l).0) (main.batch s at l).1 sent) → Exists (AskBatch at l go) s before
-      batch_exists at l go site asked s holds before next =
+      batch_exists : (at : ℕ) (l : Local) (go : Outcome (Unit {0}) → Dialogue A) (site : Site) → IsAskedBatch d side at l site → (a : Around) → Holds a → (before : List Sent)
+          → ((sent : List Sent) → Exists (go (main.batch a at l).0) (main.batch a at l).1 sent) → Exists (AskBatch at l go) a before
+      batch_exists at l go site asked a holds before next =
           let b = (found_at at l site asked).batch in
-          let found = (found_at at l site asked).found in
-          let keeps = keeps_here s holds at l site asked b found in
-          let r = next (before ++ sent_now b l ∷ []) in
-          let n = (script_run p service b l s.server.table).node in
-          let same = batch_same s (behind s before (n ∷ r.nodes)) at l b n r.nodes found refl keeps refl refl in
+          let there = (found_at at l site asked).found in
+          let keeps = keeps_here a holds at l site asked b there in
+          let table = (at_batch a).server.table in
+          let r : Exists (go (done b l a).0) (done b l a).1 (before ++ sent_now b l ∷ []) = subst (λ z. Exists (go z.0) z.1 (before ++ sent_now b l ∷ [])) (sym (done_is a at l b there)) (next (before ++ sent_now b l ∷ [])) in
+          let n = (script_run p service b l table).node in
+          let same = batch_same a (behind a before (n ∷ r.nodes)) at l b n r.nodes there refl keeps refl refl in
           record {
+            found = table ∷ r.found;
             nodes = n ∷ r.nodes;
+            left = (done b l a).1.outside.server.table ∷ r.left;
             more = sent_now b l ∷ r.more;
             sent = ap (λ z. (handle waiting (go z.0) z.1).1.sent) same ∙ r.sent ∙ append_assoc before (sent_now b l ∷ []) r.more;
-            given = (refl, subst (λ q. ScriptsGive service q r.more r.nodes (handle main (go (main.batch s at l).0) (main.batch s at l).1).1.server.table) (sym (table_same s at l b found keeps)) r.given);
+            given = (refl, keeps.table, r.given);
+            through = (refl, r.through);
           }
 
-      pub nodes_exist : (run : Dialogue A) → Keeps d side P run → (s : Outside) → Holds s → (before : List Sent) → Exists run s before
-      nodes_exist (Done a) k s holds before = record { nodes = []; more = []; sent = sym (append-nil before); given = refl }
-      nodes_exist (Ask (Line at bytes) go) k s holds before =
-          let r = nodes_exist (go (Ok value.Unit)) (k.1 (Ok value.Unit) tt) (shows (state.Line bytes) s) holds before in record { nodes = r.nodes; more = r.more; sent = r.sent; given = r.given }
-      nodes_exist (Ask (ListTurn at) go) k s holds before =
-          let r = nodes_exist (go (Ok value.Unit)) (k.1 (Ok value.Unit) tt) s holds before in record { nodes = r.nodes; more = r.more; sent = r.sent; given = r.given }
-      nodes_exist (Ask (Taken step) go) k s holds before = absurd k.0
-      nodes_exist (Ask (Invoke at target method args) go) k s holds before = absurd k.0
-      nodes_exist (Ask (Turn at) go) k s holds before = absurd k.0
-      nodes_exist (AskBatch at l go) k s holds before =
-          batch_exists at l go k.0 k.1 s holds before (λ sent. nodes_exist (go (main.batch s at l).0) (k.2 (main.batch s at l).0 (fits.batches s at l k.0 holds k.1)) (main.batch s at l).1 (fits.performed s at l k.0 holds k.1) sent)
+      pub nodes_exist : (run : Dialogue A) → Keeps d side P run → (a : Around) → Holds a → (before : List Sent) → Exists run a before
+      nodes_exist (Done v) k a holds before = record { found = []; nodes = []; left = []; more = []; sent = sym (append-nil before); given = tt; through = tt }
+      nodes_exist (Ask (Line at bytes) go) k a holds before =
+          let r = nodes_exist (go (Ok value.Unit)) (k.1 (Ok value.Unit) tt) (answers_around a (Line at bytes)).1 (fits.answered a (Line at bytes) holds k.0) before in
+          record { found = r.found; nodes = r.nodes; left = r.left; more = r.more; sent = r.sent; given = r.given; through = r.through }
+      nodes_exist (Ask (ListTurn at) go) k a holds before =
+          let r = nodes_exist (go (Ok value.Unit)) (k.1 (Ok value.Unit) tt) (answers_around a (ListTurn at)).1 (fits.answered a (ListTurn at) holds k.0) before in
+          record { found = r.found; nodes = r.nodes; left = r.left; more = r.more; sent = r.sent; given = r.given; through = r.through }
+      nodes_exist (Ask (Taken step) go) k a holds before = absurd k.0
+      nodes_exist (Ask (Invoke at target method args) go) k a holds before = absurd k.0
+      nodes_exist (Ask (Turn at) go) k a holds before = absurd k.0
+      nodes_exist (AskBatch at l go) k a holds before =
+          batch_exists at l go k.0 k.1 a holds before (λ sent. nodes_exist (go (main.batch a at l).0) (k.2 (main.batch a at l).0 (fits.batches a at l k.0 holds k.1)) (main.batch a at l).1 (fits.performed a at l k.0 holds k.1) sent)
 
 pub clients_mean : LawsBelow → ClientsMeanWhatProgramsMean
-clients_mean below p lawful checked none service table served fuel =
+clients_mean below p lawful checked none service table served others kept fuel =
     let fits = main_fits below p lawful checked none service table served in
     let keeps = main_kept below p lawful checked none service table served fuel in
     let run = main_run p fuel in
     let ends = Ends below p lawful checked none service table served in
-    let made = nodes_exist below p lawful checked none service table served fits ends run keeps (outside_of table) served.fits [] in (
+    let start = around_of table others in
+    let holds : StandsAround service start = record { table = served.fits; others = kept } in
+    let made = nodes_exist below p lawful checked none service table served fits ends run keeps start holds [] in (
       record {
+        found = made.found;
         nodes = made.nodes;
-        after = (handle (in_main p service) run (outside_of table)).1.server.table;
-        given = subst (λ q. ScriptsGive service table q made.nodes (handle (in_main p service) run (outside_of table)).1.server.table) (sym made.sent) made.given;
+        left = made.left;
+        given = subst (λ q. ScriptsGive service made.found q made.nodes made.left) (sym made.sent) made.given;
+        through = made.through;
       },
-      λ nodes after given.
-          let alike = runs_alike below p lawful checked none service table served fits ends run keeps (outside_of table) (with_nodes nodes) refl served.fits (client p fuel nodes).sent after refl given in
-          record { ending = ap ending_of alike.same; events = alike.events; table = alike.table },
+      λ found nodes left given through.
+          let alike = runs_alike below p lawful checked none service table served fits ends run keeps start holds (with_nodes nodes) refl (client p fuel nodes).sent found left refl given through in
+          record {
+            ending = ap ending_of alike.same;
+            events = alike.events;
+            found_so = sym alike.behind_so.found_so;
+            left_so = sym alike.behind_so.left_so;
+            table = sym alike.behind_so.table;
+          },
     )

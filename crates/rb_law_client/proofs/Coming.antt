@@ -4,33 +4,32 @@ use Rattle.rb_trees.specs.declared.values.Value.TheVariants as value
 use Rattle.rb_trees.specs.declared.services.Object.{Object}
 use Rattle.rb_trees.specs.mirror.Declarations.{Program}
 use Rattle.rb_trees.specs.mirror.Services.{Service}
-use Rattle.rb_trees.specs.mirror.Forests.{Node}
 use Rattle.rb_meaning_bytes.specs.formats.Messages.{Sent}
 use Rattle.rb_meaning_types.specs.Declared.{Declarations, of_program}
 use Rattle.rb_meaning_types.specs.Lawful.{IsLawful}
 use Rattle.rb_meaning_types.specs.Programs.{check_program}
-use Rattle.rb_meaning_types.specs.Fits.{TableFits}
 use Rattle.rb_meaning_code.specs.State.{Local}
 use Rattle.rb_meaning_code.specs.Dialogue.{Line, Taken, Invoke, Turn, ListTurn, Outcome, Dialogue, AskBatch, Handler}
 use Rattle.rb_meaning_code.specs.Led.{Passes, here, answered, performed}
 use Rattle.rb_meaning_flow.specs.Outermost.{Outermost}
 use Rattle.rb_meaning.specs.State as state
-use Rattle.rb_meaning.specs.State.{Outside, shows}
 use Rattle.rb_meaning.specs.Unsplit.{batch_at}
 use Rattle.rb_meaning.specs.Links.{IsTyped}
-use Rattle.rb_meaning.specs.Meaning.{in_main, outside_of}
+use Rattle.rb_meaning.specs.Meaning.{Around, answers_around, around_of, in_main}
+use Rattle.rb_meaning.specs.Others.{FoundThrough}
 use Rattle.rb_meaning_split.specs.Division.{division}
-use Rattle.rb_meaning_split.specs.Client.{Waiting, answers_waiting, sent_for, begins, performs_divided, in_client}
+use Rattle.rb_meaning_split.specs.Client.{Waiting, answers_waiting, begins, performs_divided, in_client}
 use Rattle.rb_flow.specs.Program.{HasNoRefusal}
 use Rattle.rb_law_types.specs.Asked.{Side, Own, Site, Keeps, IsAskedBatch}
 use Rattle.rb_law_types.specs.Around.{HandlerFits}
 use Rattle.rb_law_unsplit.specs.Batches.{program_sites}
+use Rattle.rb_law_unsplit.specs.Kept.{StandsAround}
 use Rattle.rb_law_client.specs.Below.{LawsBelow}
-use Rattle.rb_law_client.specs.Dividing.{KeepsMeaning}
 use Rattle.rb_law_client.specs.Clients.{ScriptsGive}
 use Rattle.rb_law_client.specs.Reached.{main_run, with_nodes, ProgramsComeAsFar}
-use Rattle.rb_law_client.proofs.Clients.{same_tail, none_given, Grows, grows_same, grows_on, answer_grows, batch_grows, next_grows, found_at, keeps_here, behind, batch_same, table_same}
+use Rattle.rb_law_client.proofs.Clients.{same_tail, Grows, grows_same, grows_on, answer_grows, batch_grows, next_grows, found_at, keeps_here, sent_now, done, done_is, Exchanges, exchanges, behind_exchange, behind_nothing, behind_answer}
 use Rattle.rb_law_client.proofs.Mains.{Ends, main_fits, main_kept}
+use Rattle.rb_law_client.proofs.Others.{IsBehind}
 
 module _ (below : LawsBelow) (p : Program) (lawful : IsLawful p) (checked : check_program p ≡ Ok tt) (none : HasNoRefusal p) (service : Service) (origin : List Object) (served : IsTyped service origin) where
   abbrev d : Declarations
@@ -39,10 +38,10 @@ module _ (below : LawsBelow) (p : Program) (lawful : IsLawful p) (checked : chec
   abbrev side : Side
   side = Own (program_sites p)
 
-  abbrev Holds : Outside → Type 0
-  Holds s = TableFits service.classes service.root s.server.table
+  abbrev Holds : Around → Type 0
+  Holds = StandsAround service
 
-  abbrev main : Handler Outside
+  abbrev main : Handler Around
   main = in_main p service
 
   abbrev waiting : Handler Waiting
@@ -62,81 +61,98 @@ module _ (below : LawsBelow) (p : Program) (lawful : IsLawful p) (checked : chec
       grows_on below p lawful checked none service origin served w next.1 w1 (batch_grows below p lawful checked none service origin served w (batch_at p at) at l)
       (way_grows (go next.0) rest next.1 w1 way)
 
-  -- The program, with this run before it, comes where the client is, and the server has this table then.
-  pub record Comes {A : Type 0} (run : Dialogue A) (s : Outside) (rest : Dialogue A) (w : Waiting) (now : List Object) : Type 0 where
-    pub outside : Outside
-    pub way : Passes main run s rest outside
-    pub events : outside.events ≡ w.events
-    pub table : outside.server.table ≡ now
+  -- The program, with this run before it, comes where the client is, and meanwhile its batches found and left these tables.
+  pub record Comes {A : Type 0} (run : Dialogue A) (a : Around) (rest : Dialogue A) (w : Waiting) (found left : List (List Object)) : Type 0 where
+    pub around : Around
+    pub way : Passes main run a rest around
+    pub events : around.outside.events ≡ w.events
+    pub behind_so : IsBehind a found left around
 
   -- So it is from where the client has this run before it, and comes where it has the rest.
-  abbrev FromHere : {A : Type 0} → (A → Type 0) → List Object → Dialogue A → Waiting → Dialogue A → Waiting → Type 0
-  FromHere P now run w rest w1 = (s : Outside) → Keeps d side P run → w.events ≡ s.events → Holds s → (more : List Sent) → w1.sent ≡ w.sent ++ more → ScriptsGive service s.server.table more w.nodes now → Comes run s rest w1 now
+  abbrev FromHere : {A : Type 0} → (A → Type 0) → Dialogue A → Waiting → Dialogue A → Waiting → Type 0
+  FromHere P run w rest w1 = (a : Around) → Keeps d side P run → w.events ≡ a.outside.events → Holds a → (more : List Sent) (found left : List (List Object)) → w1.sent ≡ w.sent ++ more → ScriptsGive service found more w.nodes left
+      → FoundThrough a.others a.outside.server.table found left → Comes run a rest w1 found left
 
-  module _ (fits : HandlerFits d side Holds main) {A : Type 0} (P : A → Type 0) (now : List Object) where
+  module _ (fits : HandlerFits d side Holds main) {A : Type 0} (P : A → Type 0) where
     -- a batch on the way
     batch_comes : (at : ℕ) (l : Local) (go : Outcome (Unit {0}) → Dialogue A) (w w1 : Waiting) (rest : Dialogue A) → Passes waiting (go (waiting.batch w at l).0) (waiting.batch w at l).1 rest w1
-        → FromHere P now (go (waiting.batch w at l).0) (waiting.batch w at l).1 rest w1
-        → (site : Site) → IsAskedBatch d side at l site → (s : Outside) → Keeps d side P (go (main.batch s at l).0) → Holds (main.batch s at l).1
-        → w.events ≡ s.events → Holds s → (more : List Sent) → w1.sent ≡ w.sent ++ more → ScriptsGive service s.server.table more w.nodes now → Comes (AskBatch at l go) s rest w1 now
-    batch_comes at l go w w1 rest way next site asked s kept holds1 e holds more sent given = by w.nodes refl (subst (λ q. ScriptsGive service s.server.table q w.nodes now) more_is given)
+        → FromHere P (go (waiting.batch w at l).0) (waiting.batch w at l).1 rest w1
+        → (site : Site) → IsAskedBatch d side at l site → FromHere P (AskBatch at l go) w rest w1
+    batch_comes at l go w w1 rest way next site asked a k e holds more found left sent given through =
+        record { around = after.around; way = performed at l go a after.around rest way_on; events = after.events; behind_so = behind_exchange below p lawful checked none service origin served a after.around w at l b grown.more found left x after.behind_so }
       where
         b : Outermost
         b = (found_at below p lawful checked none service origin served at l site asked).batch
 
-        found : batch_at p at ≡ Some b
-        found = (found_at below p lawful checked none service origin served at l site asked).found
+        there : batch_at p at ≡ Some b
+        there = (found_at below p lawful checked none service origin served at l site asked).found
 
-        keeps : KeepsMeaning p service b l s
-        keeps = keeps_here below p lawful checked none service origin served s holds at l site asked b found
-
-        sent_now : Sent
-        sent_now = sent_for (division p b) l
+        script : Sent
+        script = sent_now below p lawful checked none service origin served b l
 
         reached : Outcome (Unit {0}) × Waiting
         reached = performs_divided p (batch_at p at) at l w
 
-        reached_sent : reached.1.sent ≡ w.sent ++ sent_now ∷ []
-        reached_sent = ap (λ z. (performs_divided p z at l w).1.sent) found ∙ next_grows below p lawful checked none service origin served (division p b) l (begins (division p b) l w) w.nodes
+        reached_sent : reached.1.sent ≡ w.sent ++ script ∷ []
+        reached_sent = ap (λ z. (performs_divided p z at l w).1.sent) there ∙ next_grows below p lawful checked none service origin served (division p b) l (begins (division p b) l w) w.nodes
 
         grown : More reached.1 w1
         grown = way_grows (go reached.0) rest reached.1 w1 way
 
-        more_is : more ≡ sent_now ∷ grown.more
-        more_is = same_tail w.sent more (sent_now ∷ grown.more) (sym sent ∙ grown.same ∙ ap (λ q. q ++ grown.more) reached_sent ∙ append_assoc w.sent (sent_now ∷ []) grown.more)
+        more_is : more ≡ script ∷ grown.more
+        more_is = same_tail w.sent more (script ∷ grown.more) (sym sent ∙ grown.same ∙ ap (λ q. q ++ grown.more) reached_sent ∙ append_assoc w.sent (script ∷ []) grown.more)
 
-        by : (nodes : List Node) → w.nodes ≡ nodes → ScriptsGive service s.server.table (sent_now ∷ grown.more) w.nodes now → Comes (AskBatch at l go) s rest w1 now
-        by [] is h = absurd (subst (λ q. ScriptsGive service s.server.table (sent_now ∷ grown.more) q now) is h)
-        by (n ∷ ns) is h =
-            let both = subst (λ q. ScriptsGive service s.server.table (sent_now ∷ grown.more) q now) is h in
-            let done = main.batch s at l in
-            let there = behind below p lawful checked none service origin served done.1 (w.sent ++ sent_now ∷ []) ns in
-            let same : reached ≡ (done.0, there) = batch_same below p lawful checked none service origin served fits s w at l b n ns found e keeps both.0 is in
-            let given1 : ScriptsGive service done.1.server.table grown.more ns now =
-            subst (λ q. ScriptsGive service q grown.more ns now) (table_same below p lawful checked none service origin served fits s at l b found keeps) both.1 in
-            let after = next done.1 (subst (λ z. Keeps d side P (go z.0)) (sym same) kept) (ap (λ z. z.1.events) same) holds1 grown.more grown.same
-            (subst (λ z. ScriptsGive service done.1.server.table grown.more z.1.nodes now) (sym same) given1) in
-            record { outside = after.outside; way = performed at l go s after.outside rest (subst (λ z. Passes main (go z.0) done.1 rest after.outside) same after.way); events = after.events; table = after.table }
+        x : Exchanges below p lawful checked none service origin served a w at l b grown.more found left
+        x = exchanges below p lawful checked none service origin served a w at l b grown.more found left there e (keeps_here below p lawful checked none service origin served a holds at l site asked b there)
+            (subst (λ q. ScriptsGive service found q w.nodes left) more_is given) through
 
-    pub comes : (run rest : Dialogue A) (w w1 : Waiting) → Passes waiting run w rest w1 → FromHere P now run w rest w1
-    comes _ _ _ _ (here run w) s k e holds more sent given =
+        -- what the program does there
+        did : Outcome (Unit {0}) × Around
+        did = done below p lawful checked none service origin served b l a
+
+        did_is : did ≡ main.batch a at l
+        did_is = done_is below p lawful checked none service origin served a at l b there
+
+        kept : Keeps d side P (go reached.0)
+        kept = subst (λ z. Keeps d side P (go z.0)) (sym x.same) (subst (λ z. Keeps d side P (go z.0)) (sym did_is) (k.2 (main.batch a at l).0 (fits.batches a at l k.0 holds k.1)))
+
+        after : Comes (go reached.0) did.1 rest w1 x.founds x.lefts
+        after = next did.1 kept (ap (λ z. z.1.events) x.same) (subst (λ z. Holds z.1) (sym did_is) (fits.performed a at l k.0 holds k.1)) grown.more x.founds x.lefts grown.same
+            (subst (λ z. ScriptsGive service x.founds grown.more z.1.nodes x.lefts) (sym x.same) x.given) x.through
+
+        way_on : Passes main (go (main.batch a at l).0) (main.batch a at l).1 rest after.around
+        way_on = subst (λ z. Passes main (go z.0) z.1 rest after.around) did_is (subst (λ z. Passes main (go z.0) did.1 rest after.around) x.same after.way)
+
+    pub comes : (run rest : Dialogue A) (w w1 : Waiting) → Passes waiting run w rest w1 → FromHere P run w rest w1
+    comes _ _ _ _ (here run w) a k e holds more found left sent given through =
         let nothing : [] ≡ more = same_tail w.sent [] more (append-nil w.sent ∙ sent) in
-        let same = none_given below p lawful checked none service origin served s.server.table now w.nodes (subst (λ q. ScriptsGive service s.server.table q w.nodes now) (sym nothing) given) in
-        record { outside = s; way = here run s; events = sym e; table = sym same }
-    comes _ _ _ _ (answered (Line at bytes) go w w1 rest way) s k e holds more sent given =
-        let after = comes (go (Ok value.Unit)) rest (record w { events = w.events ++ state.Line bytes ∷ [] }) w1 way (shows (state.Line bytes) s) (k.1 (Ok value.Unit) tt) (ap (λ q. q ++ state.Line bytes ∷ []) e) holds more sent given in
-        record { outside = after.outside; way = answered (Line at bytes) go s after.outside rest after.way; events = after.events; table = after.table }
-    comes _ _ _ _ (answered (ListTurn at) go w w1 rest way) s k e holds more sent given =
-        let after = comes (go (Ok value.Unit)) rest w w1 way s (k.1 (Ok value.Unit) tt) e holds more sent given in
-        record { outside = after.outside; way = answered (ListTurn at) go s after.outside rest after.way; events = after.events; table = after.table }
-    comes _ _ _ _ (answered (Taken step) go w w1 rest way) s k e holds more sent given = absurd k.0
-    comes _ _ _ _ (answered (Invoke at target method args) go w w1 rest way) s k e holds more sent given = absurd k.0
-    comes _ _ _ _ (answered (Turn at) go w w1 rest way) s k e holds more sent given = absurd k.0
-    comes _ _ _ _ (performed at l go w w1 rest way) s k e holds more sent given =
-        batch_comes at l go w w1 rest way (comes (go (waiting.batch w at l).0) rest (waiting.batch w at l).1 w1 way) k.0 k.1 s (k.2 (main.batch s at l).0 (fits.batches s at l k.0 holds k.1)) (fits.performed s at l k.0 holds k.1) e holds more sent given
+        let behind_so = behind_nothing below p lawful checked none service origin served a found left w.nodes (subst (λ q. ScriptsGive service found q w.nodes left) (sym nothing) given) in
+        record { around = a; way = here run a; events = sym e; behind_so = behind_so }
+    comes _ _ _ _ (answered (Line at bytes) go w w1 rest way) a k e holds more found left sent given through =
+        let q = Line at bytes in
+        let after = comes (go (Ok value.Unit)) rest (record w { events = w.events ++ state.Line bytes ∷ [] }) w1 way (answers_around a q).1 (k.1 (Ok value.Unit) tt) (ap (λ z. z ++ state.Line bytes ∷ []) e) (fits.answered a q holds k.0)
+        more found left sent given through in
+        record { around = after.around; way = answered q go a after.around rest after.way; events = after.events; behind_so = behind_answer below p lawful checked none service origin served a after.around q found left after.behind_so }
+    comes _ _ _ _ (answered (ListTurn at) go w w1 rest way) a k e holds more found left sent given through =
+        let q = ListTurn at in
+        let after = comes (go (Ok value.Unit)) rest w w1 way (answers_around a q).1 (k.1 (Ok value.Unit) tt) e (fits.answered a q holds k.0) more found left sent given through in
+        record { around = after.around; way = answered q go a after.around rest after.way; events = after.events; behind_so = behind_answer below p lawful checked none service origin served a after.around q found left after.behind_so }
+    comes _ _ _ _ (answered (Taken step) go w w1 rest way) a k e holds more found left sent given through = absurd k.0
+    comes _ _ _ _ (answered (Invoke at target method args) go w w1 rest way) a k e holds more found left sent given through = absurd k.0
+    comes _ _ _ _ (answered (Turn at) go w w1 rest way) a k e holds more found left sent given through = absurd k.0
+    comes _ _ _ _ (performed at l go w w1 rest way) a k e holds more found left sent given through =
+        batch_comes at l go w w1 rest way (comes (go (waiting.batch w at l).0) rest (waiting.batch w at l).1 w1 way) k.0 k.1 a k e holds more found left sent given through
 
 pub come_as_far : LawsBelow → ProgramsComeAsFar
-come_as_far below p lawful checked none service table served fuel nodes rest w now client given =
-    let after = comes below p lawful checked none service table served (main_fits below p lawful checked none service table served) (Ends below p lawful checked none service table served) now
-    (main_run p fuel) rest (with_nodes nodes) w client.passes (outside_of table) (main_kept below p lawful checked none service table served fuel) refl served.fits w.sent refl given in
-    record { outside = after.outside; comes = after.way; events = after.events; table = after.table }
+come_as_far below p lawful checked none service table served others kept fuel nodes rest w found left client given through =
+    let after = comes below p lawful checked none service table served (main_fits below p lawful checked none service table served) (Ends below p lawful checked none service table served)
+    (main_run p fuel) rest (with_nodes nodes) w client.passes (around_of table others) (main_kept below p lawful checked none service table served fuel) refl (record { table = served.fits; others = kept }) w.sent found left refl given through in
+    record {
+      around = after.around;
+      comes = after.way;
+      events = after.events;
+      found_so = after.behind_so.found_so;
+      left_so = after.behind_so.left_so;
+      table = after.behind_so.table;
+      others_so = after.behind_so.others_so;
+    }

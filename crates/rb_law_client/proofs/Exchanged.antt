@@ -11,7 +11,7 @@ use Rattle.rb_meaning_flow.specs.Facts.{facts_of}
 use Rattle.rb_meaning_flow.specs.Outermost.{Outermost, program_batches}
 use Rattle.rb_meaning.specs.Unsplit.{batch_at}
 use Rattle.rb_meaning.specs.Links.{IsTyped}
-use Rattle.rb_meaning.specs.Meaning.{in_main, outside_of}
+use Rattle.rb_meaning.specs.Meaning.{around_of, in_main}
 use Rattle.rb_meaning_split.specs.Client.{sent_for}
 use Rattle.rb_meaning_split.specs.Division.{Division, inputs_of, division, most_inputs, longest_code, divided, divided_before, divided_all}
 use Rattle.rb_flow.proofs.Members.{contained_cases, none_contained}
@@ -56,15 +56,15 @@ one_only : (a c : Outermost) → Some a ≡ Some c → a ≡ c
 one_only a c e = cc (e)
 
 pub exchanged : LawsBelow → NodesFit → DividedCanBeSent → ReachedBatchesCanBeExchanged
-exchanged below nodes sendable p lawful checked none places ds divides service table served fuel at l go s passes =
+exchanged below nodes sendable p lawful checked none places ds divides service table served others kept fuel at l go a passes s fits_there =
     let side = Own (program_sites p) in
     let t = program_typed p checked in
     let fits = main_fits below p lawful checked none service table served in
-    let reached = reaches (of_program p) side _ (in_main p service) fits (Ends below p lawful checked none service table served) (main_run p fuel) (AskBatch at l go) (outside_of table) s passes
-    (main_kept below p lawful checked none service table served fuel) served.fits in
+    let reached = reaches (of_program p) side _ (in_main p service) fits (Ends below p lawful checked none service table served) (main_run p fuel) (AskBatch at l go) (around_of table others) a passes
+    (main_kept below p lawful checked none service table served fuel) (record { table = served.fits; others = kept }) in
     let site = reached.0.0 in
     let asked : IsAskedBatch (of_program p) side at l site = reached.0.1 in
-    let served_now : IsTyped service s.server.table = record { lawful = served.lawful; typed = served.typed; fits = reached.1 } in
+    let served_now : IsTyped service s.server.table = record { lawful = served.lawful; typed = served.typed; fits = fits_there } in
     let known = batches_in p lawful t (below.notes p lawful) site asked.may in
     let b = known.begun in
     let found : batch_at p at ≡ Some b = ap (batch_at p) (sym (known.at ∙ asked.here)) ∙ batch_found p lawful b known.among in

@@ -20,9 +20,9 @@ use Rattle.rb_meaning_code.specs.State.{Local, bound}
 use Rattle.rb_meaning_flow.specs.Facts.{facts_of}
 use Rattle.rb_meaning_flow.specs.Outermost.{Outermost, program_batches}
 use Rattle.rb_meaning.specs.Links.{IsTyped}
-use Rattle.rb_meaning.specs.Meaning.{in_main, outside_of}
+use Rattle.rb_meaning.specs.Meaning.{Around, around_of, at_batch, in_main}
+use Rattle.rb_meaning.specs.Others.{Others}
 use Rattle.rb_meaning.specs.RemotePart.{Walked}
-use Rattle.rb_meaning.specs.State.{Outside}
 use Rattle.rb_meaning.specs.Unsplit.{batch_at, begun, in_batch}
 use Rattle.rb_meaning_split.specs.Client.{input_values}
 use Rattle.rb_meaning_split.specs.Division.{division}
@@ -39,14 +39,16 @@ use Rattle.rb_law_types.proofs.InSurroundings.{types_keep_handled, batches_keep_
 use Rattle.rb_law_types.proofs.Parts.{try_parts}
 use Rattle.rb_law_types.proofs.Steps.{keeps_more}
 use Rattle.rb_law_unsplit.specs.Batches.{program_sites}
+use Rattle.rb_law_unsplit.specs.Kept.{AllKeepFitting, HasFittingTable, StandsAround}
 use Rattle.rb_law_unsplit.proofs.Admitted.{walks_fine}
 use Rattle.rb_law_unsplit.proofs.Found.{batch_found}
 use Rattle.rb_law_unsplit.proofs.Handling.{Fine}
+use Rattle.rb_law_unsplit.proofs.Others.{stands_at_batch}
 use Rattle.rb_law_unsplit.proofs.Programs.{IsTypedProgram, program_typed, batches_in, methods_ask}
 use Rattle.rb_law_unsplit.proofs.Standing.{IsBatchOf}
 use Rattle.rb_law_unsplit.proofs.Whole.{declared, batch_fits, BodyKeeps, body_begins, same_site}
 use Rattle.rb_law_script.specs.Remote.{fault_of, script_run, remote_part}
-use Rattle.rb_law_client.specs.Answered.{EndsWithoutKind, HasFittingTable, NextFits, AlwaysStandsWell, body_run, AnswersFit, CodeKeepsTypes, NoKindIsCaught, EachAnswerFits, EachPieceKeepsTypes, KindIsNeverCaught}
+use Rattle.rb_law_client.specs.Answered.{EndsWithoutKind, NextFits, AlwaysStandsWell, body_run, AnswersFit, CodeKeepsTypes, NoKindIsCaught, EachAnswerFits, EachPieceKeepsTypes, KindIsNeverCaught}
 use Rattle.rb_law_client.specs.Below.{LawsBelow}
 use Rattle.rb_law_client.specs.Reached.{main_run, ProgramComesTo}
 use Rattle.rb_law_client.specs.ScriptFaults.{StopsWithoutKind, ScriptEndsWithoutKind, ScriptsNeverFaultKind}
@@ -60,11 +62,11 @@ next_fits d side Holds h fits (Done o) s k holds = k
 next_fits d side Holds h fits (Ask q go) s k holds = (k.0, fits.answers s q holds k.0)
 next_fits d side Holds h fits (AskBatch at l go) s k holds = (k.0, k.1, fits.batches s at l k.0 holds k.1)
 
-always : {A : Type 0} (service : Service) (d : Declarations) (side : Side) (h : Handler Outside) → HandlerFits d side (HasFittingTable service) h → (P : Outcome A → Type 0) → ((o : Outcome A) → P o → EndsWithoutKind o)
-    → (run : Run A) (s : Outside) → Keeps d side P run → HasFittingTable service s → AlwaysStandsWell service d side h run s
-always service d side h fits P less run s k holds rest now way =
-    let reached = reaches d side (HasFittingTable service) h fits EndsWithoutKind run rest s now way (keeps_more d side P EndsWithoutKind run less k) holds in
-    record { next = next_fits d side (HasFittingTable service) h fits rest now reached.0 reached.1; table = reached.1 }
+always : {S A : Type 0} (Holds : S → Type 0) (d : Declarations) (side : Side) (h : Handler S) → HandlerFits d side Holds h → (P : Outcome A → Type 0) → ((o : Outcome A) → P o → EndsWithoutKind o)
+    → (run : Run A) (s : S) → Keeps d side P run → Holds s → AlwaysStandsWell Holds d side h run s
+always Holds d side h fits P less run s k holds rest now way =
+    let reached = reaches d side Holds h fits EndsWithoutKind run rest s now way (keeps_more d side P EndsWithoutKind run less k) holds in
+    record { next = next_fits d side Holds h fits rest now reached.0 reached.1; around = reached.1 }
 
 -- a fault that fits, in a program or a service, is one that typed code ends by
 fits_own : (d : Declarations) (r : Raised) → FaultFits d r → IsOwnFault r.fault
@@ -108,7 +110,7 @@ module _ (below : LawsBelow) (p : Program) (lawful : IsLawful p) (checked : chec
   typed : AreTyped d
   typed = declared below.calls below.exprs_formed below.stmts_formed below.classes_formed below.types_keep p lawful t none service table served
 
-  in_program : HandlerFits d side (HasFittingTable service) (in_main p service)
+  in_program : HandlerFits d side (StandsAround service) (in_main p service)
   in_program = main_fits below p lawful checked none service table served
 
   in_batches : HandlerFits d (InBatch (type_at p)) (HasFittingTable service) (in_batch p service)
@@ -120,8 +122,8 @@ module _ (below : LawsBelow) (p : Program) (lawful : IsLawful p) (checked : chec
 
   -- ---- a batch that the program comes to
 
-  record IsReached (at : ℕ) (l : Local) (s : Outside) : Type 0 where
-    holds : HasFittingTable service s
+  record IsReached (at : ℕ) (l : Local) (a : Around) : Type 0 where
+    holds : HasFittingTable service (at_batch a)
     site : Site
     asked : IsAskedBatch d side at l site
     known : IsBatchOf p all site
@@ -129,15 +131,23 @@ module _ (below : LawsBelow) (p : Program) (lawful : IsLawful p) (checked : chec
     here : IsBatchOf p all (site_of known.begun site.interface site.place)
     asked_here : IsAskedBatch d side at l (site_of known.begun site.interface site.place)
 
-  reached : (fuel at : ℕ) (l : Local) (go : Outcome (Unit {0}) → Dialogue (Outcome (Option Value))) (s : Outside) → ProgramComesTo p service table fuel (AskBatch at l go) s → IsReached at l s
-  reached fuel at l go s comes =
-      let kept = reaches d side (HasFittingTable service) (in_main p service) in_program (mains.Ends below p lawful checked none service table served) (main_run p fuel) (AskBatch at l go) (outside_of table) s comes
-      (main_kept below p lawful checked none service table served fuel) served.fits in
+  -- of a program that begins on the table, where others do what keeps tables fitting
+  abbrev Starts : List Others → Type 0
+  Starts others = StandsAround service (around_of table others)
+
+  started : (others : List Others) → AllKeepFitting service others → Starts others
+  started others kept = record { table = served.fits; others = kept }
+
+  reached : (others : List Others) → Starts others → (fuel at : ℕ) (l : Local) (go : Outcome (Unit {0}) → Dialogue (Outcome (Option Value))) (a : Around)
+      → ProgramComesTo p service table others fuel (AskBatch at l go) a → IsReached at l a
+  reached others starts fuel at l go a comes =
+      let kept = reaches d side (StandsAround service) (in_main p service) in_program (mains.Ends below p lawful checked none service table served) (main_run p fuel) (AskBatch at l go) (around_of table others) a comes
+      (main_kept below p lawful checked none service table served fuel) starts in
       let asked : IsAskedBatch d side at l kept.0.0 = kept.0.1 in
       let known = batches_in p lawful t (below.notes p lawful) kept.0.0 asked.may in
       let same = same_site below.calls below.exprs_formed below.stmts_formed below.classes_formed below.types_keep p lawful t none service table served kept.0.0 known in
       record {
-        holds = kept.1;
+        holds = stands_at_batch service a kept.1;
         site = kept.0.0;
         asked = asked;
         known = known;
@@ -147,28 +157,28 @@ module _ (below : LawsBelow) (p : Program) (lawful : IsLawful p) (checked : chec
       }
 
   -- its body, from where its root is bound
-  body_here : (at : ℕ) (l : Local) (s : Outside) (r : IsReached at l s)
+  body_here : (at : ℕ) (l : Local) (a : Around) (r : IsReached at l a)
       → BodyKeeps below.calls below.exprs_formed below.stmts_formed below.classes_formed below.types_keep p lawful t none service table served r.known.begun r.site.interface r.site.place r.here r.known.among l
-  body_here at l s r =
+  body_here at l a r =
       body_begins below.calls below.exprs_formed below.stmts_formed below.classes_formed below.types_keep p lawful t none service table served r.known.begun r.site.interface r.site.place r.here r.known.among at l r.asked_here
 
-  answers : (fuel : ℕ) → AnswersFit p service table fuel
-  answers fuel = record {
-    main = always service d side (in_main p service) in_program (mains.Ends below p lawful checked none service table served) main_ends (main_run p fuel) (outside_of table)
-        (main_kept below p lawful checked none service table served fuel) served.fits;
-    batches = λ at l go s comes.
-        let r = reached fuel at l go s comes in
-        let body = body_here at l s r in
+  answers : (others : List Others) → Starts others → (fuel : ℕ) → AnswersFit p service table others fuel
+  answers others starts fuel = record {
+    main = always (StandsAround service) d side (in_main p service) in_program (mains.Ends below p lawful checked none service table served) main_ends (main_run p fuel) (around_of table others)
+        (main_kept below p lawful checked none service table served fuel) starts;
+    batches = λ at l go a comes.
+        let r = reached others starts fuel at l go a comes in
+        let body = body_here at l a r in
         record {
           batch = r.known.begun;
           stands = r.found;
-          body = always service d (InBatch (type_at p)) (in_batch p service) in_batches _ (ends_well _ _ _ _ _) (body_run p service r.known.begun l) (begun s) body.keeps r.holds;
+          body = always (HasFittingTable service) d (InBatch (type_at p)) (in_batch p service) in_batches _ (ends_well _ _ _ _ _) (body_run p service r.known.begun l) (begun (at_batch a)) body.keeps r.holds;
         };
   }
 
   code : CodeKeepsTypes p service
   code = record {
-    own = types_keep_handled (HasFittingTable service) d typed (program_sites p) (methods_ask p) (in_main p service) in_program;
+    own = types_keep_handled (StandsAround service) d typed (program_sites p) (methods_ask p) (in_main p service) in_program;
     batches = batches_keep_handled (HasFittingTable service) d typed (type_at p) (in_batch p service) in_batches;
   }
 
@@ -186,11 +196,13 @@ module _ (below : LawsBelow) (p : Program) (lawful : IsLawful p) (checked : chec
         ends_well _ _ _ _ _ _ ends.0;
   }
 
-  script_ends : NodesHoldTheFault → (fuel at : ℕ) (l : Local) (go : Outcome (Unit {0}) → Dialogue (Outcome (Option Value))) (s : Outside) → ProgramComesTo p service table fuel (AskBatch at l go) s → ScriptEndsWithoutKind p service at l s
-  script_ends nodes fuel at l go s comes =
-      let r = reached fuel at l go s comes in
+  script_ends : NodesHoldTheFault → (others : List Others) → Starts others → (fuel at : ℕ) (l : Local) (go : Outcome (Unit {0}) → Dialogue (Outcome (Option Value))) (a : Around)
+      → ProgramComesTo p service table others fuel (AskBatch at l go) a → ScriptEndsWithoutKind p service at l (at_batch a)
+  script_ends nodes others starts fuel at l go a comes =
+      let s = at_batch a in
+      let r = reached others starts fuel at l go a comes in
       let b = r.known.begun in
-      let body = body_here at l s r in
+      let body = body_here at l a r in
       let served_now : IsTyped service s.server.table = record { lawful = served.lawful; typed = served.typed; fits = r.holds } in
       let walk = walks_fine (walking below) below.conditions below.exprs_formed below.stmts_formed below.classes_formed below.types_keep below.sends p lawful t none service table served
       b r.site.interface r.site.place r.here r.known.agree r.known.among (bound b.root (value.Remote service.root) l) (begun s) r.holds body.start_fits body.begins in
@@ -205,7 +217,8 @@ module _ (below : LawsBelow) (p : Program) (lawful : IsLawful p) (checked : chec
       }
 
 pub answers_fit : LawsBelow → EachAnswerFits
-answers_fit below p lawful checked none service table served fuel = answers below p lawful checked none service table served fuel
+answers_fit below p lawful checked none service table served others kept fuel =
+    answers below p lawful checked none service table served others (started below p lawful checked none service table served others kept) fuel
 
 pub pieces_keep : LawsBelow → EachPieceKeepsTypes
 pieces_keep below p lawful checked none service table served = code below p lawful checked none service table served
@@ -214,4 +227,5 @@ pub none_caught : LawsBelow → KindIsNeverCaught
 none_caught below p lawful checked none service table served = caught below p lawful checked none service table served
 
 pub scripts_end : LawsBelow → NodesHoldTheFault → ScriptsNeverFaultKind
-scripts_end below nodes p lawful checked none service table served fuel at l go s comes = script_ends below p lawful checked none service table served nodes fuel at l go s comes
+scripts_end below nodes p lawful checked none service table served others kept fuel at l go a comes =
+    script_ends below p lawful checked none service table served nodes others (started below p lawful checked none service table served others kept) fuel at l go a comes

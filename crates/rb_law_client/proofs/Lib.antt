@@ -14,6 +14,7 @@ pub mod Joining
 pub mod Owned
 pub mod Standing
 pub mod Divided
+pub mod Others
 pub mod Clients
 pub mod Shown
 pub mod Mains

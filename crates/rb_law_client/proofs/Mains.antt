@@ -7,16 +7,15 @@ use Rattle.rb_trees.specs.mirror.Services.{Service}
 use Rattle.rb_meaning_types.specs.Declared.{Declarations, of_program}
 use Rattle.rb_meaning_types.specs.Lawful.{IsLawful}
 use Rattle.rb_meaning_types.specs.Programs.{check_program}
-use Rattle.rb_meaning_types.specs.Fits.{TableFits}
 use Rattle.rb_meaning_code.specs.Dialogue.{Outcome, Dialogue, Handler}
 use Rattle.rb_meaning_code.specs.Led.{Passes, here, answered, performed}
-use Rattle.rb_meaning.specs.State.{Outside}
 use Rattle.rb_meaning.specs.Links.{IsTyped}
 use Rattle.rb_meaning.specs.Meaning.{in_main}
 use Rattle.rb_flow.specs.Program.{HasNoRefusal}
 use Rattle.rb_law_types.specs.Asked.{Side, Own, Keeps}
 use Rattle.rb_law_types.specs.Around.{HandlerFits}
 use Rattle.rb_law_unsplit.specs.Batches.{program_sites}
+use Rattle.rb_law_unsplit.specs.Kept.{StandsAround}
 use Rattle.rb_law_unsplit.proofs.Admitted.{whole_fits}
 use Rattle.rb_law_unsplit.proofs.Programs.{IsTypedProgram, program_typed}
 use Rattle.rb_law_unsplit.proofs.Whole.{AllWhole, MainEnds, main_handler_fits, main_keeps}
@@ -40,13 +39,10 @@ module _ (below : LawsBelow) (p : Program) (lawful : IsLawful p) (checked : chec
   abbrev side : Side
   side = Own (program_sites p)
 
-  abbrev Holds : Outside → Type 0
-  Holds s = TableFits service.classes service.root s.server.table
-
   pub whole : AllWhole below.calls below.exprs_formed below.stmts_formed below.classes_formed below.types_keep p lawful t none service table served
   whole = whole_fits (walking below) below.conditions below.exprs_formed below.stmts_formed below.classes_formed below.types_keep below.sends p lawful t none service table served
 
-  pub main_fits : HandlerFits (of_program p) side Holds (in_main p service)
+  pub main_fits : HandlerFits (of_program p) side (StandsAround service) (in_main p service)
   main_fits = main_handler_fits below.calls below.exprs_formed below.stmts_formed below.classes_formed below.types_keep p lawful t none service table served whole (below.notes p lawful)
 
   -- how `main` ends

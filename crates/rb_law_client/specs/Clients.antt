@@ -9,7 +9,9 @@ use Rattle.rb_meaning_types.specs.Lawful.{IsLawful}
 use Rattle.rb_meaning_types.specs.Programs.{check_program}
 use Rattle.rb_meaning_code.specs.ScriptRun.{Ran, run_script}
 use Rattle.rb_meaning.specs.Links.{IsTyped}
-use Rattle.rb_meaning.specs.Meaning.{meaning}
+use Rattle.rb_meaning.specs.Meaning.{meaning_with}
+use Rattle.rb_meaning.specs.Others.{Others, FoundThrough, last_table}
+use Rattle.rb_law_unsplit.specs.Kept.{AllKeepFitting}
 use Rattle.rb_meaning_split.specs.Client.{client}
 use Rattle.rb_flow.specs.Program.{HasNoRefusal}
 
@@ -17,31 +19,39 @@ use Rattle.rb_flow.specs.Program.{HasNoRefusal}
 abbrev pub sent_run : Service → List Object → Sent → Ran
 sent_run service table q = run_script q.script q.values service.classes service.root table
 
--- These scripts, sent in order to a service, give these nodes, each on the table that the one before left; and then there is
--- this table.
-abbrev pub ScriptsGive : Service → List Object → List Sent → List Node → List Object → Type 0
-ScriptsGive service table [] [] after = table ≡ after
-ScriptsGive service table [] (n ∷ ns) after = ⊥
-ScriptsGive service table (q ∷ qs) [] after = ⊥
-ScriptsGive service table (q ∷ qs) (n ∷ ns) after =
-    ((sent_run service table q).node ≡ n) × ScriptsGive service (sent_run service table q).server.table qs ns after
+-- These scripts, sent in order to a service, each of which found the table of its place, gave these nodes and left these tables.
+abbrev pub ScriptsGive : Service → List (List Object) → List Sent → List Node → List (List Object) → Type 0
+ScriptsGive service [] [] [] [] = Unit {0}
+ScriptsGive service (found ∷ founds) (q ∷ qs) (n ∷ ns) (left ∷ lefts) =
+    ((sent_run service found q).node ≡ n) × ((sent_run service found q).server.table ≡ left) × ScriptsGive service founds qs ns lefts
+ScriptsGive service _ _ _ _ = ⊥
 
--- A client on these nodes ends as the program does, shows the same, and leaves the program's table.
-pub record MeansTheProgram (p : Program) (service : Service) (before : List Object) (fuel : ℕ) (nodes : List Node) (after : List Object) : Type 0 where
-  pub ending : (client p fuel nodes).ending ≡ (meaning p service before fuel).ending
-  pub events : (client p fuel nodes).events ≡ (meaning p service before fuel).events
-  pub table : after ≡ (meaning p service before fuel).table
+-- A client on these nodes ends as the program does where others do this, and shows the same; and these are the tables that the
+-- program's batches find and leave, and the one at its end.
+pub record MeansTheProgram (p : Program) (service : Service) (before : List Object) (others : List Others) (fuel : ℕ) (found : List (List Object)) (nodes : List Node) (left : List (List Object)) : Type 0 where
+  pub ending : (client p fuel nodes).ending ≡ (meaning_with p service before others fuel).ending
+  pub events : (client p fuel nodes).events ≡ (meaning_with p service before others fuel).events
+  pub found_so : found ≡ (meaning_with p service before others fuel).found
+  pub left_so : left ≡ (meaning_with p service before others fuel).left
+  pub table : last_table before left ≡ (meaning_with p service before others fuel).table
 
--- There are nodes that a client's own scripts give.
-pub record HasNodes (p : Program) (service : Service) (table : List Object) (fuel : ℕ) : Type 0 where
+-- There are tables and nodes that a client's own scripts find, give and leave, where others do this.
+pub record HasNodes (p : Program) (service : Service) (table : List Object) (others : List Others) (fuel : ℕ) : Type 0 where
+  pub found : List (List Object)
   pub nodes : List Node
-  pub after : List Object
-  pub given : ScriptsGive service table (client p fuel nodes).sent nodes after
+  pub left : List (List Object)
+  pub given : ScriptsGive service found (client p fuel nodes).sent nodes left
+  pub through : FoundThrough others table found left
 
--- So it is in a lawful, typed program without refusals, on a typed service: a client means the program on whatever nodes its own
--- scripts give there, and there are such.
+-- A client means the program on whatever nodes its own scripts give, each on the table that it finds there.
+abbrev pub MeansOnItsNodes : Program → Service → List Object → List Others → ℕ → Type 0
+MeansOnItsNodes p service table others fuel = (found : List (List Object)) (nodes : List Node) (left : List (List Object))
+    → ScriptsGive service found (client p fuel nodes).sent nodes left → FoundThrough others table found left
+    → MeansTheProgram p service table others fuel found nodes left
+
+-- So it is in a lawful, typed program without refusals, on a typed service, whatever others do that keeps tables fitting; and there
+-- are such nodes.
 abbrev pub ClientsMeanWhatProgramsMean : Type 0
 ClientsMeanWhatProgramsMean = (p : Program) → IsLawful p → check_program p ≡ Ok tt → HasNoRefusal p
-    → (service : Service) (table : List Object) → IsTyped service table → (fuel : ℕ)
-    → HasNodes p service table fuel
-    × ((nodes : List Node) (after : List Object) → ScriptsGive service table (client p fuel nodes).sent nodes after → MeansTheProgram p service table fuel nodes after)
+    → (service : Service) (table : List Object) → IsTyped service table → (others : List Others) → AllKeepFitting service others
+    → (fuel : ℕ) → HasNodes p service table others fuel × MeansOnItsNodes p service table others fuel

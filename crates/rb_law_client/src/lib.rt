@@ -60,8 +60,10 @@ pub fn dividing_a_batch_keeps_its_meaning()
 }
 
 /// In a lawful, typed program without refusals, on a typed service, a client whose scripts give its nodes there, one after
-/// the other, each on the table that the one before left, means what the program means: it ends so, shows the same, and the
-/// last table is the program's. There are such nodes, with whatever fuel.
+/// the other, each on the table that it finds, means what the program means where others make those tables of the ones that
+/// the scripts before left: it ends so and shows the same, and the tables that the program's batches find and leave are
+/// those, and the last of them stands at its end. There are such nodes, with whatever fuel, whatever others do that keeps
+/// tables fitting.
 pub fn clients_mean_what_programs_mean()
     ensures { ClientsMeanWhatProgramsMean }
 {
@@ -69,7 +71,8 @@ pub fn clients_mean_what_programs_mean()
 }
 
 /// In a lawful, typed program without refusals, on a typed service, however far a client comes on nodes that its own scripts
-/// give there, the program comes as far: the same is left of it, it has shown the same, and the server has the same table.
+/// give there, the program comes as far: the same is left of it, it has shown the same, its batches have found and left the
+/// same tables, the server has the last of them, and what others do from then on is still to come.
 pub fn programs_come_as_far_as_clients()
     ensures { ProgramsComeAsFar }
 {
@@ -82,7 +85,7 @@ pub fn fronts_are_shown()
 {}
 
 /// Each batch that an accepted program reaches on a typed service can be exchanged: its request is within the limit, and the
-/// node that its script gives fits its remainder.
+/// node that its script gives fits its remainder, on whatever table that fits the service.
 pub fn reached_batches_can_be_exchanged()
     ensures { ReachedBatchesCanBeExchanged }
 {
@@ -92,7 +95,8 @@ pub fn reached_batches_can_be_exchanged()
 }
 
 /// However far an accepted program comes on a typed service, in `main` and in the batches that it comes to: what it is answered
-/// fits what it asked, a value of its type or a fault that isn't Kind, and a batch ends as a statement does where it stands.
+/// fits what it asked, a value of its type or a fault that isn't Kind, and a batch ends as a statement does where it stands,
+/// whatever others do to the table between batches that keeps it fitting.
 pub fn answers_fit_on_the_way()
     ensures { EachAnswerFits }
 {
@@ -114,8 +118,8 @@ pub fn kind_is_never_caught()
     laws_below();
 }
 
-/// The script of a batch that an accepted program comes to isn't stopped by Kind, on the service and the table of then, with the
-/// values of its inputs; and in the node that it gives stands no fault Kind.
+/// The script of a batch that an accepted program comes to isn't stopped by Kind, on the service and the table that the batch
+/// finds, with the values of its inputs; and in the node that it gives stands no fault Kind.
 pub fn scripts_never_fault_kind()
     ensures { ScriptsNeverFaultKind }
 {

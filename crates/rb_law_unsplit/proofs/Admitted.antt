@@ -60,7 +60,7 @@ module _ (laws : Laws) (conditions : ConditionsHold) (exprs_formed : LawfulExprs
       table_fine service (remote_only p service (opened o.outer o.at o.root o.block) o.block start.names s.server) (walks_fine o interface place known agree among start s h fits begins)
 
 pub admitted_mean_well : Laws → ConditionsHold → LawfulExprsAreFormed → LawfulStmtsAreFormed → LawfulClassesAreFormed → TypesKeep → AdmittedSendPortable → LawfulAreNoted → AdmittedMeanWell
-admitted_mean_well laws conditions exprs_formed stmts_formed classes_formed types_keep sends notes p lawful typed none service table served fuel =
+admitted_mean_well laws conditions exprs_formed stmts_formed classes_formed types_keep sends notes p lawful typed none service table served others kept fuel =
     let t = program_typed p typed in
     means_well laws.calls exprs_formed stmts_formed classes_formed types_keep p lawful t none service table served
-    (whole_fits laws conditions exprs_formed stmts_formed classes_formed types_keep sends p lawful t none service table served) (notes p lawful) fuel
+    (whole_fits laws conditions exprs_formed stmts_formed classes_formed types_keep sends p lawful t none service table served) (notes p lawful) others kept fuel

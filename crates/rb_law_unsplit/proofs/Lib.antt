@@ -9,6 +9,7 @@ pub mod EachSite
 pub mod Admission
 pub mod OfKinds
 pub mod Handling
+pub mod Others
 pub mod Whole
 pub mod Conditions
 pub mod Carried

@@ -41,7 +41,8 @@ use Rattle.rb_meaning_flow.specs.Outermost.{Outermost, batch_sites, program_batc
 use Rattle.rb_meaning.specs.State.{Outside}
 use Rattle.rb_meaning.specs.RemotePart.{remote_only}
 use Rattle.rb_meaning.specs.Unsplit.{batch_at, in_batch, with_side, begun, settles, whole_table, performs_batch}
-use Rattle.rb_meaning.specs.Meaning.{local_answer, shown_by, performs_found, in_main, gives_some, main_result, runs_main, ending_of, at_start, outside_of, meaning}
+use Rattle.rb_meaning.specs.Meaning.{Around, local_answer, answers_around, at_batch, performs_found, in_main, gives_some, main_result, runs_main, ending_of, at_start, around_of, meaning_with}
+use Rattle.rb_meaning.specs.Others.{Others}
 use Rattle.rb_meaning.specs.Links.{IsTyped}
 use Rattle.rb_flow.specs.Program.{HasNoRefusal}
 use Rattle.rb_flow.proofs.Among.{mapped_to}
@@ -65,13 +66,14 @@ use Rattle.rb_law_types.proofs.Parts.{batch_parts}
 use Rattle.std.proofs.lemmas.List.Elements.{Contains-append_right}
 use Rattle.rb_law_unsplit.specs.Noted.{IsNotedProgram}
 use Rattle.rb_law_unsplit.specs.Batches.{class_sites, program_sites}
-use Rattle.rb_law_unsplit.specs.Kept.{IsResult, EndsWell, MeansWell}
+use Rattle.rb_law_unsplit.specs.Kept.{IsResult, EndsWell, AllKeepFitting, HasFittingTable, StandsAround, MeansWell}
 use Rattle.rb_law_unsplit.proofs.Found.{batch_found}
 use Rattle.rb_law_unsplit.proofs.Agreed.{Agree}
 use Rattle.rb_law_unsplit.proofs.Standing.{block_lawful, IsBatchOf}
 use Rattle.rb_law_unsplit.proofs.Programs.{methods_ask, IsTypedProgram, batches_in}
 use Rattle.rb_law_unsplit.proofs.Admission.{block_admitted}
 use Rattle.rb_law_unsplit.proofs.Handling.{Fine, batch_handler_fits}
+use Rattle.rb_law_unsplit.proofs.Others.{stands_at_batch, stands_behind}
 
 -- a remote object fits an interface's name
 pub remote_named : (o : Option Interface) (cs : List (List ℕ)) (name : List ℕ) (w : Value-F Value) → is_some o ≡ true → IsRemoteValue w → FitsNamed o cs name w
@@ -94,7 +96,10 @@ module _ (calls : CallsKeep) (exprs_formed : LawfulExprsAreFormed) (stmts_formed
   service_formed = classes_formed service.classes served.lawful.each
 
   abbrev Holds : Outside → Type 0
-  Holds s = TableFits service.classes service.root s.server.table
+  Holds = HasFittingTable service
+
+  abbrev HoldsAround : Around → Type 0
+  HoldsAround = StandsAround service
 
   abbrev batches : List Site
   batches = program_sites p
@@ -216,37 +221,39 @@ module _ (calls : CallsKeep) (exprs_formed : LawfulExprsAreFormed) (stmts_formed
 
   module _ (whole : AllWhole) (noted : IsNotedProgram p) where
     -- a batch that is asked is the one that is found
-    found_ends : (at : ℕ) (l : Local) (s : Outside) (b : Site) → Holds s → IsAskedBatch d side at l b
-        → EndsThere d b.place l (performs_found p service (batch_at p at) at l s).0 × Holds (performs_found p service (batch_at p at) at l s).1
-    found_ends at l s b h asked =
+    found_ends : (at : ℕ) (l : Local) (a : Around) (b : Site) → HoldsAround a → IsAskedBatch d side at l b
+        → EndsThere d b.place l (performs_found p service (batch_at p at) at l a).0 × HoldsAround (performs_found p service (batch_at p at) at l a).1
+    found_ends at l a b h asked =
         let known = batches_in p lawful t noted b asked.may in
         let o = known.begun in
         let same = same_site b known in
         let found : batch_at p at ≡ Some o = ap (batch_at p) (sym (known.at ∙ asked.here)) ∙ batch_found p lawful o known.among in
         let ends = batch_ends o b.interface b.place (subst (IsBatchOf p (program_batches (facts_of p) p)) (sym same) known) known.among
-        (whole o b.interface b.place (subst (IsBatchOf p (program_batches (facts_of p) p)) (sym same) known) known.agree known.among) at l s h (subst (IsAskedBatch d side at l) (sym same) asked) in
-        subst (λ f. EndsThere d b.place l (performs_found p service f at l s).0 × Holds (performs_found p service f at l s).1) (sym found) ends
+        (whole o b.interface b.place (subst (IsBatchOf p (program_batches (facts_of p) p)) (sym same) known) known.agree known.among) at l (at_batch a) (stands_at_batch service a h)
+        (subst (IsAskedBatch d side at l) (sym same) asked) in
+        subst (λ f. EndsThere d b.place l (performs_found p service f at l a).0 × HoldsAround (performs_found p service f at l a).1) (sym found)
+        (ends.0, stands_behind service a (performs_batch p service o l (at_batch a)) h ends.1)
 
-    answers : (s : Outside) (q : Question) → Holds s → IsAsked d side q → IsAnswer d side q (local_answer q)
-    answers s (Line at bytes) h asked = tt
-    answers s (ListTurn at) h asked = tt
-    answers s (Taken step) h asked = absurd asked
-    answers s (Invoke at target method args) h asked = absurd asked
-    answers s (Turn at) h asked = absurd asked
+    answers : (a : Around) (q : Question) → HoldsAround a → IsAsked d side q → IsAnswer d side q (local_answer q)
+    answers a (Line at bytes) h asked = tt
+    answers a (ListTurn at) h asked = tt
+    answers a (Taken step) h asked = absurd asked
+    answers a (Invoke at target method args) h asked = absurd asked
+    answers a (Turn at) h asked = absurd asked
 
-    answered : (s : Outside) (q : Question) → Holds s → Holds (shown_by q s)
-    answered s (Line at bytes) h = h
-    answered s (ListTurn at) h = h
-    answered s (Taken step) h = h
-    answered s (Invoke at target method args) h = h
-    answered s (Turn at) h = h
+    answered : (a : Around) (q : Question) → HoldsAround a → HoldsAround (answers_around a q).1
+    answered a (Line at bytes) h = record { table = h.table; others = h.others }
+    answered a (ListTurn at) h = record { table = h.table; others = h.others }
+    answered a (Taken step) h = record { table = h.table; others = h.others }
+    answered a (Invoke at target method args) h = record { table = h.table; others = h.others }
+    answered a (Turn at) h = record { table = h.table; others = h.others }
 
-    pub main_handler_fits : HandlerFits d side Holds (in_main p service)
+    pub main_handler_fits : HandlerFits d side HoldsAround (in_main p service)
     main_handler_fits = record {
       answers = answers;
-      answered = λ s q h asked. answered s q h;
-      batches = λ s at l b h asked. (found_ends at l s b h asked).0;
-      performed = λ s at l b h asked. (found_ends at l s b h asked).1;
+      answered = λ a q h asked. answered a q h;
+      batches = λ a at l b h asked. (found_ends at l a b h asked).0;
+      performed = λ a at l b h asked. (found_ends at l a b h asked).1;
     }
 
     abbrev place : Place
@@ -325,7 +332,8 @@ module _ (calls : CallsKeep) (exprs_formed : LawfulExprsAreFormed) (stmts_formed
     ends_well (Gave v l) h = h
     ends_well (Faulted r l) h = h
 
-    pub means_well : (fuel : ℕ) → MeansWell p service (meaning p service first fuel)
-    means_well fuel =
-        let run = handled d side Holds (in_main p service) main_handler_fits MainEnds (runs_main p.classes fuel p.body (at_start fuel)) (main_keeps fuel) (outside_of first) served.fits in
-        record { ending = ends_well (handle (in_main p service) (runs_main p.classes fuel p.body (at_start fuel)) (outside_of first)).0 run.0; table = run.1 }
+    pub means_well : (others : List Others) → AllKeepFitting service others → (fuel : ℕ) → MeansWell p service (meaning_with p service first others fuel)
+    means_well others kept fuel =
+        let start = around_of first others in
+        let run = handled d side HoldsAround (in_main p service) main_handler_fits MainEnds (runs_main p.classes fuel p.body (at_start fuel)) (main_keeps fuel) start (record { table = served.fits; others = kept }) in
+        record { ending = ends_well (handle (in_main p service) (runs_main p.classes fuel p.body (at_start fuel)) start).0 run.0; table = run.1.table }

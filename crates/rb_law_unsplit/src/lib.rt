@@ -18,7 +18,8 @@ pub fn lawful_programs_are_noted()
 {}
 
 /// A lawful, typed program without refusals, on a typed service and with whatever fuel, ends by a value of `main`'s type
-/// or by a fault that isn't Kind, and leaves a table that fits the service.
+/// or by a fault that isn't Kind, and leaves a table that fits the service; whatever others do to the table between its
+/// batches, as long as that keeps tables fitting.
 pub fn admitted_programs_never_fault_kind()
     ensures { AdmittedMeanWell }
 {

@@ -3,7 +3,6 @@ use Rattle.std.specs.Prelude.{◌≡◌, ℕ, List, Ok, Err}
 use Rattle.rb_trees.specs.declared.services.Object.{Object}
 use Rattle.rb_trees.specs.mirror.Services.{Service}
 use Rattle.rb_meaning_bytes.specs.formats.Fields.{IsBytes}
-use Rattle.rb_meaning_bytes.specs.formats.Formats.{Spells}
 use Rattle.rb_meaning_bytes.specs.formats.Messages.{Sent, Refused}
 use Rattle.rb_meaning_bytes.specs.formats.Payloads.{IsForestOf, IsRefusalOf}
 use Rattle.rb_meaning_bytes.specs.formats.ScriptPayloads.{Means}

@@ -4,6 +4,8 @@ pub mod RemoteAnswers
 pub mod RemoteExprs
 pub mod RemotePart
 pub mod Unsplit
+pub mod Others
+pub mod Changes
 pub mod Meaning
 pub mod Shown
 pub mod ServiceSources

@@ -13,11 +13,13 @@ pub record Pair : Type 0 where
   pub kind : ℕ
   pub reply : List ℕ
 
--- The server behind a link: its service and its table; the number of exchanges so far, and the numbers of the exchanges
--- that fail, from 1.
+-- The server behind a link: its service and its table; the tables that the requests found which were answered, and those that
+-- they left; the number of exchanges so far, and the numbers of the exchanges that fail, from 1.
 pub record Behind : Type 0 where
   pub service : Service
   pub table : List Object
+  pub found : List (List Object)
+  pub left : List (List Object)
   pub made : ℕ
   pub failing : List ℕ
 
@@ -44,7 +46,6 @@ abbrev pub TellsTyped : Option Behind → Type 0
 TellsTyped (Some b) = IsTyped b.service b.table
 TellsTyped None = ⊥
 
--- A request that was lost with its reply may have been answered, or not.
-abbrev pub MayAnswer : Behind → List ℕ → Behind → Type 0
-MayAnswer before request after =
-    (after.table ≡ before.table) ⊎ ((kind : ℕ) × (reply : List ℕ) × Answers before.service before.table request kind reply after.table)
+-- A request that was lost with its reply found this table, and was answered on it, or not.
+abbrev pub MayAnswer : Service → List Object → List ℕ → List Object → Type 0
+MayAnswer service found request after = (after ≡ found) ⊎ ((kind : ℕ) × (reply : List ℕ) × Answers service found request kind reply after)

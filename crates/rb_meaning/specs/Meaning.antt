@@ -1,5 +1,6 @@
--- The meaning of a program on a service: how it ends, what it shows, and the table that it leaves.
-use Rattle.std.specs.Prelude.{ℕ, List, [], Option, None, Some, Result, Ok, Err}
+-- The meaning of a program on a service: how it ends, what it shows, and the tables that its batches find and leave. Others may
+-- change the table before each batch.
+use Rattle.std.specs.Prelude.{ℕ, List, [], ◌∷◌, ◌++◌, drop, map, Option, None, Some, Result, Ok, Err}
 use Rattle.rb_trees.specs.declared.values.Value.{Value}
 use Rattle.rb_trees.specs.declared.values.Value.TheVariants as value
 use Rattle.rb_trees.specs.declared.outcomes.Raised.{Raised}
@@ -17,15 +18,27 @@ use Rattle.rb_meaning_code.specs.Calls.{Bodies}
 use Rattle.rb_meaning_code.specs.Expressions.{evaluates}
 use Rattle.rb_meaning_code.specs.Statements.{performs_all}
 use Rattle.rb_meaning_code.specs.Bodies.{bodies_of}
+use Rattle.rb_meaning.specs.Others.{Others, becomes, found_table}
 use Rattle.rb_meaning.specs.State as state
 use Rattle.rb_meaning.specs.State.{Event, Outside, shows}
 use Rattle.rb_meaning_flow.specs.Outermost.{Outermost}
 use Rattle.rb_meaning.specs.Unsplit.{batch_at, performs_batch}
 
+-- how a program ends, what it shows, the tables that its batches found and left, and the table at its end
 pub record Meaning : Type 0 where
   pub ending : ending.Ending
   pub events : List Event
+  pub found : List (List Object)
+  pub left : List (List Object)
   pub table : List Object
+
+-- What is around `main`: what is around all code, what others will do before each of the coming batches, and the tables that the
+-- batches so far found and left.
+pub record Around : Type 0 where
+  pub outside : Outside
+  pub others : List Others
+  pub found : List (List Object)
+  pub left : List (List Object)
 
 -- what code outside of a batch is answered: nothing is remote there
 abbrev pub local_answer : Question → Result Value Raised
@@ -40,18 +53,36 @@ abbrev pub shown_by : Question → Outside → Outside
 shown_by (ask.Line at bytes) s = shows (state.Line bytes) s
 shown_by _ s = s
 
-abbrev pub answers_outside : Outside → Question → Result Value Raised × Outside
-answers_outside s question = (local_answer question, shown_by question s)
+abbrev pub answers_around : Around → Question → Result Value Raised × Around
+answers_around a question = (local_answer question, record a { outside = shown_by question a.outside })
+
+-- what is around the next batch: the server's table is the one that the batch finds
+abbrev pub at_batch : Around → Outside
+at_batch a =
+    let table = found_table a.others a.outside.server.table in
+    record { events = a.outside.events; server = record { table = table; fuel = a.outside.server.fuel } }
+
+-- behind a batch: the tables that it found and left are noted
+abbrev pub behind_batch : Around → Outcome (Unit {0}) × Outside → Outcome (Unit {0}) × Around
+behind_batch a (o, s) = (
+  o,
+  record {
+    outside = s;
+    others = drop 1 a.others;
+    found = a.found ++ (at_batch a).server.table ∷ [];
+    left = a.left ++ s.server.table ∷ [];
+  },
+)
 
 -- a batch that was found, as one is wherever a program asks for a batch
-abbrev pub performs_found : Program → Service → Option Outermost → ℕ → Local → Outside → Outcome (Unit {0}) × Outside
-performs_found program service None at l s = (Faulted (raised kind at) l, s)
-performs_found program service (Some b) at l s = performs_batch program service b l s
+abbrev pub performs_found : Program → Service → Option Outermost → ℕ → Local → Around → Outcome (Unit {0}) × Around
+performs_found program service None at l a = (Faulted (raised kind at) l, a)
+performs_found program service (Some b) at l a = behind_batch a (performs_batch program service b l (at_batch a))
 
-abbrev pub in_main : Program → Service → Handler Outside
+abbrev pub in_main : Program → Service → Handler Around
 in_main program service = record {
-  answer = answers_outside;
-  batch = λ s at l. performs_found program service (batch_at program at) at l s;
+  answer = answers_around;
+  batch = λ a at l. performs_found program service (batch_at program at) at l a;
 }
 
 -- the value of `main`, if it has one
@@ -77,9 +108,21 @@ at_start fuel = record { names = []; heap = []; fuel = fuel; depth = 0 }
 abbrev pub outside_of : List Object → Outside
 outside_of table = record { events = []; server = record { table = table; fuel = 0 } }
 
-abbrev pub meant : Outcome (Option Value) × Outside → Meaning
-meant r = record { ending = ending_of r.0; events = r.1.events; table = r.1.server.table }
+abbrev pub around_of : List Object → List Others → Around
+around_of table others = record { outside = outside_of table; others = others; found = []; left = [] }
 
+abbrev pub meant : Outcome (Option Value) × Around → Meaning
+meant r = record { ending = ending_of r.0; events = r.1.outside.events; found = r.1.found; left = r.1.left; table = r.1.outside.server.table }
+
+-- the meaning where others do this to the table before the batches
+abbrev pub meaning_with : Program → Service → List Object → List Others → ℕ → Meaning
+meaning_with program service table others fuel =
+    meant (handle (in_main program service) (runs_main program.classes fuel program.body (at_start fuel)) (around_of table others))
+
+-- where the batches find these tables
+abbrev pub meaning_on : Program → Service → List Object → List (List Object) → ℕ → Meaning
+meaning_on program service table finds fuel = meaning_with program service table (map becomes finds) fuel
+
+-- where nobody else changes the table
 abbrev pub meaning : Program → Service → List Object → ℕ → Meaning
-meaning program service table fuel =
-    meant (handle (in_main program service) (runs_main program.classes fuel program.body (at_start fuel)) (outside_of table))
+meaning program service table fuel = meaning_with program service table [] fuel

@@ -3,3 +3,4 @@ pub mod Streams
 pub mod Laws
 pub mod Served
 pub mod Reading
+pub mod Histories

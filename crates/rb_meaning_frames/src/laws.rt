@@ -2,6 +2,7 @@
 
 ghost use Rattle.rb_meaning_frames.specs.Laws.{HeadersAreSpelled, FramesAreWhole, EachIsDividedOnce, IsCutAnywhere, StaysBroken};
 ghost use Rattle.rb_meaning_frames.specs.Reading.{StreamsAreRead, FrontsAreRead, RequestsStay};
+ghost use Rattle.rb_meaning_frames.specs.Histories.{EachIsInOrder, EventsLeadOn, HistoriesGoOn, RepliesGoOn};
 
 /// A header whose first three bytes are right spells its kind and the length that it announces, and its frame stands at the
 /// front of the bytes where they are no fewer.
@@ -27,4 +28,19 @@ pub fn streams_are_read()
     ensures streams { StreamsAreRead }
     ensures fronts { FrontsAreRead }
     ensures stay { RequestsStay }
+{}
+
+/// In the history of many sessions each has the requests of its whole stream, in their order.
+pub fn each_session_is_in_order()
+    ensures { EachIsInOrder }
+{
+    streams_are_read();
+}
+
+/// More events lead on from where those before them led: their requests stand behind those of the others, and are answered on
+/// the table that the others left.
+pub fn histories_go_on()
+    ensures events { EventsLeadOn }
+    ensures histories { HistoriesGoOn }
+    ensures replies { RepliesGoOn }
 {}

@@ -6,5 +6,6 @@
 mod laws;
 
 pub use laws::{
-    each_stream_is_divided_once, headers_are_spelled, streams_are_cut_anywhere, streams_are_read,
+    each_session_is_in_order, each_stream_is_divided_once, headers_are_spelled, histories_go_on,
+    streams_are_cut_anywhere, streams_are_read,
 };

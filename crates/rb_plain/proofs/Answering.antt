@@ -1,10 +1,11 @@
 -- The Worlds of a program's code answer as the surroundings of the unsplit meaning do.
 use Rattle.std.proofs.Common.{◌≡◌, refl, sym, ap, ◌∙◌, subst, ℕ, List}
-use Rattle.std.specs.Prelude.{Result, Ok, Err}
+use Rattle.std.specs.Prelude.{map, Result, Ok, Err}
 use Rattle.rb_trees.specs.declared.values.Value.TheVariants as value
 use Rattle.rb_trees.specs.declared.outcomes.Raised.{Raised}
 use Rattle.rb_meaning_code.specs.Dialogue as ask
 use Rattle.rb_meaning_code.specs.Dialogue.{Question, Dialogue, Surroundings, handle}
+use Rattle.rb_meaning.specs.Changes.{all_changed}
 use Rattle.rb_meaning.specs.State.{Outside}
 use Rattle.rb_meaning.specs.Shown.{line, shown_events}
 use Rattle.rb_base.specs.Devices.{Device, failed}
@@ -18,7 +19,7 @@ use Rattle.rb_engine.specs.declared.world.Halt.TheVariants as halt
 use Rattle.rb_plain.specs.Batches.{AreBatchesOf}
 use Rattle.rb_plain.specs.MainRuns.{surrounds}
 use Rattle.rb_plain.specs.Staged.{program_of, service_of}
-use Rattle.rb_plain.specs.Worlds.{CutsBatch, Prints, batch_answers, batch_performs, batch_view, inner, outer, outer_answers, outer_view, output}
+use Rattle.rb_plain.specs.Worlds.{CutsBatch, Prints, batch_answers, batch_performs, around_view, batch_view, inner, outer, outer_answers, output}
 use Rattle.rb_plain.specs.declared.batch_world.BatchWorld.{BatchWorld}
 use Rattle.rb_plain.specs.declared.outer_world.OuterWorld.{OuterWorld}
 use Rattle.rb_plain.proofs.Events.{More, batch_more, exchanges_line, outer_more, shown_append, shown_line}
@@ -43,11 +44,11 @@ batch_as g first start = record {
   later = λ A w s d c. cut_later g first start w s (handle (inner first) d s).1 (batch_more (program_of first.remote.stage) (service_of first.remote.stage) d s) c;
 }
 
-pub outer_as : {W : Type 0} (g : sinks.Ghosts W) (first : OuterWorld W) (start : Device (List ℕ)) → AnswersAs (outer_view g first start) (surrounds g) (outer first)
+pub outer_as : {W : Type 0} (g : sinks.Ghosts W) (first : OuterWorld W) (start : Device (List ℕ)) → AnswersAs (around_view g first start) (surrounds g) (outer first)
 outer_as g first start = record {
-  questions = λ w w' s q r sees answered. answered first start s sees;
-  batches = λ w w' s at l r sees performed. performed first start s sees;
-  later = λ A w s d c. cut_later g first.inner start w.inner s (handle (outer first) d s).1 (outer_more (program_of first.inner.remote.stage) (service_of first.inner.remote.stage) d s) c;
+  questions = λ w w' a q r sees answered. answered first start a sees;
+  batches = λ w w' a at l r sees performed. performed first start a sees;
+  later = λ A w a d c. cut_later g first.inner start w.inner a.outside (handle (outer first) d a).1.outside (outer_more (program_of first.inner.remote.stage) (service_of first.inner.remote.stage) d a) c;
 }
 
 -- Lines.
@@ -75,22 +76,25 @@ line_cut g w w' bytes stop name h = λ first start s sees. record {
 }
 
 -- a line that the World within a batch prints is one of the World outside
-pub line_outside : {W : Type 0} (g : sinks.Ghosts W) (w w' : OuterWorld W) (at : ℕ) (bytes : List ℕ) (a : Answer Failed) → w'.batches ≡ w.batches → w'.exchanges ≡ w.exchanges
+pub line_outside : {W : Type 0} (g : sinks.Ghosts W) (w w' : OuterWorld W) (at : ℕ) (bytes : List ℕ) (a : Answer Failed) → w'.batches ≡ w.batches → w'.exchanges ≡ w.exchanges → w'.others ≡ w.others
     → Prints g w.inner bytes a w'.inner → outer_answers g w (ask.Line at bytes) a w'
-line_outside g w w' at bytes (Ok a) same count h = λ first start s sees.
-    let t = h first.inner start s sees.inner_so in (
+line_outside g w w' at bytes (Ok v) same count rest h = λ first start a sees.
+    let t = h first.inner start a.outside sees.outer_so.inner_so in (
       t.0,
       record {
-        inner_so = t.1;
-        batches_so = subst (λ b. AreBatchesOf (program_of first.inner.remote.stage) b.now) (sym same) sees.batches_so;
-        exchanges_so = count ∙ sees.exchanges_so ∙ sym (exchanges_line s.events bytes);
+        outer_so = record {
+          inner_so = t.1;
+          batches_so = subst (λ b. AreBatchesOf (program_of first.inner.remote.stage) b.now) (sym same) sees.outer_so.batches_so;
+          exchanges_so = count ∙ sees.outer_so.exchanges_so ∙ sym (exchanges_line a.outside.events bytes);
+        };
+        others_so = sees.others_so ∙ ap (λ os. map all_changed os.now) (sym rest);
       },
     )
-line_outside g w w' at bytes (Err stop) same count h = λ first start s sees. h first.inner start s sees.inner_so
+line_outside g w w' at bytes (Err stop) same count rest h = λ first start a sees. h first.inner start a.outside sees.outer_so.inner_so
 
-pub line_answered : {W : Type 0} (g : sinks.Ghosts W) (w w' : OuterWorld W) (at : ℕ) (bytes : List ℕ) (r : Result (Result (Unit {0}) Raised) (Halt Failed)) → w'.batches ≡ w.batches → w'.exchanges ≡ w.exchanges
+pub line_answered : {W : Type 0} (g : sinks.Ghosts W) (w w' : OuterWorld W) (at : ℕ) (bytes : List ℕ) (r : Result (Result (Unit {0}) Raised) (Halt Failed)) → w'.batches ≡ w.batches → w'.exchanges ≡ w.exchanges → w'.others ≡ w.others
     → Answered (as_value r) (λ a. Prints g w.inner bytes a w'.inner) → Answered (as_value r) (λ a. outer_answers g w (ask.Line at bytes) a w')
-line_answered g w w' at bytes (Ok (Ok u)) same count h = line_outside g w w' at bytes (Ok (Ok value.Unit)) same count h
-line_answered g w w' at bytes (Ok (Err f)) same count h = line_outside g w w' at bytes (Ok (Err f)) same count h
-line_answered g w w' at bytes (Err halt.Memory) same count h = tt
-line_answered g w w' at bytes (Err (halt.World x)) same count h = line_outside g w w' at bytes (Err x) same count h
+line_answered g w w' at bytes (Ok (Ok u)) same count rest h = line_outside g w w' at bytes (Ok (Ok value.Unit)) same count rest h
+line_answered g w w' at bytes (Ok (Err f)) same count rest h = line_outside g w w' at bytes (Ok (Err f)) same count rest h
+line_answered g w w' at bytes (Err halt.Memory) same count rest h = tt
+line_answered g w w' at bytes (Err (halt.World x)) same count rest h = line_outside g w w' at bytes (Err x) same count rest h

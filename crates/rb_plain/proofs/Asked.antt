@@ -14,30 +14,30 @@ use Rattle.rb_engine.specs.declared.world.Halt.TheVariants as halt
 use Rattle.rb_flow.specs.declared.outermost.OpenBatch.{OpenBatch}
 use Rattle.rb_plain.specs.Batches.{AreBatchesOf, found, root_of}
 use Rattle.rb_plain.specs.Staged.{program_of, service_of}
-use Rattle.rb_plain.specs.Worlds.{PerformsBatch, SeesOuter, Told, outer_performs, outer_view}
+use Rattle.rb_plain.specs.Worlds.{PerformsBatch, SeesAround, Told, around_view, outer_performs}
 use Rattle.rb_plain.specs.declared.outer_world.OuterWorld.{OuterWorld}
 use Rattle.rb_plain.proofs.Found.{none_found, root_so, some_found}
 
 -- no batch stands there
 pub none_asked : {W : Type 0} (g : sinks.Ghosts W) (w : OuterWorld W) (at : ℕ) (l : Local) (r : Raised) → found w.batches.now at ≡ None → r ≡ raised kind at → outer_performs g w at l (Ok (Faulted r l)) w
-none_asked g w at l r is f = λ first start s sees.
+none_asked g w at l r is f = λ first start a sees.
     let p = program_of first.inner.remote.stage in
     let service = service_of first.inner.remote.stage in
-    let e = none_found p w.batches.now at sees.batches_so is in (
-      ap (λ x. Faulted x l) f ∙ sym (ap (λ b. (performs_found p service b at l s).0) e),
-      subst (λ b. SeesOuter g first start w (performs_found p service b at l s).1) (sym e) sees,
+    let e = none_found p w.batches.now at sees.outer_so.batches_so is in (
+      ap (λ x. Faulted x l) f ∙ sym (ap (λ b. (performs_found p service b at l a).0) e),
+      subst (λ b. SeesAround g first start w (performs_found p service b at l a).1) (sym e) sees,
     )
 
 -- a batch stands there, and was performed
 some_asked : {W : Type 0} (g : sinks.Ghosts W) (w w' : OuterWorld W) (at : ℕ) (l : Local) (b : OpenBatch) (root : List ℕ × ℕ) (ended : Performed Failed) → found w.batches.now at ≡ Some b → root_of b ≡ Some root
     → PerformsBatch g root.0 b w l ended w' → outer_performs g w at l ended w'
-some_asked g w w' at l b root ended is has h = λ first start s sees.
+some_asked g w w' at l b root ended is has h = λ first start a sees.
     let p = program_of first.inner.remote.stage in
     let service = service_of first.inner.remote.stage in
-    let f = some_found p w.batches.now at b sees.batches_so is in
+    let f = some_found p w.batches.now at b sees.outer_so.batches_so is in
     let same : Some root ≡ Some (f.0.root, f.0.at) = sym has ∙ root_so b f.0 f.2 in
     let found : root ≡ (f.0.root, f.0.at) = cc same in
-    subst (λ m. Told (outer_view g first start) ended w' (performs_found p service m at l s)) (sym f.1) (h first start s f.0 sees f.2 (ap (λ v. v.0) found))
+    subst (λ m. Told (around_view g first start) ended w' (performs_found p service m at l a)) (sym f.1) (h first start a f.0 sees f.2 (ap (λ v. v.0) found))
 
 pub batch_asked : {W : Type 0} (g : sinks.Ghosts W) (w w' : OuterWorld W) (at : ℕ) (l l' : Local) (b : OpenBatch) (root : List ℕ × ℕ) (q : Result (Result (Unit {0}) Raised) (Halt Failed)) → found w.batches.now at ≡ Some b → root_of b ≡ Some root
     → Answered (performed l' q) (λ o. PerformsBatch g root.0 b w l o w') → Answered (performed l' q) (λ o. outer_performs g w at l o w')
@@ -54,4 +54,4 @@ has_root g w first at b are is none =
     absurd (cc e)
 
 pub rootless : {W : Type 0} (g : sinks.Ghosts W) (w w' : OuterWorld W) (at : ℕ) (l : Local) (b : OpenBatch) (ended : Performed Failed) → found w.batches.now at ≡ Some b → root_of b ≡ None → outer_performs g w at l ended w'
-rootless g w w' at l b ended is none = λ first start s sees. has_root g w first at b sees.batches_so is none
+rootless g w w' at l b ended is none = λ first start a sees. has_root g w first at b sees.outer_so.batches_so is none

@@ -14,6 +14,7 @@ use Rattle.rb_meaning_code.specs.Dialogue.{Question, Outcome, Gave, Faulted, Run
 use Rattle.rb_meaning_code.specs.Remote.{Server, batch_fuel}
 use Rattle.rb_meaning_code.specs.State.{Local, Names, bound, closed}
 use Rattle.rb_meaning_code.specs.Statements.{performs_all}
+use Rattle.rb_meaning.specs.Meaning.{Around, at_batch}
 use Rattle.rb_meaning.specs.RemoteAnswers.{remote_answer}
 use Rattle.rb_meaning.specs.RemotePart.{remote_only}
 use Rattle.rb_meaning.specs.Shown.{exchanges, shown_events}
@@ -37,12 +38,14 @@ use Rattle.rb_flow.specs.declared.outermost.OpenBatch.{OpenBatch}
 use Rattle.rb_plain.specs.BatchRuns.{Begun, Settles, SettlesStep, sided, whole_table}
 use Rattle.rb_plain.specs.Batches.{AreBatchesOf}
 use Rattle.rb_plain.specs.Staged.{Staged, program_of, service_of}
-use Rattle.rb_plain.specs.Worlds.{CutsBatch, PerformsBatch, SeesBatch, SeesOuter, Told, batch_view, inner, outer_view, output}
+use Rattle.rb_plain.specs.Entered.{Entered}
+use Rattle.rb_plain.specs.Worlds.{CutsBatch, PerformsBatch, SeesAround, SeesBatch, SeesOuter, Told, around_view, batch_view, inner, outer_view, output, performs_around}
 use Rattle.rb_plain.specs.declared.batch_run.Start.{Start}
 use Rattle.rb_plain.specs.declared.batch_world.BatchWorld.{BatchWorld}
 use Rattle.rb_plain.specs.declared.outer_world.OuterWorld.{OuterWorld}
 use Rattle.rb_plain.specs.declared.remote_world.RemoteWorld.{RemoteWorld}
 use Rattle.rb_plain.proofs.Answering.{batch_as, within}
+use Rattle.rb_plain.proofs.BatchFound.{found_so, rest_so, to_around}
 use Rattle.rb_plain.proofs.Events.{exchanges_batch, exchanges_line, shown_batch}
 use Rattle.rb_plain.proofs.Told.{told}
 
@@ -86,7 +89,7 @@ settled_events p n whole (Gave u l, s) = refl
 settled_events p n whole (Faulted r l, s) = refl
 
 -- what a batch began with: its names, and what its body means from them
-pub record Enters {W : Type 0} (g : sinks.Ghosts W) (first : OuterWorld W) (start : Device (List ℕ)) (s : Outside) (o : Outermost) (b : OpenBatch) (copies : Start) (w w1 : OuterWorld W) (l l1 : Local) : Type 0 where
+pub record BeganWith {W : Type 0} (g : sinks.Ghosts W) (first : OuterWorld W) (start : Device (List ℕ)) (s : Outside) (o : Outermost) (b : OpenBatch) (copies : Start) (w w1 : OuterWorld W) (l l1 : Local) : Type 0 where
   pub sees : SeesOuter g first start w s
   pub batch_so : begun_of b ≡ begun o
   pub begun_so : Begun o.root copies w.inner.remote l.names w1.inner.remote l1.names
@@ -95,7 +98,7 @@ pub record Enters {W : Type 0} (g : sinks.Ghosts W) (first : OuterWorld W) (star
   pub batches_so : w1.batches ≡ w.batches
   pub exchanges_so : w1.exchanges ≡ w.exchanges + 1
 
-module _ {W : Type 0} (g : sinks.Ghosts W) (first : OuterWorld W) (start : Device (List ℕ)) (s : Outside) (o : Outermost) (b : OpenBatch) (copies : Start) (w w1 : OuterWorld W) (l l1 : Local) (enters : Enters g first start s o b copies w w1 l l1) where
+module _ {W : Type 0} (g : sinks.Ghosts W) (first : OuterWorld W) (start : Device (List ℕ)) (s : Outside) (o : Outermost) (b : OpenBatch) (copies : Start) (w w1 : OuterWorld W) (l l1 : Local) (began : BeganWith g first start s o b copies w w1 l l1) where
   abbrev st : Staged
   st = first.inner.remote.stage
 
@@ -112,40 +115,40 @@ module _ {W : Type 0} (g : sinks.Ghosts W) (first : OuterWorld W) (start : Devic
   whole = unsplit.whole_table (program_of st) (service_of st) o bound_local (unsplit.begun s).server
 
   names_so : l1.names ≡ bound_local.names
-  names_so = enters.begun_so.bound_so ∙ ap (λ x. l.names ++ (o.root, value.Remote x.service.root) ∷ []) enters.sees.inner_so.stage_so
+  names_so = began.begun_so.bound_so ∙ ap (λ x. l.names ++ (o.root, value.Remote x.service.root) ∷ []) began.sees.inner_so.stage_so
 
   local_so : l1 ≡ bound_local
-  local_so = enters.local_so ∙ ap (λ ns. record l { names = ns }) names_so
+  local_so = began.local_so ∙ ap (λ ns. record l { names = ns }) names_so
 
   -- the body as the code runs it
   run_so : (classes : List class.Class) → classes ≡ st.program.classes → stmts_run classes b.block.now l.fuel l1 ≡ body
   run_so classes e =
       ap (λ cs. stmts_run cs b.block.now l.fuel l1) e
-      ∙ ap (λ ss. performs_all (bodies_of (program_of st).classes l.fuel) l.fuel ss l1) (ap (λ x. x.block) enters.batch_so)
+      ∙ ap (λ ss. performs_all (bodies_of (program_of st).classes l.fuel) l.fuel ss l1) (ap (λ x. x.block) began.batch_so)
       ∙ ap (λ x. performs_all (bodies_of (program_of st).classes l.fuel) l.fuel o.block x) local_so
 
   sees_begun : SeesBatch g first.inner start w1.inner (unsplit.begun s)
-  sees_begun = seen_begun g first.inner start s w.inner w1.inner o.root copies l.names l1.names enters.sees.inner_so enters.out_so enters.begun_so
+  sees_begun = seen_begun g first.inner start s w.inner w1.inner o.root copies l.names l1.names began.sees.inner_so began.out_so began.begun_so
 
   -- the whole remote part from the copies is that of the batch's start
   whole_so : (later : RemoteWorld) → later.stage ≡ st → whole_table later.stage b copies ≡ whole
   whole_so later e =
       ap (λ x. whole_table x b copies) e
-      ∙ ap (λ x. (server_after (remote_only (program_of st) (service_of st) x.scope x.block copies.names (record { table = copies.table; fuel = batch_fuel }))).table) enters.batch_so
+      ∙ ap (λ x. (server_after (remote_only (program_of st) (service_of st) x.scope x.block copies.names (record { table = copies.table; fuel = batch_fuel }))).table) began.batch_so
       ∙ ap (λ ns. (server_after (remote_only (program_of st) (service_of st) (opened o.outer o.at o.root o.block) o.block ns (record { table = copies.table; fuel = batch_fuel }))).table)
-      (enters.begun_so.names_so ∙ names_so)
+      (began.begun_so.names_so ∙ names_so)
       ∙ ap (λ t. (server_after (remote_only (program_of st) (service_of st) (opened o.outer o.at o.root o.block) o.block bound_local.names (record { table = t; fuel = batch_fuel }))).table)
-      (enters.begun_so.table_so ∙ ap (λ x. x.table) enters.sees.inner_so.server_so)
+      (began.begun_so.table_so ∙ ap (λ x. x.table) began.sees.inner_so.server_so)
 
   exchanges_at_end : (w3 : OuterWorld W) → w3.exchanges ≡ w1.exchanges → w3.exchanges ≡ exchanges handled.1.events
-  exchanges_at_end w3 e = e ∙ enters.exchanges_so ∙ ap (λ n. n + 1) enters.sees.exchanges_so ∙ sym (exchanges_batch s.events)
+  exchanges_at_end w3 e = e ∙ began.exchanges_so ∙ ap (λ n. n + 1) began.sees.exchanges_so ∙ sym (exchanges_batch s.events)
       ∙ sym (handled_same (program_of st) (service_of st) body (unsplit.begun s))
 
   abbrev Goal : Local → Result (Result (Unit {0}) Raised) (Halt Failed) → OuterWorld W → Type 0
   Goal l2 q w3 = Answered (performed (closed (length l.names) l2) q) (λ e. Told (outer_view g first start) e w3 (performs_batch (program_of st) (service_of st) o l s))
 
   batches_at_end : (w3 : OuterWorld W) → w3.batches ≡ w1.batches → AreBatchesOf (program_of st) w3.batches.now
-  batches_at_end w3 e = subst (λ x. AreBatchesOf (program_of st) x.now) (sym (e ∙ enters.batches_so)) enters.sees.batches_so
+  batches_at_end w3 e = subst (λ x. AreBatchesOf (program_of st) x.now) (sym (e ∙ began.batches_so)) began.sees.batches_so
 
   -- the body gave nothing
   ends_well : (w2 w3 : OuterWorld W) (l2 : Local) (u : Unit {0}) → w3.inner ≡ w2.inner → w3.batches ≡ w1.batches → w3.exchanges ≡ w1.exchanges
@@ -216,31 +219,33 @@ module _ {W : Type 0} (g : sinks.Ghosts W) (first : OuterWorld W) (start : Devic
 
 -- what is told of each state of the unsplit meaning
 pub performs_so : {W : Type 0} (g : sinks.Ghosts W) (root : List ℕ) (b : OpenBatch) (w w3 : OuterWorld W) (l l2 : Local) (q : Result (Result (Unit {0}) Raised) (Halt Failed))
-    → ((first : OuterWorld W) (start : Device (List ℕ)) (s : Outside) (o : Outermost) → SeesOuter g first start w s → begun_of b ≡ begun o → root ≡ o.root
-    → Answered (performed l2 q) (λ e. Told (outer_view g first start) e w3 (performs_batch (program_of first.inner.remote.stage) (service_of first.inner.remote.stage) o l s)))
+    → ((first : OuterWorld W) (start : Device (List ℕ)) (a : Around) (o : Outermost) → SeesAround g first start w a → begun_of b ≡ begun o → root ≡ o.root
+    → Answered (performed l2 q) (λ e. Told (around_view g first start) e w3 (performs_around first o l a)))
     → Answered (performed l2 q) (λ e. PerformsBatch g root b w l e w3)
-performs_so g root b w w3 l l2 (Ok (Ok u)) h = λ first start s o sees same is. h first start s o sees same is
-performs_so g root b w w3 l l2 (Ok (Err r)) h = λ first start s o sees same is. h first start s o sees same is
+performs_so g root b w w3 l l2 (Ok (Ok u)) h = λ first start a o sees same is. h first start a o sees same is
+performs_so g root b w w3 l l2 (Ok (Err r)) h = λ first start a o sees same is. h first start a o sees same is
 performs_so g root b w w3 l l2 (Err halt.Memory) h = tt
-performs_so g root b w w3 l l2 (Err (halt.World x)) h = λ first start s o sees same is. h first start s o sees same is
+performs_so g root b w w3 l l2 (Err (halt.World x)) h = λ first start a o sees same is. h first start a o sees same is
 
--- a batch of the program that the code began, performed and settled
+-- a batch of the program that the code entered, performed and settled
 pub perform_so : {W : Type 0} (g : sinks.Ghosts W) (root : List ℕ) (b : OpenBatch) (copies : Start) (w w1 w2 w3 : OuterWorld W) (l l1 l2 l3 : Local) (r q : Result (Result (Unit {0}) Raised) (Halt Failed)) (classes : List class.Class)
-    → Begun root copies w.inner.remote l.names w1.inner.remote l1.names → l1 ≡ record l { names = l1.names } → w1.inner.out ≡ w.inner.out → w1.batches ≡ w.batches → w1.exchanges ≡ w.exchanges + 1
-    → classes ≡ w.inner.remote.stage.program.classes → w3.inner.out ≡ w2.inner.out → w3.batches ≡ w1.batches → w3.exchanges ≡ w1.exchanges → (w3.inner.remote ≡ w2.inner.remote → w3.inner ≡ w2.inner)
+    → Entered root copies w l.names w1 l1.names → l1 ≡ record l { names = l1.names }
+    → classes ≡ w.inner.remote.stage.program.classes → w3.inner.out ≡ w2.inner.out → w3.batches ≡ w1.batches → w3.exchanges ≡ w1.exchanges → w3.others ≡ w1.others → (w3.inner.remote ≡ w2.inner.remote → w3.inner ≡ w2.inner)
     → SettlesStep b copies r q w2.inner.remote w3.inner.remote → Led (within g) (stmts_run classes b.block.now l.fuel l1) w1.inner l2 (flattened r) w2.inner → l3 ≡ closed (length l.names) l2
     → Answered (performed l3 q) (λ e. PerformsBatch g root b w l e w3)
-perform_so g root b copies w w1 w2 w3 l l1 l2 l3 r q classes begins start_so out batches count own same batches3 count3 whole_inner h led end =
-    performs_so g root b w w3 l l3 q (λ first start s o sees batch is.
-    subst (λ x. Answered (performed x q) (λ e. Told (outer_view g first start) e w3 (performs_batch (program_of first.inner.remote.stage) (service_of first.inner.remote.stage) o l s))) (sym end)
-    (batch_told g first start s o b copies w w1 l l1
+perform_so g root b copies w w1 w2 w3 l l1 l2 l3 r q classes entered start_so own same batches3 count3 rest3 whole_inner h led end =
+    performs_so g root b w w3 l l3 q (λ first start a o sees batch is.
+    subst (λ x. Answered (performed x q) (λ e. Told (around_view g first start) e w3 (performs_around first o l a))) (sym end)
+    (to_around g first start a w3 (performs_batch (program_of first.inner.remote.stage) (service_of first.inner.remote.stage) o l (at_batch a)) (closed (length l.names) l2) q
+    (rest_so a w entered.there w3 sees.others_so entered.come_so (rest3 ∙ entered.others_so))
+    (batch_told g first start (at_batch a) o b copies entered.there w1 l l1
     (record {
-      sees = sees;
+      sees = found_so g first start a w entered.there sees entered.come_so;
       batch_so = batch;
-      begun_so = subst (λ x. Begun x copies w.inner.remote l.names w1.inner.remote l1.names) is begins;
+      begun_so = subst (λ x. Begun x copies entered.there.inner.remote l.names w1.inner.remote l1.names) is entered.begun_so;
       local_so = start_so;
-      out_so = out;
-      batches_so = batches;
-      exchanges_so = count;
+      out_so = entered.out_so;
+      batches_so = entered.batches_so;
+      exchanges_so = entered.exchanges_so;
     })
-    w2 w3 l2 r q classes (own ∙ ap (λ x. x.program.classes) sees.inner_so.stage_so) same batches3 count3 whole_inner h led))
+    w2 w3 l2 r q classes (own ∙ ap (λ x. x.program.classes) sees.outer_so.inner_so.stage_so) same batches3 count3 whole_inner h led)))

@@ -14,7 +14,7 @@ use Rattle.rb_meaning_code.specs.State.{Local, bound}
 use Rattle.rb_meaning_code.specs.Statements.{performs_all}
 use Rattle.rb_trees.specs.declared.values.Value.TheVariants as value
 use Rattle.rb_meaning_flow.specs.Outermost.{Outermost}
-use Rattle.rb_meaning.specs.Meaning.{in_main, performs_found, shown_by}
+use Rattle.rb_meaning.specs.Meaning.{Around, at_batch, behind_batch, in_main, performs_found, shown_by}
 use Rattle.rb_meaning.specs.RemoteAnswers.{remote_answer}
 use Rattle.rb_meaning.specs.Shown.{exchanges, line, shown_events}
 use Rattle.rb_meaning.specs.State as state
@@ -31,22 +31,25 @@ no_more s s' e = ([], e ∙ sym (append-nil s.events))
 more_far : (a b c : Outside) → More a b → More b c → More a c
 more_far a b c (m, e) (n, f) = (m ++ n, f ∙ ap (λ es. es ++ n) e ∙ append_assoc a.events m n)
 
--- what a handler does that only adds events
-record Adds (h : Handler Outside) : Type 0 where
-  questions : (s : Outside) (q : Question) → More s (h.answer s q).1
-  batches : (s : Outside) (at : ℕ) (l : Local) → More s (h.batch s at l).1
+-- what a handler does that only adds events to what shows them of its state
+record Adds {S : Type 0} (out : S → Outside) (h : Handler S) : Type 0 where
+  questions : (s : S) (q : Question) → More (out s) (out (h.answer s q).1)
+  batches : (s : S) (at : ℕ) (l : Local) → More (out s) (out (h.batch s at l).1)
 
-handled_more : {A : Type 0} (h : Handler Outside) → Adds h → (d : Dialogue A) (s : Outside) → More s (handle h d s).1
-handled_more h adds (Done a) s = no_more s s refl
-handled_more h adds (Ask q go) s =
-    more_far s (h.answer s q).1 (handle h (Ask q go) s).1 (adds.questions s q) (handled_more h adds (go (h.answer s q).0) (h.answer s q).1)
-handled_more h adds (AskBatch at l go) s =
-    more_far s (h.batch s at l).1 (handle h (AskBatch at l go) s).1 (adds.batches s at l) (handled_more h adds (go (h.batch s at l).0) (h.batch s at l).1)
+handled_more : {S A : Type 0} (out : S → Outside) (h : Handler S) → Adds out h → (d : Dialogue A) (s : S) → More (out s) (out (handle h d s).1)
+handled_more out h adds (Done a) s = no_more (out s) (out s) refl
+handled_more out h adds (Ask q go) s =
+    more_far (out s) (out (h.answer s q).1) (out (handle h (Ask q go) s).1) (adds.questions s q) (handled_more out h adds (go (h.answer s q).0) (h.answer s q).1)
+handled_more out h adds (AskBatch at l go) s =
+    more_far (out s) (out (h.batch s at l).1) (out (handle h (AskBatch at l go) s).1) (adds.batches s at l) (handled_more out h adds (go (h.batch s at l).0) (h.batch s at l).1)
 
 answered_same : (s : Outside) (r : Result Value Raised × Server) → (with_answer s r).1.events ≡ s.events
 answered_same s (a, server) = refl
 
-batch_adds : (p : Program) (service : Service) → Adds (in_batch p service)
+abbrev itself : Outside → Outside
+itself s = s
+
+batch_adds : (p : Program) (service : Service) → Adds itself (in_batch p service)
 batch_adds p service = record { questions = by_question; batches = λ s at l. no_more s s refl }
   where
     by_question : (s : Outside) (q : Question) → More s (answers_in_batch p service s q).1
@@ -58,7 +61,7 @@ batch_adds p service = record { questions = by_question; batches = λ s at l. no
     by_question s (ask.ListTurn at) = no_more s s refl
 
 pub batch_more : {A : Type 0} (p : Program) (service : Service) (d : Dialogue A) (s : Outside) → More s (handle (in_batch p service) d s).1
-batch_more p service d s = handled_more (in_batch p service) (batch_adds p service) d s
+batch_more p service d s = handled_more itself (in_batch p service) (batch_adds p service) d s
 
 settled_same : (p : Program) (count : ℕ) (whole : List Object) (r : Outcome (Unit {0}) × Outside) → (settles p count whole r).1.events ≡ r.1.events
 settled_same p count whole (Gave u l, s) = refl
@@ -73,8 +76,14 @@ performed_more p service b l s =
     (more_far (begun s) body.1 (performs_batch p service b l s).1 (batch_more p service run (begun s))
     (no_more body.1 (performs_batch p service b l s).1 (settled_same p (length l.names) (whole_table p service b start (begun s).server) body)))
 
-outer_adds : (p : Program) (service : Service) → Adds (in_main p service)
-outer_adds p service = record { questions = by_question; batches = λ s at l. by_batch (batch_at p at) s at l }
+abbrev outside_in : Around → Outside
+outside_in a = a.outside
+
+behind_same : (a : Around) (r : Outcome (Unit {0}) × Outside) → (behind_batch a r).1.outside.events ≡ r.1.events
+behind_same a (o, s) = refl
+
+outer_adds : (p : Program) (service : Service) → Adds outside_in (in_main p service)
+outer_adds p service = record { questions = λ a q. by_question a.outside q; batches = λ a at l. by_batch (batch_at p at) a at l }
   where
     by_question : (s : Outside) (q : Question) → More s (shown_by q s)
     by_question s (ask.Line at bytes) = (state.Line bytes ∷ [], refl)
@@ -83,12 +92,14 @@ outer_adds p service = record { questions = by_question; batches = λ s at l. by
     by_question s (ask.Turn at) = no_more s s refl
     by_question s (ask.ListTurn at) = no_more s s refl
 
-    by_batch : (b : Option Outermost) (s : Outside) (at : ℕ) (l : Local) → More s (performs_found p service b at l s).1
-    by_batch None s at l = no_more s s refl
-    by_batch (Some b) s at l = performed_more p service b l s
+    by_batch : (b : Option Outermost) (a : Around) (at : ℕ) (l : Local) → More a.outside (performs_found p service b at l a).1.outside
+    by_batch None a at l = no_more a.outside a.outside refl
+    by_batch (Some b) a at l =
+        let r = performs_batch p service b l (at_batch a) in
+        more_far (at_batch a) r.1 (behind_batch a r).1.outside (performed_more p service b l (at_batch a)) (no_more r.1 (behind_batch a r).1.outside (behind_same a r))
 
-pub outer_more : {A : Type 0} (p : Program) (service : Service) (d : Dialogue A) (s : Outside) → More s (handle (in_main p service) d s).1
-outer_more p service d s = handled_more (in_main p service) (outer_adds p service) d s
+pub outer_more : {A : Type 0} (p : Program) (service : Service) (d : Dialogue A) (a : Around) → More a.outside (handle (in_main p service) d a).1.outside
+outer_more p service d a = handled_more outside_in (in_main p service) (outer_adds p service) d a
 
 -- what events show, one after the other
 pub shown_append : (es fs : List Event) → shown_events (es ++ fs) ≡ shown_events es ++ shown_events fs

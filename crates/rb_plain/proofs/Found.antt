@@ -1,9 +1,7 @@
 -- The batch that is found by its position.
-use Rattle.std.proofs.Common.{◌≡◌, refl, sym, ap, ◌∙◌, ℕ, zero, suc, ◌+◌, ◌-◌, ◌<◌, arith, List, [], ◌∷◌, ◌++◌, map, length, length-append, drop, get_or}
-use Rattle.std.proofs.lemmas.List.{map-append}
+use Rattle.std.proofs.Common.{◌≡◌, refl, sym, ap, ◌∙◌, ℕ, zero, suc, ◌+◌, ◌<◌, arith, List, [], ◌∷◌, map, length, drop, get_or}
 use Rattle.std.specs.Prelude.{Bool, true, false, cond, nat_eq, Option, None, Some, option_and_then, option_map, slice_get}
 use Rattle.std.specs.HashMap.{get}
-use Rattle.rb_trees.specs.mirror.Code.{Stmts}
 use Rattle.rb_trees.specs.mirror.Declarations.{Program}
 use Rattle.rb_meaning_flow.specs.Facts.{facts_of}
 use Rattle.rb_meaning_flow.specs.Outermost.{Outermost, program_batches}

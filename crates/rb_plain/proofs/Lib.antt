@@ -1,5 +1,6 @@
 pub mod Answering
 pub mod Asked
+pub mod BatchFound
 pub mod BatchTold
 pub mod BatchWhole
 pub mod Dropped

@@ -10,8 +10,7 @@ use Rattle.rb_trees.specs.declared.declarations.Body as body
 use Rattle.rb_trees.specs.mirror.Declarations.{mirror_body, mirror_class}
 use Rattle.rb_meaning_code.specs.Dialogue.{Dialogue, Done, Ask, AskBatch, Outcome, Gave, Faulted, Run, seq, next, on, Surroundings, Follows}
 use Rattle.rb_meaning_code.specs.State.{Local}
-use Rattle.rb_meaning.specs.Meaning.{at_start, ending_of, gives_some, runs_main}
-use Rattle.rb_meaning.specs.State.{Outside}
+use Rattle.rb_meaning.specs.Meaning.{Around, at_start, ending_of, gives_some, runs_main}
 use Rattle.rb_base.specs.Devices.{Device}
 use Rattle.rb_base.specs.declared.sinks.Failed.{Failed}
 use Rattle.rb_base.specs.declared.sinks.Sink as sinks
@@ -22,7 +21,7 @@ use Rattle.rb_engine.specs.declared.world.Halt.{Halt}
 use Rattle.rb_engine.specs.declared.world.Halt.TheVariants.{Memory, World}
 use Rattle.rb_plain.specs.MainRuns.{Ends, Leads, RunsMain, main_meant, result_run, surrounds}
 use Rattle.rb_plain.specs.Staged.{program_of}
-use Rattle.rb_plain.specs.Worlds.{SeesOuter, outer, outer_view}
+use Rattle.rb_plain.specs.Worlds.{SeesAround, around_view, outer}
 use Rattle.rb_plain.specs.declared.outer_world.OuterWorld.{OuterWorld}
 use Rattle.rb_plain.specs.declared.run.PlainStop.{PlainStop}
 use Rattle.rb_plain.specs.declared.run.PlainStop.TheVariants as stops
@@ -129,22 +128,22 @@ ending_or_stop (Ok (Err f)) = Ok (endings.Faulted f.fault f.at)
 ending_or_stop (Err Memory) = Err stops.Memory
 ending_or_stop (Err (World x)) = Err stops.WriteFault
 
-by_end : {W : Type 0} (g : sinks.Ghosts W) (fuel : ℕ) (w w' : OuterWorld W) (start : Device (List ℕ)) (s : Outside) (r : Result (Result (Option Value) Raised) (Halt Failed)) → SeesOuter g w start w s
-    → Leads g (runs_main (program_of w.inner.remote.stage).classes fuel (program_of w.inner.remote.stage).body (at_start fuel)) w r w' → Ends g w start (main_meant w fuel s) (ending_or_stop r) w'
-by_end g fuel w w' start s (Ok (Ok v)) sees h =
-    let t = told (outer_view g w start) (surrounds g) (outer w) (outer_as g w start) _ w w' s (Ok (Gave v h.0)) sees h.1 in (ap ending_of t.0, t.1)
-by_end g fuel w w' start s (Ok (Err f)) sees h =
-    let t = told (outer_view g w start) (surrounds g) (outer w) (outer_as g w start) _ w w' s (Ok (Faulted f h.0)) sees h.1 in (ap ending_of t.0, t.1)
-by_end g fuel w w' start s (Err Memory) sees h = tt
-by_end g fuel w w' start s (Err (World x)) sees h = told (outer_view g w start) (surrounds g) (outer w) (outer_as g w start) _ w w' s (Err x) sees h
+by_end : {W : Type 0} (g : sinks.Ghosts W) (fuel : ℕ) (w w' : OuterWorld W) (start : Device (List ℕ)) (a : Around) (r : Result (Result (Option Value) Raised) (Halt Failed)) → SeesAround g w start w a
+    → Leads g (runs_main (program_of w.inner.remote.stage).classes fuel (program_of w.inner.remote.stage).body (at_start fuel)) w r w' → Ends g w start (main_meant w fuel a) (ending_or_stop r) w'
+by_end g fuel w w' start a (Ok (Ok v)) sees h =
+    let t = told (around_view g w start) (surrounds g) (outer w) (outer_as g w start) _ w w' a (Ok (Gave v h.0)) sees h.1 in (ap ending_of t.0, t.1)
+by_end g fuel w w' start a (Ok (Err f)) sees h =
+    let t = told (around_view g w start) (surrounds g) (outer w) (outer_as g w start) _ w w' a (Ok (Faulted f h.0)) sees h.1 in (ap ending_of t.0, t.1)
+by_end g fuel w w' start a (Err Memory) sees h = tt
+by_end g fuel w w' start a (Err (World x)) sees h = told (around_view g w start) (surrounds g) (outer w) (outer_as g w start) _ w w' a (Err x) sees h
 
 -- what `main` did
 pub main_so : {W : Type 0} (g : sinks.Ghosts W) (fuel : ℕ) (w w' : OuterWorld W) (classes : List class.Class) (b : body.Body) (l : Local) (r : Result (Result (Option Value) Raised) (Halt Failed)) (s : Result Ending PlainStop)
     → classes ≡ w.inner.remote.stage.program.classes → b ≡ w.inner.remote.stage.program.body → l ≡ at_start fuel → ending_or_stop r ≡ s
     → Leads g (runs_main (map mirror_class classes) fuel (mirror_body b) l) w r w' → RunsMain g fuel w s w'
-main_so g fuel w w' classes b l r s own main begins is h = λ start o sees.
-    subst (λ x. Ends g w start (main_meant w fuel o) x w') is
-    (by_end g fuel w w' start o r sees
+main_so g fuel w w' classes b l r s own main begins is h = λ start a sees.
+    subst (λ x. Ends g w start (main_meant w fuel a) x w') is
+    (by_end g fuel w w' start a r sees
     (subst (λ x. Leads g (runs_main (program_of w.inner.remote.stage).classes fuel (program_of w.inner.remote.stage).body x) w r w') begins
     (subst (λ x. Leads g (runs_main (program_of w.inner.remote.stage).classes fuel (mirror_body x) l) w r w') main
     (subst (λ cs. Leads g (runs_main (map mirror_class cs) fuel (mirror_body b) l) w r w') own h))))

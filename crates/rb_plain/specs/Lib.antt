@@ -1,10 +1,11 @@
 -- Words of the contracts, each after those that it names.
-pub mod Staged
-pub mod Remote
-pub mod Parts
-pub mod Walks
-pub mod Batches
 pub mod BatchRuns
-pub mod Worlds
+pub mod Batches
+pub mod Entered
 pub mod MainRuns
+pub mod Parts
+pub mod Remote
+pub mod Staged
 pub mod Unsplit
+pub mod Walks
+pub mod Worlds

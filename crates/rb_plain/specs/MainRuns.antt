@@ -11,15 +11,14 @@ use Rattle.rb_trees.specs.mirror.Declarations.{mirror_body, mirror_class}
 use Rattle.rb_meaning_code.specs.Bodies.{bodies_of}
 use Rattle.rb_meaning_code.specs.Dialogue.{Outcome, Gave, Faulted, Run, Surroundings, Follows, handle}
 use Rattle.rb_meaning_code.specs.State.{Local}
-use Rattle.rb_meaning.specs.Meaning.{at_start, ending_of, main_result, runs_main}
-use Rattle.rb_meaning.specs.State.{Outside}
+use Rattle.rb_meaning.specs.Meaning.{Around, at_start, ending_of, main_result, runs_main}
 use Rattle.rb_base.specs.Devices.{Device}
 use Rattle.rb_base.specs.declared.sinks.Failed.{Failed}
 use Rattle.rb_base.specs.declared.sinks.Sink as sinks
 use Rattle.rb_engine.specs.declared.world.Halt.{Halt}
 use Rattle.rb_engine.specs.declared.world.Halt.TheVariants.{Memory, World}
 use Rattle.rb_plain.specs.Staged.{program_of}
-use Rattle.rb_plain.specs.Worlds.{CutsOuter, SeesOuter, outer, outer_answers, outer_performs}
+use Rattle.rb_plain.specs.Worlds.{CutsAround, SeesAround, outer, outer_answers, outer_performs}
 use Rattle.rb_plain.specs.declared.outer_world.OuterWorld.{OuterWorld}
 use Rattle.rb_plain.specs.declared.run.PlainStop.{PlainStop}
 use Rattle.rb_plain.specs.declared.run.PlainStop.TheVariants as stops
@@ -48,16 +47,16 @@ abbrev pub body_run : List class.Class → body.Body → Local → Run (Option V
 body_run classes b l = runs_main (map mirror_class classes) l.fuel (mirror_body b) l
 
 -- `main` with so much fuel, by the surroundings of the unsplit meaning
-abbrev pub main_meant : {W : Type 0} → OuterWorld W → ℕ → Outside → Outcome (Option Value) × Outside
-main_meant first fuel s =
-    let p = program_of first.inner.remote.stage in handle (outer first) (runs_main p.classes fuel p.body (at_start fuel)) s
+abbrev pub main_meant : {W : Type 0} → OuterWorld W → ℕ → Around → Outcome (Option Value) × Around
+main_meant first fuel a =
+    let p = program_of first.inner.remote.stage in handle (outer first) (runs_main p.classes fuel p.body (at_start fuel)) a
 
 -- `main` ended as it means; or a write failed in what it shows. Nothing is said after want of memory.
-abbrev pub Ends : {W : Type 0} → sinks.Ghosts W → OuterWorld W → Device (List ℕ) → Outcome (Option Value) × Outside → Result Ending PlainStop → OuterWorld W → Type 0
-Ends g first start meant (Ok ending) w' = (ending ≡ ending_of meant.0) × SeesOuter g first start w' meant.1
-Ends g first start meant (Err stops.WriteFault) w' = CutsOuter g first start w' meant.1
+abbrev pub Ends : {W : Type 0} → sinks.Ghosts W → OuterWorld W → Device (List ℕ) → Outcome (Option Value) × Around → Result Ending PlainStop → OuterWorld W → Type 0
+Ends g first start meant (Ok ending) w' = (ending ≡ ending_of meant.0) × SeesAround g first start w' meant.1
+Ends g first start meant (Err stops.WriteFault) w' = CutsAround g first start w' meant.1
 Ends g first start meant (Err stops.Memory) w' = Unit {0}
 
 -- the same, wherever the World is seen as a state before
 abbrev pub RunsMain : {W : Type 0} → sinks.Ghosts W → ℕ → OuterWorld W → Result Ending PlainStop → OuterWorld W → Type 0
-RunsMain g fuel w result w' = (start : Device (List ℕ)) (s : Outside) → SeesOuter g w start w s → Ends g w start (main_meant w fuel s) result w'
+RunsMain g fuel w result w' = (start : Device (List ℕ)) (a : Around) → SeesAround g w start w a → Ends g w start (main_meant w fuel a) result w'

@@ -1,26 +1,31 @@
 -- What an unsplit run leaves.
-use Rattle.std.specs.Prelude.{◌≡◌, ℕ, List, Result, Ok, Err}
+use Rattle.std.specs.Prelude.{◌≡◌, ℕ, List, map, Result, Ok, Err}
 use Rattle.rb_trees.specs.declared.declarations.Class as class
 use Rattle.rb_trees.specs.declared.declarations.Program as program
+use Rattle.rb_trees.specs.declared.services.Change.{Change}
 use Rattle.rb_trees.specs.declared.services.Object.{Object}
 use Rattle.rb_trees.specs.mirror.Declarations.{mirror_program}
 use Rattle.rb_trees.specs.mirror.Services.{mirror_service}
-use Rattle.rb_meaning.specs.Meaning.{Meaning, meaning}
+use Rattle.rb_meaning.specs.Changes.{all_changed}
+use Rattle.rb_meaning.specs.Meaning.{Meaning, meaning_with}
 use Rattle.rb_meaning.specs.Shown.{exchanges}
 use Rattle.rb_base.specs.Devices.{Device, failed}
 use Rattle.rb_base.specs.Sinks.{with_bytes, WrotePrefix}
 use Rattle.rb_plain.specs.Staged.{Staged, program_of, service_of}
 use Rattle.rb_trees.specs.declared.outcomes.Run.{Run}
+use Rattle.rb_plain.specs.declared.run.Terms.{Terms}
 use Rattle.rb_plain.specs.declared.run.PlainStop.{PlainStop}
 use Rattle.rb_plain.specs.declared.run.PlainStop.TheVariants as stops
 
--- the unsplit meaning of the program of a stage on its service, with this table
-abbrev pub staged_meaning : Staged → List Object → ℕ → Meaning
-staged_meaning st table fuel = meaning (program_of st) (service_of st) table fuel
+-- the unsplit meaning of the program of a stage on its service, with this table and on these terms
+abbrev pub staged_meaning : Staged → List Object → Terms → Meaning
+staged_meaning st table t = meaning_with (program_of st) (service_of st) table (map all_changed t.others.now) t.fuel
 
--- the unsplit meaning of a program on a service of these classes, with this root and table
-abbrev pub meant : program.Program → List class.Class → ℕ → List Object → ℕ → Meaning
-meant p classes root table fuel = meaning (mirror_program p) (mirror_service (record { classes = classes; root = root })) table fuel
+-- the unsplit meaning of a program on a service of these classes, with this root and table, where others make the changes of a
+-- list before each batch
+abbrev pub meant : program.Program → List class.Class → ℕ → List Object → List (List Change) → ℕ → Meaning
+meant p classes root table others fuel =
+    meaning_with (mirror_program p) (mirror_service (record { classes = classes; root = root })) table (map all_changed others) fuel
 
 -- The run ended so, with so many batches begun, and left this table.
 pub record Leaves (m : Meaning) (run : Run) (table : List Object) : Type 0 where

@@ -1,8 +1,9 @@
 -- What the surroundings of a program's code are seen as, and what they answer: what the unsplit meaning's do.
-use Rattle.std.specs.Prelude.{◌≡◌, ℕ, List, Result, Ok, Err}
+use Rattle.std.specs.Prelude.{◌≡◌, ℕ, List, map, Result, Ok, Err}
 use Rattle.rb_trees.specs.declared.values.Value.TheVariants as value
 use Rattle.rb_meaning_code.specs.State.{Local}
-use Rattle.rb_meaning_code.specs.Dialogue.{Question, Handler}
+use Rattle.rb_meaning_code.specs.Dialogue.{Question, Outcome, Handler}
+use Rattle.rb_meaning.specs.Changes.{all_changed}
 use Rattle.rb_meaning.specs.State as state
 use Rattle.rb_meaning.specs.State.{Outside, shows}
 use Rattle.rb_meaning.specs.Shown.{exchanges, shown_events}
@@ -10,7 +11,7 @@ use Rattle.rb_meaning.specs.Unsplit.{in_batch, performs_batch}
 use Rattle.rb_meaning_flow.specs.Outermost.{Outermost}
 use Rattle.rb_flow.specs.Begun.{begun, begun_of}
 use Rattle.rb_flow.specs.declared.outermost.OpenBatch.{OpenBatch}
-use Rattle.rb_meaning.specs.Meaning.{in_main}
+use Rattle.rb_meaning.specs.Meaning.{Around, at_batch, behind_batch, in_main}
 use Rattle.rb_base.specs.Devices.{Device, device, failed}
 use Rattle.rb_base.specs.Sinks.{with_bytes, WrotePrefix}
 use Rattle.rb_base.specs.declared.sinks.Failed.{Failed}
@@ -78,19 +79,35 @@ CutsOuter g first start w s = CutsBatch g first.inner start w.inner s
 abbrev pub outer_view : {W : Type 0} → sinks.Ghosts W → OuterWorld W → Device (List ℕ) → View (OuterWorld W) Outside
 outer_view g first start = record { sees = SeesOuter g first start; cut = CutsOuter g first start }
 
+-- What is around `main` has what is left of the changes by others, too.
+pub record SeesAround {W : Type 0} (g : sinks.Ghosts W) (first : OuterWorld W) (start : Device (List ℕ)) (w : OuterWorld W) (a : Around) : Type 0 where
+  pub outer_so : SeesOuter g first start w a.outside
+  pub others_so : a.others ≡ map all_changed w.others.now
+
+abbrev pub CutsAround : {W : Type 0} → sinks.Ghosts W → OuterWorld W → Device (List ℕ) → OuterWorld W → Around → Type 0
+CutsAround g first start w a = CutsOuter g first start w a.outside
+
+abbrev pub around_view : {W : Type 0} → sinks.Ghosts W → OuterWorld W → Device (List ℕ) → View (OuterWorld W) Around
+around_view g first start = record { sees = SeesAround g first start; cut = CutsAround g first start }
+
 -- the surroundings of code of the program outside of batches, on the service
-abbrev pub outer : {W : Type 0} → OuterWorld W → Handler Outside
+abbrev pub outer : {W : Type 0} → OuterWorld W → Handler Around
 outer first = in_main (program_of first.inner.remote.stage) (service_of first.inner.remote.stage)
 
 abbrev pub outer_answers : {W : Type 0} → sinks.Ghosts W → OuterWorld W → Question → Answer Failed → OuterWorld W → Type 0
-outer_answers {W = W} g w question answer w' = (first : OuterWorld W) (start : Device (List ℕ)) (s : Outside) → SeesOuter g first start w s
-    → Told (outer_view g first start) answer w' ((outer first).answer s question)
+outer_answers {W = W} g w question answer w' = (first : OuterWorld W) (start : Device (List ℕ)) (a : Around) → SeesAround g first start w a
+    → Told (around_view g first start) answer w' ((outer first).answer a question)
 
 abbrev pub outer_performs : {W : Type 0} → sinks.Ghosts W → OuterWorld W → ℕ → Local → Performed Failed → OuterWorld W → Type 0
-outer_performs {W = W} g w at l ended w' = (first : OuterWorld W) (start : Device (List ℕ)) (s : Outside) → SeesOuter g first start w s
-    → Told (outer_view g first start) ended w' ((outer first).batch s at l)
+outer_performs {W = W} g w at l ended w' = (first : OuterWorld W) (start : Device (List ℕ)) (a : Around) → SeesAround g first start w a
+    → Told (around_view g first start) ended w' ((outer first).batch a at l)
+
+-- a batch of the program where it is found
+abbrev pub performs_around : {W : Type 0} → OuterWorld W → Outermost → Local → Around → Outcome (Unit {0}) × Around
+performs_around first o l a =
+    behind_batch a (performs_batch (program_of first.inner.remote.stage) (service_of first.inner.remote.stage) o l (at_batch a))
 
 -- A batch of the program was performed, of which the code has this and this root.
 abbrev pub PerformsBatch : {W : Type 0} → sinks.Ghosts W → List ℕ → OpenBatch → OuterWorld W → Local → Performed Failed → OuterWorld W → Type 0
-PerformsBatch {W = W} g root b w l ended w' = (first : OuterWorld W) (start : Device (List ℕ)) (s : Outside) (o : Outermost) → SeesOuter g first start w s → begun_of b ≡ begun o → root ≡ o.root
-    → Told (outer_view g first start) ended w' (performs_batch (program_of first.inner.remote.stage) (service_of first.inner.remote.stage) o l s)
+PerformsBatch {W = W} g root b w l ended w' = (first : OuterWorld W) (start : Device (List ℕ)) (a : Around) (o : Outermost) → SeesAround g first start w a → begun_of b ≡ begun o → root ≡ o.root
+    → Told (around_view g first start) ended w' (performs_around first o l a)

@@ -1,9 +1,10 @@
 // The surroundings of code that stands in no batch.
 
-ghost use Rattle.std.specs.Prelude.{◌≡◌, ◌≤◌};
+ghost use Rattle.std.specs.Prelude.{◌≡◌, ◌≤◌, OnOk};
 ghost use Rattle.rb_engine.specs.Answers.{Answered, performed};
 ghost use Rattle.rb_engine.specs.Locals.{local};
 ghost use Rattle.rb_plain.specs.BatchRuns.{SettlesStep};
+ghost use Rattle.rb_plain.specs.Entered.{Comes, Enters};
 ghost use Rattle.rb_plain.specs.Worlds.{PerformsBatch};
 
 use crate::batch_run::{Start, begin, settle};
@@ -15,31 +16,36 @@ use rb_base::{Failed, Sink};
 use rb_engine::{Frame, Halt, RunResult, State, World, exec_slice};
 use rb_flow::OpenBatch;
 use rb_heap::Heap;
-use rb_trees::{Seq, Value, Word};
+use rb_trees::{Change, Memory, Seq, Value, Word};
 use std::alloc::Global;
 
 /// The surroundings of code that stands in no batch: its lines go to the output, its batches are performed, and a turn
-/// over a list goes on. All else faults Kind. A run is cut off where a write fails. It counts the batches that were begun.
+/// over a list goes on. All else faults Kind. A run is cut off where a write fails. It counts the batches that were begun,
+/// and knows what others change before each of those to come.
 #[derive(Drop)]
 pub struct OuterWorld<'p, 'b, 'a, 'o, W> {
     pub batches: &'b Batches<'p>,
     pub inner: BatchWorld<'a, 'o, W>,
     pub exchanges: u64,
+    pub others: &'b [Seq<Change>],
 }
 
 impl<'p, 'b, 'a, 'o, W: Sink> OuterWorld<'p, 'b, 'a, 'o, W> {
-    /// The surroundings of a program's code over an output, with the service's first table. No batch was begun.
+    /// The surroundings of a program's code over an output, with the service's first table, and what others will change.
+    /// No batch was begun.
     pub fn over(
         alloc: Global,
         batches: &'b Batches<'p>,
         stage: Stage<'a>,
         table: Heap,
+        others: &'b [Seq<Change>],
         out: &'o mut W,
     ) -> OuterWorld<'p, 'b, 'a, 'o, W>
         ensures batches { result.batches.now ≡ batches.now }
         ensures stage { result.inner.remote.stage ≡ stage.entry }
         ensures server { result.inner.remote.server ≡ record { table = table; fuel = 0 } }
         ensures exchanges { result.exchanges ≡ 0 }
+        ensures others { result.others.now ≡ others.now }
         ensures same { result.inner.out.ghost_name ≡ out.entry.ghost_name }
         ensures now { result.inner.out.now ≡ out.old }
     {
@@ -48,7 +54,19 @@ impl<'p, 'b, 'a, 'o, W: Sink> OuterWorld<'p, 'b, 'a, 'o, W> {
             batches,
             inner: BatchWorld { remote, out },
             exchanges: 0,
+            others,
         }
+    }
+
+    // Comes to a batch: others change the table that it finds.
+    fn come(&mut self) -> Result<(), Memory>
+        ensures { OnOk result (Comes self.old self.new) }
+    {
+        let Some((changes, rest)) = self.others.split_first() else {
+            return Ok(());
+        };
+        self.others = rest;
+        self.inner.remote.change(changes.as_slice())
     }
 }
 
@@ -73,7 +91,25 @@ fn settled(
     }
 }
 
-// Performs a batch: `performs_batch`. Where batches can't be counted any more, the run is cut off as for want of memory.
+// Enters a batch: it is come to, counted, and begun. Where batches can't be counted any more, it is as if memory ran out.
+#[inline(never)]
+fn enter<W: Sink>(
+    alloc: Global,
+    world: &mut OuterWorld<'_, '_, '_, '_, W>,
+    root: &Word,
+    frame: &mut Frame,
+) -> Result<Start, Memory>
+    ensures { Enters root.now result world.old frame.old world.new frame.new }
+{
+    world.come()?;
+    let Some(exchanges) = world.exchanges.checked_add(1) else {
+        return Err(Memory);
+    };
+    world.exchanges = exchanges;
+    begin(alloc, &mut world.inner.remote, root, frame)
+}
+
+// Performs a batch: `performs_batch`, on the table that it finds.
 fn perform<W: Sink>(
     alloc: Global,
     world: &mut OuterWorld<'_, '_, '_, '_, W>,
@@ -90,11 +126,7 @@ fn perform<W: Sink>(
 {
     let code = world.inner.remote.stage.code();
     let count = frame.len();
-    let Some(exchanges) = world.exchanges.checked_add(1) else {
-        return Err(Halt::Memory);
-    };
-    world.exchanges = exchanges;
-    let Ok(start) = begin(alloc, &mut world.inner.remote, root, frame) else {
+    let Ok(start) = enter(alloc, world, root, frame) else {
         return Err(Halt::Memory);
     };
     let ended = exec_slice(alloc, code, state, frame, &mut world.inner, batch.block);

@@ -1,14 +1,17 @@
 // Remote calls of a program, and the evaluation of remote expressions.
 
-ghost use Rattle.std.specs.Prelude.{◌≡◌};
+ghost use Rattle.std.specs.Prelude.{◌≡◌, OnOk};
 ghost use Rattle.rb_meaning_code.specs.Faults as faults;
 ghost use Rattle.rb_meaning_code.specs.Faults.{raised, raised_remotely};
+ghost use Rattle.rb_meaning.specs.Changes.{all_changed};
+ghost use Rattle.rb_plain.specs.BatchRuns.{SetsTable};
 ghost use Rattle.rb_plain.specs.Remote.{Ended, IsAnswered, SameStage, as_unit, call_meant, turn_meant, value_meant};
 
 use crate::stage::Stage;
+use rb_changes::apply_all;
 use rb_engine::{Frame, Halt, Miss, RunResult, Server, State, World, eval};
 use rb_heap::Heap;
-use rb_trees::{Expr, Fault, Memory, Raised, Seq, Value, fault_codes};
+use rb_trees::{Change, Expr, Fault, Memory, Raised, Seq, Value, fault_codes};
 use std::alloc::Global;
 
 /// The service that a program's remote calls are performed on. As a World it surrounds remote expressions alone: a remote
@@ -45,6 +48,16 @@ impl<'a> RemoteWorld<'a> {
             stage,
             server: Server::new(table),
         }
+    }
+
+    /// Applies changes by others to the table.
+    pub fn change(&mut self, changes: &[Change]) -> Result<(), Memory>
+        ensures { OnOk result (SetsTable (all_changed changes.now self.old.server.table) self.old self.new) }
+    {
+        let mut table = self.server.replace_table(Heap::make(self.alloc));
+        let applied = apply_all(&mut table, changes);
+        let _empty = self.server.replace_table(table);
+        applied
     }
 
     /// The fault Kind at a position.

@@ -1,7 +1,15 @@
-// Why a run is cut off.
+// What a run is given, and why it is cut off.
 
-use rb_trees::Memory;
+use rb_trees::{Change, Memory, Seq};
 use thiserror::Error;
+
+/// What a run is given beside its program and its service: its fuel, and what others change before each of its batches, a list
+/// before each. Before a batch for which there is no list they change nothing.
+#[derive(Clone, Copy)]
+pub struct Terms<'c> {
+    pub fuel: u64,
+    pub others: &'c [Seq<Change>],
+}
 
 /// Why a run was cut off.
 #[derive(Debug, Drop, Error)]

@@ -7,14 +7,16 @@ use Rattle.rb_base.specs.Sinks.{told_more, with_bytes, WrotePrefix}
 use Rattle.rb_base.specs.Sources.{told_before, before_giving, IsAtEnd}
 use Rattle.rb_meaning.specs.Replies.{header_length}
 use Rattle.rb_meaning_frames.specs.Streams.{most_requests, IsCutRequest, Waits}
+use Rattle.rb_meaning_frames.specs.Served.{no_more}
+use Rattle.rb_exec.specs.Hosted.{Hosted}
 use Rattle.rb_session.specs.declared.serving.ServeCause.{ServeCause}
 use Rattle.rb_session.specs.declared.serving.ServeCause.TheVariants.{ReadFault, WriteFault, Cut, BadFrame, SessionSpent, Memory}
 use Rattle.rb_session.specs.Taking.{longest_frame, Takes}
 use Rattle.rb_session.specs.Sessions.{SessionSeen, new_session, came, IsBounded, Goes}
 use Rattle.rb_session.specs.Serving.{Ends, Wrote, with_read_fault, StopsBy}
 use Rattle.rb_session.specs.Pieces.{serving, WritesReplies, ServesPiece, EndsSo, ServesTo}
-use Rattle.rb_session.proofs.Streamed.{takes_none}
-use Rattle.rb_session.proofs.Fed.{goes_on}
+use Rattle.rb_session.proofs.Streamed.{cuts_none}
+use Rattle.rb_session.proofs.Fed.{goes_on, goes_takes}
 
 -- ---- what the two ends tell
 
@@ -70,7 +72,11 @@ none_served before t is = record {
   replies = [];
   gave = gave_nothing before.source;
   goes = subst (λ s. Goes before.host before.host new_session s [] []) (sym is)
-      (record { count = 0; takes = takes_none before.host []; requests = refl; few = omega arith; came_is = refl });
+      (record {
+        payloads = [];
+        cuts = record { cuts = cuts_none []; requests = refl; few = omega arith; came_is = refl };
+        answers = no_more before.host.table;
+      });
   wrote = wrote_nothing before.sink;
 }
 
@@ -87,6 +93,11 @@ piece_served before now after s t piece Says same so gave w = record {
 
 -- ---- how it ends
 
+-- what a new session has taken
+taken_all : (host after : Hosted) (t : SessionSeen) (given replies : List ℕ) → Goes host after new_session t given replies → Takes host after given t.rest t.requests replies
+taken_all host after t given replies g =
+    subst (λ n. Takes host after given t.rest n replies) (sym (g.cuts.requests ∙ zero-add (length g.payloads))) (goes_takes host after new_session t given replies g)
+
 -- what was served in all, where this is to be said of the rest
 wrote_all : (before after : Ends) (t : SessionSeen) (Says : List ℕ → List ℕ → Type 0) → (so : SoServed before after t) → Says so.given t.rest
     → Wrote before after t.requests Says
@@ -96,7 +107,7 @@ wrote_all before after t Says so says = record {
   replies = so.replies;
   took = record {
     gave = so.gave;
-    takes = subst (λ n. Takes before.host after.host so.given t.rest n so.replies) (sym (so.goes.requests ∙ zero-add so.goes.count)) so.goes.takes;
+    takes = taken_all before.host after.host t so.given so.replies so.goes;
   };
   wrote = so.wrote;
   says = says;
@@ -118,7 +129,7 @@ read_failed before now after t so waits host sink source =
 
 -- how many bytes came
 given_came : (before now : Ends) (t : SessionSeen) (so : SoServed before now t) → came t ≡ length so.given
-given_came before now t so = let is = so.goes.came_is in omega arith
+given_came before now t so = let is = so.goes.cuts.came_is in omega arith
 
 -- the end of the source
 pub source_ended : (before now after : Ends) (t : SessionSeen) (buffer : List ℕ) (answer : Result Unit ServeCause) → SoServed before now t → EndsSo t answer
@@ -161,7 +172,7 @@ stopped before now after s t piece WriteFault same so gave w =
       replies = so.replies ++ w.replies;
       took = record {
         gave = so.gave ∙ ap (before_giving so.given) gave ∙ gave_twice so.given piece after.source;
-        takes = subst (λ n. Takes before.host after.host (so.given ++ piece) t.rest n (so.replies ++ w.replies)) (sym (goes.requests ∙ zero-add goes.count)) goes.takes;
+        takes = taken_all before.host after.host t (so.given ++ piece) (so.replies ++ w.replies) goes;
       };
       wrote = front_behind before.sink after.sink so.replies w.replies (subst (λ d. WrotePrefix (failed d) after.sink w.replies) so.wrote w.wrote);
       some = w.some;

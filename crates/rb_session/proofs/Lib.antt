@@ -4,6 +4,8 @@ pub mod Joined
 pub mod Nodes
 pub mod Bounded
 pub mod Sent
+pub mod Noted
+pub mod Meddled
 pub mod Failing
 pub mod FirstPlaces
 pub mod Waiting

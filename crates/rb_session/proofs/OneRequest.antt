@@ -83,10 +83,9 @@ one_at_most rest piece last (p ∷ (q ∷ ps)) waits few requests is =
 few_requests : (host after : Hosted) (before now : SessionSeen) (piece replies : List ℕ) → Waits before.rest → length piece ≤ lacking before.rest
     → Goes host after before now piece replies → now.requests ≤ before.requests + 1
 few_requests host after before now piece replies waits few g =
-    let x = g.takes in
-    let one = one_at_most before.rest piece now.rest x.payloads waits few x.requests x.is in
-    let count = x.count_is in
-    let sum = g.requests in
+    let x = g.cuts.cuts in
+    let one = one_at_most before.rest piece now.rest g.payloads waits few x.requests x.is in
+    let sum = g.cuts.requests in
     omega arith
 
 -- so no more than one request is answered by such a piece

@@ -21,10 +21,8 @@ some_payloads service _ _ _ _ (one_more table between after payload reply kind p
 -- A reply was written only where a request was answered.
 some_requests : (host after : Hosted) (s t : SessionSeen) (piece replies : List ℕ) → Goes host after s t piece replies → 0 < length replies → 1 ≤ t.requests
 some_requests host after s t piece replies g some =
-    let x = g.takes in
-    let one = some_payloads (mirror_service host.service) host.table after.table x.payloads replies x.answers some in
-    let same = x.count_is in
-    let more = g.requests in
+    let one = some_payloads (mirror_service host.service) host.table after.table g.payloads replies g.answers some in
+    let more = g.cuts.requests in
     omega arith
 
 -- what follows the last whole frame

@@ -1,6 +1,7 @@
 -- What an answer appends, and what it makes of the host.
 use Rattle.std.specs.Prelude.{◌≡◌, ℕ, List, ◌++◌, Err}
-use Rattle.rb_trees.specs.mirror.Services.{mirror_service}
+use Rattle.rb_trees.specs.declared.services.Object.{Object}
+use Rattle.rb_trees.specs.mirror.Services.{Service, mirror_service}
 use Rattle.rb_meaning_bytes.specs.formats.Messages.{Sent, Refused}
 use Rattle.rb_meaning_bytes.specs.formats.Payloads.{IsForestOf}
 use Rattle.rb_meaning_bytes.specs.formats.ScriptPayloads.{Means}
@@ -31,8 +32,13 @@ pub record Performs (before after : Hosted) (x : Sent) (old new : List ℕ) : Ty
   pub gains : Appends (λ bytes. IsForestOf x.version bytes (performed_on before x).node) old new
   pub table : after.table ≡ (performed_on before x).server.table
 
--- The buffer has gained the reply to the payload, which is of this kind, and the host has the table that the answer leaves.
-pub record Replies (before after : Hosted) (payload old new : List ℕ) (kind : ℕ) : Type 0 where
+-- The buffer has gained the reply to the payload, which is of this kind. A service with the first table answers so, and has the
+-- second then.
+pub record AppendsReply (service : Service) (before after : List Object) (payload old new : List ℕ) (kind : ℕ) : Type 0 where
   pub reply : List ℕ
-  pub answers : AnswersOn before payload kind reply after
+  pub answers : Answers service before payload kind reply after
   pub is : new ≡ old ++ reply
+
+-- the same of a host
+abbrev pub Replies : (before after : Hosted) (payload old new : List ℕ) (kind : ℕ) → Type 0
+Replies before after payload old new kind = AppendsReply (mirror_service before.service) before.table after.table payload old new kind

@@ -20,6 +20,11 @@ abbrev pub lends_any : {X : Type 0} → AnyLink X → Bool
 lends_any (Dialled x) = false
 lends_any (Around l) = true
 
+-- It is quiet where the link that it holds is, as one in memory is always.
+abbrev pub IsQuietAny : {X : Type 0} → (X → Type 0) → AnyLink X → Type 0
+IsQuietAny quiet (Dialled x) = quiet x
+IsQuietAny quiet (Around l) = Unit {0}
+
 -- It is honest where the link that it holds is.
 abbrev pub IsHonestAny : {X : Type 0} → (X → Type 0) → AnyLink X → Type 0
 IsHonestAny honest (Dialled x) = honest x

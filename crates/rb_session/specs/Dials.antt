@@ -58,12 +58,13 @@ pub record IsDialled {L : Type 0} (g : links.Ghosts L) (link : L) : Type 0 where
   pub whole : g.faults link ≡ 0
   pub lends_none : g.lends link ≡ false
 
--- A link goes on as a link in memory does: it tells what that one tells, none of its exchanges failed, it lends its table, and
--- it is honest where that one is.
+-- A link goes on as a link in memory does: it tells what that one tells, none of its exchanges failed, it lends its table, it is
+-- quiet, and it is honest where that one is.
 pub record GoesOn {L : Type 0} (g : links.Ghosts L) (inner : LinkInMemory) (link : L) : Type 0 where
   pub told : g.told link ≡ Some (told_of inner)
   pub whole : g.faults link ≡ 0
   pub lends_its : g.lends link ≡ true
+  pub quiet : g.quiet link
   pub honest : IsHonest inner → g.honest link
 
 -- one more link is out

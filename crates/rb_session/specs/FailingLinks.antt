@@ -1,6 +1,5 @@
 -- Links in memory of which chosen exchanges fail.
 use Rattle.std.specs.Prelude.{◌≡◌, ℕ, List, true, false, Some, Result, Ok, Err}
-use Rattle.rb_trees.specs.mirror.Services.{mirror_service}
 use Rattle.rb_meaning.specs.Links.{Behind, Told}
 use Rattle.rb_base.specs.declared.links.Reply.{Reply}
 use Rattle.rb_base.specs.declared.links.LinkStop.{LinkStop}
@@ -8,7 +7,7 @@ use Rattle.rb_base.specs.declared.links.LinkStop.TheVariants.{Failed, Frame, Cut
 use Rattle.rb_base.specs.Counts.{risen}
 use Rattle.rb_base.specs.Links.{fails_next}
 use Rattle.rb_exec.specs.Hosted.{Hosted}
-use Rattle.rb_session.specs.MemoryLinks.{LinkInMemory, new_link, Answered, Spends}
+use Rattle.rb_session.specs.MemoryLinks.{LinkInMemory, behind, new_link, Answered, Spends}
 
 -- such a link: the link that it passes exchanges on to, the number of exchanges so far, the numbers of those that fail,
 -- from 1, and how many failed
@@ -24,8 +23,7 @@ new_failing h failing = record { link = new_link h; made = 0; failing = failing;
 
 -- what stands behind the link
 abbrev pub behind_failing : FailingInMemory → Behind
-behind_failing l =
-    record { service = mirror_service l.link.host.service; table = l.link.host.table; made = l.made; failing = l.failing }
+behind_failing l = record (behind l.link) { made = l.made; failing = l.failing }
 
 abbrev pub told_of_failing : FailingInMemory → Told
 told_of_failing l = record { pairs = l.link.pairs; server = Some (behind_failing l) }

@@ -1,7 +1,9 @@
 pub mod Answering
 pub mod Exchanges
+pub mod Tables
 pub mod MemoryLinks
 pub mod FailingLinks
+pub mod MeddledLinks
 pub mod AnyLinks
 pub mod Targets
 pub mod Places

@@ -1,4 +1,4 @@
--- Requests that are taken from a stream, and answered in order.
+-- Requests that are taken from a stream, and what becomes of them: they are answered in order, or gathered.
 use Rattle.std.specs.Prelude.{◌≡◌, ℕ, ◌+◌, ◌*◌, ◌≤◌, All, List, ◌++◌, length, drop}
 use Rattle.rb_trees.specs.mirror.Services.{mirror_service}
 use Rattle.rb_meaning.specs.Answers.{longest_request}
@@ -16,14 +16,22 @@ use Rattle.rb_session.specs.declared.requests.Taken.{Taken}
 abbrev pub longest_frame : ℕ
 longest_frame = header_length + longest_request
 
--- The bytes are the frames of so many requests, and a rest. The server that the first host is answers them, in order, with
--- these frames of replies, and has the table of the second host then.
-pub record Takes (before after : Hosted) (bytes rest : List ℕ) (count : ℕ) (replies : List ℕ) : Type 0 where
-  pub payloads : List (List ℕ)
+-- The bytes are the frames of the requests with these payloads, and a rest.
+pub record Cuts (bytes rest : List ℕ) (payloads : List (List ℕ)) : Type 0 where
   pub requests : All IsRequest payloads
   pub is : bytes ≡ request_frames payloads ++ rest
+
+-- The server that the first host is answers these payloads, in order, with these frames of replies, and has the table of the
+-- second host then.
+abbrev pub RepliesOn : Hosted → Hosted → List (List ℕ) → List ℕ → Type 0
+RepliesOn before after payloads replies = RepliesTo (mirror_service before.service) before.table payloads replies after.table
+
+-- The bytes are the frames of so many requests, and a rest, and the requests are answered so.
+pub record Takes (before after : Hosted) (bytes rest : List ℕ) (count : ℕ) (replies : List ℕ) : Type 0 where
+  pub payloads : List (List ℕ)
+  pub cuts : Cuts bytes rest payloads
   pub count_is : count ≡ length payloads
-  pub answers : RepliesTo (mirror_service before.service) before.table payloads replies after.table
+  pub answers : RepliesOn before after payloads replies
 
 -- The buffer has gained the frame of the reply to the payload.
 pub record GainsReply (before after : Hosted) (payload old new : List ℕ) : Type 0 where
@@ -32,14 +40,26 @@ pub record GainsReply (before after : Hosted) (payload old new : List ℕ) : Typ
   pub answers : AnswersOn before payload kind reply after
   pub is : new ≡ old ++ frame_bytes kind reply
 
--- Requests were taken, as many as may be and are whole; the buffer has gained the frames of their replies, and what follows
--- them begins so.
-pub record TakesAll (before after : Hosted) (bytes : List ℕ) (most : ℕ) (old new : List ℕ) (taken : Taken) : Type 0 where
-  pub replies : List ℕ
-  pub takes : Takes before after bytes (drop taken.bytes bytes) taken.requests replies
-  pub gains : new ≡ old ++ replies
+-- The requests with these payloads were taken, as many as may be and are whole, and what follows them begins so.
+pub record CutsAll (bytes : List ℕ) (most : ℕ) (payloads : List (List ℕ)) (taken : Taken) : Type 0 where
+  pub cuts : Cuts bytes (drop taken.bytes bytes) payloads
+  pub count : taken.requests ≡ length payloads
   pub within : taken.bytes ≤ length bytes
   pub few : taken.requests ≤ most
   pub bounded : taken.bytes ≤ taken.requests * longest_frame
   pub front : IsFront (drop taken.bytes bytes) taken.front
   pub spent : (size : ℕ) → taken.front ≡ Whole size → taken.requests ≡ most
+
+-- Such requests were answered, and the buffer has gained the frames of their replies.
+pub record TakesAll (before after : Hosted) (bytes : List ℕ) (most : ℕ) (old new : List ℕ) (taken : Taken) : Type 0 where
+  pub payloads : List (List ℕ)
+  pub cuts : CutsAll bytes most payloads taken
+  pub replies : List ℕ
+  pub answers : RepliesOn before after payloads replies
+  pub gains : new ≡ old ++ replies
+
+-- Such requests were gathered: the list has gained their payloads.
+pub record GathersAll (bytes : List ℕ) (most : ℕ) (old new : List (List ℕ)) (taken : Taken) : Type 0 where
+  pub payloads : List (List ℕ)
+  pub cuts : CutsAll bytes most payloads taken
+  pub gains : new ≡ old ++ payloads

@@ -6,7 +6,7 @@ use rb_heap::Heap;
 
 /// A link of one of two kinds, which passes each exchange on to the link that it holds.
 ///
-/// It tells what that link tells, fails where that one fails, and is honest where that one is. It lends a table only where it
+/// It tells what that link tells, fails where that one fails, and is honest or quiet where that one is. It lends a table only where it
 /// holds a link in memory: whoever dialled a server has no table of it.
 #[derive(Drop)]
 pub enum AnyLink<X> {
@@ -17,7 +17,7 @@ pub enum AnyLink<X> {
 }
 
 impl<X: Link> Link for AnyLink<X> {
-    ghost use Rattle.rb_session.specs.AnyLinks.{told_by_any, faults_of_any, lends_any, IsHonestAny};
+    ghost use Rattle.rb_session.specs.AnyLinks.{told_by_any, faults_of_any, lends_any, IsHonestAny, IsQuietAny};
 
     ghost told = { told_by_any X.told };
 
@@ -26,6 +26,8 @@ impl<X: Link> Link for AnyLink<X> {
     ghost lends = { lends_any };
 
     ghost honest = { IsHonestAny X.honest };
+
+    ghost quiet = { IsQuietAny X.quiet };
 
     fn exchange(&mut self, request: &[u8]) -> Result<Reply, LinkStop> {
         match self {

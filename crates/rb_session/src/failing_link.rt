@@ -20,7 +20,7 @@ use std::marker::Model;
 /// It is a [`MemoryLink`] with one difference: an exchange whose number is listed counts a fault, answers `Failed` and does
 /// nothing else, so its request reaches no host. It tells all that it holds: the pairs so far, the host's service and table,
 /// the number of exchanges, and the list. It is honest until an exchange was wanting memory. From then on each exchange
-/// answers that, and changes nothing.
+/// answers that, and changes nothing. It is always quiet.
 #[derive(Drop)]
 pub struct FailingLink {
     link: MemoryLink,
@@ -101,6 +101,8 @@ impl Link for FailingLink {
     ghost lends = { λ it. true };
 
     ghost honest = { λ it. IsHonest it.link };
+
+    ghost quiet = { λ it. Unit {0} };
 
     fn exchange(&mut self, request: &[u8]) -> Result<Reply, LinkStop>
         requires { length request.now ≤ longest_request }

@@ -19,7 +19,7 @@ use std::marker::Model;
 /// does; before that a front of the request's frame was written. Where the reply breaks its form or ends too early, the answer
 /// keeps the bytes that were taken of it. A reply is read in pieces, so its announced length makes no room by itself.
 ///
-/// It tells its pairs and no server; so it is never honest as far as it tells. The pairs are a history that only proofs read, so
+/// It tells its pairs and no server; so it is never honest nor quiet as far as it tells. The pairs are a history that only proofs read, so
 /// that exchanges leave nothing in memory. Its count of faults is the sum of those of its ends, and stands still at the end of a
 /// `u64`.
 #[derive(Drop)]
@@ -95,6 +95,8 @@ impl<S: Source, K: Sink> Link for FrameLink<S, K> {
     ghost lends = { λ it. false };
 
     ghost honest = { λ it. ⊥ };
+
+    ghost quiet = { λ it. ⊥ };
 
     fn exchange(&mut self, request: &[u8]) -> Result<Reply, LinkStop>
         requires { length request.now ≤ longest_request }

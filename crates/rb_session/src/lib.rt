@@ -3,6 +3,7 @@
 //! What an answer is stands in `specs/Answers` of `rb_meaning`, and what a link tells in `specs/Links` there.
 #![tactic(auto)]
 
+mod answerers;
 mod answers;
 mod any_link;
 mod dials;
@@ -12,6 +13,7 @@ mod frame_link;
 mod frames;
 mod histories;
 mod laws;
+mod meddled_link;
 mod memory_dial;
 mod memory_link;
 mod null_dial;
@@ -23,14 +25,16 @@ mod serving;
 mod sessions;
 mod targets;
 
+pub use answerers::Answers;
 pub use answers::{answer, perform};
 pub use any_link::AnyLink;
 pub use dials::{Dial, DialStop};
 pub use exchanges::Exchange;
 pub use failing_link::FailingLink;
 pub use frame_link::FrameLink;
-pub use frames::frame_header;
+pub use frames::{fill_room, frame_header, leave_room};
 pub use laws::{each_payload_has_one_answer, sessions_are_fed_anywhere};
+pub use meddled_link::MeddledLink;
 pub use memory_dial::MemoryDial;
 pub use memory_link::MemoryLink;
 pub use null_dial::NullDial;

@@ -19,8 +19,9 @@ use std::marker::Model;
 /// A link to a host of its own, which answers each request at once.
 ///
 /// It tells all that it holds: the pairs so far, the host's service and table, and that no exchange fails. It keeps the
-/// table that it began with. No exchange answers a fault, and no reply breaks off; the link is honest until an exchange is
-/// wanting memory. From then on each exchange answers that, and changes nothing.
+/// table that it began with, and no other: which tables its requests found and left follows from that one and from the pairs.
+/// No exchange answers a fault, and no reply breaks off; the link is honest until an exchange is wanting memory. From then on
+/// each exchange answers that, and changes nothing. Nobody else reaches the host, so it is always quiet.
 #[derive(Drop)]
 pub struct MemoryLink {
     host: Host,
@@ -33,10 +34,9 @@ pub struct MemoryLink {
 
 impl Model for MemoryLink {
     ghost use Rattle.std.specs.Prelude.{◌≡◌, false};
-    ghost use Rattle.rb_session.specs.Answering.{IsTypedHost};
     ghost use Rattle.rb_session.specs.Exchanges.{all_told};
     ghost use Rattle.rb_session.specs.Codes.{link_code};
-    ghost use Rattle.rb_session.specs.MemoryLinks.{LinkInMemory};
+    ghost use Rattle.rb_session.specs.MemoryLinks.{LinkInMemory, StandsBehind};
 
     ghost Value = { LinkInMemory };
 
@@ -50,7 +50,7 @@ impl Model for MemoryLink {
       spent = it.spent;
     } };
 
-    ghost invariant = { λ it. it.spent ≡ false → IsTypedHost it.host };
+    ghost invariant = { λ it. it.spent ≡ false → StandsBehind it.host it.first (all_told it.pairs.items) };
 }
 
 impl MemoryLink {
@@ -126,6 +126,8 @@ impl Link for MemoryLink {
     ghost lends = { λ it. true };
 
     ghost honest = { IsHonest };
+
+    ghost quiet = { λ it. Unit {0} };
 
     fn exchange(&mut self, request: &[u8]) -> Result<Reply, LinkStop>
         requires { length request.now ≤ longest_request }

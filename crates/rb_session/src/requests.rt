@@ -3,13 +3,13 @@
 ghost use Rattle.std.specs.Prelude.{◌≡◌, ◌≤◌, length, IfOk, OnOk};
 ghost use Rattle.rb_meaning.specs.Answers.{longest_request};
 ghost use Rattle.rb_session.specs.Answering.{IsTypedHost};
-ghost use Rattle.rb_session.specs.Taking.{GainsReply, TakesAll};
+ghost use Rattle.rb_session.specs.Taking.{GainsReply, TakesAll, GathersAll};
 
 use crate::answers::answer;
 use crate::frames::{Front, HEADER, fill_room, front_of, leave_room};
 use bytes::BytesMut;
 use rb_exec::Host;
-use rb_trees::Memory;
+use rb_trees::{Memory, Seq, Word};
 use std::alloc::Global;
 
 /// Requests that were taken from the front of a stream: how many bytes their frames have, how many they are, and what stands
@@ -61,6 +61,37 @@ pub fn answer_whole(
         match front_of(rest) {
             Front::Whole(size) if requests < most => {
                 answer_frame(alloc, host, &rest[HEADER..HEADER + size], out)?;
+                at += HEADER + size;
+                requests += 1;
+            }
+            front => {
+                return Ok(Taken {
+                    bytes: at,
+                    requests,
+                    front,
+                });
+            }
+        }
+    }
+}
+
+/// Gathers the requests that stand whole at the front of a stream, in order, but at most so many: appends their payloads.
+pub fn gather_whole(
+    alloc: Global,
+    bytes: &[u8],
+    most: u64,
+    whole: &mut Seq<Word>,
+) -> Result<Taken, Memory>
+    ensures { IfOk result (GathersAll bytes.now most whole.old whole.new) }
+{
+    let mut at = 0;
+    let mut requests = 0;
+    'whole: loop {
+        let rest = &bytes[at..];
+        match front_of(rest) {
+            Front::Whole(size) if requests < most => {
+                let payload = Seq::from_slice(alloc, &rest[HEADER..HEADER + size])?;
+                whole.push(payload)?;
                 at += HEADER + size;
                 requests += 1;
             }

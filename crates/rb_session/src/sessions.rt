@@ -4,30 +4,30 @@ ghost use Rattle.std.specs.Prelude.{◌≡◌, ◌==◌, ◌<◌, ◌^◌, ◌++
 ghost use Rattle.rb_meaning_frames.specs.Streams.{Waits};
 ghost use Rattle.rb_session.specs.Answering.{IsTypedHost};
 ghost use Rattle.rb_session.specs.Receiving.{lacking};
-ghost use Rattle.rb_session.specs.Sessions.{new_session, came, stop_of, answer_by, IsBounded, IsNear, Feeds, UnlessSpentMemory};
-ghost use Rattle.rb_session.specs.Taking.{longest_frame, TakesAll};
+ghost use Rattle.rb_session.specs.Sessions.{new_session, came, stop_of, answer_by, IsBounded, IsNear, MayMoveOn, MovesOn, Feeds, Gathers, UnlessSpentMemory};
+ghost use Rattle.rb_session.specs.Taking.{longest_frame, TakesAll, GathersAll};
 
 use crate::frames::Front;
 use crate::receiving::lacking;
-use crate::requests::{Taken, answer_whole};
+use crate::requests::{Taken, answer_whole, gather_whole};
 use bytes::BytesMut;
 use rb_exec::Host;
-use rb_trees::Memory;
+use rb_trees::{Memory, Seq, Word};
 use std::alloc::Global;
 use std::marker::Model;
 use thiserror::Error;
 
-/// How many requests of a session are answered at most.
+/// How many requests of a session are taken at most.
 const MOST_REQUESTS: u64 = 1 << 32;
 
-/// Why a session is answered no further.
+/// Why a session goes no further.
 #[derive(Clone, Copy, Debug, Error)]
 pub enum SessionStop {
     /// The stream breaks the form of a request frame at this offset: a byte of a header is none that may stand there, or the
     /// length that begins there is longer than that of a request may be.
     #[error("the stream breaks its form at offset {0}")]
     BadFrame(u64),
-    /// So many requests were answered that a further one isn't.
+    /// So many requests were taken that a further one isn't.
     #[error("too many requests")]
     SessionSpent,
     #[error("out of memory")]
@@ -45,10 +45,10 @@ impl From<Memory> for SessionStop {
     }
 }
 
-/// A session: request frames that come in pieces, and are answered as they become whole.
+/// A session: request frames that come in pieces, and are answered, or gathered, as they become whole.
 ///
 /// Contracts see it as `SessionSeen`: the bytes after the last whole frame, their offset in the stream, the number of
-/// requests answered, and why it stopped, if it did. It holds no more of the stream than these bytes.
+/// requests taken, and why it stopped, if it did. It holds no more of the stream than these bytes.
 #[derive(Drop)]
 pub struct Session {
     rest: BytesMut,
@@ -87,7 +87,7 @@ impl Session {
         }
     }
 
-    /// How many requests were answered.
+    /// How many requests were taken.
     pub fn requests(&self) -> u64
         ensures { result ≡ self.now.requests }
     {
@@ -139,7 +139,40 @@ impl Session {
             return Err(stop);
         }
         let room = MOST_REQUESTS - self.requests;
-        let answer = match take_piece(alloc, host, &mut self.rest, piece, room, out) {
+        let taken = take_piece(alloc, host, &mut self.rest, piece, room, out);
+        self.move_on(taken)
+    }
+
+    /// Takes the next piece of the stream, and appends the payloads of the requests that became whole, in order, for others to
+    /// answer.
+    ///
+    /// Where the stream breaks its form, or a request more is whole than may be taken, the requests before are gathered, and the
+    /// session stops. After a stop each further piece is answered by the same stop, and changes nothing. After want of memory the
+    /// list may have gained requests.
+    pub fn take(
+        &mut self,
+        alloc: Global,
+        piece: &[u8],
+        whole: &mut Seq<Word>,
+    ) -> Result<(), SessionStop>
+        ensures gathers { Gathers self.old self.new piece.now whole.old whole.new result self.old.stop }
+        ensures bounded { IsBounded self.new.offset self.new.requests }
+    {
+        if let Some(stop) = self.stop {
+            return Err(stop);
+        }
+        let room = MOST_REQUESTS - self.requests;
+        let taken = gather_piece(alloc, &mut self.rest, piece, room, whole);
+        self.move_on(taken)
+    }
+
+    /// Moves on behind what was taken from the front of the rest, and answers by what stands there.
+    fn move_on(&mut self, taken: Result<Taken, Memory>) -> Result<(), SessionStop>
+        requires { IfOk taken (MayMoveOn self.old) }
+        ensures moves { MovesOn self.old self.new taken result }
+        ensures bounded { IsBounded self.new.offset self.new.requests }
+    {
+        let answer = match taken {
             Ok(taken) => {
                 self.offset += taken.bytes as u64;
                 self.requests += taken.requests;
@@ -162,7 +195,7 @@ fn stop_of(answer: Result<(), SessionStop>) -> Option<SessionStop>
     }
 }
 
-/// The answer of a session by what stands behind the requests that it answered, at an offset of its stream.
+/// The answer of a session by what stands behind the requests that it took, at an offset of its stream.
 fn answer_by(front: Front, offset: u64) -> Result<(), SessionStop>
     requires offset { offset < 2 ^ 63 }
     requires near { IsNear front }
@@ -193,6 +226,23 @@ fn take_piece(
 {
     rest.extend_from_slice(piece)?;
     let taken = answer_whole(alloc, host, rest.as_slice(), most, out)?;
+    rest.advance(taken.bytes);
+    Ok(taken)
+}
+
+/// Appends a piece to the rest of a stream, gathers the requests that are whole then, at most so many, and keeps the rest.
+fn gather_piece(
+    alloc: Global,
+    rest: &mut BytesMut,
+    piece: &[u8],
+    most: u64,
+    whole: &mut Seq<Word>,
+) -> Result<Taken, Memory>
+    ensures gathers { IfOk result (GathersAll (rest.old.items ++ piece.now) most whole.old whole.new) }
+    ensures rest { IfOk result (λ taken. rest.new.items ≡ drop taken.bytes (rest.old.items ++ piece.now)) }
+{
+    rest.extend_from_slice(piece)?;
+    let taken = gather_whole(alloc, rest.as_slice(), most, whole)?;
     rest.advance(taken.bytes);
     Ok(taken)
 }

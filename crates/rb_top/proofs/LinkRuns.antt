@@ -1,20 +1,20 @@
 -- Runs over a link that is new and honest.
-use Rattle.std.proofs.Common.{◌≡◌, ◌⊎◌, ℕ, zero, suc, List, [], ◌++◌, Bool, true, false, Option, None, Some, option_map, Result, Ok, Err, ap, sym, ◌∙◌, refl, subst, inl, inr, arith}
+use Rattle.std.proofs.Common.{◌≡◌, ◌⊎◌, ℕ, zero, suc, List, [], ◌++◌, Bool, true, false, Option, None, Some, map, option_map, Result, Ok, Err, ap, sym, ◌∙◌, refl, subst, inl, inr, arith}
 use Rattle.std.specs.Prelude.{◌==◌}
 use Rattle.std.specs.List.{list_any}
 use Rattle.rb_trees.specs.declared.outcomes.Run.{Run}
 use Rattle.rb_trees.specs.declared.services.Object.{Object}
 use Rattle.rb_trees.specs.mirror.Declarations.{Program}
-use Rattle.rb_trees.specs.mirror.Services.{Service}
 use Rattle.rb_meaning.specs.Links.{Behind, Told, server_told}
+use Rattle.rb_meaning.specs.Others.{Others, becomes}
 use Rattle.rb_meaning.specs.Shown.{exchanges, shown_events}
 use Rattle.rb_base.specs.Counts.{risen}
 use Rattle.rb_base.specs.Devices.{Device, failed}
-use Rattle.rb_base.specs.Links.{Lends}
+use Rattle.rb_base.specs.Links.{Finds, FindsFitting, FindsStanding, Lends}
 use Rattle.rb_base.specs.Sinks.{WrotePrefix}
 use Rattle.rb_base.specs.declared.links.Link as links
 use Rattle.rb_base.proofs.Pieces.{prefix_front}
-use Rattle.rb_client.specs.Headline.{EndsAsMeant, MeansProgram, meant_on}
+use Rattle.rb_client.specs.Headline.{EndsAsMeant, LosesBatch, MeansProgram, meant_on}
 use Rattle.rb_client.specs.Runs.{FailsAsListed}
 use Rattle.rb_client.specs.Servers.{FailsAfter, IsServer, fails_after, later}
 use Rattle.rb_client.specs.declared.stops.RunStop.{RunStop}
@@ -77,12 +77,12 @@ never_fails : (k : ℕ) (b : Behind) → b.failing ≡ [] → fails_after k b �
 never_fails k b none = ap (list_any (λ n. n == risen (later k b).made)) (later_failing k b ∙ none)
 
 -- the table that an honest run left
-left_table : (told : Option Told) (s : Service) (table : List Object) → IsServer (server_told told) s table → (behind_of told).table ≡ table
-left_table told s table h = by_server (server_told told) refl h
+left_table : (told : Option Told) (before : Behind) (found left : List (List Object)) (table : List Object) → IsServer (server_told told) before found left table → (behind_of told).table ≡ table
+left_table told before found left table h = by_server (server_told told) refl h
   where
-    by_server : (x : Option Behind) → server_told told ≡ x → IsServer x s table → (behind_of told).table ≡ table
+    by_server : (x : Option Behind) → server_told told ≡ x → IsServer x before found left table → (behind_of told).table ≡ table
     by_server None e h = absurd h
-    by_server (Some b) e h = rw e h.1
+    by_server (Some b) e h = rw e h.table_so
 
 module _ {L : Type 0} (g : links.Ghosts L) where
   -- a link that lent its table does so still
@@ -98,55 +98,68 @@ module _ {L : Type 0} (g : links.Ghosts L) where
       (said_so (ended_status run.ending) (end_text_in way text run.ending run.exchanges table) r result before after e h)
 
   -- A run over an honest link, of which no exchange fails, with what is said behind its lines where it ends as the program means.
-  as_meant : (closing : Run → List ℕ) (said : List ℕ) (p : Program) (fuel : ℕ) (b : Behind) (link left : L) (result : Status) (before lines after : Device (List ℕ)) (answer : Result Run RunStop)
-      → ((run : Run) → MeansProgram p fuel b run (over g link before) (over g left lines) → closing run ≡ said) → ((k : ℕ) → ComesToBatch p fuel (served_by b) k → fails_after k b ≡ false) → server_told (g.told link) ≡ Some b
-      → EndsAsMeant p fuel b answer (over g link before) (over g left lines) → FailsAsListed answer (over g link before) (over g left lines) → SaysRun closing answer result lines after
-      → Ends (ended_status (meant_on p fuel b).ending) (shown_events (meant_on p fuel b).events ++ said) result before after ⊎ (result ≡ Memory)
-  as_meant closing said p fuel b link left result before lines after (Ok run) closes none e means lists says =
-      let m = meant_on p fuel b in
-      inl (subst (λ x. Ends (ended_status x) (shown_events m.events ++ said) result before after) means.ending_so
-      (subst (λ t. Ends (ended_status run.ending) (shown_events m.events ++ t) result before after) (closes run means)
-      (ends_behind (ended_status run.ending) (shown_events m.events) (closing run) result before lines after means.written says)))
-  as_meant closing said p fuel b link left result before lines after (Err (stops.LinkFault k)) closes none e means lists says =
-      let fails = subst (FailsAfter k) e lists.1 in
-      let never = none k (record { at = means.at; local = means.local; go = means.go; outside = means.outside; comes = means.comes; count = means.count }) in
-      absurd (cc (sym fails ∙ never))
-  as_meant closing said p fuel b link left result before lines after (Err (stops.BadReply k why kind bytes)) closes none e means lists says = absurd means
-  as_meant closing said p fuel b link left result before lines after (Err stops.WriteFault) closes none e means lists says =
-      inl (ends.cut says.0 (prefix_front (failed before) after (shown_events (meant_on p fuel b).events) said
-      (subst (λ o. WrotePrefix (failed before) o (shown_events (meant_on p fuel b).events)) (sym says.1) means.written)))
-  as_meant closing said p fuel b link left result before lines after (Err stops.Memory) closes none e means lists says = inr says
+  module _ (Found : Finds) (others : List Others) where
+    as_meant : (closing : Run → List ℕ) (said : List ℕ) (p : Program) (fuel : ℕ) (b : Behind) (link left : L) (result : Status) (before lines after : Device (List ℕ)) (answer : Result Run RunStop)
+        → ((run : Run) → MeansProgram p fuel b others run (over g link before) (over g left lines) → closing run ≡ said)
+        → ((k : ℕ) → LosesBatch Found p fuel b others k (over g link before) (over g left lines) → fails_after k b ≡ false) → server_told (g.told link) ≡ Some b
+        → EndsAsMeant Found p fuel b others answer (over g link before) (over g left lines) → FailsAsListed answer (over g link before) (over g left lines) → SaysRun closing answer result lines after
+        → Ends (ended_status (meant_on p fuel b others).ending) (shown_events (meant_on p fuel b others).events ++ said) result before after ⊎ (result ≡ Memory)
+    as_meant closing said p fuel b link left result before lines after (Ok run) closes none e means lists says =
+        let m = meant_on p fuel b others in
+        inl (subst (λ x. Ends (ended_status x) (shown_events m.events ++ said) result before after) means.ending_so
+        (subst (λ t. Ends (ended_status run.ending) (shown_events m.events ++ t) result before after) (closes run means)
+        (ends_behind (ended_status run.ending) (shown_events m.events) (closing run) result before lines after means.written says)))
+    as_meant closing said p fuel b link left result before lines after (Err (stops.LinkFault k)) closes none e means lists says =
+        let fails = subst (FailsAfter k) e lists.1 in
+        let never = none k means in
+        absurd (cc (sym fails ∙ never))
+    as_meant closing said p fuel b link left result before lines after (Err (stops.BadReply k why kind bytes)) closes none e means lists says = absurd means
+    as_meant closing said p fuel b link left result before lines after (Err stops.WriteFault) closes none e means lists says =
+        let events = (meant_on p fuel b others).events in
+        inl (ends.cut says.0 (prefix_front (failed before) after (shown_events events) said
+        (subst (λ o. WrotePrefix (failed before) o (shown_events events)) (sym says.1) means.written)))
+    as_meant closing said p fuel b link left result before lines after (Err stops.Memory) closes none e means lists says = inr says
 
   -- So it is over a link that was dialled.
   pub ends_far : (text : List ℕ) (p : Program) (fuel : ℕ) (b : Behind) (link left : L) (result : Status) (before after : Device (List ℕ)) → g.honest link → ((k : ℕ) → ComesToBatch p fuel (served_by b) k → fails_after k b ≡ false) → server_told (g.told link) ≡ Some b
       → RunsOverLink g (run_end text) p fuel link left result before after → EndsFar text p fuel b result before after
   ends_far text p fuel b link left result before after honest none e run =
-      let m = meant_on p fuel b in
-      as_meant (run_end {L = L} text left) (run_end_text text m.ending (exchanges m.events)) p fuel b link left result before run.lines after run.answer
-      (λ r means. ap (λ x. run_end_text text x r.exchanges) means.ending_so ∙ ap (run_end_text text m.ending) means.exchanges_so) none e (run.means honest b e) run.lists run.says
+      let meant = run.means honest b e in
+      let finds = meant.0 in
+      let others = map becomes finds in
+      let m = meant_on p fuel b others in
+      by finds (as_meant FindsFitting others (run_end {L = L} text left) (run_end_text text m.ending (exchanges m.events)) p fuel b link left result before run.lines after run.answer
+      (λ r means. ap (λ x. run_end_text text x r.exchanges) means.ending_so ∙ ap (run_end_text text m.ending) means.exchanges_so)
+      (λ k lost. none k (record { finds = finds; at = lost.at; local = lost.local; go = lost.go; around = lost.around; comes = lost.comes; count = lost.count }))
+      e meant.1 run.lists run.says)
+    where
+      by : (finds : List (List Object)) → let m = meant_on p fuel b (map becomes finds) in Ends (ended_status m.ending) (shown_events m.events ++ run_end_text text m.ending (exchanges m.events)) result before after ⊎ (result ≡ Memory)
+          → EndsFar text p fuel b result before after
+      by finds (inl ended) = inl (finds, ended)
+      by finds (inr starved) = inr starved
 
   -- And over one to a new server, with what is said of its table in some way.
   ends_new : (way : Way) (text : List ℕ) (p : Program) (fuel : ℕ) (served : Served) (link left : L) (result : Status) (before after : Device (List ℕ)) → IsNew g served link → RunsOverLink g (run_end_in g way text) p fuel link left result before after
-      → Ends (ended_status (meant_on p fuel (new_server served)).ending) (shown_events (meant_on p fuel (new_server served)).events ++ ending_text_in way text (meant_on p fuel (new_server served))) result before after ⊎ (result ≡ Memory)
+      → let m = meant_on p fuel (new_server served) [] in Ends (ended_status m.ending) (shown_events m.events ++ ending_text_in way text m) result before after ⊎ (result ≡ Memory)
   ends_new way text p fuel served link left result before after new run =
       let b = new_server served in
-      let m = meant_on p fuel b in
+      let m = meant_on p fuel b [] in
       let e = ap server_told new.tells in
-      as_meant (run_end_in g way text left) (ending_text_in way text m) p fuel b link left result before run.lines after run.answer
+      as_meant FindsStanding [] (run_end_in g way text left) (ending_text_in way text m) p fuel b link left result before run.lines after run.answer
       (λ r means. ap (λ x. end_text_in way text x r.exchanges (behind_of (g.told left)).table) means.ending_so ∙ ap (λ n. end_text_in way text m.ending n (behind_of (g.told left)).table) means.exchanges_so
-      ∙ ap (end_text_in way text m.ending (exchanges m.events)) (left_table (g.told left) b.service m.table means.table_so))
-      (λ k comes. never_fails k b refl) e (run.means new.honest b e) run.lists run.says
+      ∙ ap (end_text_in way text m.ending (exchanges m.events)) (left_table (g.told left) b m.found m.left m.table means.server_so))
+      (λ k lost. never_fails k b refl) e (run.means_alone new.honest new.quiet b e) run.lists run.says
 
   pub ends_near : (text : List ℕ) (p : Program) (fuel : ℕ) (served : Served) (link left : L) (result : Status) (before after : Device (List ℕ)) → IsNew g served link → RunsOverLink g (run_end_with_table g text) p fuel link left result before after
       → EndsRun text p fuel served result before after
   ends_near text p fuel served link left result before after new run =
-      let m = meant_on p fuel (new_server served) in
+      let m = meant_on p fuel (new_server served) [] in
       subst (λ t. Ends (ended_status m.ending) t result before after ⊎ (result ≡ Memory)) (sym (shown_so text m)) (ends_new ways.Both text p fuel served link left result before after new run)
 
   pub ends_counted : (text : List ℕ) (p : Program) (fuel : ℕ) (served : Served) (link left : L) (result : Status) (before after : Device (List ℕ)) → IsNew g served link → RunsOverLink g (run_end_with_count g text) p fuel link left result before after
       → EndsCounted text p fuel served result before after
   ends_counted text p fuel served link left result before after new run =
-      let m = meant_on p fuel (new_server served) in
+      let m = meant_on p fuel (new_server served) [] in
       subst (λ t. Ends (ended_status m.ending) t result before after ⊎ (result ≡ Memory)) (sym (counted_so text m)) (ends_new ways.Trial text p fuel served link left result before after new run)
 
   -- a link in memory that was made one of a Dial's is new
@@ -155,6 +168,7 @@ module _ {L : Type 0} (g : links.Ghosts L) where
     tells = on.told ∙ ap (λ l. Some (told_of l)) e;
     whole = on.whole;
     lends = on.lends_its;
+    quiet = on.quiet;
     honest = on.honest (subst (λ l. IsHonest l) (sym e) (record { fresh = refl; typed = typed }));
   }
 

@@ -1,10 +1,12 @@
 -- What is answered where the outside tells all that a command needs, and no call of it fails but for a write.
-use Rattle.std.specs.Prelude.{◌≡◌, ◌<◌, ◌⊎◌, ℕ, zero, suc, min, List, length, false, Option, None, Some, Ok, codes}
+use Rattle.std.specs.Prelude.{◌≡◌, ◌<◌, ◌⊎◌, ℕ, zero, suc, min, List, length, map, false, Option, None, Some, Ok, codes}
+use Rattle.rb_trees.specs.declared.services.Object.{Object}
 use Rattle.rb_trees.specs.declared.values.Value.{Value}
 use Rattle.rb_trees.specs.mirror.Declarations.{Program}
 use Rattle.rb_meaning.specs.Links.{Behind, server_told}
 use Rattle.rb_meaning.specs.Shown.{exchanges, line}
-use Rattle.rb_meaning.specs.State.{Outside}
+use Rattle.rb_meaning.specs.Meaning.{Around, Meaning, meaning_on}
+use Rattle.rb_meaning.specs.Others.{becomes}
 use Rattle.rb_meaning_code.specs.Dialogue.{Outcome, Dialogue, AskBatch}
 use Rattle.rb_meaning_code.specs.State.{Local}
 use Rattle.rb_meaning_split.specs.Division.{Division, divisions}
@@ -22,7 +24,7 @@ use Rattle.rb_session.specs.declared.targets.Target.TheVariants as targets
 use Rattle.rb_top.specs.Answers.{EndsRun}
 use Rattle.rb_top.specs.Ends.{Ends}
 use Rattle.rb_top.specs.LinkRuns.{served_by}
-use Rattle.rb_top.specs.Runs.{Served, counted_text, far_text, run_status}
+use Rattle.rb_top.specs.Runs.{Served, counted_text, ended_status, run_status, shown_lines}
 use Rattle.rb_top.specs.Scene as scenes
 use Rattle.rb_top.specs.Texts.{IsProgram, IsService}
 use Rattle.rb_top.specs.Trials.{trial_program, trial_service}
@@ -89,17 +91,18 @@ abbrev pub TrialsTold : Option Wanted → Status → scenes.Scene → scenes.Sce
 TrialsTold wanted result before after = (n : ℕ) (program : Program) (served : Served) → wanted ≡ Some (Trial n) → IsProgram trial_program program
     → IsService (trial_service n) served → EndsCounted trial_program program default_fuel served result before.out after.out
 
--- A program on the service behind a link comes to its batch after so many.
+-- A program on the service behind a link, whose batches find some tables there, comes to its batch after so many.
 pub record ComesToBatch (p : Program) (fuel : ℕ) (served : Served) (k : ℕ) : Type 0 where
+  pub finds : List (List Object)
   pub at : ℕ
   pub local : Local
   pub go : Outcome (Unit {0}) → Dialogue (Outcome (Option Value))
-  pub outside : Outside
-  pub comes : ProgramComesTo p served.0 served.1 fuel (AskBatch at local go) outside
-  pub count : k ≡ exchanges outside.events
+  pub around : Around
+  pub comes : ProgramComesTo p served.0 served.1 (map becomes finds) fuel (AskBatch at local go) around
+  pub count : k ≡ exchanges around.outside.events
 
 -- The Dial tells that the next link of a target is honest, with this server behind it, and that none of the exchanges of the
--- program's run fails.
+-- program's run fails, whichever tables its batches find.
 pub record DialsHonest {L : Type 0} (g : links.Ghosts L) (target : Target) (p : Program) (fuel : ℕ) (b : Behind) (told : Option (Dialling L)) : Type 0 where
   pub dialling : Dialling L
   pub link : L
@@ -109,10 +112,15 @@ pub record DialsHonest {L : Type 0} (g : links.Ghosts L) (target : Target) (p : 
   pub honest : g.honest link
   pub none_fails : (k : ℕ) → ComesToBatch p fuel (served_by b) k → fails_after k b ≡ false
 
--- what a run over a dialled link is to print, and to answer, unless the output fails or memory is wanting
+-- What a meaning shows was printed, but for the table, and how it ends was answered, unless the output failed.
+abbrev pub EndsMeant : List ℕ → Meaning → Status → Device (List ℕ) → Device (List ℕ) → Type 0
+EndsMeant text m result before after = Ends (ended_status m.ending) (shown_lines text m) result before after
+
+-- What a run over a dialled link is to print, and to answer, unless the output fails or memory is wanting: what the program means on the
+-- server behind the link, on the tables that its batches find there. Which tables these are the link tells that comes back.
 abbrev pub EndsFar : List ℕ → Program → ℕ → Behind → Status → Device (List ℕ) → Device (List ℕ) → Type 0
 EndsFar text p fuel b result before after =
-    Ends (run_status fuel p (served_by b)) (far_text text fuel p (served_by b)) result before after ⊎ (result ≡ Memory)
+    ((finds : List (List Object)) × EndsMeant text (meaning_on p b.service b.table finds fuel) result before after) ⊎ (result ≡ Memory)
 
 -- Where `run ADDRESS P FUEL` is asked, the files tell an accepted program under this name, and the Dial an honest link to the
 -- address, what the program means on the server behind that link is printed, but for the table, and the answer is how it ends.

@@ -6,7 +6,7 @@ use Rattle.rb_meaning.specs.Links.{Behind, Told, pairs_told, server_told}
 use Rattle.rb_meaning.specs.Shown.{line}
 use Rattle.rb_base.specs.Devices.{Device}
 use Rattle.rb_base.specs.declared.links.Link as links
-use Rattle.rb_client.specs.Headline.{MeansWhereHonest}
+use Rattle.rb_client.specs.Headline.{MeansWhereHonest, MeansWhereQuiet}
 use Rattle.rb_client.specs.Runs.{FailsAsListed, RunsOver}
 use Rattle.rb_client.specs.Scenes as scenes
 use Rattle.rb_client.specs.declared.stops.RunStop.{RunStop}
@@ -27,6 +27,7 @@ over g link out = record {
   faults = g.faults link;
   lends = g.lends link;
   honest = g.honest link;
+  quiet = g.quiet link;
   out = out;
 }
 
@@ -36,15 +37,16 @@ served_by b = (b.service, b.table)
 
 -- a server of the service, with its table, with which nothing was exchanged yet, and of whose exchanges none fails
 abbrev pub new_server : Served → Behind
-new_server served = record { service = served.0; table = served.1; made = 0; failing = [] }
+new_server served = record { service = served.0; table = served.1; found = []; left = []; made = 0; failing = [] }
 
--- The link leads to a new server of the service, with its table: it tells that server and no pair yet, it is honest, it lends its
--- server's table, and no fault was counted over it.
+-- The link leads to a new server of the service, with its table: it tells that server and no pair yet, it is honest and quiet, it
+-- lends its server's table, and no fault was counted over it.
 pub record IsNew {L : Type 0} (g : links.Ghosts L) (served : Served) (link : L) : Type 0 where
   pub tells : g.told link ≡ Some (record { pairs = []; server = Some (new_server served) })
   pub whole : g.faults link ≡ 0
   pub lends : g.lends link ≡ true
   pub honest : g.honest link
+  pub quiet : g.quiet link
 
 -- the server that a link tells; where it tells none, one of no classes
 abbrev pub behind_of : Option Told → Behind
@@ -90,4 +92,5 @@ pub record RunsOverLink {L : Type 0} (g : links.Ghosts L) (closing : Closing L) 
   pub runs : RunsOver p fuel answer (over g link before) (over g left lines)
   pub lists : FailsAsListed answer (over g link before) (over g left lines)
   pub means : MeansWhereHonest p fuel answer (over g link before) (over g left lines)
+  pub means_alone : MeansWhereQuiet p fuel answer (over g link before) (over g left lines)
   pub says : SaysRun (closing left) answer result lines after

@@ -32,13 +32,10 @@ served_on s table = (mirror_service s, table)
 abbrev pub run_text : List ℕ → ℕ → Program → Served → List ℕ
 run_text source fuel p served = shown source (meaning p served.0 served.1 fuel)
 
--- the same, but for the table
-abbrev pub far_text : List ℕ → ℕ → Program → Served → List ℕ
-far_text source fuel p served = shown_lines source (meaning p served.0 served.1 fuel)
-
--- the same, and how many objects the table has
+-- the same, with how many objects the table has in its place
 abbrev pub counted_text : List ℕ → ℕ → Program → Served → List ℕ
-counted_text source fuel p served = far_text source fuel p served ++ objects_line (meaning p served.0 served.1 fuel).table
+counted_text source fuel p served =
+    let m = meaning p served.0 served.1 fuel in shown_lines source m ++ objects_line m.table
 
 -- the status of how a program ended
 abbrev pub ended_status : Ending → Status

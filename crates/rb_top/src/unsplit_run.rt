@@ -1,5 +1,6 @@
 // A run of a program as it stands: what it shows is printed.
 
+ghost use Rattle.std.specs.Prelude.{◌≡◌, []};
 ghost use Rattle.rb_trees.specs.mirror.Services.{mirror_service};
 ghost use Rattle.rb_meaning.specs.Links.{IsTyped};
 ghost use Rattle.rb_top.specs.Accepted.{IsAccepted};
@@ -13,8 +14,15 @@ use rb_base::Sink;
 use rb_code::Code;
 use rb_heap::Heap;
 use rb_plain::unsplit;
-use rb_trees::Service;
+use rb_trees::{Change, Seq, Service};
 use std::alloc::Global;
+
+// What others change: nothing.
+fn no_changes(alloc: Global) -> Seq<Seq<Change>>
+    ensures { result ≡ [] }
+{
+    Seq::new(alloc)
+}
 
 /// Runs a program with so much fuel on a service and its table, prints what it means there, and answers how it ended.
 pub fn run_unsplit<W: Sink>(
@@ -31,6 +39,7 @@ pub fn run_unsplit<W: Sink>(
 {
     let code = Code::make(alloc, &service.classes)?;
     let mut left = table;
+    let nobody = no_changes(alloc);
     let run = unsplit(
         alloc,
         program.admitted,
@@ -39,6 +48,7 @@ pub fn run_unsplit<W: Sink>(
         &mut left,
         fuel,
         out,
+        &nobody,
     )?;
     print_run_end_with_table(alloc, program.text, run, &left, out)
 }

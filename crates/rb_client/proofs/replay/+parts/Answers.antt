@@ -45,11 +45,11 @@ perform_branch-returns g t c =
     c.in_Some-holds.ensures refl c.chosen-parts.ensures (rw c.as_slice.ensures at c.perform_block.ensures)
 
 pub perform_part-perform_branch-requires : goal.perform_part-perform_branch-requires
-perform_part-perform_branch-requires g t c κs within = (let w = ap part_weight (ap mirror_part c.in-Branch.is ∙ form_Branch c.in-Branch.step c.in-Branch.yes c.in-Branch.no) in omega arith, within)
+perform_part-perform_branch-requires g t c κs within = (let w = ap part_weight (ap mirror_part c.in-Branch.is ∙ form_Branch c.in-Branch.step c.in-Branch.yes c.in-Branch.no) in let y = ap (λ x. parts_of x.yes.now) c.new-choice.ensures in let n = ap (λ x. parts_of x.no.now) c.new-choice.ensures in omega arith, within)
 
 pub perform_part-perform_rows-requires : goal.perform_part-perform_rows-requires
 perform_part-perform_rows-requires g t c κs within =
-    (let w = ap part_weight (ap mirror_part c.in-Turns.is ∙ form_Turns c.in-Turns.step c.in-Turns.name c.in-Turns.kind c.in-Turns.body) in let e = ap parts_of c.as_slice.ensures in omega arith, within)
+    (let w = ap part_weight (ap mirror_part c.in-Turns.is ∙ form_Turns c.in-Turns.step c.in-Turns.name c.in-Turns.kind c.in-Turns.body) in let e = ap parts_of c.as_slice.ensures in let t = ap (λ x. parts_of x.body.now) c.new-turns.ensures in omega arith, within)
 
 pub perform_part-returns-in-Plain : goal.perform_part-returns-in-Plain
 perform_part-returns-in-Plain g t c =
@@ -63,26 +63,28 @@ perform_part-returns-in-Bind g t c = of_form c.args.code.now c.args.part.now (Bi
 
 pub perform_part-returns-in-Both : goal.perform_part-returns-in-Both
 perform_part-returns-in-Both g t c =
-    of_form c.args.code.now c.args.part.now (Both c.in-Both.step _ c.in-Both.name (mirror_expr c.in-Both.value)) (ap mirror_part c.in-Both.is ∙ form_Both c.in-Both.step _ c.in-Both.name c.in-Both.value) c.perform_both.ensures
+    of_form c.args.code.now c.args.part.now (Both c.in-Both.step _ c.in-Both.name (mirror_expr c.in-Both.value)) (ap mirror_part c.in-Both.is ∙ form_Both c.in-Both.step _ c.in-Both.name c.in-Both.value)
+    (rw c.new-twin.ensures at c.perform_both.ensures)
 
 pub perform_part-returns-in-Branch : goal.perform_part-returns-in-Branch
 perform_part-returns-in-Branch g t c =
-    of_form c.args.code.now c.args.part.now (Branch c.in-Branch.step (mirror_parts c.in-Branch.yes) (mirror_parts c.in-Branch.no)) (ap mirror_part c.in-Branch.is ∙ form_Branch c.in-Branch.step c.in-Branch.yes c.in-Branch.no) c.perform_branch.ensures
+    of_form c.args.code.now c.args.part.now (Branch c.in-Branch.step (mirror_parts c.in-Branch.yes) (mirror_parts c.in-Branch.no)) (ap mirror_part c.in-Branch.is ∙ form_Branch c.in-Branch.step c.in-Branch.yes c.in-Branch.no)
+    (rw c.new-choice.ensures at c.perform_branch.ensures)
 
 pub perform_part-returns-in-Turns : goal.perform_part-returns-in-Turns
 perform_part-returns-in-Turns g t c =
     of_form c.args.code.now c.args.part.now (Turns c.in-Turns.step c.in-Turns.name c.in-Turns.kind (mirror_parts c.in-Turns.body)) (ap mirror_part c.in-Turns.is ∙ form_Turns c.in-Turns.step c.in-Turns.name c.in-Turns.kind c.in-Turns.body)
-    (loop_so c.args.code.now c.in-Turns.step c.in-Turns.name c.is_kept.result c.as_slice.result.now c.in-Turns.kind c.in-Turns.body c.is_kept.ensures c.as_slice.ensures c.perform_rows.ensures)
+    (loop_so c.args.code.now c.in-Turns.step c.in-Turns.name c.as_slice.result.now c.in-Turns.kind c.in-Turns.body c.as_slice.ensures (rw c.new-turns.ensures at c.perform_rows.ensures))
 
 pub perform_part-perform_list-requires : goal.perform_part-perform_list-requires
 perform_part-perform_list-requires g t c κs within =
-    (let w = ap part_weight (ap mirror_part c.in-Over.is ∙ form_Over c.in-Over.step c.in-Over.at c.in-Over.name c.in-Over.list _ c.in-Over.body) in let e = ap parts_of c.as_slice-in-Over.ensures in omega arith, within)
+    (let w = ap part_weight (ap mirror_part c.in-Over.is ∙ form_Over c.in-Over.step c.in-Over.at c.in-Over.name c.in-Over.list _ c.in-Over.body) in let e = ap parts_of c.as_slice-in-Over.ensures in let t = ap (λ x. parts_of x.body.now) c.new-turns-in-Over.ensures in omega arith, within)
 
 pub perform_part-returns-in-Over : goal.perform_part-returns-in-Over
 perform_part-returns-in-Over g t c =
     of_form c.args.code.now c.args.part.now (Over c.in-Over.step c.in-Over.at c.in-Over.name c.in-Over.list _ (mirror_parts c.in-Over.body))
     (ap mirror_part c.in-Over.is ∙ form_Over c.in-Over.step c.in-Over.at c.in-Over.name c.in-Over.list _ c.in-Over.body)
-    (over_so c.args.code.now c.in-Over.step c.in-Over.at c.in-Over.name c.in-Over.list 0 c.as_slice-in-Over.result.now c.in-Over.body c.as_slice-in-Over.ensures c.perform_list.ensures)
+    (over_so c.args.code.now c.in-Over.step c.in-Over.at c.in-Over.name c.in-Over.list 0 c.as_slice-in-Over.result.now c.in-Over.body c.as_slice-in-Over.ensures (rw c.new-turns-in-Over.ensures at c.perform_list.ensures))
 
 pub perform_rows-returns-in_err-turn_rows : goal.perform_rows-returns-in_err-turn_rows
 perform_rows-returns-in_err-turn_rows g t c =

@@ -20,6 +20,7 @@ returns-in-Some g c =
       runs = c.in-Ok.ensures.runs;
       lists = c.in-Ok.ensures.lists;
       means = c.in-Ok.ensures.means;
+      means_alone = c.in-Ok.ensures.means_alone;
       says = says_with_table g.L.Link c.args.way text c.run_client.new.link c.in-Ok.run' c.in-Some.table.now c.print_run_end_in.result c.run_answer.result _ _
           (still_lends g.L.Link c.args.link.now c.run_client.new.link c.in-Ok.ensures.runs.exchanged.lends_so c.requires.lends) c.in-Some.ensures c.run_answer.ensures c.print_run_end_in.ensures;
     })
@@ -34,5 +35,6 @@ returns-in-Err g c =
       runs = c.in-Err.ensures.runs;
       lists = c.in-Err.ensures.lists;
       means = c.in-Err.ensures.means;
+      means_alone = c.in-Err.ensures.means_alone;
       says = c.say_stop.ensures;
     })

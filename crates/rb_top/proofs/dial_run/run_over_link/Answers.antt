@@ -15,6 +15,7 @@ returns-in-Ok g c =
       runs = c.in-Ok.ensures.runs;
       lists = c.in-Ok.ensures.lists;
       means = c.in-Ok.ensures.means;
+      means_alone = c.in-Ok.ensures.means_alone;
       says = says_run text c.in-Ok.run' c.print_run_end.result c.run_answer.result _ _ c.run_answer.ensures c.print_run_end.ensures;
     })
 
@@ -28,5 +29,6 @@ returns-in-Err g c =
       runs = c.in-Err.ensures.runs;
       lists = c.in-Err.ensures.lists;
       means = c.in-Err.ensures.means;
+      means_alone = c.in-Err.ensures.means_alone;
       says = c.say_stop.ensures;
     })

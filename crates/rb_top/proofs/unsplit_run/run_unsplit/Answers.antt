@@ -12,9 +12,9 @@ make-requires g c = served_classes_differ (mirror_service c.args.service.now) c.
 pub returns-in_err-run : goal.returns-in_err-run
 returns-in_err-run g c =
     let p = err_from_is_err_and c.from_residual-in_err-run.result c.from_residual-in_err-run.ensures.1 in
-    rw (p.1, p.2) (run_cut c.args.program.now.text.now c.args.fuel (accepted_program c.args.program.now) c.args.service.now c.in_ok-code.code c.args.table c.in_err-run.field-0.0 (output g.W.Sink c.args.out.now) (output g.W.Sink c.unsplit.new.out) c.in_ok-code.ensures c.in_err-run.ensures.written)
+    rw (p.1, p.2) (run_cut c.args.program.now.text.now c.args.fuel (accepted_program c.args.program.now) c.args.service.now c.in_ok-code.code c.args.table c.no_changes-nobody.result c.in_err-run.field-0.0 (output g.W.Sink c.args.out.now) (output g.W.Sink c.unsplit.new.out) c.in_ok-code.ensures c.no_changes-nobody.ensures c.in_err-run.ensures.written)
 
 pub returns : goal.returns
 returns g c =
-    run_ended c.args.program.now.text.now c.args.fuel (accepted_program c.args.program.now) c.args.service.now c.in_ok-code.code c.args.table c.in_ok-run.run' c.unsplit.new.table c.print_run_end_with_table.result (output g.W.Sink c.args.out.now) (output g.W.Sink c.unsplit.new.out) (output g.W.Sink c.print_run_end_with_table.new.out) c.in_ok-code.ensures
+    run_ended c.args.program.now.text.now c.args.fuel (accepted_program c.args.program.now) c.args.service.now c.in_ok-code.code c.args.table c.no_changes-nobody.result c.in_ok-run.run' c.unsplit.new.table c.print_run_end_with_table.result (output g.W.Sink c.args.out.now) (output g.W.Sink c.unsplit.new.out) (output g.W.Sink c.print_run_end_with_table.new.out) c.in_ok-code.ensures c.no_changes-nobody.ensures
     (c.in_ok-run.ensures.left, c.in_ok-run.ensures.written) c.print_run_end_with_table.ensures

@@ -1,0 +1,9 @@
+pub mod Places
+pub mod Replied
+pub mod Hearing
+pub mod Ending
+pub mod Seated
+pub mod Whole
+pub mod Onward
+pub mod Serially
+pub mod Played

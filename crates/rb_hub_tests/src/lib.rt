@@ -1,0 +1,13 @@
+//! Tests of hubs over hosts in memory.
+#![tactic(auto)]
+
+#[cfg(test)]
+mod expected;
+#[cfg(test)]
+mod hosts;
+#[cfg(test)]
+mod limited;
+#[cfg(test)]
+mod rows;
+#[cfg(test)]
+mod streams;

@@ -1,0 +1,2 @@
+-- Lemmas on the changes that tests make.
+pub mod Bounded
