@@ -9,6 +9,7 @@ mod answers;
 mod batch_faults;
 #[cfg(test)]
 mod batches;
+mod carried_loops;
 #[cfg(test)]
 mod checks;
 #[cfg(test)]
