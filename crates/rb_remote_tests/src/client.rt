@@ -1,8 +1,10 @@
 // Tests of the client's run, over links that reply as they like.
 
 mod answers;
+pub mod changes;
 mod honest;
 mod hosts;
 mod misfits;
+mod others;
 mod replies;
 mod runs;

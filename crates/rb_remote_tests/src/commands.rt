@@ -6,6 +6,7 @@ mod events;
 mod failures;
 mod hostile;
 mod near_runs;
+mod others;
 mod pairs;
 mod replies;
 mod servers;

@@ -47,7 +47,7 @@ fn place_text(alloc: Global, program: &str, at: u32) -> Result<String, Fail> {
 }
 
 /// How the run of a program's text ended.
-fn run_text(alloc: Global, program: &str, run: &Run) -> Result<String, Fail> {
+pub fn run_text(alloc: Global, program: &str, run: &Run) -> Result<String, Fail> {
     let count = run.exchanges;
     let text = match &run.ending {
         Ending::Done(_) => format!(in alloc; "ok {count} done")?,

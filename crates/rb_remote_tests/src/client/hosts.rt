@@ -1,11 +1,15 @@
 // A host that is read from a text.
 
 ghost use Rattle.std.specs.Prelude.{IfOk};
+ghost use Rattle.rb_trees.specs.mirror.Services.{mirror_service};
+ghost use Rattle.rb_meaning.specs.Links.{IsTyped};
 ghost use Rattle.rb_session.specs.Answering.{IsTypedHost};
 
 use rb_code::classes_differ;
 use rb_exec::Host;
+use rb_heap::Heap;
 use rb_store::read_service;
+use rb_trees::Service;
 use std::alloc::Global;
 use std::test::Fail;
 
@@ -18,11 +22,18 @@ object 1: File { name = \"a\"; size = 10; }
 object 2: File { name = \"bb\"; size = 200; }
 root 0;";
 
+/// The service of that directory, and its table.
+pub fn files(alloc: Global) -> Result<(Service, Heap), Fail>
+    ensures { IfOk result (λ s. IsTyped (mirror_service s.0) s.1) }
+{
+    Ok(read_service(alloc, FILES)?)
+}
+
 /// The host of that directory.
 pub fn files_host(alloc: Global) -> Result<Host, Fail>
     ensures { IfOk result IsTypedHost }
 {
-    let (service, table) = read_service(alloc, FILES)?;
+    let (service, table) = files(alloc)?;
     if classes_differ(alloc, service.classes.as_slice())? {
         return Ok(Host::make(alloc, service, table)?);
     }

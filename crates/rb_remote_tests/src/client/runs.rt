@@ -5,16 +5,19 @@ ghost use Rattle.rb_law_division.specs.Sendable.{HasPlaces};
 ghost use Rattle.rb_flow.specs.Program.{HasNoRefusal};
 ghost use Rattle.rb_client.specs.Runs.{IsAcceptedWith};
 
-use crate::client::answers::answer_text;
+use crate::client::answers::{answer_text, run_text as ended_text};
 use rb_base::{Link, MemorySink, MemorySource};
 use rb_client::run_client;
+use rb_code::{Code, classes_differ};
 use rb_flow::{Admitted, admit};
+use rb_heap::Heap;
 use rb_law_reading::read_programs_have_places;
 use rb_marks::mark;
 use rb_parse::parse_program;
+use rb_plain::unsplit;
 use rb_session::FrameLink;
 use rb_split::split_all;
-use rb_trees::{Seq, Split};
+use rb_trees::{Change, Seq, Service, Split};
 use rb_types::{Typed, check};
 use std::alloc::Global;
 use std::fmt::Debug;
@@ -108,6 +111,71 @@ pub fn ran<L: Link>(
         failing,
     };
     run_text(alloc, &case, link)
+}
+
+/// The unsplit run of an admitted program on a service, where others make these changes, and what it printed.
+fn run_whole(
+    alloc: Global,
+    admitted: &Admitted<'_>,
+    text: &str,
+    service: &Service,
+    table: &mut Heap,
+    others: &Seq<Seq<Change>>,
+) -> Result<String, Fail> {
+    if !classes_differ(alloc, service.classes.as_slice())? {
+        return Err(Fail::new("two classes or methods have one name"));
+    }
+    let code = Code::make(alloc, &service.classes)?;
+    let mut out = MemorySink::make(alloc, Seq::new(alloc), usize::MAX);
+    let ended = match unsplit(
+        alloc,
+        admitted,
+        &code,
+        service.root,
+        table,
+        1000,
+        &mut out,
+        others,
+    ) {
+        Ok(run) => ended_text(alloc, text, &run)?,
+        Err(_) => return Err(Fail::new("the unsplit run was cut off")),
+    };
+    let lines = str::from_utf8(out.written())?;
+    Ok(format!(in alloc; "{ended}\n{lines}")?)
+}
+
+/// Marks and admits a typed program, and runs it unsplit.
+fn admit_whole(
+    alloc: Global,
+    typed: &Typed,
+    text: &str,
+    service: &Service,
+    table: &mut Heap,
+    others: &Seq<Seq<Change>>,
+) -> Result<String, Fail> {
+    let marks = mark(alloc, typed)?;
+    match admit(alloc, typed, marks) {
+        Ok(admitted) => run_whole(alloc, &admitted, text, service, table, others),
+        Err(_) => Err(Fail::new("the program isn't admitted")),
+    }
+}
+
+/// What the unsplit run of `main`, behind the interfaces, answers on a service, where others make these changes.
+pub fn ran_unsplit(
+    alloc: Global,
+    main: &str,
+    service: &Service,
+    table: &mut Heap,
+    others: &Seq<Seq<Change>>,
+) -> Result<String, Fail> {
+    let text = format!(in alloc; "{INTERFACES}{main}")?;
+    match parse_program(alloc, text.as_bytes()) {
+        Ok(program) => match check(alloc, program) {
+            Ok(typed) => admit_whole(alloc, &typed, text.as_str(), service, table, others),
+            Err(_) => Err(Fail::new("the program isn't typed")),
+        },
+        Err(_) => Err(Fail::new("the text isn't read")),
+    }
 }
 
 /// What `main` answers over a link that replies these bytes.

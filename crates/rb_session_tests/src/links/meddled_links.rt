@@ -131,72 +131,68 @@ fn expect_exchanges(
 
 #[test]
 fn a_request_finds_what_others_left(rt: HostRuntime) -> Result<(), Fail> {
-    expect_exchanges(
-        rt.alloc(),
+    let lists: &[&[Row<'_>]] = &[
+        &[(0, b"size", Given::Int(20))],
         &[
-            &[(0, b"size", Given::Int(20))],
-            &[
-                (0, b"name", Given::Text("bb")),
-                (0, b"open", Given::Bool(true)),
-            ],
-            &[],
-            // A refused request finds the change too, and leaves it.
-            &[(0, b"size", Given::Int(1)), (0, b"size", Given::Int(2))],
+            (0, b"name", Given::Text("bb")),
+            (0, b"open", Given::Bool(true)),
         ],
-        &[
-            (
-                GROW,
-                2,
-                b"object 0: File { name = \"a\"; size = 20; open = false; list = [1]; }\n",
-                b"object 0: File { name = \"a\"; size = 25; open = false; list = [1]; }\n",
-            ),
-            (
-                GROW,
-                2,
-                b"object 0: File { name = \"bb\"; size = 25; open = true; list = [1]; }\n",
-                b"object 0: File { name = \"bb\"; size = 30; open = true; list = [1]; }\n",
-            ),
-            (
-                GROW,
-                2,
-                b"object 0: File { name = \"bb\"; size = 30; open = true; list = [1]; }\n",
-                b"object 0: File { name = \"bb\"; size = 35; open = true; list = [1]; }\n",
-            ),
-            (
-                b"\x07",
-                3,
-                b"object 0: File { name = \"bb\"; size = 2; open = true; list = [1]; }\n",
-                b"object 0: File { name = \"bb\"; size = 2; open = true; list = [1]; }\n",
-            ),
-            // No list is left.
-            (
-                GROW,
-                2,
-                b"object 0: File { name = \"bb\"; size = 2; open = true; list = [1]; }\n",
-                b"object 0: File { name = \"bb\"; size = 7; open = true; list = [1]; }\n",
-            ),
-        ],
-    )
+        &[],
+        // A refused request finds the change too, and leaves it.
+        &[(0, b"size", Given::Int(1)), (0, b"size", Given::Int(2))],
+    ];
+    let rows: &[Exchanged<'_>] = &[
+        (
+            GROW,
+            2,
+            b"object 0: File { name = \"a\"; size = 20; open = false; list = [1]; }\n",
+            b"object 0: File { name = \"a\"; size = 25; open = false; list = [1]; }\n",
+        ),
+        (
+            GROW,
+            2,
+            b"object 0: File { name = \"bb\"; size = 25; open = true; list = [1]; }\n",
+            b"object 0: File { name = \"bb\"; size = 30; open = true; list = [1]; }\n",
+        ),
+        (
+            GROW,
+            2,
+            b"object 0: File { name = \"bb\"; size = 30; open = true; list = [1]; }\n",
+            b"object 0: File { name = \"bb\"; size = 35; open = true; list = [1]; }\n",
+        ),
+        (
+            b"\x07",
+            3,
+            b"object 0: File { name = \"bb\"; size = 2; open = true; list = [1]; }\n",
+            b"object 0: File { name = \"bb\"; size = 2; open = true; list = [1]; }\n",
+        ),
+        // No list is left.
+        (
+            GROW,
+            2,
+            b"object 0: File { name = \"bb\"; size = 2; open = true; list = [1]; }\n",
+            b"object 0: File { name = \"bb\"; size = 7; open = true; list = [1]; }\n",
+        ),
+    ];
+    expect_exchanges(rt.alloc(), lists, rows)
 }
 
 #[test]
 fn a_change_that_does_not_suit_the_table_is_skipped(rt: HostRuntime) -> Result<(), Fail> {
-    expect_exchanges(
-        rt.alloc(),
-        &[&[
-            (0, b"size", Given::Text("20")),
-            (0, b"size", Given::Bool(true)),
-            (0, b"name", Given::Int(20)),
-            (0, b"list", Given::Int(20)),
-            (0, b"date", Given::Int(20)),
-            (1, b"size", Given::Int(20)),
-            (0, b"open", Given::Bool(true)),
-        ]],
-        &[(
-            GROW,
-            2,
-            b"object 0: File { name = \"a\"; size = 10; open = true; list = [1]; }\n",
-            b"object 0: File { name = \"a\"; size = 15; open = true; list = [1]; }\n",
-        )],
-    )
+    let lists: &[&[Row<'_>]] = &[&[
+        (0, b"size", Given::Text("20")),
+        (0, b"size", Given::Bool(true)),
+        (0, b"name", Given::Int(20)),
+        (0, b"list", Given::Int(20)),
+        (0, b"date", Given::Int(20)),
+        (1, b"size", Given::Int(20)),
+        (0, b"open", Given::Bool(true)),
+    ]];
+    let rows: &[Exchanged<'_>] = &[(
+        GROW,
+        2,
+        b"object 0: File { name = \"a\"; size = 10; open = true; list = [1]; }\n",
+        b"object 0: File { name = \"a\"; size = 15; open = true; list = [1]; }\n",
+    )];
+    expect_exchanges(rt.alloc(), lists, rows)
 }
