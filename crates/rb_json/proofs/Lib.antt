@@ -1,0 +1,9 @@
+-- What reading and writing the form stands on.
+pub mod Inputs
+pub mod Back
+pub mod Looks
+pub mod Worded
+pub mod Blocks
+pub mod Whole
+pub mod Arrays
+pub mod Written
