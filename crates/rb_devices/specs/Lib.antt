@@ -1,1 +1,2 @@
 pub mod DialCounts
+pub mod StoreCounts

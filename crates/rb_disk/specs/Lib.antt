@@ -1,2 +1,4 @@
 pub mod Images
 pub mod MemoryDisks
+pub mod Storing
+pub mod MemoryStores

@@ -1,7 +1,8 @@
 // A disk in memory.
 
-ghost use Rattle.std.specs.Prelude.{◌≡◌, ◌-◌, false, length, take, drop, min, IfOk, OnOk};
+ghost use Rattle.std.specs.Prelude.{◌==◌, not, ◌≡◌, ◌-◌, false, length, take, drop, min, IfOk, OnOk};
 ghost use Rattle.rb_disk.specs.Images.{shown, Looks, Writes, Syncs};
+ghost use Rattle.rb_disk.specs.MemoryStores.{reopened_disk};
 ghost use Rattle.rb_disk.specs.MemoryDisks.{new_disk, seen_device, fails_next, CountsCall};
 
 use crate::disk::Disk;
@@ -68,6 +69,22 @@ impl MemoryDisk {
         ensures { result.now ≡ shown self.now.told }
     {
         self.bytes.as_slice()
+    }
+
+    /// Whether a call failed since the disk was made or opened.
+    pub fn has_failed(&self) -> bool
+        ensures { result ≡ not (self.now.faults == 0) }
+    {
+        self.faults != 0
+    }
+
+    /// The same disk, of which no call failed since now.
+    pub(crate) fn reopen(self) -> MemoryDisk
+        ensures { result ≡ reopened_disk self }
+    {
+        let mut disk = self;
+        disk.faults = 0;
+        disk
     }
 }
 

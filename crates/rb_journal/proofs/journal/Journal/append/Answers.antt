@@ -1,5 +1,5 @@
 use Rattle.std.proofs.Common.{◌∙◌}
-use Rattle.rb_journal.proofs.Kept.{stays, kept, moments, cut}
+use Rattle.rb_journal.proofs.Appended.{stays, kept, moments, cut}
 use Rattle.rb_journal.proofs.journal.Journal.append.Goals as goal
 
 pub returns-then-size-saturating_sub-clause-any_moment :
