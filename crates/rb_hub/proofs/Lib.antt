@@ -7,3 +7,14 @@ pub mod Whole
 pub mod Onward
 pub mod Serially
 pub mod Played
+pub mod Somewhere
+pub mod Dividing
+pub mod Written
+pub mod Last
+pub mod Passed
+pub mod SoFar
+pub mod ServedTo
+pub mod Pieces
+pub mod ServedHub
+pub mod Asked
+pub mod Linked

@@ -23,7 +23,7 @@ use Rattle.rb_hub.proofs.Replied.{gives_none}
 
 -- ---- refusals
 
-not_over : {A : Type 0} (hub : HubSeen A) (event : Event) → hub.over ≡ false → refusal_of hub event ≡ refusal_by hub event
+pub not_over : {A : Type 0} (hub : HubSeen A) (event : Event) → hub.over ≡ false → refusal_of hub event ≡ refusal_by hub event
 not_over hub event going = ap (λ b. if b then Some Over else refusal_by hub event) going
 
 numbers : {A : Type 0} (hub : HubSeen A) → nat_le most_sessions hub.opened ≡ true → refusal_by hub Open ≡ Some Numbers
@@ -56,7 +56,7 @@ refuses past (Close number) hub s = unknown_so number past hub.seats (session_of
 -- ---- whether a session more is opened
 
 -- an event that opens a session
-opens : {A : Type 0} (past : List Track) (hub : HubSeen A) → Stands past hub → refusal_by hub Open ≡ None → may_open past ≡ true
+pub opens : {A : Type 0} (past : List Track) (hub : HubSeen A) → Stands past hub → refusal_by hub Open ≡ None → may_open past ≡ true
 opens past hub s none =
     let opened = s.opened in
     let seats = counted 0 past hub.seats s.seated in
@@ -93,7 +93,7 @@ opens_not past hub refusal s some =
 
 -- ---- a session that is open
 
-heard_open : (piece : List ℕ) (t : Track) → t.is_open ≡ true → heard piece t ≡ record { stream = t.stream ++ piece; is_open = goes_on (t.stream ++ piece) }
+pub heard_open : (piece : List ℕ) (t : Track) → t.is_open ≡ true → heard piece t ≡ record { stream = t.stream ++ piece; is_open = goes_on (t.stream ++ piece) }
 heard_open piece t is = ap (λ b. if b then record { stream = t.stream ++ piece; is_open = goes_on (t.stream ++ piece) } else t) is
 
 heard_shut : (piece : List ℕ) (t : Track) → t.is_open ≡ false → heard piece t ≡ t

@@ -3,3 +3,9 @@ pub mod Serial
 pub mod Hubs
 pub mod Codes
 pub mod Standing
+pub mod Delivering
+pub mod Serving
+pub mod Passing
+pub mod HubLinks
+pub mod LinkCodes
+pub mod LinkStops

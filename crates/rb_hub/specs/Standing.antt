@@ -5,7 +5,7 @@ use Rattle.rb_meaning_frames.specs.Histories.{Event, Track, after, after_all, br
 use Rattle.rb_session.specs.Sessions.{SessionSeen, came}
 use Rattle.rb_session.specs.declared.answerers.Answers as answerers
 use Rattle.rb_hub.specs.Serial.{refusal_at, ComesOut, ComeOut, IsSerial}
-use Rattle.rb_hub.specs.Hubs.{HubSeen, GivesSome, StopsAt, Does, DoesPart, HaltsBy, refusal_of}
+use Rattle.rb_hub.specs.Hubs.{HubSeen, MayGoOn, GivesSome, StopsAt, Does, DoesPart, HaltsBy, refusal_of}
 use Rattle.rb_hub.specs.declared.events.Out.{Out}
 use Rattle.rb_hub.specs.declared.events.HubRefusal.{HubRefusal}
 use Rattle.rb_hub.specs.declared.events.HubStop.{HubStop}
@@ -41,6 +41,15 @@ pub record Stands {A : Type 0} (past : List Track) (hub : HubSeen A) : Type 0 wh
   pub opened : hub.opened ≡ length past
   pub seated : AreSeated 0 past hub.seats
   pub going : hub.over ≡ false
+
+-- There are sessions where the hub stands.
+abbrev pub StandsSomewhere : {A : Type 0} → HubSeen A → Type 0
+StandsSomewhere hub = (past : List Track) × Stands past hub
+
+-- Whoever answers may be asked, the sessions are open, and the hub stands somewhere.
+pub record GoesOnSomewhere {A X : Type 0} (a : answerers.Ghosts A X) (hub : HubSeen A) : Type 0 where
+  pub may : MayGoOn a hub.answers hub.seats
+  pub stands : StandsSomewhere hub
 
 -- ---- one event
 

@@ -1,10 +1,11 @@
 // A hub: many sessions at once.
 
-ghost use Rattle.std.specs.Prelude.{◌≡◌, false};
+ghost use Rattle.std.specs.Prelude.{◌≡◌, ◌<◌, ◌∷◌, [], None, true, false};
 
-use crate::events::{Event, HubRefusal, HubStop, Out};
-use crate::performing::perform;
-use crate::seats::{Seat, unknown};
+use crate::events::{End, Event, HubRefusal, HubStop, Out};
+use crate::performing::{perform, shut_session};
+use crate::runs::each_step_goes_on;
+use crate::seats::{Seat, place_of, unknown};
 use rb_session::Answers;
 use rb_trees::Seq;
 use std::alloc::Global;
@@ -31,7 +32,8 @@ pub struct Hub<A: Answers> {
 impl<A: Answers> Model for Hub<A> {
     ghost use Rattle.std.specs.Prelude.{◌≡◌, false};
     ghost use Rattle.rb_hub.specs.Codes.{hub_code};
-    ghost use Rattle.rb_hub.specs.Hubs.{HubSeen, MayGoOn};
+    ghost use Rattle.rb_hub.specs.Hubs.{HubSeen, hub_of};
+    ghost use Rattle.rb_hub.specs.Standing.{GoesOnSomewhere};
 
     ghost Value = { HubSeen A };
 
@@ -44,12 +46,15 @@ impl<A: Answers> Model for Hub<A> {
       over = it.over;
     } };
 
-    ghost invariant = { λ it. it.over ≡ false → MayGoOn A.Answers it.answers it.seats.items };
+    ghost invariant = { λ it. it.over ≡ false → GoesOnSomewhere A.Answers (hub_of it.answers it.opened it.seats.items) };
 }
 
 impl<A: Answers> Hub<A> {
+    ghost use Rattle.rb_meaning_frames.specs.Histories.{Close};
+    ghost use Rattle.rb_hub.specs.declared.events.Out.{Out};
     ghost use Rattle.rb_hub.specs.Serial.{as_event};
-    ghost use Rattle.rb_hub.specs.Hubs.{new_hub, refusal_of, refused_by, Steps};
+    ghost use Rattle.rb_hub.specs.Hubs.{new_hub, refusal_of, refused_by, Does, Steps};
+    ghost use Rattle.rb_hub.specs.Standing.{StandsSomewhere};
 
     /// No session was opened yet. Takes no memory.
     pub fn make(alloc: Global, answers: A) -> Hub<A>
@@ -78,6 +83,31 @@ impl<A: Answers> Hub<A> {
         ensures ready { self.over ≡ false → A.ready result }
     {
         self.answers
+    }
+
+    /// How many sessions were opened, which is the number of the next one.
+    pub fn opened(&self) -> u64
+        ensures { result ≡ self.now.opened }
+    {
+        self.opened
+    }
+
+    /// How many bytes to read for an open session at most, so that no read goes beyond the request at hand. It is at least one.
+    pub fn lacks(&self, number: u32) -> u64
+        ensures { 0 < result }
+    {
+        match place_of(self.seats.as_slice(), number) {
+            Some(place) => self.seats[place].session.lacks().max(1),
+            None => 1,
+        }
+    }
+
+    /// A hub that isn't over stands where some sessions are, and whoever answers may be asked. It takes no memory and does nothing.
+    pub fn stands_somewhere(&self)
+        ensures stands { self.now.over ≡ false → StandsSomewhere self.now }
+        ensures ready { self.now.over ≡ false → A.ready self.now.answers }
+    {
+        let _ = &self.over;
     }
 
     /// Why an event is refused, if it is.
@@ -123,7 +153,26 @@ impl<A: Answers> Hub<A> {
             event,
             outs,
         );
+        each_step_goes_on::<A>();
         self.over = answer.is_err();
         answer
+    }
+
+    /// Closes an open session as a step by `Close` does, and says after how many requests and how it ends. It takes no memory.
+    pub fn close(&mut self, number: u32) -> (u64, End)
+        requires { refusal_of self.old (Close number) ≡ None }
+        ensures going { self.new.over ≡ false }
+        ensures closes { Does A.Answers (Close number) self.old self.new (Out.Ended number result.0 result.1 ∷ []) }
+        ensures same { self.new.answers ≡ self.old.answers }
+    {
+        each_step_goes_on::<A>();
+        shut_session(&mut self.seats, number)
+    }
+
+    /// Refuses all events from now on.
+    pub(crate) fn end(&mut self)
+        ensures { self.new ≡ record self.old { over = true } }
+    {
+        self.over = true;
     }
 }

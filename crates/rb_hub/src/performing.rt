@@ -79,6 +79,23 @@ fn end_session(
     Ok(())
 }
 
+/// Closes a session, and says after how many requests and how it ends. It takes no memory.
+pub fn shut_session(seats: &mut Vec<Seat>, number: u32) -> (u64, End)
+    requires found { IsSome (session_of number seats.old.items) }
+    requires seats { All IsOpen seats.old.items }
+    ensures closes { let given = Out.Ended number result.0 result.1 ∷ [] in
+        DoesClose number seats.old.items seats.new.items given }
+    ensures kept { All IsOpen seats.new.items }
+{
+    let Some(place) = place_of(seats.as_slice(), number) else {
+        unreachable!()
+    };
+    let session = &seats[place].session;
+    let ended = (session.requests(), close_of(session));
+    seats.remove(place);
+    ended
+}
+
 /// Closes a session.
 fn close_session(seats: &mut Vec<Seat>, number: u32, outs: &mut Seq<Out>) -> Result<(), Memory>
     requires found { IsSome (session_of number seats.old.items) }
@@ -88,11 +105,9 @@ fn close_session(seats: &mut Vec<Seat>, number: u32, outs: &mut Seq<Out>) -> Res
     ensures err { OnErr result (outs.new ≡ outs.old) }
     ensures kept { OnOk result (All IsOpen seats.new.items) }
 {
-    let Some(place) = place_of(seats.as_slice(), number) else {
-        unreachable!()
-    };
-    let end = close_of(&seats[place].session);
-    end_session(seats, place, number, end, outs)
+    let (requests, end) = shut_session(seats, number);
+    outs.push(Out::Ended(number, requests, end))?;
+    Ok(())
 }
 
 /// How a session ends that took a piece with this answer, if it does.

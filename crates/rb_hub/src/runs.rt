@@ -1,6 +1,6 @@
 // Whole runs of a hub.
 
-ghost use Rattle.std.specs.Prelude.{◌≡◌, map, IfErr, OnOk};
+ghost use Rattle.std.specs.Prelude.{◌≡◌, true, map, IfErr, OnOk, OnErr};
 ghost use Rattle.rb_hub.specs.Hubs.{new_hub, IsStop};
 ghost use Rattle.rb_hub.specs.Serial.{as_event};
 ghost use Rattle.rb_hub.specs.Standing.{EachGoesOn, PlaysOne, PlaysAll, PlaysSerially};
@@ -32,6 +32,8 @@ pub fn play_one<A: Answers>(
 ) -> Result<Option<HubRefusal>, HubStop<A::Stop>>
     ensures plays { PlaysOne A.Answers (as_event event) hub.old hub.new outs.old outs.new result }
     ensures stops { IfErr result IsStop }
+    // The hub is over then.
+    ensures over { OnErr result (hub.new.over ≡ true) }
     ensures service { A.service hub.new.answers ≡ A.service hub.old.answers }
 {
     each_step_goes_on::<A>();

@@ -8,6 +8,10 @@ mod hosts;
 #[cfg(test)]
 mod limited;
 #[cfg(test)]
+mod links;
+#[cfg(test)]
 mod rows;
+#[cfg(test)]
+mod serving;
 #[cfg(test)]
 mod streams;

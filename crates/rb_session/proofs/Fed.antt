@@ -2,6 +2,7 @@
 use Rattle.std.proofs.Common.{◌≡◌, ℕ, ◌+◌, ◌-◌, ◌≤◌, List, ◌++◌, length, take, drop, Option, None, Some, Result, Ok, Err, refl, ap, sym, ◌∙◌, subst, arith, append_assoc, length-append}
 use Rattle.std.specs.Prelude.{IfOk}
 use Rattle.std.proofs.lemmas.List.{length-take, length-drop}
+use Rattle.rb_trees.specs.mirror.Services.{mirror_service}
 use Rattle.rb_trees.specs.declared.want.Memory as wants
 use Rattle.rb_meaning.specs.Replies.{header_length}
 use Rattle.rb_meaning_frames.specs.Streams.{most_requests, BeginsWhole}
@@ -199,5 +200,5 @@ goes_on host between after before mid now piece next replies more same a b = rec
 
 -- what was taken in all
 pub goes_takes : (host after : Hosted) (before now : SessionSeen) (piece replies : List ℕ) → (g : Goes host after before now piece replies)
-    → Takes host after (before.rest ++ piece) now.rest (length g.payloads) replies
+    → Takes (mirror_service host.service) host.table after.table (before.rest ++ piece) now.rest (length g.payloads) replies
 goes_takes host after before now piece replies g = record { payloads = g.payloads; cuts = g.cuts.cuts; count_is = refl; answers = g.answers }

@@ -2,6 +2,7 @@
 use Rattle.std.proofs.Common.{◌≡◌, ℕ, ◌+◌, ◌*◌, ◌<◌, List, [], ◌++◌, length, take, Option, None, Some, Result, Ok, Err, refl, ap, sym, ◌∙◌, subst, arith, append_assoc, append-nil, zero-add, length-append, mul-le-mul_right, inl, inr}
 use Rattle.std.proofs.Math.Seq.{take-append-add}
 use Rattle.std.proofs.lemmas.Bool.{cases_lt}
+use Rattle.rb_trees.specs.mirror.Services.{mirror_service}
 use Rattle.rb_base.specs.Devices.{Device, failed}
 use Rattle.rb_base.specs.Sinks.{told_more, with_bytes, WrotePrefix}
 use Rattle.rb_base.specs.Sources.{told_before, before_giving, IsAtEnd}
@@ -13,7 +14,7 @@ use Rattle.rb_session.specs.declared.serving.ServeCause.{ServeCause}
 use Rattle.rb_session.specs.declared.serving.ServeCause.TheVariants.{ReadFault, WriteFault, Cut, BadFrame, SessionSpent, Memory}
 use Rattle.rb_session.specs.Taking.{longest_frame, Takes}
 use Rattle.rb_session.specs.Sessions.{SessionSeen, new_session, came, IsBounded, Goes}
-use Rattle.rb_session.specs.Serving.{Ends, Wrote, with_read_fault, StopsBy}
+use Rattle.rb_session.specs.Serving.{Ends, host_ends, Wrote, StopsBy}
 use Rattle.rb_session.specs.Pieces.{serving, WritesReplies, ServesPiece, EndsSo, ServesTo}
 use Rattle.rb_session.proofs.Streamed.{cuts_none}
 use Rattle.rb_session.proofs.Fed.{goes_on, goes_takes}
@@ -58,15 +59,27 @@ front_behind d after xs ys w = record {
 
 -- ---- so far
 
+-- the two ends of a session, and the host that answers in it
+pub record HostEnds : Type 0 where
+  pub host : Hosted
+  pub source : Device (List ℕ)
+  pub sink : Device (List ℕ)
+
+abbrev pub with_host : Hosted → Device (List ℕ) → Device (List ℕ) → HostEnds
+with_host host source sink = record { host = host; source = source; sink = sink }
+
+abbrev pub seen : HostEnds → Ends
+seen e = host_ends e.host e.source e.sink
+
 -- The source gave some bytes, the session answered the requests in them, and the replies were written.
-pub record SoServed (before now : Ends) (t : SessionSeen) : Type 0 where
+pub record SoServed (before now : HostEnds) (t : SessionSeen) : Type 0 where
   pub given : List ℕ
   pub replies : List ℕ
   pub gave : before.source ≡ before_giving given now.source
   pub goes : Goes before.host now.host new_session t given replies
   pub wrote : now.sink ≡ with_bytes before.sink replies
 
-pub none_served : (before : Ends) (t : SessionSeen) → t ≡ new_session → SoServed before before t
+pub none_served : (before : HostEnds) (t : SessionSeen) → t ≡ new_session → SoServed before before t
 none_served before t is = record {
   given = [];
   replies = [];
@@ -81,7 +94,7 @@ none_served before t is = record {
 }
 
 -- a piece more
-pub piece_served : (before now after : Ends) (s t : SessionSeen) (piece : List ℕ) (Says : Type 0) → now.host.service ≡ before.host.service → SoServed before now s
+pub piece_served : (before now after : HostEnds) (s t : SessionSeen) (piece : List ℕ) (Says : Type 0) → now.host.service ≡ before.host.service → SoServed before now s
     → now.source ≡ before_giving piece after.source → WritesReplies (serving now.host s now.sink) (serving after.host t after.sink) piece Says → SoServed before after t
 piece_served before now after s t piece Says same so gave w = record {
   given = so.given ++ piece;
@@ -94,13 +107,13 @@ piece_served before now after s t piece Says same so gave w = record {
 -- ---- how it ends
 
 -- what a new session has taken
-taken_all : (host after : Hosted) (t : SessionSeen) (given replies : List ℕ) → Goes host after new_session t given replies → Takes host after given t.rest t.requests replies
+taken_all : (host after : Hosted) (t : SessionSeen) (given replies : List ℕ) → Goes host after new_session t given replies → Takes (mirror_service host.service) host.table after.table given t.rest t.requests replies
 taken_all host after t given replies g =
-    subst (λ n. Takes host after given t.rest n replies) (sym (g.cuts.requests ∙ zero-add (length g.payloads))) (goes_takes host after new_session t given replies g)
+    subst (λ n. Takes (mirror_service host.service) host.table after.table given t.rest n replies) (sym (g.cuts.requests ∙ zero-add (length g.payloads))) (goes_takes host after new_session t given replies g)
 
 -- what was served in all, where this is to be said of the rest
-wrote_all : (before after : Ends) (t : SessionSeen) (Says : List ℕ → List ℕ → Type 0) → (so : SoServed before after t) → Says so.given t.rest
-    → Wrote before after t.requests Says
+wrote_all : (before after : HostEnds) (t : SessionSeen) (Says : List ℕ → List ℕ → Type 0) → (so : SoServed before after t) → Says so.given t.rest
+    → Wrote (seen before) (seen after) t.requests Says
 wrote_all before after t Says so says = record {
   given = so.given;
   rest = t.rest;
@@ -114,10 +127,10 @@ wrote_all before after t Says so says = record {
 }
 
 -- a read that failed
-pub read_failed : (before now after : Ends) (t : SessionSeen) → SoServed before now t → Waits t.rest → after.host ≡ now.host → after.sink ≡ now.sink → after.source ≡ failed now.source
-    → StopsBy before after t.requests ReadFault
+pub read_failed : (before now after : HostEnds) (t : SessionSeen) → SoServed before now t → Waits t.rest → after.host ≡ now.host → after.sink ≡ now.sink → after.source ≡ failed now.source
+    → StopsBy (seen before) (seen after) t.requests ReadFault
 read_failed before now after t so waits host sink source =
-    wrote_all (with_read_fault before) after t (λ given rest. Waits rest)
+    wrote_all (record before { source = failed before.source }) after t (λ given rest. Waits rest)
     (record {
       given = so.given;
       replies = so.replies;
@@ -128,12 +141,12 @@ read_failed before now after t so waits host sink source =
     waits
 
 -- how many bytes came
-given_came : (before now : Ends) (t : SessionSeen) (so : SoServed before now t) → came t ≡ length so.given
+given_came : (before now : HostEnds) (t : SessionSeen) (so : SoServed before now t) → came t ≡ length so.given
 given_came before now t so = let is = so.goes.cuts.came_is in omega arith
 
 -- the end of the source
-pub source_ended : (before now after : Ends) (t : SessionSeen) (buffer : List ℕ) (answer : Result Unit ServeCause) → SoServed before now t → EndsSo t answer
-    → after.host ≡ now.host → after.sink ≡ now.sink → now.source ≡ before_giving (take 0 buffer) after.source → IsAtEnd now.source.told → ServesTo before after t.requests answer
+pub source_ended : (before now after : HostEnds) (t : SessionSeen) (buffer : List ℕ) (answer : Result Unit ServeCause) → SoServed before now t → EndsSo t answer
+    → after.host ≡ now.host → after.sink ≡ now.sink → now.source ≡ before_giving (take 0 buffer) after.source → IsAtEnd now.source.told → ServesTo (seen before) (seen after) t.requests answer
 source_ended before now after t buffer answer so how host sink source end = go answer how
   where
     served : SoServed before after t
@@ -148,7 +161,7 @@ source_ended before now after t buffer answer so how host sink source end = go a
     at_end : IsAtEnd after.source.told
     at_end = subst IsAtEnd (ap (λ d. d.told) (source ∙ sym (gave_nothing after.source))) end
 
-    go : (answer : Result Unit ServeCause) → EndsSo t answer → ServesTo before after t.requests answer
+    go : (answer : Result Unit ServeCause) → EndsSo t answer → ServesTo (seen before) (seen after) t.requests answer
     go (Ok u) how = wrote_all before after t (λ given rest. IsAtEnd after.source.told × (rest ≡ [])) served (at_end, how)
     go (Err (Cut at)) how =
         wrote_all before after t (λ given rest. IsAtEnd after.source.told × IsCutRequest rest × (at ≡ length given)) served
@@ -160,8 +173,8 @@ source_ended before now after t buffer answer so how host sink source end = go a
     go (Err Memory) how = absurd how
 
 -- a piece with which it stopped
-pub stopped : (before now after : Ends) (s t : SessionSeen) (piece : List ℕ) (cause : ServeCause) → now.host.service ≡ before.host.service → SoServed before now s
-    → now.source ≡ before_giving piece after.source → ServesPiece (serving now.host s now.sink) (serving after.host t after.sink) piece (Err cause) → StopsBy before after t.requests cause
+pub stopped : (before now after : HostEnds) (s t : SessionSeen) (piece : List ℕ) (cause : ServeCause) → now.host.service ≡ before.host.service → SoServed before now s
+    → now.source ≡ before_giving piece after.source → ServesPiece (serving now.host s now.sink) (serving after.host t after.sink) piece (Err cause) → StopsBy (seen before) (seen after) t.requests cause
 stopped before now after s t piece ReadFault same so gave w = absurd w
 stopped before now after s t piece (Cut at) same so gave w = absurd w
 stopped before now after s t piece WriteFault same so gave w =
@@ -207,7 +220,7 @@ came_below t waits bounded =
     omega arith
 
 -- the same with the count that was read
-pub ended_at : (before now after : Ends) (t : SessionSeen) (buffer : List ℕ) (count : ℕ) (answer : Result Unit ServeCause) → count ≡ 0 → SoServed before now t → EndsSo t answer
-    → after.host ≡ now.host → after.sink ≡ now.sink → now.source ≡ before_giving (take count buffer) after.source → IsAtEnd now.source.told → ServesTo before after t.requests answer
+pub ended_at : (before now after : HostEnds) (t : SessionSeen) (buffer : List ℕ) (count : ℕ) (answer : Result Unit ServeCause) → count ≡ 0 → SoServed before now t → EndsSo t answer
+    → after.host ≡ now.host → after.sink ≡ now.sink → now.source ≡ before_giving (take count buffer) after.source → IsAtEnd now.source.told → ServesTo (seen before) (seen after) t.requests answer
 ended_at before now after t buffer count answer none so how host sink source end =
     source_ended before now after t buffer answer so how host sink (subst (λ n. now.source ≡ before_giving (take n buffer) after.source) none source) end

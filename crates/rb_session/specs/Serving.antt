@@ -1,5 +1,7 @@
--- What serving a session does to its two ends and to the host.
+-- What serving a session does to its two ends and to the table of whoever answers.
 use Rattle.std.specs.Prelude.{◌≡◌, ◌⊎◌, ℕ, ◌+◌, ◌≤◌, List, [], length, Result, Ok, Err}
+use Rattle.rb_trees.specs.declared.services.Object.{Object}
+use Rattle.rb_trees.specs.mirror.Services.{Service, mirror_service}
 use Rattle.rb_base.specs.Devices.{Device, failed}
 use Rattle.rb_base.specs.Sinks.{with_bytes, WrotePrefix}
 use Rattle.rb_base.specs.Sources.{before_giving, IsAtEnd}
@@ -11,20 +13,25 @@ use Rattle.rb_session.specs.declared.serving.ServeCause.{ServeCause}
 use Rattle.rb_session.specs.declared.serving.ServeCause.TheVariants.{ReadFault, WriteFault, Cut, BadFrame, SessionSpent, Memory}
 use Rattle.rb_session.specs.Taking.{Takes}
 
--- The two ends of a session and its host, before and after: what the source tells, what the sink tells, and the host.
+-- The two ends of a session, and the service and the table of whoever answers in it.
 pub record Ends : Type 0 where
-  pub host : Hosted
+  pub service : Service
+  pub table : List Object
   pub source : Device (List ℕ)
   pub sink : Device (List ℕ)
 
-abbrev pub ends : Hosted → Device (List ℕ) → Device (List ℕ) → Ends
-ends host source sink = record { host = host; source = source; sink = sink }
+abbrev pub ends : Service → List Object → Device (List ℕ) → Device (List ℕ) → Ends
+ends service table source sink = record { service = service; table = table; source = source; sink = sink }
+
+-- the same where a host answers
+abbrev pub host_ends : Hosted → Device (List ℕ) → Device (List ℕ) → Ends
+host_ends host source sink = ends (mirror_service host.service) host.table source sink
 
 -- The source gave some bytes. So many requests that they are whole frames of were answered in order, and these are the frames
 -- of their replies.
 pub record Took (before after : Ends) (given rest : List ℕ) (requests : ℕ) (replies : List ℕ) : Type 0 where
   pub gave : before.source ≡ before_giving given after.source
-  pub takes : Takes before.host after.host given rest requests replies
+  pub takes : Takes before.service before.table after.table given rest requests replies
 
 -- All whole frames were taken: what follows them begins no whole one, or no more may be answered.
 abbrev pub IsLast : ℕ → List ℕ → Type 0

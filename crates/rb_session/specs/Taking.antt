@@ -1,6 +1,7 @@
 -- Requests that are taken from a stream, and what becomes of them: they are answered in order, or gathered.
 use Rattle.std.specs.Prelude.{◌≡◌, ℕ, ◌+◌, ◌*◌, ◌≤◌, All, List, ◌++◌, length, drop}
-use Rattle.rb_trees.specs.mirror.Services.{mirror_service}
+use Rattle.rb_trees.specs.declared.services.Object.{Object}
+use Rattle.rb_trees.specs.mirror.Services.{Service, mirror_service}
 use Rattle.rb_meaning.specs.Answers.{longest_request}
 use Rattle.rb_meaning.specs.Replies.{header_length}
 use Rattle.rb_meaning_frames.specs.Frames.{frame_bytes}
@@ -26,12 +27,13 @@ pub record Cuts (bytes rest : List ℕ) (payloads : List (List ℕ)) : Type 0 wh
 abbrev pub RepliesOn : Hosted → Hosted → List (List ℕ) → List ℕ → Type 0
 RepliesOn before after payloads replies = RepliesTo (mirror_service before.service) before.table payloads replies after.table
 
--- The bytes are the frames of so many requests, and a rest, and the requests are answered so.
-pub record Takes (before after : Hosted) (bytes rest : List ℕ) (count : ℕ) (replies : List ℕ) : Type 0 where
+-- The bytes are the frames of so many requests, and a rest. A service with the first table answers these requests in order, with
+-- these frames of replies, and has the second table then.
+pub record Takes (service : Service) (before after : List Object) (bytes rest : List ℕ) (count : ℕ) (replies : List ℕ) : Type 0 where
   pub payloads : List (List ℕ)
   pub cuts : Cuts bytes rest payloads
   pub count_is : count ≡ length payloads
-  pub answers : RepliesOn before after payloads replies
+  pub answers : RepliesTo service before payloads replies after
 
 -- The buffer has gained the frame of the reply to the payload.
 pub record GainsReply (before after : Hosted) (payload old new : List ℕ) : Type 0 where

@@ -32,7 +32,7 @@ pub use dials::{Dial, DialStop};
 pub use exchanges::Exchange;
 pub use failing_link::FailingLink;
 pub use frame_link::FrameLink;
-pub use frames::{fill_room, frame_header, leave_room};
+pub use frames::{fill_room, frame_header, leave_room, put_frame};
 pub use laws::{each_payload_has_one_answer, sessions_are_fed_anywhere};
 pub use meddled_link::MeddledLink;
 pub use memory_dial::MemoryDial;

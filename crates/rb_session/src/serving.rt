@@ -7,7 +7,7 @@ ghost use Rattle.rb_meaning_frames.specs.Streams.{Waits};
 ghost use Rattle.rb_session.specs.Answering.{IsTypedHost};
 ghost use Rattle.rb_session.specs.Sessions.{new_session, IsBounded};
 ghost use Rattle.rb_session.specs.Receiving.{lacking};
-ghost use Rattle.rb_session.specs.Serving.{ends, Serves, UnlessServedMemory};
+ghost use Rattle.rb_session.specs.Serving.{host_ends, Serves, UnlessServedMemory};
 ghost use Rattle.rb_session.specs.Pieces.{serving, WritesThen, ServesPiece, EndsSo, ServesTo, UnlessErrMemory};
 
 use crate::sessions::{Session, SessionStop};
@@ -71,8 +71,8 @@ pub fn serve<S: Source, K: Sink>(
     sink: &mut K,
 ) -> Result<Served, ServeStop>
     requires { IsTypedHost host.old }
-    ensures serves { let before = ends host.old (device S.told S.faults source.old) (device K.told K.faults sink.old) in
-        let after = ends host.new (device S.told S.faults source.new) (device K.told K.faults sink.new) in
+    ensures serves { let before = host_ends host.old (device S.told S.faults source.old) (device K.told K.faults sink.old) in
+        let after = host_ends host.new (device S.told S.faults source.new) (device K.told K.faults sink.new) in
         Serves before after result }
     ensures typed { UnlessServedMemory result (IsTypedHost host.new) }
     ensures service { host.new.service ≡ host.old.service }
@@ -105,8 +105,8 @@ fn serve_pieces<S: Source, K: Sink>(
     requires new { session.old ≡ new_session }
     requires room { 0 < length buffer.old }
     requires typed { IsTypedHost host.old }
-    ensures serves { let before = ends host.old (device S.told S.faults source.old) (device K.told K.faults sink.old) in
-        let after = ends host.new (device S.told S.faults source.new) (device K.told K.faults sink.new) in
+    ensures serves { let before = host_ends host.old (device S.told S.faults source.old) (device K.told K.faults sink.old) in
+        let after = host_ends host.new (device S.told S.faults source.new) (device K.told K.faults sink.new) in
         ServesTo before after session.new.requests result }
     ensures typed { UnlessErrMemory result (IsTypedHost host.new) }
     ensures service { host.new.service ≡ host.old.service }

@@ -109,9 +109,8 @@ impl Session {
     /// that has no more makes one request whole at most.
     #[tactic(auto, using(crate::proofs::OneRequest::lacks_some))]
     pub fn lacks(&self) -> u64
-        requires { Waits self.now.rest }
         ensures count { result ≡ lacking self.now.rest }
-        ensures some { 0 < result }
+        ensures some { Waits self.now.rest → 0 < result }
     {
         lacking(self.rest.as_slice())
     }
