@@ -10,7 +10,7 @@ use std::rt::Files;
 use std::{fs, io, str};
 
 /// The commands, whose words single spaces part. What has a `.` in it names a file.
-const COMMANDS: [&str; 21] = [
+const COMMANDS: [&str; 22] = [
     "both large.rbi files.rbs",
     "unsplit large.rbi files.rbs",
     "split large.rbi",
@@ -32,6 +32,7 @@ const COMMANDS: [&str; 21] = [
     "both trying_mended.rbi files.rbs",
     "check variable.rbi",
     "both variable_mended.rbi files.rbs",
+    "hub hub.events files.rbs",
 ];
 
 fn main(rt: HostRuntime) -> io::Result<()> {

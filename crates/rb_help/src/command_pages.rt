@@ -31,6 +31,9 @@ const FUEL: &[u8] =
 
 const COUNT: &[u8] = b"  COUNT    how many clients are served: a number from 1 to 1000000\n";
 
+const EVENTS: &[u8] =
+    b"  EVENTS   the file of the events, one a line: `open`, `piece K HEX` or `close K`\n";
+
 const FILES: &[u8] = b"  N        how many files the service has: a number from 1 to 10000\n";
 
 // Statuses.
@@ -40,6 +43,8 @@ const ACCEPTED: &[u8] = b"  0   the program is accepted\n";
 const RAN: &[u8] = b"  0   the program ran to its end\n";
 
 const SERVED: &[u8] = b"  0   all clients were served, or all that came\n";
+
+const PLAYED: &[u8] = b"  0   all events were played\n";
 
 const FAULTED: &[u8] = b"  1   the program ended by a fault\n";
 
@@ -67,9 +72,11 @@ const NO_LISTENER: &[u8] = b"  12  the address can't be listened on, or gets no 
 
 const LONG_FILE: &[u8] = b"  13  a file has more than 1048576 bytes\n";
 
+const NO_EVENT: &[u8] = b"  14  a line of the events isn't of their form\n";
+
 /// The pages of all commands.
-pub static COMMANDS: [CommandPage; 9] = [
-    CHECK, SPLIT, UNSPLIT, BOTH, RUN, PAIR, SERVE, CHILD, TRIAL,
+pub static COMMANDS: [CommandPage; 10] = [
+    CHECK, SPLIT, UNSPLIT, BOTH, RUN, PAIR, SERVE, CHILD, HUB, TRIAL,
 ];
 
 const CHECK: CommandPage = CommandPage {
@@ -221,6 +228,20 @@ const CHILD: CommandPage = CommandPage {
     words: &[SERVICE],
     statuses: &[SERVED, NO_FILE, NO_SERVICE, NO_MEMORY, LONG_FILE],
     example: b"child examples/files.rbs",
+};
+
+const HUB: CommandPage = CommandPage {
+    name: "hub",
+    form: b"hub EVENTS SERVICE",
+    counts: (2, 2),
+    does: b"It plays what the clients of a server send, in the order of a file, each in pieces and all interleaved.
+Of each event it prints what comes out, or why it is refused, and at the end the table of the service's objects.
+A piece is written as two digits for each byte, with lower-case letters.\n",
+    words: &[EVENTS, SERVICE],
+    statuses: &[
+        PLAYED, NO_FILE, NO_SERVICE, NO_OUTPUT, NO_MEMORY, LONG_FILE, NO_EVENT,
+    ],
+    example: b"hub examples/hub.events examples/files.rbs",
 };
 
 const TRIAL: CommandPage = CommandPage {

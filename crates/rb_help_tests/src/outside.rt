@@ -58,6 +58,7 @@ const USAGE: &str = "The commands, where P is the file of a program and S that o
   pair P S [FUEL]        run P, and S beside it in a child process
   serve ADDRESS S COUNT  serve S at ADDRESS to COUNT clients, one after the other
   child S                serve S to one client over standard input and output
+  hub E S                play the events of many clients, which stand in the file E, on S
   trial N                run a program of its own on a service of its own with N files
 FUEL is how many calls and turns of loops the program may make, 1000000 where it is left out.
 ADDRESS is a host and a port, such as 127.0.0.1:4000. COUNT is 1 to 1000000, and N is 1 to 10000.
@@ -94,7 +95,7 @@ const WORDS: [(&str, &str); 19] = [
     ("check -h", CHECK),
     (
         "--version",
-        "Lunguepo 1.0.0, whose messages are of version 1.\n",
+        "Lunguepo 1.0.0, whose messages are of versions 1 and 2.\n",
     ),
     (
         "chek a.rbi",

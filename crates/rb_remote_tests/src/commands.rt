@@ -5,6 +5,7 @@ mod commands;
 mod events;
 mod failures;
 mod hostile;
+mod hubs;
 mod near_runs;
 mod others;
 mod pairs;

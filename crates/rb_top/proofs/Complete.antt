@@ -13,14 +13,14 @@ use Rattle.rb_session.specs.declared.dials.DialStop.TheVariants as dials
 use Rattle.rb_session.specs.declared.targets.Target.{Target}
 use Rattle.rb_session.specs.declared.targets.Target.TheVariants as targets
 use Rattle.rb_top.specs.Answers as answers
-use Rattle.rb_top.specs.Answers.{EndsRun, Goes, RunsBy, SaysOfProgram, Says, Tries, once_read}
+use Rattle.rb_top.specs.Answers.{EndsRun, Goes, RunsBy, SaysOfProgram, Says, Tries}
 use Rattle.rb_top.specs.Completeness.{CallsTold, ChecksTold, DialsHonest, EndsFar, IsNear, EndsCounted, PairsTold, RunsTold, SplitsTold, ToldAccepted, ToldRun, ToldService, TrialsTold}
 use Rattle.rb_top.specs.DialRuns.{Dials, RunsInMemory, not_dialled, ran_in_memory, ran_over_link, starved_dialling, starved_for_link}
 use Rattle.rb_top.specs.Ends as ends
 use Rattle.rb_top.specs.Ends.{Ends, Tells}
 use Rattle.rb_top.specs.LinkRuns.{run_end_with_count, run_end_with_table}
 use Rattle.rb_top.specs.Runs.{Served}
-use Rattle.rb_top.specs.Scene.{Scene, Outside}
+use Rattle.rb_top.specs.Scene.{Scene, Outside, once_read}
 use Rattle.rb_top.specs.Texts.{IsProgram, IsService}
 use Rattle.rb_top.specs.Trials.{asked_in_trial, trial_files, trial_program, trial_service}
 use Rattle.rb_top.specs.Unusable.{NoProgram, NoService}
@@ -53,11 +53,6 @@ abbrev service_of : Asked → List ℕ
 service_of (Run way p s fuel) = s
 service_of a = []
 
-one_wanted : (a b : Asked) (w : Option Wanted) → w ≡ Some (OfProgram a) → w ≡ Some (OfProgram b) → a ≡ b
-one_wanted a b w e f =
-    let both = sym e ∙ f in
-    cc both
-
 module _ {L : Type 0} (g : links.Ghosts L) where
   -- What is said of a program that is told: memory was wanting before anything was said, or what was asked of it went on.
   of_told : OneSource → (a : Asked) (text : List ℕ) (program : Program) (result : Status) (dial dial' : DialSeen L) (before after : Scene) → ToldAccepted before.files.told (program_name a) text program → SaysOfProgram g a result dial dial' before after
@@ -75,16 +70,11 @@ module _ {L : Type 0} (g : links.Ghosts L) where
   -- the words weren't understood
   pub said_nothing : (wanted : Option Wanted) (result : Status) (before : Outside L) (out : Device (List ℕ)) → None ≡ wanted → Ends Words (line (codes "words not understood")) result before.scene.out out
       → Says g wanted result before (record before { scene = record before.scene { out = out } })
-  said_nothing wanted result before out n e = answers.not_understood (sym n) e refl
+  said_nothing wanted result before out n e = subst (λ w. Says g w result before (record before { scene = record before.scene { out = out } })) n (e, refl)
 
   -- what is said of a program where it is wanted
   of_wanted : (a : Asked) (wanted : Option Wanted) (result : Status) (before after : Outside L) → wanted ≡ Some (OfProgram a) → Says g wanted result before after → SaysOfProgram g a result before.dial after.dial before.scene after.scene
-  of_wanted a wanted result before after w (answers.not_understood n e f) = absurd (cc (sym n ∙ w))
-  of_wanted a wanted result before after w (answers.of_program b x said same) =
-      subst (λ y. SaysOfProgram g y result before.dial after.dial before.scene after.scene) (one_wanted b a wanted x w) said
-  of_wanted a wanted result before after w (answers.serves v x said same) = absurd (cc (sym x ∙ w))
-  of_wanted a wanted result before after w (answers.serves_child s x said same) = absurd (cc (sym x ∙ w))
-  of_wanted a wanted result before after w (answers.tries n x said files same) = absurd (cc (sym x ∙ w))
+  of_wanted a wanted result before after w said = (subst (λ x. Says g x result before after) w said).0
 
   -- `check P`
   went_checked : (text : List ℕ) (program : Program) (p : List ℕ) (a : Asked) (result : Status) (dial dial' : DialSeen L) (before after : Scene) → a ≡ Check p → Goes g text program result dial dial' before after a → Ends Done (line (codes "accepted")) result before.out after.out
@@ -248,19 +238,9 @@ module _ {L : Type 0} (g : links.Ghosts L) where
       first (inl x) = inr x.0
       first (inr on) = then (went_run services text program ways.Trial (codes "p") (codes "s") other default_fuel served asked_in_trial result dial dial' (once_read before) after refl t.service on)
 
-  one_trial : (m n : ℕ) (w : Option Wanted) → w ≡ Some (Trial m) → w ≡ Some (Trial n) → m ≡ n
-  one_trial m n w e f =
-      let both = sym e ∙ f in
-      cc both
-
   -- what a trial answered
   was_tried : (n : ℕ) (wanted : Option Wanted) (result : Status) (before after : Outside L) → wanted ≡ Some (Trial n) → Says g wanted result before after → Tries g n result before.dial after.dial before.scene.out after.scene.out
-  was_tried n wanted result before after w (answers.not_understood x e f) = absurd (cc (sym x ∙ w))
-  was_tried n wanted result before after w (answers.of_program b x said same) = absurd (cc (sym x ∙ w))
-  was_tried n wanted result before after w (answers.serves v x said same) = absurd (cc (sym x ∙ w))
-  was_tried n wanted result before after w (answers.serves_child s x said same) = absurd (cc (sym x ∙ w))
-  was_tried n wanted result before after w (answers.tries m x said files same) =
-      subst (λ k. Tries g k result before.dial after.dial before.scene.out after.scene.out) (one_trial m n wanted x w) said
+  was_tried n wanted result before after w said = (subst (λ x. Says g x result before after) w said).0
 
   pub trials_told : OneSource → OneService → (wanted : Option Wanted) (result : Status) (before after : Outside L) → Says g wanted result before after → TrialsTold wanted result before.scene after.scene
   trials_told one services wanted result before after said = λ n program served w p s. by_case n program served p s (was_tried n wanted result before after w said)

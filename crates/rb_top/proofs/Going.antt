@@ -10,12 +10,12 @@ use Rattle.rb_base.specs.Directories.{Directory, read_once}
 use Rattle.rb_base.specs.declared.links.Link as links
 use Rattle.rb_flow.specs.Program.{HasNoRefusal}
 use Rattle.rb_session.specs.Dials.{DialSeen}
-use Rattle.rb_top.specs.Answers.{Goes, RunsBy, SaysOfProgram, no_program, goes, once_read, ran}
+use Rattle.rb_top.specs.Answers.{Goes, RunsBy, SaysOfProgram, no_program, goes, ran}
 use Rattle.rb_top.specs.BatchRefusals.{shown_batch_refusal}
 use Rattle.rb_top.specs.Commands.{EndsBatchRefused, GoesOnAdmitted, GoesOnTyped}
 use Rattle.rb_top.specs.Loads.{HoldsText}
 use Rattle.rb_top.specs.Runs.{Served}
-use Rattle.rb_top.specs.Scene.{Scene}
+use Rattle.rb_top.specs.Scene.{Scene, once_read}
 use Rattle.rb_top.specs.Sources.{text_of, program_of}
 use Rattle.rb_top.specs.Texts.{IsService}
 use Rattle.rb_top.specs.Unusable.{NoProgram, TellsNoProgram, not_admitted, not_divided}

@@ -5,6 +5,8 @@ pub mod Ended
 pub mod Going
 pub mod LinkRuns
 pub mod Lines
+pub mod PlayedOn
+pub mod PlayedTold
 pub mod Printed
 pub mod RunEnds
 pub mod Serving

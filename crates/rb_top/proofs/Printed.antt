@@ -1,5 +1,7 @@
 -- What a sink tells while a text is printed piece by piece.
-use Rattle.std.proofs.Common.{◌≡◌, ◌<◌, ℕ, ◌+◌, List, ◌++◌, length, take, drop, ap, sym, ◌∙◌, refl, subst, arith, append_assoc, take-append-drop}
+use Rattle.std.proofs.Common.{◌≡◌, ◌<◌, ℕ, ◌+◌, List, [], ◌++◌, length, take, drop, ap, sym, ◌∙◌, refl, subst, arith, append_assoc, take-append-drop}
+use Rattle.std.proofs.Math.Seq.{take-length}
+use Rattle.std.proofs.lemmas.List.{append-nil}
 use Rattle.std.specs.Prelude.{Result, Ok, Err}
 use Rattle.std.specs.List.{position_or_len}
 use Rattle.rb_meaning.specs.Place.{is_line_feed}
@@ -67,3 +69,17 @@ pub ends_behind : (status : Status) (lines text : List ℕ) (result : Status) (b
 ends_behind status lines text result before so_far after e (ends.whole r w) = ends.whole r (both_whole before so_far after lines text e w)
 ends_behind status lines text result before so_far after e (ends.cut r w) = ends.cut r (prefix_after (failed before) (failed so_far) after lines text (ap failed e) w)
 ends_behind status lines text result before so_far after e (ends.starved r w) = ends.starved r (prefix_after before so_far after lines text e w)
+
+-- a line more stopped
+pub line_stopped : (stop : PrintStop) (old new newer : Device (List ℕ)) (text rest line more : List ℕ) → HasFront old new text rest → rest ≡ line ++ more → WrotePrefix (stopped stop new) newer line → WrotePrefix (stopped stop old) newer text
+line_stopped stop old new newer text rest line more h e w =
+    subst (WrotePrefix (stopped stop old) newer) (sym (h.whole ∙ ap (λ r. h.front ++ r) e))
+    (stops_next stop old new newer h.front (line ++ more) h.is (stops_first stop new newer line more w))
+
+-- nothing is left to write
+pub all_written : (old new : Device (List ℕ)) (text rest : List ℕ) → HasFront old new text rest → rest ≡ [] → new ≡ with_bytes old text
+all_written old new text rest h e = h.is ∙ ap (with_bytes old) (sym (append-nil h.front) ∙ ap (λ r. h.front ++ r) (sym e) ∙ sym h.whole)
+
+-- all of a text is a front of it
+pub wrote_all : (old new : Device (List ℕ)) (text : List ℕ) → new ≡ with_bytes old text → WrotePrefix old new text
+wrote_all old new text e = record { count = length text; within = omega arith; is = e ∙ ap (with_bytes old) (sym (take-length text)) }

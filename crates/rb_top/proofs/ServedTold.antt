@@ -8,9 +8,6 @@ use Rattle.rb_base.specs.Listening.{Back, GivesWhereTold, Listening, after_start
 use Rattle.rb_base.specs.declared.links.Link as links
 use Rattle.rb_base.specs.declared.listens.ListenStop.TheVariants as stops
 use Rattle.rb_exec.specs.Hosted.{Hosted}
-use Rattle.rb_session.specs.declared.serving.Served as session
-use Rattle.rb_session.specs.declared.serving.ServeStop.{ServeStop}
-use Rattle.rb_top.specs.Answers as answers
 use Rattle.rb_top.specs.Answers.{Says}
 use Rattle.rb_top.specs.Completeness.{IsDone, ListensWhole, ServesTold, ToldService, after_calls}
 use Rattle.rb_top.specs.Ends as ends
@@ -18,9 +15,12 @@ use Rattle.rb_top.specs.Ends.{Ends}
 use Rattle.rb_top.specs.Runs.{Served}
 use Rattle.rb_top.specs.Scene.{Scene, Outside}
 use Rattle.rb_top.specs.Servers as servers
-use Rattle.rb_top.specs.Servers.{Listens, ServesAs, unheard}
+use Rattle.rb_top.specs.Manners.{host_manner}
+use Rattle.rb_top.specs.Servers.{Listens, ServesAs, ServesHost, unheard}
 use Rattle.rb_top.specs.Sessions as sessions
-use Rattle.rb_top.specs.Sessions.{FailsToGive, Listener, ServedSome, ServesLast, ServesSessions, Starts}
+use Rattle.rb_top.specs.Sessions.{FailsToGive, Listener, Manner, ServedSome, ServesLast, ServesSessions, Starts}
+use Rattle.rb_top.specs.declared.sessions.SessionsStop.{SessionsStop}
+use Rattle.rb_top.specs.declared.sessions.SessionsStop.TheVariants.{Said, Answers}
 use Rattle.rb_top.specs.Unusable.{NoService}
 use Rattle.rb_top.specs.Words.{Serve, Child, Serving, Wanted, child_of}
 use Rattle.rb_top.specs.declared.status.Status.{Status}
@@ -37,7 +37,7 @@ record Goes (first : Listening) (come served : ℕ) (told : Option Listening) : 
   failing_so : it.failing ≡ (after_calls (suc served) first).failing
   come_so : served + length it.coming ≡ come
 
-ends_done : (text : List ℕ) (result : Status) (before after : Device (List ℕ)) → Ends Done text result before after → IsDone result
+pub ends_done : (text : List ℕ) (result : Status) (before after : Device (List ℕ)) → Ends Done text result before after → IsDone result
 ends_done text result before after (ends.whole r w) = inl r
 ends_done text result before after (ends.cut r w) = inr (inl r)
 ends_done text result before after (ends.starved r w) = inr (inr r)
@@ -60,23 +60,24 @@ one_given listening come k first before after n g = by_told after (subst (λ t. 
       come_so = let c = n.come_so in let l = ap length g.1.was_first in omega (arith, l);
     }
 
--- and came back
-one_goes : (listening : Listening) (come k : ℕ) (answer : Result session.Served ServeStop) (host left : Hosted) (before after : Listener) → Goes listening come k before.told → sessions.ServesSession answer host left before after → Goes listening come (suc k) after.told
-one_goes listening come k answer host left before after n s =
-    let given = one_given listening come k s.first before.told s.given.told n s.gives.gives in
-    record {
-      it = with_back s.served.last given.it;
-      tells = ap (λ l. l.told) s.served.back ∙ ap (option_map (with_back s.served.last)) given.tells;
-      calls_so = given.calls_so;
-      failing_so = given.failing_so;
-      come_so = given.come_so;
-    }
+module _ {A R X : Type 0} (m : Manner A R X) where
+  -- and came back
+  one_goes : (listening : Listening) (come k : ℕ) (answer : R) (server left : A) (before after : Listener) → Goes listening come k before.told → sessions.ServesSession m answer server left before after → Goes listening come (suc k) after.told
+  one_goes listening come k answer server left before after n s =
+      let given = one_given listening come k s.first before.told s.given.told n s.gives.gives in
+      record {
+        it = with_back s.served.last given.it;
+        tells = ap (λ l. l.told) s.served.back ∙ ap (option_map (with_back s.served.last)) given.tells;
+        calls_so = given.calls_so;
+        failing_so = given.failing_so;
+        come_so = given.come_so;
+      }
 
--- however many were served
-goes_on : (listening : Listening) (come : ℕ) (host : Hosted) (listen : Listener) (out : Device (List ℕ)) (n : ℕ) (left : Hosted) (last : Listener) (said : Device (List ℕ)) → Goes listening come 0 listen.told → ServedSome host listen out n left last said → Goes listening come n last.told
-goes_on listening come host listen out n left last said w sessions.none = w
-goes_on listening come host listen out n left last said w (sessions.one_more k mid it before after so_far answer s session fresh) =
-    one_goes listening come k answer mid it before after (goes_on listening come host listen out k mid before so_far w s) session
+  -- however many were served
+  goes_on : (listening : Listening) (come : ℕ) (server : A) (listen : Listener) (out : Device (List ℕ)) (n : ℕ) (left : A) (last : Listener) (said : Device (List ℕ)) → Goes listening come 0 listen.told → ServedSome m server listen out n left last said → Goes listening come n last.told
+  goes_on listening come server listen out n left last said w sessions.none = w
+  goes_on listening come server listen out n left last said w (sessions.one_more k mid it before after so_far answer text s session shown) =
+      one_goes listening come k answer mid it before after (goes_on listening come server listen out k mid before so_far w s) session
 
 -- the next call doesn't fail
 never_refused : (address : List ℕ) (count n : ℕ) (told : Option Listening) (w : ListensWhole address count told) (last after : Listener) → n < count → Goes w.listening (length w.sessions) n last.told → FailsToGive last after → ⊥
@@ -89,18 +90,35 @@ never_refused address count n told w last after few s f = by_told after.told (su
         let fine = w.none_fails (suc n) (omega arith) in
         absurd (cc (sym g.0 ∙ same_call s.it (after_calls (suc n) w.listening) s.calls_so s.failing_so ∙ fine))
 
-last_done : (number : ℕ) (answer : Result session.Served ServeStop) (said after : Device (List ℕ)) (result : Status) → ServesLast number answer said after result → IsDone result
-last_done number answer said after result (sessions.line_cut fresh w) = inr (inl refl)
-last_done number answer said after result (sessions.line_starved o) = inr (inr refl)
+-- where a server stops, what it says is one of these
+abbrev StopsDone : {X : Type 0} → SessionsStop X → Type 0
+StopsDone (Said status) = IsDone status
+StopsDone (Answers stop) = Unit {0}
 
-sessions_done : (address : List ℕ) (told : Option Listening) (host : Hosted) (count : ℕ) (w : ListensWhole address count told) (result : Status) (listen last : Listener) (before after : Device (List ℕ)) → Goes w.listening (length w.sessions) 0 listen.told
-    → ServesSessions host count result listen last before after → IsDone result
-sessions_done address told host count w result listen last before after s (sessions.all left said some e) = ends_done _ result said after e
-sessions_done address told host count w result listen last before after s (sessions.fewer n left mid said few some gives e) = ends_done _ result said after e
-sessions_done address told host count w result listen last before after s (sessions.fault n left mid said few some fails e) =
-    absurd (never_refused address count n told w mid last few (goes_on w.listening (length w.sessions) host listen before n left mid said s some) fails)
-sessions_done address told host count w result listen last before after s (sessions.starved_to_give n left mid few some gives r) = inr (inr r)
-sessions_done address told host count w result listen last before after s (sessions.one_last n mid left between said answer few some session ends_so) = last_done (suc n) answer said after result ends_so
+last_done : {X : Type 0} (shown : sessions.Shown X) (said after : Device (List ℕ)) (stop : SessionsStop X) → ServesLast shown said after stop → StopsDone stop
+last_done shown said after stop (sessions.line_cut text e w) = inr (inl refl)
+last_done shown said after stop (sessions.line_starved text e o) = inr (inr refl)
+last_done shown said after stop (sessions.starved e o) = inr (inr refl)
+last_done shown said after stop (sessions.stopped x e o) = tt
+
+-- the answer is not another one
+abbrev AnswersDone : {X : Type 0} → Result (Unit {0}) (SessionsStop X) → Type 0
+AnswersDone (Ok u) = Unit {0}
+AnswersDone (Err stop) = StopsDone stop
+
+sessions_done : {A R X : Type 0} (m : Manner A R X) (address : List ℕ) (told : Option Listening) (server left : A) (count : ℕ) (w : ListensWhole address count told) (listen last : Listener) (before after : Device (List ℕ)) (answer : Result (Unit {0}) (SessionsStop X)) → Goes w.listening (length w.sessions) 0 listen.told
+    → ServesSessions m server left count listen last before after answer → AnswersDone answer
+sessions_done m address told server left count w listen last before after answer s (sessions.all some) = tt
+sessions_done m address told server left count w listen last before after answer s (sessions.fewer n mid few some gives) = tt
+sessions_done m address told server left count w listen last before after answer s (sessions.fault n mid said status few some fails e) =
+    absurd (never_refused address count n told w mid last few (goes_on m w.listening (length w.sessions) server listen before n left mid said s some) fails)
+sessions_done m address told server left count w listen last before after answer s (sessions.starved_to_give n mid few some gives) = inr (inr refl)
+sessions_done m address told server left count w listen last before after answer s (sessions.one_last n mid between said a stop few some session ends_so) = last_done (m.shown (suc n) a) said after stop ends_so
+
+host_done : (address : List ℕ) (told : Option Listening) (host : Hosted) (count : ℕ) (w : ListensWhole address count told) (result : Status) (listen last : Listener) (before after : Device (List ℕ)) → Goes w.listening (length w.sessions) 0 listen.told
+    → ServesHost host count result listen last before after → IsDone result
+host_done address told host count w result listen last before after s (servers.to_end left said some e) = ends_done _ result said after e
+host_done address told host count w result listen last before after s (servers.to_stop left some) = sessions_done host_manner address told host left count w listen last before after (Err (Said result)) s some
 
 -- the first call doesn't fail either, and the address is there
 first_fine : (address : List ℕ) (count : ℕ) (told : Option Listening) (w : ListensWhole address count told) → started w.listening address ≡ Some w.sessions
@@ -126,7 +144,7 @@ never_unstarted address count listen after w s =
 
 listens_done : (host : Hosted) (address : List ℕ) (count : ℕ) (result : Status) (listen last : Listener) (before after : Device (List ℕ)) → ListensWhole address count listen.told → Listens host address count result listen last before after → IsDone result
 listens_done host address count result listen last before after w (servers.begins begun starts serves) =
-    sessions_done address listen.told host count w result begun last before after (begun_goes address count listen begun w starts) serves
+    host_done address listen.told host count w result begun last before after (begun_goes address count listen begun w starts) serves
 listens_done host address count result listen last before after w (servers.not_started starts e) = absurd (never_unstarted address count listen last w starts)
 listens_done host address count result listen last before after w (servers.starved_at_start r l o) = inr (inr r)
 
@@ -135,35 +153,16 @@ serving_done one v text served result listen last before after t w (servers.no_s
     inr (inr (only_starved (NoService before.files v.service) result before after (service_is_usable one before.files v.service text served t) tells).0)
 serving_done one v text served result listen last before after t w (servers.listens found s table f is l files) = listens_done _ v.address v.count result listen last before.out after.out w l
 
-one_served : (v u : Serving) (w : Option Wanted) → w ≡ Some (Serve v) → w ≡ Some (Serve u) → v ≡ u
-one_served v u w e f =
-    let both = sym e ∙ f in
-    cc both
-
-one_child : (s t : List ℕ) (w : Option Wanted) → w ≡ Some (Child s) → w ≡ Some (Child t) → s ≡ t
-one_child s t w e f =
-    let both = sym e ∙ f in
-    cc both
-
 module _ {L : Type 0} (g : links.Ghosts L) where
   by_serve : OneService → (v : Serving) (text : List ℕ) (served : Served) (wanted : Option Wanted) (result : Status) (before after : Outside L) → wanted ≡ Some (Serve v) → ToldService before.scene.files.told v.service text served → ListensWhole v.address v.count before.listen.told
       → Says g wanted result before after → IsDone result
-  by_serve one v text served wanted result before after w t l (answers.not_understood n e f) = absurd (cc (sym n ∙ w))
-  by_serve one v text served wanted result before after w t l (answers.of_program b x said same) = absurd (cc (sym x ∙ w))
-  by_serve one v text served wanted result before after w t l (answers.serves u x said same) =
-      serving_done one v text served result before.listen after.listen before.scene after.scene t l (subst (λ y. ServesAs y result before.listen after.listen before.scene after.scene) (one_served u v wanted x w) said)
-  by_serve one v text served wanted result before after w t l (answers.serves_child s x said same) = absurd (cc (sym x ∙ w))
-  by_serve one v text served wanted result before after w t l (answers.tries n x said files same) = absurd (cc (sym x ∙ w))
+  by_serve one v text served wanted result before after w t l said =
+      serving_done one v text served result before.listen after.listen before.scene after.scene t l (subst (λ x. Says g x result before after) w said).0
 
   by_child : OneService → (s text : List ℕ) (served : Served) (wanted : Option Wanted) (result : Status) (before after : Outside L) → wanted ≡ Some (Child s) → ToldService before.scene.files.told s text served → ListensWhole (child_of s).address (child_of s).count before.listen.told
       → Says g wanted result before after → IsDone result
-  by_child one s text served wanted result before after w t l (answers.not_understood n e f) = absurd (cc (sym n ∙ w))
-  by_child one s text served wanted result before after w t l (answers.of_program b x said same) = absurd (cc (sym x ∙ w))
-  by_child one s text served wanted result before after w t l (answers.serves u x said same) = absurd (cc (sym x ∙ w))
-  by_child one s text served wanted result before after w t l (answers.serves_child s' x said same) =
-      serving_done one (child_of s) text served result before.listen after.listen (unheard before.scene) (unheard after.scene) t l
-      (subst (λ y. ServesAs (child_of y) result before.listen after.listen (unheard before.scene) (unheard after.scene)) (one_child s' s wanted x w) said.serves)
-  by_child one s text served wanted result before after w t l (answers.tries n x said files same) = absurd (cc (sym x ∙ w))
+  by_child one s text served wanted result before after w t l said =
+      serving_done one (child_of s) text served result before.listen after.listen (unheard before.scene) (unheard after.scene) t l (subst (λ x. Says g x result before after) w said).0.serves
 
   pub serves_told : OneService → (wanted : Option Wanted) (result : Status) (before after : Outside L) → Says g wanted result before after → ServesTold wanted result before
   serves_told one wanted result before after said = λ v text served w t l. by_case v text served t l w

@@ -26,14 +26,14 @@ found_or_none None = []
 found_or_none (Some text) = text
 
 -- what is told doesn't fail
-never_fails : (told : Option Directory) (name text : List ℕ) → IsTold told name text → FailsNext told name → ⊥
+pub never_fails : (told : Option Directory) (name text : List ℕ) → IsTold told name text → FailsNext told name → ⊥
 never_fails None name text r f = r
 never_fails (Some directory) name text r f =
     let e = sym f ∙ r in
     absurd (cc)
 
 -- what is told is what is found
-found_once : (told : Option Directory) (name text found : List ℕ) → IsTold told name text → Finds told name found → found ≡ text
+pub found_once : (told : Option Directory) (name text found : List ℕ) → IsTold told name text → Finds told name found → found ≡ text
 found_once None name text found r f = absurd r
 found_once (Some directory) name text found r f = ap found_or_none (sym f ∙ r)
 
@@ -41,7 +41,7 @@ too_long_none : (text : List ℕ) → TooLong text → WithinLength text → ⊥
 too_long_none text l f = omega arith
 
 -- a text within the limit that is told is no longer one
-never_too_long : (told : Option Directory) (name text : List ℕ) → IsTold told name text → WithinLength text → FindsTooLong told name → ⊥
+pub never_too_long : (told : Option Directory) (name text : List ℕ) → IsTold told name text → WithinLength text → FindsTooLong told name → ⊥
 never_too_long told name text r w l = too_long_none text (subst TooLong (found_once told name text l.0 r l.1) l.2) w
 
 -- no source has two outcomes

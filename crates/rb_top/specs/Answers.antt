@@ -11,15 +11,16 @@ use Rattle.rb_session.specs.Dials.{DialSeen}
 use Rattle.rb_session.specs.declared.targets.Target.TheVariants as targets
 use Rattle.rb_top.specs.DialRuns.{Dials, RunsInMemory}
 use Rattle.rb_top.specs.Ends.{Ends}
+use Rattle.rb_top.specs.HubRuns.{PlaysAs}
 use Rattle.rb_top.specs.LinkRuns.{run_end_with_count, run_end_with_table}
 use Rattle.rb_top.specs.Loads.{HoldsProgram}
 use Rattle.rb_top.specs.Runs.{Served, run_status, run_text}
-use Rattle.rb_top.specs.Scene.{Scene, Outside}
+use Rattle.rb_top.specs.Scene.{Scene, Outside, once_read}
 use Rattle.rb_top.specs.Servers.{ServesAs, ServesUnheard}
 use Rattle.rb_top.specs.Texts.{IsService}
 use Rattle.rb_top.specs.Trials.{asked_in_trial, trial_files}
 use Rattle.rb_top.specs.Unusable.{TellsNoProgram, TellsNoService}
-use Rattle.rb_top.specs.Words.{Asked, Check, Split, Run, Call, Wanted, OfProgram, Serve, Child, Trial, Serving, child_of, program_name}
+use Rattle.rb_top.specs.Words.{Asked, Check, Split, Run, Call, Wanted, OfProgram, Serve, Child, Trial, Play, child_of, program_name}
 use Rattle.rb_top.specs.declared.status.Status.{Status}
 use Rattle.rb_top.specs.declared.status.Status.TheVariants.{Done, Words, Memory}
 use Rattle.rb_top.specs.declared.words.Way.{Way}
@@ -51,10 +52,6 @@ pub data Goes {L : Type 0} (g : links.Ghosts L) (text : List ℕ) (p : Program) 
       → RunsBy g way s text p fuel served result dial dial' before.out after.out → after.files ≡ read_once before.files
       → Goes g text p result dial dial' before after (Run way name s fuel)
 
--- the scene after a read
-abbrev pub once_read : Scene → Scene
-once_read s = record s { files = read_once s.files }
-
 -- What was asked of a program was answered so: it was said why there is no accepted one, or it went on.
 pub data SaysOfProgram {L : Type 0} (g : links.Ghosts L) (a : Asked) (result : Status) (dial dial' : DialSeen L) (before after : Scene) : Type 0 where
   no_program : TellsNoProgram (program_name a) result before after → dial' ≡ dial → SaysOfProgram g a result dial dial' before after
@@ -68,15 +65,22 @@ pub data Tries {L : Type 0} (g : links.Ghosts L) (n : ℕ) (result : Status) (di
       → Tries g n result dial dial' before after
   starved_for_texts : result ≡ Memory → dial' ≡ dial → after ≡ before → Tries g n result dial dial' before after
 
--- What the words ask for was answered so, and the outside is left so.
-pub data Says {L : Type 0} (g : links.Ghosts L) (wanted : Option Wanted) (result : Status) (before after : Outside L) : Type 0 where
-  not_understood : wanted ≡ None → Ends Words (line (codes "words not understood")) result before.scene.out after.scene.out
-      → after ≡ record before { scene = record before.scene { out = after.scene.out } } → Says g wanted result before after
-  of_program : (a : Asked) → wanted ≡ Some (OfProgram a) → SaysOfProgram g a result before.dial after.dial before.scene after.scene
-      → after.listen ≡ before.listen → Says g wanted result before after
-  serves : (v : Serving) → wanted ≡ Some (Serve v) → ServesAs v result before.listen after.listen before.scene after.scene
-      → after.dial ≡ before.dial → Says g wanted result before after
-  serves_child : (s : List ℕ) → wanted ≡ Some (Child s) → ServesUnheard (child_of s) result before.listen after.listen before.scene after.scene
-      → after.dial ≡ before.dial → Says g wanted result before after
-  tries : (n : ℕ) → wanted ≡ Some (Trial n) → Tries g n result before.dial after.dial before.scene.out after.scene.out
-      → after.scene.files ≡ before.scene.files → after.listen ≡ before.listen → Says g wanted result before after
+-- What is asked for was answered so. All else of the outside is left as it was.
+abbrev pub Does : {L : Type 0} → links.Ghosts L → Wanted → Status → Outside L → Outside L → Type 0
+Does g (OfProgram a) result before after =
+    SaysOfProgram g a result before.dial after.dial before.scene after.scene × (after ≡ record before { scene = after.scene; dial = after.dial })
+Does g (Serve v) result before after =
+    ServesAs v result before.listen after.listen before.scene after.scene × (after ≡ record before { scene = after.scene; listen = after.listen })
+Does g (Child s) result before after =
+    ServesUnheard (child_of s) result before.listen after.listen before.scene after.scene × (after ≡ record before { scene = after.scene; listen = after.listen })
+Does g (Trial n) result before after =
+    Tries g n result before.dial after.dial before.scene.out after.scene.out
+    × (after ≡ record before { scene = record before.scene { out = after.scene.out }; dial = after.dial })
+Does g (Play p) result before after = PlaysAs p result before.scene after.scene × (after ≡ record before { scene = after.scene })
+
+-- What the words ask for was answered so; words that aren't understood are said to be such, and nothing else is done.
+abbrev pub Says : {L : Type 0} → links.Ghosts L → Option Wanted → Status → Outside L → Outside L → Type 0
+Says g None result before after =
+    Ends Words (line (codes "words not understood")) result before.scene.out after.scene.out
+    × (after ≡ record before { scene = record before.scene { out = after.scene.out } })
+Says g (Some wanted) result before after = Does g wanted result before after

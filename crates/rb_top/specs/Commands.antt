@@ -26,6 +26,7 @@ use Rattle.rb_top.specs.Ends.{Ends, fault_line, too_long_line}
 use Rattle.rb_top.specs.LinkRuns.{run_end_in}
 use Rattle.rb_top.specs.Loads.{HoldsText, HoldsTyped}
 use Rattle.rb_top.specs.Refusals.{shown_refusal, shown_violation}
+use Rattle.rb_top.specs.Printing.{stopped_status}
 use Rattle.rb_top.specs.Runs.{Served, served_on}
 use Rattle.rb_top.specs.Scene.{Scene}
 use Rattle.rb_top.specs.Sources.{text_of, program_of, Admitted, admitted_program, accepted_program}
@@ -36,18 +37,12 @@ use Rattle.rb_top.specs.Words.{Asked, program_name}
 use Rattle.rb_top.specs.declared.loading.TextStop.{TextStop}
 use Rattle.rb_top.specs.declared.loading.TextStop.TheVariants as stops
 use Rattle.rb_top.specs.declared.printing.PrintStop.{PrintStop}
-use Rattle.rb_top.specs.declared.printing.PrintStop.TheVariants as print
 use Rattle.rb_top.specs.declared.source.Accepted.{Accepted}
 use Rattle.rb_top.specs.declared.source.Source.{Source}
 use Rattle.rb_top.specs.declared.status.SourceError.TheVariants as sources
 use Rattle.rb_top.specs.declared.status.Status.{Status}
-use Rattle.rb_top.specs.declared.status.Status.TheVariants.{FileFault, SourceRefused, BatchRefused, ServiceRefused, WriteFault, Memory, FileTooLong}
+use Rattle.rb_top.specs.declared.status.Status.TheVariants.{FileFault, SourceRefused, BatchRefused, ServiceRefused, Memory, FileTooLong}
 use Rattle.rb_top.specs.declared.words.Job.{Job}
-
--- the status where not all was printed
-abbrev pub stopped_status : PrintStop → Status
-stopped_status print.WriteFault = WriteFault
-stopped_status print.Memory = Memory
 
 -- the status after a text was printed, or wasn't
 abbrev pub status_after : {A : Type 0} → Status → Result A PrintStop → Status

@@ -18,6 +18,8 @@ use Rattle.rb_base.specs.Listening.{Listening, call_fails, called}
 use Rattle.rb_base.specs.declared.links.Link as links
 use Rattle.rb_base.specs.declared.listens.Coming.{Coming}
 use Rattle.rb_client.specs.Servers.{fails_after}
+use Rattle.rb_hub_lines.specs.Lines.{HoldsEvents}
+use Rattle.rb_meaning_frames.specs.Histories.{Event}
 use Rattle.rb_session.specs.Dials.{Dialling, next_link}
 use Rattle.rb_session.specs.declared.targets.Target.{Target}
 use Rattle.rb_session.specs.declared.targets.Target.TheVariants as targets
@@ -26,9 +28,9 @@ use Rattle.rb_top.specs.Ends.{Ends}
 use Rattle.rb_top.specs.LinkRuns.{served_by}
 use Rattle.rb_top.specs.Runs.{Served, counted_text, ended_status, run_status, shown_lines}
 use Rattle.rb_top.specs.Scene as scenes
-use Rattle.rb_top.specs.Texts.{IsProgram, IsService}
+use Rattle.rb_top.specs.Texts.{IsProgram, IsService, WithinLength}
 use Rattle.rb_top.specs.Trials.{trial_program, trial_service}
-use Rattle.rb_top.specs.Words.{Check, Split, Run, Call, Serving, Wanted, OfProgram, Serve, Child, Trial, child_of, default_fuel}
+use Rattle.rb_top.specs.Words.{Check, Split, Run, Call, Playing, Serving, Wanted, OfProgram, Serve, Child, Trial, Play, child_of, default_fuel}
 use Rattle.rb_top.specs.declared.status.Status.{Status}
 use Rattle.rb_top.specs.declared.status.Status.TheVariants.{Done, WriteFault, Memory}
 use Rattle.rb_top.specs.declared.words.Way.{Way}
@@ -164,6 +166,19 @@ abbrev pub ServesTold : {L : Type 0} → Option Wanted → Status → scenes.Out
 ServesTold wanted result before = (v : Serving) (text : List ℕ) (served : Served) → (wanted ≡ Some (Serve v)) ⊎ ((wanted ≡ Some (Child v.service)) × (v ≡ child_of v.service))
     → ToldService before.scene.files.told v.service text served → ListensWhole v.address v.count before.listen.told → IsDone result
 
+-- The files tell the lines of events, and then a service with its table, under these names, read one after the other.
+pub record ToldEvents (told : Option Directory) (p : Playing) (text other : List ℕ) (events : List Event) (served : Served) : Type 0 where
+  pub finds : IsTold told p.events text
+  pub short : WithinLength text
+  pub holds : HoldsEvents text events
+  pub service : ToldService (told_after told) p.service other served
+
+-- Where `hub E S` is asked, and the files tell the lines of events and a service under these names, the answer is Done, unless the
+-- output fails or memory is wanting.
+abbrev pub PlaysTold : Option Wanted → Status → scenes.Scene → Type 0
+PlaysTold wanted result before = (p : Playing) (text other : List ℕ) (events : List Event) (served : Served) → wanted ≡ Some (Play p)
+    → ToldEvents before.files.told p text other events served → IsDone result
+
 -- Where the outside tells all that a command needs, and no call of it fails but for a write, the command is carried out to its end.
 pub record Completes {L : Type 0} (g : links.Ghosts L) (wanted : Option Wanted) (result : Status) (before after : scenes.Outside L) : Type 0 where
   -- An accepted program is checked, and its division is shown.
@@ -177,3 +192,5 @@ pub record Completes {L : Type 0} (g : links.Ghosts L) (wanted : Option Wanted) 
   pub pairs : PairsTold g wanted result before after
   -- A server serves to its end.
   pub serves : ServesTold wanted result before
+  -- Events are played to the last.
+  pub plays : PlaysTold wanted result before.scene

@@ -7,8 +7,10 @@ pub mod Commands
 pub mod Completeness
 pub mod DialRuns
 pub mod Ends
+pub mod HubRuns
 pub mod LinkRuns
 pub mod Loads
+pub mod Manners
 pub mod Printing
 pub mod Refusals
 pub mod Runs

@@ -12,6 +12,8 @@ use Rattle.rb_plain.specs.declared.run.PlainStop.{PlainStop}
 use Rattle.rb_plain.specs.declared.run.PlainStop.TheVariants as plain
 use Rattle.rb_top.specs.declared.printing.PrintStop.{PrintStop}
 use Rattle.rb_top.specs.declared.printing.PrintStop.TheVariants.{WriteFault, Memory}
+use Rattle.rb_top.specs.declared.status.Status.{Status}
+use Rattle.rb_top.specs.declared.status.Status.TheVariants as statuses
 use Rattle.rb_top.specs.declared.words.Way.{Way}
 use Rattle.rb_top.specs.declared.words.Way.TheVariants.{Trial}
 
@@ -23,6 +25,11 @@ first_line_length text = min (length text) (suc (position_or_len is_line_feed te
 abbrev pub stop_of : PlainStop → PrintStop
 stop_of plain.WriteFault = WriteFault
 stop_of plain.Memory = Memory
+
+-- the status where not all was printed
+abbrev pub stopped_status : PrintStop → Status
+stopped_status WriteFault = statuses.WriteFault
+stopped_status Memory = statuses.Memory
 
 -- the output with one fault more where a write failed, and with none where memory was wanting
 abbrev pub stopped : PrintStop → Device (List ℕ) → Device (List ℕ)

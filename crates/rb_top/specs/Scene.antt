@@ -4,7 +4,7 @@ use Rattle.rb_base.specs.declared.files.Files as files
 use Rattle.rb_base.specs.declared.listens.Listen as listens
 use Rattle.rb_base.specs.declared.sinks.Sink as sinks
 use Rattle.rb_base.specs.Devices.{Device, device}
-use Rattle.rb_base.specs.Directories.{Directory}
+use Rattle.rb_base.specs.Directories.{Directory, read_once}
 use Rattle.rb_base.specs.Listening.{Listening}
 use Rattle.rb_session.specs.declared.dials.Dial as dials
 use Rattle.rb_session.specs.Dials.{DialSeen, seen}
@@ -13,6 +13,10 @@ use Rattle.rb_session.specs.Dials.{DialSeen, seen}
 pub record Scene : Type 0 where
   pub files : Device Directory
   pub out : Device (List ℕ)
+
+-- the scene after a read
+abbrev pub once_read : Scene → Scene
+once_read s = record s { files = read_once s.files }
 
 -- the files and the output; where links are dialled; and where sessions come from
 pub record Outside (L : Type 0) : Type 0 where

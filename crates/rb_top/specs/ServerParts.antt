@@ -6,13 +6,12 @@ use Rattle.rb_base.specs.Directories.{Directory}
 use Rattle.rb_base.specs.Listening.{Listening}
 use Rattle.rb_base.specs.Sinks.{with_bytes}
 use Rattle.rb_exec.specs.Hosted.{Hosted}
-use Rattle.rb_session.specs.declared.serving.Served.{Served}
-use Rattle.rb_session.specs.declared.serving.ServeStop.{ServeStop}
 use Rattle.rb_top.specs.Ends.{Ends}
-use Rattle.rb_top.specs.SessionLines.{shown_session}
-use Rattle.rb_top.specs.Sessions.{Listener, FailsToGive, GivesNone, ServesLast, ServesSession, StarvesToGive, is_starved, listen_line}
-use Rattle.rb_top.specs.Servers.{Listens, ServesAs, nothing_kept}
+use Rattle.rb_top.specs.Sessions.{FailsToGive, GivesNone, InLine, Listener, Manner, ServesLast, ServesSession, ServesSessions, Shown, StarvesToGive, listen_line}
+use Rattle.rb_top.specs.Servers.{Listens, ServesAs, ServesHost, nothing_kept}
 use Rattle.rb_top.specs.Words.{Serving, child_of}
+use Rattle.rb_top.specs.declared.sessions.SessionsStop.{SessionsStop}
+use Rattle.rb_top.specs.declared.sessions.SessionsStop.TheVariants.{Said}
 use Rattle.rb_top.specs.declared.status.Status.{Status}
 use Rattle.rb_top.specs.declared.status.Status.TheVariants.{ListenFault, Memory}
 
@@ -20,27 +19,34 @@ use Rattle.rb_top.specs.declared.status.Status.TheVariants.{ListenFault, Memory}
 abbrev pub HasSessionOut : Option Listening → Type 0
 HasSessionOut told = IfSome told (λ l. 0 < l.out)
 
+-- The line of a session was written whole.
+pub record SaysLine {X : Type 0} (shown : Shown X) (before after : Device (List ℕ)) : Type 0 where
+  pub text : List ℕ
+  pub shows : shown ≡ InLine text
+  pub written : after ≡ with_bytes before (line text)
+
 -- The line of a session was written whole; or the session is the last.
-pub data SaysSession (number : ℕ) (answer : Result Served ServeStop) (before after : Device (List ℕ)) : Result Bool Status → Type 0 where
-  line_said : is_starved answer ≡ false → after ≡ with_bytes before (line (shown_session number answer)) → SaysSession number answer before after (Ok true)
-  is_last : (status : Status) → ServesLast number answer before after status → SaysSession number answer before after (Err status)
+abbrev pub SaysSession : {X : Type 0} → Shown X → Result (Unit {0}) (SessionsStop X) → Device (List ℕ) → Device (List ℕ) → Type 0
+SaysSession shown (Ok u) before after = SaysLine shown before after
+SaysSession shown (Err stop) before after = ServesLast shown before after stop
 
 -- The next session, with a number, was served, and its line was written whole; or it is the last. Or none comes; or it can't be had,
 -- and that was said; or memory was wanting to have it.
-pub data ServesNext (number : ℕ) (host left : Hosted) (listen after_it : Listener) (before after : Device (List ℕ)) : Result Bool Status → Type 0 where
-  served : (answer : Result Served ServeStop) → ServesSession answer host left listen after_it → is_starved answer ≡ false
-      → after ≡ with_bytes before (line (shown_session number answer)) → ServesNext number host left listen after_it before after (Ok true)
-  none_comes : GivesNone listen after_it → left ≡ host → after ≡ before → ServesNext number host left listen after_it before after (Ok false)
-  not_given : (status : Status) → FailsToGive listen after_it → Ends ListenFault listen_line status before after → ServesNext number host left listen after_it before after (Err status)
-  starved : StarvesToGive listen after_it → after ≡ before → ServesNext number host left listen after_it before after (Err Memory)
-  served_last : (status : Status) (answer : Result Served ServeStop) → ServesSession answer host left listen after_it → ServesLast number answer before after status
-      → ServesNext number host left listen after_it before after (Err status)
+pub data ServesNext {A R X : Type 0} (m : Manner A R X) (number : ℕ) (server left : A) (listen after_it : Listener) (before after : Device (List ℕ)) : Result Bool (SessionsStop X) → Type 0 where
+  served : (answer : R) → ServesSession m answer server left listen after_it → SaysLine (m.shown number answer) before after
+      → ServesNext m number server left listen after_it before after (Ok true)
+  none_comes : GivesNone listen after_it → left ≡ server → after ≡ before → ServesNext m number server left listen after_it before after (Ok false)
+  not_given : (status : Status) → FailsToGive listen after_it → left ≡ server → Ends ListenFault listen_line status before after
+      → ServesNext m number server left listen after_it before after (Err (Said status))
+  starved_to_give : StarvesToGive listen after_it → left ≡ server → after ≡ before → ServesNext m number server left listen after_it before after (Err (Said Memory))
+  served_last : (answer : R) (stop : SessionsStop X) → ServesSession m answer server left listen after_it → ServesLast (m.shown number answer) before after stop
+      → ServesNext m number server left listen after_it before after (Err stop)
 
-abbrev pub SaysSessionAs : ℕ → Result Served ServeStop → Result Bool Status → Device (List ℕ) → Device (List ℕ) → Type 0
-SaysSessionAs number answer result before after = SaysSession number answer before after result
+abbrev pub ServesNextAs : {A R X : Type 0} → Manner A R X → ℕ → A → A → Listener → Listener → Result Bool (SessionsStop X) → Device (List ℕ) → Device (List ℕ) → Type 0
+ServesNextAs m number server left listen after_it result before after = ServesNext m number server left listen after_it before after result
 
-abbrev pub ServesNextAs : ℕ → Hosted → Hosted → Listener → Listener → Result Bool Status → Device (List ℕ) → Device (List ℕ) → Type 0
-ServesNextAs number host left listen after_it result before after = ServesNext number host left listen after_it before after result
+abbrev pub ServesSessionsAs : {A R X : Type 0} → Manner A R X → A → A → ℕ → Listener → Listener → Result (Unit {0}) (SessionsStop X) → Device (List ℕ) → Device (List ℕ) → Type 0
+ServesSessionsAs m server left count listen after_it result before after = ServesSessions m server left count listen after_it before after result
 
 -- The server of a service listens as is asked of it.
 abbrev pub ListensAs : Hosted → Serving → Status → Listener → Listener → Device (List ℕ) → Device (List ℕ) → Type 0

@@ -41,6 +41,11 @@ pub data NoService (files : Device Directory) (s : List ℕ) : Status → List �
   service_refused : (text : List ℕ) (error : StoreError) → HoldsText files.told s text → IsNoService text error
       → NoService files s (ServiceRefused error) (line (shown_service_refusal text error)) (read_once files)
 
+-- The file of the name holds no text within the limit.
+pub data NoText (files : Device Directory) (name : List ℕ) : Status → List ℕ → Device Directory → Type 0 where
+  text_fault : FailsNext files.told name → NoText files name (FileFault name) (fault_line name) (failed (read_once files))
+  text_too_long : FindsTooLong files.told name → NoText files name (FileTooLong name) (too_long_line name) (read_once files)
+
 -- It was said why there is no accepted program, or no service, unless memory was wanting.
 abbrev pub TellsNoProgram : List ℕ → Status → Scene → Scene → Type 0
 TellsNoProgram p result before after = Tells (NoProgram before.files p) result before after

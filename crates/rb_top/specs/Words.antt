@@ -1,4 +1,4 @@
--- What the words of a command ask for: something of a program, or of a server.
+-- What the words of a command ask for: something of a program, of a server, or of a hub.
 use Rattle.std.specs.Prelude.{ℕ, List, [], ◌∷◌, Bool, ◌&&◌, Option, None, Some, option_and_then, option_map, cond, codes, length, map, nat_lt, nat_le}
 use Rattle.std.specs.List.{list_all}
 use Rattle.std.specs.Str.{bytes_eq}
@@ -10,6 +10,7 @@ use Rattle.rb_top.specs.declared.words.Call as call
 use Rattle.rb_top.specs.declared.words.Command.{Command}
 use Rattle.rb_top.specs.declared.words.Command.TheVariants as commands
 use Rattle.rb_top.specs.declared.words.Job.{Job}
+use Rattle.rb_top.specs.declared.words.Playing as playing
 use Rattle.rb_top.specs.declared.words.Serving as serving
 use Rattle.rb_top.specs.declared.words.Task.{Task}
 use Rattle.rb_top.specs.declared.words.Task.TheVariants as tasks
@@ -34,12 +35,19 @@ pub record Serving : Type 0 where
   pub service : List ℕ
   pub count : ℕ
 
--- what words ask for: something of a program, a server, a server over one session that prints nothing, or a trial of so many files
+-- what is asked of a hub: the file of its events, and the file of its service
+pub record Playing : Type 0 where
+  pub events : List ℕ
+  pub service : List ℕ
+
+-- what words ask for: something of a program, a server, a server over one session that prints nothing, a trial of so many files, or a
+-- hub that plays events
 pub data Wanted : Type 0 where
   OfProgram : (a : Asked) → Wanted
   Serve : (v : Serving) → Wanted
   Child : (s : List ℕ) → Wanted
   Trial : (n : ℕ) → Wanted
+  Play : (p : Playing) → Wanted
 
 -- the fuel of a run, where the words name none, and the most that words may name
 unfoldable pub default_fuel : ℕ
@@ -105,6 +113,15 @@ way_of command =
 unfoldable pub run_of : List ℕ → List ℕ → List ℕ → ℕ → Option Asked
 run_of command a b fuel = cond (bytes_eq command (codes "run")) (Some (Call a b fuel)) (option_map (λ way. Run way a b fuel) (way_of command))
 
+-- `hub E S`
+abbrev pub play_of : List ℕ → List ℕ → Playing
+play_of e s = record { events = e; service = s }
+
+-- what is asked for by three words, if they are understood
+unfoldable pub run_or_play_of : List ℕ → List ℕ → List ℕ → Option Wanted
+run_or_play_of command a b =
+    cond (bytes_eq command (codes "hub")) (Some (Play (play_of a b))) (option_map OfProgram (run_of command a b default_fuel))
+
 -- what is asked for by three words and a number, if they are understood
 unfoldable pub run_or_serve_of : List ℕ → List ℕ → List ℕ → List ℕ → Option Wanted
 run_or_serve_of command a b number =
@@ -114,7 +131,7 @@ run_or_serve_of command a b number =
 -- what words ask for, if they are understood
 abbrev pub wanted : List (List ℕ) → Option Wanted
 wanted (command ∷ f ∷ []) = view_of command f
-wanted (command ∷ a ∷ b ∷ []) = option_map OfProgram (run_of command a b default_fuel)
+wanted (command ∷ a ∷ b ∷ []) = run_or_play_of command a b
 wanted (command ∷ a ∷ b ∷ number ∷ []) = run_or_serve_of command a b number
 wanted _ = None
 
@@ -138,12 +155,17 @@ asked_by (tasks.Split p) = Split p.now
 asked_by (tasks.Run job) = asked_job job
 asked_by (tasks.Call c) = asked_call c
 
--- what is asked of a server, and what a command asks for
+-- what is asked of a server
 abbrev pub serving_by : serving.Serving → Serving
 serving_by v = record { address = v.address.now; service = v.service.now; count = v.count }
+
+-- what is asked of a hub
+abbrev pub playing_by : playing.Playing → Playing
+playing_by p = record { events = p.events.now; service = p.service.now }
 
 abbrev pub wanted_by : Command → Wanted
 wanted_by (commands.Program task) = OfProgram (asked_by task)
 wanted_by (commands.Serve v) = Serve (serving_by v)
 wanted_by (commands.Child s) = Child s.now
 wanted_by (commands.Trial n) = Trial n
+wanted_by (commands.Hub p) = Play (playing_by p)

@@ -24,6 +24,7 @@ use crate::admission::admission;
 use crate::both_run::run_both;
 use crate::dial_run::run_dialled;
 use crate::divisions::divisions_text;
+use crate::hub_run::run_hub;
 use crate::loaded::{loaded_program, loaded_service};
 use crate::refusing::refuse_batch;
 use crate::saying::{run_answer, say};
@@ -36,6 +37,7 @@ use crate::words::{Call, Command, Job, Task, Way, command_of};
 use rb_base::{Files, Listen, Sink};
 use rb_flow::{AdmitStop, Admitted};
 use rb_heap::Heap;
+use rb_hub_lines::event_lines_have_one_reading;
 use rb_parse::sources_have_one_outcome;
 use rb_session::{Dial, Target};
 use rb_split::{SplitStop, split_all};
@@ -267,6 +269,7 @@ fn carry_out<F: Files, W: Sink, D: Dial, N: Listen>(
         Command::Serve(serving) => run_server(alloc, serving, files, out, listen),
         Command::Child(service) => run_child(alloc, service, files, listen),
         Command::Trial(count) => run_trial(alloc, *count, dial, out),
+        Command::Hub(playing) => run_hub(alloc, playing, files, out),
     }
 }
 
@@ -293,6 +296,7 @@ pub fn top<F: Files, W: Sink, D: Dial, N: Listen>(
 {
     sources_have_one_outcome();
     sources_have_one_outcome_as_services();
+    event_lines_have_one_reading();
     match command_of(words) {
         Some(command) => carry_out(alloc, &command, files, out, dial, listen),
         None => say(Status::Words, b"words not understood\n", out),

@@ -63,10 +63,11 @@ pub fn fuel_of(word: &str) -> Option<u64>
 
 /// The count of sessions that a word names: one to ten digits, of 1 to 1,000,000.
 #[tactic(auto, unfolding(crate::specs::Words::most_count))]
-pub fn count_of(word: &str) -> Option<u64>
+pub fn count_of(word: &str) -> Option<u32>
     ensures { result ≡ count_of word.now }
 {
-    number_within(word, MOST_DIGITS, 1, MOST_COUNT)
+    let count = number_within(word, MOST_DIGITS, 1, MOST_COUNT)?;
+    Some(count as u32)
 }
 
 /// The count of files that a word names: one to five digits, of 1 to 10,000.

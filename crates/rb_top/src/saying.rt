@@ -2,8 +2,9 @@
 
 ghost use Rattle.std.specs.Prelude.{◌≡◌, ◌++◌, IfOk};
 ghost use Rattle.rb_meaning.specs.Shown.{line};
-ghost use Rattle.rb_top.specs.Commands.{EndsUnread, run_answer, status_after, stopped_status};
+ghost use Rattle.rb_top.specs.Commands.{EndsUnread, run_answer, status_after};
 ghost use Rattle.rb_top.specs.Ends.{Ends};
+ghost use Rattle.rb_top.specs.Printing.{stopped_status};
 ghost use Rattle.rb_top.specs.Scene.{output};
 
 use crate::loading::TextStop;

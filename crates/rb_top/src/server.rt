@@ -1,116 +1,32 @@
-// A server over the sessions that come at an address, one after the other, each of which is said.
+// A server of a service over the sessions that come at an address.
 
-ghost use Rattle.std.specs.Prelude.{◌≡◌, OnOk};
 ghost use Rattle.rb_trees.specs.mirror.Services.{mirror_service};
 ghost use Rattle.rb_meaning.specs.Links.{IsTyped};
 ghost use Rattle.rb_meaning.specs.Shown.{shown_table};
 ghost use Rattle.rb_base.specs.Devices.{device};
-ghost use Rattle.rb_base.specs.Listening.{ends_of};
 ghost use Rattle.rb_session.specs.Answering.{IsTypedHost};
-ghost use Rattle.rb_session.specs.Serving.{UnlessServedMemory};
 ghost use Rattle.rb_top.specs.Ends.{Ends};
 ghost use Rattle.rb_top.specs.Scene.{directory, output, Across, Between};
-ghost use Rattle.rb_top.specs.ServerParts.{ChildServes, HasSessionOut, ListensAs, SaysSessionAs, ServesNextAs};
-ghost use Rattle.rb_top.specs.Servers.{ServesAs, host_on};
-ghost use Rattle.rb_top.specs.Sessions as sessions;
-ghost use Rattle.rb_top.specs.Sessions.{ServesEnds, ServesSessions};
+ghost use Rattle.rb_top.specs.ServerParts.{ChildServes, ListensAs};
+ghost use Rattle.rb_top.specs.Servers.{ServesAs, ServesHost, host_on};
 ghost use Rattle.rb_top.specs.Words.{serving_by};
 ghost use Rattle.rb_top.specs.declared.status.Status.TheVariants.{Done};
 
 use crate::loaded::loaded_service;
-use crate::printing::{print_objects, write_lines};
+use crate::printing::print_objects;
 use crate::saying::{say, stopped};
-use crate::session_lines::session_line;
+use crate::sessions::{SessionsStop, serve_sessions};
 use crate::status::Status;
 use crate::words::Serving;
-use rb_base::{Failed, Files, Listen, ListenStop, NullSink, Sink};
+use rb_base::{Failed, Files, Listen, NullSink, Sink};
 use rb_exec::Host;
 use rb_heap::Heap;
-use rb_session::{ServeCause, ServeStop, Served, serve};
-use rb_trees::Service;
+use rb_hub::Hub;
+use rb_trees::{Memory, Service};
 use std::alloc::Global;
 
-/// Whether memory was wanting in a session.
-fn is_starved(answer: &Result<Served, ServeStop>) -> bool
-    ensures { result ≡ sessions.is_starved answer.now }
-{
-    match answer {
-        Ok(_) => false,
-        Err(stop) => matches!(stop.cause, ServeCause::Memory),
-    }
-}
-
-/// Says how the session of a number was served, and answers true; or the status with which it is the last: that wasn't said whole,
-/// or memory was wanting in the session.
-fn say_session<W: Sink>(
-    alloc: Global,
-    number: u64,
-    answer: &Result<Served, ServeStop>,
-    out: &mut W,
-) -> Result<bool, Status>
-    ensures { Across W.Sink out.old out.new (SaysSessionAs number answer.now result) }
-{
-    if is_starved(answer) {
-        return Err(Status::Memory);
-    }
-    match session_line(alloc, number, answer) {
-        Err(_) => Err(Status::Memory),
-        Ok(line) => match write_lines(line.as_slice(), out) {
-            Ok(()) => Ok(true),
-            Err(Failed) => Err(Status::WriteFault),
-        },
-    }
-}
-
-/// Serves the session with these two ends, and gives them back.
-fn serve_session<N: Listen>(
-    alloc: Global,
-    host: &mut Host,
-    source: N::S,
-    sink: N::K,
-    listen: &mut N,
-) -> Result<Served, ServeStop>
-    requires typed { IsTypedHost host.old }
-    requires out { HasSessionOut (N.told listen.old) }
-    ensures serves { let listener = device N.told N.faults in
-        let first = ends_of (device N.S.told N.S.faults) (device N.K.told N.K.faults) source sink in
-        ServesEnds result first host.old host.new (listener listen.old) (listener listen.new) }
-    ensures typed { UnlessServedMemory result (IsTypedHost host.new) }
-{
-    let mut from = source;
-    let mut to = sink;
-    let answer = serve(alloc, host, &mut from, &mut to);
-    listen.back(from, to);
-    answer
-}
-
-/// Serves the next session, with a number, and says how; or answers that none comes, or the status of a stop.
-fn serve_next<W: Sink, N: Listen>(
-    alloc: Global,
-    host: &mut Host,
-    number: u64,
-    out: &mut W,
-    listen: &mut N,
-) -> Result<bool, Status>
-    requires { IsTypedHost host.old }
-    ensures serves { let listener = device N.told N.faults in
-        Across W.Sink out.old out.new
-        (ServesNextAs number host.old host.new (listener listen.old) (listener listen.new) result) }
-    ensures typed { OnOk result (IsTypedHost host.new) }
-{
-    match listen.next() {
-        Ok(Some((source, sink))) => {
-            let answer = serve_session(alloc, host, source, sink, listen);
-            say_session(alloc, number, &answer, out)
-        }
-        Ok(None) => Ok(false),
-        Err(ListenStop::Failed) => Err(say(Status::ListenFault, b"listen fault\n", out)),
-        Err(ListenStop::Memory) => Err(Status::Memory),
-    }
-}
-
-/// Prints the table that the sessions left.
-fn say_table<W: Sink>(alloc: Global, table: &Heap, out: &mut W) -> Status
+/// Prints the objects of a table.
+pub fn say_table<W: Sink>(alloc: Global, table: &Heap, out: &mut W) -> Status
     ensures { Ends Done (shown_table 0 table.now) result (output W.Sink out.old) (output W.Sink out.new) }
 {
     match print_objects(alloc, table, out) {
@@ -119,27 +35,24 @@ fn say_table<W: Sink>(alloc: Global, table: &Heap, out: &mut W) -> Status
     }
 }
 
-/// Serves so many sessions at most, says how each was served, and then prints the table.
-fn serve_sessions<W: Sink, N: Listen>(
+/// Serves so many sessions at most by a hub over a host, says how each was served, and then prints the table.
+fn serve_host<W: Sink, N: Listen>(
     alloc: Global,
-    host: &mut Host,
-    count: u64,
+    host: Host,
+    count: u32,
     out: &mut W,
     listen: &mut N,
 ) -> Status
-    requires { IsTypedHost host.old }
+    requires { IsTypedHost host }
     ensures { let listener = device N.told N.faults in
-        Across W.Sink out.old out.new (ServesSessions host.old count result (listener listen.old) (listener listen.new)) }
+        Across W.Sink out.old out.new (ServesHost host count result (listener listen.old) (listener listen.new)) }
 {
-    let mut number = 0;
-    while number < count {
-        match serve_next(alloc, host, number + 1, out, listen) {
-            Ok(true) => number += 1,
-            Ok(false) => return say_table(alloc, host.table(), out),
-            Err(status) => return status,
-        }
+    let mut hub = Hub::make(alloc, host);
+    match serve_sessions(alloc, &mut hub, count, out, listen) {
+        Ok(()) => say_table(alloc, hub.answers().table(), out),
+        Err(SessionsStop::Said(status)) => status,
+        Err(SessionsStop::Answers(Memory)) => Status::Memory,
     }
-    say_table(alloc, host.table(), out)
 }
 
 /// Listens at an address with the server of a service and its table, and serves so many sessions at most.
@@ -156,11 +69,11 @@ fn listen_and_serve<W: Sink, N: Listen>(
         Across W.Sink out.old out.new
         (ListensAs host (serving_by serving.now) result (listener listen.old) (listener listen.new)) }
 {
-    let Ok(mut host) = Host::make(alloc, service, table) else {
+    let Ok(host) = Host::make(alloc, service, table) else {
         return Status::Memory;
     };
     match listen.start(serving.address) {
-        Ok(()) => serve_sessions(alloc, &mut host, serving.count, out, listen),
+        Ok(()) => serve_host(alloc, host, serving.count, out, listen),
         Err(Failed) => say(Status::ListenFault, b"listen fault\n", out),
     }
 }

@@ -53,6 +53,8 @@ pub enum Status {
     ListenFault,
     /// The file of this name has more than 1,048,576 bytes.
     FileTooLong(Word),
+    /// The line of the events with this number, from 1, is the first that is no event's.
+    EventRefused(u64),
 }
 
 impl Status {
@@ -75,6 +77,7 @@ impl Status {
             Status::DialFault => 11,
             Status::ListenFault => 12,
             Status::FileTooLong(_) => 13,
+            Status::EventRefused(_) => 14,
         }
     }
 }

@@ -3,7 +3,7 @@
 ghost use Rattle.std.specs.Prelude.{◌≡◌};
 ghost use Rattle.std.specs.Option.{option_map};
 ghost use Rattle.rb_top.specs.Trials.{asked_in_trial};
-ghost use Rattle.rb_top.specs.Words.{OfProgram, texts, wanted, wanted_by, asked_by, asked_job, program_name, view_of, run_of, run_or_serve_of, way_of, child_of, serving_by, default_fuel};
+ghost use Rattle.rb_top.specs.Words.{texts, wanted, wanted_by, asked_by, asked_job, program_name, view_of, run_of, run_or_play_of, run_or_serve_of, way_of, child_of, serving_by};
 
 use crate::numbers::{count_of, fuel_of, trial_count_of};
 
@@ -60,7 +60,14 @@ pub enum Task<'w> {
 pub struct Serving<'w> {
     pub address: &'w str,
     pub service: &'w str,
-    pub count: u64,
+    pub count: u32,
+}
+
+/// What is asked of a hub: the names of the files of its events and of its service.
+#[derive(Drop)]
+pub struct Playing<'w> {
+    pub events: &'w str,
+    pub service: &'w str,
 }
 
 /// A command that was understood.
@@ -73,6 +80,8 @@ pub enum Command<'w> {
     Child(&'w str),
     /// `trial N`: runs the program of a trial on its service of N files.
     Trial(u64),
+    /// `hub E S`: plays the events in the file E by a hub over the service in the file S.
+    Hub(Playing<'w>),
 }
 
 impl Job<'_> {
@@ -195,10 +204,16 @@ fn numbered_command<'w>(
 }
 
 /// The command of three words.
-#[tactic(auto, unfolding(crate::specs::Words::default_fuel))]
-fn run_command<'w>(command: &str, first: &'w str, second: &'w str) -> Option<Command<'w>>
-    ensures { option_map wanted_by result ≡ option_map OfProgram (run_of command.now first.now second.now default_fuel) }
+#[tactic(auto, unfolding(crate::specs::Words::default_fuel, crate::specs::Words::run_or_play_of))]
+fn plain_command<'w>(command: &str, first: &'w str, second: &'w str) -> Option<Command<'w>>
+    ensures { option_map wanted_by result ≡ run_or_play_of command.now first.now second.now }
 {
+    if command == "hub" {
+        return Some(Command::Hub(Playing {
+            events: first,
+            service: second,
+        }));
+    }
     let task = run_task(command, first, second, DEFAULT_FUEL)?;
     Some(Command::Program(task))
 }
@@ -210,7 +225,7 @@ pub fn command_of(words: &[String]) -> Option<Command<'_>>
     match words {
         [command, operand] => view_command(command.as_str(), operand.as_str()),
         [command, first, second] => {
-            run_command(command.as_str(), first.as_str(), second.as_str())
+            plain_command(command.as_str(), first.as_str(), second.as_str())
         }
         [command, first, second, number] => numbered_command(
             command.as_str(),
