@@ -6,6 +6,10 @@ mod crashes;
 #[cfg(test)]
 mod hosts;
 #[cfg(test)]
+mod kept;
+#[cfg(test)]
 mod payloads;
 #[cfg(test)]
 mod rows;
+#[cfg(test)]
+mod stores;

@@ -56,11 +56,7 @@ pub rest_nodes : (xs : List Node) (i : ℕ) (x : Node) → x ≡ get_or xs i x �
 rest_nodes xs i x is h = ap (λ ys. nodes_data (mirror_nodes ys)) (drop-cons xs i x h) ∙ ap (λ w. item (node_data (mirror_node w)) (nodes_data (mirror_nodes (drop (suc i) xs)))) (sym is)
 
 pub ruleset values = (the_lemmas, common_steps)
-
 pub ruleset exprs = (sexprs, common_steps)
-
 pub ruleset steps = (mirrored.steps, common_steps)
-
 pub ruleset nodes = (forest.nodes, common_steps)
-
 pub ruleset lists = (before_none, before_more, rest_primitives, rest_inputs, rest_exprs, rest_steps, rest_entries, rest_nodes, common_steps)

@@ -68,9 +68,6 @@ no_steps p (array ds) h = absurd cc
 no_steps p (object ms) h = refl
 
 pub ruleset worded_steps = (unworded_step, common_steps)
-
 pub ruleset parts = (mirrored.steps, count_pos, common_steps)
-
 pub ruleset lists = (array_is, no_steps, common_steps)
-
 pub ruleset step_lists = (steps_onto_none, steps_whole, steps_step, steps_wrong, rest_view, part_counts, common_steps)

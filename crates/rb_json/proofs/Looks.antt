@@ -133,13 +133,8 @@ pub rest_view : (vs : List Value) (i : ℕ) (v : Value) → v ≡ get_or vs i v 
 rest_view vs i v is h = ap items_view (drop-cons vs i v h) ∙ ap (λ w. item (view w) (items_view (drop (suc i) vs))) (sym is)
 
 pub ruleset numbers = (number_counts, nat_tests, common_steps)
-
 pub ruleset truths = (boolean_is, common_steps)
-
 pub ruleset texts = (string_is, no_name, nat_tests, common_steps)
-
 pub ruleset values = (signed_so, number_is, boolean_is, string_is, no_value, text_utf8, nat_tests, the_lemmas, common_steps)
-
 pub ruleset lists = (onto_none, values_step, inputs_step, values_wrong, inputs_wrong, rest_view, common_steps)
-
 pub ruleset inputs = (array_is, no_list, no_inputs, items_counted, nat_tests, the_lemmas, common_steps)

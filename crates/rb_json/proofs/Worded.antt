@@ -134,13 +134,8 @@ no_exprs p (array ds) h = absurd cc
 no_exprs p (object ms) h = refl
 
 pub ruleset words = (array_is, string_is, no_array_word, no_word, common_steps)
-
 pub ruleset exprs = (unworded_expr, common_steps)
-
 pub ruleset chosen = (items_counted, sexprs, nat_tests, common_steps)
-
 pub ruleset parts = (sexprs, one_part, count_pos, common_steps)
-
 pub ruleset lists = (array_is, no_exprs, common_steps)
-
 pub ruleset expr_lists = (exprs_onto_none, exprs_whole, exprs_step, exprs_wrong, rest_view, part_counts, common_steps)

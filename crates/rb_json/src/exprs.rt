@@ -133,12 +133,7 @@ impl Reader {
     }
 
     /// The position of a call, its kind, and the name of its method.
-    fn method(
-        &mut self,
-        at: &Value,
-        kind: &Value,
-        name: &Value,
-    ) -> Result<(u32, u8, Shared<Word>), ReadStop>
+    fn method(&mut self, at: &Value, kind: &Value, name: &Value) -> Result<(u32, u8, Shared<Word>), ReadStop>
         ensures reads { Gives (λ m. (m.0, m.1, m.2)) wrong result
             (form.method_at self.old.place (view at.now) (view kind.now) (view name.now)) }
         ensures next { OnOk result

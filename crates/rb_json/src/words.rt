@@ -51,7 +51,5 @@ pub(crate) fn six(parts: &[Value]) -> (&Value, &Value, &Value, &Value, &Value, &
     ensures { items_view parts.now ≡ item (view result.0.now) (item (view result.1.now)
         (item (view result.2.now) (item (view result.3.now) (item (view result.4.now) (item (view result.5.now) no_items))))) }
 {
-    (
-        &parts[0], &parts[1], &parts[2], &parts[3], &parts[4], &parts[5],
-    )
+    (&parts[0], &parts[1], &parts[2], &parts[3], &parts[4], &parts[5])
 }
