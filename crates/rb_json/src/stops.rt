@@ -8,8 +8,8 @@ pub enum JsonRefusal {
     /// They have no reading as JSON of at most 127 levels.
     #[error("not JSON of at most 127 levels")]
     NotJson,
-    /// The number of the first value that breaks the form. Values are numbered from 0, a value before its parts, and members in
-    /// the order of their keys.
+    /// The first value that isn't of the form, by its number. The whole is 0, and each value's parts are counted after it: items
+    /// as they stand, members by their keys.
     #[error("wrong form at value {0}")]
     WrongForm(u32),
 }
