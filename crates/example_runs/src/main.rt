@@ -10,13 +10,15 @@ use std::rt::Files;
 use std::{fs, io, str};
 
 /// The commands, whose words single spaces part. What has a `.` in it names a file.
-const COMMANDS: [&str; 22] = [
+const COMMANDS: [&str; 24] = [
     "both large.rbi files.rbs",
     "unsplit large.rbi files.rbs",
     "split large.rbi",
     "both rename.rbi files.rbs",
     "both cart.rbi shop.rbs",
     "both report.rbi folders.rbs",
+    "both prices.rbi prices.rbs",
+    "split prices.rbi",
     "both local_fault.rbi files.rbs",
     "check refused.rbi",
     "both mended.rbi files.rbs",

@@ -19,7 +19,8 @@ use Rattle.rb_meaning_code.specs.Expressions.{evaluates}
 use Rattle.rb_meaning_code.specs.State.{Local, bound, spent}
 use Rattle.rb_meaning_code.specs.Statements.{performs}
 use Rattle.rb_meaning.specs.State.{Event}
-use Rattle.rb_meaning_split.specs.Replay.{Seen, Replayed, Rest, after, behind, ended, far_fault, fault_at, in_replay, items_of, list_turns, missed, on_branch, on_items, on_rows, on_turn, on_unit, on_value, own_fault, replay, replay_all, taken, turns, unless}
+use Rattle.rb_meaning.specs.ConstantLists.{items_of}
+use Rattle.rb_meaning_split.specs.Replay.{Seen, Replayed, Rest, after, behind, ended, far_fault, fault_at, in_replay, list_turns, missed, on_branch, on_items, on_rows, on_turn, on_unit, on_value, own_fault, replay, replay_all, taken, turns, unless}
 use Rattle.rb_client.proofs.Events.{Coming, replay_more}
 
 module _ (c : Coming) where

@@ -88,15 +88,16 @@ module _ {L W : Type 0} (gl : links.Ghosts L) (gw : sinks.Ghosts W) where
 
   -- Batches.
 
-  found_in : (w w' : ClientWorld L W) (at : ℕ) (l : Local) (e : Result (Outcome (Unit {0})) RunStop) (split : Split) → AreDivisions w.plan.now.program w.plan.now.splits → split_at w.plan.now.splits at ≡ Some split → PerformsSplit gl gw split at w l e w'
+  found_in : (w w' : ClientWorld L W) (at : ℕ) (l : Local) (e : Result (Outcome (Unit {0})) RunStop) (split : Split) → AreDivisions w.plan.now.program w.plan.now.splits → split_at w.plan.now.splits at ≡ Some split → PerformsSplit gl gw split w l e w'
       → client_performs gl gw w at l e w'
   found_in w w' at l e split are is h = λ o past sees.
       let f = some_found (mirror_program w.plan.now.program) w.plan.now.splits at split are.divided is in
       let stands : batch_at o.program at ≡ Some f.batch = ap (λ p. batch_at p at) (sym sees.program_so) ∙ f.stands in
-      subst (λ b. PerformedAs gl gw o past b at l e w') (sym stands) (h o past f.batch sees stands (f.is ∙ ap (λ p. division p f.batch) sees.program_so))
+      let done = h o past f.batch sees (ap (batch_at o.program) f.place ∙ stands) (f.is ∙ ap (λ p. division p f.batch) sees.program_so) in
+      subst (λ b. PerformedAs gl gw o past b at l e w') (sym stands) (subst (λ place. PerformedAs gl gw o past (Some f.batch) place l e w') f.place done)
 
   pub batch_found : (w w' : ClientWorld L W) (at : ℕ) (l l' : Local) (q : Result (Result (Unit {0}) Raised) (Halt RunStop)) (split : Split) → AreDivisions w.plan.now.program w.plan.now.splits → split_at w.plan.now.splits at ≡ Some split
-      → Answered (performed l' q) (λ e. PerformsSplit gl gw split at w l e w') → Answered (performed l' q) (λ e. client_performs gl gw w at l e w')
+      → Answered (performed l' q) (λ e. PerformsSplit gl gw split w l e w') → Answered (performed l' q) (λ e. client_performs gl gw w at l e w')
   batch_found w w' at l l' (Ok (Ok u)) split are is h = found_in w w' at l (Ok (Gave tt l')) split are is h
   batch_found w w' at l l' (Ok (Err f)) split are is h = found_in w w' at l (Ok (Faulted f l')) split are is h
   batch_found w w' at l l' (Err halt.Memory) split are is h = tt

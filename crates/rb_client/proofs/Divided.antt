@@ -1,5 +1,6 @@
 -- The division that is found by its position is that of the batch there.
 use Rattle.std.proofs.Common.{◌≡◌, refl, sym, ap, ◌∙◌, subst, ℕ, List, [], ◌∷◌, length}
+use Rattle.std.proofs.lemmas.Bool.{eqb-true}
 use Rattle.std.specs.Prelude.{Bool, true, false, cond, nat_eq, nat_lt, map, Option, None, Some, Result, Ok, Err}
 use Rattle.std.specs.List.{Contains}
 use Rattle.rb_trees.specs.CodeSize.{code_size_of}
@@ -8,16 +9,18 @@ use Rattle.rb_trees.specs.declared.remainders.Split.{Split}
 use Rattle.rb_trees.specs.mirror.Declarations.{Program}
 use Rattle.rb_trees.specs.mirror.Scripts.{mirror_script}
 use Rattle.rb_meaning_types.specs.Lawful.{IsLawful}
+use Rattle.rb_meaning_types.specs.Programs.{check_program}
 use Rattle.rb_meaning_flow.specs.Facts.{facts_of}
 use Rattle.rb_meaning_flow.specs.Outermost.{Outermost, program_batches}
 use Rattle.rb_meaning.specs.Unsplit.{batch_at, batch_within}
 use Rattle.rb_meaning_split.specs.Division.{Division, checked_code, divided, divided_all, divided_before, division, divisions, inputs_of, longest_code, most_inputs, mirror_split}
+use Rattle.rb_flow.specs.Program.{HasNoRefusal}
 use Rattle.rb_law_division.specs.Sendable.{DividedCanBeSent, HasPlaces}
 use Rattle.rb_flow.proofs.Members.{first_contained, more_contained}
 use Rattle.rb_client.specs.Exchanges.{AllCanBeSent, CanBeSent}
 use Rattle.rb_client.specs.Splits.{split_at}
 
-position : (p : Program) (b : Outermost) → (division p b).at ≡ b.at
+pub position : (p : Program) (b : Outermost) → (division p b).at ≡ b.at
 unfolding division
 position p b = refl
 
@@ -61,6 +64,7 @@ none_before (Ok x) (Ok xs) h = absurd (cc h)
 pub record IsOf (p : Program) (bs : List Outermost) (at : ℕ) (split : Split) : Type 0 where
   pub batch : Outermost
   pub stands : batch_within bs at ≡ Some batch
+  pub place : split.at ≡ at
   pub is : mirror_split split ≡ division p batch
 
 found_here : (p : Program) (bs : List Outermost) (ss : List Split) (at : ℕ) (split : Split) (b : Outermost) (s : Split) (t : Bool) → nat_eq s.at at ≡ t → b.at ≡ s.at → mirror_split s ≡ division p b
@@ -70,6 +74,7 @@ found_here p bs ss at split b s true e same is rest h =
     record {
       batch = b;
       stands = ap (λ n. cond (nat_eq n at) (Some b) (batch_within bs at)) same ∙ ap (λ t. cond t (Some b) (batch_within bs at)) e;
+      place = ap (λ x. x.at) (sym found) ∙ eqb-true s.at at e;
       is = ap mirror_split (sym found) ∙ is;
     }
 found_here p bs ss at split b s false e same is rest h =
@@ -77,6 +82,7 @@ found_here p bs ss at split b s false e same is rest h =
     record {
       batch = r.batch;
       stands = ap (λ n. cond (nat_eq n at) (Some b) (batch_within bs at)) same ∙ ap (λ t. cond t (Some b) (batch_within bs at)) e ∙ r.stands;
+      place = r.place;
       is = r.is;
     }
 
@@ -125,13 +131,13 @@ found_counted p ss at split h e =
     ap (λ d. d.script.inputs) f.is ∙ counted p f.batch ∙ ap (λ d. length d.inputs) (sym f.is)
 
 -- the script of each division can be sent
-all_sent_in : (p : Program) → IsLawful p → HasPlaces p → DividedCanBeSent → (bs : List Outermost) (ss : List Split) → ((b : Outermost) → Contains bs b → Contains (program_batches (facts_of p) p) b) → divided_all p bs ≡ Ok (map mirror_split ss) → AllCanBeSent ss
-all_sent_in p lawful places law bs [] within h = tt
-all_sent_in p lawful places law [] (s ∷ ss) within h = absurd (cc h)
-all_sent_in p lawful places law (b ∷ bs) (s ∷ ss) within h =
+all_sent_in : (p : Program) → IsLawful p → check_program p ≡ Ok tt → HasNoRefusal p → HasPlaces p → DividedCanBeSent → (bs : List Outermost) (ss : List Split) → ((b : Outermost) → Contains bs b → Contains (program_batches (facts_of p) p) b) → divided_all p bs ≡ Ok (map mirror_split ss) → AllCanBeSent ss
+all_sent_in p lawful checked none places law bs [] within h = tt
+all_sent_in p lawful checked none places law [] (s ∷ ss) within h = absurd (cc h)
+all_sent_in p lawful checked none places law (b ∷ bs) (s ∷ ss) within h =
     let parts = before (divided p b) (divided_all p bs) (mirror_split s) (map mirror_split ss) h in
-    let can = law p lawful places b (within b (first_contained b bs)) (mirror_split s) parts.first in
-    (record { formed = can.formed; plain = can.plain; valid = can.valid }, all_sent_in p lawful places law bs ss (λ c is. within c (more_contained b bs c is)) parts.others)
+    let can = law p lawful checked none places b (within b (first_contained b bs)) (mirror_split s) parts.first in
+    (record { formed = can.formed; valid = can.valid }, all_sent_in p lawful checked none places law bs ss (λ c is. within c (more_contained b bs c is)) parts.others)
 
-pub all_sent : (p : Program) → IsLawful p → HasPlaces p → DividedCanBeSent → (ss : List Split) → divisions p ≡ Ok (map mirror_split ss) → AllCanBeSent ss
-all_sent p lawful places law ss h = all_sent_in p lawful places law (program_batches (facts_of p) p) ss (λ b is. is) h
+pub all_sent : (p : Program) → IsLawful p → check_program p ≡ Ok tt → HasNoRefusal p → HasPlaces p → DividedCanBeSent → (ss : List Split) → divisions p ≡ Ok (map mirror_split ss) → AllCanBeSent ss
+all_sent p lawful checked none places law ss h = all_sent_in p lawful checked none places law (program_batches (facts_of p) p) ss (λ b is. is) h

@@ -1,6 +1,6 @@
 -- Over an honest link what a run leaves is what its program means, on the tables that its batches find.
 use Rattle.std.proofs.Common.{◌≡◌, ◌⊎◌, inl, inr, refl, sym, ap, ◌∙◌, subst, ℕ, List, [], ◌∷◌, ◌++◌, length, drop}
-use Rattle.std.specs.Prelude.{Option, Some, Result, Ok, Err}
+use Rattle.std.specs.Prelude.{false, Option, Some, Result, Ok, Err}
 use Rattle.std.specs.List.{AllByRecursion}
 use Rattle.rb_trees.specs.declared.outcomes.Raised.{Raised}
 use Rattle.rb_trees.specs.declared.outcomes.Run as runs
@@ -16,14 +16,15 @@ use Rattle.rb_meaning_code.specs.Dialogue as ask
 use Rattle.rb_meaning_code.specs.Dialogue.{Question, Outcome, Dialogue, Done, Ask, AskBatch, Handler}
 use Rattle.rb_meaning_code.specs.Led.{Passes, here, answered, performed}
 use Rattle.rb_meaning_code.specs.State.{Local}
+use Rattle.rb_meaning.specs.ConstantLists.{takes_too_many}
 use Rattle.rb_meaning.specs.Links.{Behind, IsTyped, TellsTyped}
-use Rattle.rb_meaning.specs.Meaning.{Around, answers_around, around_of, at_batch, in_main, outside_of, performs_found}
+use Rattle.rb_meaning.specs.Meaning.{Around, answers_around, around_of, at_batch, begins_or_faults, in_main, outside_of, performs_found}
 use Rattle.rb_meaning.specs.Others.{Others, FoundThrough, found_table, last_table}
 use Rattle.rb_meaning.specs.Shown.{exchanges, line, shown_events}
 use Rattle.rb_meaning.specs.State.{Event, Outside}
 use Rattle.rb_meaning.specs.Unsplit.{batch_at, performs_batch}
 use Rattle.rb_meaning_flow.specs.Outermost.{Outermost}
-use Rattle.rb_meaning_split.specs.Client.{Waiting, client, fits_batch, sent_for}
+use Rattle.rb_meaning_split.specs.Client.{Waiting, are_too_many, client, fits_batch, sent_for}
 use Rattle.rb_meaning_split.specs.Division.{Division, division, divisions}
 use Rattle.rb_law_division.specs.Fitting.{node_of}
 use Rattle.rb_law_division.specs.Sendable.{HasPlaces}
@@ -38,6 +39,7 @@ use Rattle.rb_base.specs.Devices.{failed}
 use Rattle.rb_base.specs.Links.{Finds, FindsFitting, FindsStanding}
 use Rattle.rb_base.specs.Sinks.{with_bytes, WrotePrefix}
 use Rattle.rb_client.specs.Clients.{FailsToAnswer, Past, waiting}
+use Rattle.rb_client.specs.Demands.{demand_of}
 use Rattle.rb_client.specs.Headline.{EndsAsMeant, LosesBatch, LosesLines, MeansProgram, MeansWhereHonest, MeansWhereQuiet, StandsAt, meant_on, table_behind}
 use Rattle.rb_client.specs.MainRuns.{ComesTo, EndsAt, Leaves, StopsWriting}
 use Rattle.rb_client.specs.Remote.{ReachedPerformRemoteParts}
@@ -121,6 +123,13 @@ module _ (laws : Laws) (p : Program) (lawful : IsLawful p) (checked : check_prog
     exchanged : (at : ℕ) (l : Local) (go : Outcome (Unit {0}) → Rest) (a : Around) → ProgramComesTo p b.service b.table others fuel (AskBatch at l go) a → (s : Outside) → TableFits b.service.classes b.service.root s.server.table
         → CanBeExchanged p b.service at l s
     exchanged at l go a comes s fits_so = laws.exchanged p lawful checked none places ds divided b.service b.table typed others keep fuel at l go a comes s fits_so
+
+    -- the batch begins where its inputs don't have too many items
+    begins_there : (at : ℕ) (l : Local) (go : Outcome (Unit {0}) → Rest) (o : Outermost) (a : Around) → ProgramComesTo p b.service b.table others fuel (AskBatch at l go) a → batch_at p at ≡ Some o → (s : Outside)
+        → TableFits b.service.classes b.service.root s.server.table → takes_too_many p o l.names ≡ are_too_many (division p o) l
+    begins_there at l go o a comes stands s fits_so =
+        let x = exchanged at l go a comes s fits_so in
+        subst (λ y. takes_too_many p y l.names ≡ are_too_many (division p y) l) (same_some (batch_at p at) x.batch o x.stands stands) x.limit
 
     -- the table that a batch's script leaves of one that fits
     left_behind : (at : ℕ) (l : Local) (go : Outcome (Unit {0}) → Rest) (o : Outermost) (a : Around) (found : List Object) → ProgramComesTo p b.service b.table others fuel (AskBatch at l go) a → batch_at p at ≡ Some o
@@ -216,10 +225,16 @@ module _ (laws : Laws) (p : Program) (lawful : IsLawful p) (checked : check_prog
         table_so : s.server.table ≡ found
         table_so = ap (λ os. found_table os a.outside.server.table) come.others_so ∙ ap (found_table (drop (length last.before) others)) come.table ∙ sym so_far.found_so
 
+        there : TableFits b.service.classes b.service.root s.server.table
+        there = subst (TableFits b.service.classes b.service.root) (sym table_so) fits_so
+
         keeps : KeepsMeaning p b.service o l s
         keeps =
-            let x = exchanged at l go a come.comes s (subst (TableFits b.service.classes b.service.root) (sym table_so) fits_so) in
+            let x = exchanged at l go a come.comes s there in
             subst (λ y. KeepsMeaning p b.service y l s) (same_some (batch_at p at) x.batch o x.stands stands) x.keeps
+
+        begins_so : takes_too_many p o l.names ≡ false
+        begins_so = begins_there at l go o a come.comes stands s there ∙ f.begins
 
         own_so : (performs_batch p b.service o l s).1.events ≡ a.outside.events ++ f.own
         own_so =
@@ -244,7 +259,8 @@ module _ (laws : Laws) (p : Program) (lawful : IsLawful p) (checked : check_prog
         in_batch =
             let next = performs_found p b.service (batch_at p at) at l a in
             let shows : shown_events next.1.outside.events ≡ shown_events a.outside.events ++ shown_events f.own =
-            ap (λ y. shown_events (performs_found p b.service y at l a).1.outside.events) stands ∙ ap shown_events own_so ∙ shown_append a.outside.events f.own in
+            ap (λ y. shown_events (performs_found p b.service y at l a).1.outside.events) stands ∙ ap (λ t. shown_events (begins_or_faults t p b.service o l a).1.outside.events) begins_so
+            ∙ ap shown_events own_so ∙ shown_append a.outside.events f.own in
             record {
               place = inr (record {
                 at = at;
@@ -255,6 +271,7 @@ module _ (laws : Laws) (p : Program) (lawful : IsLawful p) (checked : check_prog
                 own = f.own;
                 comes = come.comes;
                 stands = stands;
+                begins = begins_so;
                 own_so = own_so;
                 written = written_so;
                 served = served_there;
@@ -296,6 +313,7 @@ module _ (laws : Laws) (p : Program) (lawful : IsLawful p) (checked : check_prog
         batch = e.batch;
         comes = came.comes;
         stands = e.stands;
+        begins = begins_there e.at e.local e.go e.batch came.around came.comes e.stands (outside_of gone.table) found_fits ∙ e.stops_so.begins;
         count = e.stops_so.gives_none.0 ∙ sym (passed_counted p (main_run p fuel) rest (with_nodes e.past.nodes) (waiting e.past []) (client_comes p fuel e.past rest e.comes).passes refl)
             ∙ ap exchanges (sym came.events);
         written = e.stops_so.written ∙ ap (λ es. with_bytes before.out (shown_events es)) (sym came.events);
@@ -312,7 +330,7 @@ module _ (laws : Laws) (p : Program) (lawful : IsLawful p) (checked : check_prog
         let rest = AskBatch e.at e.local e.go in
         let c = far e.past rest t.found t.left e.comes t.given through in
         let d = division p e.batch in
-        let m = misfit_there b t.found t.left (last_table b.table t.left) (sent_for d e.local) d.remainder e.stops_so.server t.is (e.stops_so.lost.1 honest) in
+        let m = misfit_there b t.found t.left (last_table b.table t.left) (sent_for d e.local) (demand_of d e.local) e.stops_so.server t.is (e.stops_so.lost.1 honest) in
         let x = exchanged e.at e.local e.go c.around c.comes (outside_of m.0) m.1 in
         let same = same_some (batch_at p e.at) x.batch e.batch x.stands e.stands in
         m.2 (subst (λ y. fits_batch (division p y) e.local (node_of p y b.service m.0 e.local) ≡ Ok tt) same x.fits_so)

@@ -7,6 +7,7 @@ pub mod Events
 pub mod Fronts
 pub mod Missed
 pub mod Parted
+pub mod FormsApart
 pub mod Replaying
 pub mod Told
 pub mod Weight
@@ -28,3 +29,4 @@ pub mod Ways
 pub mod Headline
 pub mod Typed
 pub mod Requested
+pub mod Measured

@@ -16,7 +16,8 @@ use Rattle.rb_meaning_code.specs.Dialogue.{Outcome, Gave, Faulted}
 use Rattle.rb_meaning_code.specs.Faults.{fuel_used, raised}
 use Rattle.rb_meaning_code.specs.State.{Local, Names, bound, closed, spent}
 use Rattle.rb_meaning.specs.State.{Event}
-use Rattle.rb_meaning_split.specs.Replay.{Seen, Replayed, Rest, after_unit, behind, behind_end, ended, fault_at, items_of, list_turns, missed, on_items, on_rows, on_unit, stopped}
+use Rattle.rb_meaning.specs.ConstantLists.{items_of}
+use Rattle.rb_meaning_split.specs.Replay.{Seen, Replayed, Rest, after_unit, behind, behind_end, ended, fault_at, list_turns, missed, on_items, on_rows, on_unit, stopped}
 use Rattle.rb_base.specs.Devices.{Device}
 use Rattle.rb_base.specs.declared.sinks.Sink as sinks
 use Rattle.rb_engine.specs.Locals.{local}

@@ -62,6 +62,7 @@ module _ (p : Program) (fuel : ℕ) (before after : Scene) where
     batch = e.batch;
     local = e.local;
     reaches = record { at = e.at; go = e.go; stands = e.stands; comes = client_comes p fuel e.past (AskBatch e.at e.local e.go) e.comes };
+    begins = e.stops_so.begins;
     written = e.stops_so.written;
     gives_none = e.stops_so.gives_none;
     lends_so = e.stops_so.lends_so;

@@ -1,6 +1,6 @@
 -- What a client shows: its batches only add events, with one for each script that it sends.
 use Rattle.std.proofs.Common.{◌≡◌, refl, ◌∙◌, arith, ℕ, ◌+◌, List, [], ◌∷◌, ◌++◌, length, length-append}
-use Rattle.std.specs.Prelude.{Option, None, Some}
+use Rattle.std.specs.Prelude.{Bool, true, false, Option, None, Some}
 use Rattle.rb_trees.specs.mirror.Declarations.{Program}
 use Rattle.rb_trees.specs.mirror.Forests.{Node}
 use Rattle.rb_meaning_code.specs.Dialogue as ask
@@ -12,7 +12,7 @@ use Rattle.rb_meaning.specs.State as state
 use Rattle.rb_meaning.specs.State.{Event}
 use Rattle.rb_meaning.specs.Unsplit.{batch_at}
 use Rattle.rb_meaning_flow.specs.Outermost.{Outermost}
-use Rattle.rb_meaning_split.specs.Client.{Waiting, answers_waiting, begins, client, in_client, performs_divided, replays_next, sent_for}
+use Rattle.rb_meaning_split.specs.Client.{Waiting, answers_waiting, are_too_many, begins, begins_or_faults, client, in_client, performs_divided, replays_next, sent_for}
 use Rattle.rb_meaning_split.specs.Division.{Division, division}
 use Rattle.rb_meaning_split.specs.Replay.{ended}
 use Rattle.rb_law_client.specs.Reached.{main_run, with_nodes}
@@ -60,9 +60,13 @@ module _ (p : Program) where
   replayed_counted d l s [] h = h
   replayed_counted d l s (n ∷ ns) h = parts_more counting p.classes l.fuel d.remainder l (record { events = s.events; node = n }) ended (ended_adds counting) ∙ h
 
+  begun_or_not : (t : Bool) (b : Outermost) (l : Local) (s : Waiting) → Counted s → Counted (begins_or_faults t p b l s).1
+  begun_or_not true b l s h = h
+  begun_or_not false b l s h = replayed_counted (division p b) l (begins (division p b) l s) s.nodes (begun_counted (division p b) l s h)
+
   performed_counted : (b : Option Outermost) (at : ℕ) (l : Local) (s : Waiting) → Counted s → Counted (performs_divided p b at l s).1
   performed_counted None at l s h = h
-  performed_counted (Some b) at l s h = replayed_counted (division p b) l (begins (division p b) l s) s.nodes (begun_counted (division p b) l s h)
+  performed_counted (Some b) at l s h = begun_or_not (are_too_many (division p b) l) b l s h
 
   answered_counted : (s : Waiting) (q : Question) → Counted s → Counted (answers_waiting s q).1
   answered_counted s (ask.Line at bytes) h = let a = exchanges_append s.events (state.Line bytes ∷ []) in omega (arith, h, a)

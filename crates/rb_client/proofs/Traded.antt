@@ -5,9 +5,8 @@ use Rattle.std.specs.Prelude.{true, false, Option, None, Some, Result, Ok, Err}
 use Rattle.rb_trees.specs.Outcome.{Refuses}
 use Rattle.rb_trees.specs.declared.services.Object.{Object}
 use Rattle.rb_trees.specs.mirror.Forests.{Node}
-use Rattle.rb_trees.specs.mirror.Remainders.{Parts}
 use Rattle.rb_trees.specs.mirror.Services.{Service}
-use Rattle.rb_meaning_bytes.specs.Fits.{Unfit, At, Extra, fits}
+use Rattle.rb_meaning_bytes.specs.Fits.{Unfit, At, Extra}
 use Rattle.rb_meaning_bytes.specs.formats.Fields.{IsBytes}
 use Rattle.rb_meaning_bytes.specs.formats.Formats.{Format, FirstViolation, Spells}
 use Rattle.rb_meaning_bytes.specs.formats.Forests.{forest_message}
@@ -29,6 +28,7 @@ use Rattle.rb_wire_forest.specs.Payloads.{Means, Violation, spelled, violated}
 use Rattle.rb_wire_forest.specs.declared.forest.Forest.{Forest}
 use Rattle.rb_wire_forest.specs.declared.fitting.Misfit.{Misfit}
 use Rattle.rb_wire_forest.specs.declared.fitting.Misfit.TheVariants as amiss
+use Rattle.rb_client.specs.Demands.{Demand, meets}
 use Rattle.rb_client.specs.Replies.{GivesNoNode, GotBad, GotFault, GotReply, HasReason, IsAlone, IsForest, IsMisfit, Reads, Replied, Takes, WhereSent, more_pairs, pair_of, pairs_of, refused_pairs}
 use Rattle.rb_client.specs.Servers.{HasServed, PerformedAll}
 use Rattle.rb_client.specs.Serving.{AsFound, CountsOne, GivesMisfit, GivesReply, LosesSent, MayPerform, server_of, table_left}
@@ -59,45 +59,45 @@ Only payload read = (meant : Result Node Violation) → Means forest_message pay
 alone : (payload : List ℕ) (n : Node) → Only payload (Ok n) → IsAlone payload n
 alone payload n only other s = cc (only (Ok other) (spelled other s))
 
-pub forest_so : (remainder : Parts) (payload : List ℕ) (n : Node) → Means forest_message payload (Ok n) → Only payload (Ok n) → fits n remainder [] ≡ Ok tt → IsForest remainder forest_kind payload n × IsAlone payload n
-forest_so remainder payload n means only e = (record { kind_so = refl; spells = spelled_of forest_message payload n (Ok n) refl means; fits_so = e }, alone payload n only)
+pub forest_so : (demand : Demand) (payload : List ℕ) (n : Node) → Means forest_message payload (Ok n) → Only payload (Ok n) → meets demand n ≡ Ok tt → IsForest demand forest_kind payload n × IsAlone payload n
+forest_so demand payload n means only e = (record { kind_so = refl; spells = spelled_of forest_message payload n (Ok n) refl means; fits_so = e }, alone payload n only)
 
-pub no_node : (remainder : Parts) (payload : List ℕ) (v : Violation) → Only payload (Err v) → GivesNoNode remainder forest_kind payload
-no_node remainder payload v only n f = let e = only (Ok n) (spelled n f.spells) in absurd (cc e)
+pub no_node : (demand : Demand) (payload : List ℕ) (v : Violation) → Only payload (Err v) → GivesNoNode demand forest_kind payload
+no_node demand payload v only n f = let e = only (Ok n) (spelled n f.spells) in absurd (cc e)
 
 unfit_so : (misfit : Misfit) (r : Result (Unit {0}) Unfit) → Refuses (unfit misfit) r → (why : Unfit) × (r ≡ Err why) × (unfit misfit ≡ Some why)
 unfit_so (amiss.At step) r e = (At step, e, refl)
 unfit_so amiss.Extra r e = (Extra, e, refl)
 
-pub misfit_so : (remainder : Parts) (payload : List ℕ) (n : Node) (misfit : Misfit) → Means forest_message payload (Ok n) → Only payload (Ok n) → Refuses (unfit misfit) (fits n remainder [])
-    → IsMisfit remainder forest_kind payload (unfit misfit) × GivesNoNode remainder forest_kind payload
-misfit_so remainder payload n misfit means only e =
-    let u = unfit_so misfit (fits n remainder []) e in (
+pub misfit_so : (demand : Demand) (payload : List ℕ) (n : Node) (misfit : Misfit) → Means forest_message payload (Ok n) → Only payload (Ok n) → Refuses (unfit misfit) (meets demand n)
+    → IsMisfit demand forest_kind payload (unfit misfit) × GivesNoNode demand forest_kind payload
+misfit_so demand payload n misfit means only e =
+    let u = unfit_so misfit (meets demand n) e in (
       record { node = n; why = u.0; kind_so = refl; spells = spelled_of forest_message payload n (Ok n) refl means; misfits = u.1; cause_so = u.2 },
       λ other f.
-          let fitted : fits n remainder [] ≡ Ok tt = ap (λ m. fits m remainder []) (sym (alone payload n only other f.spells)) ∙ f.fits_so in
+          let fitted : meets demand n ≡ Ok tt = ap (λ m. meets demand m) (sym (alone payload n only other f.spells)) ∙ f.fits_so in
           absurd (cc (fitted, u.1)),
     )
 
-pub refusal_no_node : (remainder : Parts) (payload : List ℕ) → GivesNoNode remainder refusal_kind payload
-refusal_no_node remainder payload n f = let e = f.kind_so in absurd (omega (arith, e))
+pub refusal_no_node : (demand : Demand) (payload : List ℕ) → GivesNoNode demand refusal_kind payload
+refusal_no_node demand payload n f = let e = f.kind_so in absurd (omega (arith, e))
 
 -- why a whole reply is refused
-why_so : (why : BadReason) (remainder : Parts) (kind : ℕ) (payload : List ℕ) → Reads remainder kind payload (Err why) → HasReason why remainder kind payload × GivesNoNode remainder kind payload
-why_so (reason.Cut got) remainder kind payload h = absurd h
-why_so (reason.Frame at) remainder kind payload h = absurd h
-why_so (reason.Forest number at) remainder kind payload h = h
-why_so (reason.Misfit m) remainder kind payload h = h
-why_so (reason.Refused number at) remainder kind payload h = h
-why_so reason.Garbled remainder kind payload h = h
+why_so : (why : BadReason) (demand : Demand) (kind : ℕ) (payload : List ℕ) → Reads demand kind payload (Err why) → HasReason why demand kind payload × GivesNoNode demand kind payload
+why_so (reason.Cut got) demand kind payload h = absurd h
+why_so (reason.Frame at) demand kind payload h = absurd h
+why_so (reason.Forest number at) demand kind payload h = h
+why_so (reason.Misfit m) demand kind payload h = h
+why_so (reason.Refused number at) demand kind payload h = h
+why_so reason.Garbled demand kind payload h = h
 
-one_refused : (why : BadReason) (remainder : Parts) (kind : ℕ) (payload : List ℕ) (pair : Pair) → Reads remainder kind payload (Err why) → refused_pairs why pair ≡ pair ∷ []
-one_refused (reason.Cut got) remainder kind payload pair h = absurd h
-one_refused (reason.Frame at) remainder kind payload pair h = absurd h
-one_refused (reason.Forest number at) remainder kind payload pair h = refl
-one_refused (reason.Misfit m) remainder kind payload pair h = refl
-one_refused (reason.Refused number at) remainder kind payload pair h = refl
-one_refused reason.Garbled remainder kind payload pair h = refl
+one_refused : (why : BadReason) (demand : Demand) (kind : ℕ) (payload : List ℕ) (pair : Pair) → Reads demand kind payload (Err why) → refused_pairs why pair ≡ pair ∷ []
+one_refused (reason.Cut got) demand kind payload pair h = absurd h
+one_refused (reason.Frame at) demand kind payload pair h = absurd h
+one_refused (reason.Forest number at) demand kind payload pair h = refl
+one_refused (reason.Misfit m) demand kind payload pair h = refl
+one_refused (reason.Refused number at) demand kind payload pair h = refl
+one_refused reason.Garbled demand kind payload pair h = refl
 
 -- What a server answers to a request that means a script.
 
@@ -237,7 +237,7 @@ module _ {L : Type 0} (g : links.Ghosts L) (once : MeansOne) (done : ℕ) (reque
       (refl, record { pairs_so = pairs; faults_so = faults; lends_so = lends; counts = counts_failed (server_of g before) (server_of g after) listed; lost = lost })
   unreplied (link_stops.Frame at taken) cause pairs faults lends listed serves = (
     refl,
-    λ remainder. record {
+    λ demand. record {
       reason_so = (refl, cause);
       pairs_so = pairs ∙ no_pairs (pairs_of g before);
       faults_so = faults;
@@ -248,7 +248,7 @@ module _ {L : Type 0} (g : links.Ghosts L) (once : MeansOne) (done : ℕ) (reque
   )
   unreplied (link_stops.Cut got taken) cause pairs faults lends listed serves = (
     refl,
-    λ remainder. record {
+    λ demand. record {
       reason_so = (refl, cause.0, cause.1);
       pairs_so = pairs ∙ no_pairs (pairs_of g before);
       faults_so = faults;
@@ -263,9 +263,9 @@ module _ {L : Type 0} (g : links.Ghosts L) (once : MeansOne) (done : ℕ) (reque
 
 -- A node was replied, in a pair more. Whether the link lends a table is kept. Over an honest link the server gave it, by the
 -- script that the request means.
-pub record GotNode {L : Type 0} (g : links.Ghosts L) (remainder : Parts) (request : List ℕ) (before after : L) (n : Node) : Type 0 where
+pub record GotNode {L : Type 0} (g : links.Ghosts L) (demand : Demand) (request : List ℕ) (before after : L) (n : Node) : Type 0 where
   pub reply : List ℕ
-  pub forest : IsForest remainder forest_kind reply n
+  pub forest : IsForest demand forest_kind reply n
   pub pairs_so : pairs_of g after ≡ more_pairs (pair_of request forest_kind reply ∷ []) (pairs_of g before)
   pub faults_so : g.faults after ≡ g.faults before
   pub lends_so : g.lends after ≡ g.lends before
@@ -275,12 +275,12 @@ pub record GotNode {L : Type 0} (g : links.Ghosts L) (remainder : Parts) (reques
   pub served : g.honest before → (x : Sent) → script.Means request (Ok x) → PerformedAll (g.quiet before) (server_of g before) (server_of g after) (x ∷ []) (n ∷ [])
 
 -- What an exchange and the reading of its reply give, of which so many were before it. Nothing is said after want of memory.
-abbrev pub Trades : {L : Type 0} → links.Ghosts L → Parts → ℕ → List ℕ → L → Result Node RunStop → L → Type 0
-Trades g remainder done request before (Ok n) after = GotNode g remainder request before after n
-Trades g remainder done request before (Err (stops.LinkFault k)) after = (k ≡ done) × GotFault g request before after
-Trades g remainder done request before (Err (stops.BadReply k why kind bytes)) after = (k ≡ done) × GotBad g remainder request before after why kind bytes
-Trades g remainder done request before (Err stops.WriteFault) after = ⊥
-Trades g remainder done request before (Err stops.Memory) after = Unit {0}
+abbrev pub Trades : {L : Type 0} → links.Ghosts L → Demand → ℕ → List ℕ → L → Result Node RunStop → L → Type 0
+Trades g demand done request before (Ok n) after = GotNode g demand request before after n
+Trades g demand done request before (Err (stops.LinkFault k)) after = (k ≡ done) × GotFault g request before after
+Trades g demand done request before (Err (stops.BadReply k why kind bytes)) after = (k ≡ done) × GotBad g demand request before after why kind bytes
+Trades g demand done request before (Err stops.WriteFault) after = ⊥
+Trades g demand done request before (Err stops.Memory) after = Unit {0}
 
 -- which table a reply was noted with is told by the notes
 same_found : (a b : Behind) (t u : List Object) → b.found ≡ a.found ++ t ∷ [] → b.found ≡ a.found ++ u ∷ [] → t ≡ u
@@ -302,24 +302,24 @@ performed_so honest quiet x kind payload n (Some a) (Some b) is h so =
 performed_so honest quiet x kind payload n (Some a) None is h so = absurd (h.fitting so)
 performed_so honest quiet x kind payload n None b is h so = absurd (h.fitting so)
 
-misfit_given : (x : Sent) (kind : ℕ) (payload : List ℕ) (remainder : Parts) (a b : Option Behind) → GivesNoNode remainder kind payload → GivesReply FindsFitting a b x kind payload → GivesMisfit a x remainder
-misfit_given x kind payload remainder (Some a) (Some b) none h =
+misfit_given : (x : Sent) (kind : ℕ) (payload : List ℕ) (demand : Demand) (a b : Option Behind) → GivesNoNode demand kind payload → GivesReply FindsFitting a b x kind payload → GivesMisfit a x demand
+misfit_given x kind payload demand (Some a) (Some b) none h =
     let node = (sent_run a.service h.table x).node in
     (h.table, h.found, λ e. none node (record { kind_so = h.kind_so; spells = forest_any x.version payload node h.forest; fits_so = e }))
-misfit_given x kind payload remainder (Some a) None none h = absurd h
-misfit_given x kind payload remainder None b none h = absurd h
+misfit_given x kind payload demand (Some a) None none h = absurd h
+misfit_given x kind payload demand None b none h = absurd h
 
-module _ {L : Type 0} (g : links.Ghosts L) (remainder : Parts) (done : ℕ) (request : List ℕ) (before after : L) where
+module _ {L : Type 0} (g : links.Ghosts L) (demand : Demand) (done : ℕ) (request : List ℕ) (before after : L) where
   -- there was no whole reply
-  pub untraded : (stop : RunStop) → Replied g done request before (Err stop) after → Trades g remainder done request before (Err stop) after
+  pub untraded : (stop : RunStop) → Replied g done request before (Err stop) after → Trades g demand done request before (Err stop) after
   untraded (stops.LinkFault k) h = h
-  untraded (stops.BadReply k why kind bytes) h = (h.0, h.1 remainder)
+  untraded (stops.BadReply k why kind bytes) h = (h.0, h.1 demand)
   untraded stops.WriteFault h = absurd h
   untraded stops.Memory h = tt
 
   module _ (reply : Reply) (got : GotReply g request before after reply) where
     -- its forest was read
-    pub traded : (f : Forest) → Takes remainder done reply.kind reply.payload.items (Ok f) → Trades g remainder done request before (Ok (root_of f)) after
+    pub traded : (f : Forest) → Takes demand done reply.kind reply.payload.items (Ok f) → Trades g demand done request before (Ok (root_of f)) after
     traded f h = record {
       reply = reply.payload.items;
       forest = record { kind_so = refl; spells = h.0.spells; fits_so = h.0.fits_so };
@@ -333,19 +333,19 @@ module _ {L : Type 0} (g : links.Ghosts L) (remainder : Parts) (done : ℕ) (req
     }
 
     -- it was refused
-    pub unread : (stop : RunStop) → Takes remainder done reply.kind reply.payload.items (Err stop) → Trades g remainder done request before (Err stop) after
+    pub unread : (stop : RunStop) → Takes demand done reply.kind reply.payload.items (Err stop) → Trades g demand done request before (Err stop) after
     unread (stops.LinkFault k) h = absurd h
     unread (stops.BadReply k why kept payload) h =
-        let w = why_so why remainder reply.kind reply.payload.items h.3 in (
+        let w = why_so why demand reply.kind reply.payload.items h.3 in (
           h.0,
           record {
-            reason_so = subst (λ z. HasReason why remainder z payload) (sym h.1) (subst (HasReason why remainder reply.kind) (sym h.2) w.0);
-            pairs_so = got.pairs_so ∙ ap (λ z. more_pairs z (pairs_of g before)) (sym (one_refused why remainder reply.kind reply.payload.items (pair_of request reply.kind reply.payload.items) h.3))
+            reason_so = subst (λ z. HasReason why demand z payload) (sym h.1) (subst (HasReason why demand reply.kind) (sym h.2) w.0);
+            pairs_so = got.pairs_so ∙ ap (λ z. more_pairs z (pairs_of g before)) (sym (one_refused why demand reply.kind reply.payload.items (pair_of request reply.kind reply.payload.items) h.3))
                 ∙ ap (λ z. more_pairs (refused_pairs why (pair_of request z reply.payload.items)) (pairs_of g before)) (sym h.1) ∙ ap (λ z. more_pairs (refused_pairs why (pair_of request kept z)) (pairs_of g before)) (sym h.2);
             faults_so = got.faults_so;
             lends_so = got.lends_so;
             counts = got.counts;
-            misfit = λ honest x means. misfit_given x reply.kind reply.payload.items remainder (server_of g before) (server_of g after) w.1 ((got.served x means).fitting honest);
+            misfit = λ honest x means. misfit_given x reply.kind reply.payload.items demand (server_of g before) (server_of g after) w.1 ((got.served x means).fitting honest);
           },
         )
     unread stops.WriteFault h = absurd h

@@ -3,8 +3,6 @@ use Rattle.std.proofs.Common.{◌≡◌, ◌⊎◌, inl, inr, sym, ap, ◌∙◌
 use Rattle.std.specs.Prelude.{map, Option, None, Some}
 use Rattle.rb_trees.specs.declared.services.Object.{Object}
 use Rattle.rb_trees.specs.mirror.Forests.{Node}
-use Rattle.rb_trees.specs.mirror.Remainders.{Parts}
-use Rattle.rb_meaning_bytes.specs.Fits.{fits}
 use Rattle.rb_meaning_bytes.specs.formats.Messages.{Sent}
 use Rattle.rb_meaning_types.specs.Fits.{TableFits}
 use Rattle.rb_meaning.specs.Links.{Behind}
@@ -14,6 +12,7 @@ use Rattle.rb_law_unsplit.proofs.Others.{becoming_keeps}
 use Rattle.rb_law_client.specs.Clients.{sent_run}
 use Rattle.rb_law_client.proofs.Others.{through_becoming}
 use Rattle.rb_base.specs.Links.{Finds, FindsFitting, FindsStanding}
+use Rattle.rb_client.specs.Demands.{Demand, meets}
 use Rattle.rb_client.specs.Servers.{HasServed, IsServer}
 use Rattle.rb_client.specs.Serving.{AsFound, GivesMisfit, MayPerform, table_left}
 use Rattle.rb_client.proofs.Serving.{Served, served_still}
@@ -42,11 +41,11 @@ lost_there Found respects b found left stood x (Some m) (Some a) is h =
 lost_there Found respects b found left stood x (Some m) None is h = absurd h
 lost_there Found respects b found left stood x None after is h = absurd is
 
--- on some table that fits, a node that doesn't fit is given by the server's own service
-pub misfit_there : (b : Behind) (found left : Tables) (stood : List Object) (x : Sent) (remainder : Parts) (told : Option Behind) → IsServer told b found left stood → GivesMisfit told x remainder → GivesMisfit (Some b) x remainder
-misfit_there b found left stood x remainder (Some m) is (table, fits_so, misfit) =
-    (table, subst (λ s. TableFits s.classes s.root table) is.service fits_so, λ e. misfit (ap (λ s. fits (sent_run s table x).node remainder []) is.service ∙ e))
-misfit_there b found left stood x remainder None is misfit = absurd is
+-- on some table that fits, a node that doesn't meet a demand is given by the server's own service
+pub misfit_there : (b : Behind) (found left : Tables) (stood : List Object) (x : Sent) (demand : Demand) (told : Option Behind) → IsServer told b found left stood → GivesMisfit told x demand → GivesMisfit (Some b) x demand
+misfit_there b found left stood x demand (Some m) is (table, fits_so, misfit) =
+    (table, subst (λ s. TableFits s.classes s.root table) is.service fits_so, λ e. misfit (ap (λ s. meets demand (sent_run s table x).node) is.service ∙ e))
+misfit_there b found left stood x demand None is misfit = absurd is
 
 -- How requests find tables, and what others do, by the tables that were found since a server stood so.
 pub record Ways (honest quiet : Type 0) (b : Behind) (Found : Finds) : Type 1 where

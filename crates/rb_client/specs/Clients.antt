@@ -15,13 +15,14 @@ use Rattle.rb_meaning.specs.Shown.{line, shown_events}
 use Rattle.rb_meaning.specs.State.{Event}
 use Rattle.rb_meaning.specs.Unsplit.{batch_at}
 use Rattle.rb_meaning_flow.specs.Outermost.{Outermost}
-use Rattle.rb_meaning_split.specs.Client.{Waiting, answers_waiting, input_values, performs_divided, sent_version, sent_for}
+use Rattle.rb_meaning_split.specs.Client.{Waiting, answers_waiting, are_too_many, input_values, performs_divided, sent_version, sent_for}
 use Rattle.rb_meaning_split.specs.Division.{Division, division, mirror_split}
 use Rattle.rb_base.specs.Sinks.{with_bytes}
 use Rattle.rb_base.specs.declared.links.Link as links
 use Rattle.rb_base.specs.declared.links.Reply.{Reply}
 use Rattle.rb_base.specs.declared.sinks.Sink as sinks
 use Rattle.rb_engine.specs.Answers.{Answer, Performed}
+use Rattle.rb_client.specs.Demands.{demand_of}
 use Rattle.rb_client.specs.Replies.{Replied}
 use Rattle.rb_client.specs.Requests.{to_send}
 use Rattle.rb_client.specs.Runs.{ExchangedAll, FailsInBatch, FailsToWrite, GivesNone, with_batch}
@@ -75,13 +76,14 @@ abbrev pub Lost : Type 0 → Type 0 → Division → Local → RunStop → Optio
 Lost honest quiet d l (stops.LinkFault k) server after =
     CountsOne true server after × AsFound honest quiet (λ Found. MayPerform Found server after (sent_for d l))
 Lost honest quiet d l (stops.BadReply k why kind bytes) server after =
-    CountsOne false server after × (honest → GivesMisfit server (sent_for d l) d.remainder)
+    CountsOne false server after × (honest → GivesMisfit server (sent_for d l) (demand_of d l))
 Lost honest quiet d l stops.WriteFault server after = ⊥
 Lost honest quiet d l stops.Memory server after = ⊥
 
--- At a batch that was reached with this past the exchange gave no node. Nothing was written since. Whether the link lends a table
--- is kept.
+-- At a batch that was reached with this past the exchange gave no node. Its inputs don't have too many items. Nothing was written
+-- since. Whether the link lends a table is kept.
 pub record StopsAt (p : Program) (before after : Scene) (h : Past) (d : Division) (l : Local) (stop : RunStop) : Type 0 where
+  pub begins : are_too_many d l ≡ false
   pub server : Option Behind
   pub written : after.out ≡ with_bytes before.out (shown_events h.events)
   pub gives_none : GivesNone p d l stop before after h.sent h.nodes
@@ -141,9 +143,9 @@ abbrev pub client_performs : {L W : Type 0} → links.Ghosts L → sinks.Ghosts 
 client_performs {L = L} {W = W} gl gw w at l e w' = (o : Origin L W) (h : Past) → SeesClient gl gw o w h → PerformedAs gl gw o h (batch_at o.program at) at l e w'
 
 -- A batch of the program was performed, whose division the code has.
-abbrev pub PerformsSplit : {L W : Type 0} → links.Ghosts L → sinks.Ghosts W → Split → ℕ → ClientWorld L W → Local → Performed RunStop → ClientWorld L W → Type 0
-PerformsSplit {L = L} {W = W} gl gw split at w l e w' = (o : Origin L W) (h : Past) (b : Outermost) → SeesClient gl gw o w h → batch_at o.program at ≡ Some b → mirror_split split ≡ division o.program b
-    → PerformedAs gl gw o h (Some b) at l e w'
+abbrev pub PerformsSplit : {L W : Type 0} → links.Ghosts L → sinks.Ghosts W → Split → ClientWorld L W → Local → Performed RunStop → ClientWorld L W → Type 0
+PerformsSplit {L = L} {W = W} gl gw split w l e w' = (o : Origin L W) (h : Past) (b : Outermost) → SeesClient gl gw o w h → batch_at o.program split.at ≡ Some b → mirror_split split ≡ division o.program b
+    → PerformedAs gl gw o h (Some b) split.at l e w'
 
 -- The exchange of a batch: its request was sent over the same link, and all else stands.
 pub record Fetched {L W : Type 0} (gl : links.Ghosts L) (split : Split) (names : Names) (w : ClientWorld L W) (result : Result Reply RunStop) (w' : ClientWorld L W) : Type 0 where

@@ -7,21 +7,20 @@ use Rattle.rb_trees.specs.mirror.Declarations.{Program, mirror_program}
 use Rattle.rb_trees.specs.mirror.Forests.{Node}
 use Rattle.rb_trees.specs.mirror.Scripts.{Script, mirror_script}
 use Rattle.rb_meaning_bytes.specs.Fits.{fits}
-use Rattle.rb_meaning_bytes.specs.formats.FormedScripts.{FormedScript, IsWithoutLists}
+use Rattle.rb_meaning_bytes.specs.formats.FormedScripts.{FormedScript}
 use Rattle.rb_meaning_bytes.specs.formats.Messages.{Sent}
 use Rattle.rb_meaning_bytes.specs.formats.Payloads.{IsForest, IsRequestOf}
 use Rattle.rb_meaning.specs.Answers.{forest_kind}
 use Rattle.rb_meaning.specs.Links.{Pair}
 use Rattle.rb_meaning.specs.Unsplit.{batch_at}
 use Rattle.rb_meaning_flow.specs.Outermost.{Outermost}
-use Rattle.rb_meaning_split.specs.Client.{sent_version}
+use Rattle.rb_meaning_split.specs.Client.{lengths, sent_version}
 use Rattle.rb_meaning_split.specs.Division.{division, divisions, mirror_split}
 use Rattle.rb_client.specs.Replies.{more_pairs}
 
--- A script that can be sent, with values for its inputs: it is formed and valid, and version 1 can spell it.
+-- A script that can be sent, with values for its inputs: it is formed and valid.
 pub record CanBeSent (s : Script) : Type 0 where
   pub formed : FormedScript s
-  pub plain : IsWithoutLists s
   pub valid : verdict s ≡ Ok tt
 
 -- each script of divisions can be sent
@@ -30,7 +29,7 @@ AllCanBeSent [] = Unit {0}
 AllCanBeSent (s ∷ ss) = CanBeSent (mirror_script s.script) × AllCanBeSent ss
 
 -- The exchange of a batch: the request is its script with these values, in the version in which clients send, and the reply is
--- the forest of this node, in either version, which fits its remainder.
+-- the forest of this node, in either version, which fits its remainder where its inputs have as many items as were sent.
 pub record IsExchange (p : Program) (pair : Pair) (x : Sent) (n : Node) : Type 0 where
   pub at : ℕ
   pub batch : Outermost
@@ -40,7 +39,7 @@ pub record IsExchange (p : Program) (pair : Pair) (x : Sent) (n : Node) : Type 0
   pub request : IsRequestOf x.version pair.request x.script x.values
   pub kind : pair.kind ≡ forest_kind
   pub reply : IsForest pair.reply n
-  pub fits_so : fits n (division p batch).remainder [] ≡ Ok tt
+  pub fits_so : fits n (division p batch).remainder (lengths x.values) ≡ Ok tt
 
 -- as many pairs as were sent, and as many nodes, each an exchange, in order
 abbrev pub Exchanges : Program → List Pair → List Sent → List Node → Type 0

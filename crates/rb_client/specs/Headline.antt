@@ -1,6 +1,6 @@
 -- The headline: over an honest link a client's run is what its program means on the server behind the link, on the tables that its
 -- batches find there.
-use Rattle.std.specs.Prelude.{◌≡◌, ◌⊎◌, ℕ, List, [], ◌∷◌, ◌++◌, map, Option, Some, Result, Ok, Err}
+use Rattle.std.specs.Prelude.{◌≡◌, ◌⊎◌, ℕ, List, [], ◌∷◌, ◌++◌, map, false, Option, Some, Result, Ok, Err}
 use Rattle.rb_trees.specs.declared.outcomes.Raised.{Raised}
 use Rattle.rb_trees.specs.declared.outcomes.Run.{Run}
 use Rattle.rb_trees.specs.declared.values.Value.{Value}
@@ -10,6 +10,7 @@ use Rattle.rb_trees.specs.mirror.Services.{Service}
 use Rattle.rb_meaning_code.specs.Dialogue as ask
 use Rattle.rb_meaning_code.specs.Dialogue.{Outcome, Dialogue, Ask, AskBatch}
 use Rattle.rb_meaning_code.specs.State.{Local}
+use Rattle.rb_meaning.specs.ConstantLists.{takes_too_many}
 use Rattle.rb_meaning.specs.Links.{Behind}
 use Rattle.rb_meaning.specs.Meaning.{Around, Meaning, at_batch, meaning_with}
 use Rattle.rb_meaning.specs.Others.{Others, becomes}
@@ -55,7 +56,8 @@ pub record LosesRequest (Found : Finds) (p : Program) (b : Behind) (o : Outermos
   pub found : Found (record b { table = a.outside.server.table }) table
   pub stands : StandsAt b a table after ⊎ StandsAt b a (table_behind p b.service o l table) after
 
--- The exchange after so many failed. The lines are those that the program means to show before that batch.
+-- The exchange after so many failed, in a batch that the program begins. The lines are those that it means to show before that
+-- batch.
 pub record LosesBatch (Found : Finds) (p : Program) (fuel : ℕ) (b : Behind) (others : List Others) (k : ℕ) (before after : Scene) : Type 0 where
   pub at : ℕ
   pub local : Local
@@ -64,6 +66,7 @@ pub record LosesBatch (Found : Finds) (p : Program) (fuel : ℕ) (b : Behind) (o
   pub batch : Outermost
   pub comes : ProgramComesTo p b.service b.table others fuel (AskBatch at local go) around
   pub stands : batch_at p at ≡ Some batch
+  pub begins : takes_too_many p batch local.names ≡ false
   pub count : k ≡ exchanges around.outside.events
   pub written : after.out ≡ with_bytes before.out (shown_events around.outside.events)
   pub loses : LosesRequest Found p b batch local around after
@@ -78,8 +81,8 @@ pub record LosesAtLine (p : Program) (fuel : ℕ) (b : Behind) (others : List Ot
   pub written : FailsWithin before.out after.out around.outside.events (line bytes)
   pub stands : StandsAt b around around.outside.server.table after
 
--- A write failed within the own events of a batch that the program comes to. The server has noted the table that the batch found, and
--- has the one that its whole remote part leaves.
+-- A write failed within the own events of a batch that the program comes to and begins. The server has noted the table that the
+-- batch found, and has the one that its whole remote part leaves.
 pub record LosesInBatch (p : Program) (fuel : ℕ) (b : Behind) (others : List Others) (before after : Scene) : Type 0 where
   pub at : ℕ
   pub local : Local
@@ -89,6 +92,7 @@ pub record LosesInBatch (p : Program) (fuel : ℕ) (b : Behind) (others : List O
   pub own : List Event
   pub comes : ProgramComesTo p b.service b.table others fuel (AskBatch at local go) around
   pub stands : batch_at p at ≡ Some batch
+  pub begins : takes_too_many p batch local.names ≡ false
   pub own_so : (performs_batch p b.service batch local (at_batch around)).1.events ≡ around.outside.events ++ own
   pub written : FailsWithin before.out after.out around.outside.events (shown_events own)
   pub served : let found = (at_batch around).server.table in

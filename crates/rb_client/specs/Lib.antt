@@ -8,11 +8,13 @@ pub mod Lists
 pub mod Replays
 pub mod Scenes
 pub mod Servers
+pub mod Demands
 pub mod Serving
 pub mod Replies
 pub mod Exchanges
 pub mod Plans
 pub mod Splits
+pub mod Inputs
 pub mod Requests
 pub mod Runs
 pub mod Headline

@@ -10,7 +10,8 @@ use Rattle.rb_meaning_bytes.specs.formats.ForestBytes.{count_nodes}
 use Rattle.rb_meaning_code.specs.Calls.{unit_due}
 use Rattle.rb_meaning_code.specs.Faults.{fuel_used, raised}
 use Rattle.rb_meaning_code.specs.State.{Local, bound}
-use Rattle.rb_meaning_split.specs.Replay.{Seen, after_unit, ended, fault_at, items_of, list_turns, missed, on_items, on_rows, stopped}
+use Rattle.rb_meaning.specs.ConstantLists.{items_of}
+use Rattle.rb_meaning_split.specs.Replay.{Seen, after_unit, ended, fault_at, list_turns, missed, on_items, on_rows, stopped}
 use Rattle.rb_base.specs.Devices.{Device}
 use Rattle.rb_base.specs.declared.sinks.Sink as sinks
 use Rattle.rb_engine.specs.declared.state.State.{State}

@@ -1,5 +1,5 @@
 -- What the run of a client leaves, over any link.
-use Rattle.std.specs.Prelude.{◌≡◌, ◌⊎◌, ℕ, suc, List, [], ◌∷◌, ◌++◌, length, map, Option, Some, Result, Ok, Err}
+use Rattle.std.specs.Prelude.{◌≡◌, ◌⊎◌, ℕ, suc, List, [], ◌∷◌, ◌++◌, length, map, false, Option, Some, Result, Ok, Err}
 use Rattle.rb_trees.specs.declared.declarations.Program as program
 use Rattle.rb_trees.specs.declared.outcomes.Raised.{Raised}
 use Rattle.rb_trees.specs.declared.outcomes.Run.{Run}
@@ -18,7 +18,7 @@ use Rattle.rb_meaning.specs.State as state
 use Rattle.rb_meaning.specs.State.{Event}
 use Rattle.rb_meaning.specs.Unsplit.{batch_at}
 use Rattle.rb_meaning_flow.specs.Outermost.{Outermost}
-use Rattle.rb_meaning_split.specs.Client.{Waiting, client, replays, sent_for}
+use Rattle.rb_meaning_split.specs.Client.{Waiting, are_too_many, client, replays, sent_for}
 use Rattle.rb_meaning_split.specs.Division.{Division, division, divisions, mirror_split}
 use Rattle.rb_law_division.specs.Sendable.{HasPlaces}
 use Rattle.rb_flow.specs.Program.{HasNoRefusal}
@@ -26,6 +26,7 @@ use Rattle.rb_law_client.specs.Reached.{ClientComesTo}
 use Rattle.rb_base.specs.Counts.{risen}
 use Rattle.rb_base.specs.Devices.{Device, failed}
 use Rattle.rb_base.specs.Sinks.{with_bytes, WrotePrefix}
+use Rattle.rb_client.specs.Demands.{demand_of}
 use Rattle.rb_client.specs.Exchanges.{Exchanged, Exchanges}
 use Rattle.rb_client.specs.Replies.{HasReason, more_pairs, pair_of, refused_pairs}
 use Rattle.rb_client.specs.Scenes.{Scene}
@@ -92,9 +93,10 @@ pub record CutAtLine (p : Program) (fuel : ℕ) (before after : Scene) : Type 0 
 abbrev pub with_batch : Program → Division → Local → List Event → Node → List Event
 with_batch p d l events n = (replays p d l (events ++ state.Batch ∷ []) n).events
 
--- A write failed within the batch's own events on a node, which was replied for its script. The exchanges made are those before the
--- batch, for these nodes, and the batch's.
+-- A write failed within the batch's own events on a node, which was replied for its script. Its inputs don't have too many items.
+-- The exchanges made are those before the batch, for these nodes, and the batch's.
 pub record FailsInBatch (p : Program) (before after : Scene) (d : Division) (l : Local) (past : Waiting) (nodes : List Node) : Type 0 where
+  pub begins : are_too_many d l ≡ false
   pub node : Node
   pub own : List Event
   pub own_so : with_batch p d l past.events node ≡ past.events ++ own
@@ -128,19 +130,20 @@ abbrev pub GivesNone : Program → Division → Local → RunStop → Scene → 
 GivesNone p d l (stops.LinkFault k) before after sent nodes =
     (k ≡ length sent) × Exchanged p before.pairs after.pairs sent nodes × (after.faults ≡ risen before.faults)
 GivesNone p d l (stops.BadReply k why kind bytes) before after sent nodes =
-    (k ≡ length sent) × HasReason why d.remainder kind bytes
+    (k ≡ length sent) × HasReason why (demand_of d l) kind bytes
     × ExchangedBut p before.pairs after.pairs sent nodes (sent_for d l) why kind bytes × (after.faults ≡ before.faults)
 GivesNone p d l stops.WriteFault before after sent nodes = ⊥
 GivesNone p d l stops.Memory before after sent nodes = ⊥
 
--- At a batch that the client reached, its exchange gave no node. The lines are those before that batch. Whether the link lends a
--- table is kept.
+-- At a batch that the client reached, its exchange gave no node. Its inputs don't have too many items. The lines are those before
+-- that batch. Whether the link lends a table is kept.
 pub record CutAtBatch (p : Program) (fuel : ℕ) (stop : RunStop) (before after : Scene) : Type 0 where
   pub nodes : List Node
   pub past : Waiting
   pub batch : Outermost
   pub local : Local
   pub reaches : Reaches p fuel nodes past batch local
+  pub begins : are_too_many (division p batch) local ≡ false
   pub written : after.out ≡ with_bytes before.out (shown_events past.events)
   pub gives_none : GivesNone p (division p batch) local stop before after past.sent nodes
   pub lends_so : after.lends ≡ before.lends

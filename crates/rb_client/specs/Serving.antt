@@ -1,8 +1,6 @@
 -- What exchanges do to the server that a link tells: how many are made, and what it performs.
 use Rattle.std.specs.Prelude.{◌≡◌, ◌⊎◌, ◌<◌, ℕ, List, [], ◌∷◌, Bool, false, Option, None, Some, Ok}
 use Rattle.rb_trees.specs.declared.services.Object.{Object}
-use Rattle.rb_trees.specs.mirror.Remainders.{Parts}
-use Rattle.rb_meaning_bytes.specs.Fits.{fits}
 use Rattle.rb_meaning_bytes.specs.formats.Messages.{Sent}
 use Rattle.rb_meaning_bytes.specs.formats.Payloads.{IsForestOf}
 use Rattle.rb_meaning.specs.Answers.{forest_kind}
@@ -10,6 +8,7 @@ use Rattle.rb_meaning.specs.Links.{Behind, server_told}
 use Rattle.rb_law_client.specs.Clients.{sent_run}
 use Rattle.rb_base.specs.Links.{Finds, FindsFitting, FindsStanding, IsLater, fails_next}
 use Rattle.rb_base.specs.declared.links.Link as links
+use Rattle.rb_client.specs.Demands.{Demand, meets}
 use Rattle.rb_client.specs.Servers.{HasServed, fails_after, later}
 
 abbrev pub server_of : {L : Type 0} → links.Ghosts L → L → Option Behind
@@ -68,8 +67,8 @@ abbrev pub GivesReply : Finds → Option Behind → Option Behind → Sent → �
 GivesReply Found (Some before) (Some after) x kind payload = RepliesTo Found before after x kind payload
 GivesReply Found _ _ x kind payload = ⊥
 
--- On a table that fits, the node that a script gives on the server, with the values that were sent, doesn't fit a remainder.
-abbrev pub GivesMisfit : Option Behind → Sent → Parts → Type 0
-GivesMisfit (Some before) x remainder =
-    (table : List Object) × FindsFitting before table × (fits (sent_run before.service table x).node remainder [] ≡ Ok tt → ⊥)
-GivesMisfit None x remainder = ⊥
+-- On a table that fits, the node that a script gives on the server, with the values that were sent, doesn't meet a demand.
+abbrev pub GivesMisfit : Option Behind → Sent → Demand → Type 0
+GivesMisfit (Some before) x demand =
+    (table : List Object) × FindsFitting before table × (meets demand (sent_run before.service table x).node ≡ Ok tt → ⊥)
+GivesMisfit None x demand = ⊥

@@ -1,5 +1,5 @@
 -- What the parts of a remainder mean, as the code performs them.
-use Rattle.std.specs.Prelude.{◌≡◌, ◌≤◌, ℕ, List, [], ◌∷◌, length, map, Result, Ok, Err}
+use Rattle.std.specs.Prelude.{◌≡◌, ◌≤◌, ℕ, List, [], ◌∷◌, length, map, Bool, true, false, Result, Ok, Err}
 use Rattle.std.specs.Borrow.{MutBor}
 use Rattle.rb_trees.specs.declared.code.Expr as expr
 use Rattle.rb_trees.specs.declared.code.Stmt as stmt
@@ -61,6 +61,13 @@ pub record Encloses {W : Type 0} (g : sinks.Ghosts W) (meaning : Meaning) (befor
   pub depth : after.depth ≡ before.depth
   pub ends : (gas : ℕ) → before.fuel ≤ gas → (out : MutBor W) (start : Device (List ℕ)) (outer : Open) (below : List Open) (s : Seen) → SeesReplay g out start (outer ∷ below) w s
       → Ends g out start (outer ∷ below) (length before.names) (meaning gas before s ended) result after w'
+
+-- whether a part holds no parts
+abbrev pub is_piece : Part → Bool
+is_piece (code.Branch step a b) = false
+is_piece (code.Turns step name kind body) = false
+is_piece (code.Over step at name list input body) = false
+is_piece _ = true
 
 -- a part of a known form
 abbrev pub form_meant : List class.Class → Part → Meaning

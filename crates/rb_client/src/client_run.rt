@@ -129,11 +129,12 @@ fn run_plan<L: Link, W: Sink>(
 /// Runs an accepted program with so much fuel, whose batches have these divisions, over a link: `client`.
 ///
 /// Each line goes to the output as it comes. At each batch its script is sent with the values of its inputs, and its remainder
-/// is performed on the node that is replied. Over an honest link that is what the program means on the server behind it, on the
-/// tables that its batches find there; where the link is quiet too, each finds the one that stood. After `WriteFault` all was
-/// written that comes before a line or a batch, and a front of that line or of the batch's own lines; nothing was exchanged after
-/// that. After `LinkFault` and `BadReply` the lines before that batch were written. Whether the link lends a table is kept. After
-/// `Memory` nothing is said.
+/// is performed on the node that is replied. A batch whose inputs have more than 1,000 items together ends by the fault
+/// InputTooLarge before it begins, and nothing is sent. Over an honest link that is what the program means on the server behind
+/// it, on the tables that its batches find there; where the link is quiet too, each finds the one that stood. After
+/// `WriteFault` all was written that comes before a line or a batch, and a front of that line or of the batch's own lines;
+/// nothing was exchanged after that. After `LinkFault` and `BadReply` the lines before that batch were written. Whether the
+/// link lends a table is kept. After `Memory` nothing is said.
 pub fn run_client<L: Link, W: Sink>(
     alloc: Global,
     typed: &Typed,

@@ -1,6 +1,6 @@
 // The surroundings of code that stands in no batch.
 
-ghost use Rattle.std.specs.Prelude.{◌≡◌, ◌≤◌, length};
+ghost use Rattle.std.specs.Prelude.{◌≡◌, ◌≤◌, length, false, Some};
 ghost use Rattle.std.specs.Option.{option_copied};
 ghost use Rattle.rb_meaning_split.specs.Division.{mirror_split};
 ghost use Rattle.rb_engine.specs.Answers.{Answered, performed};
@@ -8,10 +8,12 @@ ghost use Rattle.rb_engine.specs.Locals.{local};
 ghost use Rattle.rb_client.specs.Clients.{Fetches, PerformsSplit};
 ghost use Rattle.rb_client.specs.Ends.{halted, stepped};
 ghost use Rattle.rb_client.specs.Exchanges.{CanBeSent};
+ghost use Rattle.rb_client.specs.Inputs.{Measures, exceed};
 ghost use Rattle.rb_client.specs.Splits.{split_at};
 
 use crate::early::Early;
-use crate::faults::refuse;
+use crate::faults::{refuse, too_large};
+use crate::inputs::lengths_of;
 use crate::lines::whole_line;
 use crate::plan::Plan;
 use crate::replay::perform_remainder;
@@ -24,8 +26,9 @@ use rb_trees::{Seq, Split, Value};
 use std::alloc::Global;
 
 /// The surroundings of code that stands in no batch: its lines go to the output, and a turn over a list goes on. For a batch
-/// its script is sent, and its remainder is performed on the node that is replied. All else faults Kind. A run is cut off where
-/// a write fails, and where an exchange gives no node. It counts the exchanges that gave one.
+/// its script is sent, and its remainder is performed on the node that is replied; where its inputs have too many items, it
+/// faults before it begins. All else faults Kind. A run is cut off where a write fails, and where an exchange gives no node. It
+/// counts the exchanges that gave one.
 #[derive(Drop)]
 pub struct ClientWorld<'a, 'l, 'o, L, W> {
     pub alloc: Global,
@@ -82,6 +85,7 @@ fn fetch<L: Link, W: Sink>(
 ) -> Result<Reply, RunStop>
     requires sent { CanBeSent (mirror_split split.now).script }
     requires counted { (mirror_split split.now).script.inputs ≡ length split.now.inputs }
+    requires few { exceed split.now.inputs frame.now ≡ false }
     ensures { Fetches L.Link split.now frame.now world.old result world.new }
 {
     let request = request_of(alloc, split, frame)?;
@@ -110,22 +114,25 @@ fn halt_of(stop: RunStop) -> Halt<RunStop>
     }
 }
 
-// Performs a batch: `performs_divided`. Where exchanges can't be counted any more, the run is cut off as for want of memory.
-fn perform<L: Link, W: Sink>(
+// Performs a batch whose inputs have these numbers of items, not too many together. Where exchanges can't be counted any more,
+// the run is cut off as for want of memory.
+#[inline(never)]
+fn perform_begun<L: Link, W: Sink>(
     alloc: Global,
     world: &mut ClientWorld<'_, '_, '_, L, W>,
-    at: u32,
     split: &Split,
+    lengths: &[u32],
     state: &mut State,
     frame: &mut Frame,
 ) -> RunResult<(), RunStop>
     requires sent { CanBeSent (mirror_split split.now).script }
     requires counted { (mirror_split split.now).script.inputs ≡ length split.now.inputs }
+    requires measured { Measures split.now.inputs frame.old (Some lengths.now) }
     ensures fuel { state.new.fuel ≤ state.old.fuel }
     ensures depth { state.new.depth ≡ state.old.depth }
     ensures performs { let before = local frame.old state.old in
         let ended = performed (local frame.new state.new) result in
-        Answered ended (λ e. PerformsSplit L.Link W.Sink split.now at world.old before e world.new) }
+        Answered ended (λ e. PerformsSplit L.Link W.Sink split.now world.old before e world.new) }
 {
     let code = world.plan.code();
     let done = world.exchanges;
@@ -136,7 +143,7 @@ fn perform<L: Link, W: Sink>(
         Ok(reply) => reply,
         Err(stop) => return Err(halt_of(stop)),
     };
-    let forest = match read_reply(alloc, &reply, &split.remainder, done) {
+    let forest = match read_reply(alloc, &reply, &split.remainder, lengths, done) {
         Ok(forest) => forest,
         Err(stop) => return Err(halt_of(stop)),
     };
@@ -150,6 +157,29 @@ fn perform<L: Link, W: Sink>(
         &split.remainder,
         world.out,
     ))
+}
+
+// Performs a batch: `performs_divided`. Where its inputs have too many items, it ends by a fault before it begins.
+fn perform<L: Link, W: Sink>(
+    alloc: Global,
+    world: &mut ClientWorld<'_, '_, '_, L, W>,
+    split: &Split,
+    state: &mut State,
+    frame: &mut Frame,
+) -> RunResult<(), RunStop>
+    requires sent { CanBeSent (mirror_split split.now).script }
+    requires counted { (mirror_split split.now).script.inputs ≡ length split.now.inputs }
+    ensures fuel { state.new.fuel ≤ state.old.fuel }
+    ensures depth { state.new.depth ≡ state.old.depth }
+    ensures performs { let before = local frame.old state.old in
+        let ended = performed (local frame.new state.new) result in
+        Answered ended (λ e. PerformsSplit L.Link W.Sink split.now world.old before e world.new) }
+{
+    match lengths_of(alloc, split.inputs.as_slice(), frame) {
+        Ok(Some(lengths)) => perform_begun(alloc, world, split, lengths.as_slice(), state, frame),
+        Ok(None) => Ok(Err(too_large(alloc, split.at))),
+        Err(_) => Err(Halt::Memory),
+    }
 }
 
 impl<'a, 'l, 'o, L: Link, W: Sink> World for ClientWorld<'a, 'l, 'o, L, W> {
@@ -175,7 +205,7 @@ impl<'a, 'l, 'o, L: Link, W: Sink> World for ClientWorld<'a, 'l, 'o, L, W> {
         let alloc = self.alloc;
         let splits = self.plan.splits();
         match find(splits.as_slice(), at) {
-            Some(split) => perform(alloc, self, at, split, state, frame),
+            Some(split) => perform(alloc, self, split, state, frame),
             None => Ok(Err(refuse(alloc, at))),
         }
     }

@@ -58,6 +58,13 @@ pub fn refuse(alloc: Global, at: u32) -> Raised
     own(alloc, fault_codes::KIND, at)
 }
 
+/// The fault InputTooLarge at a position, of the own side.
+pub fn too_large(alloc: Global, at: u32) -> Raised
+    ensures { result ≡ causes.raised causes.input_too_large at }
+{
+    own(alloc, fault_codes::INPUT_TOO_LARGE, at)
+}
+
 /// The fault FuelUsed at a position, of the own side.
 pub fn fuel_used(alloc: Global, at: u32) -> Raised
     ensures { result ≡ causes.raised causes.fuel_used at }

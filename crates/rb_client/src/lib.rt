@@ -8,6 +8,7 @@ mod client_run;
 mod client_world;
 mod early;
 mod faults;
+mod inputs;
 mod laws;
 mod lines;
 mod lists;

@@ -4,7 +4,7 @@ ghost use Rattle.std.specs.Prelude.{◌≡◌, take, drop};
 ghost use Rattle.rb_trees.specs.Named.{lookup};
 ghost use Rattle.rb_trees.specs.declared.values.Value.{out-Value};
 ghost use Rattle.rb_meaning_code.specs.ScriptRun as run;
-ghost use Rattle.rb_meaning_split.specs.Replay as meant;
+ghost use Rattle.rb_meaning.specs.ConstantLists as meant;
 ghost use Rattle.rb_engine.specs.Locals.{local};
 ghost use Rattle.rb_client.specs.Lists.{GivesItems, Spends, lack_meant};
 ghost use Rattle.rb_client.specs.Walks.{Performs};

@@ -1,8 +1,9 @@
 // The parts of a remainder that hold no parts.
 
-ghost use Rattle.std.specs.Prelude.{◌≡◌};
+ghost use Rattle.std.specs.Prelude.{◌≡◌, true};
 ghost use Rattle.rb_engine.specs.Locals.{local};
-ghost use Rattle.rb_client.specs.Walks.{Performs, bind_meant, both_meant, pass_meant, plain_meant};
+ghost use Rattle.rb_trees.specs.mirror.Remainders.{mirror_part};
+ghost use Rattle.rb_client.specs.Walks.{Performs, bind_meant, both_meant, is_piece, part_meant, pass_meant, plain_meant};
 
 use crate::early::{Early, flat};
 use crate::faults::{far_fault, own_fault};
@@ -10,7 +11,7 @@ use crate::replay_world::ReplayWorld;
 use rb_base::Sink;
 use rb_code::Code;
 use rb_engine::{Frame, State, eval, exec_slice};
-use rb_trees::{Expr, Stmt, Word};
+use rb_trees::{Expr, Part, Stmt, Word};
 use std::alloc::Global;
 use std::slice;
 
@@ -23,17 +24,17 @@ pub struct Twin<'a> {
 }
 
 impl<'a> Twin<'a> {
-    /// What is evaluated at a step, and bound to a name.
-    pub fn new(step: u32, name: &'a Word, value: &'a Expr) -> Twin<'a>
+    // What is evaluated at a step, and bound to a name.
+    fn new(step: u32, name: &'a Word, value: &'a Expr) -> Twin<'a>
         ensures { result ≡ record { step = step; name = name.exit; value = value.exit } }
     {
         Twin { step, name, value }
     }
 }
 
-/// A statement.
+// A statement.
 #[inline(never)]
-pub fn perform_plain<W: Sink>(
+fn perform_plain<W: Sink>(
     alloc: Global,
     code: &Code,
     state: &mut State,
@@ -83,9 +84,9 @@ pub fn perform_bind<W: Sink>(
     Ok(())
 }
 
-/// A value that both sides evaluate.
+// A value that both sides evaluate.
 #[inline(never)]
-pub fn perform_both<W: Sink>(
+fn perform_both<W: Sink>(
     alloc: Global,
     code: &Code,
     state: &mut State,
@@ -102,4 +103,35 @@ pub fn perform_both<W: Sink>(
     let value = flat(eval(alloc, code, state, frame, world, twin.value))?;
     frame.bind(alloc, twin.name.as_slice(), value)?;
     Ok(())
+}
+
+/// A part that holds no parts.
+#[inline(never)]
+pub fn perform_piece<W: Sink>(
+    alloc: Global,
+    code: &Code,
+    state: &mut State,
+    frame: &mut Frame,
+    world: &mut ReplayWorld<'_, '_, W>,
+    part: &Part,
+) -> Result<(), Early>
+    requires { is_piece (mirror_part part.now) ≡ true }
+    ensures { let meant = part_meant code.now part.now in
+        Performs W.Sink meant (local frame.old state.old) world.old result (local frame.new state.new) world.new }
+{
+    match part {
+        Part::Plain(stmt, _) => perform_plain(alloc, code, state, frame, world, stmt),
+        Part::Pass(step) => perform_pass(alloc, state, frame, world, *step),
+        Part::Bind { step, name, .. } => perform_bind(alloc, state, frame, world, *step, name),
+        Part::Both {
+            step,
+            name,
+            value,
+            ..
+        } => {
+            let twin = Twin::new(*step, name, value);
+            perform_both(alloc, code, state, frame, world, &twin)
+        }
+        _ => unreachable!(),
+    }
 }

@@ -10,7 +10,7 @@ ghost use Rattle.rb_client.specs.Lists.{PerformsItems, item_meant, list_meant, l
 
 use crate::early::Early;
 use crate::lists::{ListLoop, items_of, perform_lack, spend, split_items};
-use crate::pieces::{Twin, perform_bind, perform_both, perform_pass, perform_plain};
+use crate::pieces::{perform_bind, perform_pass, perform_piece};
 use crate::replay_world::ReplayWorld;
 use rb_base::Sink;
 use rb_code::Code;
@@ -88,18 +88,6 @@ fn perform_part<W: Sink>(
         Performs W.Sink meant (local frame.old state.old) world.old result (local frame.new state.new) world.new }
 {
     match part {
-        Part::Plain(stmt, _) => perform_plain(alloc, code, state, frame, world, stmt),
-        Part::Pass(step) => perform_pass(alloc, state, frame, world, *step),
-        Part::Bind { step, name, .. } => perform_bind(alloc, state, frame, world, *step, name),
-        Part::Both {
-            step,
-            name,
-            value,
-            ..
-        } => {
-            let twin = Twin::new(*step, name, value);
-            perform_both(alloc, code, state, frame, world, &twin)
-        }
         Part::Branch { step, yes, no } => {
             let choice = Choice::new(*step, yes, no);
             perform_branch(alloc, code, state, frame, world, &choice)
@@ -124,6 +112,7 @@ fn perform_part<W: Sink>(
             let turns = ListLoop::new(*step, *at, name, list, body.as_slice());
             perform_list(alloc, code, state, frame, world, &turns)
         }
+        _ => perform_piece(alloc, code, state, frame, world, part),
     }
 }
 

@@ -1,9 +1,9 @@
 // What a client exchanges, and what it reads in a reply.
 
 ghost use Rattle.std.specs.Prelude.{◌≤◌, length};
-ghost use Rattle.rb_trees.specs.mirror.Remainders.{mirror_parts};
 ghost use Rattle.rb_meaning.specs.Answers.{forest_kind, longest_request, refusal_kind};
 ghost use Rattle.rb_base.specs.Links.{IsReplyKind};
+ghost use Rattle.rb_client.specs.Demands.{Demand, demanded};
 ghost use Rattle.rb_client.specs.Replies.{Reads, Replied, Takes};
 
 use crate::stops::{BadReason, RunStop};
@@ -16,13 +16,17 @@ use std::alloc::Global;
 /// The kind of a forest: `forest_kind`.
 const FOREST: u8 = 2;
 
-// The forest of a payload, whose root fits a remainder.
+// The forest of a payload, whose root fits a remainder where the inputs have these numbers of items.
 #[inline(never)]
-fn read_forest<'p>(payload: &'p [u8], remainder: &Seq<Part>) -> Result<Forest<'p>, BadReason>
-    ensures { Reads (mirror_parts remainder.now) forest_kind payload.now result }
+fn read_forest<'p>(
+    payload: &'p [u8],
+    remainder: &Seq<Part>,
+    lengths: &[u32],
+) -> Result<Forest<'p>, BadReason>
+    ensures { Reads (demanded remainder.now lengths.now) forest_kind payload.now result }
 {
     match scan_forest(payload) {
-        Ok(forest) => match forest.fits(remainder, &[]) {
+        Ok(forest) => match forest.fits(remainder, lengths) {
             Ok(()) => Ok(forest),
             Err(misfit) => Err(BadReason::Misfit(misfit)),
         },
@@ -31,8 +35,8 @@ fn read_forest<'p>(payload: &'p [u8], remainder: &Seq<Part>) -> Result<Forest<'p
 }
 
 // Why a refusal gives no forest.
-fn read_refusal<'p>(payload: &'p [u8], remainder: &Seq<Part>) -> Result<Forest<'p>, BadReason>
-    ensures { Reads (mirror_parts remainder.now) refusal_kind payload.now result }
+fn read_refusal<'p>(payload: &'p [u8]) -> Result<Forest<'p>, BadReason>
+    ensures { (demand : Demand) → Reads demand refusal_kind payload.now result }
 {
     match decode_refusal(payload) {
         Some((number, at)) => Err(BadReason::Refused(number, at)),
@@ -45,29 +49,31 @@ fn read_payload<'p>(
     kind: u8,
     payload: &'p [u8],
     remainder: &Seq<Part>,
+    lengths: &[u32],
 ) -> Result<Forest<'p>, BadReason>
     requires { IsReplyKind kind }
-    ensures { Reads (mirror_parts remainder.now) kind payload.now result }
+    ensures { Reads (demanded remainder.now lengths.now) kind payload.now result }
 {
     if kind == FOREST {
-        return read_forest(payload, remainder);
+        return read_forest(payload, remainder, lengths);
     }
-    read_refusal(payload, remainder)
+    read_refusal(payload)
 }
 
-/// The forest of a whole reply after so many exchanges, whose root has to fit a remainder. It is seen where the reply lies: only
-/// the payload of a bad reply is copied.
+/// The forest of a whole reply after so many exchanges, whose root has to fit a remainder where the inputs have these numbers of
+/// items. It is seen where the reply lies: only the payload of a bad reply is copied.
 pub fn read_reply<'r>(
     alloc: Global,
     reply: &'r Reply,
     remainder: &Seq<Part>,
+    lengths: &[u32],
     done: u64,
 ) -> Result<Forest<'r>, RunStop>
     requires { IsReplyKind reply.now.kind }
-    ensures { Takes (mirror_parts remainder.now) done reply.now.kind reply.now.payload.items result }
+    ensures { Takes (demanded remainder.now lengths.now) done reply.now.kind reply.now.payload.items result }
 {
     let payload = reply.payload.as_slice();
-    match read_payload(reply.kind, payload, remainder) {
+    match read_payload(reply.kind, payload, remainder, lengths) {
         Ok(forest) => Ok(forest),
         Err(reason) => Err(RunStop::BadReply {
             done,

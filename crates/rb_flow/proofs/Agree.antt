@@ -1,12 +1,12 @@
 -- The walk finds what the sites of a batch have.
-use Rattle.std.proofs.Common.{◌≡◌, ℕ, List, [], ◌∷◌, ◌++◌, Bool, true, false, cond, ◌&&◌, Option, Some, refl, sym, ap, ◌∙◌, append_assoc}
+use Rattle.std.proofs.Common.{◌≡◌, ℕ, List, [], ◌∷◌, ◌++◌, Bool, true, false, cond, ◌&&◌, ◌||◌, Option, Some, refl, sym, ap, ◌∙◌, append_assoc}
 use Rattle.std.proofs.lemmas.List.{append-nil}
 use Rattle.std.specs.List.{flat_map}
 use Rattle.rb_trees.specs.mirror.Code.{Expr, Exprs, Lit, Name, This, Unary, Binary, Field, Call, Index, New, Items, Taken, NoExprs, MoreExprs, expr_at, Stmt, Stmts, Val, Var, Assign, Run, Print, Throw, If, While, For, Try, Batch, NoStmts, MoreStmts}
 use Rattle.rb_meaning_flow.specs.declared.scopes.Role.{Role}
 use Rattle.rb_meaning_flow.specs.Facts.{Facts, over_rows}
 use Rattle.rb_meaning_flow.specs.Scopes.{Scope, with_variable}
-use Rattle.rb_meaning_flow.specs.Portable.{portable, branches_hold}
+use Rattle.rb_meaning_flow.specs.Portable.{portable, branches_hold, is_constant_list, may_carry, has_far_turns}
 use Rattle.rb_meaning_flow.specs.Sites.{Around, Branch, WhileTurn, Turn, InTry, InBatch, is_script_place, StmtSite, Over, ExprSite, expr_sites, exprs_sites, own, all_sites, sites, block_sites, scope_after, turn_role, exprs_of}
 use Rattle.rb_meaning_flow.specs.Flow.{is_call, frame_sites}
 use Rattle.rb_meaning_flow.specs.Refusals.{operand_condition, while_condition, frame_condition, any_try, has_call}
@@ -16,7 +16,8 @@ use Rattle.rb_flow.specs.declared.standing.Inside.{Inside}
 use Rattle.rb_flow.specs.declared.findings.Findings.{Findings}
 use Rattle.rb_flow.specs.Readings.{nothing, joined, read_by, whole_read}
 use Rattle.rb_flow.specs.Found.{innermost, standing_in, conditions_above, inside_at}
-use Rattle.rb_flow.specs.Walked.{expr_seen, or_outer, part_inside, expr_walked, exprs_walked, whole_inside, while_inside, condition_unless, branch_standing, while_standing, turn_standing, try_standing, scope_then, condition_walked, turns_walked, list_walked, stmt_walked, block_walked}
+use Rattle.rb_flow.specs.Walked as words
+use Rattle.rb_flow.specs.Walked.{turn_role_in, expr_seen, or_outer, part_inside, expr_walked, exprs_walked, whole_inside, while_inside, condition_unless, branch_standing, while_standing, turn_standing, try_standing, scope_then, condition_walked, turns_walked, list_walked, stmt_walked, block_walked}
 use Rattle.rb_flow.specs.Sited.{around_of, expr_site_seen, exprs_seen, stmt_site_seen, all_seen}
 use Rattle.rb_flow.proofs.ReadSites.{read_both, same_scope, around_more, stmt_read_sites}
 
@@ -142,13 +143,23 @@ while_told : (x : Facts) (around : List Around) (scope : Scope) (at : ℕ) (c : 
 while_told x around scope at c =
     ap (standing false (Some (expr_at c)) (any_try around)) (around_more x (record { around = []; scope = scope; stmt = While at c NoStmts }) (flat_map (frame_sites x) around) c)
 
-turn_told : (x : Facts) (around : List Around) (scope : Scope) (at : ℕ) (e : Expr) → turn_standing x scope (standing_in x around) e ≡ standing_in x (Turn at scope e ∷ around)
-turn_told x around scope at e =
-    let script = is_script_place x around && over_rows x e in
+turn_told : (x : Facts) (around : List Around) (scope : Scope) (at : ℕ) (e : Expr) (a : Stmts)
+    → turn_standing x scope (standing_in x around) e a ≡ standing_in x (Turn at scope e a ∷ around)
+turn_told x around scope at e a =
+    let script = is_script_place x around && has_far_turns x scope e a in
+    let known = over_rows x e || is_constant_list scope e in
     let outer = flat_map (frame_condition x) around in
     let frames = flat_map (frame_sites x) around in
-    ap (λ k. standing script k (any_try around) (whole_read x scope (read_by x frames) e)) (unless_same (over_rows x e) e outer)
-    ∙ ap (standing script (innermost (cond (over_rows x e) [] (expr_at e ∷ []) ++ outer)) (any_try around)) (around_more x (record { around = []; scope = scope; stmt = Run at e }) frames e)
+    ap (λ k. standing script k (any_try around) (whole_read x scope (read_by x frames) e)) (unless_same known e outer)
+    ∙ ap (standing script (innermost (cond known [] (expr_at e ∷ []) ++ outer)) (any_try around)) (around_more x (record { around = []; scope = scope; stmt = Run at e }) frames e)
+
+-- the block of a loop over rows, or of one that may be carried, is a script place where the loop stands at one
+turn_cases : (rows script may : Bool) → words.turn_role rows (script && (rows || may)) ≡ cond (rows || (script && may)) Role.Row Role.Plain
+turn_cases true script may = refl
+turn_cases false script may = refl
+
+role_told : (x : Facts) (around : List Around) (scope : Scope) (e : Expr) (a : Stmts) → turn_role_in x (standing_in x around) scope e a ≡ turn_role x around scope e a
+role_told x around scope e a = turn_cases (over_rows x e) (is_script_place x around) (may_carry x scope e a)
 
 try_told : (x : Facts) (around : List Around) (scope : Scope) (at : ℕ) (a : Stmts) (name : List ℕ) (b : Stmts)
     → try_standing x scope (standing_in x around) at a name b ≡ standing_in x (InTry at scope a name b ∷ around)
@@ -215,12 +226,13 @@ mutual
       ∙ block_agrees x inner scope seen a ∙ ap (all_seen x (block_sites x inner scope a)) is
   stmt_agrees x around scope f (For at name e a) =
       let s : StmtSite = record { around = around; scope = scope; stmt = For at name e a } in
-      let inner = Turn at scope e ∷ around in
-      let opened = with_variable scope name (turn_role x e) at in
+      let inner = Turn at scope e a ∷ around in
+      let opened = with_variable scope name (turn_role x around scope e a) at in
       let i = whole_inside (standing_in x around) (over_rows x e) in
       let seen = list_walked x (standing_in x around) scope (stmt_site_seen x s f) e in
       let is = ap (λ q. expr_walked x scope q i (stmt_site_seen x s f) e) (around_own x s e) ∙ whole_agrees x s i (stmt_site_seen x s f) e refl in
-      ap (λ t. block_walked x t opened seen a) (turn_told x around scope at e)
+      ap (λ r. block_walked x (turn_standing x scope (standing_in x around) e a) (with_variable scope name r at) seen a) (role_told x around scope e a)
+      ∙ ap (λ t. block_walked x t opened seen a) (turn_told x around scope at e a)
       ∙ block_agrees x inner opened seen a ∙ ap (all_seen x (block_sites x inner opened a)) is
   stmt_agrees x around scope f (Try at a name b) =
       let s : StmtSite = record { around = around; scope = scope; stmt = Try at a name b } in

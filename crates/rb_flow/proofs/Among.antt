@@ -1,7 +1,6 @@
 -- The answer for one more batch.
-use Rattle.std.proofs.Common.{◌≡◌, ℕ, ◌≤◌, ◌⊎◌, inl, inr, List, [], ◌∷◌, ◌++◌, map, true, Option, Some, None, refl, sym, ap, ◌∙◌, append_assoc, subst, arith}
+use Rattle.std.proofs.Common.{◌≡◌, ℕ, ◌≤◌, ◌⊎◌, inl, inr, List, [], ◌∷◌, ◌++◌, map, true, false, Option, Some, None, refl, sym, ap, ◌∙◌, append_assoc, subst, arith}
 use Rattle.std.specs.List.{Contains, flat_map}
-use Rattle.std.specs.Prelude.{IfOk, Result, Ok, Err}
 use Rattle.std.proofs.lemmas.Bool.{cases_Bool, cond-true, cond-false}
 use Rattle.std.proofs.lemmas.List.{append-nil, map-append}
 use Rattle.std.proofs.lemmas.List.Elements.{Contains-append_left, Contains-append_right}
@@ -87,9 +86,9 @@ mutual
       block_collected x scope (block_begun x scope bs a) b ∙ ap (λ cs. cs ++ map begun (outermost_in x scope b)) (block_collected x scope bs a)
       ∙ joined_batches bs (outermost_in x scope a) (outermost_in x scope b)
   stmt_collected x scope bs (While at c a) = block_collected x scope bs a
-  stmt_collected x scope bs (For at name e a) = block_collected x (with_variable scope name (outer_role (x.items (expr_at e))) at) bs a
+  stmt_collected x scope bs (For at name e a) = block_collected x (with_variable scope name (outer_role (x.items (expr_at e)) (x.lists (expr_at e))) at) bs a
   stmt_collected x scope bs (Try at a name b) =
-      let inner = with_variable scope name (outer_role true) at in
+      let inner = with_variable scope name (outer_role true false) at in
       block_collected x inner (block_begun x scope bs a) b ∙ ap (λ cs. cs ++ map begun (outermost_in x inner b)) (block_collected x scope bs a)
       ∙ joined_batches bs (outermost_in x scope a) (outermost_in x inner b)
   stmt_collected x scope bs (Batch at interface root a) = refl
@@ -173,10 +172,9 @@ program_answered : (p : Program) (answer : Option Refusal) → IsAnswerAmong (fa
 program_answered p None h = λ r m. h r (from_program p r m)
 program_answered p (Some r) h = (to_program p r h.0, λ other m before. h.1 other (from_program p other m) before)
 
-pub program_result : {E : Type 0} (p : Program) (bs : List Begun) (result : Result (Option Refusal) E) → bs ≡ program_begun (facts_of p) p
-    → IfOk result (IsAnswerAmong (facts_of p) bs) → IfOk result (IsProgramAnswer p)
-program_result p bs (Ok answer) e h = program_answered p answer (subst (λ cs. IsAnswerAmong (facts_of p) cs answer) (e ∙ program_collected (facts_of p) p) h)
-program_result p bs (Err error) e h = h
+pub program_result : (p : Program) (bs : List Begun) (answer : Option Refusal) → bs ≡ program_begun (facts_of p) p
+    → IsAnswerAmong (facts_of p) bs answer → IsProgramAnswer p answer
+program_result p bs answer e h = program_answered p answer (subst (λ cs. IsAnswerAmong (facts_of p) cs answer) (e ∙ program_collected (facts_of p) p) h)
 
 pub pop_taken : (x : Facts) (all : List Begun) (first : Option Refusal) (rest new : List OpenBatch) (last : OpenBatch) → rest ≡ new ++ last ∷ [] → TakenSo x all (map begun_of rest) first
     → TakenSo x all (map begun_of new ++ begun_of last ∷ []) first

@@ -223,8 +223,8 @@ mutual
       block_read_sites x (WhileTurn at outer c ∷ around) scope outer (expr_read x scope false r c) a n
       ∙ own_read x (record { around = around; scope = outer; stmt = While at c a }) scope r c (block_sites x (WhileTurn at outer c ∷ around) outer a) n
   stmt_read_sites x around scope outer r (For at name e a) n =
-      block_read_sites x (Turn at outer e ∷ around) (with_variable scope name Role.Plain at) (with_variable outer name (turn_role x e) at) (expr_read x scope false r e) a (same_more scope outer name Role.Plain (turn_role x e) at n)
-      ∙ own_read x (record { around = around; scope = outer; stmt = For at name e a }) scope r e (block_sites x (Turn at outer e ∷ around) (with_variable outer name (turn_role x e) at) a) n
+      block_read_sites x (Turn at outer e a ∷ around) (with_variable scope name Role.Plain at) (with_variable outer name (turn_role x around outer e a) at) (expr_read x scope false r e) a (same_more scope outer name Role.Plain (turn_role x around outer e a) at n)
+      ∙ own_read x (record { around = around; scope = outer; stmt = For at name e a }) scope r e (block_sites x (Turn at outer e a ∷ around) (with_variable outer name (turn_role x around outer e a) at) a) n
   stmt_read_sites x around scope outer r (Try at a name b) n =
       let as' = block_sites x (InTry at outer a name b ∷ around) outer a in
       let bs = block_sites x (InTry at outer a name b ∷ around) (with_variable outer name Role.Plain at) b in

@@ -1,5 +1,5 @@
 -- The outermost batches of a program as they begin, in the order of the walk.
-use Rattle.std.specs.Prelude.{ℕ, List, [], ◌∷◌, ◌++◌, true}
+use Rattle.std.specs.Prelude.{ℕ, List, [], ◌∷◌, ◌++◌, true, false}
 use Rattle.rb_trees.specs.mirror.Code.{expr_at, Stmt, Stmts, Val, Var, Assign, Run, Print, Throw, If, While, For, Try, Batch, NoStmts, MoreStmts, mirror_stmts}
 use Rattle.rb_trees.specs.mirror.Declarations.{Method, Class, Program}
 use Rattle.rb_meaning_flow.specs.Facts.{Facts}
@@ -37,8 +37,8 @@ abbrev mutual
   stmt_begun x scope bs (Throw at e) = bs
   stmt_begun x scope bs (If at c a b) = block_begun x scope (block_begun x scope bs a) b
   stmt_begun x scope bs (While at c a) = block_begun x scope bs a
-  stmt_begun x scope bs (For at name e a) = block_begun x (with_variable scope name (outer_role (x.items (expr_at e))) at) bs a
-  stmt_begun x scope bs (Try at a name b) = block_begun x (with_variable scope name (outer_role true) at) (block_begun x scope bs a) b
+  stmt_begun x scope bs (For at name e a) = block_begun x (with_variable scope name (outer_role (x.items (expr_at e)) (x.lists (expr_at e))) at) bs a
+  stmt_begun x scope bs (Try at a name b) = block_begun x (with_variable scope name (outer_role true false) at) (block_begun x scope bs a) b
   stmt_begun x scope bs (Batch at interface root a) = with_batch bs scope at root a
 
   pub block_begun : Facts → Scope → List Begun → Stmts → List Begun

@@ -42,9 +42,12 @@ module _ (p : program.Program) where
   abbrev pub block_walked : Standing → Scope → Findings → List stmt.Stmt → Findings
   block_walked standing scope found ss = words.block_walked (facts p) standing scope found (mirror_stmts ss)
 
-  -- what stands around the blocks of an `if`, and around those of a `try`
+  -- what stands around the blocks of an `if`, around that of a `for`, and around those of a `try`
   abbrev pub branch_standing : Scope → Standing → expr.Expr → (a b : List stmt.Stmt) → Standing
   branch_standing scope standing c a b = words.branch_standing (facts p) scope standing (mirror_expr c) (mirror_stmts a) (mirror_stmts b)
+
+  abbrev pub turn_standing : Scope → Standing → expr.Expr → List stmt.Stmt → Standing
+  turn_standing scope standing e block = words.turn_standing (facts p) scope standing (mirror_expr e) (mirror_stmts block)
 
   abbrev pub try_standing : Scope → Standing → ℕ → List stmt.Stmt → List ℕ → List stmt.Stmt → Standing
   try_standing scope standing at a name b = words.try_standing (facts p) scope standing at (mirror_stmts a) name (mirror_stmts b)

@@ -11,6 +11,7 @@ pub mod Sited
 pub mod Parts
 pub mod Answers
 pub mod Begun
+pub mod Carried
 pub mod ByTrees
 pub mod Program
 pub mod Admission

@@ -1,13 +1,12 @@
 -- What the walk through a batch finds, as it goes.
-use Rattle.std.specs.Prelude.{ℕ, List, [], ◌∷◌, ◌++◌, Bool, true, false, cond, ◌&&◌, nat_lt, Option, Some, None}
+use Rattle.std.specs.Prelude.{ℕ, List, [], ◌∷◌, ◌++◌, Bool, true, false, cond, ◌&&◌, ◌||◌, nat_lt, Option, Some, None}
 use Rattle.rb_trees.specs.declared.flows.Writer.{Writer}
 use Rattle.rb_trees.specs.declared.flows.BadPart.{BadPart}
 use Rattle.rb_trees.specs.mirror.Code.{Expr, Exprs, Lit, Name, This, Unary, Binary, Field, Call, Index, New, Items, Taken, NoExprs, MoreExprs, expr_at, Stmt, Stmts, Val, Var, Assign, Run, Print, Throw, If, While, For, Try, Batch, NoStmts, MoreStmts}
 use Rattle.rb_meaning_flow.specs.declared.scopes.Role.{Role}
 use Rattle.rb_meaning_flow.specs.Facts.{Facts, is_remote, over_rows}
 use Rattle.rb_meaning_flow.specs.Scopes.{Scope, with_variable}
-use Rattle.rb_meaning_flow.specs.Portable.{portable, branches_hold}
-use Rattle.rb_meaning_flow.specs.Sites.{turn_role}
+use Rattle.rb_meaning_flow.specs.Portable.{portable, branches_hold, is_constant_list, has_far_turns}
 use Rattle.rb_meaning_flow.specs.Flow.{objects, is_call, assigned_node}
 use Rattle.rb_meaning_flow.specs.Refusals.{operand_condition, has_call}
 use Rattle.rb_flow.specs.declared.standing.Reading.{Reading}
@@ -210,10 +209,10 @@ branch_standing x scope standing c a b = record {
 abbrev pub while_standing : Facts → Scope → Standing → Expr → Standing
 while_standing x scope standing c = record { script = false; condition = Some (expr_at c); tried = standing.tried; around = more_around x scope standing c }
 
-abbrev pub turn_standing : Facts → Scope → Standing → Expr → Standing
-turn_standing x scope standing e = record {
-  script = standing.script && over_rows x e;
-  condition = condition_unless (over_rows x e) standing.condition e;
+abbrev pub turn_standing : Facts → Scope → Standing → Expr → Stmts → Standing
+turn_standing x scope standing e block = record {
+  script = standing.script && has_far_turns x scope e block;
+  condition = condition_unless (over_rows x e || is_constant_list scope e) standing.condition e;
   tried = standing.tried;
   around = more_around x scope standing e;
 }
@@ -236,6 +235,13 @@ batch_standing standing = record { script = false; condition = standing.conditio
 -- the role of a `val`
 abbrev pub val_role_in : Facts → Standing → Scope → Expr → Role
 val_role_in x standing scope e = cond (standing.script && portable x scope e) Role.Carried Role.Plain
+
+-- what the variable of a loop is, which is over rows or isn't, and whose block is a script place or isn't
+abbrev pub turn_role : (rows script : Bool) → Role
+turn_role rows script = cond (rows || script) Role.Row Role.Plain
+
+abbrev pub turn_role_in : Facts → Standing → Scope → Expr → Stmts → Role
+turn_role_in x standing scope e block = turn_role (over_rows x e) (turn_standing x scope standing e block).script
 
 -- the variables in scope after a statement
 abbrev pub scope_then : Facts → Standing → Scope → Stmt → Scope
@@ -284,7 +290,7 @@ abbrev mutual
   stmt_walked x standing scope f (While at c a) =
       block_walked x (while_standing x scope standing c) scope (turns_walked x standing scope (stmt_seen x standing scope f (While at c a)) c) a
   stmt_walked x standing scope f (For at name e a) =
-      block_walked x (turn_standing x scope standing e) (with_variable scope name (turn_role x e) at)
+      block_walked x (turn_standing x scope standing e a) (with_variable scope name (turn_role_in x standing scope e a) at)
       (list_walked x standing scope (stmt_seen x standing scope f (For at name e a)) e) a
   stmt_walked x standing scope f (Try at a name b) =
       block_walked x (try_standing x scope standing at a name b) (with_variable scope name Role.Plain at) (block_walked x (try_standing x scope standing at a name b) scope (stmt_seen x standing scope f (Try at a name b)) a) b
@@ -307,7 +313,7 @@ within_walked x standing scope f (If at c a b) =
     block_walked x (branch_standing x scope standing c a b) scope (block_walked x (branch_standing x scope standing c a b) scope (condition_walked x standing scope f c) a) b
 within_walked x standing scope f (While at c a) = block_walked x (while_standing x scope standing c) scope (turns_walked x standing scope f c) a
 within_walked x standing scope f (For at name e a) =
-    block_walked x (turn_standing x scope standing e) (with_variable scope name (turn_role x e) at) (list_walked x standing scope f e) a
+    block_walked x (turn_standing x scope standing e a) (with_variable scope name (turn_role_in x standing scope e a) at) (list_walked x standing scope f e) a
 within_walked x standing scope f (Try at a name b) =
     block_walked x (try_standing x scope standing at a name b) (with_variable scope name Role.Plain at) (block_walked x (try_standing x scope standing at a name b) scope f a) b
 within_walked x standing scope f (Batch at interface root a) = block_walked x (batch_standing standing) (with_variable scope root Role.Plain at) f a

@@ -3,14 +3,17 @@
 ghost use Rattle.std.specs.Prelude.{◌≡◌, IfOk};
 ghost use Rattle.rb_trees.specs.mirror.Declarations.{mirror_program};
 ghost use Rattle.rb_trees.specs.Outcome.{Tells};
+ghost use Rattle.rb_meaning_flow.specs.Programs as programs;
 ghost use Rattle.rb_flow.specs.Admission.{refusal_of};
 ghost use Rattle.rb_flow.specs.Program.{AreMarksOf, HasNoRefusal, IsAdmission};
 
+use crate::loops::index_loops;
 use crate::program::program_answer;
 use rb_marks::Marks;
 use rb_trees::{Memory, Refusal};
 use rb_types::Typed;
 use std::alloc::Global;
+use std::collections::BTreeSet;
 use std::fmt;
 use std::marker::Model;
 use thiserror::Error;
@@ -49,6 +52,8 @@ impl From<Memory> for AdmitStop {
 pub struct Admitted<'a> {
     typed: &'a Typed,
     marks: Marks,
+    // the positions of its carried loops
+    loops: BTreeSet<u32>,
 }
 
 impl<'a> Model for Admitted<'a> {
@@ -62,6 +67,7 @@ impl<'a> Model for Admitted<'a> {
     ghost use Rattle.rb_trees.specs.contracts.marks.Mark as mark_code;
     ghost use Rattle.rb_trees.specs.contracts.marks.Place as place_code;
     ghost use Rattle.rb_trees.specs.mirror.Declarations.{mirror_program};
+    ghost use Rattle.rb_flow.specs.Carried.{AreCarriedLoopsOf};
     ghost use Rattle.rb_flow.specs.Program.{IsAdmittedWith};
 
     ghost Value = { Program × (map.FinMap nat_cmp Mark × map.FinMap nat_cmp Place) };
@@ -70,7 +76,7 @@ impl<'a> Model for Admitted<'a> {
 
     ghost view = { λ a. (a.typed.now, a.marks) };
 
-    ghost invariant = { λ a. IsAdmittedWith (mirror_program a.typed.now) a.marks };
+    ghost invariant = { λ a. IsAdmittedWith (mirror_program a.typed.now) a.marks × AreCarriedLoopsOf (mirror_program a.typed.now) a.loops };
 }
 
 impl<'a> Admitted<'a> {
@@ -89,6 +95,13 @@ impl<'a> Admitted<'a> {
     {
         &self.marks
     }
+
+    /// Whether a carried loop stands at a position.
+    pub fn is_carried_at(&self, at: u32) -> bool
+        ensures { result ≡ programs.is_carried_at (mirror_program self.now.0) at }
+    {
+        self.loops.contains(&at)
+    }
 }
 
 /// Admits a program with its own marks: Ok exactly where it has no refusal, else the refusal before which
@@ -99,8 +112,16 @@ pub fn admit<'a>(alloc: Global, typed: &'a Typed, marks: Marks) -> Result<Admitt
     ensures typed { IfOk result (λ a. a.0 ≡ typed.now) }
     ensures marks { IfOk result (λ a. a.1 ≡ marks) }
 {
-    match program_answer(alloc, typed)? {
+    let (answer, loops) = program_answer(alloc, typed)?;
+    match answer {
         Some(refusal) => Err(AdmitStop::Refused(refusal)),
-        None => Ok(Admitted { typed, marks }),
+        None => {
+            let loops = index_loops(alloc, loops.into_vec())?;
+            Ok(Admitted {
+                typed,
+                marks,
+                loops,
+            })
+        }
     }
 }

@@ -3,13 +3,14 @@
 #![tactic(auto, using(rb_trees::proofs::mirror::Stmts::stmts, crate::proofs::Given::fact_rules))]
 
 ghost use Rattle.std.specs.Prelude.{◌≡◌, cond};
-ghost use Rattle.rb_trees.specs.mirror.Code.{mirror_expr, mirror_stmt};
+ghost use Rattle.rb_trees.specs.mirror.Code.{mirror_expr, mirror_stmt, mirror_stmts};
 ghost use Rattle.rb_meaning_flow.specs.declared.forms.PlacedForm.{PlacedForm};
 ghost use Rattle.rb_meaning_flow.specs.Forms as forms;
 ghost use Rattle.rb_meaning_flow.specs.Marks as told;
+ghost use Rattle.rb_flow.specs.Carried.{loop_form};
 ghost use Rattle.rb_flow.specs.Views.{facts};
 
-use crate::portable::is_portable;
+use crate::portable::{is_portable, may_carry};
 use rb_marks::{Facts, branches_hold, holds_call};
 use rb_meaning_flow::PlacedForm;
 use rb_scopes::Scope;
@@ -29,6 +30,17 @@ fn form_where(holds: bool, form: PlacedForm) -> PlacedForm
     if holds { form } else { PlacedForm::Plain }
 }
 
+// The form of a loop.
+fn loop_form(x: &Facts<'_>, scope: &Scope, list: &Expr, block: &[Stmt]) -> PlacedForm
+    ensures { result ≡ loop_form (facts x.now) scope.now (mirror_expr list.now) (mirror_stmts block.now) }
+{
+    if x.over_rows(list) {
+        PlacedForm::RowsLoop
+    } else {
+        form_where(may_carry(x, scope, list, block), PlacedForm::CarriedLoop)
+    }
+}
+
 /// The form that a statement has at a script place.
 pub fn placed_form(x: &Facts<'_>, scope: &Scope, stmt: &Stmt) -> PlacedForm
     ensures { result ≡ forms.placed_form (facts x.now) scope.now (mirror_stmt stmt.now) }
@@ -42,7 +54,7 @@ pub fn placed_form(x: &Facts<'_>, scope: &Scope, stmt: &Stmt) -> PlacedForm
                 PlacedForm::CarriedIf,
             )
         }
-        StmtForm::For(_, e, _) => form_where(x.over_rows(e), PlacedForm::RowsLoop),
+        StmtForm::For(_, e, a) => loop_form(x, scope, e, a.as_slice()),
         StmtForm::Var(_, _) | StmtForm::Assign(_, _) | StmtForm::Print(_) => PlacedForm::Plain,
         StmtForm::Throw(_) | StmtForm::While(_, _) => PlacedForm::Plain,
         StmtForm::Try(_, _, _) | StmtForm::Batch(_, _, _) => PlacedForm::Plain,

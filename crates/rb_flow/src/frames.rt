@@ -8,7 +8,7 @@ ghost use Rattle.rb_flow.specs.ByTrees as trees;
 ghost use Rattle.rb_flow.specs.Views.{facts};
 ghost use Rattle.rb_flow.specs.Walked as words;
 
-use crate::portable::is_portable;
+use crate::portable::{has_far_turns, is_constant_list, is_portable};
 use crate::reading::{read_block, read_opened};
 use crate::standing::{Inside, Reading, Standing};
 use crate::writers::read_around;
@@ -104,13 +104,15 @@ pub fn turn_standing(
     scope: &Scope,
     standing: &Standing,
     e: &Expr,
+    block: &[Stmt],
 ) -> Result<Standing, Memory>
-    ensures { IfOk result (λ s. s ≡ words.turn_standing (facts x.now) scope.now standing.now (mirror_expr e.now)) }
+    ensures { IfOk result (λ s. s ≡ trees.turn_standing x.now scope.now standing.now e.now block.now) }
 {
     let around = read_around(alloc, x, scope, &standing.around, e)?;
+    let known = x.over_rows(e) || is_constant_list(scope, e);
     Ok(Standing {
-        script: standing.script && x.over_rows(e),
-        condition: condition_unless(x.over_rows(e), standing.condition, e),
+        script: standing.script && has_far_turns(x, scope, e, block),
+        condition: condition_unless(known, standing.condition, e),
         tried: standing.tried,
         around,
     })

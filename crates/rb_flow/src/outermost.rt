@@ -5,7 +5,6 @@
 ghost use Rattle.std.specs.Prelude.{◌≡◌, map, IfOk, OnOk};
 ghost use Rattle.rb_trees.specs.mirror.Code.{mirror_stmt, mirror_stmts};
 ghost use Rattle.rb_trees.specs.mirror.Declarations.{mirror_param, mirror_program};
-ghost use Rattle.rb_meaning_types.specs.Kinds as kinds;
 ghost use Rattle.rb_meaning_flow.specs.Scopes as scopes;
 ghost use Rattle.rb_meaning_flow.specs.Outermost as outermost;
 ghost use Rattle.rb_flow.specs.Begun as begun;
@@ -13,10 +12,10 @@ ghost use Rattle.rb_flow.specs.Begun.{begun_of};
 ghost use Rattle.rb_flow.specs.ByTrees.{stmt_begun, block_begun, methods_begun, classes_begun};
 ghost use Rattle.rb_flow.specs.Views.{facts};
 
-use rb_marks::{Batch, Facts};
+use rb_marks::{Batch, Facts, has_primitive_items, is_primitive};
 use rb_meaning_flow::Role;
 use rb_scopes::{OuterScope, Scope};
-use rb_trees::{Class, Memory, Method, Param, Program, Seq, Stmt, StmtForm, TypeForm, Word};
+use rb_trees::{Class, Memory, Method, Param, Program, Seq, Stmt, StmtForm, Word};
 use std::alloc::Global;
 
 /// An outermost batch: the variables in scope where it begins, and its block.
@@ -26,21 +25,13 @@ pub struct OpenBatch<'p> {
     pub block: &'p [Stmt],
 }
 
-fn is_primitive(kind: &TypeForm) -> bool
-    ensures { result ≡ kinds.is_primitive (kinds.kind_of_form kind.now) }
-{
-    match kind {
-        TypeForm::Int | TypeForm::Bool | TypeForm::Text => true,
-        TypeForm::Unit | TypeForm::Named(_) => false,
-        TypeForm::ListOf(_) | TypeForm::RowsOf(_) => false,
-    }
-}
-
-fn outer_role(primitive: bool) -> Role
-    ensures { result ≡ outermost.outer_role primitive }
+fn outer_role(primitive: bool, list: bool) -> Role
+    ensures { result ≡ outermost.outer_role primitive list }
 {
     if primitive {
         Role::Constant
+    } else if list {
+        Role::ConstantList
     } else {
         Role::Plain
     }
@@ -52,7 +43,8 @@ fn parameters(alloc: Global, params: &[Param]) -> Result<OuterScope, Memory>
 {
     let mut scope = OuterScope::new(alloc);
     for param in params {
-        let role = outer_role(is_primitive(&param.kind.form));
+        let kind = &param.kind.form;
+        let role = outer_role(is_primitive(kind), has_primitive_items(kind));
         scope.bind(alloc, &param.name, role, param.at)?;
     }
     Ok(scope)
@@ -104,7 +96,8 @@ fn collect_stmt<'p>(
 {
     match &s.form {
         StmtForm::Val(name, e) | StmtForm::Var(name, e) => {
-            scope.bind(alloc, name, outer_role(x.is_primitive(e)), s.at)
+            let role = outer_role(x.is_primitive(e), x.has_primitive_items(e));
+            scope.bind(alloc, name, role, s.at)
         }
         StmtForm::Assign(_, _) | StmtForm::Run(_) => Ok(()),
         StmtForm::Print(_) | StmtForm::Throw(_) => Ok(()),
@@ -114,12 +107,12 @@ fn collect_stmt<'p>(
         }
         StmtForm::While(_, a) => collect_block(alloc, x, scope, batches, a.as_slice()),
         StmtForm::For(name, e, a) => {
-            let role = outer_role(x.has_primitive_items(e));
+            let role = outer_role(x.has_primitive_items(e), x.has_list_items(e));
             collect_opened(alloc, x, scope, batches, name, role, s.at, a.as_slice())
         }
         StmtForm::Try(a, name, b) => {
             collect_block(alloc, x, scope, batches, a.as_slice())?;
-            let role = outer_role(true);
+            let role = outer_role(true, false);
             collect_opened(alloc, x, scope, batches, name, role, s.at, b.as_slice())
         }
         StmtForm::Batch(_, root, a) => {

@@ -3,24 +3,33 @@
 #![tactic(auto, using(crate::proofs::Given::fact_rules))]
 
 ghost use Rattle.std.specs.Prelude.{◌≡◌};
-ghost use Rattle.rb_trees.specs.mirror.Code.{mirror_expr, mirror_exprs};
-ghost use Rattle.rb_meaning_flow.specs.Scopes.{is_portable_role};
+ghost use Rattle.rb_trees.specs.mirror.Code.{mirror_expr, mirror_exprs, mirror_stmts};
+ghost use Rattle.rb_meaning_flow.specs.Scopes.{is_list_role, is_portable_role};
 ghost use Rattle.rb_meaning_flow.specs.Portable as told;
 ghost use Rattle.rb_meaning_flow.specs.Refusals as refusals;
 ghost use Rattle.rb_flow.specs.Views.{facts};
 
 use crate::scope::role_of;
-use rb_marks::Facts;
+use rb_marks::{Facts, block_holds};
 use rb_meaning_flow::Role;
 use rb_scopes::Scope;
-use rb_trees::{Expr, ExprForm};
+use rb_trees::{Expr, ExprForm, Stmt};
 
 fn is_portable_variable(role: Role) -> bool
     ensures { result ≡ is_portable_role role }
 {
     match role {
         Role::Constant | Role::Root | Role::Row | Role::Carried => true,
-        Role::Plain => false,
+        Role::ConstantList | Role::Plain => false,
+    }
+}
+
+fn is_list_variable(role: Role) -> bool
+    ensures { result ≡ is_list_role role }
+{
+    match role {
+        Role::ConstantList => true,
+        Role::Constant | Role::Root | Role::Row | Role::Carried | Role::Plain => false,
     }
 }
 
@@ -55,6 +64,33 @@ fn are_portable(x: &Facts<'_>, scope: &Scope, es: &[Expr]) -> bool
         }
     }
     true
+}
+
+/// Whether an expression is the name of a constant list.
+pub fn is_constant_list(scope: &Scope, e: &Expr) -> bool
+    ensures { result ≡ told.is_constant_list scope.now (mirror_expr e.now) }
+{
+    match &e.form {
+        ExprForm::Name(name) => is_list_variable(role_of(scope, name)),
+        ExprForm::Lit(_) | ExprForm::This | ExprForm::Unary(_, _) => false,
+        ExprForm::Binary(_, _, _) | ExprForm::Field(_, _) | ExprForm::Index(_, _) => false,
+        ExprForm::Call(_, _, _) | ExprForm::New(_, _) => false,
+        ExprForm::Items(_, _) | ExprForm::Taken(_) => false,
+    }
+}
+
+/// Whether the script can take a loop along: over a constant list, and with a remote operation in its block.
+pub fn may_carry(x: &Facts<'_>, scope: &Scope, list: &Expr, block: &[Stmt]) -> bool
+    ensures { result ≡ told.may_carry (facts x.now) scope.now (mirror_expr list.now) (mirror_stmts block.now) }
+{
+    is_constant_list(scope, list) && block_holds(x, block)
+}
+
+/// Whether a loop's turns are the script's, where it stands at a script place.
+pub fn has_far_turns(x: &Facts<'_>, scope: &Scope, list: &Expr, block: &[Stmt]) -> bool
+    ensures { result ≡ told.has_far_turns (facts x.now) scope.now (mirror_expr list.now) (mirror_stmts block.now) }
+{
+    x.over_rows(list) || may_carry(x, scope, list, block)
 }
 
 /// Whether a call stands in an expression, remote or not.

@@ -2,6 +2,7 @@
 
 ghost use Rattle.std.specs.Prelude.{◌≡◌, map, IfOk};
 ghost use Rattle.rb_trees.specs.mirror.Declarations.{mirror_program};
+ghost use Rattle.rb_meaning_flow.specs.Programs as programs;
 ghost use Rattle.rb_flow.specs.Begun.{begun_of, begun_sites};
 ghost use Rattle.rb_flow.specs.Answers.{SitesDiffer, IsBatchAnswer};
 ghost use Rattle.rb_flow.specs.Program as words;
@@ -9,9 +10,10 @@ ghost use Rattle.rb_flow.specs.Views.{facts};
 
 use crate::batch::answer;
 use crate::earliest::earlier_of;
+use crate::loops::carried_loops;
 use crate::outermost::{OpenBatch, collect_batches};
 use rb_marks::Facts;
-use rb_trees::{Memory, Refusal};
+use rb_trees::{Memory, Refusal, Seq};
 use rb_types::Typed;
 use std::alloc::Global;
 
@@ -50,11 +52,15 @@ fn answer_all(
     Ok(first)
 }
 
-/// The answer for a program: a refusal before which there is none, or None where it has no refusal.
-pub fn program_answer(alloc: Global, typed: &Typed) -> Result<Option<Refusal>, Memory>
-    ensures { IfOk result (words.IsProgramAnswer (mirror_program typed.now)) }
+/// The answer for a program, a refusal before which there is none, or None where it has no refusal; and the positions of
+/// its carried loops.
+pub fn program_answer(alloc: Global, typed: &Typed) -> Result<(Option<Refusal>, Seq<u32>), Memory>
+    ensures answer { IfOk result (λ r. words.IsProgramAnswer (mirror_program typed.now) r.0) }
+    ensures loops { IfOk result (λ r. r.1 ≡ programs.carried_loops (mirror_program typed.now)) }
 {
     let x = Facts::new(alloc, typed)?;
     let batches = collect_batches(alloc, &x, typed.program())?;
-    answer_all(alloc, &x, batches.into_vec())
+    let loops = carried_loops(alloc, &x, batches.as_slice())?;
+    let answer = answer_all(alloc, &x, batches.into_vec())?;
+    Ok((answer, loops))
 }

@@ -6,8 +6,7 @@ ghost use Rattle.std.specs.Prelude.{◌≡◌, true, take, length, IfOk, OnOk};
 ghost use Rattle.rb_trees.specs.mirror.Code.{mirror_expr, mirror_stmt};
 ghost use Rattle.rb_meaning_flow.specs.declared.scopes.Role.{Role};
 ghost use Rattle.rb_meaning_flow.specs.Scopes.{with_variable};
-ghost use Rattle.rb_meaning_flow.specs.Sites as sites;
-ghost use Rattle.rb_flow.specs.ByTrees.{whole_walked, block_walked, branch_standing, val_role};
+ghost use Rattle.rb_flow.specs.ByTrees.{whole_walked, block_walked, branch_standing, turn_standing, val_role};
 ghost use Rattle.rb_flow.specs.Views.{facts};
 ghost use Rattle.rb_flow.specs.Walked as words;
 
@@ -27,10 +26,11 @@ use rb_scopes::Scope;
 use rb_trees::{Expr, Memory, Seq, Stmt, StmtForm, Word};
 use std::alloc::Global;
 
-fn turn_role(x: &Facts<'_>, list: &Expr) -> Role
-    ensures { result ≡ sites.turn_role (facts x.now) (mirror_expr list.now) }
+// What the variable of a loop is, whose block is a script place or isn't.
+fn turn_role(rows: bool, script: bool) -> Role
+    ensures { result ≡ words.turn_role rows script }
 {
-    if x.over_rows(list) {
+    if rows || script {
         Role::Row
     } else {
         Role::Plain
@@ -152,11 +152,12 @@ fn enter_for(
     scope: &Scope,
     found: &mut Findings,
     e: &Expr,
+    block: &Seq<Stmt>,
 ) -> Result<Standing, Memory>
     ensures found { OnOk result (found.new ≡ words.list_walked (facts x.now) standing.now scope.now found.old (mirror_expr e.now)) }
-    ensures within { IfOk result (λ s. s ≡ words.turn_standing (facts x.now) scope.now standing.now (mirror_expr e.now)) }
+    ensures within { IfOk result (λ s. s ≡ turn_standing x.now scope.now standing.now e.now block.now) }
 {
-    let within = turn_standing(alloc, x, scope, standing, e)?;
+    let within = turn_standing(alloc, x, scope, standing, e, block.as_slice())?;
     let inside = whole_inside(standing, x.over_rows(e));
     walk_expr(alloc, x, scope, &within.around, &inside, found, e)?;
     Ok(within)
@@ -210,8 +211,8 @@ fn walk_within(
             walk_block(alloc, x, &within, scope, found, a.as_slice())
         }
         StmtForm::For(name, e, a) => {
-            let within = enter_for(alloc, x, standing, scope, found, e)?;
-            let role = turn_role(x, e);
+            let within = enter_for(alloc, x, standing, scope, found, e, a)?;
+            let role = turn_role(x.over_rows(e), within.script);
             walk_opened(alloc, x, &within, scope, found, name, role, s.at, a)
         }
         StmtForm::Try(a, name, b) => {

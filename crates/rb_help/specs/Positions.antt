@@ -72,6 +72,7 @@ positions_of (troubles.Unread e) = option_to_list (read_position e.now)
 positions_of (troubles.Untyped e) = option_to_list (type_position e.now)
 positions_of (troubles.Refused refusal) = refusal_positions refusal.now
 positions_of (troubles.Unserved e) = option_to_list (store_position e.now)
+positions_of (troubles.NoEvent name line) = []
 positions_of (troubles.LinkFault server exchanges) = []
 positions_of (troubles.BadReply server exchanges flaw) = []
 positions_of (troubles.DialFault server) = []

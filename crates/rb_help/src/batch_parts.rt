@@ -75,6 +75,21 @@ pub fn statement_in(pieces: &Pieces<'_>, open: usize, index: usize) -> usize {
     index
 }
 
+/// Whether a loop stands around a statement of a batch.
+pub fn is_in_loop(pieces: &Pieces<'_>, batch: &BatchSpan, statement: usize) -> bool {
+    let mut place = statement;
+    for _ in 0..pieces.len() {
+        match open_brace(pieces, place) {
+            Some(open) if open > batch.open => place = statement_start(pieces, open),
+            _ => return false,
+        }
+        if matches!(pieces.text(place), b"for" | b"while") {
+            return true;
+        }
+    }
+    false
+}
+
 /// Whether a piece is a name that is assigned there.
 fn is_assigned(pieces: &Pieces<'_>, index: usize) -> bool {
     pieces.is_later(index, 1, b"=")
@@ -148,6 +163,43 @@ impl<'a> Across<'a> {
 /// The piece that declares the variable that a piece names.
 pub fn declaration_of(pieces: &Pieces<'_>, index: usize) -> Option<usize> {
     declared_before(pieces, index, pieces.text(index), Declared::Variable)
+}
+
+/// Whether what stands from a piece on to the end of its statement, or to a brace, names nothing that a batch binds, but for
+/// one name.
+pub fn is_from_before(pieces: &Pieces<'_>, batch: &BatchSpan, name: &[u8], from: usize) -> bool {
+    let mut looked_at = 0usize;
+    for place in from..pieces.len() {
+        match pieces.text(place) {
+            b";" | b"{" => return true,
+            text if text == name || !is_name(text) || pieces.is_earlier(place, 1, b".") => {}
+            _ if looked_at >= MOST_LOOKED_AT => return false,
+            _ => {
+                looked_at += 1;
+                if declaration_of(pieces, place).is_some_and(|it| it > batch.word) {
+                    return false;
+                }
+            }
+        }
+    }
+    false
+}
+
+/// Whether each assignment of a variable in a batch stands directly in it, and gives what names nothing that the batch binds,
+/// but for the variable.
+pub fn are_from_before(pieces: &Pieces<'_>, batch: &BatchSpan, name: &[u8]) -> bool {
+    let mut from = batch.open;
+    for _ in 0..MOST_LOOKED_AT {
+        let Some(place) = assigned_within(pieces, name, from, batch.close) else {
+            return true;
+        };
+        let is_direct = open_brace(pieces, place) == Some(batch.open);
+        if !is_direct || !is_from_before(pieces, batch, name, place.saturating_add(2)) {
+            return false;
+        }
+        from = place.saturating_add(1);
+    }
+    false
 }
 
 /// Whether the server can work out what stands from one piece on to the end of its statement: no list, no new object and no

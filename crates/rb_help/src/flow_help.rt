@@ -47,7 +47,7 @@ pub fn say_declare(
 }
 
 /// Says to end a batch before one of its statements and to begin another one there.
-fn say_end_before(
+pub fn say_end_before(
     page: &mut Page,
     pieces: &Pieces<'_>,
     batch: &BatchSpan,
@@ -105,7 +105,7 @@ fn say_vals(
 }
 
 /// Whether a variable from before a batch is assigned in it, and there only from a statement on.
-fn is_assigned_later(
+pub fn is_assigned_later(
     pieces: &Pieces<'_>,
     batch: &BatchSpan,
     statement: usize,
@@ -180,7 +180,7 @@ fn declared_inside(pieces: &Pieces<'_>, batch: &BatchSpan, index: usize) -> Opti
 }
 
 /// Says to move what gives a variable its value to a place before a batch.
-fn say_move(
+pub fn say_move(
     page: &mut Page,
     pieces: &Pieces<'_>,
     batch: &BatchSpan,

@@ -1,5 +1,6 @@
 // What is said of what stands around a program: words, files, links, output and memory.
 
+use crate::event_texts::NO_EVENT;
 use crate::link_help::{say_bad_reply, say_dial_fault, say_link_fault};
 use crate::outside_texts as texts;
 use crate::trouble::Trouble;
@@ -14,6 +15,7 @@ pub fn say_outside(alloc: Global, page: &mut Page, trouble: &Trouble<'_>) -> Res
         Trouble::Words(words) => say_words(alloc, page, words),
         Trouble::FileFault(name) => page.say_name(&texts::FILE_FAULT, name),
         Trouble::FileTooLong(name) => page.say_name(&texts::FILE_TOO_LONG, name),
+        Trouble::NoEvent(name, line) => page.say_number(&NO_EVENT, name, *line),
         Trouble::LinkFault(server, done) => say_link_fault(page, server, *done),
         Trouble::BadReply(server, done, flaw) => say_bad_reply(alloc, page, server, *done, flaw),
         Trouble::DialFault(server) => say_dial_fault(page, server),

@@ -109,6 +109,7 @@ pub fn positions(alloc: Global, trouble: &Trouble<'_>) -> Result<Seq<u32>, Memor
         Trouble::Words(_)
         | Trouble::FileFault(_)
         | Trouble::FileTooLong(_)
+        | Trouble::NoEvent(_, _)
         | Trouble::LinkFault(_, _)
         | Trouble::BadReply(_, _, _)
         | Trouble::DialFault(_)

@@ -1,12 +1,12 @@
 // What is said where a batch is refused.
 
 use crate::batch_parts::{
-    BatchSpan, assigned_within, batch_around, declaration_of, is_declared_by, is_portable,
-    statement_in, statement_start,
+    BatchSpan, assigned_within, batch_around, declaration_of, is_declared_by, is_in_loop,
+    is_portable, statement_in, statement_start,
 };
 use crate::flow_help::{say_declare, say_flow, say_not_constant};
+use crate::list_help::say_list;
 use crate::refusal_texts;
-use rb_pieces::around::open_brace;
 use rb_pieces::declarations::{Declared, declared_once};
 use rb_pieces::spans::{operand_first, operand_last, span_at};
 use rb_pieces::{Page, Pieces};
@@ -27,21 +27,6 @@ fn brace_behind(pieces: &Pieces<'_>, index: usize) -> usize {
 fn is_alone(pieces: &Pieces<'_>, batch: &BatchSpan, statement: usize) -> bool {
     let last = batch.close.saturating_sub(1);
     statement == batch.open.saturating_add(1) && statement_in(pieces, batch.open, last) == statement
-}
-
-/// Whether a loop stands around a statement of a batch.
-fn is_in_loop(pieces: &Pieces<'_>, batch: &BatchSpan, statement: usize) -> bool {
-    let mut place = statement;
-    for _ in 0..pieces.len() {
-        match open_brace(pieces, place) {
-            Some(open) if open > batch.open => place = statement_start(pieces, open),
-            _ => return false,
-        }
-        if matches!(pieces.text(place), b"for" | b"while") {
-            return true;
-        }
-    }
-    false
 }
 
 /// What to do about a statement of a batch that decides over a call.
@@ -124,12 +109,17 @@ fn say_local_condition(
     let call = pieces.index_of(operation);
     let statement = statement_start(pieces, index);
     let word = pieces.text(statement);
+    let is_head = call > brace_behind(pieces, statement);
+    let batch = batch_around(pieces, index);
+    if let (b"for", true, Some(around)) = (word, is_head, batch) {
+        return say_list(page, pieces, &around, statement);
+    }
     page.sentence(refusal_texts::LOCAL_CONDITION, b"", b"")?;
-    let Some(batch) = batch_around(pieces, index) else {
+    let Some(around) = batch else {
         return page.sentence(refusal_texts::DECIDE_BEHIND, b"", b"");
     };
-    if matches!(word, b"if" | b"while" | b"for") && call > brace_behind(pieces, statement) {
-        say_head(page, pieces, &batch, statement)
+    if matches!(word, b"if" | b"while") && is_head {
+        say_head(page, pieces, &around, statement)
     } else {
         say_behind_and(page, pieces, word, call)
     }

@@ -68,6 +68,21 @@ pub const ASK_VAR: &[u8] =
 pub const DECIDE_BEHIND: &[u8] =
     b"Let a `var` from before the batch keep what is decided, and begin a second batch after it, in an `if` on that `var`.";
 
+// Lists that local code would go over.
+
+pub const LOCAL_LIST: &[u8] =
+    b"Local code goes over this list, and it runs only when the batch has come back.";
+
+pub const LIST_OF_ITEMS: &[u8] =
+    b"A batch takes a List of Int, Bool or Text along: before the batch, put what the call needs of each item into one.";
+
+pub const COPY_LIST: &[u8] = b"Copy `@` into a `val` before the batch, and go over that.";
+
+pub const BIND_LIST: &[u8] = b"Put `@` into a `val` before the batch, and go over that.";
+
+pub const LIST_BEHIND: &[u8] =
+    b"Let a List from before the batch keep the items, and go over it in a second batch.";
+
 // Remote objects.
 
 pub const ESCAPES: &[u8] =

@@ -5,8 +5,8 @@ use rb_pieces::declarations::{Declared, declared_once};
 use rb_pieces::spans::{Span, closing, operand_first};
 use rb_pieces::{Help, Page, Pieces};
 use rb_trees::fault_codes::{
-    BAD_ARGUMENTS, DIVISION_BY_ZERO, FUEL_USED, HEAP_FULL, INDEX_OUTSIDE, KIND, LIST_TOO_LONG,
-    NO_METHOD, TEXT_TOO_LONG, THROWN, TOO_DEEP, WRONG_KIND,
+    BAD_ARGUMENTS, DIVISION_BY_ZERO, FUEL_USED, HEAP_FULL, INDEX_OUTSIDE, INPUT_TOO_LARGE, KIND,
+    LIST_TOO_LONG, NO_METHOD, TEXT_TOO_LONG, THROWN, TOO_DEEP, WRONG_KIND,
 };
 use rb_trees::{Fault, Memory};
 use rb_type_help::{known_type, name_of};
@@ -44,6 +44,7 @@ fn meant_by(code: u8) -> &'static Help {
         BAD_ARGUMENTS => &texts::BAD_ARGUMENTS,
         WRONG_KIND => &texts::WRONG_KIND,
         KIND => &texts::KIND,
+        INPUT_TOO_LARGE => &texts::INPUT_TOO_LARGE,
         _ => &texts::OTHER_FAULT,
     }
 }

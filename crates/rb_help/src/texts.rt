@@ -235,6 +235,11 @@ pub const KIND: Help = Help {
     mend: b"No program that is accepted does this by itself; see whether the server is the one that is meant.",
 };
 
+pub const INPUT_TOO_LARGE: Help = Help {
+    wrong: b"The lists that this batch takes along have more than 1000 items together.",
+    mend: b"Go over them in parts, by a `while` with a batch in it that takes at most 1000 along.",
+};
+
 pub const OTHER_FAULT: Help = Help {
     wrong: b"The program ended here, by a fault without a name.",
     mend: b"See whether the server is the one that is meant.",

@@ -46,6 +46,8 @@ pub enum Trouble<'a> {
     Unread(&'a ReadError),
     /// The program that was read isn't typed.
     Untyped(&'a TypeError),
+    /// In the file of events of this name, the line of this number, from 1, is no event.
+    NoEvent(&'a [u8], u64),
     /// A batch of the program isn't admitted or divided.
     Refused(&'a Refusal),
     /// The service's text is refused.

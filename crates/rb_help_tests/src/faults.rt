@@ -53,7 +53,7 @@ fn operators_fault(rt: HostRuntime) -> Result<(), Fail> {
 }
 
 /// Faults at a limit, and what is thrown.
-const LIMITS: [Said; 4] = [
+const LIMITS: [Said; 5] = [
     (
         "main { val a = new A(); }",
         Wrong::Fault(5),
@@ -92,6 +92,16 @@ See whether it ends. The last word of a command gives a run more; at the server 
   |        ^
 \"Big\" was thrown, and nothing caught it.
 Catch it by `try { .. } catch (e) { .. }`, or see why it is thrown.
+",
+    ),
+    (
+        "main { batch (D r) { for (n in ns) { r.m(n); } } }",
+        Wrong::Fault(13),
+        "batch",
+        "1 | main { batch (D r) { for (n in ns) { r.m(n); } } }
+  |        ^
+The lists that this batch takes along have more than 1000 items together.
+Go over them in parts, by a `while` with a batch in it that takes at most 1000 along.
 ",
     ),
 ];
@@ -145,7 +155,7 @@ No program that is accepted does this by itself; see whether the server is the o
     ),
     (
         "main { batch (D r) { r.m(); } }",
-        Wrong::Fault(13),
+        Wrong::Fault(14),
         "m();",
         "1 | main { batch (D r) { r.m(); } }
   |                        ^

@@ -4,6 +4,8 @@
 #[cfg(test)]
 mod colours;
 #[cfg(test)]
+mod events;
+#[cfg(test)]
 mod faults;
 #[cfg(test)]
 mod known;
@@ -17,6 +19,8 @@ mod mistakes_in_declarations;
 mod mistakes_in_flows;
 #[cfg(test)]
 mod mistakes_in_forms;
+#[cfg(test)]
+mod mistakes_in_lists;
 #[cfg(test)]
 mod mistakes_in_services;
 #[cfg(test)]

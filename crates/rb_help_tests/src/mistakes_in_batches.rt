@@ -4,7 +4,7 @@ use crate::taught::{Kind, Taught, all_taught};
 use std::test::Fail;
 
 /// Batches that are refused for other reasons.
-const BATCHES: [Taught; 16] = [
+const BATCHES: [Taught; 15] = [
     (
         "main {
   var n = 1;
@@ -38,20 +38,6 @@ Write `val k` in place of `var k` in line 4, so that the server keeps it.",
   batch (D d) {
     val k = n;
     if (k > 0) { d.burn(1); }
-  }
-}",
-    ),
-    (
-        "main {
-  batch (D d) {
-    for (x in List<Int>(1, 2)) { d.burn(x); }
-  }
-}",
-        "Local code decides whether the call is made, and it runs only when the batch has come back.
-Let the `for` go around the batch, and the batch begin in it.",
-        "main {
-  for (x in List<Int>(1, 2)) {
-    batch (D d) { d.burn(x); }
   }
 }",
     ),

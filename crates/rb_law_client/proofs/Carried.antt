@@ -142,7 +142,7 @@ module _ (c : Scene) (refs : Refs) (m : ℕ) (vs : Scope) (ws : typed.Scope) (va
         → Arrived c (with_var refs name m) (suc m) (with_variable vs name Role.Carried place) after (bound name v l) s1 (with_kept keep v (go ((m, v) ∷ vars) s1.server)) rep go ke
     let_arrived keep v s1 rep fits holds e = record {
       vars = (m, v) ∷ vars;
-      at = at_bound c refs m vs ws vars l at name Role.Carried place k v far_kind free fits known;
+      at = at_bound c refs m vs ws vars l at name Role.Carried place k v refl far_kind free fits known;
       holds = holds;
       fault = same_fault keep (go ((m, v) ∷ vars) s1.server);
       server = same_server keep (go ((m, v) ∷ vars) s1.server);

@@ -1,25 +1,30 @@
 -- A client runs a program's code as the program itself does, batch by batch.
-use Rattle.std.proofs.Common.{◌≡◌, refl, sym, ap, ◌∙◌, subst, ℕ, List, [], ◌∷◌, ◌++◌, append_assoc, append-nil, drop, Option, Some, None, Ok}
+use Rattle.std.proofs.Common.{◌≡◌, refl, sym, ap, ◌∙◌, subst, ℕ, List, [], ◌∷◌, ◌++◌, append_assoc, append-nil, drop, nat_lt, Bool as Truth, true, false, Option, Some, None, Ok}
 use Rattle.rb_trees.specs.declared.values.Value.TheVariants as value
 use Rattle.rb_trees.specs.declared.services.Object.{Object}
 use Rattle.rb_trees.specs.mirror.Declarations.{Program}
 use Rattle.rb_trees.specs.mirror.Services.{Service}
 use Rattle.rb_trees.specs.mirror.Forests.{Node}
+use Rattle.rb_meaning_bytes.specs.formats.Items.{most_items}
 use Rattle.rb_meaning_bytes.specs.formats.Messages.{Sent}
 use Rattle.rb_meaning_types.specs.Declared.{Declarations, of_program}
 use Rattle.rb_meaning_types.specs.Lawful.{IsLawful}
 use Rattle.rb_meaning_types.specs.Programs.{check_program}
+use Rattle.rb_meaning_code.specs.Faults.{input_too_large, raised}
 use Rattle.rb_meaning_code.specs.State.{Local}
-use Rattle.rb_meaning_code.specs.Dialogue.{Question, Line, Taken, Invoke, Turn, ListTurn, Outcome, Dialogue, Done, Ask, AskBatch, Handler, handle}
+use Rattle.rb_meaning_code.specs.Dialogue.{Question, Line, Taken, Invoke, Turn, ListTurn, Outcome, Faulted, Dialogue, Done, Ask, AskBatch, Handler, handle}
 use Rattle.rb_meaning_flow.specs.Outermost.{Outermost}
 use Rattle.rb_meaning.specs.State as state
 use Rattle.rb_meaning.specs.State.{Event, Outside}
 use Rattle.rb_meaning.specs.Unsplit.{batch_at, performs_batch}
 use Rattle.rb_meaning.specs.Links.{IsTyped}
+use Rattle.rb_meaning.specs.ConstantLists.{takes_too_many}
+use Rattle.rb_meaning.specs.Meaning as whole
 use Rattle.rb_meaning.specs.Meaning.{Around, answers_around, around_of, at_batch, behind_batch, performs_found, in_main, ending_of}
 use Rattle.rb_meaning.specs.Others.{FoundThrough}
 use Rattle.rb_meaning_split.specs.Division.{Division, division}
-use Rattle.rb_meaning_split.specs.Client.{Waiting, answers_waiting, sent_for, begins, replays, replays_next, performs_divided, in_client, client}
+use Rattle.rb_meaning_split.specs.Client as divided
+use Rattle.rb_meaning_split.specs.Client.{Waiting, are_too_many, answers_waiting, sent_for, begins, replays, replays_next, performs_divided, in_client, client}
 use Rattle.rb_flow.specs.Program.{HasNoRefusal}
 use Rattle.rb_law_types.specs.Asked.{Side, Own, Site, Keeps, IsAskedBatch}
 use Rattle.rb_law_types.specs.Around.{HandlerFits}
@@ -34,6 +39,7 @@ use Rattle.rb_law_client.specs.Dividing.{KeepsMeaning}
 use Rattle.rb_law_client.specs.Clients.{sent_run, ScriptsGive, ClientsMeanWhatProgramsMean}
 use Rattle.rb_law_client.specs.Reached.{main_run, with_nodes}
 use Rattle.rb_law_client.proofs.Divided.{dividing_keeps}
+use Rattle.rb_law_client.proofs.Taken.{inputs_have_items}
 use Rattle.rb_law_client.proofs.Mains.{Ends, main_fits, main_kept}
 use Rattle.rb_law_client.proofs.Others.{gives_none, gives_first, IsBehind, behind_none, behind_one}
 
@@ -80,9 +86,13 @@ module _ (below : LawsBelow) (p : Program) (lawful : IsLawful p) (checked : chec
   next_grows v l w [] = refl
   next_grows v l w (n ∷ ns) = refl
 
+  begins_grows : (many : Truth) (w : Waiting) (b : Outermost) (l : Local) → Grows w (divided.begins_or_faults many p b l w).1
+  begins_grows true w b l = grows_same w
+  begins_grows false w b l = record { more = sent_for (division p b) l ∷ []; same = next_grows (division p b) l (begins (division p b) l w) w.nodes }
+
   pub batch_grows : (w : Waiting) (o : Option Outermost) (at : ℕ) (l : Local) → Grows w (performs_divided p o at l w).1
   batch_grows w None at l = grows_same w
-  batch_grows w (Some b) at l = record { more = sent_for (division p b) l ∷ []; same = next_grows (division p b) l (begins (division p b) l w) w.nodes }
+  batch_grows w (Some b) at l = begins_grows (are_too_many (division p b) l) w b l
 
   pub run_grows : {A : Type 0} (run : Dialogue A) (w : Waiting) → Grows w (handle waiting run w).1
   run_grows (Done a) w = grows_same w
@@ -107,6 +117,10 @@ module _ (below : LawsBelow) (p : Program) (lawful : IsLawful p) (checked : chec
   pub keeps_here : (a : Around) → Holds a → (at : ℕ) (l : Local) (site : Site) → IsAskedBatch d side at l site → (b : Outermost) → batch_at p at ≡ Some b → KeepsMeaning p service b l (at_batch a)
   keeps_here a h at l site asked b found = dividing_keeps below p lawful checked none service (at_batch a) (typed_now (at_batch a) (stands_at_batch service a h)) at l site asked b found
 
+  -- the program says as its client does whether a batch has too many items
+  pub limit_here : (at : ℕ) (l : Local) (site : Site) → IsAskedBatch d side at l site → (b : Outermost) → batch_at p at ≡ Some b → takes_too_many p b l.names ≡ are_too_many (division p b) l
+  limit_here at l site asked b found = ap (nat_lt most_items) (inputs_have_items below p lawful checked at l site asked b found)
+
   -- ---- the runs
 
   -- A client and the program ended alike, and meanwhile the program's batches found and left these tables.
@@ -127,16 +141,32 @@ module _ (below : LawsBelow) (p : Program) (lawful : IsLawful p) (checked : chec
   abbrev pub done : Outermost → Local → Around → Outcome (Unit {0}) × Around
   done b l a = behind_batch a (performs_batch p service b l (at_batch a))
 
-  pub done_is : (a : Around) (at : ℕ) (l : Local) (b : Outermost) → batch_at p at ≡ Some b → done b l a ≡ main.batch a at l
-  done_is a at l b found = ap (λ z. performs_found p service z at l a) (sym found)
+  pub done_is : (a : Around) (at : ℕ) (l : Local) (b : Outermost) → batch_at p at ≡ Some b → takes_too_many p b l.names ≡ false → done b l a ≡ main.batch a at l
+  done_is a at l b found few = ap (λ t. whole.begins_or_faults t p service b l a) (sym few) ∙ ap (λ z. performs_found p service z at l a) (sym found)
+
+  -- what both do at a batch that has too many items
+  abbrev pub too_large : Outermost → Local → Outcome (Unit {0})
+  too_large b l = Faulted (raised input_too_large b.at) l
+
+  pub too_large_is : (a : Around) (at : ℕ) (l : Local) (b : Outermost) → batch_at p at ≡ Some b → takes_too_many p b l.names ≡ true → (too_large b l, a) ≡ main.batch a at l
+  too_large_is a at l b found many = ap (λ t. whole.begins_or_faults t p service b l a) (sym many) ∙ ap (λ z. performs_found p service z at l a) (sym found)
+
+  pub too_large_sent : (w : Waiting) (at : ℕ) (l : Local) (b : Outermost) → batch_at p at ≡ Some b → are_too_many (division p b) l ≡ true → performs_divided p (batch_at p at) at l w ≡ (too_large b l, w)
+  too_large_sent w at l b found many = ap (λ z. performs_divided p z at l w) found ∙ ap (λ t. divided.begins_or_faults t p b l w) many
+
+  -- a client that begins a batch has sent its script
+  pub begun_sent : (w : Waiting) (at : ℕ) (l : Local) (b : Outermost) → batch_at p at ≡ Some b → are_too_many (division p b) l ≡ false → (performs_divided p (batch_at p at) at l w).1.sent ≡ w.sent ++ sent_now b l ∷ []
+  begun_sent w at l b found few =
+      ap (λ z. (performs_divided p z at l w).1.sent) found ∙ ap (λ t. (divided.begins_or_faults t p b l w).1.sent) few ∙ next_grows (division p b) l (begins (division p b) l w) w.nodes
 
   -- what a client does on a node that its script gave is what the program does
-  pub batch_same : (a : Around) (w : Waiting) (at : ℕ) (l : Local) (b : Outermost) (n : Node) (ns : List Node) → batch_at p at ≡ Some b → w.events ≡ a.outside.events → KeepsMeaning p service b l (at_batch a)
+  pub batch_same : (a : Around) (w : Waiting) (at : ℕ) (l : Local) (b : Outermost) (n : Node) (ns : List Node) → batch_at p at ≡ Some b → are_too_many (division p b) l ≡ false → w.events ≡ a.outside.events → KeepsMeaning p service b l (at_batch a)
       → (script_run p service b l (at_batch a).server.table).node ≡ n → w.nodes ≡ n ∷ ns
       → performs_divided p (batch_at p at) at l w ≡ ((done b l a).0, behind (done b l a).1 (w.sent ++ sent_now b l ∷ []) ns)
-  batch_same a w at l b n ns found e keeps given is =
+  batch_same a w at l b n ns found few e keeps given is =
       let s = at_batch a in
       ap (λ z. performs_divided p z at l w) found
+      ∙ ap (λ t. divided.begins_or_faults t p b l w) few
       ∙ ap (replays_next p (division p b) l (begins (division p b) l w)) is
       ∙ ap (λ q. (q.outcome, record { events = q.events; sent = w.sent ++ sent_now b l ∷ []; nodes = ns }))
       (ap (λ z. replays p (division p b) l (z ++ state.Batch ∷ []) n) e ∙ ap (replays p (division p b) l (s.events ++ state.Batch ∷ [])) (sym given))
@@ -155,9 +185,9 @@ module _ (below : LawsBelow) (p : Program) (lawful : IsLawful p) (checked : chec
     pub given : ScriptsGive service founds more nodes lefts
     pub through : FoundThrough (done b l a).1.others (done b l a).1.outside.server.table founds lefts
 
-  pub exchanges : (a : Around) (w : Waiting) (at : ℕ) (l : Local) (b : Outermost) (more : List Sent) (found left : List (List Object)) → batch_at p at ≡ Some b → w.events ≡ a.outside.events → KeepsMeaning p service b l (at_batch a)
+  pub exchanges : (a : Around) (w : Waiting) (at : ℕ) (l : Local) (b : Outermost) (more : List Sent) (found left : List (List Object)) → batch_at p at ≡ Some b → are_too_many (division p b) l ≡ false → w.events ≡ a.outside.events → KeepsMeaning p service b l (at_batch a)
       → ScriptsGive service found (sent_now b l ∷ more) w.nodes left → FoundThrough a.others a.outside.server.table found left → Exchanges a w at l b more found left
-  exchanges a w at l b more found left there e keeps given through =
+  exchanges a w at l b more found left there few e keeps given through =
       let q = sent_now b l in
       let g = gives_first service found q more w.nodes left given in
       let both : FoundThrough a.others a.outside.server.table (g.table ∷ g.founds) (g.after ∷ g.lefts) =
@@ -171,7 +201,7 @@ module _ (below : LawsBelow) (p : Program) (lawful : IsLawful p) (checked : chec
         lefts = g.lefts;
         found_so = ap (λ z. z ∷ g.founds) (sym both.0) ∙ sym g.found_so;
         left_so = ap (λ z. z ∷ g.lefts) (sym after) ∙ sym g.left_so;
-        same = batch_same a w at l b g.node g.later there e keeps gives g.nodes_so;
+        same = batch_same a w at l b g.node g.later there few e keeps gives g.nodes_so;
         given = g.rest;
         through = subst (λ z. FoundThrough (drop 1 a.others) z g.founds g.lefts) after both.1;
       }
@@ -204,7 +234,7 @@ module _ (below : LawsBelow) (p : Program) (lawful : IsLawful p) (checked : chec
 
       -- behind a batch the runs go on
       batch_runs : (at : ℕ) (l : Local) (go : Outcome (Unit {0}) → Dialogue A) (site : Site) → IsAskedBatch d side at l site → (a : Around) → Holds a → Runs (go (main.batch a at l).0) (main.batch a at l).1 → Runs (AskBatch at l go) a
-      batch_runs at l go site asked a holds next w e more found left sent given through = alike
+      batch_runs at l go site asked a holds next w e more found left sent given through = by (takes_too_many p b l.names) refl
         where
           b : Outermost
           b = (found_at at l site asked).batch
@@ -212,36 +242,48 @@ module _ (below : LawsBelow) (p : Program) (lawful : IsLawful p) (checked : chec
           there : batch_at p at ≡ Some b
           there = (found_at at l site asked).found
 
+          limit : takes_too_many p b l.names ≡ are_too_many (division p b) l
+          limit = limit_here at l site asked b there
+
           reached : Outcome (Unit {0}) × Waiting
           reached = performs_divided p (batch_at p at) at l w
-
-          reached_sent : reached.1.sent ≡ w.sent ++ sent_now b l ∷ []
-          reached_sent = ap (λ z. (performs_divided p z at l w).1.sent) there ∙ next_grows (division p b) l (begins (division p b) l w) w.nodes
 
           grown : Grows reached.1 (handle waiting (go reached.0) reached.1).1
           grown = run_grows (go reached.0) reached.1
 
-          more_is : more ≡ sent_now b l ∷ grown.more
-          more_is = same_tail w.sent more (sent_now b l ∷ grown.more) (sym sent ∙ grown.same ∙ ap (λ q. q ++ grown.more) reached_sent ∙ append_assoc w.sent (sent_now b l ∷ []) grown.more)
+          Ended : Type 0
+          Ended = Alike a (handle waiting (AskBatch at l go) w) (handle main (AskBatch at l go) a) found left
 
-          x : Exchanges a w at l b grown.more found left
-          x = exchanges a w at l b grown.more found left there e (keeps_here a holds at l site asked b there) (subst (λ q. ScriptsGive service found q w.nodes left) more_is given) through
+          -- neither side begins the batch
+          neither : takes_too_many p b l.names ≡ true → Ended
+          neither many =
+              let mine = too_large_sent w at l b there (sym limit ∙ many) in
+              let others = too_large_is a at l b there many in
+              subst (λ z. Alike a (handle waiting (go z.0) z.1) (handle main (go (main.batch a at l).0) (main.batch a at l).1) found left) (sym mine)
+              (subst (λ z. Alike a (handle waiting (go (too_large b l)) w) (handle main (go z.0) z.1) found left) others
+              (subst (λ z. Runs (go z.0) z.1) (sym others) next w e more found left (sym (ap (λ z. (handle waiting (go z.0) z.1).1.sent) mine) ∙ sent) given through))
 
-          -- what the client stands at behind the batch
-          now : Waiting
-          now = behind (done b l a).1 (w.sent ++ sent_now b l ∷ []) x.nodes
-
-          sent_on : (handle waiting (go (done b l a).0) now).1.sent ≡ now.sent ++ grown.more
-          sent_on = sym (ap (λ z. (handle waiting (go z.0) z.1).1.sent) x.same) ∙ grown.same ∙ ap (λ q. q ++ grown.more) reached_sent
-
-          on : Alike (done b l a).1 (handle waiting (go (done b l a).0) now) (handle main (go (done b l a).0) (done b l a).1) x.founds x.lefts
-          on = subst (λ z. Runs (go z.0) z.1) (sym (done_is a at l b there)) next now refl grown.more x.founds x.lefts sent_on x.given x.through
-
-          alike : Alike a (handle waiting (AskBatch at l go) w) (handle main (AskBatch at l go) a) found left
-          alike =
-              subst (λ z. Alike a (handle waiting (go reached.0) reached.1) (handle main (go z.0) z.1) found left) (done_is a at l b there)
+          both : takes_too_many p b l.names ≡ false → Ended
+          both few =
+              let few' = sym limit ∙ few in
+              let reached_sent = begun_sent w at l b there few' in
+              let more_is : more ≡ sent_now b l ∷ grown.more =
+              same_tail w.sent more (sent_now b l ∷ grown.more) (sym sent ∙ grown.same ∙ ap (λ q. q ++ grown.more) reached_sent ∙ append_assoc w.sent (sent_now b l ∷ []) grown.more) in
+              let x : Exchanges a w at l b grown.more found left =
+              exchanges a w at l b grown.more found left there few' e (keeps_here a holds at l site asked b there) (subst (λ q. ScriptsGive service found q w.nodes left) more_is given) through in
+              let now : Waiting = behind (done b l a).1 (w.sent ++ sent_now b l ∷ []) x.nodes in
+              let did = done_is a at l b there few in
+              let sent_on : (handle waiting (go (done b l a).0) now).1.sent ≡ now.sent ++ grown.more =
+              sym (ap (λ z. (handle waiting (go z.0) z.1).1.sent) x.same) ∙ grown.same ∙ ap (λ q. q ++ grown.more) reached_sent in
+              let on : Alike (done b l a).1 (handle waiting (go (done b l a).0) now) (handle main (go (done b l a).0) (done b l a).1) x.founds x.lefts =
+              subst (λ z. Runs (go z.0) z.1) (sym did) next now refl grown.more x.founds x.lefts sent_on x.given x.through in
+              subst (λ z. Alike a (handle waiting (go reached.0) reached.1) (handle main (go z.0) z.1) found left) did
               (subst (λ z. Alike a (handle waiting (go z.0) z.1) (handle main (go (done b l a).0) (done b l a).1) found left) (sym x.same)
               (record { same = on.same; events = on.events; behind_so = behind_exchange a (handle main (go (done b l a).0) (done b l a).1).1 w at l b grown.more found left x on.behind_so }))
+
+          by : (t : Truth) → takes_too_many p b l.names ≡ t → Ended
+          by true many = neither many
+          by false few = both few
 
       pub runs_alike : (run : Dialogue A) → Keeps d side P run → (a : Around) → Holds a → Runs run a
       runs_alike (Done v) k a holds w e more found left sent given through =
@@ -275,23 +317,50 @@ module _ (below : LawsBelow) (p : Program) (lawful : IsLawful p) (checked : chec
 
       batch_exists : (at : ℕ) (l : Local) (go : Outcome (Unit {0}) → Dialogue A) (site : Site) → IsAskedBatch d side at l site → (a : Around) → Holds a → (before : List Sent)
           → ((sent : List Sent) → Exists (go (main.batch a at l).0) (main.batch a at l).1 sent) → Exists (AskBatch at l go) a before
-      batch_exists at l go site asked a holds before next =
-          let b = (found_at at l site asked).batch in
-          let there = (found_at at l site asked).found in
-          let keeps = keeps_here a holds at l site asked b there in
-          let table = (at_batch a).server.table in
-          let r : Exists (go (done b l a).0) (done b l a).1 (before ++ sent_now b l ∷ []) = subst (λ z. Exists (go z.0) z.1 (before ++ sent_now b l ∷ [])) (sym (done_is a at l b there)) (next (before ++ sent_now b l ∷ [])) in
-          let n = (script_run p service b l table).node in
-          let same = batch_same a (behind a before (n ∷ r.nodes)) at l b n r.nodes there refl keeps refl refl in
-          record {
-            found = table ∷ r.found;
-            nodes = n ∷ r.nodes;
-            left = (done b l a).1.outside.server.table ∷ r.left;
-            more = sent_now b l ∷ r.more;
-            sent = ap (λ z. (handle waiting (go z.0) z.1).1.sent) same ∙ r.sent ∙ append_assoc before (sent_now b l ∷ []) r.more;
-            given = (refl, keeps.table, r.given);
-            through = (refl, r.through);
-          }
+      batch_exists at l go site asked a holds before next = by (takes_too_many p b l.names) refl
+        where
+          b : Outermost
+          b = (found_at at l site asked).batch
+
+          there : batch_at p at ≡ Some b
+          there = (found_at at l site asked).found
+
+          limit : takes_too_many p b l.names ≡ are_too_many (division p b) l
+          limit = limit_here at l site asked b there
+
+          neither : takes_too_many p b l.names ≡ true → Exists (AskBatch at l go) a before
+          neither many =
+              let r : Exists (go (too_large b l)) a before = subst (λ z. Exists (go z.0) z.1 before) (sym (too_large_is a at l b there many)) (next before) in
+              record {
+                found = r.found;
+                nodes = r.nodes;
+                left = r.left;
+                more = r.more;
+                sent = ap (λ z. (handle waiting (go z.0) z.1).1.sent) (too_large_sent (behind a before r.nodes) at l b there (sym limit ∙ many)) ∙ r.sent;
+                given = r.given;
+                through = r.through;
+              }
+
+          both : takes_too_many p b l.names ≡ false → Exists (AskBatch at l go) a before
+          both few =
+              let keeps = keeps_here a holds at l site asked b there in
+              let table = (at_batch a).server.table in
+              let r : Exists (go (done b l a).0) (done b l a).1 (before ++ sent_now b l ∷ []) = subst (λ z. Exists (go z.0) z.1 (before ++ sent_now b l ∷ [])) (sym (done_is a at l b there few)) (next (before ++ sent_now b l ∷ [])) in
+              let n = (script_run p service b l table).node in
+              let same = batch_same a (behind a before (n ∷ r.nodes)) at l b n r.nodes there (sym limit ∙ few) refl keeps refl refl in
+              record {
+                found = table ∷ r.found;
+                nodes = n ∷ r.nodes;
+                left = (done b l a).1.outside.server.table ∷ r.left;
+                more = sent_now b l ∷ r.more;
+                sent = ap (λ z. (handle waiting (go z.0) z.1).1.sent) same ∙ r.sent ∙ append_assoc before (sent_now b l ∷ []) r.more;
+                given = (refl, keeps.table, r.given);
+                through = (refl, r.through);
+              }
+
+          by : (t : Truth) → takes_too_many p b l.names ≡ t → Exists (AskBatch at l go) a before
+          by true many = neither many
+          by false few = both few
 
       pub nodes_exist : (run : Dialogue A) → Keeps d side P run → (a : Around) → Holds a → (before : List Sent) → Exists run a before
       nodes_exist (Done v) k a holds before = record { found = []; nodes = []; left = []; more = []; sent = sym (append-nil before); given = tt; through = tt }

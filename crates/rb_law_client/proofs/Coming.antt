@@ -1,5 +1,5 @@
 -- However far a client comes on nodes that its own scripts give, the program comes as far.
-use Rattle.std.proofs.Common.{◌≡◌, refl, sym, ap, ◌∙◌, subst, ℕ, List, [], ◌∷◌, ◌++◌, append_assoc, append-nil, Some, Ok}
+use Rattle.std.proofs.Common.{◌≡◌, refl, sym, ap, ◌∙◌, subst, ℕ, List, [], ◌∷◌, ◌++◌, append_assoc, append-nil, Bool as Truth, true, false, Some, Ok}
 use Rattle.rb_trees.specs.declared.values.Value.TheVariants as value
 use Rattle.rb_trees.specs.declared.services.Object.{Object}
 use Rattle.rb_trees.specs.mirror.Declarations.{Program}
@@ -15,10 +15,11 @@ use Rattle.rb_meaning_flow.specs.Outermost.{Outermost}
 use Rattle.rb_meaning.specs.State as state
 use Rattle.rb_meaning.specs.Unsplit.{batch_at}
 use Rattle.rb_meaning.specs.Links.{IsTyped}
+use Rattle.rb_meaning.specs.ConstantLists.{takes_too_many}
 use Rattle.rb_meaning.specs.Meaning.{Around, answers_around, around_of, in_main}
 use Rattle.rb_meaning.specs.Others.{FoundThrough}
 use Rattle.rb_meaning_split.specs.Division.{division}
-use Rattle.rb_meaning_split.specs.Client.{Waiting, answers_waiting, begins, performs_divided, in_client}
+use Rattle.rb_meaning_split.specs.Client.{Waiting, are_too_many, answers_waiting, performs_divided, in_client}
 use Rattle.rb_flow.specs.Program.{HasNoRefusal}
 use Rattle.rb_law_types.specs.Asked.{Side, Own, Site, Keeps, IsAskedBatch}
 use Rattle.rb_law_types.specs.Around.{HandlerFits}
@@ -27,7 +28,7 @@ use Rattle.rb_law_unsplit.specs.Kept.{StandsAround}
 use Rattle.rb_law_client.specs.Below.{LawsBelow}
 use Rattle.rb_law_client.specs.Clients.{ScriptsGive}
 use Rattle.rb_law_client.specs.Reached.{main_run, with_nodes, ProgramsComeAsFar}
-use Rattle.rb_law_client.proofs.Clients.{same_tail, Grows, grows_same, grows_on, answer_grows, batch_grows, next_grows, found_at, keeps_here, sent_now, done, done_is, Exchanges, exchanges, behind_exchange, behind_nothing, behind_answer}
+use Rattle.rb_law_client.proofs.Clients.{same_tail, Grows, grows_same, grows_on, answer_grows, batch_grows, found_at, keeps_here, limit_here, sent_now, done, done_is, too_large_is, too_large_sent, begun_sent, Exchanges, exchanges, behind_exchange, behind_nothing, behind_answer}
 use Rattle.rb_law_client.proofs.Mains.{Ends, main_fits, main_kept}
 use Rattle.rb_law_client.proofs.Others.{IsBehind}
 
@@ -78,8 +79,7 @@ module _ (below : LawsBelow) (p : Program) (lawful : IsLawful p) (checked : chec
     batch_comes : (at : ℕ) (l : Local) (go : Outcome (Unit {0}) → Dialogue A) (w w1 : Waiting) (rest : Dialogue A) → Passes waiting (go (waiting.batch w at l).0) (waiting.batch w at l).1 rest w1
         → FromHere P (go (waiting.batch w at l).0) (waiting.batch w at l).1 rest w1
         → (site : Site) → IsAskedBatch d side at l site → FromHere P (AskBatch at l go) w rest w1
-    batch_comes at l go w w1 rest way next site asked a k e holds more found left sent given through =
-        record { around = after.around; way = performed at l go a after.around rest way_on; events = after.events; behind_so = behind_exchange below p lawful checked none service origin served a after.around w at l b grown.more found left x after.behind_so }
+    batch_comes at l go w w1 rest way next site asked a k e holds more found left sent given through = by (takes_too_many p b l.names) refl
       where
         b : Outermost
         b = (found_at below p lawful checked none service origin served at l site asked).batch
@@ -87,41 +87,67 @@ module _ (below : LawsBelow) (p : Program) (lawful : IsLawful p) (checked : chec
         there : batch_at p at ≡ Some b
         there = (found_at below p lawful checked none service origin served at l site asked).found
 
+        limit : takes_too_many p b l.names ≡ are_too_many (division p b) l
+        limit = limit_here below p lawful checked none service origin served at l site asked b there
+
         script : Sent
         script = sent_now below p lawful checked none service origin served b l
 
         reached : Outcome (Unit {0}) × Waiting
         reached = performs_divided p (batch_at p at) at l w
 
-        reached_sent : reached.1.sent ≡ w.sent ++ script ∷ []
-        reached_sent = ap (λ z. (performs_divided p z at l w).1.sent) there ∙ next_grows below p lawful checked none service origin served (division p b) l (begins (division p b) l w) w.nodes
-
         grown : More reached.1 w1
         grown = way_grows (go reached.0) rest reached.1 w1 way
 
-        more_is : more ≡ script ∷ grown.more
-        more_is = same_tail w.sent more (script ∷ grown.more) (sym sent ∙ grown.same ∙ ap (λ q. q ++ grown.more) reached_sent ∙ append_assoc w.sent (script ∷ []) grown.more)
-
-        x : Exchanges below p lawful checked none service origin served a w at l b grown.more found left
-        x = exchanges below p lawful checked none service origin served a w at l b grown.more found left there e (keeps_here below p lawful checked none service origin served a holds at l site asked b there)
-            (subst (λ q. ScriptsGive service found q w.nodes left) more_is given) through
-
         -- what the program does there
-        did : Outcome (Unit {0}) × Around
-        did = done below p lawful checked none service origin served b l a
+        here_main : Outcome (Unit {0}) × Around
+        here_main = main.batch a at l
 
-        did_is : did ≡ main.batch a at l
-        did_is = done_is below p lawful checked none service origin served a at l b there
+        kept_there : Keeps d side P (go here_main.0)
+        kept_there = k.2 here_main.0 (fits.batches a at l k.0 holds k.1)
 
-        kept : Keeps d side P (go reached.0)
-        kept = subst (λ z. Keeps d side P (go z.0)) (sym x.same) (subst (λ z. Keeps d side P (go z.0)) (sym did_is) (k.2 (main.batch a at l).0 (fits.batches a at l k.0 holds k.1)))
+        holds_there : Holds here_main.1
+        holds_there = fits.performed a at l k.0 holds k.1
 
-        after : Comes (go reached.0) did.1 rest w1 x.founds x.lefts
-        after = next did.1 kept (ap (λ z. z.1.events) x.same) (subst (λ z. Holds z.1) (sym did_is) (fits.performed a at l k.0 holds k.1)) grown.more x.founds x.lefts grown.same
-            (subst (λ z. ScriptsGive service x.founds grown.more z.1.nodes x.lefts) (sym x.same) x.given) x.through
+        -- neither side begins the batch
+        neither : takes_too_many p b l.names ≡ true → Comes (AskBatch at l go) a rest w1 found left
+        neither many =
+            let mine = too_large_sent below p lawful checked none service origin served w at l b there (sym limit ∙ many) in
+            let others = too_large_is below p lawful checked none service origin served a at l b there many in
+            let kept : Keeps d side P (go reached.0) = subst (λ z. Keeps d side P (go z.0)) (sym mine) (subst (λ z. Keeps d side P (go z.0)) (sym others) kept_there) in
+            let after : Comes (go reached.0) a rest w1 found left =
+            next a kept (ap (λ z. z.1.events) mine ∙ e) holds more found left (sent ∙ ap (λ z. z.1.sent ++ more) (sym mine)) (subst (λ z. ScriptsGive service found more z.1.nodes left) (sym mine) given) through in
+            let way_on : Passes main (go here_main.0) here_main.1 rest after.around =
+            subst (λ z. Passes main (go z.0) z.1 rest after.around) others (subst (λ z. Passes main (go z.0) a rest after.around) mine after.way) in
+            record { around = after.around; way = performed at l go a after.around rest way_on; events = after.events; behind_so = after.behind_so }
 
-        way_on : Passes main (go (main.batch a at l).0) (main.batch a at l).1 rest after.around
-        way_on = subst (λ z. Passes main (go z.0) z.1 rest after.around) did_is (subst (λ z. Passes main (go z.0) did.1 rest after.around) x.same after.way)
+        both : takes_too_many p b l.names ≡ false → Comes (AskBatch at l go) a rest w1 found left
+        both few =
+            let few' = sym limit ∙ few in
+            let reached_sent = begun_sent below p lawful checked none service origin served w at l b there few' in
+            let more_is : more ≡ script ∷ grown.more =
+            same_tail w.sent more (script ∷ grown.more) (sym sent ∙ grown.same ∙ ap (λ q. q ++ grown.more) reached_sent ∙ append_assoc w.sent (script ∷ []) grown.more) in
+            let x : Exchanges below p lawful checked none service origin served a w at l b grown.more found left =
+            exchanges below p lawful checked none service origin served a w at l b grown.more found left there few' e (keeps_here below p lawful checked none service origin served a holds at l site asked b there)
+            (subst (λ q. ScriptsGive service found q w.nodes left) more_is given) through in
+            let did = done below p lawful checked none service origin served b l a in
+            let did_is = done_is below p lawful checked none service origin served a at l b there few in
+            let kept : Keeps d side P (go reached.0) = subst (λ z. Keeps d side P (go z.0)) (sym x.same) (subst (λ z. Keeps d side P (go z.0)) (sym did_is) kept_there) in
+            let after : Comes (go reached.0) did.1 rest w1 x.founds x.lefts =
+            next did.1 kept (ap (λ z. z.1.events) x.same) (subst (λ z. Holds z.1) (sym did_is) holds_there) grown.more x.founds x.lefts grown.same
+            (subst (λ z. ScriptsGive service x.founds grown.more z.1.nodes x.lefts) (sym x.same) x.given) x.through in
+            let way_on : Passes main (go here_main.0) here_main.1 rest after.around =
+            subst (λ z. Passes main (go z.0) z.1 rest after.around) did_is (subst (λ z. Passes main (go z.0) did.1 rest after.around) x.same after.way) in
+            record {
+              around = after.around;
+              way = performed at l go a after.around rest way_on;
+              events = after.events;
+              behind_so = behind_exchange below p lawful checked none service origin served a after.around w at l b grown.more found left x after.behind_so;
+            }
+
+        by : (t : Truth) → takes_too_many p b l.names ≡ t → Comes (AskBatch at l go) a rest w1 found left
+        by true many = neither many
+        by false few = both few
 
     pub comes : (run rest : Dialogue A) (w w1 : Waiting) → Passes waiting run w rest w1 → FromHere P run w rest w1
     comes _ _ _ _ (here run w) a k e holds more found left sent given through =

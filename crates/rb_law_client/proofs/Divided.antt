@@ -27,7 +27,7 @@ use Rattle.rb_meaning_code.specs.ScriptRun.{Ground, Ran, run_steps}
 use Rattle.rb_meaning_flow.specs.Facts.{Facts, facts_of}
 use Rattle.rb_meaning_flow.specs.declared.scopes.Role.{Role}
 use Rattle.rb_meaning_flow.specs.Scopes as flow
-use Rattle.rb_meaning_flow.specs.Scopes.{Scope, variable_named, role_in, role_of, is_constant_role, assigned_in, role_with, variable_with, scope_with, opened}
+use Rattle.rb_meaning_flow.specs.Scopes.{Scope, variable_named, role_in, role_of, assigned_in, variable_with, scope_with, opened}
 use Rattle.rb_meaning_flow.specs.Refusals.{IsRefusal}
 use Rattle.rb_meaning_flow.specs.Outermost.{Outermost, batch_sites, program_batches}
 use Rattle.rb_meaning.specs.State.{Outside}
@@ -58,7 +58,7 @@ use Rattle.rb_law_unsplit.proofs.Programs.{IsTypedProgram, program_typed, batche
 use Rattle.rb_law_unsplit.proofs.Standing.{block_lawful}
 use Rattle.rb_law_unsplit.proofs.Walking.{Laws}
 use Rattle.rb_law_script.specs.Remote.{PerformsRemotePart}
-use Rattle.rb_law_script.proofs.Covered.{block_constant}
+use Rattle.rb_law_script.proofs.Covered.{is_taken_role, block_taken}
 use Rattle.rb_law_script.proofs.Inputs.{input_used}
 use Rattle.rb_law_script.proofs.Kept.{OpenScope}
 use Rattle.rb_law_script.proofs.Law.{declared, joined_first, start_fits}
@@ -117,20 +117,20 @@ numbered_among n (x ∷ xs) y h = by (bytes_eq x y) refl (subst IsFound (lookup_
     by true e k more = subst (Contains (x ∷ xs)) (same_bytes x y e) (first_contained x xs)
     by false e k more = more_contained x xs y (more k)
 
--- a constant variable isn't written
-constant_unwritten : (written : List (List ℕ)) (vs : Scope) (y : List ℕ) → is_constant_role (role_of (scope_with written vs) y) ≡ true → is_new y written ≡ true
-constant_unwritten written [] y h = absurd (cc (h))
-constant_unwritten written (v ∷ vs) y h = by (bytes_eq v.name y) refl h (constant_unwritten written vs y)
+-- a constant variable or list isn't written
+taken_unwritten : (written : List (List ℕ)) (vs : Scope) (y : List ℕ) → is_taken_role (role_of (scope_with written vs) y) ≡ true → is_new y written ≡ true
+taken_unwritten written [] y h = absurd (cc (h))
+taken_unwritten written (v ∷ vs) y h = by (bytes_eq v.name y) refl h (taken_unwritten written vs y)
   where
-    unwritten : (t u : Truth) → is_new v.name written ≡ u → is_constant_role v.role ≡ t → is_constant_role (cond (t && not u) Role.Plain v.role) ≡ true → u ≡ true
+    unwritten : (t u : Truth) → is_new v.name written ≡ u → is_taken_role v.role ≡ t → is_taken_role (cond (t && not u) Role.Plain v.role) ≡ true → u ≡ true
     unwritten true true e e1 k = refl
     unwritten true false e e1 k = absurd (cc (k))
     unwritten false true e e1 k = refl
     unwritten false false e e1 k = absurd (cc (e1, k))
 
-    by : (t : Truth) → bytes_eq v.name y ≡ t → is_constant_role (role_in (cond t (Some (variable_with written v)) (variable_named (scope_with written vs) y))) ≡ true
-        → (is_constant_role (role_of (scope_with written vs) y) ≡ true → is_new y written ≡ true) → is_new y written ≡ true
-    by true e k more = subst (λ q. is_new q written ≡ true) (same_bytes v.name y e) (unwritten (is_constant_role v.role) (is_new v.name written) refl refl k)
+    by : (t : Truth) → bytes_eq v.name y ≡ t → is_taken_role (role_in (cond t (Some (variable_with written v)) (variable_named (scope_with written vs) y))) ≡ true
+        → (is_taken_role (role_of (scope_with written vs) y) ≡ true → is_new y written ≡ true) → is_new y written ≡ true
+    by true e k more = subst (λ q. is_new q written ≡ true) (same_bytes v.name y e) (unwritten (is_taken_role v.role) (is_new v.name written) refl refl k)
     by false e k more = more k
 
 free_none : (o : Option typed.Variable) → is_none o ≡ true → o ≡ None
@@ -155,7 +155,7 @@ held_first f o ws k free y found = by (bytes_eq o.root y) refl (subst IsFound (l
 
     by : (t : Truth) → bytes_eq o.root y ≡ t → IsFound (first_or t Root (lookup (numbered 0 inputs) y)) → Fixed (typed.with_variable ws o.root k true) y ⊎ (is_new y (assigned_in o.block) ≡ true)
     by true e h = inl (record { variable = v; found = subst (λ q. typed.variable_named (typed.with_variable ws o.root k true) q ≡ Some v) (same_bytes o.root y e) here; fixed = refl })
-    by false e h = inr (constant_unwritten (assigned_in o.block) (flow.with_variable o.outer o.root Role.Root o.at) y (block_constant f (opened o.outer o.at o.root o.block) o.block y (input_used [] names y (numbered_among 0 inputs y h))))
+    by false e h = inr (taken_unwritten (assigned_in o.block) (flow.with_variable o.outer o.root Role.Root o.at) y (block_taken f (opened o.outer o.at o.root o.block) o.block y (input_used [] names y (numbered_among 0 inputs y h))))
 
 -- those of the laws that a walk through code stands on
 abbrev pub walking : LawsBelow → Laws
@@ -221,7 +221,7 @@ module _ (below : LawsBelow) (p : Program) (lawful : IsLawful p) (checked : chec
       service_formed = below.classes_formed service.classes served.lawful.each;
       fits = record {
         declared = declared (walking below) below.stmts_formed below.classes_formed below.sends below.notes p lawful t none service table served;
-        placed = placed_classes p below.elsewhere lawful;
+        placed = placed_classes p below.elsewhere below.loops lawful;
         handler = batch_handler_fits below.calls p service served.typed (below.classes_formed service.classes served.lawful.each);
       };
       this = place.this;
@@ -232,7 +232,7 @@ module _ (below : LawsBelow) (p : Program) (lawful : IsLawful p) (checked : chec
       none = no_refusal;
       sends = sends;
       calls = calls_portable p (batch_sites f o) sends;
-      marks = batch_marks p below.marks below.elsewhere lawful o among;
+      marks = batch_marks p below.marks below.elsewhere below.loops lawful o among;
       ground = record { classes = service.classes; root = service.root; inputs = input_values inputs l.names };
       classes = refl;
       inputs = names;
@@ -287,7 +287,7 @@ module _ (below : LawsBelow) (p : Program) (lawful : IsLawful p) (checked : chec
     ran = run_steps scene.ground (block_steps p (first_refs o.root inputs) first 0 0 o.block) [] (begun s).server run.ended
 
     abbrev replayed : Local → Replayed
-    replayed at_start = replay.replay_all p.classes l.fuel (parts.block_parts p first 0 o.block) at_start (at_node scene (begun s) ran) replay.ended
+    replayed at_start = replay.replay_all p.classes l.fuel (parts.block_parts p (first_refs o.root inputs) first 0 0 o.block) at_start (at_node scene (begun s) ran) replay.ended
 
     into : Extends place.scope scope
     into = extends_with place.scope o.root (kind.Named interface) true

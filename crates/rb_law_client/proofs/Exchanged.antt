@@ -5,6 +5,7 @@ use Rattle.rb_trees.specs.CodeSize.{code_size_of}
 use Rattle.rb_trees.specs.declared.refusals.Refusal.{Refusal}
 use Rattle.rb_trees.specs.declared.refusals.Refusal.TheVariants.{TooManyInputs, ScriptTooLarge}
 use Rattle.rb_trees.specs.mirror.Declarations.{Program}
+use Rattle.rb_meaning_bytes.specs.formats.Items.{most_items}
 use Rattle.rb_meaning_types.specs.Declared.{of_program}
 use Rattle.rb_meaning_code.specs.Dialogue.{AskBatch}
 use Rattle.rb_meaning_flow.specs.Facts.{facts_of}
@@ -25,8 +26,8 @@ use Rattle.rb_law_client.specs.Below.{LawsBelow}
 use Rattle.rb_law_client.specs.Reached.{main_run, ReachedBatchesCanBeExchanged}
 use Rattle.rb_law_client.proofs.Divided.{dividing_keeps}
 use Rattle.rb_law_client.proofs.Mains.{Ends, main_fits, main_kept, reaches}
-use Rattle.rb_law_client.proofs.Sure.{Sure, batches_sure}
-use Rattle.rb_law_client.proofs.Given.{inputs_given}
+use Rattle.rb_law_client.proofs.Given.{inputs_given, asked_inputs}
+use Rattle.rb_law_client.proofs.Taken.{inputs_have_items}
 
 -- ---- what is divided
 
@@ -52,9 +53,6 @@ each_divided p (q ∷ bs) ds h b c =
       | inr more ↦ each_divided p bs both.1.0 both.1.1 b more
     ]
 
-one_only : (a c : Outermost) → Some a ≡ Some c → a ≡ c
-one_only a c e = cc (e)
-
 pub exchanged : LawsBelow → NodesFit → DividedCanBeSent → ReachedBatchesCanBeExchanged
 exchanged below nodes sendable p lawful checked none places ds divides service table served others kept fuel at l go a passes s fits_there =
     let side = Own (program_sites p) in
@@ -68,15 +66,14 @@ exchanged below nodes sendable p lawful checked none places ds divides service t
     let known = batches_in p lawful t (below.notes p lawful) site asked.may in
     let b = known.begun in
     let found : batch_at p at ≡ Some b = ap (batch_at p) (sym (known.at ∙ asked.here)) ∙ batch_found p lawful b known.among in
-    let sure = batches_sure below.exprs_formed p lawful t (below.notes p lawful) site asked.may in
-    let same : sure.begun ≡ b = one_only sure.begun b (sym (batch_found p lawful sure.begun sure.among) ∙ ap (batch_at p) (sure.at ∙ asked.here) ∙ found) in
-    let inputs = inputs_given p b site.place l (subst (λ q. Sure q.outer site.place.scope) same sure.sure) asked.fits in
-    let sent : CanBeSent (division p b).script = sendable p lawful places b known.among (division p b) (each_divided p (program_batches (facts_of p) p) ds divides b known.among) in
+    let has = asked_inputs below p lawful checked at l site asked b found in
+    let sent : CanBeSent (division p b).script = sendable p lawful checked none places b known.among (division p b) (each_divided p (program_batches (facts_of p) p) ds divides b known.among) in
     record {
       batch = b;
       stands = found;
-      inputs = inputs;
-      request = sent.request (sent_for (division p b) l).values inputs;
+      limit = ap (nat_lt most_items) (inputs_have_items below p lawful checked at l site asked b found);
+      inputs = inputs_given p b l has;
+      request = λ few. sent.request (sent_for (division p b) l).values (inputs_given p b l has few);
       fits_so = nodes p lawful checked none service s.server.table served_now at l site asked b found;
       keeps = dividing_keeps below p lawful checked none service s served_now at l site asked b found;
     }

@@ -19,7 +19,8 @@ use Rattle.rb_meaning_code.specs.ScriptRun as run
 use Rattle.rb_meaning_code.specs.ScriptRun.{Vars, Ran, kept, on_reply, with_entry, run_steps}
 use Rattle.rb_meaning_flow.specs.declared.forms.PlacedForm.{PlacedForm}
 use Rattle.rb_meaning_flow.specs.Scopes.{Scope}
-use Rattle.rb_meaning_flow.specs.Portable.{portable}
+use Rattle.rb_meaning_flow.specs.Facts.{over_rows}
+use Rattle.rb_meaning_flow.specs.Portable.{portable, may_carry}
 use Rattle.rb_meaning_flow.specs.Forms.{placed_form}
 use Rattle.rb_meaning_flow.specs.Sites.{Around, stmt_site, site, scope_after}
 use Rattle.rb_meaning.specs.State.{Outside}
@@ -48,6 +49,7 @@ use Rattle.rb_law_local.specs.Admitted.{StaysWhole}
 use Rattle.rb_law_local.specs.Meets.{far_side, placed, keeping, FromOne, Met}
 use Rattle.rb_law_local.specs.Wanted.{AllWanted}
 use Rattle.rb_law_local.proofs.Portable.{local_of}
+use Rattle.rb_law_local.proofs.Uncut.{or_none}
 use Rattle.rb_law_division.specs.Faults.{EachFault, IsRemote, StandsRemote, sent_of}
 use Rattle.rb_law_division.proofs.Lists.{each}
 use Rattle.rb_law_client.proofs.Overs.{Onto}
@@ -131,7 +133,9 @@ module _ (c : Scene) where
         by (Val at name e) w = ap (λ b. cond b PlacedForm.CarriedVal PlacedForm.Plain) w
         by (RunStmt at e) w = ap (λ b. cond b PlacedForm.CallAlone PlacedForm.Plain) w
         by (If at e a b) w = ap (λ b. cond b PlacedForm.CarriedIf PlacedForm.Plain) w
-        by (For at name e a) w = ap (λ b. cond b PlacedForm.RowsLoop PlacedForm.Plain) w
+        by (For at name e a) w =
+            let both = or_none (over_rows (f c) e) (may_carry (f c) vs e a) w in
+            ap (λ b. cond b PlacedForm.RowsLoop (cond (may_carry (f c) vs e a) PlacedForm.CarriedLoop PlacedForm.Plain)) both.0 ∙ ap (λ b. cond b PlacedForm.CarriedLoop PlacedForm.Plain) both.1
         by t w = refl
 
     to_plain : StaysWhole (f c) vs s → Tells (f c) vs PlacedForm.Plain s

@@ -1,5 +1,5 @@
 -- What a program has shown on its way is a front of what it means to show: running on only shows more.
-use Rattle.std.proofs.Common.{◌≡◌, refl, sym, ap, ◌∙◌, subst, ℕ, List, [], ◌∷◌, ◌++◌, append_assoc, append-nil, length, Option, Some, None}
+use Rattle.std.proofs.Common.{◌≡◌, refl, sym, ap, ◌∙◌, subst, ℕ, List, [], ◌∷◌, ◌++◌, append_assoc, append-nil, length, Bool as Truth, true, false, Option, Some, None}
 use Rattle.rb_trees.specs.declared.values.Value.TheVariants as value
 use Rattle.rb_trees.specs.declared.services.Object.{Object}
 use Rattle.rb_trees.specs.mirror.Declarations.{Program}
@@ -10,10 +10,12 @@ use Rattle.rb_meaning_code.specs.Statements.{performs_all}
 use Rattle.rb_meaning_code.specs.Bodies.{bodies_of}
 use Rattle.rb_meaning_code.proofs.Led.{rest_ends_as_whole}
 use Rattle.rb_meaning_flow.specs.Outermost.{Outermost}
+use Rattle.rb_meaning_flow.specs.Programs.{is_carried_at}
 use Rattle.rb_meaning.specs.State as state
 use Rattle.rb_meaning.specs.State.{Event, Outside}
-use Rattle.rb_meaning.specs.Unsplit.{batch_at, in_batch, begun, settles, whole_table}
-use Rattle.rb_meaning.specs.Meaning.{Around, around_of, at_batch, performs_found, in_main}
+use Rattle.rb_meaning.specs.Unsplit.{batch_at, list_turn, in_batch, begun, settles, whole_table}
+use Rattle.rb_meaning.specs.ConstantLists.{takes_too_many}
+use Rattle.rb_meaning.specs.Meaning.{Around, around_of, at_batch, begins_or_faults, performs_found, in_main}
 use Rattle.rb_law_client.specs.Reached.{main_run, IsFront, FrontsAreShown}
 
 front_same : (xs : List Event) → IsFront xs xs
@@ -47,9 +49,13 @@ shown_around a = a.outside.events
 module _ (p : Program) (service : Service) where
   -- in a batch
 
+  turn_shows : (carried : Truth) (at : ℕ) (s : Outside) → IsFront s.events (list_turn carried at s).1.events
+  turn_shows true at s = front_same s.events
+  turn_shows false at s = front_same s.events
+
   batch_answers : (s : Outside) (q : Question) → IsFront s.events ((in_batch p service).answer s q).1.events
   batch_answers s (Line at bytes) = front_with s.events (state.Line bytes)
-  batch_answers s (ListTurn at) = front_same s.events
+  batch_answers s (ListTurn at) = turn_shows (is_carried_at p at) at s
   batch_answers s (Taken step) = front_same s.events
   batch_answers s (Invoke at target method args) = front_same s.events
   batch_answers s (Turn at) = front_same s.events
@@ -70,9 +76,9 @@ module _ (p : Program) (service : Service) where
   main_answers a (Invoke at target method args) = front_same (shown_around a)
   main_answers a (Turn at) = front_same (shown_around a)
 
-  found_shows : (o : Option Outermost) (a : Around) (at : ℕ) (l : Local) → IsFront (shown_around a) (shown_around (performs_found p service o at l a).1)
-  found_shows None a at l = front_same (shown_around a)
-  found_shows (Some b) a at l =
+  begins_shows : (many : Truth) (b : Outermost) (l : Local) (a : Around) → IsFront (shown_around a) (shown_around (begins_or_faults many p service b l a).1)
+  begins_shows true b l a = front_same (shown_around a)
+  begins_shows false b l a =
       let s = at_batch a in
       let start = bound b.root (value.Remote service.root) l in
       let whole = whole_table p service b start (begun s).server in
@@ -80,6 +86,10 @@ module _ (p : Program) (service : Service) where
       let ended = handle (in_batch p service) run (begun s) in
       front_on s.events (begun s).events (settles p (length l.names) whole ended).1.events (front_with s.events state.Batch)
       (subst (IsFront (begun s).events) (settles_same (length l.names) whole ended) (run_shows shown_outside (in_batch p service) batch_shows run (begun s)))
+
+  found_shows : (o : Option Outermost) (a : Around) (at : ℕ) (l : Local) → IsFront (shown_around a) (shown_around (performs_found p service o at l a).1)
+  found_shows None a at l = front_same (shown_around a)
+  found_shows (Some b) a at l = begins_shows (takes_too_many p b l.names) b l a
 
   main_shows : ShowsMore shown_around (in_main p service)
   main_shows = record { answers = main_answers; batches = λ a at l. found_shows (batch_at p at) a at l }

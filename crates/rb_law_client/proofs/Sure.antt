@@ -48,16 +48,17 @@ pub record IsSureBatch (all : List Outermost) (b : Site) : Type 0 where
   pub at : begun.at ≡ b.at
   pub sure : Sure begun.outer b.place.scope
 
-constant_outer : (t : Truth) → is_constant_role (outer_role t) ≡ true → t ≡ true
-constant_outer true h = refl
-constant_outer false h = absurd (cc (h))
+constant_outer : (t u : Truth) → is_constant_role (outer_role t u) ≡ true → t ≡ true
+constant_outer true u h = refl
+constant_outer false true h = absurd (cc (h))
+constant_outer false false h = absurd (cc (h))
 
-sure_added : (vs : Scope) (ws : typed.Scope) (name : List ℕ) (t : Truth) (at : ℕ) (k : Kind) (fixed : Truth) → Sure vs ws → bytes_eq this_name name ≡ false → (t ≡ true → is_primitive k ≡ true)
-    → Sure (with_variable vs name (outer_role t) at) (typed.with_variable ws name k fixed)
-sure_added [] [] name t at k fixed h plain f = (refl, plain, λ r. f (constant_outer t r), tt)
-sure_added [] (w ∷ ws) name t at k fixed h plain f = absurd h
-sure_added (v ∷ vs) [] name t at k fixed h plain f = absurd h
-sure_added (v ∷ vs) (w ∷ ws) name t at k fixed h plain f = (h.0, h.1, h.2, sure_added vs ws name t at k fixed h.3 plain f)
+sure_added : (vs : Scope) (ws : typed.Scope) (name : List ℕ) (t u : Truth) (at : ℕ) (k : Kind) (fixed : Truth) → Sure vs ws → bytes_eq this_name name ≡ false → (t ≡ true → is_primitive k ≡ true)
+    → Sure (with_variable vs name (outer_role t u) at) (typed.with_variable ws name k fixed)
+sure_added [] [] name t u at k fixed h plain f = (refl, plain, λ r. f (constant_outer t u r), tt)
+sure_added [] (w ∷ ws) name t u at k fixed h plain f = absurd h
+sure_added (v ∷ vs) [] name t u at k fixed h plain f = absurd h
+sure_added (v ∷ vs) (w ∷ ws) name t u at k fixed h plain f = (h.0, h.1, h.2, sure_added vs ws name t u at k fixed h.3 plain f)
 
 item_primitive : (k item : Kind) → (k ≡ kind.ListOf item) ⊎ (k ≡ kind.RowsOf item) → has_primitive_items k ≡ true → is_primitive item ≡ true
 item_primitive k item (inl e) h = subst (λ m. has_primitive_items m ≡ true) e h
@@ -76,7 +77,7 @@ module _ (exprs_formed : LawfulExprsAreFormed) (p : Program) where
 
   sure_parameters : (ps : List Param) → All IsLawfulParam ps → Sure (flow.parameters ps) (typed.parameters ps)
   sure_parameters [] h = tt
-  sure_parameters (q ∷ ps) h = (refl, plain q.name (All-head IsLawfulParam q ps h).0, λ r. constant_outer (is_primitive (kind.kind_of q.kind)) r, sure_parameters ps (All-tail IsLawfulParam q ps h))
+  sure_parameters (q ∷ ps) h = (refl, plain q.name (All-head IsLawfulParam q ps h).0, λ r. constant_outer (is_primitive (kind.kind_of q.kind)) (has_primitive_items (kind.kind_of q.kind)) r, sure_parameters ps (All-tail IsLawfulParam q ps h))
 
   module _ (this : Option (List ℕ)) (remote : Truth) where
     abbrev x : Context
@@ -87,11 +88,11 @@ module _ (exprs_formed : LawfulExprsAreFormed) (p : Program) where
     after_sure (Val at name e) vs ws after h t n l =
         let q = val_parts x ws at name e after t in
         let fact = primitive_fact p (expr_at e) q.kind (kind_here (type_at p) x ws e q.kind n q.typed) in
-        subst (Sure (outer_after f vs (Val at name e))) q.same (sure_added vs ws name (f.primitive (expr_at e)) at q.kind true h (plain name l.0) (λ r. sym fact ∙ r))
+        subst (Sure (outer_after f vs (Val at name e))) q.same (sure_added vs ws name (f.primitive (expr_at e)) (f.items (expr_at e)) at q.kind true h (plain name l.0) (λ r. sym fact ∙ r))
     after_sure (Var at name e) vs ws after h t n l =
         let q = var_parts x ws at name e after t in
         let fact = primitive_fact p (expr_at e) q.kind (kind_here (type_at p) x ws e q.kind n q.typed) in
-        subst (Sure (outer_after f vs (Var at name e))) q.same (sure_added vs ws name (f.primitive (expr_at e)) at q.kind false h (plain name l.0) (λ r. sym fact ∙ r))
+        subst (Sure (outer_after f vs (Var at name e))) q.same (sure_added vs ws name (f.primitive (expr_at e)) (f.items (expr_at e)) at q.kind false h (plain name l.0) (λ r. sym fact ∙ r))
     after_sure (Assign at a b) vs ws after h t n l = subst (Sure vs) (assign_parts x ws at a b after t).same h
     after_sure (Run at e) vs ws after h t n l = subst (Sure vs) (run_parts x ws at e after t).same h
     after_sure (Print at e) vs ws after h t n l = subst (Sure vs) (print_parts x ws at e after t).same h
@@ -126,17 +127,17 @@ module _ (exprs_formed : LawfulExprsAreFormed) (p : Program) where
             let fact = items_fact p (expr_at e) q.list (kind_here (type_at p) x ws e q.list n.0 q.typed) in
             let inner = typed.with_variable ws name q.item true in
             let same : scope_or ws (placed x ws e >>= λ z. loop_scope ws at name z) ≡ inner = ap (scope_or ws) q.judged in
-            stmts_sure a (with_variable vs name (outer_role (f.items (expr_at e))) at) inner q.last
-            (sure_added vs ws name (f.items (expr_at e)) at q.item true h (plain name l.0) (λ r. item_primitive q.list q.item q.over (sym fact ∙ r)))
+            stmts_sure a (with_variable vs name (outer_role (f.items (expr_at e)) (f.lists (expr_at e))) at) inner q.last
+            (sure_added vs ws name (f.items (expr_at e)) (f.lists (expr_at e)) at q.item true h (plain name l.0) (λ r. item_primitive q.list q.item q.over (sym fact ∙ r)))
             q.block_typed (subst (λ i. AreNotedStmts (type_at p) x i a) same n.1) (block_lawful a l.2) w b (subst (λ i. Contains (sites_in x i a) b) same c)
         stmt_sure (Try at a name a') vs ws after h t n l w b' i' =
             let q = try_parts x ws at a name a' after t in
             let inner = typed.with_variable ws name kind.Text true in
             let same : scope_or ws (catch_scope ws at name) ≡ inner = ap (scope_or ws) q.judged in
-            let tried = with_variable vs name (outer_role true) at in
+            let tried = with_variable vs name (outer_role true false) at in
             each_of Good (sites_in x ws a) (sites_in x (scope_or ws (catch_scope ws at name)) a')
             (stmts_sure a vs ws q.first h q.first_typed n.0 (block_lawful a l.0) (within_left (outermost_in f vs a) (outermost_in f tried a') all w))
-            (λ b c. stmts_sure a' tried inner q.second (sure_added vs ws name true at kind.Text true h (plain name l.1) (λ r. refl)) q.second_typed (subst (λ i. AreNotedStmts (type_at p) x i a') same n.1) (block_lawful a' l.2)
+            (λ b c. stmts_sure a' tried inner q.second (sure_added vs ws name true false at kind.Text true h (plain name l.1) (λ r. refl)) q.second_typed (subst (λ i. AreNotedStmts (type_at p) x i a') same n.1) (block_lawful a' l.2)
             (within_right (outermost_in f vs a) (outermost_in f tried a') all w) b (subst (λ i. Contains (sites_in x i a') b) same c)) b' i'
         stmt_sure (Batch at interface root a) vs ws after h t n l w b i =
             let o : Outermost = record { at = at; outer = vs; root = root; block = a } in

@@ -53,7 +53,7 @@ use Rattle.rb_law_client.proofs.Carried.{stop, stops_here, unless_stops, value_f
 use Rattle.rb_law_client.proofs.Blocks.{behind_done, behind_fell, BlockGoes, at_up, close_fits, close_client, close_done}
 
 -- the rows that a node begins with
-rows_front : (n : ℕ) (nodes : Nodes) (node : Node) (l : Local) (s : Seen) (go : Nodes → Node → Replayed) → replay.on_rows n (in_front (forest.Rows nodes) node) l s go ≡ go nodes node
+pub rows_front : (n : ℕ) (nodes : Nodes) (node : Node) (l : Local) (s : Seen) (go : Nodes → Node → Replayed) → replay.on_rows n (in_front (forest.Rows nodes) node) l s go ≡ go nodes node
 rows_front n nodes (Held es fault) l s go = refl
 
 rows_stop : (n at : ℕ) (fault : Fault) (l : Local) (s : Seen) (go : Nodes → Node → Replayed)
@@ -71,7 +71,7 @@ rows_value P (Value-F.Rows rows) h = record { rows = rows; is = refl; fit = h }
 rows_value P Value-F.Unit h = absurd h
 rows_value P _ h = absurd h
 
-one_less : (n m : ℕ) → n ≡ suc m → n - 1 ≡ m
+pub one_less : (n m : ℕ) → n ≡ suc m → n - 1 ≡ m
 one_less n m e = omega (arith, e)
 
 module _ (c : Scene) (refs : Refs) (m : ℕ) (vs : Scope) (ws : typed.Scope) (vars : Vars) (n m' position : ℕ) (up : m ≤ m') (go : Onward) (ke : replay.Rest)

@@ -68,7 +68,7 @@ abbrev pub StmtGoes : (c : Scene) → (vs : Scope) (ws after : typed.Scope) (s :
 StmtGoes c vs ws after s refs m vars l n rest kr ke o =
     let ran = run_steps c.ground (steps c.p refs vs n m s rest) vars o.server kr in
     Goes c (refs_after c.p refs m vs s) (var_after (f c) vs s m) (scope_after (f c) [] vs s) ws after (handle (h c) (performs (code c) c.gas s l) o) ran
-    (replay.replay c.p.classes c.gas (parts.part c.p vs n s) (at_client (x c) ws l) (at_node c o ran) ke) (λ vars1 s1. run_steps c.ground rest vars1 s1 kr) ke
+    (replay.replay c.p.classes c.gas (parts.part c.p refs vs n m s) (at_client (x c) ws l) (at_node c o ran) ke) (λ vars1 s1. run_steps c.ground rest vars1 s1 kr) ke
 
 none_faults : {A : Type 0} (P : Raised → Type 0) (o : Outcome A) → EachFault (λ r. ⊥) o → EachFault P o
 none_faults P (Gave a l) h = tt
@@ -174,7 +174,7 @@ module _ (c : Scene) (around : List Around) (vs : Scope) (ws after : typed.Scope
         by : (form : PlacedForm) → Tells (f c) vs form s → AllLater (step_after_as (f c) form vs s n) go
             → let ran = run_steps c.ground (steps_as c.p form refs vs n m s rest) vars o.server kr in
             Goes c (refs_after_as c.p form refs m s) (var_after_as (f c) form vs s m) (scope_after (f c) [] vs s) ws after (handle (h c) (performs (code c) c.gas s l) o) ran
-            (replay.replay c.p.classes c.gas (parts.part_as c.p form vs n s) client (at_node c o ran) ke) go ke
+            (replay.replay c.p.classes c.gas (parts.part_as c.p form refs vs n m s) client (at_node c o ran) ke) go ke
         by PlacedForm.CarriedVal r later' =
             let ran = run_steps c.ground (MoreSteps (script.Let n position m (keeps_val c.p e) (sexpr c.p refs e)) rest) vars o.server kr in
             subst (λ b. Goes c (with_var refs name m) (suc m) (with_variable vs name (cond b Role.Carried Role.Plain) position) ws after (handle (h c) (performs (code c) c.gas s l) o) ran
@@ -192,7 +192,7 @@ module _ (c : Scene) (around : List Around) (vs : Scope) (ws after : typed.Scope
         by : (form : PlacedForm) → Tells (f c) vs form alone → AllLater (step_after_as (f c) form vs alone n) go → Within (used_as (f c) form vs alone) c.inputs
             → let ran = run_steps c.ground (steps_as c.p form refs vs n m alone rest) vars o.server kr in
             Goes c (refs_after_as c.p form refs m alone) (var_after_as (f c) form vs alone m) vs ws after (handle (h c) (performs (code c) c.gas alone l) o) ran
-            (replay.replay c.p.classes c.gas (parts.part_as c.p form vs n alone) client (at_node c o ran) ke) go ke
+            (replay.replay c.p.classes c.gas (parts.part_as c.p form refs vs n m alone) client (at_node c o ran) ke) go ke
         by PlacedForm.CallAlone whole later' used =
             let q = run_parts (x c) ws position e after stands.typed in
             let r = (and_parts (portable (f c) vs e) (holds_call (f c) e) whole).0 in

@@ -31,7 +31,7 @@ use Rattle.rb_meaning_code.specs.ScriptRun as run
 use Rattle.rb_meaning_code.specs.ScriptRun.{Vars}
 use Rattle.rb_meaning_flow.specs.declared.scopes.Role.{Role}
 use Rattle.rb_meaning_flow.specs.Facts.{is_remote}
-use Rattle.rb_meaning_flow.specs.Scopes.{Scope, with_variable}
+use Rattle.rb_meaning_flow.specs.Scopes.{Scope, with_variable, is_list_role}
 use Rattle.rb_meaning_flow.specs.Portable.{portable, all_portable, holds_call}
 use Rattle.rb_meaning.specs.State.{Outside}
 use Rattle.rb_meaning_split.specs.Refs.{Ref, Refs, with_var, sexpr}
@@ -202,13 +202,13 @@ module _ (c : Scene) (refs : Refs) (m : ℕ) (vs : Scope) (ws : typed.Scope) (va
   never_falls (Taken place step) k r none t far unit other closed o = absurd (cc (r))
 
   -- with a name more, which the script binds too
-  pub at_bound : (name : List ℕ) (role : Role) (place : ℕ) (k : Kind) (v : Value) → IsFarKind (is c) k → typed.is_free ws name ≡ true → Fits (is c) [] k v → AreKnownScopes (d c) (with_variable vs name role place) (typed.with_variable ws name k true)
+  pub at_bound : (name : List ℕ) (role : Role) (place : ℕ) (k : Kind) (v : Value) → is_list_role role ≡ false → IsFarKind (is c) k → typed.is_free ws name ≡ true → Fits (is c) [] k v → AreKnownScopes (d c) (with_variable vs name role place) (typed.with_variable ws name k true)
       → At c (with_var refs name m) (suc m) (with_variable vs name role place) (typed.with_variable ws name k true) ((m, v) ∷ vars) (bound name v l)
-  at_bound name role place k v far free fits known' =
+  at_bound name role place k v other far free fits known' =
       let carry : Carry (is c) vs ws l.names = carry_begins (is c) (classes_of l.heap) c.this vs ws l.names at.joined.agree at.fits.holds.names_fit at.fits.count in
       record {
         walked = at.walked ++ (name, v) ∷ [];
-        joined = joined_more (is c) c.ground c.inputs refs m vs ws at.walked vars name role place k v at.joined far free fits;
+        joined = joined_more (is c) c.ground c.inputs refs m vs ws at.walked vars name role place k v at.joined other far free fits;
         linked = linked_more c.ground refs vars l.names m name v at.linked at.joined.fresh (λ plain. carry_free (is c) vs ws l.names name carry plain free);
         fits = binds (x c) ws l name k true v at.fits (fits_more (is c) [] (classes_of l.heap) (none_grown (classes_of l.heap)) k v fits);
         held = held_with (written c) refs ws name m k at.held free;

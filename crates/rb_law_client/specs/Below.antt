@@ -6,6 +6,7 @@ use Rattle.rb_law_types.specs.Far.{FittingAreBounded, RemoteCallsGiveFar}
 use Rattle.rb_law_types.specs.Formed.{LawfulExprsAreFormed, LawfulStmtsAreFormed, LawfulClassesAreFormed}
 use Rattle.rb_law_types.specs.Operators.{OneKeeps, TwoKeep, LeftKeeps, ConditionsHold}
 use Rattle.rb_law_types.specs.Remote.{CallsKeep}
+use Rattle.rb_law_unsplit.specs.CarriedLoops.{LawfulHaveCarriedLoops}
 use Rattle.rb_law_unsplit.specs.Noted.{LawfulAreNoted}
 use Rattle.rb_law_script.specs.Remote.{ScriptsPerformRemoteParts}
 use Rattle.rb_law_local.specs.Admitted.{AdmittedAreParted, BatchesBeginKnown, TurnsBeginKnown, TypesAreKnown}
@@ -13,8 +14,8 @@ use Rattle.rb_law_local.specs.Local.{LocalCodeDoesTheSame}
 use Rattle.rb_law_local.specs.Marked.{AdmittedArePlaced}
 use Rattle.rb_law_division.specs.Faults.{SentFaultsAreRemote, SentIsRemote}
 
--- Typed code keeps types, and lawful code is formed; each expression has its mark; local code does the same on both sides; and
--- scripts perform just what is remote.
+-- Typed code keeps types, and lawful code is formed; each expression has its mark, and each carried loop its position; local code
+-- does the same on both sides; and scripts perform just what is remote.
 pub record LawsBelow : Type 0 where
   pub one : OneKeeps
   pub two : TwoKeep
@@ -31,6 +32,7 @@ pub record LawsBelow : Type 0 where
   pub notes : LawfulAreNoted
   pub marks : EachHasItsMark
   pub elsewhere : NoMarkElsewhere
+  pub loops : LawfulHaveCarriedLoops
   pub parted : AdmittedAreParted
   pub placed : AdmittedArePlaced
   pub local : LocalCodeDoesTheSame

@@ -1,6 +1,6 @@
 -- Laws of runs that are under way: how far a client comes, what its program has shown by then, and that a batch that is reached
 -- can be exchanged.
-use Rattle.std.specs.Prelude.{◌≡◌, ◌≤◌, ℕ, List, [], ◌++◌, drop, length, Option, Some, Ok}
+use Rattle.std.specs.Prelude.{◌≡◌, ◌≤◌, ℕ, List, [], ◌++◌, drop, length, false, Option, Some, Ok}
 use Rattle.rb_trees.specs.declared.values.Value.{Value}
 use Rattle.rb_trees.specs.declared.services.Object.{Object}
 use Rattle.rb_trees.specs.mirror.Declarations.{Program}
@@ -16,12 +16,13 @@ use Rattle.rb_meaning_code.specs.Dialogue.{Outcome, Dialogue, Run, AskBatch}
 use Rattle.rb_meaning_code.specs.Led.{Passes}
 use Rattle.rb_meaning_flow.specs.Outermost.{Outermost}
 use Rattle.rb_meaning.specs.Answers.{longest_request}
+use Rattle.rb_meaning.specs.ConstantLists.{takes_too_many}
 use Rattle.rb_meaning.specs.Links.{IsTyped}
 use Rattle.rb_meaning.specs.Meaning.{Around, around_of, at_start, in_main, meaning_with, runs_main}
 use Rattle.rb_meaning.specs.Others.{Others, FoundThrough, last_table}
 use Rattle.rb_meaning.specs.State.{Event, Outside}
 use Rattle.rb_meaning.specs.Unsplit.{batch_at}
-use Rattle.rb_meaning_split.specs.Client.{Waiting, fits_batch, in_client, sent_version, sent_for}
+use Rattle.rb_meaning_split.specs.Client.{Waiting, are_too_many, fits_batch, in_client, sent_version, sent_for}
 use Rattle.rb_meaning_split.specs.Division.{Division, division, divisions}
 use Rattle.rb_law_unsplit.specs.Kept.{AllKeepFitting}
 use Rattle.rb_law_division.specs.Fitting.{node_of}
@@ -77,13 +78,16 @@ abbrev pub FrontsAreShown : Type 0
 FrontsAreShown = (p : Program) (service : Service) (table : List Object) (others : List Others) (fuel : ℕ) (rest : Dialogue (Outcome (Option Value))) (a : Around)
     → ProgramComesTo p service table others fuel rest a → IsFront a.outside.events (meaning_with p service table others fuel).events
 
--- A batch that a program reaches can be exchanged: it stands in the program, a request of its script with the values of its
--- inputs is within the limit, the node that the script gives fits its remainder, and divided it keeps its meaning.
+-- A batch that a program reaches can be exchanged: it stands in the program, the node that its script gives fits its remainder,
+-- and divided it keeps its meaning. Its inputs have too many items just where the batch takes too many along. Where they haven't,
+-- their values are inputs of the script, and a request of it with them is within the limit.
 pub record CanBeExchanged (p : Program) (service : Service) (at : ℕ) (l : Local) (s : Outside) : Type 0 where
   pub batch : Outermost
   pub stands : batch_at p at ≡ Some batch
-  pub inputs : AreInputs (division p batch).script (sent_for (division p batch) l).values
-  pub request : length (script_bytes sent_version (division p batch).script (sent_for (division p batch) l).values) ≤ longest_request
+  pub limit : takes_too_many p batch l.names ≡ are_too_many (division p batch) l
+  pub inputs : are_too_many (division p batch) l ≡ false → AreInputs (division p batch).script (sent_for (division p batch) l).values
+  pub request : are_too_many (division p batch) l ≡ false
+      → length (script_bytes sent_version (division p batch).script (sent_for (division p batch) l).values) ≤ longest_request
   pub fits_so : fits_batch (division p batch) l (node_of p batch service s.server.table l) ≡ Ok tt
   pub keeps : KeepsMeaning p service batch l s
 

@@ -7,7 +7,7 @@
 ghost use Rattle.rb_law_client.specs.Answered.{EachAnswerFits, EachPieceKeepsTypes, KindIsNeverCaught};
 ghost use Rattle.rb_law_client.specs.Below.{LawsBelow};
 ghost use Rattle.rb_law_client.specs.Clients.{ClientsMeanWhatProgramsMean};
-ghost use Rattle.rb_law_client.specs.Dividing.{DividingKeepsMeaning};
+ghost use Rattle.rb_law_client.specs.Dividing.{DividingKeepsMeaning, InputsHaveItems};
 ghost use Rattle.rb_law_client.specs.Reached.{FrontsAreShown, ProgramsComeAsFar, ReachedBatchesCanBeExchanged};
 ghost use Rattle.rb_law_client.specs.ScriptFaults.{ScriptsNeverFaultKind};
 
@@ -25,7 +25,7 @@ use rb_law_types::{
     conditions_have_truths, lawful_code_is_formed, nodes_hold_the_fault, operators_keep_types,
     remote_calls_are_typed, remote_calls_keep_tables, typed_code_keeps_types,
 };
-use rb_law_unsplit::lawful_programs_are_noted;
+use rb_law_unsplit::{carried_loops_stand_at_their_positions, lawful_programs_are_noted};
 use rb_marks::each_expression_has_its_mark;
 
 // What the laws of the crates below say, which those of this crate stand on.
@@ -41,6 +41,7 @@ fn laws_below()
     admitted_programs_send_only_portable_parts();
     lawful_programs_are_noted();
     each_expression_has_its_mark();
+    carried_loops_stand_at_their_positions();
     remote_expressions_stand_as_they_should();
     local_code_is_not_marked_remote();
     local_code_does_the_same();
@@ -55,6 +56,14 @@ fn laws_below()
 /// state, value or fault and the fault's side; it shows the same events; and the script leaves the same table.
 pub fn dividing_a_batch_keeps_its_meaning()
     ensures { DividingKeepsMeaning }
+{
+    laws_below();
+}
+
+/// In a lawful, typed program the inputs of each batch that code asks for have as many items as the batch takes along: those
+/// of the constant lists of its carried loops, each list counted once.
+pub fn inputs_have_the_items_of_their_batches()
+    ensures { InputsHaveItems }
 {
     laws_below();
 }
@@ -84,8 +93,8 @@ pub fn fronts_are_shown()
     ensures { FrontsAreShown }
 {}
 
-/// Each batch that an accepted program reaches on a typed service can be exchanged: its request is within the limit, and the
-/// node that its script gives fits its remainder, on whatever table that fits the service.
+/// Each batch that an accepted program reaches on a typed service can be exchanged, unless its inputs have too many items: its
+/// request is within the limit, and the node that its script gives fits its remainder, on whatever table that fits the service.
 pub fn reached_batches_can_be_exchanged()
     ensures { ReachedBatchesCanBeExchanged }
 {

@@ -1,5 +1,5 @@
 -- The batches of a lawful program.
-use Rattle.std.proofs.Common.{◌+◌, ◌≤◌, List, [], ◌∷◌, true, arith}
+use Rattle.std.proofs.Common.{◌+◌, ◌≤◌, List, [], ◌∷◌, true, false, arith}
 use Rattle.std.specs.List.{AllByRecursion, Contains, flat_map}
 use Rattle.rb_trees.specs.mirror.Code.{expr_at, Stmt, Stmts, Val, Var, Assign, Run, Print, Throw, If, While, For, Try, Batch, NoStmts, MoreStmts}
 use Rattle.rb_trees.specs.mirror.Declarations.{Body, Method, Class, Program}
@@ -29,10 +29,10 @@ module _ (x : Facts) where
     stmt_batches scope (If at c a b) h d =
         all_both BatchCarriable (outermost_in x scope a) (outermost_in x scope b) (stmts_batches scope a h.2 (omega arith)) (stmts_batches scope b h.3 (omega arith))
     stmt_batches scope (While at c a) h d = stmts_batches scope a h.2 (omega arith)
-    stmt_batches scope (For at name e a) h d = stmts_batches (with_variable scope name (outer_role (x.items (expr_at e))) at) a h.2 (omega arith)
+    stmt_batches scope (For at name e a) h d = stmts_batches (with_variable scope name (outer_role (x.items (expr_at e)) (x.lists (expr_at e))) at) a h.2 (omega arith)
     stmt_batches scope (Try at a name b) h d =
-        all_both BatchCarriable (outermost_in x scope a) (outermost_in x (with_variable scope name (outer_role true) at) b)
-        (stmts_batches scope a h.1 (omega arith)) (stmts_batches (with_variable scope name (outer_role true) at) b h.2 (omega arith))
+        all_both BatchCarriable (outermost_in x scope a) (outermost_in x (with_variable scope name (outer_role true false) at) b)
+        (stmts_batches scope a h.1 (omega arith)) (stmts_batches (with_variable scope name (outer_role true false) at) b h.2 (omega arith))
     stmt_batches scope (Batch at interface root a) h d = ((h.1, omega arith), tt)
 
     stmts_batches : (scope : Scope) (ss : Stmts) → StmtsCarriable ss → stmts_depth ss ≤ 63 → AllByRecursion BatchCarriable (outermost_in x scope ss)

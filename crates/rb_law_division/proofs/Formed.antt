@@ -29,7 +29,7 @@ use Rattle.rb_meaning_flow.specs.Sites.{scope_after}
 use Rattle.rb_meaning_types.specs.CallKinds.{item_number, kind_number, kind_noted}
 use Rattle.rb_meaning.specs.RemoteExprs.{remote_of}
 use Rattle.rb_meaning_split.specs.Cuts.{counted}
-use Rattle.rb_meaning_split.specs.Refs.{Ref, Root, Input, Var as Bound, Refs, with_var, ref_expr, sexpr, sexprs}
+use Rattle.rb_meaning_split.specs.Refs.{Ref, Root, Input, Var as Bound, Refs, with_var, ref_expr, input_number, list_number, sexpr, sexprs}
 use Rattle.rb_meaning_split.specs.Numbers.{step_after_as, step_after, steps_after, var_after_as, var_after, vars_after}
 use Rattle.rb_meaning_split.specs.Steps.{refs_after_as, refs_after, keeps, steps_as, block_steps}
 use Rattle.rb_law_unsplit.proofs.Placed.{alone_calls}
@@ -123,6 +123,17 @@ name_is (Some (Input n)) h = h
 name_is (Some (Bound m)) h = h
 name_is None h = tt
 
+-- so is the number of a list
+input_small : (o : Option Ref) → MayBeFormed o → input_number o < 256
+input_small (Some Root) h = omega arith
+input_small (Some (Input n)) h = h
+input_small (Some (Bound m)) h = omega arith
+input_small None h = omega arith
+
+list_small : (refs : Refs) (e : Expr) → AreFormed refs → list_number refs e < 256
+list_small refs (Name at name) h = input_small (lookup refs name) (found_formed refs name h)
+list_small refs e h = omega arith
+
 one_more : (refs : Refs) (name : List ℕ) (m : ℕ) → AreFormed refs → m < 2 ^ 32 → AreFormed (with_var refs name m)
 one_more refs name m h l = all_both (λ r. IsFormed r.1) refs ((name, Bound m) ∷ []) h (l, tt)
 
@@ -212,6 +223,21 @@ module _ (p : Program) where
             w.0,
             omega (arith, f.1),
             expr_formed refs r e w.1.0 (omega (arith, f.0)),
+            omega (arith, f.0, count_within block),
+            stmts_formed names (one_more refs name m r (omega (arith, f.1))) inner (suc n) (suc m) a w.2 (omega (arith, f.0), omega (arith, f.1)),
+          ),
+          h (omega (arith, f.0, block_room p names inner (suc n) (suc m) a), omega (arith, f.1, block_vars p names inner (suc n) (suc m) a)) r,
+        )
+    stmt_formed PlacedForm.CarriedLoop refs r scope n m (For at name e a) rest placing w =
+        let inner = with_variable scope name Role.Row at in
+        let names = with_var refs name m in
+        let block = block_steps p names inner (suc n) (suc m) a in
+        λ h f. (
+          (
+            omega (arith, f.0),
+            w.0,
+            omega (arith, f.1),
+            list_small refs e r,
             omega (arith, f.0, count_within block),
             stmts_formed names (one_more refs name m r (omega (arith, f.1))) inner (suc n) (suc m) a w.2 (omega (arith, f.0), omega (arith, f.1)),
           ),

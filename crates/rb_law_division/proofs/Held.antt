@@ -29,6 +29,7 @@ module _ (x : Facts) where
     var_grows PlacedForm.CarriedVal scope (Val at name e) m = omega arith
     var_grows PlacedForm.CarriedIf scope (If at c a b) m = omega (arith, vars_grow scope a m, vars_grow scope b (vars_after x scope a m))
     var_grows PlacedForm.RowsLoop scope (For at name e a) m = omega (arith, vars_grow (with_variable scope name Role.Row at) a (suc m))
+    var_grows PlacedForm.CarriedLoop scope (For at name e a) m = omega (arith, vars_grow (with_variable scope name Role.Row at) a (suc m))
     var_grows form scope s m = omega arith
 
     pub vars_grow : (scope : Scope) (ss : Stmts) (m : ℕ) → m ≤ vars_after x scope ss m

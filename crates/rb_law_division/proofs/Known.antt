@@ -1,5 +1,5 @@
--- What a script calls the portable variables: each has a value of its type there.
-use Rattle.std.proofs.Common.{◌≡◌, refl, subst, ap, sym, ◌∙◌, ℕ, suc, ◌≤◌, ◌<◌, List, [], ◌∷◌, ◌++◌, Bool as Truth, true, false, cond, arith, Option, Some, None, option_map, slice_get}
+-- What a script calls the variables that it reads: each has a value of its type there.
+use Rattle.std.proofs.Common.{◌≡◌, refl, subst, ap, sym, ◌∙◌, ℕ, suc, ◌≤◌, ◌<◌, List, [], ◌∷◌, ◌++◌, Bool as Truth, true, false, ◌||◌, cond, arith, Option, Some, None, option_map, slice_get}
 use Rattle.std.specs.List.{AllByRecursion}
 use Rattle.std.specs.Str.{bytes_eq}
 use Rattle.std.proofs.lemmas.Bool.{eq-eqb, ne_eqb}
@@ -13,7 +13,7 @@ use Rattle.rb_meaning_types.specs.Fits.{Fits, this_name}
 use Rattle.rb_meaning_code.specs.ScriptRun.{Ground, Vars, latest}
 use Rattle.rb_meaning_flow.specs.declared.scopes.Role.{Role}
 use Rattle.rb_meaning_flow.specs.declared.scopes.Variable.{Variable}
-use Rattle.rb_meaning_flow.specs.Scopes.{Scope, variable_named, with_variable, role_in, role_of, is_constant_role, is_portable_role}
+use Rattle.rb_meaning_flow.specs.Scopes.{Scope, variable_named, with_variable, role_in, role_of, is_constant_role, is_list_role, is_portable_role}
 use Rattle.rb_meaning_split.specs.Refs.{Ref, Root, Input, Var, Refs, with_var}
 use Rattle.rb_law_division.proofs.Lists.{all_both, all_weaker}
 use Rattle.rb_law_division.proofs.Used.{IsIn}
@@ -33,7 +33,47 @@ first_more name_of (x ∷ xs) z q = by (bytes_eq (name_of x) q) (first_more name
     by true h = refl
     by false h = h
 
+-- ---- roles
+
+-- a variable that a script takes for an input: a constant one, or a constant list
+abbrev pub is_given : Role → Truth
+is_given role = is_constant_role role || is_list_role role
+
+-- a variable that a script reads: a portable one, or a constant list
+abbrev pub is_read : Role → Truth
+is_read role = is_portable_role role || is_list_role role
+
+pub portable_read : (role : Role) → is_portable_role role ≡ true → is_read role ≡ true
+portable_read role h = ap (λ t. t || is_list_role role) h
+
+pub list_read : (role : Role) → is_list_role role ≡ true → is_read role ≡ true
+list_read role h = by (is_portable_role role)
+  where
+    by : (t : Truth) → (t || is_list_role role) ≡ true
+    by true = refl
+    by false = h
+
+-- a portable variable that is given is constant
+pub portable_constant : (role : Role) → is_portable_role role ≡ true → is_given role ≡ true → is_constant_role role ≡ true
+portable_constant Role.Constant r g = refl
+portable_constant Role.ConstantList r g = absurd (cc r)
+portable_constant Role.Root r g = g
+portable_constant Role.Row r g = g
+portable_constant Role.Carried r g = g
+portable_constant Role.Plain r g = absurd (cc r)
+
 -- ---- references
+
+-- a name that is an input of the script
+abbrev pub IsCalled : Refs → List ℕ → Type 0
+IsCalled refs q = (n : ℕ) × (lookup refs q ≡ Some (Input n))
+
+pub called_more : (refs : Refs) (name : List ℕ) (m : ℕ) (q : List ℕ) (n : ℕ) → lookup refs q ≡ Some (Input n) → lookup (with_var refs name m) q ≡ Some (Input n)
+called_more refs name m q n h = ap (option_map (λ r. r.1)) (first_more (λ r. r.0) refs (name, Var m) q) ∙ by (first_named (λ r. r.0) refs q) h
+  where
+    by : (o : Option (List ℕ × Ref)) → option_map (λ r. r.1) o ≡ Some (Input n) → option_map (λ r. r.1) (else_first o (cond (bytes_eq name q) (Some (name, Var m)) None)) ≡ Some (Input n)
+    by (Some r) k = k
+    by None k = absurd (cc k)
 
 abbrev pub resolve : Ground → Vars → Ref → Option Value
 resolve g vars Root = Some (value.Remote g.root)
@@ -84,7 +124,7 @@ SameNames [] (w ∷ ws) = ⊥
 SameNames (v ∷ vs) [] = ⊥
 SameNames (v ∷ vs) (w ∷ ws) = (v.name ≡ w.name) × SameNames vs ws
 
-same_more : (vs : Scope) (ws : typed.Scope) (v : Variable) (w : typed.Variable) → v.name ≡ w.name → SameNames vs ws → SameNames (vs ++ v ∷ []) (ws ++ w ∷ [])
+pub same_more : (vs : Scope) (ws : typed.Scope) (v : Variable) (w : typed.Variable) → v.name ≡ w.name → SameNames vs ws → SameNames (vs ++ v ∷ []) (ws ++ w ∷ [])
 same_more [] [] v w e h = (e, tt)
 same_more [] (y ∷ ws) v w e h = absurd h
 same_more (u ∷ vs) [] v w e h = absurd h
@@ -115,18 +155,19 @@ module _ (is : List Interface) (names : List (List ℕ)) (g : Ground) where
   abbrev pub HasValue : Kind → Option Value → Type 0
   HasValue k o = (v : Value) × (o ≡ Some v) × Fits is [] k v
 
-  -- Each portable variable has a value of its type, if it isn't constant or if it is an input.
+  -- Each variable that the script reads has a value of its type, if it isn't given or if it is an input.
   pub record Knows (vs : Scope) (ws : typed.Scope) (refs : Refs) (m : ℕ) (vars : Vars) : Type 0 where
     pub same : SameNames vs ws
     pub none : (q : List ℕ) → typed.variable_named ws q ≡ None → lookup refs q ≡ None
     pub older : AreOlder m refs
-    pub each : (q : List ℕ) (w : typed.Variable) → bytes_eq this_name q ≡ false → is_portable_role (role_of vs q) ≡ true → (is_constant_role (role_of vs q) ≡ true → IsIn names q)
+    pub called : (q : List ℕ) → IsIn names q → IsCalled refs q
+    pub each : (q : List ℕ) (w : typed.Variable) → bytes_eq this_name q ≡ false → is_read (role_of vs q) ≡ true → (is_given (role_of vs q) ≡ true → IsIn names q)
         → typed.variable_named ws q ≡ Some w → HasValue w.kind (resolved g vars (lookup refs q))
 
   -- under a greater number
   pub knows_later : (vs : Scope) (ws : typed.Scope) (refs : Refs) (m m1 : ℕ) (vars : Vars) → m ≤ m1 → Knows vs ws refs m vars → Knows vs ws refs m1 vars
   knows_later vs ws refs m m1 vars l h =
-      record { same = h.same; none = h.none; older = all_weaker (λ r. IsOlder m r.1) (λ r. IsOlder m1 r.1) refs (λ r o. older_still m m1 r.1 l o) h.older; each = h.each }
+      record { same = h.same; none = h.none; older = all_weaker (λ r. IsOlder m r.1) (λ r. IsOlder m1 r.1) refs (λ r o. older_still m m1 r.1 l o) h.older; called = h.called; each = h.each }
 
   abbrev one : List ℕ → Role → ℕ → Variable
   one name role at = record { name = name; role = role; node = at }
@@ -191,18 +232,19 @@ module _ (is : List Interface) (names : List (List ℕ)) (g : Ground) where
         let parts = none_before (typed.variable_named ws q) (cond (bytes_eq name q) (Some (typed_one name k fixed)) None) (sym (first_more (λ u. u.name) ws (typed_one name k fixed) q) ∙ e) in
         lookup_more refs name m q ∙ ap (λ o. option_map (λ n. n.1) (else_first o (cond (bytes_eq name q) (Some (name, Var m)) None))) (no_first refs q (h.none q parts.0))
         ∙ ap (λ (t : Truth). option_map (λ (n : List ℕ × Ref). n.1) (cond t (Some (name, Var m)) None)) (not_named (bytes_eq name q) (typed_one name k fixed) parts.1);
+    called = λ q i. let c = h.called q i in (c.0, called_more refs name m q c.0 c.1);
     older = all_both (λ r. IsOlder (suc m) r.1) refs ((name, Var m) ∷ []) (all_weaker (λ r. IsOlder m r.1) (λ r. IsOlder (suc m) r.1) refs (λ r o. older_still m (suc m) r.1 (omega arith) o) h.older) (omega arith, tt);
     each = λ q w plain r c e. known q w plain r c (sym (first_more (λ u. u.name) ws (typed_one name k fixed) q) ∙ e) (typed.variable_named ws q) refl;
   }
     where
-      known : (q : List ℕ) (w : typed.Variable) → bytes_eq this_name q ≡ false → is_portable_role (role_of (with_variable vs name role at) q) ≡ true → (is_constant_role (role_of (with_variable vs name role at) q) ≡ true → IsIn names q)
+      known : (q : List ℕ) (w : typed.Variable) → bytes_eq this_name q ≡ false → is_read (role_of (with_variable vs name role at) q) ≡ true → (is_given (role_of (with_variable vs name role at) q) ≡ true → IsIn names q)
           → else_first (typed.variable_named ws q) (cond (bytes_eq name q) (Some (typed_one name k fixed)) None) ≡ Some w → (o : Option typed.Variable) → typed.variable_named ws q ≡ o
           → HasValue w.kind (resolved g ((m, v) ∷ vars) (lookup (with_var refs name m) q))
       known q w plain r c e (Some w0) there =
           let same : w0 ≡ w = cc (subst (λ o. else_first o (cond (bytes_eq name q) (Some (typed_one name k fixed)) None) ≡ Some w) there e) in
           let role_is = role_before vs ws name role at q w0 h.same there in
           subst (λ z. HasValue z.kind (resolved g ((m, v) ∷ vars) (lookup (with_var refs name m) q))) same
-          (value_before refs name m vars v w0.kind q h.older (h.each q w0 plain (subst (λ z. is_portable_role z ≡ true) role_is r) (λ y. c (subst (λ z. is_constant_role z ≡ true) (sym role_is) y)) there))
+          (value_before refs name m vars v w0.kind q h.older (h.each q w0 plain (subst (λ z. is_read z ≡ true) role_is r) (λ y. c (subst (λ z. is_given z ≡ true) (sym role_is) y)) there))
       known q w plain r c e None there =
           by (bytes_eq name q) refl (subst (λ o. else_first o (cond (bytes_eq name q) (Some (typed_one name k fixed)) None) ≡ Some w) there e)
         where
@@ -225,19 +267,20 @@ module _ (is : List Interface) (names : List (List ℕ)) (g : Ground) where
     same = same_more vs ws (one name Role.Plain at) (typed_one name k fixed) refl h.same;
     none = λ q e. h.none q (none_before (typed.variable_named ws q) (cond (bytes_eq name q) (Some (typed_one name k fixed)) None) (sym (first_more (λ u. u.name) ws (typed_one name k fixed) q) ∙ e)).0;
     older = h.older;
+    called = h.called;
     each = λ q w plain r c e. known q w plain r c (sym (first_more (λ u. u.name) ws (typed_one name k fixed) q) ∙ e) (typed.variable_named ws q) refl;
   }
     where
-      not_portable : (t : Truth) → is_portable_role (role_in (cond t (Some (one name Role.Plain at)) None)) ≡ true → ⊥
+      not_portable : (t : Truth) → is_read (role_in (cond t (Some (one name Role.Plain at)) None)) ≡ true → ⊥
       not_portable true e = cc e
       not_portable false e = cc e
 
-      known : (q : List ℕ) (w : typed.Variable) → bytes_eq this_name q ≡ false → is_portable_role (role_of (with_variable vs name Role.Plain at) q) ≡ true → (is_constant_role (role_of (with_variable vs name Role.Plain at) q) ≡ true → IsIn names q)
+      known : (q : List ℕ) (w : typed.Variable) → bytes_eq this_name q ≡ false → is_read (role_of (with_variable vs name Role.Plain at) q) ≡ true → (is_given (role_of (with_variable vs name Role.Plain at) q) ≡ true → IsIn names q)
           → else_first (typed.variable_named ws q) (cond (bytes_eq name q) (Some (typed_one name k fixed)) None) ≡ Some w → (o : Option typed.Variable) → typed.variable_named ws q ≡ o
           → HasValue w.kind (resolved g vars (lookup refs q))
       known q w plain r c e (Some w0) there =
           let same : w0 ≡ w = cc (subst (λ o. else_first o (cond (bytes_eq name q) (Some (typed_one name k fixed)) None) ≡ Some w) there e) in
           let role_is = role_before vs ws name Role.Plain at q w0 h.same there in
           subst (λ z. HasValue z.kind (resolved g vars (lookup refs q))) same
-          (h.each q w0 plain (subst (λ z. is_portable_role z ≡ true) role_is r) (λ y. c (subst (λ z. is_constant_role z ≡ true) (sym role_is) y)) there)
-      known q w plain r c e None there = absurd (not_portable (bytes_eq name q) (subst (λ z. is_portable_role z ≡ true) (role_after vs ws name Role.Plain at q h.same there) r))
+          (h.each q w0 plain (subst (λ z. is_read z ≡ true) role_is r) (λ y. c (subst (λ z. is_given z ≡ true) (sym role_is) y)) there)
+      known q w plain r c e None there = absurd (not_portable (bytes_eq name q) (subst (λ z. is_read z ≡ true) (role_after vs ws name Role.Plain at q h.same there) r))

@@ -1,5 +1,5 @@
 -- The node of each batch of an admitted program fits its remainder.
-use Rattle.std.proofs.Common.{◌≡◌, refl, subst, ap, sym, ◌∙◌, ℕ, suc, ◌+◌, List, [], ◌∷◌, ◌++◌, Bool as Truth, true, false, cond, arith, Option, Some, None, option_map, is_none, Result, Ok, Err, slice_get}
+use Rattle.std.proofs.Common.{◌≡◌, refl, subst, ap, sym, ◌∙◌, ℕ, suc, ◌+◌, List, [], ◌∷◌, ◌++◌, Bool as Truth, true, false, ◌||◌, cond, arith, Option, Some, None, option_map, is_none, Result, Ok, Err, slice_get}
 use Rattle.std.specs.List.{AllByRecursion, Contains}
 use Rattle.std.specs.Str.{bytes_eq}
 use Rattle.std.proofs.lemmas.Slice.Eq.{bytes_eq-Decides}
@@ -27,13 +27,13 @@ use Rattle.rb_meaning_code.specs.ScriptRun.{Ground}
 use Rattle.rb_meaning_flow.specs.declared.scopes.Role.{Role}
 use Rattle.rb_meaning_flow.specs.Facts.{Facts, facts_of}
 use Rattle.rb_meaning_flow.specs.Scopes as flow
-use Rattle.rb_meaning_flow.specs.Scopes.{role_of, is_constant_role, is_portable_role, assigned_in, opened}
+use Rattle.rb_meaning_flow.specs.Scopes.{role_of, is_list_role, assigned_in, opened}
 use Rattle.rb_meaning_flow.specs.Outermost.{Outermost, batch_sites, program_batches}
 use Rattle.rb_meaning.specs.Links.{IsTyped}
 use Rattle.rb_meaning.specs.Unsplit.{batch_at}
 use Rattle.rb_meaning_split.specs.Refs.{Ref, Root, Input}
 use Rattle.rb_meaning_split.specs.Inputs.{used_in}
-use Rattle.rb_meaning_split.specs.Client.{fits_batch, value_or_unit, input_values}
+use Rattle.rb_meaning_split.specs.Client.{fits_batch, value_or_unit, input_values, lengths}
 use Rattle.rb_meaning_split.specs.Division.{numbered, first_refs, inputs_of, division}
 use Rattle.rb_law_types.specs.Formed.{LawfulExprsAreFormed, LawfulStmtsAreFormed, LawfulClassesAreFormed}
 use Rattle.rb_law_types.specs.Noted.{AreNotedStmts}
@@ -53,13 +53,15 @@ use Rattle.rb_law_unsplit.proofs.Found.{batch_found}
 use Rattle.rb_law_unsplit.proofs.Agreed.{Agree, agree_added, agree_with}
 use Rattle.rb_law_unsplit.proofs.Standing.{block_lawful, IsBatchOf}
 use Rattle.rb_law_unsplit.proofs.Programs.{program_typed, batches_in}
-use Rattle.rb_law_unsplit.proofs.Carried.{Carry, carry_begins, carry_look}
+use Rattle.rb_law_unsplit.proofs.Carried.{Carry, carry_begins, carry_read}
 use Rattle.rb_law_unsplit.proofs.Walking.{Laws}
 use Rattle.rb_law_unsplit.proofs.Whole.{remote_named, declared, service_formed}
 use Rattle.rb_law_division.specs.Fitting.{node_of, NodesFit}
 use Rattle.rb_law_division.proofs.Used.{IsIn, uses_in}
-use Rattle.rb_law_division.proofs.Known.{else_first, first_more, resolved, AreOlder, SameNames, Match, names_match, HasValue, Knows}
-use Rattle.rb_law_division.proofs.Outer.{AreOuter, batches_outer, opened_outer, IsConstantIn, block_constant, uses_so}
+use Rattle.rb_law_division.proofs.Known.{else_first, first_more, is_read, is_given, resolved, AreOlder, SameNames, Match, names_match, HasValue, Knows}
+use Rattle.rb_law_division.proofs.Calls.{IsGivenIn, calls_first, root_is}
+use Rattle.rb_law_division.proofs.Roots.{none_named}
+use Rattle.rb_law_division.proofs.Outer.{AreOuter, batches_outer, opened_outer, block_constant, uses_so}
 use Rattle.rb_law_division.proofs.Fitting.{block_walks}
 
 same_names : (is : List Interface) (vs : flow.Scope) (ws : typed.Scope) → Agree is vs ws → SameNames vs ws
@@ -124,10 +126,10 @@ not_last frame last q v d h =
     by (Some n) e = e
     by None e = absurd (cc e)
 
-no_role : (vs : flow.Scope) (ws : typed.Scope) (q : List ℕ) → SameNames vs ws → typed.variable_named ws q ≡ None → IsConstantIn vs q → ⊥
+no_role : (vs : flow.Scope) (ws : typed.Scope) (q : List ℕ) → SameNames vs ws → typed.variable_named ws q ≡ None → IsGivenIn vs q → ⊥
 no_role vs ws q same e c = by (flow.variable_named vs q) (subst (Match (flow.variable_named vs q)) e (names_match vs ws q same)) c
   where
-    by : (o : Option _) → Match {B = typed.Variable} o None → is_constant_role (flow.role_in o) ≡ true → ⊥
+    by : (o : Option _) → Match {B = typed.Variable} o None → is_given (flow.role_in o) ≡ true → ⊥
     by (Some u) m k = m
     by None m k = cc k
 
@@ -153,11 +155,12 @@ module _ (is : List Interface) (service : Service) (outer : flow.Scope) (scope :
 
   -- what is known where a batch begins
   begins_known : SameNames vs ws → SameNames outer scope → AreOuter outer → typed.variable_named scope root ≡ None → Carry is vs ws (frame ++ last ∷ []) → Fits is [] (kind.Named interface) (value.Remote service.root)
-      → AllByRecursion (IsConstantIn vs) qs → Knows is qs g vs ws (first_refs root qs) 0 []
+      → AllByRecursion (IsGivenIn vs) qs → Knows is qs g vs ws (first_refs root qs) 0 []
   begins_known same outer_same outers free carry fits constant = record {
     same = same;
     none = no_ref;
     older = (tt, inputs_older 0 0 qs);
+    called = (calls_first vs root (root_is assigned outer root at (none_named outer scope root outer_same (ap is_none free))) qs constant).called;
     each = λ q w plain r c e. known q w plain r c e (sym (first_more (λ u. u.name) scope root_typed q) ∙ e) (typed.variable_named scope q) refl;
   }
     where
@@ -170,14 +173,15 @@ module _ (is : List Interface) (service : Service) (outer : flow.Scope) (scope :
           by : (o : Option typed.Variable) (t : Truth) → bytes_eq root q ≡ t → else_first o (cond t (Some root_typed) None) ≡ None → lookup (first_refs root qs) q ≡ None
           by (Some w) t k h = absurd (cc h)
           by None true k h = absurd (cc h)
-          by None false k h = ap (put q) k ∙ none_numbered 0 qs q (all_differ q qs (all_other (IsConstantIn vs) q qs (no_role vs ws q same e) constant))
+          by None false k h = ap (put q) k ∙ none_numbered 0 qs q (all_differ q qs (all_other (IsGivenIn vs) q qs (no_role vs ws q same e) constant))
 
-      known : (q : List ℕ) (w : typed.Variable) → bytes_eq this_name q ≡ false → is_portable_role (role_of vs q) ≡ true → (is_constant_role (role_of vs q) ≡ true → IsIn qs q) → typed.variable_named ws q ≡ Some w
+      known : (q : List ℕ) (w : typed.Variable) → bytes_eq this_name q ≡ false → is_read (role_of vs q) ≡ true → (is_given (role_of vs q) ≡ true → IsIn qs q) → typed.variable_named ws q ≡ Some w
           → else_first (typed.variable_named scope q) (cond (bytes_eq root q) (Some root_typed) None) ≡ Some w → (o : Option typed.Variable) → typed.variable_named scope q ≡ o → HasValue is qs g w.kind (resolved g [] (lookup (first_refs root qs) q))
       known q w plain r c e k (Some w0) there =
-          let looked = carry_look is vs ws (frame ++ last ∷ []) q w carry plain r e in
+          let looked = carry_read is vs ws (frame ++ last ∷ []) q w carry plain r e in
           let other = differs root q (λ same_as. cc (sym free ∙ ap (typed.variable_named scope) same_as ∙ there)) in
-          let input = input_found frame 0 qs q (c (sym (opened_outer assigned outer scope (record { name = root; role = Role.Root; node = at }) q w0 outers outer_same there) ∙ r)) in
+          let outer_role = opened_outer assigned outer scope (record { name = root; role = Role.Root; node = at }) q w0 outers outer_same there in
+          let input = input_found frame 0 qs q (c (sym (ap (λ t. t || is_list_role (role_of vs q)) outer_role) ∙ r)) in
           let in_frame = not_last frame last q looked.0 other looked.1 in
           let number : 0 + input.place ≡ input.place = omega arith in
           (looked.0, ap (λ t. resolved g [] (put q t)) other ∙ ap (resolved g []) input.found ∙ ap (slice_get (input_values qs frame)) number ∙ input.holds ∙ ap (λ o. Some (value_or_unit o)) in_frame, looked.2)
@@ -224,7 +228,7 @@ module _ (laws : Laws) (conditions : ConditionsHold) (exprs_formed : LawfulExprs
         let begun_scope = opened o.outer o.at o.root o.block in
         let qs = inputs_of p o in
         let agreed : Agree is begun_scope scope =
-        agree_with is (assigned_in o.block) (flow.with_variable o.outer o.root Role.Root o.at) scope (agree_added is o.outer place.scope o.root Role.Root o.at (kind.Named interface) true agree (λ r. parts.declared_as)) in
+        agree_with is (assigned_in o.block) (flow.with_variable o.outer o.root Role.Root o.at) scope (agree_added is o.outer place.scope o.root Role.Root o.at (kind.Named interface) true agree (λ r. parts.declared_as, λ r. absurd (cc r))) in
         let start = bound o.root (value.Remote service.root) l in
         let root_remote : IsRemoteValue (out-Value (value.Remote service.root)) = subst IsRemoteValue (sym (remote_out service.root)) tt in
         let root_fits : Fits is (classes_of l.heap) (kind.Named interface) (value.Remote service.root) =
@@ -234,12 +238,12 @@ module _ (laws : Laws) (conditions : ConditionsHold) (exprs_formed : LawfulExprs
         let noted : AreNotedStmts (type_at p) x scope o.block = subst (λ i. AreNotedStmts (type_at p) x i o.block) (ap (scope_or place.scope) parts.judged) known.noted in
         let knows = begins_known is service o.outer place.scope o.root interface o.at (assigned_in o.block) l.names qs (same_names is begun_scope scope agreed) (same_names is o.outer place.scope agree) (batches_outer p o among)
         (free_none (typed.variable_named place.scope o.root) parts.free) carry (remote_named (interface_named is interface) [] interface (out-Value (value.Remote service.root)) parts.declared_as root_remote)
-        (uses_so (IsConstantIn begun_scope) [] (used_in f begun_scope o.block) (block_constant f begun_scope o.block)) in
+        (uses_so (IsGivenIn begun_scope) [] (used_in f begun_scope o.block) (block_constant f begun_scope o.block)) in
         let walk = block_walks laws conditions p service served.typed (service_formed laws.calls exprs_formed stmts_formed classes_formed types_keep p lawful t no_refusal service table served)
         (declared laws.calls exprs_formed stmts_formed classes_formed types_keep p lawful t no_refusal service table served) place.this place.remote ss (λ r e. no_refusal r (ss, is_one, e)) (sends p lawful no_refusal ss is_one)
         qs (input_values qs l.names) [] refl begun_scope scope parts.last (first_refs o.root qs) 0 0 [] o.block (record { table = table; fuel = batch_fuel }) parts.block_typed noted (stmts_formed o.block (block_lawful o.block known.lawful.2)) (λ y c. c)
         (uses_in (used_in f begun_scope o.block)) knows served.fits in
-        is_judged (parts_read [] (block_parts p begun_scope 0 o.block) (begun (node_of p o service table l) false)) walk.last walk.read walk.left
+        is_judged (parts_read (lengths (input_values qs l.names)) (block_parts p (first_refs o.root qs) begun_scope 0 0 o.block) (begun (node_of p o service table l) false)) walk.last walk.read walk.left
 
     pub asked_fits : (at : ℕ) (l : Local) (site : Site) → IsAskedBatch d (Own batches) at l site → (b : Outermost) → batch_at p at ≡ Some b → fits_batch (division p b) l (node_of p b service table l) ≡ Ok tt
     asked_fits at l site asked b found =

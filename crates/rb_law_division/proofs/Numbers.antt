@@ -54,6 +54,7 @@ module _ (x : Facts) where
     grows PlacedForm.CarriedVal scope (Val at name e) n = omega arith
     grows PlacedForm.CarriedIf scope (If at c a b) n = omega (arith, grows_all scope a (suc n), grows_all scope b (steps_after x scope a (suc n)))
     grows PlacedForm.RowsLoop scope (For at name e a) n = omega (arith, grows_all (with_variable scope name Role.Row at) a (suc n))
+    grows PlacedForm.CarriedLoop scope (For at name e a) n = omega (arith, grows_all (with_variable scope name Role.Row at) a (suc n))
     grows form scope s n = kept_grows scope s n
 
     pub grows_all : (scope : Scope) (ss : Stmts) (n : ℕ) → n ≤ steps_after x scope ss n
@@ -110,6 +111,8 @@ module _ (p : Program) where
         omega (arith, block_room refs scope (suc n) m a, block_room refs scope (steps_after x scope a (suc n)) (vars_after x scope a m) b)
     room PlacedForm.RowsLoop refs scope n m (For at name e a) rest placing =
         omega (arith, block_room (with_var refs name m) (with_variable scope name Role.Row at) (suc n) (suc m) a)
+    room PlacedForm.CarriedLoop refs scope n m (For at name e a) rest placing =
+        omega (arith, block_room (with_var refs name m) (with_variable scope name Role.Row at) (suc n) (suc m) a)
     room form refs scope n m s rest placing = skip_room refs scope n s rest
 
     pub block_room : (refs : Refs) (scope : Scope) (n m : ℕ) (ss : Stmts) → Room n NoSteps (steps_after x scope ss n) (block_steps p refs scope n m ss)
@@ -128,6 +131,8 @@ module _ (p : Program) where
     var_room PlacedForm.CarriedIf refs scope n m (If at c a b) rest =
         omega (arith, block_vars refs scope (suc n) m a, block_vars refs scope (steps_after x scope a (suc n)) (vars_after x scope a m) b)
     var_room PlacedForm.RowsLoop refs scope n m (For at name e a) rest =
+        omega (arith, block_vars (with_var refs name m) (with_variable scope name Role.Row at) (suc n) (suc m) a)
+    var_room PlacedForm.CarriedLoop refs scope n m (For at name e a) rest =
         omega (arith, block_vars (with_var refs name m) (with_variable scope name Role.Row at) (suc n) (suc m) a)
     var_room form refs scope n m s rest = skip_vars refs scope n m s rest
 
@@ -165,6 +170,11 @@ module _ (p : Program) where
               (block_below refs scope (suc n) m a limit (omega (arith, l, grows_all x scope b middle))) (block_below refs scope middle (vars_after x scope a m) b limit l),
         ) h
     below PlacedForm.RowsLoop refs scope n m (For at name e a) rest limit placing h =
+        let inner = with_variable scope name Role.Row at in
+        let block = block_steps p (with_var refs name m) inner (suc n) (suc m) a in
+        λ l. all_both (λ i. i < limit) (n ∷ steps_numbers block) (steps_numbers rest)
+        (omega (arith, l, grows_all x inner a (suc n)), block_below (with_var refs name m) inner (suc n) (suc m) a limit l) h
+    below PlacedForm.CarriedLoop refs scope n m (For at name e a) rest limit placing h =
         let inner = with_variable scope name Role.Row at in
         let block = block_steps p (with_var refs name m) inner (suc n) (suc m) a in
         λ l. all_both (λ i. i < limit) (n ∷ steps_numbers block) (steps_numbers rest)

@@ -18,11 +18,13 @@ use Rattle.rb_meaning_code.specs.Bodies.{bodies_of}
 use Rattle.rb_meaning_flow.specs.declared.scopes.Role.{Role}
 use Rattle.rb_meaning_flow.specs.Facts.{Facts, facts_of, over_rows}
 use Rattle.rb_meaning_flow.specs.Scopes.{Scope, with_variable, opened}
-use Rattle.rb_meaning_flow.specs.Portable.{portable, branches_hold, is_constant}
+use Rattle.rb_meaning_flow.specs.Portable.{portable, branches_hold, is_constant, may_carry, has_far_turns}
 use Rattle.rb_meaning_flow.specs.Marks.{is_portable_call, is_remote_whole, is_remote_at}
 use Rattle.rb_meaning_flow.specs.Sites.{Around, Branch, WhileTurn, Turn, InTry, InBatch, is_script_place, StmtSite, Over, ExprSite, site, under, right_under, expr_sites, exprs_sites, own, all_sites, turn_role, scope_after, stmt_site, sites, block_sites, exprs_of}
 use Rattle.rb_meaning_flow.specs.Outermost.{batch_sites, program_batches}
-use Rattle.rb_meaning_flow.specs.Programs.{sites_of}
+use Rattle.rb_meaning_flow.specs.Programs.{sites_of, is_carried_loop}
+use Rattle.rb_meaning_flow.specs.Forms.{is_carried_form}
+use Rattle.rb_meaning_flow.specs.declared.forms.PlacedForm.{PlacedForm}
 use Rattle.rb_meaning.specs.RemoteExprs.{remote_in}
 use Rattle.rb_meaning.specs.Unsplit.{is_remote_mark, stands_remote}
 use Rattle.rb_meaning_split.specs.Cuts.{counted, cut, cut_all, cut_stmt}
@@ -57,6 +59,13 @@ and_false a b h = ap (λ t. t && b) h
 false_and : (a b : Bool) → b ≡ false → (a && b) ≡ false
 false_and true b h = h
 false_and false b h = refl
+
+-- a loop over no rows that isn't carried has no turns of the script
+not_far : (place rows may : Bool) → rows ≡ false → (place && is_carried_form (cond rows PlacedForm.RowsLoop (cond may PlacedForm.CarriedLoop PlacedForm.Plain))) ≡ false → (place && (rows || may)) ≡ false
+not_far place true may h g = absurd (cc h)
+not_far false false may h g = refl
+not_far true false true h g = absurd (cc g)
+not_far true false false h g = refl
 
 neither : (a b : Bool) → a ≡ false → b ≡ false → (a || b) ≡ false
 neither a b h g = ap (λ t. t || b) h ∙ g
@@ -229,7 +238,7 @@ module _ (p : Program) where
       nested_stmt around vs (For at name e a) k w u = (
         fine at u.0,
         nested_expr (stmt_site around vs (For at name e a)) k [] e (only_in _ e [] refl (head_in _ _ _ w)),
-        nested_block (Turn at vs e ∷ around) (with_variable vs name (turn_role f e) at) a (and_false (is_script_place f around) (over_rows f e) k) (tail_in _ _ _ w) u.1,
+        nested_block (Turn at vs e a ∷ around) (with_variable vs name (turn_role f around vs e a) at) a (and_false (is_script_place f around) (has_far_turns f vs e a) k) (tail_in _ _ _ w) u.1,
       )
       nested_stmt around vs (Try at a name b) k w u =
           let frame = InTry at vs a name b ∷ around in
@@ -315,18 +324,18 @@ module _ (p : Program) where
 
     -- a statement that isn't divided
     abbrev LeftFine : StmtSite → Type 0
-    LeftFine t = is_remote_whole f t.around t.stmt ≡ false → (n : ℕ) → FineStmt Elsewhere (cut_stmt f t.scope n t.stmt)
+    LeftFine t = is_remote_whole f t.around t.stmt ≡ false → is_carried_loop f t ≡ false → (n : ℕ) → FineStmt Elsewhere (cut_stmt f t.scope n t.stmt)
 
     mutual
       left_fine : (around : List Around) (vs : Scope) (s : Stmt) → Inside (sites f around vs s) batch → Unmarked p (stmt_ats s) → AllByRecursion LeftFine (sites f around vs s)
-      left_fine around vs (Val at name e) w u = ((λ h n. (fine at u.0, cut_fine (stmt_site around vs (Val at name e)) h [] e n refl (only_in _ e [] refl (head_in _ [] _ w)))), tt)
-      left_fine around vs (Var at name e) w u = ((λ h n. (fine at u.0, cut_fine (stmt_site around vs (Var at name e)) h [] e n refl (only_in _ e [] refl (head_in _ [] _ w)))), tt)
+      left_fine around vs (Val at name e) w u = ((λ h d n. (fine at u.0, cut_fine (stmt_site around vs (Val at name e)) h [] e n refl (only_in _ e [] refl (head_in _ [] _ w)))), tt)
+      left_fine around vs (Var at name e) w u = ((λ h d n. (fine at u.0, cut_fine (stmt_site around vs (Var at name e)) h [] e n refl (only_in _ e [] refl (head_in _ [] _ w)))), tt)
       left_fine around vs (Assign at a b) w u =
           let st = stmt_site around vs (Assign at a b) in
-          ((λ h n. (fine at u.0, cut_fine st h [] a n refl (only_in st a (b ∷ []) refl (head_in _ [] _ w)), cut_fine st h [] b (counted (remote_in f vs a) n) refl (second_in st a b refl (head_in _ [] _ w)))), tt)
-      left_fine around vs (Run at e) w u = ((λ h n. (fine at u.0, cut_fine (stmt_site around vs (Run at e)) h [] e n refl (only_in _ e [] refl (head_in _ [] _ w)))), tt)
-      left_fine around vs (Print at e) w u = ((λ h n. (fine at u.0, cut_fine (stmt_site around vs (Print at e)) h [] e n refl (only_in _ e [] refl (head_in _ [] _ w)))), tt)
-      left_fine around vs (Throw at e) w u = ((λ h n. (fine at u.0, cut_fine (stmt_site around vs (Throw at e)) h [] e n refl (only_in _ e [] refl (head_in _ [] _ w)))), tt)
+          ((λ h d n. (fine at u.0, cut_fine st h [] a n refl (only_in st a (b ∷ []) refl (head_in _ [] _ w)), cut_fine st h [] b (counted (remote_in f vs a) n) refl (second_in st a b refl (head_in _ [] _ w)))), tt)
+      left_fine around vs (Run at e) w u = ((λ h d n. (fine at u.0, cut_fine (stmt_site around vs (Run at e)) h [] e n refl (only_in _ e [] refl (head_in _ [] _ w)))), tt)
+      left_fine around vs (Print at e) w u = ((λ h d n. (fine at u.0, cut_fine (stmt_site around vs (Print at e)) h [] e n refl (only_in _ e [] refl (head_in _ [] _ w)))), tt)
+      left_fine around vs (Throw at e) w u = ((λ h d n. (fine at u.0, cut_fine (stmt_site around vs (Throw at e)) h [] e n refl (only_in _ e [] refl (head_in _ [] _ w)))), tt)
       left_fine around vs (If at c a b) w u =
           let frame = Branch at vs c a b ∷ around in
           let rest = tail_in _ _ _ w in
@@ -334,23 +343,23 @@ module _ (p : Program) where
           let second = right_in (block_sites f frame vs a) _ _ rest in
           let above = unmarked_left (stmts_ats a) (stmts_ats b) u.1 in
           let below = unmarked_right (stmts_ats a) (stmts_ats b) u.1 in (
-            (λ h n. (fine at u.0, cut_fine (stmt_site around vs (If at c a b)) h [] c n refl (only_in _ c [] refl (head_in _ _ _ w)), nested_block frame vs a h first above, nested_block frame vs b h second below)),
+            (λ h d n. (fine at u.0, cut_fine (stmt_site around vs (If at c a b)) h [] c n refl (only_in _ c [] refl (head_in _ _ _ w)), nested_block frame vs a h first above, nested_block frame vs b h second below)),
             all_both LeftFine (block_sites f frame vs a) (block_sites f frame vs b) (lefts_fine frame vs a first above) (lefts_fine frame vs b second below),
           )
       left_fine around vs (While at c a) w u =
           let rest = tail_in _ _ _ w in (
-            (λ h n. (fine at u.0, cut_fine (stmt_site around vs (While at c a)) h [] c n refl (only_in _ c [] refl (head_in _ _ _ w)), nested_block (WhileTurn at vs c ∷ around) vs a refl rest u.1)),
+            (λ h d n. (fine at u.0, cut_fine (stmt_site around vs (While at c a)) h [] c n refl (only_in _ c [] refl (head_in _ _ _ w)), nested_block (WhileTurn at vs c ∷ around) vs a refl rest u.1)),
             lefts_fine (WhileTurn at vs c ∷ around) vs a rest u.1,
           )
       left_fine around vs (For at name e a) w u =
-          let inner = with_variable vs name (turn_role f e) at in
+          let inner = with_variable vs name (turn_role f around vs e a) at in
           let rest = tail_in _ _ _ w in (
-            (λ h n. (
+            (λ h d n. (
               fine at u.0,
               cut_fine (stmt_site around vs (For at name e a)) h [] e n refl (only_in _ e [] refl (head_in _ _ _ w)),
-              nested_block (Turn at vs e ∷ around) inner a (false_and (is_script_place f around) (over_rows f e) h) rest u.1,
+              nested_block (Turn at vs e a ∷ around) inner a (not_far (is_script_place f around) (over_rows f e) (may_carry f vs e a) h d) rest u.1,
             )),
-            lefts_fine (Turn at vs e ∷ around) inner a rest u.1,
+            lefts_fine (Turn at vs e a ∷ around) inner a rest u.1,
           )
       left_fine around vs (Try at a name b) w u =
           let frame = InTry at vs a name b ∷ around in
@@ -360,10 +369,10 @@ module _ (p : Program) where
           let second = right_in (block_sites f frame vs a) _ _ rest in
           let above = unmarked_left (stmts_ats a) (stmts_ats b) u.1 in
           let below = unmarked_right (stmts_ats a) (stmts_ats b) u.1 in (
-            (λ h n. (fine at u.0, nested_block frame vs a refl first above, nested_block frame caught b refl second below)),
+            (λ h d n. (fine at u.0, nested_block frame vs a refl first above, nested_block frame caught b refl second below)),
             all_both LeftFine (block_sites f frame vs a) (block_sites f frame caught b) (lefts_fine frame vs a first above) (lefts_fine frame caught b second below),
           )
-      left_fine around vs (Batch at interface root a) w u = ((λ h n. fine at u.0), lefts_fine (InBatch at ∷ around) (with_variable vs root Role.Plain at) a (tail_in _ _ _ w) u.1)
+      left_fine around vs (Batch at interface root a) w u = ((λ h d n. fine at u.0), lefts_fine (InBatch at ∷ around) (with_variable vs root Role.Plain at) a (tail_in _ _ _ w) u.1)
 
       lefts_fine : (around : List Around) (vs : Scope) (ss : Stmts) → Inside (block_sites f around vs ss) batch → Unmarked p (stmts_ats ss) → AllByRecursion LeftFine (block_sites f around vs ss)
       lefts_fine around vs NoStmts w u = tt
@@ -398,14 +407,14 @@ module _ (p : Program) where
   replay_fine = record { answers = replay_answers; batches = λ s at l h. h kind }
 
 pub own_elsewhere : EachHasItsMark → NoMarkElsewhere → RemoteInScript → OwnFaultsStandElsewhere
-own_elsewhere marks elsewhere in_script p lawful none b among t stands whole n gas l seen =
+own_elsewhere marks elsewhere in_script p lawful none b among t stands whole uncarried n gas l seen =
     let f = facts_of p in
     let free = free_unmarked elsewhere p lawful in
     let batch = batch_sites f b in
     let is_batch = mapped_to (batch_sites f) (program_batches f p) b among in
     let block = block_unmarked p free b among in
     let lefts = lefts_fine p marks in_script lawful none batch is_batch [] (opened b.outer b.at b.root b.block) b.block (λ z c. c) block in
-    let stmt = each (LeftFine p marks in_script lawful none batch is_batch) batch t lefts stands whole n in
+    let stmt = each (LeftFine p marks in_script lawful none batch is_batch) batch t lefts stands whole uncarried n in
     let classes = classes_fine p p.classes (all_left (λ q. stands_remote p q ≡ false) (free_classes p.classes) (free_body p.body) free) in
     handled_fine (StandsElsewhere p) in_replay (replay_fine p) (performs (bodies_of p.classes gas) gas (cut_stmt f t.scope n t.stmt) l) seen
     (code_fine (StandsElsewhere p) p.classes classes gas (cut_stmt f t.scope n t.stmt) stmt l)

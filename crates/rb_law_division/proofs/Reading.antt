@@ -1,5 +1,5 @@
 -- How the walk of `fits` reads the nodes that runs give.
-use Rattle.std.proofs.Common.{◌≡◌, refl, subst, ap, sym, ◌∙◌, ℕ, zero, suc, ◌≤◌, List, [], ◌∷◌, Bool as Truth, true, false, cond, arith, Option, Some, None, is_some, Result, Ok, Err}
+use Rattle.std.proofs.Common.{◌≡◌, refl, subst, ap, sym, ◌∙◌, ℕ, zero, suc, ◌≤◌, List, [], ◌∷◌, Bool as Truth, true, false, cond, arith, get_or, Option, Some, None, is_some, Result, Ok, Err}
 use Rattle.std.specs.List.{AllByRecursion}
 use Rattle.std.proofs.lemmas.Bool.{eq-eqb, ne_eqb}
 use Rattle.rb_trees.specs.Outcome.{◌>>=◌}
@@ -11,10 +11,11 @@ use Rattle.rb_trees.specs.mirror.Forests as forest
 use Rattle.rb_trees.specs.mirror.Forests.{Node, Holds, Entries, NoEntries, MoreEntries, Nodes, NoNodes, MoreNodes}
 use Rattle.rb_trees.specs.mirror.Remainders as part
 use Rattle.rb_trees.specs.mirror.Remainders.{Part, Parts, NoParts, MoreParts}
-use Rattle.rb_meaning_bytes.specs.Fits.{form_has_kind, Walk, step_of, begun, leaves, behind, raised, raised_or, passed, demanded, went, value_read, values_read, row_read, turns_read, turns_done, part_read, parts_read}
+use Rattle.rb_meaning_bytes.specs.Fits.{form_has_kind, Walk, step_of, begun, leaves, behind, raised, raised_or, passed, demanded, went, value_read, values_read, row_read, turns_read, turns_done, faults_at, count_turns, is_counted, no_kind, part_read, parts_read}
 use Rattle.rb_meaning_code.specs.Faults.{fuel_used}
 use Rattle.rb_meaning_code.specs.Remote.{Server}
 use Rattle.rb_meaning_code.specs.ScriptRun.{PlacedFault, Ran, stopped, in_front, with_entry, goes_on, Why, AllDone, InTurn, NoUnit, Turned, with_unit, turned_on, turns, after_turns}
+use Rattle.rb_law_division.proofs.Early.{AreTurns, all_counted, turn_counted, unit_counted}
 
 -- ---- walks
 
@@ -25,9 +26,9 @@ Reader = Walk → Result Walk ℕ
 abbrev pub Rests : Reader → Type 0
 Rests R = (w : Walk) → w.stopped ≡ true → R w ≡ Ok w
 
-pub parts_rest : (ps : Parts) → Rests (λ w. parts_read [] ps w)
-parts_rest NoParts w h = refl
-parts_rest (MoreParts p ps) w h = ap (λ (t : Truth). cond t (Ok w) (part_read [] p w >>= λ after. parts_read [] ps after)) h
+pub parts_rest : (lengths : List ℕ) (ps : Parts) → Rests (λ w. parts_read lengths ps w)
+parts_rest lengths NoParts w h = refl
+parts_rest lengths (MoreParts p ps) w h = ap (λ (t : Truth). cond t (Ok w) (part_read lengths p w >>= λ after. parts_read lengths ps after)) h
 
 -- the values of a statement, and what follows them
 abbrev pub taking : List (ℕ × ℕ) → Reader → Reader
@@ -46,8 +47,8 @@ regroup (Ok w) F G = refl
 regroup (Err e) F G = refl
 
 -- what reads the first of some parts, and of some values, where nothing stopped the walk
-pub first_part : (p : Part) (ps : Parts) (w : Walk) → w.stopped ≡ false → parts_read [] (MoreParts p ps) w ≡ (part_read [] p w >>= λ after. parts_read [] ps after)
-first_part p ps w h = ap (λ (t : Truth). cond t (Ok w) (part_read [] p w >>= λ after. parts_read [] ps after)) h
+pub first_part : (lengths : List ℕ) (p : Part) (ps : Parts) (w : Walk) → w.stopped ≡ false → parts_read lengths (MoreParts p ps) w ≡ (part_read lengths p w >>= λ after. parts_read lengths ps after)
+first_part lengths p ps w h = ap (λ (t : Truth). cond t (Ok w) (part_read lengths p w >>= λ after. parts_read lengths ps after)) h
 
 pub first_taken : (t : ℕ × ℕ) (ts : List (ℕ × ℕ)) (R : Reader) (w : Walk) → w.stopped ≡ false → taking (t ∷ ts) R w ≡ (value_read t.0 t.1 w >>= taking ts R)
 first_taken t ts R w h =
@@ -94,7 +95,8 @@ raises_here n other = ap (λ (t : Truth). cond t (Ok (over NoEntries None)) othe
 
 -- ---- what a run gives is read
 
-module _ (Fit : List Object → Type 0) where
+-- where the lists of inputs have these lengths
+module _ (lengths : List ℕ) (Fit : List Object → Type 0) where
   -- The reader reads the node of a run to its end, and is stopped as the run is; what the run leaves fits, if it goes on.
   pub record WalksOf (n : ℕ) (R : Reader) (nd : Node) (fault : Option PlacedFault) (server : Server) : Type 0 where
     pub later : Later n nd
@@ -109,6 +111,10 @@ module _ (Fit : List Object → Type 0) where
   walks_same n R R' nd fault server same h =
       record { later = h.later; last = h.last; read = same (begun nd false) (begins nd) ∙ h.read; left = h.left; same = h.same; table = h.table }
 
+  -- by another reader that reads the node so
+  walks_here : (n : ℕ) (R R' : Reader) (nd : Node) (fault : Option PlacedFault) (server : Server) → R (begun nd false) ≡ R' (begun nd false) → WalksOf n R' nd fault server → WalksOf n R nd fault server
+  walks_here n R R' nd fault server same h = record { later = h.later; last = h.last; read = same ∙ h.read; left = h.left; same = h.same; table = h.table }
+
   abbrev pub Walks : ℕ → Reader → Ran → Type 0
   Walks n R r = WalksOf n R r.node r.fault r.server
 
@@ -117,12 +123,12 @@ module _ (Fit : List Object → Type 0) where
   walks_stopped n id at f s R l h = record { later = l; last = over NoEntries None; read = h; left = refl; same = refl; table = λ e. absurd (cc e) }
 
   -- a step that gives no entry
-  pub walks_passed : (n id after : ℕ) (ps : Parts) (nd : Node) (fault : Option PlacedFault) (s : Server) (p : Part) → ((w : Walk) → part_read [] p w ≡ passed id w) → n ≤ id → suc id ≤ after
-      → WalksOf after (λ w. parts_read [] ps w) nd fault s → WalksOf n (λ w. parts_read [] (MoreParts p ps) w) nd fault s
+  pub walks_passed : (n id after : ℕ) (ps : Parts) (nd : Node) (fault : Option PlacedFault) (s : Server) (p : Part) → ((w : Walk) → part_read lengths p w ≡ passed id w) → n ≤ id → suc id ≤ after
+      → WalksOf after (λ w. parts_read lengths ps w) nd fault s → WalksOf n (λ w. parts_read lengths (MoreParts p ps) w) nd fault s
   walks_passed n id after ps (Holds es f) fault s p is l k h = record {
     later = later_fault n after f (omega arith) h.later;
     last = h.last;
-    read = then_reads (part_read [] p (standing es (step_of f))) (standing es (step_of f)) (λ w. parts_read [] ps w) (Ok h.last)
+    read = then_reads (part_read lengths p (standing es (step_of f))) (standing es (step_of f)) (λ w. parts_read lengths ps w) (Ok h.last)
         (is (standing es (step_of f)) ∙ passes id (Holds es f) (later_fault (suc id) after f k h.later)) h.read;
     left = h.left;
     same = h.same;
@@ -147,28 +153,28 @@ module _ (Fit : List Object → Type 0) where
       ap (λ (b : Truth). record { left = rest; fault = f; stopped = inner.stopped; spare = b }) l ∙ ap (λ (b : Truth). record { left = rest; fault = f; stopped = b; spare = false }) s
 
   -- the branch that was taken, and what follows it
-  module _ (n id after : ℕ) (a b : Parts) (ps : Parts) (holds : Truth) (nd : Node) (inner : Walk) (read : cond holds (parts_read [] a (begun nd false)) (parts_read [] b (begun nd false)) ≡ Ok inner) (left : leaves inner ≡ false) where
+  module _ (n id after : ℕ) (a b : Parts) (ps : Parts) (holds : Truth) (nd : Node) (inner : Walk) (read : cond holds (parts_read lengths a (begun nd false)) (parts_read lengths b (begun nd false)) ≡ Ok inner) (left : leaves inner ≡ false) where
     whole : Reader
-    whole w = parts_read [] (MoreParts (part.Branch id a b) ps) w
+    whole w = parts_read lengths (MoreParts (part.Branch id a b) ps) w
 
-    branch_read : (es : Entries) (f : Option NodeFault) (t : Truth) (o : Result Walk ℕ) → inner.stopped ≡ t → parts_read [] ps (record { left = es; fault = step_of f; stopped = t; spare = false }) ≡ o
-        → parts_read [] (MoreParts (part.Branch id a b) ps) (begun (Holds (MoreEntries (forest.Branch holds nd) es) f) false) ≡ o
+    branch_read : (es : Entries) (f : Option NodeFault) (t : Truth) (o : Result Walk ℕ) → inner.stopped ≡ t → parts_read lengths ps (record { left = es; fault = step_of f; stopped = t; spare = false }) ≡ o
+        → parts_read lengths (MoreParts (part.Branch id a b) ps) (begun (Holds (MoreEntries (forest.Branch holds nd) es) f) false) ≡ o
     branch_read es f t o s h =
         let w = standing (MoreEntries (forest.Branch holds nd) es) (step_of f) in
-        subst (λ q. ((q >>= λ i. Ok (behind w es i)) >>= λ x. parts_read [] ps x) ≡ o) (sym read)
-        (subst (λ q. parts_read [] ps q ≡ o) (sym (behind_is (MoreEntries (forest.Branch holds nd) es) es (step_of f) inner t left s)) h)
+        subst (λ q. ((q >>= λ i. Ok (behind w es i)) >>= λ x. parts_read lengths ps x) ≡ o) (sym read)
+        (subst (λ q. parts_read lengths ps q ≡ o) (sym (behind_is (MoreEntries (forest.Branch holds nd) es) es (step_of f) inner t left s)) h)
 
-    walks_behind : (nd2 : Node) (fault : Option PlacedFault) (s : Server) → inner.stopped ≡ false → n ≤ after → WalksOf after (λ w. parts_read [] ps w) nd2 fault s
-        → WalksOf n (λ w. parts_read [] (MoreParts (part.Branch id a b) ps) w) (in_front (forest.Branch holds nd) nd2) fault s
+    walks_behind : (nd2 : Node) (fault : Option PlacedFault) (s : Server) → inner.stopped ≡ false → n ≤ after → WalksOf after (λ w. parts_read lengths ps w) nd2 fault s
+        → WalksOf n (λ w. parts_read lengths (MoreParts (part.Branch id a b) ps) w) (in_front (forest.Branch holds nd) nd2) fault s
     walks_behind (Holds es f) fault s e l h = record { later = later_fault n after f l h.later; last = h.last; read = branch_read es f false (Ok h.last) e h.read; left = h.left; same = h.same; table = h.table }
 
-    pub walks_branch : (fl : Option PlacedFault) (s : Server) (go : Server → Ran) → inner.stopped ≡ is_some fl → n ≤ after → (fl ≡ None → Walks after (λ w. parts_read [] ps w) (go s))
-        → Walks n (λ w. parts_read [] (MoreParts (part.Branch id a b) ps) w) (with_entry (forest.Branch holds nd) (goes_on fl s go))
+    pub walks_branch : (fl : Option PlacedFault) (s : Server) (go : Server → Ran) → inner.stopped ≡ is_some fl → n ≤ after → (fl ≡ None → Walks after (λ w. parts_read lengths ps w) (go s))
+        → Walks n (λ w. parts_read lengths (MoreParts (part.Branch id a b) ps) w) (with_entry (forest.Branch holds nd) (goes_on fl s go))
     walks_branch None s go e l h = walks_behind (go s).node (go s).fault (go s).server e l (h refl)
     walks_branch (Some f) s go e l h = record {
       later = tt;
       last = over NoEntries None;
-      read = branch_read NoEntries None true (Ok (over NoEntries None)) e (parts_rest ps (over NoEntries None) refl);
+      read = branch_read NoEntries None true (Ok (over NoEntries None)) e (parts_rest lengths ps (over NoEntries None) refl);
       left = refl;
       same = refl;
       table = λ q. absurd (cc q);
@@ -179,7 +185,7 @@ module _ (Fit : List Object → Type 0) where
   -- The node of a turn is read.
   pub record TurnWalks (id kind : ℕ) (body : Parts) (r : Ran) : Type 0 where
     pub last : Walk
-    pub read : (row_read id kind (begun r.node false) >>= λ row. parts_read [] body row) ≡ Ok last
+    pub read : (row_read id kind (begun r.node false) >>= λ row. parts_read lengths body row) ≡ Ok last
     pub left : leaves last ≡ false
     pub same : last.stopped ≡ is_some r.fault
     pub table : r.fault ≡ None → Fit r.server.table
@@ -191,20 +197,20 @@ module _ (Fit : List Object → Type 0) where
   after_why NoUnit es f = standing es f
 
   pub record TurnsWalk (id kind : ℕ) (body : Parts) (nodes : Nodes) (why : Why) (server : Server) : Type 0 where
-    pub read : (es : Entries) (f : Option ℕ) → turns_read id kind (λ inner. parts_read [] body inner) nodes (standing es f) ≡ Ok (after_why why es f)
+    pub read : (es : Entries) (f : Option ℕ) → turns_read id kind (λ inner. parts_read lengths body inner) nodes (standing es f) ≡ Ok (after_why why es f)
     pub table : why ≡ AllDone → Fit server.table
 
   module _ (id kind : ℕ) (body : Parts) where
-    one_turn : (nd : Node) (ns : Nodes) (es : Entries) (f : Option ℕ) (last : Walk) (t : Truth) (o : Result Walk ℕ) → (row_read id kind (begun nd false) >>= λ row. parts_read [] body row) ≡ Ok last → leaves last ≡ false → last.stopped ≡ t
-        → turns_read id kind (λ inner. parts_read [] body inner) ns (record { left = es; fault = f; stopped = t; spare = false }) ≡ o
-        → turns_read id kind (λ inner. parts_read [] body inner) (MoreNodes nd ns) (standing es f) ≡ o
+    one_turn : (nd : Node) (ns : Nodes) (es : Entries) (f : Option ℕ) (last : Walk) (t : Truth) (o : Result Walk ℕ) → (row_read id kind (begun nd false) >>= λ row. parts_read lengths body row) ≡ Ok last → leaves last ≡ false → last.stopped ≡ t
+        → turns_read id kind (λ inner. parts_read lengths body inner) ns (record { left = es; fault = f; stopped = t; spare = false }) ≡ o
+        → turns_read id kind (λ inner. parts_read lengths body inner) (MoreNodes nd ns) (standing es f) ≡ o
     one_turn nd ns es f last t o read left s h =
-        regroup (row_read id kind (begun nd false)) (λ row. parts_read [] body row) (λ inner. turns_read id kind (λ i. parts_read [] body i) ns (behind (standing es f) es inner))
-        ∙ then_reads (row_read id kind (begun nd false) >>= λ row. parts_read [] body row) last (λ inner. turns_read id kind (λ i. parts_read [] body i) ns (behind (standing es f) es inner)) o read
-        (subst (λ q. turns_read id kind (λ i. parts_read [] body i) ns q ≡ o) (sym (behind_is es es f last t left s)) h)
+        regroup (row_read id kind (begun nd false)) (λ row. parts_read lengths body row) (λ inner. turns_read id kind (λ i. parts_read lengths body i) ns (behind (standing es f) es inner))
+        ∙ then_reads (row_read id kind (begun nd false) >>= λ row. parts_read lengths body row) last (λ inner. turns_read id kind (λ i. parts_read lengths body i) ns (behind (standing es f) es inner)) o read
+        (subst (λ q. turns_read id kind (λ i. parts_read lengths body i) ns q ≡ o) (sym (behind_is es es f last t left s)) h)
 
     module _ (P : Value → Type 0) (turn : Value → Server → Ran) (each : (row : Value) (s : Server) → P row → Fit s.table → TurnWalks id kind body (turn row s)) where
-      turned : (nd : Node) (fault : Option PlacedFault) (s : Server) (go : Server → Turned) (last : Walk) → (row_read id kind (begun nd false) >>= λ row. parts_read [] body row) ≡ Ok last → leaves last ≡ false → last.stopped ≡ is_some fault
+      turned : (nd : Node) (fault : Option PlacedFault) (s : Server) (go : Server → Turned) (last : Walk) → (row_read id kind (begun nd false) >>= λ row. parts_read lengths body row) ≡ Ok last → leaves last ≡ false → last.stopped ≡ is_some fault
           → (fault ≡ None → TurnsWalk id kind body (go s).nodes (go s).why (go s).server)
           → TurnsWalk id kind body (turned_on nd fault s go).nodes (turned_on nd fault s go).why (turned_on nd fault s go).server
       turned nd None s go last read left same h =
@@ -228,30 +234,30 @@ module _ (Fit : List Object → Type 0) where
               turned (turn row s1).node (turn row s1).fault (turn row s1).server (turns turn rows) w.last w.read w.left w.same (λ e. more (turn row s1).server (w.table e))
 
     -- the turns, and what follows them
-    module _ (n at after : ℕ) (name : List ℕ) (ps : Parts) (go : Server → Ran) (l : n ≤ id) (k : suc id ≤ after) (follow : (s : Server) → Fit s.table → Walks after (λ w. parts_read [] ps w) (go s)) where
-      turns_read_by : (nodes : Nodes) (es : Entries) (f : Option NodeFault) (w1 : Walk) (o : Result Walk ℕ) → turns_read id kind (λ inner. parts_read [] body inner) nodes (standing es (step_of f)) ≡ Ok w1 → (turns_done id w1 >>= λ x. parts_read [] ps x) ≡ o
-          → parts_read [] (MoreParts (part.Turns id name kind body) ps) (begun (Holds (MoreEntries (forest.Rows nodes) es) f) false) ≡ o
-      turns_read_by nodes es f w1 o e h = subst (λ q. ((q >>= λ x. turns_done id x) >>= λ x. parts_read [] ps x) ≡ o) (sym e) h
+    module _ (n at after : ℕ) (name : List ℕ) (ps : Parts) (go : Server → Ran) (l : n ≤ id) (k : suc id ≤ after) (follow : (s : Server) → Fit s.table → Walks after (λ w. parts_read lengths ps w) (go s)) where
+      turns_read_by : (nodes : Nodes) (es : Entries) (f : Option NodeFault) (w1 : Walk) (o : Result Walk ℕ) → turns_read id kind (λ inner. parts_read lengths body inner) nodes (standing es (step_of f)) ≡ Ok w1 → (turns_done id w1 >>= λ x. parts_read lengths ps x) ≡ o
+          → parts_read lengths (MoreParts (part.Turns id name kind body) ps) (begun (Holds (MoreEntries (forest.Rows nodes) es) f) false) ≡ o
+      turns_read_by nodes es f w1 o e h = subst (λ q. ((q >>= λ x. turns_done id x) >>= λ x. parts_read lengths ps x) ≡ o) (sym e) h
 
-      walks_done : (nodes : Nodes) (nd : Node) (fault : Option PlacedFault) (s : Server) → ((es : Entries) (f : Option ℕ) → turns_read id kind (λ inner. parts_read [] body inner) nodes (standing es f) ≡ Ok (standing es f))
-          → WalksOf after (λ w. parts_read [] ps w) nd fault s → WalksOf n (λ w. parts_read [] (MoreParts (part.Turns id name kind body) ps) w) (in_front (forest.Rows nodes) nd) fault s
+      walks_done : (nodes : Nodes) (nd : Node) (fault : Option PlacedFault) (s : Server) → ((es : Entries) (f : Option ℕ) → turns_read id kind (λ inner. parts_read lengths body inner) nodes (standing es f) ≡ Ok (standing es f))
+          → WalksOf after (λ w. parts_read lengths ps w) nd fault s → WalksOf n (λ w. parts_read lengths (MoreParts (part.Turns id name kind body) ps) w) (in_front (forest.Rows nodes) nd) fault s
       walks_done nodes (Holds es f) fault s read h = record {
         later = later_fault n after f (omega arith) h.later;
         last = h.last;
         read = turns_read_by nodes es f (standing es (step_of f)) (Ok h.last) (read es (step_of f))
-            (then_reads (passed id (standing es (step_of f))) (standing es (step_of f)) (λ x. parts_read [] ps x) (Ok h.last) (passes id (Holds es f) (later_fault (suc id) after f k h.later)) h.read);
+            (then_reads (passed id (standing es (step_of f))) (standing es (step_of f)) (λ x. parts_read lengths ps x) (Ok h.last) (passes id (Holds es f) (later_fault (suc id) after f k h.later)) h.read);
         left = h.left;
         same = h.same;
         table = h.table;
       }
 
       pub walks_turns : (nodes : Nodes) (why : Why) (s : Server) → TurnsWalk id kind body nodes why s
-          → Walks n (λ w. parts_read [] (MoreParts (part.Turns id name kind body) ps) w) (with_entry (forest.Rows nodes) (after_turns id at why s go))
+          → Walks n (λ w. parts_read lengths (MoreParts (part.Turns id name kind body) ps) w) (with_entry (forest.Rows nodes) (after_turns id at why s go))
       walks_turns nodes AllDone s h = walks_done nodes (go s).node (go s).fault (go s).server h.read (follow s (h.table refl))
       walks_turns nodes (InTurn f) s h = record {
         later = tt;
         last = over NoEntries None;
-        read = turns_read_by nodes NoEntries None (over NoEntries None) (Ok (over NoEntries None)) (h.read NoEntries None) (parts_rest ps (over NoEntries None) refl);
+        read = turns_read_by nodes NoEntries None (over NoEntries None) (Ok (over NoEntries None)) (h.read NoEntries None) (parts_rest lengths ps (over NoEntries None) refl);
         left = refl;
         same = refl;
         table = λ e. absurd (cc e);
@@ -260,8 +266,45 @@ module _ (Fit : List Object → Type 0) where
         later = l;
         last = over NoEntries None;
         read = turns_read_by nodes NoEntries (Some (record { step = id; at = at; fault = fuel_used })) (standing NoEntries (Some id)) (Ok (over NoEntries None)) (h.read NoEntries (Some id))
-            (then_reads (passed id (standing NoEntries (Some id))) (over NoEntries None) (λ x. parts_read [] ps x) (Ok (over NoEntries None)) (raises_here id (Ok (standing NoEntries (Some id)))) (parts_rest ps (over NoEntries None) refl));
+            (then_reads (passed id (standing NoEntries (Some id))) (over NoEntries None) (λ x. parts_read lengths ps x) (Ok (over NoEntries None)) (raises_here id (Ok (standing NoEntries (Some id)))) (parts_rest lengths ps (over NoEntries None) refl));
         left = refl;
         same = refl;
         table = λ e. absurd (cc e);
       }
+
+  -- ---- turns over the items of a list
+
+  module _ (id : ℕ) (body : Parts) (n at after : ℕ) (name list : List ℕ) (input : ℕ) (ps : Parts) (go : Server → Ran) (l : n ≤ id) (k : suc id ≤ after) (follow : (s : Server) → Fit s.table → Walks after (λ w. parts_read lengths ps w) (go s)) where
+    abbrev whole_over : Reader
+    whole_over w = parts_read lengths (MoreParts (part.Over id at name list input body) ps) w
+
+    abbrev whole_turns : Reader
+    whole_turns w = parts_read lengths (MoreParts (part.Turns id name no_kind body) ps) w
+
+    over_same : (nodes : Nodes) (es : Entries) (f : Option NodeFault) → is_counted (get_or lengths input 0) nodes (faults_at id (standing es (step_of f))) ≡ true
+        → whole_over (begun (Holds (MoreEntries (forest.Rows nodes) es) f) false) ≡ whole_turns (begun (Holds (MoreEntries (forest.Rows nodes) es) f) false)
+    over_same nodes es f c =
+        ap (λ (t : Truth). cond t (turns_read id no_kind (λ inner. parts_read lengths body inner) nodes (standing es (step_of f)) >>= λ w. turns_done id w) (Err id) >>= λ w. parts_read lengths ps w) c
+
+    counted_done : (nodes : Nodes) (nd : Node) (fault : Option PlacedFault) (s : Server) → count_turns nodes ≡ get_or lengths input 0 → Later after nd → WalksOf n whole_turns (in_front (forest.Rows nodes) nd) fault s
+        → WalksOf n whole_over (in_front (forest.Rows nodes) nd) fault s
+    counted_done nodes (Holds es f) fault s c later h =
+        walks_here n whole_over whole_turns (Holds (MoreEntries (forest.Rows nodes) es) f) fault s (over_same nodes es f (all_counted (get_or lengths input 0) nodes (faults_at id (standing es (step_of f))) c (not_here es f later))) h
+      where
+        not_here : (xs : Entries) (q : Option NodeFault) → LaterFault after q → faults_at id (standing xs (step_of q)) ≡ false
+        not_here NoEntries None g = refl
+        not_here NoEntries (Some q) g = ne_eqb q.step id (λ e. omega (arith, g, e, k))
+        not_here (MoreEntries x xs) q g = refl
+
+    pub walks_over : (nodes : Nodes) (why : Why) (s : Server) → AreTurns (get_or lengths input 0) nodes why → TurnsWalk id no_kind body nodes why s → Walks n whole_over (with_entry (forest.Rows nodes) (after_turns id at why s go))
+    walks_over nodes AllDone s c h =
+        counted_done nodes (go s).node (go s).fault (go s).server c (follow s (h.table refl)).later (walks_turns id no_kind body n at after name ps go l k follow nodes AllDone s h)
+    walks_over nodes (InTurn f) s c h =
+        let r = with_entry (forest.Rows nodes) (after_turns id at (InTurn f) s go) in
+        walks_here n whole_over whole_turns r.node r.fault r.server (over_same nodes NoEntries None (turn_counted (get_or lengths input 0) nodes c.0 c.1)) (walks_turns id no_kind body n at after name ps go l k follow nodes (InTurn f) s h)
+    walks_over nodes NoUnit s c h =
+        let r = with_entry (forest.Rows nodes) (after_turns id at NoUnit s go) in
+        walks_here n whole_over whole_turns r.node r.fault r.server
+        (over_same nodes NoEntries (Some (record { step = id; at = at; fault = fuel_used }))
+        (subst (λ (t : Truth). is_counted (get_or lengths input 0) nodes t ≡ true) (sym (eq-eqb id id refl)) (unit_counted (get_or lengths input 0) nodes c)))
+        (walks_turns id no_kind body n at after name ps go l k follow nodes NoUnit s h)

@@ -48,7 +48,7 @@ use Rattle.rb_meaning_split.specs.Inputs.{constants, all_constants}
 use Rattle.rb_law_unsplit.proofs.Walking.{Laws, rest_typed, object_named, there}
 use Rattle.rb_law_division.proofs.Lists.{all_left, all_right}
 use Rattle.rb_law_division.proofs.Used.{IsIn, AreIn}
-use Rattle.rb_law_division.proofs.Known.{resolved, HasValue, Knows}
+use Rattle.rb_law_division.proofs.Known.{portable_read, portable_constant, resolved, HasValue, Knows}
 
 -- what the server gives is so, and the table that it leaves fits; nothing is said of a fault
 abbrev pub Serves : {A : Type 0} → (List Object → Type 0) → (A → Type 0) → Reply A → Type 0
@@ -115,7 +115,7 @@ module _ (laws : Laws) (p : Program) (service : Service) (service_typed : check_
       value_typed (Name at name) k s r t n g i table =
           let b = bind_ok (known (UnknownName at) (typed.variable_named ws name)) _ k t in
           let same : (b.0).kind ≡ k = cc (b.2) in
-          let found = knows.each name b.0 g r (λ c. constant_in name (is_constant_role (role_of vs name)) i c) (known_ok (UnknownName at) (typed.variable_named ws name) b.0 b.1) in
+          let found = knows.each name b.0 g (portable_read (role_of vs name) r) (λ c. constant_in name (is_constant_role (role_of vs name)) i (portable_constant (role_of vs name) r c)) (known_ok (UnknownName at) (typed.variable_named ws name) b.0 b.1) in
           named (lookup refs name) k s (subst (λ m. HasValue is names ground_of m (resolved ground_of vars (lookup refs name))) same found) table
       value_typed (This at) k s r t n g i table = absurd (cc (r))
       value_typed (Unary at o a) k s r t n g i table =

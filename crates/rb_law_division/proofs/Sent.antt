@@ -1,58 +1,32 @@
 -- The scripts of divided batches can be sent.
-use Rattle.std.proofs.Common.{◌≡◌, refl, subst, ap, ℕ, suc, ◌+◌, ◌*◌, ◌≤◌, ◌<◌, List, [], ◌∷◌, length, Bool, true, false, cond, arith, Ok, Err, nat_lt, length-append}
+use Rattle.std.proofs.Common.{◌≡◌, refl, subst, ap, ℕ, suc, ◌+◌, ◌≤◌, ◌<◌, List, [], ◌∷◌, length, Bool, true, false, cond, arith, Ok, Err, nat_lt}
+use Rattle.std.specs.List.{Contains}
 use Rattle.std.proofs.lemmas.Bool.{ltb-false}
-use Rattle.rb_trees.specs.CodeSize.{block_size, capped, code_size_of}
+use Rattle.rb_trees.specs.CodeSize.{block_size, code_size_of}
 use Rattle.rb_trees.specs.Validity.{first}
 use Rattle.rb_trees.specs.declared.refusals.Refusal.TheVariants.{TooManyInputs, ScriptTooLarge}
-use Rattle.rb_trees.specs.declared.values.Value.{Value, out-Value}
-use Rattle.rb_trees.specs.declared.values.Value.TheOpen.{Value-F}
-use Rattle.rb_trees.specs.declared.versions.Version.TheVariants.{One}
 use Rattle.rb_trees.specs.mirror.Declarations.{Program}
-use Rattle.rb_trees.specs.mirror.Scripts.{Script, Steps}
-use Rattle.rb_meaning_bytes.specs.formats.Fields.{number, wide_number}
-use Rattle.rb_meaning_bytes.specs.formats.FormedScripts.{primitive_form, ArePrimitive, HaveNoOver, IsWithoutLists, AreInputs}
-use Rattle.rb_meaning_bytes.specs.formats.ScriptBytes.{input_form, input_bytes, inputs_bytes, block_bytes, script_bytes}
-use Rattle.rb_meaning_bytes.proofs.formats.Inputs.{inputs_primitive, no_list_numbers}
-use Rattle.rb_meaning_flow.specs.Outermost.{Outermost}
-use Rattle.rb_meaning.specs.Answers.{longest_request}
+use Rattle.rb_meaning_types.specs.Lawful.{IsLawful}
+use Rattle.rb_meaning_types.specs.Programs.{check_program}
+use Rattle.rb_meaning_flow.specs.Facts.{facts_of}
+use Rattle.rb_meaning_flow.specs.Scopes.{assigned_in}
+use Rattle.rb_meaning_flow.specs.Outermost.{Outermost, batch_sites, program_batches}
+use Rattle.rb_meaning_split.specs.Inputs.{used_in, list_numbers}
 use Rattle.rb_meaning_split.specs.Division.{Division, numbered, first_refs, scope_of, inputs_of, division, most_inputs, longest_code, divided}
+use Rattle.rb_flow.specs.Program.{HasNoRefusal}
+use Rattle.rb_flow.specs.Laws.{AdmittedSendPortable}
+use Rattle.rb_flow.proofs.Among.{mapped_to}
 use Rattle.rb_law_division.specs.Sendable.{CanBeSent, DividedCanBeSent}
 use Rattle.rb_law_division.proofs.Batches.{BatchCarriable, batches_carriable}
-use Rattle.rb_law_division.proofs.NoOver.{block_plain}
+use Rattle.rb_law_division.proofs.Requests.{capped_low, request_short}
 use Rattle.rb_law_division.proofs.Numbers.{count_within}
+use Rattle.rb_law_division.proofs.Used.{uses_in}
+use Rattle.rb_law_division.proofs.Calls.{IsGivenIn, calls_first, lists_numbered, root_is}
+use Rattle.rb_law_division.proofs.Outer.{block_constant, uses_so}
+use Rattle.rb_law_division.proofs.Roots.{root_free}
+use Rattle.rb_law_division.proofs.Travels.{block_travels}
 use Rattle.rb_law_division.proofs.Valid.{AreThere, stmts_fine}
 use Rattle.rb_law_division.proofs.Formed.{AreFormed, stmts_formed}
-
--- ---- requests
-
-value_short : (v : Value-F Value) → primitive_form v → length (input_form One [] v) ≤ 4101
-unfolding number wide_number
-value_short (Value-F.Int n) h = omega arith
-value_short (Value-F.Bool true) h = omega arith
-value_short (Value-F.Bool false) h = omega arith
-value_short (Value-F.Text bytes) h = omega (arith, h.0, length-append (number (length bytes)) bytes)
-value_short Value-F.Unit h = absurd h
-value_short (Value-F.Ref object) h = absurd h
-value_short (Value-F.Remote object) h = absurd h
-value_short (Value-F.List items) h = absurd h
-value_short (Value-F.Rows rows) h = absurd h
-
-values_short : (vs : List Value) → ArePrimitive vs → length (inputs_bytes One [] vs) ≤ 4101 * length vs
-values_short [] h = omega arith
-values_short (v ∷ vs) h = omega (arith, length-append (input_bytes One [] v) (inputs_bytes One [] vs), value_short (out-Value v) h.0, values_short vs h.1)
-
--- the code of a script without Over has as many bytes as its size says
-abbrev pub CodeHasSize : Type 0
-CodeHasSize = (code : Steps) → HaveNoOver code → length (block_bytes One [] code) ≡ block_size code
-
--- a number within the greatest that counts is itself
-capped_low : (n : ℕ) → capped n ≤ longest_code → n ≤ longest_code
-capped_low n h = omega arith
-
-request_short : CodeHasSize → (s : Script) → IsWithoutLists s → s.inputs < 256 → code_size_of s ≤ longest_code → (vs : List Value) → AreInputs s vs → length (script_bytes One s vs) ≤ longest_request
-request_short law s plain i c vs h =
-    let size = capped_low (block_size s.body) c in
-    omega (arith, length-append (inputs_bytes One [] vs) (block_bytes One [] s.body), law s.body plain.steps, values_short vs (inputs_primitive s vs plain.lists h), h.count, size, i)
 
 -- ---- what is divided
 
@@ -82,28 +56,35 @@ inputs_formed : (n : ℕ) (names : List (List ℕ)) → n + length names ≤ 256
 inputs_formed n [] h = tt
 inputs_formed n (name ∷ names) h = (omega arith, inputs_formed (suc n) names (omega arith))
 
-divided_sent : CodeHasSize → (p : Program) (b : Outermost) → BatchCarriable b → length (inputs_of p b) < 256 → code_size_of (division p b).script ≤ longest_code → CanBeSent (division p b).script
+divided_sent : AdmittedSendPortable → (p : Program) → IsLawful p → check_program p ≡ Ok tt → HasNoRefusal p → (b : Outermost) → Contains (program_batches (facts_of p) p) b → BatchCarriable b → length (inputs_of p b) < 256
+    → code_size_of (division p b).script ≤ longest_code → CanBeSent (division p b).script
 unfolding division
-divided_sent law p b w i c =
+divided_sent sends p lawful checked none b is w i c =
+    let f = facts_of p in
     let names = inputs_of p b in
     let refs = first_refs b.root names in
     let scope = scope_of b in
-    let plain : IsWithoutLists (division p b).script = record { lists = refl; steps = block_plain p refs scope 0 0 b.block } in
+    let lists = list_numbers scope 0 names in
     let size : block_size (division p b).script.body ≤ longest_code = capped_low (block_size (division p b).script.body) c in
+    let ss = batch_sites f b in
+    let is_one = mapped_to (batch_sites f) (program_batches f p) b is in
+    let travels = block_travels f ss (λ r e. none r (ss, is_one, e)) (sends p lawful none ss is_one) [] refl scope b.block (λ s e. e) in
+    let root = root_is (assigned_in b.block) b.outer b.root b.at (root_free p checked b is) in
+    let given = uses_so (IsGivenIn scope) [] (used_in f scope b.block) (block_constant f scope b.block) in
+    let calls = calls_first scope b.root root names given in
     record {
       formed = record {
         inputs = i;
-        lists = no_list_numbers (length names);
+        lists = lists_numbered scope names;
         count = omega (arith, count_within (division p b).script.body, size);
         body = stmts_formed p refs (tt, inputs_formed 0 names (omega (arith, i))) scope 0 0 b.block w.0 (omega (arith, size), omega (arith, size));
       };
-      plain = plain;
-      valid = ap first (stmts_fine (length names) p 1 refs scope 0 0 b.block w.0 w.1 [] [] tt (tt, inputs_there 0 (length names) names (omega arith)));
+      valid = ap first (stmts_fine (length names) names lists p 1 refs scope 0 0 b.block w.0 w.1 calls travels (uses_in (used_in f scope b.block)) [] [] tt (tt, inputs_there 0 (length names) names (omega arith)));
       code = c;
-      request = λ vs h. request_short law (division p b).script plain i c vs h;
+      request = λ vs h. request_short (division p b).script i c vs h;
     }
 
-pub sent : CodeHasSize → DividedCanBeSent
-sent law p l places b is d e =
+pub sent : AdmittedSendPortable → DividedCanBeSent
+sent sends p lawful checked none places b is d e =
     let known = divided_is p b d e in
-    subst (λ d'. CanBeSent d'.script) known.is (divided_sent law p b (batches_carriable p l places b is) known.inputs known.code)
+    subst (λ d'. CanBeSent d'.script) known.is (divided_sent sends p lawful checked none b is (batches_carriable p lawful places b is) known.inputs known.code)

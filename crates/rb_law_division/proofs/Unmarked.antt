@@ -83,7 +83,7 @@ module _ (f : Facts) (q : ℕ) where
         (one_other (stmt_site around vs (While at c a)) c (apart_left q (expr_positions c) (exprs_ats a) h), other_block (WhileTurn at vs c ∷ around) vs a (apart_right q (expr_positions c) (exprs_ats a) h))
     other_sites around vs (For at name e a) h = (
       one_other (stmt_site around vs (For at name e a)) e (apart_left q (expr_positions e) (exprs_ats a) h),
-      other_block (Turn at vs e ∷ around) (with_variable vs name (turn_role f e) at) a (apart_right q (expr_positions e) (exprs_ats a) h),
+      other_block (Turn at vs e a ∷ around) (with_variable vs name (turn_role f around vs e a) at) a (apart_right q (expr_positions e) (exprs_ats a) h),
     )
     other_sites around vs (Try at a name b) h =
         let frame = InTry at vs a name b ∷ around in (
@@ -118,10 +118,10 @@ module _ (f : Facts) (q : ℕ) where
     apart_stmt vs (Throw at e) h = tt
     apart_stmt vs (If at c a b) h = all_both ApartBatch (outermost_in f vs a) (outermost_in f vs b) (apart_stmts vs a (apart_left q (batch_in a) (batch_in b) h)) (apart_stmts vs b (apart_right q (batch_in a) (batch_in b) h))
     apart_stmt vs (While at c a) h = apart_stmts vs a h
-    apart_stmt vs (For at name e a) h = apart_stmts (with_variable vs name (outer_role (f.items (expr_at e))) at) a h
+    apart_stmt vs (For at name e a) h = apart_stmts (with_variable vs name (outer_role (f.items (expr_at e)) (f.lists (expr_at e))) at) a h
     apart_stmt vs (Try at a name b) h =
-        all_both ApartBatch (outermost_in f vs a) (outermost_in f (with_variable vs name (outer_role true) at) b)
-        (apart_stmts vs a (apart_left q (batch_in a) (batch_in b) h)) (apart_stmts (with_variable vs name (outer_role true) at) b (apart_right q (batch_in a) (batch_in b) h))
+        all_both ApartBatch (outermost_in f vs a) (outermost_in f (with_variable vs name (outer_role true false) at) b)
+        (apart_stmts vs a (apart_left q (batch_in a) (batch_in b) h)) (apart_stmts (with_variable vs name (outer_role true false) at) b (apart_right q (batch_in a) (batch_in b) h))
     apart_stmt vs (Batch at interface root a) h = (h, tt)
 
     apart_stmts : (vs : Scope) (ss : Stmts) → Apart q (batch_in ss) → AllByRecursion ApartBatch (outermost_in f vs ss)
@@ -199,9 +199,9 @@ module _ (p : Program) where
         let front = unmarked_left (expr_positions c ++ free_in a) (free_in b) h.1 in
         all_both Block (outermost_in facts vs a) (outermost_in facts vs b) (stmts_block vs a (unmarked_right (expr_positions c) (free_in a) front)) (stmts_block vs b (unmarked_right (expr_positions c ++ free_in a) (free_in b) h.1))
     stmt_block vs (While at c a) h = stmts_block vs a (unmarked_right (expr_positions c) (free_in a) h.1)
-    stmt_block vs (For at name e a) h = stmts_block (with_variable vs name (outer_role (facts.items (expr_at e))) at) a (unmarked_right (expr_positions e) (free_in a) h.1)
+    stmt_block vs (For at name e a) h = stmts_block (with_variable vs name (outer_role (facts.items (expr_at e)) (facts.lists (expr_at e))) at) a (unmarked_right (expr_positions e) (free_in a) h.1)
     stmt_block vs (Try at a name b) h =
-        all_both Block (outermost_in facts vs a) (outermost_in facts (with_variable vs name (outer_role true) at) b) (stmts_block vs a (unmarked_left (free_in a) (free_in b) h.1)) (stmts_block (with_variable vs name (outer_role true) at) b (unmarked_right (free_in a) (free_in b) h.1))
+        all_both Block (outermost_in facts vs a) (outermost_in facts (with_variable vs name (outer_role true false) at) b) (stmts_block vs a (unmarked_left (free_in a) (free_in b) h.1)) (stmts_block (with_variable vs name (outer_role true false) at) b (unmarked_right (free_in a) (free_in b) h.1))
     stmt_block vs (Batch at interface root a) h = (h.1, tt)
 
     stmts_block : (vs : Scope) (ss : Stmts) → Unmarked p (free_in ss) → AllByRecursion Block (outermost_in facts vs ss)

@@ -19,6 +19,7 @@ use Rattle.rb_meaning_code.specs.Bodies.{bodies_of}
 use Rattle.rb_meaning_flow.specs.Facts.{Facts, facts_of}
 use Rattle.rb_meaning_flow.specs.Portable.{portable}
 use Rattle.rb_meaning_flow.specs.Marks.{is_remote_whole, is_remote_at}
+use Rattle.rb_meaning_flow.specs.Programs.{is_carried_loop}
 use Rattle.rb_meaning_flow.specs.Sites.{StmtSite, Over, ExprSite, site, own}
 use Rattle.rb_meaning.specs.RemoteExprs.{remote_of}
 use Rattle.rb_trees.specs.mirror.Code.{Expr}
@@ -82,10 +83,11 @@ abbrev pub StandsElsewhere : Program → Raised → Type 0
 StandsElsewhere p r = r.remote ≡ false → (r.at ≡ 0 → ⊥) → stands_remote p r.at ≡ false
 
 -- In a lawful program without refusals what is left of a statement of a batch, without its remote expressions, has such faults
--- alone on replay. The statement is one that isn't divided: no `if` that holds a remote operation, and no loop over rows.
+-- alone on replay. The statement is one that isn't divided: no `if` that holds a remote operation, no loop over rows, and no
+-- carried loop.
 abbrev pub OwnFaultsStandElsewhere : Type 0
 OwnFaultsStandElsewhere = (p : Program) → IsLawful p → HasNoRefusal p
     → (b : Outermost) → Contains (program_batches (facts_of p) p) b
-    → (t : StmtSite) → Contains (batch_sites (facts_of p) b) t → is_remote_whole (facts_of p) t.around t.stmt ≡ false
+    → (t : StmtSite) → Contains (batch_sites (facts_of p) b) t → is_remote_whole (facts_of p) t.around t.stmt ≡ false → is_carried_loop (facts_of p) t ≡ false
     → (n gas : ℕ) (l : Local) (seen : Seen)
     → EachFault (StandsElsewhere p) (handle in_replay (performs (bodies_of p.classes gas) gas (cut_stmt (facts_of p) t.scope n t.stmt) l) seen).0

@@ -14,14 +14,13 @@ use rb_law_types::{
 };
 use rb_law_unsplit::lawful_programs_are_noted;
 use rb_marks::{each_expression_has_its_mark, remote_expressions_stand_in_the_script};
-use rb_meaning_bytes::the_code_has_its_size;
 
-/// The script of each batch of a lawful program that is divided can be sent: it is formed and valid, and with all its
-/// inputs a request holds it.
+/// In a lawful, typed program without refusals, the script of each batch that is divided can be sent: it is formed and
+/// valid, and with all its inputs a request of version 2 holds it.
 pub fn divided_scripts_can_be_sent()
     ensures { DividedCanBeSent }
 {
-    the_code_has_its_size();
+    admitted_programs_send_only_portable_parts();
 }
 
 /// In a lawful, typed program without refusals, and on a typed service, what the script of a batch gives fits the batch's

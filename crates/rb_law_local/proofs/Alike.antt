@@ -1,5 +1,5 @@
 -- Calls of own methods do the same where a batch stands and where it is replayed.
-use Rattle.std.proofs.Common.{◌≡◌, refl, sym, ap, ◌∙◌, ℕ, List, [], ◌++◌, ◌∷◌, length, Result, Ok, Err, inr}
+use Rattle.std.proofs.Common.{◌≡◌, refl, sym, ap, ◌∙◌, subst, ℕ, List, [], ◌++◌, ◌∷◌, length, Result, Ok, Err, inr, false}
 use Rattle.rb_trees.specs.declared.values.Value.{Value}
 use Rattle.rb_trees.specs.declared.values.Value.TheVariants as value
 use Rattle.rb_trees.specs.declared.values.Value.TheViews.{out-Value}
@@ -16,17 +16,17 @@ use Rattle.rb_meaning_code.specs.Calls.{Bodies, called_method, unit_due, call_fi
 use Rattle.rb_meaning_code.specs.Remote.{Server}
 use Rattle.rb_meaning_code.specs.ScriptRun.{Ground, Vars, Ran}
 use Rattle.rb_meaning_code.specs.Bodies.{bodies_of}
+use Rattle.rb_meaning_flow.specs.Programs.{is_carried_at}
 use Rattle.rb_meaning.specs.State as state
 use Rattle.rb_meaning.specs.State.{Event, Outside}
-use Rattle.rb_meaning.specs.Unsplit.{in_batch}
+use Rattle.rb_meaning.specs.Unsplit.{list_turn, in_batch}
 use Rattle.rb_meaning_split.specs.Refs.{Refs}
 use Rattle.rb_meaning_split.specs.Replay.{Seen, in_replay}
 use Rattle.rb_law_types.specs.Asked.{Own, Keeps}
 use Rattle.rb_law_local.specs.Shown.{seen, named, at_client, SameNames, FellSame}
-use Rattle.rb_law_local.specs.Placed.{PlacedClasses}
 use Rattle.rb_law_local.specs.Meets.{Rest, Met, Meets}
 use Rattle.rb_law_local.proofs.Meeting.{handle_seq, none_among}
-use Rattle.rb_law_local.proofs.Near.{NearEnd, Near, own_call_near}
+use Rattle.rb_law_local.proofs.Near.{NearEnd, Near, own_call_near, StandPlain}
 
 -- Both surroundings answer alike what is neither remote nor a batch.
 pub record Alike {A : Type 0} (Here : ℕ → Type 0) (p : Program) (service : Service) (run : Run A) (events : List Event) (server : Server) (node : Node) : Type 0 where
@@ -35,18 +35,30 @@ pub record Alike {A : Type 0} (Here : ℕ → Type 0) (p : Program) (service : S
   pub left : (handle (in_batch p service) run (record { events = events; server = server })).1.server ≡ server
   pub near : NearEnd Here (handle (in_batch p service) run (record { events = events; server = server })).0
 
-alike_run : {A : Type 0} (Here : ℕ → Type 0) (p : Program) (service : Service) (d : Declarations) (P : Outcome A → Type 0) (run : Run A) (events : List Event) (server : Server) (node : Node) → Keeps d (Own []) P run → Near Here run → Alike Here p service run events server node
-alike_run Here p service d P (Done o) events server node h near = record { same = refl; seen = refl; left = refl; near = near }
-alike_run Here p service d P (Ask (Line at bytes) go) events server node h near =
-    let a = alike_run Here p service d P (go (Ok value.Unit)) (events ++ state.Line bytes ∷ []) server node (h.1 (Ok value.Unit) tt) (near (Ok value.Unit) tt) in
+-- at these positions no carried loop stands
+abbrev Uncarried : (ℕ → Type 0) → Program → Type 0
+Uncarried Here p = (at : ℕ) → Here at → is_carried_at p at ≡ false
+
+alike_run : {A : Type 0} (Here : ℕ → Type 0) (p : Program) (service : Service) (d : Declarations) (P : Outcome A → Type 0) (run : Run A) (events : List Event) (server : Server) (node : Node) → Keeps d (Own []) P run → Near Here run → Uncarried Here p → Alike Here p service run events server node
+alike_run Here p service d P (Done o) events server node h near plain = record { same = refl; seen = refl; left = refl; near = near }
+alike_run Here p service d P (Ask (Line at bytes) go) events server node h near plain =
+    let a = alike_run Here p service d P (go (Ok value.Unit)) (events ++ state.Line bytes ∷ []) server node (h.1 (Ok value.Unit) tt) (near.1 (Ok value.Unit) tt) plain in
     record { same = a.same; seen = a.seen; left = a.left; near = a.near }
-alike_run Here p service d P (Ask (ListTurn at) go) events server node h near =
-    let a = alike_run Here p service d P (go (Ok value.Unit)) events server node (h.1 (Ok value.Unit) tt) (near (Ok value.Unit) tt) in
-    record { same = a.same; seen = a.seen; left = a.left; near = a.near }
-alike_run Here p service d P (Ask (Taken step) go) events server node h near = absurd h.0
-alike_run Here p service d P (Ask (Invoke at target method args) go) events server node h near = absurd h.0
-alike_run Here p service d P (Ask (Turn at) go) events server node h near = absurd h.0
-alike_run Here p service d P (AskBatch at l go) events server node h near = absurd (none_among h.0 h.1.may)
+alike_run Here p service d P (Ask (ListTurn at) go) events server node h near plain =
+    let s : Outside = record { events = events; server = server } in
+    let a = alike_run Here p service d P (go (Ok value.Unit)) events server node (h.1 (Ok value.Unit) tt) (near.1 (Ok value.Unit) tt) plain in
+    let turn : list_turn (is_carried_at p at) at s ≡ (Ok value.Unit, s) = ap (λ t. list_turn t at s) (plain at near.0) in
+    let run : handle (in_batch p service) (Ask (ListTurn at) go) s ≡ handle (in_batch p service) (go (Ok value.Unit)) s = ap (λ q. handle (in_batch p service) (go q.0) q.1) turn in
+    record {
+      same = a.same ∙ ap (λ q. q.0) (sym run);
+      seen = a.seen ∙ ap (λ q. record { events = q.1.events; node = node }) (sym run);
+      left = ap (λ q. q.1.server) run ∙ a.left;
+      near = subst (λ q. NearEnd Here q.0) (sym run) a.near;
+    }
+alike_run Here p service d P (Ask (Taken step) go) events server node h near plain = absurd h.0
+alike_run Here p service d P (Ask (Invoke at target method args) go) events server node h near plain = absurd h.0
+alike_run Here p service d P (Ask (Turn at) go) events server node h near plain = absurd h.0
+alike_run Here p service d P (AskBatch at l go) events server node h near plain = absurd (none_among h.0 h.1.may)
 
 -- the outcome with other names
 abbrev pub renamed : {A : Type 0} → Names → Outcome A → Outcome A
@@ -95,7 +107,7 @@ names_of (Faulted r l) = l.names
 
 module _ (p : Program) (service : Service) (g : Ground) (refs : Refs) (vars : Vars) (gas : ℕ) (Holds : Outside → Type 0) (Here : ℕ → Type 0) (x : Context) (scope : Scope) where
   -- a call of an own method, which asks nothing remote
-  pub call_meets : (d : Declarations) (P : Outcome Value → Type 0) (at : ℕ) (receiver : Value) (name : List ℕ) (args : List Value) (l : Local) (n : ℕ) → PlacedClasses Here p.classes → Here at → Keeps d (Own []) P (call (bodies_of p.classes gas) at receiver name args l)
+  pub call_meets : (d : Declarations) (P : Outcome Value → Type 0) (at : ℕ) (receiver : Value) (name : List ℕ) (args : List Value) (l : Local) (n : ℕ) → StandPlain p Here → Here at → Keeps d (Own []) P (call (bodies_of p.classes gas) at receiver name args l)
       → Meets p service g refs vars gas Holds Here (SameNames x scope l.names) (FellSame x scope l.names) [] n (call (bodies_of p.classes gas) at receiver name args l) (call (bodies_of p.classes gas) at receiver name args (at_client x scope l))
   call_meets d P at receiver name args l n placed here keeps = record {
     met = λ events server go holds.
@@ -103,7 +115,7 @@ module _ (p : Program) (service : Service) (g : Ground) (refs : Refs) (vars : Va
         let other = call (bodies_of p.classes gas) at receiver name args (at_client x scope l) in
         let s : Outside = record { events = events; server = server } in
         let around : Seen = record { events = events; node = (go vars server).node } in
-        let a = alike_run Here p service d P run events server (go vars server).node keeps (own_call_near Here p.classes placed gas at receiver name args here l) in
+        let a = alike_run Here p service d P run events server (go vars server).node keeps (own_call_near Here p.classes placed.classes gas at receiver name args here l) placed.uncarried in
         by (go vars server) go (handle (in_batch p service) run s) (handle in_replay other around)
         (call_renames in_replay (bodies_of p.classes gas) at receiver name args (seen x scope l.names) l around ∙ ap (λ q. (renamed (seen x scope l.names) q, (handle in_replay run around).1)) a.same ∙ ap (λ q. (renamed (seen x scope l.names) (handle (in_batch p service) run s).0, q)) a.seen)
         (ap (λ q. q.0) (call_renames (in_batch p service) (bodies_of p.classes gas) at receiver name args l.names l s)) (ap (go vars) a.left) a.near;

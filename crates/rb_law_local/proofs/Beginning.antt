@@ -1,5 +1,5 @@
--- What is known of scopes where a batch and where a turn over rows begins.
-use Rattle.std.proofs.Common.{inl, inr, refl, ℕ, List, [], ◌∷◌, true}
+-- What is known of scopes where a batch and where a turn begins.
+use Rattle.std.proofs.Common.{◌≡◌, ◌⊎◌, inl, inr, refl, subst, ℕ, List, [], ◌∷◌, true}
 use Rattle.rb_trees.specs.mirror.Declarations.{Interface}
 use Rattle.rb_meaning_types.specs.Kinds as kind
 use Rattle.rb_meaning_types.specs.Kinds.{Kind}
@@ -10,7 +10,7 @@ use Rattle.rb_meaning_flow.specs.Scopes.{Scope, with_variable, scope_with, assig
 use Rattle.rb_law_types.specs.Own.{IsFarItem, IsFarKind, IsOwnScope}
 use Rattle.rb_law_types.proofs.Known.{typed_known}
 use Rattle.rb_law_local.specs.Admitted.{IsKnownKind, AreKnownKinds, Carries, AreNamed, BatchesBeginKnown, TurnsBeginKnown, TypesAreKnown}
-use Rattle.rb_law_local.proofs.Origins.{own_near, known_added, kind_known}
+use Rattle.rb_law_local.proofs.Origins.{own_near, item_own, known_added, kind_known}
 use Rattle.rb_law_local.proofs.Admitting.{carries_added}
 
 -- the names of the own side, and the root behind them
@@ -41,14 +41,18 @@ item_far is (kind.Named name) h = h
 item_far is (kind.ListOf item) h = absurd h
 item_far is (kind.RowsOf row) h = absurd h
 
-row_known : (is : List Interface) (row : Kind) → IsKnownKind is (kind.RowsOf row) → IsKnownKind is row
-row_known is row (inl h) = absurd h
-row_known is row (inr h) = inr (item_far is row h)
+turn_known : (is : List Interface) (list item : Kind) → (list ≡ kind.ListOf item) ⊎ (list ≡ kind.RowsOf item) → IsKnownKind is list → IsKnownKind is item
+turn_known is list item (inl e) h = inl (item_own is item (subst (IsKnownKind is) e h))
+turn_known is list item (inr e) h = by (subst (IsKnownKind is) e h)
+  where
+    by : IsKnownKind is (kind.RowsOf item) → IsKnownKind is item
+    by (inl own) = absurd own
+    by (inr far) = inr (item_far is item far)
 
 pub turns_begin_known : TurnsBeginKnown
-turns_begin_known d vs ws h at name row known = record {
-  kinds = known_added d.interfaces ws (record { name = name; kind = row; fixed = true }) h.kinds (row_known d.interfaces row known);
-  carries = carries_added d vs ws name Role.Row at row true h.carries (λ far. refl);
+turns_begin_known d vs ws h at name list item over known = record {
+  kinds = known_added d.interfaces ws (record { name = name; kind = item; fixed = true }) h.kinds (turn_known d.interfaces list item over known);
+  carries = carries_added d vs ws name Role.Row at item true h.carries (λ far. refl);
 }
 
 pub types_are_known : TypesAreKnown

@@ -50,7 +50,8 @@ use Rattle.rb_law_types.proofs.Stmts.{binds}
 use Rattle.rb_law_local.specs.Shown.{is_far, seen, named, at_client, Fronts, LeftSeen}
 use Rattle.rb_law_local.specs.Wanted.{AllWanted}
 use Rattle.rb_law_local.specs.Parted.{Parted}
-use Rattle.rb_law_local.specs.Placed.{PlacedExpr, PlacedClasses}
+use Rattle.rb_law_local.specs.Placed.{PlacedExpr}
+use Rattle.rb_law_local.proofs.Near.{StandPlain}
 use Rattle.rb_law_local.specs.Meets.{Meets}
 use Rattle.rb_law_local.proofs.Names.{Begins, begins_fit, Extends, extends_same, seen_value, seen_put, seen_bound, fronts_same}
 use Rattle.rb_law_local.proofs.Meeting.{Ended, then_meets, gives_meet, falls_meet, line_meets, turn_meets, told_otherwise, after_check}
@@ -62,7 +63,7 @@ use Rattle.rb_law_local.proofs.Closing.{FellSeen, extends_with, close_ended, clo
 
 module _ (p : Program) (service : Service) (g : Ground) (refs : Refs) (vars : Vars) (gas : ℕ) (Holds : Outside → Type 0) (Here : ℕ → Type 0) (this : Option (List ℕ)) (remote : Truth)
     (keeps : OfBatchCode (of_program p) (type_at p) (λ A P run. EndsHandled Holds (in_batch p service) A P run)) (declared : AreTyped (of_program p))
-    (near_this : (class : List ℕ) → this ≡ Some class → is_far (of_program p) (kind.Named class) ≡ false) (vs : Scope) (bodies_placed : PlacedClasses Here p.classes) where
+    (near_this : (class : List ℕ) → this ≡ Some class → is_far (of_program p) (kind.Named class) ≡ false) (vs : Scope) (bodies_placed : StandPlain p Here) where
   abbrev d : Declarations
   d = of_program p
 
@@ -185,7 +186,7 @@ module _ (p : Program) (service : Service) (g : Ground) (refs : Refs) (vars : Va
   list_turn_meets ws after n at go go' l here m = by (unit_due l.fuel)
     where
       by : (r : Result (Unit {0}) Fault) → S ws after [] n (next (next (end l (raises at r)) (λ u l1. Ask (ListTurn at) (told (spent l1)))) go) (next (next (end (at_client x ws l) (raises at r)) (λ u l1. Ask (ListTurn at) (told (spent l1)))) go')
-      by (Ok u) = turn_meets p service g refs vars gas Holds Here (spent l) (at_client x ws (spent l)) at go go' m
+      by (Ok u) = turn_meets p service g refs vars gas Holds Here (spent l) (at_client x ws (spent l)) at go go' (bodies_placed.uncarried at here) m
       by (Err fault) = falls_meet p service g refs vars gas Holds Here l (at_client x ws l) [] (raised fault at) refl here (fronts_same x ws l)
 
   over_meets : (ws : typed.Scope) (n at : ℕ) (name : List ℕ) (k : Kind) (run : Effect) → Here at → Inner n (with_variable ws name k true) run → is_far d k ≡ false

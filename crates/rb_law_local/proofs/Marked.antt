@@ -1,24 +1,25 @@
--- What isn't taken of the statements of an admitted batch isn't marked as remote.
-use Rattle.std.proofs.Common.{◌≡◌, inl, inr, refl, sym, ap, ◌∙◌, subst, ℕ, List, [], ◌∷◌, ◌++◌, Bool as Truth, true, false, ◌||◌, cond, Some}
-use Rattle.std.specs.List.{flat_map, list_any}
+-- What isn't taken of the statements of an admitted batch isn't marked as remote, nor is it a carried loop.
+use Rattle.std.proofs.Common.{◌≡◌, inl, inr, refl, ap, ◌∙◌, ℕ, List, [], ◌∷◌, Bool as Truth, true, false, ◌||◌, cond, Some}
+use Rattle.std.specs.List.{list_any}
 use Rattle.rb_trees.specs.declared.marks.Mark.{Mark}
 use Rattle.rb_trees.specs.mirror.Code.{Expr, Exprs, Lit, Name, This, Unary, Binary, Field, Call, Index, New, Items, Taken, NoExprs, MoreExprs, expr_at, Stmt, Stmts, Val, Var, Assign, Run, Print, Throw, If, While, For, Try, Batch, NoStmts, MoreStmts, stmt_at}
 use Rattle.rb_trees.specs.mirror.Declarations.{Program}
+use Rattle.rb_meaning_flow.specs.declared.forms.PlacedForm.{PlacedForm}
 use Rattle.rb_meaning_flow.specs.declared.scopes.Role.{Role}
 use Rattle.rb_meaning_flow.specs.Facts.{Facts, facts_of, is_remote, over_rows}
 use Rattle.rb_meaning_flow.specs.Scopes.{Scope, with_variable}
-use Rattle.rb_meaning_flow.specs.Portable.{portable, holds_call, any_holds_call, is_constant, holds_operation, block_holds, branches_hold}
+use Rattle.rb_meaning_flow.specs.Portable.{portable, holds_call, any_holds_call, is_constant, holds_operation, block_holds, branches_hold, is_constant_list, may_carry, has_far_turns}
+use Rattle.rb_meaning_flow.specs.Forms.{placed_form, is_carried_form}
 use Rattle.rb_meaning_flow.specs.Marks.{is_portable_call, is_remote_whole}
 use Rattle.rb_meaning_flow.specs.Sites.{Around, Branch, WhileTurn, Turn, InTry, StmtSite, Over, is_script_place, site, expr_sites, exprs_sites, all_sites, own, turn_role, scope_after, stmt_site, sites, block_sites, exprs_of}
-use Rattle.rb_meaning_flow.specs.Refusals.{StandsFirst, frame_condition}
 use Rattle.rb_meaning.specs.Unsplit.{is_remote_mark}
 use Rattle.rb_law_local.specs.Placed.{PlacedExpr, PlacedExprs, PlacedStmt, PlacedStmts}
-use Rattle.rb_law_local.specs.Local.{IsLocalAt}
+use Rattle.rb_law_local.specs.Local.{IsPlainAt}
 use Rattle.rb_law_local.specs.Admitted.{IsAdmittedBatch, StaysWhole}
 use Rattle.rb_law_local.specs.Marked.{HasMarks, AdmittedArePlaced}
 use Rattle.rb_law_local.proofs.Uncut.{or_none}
 use Rattle.rb_law_types.proofs.SitesWithin.{Within, within_left, within_right, within_tail, site_first, stmt_first, own_among, first_among}
-use Rattle.rb_law_local.proofs.Refused.{no_operations}
+use Rattle.rb_law_local.proofs.Refused.{no_operations, no_turns}
 use Rattle.rb_law_local.proofs.Standing.{no_right}
 
 both_false : (a b : Truth) → a ≡ false → b ≡ false → (a || b) ≡ false
@@ -34,7 +35,7 @@ module _ (p : Program) (ss : List StmtSite) (admitted : IsAdmittedBatch (facts_o
   f = facts_of p
 
   abbrev Here : ℕ → Type 0
-  Here at = IsLocalAt p at
+  Here at = IsPlainAt p at
 
   -- no expression above is taken, nor all of the statement
   abbrev Plain : StmtSite → List Over → Type 0
@@ -42,15 +43,42 @@ module _ (p : Program) (ss : List StmtSite) (admitted : IsAdmittedBatch (facts_o
 
   here : (s : StmtSite) (above : List Over) (e : Expr) → Within (expr_sites s above e) (exprs_of ss) → Plain s above → is_portable_call f s.scope e ≡ false → Here (expr_at e)
   here s above e w plain own_part =
-      ap is_remote_mark (marks.exprs (site s above e) (w (site s above e) (site_first s above e))
-      ∙ ap (λ t. Some (cond t Mark.Remote (cond (is_constant s.scope e) Mark.Constant Mark.Local))) (both_false (is_remote_whole f s.around s.stmt) _ plain.0 (both_false (is_portable_call f s.scope e) _ own_part plain.1)))
-      ∙ not_remote (is_constant s.scope e)
+      let is = w (site s above e) (site_first s above e) in (
+        ap is_remote_mark (marks.exprs (site s above e) is
+            ∙ ap (λ t. Some (cond t Mark.Remote (cond (is_constant s.scope e) Mark.Constant Mark.Local))) (both_false (is_remote_whole f s.around s.stmt) _ plain.0 (both_false (is_portable_call f s.scope e) _ own_part plain.1)))
+            ∙ not_remote (is_constant s.scope e),
+        marks.uncarried (site s above e) is,
+      )
 
   plain_under : (s : StmtSite) (o : Over) (above : List Over) → Plain s above → is_portable_call f s.scope o.expr ≡ false → Plain s (o ∷ above)
   plain_under s o above plain own_part = (plain.0, both_false (is_portable_call f s.scope o.expr) (list_any (λ q. is_portable_call f s.scope q.expr) above) own_part plain.1)
 
   no_call_whole : (vs : Scope) (e : Expr) → holds_call f e ≡ false → is_portable_call f vs e ≡ false
   no_call_whole vs e h = no_right (portable f vs e) (holds_call f e) h
+
+  -- a loop whose turns are the client's own isn't carried
+  abbrev OwnTurns : Scope → Stmt → Type 0
+  OwnTurns vs (For at name e a) = has_far_turns f vs e a ≡ false
+  OwnTurns vs s = Unit {0}
+
+  form_where : (t : Truth) (form : PlacedForm) → is_carried_form form ≡ false → is_carried_form (cond t form PlacedForm.Plain) ≡ false
+  form_where true form h = h
+  form_where false form h = refl
+
+  own_form : (vs : Scope) (s : Stmt) → OwnTurns vs s → is_carried_form (placed_form f vs s) ≡ false
+  own_form vs (Val at name e) h = form_where (portable f vs e) PlacedForm.CarriedVal refl
+  own_form vs (Run at e) h = form_where (is_portable_call f vs e) PlacedForm.CallAlone refl
+  own_form vs (If at c a b) h = form_where (branches_hold f a b) PlacedForm.CarriedIf refl
+  own_form vs (For at name e a) h =
+      let parts = or_none (over_rows f e) (may_carry f vs e a) h in
+      ap (λ t. is_carried_form (cond t PlacedForm.RowsLoop (cond (may_carry f vs e a) PlacedForm.CarriedLoop PlacedForm.Plain))) parts.0 ∙ ap (λ t. is_carried_form (cond t PlacedForm.CarriedLoop PlacedForm.Plain)) parts.1
+  own_form vs (Var at name e) h = refl
+  own_form vs (Assign at a b) h = refl
+  own_form vs (Print at e) h = refl
+  own_form vs (Throw at e) h = refl
+  own_form vs (While at c a) h = refl
+  own_form vs (Try at a name b) h = refl
+  own_form vs (Batch at interface root a) h = refl
 
   -- where the statement's own scope tells what is taken
   mutual
@@ -164,8 +192,11 @@ module _ (p : Program) (ss : List StmtSite) (admitted : IsAdmittedBatch (facts_o
     one : (around : List Around) (vs : Scope) (s : Stmt) (e : Expr) (es : List Expr) → own s ≡ e ∷ es → Among around vs s → is_remote_whole f around s ≡ false → holds_call f e ≡ false → PlacedExpr Here taken e
     one around vs s e es first w whole h = quiet_placed (stmt_site around vs s) [] e (first_among f ss around vs s e es first w) (whole, refl) h
 
-    stands : (around : List Around) (vs : Scope) (s : Stmt) → Among around vs s → Here (stmt_at s)
-    stands around vs s w = marks.stmts (stmt_site around vs s) (w (stmt_site around vs s) (stmt_first f around vs s))
+    stands : (around : List Around) (vs : Scope) (s : Stmt) → Among around vs s → OwnTurns vs s → Here (stmt_at s)
+    stands around vs s w own_turns =
+        let st = stmt_site around vs s in
+        let is = w st (stmt_first f around vs s) in
+        (marks.stmts st is, marks.loops st is ∙ no_right (is_script_place f around) (is_carried_form (placed_form f vs s)) (own_form vs s own_turns))
 
     mutual
       quiet_stmt : (s : Stmt) (around : List Around) (vs : Scope) → Among around vs s → holds_operation f s ≡ false → PlacedStmt Here taken s
@@ -175,29 +206,29 @@ module _ (p : Program) (ss : List StmtSite) (admitted : IsAdmittedBatch (facts_o
           let both = or_none (holds_call f a) (holds_call f b) h in
           let st = stmt_site around vs (Assign at a b) in
           let wb = within_left (expr_sites st [] b) [] _ (within_right (expr_sites st [] a) (all_sites st (b ∷ [])) _ (own_among f ss around vs (Assign at a b) w)) in
-          (stands around vs (Assign at a b) w, one around vs (Assign at a b) a (b ∷ []) refl w refl both.0, quiet_placed st [] b wb (refl, refl) both.1)
+          (stands around vs (Assign at a b) w tt, one around vs (Assign at a b) a (b ∷ []) refl w refl both.0, quiet_placed st [] b wb (refl, refl) both.1)
       quiet_stmt (Run at e) around vs w h = one around vs (Run at e) e [] refl w refl h
-      quiet_stmt (Print at e) around vs w h = (stands around vs (Print at e) w, one around vs (Print at e) e [] refl w refl h)
-      quiet_stmt (Throw at e) around vs w h = (stands around vs (Throw at e) w, one around vs (Throw at e) e [] refl w refl h)
+      quiet_stmt (Print at e) around vs w h = (stands around vs (Print at e) w tt, one around vs (Print at e) e [] refl w refl h)
+      quiet_stmt (Throw at e) around vs w h = (stands around vs (Throw at e) w tt, one around vs (Throw at e) e [] refl w refl h)
       quiet_stmt (If at c a b) around vs w h =
           let two = or_none (holds_call f c || block_holds f a) (block_holds f b) h in
           let first = or_none (holds_call f c) (block_holds f a) two.0 in
           let frame = Branch at vs c a b ∷ around in
           let rest = within_tail _ _ _ w in (
-            stands around vs (If at c a b) w,
+            stands around vs (If at c a b) w tt,
             one around vs (If at c a b) c [] refl w (no_right (is_script_place f around) (branches_hold f a b) (both_false (block_holds f a) (block_holds f b) first.1 two.1)) first.0,
             quiet_block a frame vs (within_left (block_sites f frame vs a) (block_sites f frame vs b) _ rest) first.1,
             quiet_block b frame vs (within_right (block_sites f frame vs a) (block_sites f frame vs b) _ rest) two.1,
           )
       quiet_stmt (While at c a) around vs w h =
           let first = or_none (holds_call f c) (block_holds f a) h in
-          (stands around vs (While at c a) w, one around vs (While at c a) c [] refl w refl first.0, quiet_block a (WhileTurn at vs c ∷ around) vs (within_tail _ _ _ w) first.1)
+          (stands around vs (While at c a) w tt, one around vs (While at c a) c [] refl w refl first.0, quiet_block a (WhileTurn at vs c ∷ around) vs (within_tail _ _ _ w) first.1)
       quiet_stmt (For at name e a) around vs w h =
           let two = or_none (over_rows f e || holds_call f e) (block_holds f a) h in
           let first = or_none (over_rows f e) (holds_call f e) two.0 in (
-            stands around vs (For at name e a) w,
+            stands around vs (For at name e a) w (both_false (over_rows f e) (may_carry f vs e a) first.0 (no_right (is_constant_list vs e) (block_holds f a) two.1)),
             one around vs (For at name e a) e [] refl w first.0 first.1,
-            quiet_block a (Turn at vs e ∷ around) (with_variable vs name (turn_role f e) at) (within_tail _ _ _ w) two.1,
+            quiet_block a (Turn at vs e a ∷ around) (with_variable vs name (turn_role f around vs e a) at) (within_tail _ _ _ w) two.1,
           )
       quiet_stmt (Try at a name b) around vs w h =
           let both = or_none (block_holds f a) (block_holds f b) h in
@@ -230,32 +261,31 @@ module _ (p : Program) (ss : List StmtSite) (admitted : IsAdmittedBatch (facts_o
     script_placed (Assign at a b) w whole =
         let st = stmt_site around vs (Assign at a b) in
         let wb = within_left (expr_sites st [] b) [] _ (within_right (expr_sites st [] a) (all_sites st (b ∷ [])) _ (own_among f ss around vs (Assign at a b) w)) in
-        (stands Kept around vs (Assign at a b) w, whole_one (Assign at a b) a (b ∷ []) refl w refl, placed_expr st [] b wb (refl, refl))
+        (stands Kept around vs (Assign at a b) w tt, whole_one (Assign at a b) a (b ∷ []) refl w refl, placed_expr st [] b wb (refl, refl))
     script_placed (Run at e) w whole = whole_one (Run at e) e [] refl w refl
-    script_placed (Print at e) w whole = (stands Kept around vs (Print at e) w, whole_one (Print at e) e [] refl w refl)
-    script_placed (Throw at e) w whole = (stands Kept around vs (Throw at e) w, whole_one (Throw at e) e [] refl w refl)
+    script_placed (Print at e) w whole = (stands Kept around vs (Print at e) w tt, whole_one (Print at e) e [] refl w refl)
+    script_placed (Throw at e) w whole = (stands Kept around vs (Throw at e) w tt, whole_one (Throw at e) e [] refl w refl)
     script_placed (If at c a b) w whole =
         let both = or_none (block_holds f a) (block_holds f b) whole in
         let frame = Branch at vs c a b ∷ around in
         let rest = within_tail _ _ _ w in (
-          stands Kept around vs (If at c a b) w,
+          stands Kept around vs (If at c a b) w tt,
           whole_one (If at c a b) c [] refl w (no_right (is_script_place f around) (branches_hold f a b) whole),
           quiet_block Kept a frame vs (within_left (block_sites f frame vs a) (block_sites f frame vs b) _ rest) both.0,
           quiet_block Kept b frame vs (within_right (block_sites f frame vs a) (block_sites f frame vs b) _ rest) both.1,
         )
     script_placed (While at c a) w whole =
         let rest = within_tail _ _ _ w in (
-          stands Kept around vs (While at c a) w,
+          stands Kept around vs (While at c a) w tt,
           whole_one (While at c a) c [] refl w refl,
           quiet_block Kept a (WhileTurn at vs c ∷ around) vs rest (no_operations f ss admitted.none (WhileTurn at vs c ∷ around) vs a (inl (expr_at c, refl)) rest),
         )
     script_placed (For at name e a) w whole =
         let rest = within_tail _ _ _ w in
-        let turn_scope = with_variable vs name (turn_role f e) at in (
-          stands Kept around vs (For at name e a) w,
-          whole_one (For at name e a) e [] refl w whole,
-          quiet_block Kept a (Turn at vs e ∷ around) turn_scope rest
-              (no_operations f ss admitted.none (Turn at vs e ∷ around) turn_scope a (inl (expr_at e, subst (λ r. StandsFirst (expr_at e) (cond r [] (expr_at e ∷ []) ++ flat_map (frame_condition f) around)) (sym whole) refl)) rest),
+        let turn_scope = with_variable vs name (turn_role f around vs e a) at in (
+          stands Kept around vs (For at name e a) w whole,
+          whole_one (For at name e a) e [] refl w (or_none (over_rows f e) (may_carry f vs e a) whole).0,
+          quiet_block Kept a (Turn at vs e a ∷ around) turn_scope rest (no_turns f ss admitted.none around turn_scope vs at e a whole rest),
         )
     script_placed (Try at a name b) w whole =
         let frame = InTry at vs a name b ∷ around in

@@ -15,14 +15,15 @@ use Rattle.rb_meaning_code.specs.Dialogue.{Line, ListTurn, Outcome, Gave, Faulte
 use Rattle.rb_meaning_code.specs.Remote.{Server, Reply, Got, Stopped, and_then}
 use Rattle.rb_meaning_code.specs.ScriptRun.{Ground, Vars, Ran, on_reply, kept, with_entry, run_steps}
 use Rattle.rb_meaning_code.specs.ScriptRun as scripts
+use Rattle.rb_meaning_flow.specs.Programs.{is_carried_at}
 use Rattle.rb_meaning.specs.State.{Event, Outside}
-use Rattle.rb_meaning.specs.Unsplit.{in_batch}
+use Rattle.rb_meaning.specs.Unsplit.{list_turn, in_batch}
 use Rattle.rb_meaning_split.specs.Refs.{Refs, sexpr}
 use Rattle.rb_meaning_split.specs.Cuts.{counted}
 use Rattle.rb_meaning_split.specs.Steps.{keeps}
 use Rattle.rb_meaning_split.specs.Replay.{Seen, in_replay}
 use Rattle.rb_law_types.specs.Around.{EndsHandled}
-use Rattle.rb_law_local.specs.Meets.{Rest, Stays, Met, Meets}
+use Rattle.rb_law_local.specs.Meets.{Rest, FromOne, Stays, Met, Meets}
 
 pub handle_seq : {S A B : Type 0} (h : Handler S) (run : Dialogue A) (k : A → Dialogue B) (s : S) → handle h (seq run k) s ≡ handle h (k (handle h run s).0) (handle h run s).1
 handle_seq h (Done a) k s = refl
@@ -196,10 +197,16 @@ module _ (p : Program) (service : Service) (g : Ground) (refs : Refs) (vars : Va
   pub line_meets : {Q : Unit {0} → Local → Local → Type 0} {F : Local → Local → Type 0} {n : ℕ} (l cl : Local) (at : ℕ) (bytes : List ℕ) → Q tt l cl → M Q F [] n (Ask (Line at bytes) (told l)) (Ask (Line at bytes) (told cl))
   line_meets l cl at bytes q = record { met = λ events server go holds. record { local = cl; relates = q; ends = refl; fault = refl; server = refl } }
 
-  -- a turn over a list goes on
-  pub turn_meets : {B : Type 0} {R : B → Local → Local → Type 0} {F : Local → Local → Type 0} {n : ℕ} (l cl : Local) (at : ℕ) (k k' : Unit {0} → Local → Run B) → M R F [] n (k tt l) (k' tt cl)
+  -- a turn over a list goes on, where no carried loop stands
+  pub turn_meets : {B : Type 0} {R : B → Local → Local → Type 0} {F : Local → Local → Type 0} {n : ℕ} (l cl : Local) (at : ℕ) (k k' : Unit {0} → Local → Run B) → is_carried_at p at ≡ false → M R F [] n (k tt l) (k' tt cl)
       → M R F [] n (next (Ask (ListTurn at) (told l)) k) (next (Ask (ListTurn at) (told cl)) k')
-  turn_meets l cl at k k' m = record { met = λ events server go holds. m.met events server go holds }
+  turn_meets {R = R} {F = F} {n = n} l cl at k k' plain m = record {
+    met = λ events server go holds.
+        let s : Outside = record { events = events; server = server } in
+        let ran = rest_of n [] go vars server in
+        subst (λ t. N R F [] (handle (in_batch p service) (seq (told l (list_turn t at s).0) (on k)) (list_turn t at s).1) (handle in_replay (next (Ask (ListTurn at) (told cl)) k') (record { events = events; node = ran.node })) ran go)
+        (sym plain) (m.met events server go holds);
+  }
 
   -- what is said of the ends, in other words
   pub told_otherwise : {A : Type 0} {Q R : A → Local → Local → Type 0} {F G : Local → Local → Type 0} {P : Outcome A → Type 0} {es : List Expr} {n : ℕ} {d c : Run A} → M Q F es n d c → Ended P d
@@ -226,3 +233,21 @@ module _ (p : Program) (service : Service) (g : Ground) (refs : Refs) (vars : Va
       → ((a : A) → r ≡ Ok a → M R F es n (k a l) (k' a cl)) → M R F es n (next (end l (raises at r)) k) (next (end cl (raises at r)) k')
   after_check l cl es at (Ok a) k k' here h more = more a refl
   after_check l cl es at (Err f) k k' here h more = falls_meet l cl es (raised f at) refl here h
+
+-- runs that meet with faults at some positions meet with faults at more
+pub meets_more : {p : Program} {service : Service} {g : Ground} {refs : Refs} {vars : Vars} {gas : ℕ} {Holds : Outside → Type 0} {Here There : ℕ → Type 0} {A : Type 0} {Q : A → Local → Local → Type 0} {F : Local → Local → Type 0} {es : List Expr} {n : ℕ}
+    {d c : Run A} → ((at : ℕ) → Here at → There at) → Meets p service g refs vars gas Holds Here Q F es n d c → Meets p service g refs vars gas Holds There Q F es n d c
+meets_more {p = p} {service = service} {g = g} {refs = refs} {vars = vars} {gas = gas} {Holds = Holds} {Here = Here} {There = There} {A = A} {Q = Q} {F = F} {es = es} {n = n} {d = d} {c = c} more m = record {
+  met = λ events server go holds.
+      let ran = run_steps g (keeps p refs n es NoSteps) vars server go in
+      by (handle (in_batch p service) d (record { events = events; server = server })) (handle in_replay c (record { events = events; node = ran.node })) ran go (m.met events server go holds);
+}
+  where
+    same_origin : (r : Raised) → FromOne p service g refs vars gas Holds Here es r → FromOne p service g refs vars gas Holds There es r
+    same_origin r o = record { expr = o.expr; one = o.one; local = o.local; around = o.around; place = o.place; kind = o.kind; typed = o.typed; noted = o.noted; fits = o.fits; holds = o.holds; ended = o.ended }
+
+    by : (w : Outcome A × Outside) (o : Outcome A × Seen) (ran : Ran) (go : Rest) → Met p service g refs vars gas Holds Here Q F es w o ran go → Met p service g refs vars gas Holds There Q F es w o ran go
+    by (Gave a l, s) o ran go t = record { local = t.local; relates = t.relates; ends = t.ends; fault = t.fault; server = t.server }
+    by (Faulted r l, s) o ran go (inl t) = inl (record { local = t.local; relates = t.relates; from = same_origin r t.from; ends = t.ends; events = t.events; fault = t.fault; server = t.server })
+    by (Faulted r l, s) o ran go (inr t) =
+        inr (record { local = t.local; relates = t.relates; near = t.near; here = more r.at t.here; ends = t.ends; events = t.events; stays = λ none. let q = t.stays none in record { same = q.same; fault = q.fault; server = q.server } })

@@ -7,7 +7,7 @@ use Rattle.rb_trees.specs.declared.values.Value.TheViews.{out-Value}
 use Rattle.rb_trees.specs.declared.values.Fault.{Fault}
 use Rattle.rb_trees.specs.declared.outcomes.Raised.{Raised}
 use Rattle.rb_trees.specs.mirror.Code.{Expr, Exprs, Lit, Name, This, Unary, Binary, Field, Call, Index, New, Items, Taken, NoExprs, MoreExprs, Stmt, Stmts, Val, Var, Assign, Run, Print, Throw, If, While, For, Try, Batch, NoStmts, MoreStmts}
-use Rattle.rb_trees.specs.mirror.Declarations.{Body, Class, Method}
+use Rattle.rb_trees.specs.mirror.Declarations.{Body, Class, Method, Program}
 use Rattle.rb_trees.specs.Classes.{class_named, method_named, method_of_class}
 use Rattle.rb_trees.specs.Outcome.{known, must, ◌>>=◌, ◌>>◌}
 use Rattle.rb_trees.specs.declared.services.Object.{Object}
@@ -21,6 +21,7 @@ use Rattle.rb_meaning_code.specs.Objects.{constructed, field_of, with_field_of}
 use Rattle.rb_meaning_code.specs.Expressions.{value_of, indexed, list_of, decided_or, evaluates, evaluates_all}
 use Rattle.rb_meaning_code.specs.Statements.{Effect, nothing, closes, block, truth_of, either, by_truth, after_unit, while_turns, turns_over, list_turn, row_turn, turns, prints, throws, handles, assigned, assigns, writes, assignment, performs, performs_all}
 use Rattle.rb_meaning_code.specs.Bodies.{returns, runs, body_within, bodies_of}
+use Rattle.rb_meaning_flow.specs.Programs.{is_carried_at}
 use Rattle.rb_law_types.proofs.Known.{found_one}
 use Rattle.rb_law_local.specs.Placed.{PlacedExpr, PlacedExprs, PlacedStmt, PlacedStmts, PlacedReturn, PlacedBody, PlacedMethod, PlacedClass, PlacedClasses}
 
@@ -36,9 +37,14 @@ module _ (Here : ℕ → Type 0) where
   NearAnswer (Ok v) = Unit {0}
   NearAnswer (Err r) = (r.remote ≡ false) × Here r.at
 
+  -- where a turn over a list is asked for
+  abbrev pub AskedHere : Question → Type 0
+  AskedHere (ListTurn at) = Here at
+  AskedHere q = Unit {0}
+
   abbrev pub Near : {A : Type 0} → dialogue.Run A → Type 0
   Near (Done o) = NearEnd o
-  Near (Ask q go) = (a : Result Value Raised) → NearAnswer a → Near (go a)
+  Near (Ask q go) = AskedHere q × ((a : Result Value Raised) → NearAnswer a → Near (go a))
   Near (AskBatch at l go) = (o : Outcome (Unit {0})) → NearEnd o → Near (go o)
 
   -- a run that is near
@@ -50,7 +56,7 @@ module _ (Here : ℕ → Type 0) where
     where
       by : (d : dialogue.Run _) → Near d → Near (seq d k)
       by (Done o) h' = (more o h').near
-      by (Ask q go) h' = λ a near. by (go a) (h' a near)
+      by (Ask q go) h' = (h'.0, λ a near. by (go a) (h'.1 a near))
       by (AskBatch at l go) h' = λ o near. by (go o) (h' o near)
 
   near_next : {A B : Type 0} {run : dialogue.Run A} (k : A → Local → dialogue.Run B) → Nears run → ((a : A) (l : Local) → Nears (k a l)) → Nears (next run k)
@@ -70,15 +76,15 @@ module _ (Here : ℕ → Type 0) where
   near_end l at (Ok a) h = near_gives a l
   near_end l at (Err f) h = near_falls f at l h
 
-  near_answered : (q : Question) (l : Local) → Nears (Ask q (end l))
-  near_answered q l = record { near = by }
+  near_answered : (q : Question) (l : Local) → AskedHere q → Nears (Ask q (end l))
+  near_answered q l here = record { near = (here, by) }
     where
       by : (a : Result Value Raised) → NearAnswer a → Near (end l a)
       by (Ok v) h = tt
       by (Err r) h = h
 
-  near_told : (q : Question) (l : Local) → Nears (Ask q (told l))
-  near_told q l = record { near = by }
+  near_told : (q : Question) → AskedHere q → (l : Local) → Nears (Ask q (told l))
+  near_told q here l = record { near = (here, by) }
     where
       by : (a : Result Value Raised) → NearAnswer a → Near (told l a)
       by (Ok v) h = tt
@@ -104,8 +110,8 @@ module _ (Here : ℕ → Type 0) where
       near_next _ (hb l) (λ u l1. near_next _ (near_block (λ l2. statements (bound name v l2)) (λ l2. hs (bound name v l2)) l1) (λ w l3. near_turns_over begins name vs statements hb hs l3))
 
   near_turns : (at : ℕ) (name : List ℕ) (w : Value-F Value) (statements : Effect) → Here at → ((l : Local) → Nears (statements l)) → (l : Local) → Nears (turns at name w statements l)
-  near_turns at name (Value-F.List items) statements p h l = near_turns_over (list_turn at) name items statements (near_unit at (λ l1. Ask (ListTurn at) (told l1)) p (near_told (ListTurn at))) h l
-  near_turns at name (Value-F.Rows rows) statements p h l = near_turns_over (row_turn at) name rows statements (near_told (Turn at)) h l
+  near_turns at name (Value-F.List items) statements p h l = near_turns_over (list_turn at) name items statements (near_unit at (λ l1. Ask (ListTurn at) (told l1)) p (near_told (ListTurn at) p)) h l
+  near_turns at name (Value-F.Rows rows) statements p h l = near_turns_over (row_turn at) name rows statements (near_told (Turn at) tt) h l
   near_turns at name Value-F.Unit statements p h l = near_falls kind at l p
   near_turns at name _ statements p h l = near_falls kind at l p
 
@@ -165,7 +171,7 @@ module _ (Here : ℕ → Type 0) where
         near_seq (left l3) (near_bodies at m.body p (called_placed bodies.classes placed l.heap (out-Value receiver) name (length args) m is) (entered (names_within receiver m.signature.params args) l3)) (near_left l3))))
 
     near_called : (at : ℕ) (receiver : Value) (w : Value-F Value) (name : List ℕ) (args : List Value) → Here at → (l : Local) → Nears (called bodies at receiver w name args l)
-    near_called at receiver (Value-F.Remote object) name args p l = near_answered (Invoke at receiver name args) l
+    near_called at receiver (Value-F.Remote object) name args p l = near_answered (Invoke at receiver name args) l tt
     near_called at receiver Value-F.Unit name args p l = near_call at receiver name args p l
     near_called at receiver _ name args p l = near_call at receiver name args p l
 
@@ -188,7 +194,7 @@ module _ (Here : ℕ → Type 0) where
       near_value (New at class args) p l =
           near_next _ (near_values args p.1 l) (λ vs l1. near_check l1 at (constructed bodies.classes l1.heap class vs) _ p.0 (λ made l2 is. near_gives made.0 (record l2 { heap = made.1 })))
       near_value (Items at item items) p l = near_next _ (near_values items p.1 l) (λ vs l1. near_end l1 at (list_of vs) p.0)
-      near_value (Taken at step) p l = near_answered (dialogue.Taken step) l
+      near_value (Taken at step) p l = near_answered (dialogue.Taken step) l tt
 
       near_values : (es : Exprs) → PlacedExprs Here none_taken es → (l : Local) → Nears (evaluates_all bodies es l)
       near_values NoExprs p l = near_gives [] l
@@ -207,7 +213,7 @@ module _ (Here : ℕ → Type 0) where
     near_assignment at _ e h p q l = near_falls kind at l h
 
     near_prints : (at : ℕ) (o : Option (List ℕ)) → Here at → (l : Local) → Nears (prints at o l)
-    near_prints at (Some bytes) p l = near_told (Line at bytes) l
+    near_prints at (Some bytes) p l = near_told (Line at bytes) tt l
     near_prints at None p l = near_falls kind at l p
 
     mutual
@@ -245,3 +251,8 @@ module _ (Here : ℕ → Type 0) where
   -- so does a call of an own method
   pub own_call_near : (classes : List Class) → PlacedClasses Here classes → (gas : ℕ) (at : ℕ) (receiver : Value) (name : List ℕ) (args : List Value) → Here at → (l : Local) → Near (call (bodies_of classes gas) at receiver name args l)
   own_call_near classes h gas at receiver name args p l = (near_call (bodies_of classes gas) h (near_within classes h gas) at receiver name args p l).near
+
+-- No carried loop stands at the positions of code of the own side, and the bodies of methods stand at such.
+pub record StandPlain (p : Program) (Here : ℕ → Type 0) : Type 0 where
+  pub classes : PlacedClasses Here p.classes
+  pub uncarried : (at : ℕ) → Here at → is_carried_at p at ≡ false

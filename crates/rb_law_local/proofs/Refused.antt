@@ -1,15 +1,16 @@
 -- Without refusals no remote operation stands under a local condition, nor in a `try`.
-use Rattle.std.proofs.Common.{◌≡◌, ◌⊎◌, inl, inr, refl, ℕ, List, [], ◌∷◌, ◌++◌, Bool as Truth, true, false, ◌||◌}
+use Rattle.std.proofs.Common.{◌≡◌, ◌⊎◌, inl, inr, refl, sym, subst, ℕ, List, [], ◌∷◌, ◌++◌, Bool as Truth, true, false, ◌&&◌, ◌||◌, cond}
 use Rattle.std.specs.List.{Contains, flat_map}
 use Rattle.rb_trees.specs.declared.refusals.Refusal.{Refusal}
 use Rattle.rb_trees.specs.declared.refusals.Refusal.TheVariants as refusal
-use Rattle.rb_trees.specs.mirror.Code.{Expr, Exprs, Lit, Name, This, Unary, Binary, Field, Call, Index, New, Items, Taken, NoExprs, MoreExprs, Stmt, Stmts, Val, Var, Assign, Run, Print, Throw, If, While, For, Try, Batch, NoStmts, MoreStmts}
+use Rattle.rb_trees.specs.mirror.Code.{Expr, Exprs, Lit, Name, This, Unary, Binary, Field, Call, Index, New, Items, Taken, NoExprs, MoreExprs, expr_at, Stmt, Stmts, Val, Var, Assign, Run, Print, Throw, If, While, For, Try, Batch, NoStmts, MoreStmts}
 use Rattle.rb_meaning_flow.specs.declared.scopes.Role.{Role}
 use Rattle.rb_meaning_flow.specs.Facts.{Facts, is_remote, over_rows}
 use Rattle.rb_meaning_flow.specs.Scopes.{Scope, with_variable}
-use Rattle.rb_meaning_flow.specs.Portable.{holds_call, any_holds_call, holds_operation, block_holds}
+use Rattle.rb_meaning_flow.specs.Portable.{holds_call, any_holds_call, holds_operation, block_holds, is_constant_list, may_carry, has_far_turns}
 use Rattle.rb_meaning_flow.specs.Sites.{Around, Branch, WhileTurn, Turn, InTry, InBatch, StmtSite, Over, site, expr_sites, exprs_sites, all_sites, own, turn_role, scope_after, stmt_site, sites, block_sites, exprs_of}
 use Rattle.rb_meaning_flow.specs.Refusals.{operand_condition, while_condition, frame_condition, any_try, is_try, StandsFirst, IsRefusal}
+use Rattle.rb_law_local.proofs.Uncut.{or_none}
 use Rattle.rb_law_types.proofs.SitesWithin.{Within, within_left, within_right, within_tail, site_first, stmt_first, own_among, first_among}
 
 or_cases : (a b : Truth) → (a || b) ≡ true → (a ≡ true) ⊎ (b ≡ true)
@@ -152,7 +153,7 @@ module _ (f : Facts) (ss : List StmtSite) (none : (r : Refusal) → IsRefusal f 
         | inl rows ↦ loop_refused around vs at name e a u w rows
         | inr call ↦ one_refused around vs (For at name e a) e [] refl u w call
       ]
-      | inr block ↦ block_refused (Turn at vs e ∷ around) (with_variable vs name (turn_role f e) at) a (bad_frame (Turn at vs e) around u) (within_tail _ _ _ w) block
+      | inr block ↦ block_refused (Turn at vs e a ∷ around) (with_variable vs name (turn_role f around vs e a) at) a (bad_frame (Turn at vs e a) around u) (within_tail _ _ _ w) block
     ]
     stmt_refused around vs (Try at a name b) u w h =
         let frame = InTry at vs a name b in
@@ -173,3 +174,21 @@ module _ (f : Facts) (ss : List StmtSite) (none : (r : Refusal) → IsRefusal f 
 
   pub no_operations : (around : List Around) (vs : Scope) (block : Stmts) → BadAround around → Within (block_sites f around vs block) ss → block_holds f block ≡ false
   no_operations around vs block u w = refuted (block_holds f block) (block_refused around vs block u w)
+
+  -- nor in a loop whose turns are the client's own
+  pub no_turns : (around : List Around) (inner : Scope) (vs : Scope) (at : ℕ) (e : Expr) (a : Stmts) → has_far_turns f vs e a ≡ false → Within (block_sites f (Turn at vs e a ∷ around) inner a) ss → block_holds f a ≡ false
+  no_turns around inner vs at e a own_turns w = by (is_constant_list vs e) refl parts.1
+    where
+      parts : (over_rows f e ≡ false) × (may_carry f vs e a ≡ false)
+      parts = or_none (over_rows f e) (may_carry f vs e a) own_turns
+
+      bad : is_constant_list vs e ≡ false → NonEmpty (flat_map (frame_condition f) (Turn at vs e a ∷ around))
+      bad changing = (
+        expr_at e,
+        subst (λ t. StandsFirst (expr_at e) (cond (t || is_constant_list vs e) [] (expr_at e ∷ []) ++ flat_map (frame_condition f) around)) (sym parts.0)
+            (subst (λ t. StandsFirst (expr_at e) (cond t [] (expr_at e ∷ []) ++ flat_map (frame_condition f) around)) (sym changing) refl),
+      )
+
+      by : (t : Truth) → is_constant_list vs e ≡ t → (t && block_holds f a) ≡ false → block_holds f a ≡ false
+      by true same may = may
+      by false same may = no_operations (Turn at vs e a ∷ around) inner a (inl (bad same)) w

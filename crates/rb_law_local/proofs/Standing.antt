@@ -1,6 +1,5 @@
 -- The statements of an admitted batch that stay with the client as a whole.
-use Rattle.std.proofs.Common.{◌≡◌, ◌⊎◌, inl, inr, refl, sym, ap, ◌∙◌, subst, ℕ, List, [], ◌∷◌, ◌++◌, Bool as Truth, true, false, ◌&&◌, ◌||◌, cond, Option, Some, is_some, Ok}
-use Rattle.std.specs.List.{flat_map}
+use Rattle.std.proofs.Common.{◌≡◌, ◌⊎◌, inl, inr, refl, sym, ap, ◌∙◌, subst, ℕ, List, [], ◌∷◌, Bool as Truth, true, false, ◌&&◌, ◌||◌, cond, Option, Some, is_some, Ok}
 use Rattle.rb_trees.specs.Outcome.{◌>>=◌, known}
 use Rattle.rb_trees.specs.declared.refusals.Refusal.TheVariants as refusal
 use Rattle.rb_trees.specs.mirror.Code.{Expr, Lit, Name, Call, expr_at, Stmt, Stmts, Val, Var, Assign, Run, Print, Throw, If, While, For, Try, Batch, NoStmts, MoreStmts}
@@ -16,9 +15,9 @@ use Rattle.rb_meaning_types.specs.Notes.{scope_or, type_at}
 use Rattle.rb_meaning_flow.specs.declared.scopes.Role.{Role}
 use Rattle.rb_meaning_flow.specs.Facts.{Facts, facts_of, is_object, is_rows, is_remote, over_rows}
 use Rattle.rb_meaning_flow.specs.Scopes.{Scope, with_variable, is_portable_role}
-use Rattle.rb_meaning_flow.specs.Portable.{portable, holds_call, holds_operation, block_holds, branches_hold}
+use Rattle.rb_meaning_flow.specs.Portable.{portable, holds_call, holds_operation, block_holds, branches_hold, may_carry, has_far_turns}
 use Rattle.rb_meaning_flow.specs.Sites.{Around, Branch, WhileTurn, Turn, InTry, StmtSite, is_script_place, site, expr_sites, all_sites, own, turn_role, val_role, scope_after, stmt_site, sites, block_sites, exprs_of}
-use Rattle.rb_meaning_flow.specs.Refusals.{StandsFirst, frame_condition, whole_may}
+use Rattle.rb_meaning_flow.specs.Refusals.{whole_may}
 use Rattle.rb_law_types.specs.Noted.{IsNotedExpr, IsNotedStmt, AreNotedStmts}
 use Rattle.rb_law_types.proofs.Checks.{bind_ok, known_ok}
 use Rattle.rb_law_types.proofs.Known.{Known, typed_known}
@@ -29,7 +28,7 @@ use Rattle.rb_law_local.specs.Shown.{is_far}
 use Rattle.rb_law_local.specs.Parted.{IsNear, Parted, HasNearItems, PartedStmt, PartedStmts}
 use Rattle.rb_law_local.specs.Admitted.{IsKnownKind, AreKnownKinds, Carries, IsAdmittedBatch, StaysWhole, AdmittedAreParted}
 use Rattle.rb_law_local.proofs.Uncut.{or_none}
-use Rattle.rb_law_local.proofs.Refused.{refuted, no_call, no_operations}
+use Rattle.rb_law_local.proofs.Refused.{refuted, no_call, no_operations, no_turns}
 use Rattle.rb_law_local.proofs.Origins.{own_near, item_own, known_added, IsOrigin, origin, kind_known}
 use Rattle.rb_law_local.proofs.Admitting.{carries_role, carries_added, IfName, if_name, far_type, near_site, quiet_parted, script_parted}
 
@@ -178,7 +177,7 @@ module _ (p : Program) (this : Option (List ℕ)) (remote : Truth) (known' : Kno
             near_items e ws kinds v,
             two.1,
             subst (λ i. PartedStmts f v x i a) (sym same)
-                (quiet_block a (Turn at vs e ∷ around) (with_variable vs name (turn_role f e) at) inner q.last (no_left (is_script_place f around) (over_rows f e) out) two.1 q.block_typed
+                (quiet_block a (Turn at vs e a ∷ around) (with_variable vs name (turn_role f around vs e a) at) inner q.last (no_left (is_script_place f around) (has_far_turns f vs e a) out) two.1 q.block_typed
                 (subst (λ i. AreNotedStmts types x i a) same n.1) (within_tail _ _ _ w) inner_kinds),
           )
       quiet_stmt (Try at a name b) around vs ws after out h t n w kinds =
@@ -294,18 +293,18 @@ module _ (p : Program) (this : Option (List ℕ)) (remote : Truth) (known' : Kno
       let inner = typed.with_variable ws name q.item true in
       let same : scope_or ws (placed x ws e >>= λ r. loop_scope ws at name r) ≡ inner = ap (scope_or ws) q.judged in
       let we = first_among f ss around vs (For at name e a) e [] refl w in
-      let is_list = list_only e q.list q.item ws q.typed n.0 whole q.over in
+      let no_rows = (or_none (over_rows f e) (may_carry f vs e a) whole).0 in
+      let is_list = list_only e q.list q.item ws q.typed n.0 no_rows q.over in
       let inner_kinds = known_added p.interfaces ws (record { name = name; kind = q.item; fixed = true }) kinds (item_known e q.list q.item ws kinds q.typed is_list) in
       let rest = within_tail _ _ _ w in
-      let turn_scope = with_variable vs name (turn_role f e) at in
-      let quiet = no_operations f ss admitted.none (Turn at vs e ∷ around) turn_scope a
-      (inl (expr_at e, subst (λ r. StandsFirst (expr_at e) (cond r [] (expr_at e ∷ []) ++ flat_map (frame_condition f) around)) (sym whole) refl)) rest in (
-        scripted around vs ws (For at name e a) e we n.0 (if_name f vs x ws e (near_own around vs ws (For at name e a) e we whole n.0 vs)),
-        whole,
+      let turn_scope = with_variable vs name (turn_role f around vs e a) at in
+      let quiet = no_turns f ss admitted.none around turn_scope vs at e a whole rest in (
+        scripted around vs ws (For at name e a) e we n.0 (if_name f vs x ws e (near_own around vs ws (For at name e a) e we no_rows n.0 vs)),
+        no_rows,
         near_items e ws kinds vs,
         quiet,
         subst (λ i. PartedStmts f vs x i a) (sym same)
-            (quiet_block vs a (Turn at vs e ∷ around) turn_scope inner q.last (no_right (is_script_place f around) (over_rows f e) whole) quiet q.block_typed (subst (λ i. AreNotedStmts types x i a) same n.1) rest inner_kinds),
+            (quiet_block vs a (Turn at vs e a ∷ around) turn_scope inner q.last (no_right (is_script_place f around) (has_far_turns f vs e a) whole) quiet q.block_typed (subst (λ i. AreNotedStmts types x i a) same n.1) rest inner_kinds),
       )
   script_stmt (Try at a name b) around vs ws after t n w kinds carries whole =
       let q = try_parts x ws at a name b after t in

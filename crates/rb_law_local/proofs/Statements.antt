@@ -41,7 +41,8 @@ use Rattle.rb_law_types.proofs.TypeFacts.{kind_here, rows_fact}
 use Rattle.rb_law_local.specs.Shown.{is_far, at_client, Fronts, LeftSeen}
 use Rattle.rb_law_local.specs.Wanted.{AllWanted}
 use Rattle.rb_law_local.specs.Parted.{PartedStmt, PartedStmts}
-use Rattle.rb_law_local.specs.Placed.{PlacedStmt, PlacedStmts, PlacedClasses}
+use Rattle.rb_law_local.specs.Placed.{PlacedStmt, PlacedStmts}
+use Rattle.rb_law_local.proofs.Near.{StandPlain}
 use Rattle.rb_law_local.specs.Meets.{Meets}
 use Rattle.rb_law_local.proofs.Names.{Extends, extends_same, seen_bound, fronts_same, fronts_less}
 use Rattle.rb_law_local.proofs.Meeting.{Ended, then_meets, seq_meets, gives_meet, falls_meet, told_otherwise}
@@ -72,7 +73,7 @@ module _ (x : Context) where
 
 module _ (p : Program) (service : Service) (g : Ground) (refs : Refs) (vars : Vars) (gas : ℕ) (Holds : Outside → Type 0) (Here : ℕ → Type 0) (this : Option (List ℕ)) (remote : Truth)
     (keeps : OfBatchCode (of_program p) (type_at p) (λ A P run. EndsHandled Holds (in_batch p service) A P run)) (declared : AreTyped (of_program p))
-    (near_this : (class : List ℕ) → this ≡ Some class → is_far (of_program p) (kind.Named class) ≡ false) (vs : Scope) (bodies_placed : PlacedClasses Here p.classes) where
+    (near_this : (class : List ℕ) → this ≡ Some class → is_far (of_program p) (kind.Named class) ≡ false) (vs : Scope) (bodies_placed : StandPlain p Here) where
   abbrev d : Declarations
   d = of_program p
 

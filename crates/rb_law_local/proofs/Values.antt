@@ -62,7 +62,8 @@ use Rattle.rb_law_types.proofs.TypeFacts.{kind_here, object_fact}
 use Rattle.rb_law_local.specs.Shown.{is_far, seen, at_client, SameNames, FellSame}
 use Rattle.rb_law_local.specs.Wanted.{Wanted, AllWanted}
 use Rattle.rb_law_local.specs.Parted.{Parted, AllParted}
-use Rattle.rb_law_local.specs.Placed.{PlacedExpr, PlacedExprs, PlacedClasses}
+use Rattle.rb_law_local.specs.Placed.{PlacedExpr, PlacedExprs}
+use Rattle.rb_law_local.proofs.Near.{StandPlain}
 use Rattle.rb_law_local.specs.Meets.{Rest, Met, Meets}
 use Rattle.rb_law_local.proofs.Names.{begins_fit, seen_value, seen_this}
 use Rattle.rb_law_local.proofs.Meeting.{Ended, then_meets, gives_meet, end_meets, after_check}
@@ -113,7 +114,7 @@ no_batches d class name m has may holds = let wrong = may holds.remote in absurd
 
 module _ (p : Program) (service : Service) (g : Ground) (refs : Refs) (vars : Vars) (gas : ℕ) (Holds : Outside → Type 0) (Here : ℕ → Type 0) (this : Option (List ℕ)) (remote : Truth)
     (keeps : OfBatchCode (of_program p) (type_at p) (λ A P run. EndsHandled Holds (in_batch p service) A P run)) (declared : AreTyped (of_program p))
-    (near_this : (class : List ℕ) → this ≡ Some class → is_far (of_program p) (kind.Named class) ≡ false) (vs : Scope) (placed : PlacedClasses Here p.classes) (ws : typed.Scope) where
+    (near_this : (class : List ℕ) → this ≡ Some class → is_far (of_program p) (kind.Named class) ≡ false) (vs : Scope) (placed : StandPlain p Here) (ws : typed.Scope) where
   abbrev d : Declarations
   d = of_program p
 

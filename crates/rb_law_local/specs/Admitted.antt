@@ -4,16 +4,16 @@ use Rattle.std.specs.List.{Contains}
 use Rattle.rb_trees.specs.declared.refusals.Refusal.{Refusal}
 use Rattle.rb_trees.specs.mirror.Code.{Expr, Stmts, Stmt, Val, Run, If, For}
 use Rattle.rb_trees.specs.mirror.Declarations.{Program, Interface}
-use Rattle.rb_meaning_types.specs.Kinds.{Kind, Named, RowsOf}
+use Rattle.rb_meaning_types.specs.Kinds.{Kind, Named, ListOf, RowsOf}
 use Rattle.rb_meaning_types.specs.Declared.{Declarations, of_program, is_interface}
 use Rattle.rb_meaning_types.specs.Scopes as typed
 use Rattle.rb_meaning_types.specs.Expressions.{type_of}
 use Rattle.rb_meaning_types.specs.Statements.{check_stmt}
 use Rattle.rb_meaning_types.specs.Notes.{type_at}
 use Rattle.rb_meaning_flow.specs.declared.scopes.Role.{Role}
-use Rattle.rb_meaning_flow.specs.Facts.{Facts, facts_of, over_rows}
+use Rattle.rb_meaning_flow.specs.Facts.{Facts, facts_of}
 use Rattle.rb_meaning_flow.specs.Scopes.{Scope, is_portable_role, with_variable, opened}
-use Rattle.rb_meaning_flow.specs.Portable.{portable, branches_hold}
+use Rattle.rb_meaning_flow.specs.Portable.{portable, branches_hold, has_far_turns}
 use Rattle.rb_meaning_flow.specs.Marks.{is_portable_call}
 use Rattle.rb_meaning_flow.specs.Sites.{Around, is_script_place, StmtSite, ExprSite, scope_after, sites, exprs_of}
 use Rattle.rb_meaning_flow.specs.Flow.{is_call}
@@ -55,7 +55,7 @@ abbrev pub StaysWhole : Facts → Scope → Stmt → Type 0
 StaysWhole f vs (Val at name e) = portable f vs e ≡ false
 StaysWhole f vs (Run at e) = is_portable_call f vs e ≡ false
 StaysWhole f vs (If at c a b) = branches_hold f a b ≡ false
-StaysWhole f vs (For at name e a) = over_rows f e ≡ false
+StaysWhole f vs (For at name e a) = has_far_turns f vs e a ≡ false
 StaysWhole f vs _ = Unit {0}
 
 -- A statement at a script place of a batch, with what is known of the scopes there.
@@ -95,10 +95,11 @@ BatchesBeginKnown = (d : Declarations) (outer : Scope) (ws : typed.Scope) → Ar
     → (at : ℕ) (root interface : List ℕ) (block : Stmts) → is_interface d interface ≡ true
     → AreKnownScopes d (opened outer at root block) (typed.with_variable ws root (Named interface) true)
 
--- And it is known where a turn over rows begins.
+-- And it is known where a turn over rows begins, or over the items of a constant list.
 abbrev pub TurnsBeginKnown : Type 0
-TurnsBeginKnown = (d : Declarations) (vs : Scope) (ws : typed.Scope) → AreKnownScopes d vs ws → (at : ℕ) (name : List ℕ) (row : Kind) → IsKnownKind d.interfaces (RowsOf row)
-    → AreKnownScopes d (with_variable vs name Role.Row at) (typed.with_variable ws name row true)
+TurnsBeginKnown = (d : Declarations) (vs : Scope) (ws : typed.Scope) → AreKnownScopes d vs ws → (at : ℕ) (name : List ℕ) (list item : Kind)
+    → (list ≡ ListOf item) ⊎ (list ≡ RowsOf item) → IsKnownKind d.interfaces list
+    → AreKnownScopes d (with_variable vs name Role.Row at) (typed.with_variable ws name item true)
 
 -- What loops go over is of a known type.
 abbrev pub TypesAreKnown : Type 0

@@ -20,6 +20,7 @@ use Rattle.rb_meaning_flow.specs.Facts.{Facts, facts_of}
 use Rattle.rb_meaning_flow.specs.Scopes.{Scope}
 use Rattle.rb_meaning_flow.specs.Portable.{block_holds}
 use Rattle.rb_meaning_flow.specs.Marks.{is_portable_call}
+use Rattle.rb_meaning_flow.specs.Programs.{is_carried_at}
 use Rattle.rb_meaning.specs.State.{Outside}
 use Rattle.rb_meaning.specs.Unsplit.{in_batch, stands_remote}
 use Rattle.rb_meaning.specs.RemoteExprs.{remote_in, all_remote_in, remote_of}
@@ -43,10 +44,14 @@ HoldsTable service s = TableFits service.classes service.root s.server.table
 abbrev pub IsLocalAt : Program → ℕ → Type 0
 IsLocalAt p at = stands_remote p at ≡ false
 
+-- such a position that isn't that of a carried loop either
+abbrev pub IsPlainAt : Program → ℕ → Type 0
+IsPlainAt p at = IsLocalAt p at × (is_carried_at p at ≡ false)
+
 -- A typed program, in whose methods nothing is remote, on a service whose answers fit as long as its table does.
 pub record FitsService (p : Program) (service : Service) : Type 0 where
   pub declared : AreTyped (of_program p)
-  pub placed : PlacedClasses (IsLocalAt p) p.classes
+  pub placed : PlacedClasses (IsPlainAt p) p.classes
   pub handler : HandlerFits (of_program p) (InBatch (type_at p)) (HoldsTable service) (in_batch p service)
 
 -- Where a batch's code stands, what the script knows there, and how much gas code has.
@@ -80,31 +85,31 @@ module _ (p : Program) (service : Service) (at : Stand) where
   taken e = is_portable_call f at.scope e
 
   -- Local code that stands there, of an admitted batch: it is typed, its remote expressions stand as they should, and what else
-  -- may fault stands at positions of local code.
+  -- may fault stands at positions of local code, no carried loop among them.
 
   pub record IsLocalExpr (e : Expr) (k : Kind) : Type 0 where
     pub typed : HasKind (of_program p) at.place e k
     pub noted : IsBatchExpr (type_at p) x ws e
     pub parted : Parted f at.scope x ws e
-    pub placed : PlacedExpr (IsLocalAt p) taken e
+    pub placed : PlacedExpr (IsPlainAt p) taken e
 
   pub record AreLocalExprs (es : Exprs) (ks : List Placed) : Type 0 where
     pub typed : HaveKinds (of_program p) at.place es ks
     pub noted : AreBatchExprs (type_at p) x ws es
     pub parted : AllParted f at.scope x ws es
-    pub placed : PlacedExprs (IsLocalAt p) taken es
+    pub placed : PlacedExprs (IsPlainAt p) taken es
 
   pub record IsLocalStmt (s : Stmt) (after : typed.Scope) : Type 0 where
     pub typed : LeadsTo (of_program p) at.place s after
     pub noted : IsBatchStmt (type_at p) x ws s
     pub parted : PartedStmt f at.scope x ws s
-    pub placed : PlacedStmt (IsLocalAt p) taken s
+    pub placed : PlacedStmt (IsPlainAt p) taken s
 
   pub record AreLocalStmts (ss : Stmts) (after : typed.Scope) : Type 0 where
     pub typed : LeadTo (of_program p) at.place ss after
     pub noted : AreBatchStmts (type_at p) x ws ss
     pub parted : PartedStmts f at.scope x ws ss
-    pub placed : PlacedStmts (IsLocalAt p) taken ss
+    pub placed : PlacedStmts (IsPlainAt p) taken ss
 
   -- A local state that fits there.
   abbrev pub FitsHere : Local → Type 0

@@ -20,14 +20,14 @@ pub fn remote_expressions_stand_as_they_should()
     ensures { AdmittedAreParted }
 {}
 
-/// What that asks of the scopes is so where a batch begins, and where a turn over rows does.
+/// What that asks of the scopes is so where a batch begins, and where a turn over rows or over a constant list does.
 pub fn scopes_of_batches_are_known()
     ensures batches { BatchesBeginKnown }
     ensures turns { TurnsBeginKnown }
     ensures types { TypesAreKnown }
 {}
 
-/// What isn't taken of such a statement stands at positions that aren't those of remote expressions.
+/// What isn't taken of such a statement stands at positions that aren't those of remote expressions, nor of carried loops.
 pub fn local_code_is_not_marked_remote()
     ensures { AdmittedArePlaced }
 {}

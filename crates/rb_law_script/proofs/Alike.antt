@@ -6,14 +6,14 @@ use Rattle.rb_trees.specs.declared.values.Value.{Value}
 use Rattle.rb_trees.specs.declared.values.Value.TheVariants as value
 use Rattle.rb_trees.specs.declared.values.Value.TheViews.{out-Value}
 use Rattle.rb_trees.specs.declared.values.Fault.{Fault}
-use Rattle.rb_trees.specs.mirror.Forests.{Entry, Node}
+use Rattle.rb_trees.specs.mirror.Forests.{Entry}
 use Rattle.rb_trees.specs.mirror.Forests as forest
 use Rattle.rb_trees.specs.mirror.Services.{Service}
 use Rattle.rb_meaning_types.specs.Fits.{TableFits}
 use Rattle.rb_meaning_code.specs.Faults.{fuel_used, kind}
 use Rattle.rb_meaning_code.specs.Calls.{unit_due}
 use Rattle.rb_meaning_code.specs.Remote.{Server, Reply, Got, Stopped, and_then, replies}
-use Rattle.rb_meaning_code.specs.ScriptRun.{PlacedFault, Ran, stopped, halted, with_entry, on_reply, is_primitive, may_keep, kept, with_kept, goes_on, chosen, branched, Why, AllDone, InTurn, NoUnit, Turned, with_unit, turned_on, turn_over, after_turns, walked}
+use Rattle.rb_meaning_code.specs.ScriptRun.{PlacedFault, Ran, with_entry, on_reply, is_primitive, kept, with_kept, goes_on, chosen, branched, Why, AllDone, InTurn, NoUnit, Turned, with_unit, turned_on, turn_over, after_turns, walked}
 use Rattle.rb_meaning_code.specs.ScriptRun as run
 use Rattle.rb_meaning.specs.RemoteAnswers.{unit_of}
 use Rattle.rb_meaning.specs.RemotePart.{Walked}
@@ -139,7 +139,7 @@ module _ (service : Service) where
   after_alike id at (Stopped place f s) nodes (InTurn f') server k kr e e1 t more = record { fault = e; server = e1; table = t }
   after_alike id at (Stopped place f s) nodes NoUnit server k kr e e1 t more = record { fault = e; server = e1; table = t }
 
-  -- the turns over rows, and what follows them
+  -- the turns over rows or items, and what follows them
   pub turns_alike : (P : Value → Type 0) (id at : ℕ) (turn : Value → Server → Walked) (run_turn : Value → Server → Ran) → ((row : Value) (s : Server) → P row → Table s → Alike (turn row s) (run_turn row s)) → (rows : List Value) (s : Server) (k : Server → Walked) (kr : Server → Ran) → All P rows → Table s
       → ((s1 : Server) → Table s1 → Alike (k s1) (kr s1)) → Alike (and_then (part.turns at turn rows s) (λ u s1. k s1)) (walked id at (run.turns run_turn rows s) kr)
   turns_alike P id at turn run_turn each rows s k kr h t more =

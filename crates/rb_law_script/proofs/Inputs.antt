@@ -1,5 +1,5 @@
 -- What a script begins with: its root, and its inputs with their values.
-use Rattle.std.proofs.Common.{◌≡◌, ◌<◌, inl, inr, refl, sym, ap, ◌∙◌, subst, arith, ℕ, suc, ◌+◌, List, [], ◌∷◌, ◌++◌, Bool, true, false, cond, Option, Some, None, slice_get}
+use Rattle.std.proofs.Common.{◌≡◌, ◌<◌, inl, inr, refl, sym, ap, ◌∙◌, subst, arith, ℕ, suc, ◌+◌, List, [], ◌∷◌, ◌++◌, Bool, true, false, cond, Some, None, slice_get}
 use Rattle.std.specs.Str.{bytes_eq}
 use Rattle.std.specs.List.{Contains}
 use Rattle.rb_trees.specs.Named.{lookup}
@@ -14,7 +14,7 @@ use Rattle.rb_meaning_split.specs.Division.{numbered, first_refs}
 use Rattle.rb_meaning_split.specs.Client.{value_or_unit, input_values}
 use Rattle.rb_flow.proofs.Members.{none_contained, first_contained, more_contained, contained_cases}
 use Rattle.rb_law_script.proofs.Lookups.{same_bytes, bytes_same, first_or, lookup_more, lookup_old, lookup_new}
-use Rattle.rb_law_script.proofs.Linked.{ref_value, IsRead, Linked, Fresh, IsFound}
+use Rattle.rb_law_script.proofs.Linked.{ref_value, IsRead, Linked, Fresh, IsInputRef}
 
 apart_names : (a b : List ℕ) → bytes_eq a b ≡ false → bytes_eq b a ≡ false
 apart_names a b h = by (bytes_eq b a) refl
@@ -24,21 +24,21 @@ apart_names a b h = by (bytes_eq b a) refl
     by false e = refl
 
 -- each name that is used is one of an input
-pub input_found : (n : ℕ) (before xs : List (List ℕ)) (y : List ℕ) → Contains xs y → is_new y before ≡ true → IsFound (lookup (numbered n (first_uses before xs)) y)
+pub input_found : (n : ℕ) (before xs : List (List ℕ)) (y : List ℕ) → Contains xs y → is_new y before ≡ true → IsInputRef (lookup (numbered n (first_uses before xs)) y)
 input_found n before [] y c new = absurd (none_contained y c)
 input_found n before (x ∷ xs) y c new = by (is_new x before) refl (λ more other. input_found (suc n) (x ∷ before) xs y more other) (λ more. input_found n before xs y more new)
   where
-    hit : (t : Bool) → bytes_eq x y ≡ t → (Contains xs y → is_new y (x ∷ before) ≡ true → IsFound (lookup (numbered (suc n) (first_uses (x ∷ before) xs)) y))
-        → IsFound (first_or t (Input n) (lookup (numbered (suc n) (first_uses (x ∷ before) xs)) y))
+    hit : (t : Bool) → bytes_eq x y ≡ t → (Contains xs y → is_new y (x ∷ before) ≡ true → IsInputRef (lookup (numbered (suc n) (first_uses (x ∷ before) xs)) y))
+        → IsInputRef (first_or t (Input n) (lookup (numbered (suc n) (first_uses (x ∷ before) xs)) y))
     hit true e rest = tt
     hit false e rest = elim (contained_cases x xs y c) [
       | inl same ↦ absurd (cc (e, bytes_same x y same))
       | inr more ↦ rest more (ap (λ t. cond t false (is_new y before)) e ∙ new)
     ]
 
-    by : (t : Bool) → is_new x before ≡ t → (Contains xs y → is_new y (x ∷ before) ≡ true → IsFound (lookup (numbered (suc n) (first_uses (x ∷ before) xs)) y)) → (Contains xs y → IsFound (lookup (numbered n (first_uses before xs)) y))
-        → IsFound (lookup (numbered n (cond t (x ∷ first_uses (x ∷ before) xs) (first_uses before xs))) y)
-    by true e rest others = subst IsFound (sym (lookup_more x (Input n) (numbered (suc n) (first_uses (x ∷ before) xs)) y)) (hit (bytes_eq x y) refl rest)
+    by : (t : Bool) → is_new x before ≡ t → (Contains xs y → is_new y (x ∷ before) ≡ true → IsInputRef (lookup (numbered (suc n) (first_uses (x ∷ before) xs)) y)) → (Contains xs y → IsInputRef (lookup (numbered n (first_uses before xs)) y))
+        → IsInputRef (lookup (numbered n (cond t (x ∷ first_uses (x ∷ before) xs) (first_uses before xs))) y)
+    by true e rest others = subst IsInputRef (sym (lookup_more x (Input n) (numbered (suc n) (first_uses (x ∷ before) xs)) y)) (hit (bytes_eq x y) refl rest)
     by false e rest others = elim (contained_cases x xs y c) [
       | inl same ↦ absurd (cc (e, new, same))
       | inr more ↦ others more
@@ -97,16 +97,12 @@ fresh_first root xs y number h = by (bytes_eq root y) (sym (lookup_more root Roo
 
 -- the script's variables at its start
 pub linked_first : (g : Ground) (root : List ℕ) (xs : List (List ℕ)) (names : Names) → g.inputs ≡ input_values xs names → (bytes_eq this_name root ≡ false → lookup names root ≡ None)
-    → ((y : List ℕ) → bytes_eq this_name y ≡ false → Contains xs y → (v : Value) × (lookup (names ++ (root, value.Remote g.root) ∷ []) y ≡ Some v))
+    → ((y : List ℕ) → bytes_eq this_name y ≡ false → Contains xs y → (v : Value) × (lookup names y ≡ Some v))
     → Linked g (first_refs root xs) [] (names ++ (root, value.Remote g.root) ∷ [])
 linked_first g root xs names inputs free each y plain r h = by (bytes_eq root y) refl (sym (lookup_more root Root (numbered 0 xs) y) ∙ h)
   where
     bound : Names
     bound = names ++ (root, value.Remote g.root) ∷ []
-
-    there : bytes_eq root y ≡ false → (v : Value) → lookup bound y ≡ Some v → (o : Option Value) → lookup names y ≡ o → Some (value_or_unit o) ≡ Some v
-    there apart v e (Some u) is = sym (lookup_old names y root (value.Remote g.root) u is) ∙ e
-    there apart v e None is = absurd (cc (e, lookup_new names y root (value.Remote g.root) is, ap (λ t. first_or t (value.Remote g.root) None) apart))
 
     by : (t : Bool) → bytes_eq root y ≡ t → first_or t Root (lookup (numbered 0 xs) y) ≡ Some r → IsRead g [] bound y r
     by true e k =
@@ -123,6 +119,6 @@ linked_first g root xs names inputs free each y plain r h = by (bytes_eq root y)
         let found = each y plain it.among in
         record {
           value = found.0;
-          reads = subst (λ q. ref_value g [] q ≡ Some found.0) (sym it.is) (it.value ∙ there e found.0 found.1 (lookup names y) refl);
-          holds = found.1;
+          reads = subst (λ q. ref_value g [] q ≡ Some found.0) (sym it.is) (it.value ∙ ap (λ o. Some (value_or_unit o)) found.1);
+          holds = lookup_old names y root (value.Remote g.root) found.0 found.1;
         }

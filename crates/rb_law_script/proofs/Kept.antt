@@ -191,6 +191,6 @@ module _ (given : RemoteCallsGiveFar) (p : Program) (declared : AreTyped (of_pro
         plain_sent (While at c a) c kind.Bool (first_among f ss around vs (While at c a) c [] refl w) q.typed n.0 g.0 refl refl
     kept_sent opens after (For at name e a) t n g w kept =
         let q = for_parts x ws at name e a after t in
-        plain_sent (For at name e a) e q.list (first_among f ss around vs (For at name e a) e [] refl w) q.typed n.0 g.0 kept (over_no_unit q.list q.item q.over)
+        plain_sent (For at name e a) e q.list (first_among f ss around vs (For at name e a) e [] refl w) q.typed n.0 g.0 kept.0 (over_no_unit q.list q.item q.over)
     kept_sent opens after (Try at a name b) t n g w kept = tt
     kept_sent opens after (Batch at interface root a) t n g w kept = tt

@@ -11,7 +11,7 @@ use Rattle.rb_trees.specs.mirror.Scripts as script
 use Rattle.rb_trees.specs.mirror.Scripts.{Steps, MoreSteps}
 use Rattle.rb_meaning_code.specs.Remote.{Server, Reply, Got, Stopped, and_then}
 use Rattle.rb_meaning_code.specs.ScriptRun as run
-use Rattle.rb_meaning_code.specs.ScriptRun.{Ground, Vars, PlacedFault, Ran, in_front, with_entry, on_reply, kept, with_kept, condition, rows_of, goes_on, branched, chosen, Why, AllDone, InTurn, NoUnit, after_turns, turn_over, walked, run_steps}
+use Rattle.rb_meaning_code.specs.ScriptRun.{Ground, Vars, PlacedFault, Ran, in_front, with_entry, on_reply, kept, with_kept, condition, rows_of, goes_on, branched, chosen, Why, AllDone, InTurn, NoUnit, Turned, after_turns, turn_over, walked, run_steps}
 use Rattle.rb_meaning_flow.specs.declared.forms.PlacedForm.{PlacedForm}
 use Rattle.rb_meaning_flow.specs.declared.scopes.Role.{Role}
 use Rattle.rb_meaning_flow.specs.Facts.{Facts, facts_of}
@@ -19,10 +19,10 @@ use Rattle.rb_meaning_flow.specs.Scopes.{Scope, with_variable}
 use Rattle.rb_meaning_flow.specs.Forms.{placed_form}
 use Rattle.rb_meaning_flow.specs.Sites.{scope_after}
 use Rattle.rb_meaning.specs.RemoteExprs.{remote_of}
-use Rattle.rb_meaning_split.specs.Refs.{Refs, with_var, sexpr}
+use Rattle.rb_meaning_split.specs.Refs.{Refs, with_var, list_number, sexpr}
 use Rattle.rb_meaning_split.specs.Cuts.{counted}
 use Rattle.rb_meaning_split.specs.Numbers.{step_after_as, step_after, steps_after, var_after, vars_after}
-use Rattle.rb_meaning_split.specs.Steps.{refs_after, keeps_val, keeps, steps_as, steps, block_steps}
+use Rattle.rb_meaning_split.specs.Steps.{refs_after, keeps_val, keeps, steps_as, block_steps}
 use Rattle.rb_meaning_split.specs.Replay.{fault_at}
 use Rattle.rb_law_script.proofs.Numbers.{le_same, le_suc, le_trans, suc_le}
 
@@ -38,6 +38,9 @@ module _ (f : Facts) where
         let first = steps_after f vs a (suc n) in
         le_trans n first (steps_after f vs b first) (suc_le n first (grows_block vs a (suc n))) (grows_block vs b first)
     grows_as PlacedForm.RowsLoop vs (For at name e a) n =
+        let inner = with_variable vs name Role.Row at in
+        suc_le n (steps_after f inner a (suc n)) (grows_block inner a (suc n))
+    grows_as PlacedForm.CarriedLoop vs (For at name e a) n =
         let inner = with_variable vs name Role.Row at in
         suc_le n (steps_after f inner a (suc n)) (grows_block inner a (suc n))
     grows_as form vs s n = counts (remote_of f vs s) n
@@ -99,6 +102,9 @@ later_turns n m at AllDone s k h l = later_up n m (fault_in (k s).node) h (l s)
 later_turns n m at (InTurn f) s k h l = tt
 later_turns n m at NoUnit s k h l = le_same n
 
+pub later_walked : (n m at : ℕ) (t : Turned) (k : Server → Ran) → n ≤ m → ((s : Server) → IsLater m (k s)) → IsLater n (walked n at t k)
+later_walked n m at t k h l = later_entry n (forest.Rows t.nodes) (after_turns n at t.why t.server k) (later_turns n m at t.why t.server k h l)
+
 module _ (p : Program) (g : Ground) where
   abbrev f : Facts
   f = facts_of p
@@ -130,8 +136,13 @@ module _ (p : Program) (g : Ground) where
   later_each n k at m keep e a rest kr h l vars s =
       later_reply n n (and_then (run.value_of g at vars e s) (rows_of at))
       (λ rows s1. walked n at (run.turns (λ row s2. turn_over n at keep (λ s3. run_steps g a ((m, row) ∷ vars) s3 run.ended) row s2) rows s1) (λ s2. run_steps g rest vars s2 kr)) (le_same n)
-      (λ rows s1. let t = run.turns (λ row s2. turn_over n at keep (λ s3. run_steps g a ((m, row) ∷ vars) s3 run.ended) row s2) rows s1 in
-      later_entry n (forest.Rows t.nodes) (after_turns n at t.why t.server (λ s2. run_steps g rest vars s2 kr)) (later_turns n k at t.why t.server (λ s2. run_steps g rest vars s2 kr) h (λ s2. l vars s2)))
+      (λ rows s1. later_walked n k at (run.turns (λ row s2. turn_over n at keep (λ s3. run_steps g a ((m, row) ∷ vars) s3 run.ended) row s2) rows s1) (λ s2. run_steps g rest vars s2 kr) h (λ s2. l vars s2))
+
+  later_over : (n k at m input : ℕ) (a rest : Steps) (kr : Vars → Server → Ran) → n ≤ k → AllLater k (runs rest kr) → AllLater n (runs (MoreSteps (script.Over n at m input a) rest) kr)
+  later_over n k at m input a rest kr h l vars s =
+      later_reply n n (run.items_of g at input s)
+      (λ items s1. walked n at (run.turns (λ item s2. turn_over n at false (λ s3. run_steps g a ((m, item) ∷ vars) s3 run.ended) item s2) items s1) (λ s2. run_steps g rest vars s2 kr)) (le_same n)
+      (λ items s1. later_walked n k at (run.turns (λ item s2. turn_over n at false (λ s3. run_steps g a ((m, item) ∷ vars) s3 run.ended) item s2) items s1) (λ s2. run_steps g rest vars s2 kr) h (λ s2. l vars s2))
 
   -- the steps of a statement, by its form, before those that follow
   later_as : (form : PlacedForm) (refs : Refs) (vs : Scope) (s : Stmt) (n m : ℕ) (rest : Steps) (kr : Vars → Server → Ran) → AllLater (step_after_as f form vs s n) (runs rest kr) → AllLater n (runs (steps_as p form refs vs n m s rest) kr)
@@ -143,6 +154,9 @@ module _ (p : Program) (g : Ground) where
   later_as PlacedForm.RowsLoop refs vs (For at name e a) n m rest kr l =
       let inner = with_variable vs name Role.Row at in
       later_each n (steps_after f inner a (suc n)) at m (f.items (expr_at e)) (sexpr p refs e) (block_steps p (with_var refs name m) inner (suc n) (suc m) a) rest kr (grows_as f PlacedForm.RowsLoop vs (For at name e a) n) l
+  later_as PlacedForm.CarriedLoop refs vs (For at name e a) n m rest kr l =
+      let inner = with_variable vs name Role.Row at in
+      later_over n (steps_after f inner a (suc n)) at m (list_number refs e) (block_steps p (with_var refs name m) inner (suc n) (suc m) a) rest kr (grows_as f PlacedForm.CarriedLoop vs (For at name e a) n) l
   later_as form refs vs s n m rest kr l = later_keeps refs (remote_of f vs s) n rest kr l
 
   -- the steps of a block, and what follows it

@@ -1,6 +1,9 @@
 -- The script of a batch performs just the batch's whole remote part.
-use Rattle.std.proofs.Common.{◌≡◌, refl, sym, ap, ◌∙◌, subst, ℕ, List, [], true, Some, Ok}
+use Rattle.std.proofs.Common.{◌≡◌, refl, sym, ap, ◌∙◌, subst, ℕ, List, [], Bool as Truth, true, false, Some, Ok}
+use Rattle.std.specs.Str.{bytes_eq}
 use Rattle.std.specs.List.{Contains}
+use Rattle.rb_trees.specs.Named.{lookup}
+use Rattle.rb_trees.specs.declared.values.Value.{Value}
 use Rattle.rb_trees.specs.declared.values.Value.TheVariants as value
 use Rattle.rb_trees.specs.declared.values.Value.TheViews.{out-Value}
 use Rattle.rb_trees.specs.declared.services.Object.{Object}
@@ -15,14 +18,14 @@ use Rattle.rb_meaning_types.specs.Statements.{check_stmt}
 use Rattle.rb_meaning_types.specs.Notes.{scope_or, type_at}
 use Rattle.rb_meaning_types.specs.Lawful.{IsLawful}
 use Rattle.rb_meaning_types.specs.Fits.{classes_of, IsRemoteValue}
-use Rattle.rb_meaning_code.specs.State.{Local, bound}
+use Rattle.rb_meaning_code.specs.State.{Local, this_name, bound}
 use Rattle.rb_meaning_code.specs.Remote.{Server, batch_fuel}
 use Rattle.rb_meaning_code.specs.ScriptRun as run
 use Rattle.rb_meaning_code.specs.ScriptRun.{Ground}
 use Rattle.rb_meaning_flow.specs.declared.scopes.Role.{Role}
 use Rattle.rb_meaning_flow.specs.Facts.{Facts, facts_of}
 use Rattle.rb_meaning_flow.specs.Scopes as flow
-use Rattle.rb_meaning_flow.specs.Scopes.{Scope, is_constant_role, is_portable_role, assigned_in, opened}
+use Rattle.rb_meaning_flow.specs.Scopes.{Scope, assigned_in, opened}
 use Rattle.rb_meaning_flow.specs.Outermost.{Outermost, batch_sites, program_batches}
 use Rattle.rb_meaning.specs.RemotePart as part
 use Rattle.rb_meaning.specs.Unsplit.{batch_at}
@@ -43,7 +46,7 @@ use Rattle.rb_law_types.proofs.Stmts.{binds}
 use Rattle.rb_law_types.proofs.Parts.{batch_parts}
 use Rattle.rb_law_unsplit.specs.Noted.{LawfulAreNoted}
 use Rattle.rb_law_unsplit.specs.Batches.{program_sites}
-use Rattle.rb_law_unsplit.proofs.Agreed.{Agree, agree_added, agree_with}
+use Rattle.rb_law_unsplit.proofs.Agreed.{is_read_role, Agree, agree_added, agree_with}
 use Rattle.rb_law_unsplit.proofs.Found.{batch_found}
 use Rattle.rb_law_unsplit.proofs.Standing.{block_lawful}
 use Rattle.rb_law_unsplit.proofs.Programs.{IsTypedProgram, program_typed, batches_in}
@@ -51,21 +54,24 @@ use Rattle.rb_law_unsplit.proofs.Carried.{Carry, carry_begins}
 use Rattle.rb_law_unsplit.proofs.Walking.{Laws}
 use Rattle.rb_law_unsplit.proofs.Whole.{remote_named}
 use Rattle.rb_law_script.specs.Remote.{PerformsRemotePart, ScriptsPerformRemoteParts}
-use Rattle.rb_law_script.proofs.Covered.{block_constant}
+use Rattle.rb_law_script.proofs.Lookups.{same_bytes}
+use Rattle.rb_law_script.proofs.Covered.{is_taken_role, IsTakenIn, block_taken}
 use Rattle.rb_law_script.proofs.Inputs.{input_used, fresh_first, linked_first}
-use Rattle.rb_law_script.proofs.Outer.{program_begins, covered_first}
+use Rattle.rb_law_script.proofs.Outer.{program_begins, covered_first, taken_outside, lists_first}
 use Rattle.rb_law_script.proofs.Kept.{OpenScope, open_fixed}
 use Rattle.rb_law_script.proofs.Sited.{program_sited}
 use Rattle.rb_law_script.proofs.Carrying.{carry_free, carry_has}
 use Rattle.rb_law_script.proofs.Joined.{Joined}
 use Rattle.rb_law_script.proofs.Walk.{block_alike}
 
-constant_portable : (r : Role) → is_constant_role r ≡ true → is_portable_role r ≡ true
-constant_portable Role.Constant h = refl
-constant_portable Role.Root h = refl
-constant_portable Role.Row h = refl
-constant_portable Role.Carried h = refl
-constant_portable Role.Plain h = absurd (cc (h))
+-- what a batch takes along is read by the walk
+taken_read : (r : Role) → is_taken_role r ≡ true → is_read_role r ≡ true
+taken_read Role.Constant h = refl
+taken_read Role.ConstantList h = refl
+taken_read Role.Root h = refl
+taken_read Role.Row h = refl
+taken_read Role.Carried h = refl
+taken_read Role.Plain h = absurd (cc (h))
 
 module _ (laws : Laws) (stmts_formed : LawfulStmtsAreFormed) (classes_formed : LawfulClassesAreFormed) (sends : AdmittedSendPortable) (notes : LawfulAreNoted)
     (p : Program) (lawful : IsLawful p) (t : IsTypedProgram p) (none : HasNoRefusal p) (service : Service) (table : List Object) (served : IsTyped service table) where
@@ -121,24 +127,41 @@ module _ (laws : Laws) (stmts_formed : LawfulStmtsAreFormed) (classes_formed : L
     agreed =
         let parts = batch_parts x place.scope at interface o.root o.block after typed_here in
         agree_with is (assigned_in o.block) (flow.with_variable o.outer o.root Role.Root o.at) scope
-        (agree_added is o.outer place.scope o.root Role.Root o.at (kind.Named interface) true agree (λ r. parts.declared_as))
+        (agree_added is o.outer place.scope o.root Role.Root o.at (kind.Named interface) true agree (λ r. parts.declared_as, λ r. absurd (cc (r))))
 
     pub carry : Carry is begun scope start.names
     carry = carry_begins is (classes_of start.heap) place.this begun scope start.names agreed start_fits.holds.names_fit start_fits.count
+
+    -- what the batch takes along has a value outside of it, and isn't the root
+    outside : Carry is o.outer place.scope l.names
+    outside = carry_begins is (classes_of l.heap) place.this o.outer place.scope l.names agree fits.holds.names_fit fits.count
+
+    has : (y : List ℕ) → bytes_eq this_name y ≡ false → IsTakenIn o.outer y → (v : Value) × (lookup l.names y ≡ Some v)
+    has y plain taken = carry_has is o.outer place.scope l.names y outside plain (taken_read (flow.role_of o.outer y) taken)
+
+    apart : (y : List ℕ) → bytes_eq this_name y ≡ false → IsTakenIn o.outer y → bytes_eq o.root y ≡ false
+    apart y plain taken = by (bytes_eq o.root y) refl
+      where
+        by : (t : Truth) → bytes_eq o.root y ≡ t → t ≡ false
+        by false e = refl
+        by true e =
+            let parts = batch_parts x place.scope at interface o.root o.block after typed_here in
+            let found = has y plain taken in
+            absurd (cc (found.1, carry_free is o.outer place.scope l.names y outside plain (subst (λ z. typed.is_free place.scope z ≡ true) (same_bytes o.root y e) parts.free)))
 
     -- where the walk and the script begin
     pub joined_first : Joined is ground_of names (first_refs o.root inputs) 0 begun scope start.names []
     joined_first =
         let parts = batch_parts x place.scope at interface o.root o.block after typed_here in
-        let outside : Carry is o.outer place.scope l.names = carry_begins is (classes_of l.heap) place.this o.outer place.scope l.names agree fits.holds.names_fit fits.count in
         record {
           agree = agreed;
           opens = open_fixed place.scope o.root (kind.Named interface) opens;
           carry = carry;
           linked = linked_first ground_of o.root inputs l.names refl (λ plain. carry_free is o.outer place.scope l.names o.root outside plain parts.free)
-              (λ y plain i. carry_has is begun scope start.names y carry plain (constant_portable (flow.role_of begun y) (block_constant f begun o.block y (input_used [] names y i))));
+              (λ y plain i. has y plain (taken_outside (assigned_in o.block) o.outer o.root y o.at (block_taken f begun o.block y (input_used [] names y i))));
           fresh = fresh_first o.root inputs;
           covered = covered_first (assigned_in o.block) names o.outer o.root o.at (program_begins f p o among);
+          lists = lists_first (assigned_in o.block) names o.outer o.root o.at apart;
         }
 
     pub performs : PerformsRemotePart p service o l table

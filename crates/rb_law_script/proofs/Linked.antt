@@ -8,7 +8,7 @@ use Rattle.rb_trees.specs.declared.values.Value.TheVariants as value
 use Rattle.rb_trees.specs.mirror.Code.{Expr, Exprs, Lit, Name, This, Unary, Binary, Field, Call, Index, New, Items, Taken, NoExprs, MoreExprs}
 use Rattle.rb_meaning_code.specs.State.{Names, this_name}
 use Rattle.rb_meaning_code.specs.ScriptRun.{Ground, Vars, latest}
-use Rattle.rb_meaning_split.specs.Refs.{Ref, Root, Input, Var, Refs, with_var}
+use Rattle.rb_meaning_split.specs.Refs.{Ref, Root, Input, Var, Refs, with_var, input_number}
 use Rattle.rb_law_script.proofs.Lookups.{same_bytes, first_or, lookup_old, lookup_new, lookup_replaced}
 
 -- what a script reads for a variable
@@ -34,6 +34,34 @@ Fresh m refs = (name : List ℕ) (number : ℕ) → lookup refs name ≡ Some (V
 abbrev pub IsFound : Option Ref → Type 0
 IsFound (Some r) = Unit {0}
 IsFound None = ⊥
+
+-- an input of the script
+abbrev pub IsInputRef : Option Ref → Type 0
+IsInputRef (Some (Input number)) = Unit {0}
+IsInputRef (Some Root) = ⊥
+IsInputRef (Some (Var number)) = ⊥
+IsInputRef None = ⊥
+
+pub input_is_found : (o : Option Ref) → IsInputRef o → IsFound o
+input_is_found (Some r) h = tt
+input_is_found None h = absurd h
+
+-- what the script and the name of an input hold
+pub record IsInputRead (g : Ground) (names : Names) (refs : Refs) (name : List ℕ) : Type 0 where
+  pub value : Value
+  pub reads : slice_get g.inputs (input_number (lookup refs name)) ≡ Some value
+  pub holds : lookup names name ≡ Some value
+
+pub input_linked : (g : Ground) (refs : Refs) (vars : Vars) (names : Names) (name : List ℕ) → Linked g refs vars names → bytes_eq this_name name ≡ false → IsInputRef (lookup refs name) → IsInputRead g names refs name
+input_linked g refs vars names name linked plain h = by (lookup refs name) refl h
+  where
+    by : (o : Option Ref) → lookup refs name ≡ o → IsInputRef o → IsInputRead g names refs name
+    by (Some (Input number)) e k =
+        let read = linked name plain (Input number) e in
+        record { value = read.value; reads = subst (λ o. slice_get g.inputs (input_number o) ≡ Some read.value) (sym e) read.reads; holds = read.holds }
+    by (Some Root) e k = absurd k
+    by (Some (Var number)) e k = absurd k
+    by None e k = absurd k
 
 -- a portable expression each of whose variables the script has
 abbrev mutual

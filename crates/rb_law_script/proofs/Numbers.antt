@@ -4,14 +4,13 @@ use Rattle.rb_trees.specs.mirror.Code.{Stmt, Stmts, Val, If, For, NoStmts, MoreS
 use Rattle.rb_trees.specs.mirror.Declarations.{Program}
 use Rattle.rb_meaning_flow.specs.declared.forms.PlacedForm.{PlacedForm}
 use Rattle.rb_meaning_flow.specs.declared.scopes.Role.{Role}
-use Rattle.rb_meaning_flow.specs.Facts.{Facts, facts_of}
+use Rattle.rb_meaning_flow.specs.Facts.{Facts}
 use Rattle.rb_meaning_flow.specs.Scopes.{Scope, with_variable}
 use Rattle.rb_meaning_flow.specs.Forms.{placed_form}
 use Rattle.rb_meaning_flow.specs.Sites.{scope_after}
 use Rattle.rb_meaning_split.specs.Refs.{Refs}
 use Rattle.rb_meaning_split.specs.Numbers.{var_after_as, var_after, vars_after}
-use Rattle.rb_meaning_split.specs.Steps.{refs_after_as, refs_after}
-use Rattle.rb_law_script.proofs.Linked.{Fresh, fresh_up, fresh_with}
+use Rattle.rb_meaning_split.specs.Steps.{refs_after_as}
 
 pub le_same : (a : ℕ) → a ≤ a
 le_same a = omega arith
@@ -34,6 +33,9 @@ module _ (f : Facts) where
     var_grows_as PlacedForm.RowsLoop vs (For at name e a) m =
         let inner = with_variable vs name Role.Row at in
         suc_le m (vars_after f inner a (suc m)) (vars_grow inner a (suc m))
+    var_grows_as PlacedForm.CarriedLoop vs (For at name e a) m =
+        let inner = with_variable vs name Role.Row at in
+        suc_le m (vars_after f inner a (suc m)) (vars_grow inner a (suc m))
     var_grows_as form vs s m = le_same m
 
     pub vars_grow : (vs : Scope) (ss : Stmts) (m : ℕ) → m ≤ vars_after f vs ss m
@@ -53,11 +55,3 @@ IsNoVal s = Unit {0}
 pub same_refs : (p : Program) (form : PlacedForm) (refs : Refs) (m : ℕ) (s : Stmt) → IsNoVal s → refs_after_as p form refs m s ≡ refs
 same_refs p PlacedForm.CarriedVal refs m (Val at name e) unbound = absurd unbound
 same_refs p form refs m s unbound = refl
-
--- the variables of the script after a statement have numbers below the next one
-fresh_after_as : (p : Program) (form : PlacedForm) (vs : Scope) (s : Stmt) (m : ℕ) (refs : Refs) → Fresh m refs → Fresh (var_after_as (facts_of p) form vs s m) (refs_after_as p form refs m s)
-fresh_after_as p PlacedForm.CarriedVal vs (Val at name e) m refs h = fresh_with m refs name h
-fresh_after_as p form vs s m refs h = fresh_up m (var_after_as (facts_of p) form vs s m) refs (var_grows_as (facts_of p) form vs s m) h
-
-pub fresh_after : (p : Program) (vs : Scope) (s : Stmt) (m : ℕ) (refs : Refs) → Fresh m refs → Fresh (var_after (facts_of p) vs s m) (refs_after p refs m vs s)
-fresh_after p vs s m refs h = fresh_after_as p (placed_form (facts_of p) vs s) vs s m refs h

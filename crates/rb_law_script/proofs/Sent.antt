@@ -16,7 +16,7 @@ use Rattle.rb_trees.specs.declared.refusals.Refusal.TheVariants as refusal
 use Rattle.rb_trees.specs.mirror.Code.{Expr, Exprs, Lit, Name, This, Unary, Binary, Field, Call, Index, New, Items, Taken, NoExprs, MoreExprs, expr_at}
 use Rattle.rb_trees.specs.mirror.Declarations.{Program, Interface}
 use Rattle.rb_meaning_types.specs.Kinds as kind
-use Rattle.rb_meaning_types.specs.Kinds.{Kind, is_unit, is_primitive}
+use Rattle.rb_meaning_types.specs.Kinds.{Kind, is_primitive}
 use Rattle.rb_meaning_types.specs.Names.{interface_named}
 use Rattle.rb_meaning_types.specs.Violations.{Checked, Placed, UnknownName, wanted, wrong_type}
 use Rattle.rb_meaning_types.specs.Declared.{Declarations, Context, of_program}
@@ -26,8 +26,9 @@ use Rattle.rb_meaning_types.specs.Operators.{unary_result, binary_result, takes_
 use Rattle.rb_meaning_types.specs.Members.{call_on, interface_call, receiver_interface}
 use Rattle.rb_meaning_types.specs.Expressions.{type_of, types_of}
 use Rattle.rb_meaning_types.specs.Notes.{type_at}
-use Rattle.rb_meaning_flow.specs.Facts.{Facts, facts_of, is_remote, is_object, is_rows}
-use Rattle.rb_meaning_flow.specs.Scopes.{Scope, variable_named, role_in, role_of, is_portable_role}
+use Rattle.rb_meaning_flow.specs.declared.scopes.Role.{Role}
+use Rattle.rb_meaning_flow.specs.Facts.{Facts, facts_of, is_remote, is_object, is_rows, has_primitive_items}
+use Rattle.rb_meaning_flow.specs.Scopes.{Scope, variable_named, role_in, role_of, is_list_role, is_portable_role}
 use Rattle.rb_meaning_flow.specs.Portable.{portable, all_portable, holds_call, any_holds_call}
 use Rattle.rb_meaning_flow.specs.Marks.{is_portable_call}
 use Rattle.rb_meaning_flow.specs.Sites.{StmtSite, Over, site, under, right_under, expr_sites, exprs_sites, exprs_of}
@@ -79,17 +80,21 @@ two_far is bin.Ge k h = tt
 two_far is bin.And k h = tt
 two_far is bin.Or k h = tt
 
-agree_look : (is : List Interface) (vs : Scope) (ws : typed.Scope) (name : List ℕ) (w : typed.Variable) → Agree is vs ws → is_portable_role (role_of vs name) ≡ true → typed.variable_named ws name ≡ Some w → IsFarKind is w.kind
-agree_look is [] [] name w h r e = absurd (cc (e))
-agree_look is [] (y ∷ ws) name w h r e = absurd h
-agree_look is (v ∷ vs) [] name w h r e = absurd h
-agree_look is (v ∷ vs) (y ∷ ws) name w h r e =
-    by (bytes_eq v.name name) r (subst (λ m. cond (bytes_eq m name) (Some y) (typed.variable_named ws name) ≡ Some w) (sym h.0) e) (λ r' e'. agree_look is vs ws name w h.2 r' e')
+-- what the role of a variable tells of its type
+pub record IsAgreed (is : List Interface) (role : Role) (w : typed.Variable) : Type 0 where
+  pub far : is_portable_role role ≡ true → IsFarKind is w.kind
+  pub list : is_list_role role ≡ true → has_primitive_items w.kind ≡ true
+
+pub agree_look : (is : List Interface) (vs : Scope) (ws : typed.Scope) (name : List ℕ) (w : typed.Variable) → Agree is vs ws → typed.variable_named ws name ≡ Some w → IsAgreed is (role_of vs name) w
+agree_look is [] [] name w h e = absurd (cc (e))
+agree_look is [] (y ∷ ws) name w h e = absurd h
+agree_look is (v ∷ vs) [] name w h e = absurd h
+agree_look is (v ∷ vs) (y ∷ ws) name w h e =
+    by (bytes_eq v.name name) (subst (λ m. cond (bytes_eq m name) (Some y) (typed.variable_named ws name) ≡ Some w) (sym h.0) e) (λ e'. agree_look is vs ws name w h.2 e')
   where
-    by : (t : Truth) → is_portable_role (role_in (cond t (Some v) (variable_named vs name))) ≡ true → cond t (Some y) (typed.variable_named ws name) ≡ Some w
-        → (is_portable_role (role_of vs name) ≡ true → typed.variable_named ws name ≡ Some w → IsFarKind is w.kind) → IsFarKind is w.kind
-    by true r' e' more = let same : y ≡ w = cc (e') in subst (λ z. IsFarKind is z.kind) same (h.1 r')
-    by false r' e' more = more r' e'
+    by : (t : Truth) → cond t (Some y) (typed.variable_named ws name) ≡ Some w → (typed.variable_named ws name ≡ Some w → IsAgreed is (role_of vs name) w) → IsAgreed is (role_in (cond t (Some v) (variable_named vs name))) w
+    by true e' more = let same : y ≡ w = cc (e') in subst (IsAgreed is v.role) same (record { far = h.1.0; list = h.1.1 })
+    by false e' more = more e'
 
 -- what may come from a remote object, and is neither nothing, an object nor rows, is primitive
 far_primitive : (d : Declarations) (k : Kind) → IsFarKind d.interfaces k → NoUnit k → is_object d k ≡ false → is_rows k ≡ false → is_primitive k ≡ true
@@ -146,7 +151,7 @@ module _ (given : RemoteCallsGiveFar) (p : Program) (declared : AreTyped (of_pro
   portable_far vs ws agree (Name at name) k r t n g =
       let b = bind_ok (known (UnknownName at) (typed.variable_named ws name)) _ k t in
       let same : (b.0).kind ≡ k = cc (b.2) in
-      subst (IsFarKind is) same (agree_look is vs ws name b.0 agree r (known_ok (UnknownName at) (typed.variable_named ws name) b.0 b.1))
+      subst (IsFarKind is) same ((agree_look is vs ws name b.0 agree (known_ok (UnknownName at) (typed.variable_named ws name) b.0 b.1)).far r)
   portable_far vs ws agree (This at) k r t n g = absurd (cc (r))
   portable_far vs ws agree (Unary at op a) k r t n g =
       let b = placed_ok (expr_at a) (type_of x ws a) _ k t in

@@ -1,7 +1,7 @@
 -- The steps of a block do what a walk over its source does.
-use Rattle.std.proofs.Common.{◌≡◌, ◌⊎◌, inl, inr, refl, sym, ap, ◌∙◌, subst, ℕ, suc, List, [], ◌∷◌, ◌++◌, Bool as Truth, true, false, ◌&&◌, cond, All, Option, Some, Ok}
+use Rattle.std.proofs.Common.{◌≡◌, ◌⊎◌, inl, inr, refl, sym, ap, ◌∙◌, subst, ℕ, suc, List, [], ◌∷◌, ◌++◌, Bool as Truth, true, false, ◌&&◌, ◌||◌, cond, All, Option, Some, Ok}
 use Rattle.std.specs.List.{AllByRecursion, Contains, flat_map}
-use Rattle.std.proofs.lemmas.Bool.{and_parts}
+use Rattle.std.proofs.lemmas.Bool.{and_parts, or_right}
 use Rattle.rb_trees.specs.Outcome.{◌>>=◌}
 use Rattle.rb_trees.specs.declared.values.Value.{Value}
 use Rattle.rb_trees.specs.declared.values.Value.TheOpen.{Value-F}
@@ -32,15 +32,16 @@ use Rattle.rb_meaning_flow.specs.declared.forms.PlacedForm.{PlacedForm}
 use Rattle.rb_meaning_flow.specs.declared.scopes.Role.{Role}
 use Rattle.rb_meaning_flow.specs.Facts.{Facts, facts_of, over_rows, is_rows}
 use Rattle.rb_meaning_flow.specs.Scopes.{Scope, with_variable}
-use Rattle.rb_meaning_flow.specs.Portable.{portable, holds_call, branches_hold}
+use Rattle.rb_meaning_flow.specs.Portable.{portable, holds_call, block_holds, branches_hold, is_constant_list, may_carry, has_far_turns}
 use Rattle.rb_meaning_flow.specs.Marks.{is_portable_call}
 use Rattle.rb_meaning_flow.specs.Forms.{placed_form}
-use Rattle.rb_meaning_flow.specs.Sites.{Around, Branch, Turn, is_script_place, StmtSite, scope_after, stmt_site, sites, block_sites}
+use Rattle.rb_meaning_flow.specs.Sites.{Around, Branch, Turn, is_script_place, StmtSite, turn_role, scope_after, stmt_site, sites, block_sites}
 use Rattle.rb_meaning_flow.specs.Refusals.{IsRefusal}
 use Rattle.rb_meaning.specs.RemoteExprs.{remote_in, all_remote_in, remote_of}
+use Rattle.rb_meaning.specs.ConstantLists.{name_of, items_named}
 use Rattle.rb_meaning.specs.RemotePart as part
 use Rattle.rb_meaning.specs.RemotePart.{Walked, Rest, with_name, performed, skims, walk_as, walk, walk_block}
-use Rattle.rb_meaning_split.specs.Refs.{Refs, with_var, sexpr}
+use Rattle.rb_meaning_split.specs.Refs.{Refs, with_var, list_number, sexpr}
 use Rattle.rb_meaning_split.specs.Inputs.{constants, kept_constants, used_as, used, used_in}
 use Rattle.rb_meaning_split.specs.Numbers.{step_after, steps_after, var_after_as, var_after, vars_after}
 use Rattle.rb_meaning_split.specs.Steps.{refs_after_as, refs_after, keeps_val, keeps, steps_as, steps, block_steps}
@@ -61,7 +62,7 @@ use Rattle.rb_law_script.proofs.Numbers.{var_grows, vars_grow, IsNoVal, same_ref
 use Rattle.rb_law_script.proofs.Sent.{Sent}
 use Rattle.rb_law_script.proofs.Kept.{kept_sent}
 use Rattle.rb_law_script.proofs.Alike.{Table, Sound, then_sound, rule_sound, kept_same, and_then_after, Alike, reply_alike, entry_alike, kept_alike, branch_alike, turns_alike, turn_alike}
-use Rattle.rb_law_script.proofs.Joined.{fits_primitive, Joined, joined_up, joined_more, joined_plain, same_value, sound_value, far_value}
+use Rattle.rb_law_script.proofs.Joined.{fits_primitive, Joined, joined_up, joined_more, joined_plain, same_value, sound_value, far_value, same_items, sound_items, far_items}
 
 -- a remote expression as a whole is the one in it
 pub one_remote : (f : Facts) (vs : Scope) (e : Expr) → is_portable_call f vs e ≡ true → remote_in f vs e ≡ e ∷ []
@@ -166,7 +167,7 @@ module _ (laws : Laws) (p : Program) (service : Service) (service_typed : check_
         ∙ kept_same service (Fits is [] k) (keeps_val p e) at (value e srv) fits (λ keep v h. fits_primitive is k v (sym (primitive_fact p (expr_at e) k (kind_here types x ws e k noted t)) ∙ (and_parts (holds_call f e) (f.primitive (expr_at e)) keep).1) h))
         fits (λ v s1 h t1.
         kept_alike service (go (with_name name v ns) s1) (run_steps g rest ((m, v) ∷ vars) s1 kr) (keeps_val p e) v
-        (more (with_name name v ns) s1 ((m, v) ∷ vars) (joined_more is g inputs refs m vs ws ns vars name Role.Carried at k v j (far e k r t noted formed) free h) t1))
+        (more (with_name name v ns) s1 ((m, v) ∷ vars) (joined_more is g inputs refs m vs ws ns vars name Role.Carried at k v j refl (far e k r t noted formed) free h) t1))
 
     -- a remote expression alone
     done_alike : (n at : ℕ) (e : Expr) (k : Kind) (srv : Server) (go : Rest) (rest : Steps) (kr : Vars → Server → Ran) → is_portable_call f vs e ≡ true → type_of x ws e ≡ Ok k → IsNotedExpr types x ws e → IsFormedExpr e → Within (kept_constants f vs (Run at e)) inputs → Table service srv
@@ -194,6 +195,25 @@ module _ (laws : Laws) (p : Program) (service : Service) (service_typed : check_
         (then_sound service (Fits is [] kind.Bool) (λ (q : Truth). Unit {0}) (value c srv) (condition at) (sound c kind.Bool srv r t noted formed table) (λ v s1 h t1. rule_sound service (λ (q : Truth). Unit {0}) at (truth_of (out-Value v)) s1 (λ b e. tt) t1))
         (λ holds s1 h t1. branch_alike service holds (wa s1) (wb s1) (run_steps g sa vars s1 run.ended) (run_steps g sb vars s1 run.ended) (λ s3. go ns s3) (λ s2. run_steps g rest vars s2 kr) (first s1 t1) (second s1 t1) more))
 
+    same_list : (e : Expr) (at : ℕ) (s : Server) → is_constant_list vs e ≡ true → IsFormedExpr e → Within (name_of e) inputs → run.items_of g at (list_number refs e) s ≡ replies at (items_named ns e) s
+    same_list e at s is_list formed w = same_items laws p service service_typed service_formed declared this remote g classes inputs refs m vs ws ns vars j e at s is_list formed w
+
+    sound_list : (e : Expr) (item : Kind) (at : ℕ) (s : Server) → is_constant_list vs e ≡ true → type_of x ws e ≡ Ok (kind.ListOf item) → IsFormedExpr e → Table service s → Sound service (All (Fits is [] item)) (replies at (items_named ns e) s)
+    sound_list e item at s is_list t formed table = sound_items laws p service service_typed service_formed declared this remote g classes inputs refs m vs ws ns vars j e item at s is_list t formed table
+
+    far_list : (e : Expr) (item : Kind) → is_constant_list vs e ≡ true → type_of x ws e ≡ Ok (kind.ListOf item) → IsFarKind is item
+    far_list e item is_list t = far_items laws p service service_typed service_formed declared this remote g classes inputs refs m vs ws ns vars j e item is_list t
+
+    -- the turns of a loop over rows or items, and what follows them
+    turning_alike : (n at : ℕ) (keep : Truth) (item : Kind) (block : Steps) (turn : Value → Server → Walked) (go : Rest) (rest : Steps) (kr : Vars → Server → Ran) → (keep ≡ true → kind.is_primitive item ≡ true)
+        → ((row : Value) (s1 : Server) → Fits is [] item row → Table service s1 → Like (turn row s1) (run_steps g block ((m, row) ∷ vars) s1 run.ended)) → ((s1 : Server) → Table service s1 → Like (go ns s1) (run_steps g rest vars s1 kr))
+        → (rows : List Value) (s1 : Server) → All (Fits is [] item) rows → Table service s1
+        → Like (and_then (part.turns at turn rows s1) (λ u s2. go ns s2)) (walked n at (run.turns (λ row s2. turn_over n at keep (λ s3. run_steps g block ((m, row) ∷ vars) s3 run.ended) row s2) rows s1) (λ s2. run_steps g rest vars s2 kr))
+    turning_alike n at keep item block turn go rest kr primitive each more rows s1 h t1 =
+        turns_alike service (Fits is [] item) n at turn (λ row s2. turn_over n at keep (λ s3. run_steps g block ((m, row) ∷ vars) s3 run.ended) row s2)
+        (λ row s2 fits t2. turn_alike service n at keep (λ s3. run_steps g block ((m, row) ∷ vars) s3 run.ended) row s2 (turn row s2) (λ is_kept. fits_primitive is item row (primitive is_kept) fits) (each row s2 fits t2))
+        rows s1 (λ s3. go ns s3) (λ s2. run_steps g rest vars s2 kr) h t1 more
+
     -- a loop over rows
     each_alike : (n at : ℕ) (e : Expr) (item : Kind) (block : Steps) (turn : Value → Server → Walked) (srv : Server) (go : Rest) (rest : Steps) (kr : Vars → Server → Ran) → portable f vs e ≡ true → type_of x ws e ≡ Ok (kind.RowsOf item) → IsNotedExpr types x ws e → IsFormedExpr e → Within (constants vs e) inputs → Table service srv
         → ((row : Value) (s1 : Server) → Fits is [] item row → Table service s1 → Like (turn row s1) (run_steps g block ((m, row) ∷ vars) s1 run.ended)) → ((s1 : Server) → Table service s1 → Like (go ns s1) (run_steps g rest vars s1 kr))
@@ -202,17 +222,25 @@ module _ (laws : Laws) (p : Program) (service : Service) (service_typed : check_
     each_alike n at e item block turn srv go rest kr r t noted formed w table each more =
         let goes = λ (rows : List Value) (s2 : Server). and_then (part.turns at turn rows s2) (λ u s3. go ns s3) in
         let keep = f.items (expr_at e) in
-        let run_turn = λ (row : Value) (s2 : Server). turn_over n at keep (λ s3. run_steps g block ((m, row) ∷ vars) s3 run.ended) row s2 in
         let fact = items_fact p (expr_at e) (kind.RowsOf item) (kind_here types x ws e (kind.RowsOf item) noted t) in
         subst (λ d. Like d (run_steps g (MoreSteps (script.Each n at m keep (sexpr p refs e) block) rest) vars srv kr)) (and_then_after (value e srv) (rows_of at) goes)
         (reply_alike service (All (Fits is [] item)) n (and_then (value e srv) (rows_of at)) (and_then (run_value at e srv) (rows_of at)) goes
-        (λ rows s1. walked n at (run.turns run_turn rows s1) (λ s2. run_steps g rest vars s2 kr))
+        (λ rows s1. walked n at (run.turns (λ row s2. turn_over n at keep (λ s3. run_steps g block ((m, row) ∷ vars) s3 run.ended) row s2) rows s1) (λ s2. run_steps g rest vars s2 kr))
         (ap (λ q. and_then q (rows_of at)) (same e at srv r formed w))
         (then_sound service (Fits is [] (kind.RowsOf item)) (All (Fits is [] item)) (value e srv) (rows_of at) (sound e (kind.RowsOf item) srv r t noted formed table)
         (λ v s1 h t1. rule_sound service (All (Fits is [] item)) at (rows_in (out-Value v)) s1 (rows_fit (Fits is [] item) (out-Value v) h) t1))
-        (λ rows s1 h t1. turns_alike service (Fits is [] item) n at turn run_turn
-        (λ row s2 fits t2. turn_alike service n at keep (λ s3. run_steps g block ((m, row) ∷ vars) s3 run.ended) row s2 (turn row s2) (λ is_kept. fits_primitive is item row (sym fact ∙ is_kept) fits) (each row s2 fits t2))
-        rows s1 (λ s3. go ns s3) (λ s2. run_steps g rest vars s2 kr) h t1 more))
+        (turning_alike n at keep item block turn go rest kr (λ is_kept. sym fact ∙ is_kept) each more))
+
+    -- a carried loop
+    over_alike : (n at : ℕ) (e : Expr) (item : Kind) (block : Steps) (turn : Value → Server → Walked) (srv : Server) (go : Rest) (rest : Steps) (kr : Vars → Server → Ran) → is_constant_list vs e ≡ true → type_of x ws e ≡ Ok (kind.ListOf item) → IsFormedExpr e → Within (name_of e) inputs → Table service srv
+        → ((row : Value) (s1 : Server) → Fits is [] item row → Table service s1 → Like (turn row s1) (run_steps g block ((m, row) ∷ vars) s1 run.ended)) → ((s1 : Server) → Table service s1 → Like (go ns s1) (run_steps g rest vars s1 kr))
+        → Like (and_then (replies at (items_named ns e) srv) (λ items s1. and_then (part.turns at turn items s1) (λ u s2. go ns s2)))
+        (run_steps g (MoreSteps (script.Over n at m (list_number refs e) block) rest) vars srv kr)
+    over_alike n at e item block turn srv go rest kr is_list t formed w table each more =
+        reply_alike service (All (Fits is [] item)) n (replies at (items_named ns e) srv) (run.items_of g at (list_number refs e) srv) (λ items s1. and_then (part.turns at turn items s1) (λ u s2. go ns s2))
+        (λ items s1. walked n at (run.turns (λ row s2. turn_over n at false (λ s3. run_steps g block ((m, row) ∷ vars) s3 run.ended) row s2) items s1) (λ s2. run_steps g rest vars s2 kr))
+        (same_list e at srv is_list formed w) (sound_list e item at srv is_list t formed table)
+        (turning_alike n at false item block turn go rest kr (λ is_kept. absurd (cc (is_kept))) each more)
 
   -- what a loop over rows goes over is portable, and is rows
   pub loop_portable : (around : List Around) (vs : Scope) (at : ℕ) (name : List ℕ) (e : Expr) (a : Stmts) → Within (sites f around vs (For at name e a)) ss → over_rows f e ≡ true → portable f vs e ≡ true
@@ -223,6 +251,15 @@ module _ (laws : Laws) (p : Program) (service : Service) (service_typed : check_
   pub rows_only : (e : Expr) (list item : Kind) → types (expr_at e) ≡ Some (Ok list) → over_rows f e ≡ true → (list ≡ kind.ListOf item) ⊎ (list ≡ kind.RowsOf item) → list ≡ kind.RowsOf item
   rows_only e list item noted h (inl is_list) = absurd (cc (sym h ∙ rows_fact p (expr_at e) list noted ∙ ap is_rows is_list))
   rows_only e list item noted h (inr is_rows') = is_rows'
+
+  -- what another loop goes over is a list
+  list_only : (e : Expr) (list item : Kind) → types (expr_at e) ≡ Some (Ok list) → over_rows f e ≡ false → (list ≡ kind.ListOf item) ⊎ (list ≡ kind.RowsOf item) → list ≡ kind.ListOf item
+  list_only e list item noted h (inl is_list) = is_list
+  list_only e list item noted h (inr is_rows') = absurd (cc (sym h ∙ rows_fact p (expr_at e) list noted ∙ ap is_rows is_rows'))
+
+  -- the variable of a loop whose turns are the script's is a row
+  far_role : (around : List Around) (vs : Scope) (e : Expr) (a : Stmts) → is_script_place f around ≡ true → has_far_turns f vs e a ≡ true → turn_role f around vs e a ≡ Role.Row
+  far_role around vs e a place far = ap (λ t. cond (over_rows f e || (t && may_carry f vs e a)) Role.Row Role.Plain) place ∙ ap (λ t. cond t Role.Row Role.Plain) far
 
   pub script_inside : (around : List Around) (b : Truth) → is_script_place f around ≡ true → b ≡ true → (is_script_place f around && b) ≡ true
   script_inside around b h e = ap (λ t. t && b) h ∙ e
@@ -301,11 +338,11 @@ module _ (laws : Laws) (p : Program) (service : Service) (service_typed : check_
           skims_alike refs m vs ws ns vars j (If at c a b) n srv go rest kr (kept_sent laws.given p declared this remote ss none sends around vs ws j.agree j.opens after (If at c a b) t noted formed w h) u' table more
       by form other u' = absurd other
 
-  -- a loop, by whether it goes over rows
+  -- a loop, by whether it goes over rows, or is carried
   for_alike : (around : List Around) (vs : Scope) (ws after : typed.Scope) (at : ℕ) (name : List ℕ) (e : Expr) (a : Stmts) (item : Kind) (ns : Names) (srv : Server) (go : Rest) (refs : Refs) (n m : ℕ) (vars : Vars) (rest : Steps) (kr : Vars → Server → Ran)
       → check_stmt x ws (For at name e a) ≡ Ok after → (list : Kind) → type_of x ws e ≡ Ok list → (list ≡ kind.ListOf item) ⊎ (list ≡ kind.RowsOf item)
       → IsNotedStmt types x ws (For at name e a) → IsFormedStmt (For at name e a) → Within (sites f around vs (For at name e a)) ss → Within (used f vs (For at name e a)) inputs → At refs m vs ws ns vars → Table service srv
-      → (over_rows f e ≡ true → IsFarKind is item → Within (used_in f (with_variable vs name Role.Row at) a) inputs → (row : Value) (s1 : Server) → Fits is [] item row → Table service s1
+      → (has_far_turns f vs e a ≡ true → IsFarKind is item → Within (used_in f (with_variable vs name Role.Row at) a) inputs → (row : Value) (s1 : Server) → Fits is [] item row → Table service s1
       → Like (walk_block p service (with_variable vs name Role.Row at) a (with_name name row ns) s1 part.ended) (run_steps g (block_steps p (with_var refs name m) (with_variable vs name Role.Row at) (suc n) (suc m) a) ((m, row) ∷ vars) s1 run.ended))
       → ((s1 : Server) → Table service s1 → Like (go ns s1) (run_steps g rest vars s1 kr))
       → Like (walk p service vs (For at name e a) ns srv go) (run_steps g (steps p refs vs n m (For at name e a) rest) vars srv kr)
@@ -321,7 +358,14 @@ module _ (laws : Laws) (p : Program) (service : Service) (service_typed : check_
           let is_rows' = rows_only e list item (kind_here types x ws e list noted.0 typed_here) h over in
           let far_item = rows_far list item is_rows' (far refs m vs ws ns vars j e list r typed_here noted.0 formed.0) in
           each_alike refs m vs ws ns vars j n at e item (block_steps p (with_var refs name m) inner (suc n) (suc m) a) (λ row s3. walk_block p service inner a (with_name name row ns) s3 part.ended) srv go rest kr r
-          (typed_here ∙ ap Ok is_rows') noted.0 formed.0 (within_left (constants vs e) (used_in f inner a) inputs u') table (each h far_item (within_right (constants vs e) (used_in f inner a) inputs u')) more
+          (typed_here ∙ ap Ok is_rows') noted.0 formed.0 (within_left (constants vs e) (used_in f inner a) inputs u') table
+          (each (ap (λ t. t || may_carry f vs e a) h) far_item (within_right (constants vs e) (used_in f inner a) inputs u')) more
+      by PlacedForm.CarriedLoop h u' =
+          let is_list = (and_parts (is_constant_list vs e) (block_holds f a) h.1).0 in
+          let typed_list = typed_here ∙ ap Ok (list_only e list item (kind_here types x ws e list noted.0 typed_here) h.0 over) in
+          over_alike refs m vs ws ns vars j n at e item (block_steps p (with_var refs name m) inner (suc n) (suc m) a) (λ row s3. walk_block p service inner a (with_name name row ns) s3 part.ended) srv go rest kr is_list
+          typed_list formed.0 (within_left (name_of e) (used_in f inner a) inputs u') table
+          (each (or_right (over_rows f e) (may_carry f vs e a) h.1) (far_list refs m vs ws ns vars j e item is_list typed_list) (within_right (name_of e) (used_in f inner a) inputs u')) more
       by PlacedForm.Plain h u' =
           skims_alike refs m vs ws ns vars j (For at name e a) n srv go rest kr (kept_sent laws.given p declared this remote ss none sends around vs ws j.agree j.opens after (For at name e a) t noted formed w h) u' table more
       by form other u' = absurd other
@@ -370,13 +414,13 @@ module _ (laws : Laws) (p : Program) (service : Service) (service_typed : check_
         let inner = typed.with_variable ws name q.item true in
         let same_scope : scope_or ws (placed x ws e >>= λ y. loop_scope ws at name y) ≡ inner = ap (scope_or ws) q.judged in
         let block_noted : AreNotedStmts types x inner a = subst (λ i. AreNotedStmts types x i a) same_scope noted.1 in
-        let frame = Turn at vs e ∷ around in
+        let frame = Turn at vs e a ∷ around in
         let turn_scope = with_variable vs name Role.Row at in
         let tail = within_tail _ _ _ w in
         for_alike around vs ws after at name e a q.item ns srv go refs n m vars rest kr t q.list q.typed q.over noted formed w u j table
-        (λ rows far_item ua row s1 fits t1.
-        block_alike frame (script_inside around (over_rows f e) place rows) turn_scope inner q.last a (with_name name row ns) s1 part.ended (with_var refs name m) (suc n) (suc m) ((m, row) ∷ vars) run.ended q.block_typed block_noted formed.1
-        (subst (λ r. Within (block_sites f frame (with_variable vs name (cond r Role.Row Role.Plain) at) a) ss) rows tail) ua (joined_more is g inputs refs m vs ws ns vars name Role.Row at q.item row j far_item q.free fits) t1
+        (λ turns far_item ua row s1 fits t1.
+        block_alike frame (script_inside around (has_far_turns f vs e a) place turns) turn_scope inner q.last a (with_name name row ns) s1 part.ended (with_var refs name m) (suc n) (suc m) ((m, row) ∷ vars) run.ended q.block_typed block_noted formed.1
+        (subst (λ r. Within (block_sites f frame (with_variable vs name r at) a) ss) (far_role around vs e a place turns) tail) ua (joined_more is g inputs refs m vs ws ns vars name Role.Row at q.item row j refl far_item q.free fits) t1
         (λ ns2 s2 vars2 t2. record { fault = refl; server = refl; table = t2 }))
         (on_after (For at name e a) tt refs m vs ws after go rest kr ns vars q.same more j)
 

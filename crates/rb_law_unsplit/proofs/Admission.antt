@@ -141,7 +141,7 @@ module _ (p : Program) (x : Context) (same : x.declared ≡ of_program p) (ss : 
         let is : scope_or ws (placed x ws e >>= λ q. loop_scope ws at name q) ≡ inner = ap (scope_or ws) h.judged in (
           one_admitted around vs ws (For at name e a) e [] refl w n.0,
           subst (λ i. AreAdmittedStmts x i a) (sym is)
-              (block_admitted (Turn at vs e ∷ around) (with_variable vs name (turn_role f e) at) inner h.last a h.block_typed (subst (λ i. AreNotedStmts types x i a) is n.1) (within_tail _ _ _ w)),
+              (block_admitted (Turn at vs e a ∷ around) (with_variable vs name (turn_role f around vs e a) at) inner h.last a h.block_typed (subst (λ i. AreNotedStmts types x i a) is n.1) (within_tail _ _ _ w)),
         )
     stmt_admitted around vs ws after (Try at a name b) t n w =
         let h = try_parts x ws at a name b after t in

@@ -49,7 +49,7 @@ module _ (laws : Laws) (conditions : ConditionsHold) (exprs_formed : LawfulExprs
       let scope = typed.with_variable place.scope o.root (kind.Named interface) true in
       let begun = opened o.outer o.at o.root o.block in
       let agreed : Agree p.interfaces begun scope =
-      agree_with p.interfaces (assigned_in o.block) (flow.with_variable o.outer o.root Role.Root o.at) scope (agree_added p.interfaces o.outer place.scope o.root Role.Root o.at (kind.Named interface) true agree (λ r. begins.declared_as)) in
+      agree_with p.interfaces (assigned_in o.block) (flow.with_variable o.outer o.root Role.Root o.at) scope (agree_added p.interfaces o.outer place.scope o.root Role.Root o.at (kind.Named interface) true agree (λ r. begins.declared_as, λ r. absurd (cc (r)))) in
       let carry : Carry p.interfaces begun scope start.names = carry_begins p.interfaces (classes_of start.heap) place.this begun scope start.names agreed fits.holds.names_fit fits.count in
       block_good laws conditions p service served.typed (service_formed laws.calls exprs_formed stmts_formed classes_formed types_keep p lawful t none service first served)
       (declared laws.calls exprs_formed stmts_formed classes_formed types_keep p lawful t none service first served) place.this place.remote ss (λ r e. none r (ss, is_one, e)) (sends p lawful none ss is_one)

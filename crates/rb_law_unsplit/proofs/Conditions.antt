@@ -117,7 +117,7 @@ module _ (f : Facts) (ss : List StmtSite) (none : (r : Refusal) → IsRefusal f 
         | inl rows ↦ loop_refused around vs at name e a u w rows
         | inr call ↦ one_refused around vs (For at name e a) e [] refl u w call
       ]
-      | inr block ↦ block_refused (Turn at vs e ∷ around) (with_variable vs name (turn_role f e) at) a (some_more (frame_condition f (Turn at vs e)) (flat_map (frame_condition f) around) u) (within_tail _ _ _ w) block
+      | inr block ↦ block_refused (Turn at vs e a ∷ around) (with_variable vs name (turn_role f around vs e a) at) a (some_more (frame_condition f (Turn at vs e a)) (flat_map (frame_condition f) around) u) (within_tail _ _ _ w) block
     ]
     stmt_refused around vs (Try at a name b) u w h =
         let frame = InTry at vs a name b ∷ around in

@@ -99,8 +99,8 @@ module _ (x : Facts) where
     stmt_numbered scope (Throw at e) = none (stmt_positions (Throw at e))
     stmt_numbered scope (If at c a b) = skip at (both (after (expr_positions c) (stmts_numbered scope a)) (stmts_numbered scope b))
     stmt_numbered scope (While at c a) = skip at (after (expr_positions c) (stmts_numbered scope a))
-    stmt_numbered scope (For at name e a) = skip at (after (expr_positions e) (stmts_numbered (with_variable scope name (outer_role (x.items (expr_at e))) at) a))
-    stmt_numbered scope (Try at a name b) = skip at (both (stmts_numbered scope a) (stmts_numbered (with_variable scope name (outer_role true) at) b))
+    stmt_numbered scope (For at name e a) = skip at (after (expr_positions e) (stmts_numbered (with_variable scope name (outer_role (x.items (expr_at e)) (x.lists (expr_at e))) at) a))
+    stmt_numbered scope (Try at a name b) = skip at (both (stmts_numbered scope a) (stmts_numbered (with_variable scope name (outer_role true false) at) b))
     stmt_numbered scope (Batch at interface root a) = one (record { at = at; outer = scope; root = root; block = a }) (stmts_positions a)
 
     stmts_numbered : (scope : Scope) (ss : Stmts) → Numbered (outermost_in x scope ss) (stmts_positions ss)

@@ -1,5 +1,5 @@
 -- What the code of a batch is answered fits, and the table keeps fitting.
-use Rattle.std.proofs.Common.{◌≡◌, ap, subst, arith, ℕ, zero, suc, ◌-◌, List, [], length, All, Option, Some, None, Ok}
+use Rattle.std.proofs.Common.{◌≡◌, ap, subst, arith, ℕ, zero, suc, ◌-◌, List, [], length, All, Bool as Truth, true, false, Option, Some, None, Ok}
 use Rattle.rb_trees.specs.declared.values.Value.{Value}
 use Rattle.rb_trees.specs.declared.values.Value.TheOpen.{Value-F}
 use Rattle.rb_trees.specs.declared.values.Value.TheVariants as value
@@ -16,14 +16,15 @@ use Rattle.rb_meaning_types.specs.Fits.{IsRemoteValue, Fits, TableFits}
 use Rattle.rb_meaning_code.specs.Dialogue.{Question, Line, Taken, Invoke, Turn, ListTurn}
 use Rattle.rb_meaning_code.specs.Calls.{unit_due}
 use Rattle.rb_meaning_code.specs.Remote.{Server, Reply, Got, Stopped, and_then, replies, remote_object, invoke}
+use Rattle.rb_meaning_flow.specs.Programs.{is_carried_at}
 use Rattle.rb_meaning.specs.State.{Outside}
 use Rattle.rb_meaning_types.specs.CallKinds.{kind_number, kind_noted, call_kind}
 use Rattle.rb_meaning.specs.RemoteAnswers.{answer_of, unit_of}
-use Rattle.rb_meaning.specs.Unsplit.{with_answer, answers_in_batch, in_batch}
+use Rattle.rb_meaning.specs.Unsplit.{with_answer, list_turn, answers_in_batch, in_batch}
 use Rattle.rb_law_types.specs.Kept.{IsBounded, IsOwnFault}
 use Rattle.rb_law_types.specs.Formed.{AreFormed}
 use Rattle.rb_law_types.specs.Own.{IsFarKind}
-use Rattle.rb_law_types.specs.Asked.{Side, InBatch, IsAsked, IsAnswer}
+use Rattle.rb_law_types.specs.Asked.{Side, InBatch, IsAsked, AnswerGives, IsAnswer}
 use Rattle.rb_law_types.specs.Around.{HandlerFits}
 use Rattle.rb_law_types.specs.Remote.{IsOfKind, IsCallFault, ReplyKeeps, CallsKeep}
 use Rattle.rb_law_types.proofs.Faults.{plain_own}
@@ -92,22 +93,30 @@ module _ (calls : CallsKeep) (p : Program) (service : Service) (typed : check_se
   left_table P s (Got v s1) h = h.1
   left_table P s (Stopped place f s1) h = h.1
 
-  turn_answer : (s : Outside) (at : ℕ) (r : Reply Value) → Fine service (λ (v : Value). Unit {0}) r → IsAnswer d side (Turn at) (with_answer s (answer_of r)).0
-  turn_answer s at (Got v s1) h = tt
-  turn_answer s at (Stopped place f s1) h = h.0
+  turn_answer : (s : Outside) (q : Question) (r : Reply Value) → ((v : Value) → AnswerGives d side q v) → Fine service (λ (v : Value). Unit {0}) r → IsAnswer d side q (with_answer s (answer_of r)).0
+  turn_answer s q (Got v s1) gives h = gives v
+  turn_answer s q (Stopped place f s1) gives h = h.0
 
   answers : (s : Outside) (q : Question) → Holds s → IsAsked d side q → IsAnswer d side q (answers_in_batch p service s q).0
   answers s (Line at bytes) h asked = tt
-  answers s (ListTurn at) h asked = tt
+  answers s (ListTurn at) h asked = by (is_carried_at p at)
+    where
+      by : (t : Truth) → IsAnswer d side (ListTurn at) (list_turn t at s).0
+      by true = turn_answer s (ListTurn at) (unit_of at s.server) (λ v. tt) (unit_fine service at s.server h)
+      by false = tt
   answers s (Taken step) h asked = absurd asked
   answers s (Invoke at target method args) h asked =
       call_answer s at target method args asked.kind asked.noted (invoke service.classes at (call_kind p at) (out-Value target) method args s.server)
       (invoke_fine at target method args s.server asked.kind asked.on asked.bounded asked.noted asked.far h)
-  answers s (Turn at) h asked = turn_answer s at (unit_of at s.server) (unit_fine service at s.server h)
+  answers s (Turn at) h asked = turn_answer s (Turn at) (unit_of at s.server) (λ v. tt) (unit_fine service at s.server h)
 
   answered : (s : Outside) (q : Question) → Holds s → IsAsked d side q → Holds (answers_in_batch p service s q).1
   answered s (Line at bytes) h asked = h
-  answered s (ListTurn at) h asked = h
+  answered s (ListTurn at) h asked = by (is_carried_at p at)
+    where
+      by : (t : Truth) → Holds (list_turn t at s).1
+      by true = left_table (λ (v : Value). Unit {0}) s (unit_of at s.server) (unit_fine service at s.server h)
+      by false = h
   answered s (Taken step) h asked = absurd asked
   answered s (Invoke at target method args) h asked =
       left_table (Fits p.interfaces [] asked.kind) s (invoke service.classes at (call_kind p at) (out-Value target) method args s.server)

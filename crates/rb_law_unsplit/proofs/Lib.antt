@@ -1,6 +1,7 @@
 -- The lemmas on admitted programs.
 pub mod Positions
 pub mod Notes
+pub mod CarriedLoops
 pub mod Found
 pub mod Agreed
 pub mod Standing

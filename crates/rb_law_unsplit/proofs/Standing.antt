@@ -1,22 +1,21 @@
 -- Each batch of a program as admission knows it: with its scope there, and with what is noted and lawful of it.
-use Rattle.std.proofs.Common.{◌≡◌, ◌⊎◌, inl, inr, refl, ap, subst, ℕ, List, [], ◌∷◌, ◌++◌, Bool as Truth, true, false, Option, Ok}
+use Rattle.std.proofs.Common.{◌≡◌, ◌⊎◌, inl, inr, refl, sym, ap, subst, ℕ, List, [], ◌∷◌, ◌++◌, Bool as Truth, true, false, Option, Some, Ok}
 use Rattle.std.specs.List.{Contains}
 use Rattle.std.proofs.lemmas.List.Elements.{Contains-append_cases}
 use Rattle.rb_trees.specs.Outcome.{◌>>=◌}
-use Rattle.rb_trees.specs.mirror.Code.{Stmt, Stmts, Val, Var, Assign, Run, Print, Throw, If, While, For, Try, Batch, NoStmts, MoreStmts, expr_at}
+use Rattle.rb_trees.specs.mirror.Code.{Expr, Stmt, Stmts, Val, Var, Assign, Run, Print, Throw, If, While, For, Try, Batch, NoStmts, MoreStmts, expr_at}
 use Rattle.rb_trees.specs.mirror.Declarations.{Program, Interface}
 use Rattle.rb_meaning_types.specs.Kinds as kind
-use Rattle.rb_meaning_types.specs.Kinds.{Kind}
+use Rattle.rb_meaning_types.specs.Kinds.{Kind, is_primitive}
 use Rattle.rb_meaning_types.specs.Declared.{Context, of_program}
 use Rattle.rb_meaning_types.specs.Scopes as typed
 use Rattle.rb_meaning_types.specs.Statements.{placed, loop_scope, catch_scope, check_stmt, check_stmts}
 use Rattle.rb_meaning_types.specs.Notes.{scope_or, type_at}
 use Rattle.rb_meaning_types.specs.Lawful.{IsLawfulStmt, AreLawfulStmts, IsLawfulBlock}
 use Rattle.rb_meaning_flow.specs.Facts.{Facts, facts_of, has_primitive_items}
-use Rattle.rb_meaning_flow.specs.Scopes.{Scope, with_variable, is_portable_role}
+use Rattle.rb_meaning_flow.specs.Scopes.{Scope, with_variable}
 use Rattle.rb_meaning_flow.specs.Outermost.{Outermost, outer_role, outer_after, outermost, outermost_in}
 use Rattle.rb_flow.proofs.Members.{first_contained, contained_cases, none_contained}
-use Rattle.rb_law_types.specs.Own.{IsFarKind}
 use Rattle.rb_law_types.specs.Noted.{IsNotedStmt, AreNotedStmts}
 use Rattle.rb_law_types.specs.Ends.{context}
 use Rattle.rb_law_types.specs.Asked.{Site}
@@ -24,7 +23,7 @@ use Rattle.rb_law_types.specs.Batches.{sites, sites_in}
 use Rattle.rb_law_types.proofs.Parts.{val_parts, var_parts, assign_parts, run_parts, print_parts, throw_parts, if_parts, while_parts, for_parts, try_parts, batch_parts, stmts_parts}
 use Rattle.rb_law_types.proofs.TypeFacts.{kind_here, primitive_fact, items_fact}
 use Rattle.rb_law_types.proofs.SitesWithin.{Within, within_left, within_right}
-use Rattle.rb_law_unsplit.proofs.Agreed.{Agree, agree_added, outer_far}
+use Rattle.rb_law_unsplit.proofs.Agreed.{IsReadKind, Agree, agree_added, outer_far, item_far, lists_fact}
 
 pub block_lawful : (ss : Stmts) → IsLawfulBlock ss → AreLawfulStmts ss
 block_lawful NoStmts h = tt
@@ -59,10 +58,6 @@ the_one P b h c is = by (contained_cases b [] c is)
     by (inl e) = subst P e h
     by (inr m) = absurd (none_contained c m)
 
-item_far : (is : List Interface) (k item : Kind) → (k ≡ kind.ListOf item) ⊎ (k ≡ kind.RowsOf item) → is_portable_role (outer_role (has_primitive_items k)) ≡ true → IsFarKind is item
-item_far is k item (inl e) h = outer_far is item (subst (λ m. is_portable_role (outer_role (has_primitive_items m)) ≡ true) e h)
-item_far is k item (inr e) h = outer_far is item (subst (λ m. is_portable_role (outer_role (has_primitive_items m)) ≡ true) e h)
-
 module _ (p : Program) (this : Option (List ℕ)) (remote : Truth) where
   abbrev x : Context
   x = record { declared = of_program p; this = this; remote = remote }
@@ -73,16 +68,25 @@ module _ (p : Program) (this : Option (List ℕ)) (remote : Truth) where
   abbrev is : List Interface
   is = p.interfaces
 
+  -- what is bound outside of batches, by a val and by a loop
+  bound_read : (e : Expr) (k : Kind) → type_at p (expr_at e) ≡ Some (Ok k) → IsReadKind is (outer_role (f.primitive (expr_at e)) (f.items (expr_at e))) k
+  bound_read e k noted =
+      subst (λ t. IsReadKind is (outer_role t (f.items (expr_at e))) k) (sym (primitive_fact p (expr_at e) k noted))
+      (subst (λ t. IsReadKind is (outer_role (is_primitive k) t) k) (sym (items_fact p (expr_at e) k noted)) (outer_far is k))
+
+  item_read : (e : Expr) (k item : Kind) → (k ≡ kind.ListOf item) ⊎ (k ≡ kind.RowsOf item) → type_at p (expr_at e) ≡ Some (Ok k) → IsReadKind is (outer_role (f.items (expr_at e)) (f.lists (expr_at e))) item
+  item_read e k item over noted =
+      subst (λ t. IsReadKind is (outer_role t (f.lists (expr_at e))) item) (sym (items_fact p (expr_at e) k noted))
+      (subst (λ t. IsReadKind is (outer_role (has_primitive_items k) t) item) (sym (lists_fact p (expr_at e) k noted)) (item_far is k item over))
+
   -- the scopes after a statement still agree
   after_agree : (s : Stmt) (vs : Scope) (ws after : typed.Scope) → Agree is vs ws → check_stmt x ws s ≡ Ok after → IsNotedStmt (type_at p) x ws s → Agree is (outer_after f vs s) after
   after_agree (Val at name e) vs ws after h t n =
       let d = val_parts x ws at name e after t in
-      let fact = primitive_fact p (expr_at e) d.kind (kind_here (type_at p) x ws e d.kind n d.typed) in
-      subst (Agree is (outer_after f vs (Val at name e))) d.same (agree_added is vs ws name (outer_role (f.primitive (expr_at e))) at d.kind true h (λ r. outer_far is d.kind (subst (λ t'. is_portable_role (outer_role t') ≡ true) fact r)))
+      subst (Agree is (outer_after f vs (Val at name e))) d.same (agree_added is vs ws name (outer_role (f.primitive (expr_at e)) (f.items (expr_at e))) at d.kind true h (bound_read e d.kind (kind_here (type_at p) x ws e d.kind n d.typed)))
   after_agree (Var at name e) vs ws after h t n =
       let d = var_parts x ws at name e after t in
-      let fact = primitive_fact p (expr_at e) d.kind (kind_here (type_at p) x ws e d.kind n d.typed) in
-      subst (Agree is (outer_after f vs (Var at name e))) d.same (agree_added is vs ws name (outer_role (f.primitive (expr_at e))) at d.kind false h (λ r. outer_far is d.kind (subst (λ t'. is_portable_role (outer_role t') ≡ true) fact r)))
+      subst (Agree is (outer_after f vs (Var at name e))) d.same (agree_added is vs ws name (outer_role (f.primitive (expr_at e)) (f.items (expr_at e))) at d.kind false h (bound_read e d.kind (kind_here (type_at p) x ws e d.kind n d.typed)))
   after_agree (Assign at a b) vs ws after h t n = subst (Agree is vs) (assign_parts x ws at a b after t).same h
   after_agree (Run at e) vs ws after h t n = subst (Agree is vs) (run_parts x ws at e after t).same h
   after_agree (Print at e) vs ws after h t n = subst (Agree is vs) (print_parts x ws at e after t).same h
@@ -113,21 +117,21 @@ module _ (p : Program) (this : Option (List ℕ)) (remote : Truth) where
           stmts_in a vs ws d.last h d.block_typed n.1 (block_lawful a l.1) w b i
       stmt_in (For at name e a) vs ws after h t n l w b c =
           let d = for_parts x ws at name e a after t in
-          let fact = items_fact p (expr_at e) d.list (kind_here (type_at p) x ws e d.list n.0 d.typed) in
           let inner = typed.with_variable ws name d.item true in
           let same : scope_or ws (placed x ws e >>= λ q. loop_scope ws at name q) ≡ inner = ap (scope_or ws) d.judged in
-          stmts_in a (with_variable vs name (outer_role (f.items (expr_at e))) at) inner d.last
-          (agree_added is vs ws name (outer_role (f.items (expr_at e))) at d.item true h (λ r. item_far is d.list d.item d.over (subst (λ t'. is_portable_role (outer_role t') ≡ true) fact r)))
+          let role = outer_role (f.items (expr_at e)) (f.lists (expr_at e)) in
+          stmts_in a (with_variable vs name role at) inner d.last
+          (agree_added is vs ws name role at d.item true h (item_read e d.list d.item d.over (kind_here (type_at p) x ws e d.list n.0 d.typed)))
           d.block_typed (subst (λ i. AreNotedStmts (type_at p) x i a) same n.1) (block_lawful a l.2) w b (subst (λ i. Contains (sites_in x i a) b) same c)
       stmt_in (Try at a name a') vs ws after h t n l w b' i' =
           let d = try_parts x ws at a name a' after t in
           let inner = typed.with_variable ws name kind.Text true in
           let same : scope_or ws (catch_scope ws at name) ≡ inner = ap (scope_or ws) d.judged in
-          let tried = with_variable vs name (outer_role true) at in
+          let tried = with_variable vs name (outer_role true false) at in
           each_of (IsBatchOf p all) (sites_in x ws a) (sites_in x (scope_or ws (catch_scope ws at name)) a')
           (stmts_in a vs ws d.first h d.first_typed n.0 (block_lawful a l.0) (within_left (outermost_in f vs a) (outermost_in f tried a') all w))
           (λ b c. stmts_in a' tried inner d.second
-          (agree_added is vs ws name (outer_role true) at kind.Text true h (λ r. tt)) d.second_typed (subst (λ i. AreNotedStmts (type_at p) x i a') same n.1) (block_lawful a' l.2)
+          (agree_added is vs ws name (outer_role true false) at kind.Text true h (λ r. tt, λ r. absurd (cc (r)))) d.second_typed (subst (λ i. AreNotedStmts (type_at p) x i a') same n.1) (block_lawful a' l.2)
           (within_right (outermost_in f vs a) (outermost_in f tried a') all w) b (subst (λ i. Contains (sites_in x i a') b) same c)) b' i'
       stmt_in (Batch at interface root a) vs ws after h t n l w b i =
           let o : Outermost = record { at = at; outer = vs; root = root; block = a } in

@@ -3,7 +3,7 @@ use Rattle.std.proofs.Common.{◌≡◌, ◌⊎◌, inl, inr, refl, sym, ap, ◌
 use Rattle.std.specs.List.{AllByRecursion, Contains, flat_map}
 use Rattle.std.proofs.lemmas.Bool.{and_parts}
 use Rattle.std.proofs.lemmas.List.Elements.{All-head, All-tail}
-use Rattle.rb_trees.specs.Outcome.{◌>>=◌}
+use Rattle.rb_trees.specs.Outcome.{◌>>=◌, known}
 use Rattle.rb_trees.specs.declared.values.Value.{Value}
 use Rattle.rb_trees.specs.declared.values.Value.TheOpen.{Value-F}
 use Rattle.rb_trees.specs.declared.values.Value.TheViews.{out-Value}
@@ -14,26 +14,28 @@ use Rattle.rb_trees.specs.mirror.Declarations.{Program, Interface}
 use Rattle.rb_trees.specs.mirror.Services.{Service}
 use Rattle.rb_meaning_types.specs.Kinds as kind
 use Rattle.rb_meaning_types.specs.Kinds.{Kind}
-use Rattle.rb_meaning_types.specs.Violations.{Checked, Placed}
+use Rattle.rb_meaning_types.specs.Violations.{Checked, Placed, UnknownName}
 use Rattle.rb_meaning_types.specs.Declared.{Context, of_program}
 use Rattle.rb_meaning_types.specs.Scopes as typed
 use Rattle.rb_meaning_types.specs.Expressions.{type_of, types_of}
 use Rattle.rb_meaning_types.specs.Statements.{placed, loop_scope, check_stmt, check_stmts}
 use Rattle.rb_meaning_types.specs.Notes.{scope_or, type_at}
 use Rattle.rb_meaning_types.specs.Programs.{check_service}
-use Rattle.rb_meaning_types.specs.Fits.{AreRows, Fits}
+use Rattle.rb_meaning_types.specs.Fits.{AreItems, AreRows, Fits}
 use Rattle.rb_meaning_code.specs.State.{Names}
 use Rattle.rb_meaning_code.specs.Statements.{truth_of}
 use Rattle.rb_meaning_code.specs.Remote.{Server, Reply, Got, Stopped, and_then, replies, rows_in}
 use Rattle.rb_meaning_flow.specs.declared.forms.PlacedForm.{PlacedForm}
 use Rattle.rb_meaning_flow.specs.declared.scopes.Role.{Role}
 use Rattle.rb_meaning_flow.specs.Facts.{Facts, facts_of, over_rows, is_rows}
-use Rattle.rb_meaning_flow.specs.Scopes.{Scope, with_variable}
-use Rattle.rb_meaning_flow.specs.Portable.{portable, holds_call, branches_hold}
+use Rattle.rb_meaning_flow.specs.Scopes.{Scope, with_variable, role_of}
+use Rattle.rb_meaning_flow.specs.Portable.{portable, holds_call, branches_hold, is_constant_list, has_far_turns}
 use Rattle.rb_meaning_flow.specs.Marks.{is_portable_call}
 use Rattle.rb_meaning_flow.specs.Forms.{placed_form}
 use Rattle.rb_meaning_flow.specs.Sites.{Around, Branch, Turn, is_script_place, StmtSite, scope_after, stmt_site, sites, block_sites}
 use Rattle.rb_meaning_flow.specs.Refusals.{IsRefusal}
+use Rattle.rb_meaning_code.specs.ScriptRun.{items_in}
+use Rattle.rb_meaning.specs.ConstantLists.{items_of, items_named}
 use Rattle.rb_meaning.specs.RemoteExprs.{whole_or, remote_in, all_remote_in, remote_of}
 use Rattle.rb_meaning.specs.RemoteAnswers.{unit_of}
 use Rattle.rb_meaning.specs.RemotePart.{Walked, Rest, ended, with_name, turns, value_of, performed, skims, walk_as, walk, walk_block}
@@ -45,13 +47,14 @@ use Rattle.rb_law_types.specs.Noted.{IsNotedExpr, AreNotedExprs, IsNotedStmt, Ar
 use Rattle.rb_law_types.specs.Operators.{ConditionsHold}
 use Rattle.rb_law_types.specs.Code.{AreTyped}
 use Rattle.rb_law_types.proofs.Faults.{rule_own}
-use Rattle.rb_law_types.proofs.Checks.{bind_ok, placed_ok}
+use Rattle.rb_law_types.proofs.Checks.{bind_ok, known_ok, placed_ok}
 use Rattle.rb_law_types.proofs.Parts.{val_parts, var_parts, assign_parts, run_parts, print_parts, throw_parts, if_parts, while_parts, for_parts, try_parts, batch_parts, stmts_parts}
 use Rattle.rb_law_types.proofs.TypeFacts.{kind_here, rows_fact}
 use Rattle.rb_law_types.proofs.SitesWithin.{Within, within_left, within_right, within_tail, stmt_first}
 use Rattle.rb_law_unsplit.proofs.Conditions.{condition_portable}
-use Rattle.rb_law_unsplit.proofs.Placed.{if_holds, loop_over}
-use Rattle.rb_law_unsplit.proofs.Carried.{Carry, carry_more, carry_skip}
+use Rattle.rb_law_unsplit.proofs.Placed.{if_holds, loop_over, loop_carried, rows_far, carried_far, far_row}
+use Rattle.rb_law_unsplit.proofs.Agreed.{list_read}
+use Rattle.rb_law_unsplit.proofs.Carried.{Carry, carry_more, carry_skip, carry_read}
 use Rattle.rb_law_unsplit.proofs.Handling.{Fine, unit_fine}
 use Rattle.rb_law_unsplit.proofs.Walking.{Laws, rest_typed, Table, value_fine}
 
@@ -77,6 +80,11 @@ pub rows_fair : (P : Value → Type 0) (w : Value-F Value) → AreRows P w → F
 rows_fair P (Value-F.Rows rows) h = h
 rows_fair P Value-F.Unit h = absurd h
 rows_fair P _ h = absurd h
+
+pub items_fair : (P : Value → Type 0) (w : Value-F Value) → AreItems P w → Fair (All P) (items_in w)
+items_fair P (Value-F.List items) h = h.1
+items_fair P Value-F.Unit h = absurd h
+items_fair P _ h = absurd h
 
 module _ (laws : Laws) (conditions : ConditionsHold) (p : Program) (service : Service) (service_typed : check_service service.classes ≡ Ok tt) (service_formed : AreFormed service.classes) (declared : AreTyped (of_program p))
     (this : Option (List ℕ)) (remote : Truth) (ss : List StmtSite) (none : (r : Refusal) → IsRefusal (facts_of p) ss r → ⊥) (sends : SendsPortable (facts_of p) ss) where
@@ -176,7 +184,17 @@ module _ (laws : Laws) (conditions : ConditionsHold) (p : Program) (service : Se
       skims_good : (s : Stmt) (srv : Server) (go : Rest) → AllByRecursion (Ready vs ws) (remote_of f vs s) → Fits' srv → ((s1 : Server) → Fits' s1 → Good (go ns s1)) → Good (skims p service vs s ns srv go)
       skims_good s srv go h t more = then_good (λ (u : Unit {0}). Unit {0}) (performed p service (remote_of f vs s) ns srv) _ (performed_good (remote_of f vs s) srv h t) (λ u s1 fu t1. more s1 t1)
 
-  -- turns over rows
+  -- the items of a constant list that the walk goes over
+  items_fine : (vs : Scope) (ws : typed.Scope) (ns : Names) → Carry is vs ws ns → (e : Expr) (list item : Kind) → is_constant_list vs e ≡ true → list ≡ kind.ListOf item → type_of x ws e ≡ Ok list → IsFormedExpr e → Fair (All (Fits is [] item)) (items_named ns e)
+  items_fine vs ws ns carry (Name at name) list item constant is_list t g =
+      let b = bind_ok (known (UnknownName at) (typed.variable_named ws name)) _ list t in
+      let same : (b.0).kind ≡ kind.ListOf item = cc (b.2, is_list) in
+      let found = carry_read is vs ws ns name b.0 carry g (list_read (role_of vs name) constant) (known_ok (UnknownName at) (typed.variable_named ws name) b.0 b.1) in
+      subst (λ o. Fair (All (Fits is [] item)) (items_of o)) (sym found.1) (items_fair (Fits is [] item) (out-Value found.0) (subst (λ m. Fits is [] m found.0) same found.2))
+  items_fine vs ws ns carry (Lit at value) list item constant is_list t g = absurd (cc (constant))
+  items_fine vs ws ns carry _ list item constant is_list t g = absurd (cc (constant))
+
+  -- turns over rows and over the items of a list
   turns_good : (item : Kind) (at : ℕ) (turn : Value → Server → Walked) → ((row : Value) (s1 : Server) → Fits is [] item row → Fits' s1 → Good (turn row s1)) → (rows : List Value) (s : Server) → All (Fits is [] item) rows → Fits' s
       → Good (turns at turn rows s)
   turns_good item at turn each [] s h t = (tt, t)
@@ -195,6 +213,11 @@ module _ (laws : Laws) (conditions : ConditionsHold) (p : Program) (service : Se
   pub rows_only : (e : Expr) (list item : Kind) → types (expr_at e) ≡ Some (Ok list) → over_rows f e ≡ true → (list ≡ kind.ListOf item) ⊎ (list ≡ kind.RowsOf item) → list ≡ kind.RowsOf item
   rows_only e list item noted h (inl is_list) = absurd (cc (sym h ∙ rows_fact p (expr_at e) list noted ∙ ap is_rows is_list))
   rows_only e list item noted h (inr is_rows') = is_rows'
+
+  -- no rows are a list
+  pub list_only : (e : Expr) (list item : Kind) → types (expr_at e) ≡ Some (Ok list) → over_rows f e ≡ false → (list ≡ kind.ListOf item) ⊎ (list ≡ kind.RowsOf item) → list ≡ kind.ListOf item
+  list_only e list item noted h (inl is_list) = is_list
+  list_only e list item noted h (inr is_rows') = absurd (cc (sym h ∙ rows_fact p (expr_at e) list noted ∙ ap is_rows is_rows'))
 
   pub script_inside : (around : List Around) (b : Truth) → is_script_place f around ≡ true → b ≡ true → (is_script_place f around && b) ≡ true
   script_inside around b h e = ap (λ t. t && b) h ∙ e
@@ -219,11 +242,11 @@ module _ (laws : Laws) (conditions : ConditionsHold) (p : Program) (service : Se
   alone_good PlacedForm.CallAlone vs at e ns srv go h = h
   alone_good form vs at e ns srv go h = h
 
-  -- a loop, which is walked where it goes over rows
+  -- a loop, which is walked where it goes over rows or is carried
   loop_good : (form : PlacedForm) (around : List Around) (vs : Scope) (ws : typed.Scope) (at : ℕ) (name : List ℕ) (e : Expr) (a : Stmts) (list item : Kind) (ns : Names) (srv : Server) (go : Rest)
       → placed_form f vs (For at name e a) ≡ form → Within (sites f around vs (For at name e a)) ss
       → type_of x ws e ≡ Ok list → (list ≡ kind.ListOf item) ⊎ (list ≡ kind.RowsOf item) → IsNotedExpr types x ws e → IsFormedExpr e → Carry is vs ws ns → Fits' srv → ((s1 : Server) → Fits' s1 → Good (go ns s1))
-      → (over_rows f e ≡ true → (row : Value) (s1 : Server) → Fits is [] item row → Fits' s1 → Good (walk_block p service (with_variable vs name Role.Row at) a (with_name name row ns) s1 ended))
+      → (has_far_turns f vs e a ≡ true → (row : Value) (s1 : Server) → Fits is [] item row → Fits' s1 → Good (walk_block p service (with_variable vs name Role.Row at) a (with_name name row ns) s1 ended))
       → Good (walk_as p service form vs (For at name e a) ns srv go)
   loop_good PlacedForm.RowsLoop around vs ws at name e a list item ns srv go placing w t over n g carry table ends each =
       let holding = loop_over f vs at name e a placing in
@@ -232,7 +255,14 @@ module _ (laws : Laws) (conditions : ConditionsHold) (p : Program) (service : Se
       then_good (All (Fits is [] item)) (replies at (rows_in (out-Value v)) s1) _
       (rule_fine (All (Fits is [] item)) at (rows_in (out-Value v)) s1 (rows_fair (Fits is [] item) (out-Value v) (subst (λ m. Fits is [] m v) rows_kind fv)) t1) (λ rows s2 fr t2.
       then_good (λ (u : Unit {0}). Unit {0}) (turns at (λ row s3. walk_block p service (with_variable vs name Role.Row at) a (with_name name row ns) s3 ended) rows s2) _
-      (turns_good item at (λ row s3. walk_block p service (with_variable vs name Role.Row at) a (with_name name row ns) s3 ended) (each holding) rows s2 fr t2) (λ u s3 fu t3. ends s3 t3)))
+      (turns_good item at (λ row s3. walk_block p service (with_variable vs name Role.Row at) a (with_name name row ns) s3 ended) (each (rows_far f vs e a holding)) rows s2 fr t2) (λ u s3 fu t3. ends s3 t3)))
+  loop_good PlacedForm.CarriedLoop around vs ws at name e a list item ns srv go placing w t over n g carry table ends each =
+      let carried = loop_carried f vs at name e a placing in
+      let list_kind = list_only e list item (kind_here types x ws e list n t) carried.no_rows over in
+      then_good (All (Fits is [] item)) (replies at (items_named ns e) srv) _
+      (rule_fine (All (Fits is [] item)) at (items_named ns e) srv (items_fine vs ws ns carry e list item carried.list list_kind t g) table) (λ items s1 fi t1.
+      then_good (λ (u : Unit {0}). Unit {0}) (turns at (λ row s2. walk_block p service (with_variable vs name Role.Row at) a (with_name name row ns) s2 ended) items s1) _
+      (turns_good item at (λ row s2. walk_block p service (with_variable vs name Role.Row at) a (with_name name row ns) s2 ended) (each (carried_far f vs e a carried)) items s1 fi t1) (λ u s2 fu t2. ends s2 t2))
   loop_good form around vs ws at name e a list item ns srv go placing w t over n g carry table ends each =
       skims_good vs ws ns carry (For at name e a) srv go (one_ready vs ws e list t n g) table ends
 
@@ -286,13 +316,13 @@ module _ (laws : Laws) (conditions : ConditionsHold) (p : Program) (service : Se
         let inner = typed.with_variable ws name d.item true in
         let same : scope_or ws (placed x ws e >>= λ q. loop_scope ws at name q) ≡ inner = ap (scope_or ws) d.judged in
         let noted : AreNotedStmts types x inner a = subst (λ i. AreNotedStmts types x i a) same n.1 in
-        let frame = Turn at vs e ∷ around in
+        let frame = Turn at vs e a ∷ around in
         let turn_scope = with_variable vs name Role.Row at in
         let rest = within_tail _ _ _ w in
         loop_good (placed_form f vs (For at name e a)) around vs ws at name e a d.list d.item ns srv go refl w d.typed d.over n.0 g.0 carry table (λ s1 t1. more ns s1 (subst (λ i. Carry is vs i ns) d.same carry) t1)
-        (λ rows row s1 fr t1.
-        block_good frame (script_inside around (over_rows f e) script rows) turn_scope inner d.last a (with_name name row ns) s1 ended d.block_typed noted g.1
-        (subst (λ r. Within (block_sites f frame (with_variable vs name (cond r Role.Row Role.Plain) at) a) ss) rows rest) (carry_more is vs ws ns name Role.Row at d.item true row fr carry) t1 (λ ns2 s2 t2. (tt, t2)))
+        (λ far row s1 fr t1.
+        block_good frame (script_inside around (has_far_turns f vs e a) script far) turn_scope inner d.last a (with_name name row ns) s1 ended d.block_typed noted g.1
+        (subst (λ r. Within (block_sites f frame (with_variable vs name r at) a) ss) (far_row f around vs e a script far) rest) (carry_more is vs ws ns name Role.Row at d.item true row fr carry) t1 (λ ns2 s2 t2. (tt, t2)))
     walk_good around script vs ws after (Try at a name b) ns srv go t n g w carry table more =
         let d = try_parts x ws at a name b after t in
         skims_good vs ws ns carry (Try at a name b) srv go tt table (λ s1 t1. more ns s1 (subst (λ i. Carry is vs i ns) d.same carry) t1)

@@ -1,5 +1,5 @@
 -- A batch of an admitted program ends as a statement does, and the whole program as its types say.
-use Rattle.std.proofs.Common.{◌≡◌, refl, sym, ap, ◌∙◌, subst, ℕ, List, [], length, Bool as Truth, true, false, not, ◌&&◌, cond, Option, Some, None, Ok}
+use Rattle.std.proofs.Common.{◌≡◌, inr, refl, sym, ap, ◌∙◌, subst, arith, ℕ, List, [], length, Bool as Truth, true, false, not, ◌&&◌, cond, Option, Some, None, Ok}
 use Rattle.std.specs.List.{Contains, flat_map}
 use Rattle.std.specs.Option.{is_some}
 use Rattle.std.proofs.lemmas.Bool.{and_parts}
@@ -29,6 +29,7 @@ use Rattle.rb_meaning_types.specs.Places.{declared_type, is_main_result}
 use Rattle.rb_meaning_types.specs.Notes.{scope_or, type_at}
 use Rattle.rb_meaning_types.specs.Lawful.{IsLawful, IsLawfulReturn}
 use Rattle.rb_meaning_types.specs.Fits.{classes_of, IsRemoteValue, FitsNamed, Fits, TableFits}
+use Rattle.rb_meaning_code.specs.Faults.{input_too_large}
 use Rattle.rb_meaning_code.specs.State.{Local, bound}
 use Rattle.rb_meaning_code.specs.Dialogue.{Question, Line, Taken, Invoke, Turn, ListTurn, Outcome, Gave, Faulted, handle, on}
 use Rattle.rb_meaning_code.specs.Statements.{performs_all}
@@ -40,13 +41,14 @@ use Rattle.rb_meaning_flow.specs.Refusals.{IsRefusal}
 use Rattle.rb_meaning_flow.specs.Outermost.{Outermost, batch_sites, program_batches}
 use Rattle.rb_meaning.specs.State.{Outside}
 use Rattle.rb_meaning.specs.RemotePart.{remote_only}
+use Rattle.rb_meaning.specs.ConstantLists.{takes_too_many}
 use Rattle.rb_meaning.specs.Unsplit.{batch_at, in_batch, with_side, begun, settles, whole_table, performs_batch}
-use Rattle.rb_meaning.specs.Meaning.{Around, local_answer, answers_around, at_batch, performs_found, in_main, gives_some, main_result, runs_main, ending_of, at_start, around_of, meaning_with}
+use Rattle.rb_meaning.specs.Meaning.{Around, local_answer, answers_around, at_batch, begins_or_faults, performs_found, in_main, gives_some, main_result, runs_main, ending_of, at_start, around_of, meaning_with}
 use Rattle.rb_meaning.specs.Others.{Others}
 use Rattle.rb_meaning.specs.Links.{IsTyped}
 use Rattle.rb_flow.specs.Program.{HasNoRefusal}
 use Rattle.rb_flow.proofs.Among.{mapped_to}
-use Rattle.rb_law_types.specs.Kept.{FaultFits}
+use Rattle.rb_law_types.specs.Kept.{IsOwnFault, FaultFits}
 use Rattle.rb_law_types.specs.Own.{IsOwnPlace}
 use Rattle.rb_law_types.specs.Formed.{IsFormedReturn, AreFormed, LawfulExprsAreFormed, LawfulStmtsAreFormed, LawfulClassesAreFormed}
 use Rattle.rb_law_types.specs.Ends.{Place, context, LocalFits, FitsPlace, Ends, Nothing, EndsThere}
@@ -57,6 +59,7 @@ use Rattle.rb_law_types.specs.Code.{AreTyped, Stands, EndsIn, bodies, TypesKeep}
 use Rattle.rb_law_types.specs.Around.{HandlerFits}
 use Rattle.rb_law_types.specs.Remote.{CallsKeep}
 use Rattle.rb_law_types.proofs.Checks.{bind_ok, then_ok, must_ok, placed_ok, same_sound}
+use Rattle.rb_law_types.proofs.Faults.{empty_text}
 use Rattle.rb_law_types.proofs.Served.{remote_out}
 use Rattle.rb_law_types.proofs.Steps.{keeps_seq, Within, left_taken, holds_less}
 use Rattle.rb_law_types.proofs.Stmts.{binds, within_added}
@@ -106,6 +109,10 @@ module _ (calls : CallsKeep) (exprs_formed : LawfulExprsAreFormed) (stmts_formed
 
   abbrev side : Side
   side = Own batches
+
+  -- the fault of lists that are too large, of code that is no service's
+  too_large : IsOwnFault input_too_large
+  too_large = record { least = omega arith; most = omega arith; not_kind = λ e. absurd (omega (arith, e)); text = empty_text; plain = inr refl }
 
   -- a batch of admission, as a site
   abbrev site_of : Outermost → List ℕ → Place → Site
@@ -220,6 +227,16 @@ module _ (calls : CallsKeep) (exprs_formed : LawfulExprsAreFormed) (stmts_formed
       site_with at' root' block' = record { at = at'; interface = b.interface; root = root'; block = block'; place = b.place }
 
   module _ (whole : AllWhole) (noted : IsNotedProgram p) where
+    -- a batch begins, or its lists are too large
+    begun_ends : (o : Outermost) (place : Place) (l : Local) (a : Around) → HoldsAround a → FitsPlace d place l
+        → EndsThere d place l (begins_or_faults false p service o l a).0 × HoldsAround (begins_or_faults false p service o l a).1
+        → EndsThere d place l (begins_or_faults (takes_too_many p o l.names) p service o l a).0 × HoldsAround (begins_or_faults (takes_too_many p o l.names) p service o l a).1
+    begun_ends o place l a h fits ends = by (takes_too_many p o l.names)
+      where
+        by : (t : Truth) → EndsThere d place l (begins_or_faults t p service o l a).0 × HoldsAround (begins_or_faults t p service o l a).1
+        by true = (record { fault = too_large; state = fits.holds; grown = λ object class e. e }, h)
+        by false = ends
+
     -- a batch that is asked is the one that is found
     found_ends : (at : ℕ) (l : Local) (a : Around) (b : Site) → HoldsAround a → IsAskedBatch d side at l b
         → EndsThere d b.place l (performs_found p service (batch_at p at) at l a).0 × HoldsAround (performs_found p service (batch_at p at) at l a).1
@@ -228,11 +245,12 @@ module _ (calls : CallsKeep) (exprs_formed : LawfulExprsAreFormed) (stmts_formed
         let o = known.begun in
         let same = same_site b known in
         let found : batch_at p at ≡ Some o = ap (batch_at p) (sym (known.at ∙ asked.here)) ∙ batch_found p lawful o known.among in
+        let site = subst (IsAskedBatch d side at l) (sym same) asked in
         let ends = batch_ends o b.interface b.place (subst (IsBatchOf p (program_batches (facts_of p) p)) (sym same) known) known.among
         (whole o b.interface b.place (subst (IsBatchOf p (program_batches (facts_of p) p)) (sym same) known) known.agree known.among) at l (at_batch a) (stands_at_batch service a h)
-        (subst (IsAskedBatch d side at l) (sym same) asked) in
+        site in
         subst (λ f. EndsThere d b.place l (performs_found p service f at l a).0 × HoldsAround (performs_found p service f at l a).1) (sym found)
-        (ends.0, stands_behind service a (performs_batch p service o l (at_batch a)) h ends.1)
+        (begun_ends o b.place l a h asked.fits (ends.0, stands_behind service a (performs_batch p service o l (at_batch a)) h ends.1))
 
     answers : (a : Around) (q : Question) → HoldsAround a → IsAsked d side q → IsAnswer d side q (local_answer q)
     answers a (Line at bytes) h asked = tt

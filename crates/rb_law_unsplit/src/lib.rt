@@ -3,6 +3,7 @@
 //! There is no code here; the laws are functions that do nothing.
 #![tactic(auto)]
 
+ghost use Rattle.rb_law_unsplit.specs.CarriedLoops.{LawfulHaveCarriedLoops};
 ghost use Rattle.rb_law_unsplit.specs.Kept.{AdmittedMeanWell};
 ghost use Rattle.rb_law_unsplit.specs.Noted.{LawfulAreNoted};
 
@@ -15,6 +16,11 @@ use rb_law_types::{
 /// In a lawful program the type of each expression is the one that is noted at its position.
 pub fn lawful_programs_are_noted()
     ensures { LawfulAreNoted }
+{}
+
+/// In a lawful program a statement of a batch is a carried loop just where one stands at its position.
+pub fn carried_loops_stand_at_their_positions()
+    ensures { LawfulHaveCarriedLoops }
 {}
 
 /// A lawful, typed program without refusals, on a typed service and with whatever fuel, ends by a value of `main`'s type

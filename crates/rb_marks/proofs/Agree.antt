@@ -7,10 +7,11 @@ use Rattle.rb_trees.specs.mirror.Code.{Expr, Exprs, Lit, Name, This, Unary, Bina
 use Rattle.rb_meaning_flow.specs.declared.scopes.Role.{Role}
 use Rattle.rb_meaning_flow.specs.Facts.{Facts, over_rows}
 use Rattle.rb_meaning_flow.specs.Scopes.{Scope, with_variable, role_with, variable_with, scope_with}
-use Rattle.rb_meaning_flow.specs.Portable.{portable, branches_hold}
+use Rattle.rb_meaning_flow.specs.Portable.{portable, branches_hold, may_carry, has_far_turns}
 use Rattle.rb_meaning_flow.specs.Sites.{Around, Branch, WhileTurn, Turn, InTry, InBatch, is_script_place, StmtSite, Over, ExprSite, expr_sites, exprs_sites, all_sites, own, sites, block_sites, exprs_of, scope_after, turn_role}
 use Rattle.rb_meaning_flow.specs.Marks.{is_portable_call, is_remote_whole, is_remote_at, mark_at, marks_of}
-use Rattle.rb_marks.specs.Passes.{Marked, inner, note, marked, all_marked, scope_then, stmt_marked, block_marked}
+use Rattle.rb_marks.specs.Passes as passes
+use Rattle.rb_marks.specs.Passes.{Marked, inner, note, marked, all_marked, turn_script, scope_then, stmt_marked, block_marked}
 use Rattle.rb_marks.proofs.Joined.{with_one, with_two, joined, none}
 
 abbrev mark_note : Facts → ExprSite → ℕ × Mark
@@ -125,16 +126,25 @@ inner_role : (assigned : List (List ℕ)) (name : List ℕ) (b : Bool) (role oth
 inner_role assigned name true role other e f = e
 inner_role assigned name false role other e f = f
 
-bound : (assigned : List (List ℕ)) (scope : Scope) (name : List ℕ) (role : Role) (node : ℕ) → role_with assigned name role ≡ role
+pub bound : (assigned : List (List ℕ)) (scope : Scope) (name : List ℕ) (role : Role) (node : ℕ) → role_with assigned name role ≡ role
     → scope_with assigned (with_variable scope name role node) ≡ with_variable (scope_with assigned scope) name role node
 bound assigned scope name role node e = map-append (variable_with assigned) scope _ ∙ ap (λ r. with_variable (scope_with assigned scope) name r node) e
 
-turn_bound : (x : Facts) (assigned : List (List ℕ)) (scope : Scope) (name : List ℕ) (list : Expr) (node : ℕ)
-    → scope_with assigned (with_variable scope name (turn_role x list) node) ≡ with_variable (scope_with assigned scope) name (turn_role x list) node
-turn_bound x assigned scope name list node =
-    bound assigned scope name (turn_role x list) node (inner_role assigned name (over_rows x list) Role.Row Role.Plain refl refl)
+-- the block of a loop over rows, or of one that may be carried, is a script place where the loop stands at one
+turn_cases : (rows script may : Bool) → passes.turn_role rows (script && (rows || may)) ≡ cond (rows || (script && may)) Role.Row Role.Plain
+turn_cases true script may = refl
+turn_cases false script may = refl
 
-then_after : (x : Facts) (assigned : List (List ℕ)) (script : Bool) (around : List Around) (scope : Scope) (s : Stmt) → script ≡ is_script_place x around
+pub turn_bound : (x : Facts) (assigned : List (List ℕ)) (script : Bool) (around : List Around) (scope : Scope) (name : List ℕ) (list : Expr) (block : Stmts) (node : ℕ) → script ≡ is_script_place x around
+    → scope_with assigned (with_variable scope name (passes.turn_role (over_rows x list) (turn_script x script (scope_with assigned scope) list block)) node)
+    ≡ with_variable (scope_with assigned scope) name (turn_role x around (scope_with assigned scope) list block) node
+turn_bound x assigned script around scope name list block node h =
+    let seen : Scope = scope_with assigned scope in
+    bound assigned scope name _ node (inner_role assigned name (over_rows x list || turn_script x script seen list block) Role.Row Role.Plain refl refl)
+    ∙ ap (λ r. with_variable seen name r node) (turn_cases (over_rows x list) script (may_carry x seen list block)
+    ∙ ap (λ t. cond (over_rows x list || (t && may_carry x seen list block)) Role.Row Role.Plain) h)
+
+pub then_after : (x : Facts) (assigned : List (List ℕ)) (script : Bool) (around : List Around) (scope : Scope) (s : Stmt) → script ≡ is_script_place x around
     → scope_with assigned (scope_then x assigned script scope s) ≡ scope_after x around (scope_with assigned scope) s
 then_after x assigned script around scope (Val at name e) h =
     bound assigned scope name _ at (inner_role assigned name (script && portable x (scope_with assigned scope) e) Role.Carried Role.Plain refl refl)
@@ -221,10 +231,11 @@ mutual
       ∙ ap (noted x notes) (one_own (expr_sites s [] c) (exprs_of as'))
   stmt_agrees x assigned script around scope notes (For at name e a) h =
       let s : StmtSite = record { around = around; scope = scope_with assigned scope; stmt = For at name e a } in
-      let in_turn : List Around = Turn at s.scope e ∷ around in
-      let as' = block_sites x in_turn (with_variable s.scope name (turn_role x e) at) a in
-      block_agrees x assigned (script && over_rows x e) in_turn (with_variable scope name (turn_role x e) at) (marked x s.scope (over_rows x e) notes e) a (ap (λ t. t && over_rows x e) h)
-      ∙ ap (λ sc. noted x (marked x s.scope (over_rows x e) notes e) (exprs_of (block_sites x in_turn sc a))) (turn_bound x assigned scope name e at)
+      let in_turn : List Around = Turn at s.scope e a ∷ around in
+      let turn : Bool = turn_script x script s.scope e a in
+      let as' = block_sites x in_turn (with_variable s.scope name (turn_role x around s.scope e a) at) a in
+      block_agrees x assigned turn in_turn (with_variable scope name (passes.turn_role (over_rows x e) turn) at) (marked x s.scope (over_rows x e) notes e) a (ap (λ t. t && has_far_turns x s.scope e a) h)
+      ∙ ap (λ sc. noted x (marked x s.scope (over_rows x e) notes e) (exprs_of (block_sites x in_turn sc a))) (turn_bound x assigned script around scope name e a at h)
       ∙ ap (λ ns. noted x ns (exprs_of as')) (marked_sites x s [] (over_rows x e) notes e (or_false _))
       ∙ joined (mark_note x) notes (expr_sites s [] e) (exprs_of as')
       ∙ ap (noted x notes) (one_own (expr_sites s [] e) (exprs_of as'))

@@ -10,7 +10,7 @@ use Rattle.rb_trees.specs.mirror.Code.{Expr, Exprs, Lit, Name, This, Unary, Bina
 use Rattle.rb_meaning_flow.specs.declared.scopes.Role.{Role}
 use Rattle.rb_meaning_flow.specs.Facts.{Facts, is_remote, over_rows, facts_of}
 use Rattle.rb_meaning_flow.specs.Scopes.{Scope, with_variable, opened}
-use Rattle.rb_meaning_flow.specs.Portable.{portable, is_constant, holds_call, any_holds_call, holds_operation, block_holds, branches_hold}
+use Rattle.rb_meaning_flow.specs.Portable.{portable, is_constant, holds_call, any_holds_call, holds_operation, block_holds, branches_hold, is_constant_list, has_far_turns}
 use Rattle.rb_meaning_flow.specs.Sites.{Around, Branch, WhileTurn, Turn, InTry, InBatch, is_script_place, StmtSite, Over, ExprSite, expr_sites, exprs_sites, all_sites, own, sites, block_sites, exprs_of, scope_after, turn_role}
 use Rattle.rb_meaning_flow.specs.Marks.{is_portable_call, is_remote_whole, is_remote_at}
 use Rattle.rb_meaning_flow.specs.Outermost.{Outermost, batch_sites, program_batches}
@@ -220,12 +220,13 @@ own_operation x (For at name e a) h = or_left _ (block_holds x a) (or_right (ove
 own_operation x (Try at a name b) h = absurd (false≢true h)
 own_operation x (Batch at interface root a) h = absurd (false≢true h)
 
--- whether each branch around is one of two that hold an operation, and no batch stands around
+-- whether each branch around is one of two that hold an operation, each block of a loop around holds one, and no batch
+-- stands around
 abbrev sound : Facts → List Around → Bool
 sound x [] = true
 sound x (Branch at scope c a b ∷ around) = branches_hold x a b && sound x around
 sound x (WhileTurn at scope c ∷ around) = sound x around
-sound x (Turn at scope list ∷ around) = sound x around
+sound x (Turn at scope list block ∷ around) = block_holds x block && sound x around
 sound x (InTry at scope tried name handler ∷ around) = sound x around
 sound x (InBatch at ∷ around) = false
 
@@ -275,7 +276,7 @@ mutual
   ]
   stmt_sound x around scope (For at name e a) t h nb m op = elim (contains_cases _ t _ m) [
     | inl same ↦ alone x _ t h same op
-    | inr n ↦ block_sound x (Turn at scope e ∷ around) (with_variable scope name (turn_role x e) at) a t (λ k. h (or_right (over_rows x e || holds_call x e) (block_holds x a) k)) (λ u i. nb u (one_more _ u _ i)) n op
+    | inr n ↦ block_sound x (Turn at scope e a ∷ around) (with_variable scope name (turn_role x around scope e a) at) a t (λ k. and_from _ _ k (h (or_right (over_rows x e || holds_call x e) (block_holds x a) k))) (λ u i. nb u (one_more _ u _ i)) n op
   ]
   stmt_sound x around scope (Try at a name b) t h nb m op = elim (contains_cases _ t _ m) [
     | inl same ↦ alone x _ t h same op
@@ -301,9 +302,14 @@ nil_parts : {A : Type 0} (as' bs : List A) → as' ++ bs ≡ [] → (as' ≡ [])
 nil_parts [] bs e = (refl, e)
 nil_parts (a ∷ as') bs e = cc
 
-rows_by : (b : Bool) (n : ℕ) → cond b [] (n ∷ []) ≡ [] → b ≡ true
-rows_by true n e = refl
-rows_by false n e = cc
+known_by : (b : Bool) (n : ℕ) → cond b [] (n ∷ []) ≡ [] → b ≡ true
+known_by true n e = refl
+known_by false n e = cc
+
+-- a loop over rows or over a constant list, whose block holds an operation, has its turns in the script
+far_by : (rows list holds : Bool) → (rows || list) ≡ true → holds ≡ true → (rows || (list && holds)) ≡ true
+far_by true list holds e h = refl
+far_by false list holds e h = and_from list holds e h
 
 -- without local conditions and `try`, with branches that hold an operation, a place is a script place
 script_by : (x : Facts) (around : List Around) → flat_map (frame_condition x) around ≡ [] → any_try around ≡ false → sound x around ≡ true → is_script_place x around ≡ true
@@ -312,9 +318,12 @@ script_by x (Branch at scope e a b ∷ around) c t s =
     let parts = and_parts (branches_hold x a b) (sound x around) s in
     and_from (is_script_place x around) (branches_hold x a b) (script_by x around (nil_parts (frame_condition x (Branch at scope e a b)) (flat_map (frame_condition x) around) c).1 t parts.1) parts.0
 script_by x (WhileTurn at scope e ∷ around) c t s = cc
-script_by x (Turn at scope list ∷ around) c t s =
-    let parts = nil_parts (frame_condition x (Turn at scope list)) (flat_map (frame_condition x) around) c in
-    and_from (is_script_place x around) (over_rows x list) (script_by x around parts.1 t s) (rows_by (over_rows x list) (expr_at list) parts.0)
+script_by x (Turn at scope list block ∷ around) c t s =
+    let parts = nil_parts (frame_condition x (Turn at scope list block)) (flat_map (frame_condition x) around) c in
+    let holds = and_parts (block_holds x block) (sound x around) s in
+    let known = known_by (over_rows x list || is_constant_list scope list) (expr_at list) parts.0 in
+    and_from (is_script_place x around) (has_far_turns x scope list block) (script_by x around parts.1 t holds.1)
+    (far_by (over_rows x list) (is_constant_list scope list) (block_holds x block) known holds.0)
 script_by x (InTry at scope tried name handler ∷ around) c t s = absurd (true≢false t)
 script_by x (InBatch at ∷ around) c t s = absurd (false≢true s)
 

@@ -1,5 +1,5 @@
 -- The walks through a program give the notes of all its outermost batches.
-use Rattle.std.proofs.Common.{◌≡◌, List, [], ◌∷◌, ◌++◌, map, true, refl, sym, ap, ◌∙◌, append_assoc}
+use Rattle.std.proofs.Common.{◌≡◌, List, [], ◌∷◌, ◌++◌, map, true, false, refl, sym, ap, ◌∙◌, append_assoc}
 use Rattle.std.proofs.lemmas.List.{append-nil}
 use Rattle.std.specs.List.{flat_map}
 use Rattle.rb_trees.specs.mirror.Code.{expr_at, Stmt, Stmts, Val, Var, Assign, Run, Print, Throw, If, While, For, Try, Batch, NoStmts, MoreStmts}
@@ -7,7 +7,7 @@ use Rattle.rb_trees.specs.declared.declarations.Program as tree
 use Rattle.rb_trees.specs.mirror.Declarations.{Method, Class, Program, mirror_program}
 use Rattle.rb_meaning_flow.specs.declared.scopes.Role.{Role}
 use Rattle.rb_meaning_flow.specs.Facts.{Facts, facts_of}
-use Rattle.rb_meaning_flow.specs.Scopes.{Scope, with_variable, assigned_in, opened}
+use Rattle.rb_meaning_flow.specs.Scopes.{Scope, with_variable, assigned_in}
 use Rattle.rb_meaning_flow.specs.Sites.{StmtSite}
 use Rattle.rb_meaning_flow.specs.Marks.{marks_of, places_of}
 use Rattle.rb_meaning_flow.specs.Outermost.{Outermost, batch_sites, outer_role, outer_after, outermost, outermost_in, parameters, method_batches, class_batches, program_batches}
@@ -48,9 +48,9 @@ mutual
       ∙ ap (λ ns. ns ++ all_notes x (marks_of x) (outermost_in x scope b)) (marks_outer_block x scope notes a)
       ∙ behind x (marks_of x) notes (outermost_in x scope a) (outermost_in x scope b)
   marks_outer x scope notes (While at c a) = marks_outer_block x scope notes a
-  marks_outer x scope notes (For at name e a) = marks_outer_block x (with_variable scope name (outer_role (x.items (expr_at e))) at) notes a
+  marks_outer x scope notes (For at name e a) = marks_outer_block x (with_variable scope name (outer_role (x.items (expr_at e)) (x.lists (expr_at e))) at) notes a
   marks_outer x scope notes (Try at a name b) =
-      let inner : Scope = with_variable scope name (outer_role true) at in
+      let inner : Scope = with_variable scope name (outer_role true false) at in
       marks_outer_block x inner (outer_block_marked x scope notes a) b
       ∙ ap (λ ns. ns ++ all_notes x (marks_of x) (outermost_in x inner b)) (marks_outer_block x scope notes a)
       ∙ behind x (marks_of x) notes (outermost_in x scope a) (outermost_in x inner b)
@@ -64,7 +64,7 @@ mutual
       ∙ behind x (marks_of x) notes (outermost x scope s) (outermost_in x (outer_after x scope s) ss)
 
 mutual
-  places_outer : (x : Facts) (scope : Scope) (notes : Placed) (s : Stmt) → outer_placed x notes s ≡ notes ++ all_notes x (places_of x) (outermost x scope s)
+  places_outer : (x : Facts) (scope : Scope) (notes : Placed) (s : Stmt) → outer_placed x scope notes s ≡ notes ++ all_notes x (places_of x) (outermost x scope s)
   places_outer x scope notes (Val at name e) = nothing notes
   places_outer x scope notes (Var at name e) = nothing notes
   places_outer x scope notes (Assign at a b) = nothing notes
@@ -72,22 +72,22 @@ mutual
   places_outer x scope notes (Print at e) = nothing notes
   places_outer x scope notes (Throw at e) = nothing notes
   places_outer x scope notes (If at c a b) =
-      places_outer_block x scope (outer_block_placed x notes a) b
+      places_outer_block x scope (outer_block_placed x scope notes a) b
       ∙ ap (λ ns. ns ++ all_notes x (places_of x) (outermost_in x scope b)) (places_outer_block x scope notes a)
       ∙ behind x (places_of x) notes (outermost_in x scope a) (outermost_in x scope b)
   places_outer x scope notes (While at c a) = places_outer_block x scope notes a
-  places_outer x scope notes (For at name e a) = places_outer_block x (with_variable scope name (outer_role (x.items (expr_at e))) at) notes a
+  places_outer x scope notes (For at name e a) = places_outer_block x (with_variable scope name (outer_role (x.items (expr_at e)) (x.lists (expr_at e))) at) notes a
   places_outer x scope notes (Try at a name b) =
-      let inner : Scope = with_variable scope name (outer_role true) at in
-      places_outer_block x inner (outer_block_placed x notes a) b
+      let inner : Scope = with_variable scope name (outer_role true false) at in
+      places_outer_block x inner (outer_block_placed x scope notes a) b
       ∙ ap (λ ns. ns ++ all_notes x (places_of x) (outermost_in x inner b)) (places_outer_block x scope notes a)
       ∙ behind x (places_of x) notes (outermost_in x scope a) (outermost_in x inner b)
-  places_outer x scope notes (Batch at interface root a) = batch_places x (opened scope at root a) notes a ∙ one_batch notes _
+  places_outer x scope notes (Batch at interface root a) = batch_places x (assigned_in a) (with_variable scope root Role.Root at) notes a ∙ one_batch notes _
 
-  places_outer_block : (x : Facts) (scope : Scope) (notes : Placed) (ss : Stmts) → outer_block_placed x notes ss ≡ notes ++ all_notes x (places_of x) (outermost_in x scope ss)
+  places_outer_block : (x : Facts) (scope : Scope) (notes : Placed) (ss : Stmts) → outer_block_placed x scope notes ss ≡ notes ++ all_notes x (places_of x) (outermost_in x scope ss)
   places_outer_block x scope notes NoStmts = nothing notes
   places_outer_block x scope notes (MoreStmts s ss) =
-      places_outer_block x (outer_after x scope s) (outer_placed x notes s) ss
+      places_outer_block x (outer_after x scope s) (outer_placed x scope notes s) ss
       ∙ ap (λ ns. ns ++ all_notes x (places_of x) (outermost_in x (outer_after x scope s) ss)) (places_outer x scope notes s)
       ∙ behind x (places_of x) notes (outermost x scope s) (outermost_in x (outer_after x scope s) ss)
 
@@ -114,7 +114,7 @@ marks_agree x p =
 places_methods : (x : Facts) (notes : Placed) (ms : List Method) → methods_placed x notes ms ≡ notes ++ all_notes x (places_of x) (flat_map (method_batches x) ms)
 places_methods x notes [] = nothing notes
 places_methods x notes (m ∷ ms) =
-    places_methods x (outer_block_placed x notes m.body.statements) ms
+    places_methods x (outer_block_placed x (parameters m.signature.params) notes m.body.statements) ms
     ∙ ap (λ ns. ns ++ all_notes x (places_of x) (flat_map (method_batches x) ms)) (places_outer_block x (parameters m.signature.params) notes m.body.statements)
     ∙ behind x (places_of x) notes (method_batches x m) (flat_map (method_batches x) ms)
 

@@ -120,8 +120,8 @@ mutual
       ∙ ap (λ n. here q at + n) (sym (block_count q c a))
   stmt_stands q x around scope (For at name e a) =
       let s : StmtSite = record { around = around; scope = scope; stmt = For at name e a } in
-      let in_turn : List Around = Turn at scope e ∷ around in
-      let inner : Scope = with_variable scope name (turn_role x e) at in
+      let in_turn : List Around = Turn at scope e a ∷ around in
+      let inner : Scope = with_variable scope name (turn_role x around scope e a) at in
       one_own q s e (block_sites x in_turn inner a) (stmts_positions a) refl (block_stands q x in_turn inner a)
       ∙ ap (λ n. here q at + n) (sym (block_count q e a))
   stmt_stands q x around scope (Try at a name b) =
@@ -174,9 +174,9 @@ mutual
       less (here q at) (count q (expr_positions c)) _ (count q (stmts_positions a)) _ (outer_block_stands q x scope a) (ap (λ n. here q at + n) (block_count q c a))
   outer_stands q x scope (For at name e a) =
       less (here q at) (count q (expr_positions e)) _ (count q (stmts_positions a)) _
-      (outer_block_stands q x (with_variable scope name (outer_role (x.items (expr_at e))) at) a) (ap (λ n. here q at + n) (block_count q e a))
+      (outer_block_stands q x (with_variable scope name (outer_role (x.items (expr_at e)) (x.lists (expr_at e))) at) a) (ap (λ n. here q at + n) (block_count q e a))
   outer_stands q x scope (Try at a name b) =
-      let inner : Scope = with_variable scope name (outer_role true) at in
+      let inner : Scope = with_variable scope name (outer_role true false) at in
       less (here q at) 0 _ (count q (stmts_positions a) + count q (stmts_positions b)) _
       (sum_less (totals_append q x (outermost_in x scope a) (outermost_in x inner b)) (outer_block_stands q x scope a) (outer_block_stands q x inner b))
       (ap (λ n. here q at + n) (blocks_count q a b ∙ none_plus _))

@@ -18,6 +18,6 @@ pub ruleset stmt_rules = (stmts, stmt_at_tree, common_steps)
 
 pub ruleset mark_rules = (exprs, expr_at_tree, marked_parts, common_steps)
 
-pub ruleset stmt_mark_rules = (stmts, take_front, kept_then, take_kept, common_steps)
+pub ruleset stmt_mark_rules = (stmts, stmt_at_tree, take_front, kept_then, take_kept, common_steps)
 
 pub ruleset outer_rules = (stmts, kinds, expr_at_tree, take_front, kept_outer, take_kept, common_steps)

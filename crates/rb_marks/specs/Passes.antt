@@ -8,8 +8,7 @@ use Rattle.rb_trees.specs.mirror.Declarations.{Method, Class, Program}
 use Rattle.rb_meaning_flow.specs.declared.scopes.Role.{Role}
 use Rattle.rb_meaning_flow.specs.Facts.{Facts, over_rows}
 use Rattle.rb_meaning_flow.specs.Scopes.{Scope, with_variable, scope_with, assigned_in}
-use Rattle.rb_meaning_flow.specs.Portable.{portable, is_constant, branches_hold, holds_operation}
-use Rattle.rb_meaning_flow.specs.Sites.{turn_role}
+use Rattle.rb_meaning_flow.specs.Portable.{portable, is_constant, branches_hold, holds_operation, has_far_turns}
 use Rattle.rb_meaning_flow.specs.Marks.{is_portable_call}
 use Rattle.rb_meaning_flow.specs.Outermost.{outer_role, parameters, outer_after}
 
@@ -74,8 +73,13 @@ parts_marked x scope inside notes (Taken at step) = notes
 abbrev pub branch_script : Facts → Bool → Stmts → Stmts → Bool
 branch_script x script a b = script && branches_hold x a b
 
-abbrev pub turn_script : Facts → Bool → Expr → Bool
-turn_script x script e = script && over_rows x e
+-- whether the block of a loop is one
+abbrev pub turn_script : Facts → Bool → Scope → Expr → Stmts → Bool
+turn_script x script scope list block = script && has_far_turns x scope list block
+
+-- what the variable of a loop is, which is over rows or isn't, and whose block is a script place or isn't
+abbrev pub turn_role : (rows script : Bool) → Role
+turn_role rows script = cond (rows || script) Role.Row Role.Plain
 
 abbrev pub carried_role : Facts → Bool → Scope → Expr → Role
 carried_role x script scope e = cond (script && portable x scope e) Role.Carried Role.Plain
@@ -109,7 +113,9 @@ abbrev mutual
       block_marked x assigned (branch_script x script a b) scope (block_marked x assigned (branch_script x script a b) scope (marked x (scope_with assigned scope) (branch_script x script a b) notes c) a) b
   stmt_marked x assigned script scope notes (While at c a) = block_marked x assigned false scope (marked x (scope_with assigned scope) false notes c) a
   stmt_marked x assigned script scope notes (For at name e a) =
-      block_marked x assigned (turn_script x script e) (with_variable scope name (turn_role x e) at) (marked x (scope_with assigned scope) (over_rows x e) notes e) a
+      block_marked x assigned (turn_script x script (scope_with assigned scope) e a)
+      (with_variable scope name (turn_role (over_rows x e) (turn_script x script (scope_with assigned scope) e a)) at)
+      (marked x (scope_with assigned scope) (over_rows x e) notes e) a
   stmt_marked x assigned script scope notes (Try at a name b) =
       block_marked x assigned false (with_variable scope name Role.Plain at) (block_marked x assigned false scope notes a) b
   stmt_marked x assigned script scope notes (Batch at interface root a) = block_marked x assigned false (with_variable scope root Role.Plain at) notes a
@@ -125,23 +131,28 @@ abbrev pub place_noted : Facts → Bool → Placed → Stmt → Placed
 place_noted x script notes s = notes ++ (stmt_at s, place_of x script s) ∷ []
 
 abbrev mutual
-  pub stmt_placed : Facts → Bool → Placed → Stmt → Placed
-  stmt_placed x script notes (Val at name e) = place_noted x script notes (Val at name e)
-  stmt_placed x script notes (Var at name e) = place_noted x script notes (Var at name e)
-  stmt_placed x script notes (Assign at a b) = place_noted x script notes (Assign at a b)
-  stmt_placed x script notes (Run at e) = place_noted x script notes (Run at e)
-  stmt_placed x script notes (Print at e) = place_noted x script notes (Print at e)
-  stmt_placed x script notes (Throw at e) = place_noted x script notes (Throw at e)
-  stmt_placed x script notes (If at c a b) =
-      block_placed x (branch_script x script a b) (block_placed x (branch_script x script a b) (place_noted x script notes (If at c a b)) a) b
-  stmt_placed x script notes (While at c a) = block_placed x false (place_noted x script notes (While at c a)) a
-  stmt_placed x script notes (For at name e a) = block_placed x (turn_script x script e) (place_noted x script notes (For at name e a)) a
-  stmt_placed x script notes (Try at a name b) = block_placed x false (block_placed x false (place_noted x script notes (Try at a name b)) a) b
-  stmt_placed x script notes (Batch at interface root a) = block_placed x false (place_noted x script notes (Batch at interface root a)) a
+  pub stmt_placed : Facts → List (List ℕ) → Bool → Scope → Placed → Stmt → Placed
+  stmt_placed x assigned script scope notes (Val at name e) = place_noted x script notes (Val at name e)
+  stmt_placed x assigned script scope notes (Var at name e) = place_noted x script notes (Var at name e)
+  stmt_placed x assigned script scope notes (Assign at a b) = place_noted x script notes (Assign at a b)
+  stmt_placed x assigned script scope notes (Run at e) = place_noted x script notes (Run at e)
+  stmt_placed x assigned script scope notes (Print at e) = place_noted x script notes (Print at e)
+  stmt_placed x assigned script scope notes (Throw at e) = place_noted x script notes (Throw at e)
+  stmt_placed x assigned script scope notes (If at c a b) =
+      block_placed x assigned (branch_script x script a b) scope (block_placed x assigned (branch_script x script a b) scope (place_noted x script notes (If at c a b)) a) b
+  stmt_placed x assigned script scope notes (While at c a) = block_placed x assigned false scope (place_noted x script notes (While at c a)) a
+  stmt_placed x assigned script scope notes (For at name e a) =
+      block_placed x assigned (turn_script x script (scope_with assigned scope) e a)
+      (with_variable scope name (turn_role (over_rows x e) (turn_script x script (scope_with assigned scope) e a)) at)
+      (place_noted x script notes (For at name e a)) a
+  stmt_placed x assigned script scope notes (Try at a name b) =
+      block_placed x assigned false (with_variable scope name Role.Plain at) (block_placed x assigned false scope (place_noted x script notes (Try at a name b)) a) b
+  stmt_placed x assigned script scope notes (Batch at interface root a) =
+      block_placed x assigned false (with_variable scope root Role.Plain at) (place_noted x script notes (Batch at interface root a)) a
 
-  pub block_placed : Facts → Bool → Placed → Stmts → Placed
-  block_placed x script notes NoStmts = notes
-  block_placed x script notes (MoreStmts s ss) = block_placed x script (stmt_placed x script notes s) ss
+  pub block_placed : Facts → List (List ℕ) → Bool → Scope → Placed → Stmts → Placed
+  block_placed x assigned script scope notes NoStmts = notes
+  block_placed x assigned script scope notes (MoreStmts s ss) = block_placed x assigned script (scope_then x assigned script scope s) (stmt_placed x assigned script scope notes s) ss
 
 -- the notes so far, and those of the outermost batches of a statement outside batches
 abbrev mutual
@@ -154,8 +165,8 @@ abbrev mutual
   outer_marked x scope notes (Throw at e) = notes
   outer_marked x scope notes (If at c a b) = outer_block_marked x scope (outer_block_marked x scope notes a) b
   outer_marked x scope notes (While at c a) = outer_block_marked x scope notes a
-  outer_marked x scope notes (For at name e a) = outer_block_marked x (with_variable scope name (outer_role (x.items (expr_at e))) at) notes a
-  outer_marked x scope notes (Try at a name b) = outer_block_marked x (with_variable scope name (outer_role true) at) (outer_block_marked x scope notes a) b
+  outer_marked x scope notes (For at name e a) = outer_block_marked x (with_variable scope name (outer_role (x.items (expr_at e)) (x.lists (expr_at e))) at) notes a
+  outer_marked x scope notes (Try at a name b) = outer_block_marked x (with_variable scope name (outer_role true false) at) (outer_block_marked x scope notes a) b
   outer_marked x scope notes (Batch at interface root a) = block_marked x (assigned_in a) true (with_variable scope root Role.Root at) notes a
 
   pub outer_block_marked : Facts → Scope → Marked → Stmts → Marked
@@ -163,22 +174,22 @@ abbrev mutual
   outer_block_marked x scope notes (MoreStmts s ss) = outer_block_marked x (outer_after x scope s) (outer_marked x scope notes s) ss
 
 abbrev mutual
-  pub outer_placed : Facts → Placed → Stmt → Placed
-  outer_placed x notes (Val at name e) = notes
-  outer_placed x notes (Var at name e) = notes
-  outer_placed x notes (Assign at a b) = notes
-  outer_placed x notes (Run at e) = notes
-  outer_placed x notes (Print at e) = notes
-  outer_placed x notes (Throw at e) = notes
-  outer_placed x notes (If at c a b) = outer_block_placed x (outer_block_placed x notes a) b
-  outer_placed x notes (While at c a) = outer_block_placed x notes a
-  outer_placed x notes (For at name e a) = outer_block_placed x notes a
-  outer_placed x notes (Try at a name b) = outer_block_placed x (outer_block_placed x notes a) b
-  outer_placed x notes (Batch at interface root a) = block_placed x true notes a
+  pub outer_placed : Facts → Scope → Placed → Stmt → Placed
+  outer_placed x scope notes (Val at name e) = notes
+  outer_placed x scope notes (Var at name e) = notes
+  outer_placed x scope notes (Assign at a b) = notes
+  outer_placed x scope notes (Run at e) = notes
+  outer_placed x scope notes (Print at e) = notes
+  outer_placed x scope notes (Throw at e) = notes
+  outer_placed x scope notes (If at c a b) = outer_block_placed x scope (outer_block_placed x scope notes a) b
+  outer_placed x scope notes (While at c a) = outer_block_placed x scope notes a
+  outer_placed x scope notes (For at name e a) = outer_block_placed x (with_variable scope name (outer_role (x.items (expr_at e)) (x.lists (expr_at e))) at) notes a
+  outer_placed x scope notes (Try at a name b) = outer_block_placed x (with_variable scope name (outer_role true false) at) (outer_block_placed x scope notes a) b
+  outer_placed x scope notes (Batch at interface root a) = block_placed x (assigned_in a) true (with_variable scope root Role.Root at) notes a
 
-  pub outer_block_placed : Facts → Placed → Stmts → Placed
-  outer_block_placed x notes NoStmts = notes
-  outer_block_placed x notes (MoreStmts s ss) = outer_block_placed x (outer_placed x notes s) ss
+  pub outer_block_placed : Facts → Scope → Placed → Stmts → Placed
+  outer_block_placed x scope notes NoStmts = notes
+  outer_block_placed x scope notes (MoreStmts s ss) = outer_block_placed x (outer_after x scope s) (outer_placed x scope notes s) ss
 
 -- the notes of methods, of classes, and of a whole program
 abbrev pub methods_marked : Facts → Marked → List Method → Marked
@@ -194,11 +205,11 @@ program_marked x p = outer_block_marked x [] (classes_marked x [] p.classes) p.b
 
 abbrev pub methods_placed : Facts → Placed → List Method → Placed
 methods_placed x notes [] = notes
-methods_placed x notes (m ∷ ms) = methods_placed x (outer_block_placed x notes m.body.statements) ms
+methods_placed x notes (m ∷ ms) = methods_placed x (outer_block_placed x (parameters m.signature.params) notes m.body.statements) ms
 
 abbrev pub classes_placed : Facts → Placed → List Class → Placed
 classes_placed x notes [] = notes
 classes_placed x notes (c ∷ cs) = classes_placed x (methods_placed x notes c.methods) cs
 
 abbrev pub program_placed : Facts → Program → Placed
-program_placed x p = outer_block_placed x (classes_placed x [] p.classes) p.body.statements
+program_placed x p = outer_block_placed x [] (classes_placed x [] p.classes) p.body.statements

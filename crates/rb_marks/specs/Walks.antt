@@ -41,11 +41,15 @@ opened_marks x script scope name role node notes ss = stmts_marks x script (with
 abbrev pub scope_behind : Batch → Bool → Scope → Stmt → Scope
 scope_behind x script scope s = passes.scope_then (facts_in x) x.assigned script scope (mirror_stmt s)
 
-abbrev pub stmt_places : Program → Bool → Placed → Stmt → Placed
-stmt_places p script notes s = passes.stmt_placed (told p) script notes (mirror_stmt s)
+-- the same for places
+abbrev pub stmt_places : Batch → Bool → Scope → Placed → Stmt → Placed
+stmt_places x script scope notes s = passes.stmt_placed (facts_in x) x.assigned script scope notes (mirror_stmt s)
 
-abbrev pub stmts_places : Program → Bool → Placed → List Stmt → Placed
-stmts_places p script notes ss = passes.block_placed (told p) script notes (mirror_stmts ss)
+abbrev pub stmts_places : Batch → Bool → Scope → Placed → List Stmt → Placed
+stmts_places x script scope notes ss = passes.block_placed (facts_in x) x.assigned script scope notes (mirror_stmts ss)
+
+abbrev pub opened_places : Batch → Bool → Scope → List ℕ → Role → ℕ → Placed → List Stmt → Placed
+opened_places x script scope name role node notes ss = stmts_places x script (with_variable scope name role node) notes ss
 
 -- outside batches: an outermost batch, a statement, statements in order, and a block with a variable of its own
 abbrev pub batch_marks : Program → Scope → List ℕ → ℕ → Marked → List Stmt → Marked
@@ -70,11 +74,19 @@ methods_marks p notes ms = passes.methods_marked (told p) notes (map mirror_meth
 abbrev pub classes_marks : Program → Marked → List Class → Marked
 classes_marks p notes cs = passes.classes_marked (told p) notes (map mirror_class cs)
 
-abbrev pub outer_places : Program → Placed → Stmt → Placed
-outer_places p notes s = passes.outer_placed (told p) notes (mirror_stmt s)
+-- the same for places
+abbrev pub batch_places : Program → Scope → List ℕ → ℕ → Placed → List Stmt → Placed
+batch_places p scope root at notes block =
+    passes.block_placed (told p) (assigned_in (mirror_stmts block)) true (with_variable scope root Role.Root at) notes (mirror_stmts block)
 
-abbrev pub outer_stmts_places : Program → Placed → List Stmt → Placed
-outer_stmts_places p notes ss = passes.outer_block_placed (told p) notes (mirror_stmts ss)
+abbrev pub outer_places : Program → Scope → Placed → Stmt → Placed
+outer_places p scope notes s = passes.outer_placed (told p) scope notes (mirror_stmt s)
+
+abbrev pub outer_stmts_places : Program → Scope → Placed → List Stmt → Placed
+outer_stmts_places p scope notes ss = passes.outer_block_placed (told p) scope notes (mirror_stmts ss)
+
+abbrev pub outer_opened_places : Program → Scope → List ℕ → Role → ℕ → Placed → List Stmt → Placed
+outer_opened_places p scope name role node notes ss = outer_stmts_places p (with_variable scope name role node) notes ss
 
 abbrev pub methods_places : Program → Placed → List Method → Placed
 methods_places p notes ms = passes.methods_placed (told p) notes (map mirror_method ms)

@@ -71,7 +71,16 @@ fn is_constant_role(role: Role) -> bool
 {
     match role {
         Role::Constant => true,
-        Role::Root | Role::Row | Role::Carried | Role::Plain => false,
+        Role::ConstantList | Role::Root | Role::Row | Role::Carried | Role::Plain => false,
+    }
+}
+
+fn is_list_role(role: Role) -> bool
+    ensures { result ≡ scopes.is_list_role role }
+{
+    match role {
+        Role::ConstantList => true,
+        Role::Constant | Role::Root | Role::Row | Role::Carried | Role::Plain => false,
     }
 }
 
@@ -93,7 +102,7 @@ impl<'a, 'p> Batch<'a, 'p> {
     fn role_with(&self, name: &Word, role: Role) -> Role
         ensures { result ≡ scopes.role_with self.now.assigned name.now role }
     {
-        if is_constant_role(role) && self.assigned.has(name) {
+        if (is_constant_role(role) || is_list_role(role)) && self.assigned.has(name) {
             Role::Plain
         } else {
             role
@@ -115,13 +124,20 @@ impl<'a, 'p> Batch<'a, 'p> {
         is_constant_role(self.role_of(scope, name))
     }
 
+    /// Whether it is a constant list.
+    pub fn is_list(&self, scope: &Scope, name: &Word) -> bool
+        ensures { result ≡ scopes.is_list_role (scopes.role_of (seen self.now scope.now) name.now) }
+    {
+        is_list_role(self.role_of(scope, name))
+    }
+
     /// Whether it is portable.
     pub fn is_portable(&self, scope: &Scope, name: &Word) -> bool
         ensures { result ≡ scopes.is_portable_role (scopes.role_of (seen self.now scope.now) name.now) }
     {
         match self.role_of(scope, name) {
             Role::Constant | Role::Root | Role::Row | Role::Carried => true,
-            Role::Plain => false,
+            Role::ConstantList | Role::Plain => false,
         }
     }
 }

@@ -55,13 +55,29 @@ pub fn is_primitive(kind: &TypeForm) -> bool
     }
 }
 
-fn has_primitive_items(kind: &TypeForm) -> bool
+/// Whether a type is a List or Rows of such.
+pub fn has_primitive_items(kind: &TypeForm) -> bool
     ensures { result ≡ words.has_primitive_items (kind_of_form kind.now) }
 {
     match kind {
         TypeForm::ListOf(item) | TypeForm::RowsOf(item) => is_primitive(&item.get().form),
         TypeForm::Int | TypeForm::Bool | TypeForm::Text => false,
         TypeForm::Unit | TypeForm::Named(_) => false,
+    }
+}
+
+// Whether a type is a List of Lists of such.
+fn has_list_items(kind: &TypeForm) -> bool
+    ensures { result ≡ words.has_list_items (kind_of_form kind.now) }
+{
+    match kind {
+        TypeForm::ListOf(item) => match &item.get().form {
+            TypeForm::ListOf(inner) => is_primitive(&inner.get().form),
+            TypeForm::Int | TypeForm::Bool | TypeForm::Text => false,
+            TypeForm::Unit | TypeForm::Named(_) | TypeForm::RowsOf(_) => false,
+        },
+        TypeForm::Int | TypeForm::Bool | TypeForm::Text => false,
+        TypeForm::Unit | TypeForm::Named(_) | TypeForm::RowsOf(_) => false,
     }
 }
 
@@ -148,6 +164,16 @@ impl<'p> Facts<'p> {
     {
         match self.typed.type_of(e.at) {
             Some(kind) => has_primitive_items(kind),
+            None => false,
+        }
+    }
+
+    /// Whether an expression is a List of Lists of such.
+    pub fn has_list_items(&self, e: &Expr) -> bool
+        ensures { result ≡ (facts_of (mirror_program self.now)).lists e.now.at }
+    {
+        match self.typed.type_of(e.at) {
+            Some(kind) => has_list_items(kind),
             None => false,
         }
     }

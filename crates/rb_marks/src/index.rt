@@ -9,7 +9,8 @@ ghost use Rattle.rb_meaning_flow.specs.Programs.{program_marks, program_places};
 ghost use Rattle.rb_marks.specs.Notes.{first_at, Adds};
 
 use crate::facts::Facts;
-use crate::outermost::{mark_program, place_program};
+use crate::marks::Notes;
+use crate::outermost::mark_program;
 use rb_trees::{Mark, Memory, Place};
 use rb_types::Typed;
 use std::alloc::Global;
@@ -100,8 +101,12 @@ pub fn mark(alloc: Global, typed: &Typed) -> Result<Marks, Memory>
     ensures places { IfOk result (λ m. m.1 ≡ program_places (mirror_program typed.now)) }
 {
     let facts = Facts::new(alloc, typed)?;
-    let program = typed.program();
-    let marks = index_marks(alloc, mark_program(alloc, &facts, program)?)?;
-    let places = index_places(alloc, place_program(alloc, &facts, program)?)?;
+    let notes = mark_program(alloc, &facts, typed.program())?;
+    let Notes {
+        marks: marked,
+        places: placed,
+    } = notes;
+    let marks = index_marks(alloc, marked)?;
+    let places = index_places(alloc, placed)?;
     Ok(Marks { marks, places })
 }

@@ -14,7 +14,7 @@ mod places;
 mod portable;
 
 pub use batch::Batch;
-pub use facts::Facts;
+pub use facts::{Facts, has_primitive_items, is_primitive};
 pub use index::{Marks, mark};
 pub use laws::{
     each_expression_has_its_mark, each_statement_has_its_place,

@@ -1,19 +1,26 @@
-// The marks of the expressions of a batch.
+// The walk through a batch: the marks of its expressions, and the places of its statements.
 #![tactic(auto, using(crate::proofs::Rules::mark_rules))]
 
 ghost use Rattle.std.specs.Prelude.{◌≡◌, false, take, length, OnOk};
 ghost use Rattle.rb_trees.specs.mirror.Code.{mirror_expr, mirror_stmts};
-ghost use Rattle.rb_meaning_flow.specs.Sites.{turn_role};
 ghost use Rattle.rb_marks.specs.Passes as passes;
 ghost use Rattle.rb_marks.specs.Views.{told, facts_in, seen};
 ghost use Rattle.rb_marks.specs.Walks as walks;
 
 use crate::batch::Batch;
 use crate::facts::Facts;
-use crate::portable::{block_holds, holds_call, is_constant, is_portable};
+use crate::places::note_place;
+use crate::portable::{block_holds, has_far_turns, holds_call, is_constant, is_portable};
 use rb_meaning_flow::Role;
 use rb_scopes::Scope;
-use rb_trees::{Expr, ExprForm, Mark, Memory, Stmt, StmtForm, Word};
+use rb_trees::{Expr, ExprForm, Mark, Memory, Place, Stmt, StmtForm, Word};
+
+/// What is noted on the way, with its positions: the marks of expressions, and the places of statements.
+#[derive(Drop)]
+pub struct Notes {
+    pub marks: Vec<(u32, Mark)>,
+    pub places: Vec<(u32, Place)>,
+}
 
 fn inner(x: &Batch, scope: &Scope, inside: bool, e: &Expr) -> bool
     ensures { result ≡ passes.inner (facts_in x.now) (seen x.now scope.now) inside (mirror_expr e.now) }
@@ -113,24 +120,25 @@ fn mark_exprs(
     Ok(())
 }
 
-/// Whether the branches of an `if` are script places.
-pub fn branch_script(facts: &Facts, script: bool, a: &[Stmt], b: &[Stmt]) -> bool
+// Whether the branches of an `if` are script places.
+fn branch_script(facts: &Facts, script: bool, a: &[Stmt], b: &[Stmt]) -> bool
     ensures { result ≡ passes.branch_script (told facts.now) script (mirror_stmts a.now) (mirror_stmts b.now) }
 {
     script && (block_holds(facts, a) || block_holds(facts, b))
 }
 
-/// Whether the body of a loop is a script place.
-pub fn turn_script(facts: &Facts, script: bool, list: &Expr) -> bool
-    ensures { result ≡ passes.turn_script (told facts.now) script (mirror_expr list.now) }
+// Whether the block of a loop is a script place.
+fn turn_script(x: &Batch, script: bool, scope: &Scope, list: &Expr, block: &[Stmt]) -> bool
+    ensures { result ≡ passes.turn_script (facts_in x.now) script (seen x.now scope.now) (mirror_expr list.now) (mirror_stmts block.now) }
 {
-    script && facts.over_rows(list)
+    script && has_far_turns(x, scope, list, block)
 }
 
-fn turn_role_of(facts: &Facts, list: &Expr) -> Role
-    ensures { result ≡ turn_role (told facts.now) (mirror_expr list.now) }
+// What the variable of a loop is, whose block is a script place or isn't.
+fn turn_role(rows: bool, script: bool) -> Role
+    ensures { result ≡ passes.turn_role rows script }
 {
-    if facts.over_rows(list) {
+    if rows || script {
         Role::Row
     } else {
         Role::Plain
@@ -147,51 +155,53 @@ fn carried_role(x: &Batch, script: bool, scope: &Scope, e: &Expr) -> Role
     }
 }
 
-// Notes the marks in a statement, and binds what it declares.
+// Notes the marks and places in a statement, and binds what it declares.
 #[cycle(stmts)]
 #[tactic(auto, using(crate::proofs::Rules::stmt_mark_rules))]
 fn mark_stmt(
     x: &Batch,
     script: bool,
     scope: &mut Scope,
-    notes: &mut Vec<(u32, Mark)>,
+    notes: &mut Notes,
     s: &Stmt,
 ) -> Result<(), Memory>
-    ensures notes { OnOk result (notes.new.items ≡ walks.stmt_marks x.now script scope.old notes.old.items s.now) }
+    ensures marks { OnOk result (notes.new.marks.items ≡ walks.stmt_marks x.now script scope.old notes.old.marks.items s.now) }
+    ensures places { OnOk result (notes.new.places.items ≡ walks.stmt_places x.now script scope.old notes.old.places.items s.now) }
     ensures scope { OnOk result (scope.new ≡ walks.scope_behind x.now script scope.old s.now) }
 {
+    note_place(x.facts, script, &mut notes.places, s)?;
     match &s.form {
         StmtForm::Val(name, e) => {
-            mark_expr(x, scope, false, notes, e)?;
+            mark_expr(x, scope, false, &mut notes.marks, e)?;
             let role = carried_role(x, script, scope, e);
             scope.bind(x.alloc, name, role, s.at)
         }
         StmtForm::Var(name, e) => {
-            mark_expr(x, scope, false, notes, e)?;
+            mark_expr(x, scope, false, &mut notes.marks, e)?;
             scope.bind(x.alloc, name, Role::Plain, s.at)
         }
         StmtForm::Assign(a, b) => {
-            mark_expr(x, scope, false, notes, a)?;
-            mark_expr(x, scope, false, notes, b)
+            mark_expr(x, scope, false, &mut notes.marks, a)?;
+            mark_expr(x, scope, false, &mut notes.marks, b)
         }
         StmtForm::Run(e) | StmtForm::Print(e) | StmtForm::Throw(e) => {
-            mark_expr(x, scope, false, notes, e)
+            mark_expr(x, scope, false, &mut notes.marks, e)
         }
         StmtForm::If(c, a, b) => {
             let branch = branch_script(x.facts, script, a.as_slice(), b.as_slice());
-            mark_expr(x, scope, branch, notes, c)?;
+            mark_expr(x, scope, branch, &mut notes.marks, c)?;
             mark_block(x, branch, scope, notes, a.as_slice())?;
             mark_block(x, branch, scope, notes, b.as_slice())
         }
         StmtForm::While(c, a) => {
-            mark_expr(x, scope, false, notes, c)?;
+            mark_expr(x, scope, false, &mut notes.marks, c)?;
             mark_block(x, false, scope, notes, a.as_slice())
         }
         StmtForm::For(name, e, a) => {
             let rows = x.facts.over_rows(e);
-            mark_expr(x, scope, rows, notes, e)?;
-            let turn = turn_script(x.facts, script, e);
-            let role = turn_role_of(x.facts, e);
+            mark_expr(x, scope, rows, &mut notes.marks, e)?;
+            let turn = turn_script(x, script, scope, e, a.as_slice());
+            let role = turn_role(rows, turn);
             mark_opened(x, turn, scope, notes, name, role, s.at, a.as_slice())
         }
         StmtForm::Try(a, name, b) => {
@@ -213,10 +223,11 @@ fn mark_block(
     x: &Batch,
     script: bool,
     scope: &mut Scope,
-    notes: &mut Vec<(u32, Mark)>,
+    notes: &mut Notes,
     ss: &[Stmt],
 ) -> Result<(), Memory>
-    ensures notes { OnOk result (notes.new.items ≡ walks.stmts_marks x.now script scope.old notes.old.items ss.now) }
+    ensures marks { OnOk result (notes.new.marks.items ≡ walks.stmts_marks x.now script scope.old notes.old.marks.items ss.now) }
+    ensures places { OnOk result (notes.new.places.items ≡ walks.stmts_places x.now script scope.old notes.old.places.items ss.now) }
     ensures scope { OnOk result (scope.new ≡ scope.old) }
 {
     let count = scope.len();
@@ -232,13 +243,14 @@ fn mark_opened(
     x: &Batch,
     script: bool,
     scope: &mut Scope,
-    notes: &mut Vec<(u32, Mark)>,
+    notes: &mut Notes,
     name: &Word,
     role: Role,
     node: u32,
     ss: &[Stmt],
 ) -> Result<(), Memory>
-    ensures notes { OnOk result (notes.new.items ≡ walks.opened_marks x.now script scope.old name.now role node notes.old.items ss.now) }
+    ensures marks { OnOk result (notes.new.marks.items ≡ walks.opened_marks x.now script scope.old name.now role node notes.old.marks.items ss.now) }
+    ensures places { OnOk result (notes.new.places.items ≡ walks.opened_places x.now script scope.old name.now role node notes.old.places.items ss.now) }
     ensures scope { OnOk result (scope.new ≡ scope.old) }
 {
     let count = scope.len();
@@ -248,17 +260,18 @@ fn mark_opened(
     Ok(())
 }
 
-/// Notes the marks in statements of a batch, in order.
+/// Notes the marks and places in statements of a batch, in order.
 #[cycle(stmts)]
 #[tactic(auto, using(crate::proofs::Rules::stmt_mark_rules))]
 pub fn mark_stmts(
     x: &Batch,
     script: bool,
     scope: &mut Scope,
-    notes: &mut Vec<(u32, Mark)>,
+    notes: &mut Notes,
     ss: &[Stmt],
 ) -> Result<(), Memory>
-    ensures notes { OnOk result (notes.new.items ≡ walks.stmts_marks x.now script scope.old notes.old.items ss.now) }
+    ensures marks { OnOk result (notes.new.marks.items ≡ walks.stmts_marks x.now script scope.old notes.old.marks.items ss.now) }
+    ensures places { OnOk result (notes.new.places.items ≡ walks.stmts_places x.now script scope.old notes.old.places.items ss.now) }
     ensures kept { OnOk result (take (length scope.old) scope.new ≡ scope.old) }
 {
     for s in ss {

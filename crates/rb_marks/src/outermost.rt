@@ -9,19 +9,20 @@ ghost use Rattle.rb_marks.specs.Views.{told};
 ghost use Rattle.rb_marks.specs.Walks as walks;
 
 use crate::batch::Batch;
-use crate::facts::{Facts, is_primitive};
-use crate::marks::mark_stmts;
-use crate::places::place_stmts;
+use crate::facts::{Facts, has_primitive_items, is_primitive};
+use crate::marks::{Notes, mark_stmts};
 use rb_meaning_flow::Role;
 use rb_scopes::Scope;
-use rb_trees::{Class, Mark, Memory, Method, Param, Place, Program, Stmt, StmtForm, Word};
+use rb_trees::{Class, Memory, Method, Param, Program, Stmt, StmtForm, Word};
 use std::alloc::Global;
 
-fn outer_role(primitive: bool) -> Role
-    ensures { result ≡ outermost.outer_role primitive }
+fn outer_role(primitive: bool, list: bool) -> Role
+    ensures { result ≡ outermost.outer_role primitive list }
 {
     if primitive {
         Role::Constant
+    } else if list {
+        Role::ConstantList
     } else {
         Role::Plain
     }
@@ -33,23 +34,25 @@ fn parameters(alloc: Global, params: &[Param]) -> Result<Scope, Memory>
 {
     let mut scope = Scope::new(alloc)?;
     for param in params {
-        let role = outer_role(is_primitive(&param.kind.form));
+        let kind = &param.kind.form;
+        let role = outer_role(is_primitive(kind), has_primitive_items(kind));
         scope.bind(alloc, &param.name, role, param.at)?;
     }
     Ok(scope)
 }
 
-// Notes the marks of an outermost batch with this root.
+// Notes the marks and places of an outermost batch with this root.
 fn mark_batch(
     alloc: Global,
     facts: &Facts,
     scope: &mut Scope,
-    notes: &mut Vec<(u32, Mark)>,
+    notes: &mut Notes,
     root: &Word,
     at: u32,
     block: &[Stmt],
 ) -> Result<(), Memory>
-    ensures notes { OnOk result (notes.new.items ≡ walks.batch_marks facts.now scope.old root.now at notes.old.items block.now) }
+    ensures marks { OnOk result (notes.new.marks.items ≡ walks.batch_marks facts.now scope.old root.now at notes.old.marks.items block.now) }
+    ensures places { OnOk result (notes.new.places.items ≡ walks.batch_places facts.now scope.old root.now at notes.old.places.items block.now) }
     ensures scope { OnOk result (scope.new ≡ scope.old) }
 {
     let count = scope.len();
@@ -60,21 +63,22 @@ fn mark_batch(
     Ok(())
 }
 
-// Notes the marks of the outermost batches in a statement, and binds what it declares.
+// Notes the marks and places of the outermost batches in a statement, and binds what it declares.
 #[cycle(outer_marks)]
 fn mark_outer(
     alloc: Global,
     facts: &Facts,
     scope: &mut Scope,
-    notes: &mut Vec<(u32, Mark)>,
+    notes: &mut Notes,
     s: &Stmt,
 ) -> Result<(), Memory>
-    ensures notes { OnOk result (notes.new.items ≡ walks.outer_marks facts.now scope.old notes.old.items s.now) }
+    ensures marks { OnOk result (notes.new.marks.items ≡ walks.outer_marks facts.now scope.old notes.old.marks.items s.now) }
+    ensures places { OnOk result (notes.new.places.items ≡ walks.outer_places facts.now scope.old notes.old.places.items s.now) }
     ensures scope { OnOk result (scope.new ≡ walks.outer_scope_behind facts.now scope.old s.now) }
 {
     match &s.form {
         StmtForm::Val(name, e) | StmtForm::Var(name, e) => {
-            let role = outer_role(facts.is_primitive(e));
+            let role = outer_role(facts.is_primitive(e), facts.has_primitive_items(e));
             scope.bind(alloc, name, role, s.at)
         }
         StmtForm::Assign(_, _) | StmtForm::Run(_) => Ok(()),
@@ -85,12 +89,12 @@ fn mark_outer(
         }
         StmtForm::While(_, a) => mark_outer_block(alloc, facts, scope, notes, a.as_slice()),
         StmtForm::For(name, e, a) => {
-            let role = outer_role(facts.has_primitive_items(e));
+            let role = outer_role(facts.has_primitive_items(e), facts.has_list_items(e));
             mark_outer_opened(alloc, facts, scope, notes, name, role, s.at, a.as_slice())
         }
         StmtForm::Try(a, name, b) => {
             mark_outer_block(alloc, facts, scope, notes, a.as_slice())?;
-            let role = outer_role(true);
+            let role = outer_role(true, false);
             mark_outer_opened(alloc, facts, scope, notes, name, role, s.at, b.as_slice())
         }
         StmtForm::Batch(_, root, a) => {
@@ -105,10 +109,11 @@ fn mark_outer_block(
     alloc: Global,
     facts: &Facts,
     scope: &mut Scope,
-    notes: &mut Vec<(u32, Mark)>,
+    notes: &mut Notes,
     ss: &[Stmt],
 ) -> Result<(), Memory>
-    ensures notes { OnOk result (notes.new.items ≡ walks.outer_stmts_marks facts.now scope.old notes.old.items ss.now) }
+    ensures marks { OnOk result (notes.new.marks.items ≡ walks.outer_stmts_marks facts.now scope.old notes.old.marks.items ss.now) }
+    ensures places { OnOk result (notes.new.places.items ≡ walks.outer_stmts_places facts.now scope.old notes.old.places.items ss.now) }
     ensures scope { OnOk result (scope.new ≡ scope.old) }
 {
     let count = scope.len();
@@ -123,13 +128,14 @@ fn mark_outer_opened(
     alloc: Global,
     facts: &Facts,
     scope: &mut Scope,
-    notes: &mut Vec<(u32, Mark)>,
+    notes: &mut Notes,
     name: &Word,
     role: Role,
     node: u32,
     ss: &[Stmt],
 ) -> Result<(), Memory>
-    ensures notes { OnOk result (notes.new.items ≡ walks.outer_opened_marks facts.now scope.old name.now role node notes.old.items ss.now) }
+    ensures marks { OnOk result (notes.new.marks.items ≡ walks.outer_opened_marks facts.now scope.old name.now role node notes.old.marks.items ss.now) }
+    ensures places { OnOk result (notes.new.places.items ≡ walks.outer_opened_places facts.now scope.old name.now role node notes.old.places.items ss.now) }
     ensures scope { OnOk result (scope.new ≡ scope.old) }
 {
     let count = scope.len();
@@ -144,10 +150,11 @@ fn mark_outer_stmts(
     alloc: Global,
     facts: &Facts,
     scope: &mut Scope,
-    notes: &mut Vec<(u32, Mark)>,
+    notes: &mut Notes,
     ss: &[Stmt],
 ) -> Result<(), Memory>
-    ensures notes { OnOk result (notes.new.items ≡ walks.outer_stmts_marks facts.now scope.old notes.old.items ss.now) }
+    ensures marks { OnOk result (notes.new.marks.items ≡ walks.outer_stmts_marks facts.now scope.old notes.old.marks.items ss.now) }
+    ensures places { OnOk result (notes.new.places.items ≡ walks.outer_stmts_places facts.now scope.old notes.old.places.items ss.now) }
     ensures kept { OnOk result (take (length scope.old) scope.new ≡ scope.old) }
 {
     for s in ss {
@@ -159,10 +166,11 @@ fn mark_outer_stmts(
 fn mark_methods(
     alloc: Global,
     facts: &Facts,
-    notes: &mut Vec<(u32, Mark)>,
+    notes: &mut Notes,
     methods: &[Method],
 ) -> Result<(), Memory>
-    ensures { OnOk result (notes.new.items ≡ walks.methods_marks facts.now notes.old.items methods.now) }
+    ensures marks { OnOk result (notes.new.marks.items ≡ walks.methods_marks facts.now notes.old.marks.items methods.now) }
+    ensures places { OnOk result (notes.new.places.items ≡ walks.methods_places facts.now notes.old.places.items methods.now) }
 {
     for m in methods {
         let mut scope = parameters(alloc, m.signature.params.as_slice())?;
@@ -180,10 +188,11 @@ fn mark_methods(
 fn mark_classes(
     alloc: Global,
     facts: &Facts,
-    notes: &mut Vec<(u32, Mark)>,
+    notes: &mut Notes,
     classes: &[Class],
 ) -> Result<(), Memory>
-    ensures { OnOk result (notes.new.items ≡ walks.classes_marks facts.now notes.old.items classes.now) }
+    ensures marks { OnOk result (notes.new.marks.items ≡ walks.classes_marks facts.now notes.old.marks.items classes.now) }
+    ensures places { OnOk result (notes.new.places.items ≡ walks.classes_places facts.now notes.old.places.items classes.now) }
 {
     for class in classes {
         mark_methods(alloc, facts, notes, class.methods.as_slice())?;
@@ -191,15 +200,15 @@ fn mark_classes(
     Ok(())
 }
 
-/// The mark of each expression in a batch, with its position.
-pub fn mark_program(
-    alloc: Global,
-    facts: &Facts,
-    program: &Program,
-) -> Result<Vec<(u32, Mark)>, Memory>
-    ensures { IfOk result (λ notes. notes.items ≡ passes.program_marked (told facts.now) (mirror_program program.now)) }
+/// The mark of each expression in a batch and the place of each statement in one, with its position.
+pub fn mark_program(alloc: Global, facts: &Facts, program: &Program) -> Result<Notes, Memory>
+    ensures marks { IfOk result (λ notes. notes.marks.items ≡ passes.program_marked (told facts.now) (mirror_program program.now)) }
+    ensures places { IfOk result (λ notes. notes.places.items ≡ passes.program_placed (told facts.now) (mirror_program program.now)) }
 {
-    let mut notes = Vec::new(alloc);
+    let mut notes = Notes {
+        marks: Vec::new(alloc),
+        places: Vec::new(alloc),
+    };
     mark_classes(alloc, facts, &mut notes, program.classes.as_slice())?;
     let mut scope = Scope::new(alloc)?;
     mark_outer_stmts(
@@ -209,78 +218,5 @@ pub fn mark_program(
         &mut notes,
         program.body.statements.as_slice(),
     )?;
-    Ok(notes)
-}
-
-// Notes the places in the outermost batches of a statement.
-#[cycle(outer_places)]
-fn place_outer(facts: &Facts, notes: &mut Vec<(u32, Place)>, s: &Stmt) -> Result<(), Memory>
-    ensures { OnOk result (notes.new.items ≡ walks.outer_places facts.now notes.old.items s.now) }
-{
-    match &s.form {
-        StmtForm::Val(_, _) | StmtForm::Var(_, _) | StmtForm::Assign(_, _) => Ok(()),
-        StmtForm::Run(_) | StmtForm::Print(_) | StmtForm::Throw(_) => Ok(()),
-        StmtForm::If(_, a, b) | StmtForm::Try(a, _, b) => {
-            place_outer_stmts(facts, notes, a.as_slice())?;
-            place_outer_stmts(facts, notes, b.as_slice())
-        }
-        StmtForm::While(_, a) | StmtForm::For(_, _, a) => {
-            place_outer_stmts(facts, notes, a.as_slice())
-        }
-        StmtForm::Batch(_, _, a) => place_stmts(facts, true, notes, a.as_slice()),
-    }
-}
-
-#[cycle(outer_places)]
-fn place_outer_stmts(
-    facts: &Facts,
-    notes: &mut Vec<(u32, Place)>,
-    ss: &[Stmt],
-) -> Result<(), Memory>
-    ensures { OnOk result (notes.new.items ≡ walks.outer_stmts_places facts.now notes.old.items ss.now) }
-{
-    for s in ss {
-        place_outer(facts, notes, s)?;
-    }
-    Ok(())
-}
-
-fn place_methods(
-    facts: &Facts,
-    notes: &mut Vec<(u32, Place)>,
-    methods: &[Method],
-) -> Result<(), Memory>
-    ensures { OnOk result (notes.new.items ≡ walks.methods_places facts.now notes.old.items methods.now) }
-{
-    for m in methods {
-        place_outer_stmts(facts, notes, m.body.statements.as_slice())?;
-    }
-    Ok(())
-}
-
-fn place_classes(
-    facts: &Facts,
-    notes: &mut Vec<(u32, Place)>,
-    classes: &[Class],
-) -> Result<(), Memory>
-    ensures { OnOk result (notes.new.items ≡ walks.classes_places facts.now notes.old.items classes.now) }
-{
-    for class in classes {
-        place_methods(facts, notes, class.methods.as_slice())?;
-    }
-    Ok(())
-}
-
-/// The place of each statement in a batch, with its position.
-pub fn place_program(
-    alloc: Global,
-    facts: &Facts,
-    program: &Program,
-) -> Result<Vec<(u32, Place)>, Memory>
-    ensures { IfOk result (λ notes. notes.items ≡ passes.program_placed (told facts.now) (mirror_program program.now)) }
-{
-    let mut notes = Vec::new(alloc);
-    place_classes(facts, &mut notes, program.classes.as_slice())?;
-    place_outer_stmts(facts, &mut notes, program.body.statements.as_slice())?;
     Ok(notes)
 }

@@ -138,3 +138,23 @@ pub fn branches_hold(facts: &Facts, a: &[Stmt], b: &[Stmt]) -> bool
 {
     block_holds(facts, a) || block_holds(facts, b)
 }
+
+/// Whether an expression is the name of a constant list.
+pub fn is_constant_list(x: &Batch, scope: &Scope, e: &Expr) -> bool
+    ensures { result ≡ words.is_constant_list (seen x.now scope.now) (mirror_expr e.now) }
+{
+    match &e.form {
+        ExprForm::Name(name) => x.is_list(scope, name),
+        ExprForm::Lit(_) | ExprForm::This | ExprForm::Unary(_, _) => false,
+        ExprForm::Binary(_, _, _) | ExprForm::Field(_, _) | ExprForm::Index(_, _) => false,
+        ExprForm::Call(_, _, _) | ExprForm::New(_, _) => false,
+        ExprForm::Items(_, _) | ExprForm::Taken(_) => false,
+    }
+}
+
+/// Whether a loop's turns are the script's, where it stands at a script place.
+pub fn has_far_turns(x: &Batch, scope: &Scope, list: &Expr, block: &[Stmt]) -> bool
+    ensures { result ≡ words.has_far_turns (facts_in x.now) (seen x.now scope.now) (mirror_expr list.now) (mirror_stmts block.now) }
+{
+    x.facts.over_rows(list) || is_constant_list(x, scope, list) && block_holds(x.facts, block)
+}

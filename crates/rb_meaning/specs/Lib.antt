@@ -2,6 +2,7 @@ pub mod Place
 pub mod State
 pub mod RemoteAnswers
 pub mod RemoteExprs
+pub mod ConstantLists
 pub mod RemotePart
 pub mod Unsplit
 pub mod Others

@@ -1,6 +1,6 @@
 -- The meaning of a program on a service: how it ends, what it shows, and the tables that its batches find and leave. Others may
 -- change the table before each batch.
-use Rattle.std.specs.Prelude.{ℕ, List, [], ◌∷◌, ◌++◌, drop, map, Option, None, Some, Result, Ok, Err}
+use Rattle.std.specs.Prelude.{ℕ, Bool, true, false, List, [], ◌∷◌, ◌++◌, drop, map, Option, None, Some, Result, Ok, Err}
 use Rattle.rb_trees.specs.declared.values.Value.{Value}
 use Rattle.rb_trees.specs.declared.values.Value.TheVariants as value
 use Rattle.rb_trees.specs.declared.outcomes.Raised.{Raised}
@@ -10,7 +10,7 @@ use Rattle.rb_trees.specs.declared.services.Object.{Object}
 use Rattle.rb_trees.specs.mirror.Code.{Expr}
 use Rattle.rb_trees.specs.mirror.Declarations.{Body, Class, Program}
 use Rattle.rb_trees.specs.mirror.Services.{Service}
-use Rattle.rb_meaning_code.specs.Faults.{kind, raised}
+use Rattle.rb_meaning_code.specs.Faults.{kind, input_too_large, raised}
 use Rattle.rb_meaning_code.specs.State.{Local}
 use Rattle.rb_meaning_code.specs.Dialogue as ask
 use Rattle.rb_meaning_code.specs.Dialogue.{Question, Outcome, Gave, Faulted, Run, next, gives, Handler, handle}
@@ -22,6 +22,7 @@ use Rattle.rb_meaning.specs.Others.{Others, becomes, found_table}
 use Rattle.rb_meaning.specs.State as state
 use Rattle.rb_meaning.specs.State.{Event, Outside, shows}
 use Rattle.rb_meaning_flow.specs.Outermost.{Outermost}
+use Rattle.rb_meaning.specs.ConstantLists.{takes_too_many}
 use Rattle.rb_meaning.specs.Unsplit.{batch_at, performs_batch}
 
 -- how a program ends, what it shows, the tables that its batches found and left, and the table at its end
@@ -74,10 +75,15 @@ behind_batch a (o, s) = (
   },
 )
 
+-- a batch that would take too many items along ends by a fault of its own side before it begins
+abbrev pub begins_or_faults : Bool → Program → Service → Outermost → Local → Around → Outcome (Unit {0}) × Around
+begins_or_faults true program service b l a = (Faulted (raised input_too_large b.at) l, a)
+begins_or_faults false program service b l a = behind_batch a (performs_batch program service b l (at_batch a))
+
 -- a batch that was found, as one is wherever a program asks for a batch
 abbrev pub performs_found : Program → Service → Option Outermost → ℕ → Local → Around → Outcome (Unit {0}) × Around
 performs_found program service None at l a = (Faulted (raised kind at) l, a)
-performs_found program service (Some b) at l a = behind_batch a (performs_batch program service b l (at_batch a))
+performs_found program service (Some b) at l a = begins_or_faults (takes_too_many program b l.names) program service b l a
 
 abbrev pub in_main : Program → Service → Handler Around
 in_main program service = record {

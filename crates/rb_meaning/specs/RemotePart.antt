@@ -20,6 +20,7 @@ use Rattle.rb_meaning_flow.specs.Forms.{placed_form}
 use Rattle.rb_meaning_flow.specs.Sites.{scope_after}
 use Rattle.rb_meaning.specs.RemoteAnswers.{unit_of, remote_answer}
 use Rattle.rb_meaning.specs.RemoteExprs.{remote_of}
+use Rattle.rb_meaning.specs.ConstantLists.{items_named}
 
 -- how the walk ends: by itself or by a fault, with the server after it
 abbrev pub Walked : Type 0
@@ -46,7 +47,7 @@ reply_of (Faulted r l, s) = Stopped r.at r.fault s
 abbrev pub with_names : Names → Local
 with_names names = record { names = names; heap = []; fuel = 0; depth = 0 }
 
--- turns over rows, each of which begins with a unit at the loop
+-- turns over rows or items, each of which begins with a unit at the loop
 abbrev pub turns : ℕ → (Value → Server → Walked) → List Value → Server → Walked
 turns at turn [] s = Got tt s
 turns at turn (row ∷ rows) s = and_then (unit_of at s) (λ u s1. and_then (turn row s1) (λ v s2. turns at turn rows s2))
@@ -71,8 +72,8 @@ module _ (p : Program) (service : Service) where
   skims scope stmt names s go = and_then (performed (remote_of (facts_of p) scope stmt) names s) (λ u s1. go names s1)
 
   abbrev mutual
-    -- A statement at a script place, by its form, and what follows it. A carried val is bound; a carried `if` and a loop over
-    -- rows are performed with their blocks, whose names end with them.
+    -- A statement at a script place, by its form, and what follows it. A carried val is bound; a carried `if`, a loop over rows
+    -- and a carried loop are performed with their blocks, whose names end with them.
     pub walk_as : PlacedForm → Scope → Stmt → Names → Server → Rest → Walked
     walk_as PlacedForm.CarriedVal scope (Val at name e) names s go = and_then (value_of e names s) (λ v s1. go (with_name name v names) s1)
     walk_as PlacedForm.CarriedIf scope (If at c a b) names s go =
@@ -83,6 +84,9 @@ module _ (p : Program) (service : Service) where
         and_then (value_of e names s) (λ v s1.
         and_then (replies at (rows_in (out-Value v)) s1) (λ rows s2.
         and_then (turns at (λ row s3. walk_block (with_variable scope name Role.Row at) a (with_name name row names) s3 ended) rows s2) (λ u s3. go names s3)))
+    walk_as PlacedForm.CarriedLoop scope (For at name e a) names s go =
+        and_then (replies at (items_named names e) s) (λ items s1.
+        and_then (turns at (λ item s2. walk_block (with_variable scope name Role.Row at) a (with_name name item names) s2 ended) items s1) (λ u s2. go names s2))
     walk_as form scope stmt names s go = skims scope stmt names s go
 
     -- statements in order, and what follows them

@@ -18,8 +18,8 @@ use Rattle.rb_meaning_code.specs.Bodies.{bodies_of}
 use Rattle.rb_meaning_flow.specs.Facts.{facts_of}
 use Rattle.rb_meaning_flow.specs.Scopes.{opened}
 use Rattle.rb_meaning_flow.specs.Outermost.{Outermost, program_batches}
-use Rattle.rb_meaning_flow.specs.Programs.{program_marks}
-use Rattle.rb_meaning.specs.RemoteAnswers.{remote_answer}
+use Rattle.rb_meaning_flow.specs.Programs.{program_marks, is_carried_at}
+use Rattle.rb_meaning.specs.RemoteAnswers.{unit_of, answer_of, remote_answer}
 use Rattle.rb_meaning.specs.RemotePart.{remote_only}
 use Rattle.rb_meaning.specs.State as state
 use Rattle.rb_meaning.specs.State.{Outside, shows}
@@ -37,10 +37,15 @@ batch_at p at = batch_within (program_batches (facts_of p) p) at
 abbrev pub with_answer : Outside → Result Value Raised × Server → Result Value Raised × Outside
 with_answer s (answer, server) = (answer, record s { server = server })
 
+-- a turn over a List: that of a carried loop takes a unit of the batch's fuel, behind the unit of its own side
+abbrev pub list_turn : Bool → ℕ → Outside → Result Value Raised × Outside
+list_turn true at s = with_answer s (answer_of (unit_of at s.server))
+list_turn false at s = (Ok value.Unit, s)
+
 -- What the code of a batch's body is answered: a line is printed, and what is remote is performed where it stands.
 abbrev pub answers_in_batch : Program → Service → Outside → Question → Result Value Raised × Outside
 answers_in_batch p service s (ask.Line at bytes) = (Ok value.Unit, shows (state.Line bytes) s)
-answers_in_batch p service s (ask.ListTurn at) = (Ok value.Unit, s)
+answers_in_batch p service s (ask.ListTurn at) = list_turn (is_carried_at p at) at s
 answers_in_batch p service s question = with_answer s (remote_answer p service s.server question)
 
 -- the surroundings of a batch's body; no batch stands in another

@@ -23,7 +23,7 @@ among (p ∷ ps) at = cond (nat_eq p at) true (among ps at)
 
 -- objects of the service stand at some positions, rows at others; each call is of a `remote` method
 abbrev facts : List ℕ → List ℕ → Facts
-facts os rs = record { primitive = λ at. false; items = λ at. false; object = among os; rows = among rs; remote_method = λ at method. true }
+facts os rs = record { primitive = λ at. false; items = λ at. false; lists = λ at. false; object = among os; rows = among rs; remote_method = λ at method. true }
 
 abbrev r : List ℕ
 r = codes "r"

@@ -13,6 +13,8 @@ pub record Facts : Type 0 where
   pub primitive : ℕ → Bool
   -- whether it is a list or rows of such
   pub items : ℕ → Bool
+  -- whether it is a list of lists of such
+  pub lists : ℕ → Bool
   -- whether it is an object of the service
   pub object : ℕ → Bool
   -- whether it is rows
@@ -55,6 +57,10 @@ abbrev pub has_remote_method : Declarations → List ℕ → Kind → Bool
 has_remote_method d method (Named name) = class_has_remote method (class_named d.classes name)
 has_remote_method d method _ = false
 
+abbrev pub has_list_items : Kind → Bool
+has_list_items (ListOf (ListOf item)) = is_primitive item
+has_list_items _ = false
+
 -- whether there is a type, of which this holds
 abbrev pub kind_is : (Kind → Bool) → Option (Checked Kind) → Bool
 kind_is is (Some (Ok kind)) = is kind
@@ -66,6 +72,7 @@ unfoldable pub facts_of : Program → Facts
 facts_of p = record {
   primitive = λ at. kind_is is_primitive (type_at p at);
   items = λ at. kind_is has_primitive_items (type_at p at);
+  lists = λ at. kind_is has_list_items (type_at p at);
   object = λ at. kind_is (is_object (of_program p)) (type_at p at);
   rows = λ at. kind_is is_rows (type_at p at);
   remote_method = λ at method. kind_is (has_remote_method (of_program p) method) (type_at p at);

@@ -41,7 +41,7 @@ source_of x s = cond (is_call x s.expr && not (in_call x s.above)) (expr_at s.ex
 abbrev pub frame_sites : Facts → Around → List ExprSite
 frame_sites x (Branch at scope c a b) = expr_sites (record { around = []; scope = scope; stmt = If at c a b }) [] c
 frame_sites x (WhileTurn at scope c) = expr_sites (record { around = []; scope = scope; stmt = While at c NoStmts }) [] c
-frame_sites x (Turn at scope list) = expr_sites (record { around = []; scope = scope; stmt = Run at list }) [] list
+frame_sites x (Turn at scope list block) = expr_sites (record { around = []; scope = scope; stmt = Run at list }) [] list
 frame_sites x (InTry at scope tried name handler) = exprs_of (block_sites x [] scope (MoreStmts (Try at tried name handler) NoStmts))
 frame_sites x (InBatch at) = []
 

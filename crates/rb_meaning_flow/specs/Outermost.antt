@@ -1,12 +1,12 @@
 -- The outermost batches of a program, each with the scope in which it stands.
-use Rattle.std.specs.Prelude.{ℕ, List, [], ◌∷◌, ◌++◌, map, Bool, true, cond}
+use Rattle.std.specs.Prelude.{ℕ, List, [], ◌∷◌, ◌++◌, map, Bool, true, false, cond}
 use Rattle.std.specs.List.{flat_map}
 use Rattle.rb_trees.specs.mirror.Code.{expr_at, Stmt, Stmts, Val, Var, Assign, Run, Print, Throw, If, While, For, Try, Batch, NoStmts, MoreStmts}
 use Rattle.rb_trees.specs.mirror.Declarations.{Param, Method, Class, Program}
 use Rattle.rb_meaning_types.specs.Kinds.{kind_of, is_primitive}
 use Rattle.rb_meaning_flow.specs.declared.scopes.Role.{Role}
 use Rattle.rb_meaning_flow.specs.declared.scopes.Variable.{Variable}
-use Rattle.rb_meaning_flow.specs.Facts.{Facts}
+use Rattle.rb_meaning_flow.specs.Facts.{Facts, has_primitive_items}
 use Rattle.rb_meaning_flow.specs.Scopes.{Scope, with_variable, opened}
 use Rattle.rb_meaning_flow.specs.Sites.{StmtSite, block_sites}
 
@@ -21,12 +21,12 @@ pub record Outermost : Type 0 where
 abbrev pub batch_sites : Facts → Outermost → List StmtSite
 batch_sites x b = block_sites x [] (opened b.outer b.at b.root b.block) b.block
 
--- outside batches a variable counts as constant where it is primitive
-abbrev pub outer_role : Bool → Role
-outer_role primitive = cond primitive Role.Constant Role.Plain
+-- outside batches a variable counts as constant where it is primitive, or a List of primitives
+abbrev pub outer_role : (primitive list : Bool) → Role
+outer_role primitive list = cond primitive Role.Constant (cond list Role.ConstantList Role.Plain)
 
 abbrev pub parameter : Param → Variable
-parameter p = record { name = p.name; role = outer_role (is_primitive (kind_of p.kind)); node = p.at }
+parameter p = let kind = kind_of p.kind in record { name = p.name; role = outer_role (is_primitive kind) (has_primitive_items kind); node = p.at }
 
 -- the scope in which a method's body begins
 abbrev pub parameters : List Param → Scope
@@ -34,8 +34,8 @@ parameters params = map parameter params
 
 -- the scope after a statement outside batches
 abbrev pub outer_after : Facts → Scope → Stmt → Scope
-outer_after x scope (Val at name e) = with_variable scope name (outer_role (x.primitive (expr_at e))) at
-outer_after x scope (Var at name e) = with_variable scope name (outer_role (x.primitive (expr_at e))) at
+outer_after x scope (Val at name e) = with_variable scope name (outer_role (x.primitive (expr_at e)) (x.items (expr_at e))) at
+outer_after x scope (Var at name e) = with_variable scope name (outer_role (x.primitive (expr_at e)) (x.items (expr_at e))) at
 outer_after x scope _ = scope
 
 -- the outermost batches of a statement outside batches
@@ -49,8 +49,8 @@ abbrev mutual
   outermost x scope (Throw at e) = []
   outermost x scope (If at c a b) = outermost_in x scope a ++ outermost_in x scope b
   outermost x scope (While at c a) = outermost_in x scope a
-  outermost x scope (For at name e a) = outermost_in x (with_variable scope name (outer_role (x.items (expr_at e))) at) a
-  outermost x scope (Try at a name b) = outermost_in x scope a ++ outermost_in x (with_variable scope name (outer_role true) at) b
+  outermost x scope (For at name e a) = outermost_in x (with_variable scope name (outer_role (x.items (expr_at e)) (x.lists (expr_at e))) at) a
+  outermost x scope (Try at a name b) = outermost_in x scope a ++ outermost_in x (with_variable scope name (outer_role true false) at) b
   outermost x scope (Batch at interface root a) = record { at = at; outer = scope; root = root; block = a } ∷ []
 
   pub outermost_in : Facts → Scope → Stmts → List Outermost

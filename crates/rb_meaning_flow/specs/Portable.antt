@@ -2,7 +2,7 @@
 use Rattle.std.specs.Prelude.{Bool, true, false, ◌&&◌, ◌||◌}
 use Rattle.rb_trees.specs.mirror.Code.{Expr, Exprs, Lit, Name, This, Unary, Binary, Field, Call, Index, New, Items, Taken, NoExprs, MoreExprs, Stmt, Stmts, Val, Var, Assign, Run, Print, Throw, If, While, For, Try, Batch, NoStmts, MoreStmts}
 use Rattle.rb_meaning_flow.specs.Facts.{Facts, is_remote, over_rows}
-use Rattle.rb_meaning_flow.specs.Scopes.{Scope, role_of, is_constant_role, is_portable_role}
+use Rattle.rb_meaning_flow.specs.Scopes.{Scope, role_of, is_constant_role, is_list_role, is_portable_role}
 
 -- a portable expression: one that the service can evaluate. Its leaves are literals and variables of a portable
 -- role, and above them stand operators, and remote calls. No portable expression is a List, so that each
@@ -80,3 +80,16 @@ abbrev mutual
 -- whether a branch of an `if` holds a remote operation
 abbrev pub branches_hold : Facts → Stmts → Stmts → Bool
 branches_hold x a b = block_holds x a || block_holds x b
+
+-- the name of a constant list
+abbrev pub is_constant_list : Scope → Expr → Bool
+is_constant_list scope (Name at name) = is_list_role (role_of scope name)
+is_constant_list scope _ = false
+
+-- a loop that the script can take along: over a constant list, and with a remote operation in its block
+abbrev pub may_carry : Facts → Scope → Expr → Stmts → Bool
+may_carry x scope list block = is_constant_list scope list && block_holds x block
+
+-- a loop whose turns are the script's, where it stands at a script place
+abbrev pub has_far_turns : Facts → Scope → Expr → Stmts → Bool
+has_far_turns x scope list block = over_rows x list || may_carry x scope list block

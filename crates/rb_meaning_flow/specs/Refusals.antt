@@ -8,7 +8,7 @@ use Rattle.rb_trees.specs.declared.refusals.Refusal.TheVariants.{Flow, NotConsta
 use Rattle.rb_trees.specs.mirror.Code.{Expr, Exprs, Unary, Binary, Field, Call, Index, New, Items, NoExprs, MoreExprs, expr_at, Stmt, Val, Var, Run, While, For, Batch, stmt_at}
 use Rattle.rb_meaning_flow.specs.Facts.{Facts, is_remote, over_rows}
 use Rattle.rb_meaning_flow.specs.Scopes.{Scope}
-use Rattle.rb_meaning_flow.specs.Portable.{portable}
+use Rattle.rb_meaning_flow.specs.Portable.{portable, is_constant_list}
 use Rattle.rb_meaning_flow.specs.Sites.{Around, Branch, WhileTurn, Turn, InTry, InBatch, is_script_place, StmtSite, Over, ExprSite, exprs_of}
 use Rattle.rb_meaning_flow.specs.Chains.{IsChain, IsLeastChain}
 use Rattle.rb_meaning_flow.specs.Flow.{is_call, writers, bad_parts}
@@ -33,11 +33,12 @@ abbrev pub while_condition : Stmt → List ℕ
 while_condition (While at c a) = expr_at c ∷ []
 while_condition _ = []
 
--- a condition that isn't portable above a branch, a condition of a `while` and a List above a loop's body
+-- a condition that isn't portable above a branch, a condition of a `while`, and above a loop's body a List that isn't the
+-- name of a constant one
 abbrev pub frame_condition : Facts → Around → List ℕ
 frame_condition x (Branch at scope c a b) = cond (portable x scope c) [] (expr_at c ∷ [])
 frame_condition x (WhileTurn at scope c) = expr_at c ∷ []
-frame_condition x (Turn at scope list) = cond (over_rows x list) [] (expr_at list ∷ [])
+frame_condition x (Turn at scope list block) = cond (over_rows x list || is_constant_list scope list) [] (expr_at list ∷ [])
 frame_condition x (InTry at scope tried name handler) = []
 frame_condition x (InBatch at) = []
 

@@ -1,6 +1,6 @@
 -- The variables in scope: they stand in order of binding, new ones at the end. Outside batches a variable
--- counts as constant where it is primitive.
-use Rattle.std.specs.Prelude.{ℕ, List, [], ◌∷◌, ◌++◌, map, Bool, true, false, not, cond, ◌&&◌, Option, Some, None}
+-- counts as constant where it is primitive, or a List of primitives.
+use Rattle.std.specs.Prelude.{ℕ, List, [], ◌∷◌, ◌++◌, map, Bool, true, false, not, cond, ◌&&◌, ◌||◌, Option, Some, None}
 use Rattle.rb_trees.specs.Named.{first_named}
 use Rattle.rb_trees.specs.mirror.Code.{Expr, Name, Stmt, Stmts, Val, Var, Assign, Run, Print, Throw, If, While, For, Try, Batch, NoStmts, MoreStmts}
 use Rattle.rb_meaning_types.specs.Names.{is_new}
@@ -35,14 +35,24 @@ node_of scope name = node_in (variable_named scope name)
 
 abbrev pub is_constant_role : Role → Bool
 is_constant_role Role.Constant = true
+is_constant_role Role.ConstantList = false
 is_constant_role Role.Root = false
 is_constant_role Role.Row = false
 is_constant_role Role.Carried = false
 is_constant_role Role.Plain = false
 
+abbrev pub is_list_role : Role → Bool
+is_list_role Role.ConstantList = true
+is_list_role Role.Constant = false
+is_list_role Role.Root = false
+is_list_role Role.Row = false
+is_list_role Role.Carried = false
+is_list_role Role.Plain = false
+
 -- constant variables, the root, row variables and carried vals are portable
 abbrev pub is_portable_role : Role → Bool
 is_portable_role Role.Constant = true
+is_portable_role Role.ConstantList = false
 is_portable_role Role.Root = true
 is_portable_role Role.Row = true
 is_portable_role Role.Carried = true
@@ -72,9 +82,9 @@ abbrev mutual
   assigned_in NoStmts = []
   assigned_in (MoreStmts s ss) = assigned_by s ++ assigned_in ss
 
--- a constant variable that is assigned in the batch is none
+-- a constant variable or list that is assigned in the batch is none
 abbrev pub role_with : List (List ℕ) → List ℕ → Role → Role
-role_with assigned name role = cond (is_constant_role role && not (is_new name assigned)) Role.Plain role
+role_with assigned name role = cond ((is_constant_role role || is_list_role role) && not (is_new name assigned)) Role.Plain role
 
 abbrev pub variable_with : List (List ℕ) → Variable → Variable
 variable_with assigned v = record { name = v.name; role = role_with assigned v.name v.role; node = v.node }

@@ -1,26 +1,27 @@
 -- Sites: each statement and each expression of a batch, with all that stands around it.
-use Rattle.std.specs.Prelude.{ℕ, List, [], ◌∷◌, ◌++◌, Bool, true, false, cond, ◌&&◌}
+use Rattle.std.specs.Prelude.{ℕ, List, [], ◌∷◌, ◌++◌, Bool, true, false, cond, ◌&&◌, ◌||◌}
 use Rattle.rb_trees.specs.mirror.Code.{Expr, Exprs, Lit, Name, This, Unary, Binary, Field, Call, Index, New, Items, Taken, NoExprs, MoreExprs, Stmt, Stmts, Val, Var, Assign, Run, Print, Throw, If, While, For, Try, Batch, NoStmts, MoreStmts}
 use Rattle.rb_meaning_flow.specs.declared.scopes.Role.{Role}
 use Rattle.rb_meaning_flow.specs.Facts.{Facts, over_rows}
 use Rattle.rb_meaning_flow.specs.Scopes.{Scope, with_variable}
-use Rattle.rb_meaning_flow.specs.Portable.{portable, branches_hold}
+use Rattle.rb_meaning_flow.specs.Portable.{portable, branches_hold, may_carry, has_far_turns}
 
 -- what a statement of a batch stands in, with the scope in which that stands
 pub data Around : Type 0 where
   Branch : (at : ℕ) (scope : Scope) (condition : Expr) (then_block else_block : Stmts) → Around
   WhileTurn : (at : ℕ) (scope : Scope) (condition : Expr) → Around
-  Turn : (at : ℕ) (scope : Scope) (list : Expr) → Around
+  Turn : (at : ℕ) (scope : Scope) (list : Expr) (block : Stmts) → Around
   InTry : (at : ℕ) (scope : Scope) (tried : Stmts) (name : List ℕ) (handler : Stmts) → Around
   InBatch : (at : ℕ) → Around
 
 -- whether what stands here is a script place: the batch's own block is one; within one, the blocks of loops over
--- rows are, and both blocks of an `if` that hold a remote operation between them; no other block is
+-- rows and of carried loops are, and both blocks of an `if` that hold a remote operation between them; no other
+-- block is
 abbrev pub is_script_place : Facts → List Around → Bool
 is_script_place x [] = true
 is_script_place x (Branch at scope c a b ∷ around) = is_script_place x around && branches_hold x a b
 is_script_place x (WhileTurn at scope c ∷ around) = false
-is_script_place x (Turn at scope list ∷ around) = is_script_place x around && over_rows x list
+is_script_place x (Turn at scope list block ∷ around) = is_script_place x around && has_far_turns x scope list block
 is_script_place x (InTry at scope tried name handler ∷ around) = false
 is_script_place x (InBatch at ∷ around) = false
 
@@ -95,8 +96,9 @@ all_sites s (e ∷ es) = expr_sites s [] e ++ all_sites s es
 abbrev pub val_role : Facts → List Around → Scope → Expr → Role
 val_role x around scope e = cond (is_script_place x around && portable x scope e) Role.Carried Role.Plain
 
-abbrev pub turn_role : Facts → Expr → Role
-turn_role x list = cond (over_rows x list) Role.Row Role.Plain
+-- the variable of a loop over rows is a row, and so is that of a carried loop, which stands at a script place
+abbrev pub turn_role : Facts → List Around → Scope → Expr → Stmts → Role
+turn_role x around scope list block = cond (over_rows x list || (is_script_place x around && may_carry x scope list block)) Role.Row Role.Plain
 
 -- the variables in scope after a statement
 abbrev pub scope_after : Facts → List Around → Scope → Stmt → Scope
@@ -121,7 +123,7 @@ abbrev mutual
       ∷ (block_sites x (Branch at scope c a b ∷ around) scope a ++ block_sites x (Branch at scope c a b ∷ around) scope b)
   sites x around scope (While at c a) = stmt_site around scope (While at c a) ∷ block_sites x (WhileTurn at scope c ∷ around) scope a
   sites x around scope (For at name e a) = stmt_site around scope (For at name e a)
-      ∷ block_sites x (Turn at scope e ∷ around) (with_variable scope name (turn_role x e) at) a
+      ∷ block_sites x (Turn at scope e a ∷ around) (with_variable scope name (turn_role x around scope e a) at) a
   sites x around scope (Try at a name b) = stmt_site around scope (Try at a name b)
       ∷ (block_sites x (InTry at scope a name b ∷ around) scope a
       ++ block_sites x (InTry at scope a name b ∷ around) (with_variable scope name Role.Plain at) b)

@@ -12,6 +12,8 @@ pub enum PlacedForm {
     CarriedIf,
     /// A loop over rows: it goes with its block.
     RowsLoop,
+    /// A loop over a constant list that holds a remote operation: it goes with its block, and the list with it.
+    CarriedLoop,
     /// Any other: the remote expressions in it go, one by one, and the rest is left.
     Plain,
 }

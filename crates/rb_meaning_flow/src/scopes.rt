@@ -7,9 +7,11 @@ use rb_trees::Word;
 pub enum Role {
     /// A primitive one from outside the batch, which the batch doesn't assign.
     Constant,
+    /// A List of primitives from outside the batch, which the batch doesn't assign.
+    ConstantList,
     /// The root of the batch.
     Root,
-    /// The variable of a loop over rows.
+    /// The variable of a loop over rows, or of one over a constant list that goes along into the script.
     Row,
     /// A `val` that goes along into the script: it stands at a script place, and what it binds is portable.
     Carried,

@@ -1,18 +1,19 @@
 -- The client: a program whose batches are divided. At each batch its event is shown, and its remainder is performed on the next
 -- of the nodes that the scripts gave.
-use Rattle.std.specs.Prelude.{ℕ, List, [], ◌∷◌, ◌++◌, length, Option, None, Some, Result}
+use Rattle.std.specs.Prelude.{ℕ, List, [], ◌∷◌, ◌++◌, length, map, Bool, true, false, nat_lt, Option, None, Some, Result}
 use Rattle.rb_trees.specs.Named.{lookup}
 use Rattle.rb_trees.specs.declared.values.Value.{Value}
 use Rattle.rb_trees.specs.declared.values.Value.TheVariants as value
 use Rattle.rb_trees.specs.declared.versions.Version.{Version}
-use Rattle.rb_trees.specs.declared.versions.Version.TheVariants.{One}
+use Rattle.rb_trees.specs.declared.versions.Version.TheVariants.{Two}
 use Rattle.rb_trees.specs.declared.outcomes.Raised.{Raised}
 use Rattle.rb_trees.specs.declared.outcomes.Ending as ending
 use Rattle.rb_trees.specs.mirror.Declarations.{Program}
 use Rattle.rb_trees.specs.mirror.Forests.{Node}
 use Rattle.rb_meaning_bytes.specs.Fits.{Unfit, fits}
+use Rattle.rb_meaning_bytes.specs.formats.Items.{items_of, count_items, most_items}
 use Rattle.rb_meaning_bytes.specs.formats.Messages.{Sent}
-use Rattle.rb_meaning_code.specs.Faults.{kind, raised}
+use Rattle.rb_meaning_code.specs.Faults.{kind, input_too_large, raised}
 use Rattle.rb_meaning_code.specs.State.{Names, Local, closed}
 use Rattle.rb_meaning_code.specs.Dialogue as ask
 use Rattle.rb_meaning_code.specs.Dialogue.{Question, Outcome, Gave, Faulted, Handler, handle}
@@ -34,9 +35,13 @@ abbrev pub input_values : List (List ℕ) → Names → List Value
 input_values [] names = []
 input_values (name ∷ inputs) names = value_or_unit (lookup names name) ∷ input_values inputs names
 
--- whether a node fits what a batch leaves to the client that begins in a local state, or what doesn't; no input is a list
+-- how many items the inputs have; what is no list has none
+abbrev pub lengths : List Value → List ℕ
+lengths values = map items_of values
+
+-- whether a node fits what a batch leaves to the client that begins in a local state, or what doesn't
 abbrev pub fits_batch : Division → Local → Node → Result (Unit {0}) Unfit
-fits_batch d l n = fits n d.remainder []
+fits_batch d l n = fits n d.remainder (lengths (input_values d.inputs l.names))
 
 -- the names of a batch are gone at its end
 abbrev pub left : ℕ → Outcome (Unit {0}) → Outcome (Unit {0})
@@ -65,7 +70,7 @@ with_replayed r s = (r.outcome, record s { events = r.events })
 
 -- the version in which the client sends
 abbrev pub sent_version : Version
-sent_version = One
+sent_version = Two
 
 -- what is sent for a batch, from the names of its start
 abbrev pub sent_for : Division → Local → Sent
@@ -80,10 +85,19 @@ abbrev pub replays_next : Program → Division → Local → Waiting → List No
 replays_next p d l s [] = (Faulted (raised kind d.at) l, s)
 replays_next p d l s (n ∷ nodes) = with_replayed (replays p d l s.events n) (record s { nodes = nodes })
 
+-- whether the inputs of a batch have more items together than a request may have
+abbrev pub are_too_many : Division → Local → Bool
+are_too_many d l = nat_lt most_items (count_items (input_values d.inputs l.names))
+
+-- a batch with too many items ends by a fault of its own side before it begins, and sends nothing
+abbrev pub begins_or_faults : Bool → Program → Outermost → Local → Waiting → Outcome (Unit {0}) × Waiting
+begins_or_faults true p b l s = (Faulted (raised input_too_large b.at) l, s)
+begins_or_faults false p b l s = let begun = begins (division p b) l s in replays_next p (division p b) l begun begun.nodes
+
 -- a batch that was found, as one is wherever a program asks for a batch
 abbrev pub performs_divided : Program → Option Outermost → ℕ → Local → Waiting → Outcome (Unit {0}) × Waiting
 performs_divided p None at l s = (Faulted (raised kind at) l, s)
-performs_divided p (Some b) at l s = let begun = begins (division p b) l s in replays_next p (division p b) l begun begun.nodes
+performs_divided p (Some b) at l s = begins_or_faults (are_too_many (division p b) l) p b l s
 
 abbrev pub in_client : Program → Handler Waiting
 in_client p = record { answer = answers_waiting; batch = λ s at l. performs_divided p (batch_at p at) at l s }

@@ -11,7 +11,7 @@ use Rattle.rb_meaning_flow.specs.Facts.{facts_of}
 use Rattle.rb_meaning_flow.specs.Scopes.{Scope, opened}
 use Rattle.rb_meaning_flow.specs.Outermost.{Outermost, program_batches}
 use Rattle.rb_meaning_split.specs.Refs.{Root, Input, Refs}
-use Rattle.rb_meaning_split.specs.Inputs.{used_in, first_uses}
+use Rattle.rb_meaning_split.specs.Inputs.{used_in, first_uses, list_numbers}
 use Rattle.rb_meaning_split.specs.Steps.{block_steps}
 use Rattle.rb_meaning_split.specs.Parts.{block_parts}
 
@@ -49,8 +49,12 @@ unfoldable pub division : Program → Outermost → Division
 division p b = record {
   at = b.at;
   inputs = inputs_of p b;
-  script = record { inputs = length (inputs_of p b); lists = []; body = block_steps p (first_refs b.root (inputs_of p b)) (scope_of b) 0 0 b.block };
-  remainder = block_parts p (scope_of b) 0 b.block;
+  script = record {
+    inputs = length (inputs_of p b);
+    lists = list_numbers (scope_of b) 0 (inputs_of p b);
+    body = block_steps p (first_refs b.root (inputs_of p b)) (scope_of b) 0 0 b.block;
+  };
+  remainder = block_parts p (first_refs b.root (inputs_of p b)) (scope_of b) 0 0 b.block;
 }
 
 -- the greatest number of inputs, which one byte counts

@@ -1,15 +1,17 @@
--- The inputs of a batch: the constant variables in remote expressions and in carried vals, in order of first use.
-use Rattle.std.specs.Prelude.{ℕ, List, [], ◌∷◌, ◌++◌, cond}
+-- The inputs of a batch: the constant variables in remote expressions and in carried vals, and the lists of carried loops, in order
+-- of first use.
+use Rattle.std.specs.Prelude.{ℕ, suc, List, [], ◌∷◌, ◌++◌, cond}
 use Rattle.std.specs.List.{flat_map}
 use Rattle.rb_trees.specs.mirror.Code.{Expr, Exprs, Name, Unary, Binary, Call, NoExprs, MoreExprs, Stmt, Stmts, Val, If, For, NoStmts, MoreStmts}
 use Rattle.rb_meaning_types.specs.Names.{is_new}
 use Rattle.rb_meaning_flow.specs.declared.forms.PlacedForm.{PlacedForm}
 use Rattle.rb_meaning_flow.specs.declared.scopes.Role.{Role}
 use Rattle.rb_meaning_flow.specs.Facts.{Facts}
-use Rattle.rb_meaning_flow.specs.Scopes.{Scope, with_variable, role_of, is_constant_role}
+use Rattle.rb_meaning_flow.specs.Scopes.{Scope, with_variable, role_of, is_constant_role, is_list_role}
 use Rattle.rb_meaning_flow.specs.Forms.{placed_form}
 use Rattle.rb_meaning_flow.specs.Sites.{scope_after}
 use Rattle.rb_meaning.specs.RemoteExprs.{remote_of}
+use Rattle.rb_meaning.specs.ConstantLists.{name_of}
 
 -- the constant variables in a portable expression, in order, each as often as it stands there
 abbrev mutual
@@ -34,6 +36,7 @@ abbrev mutual
   used_as x PlacedForm.CarriedVal scope (Val at name e) = constants scope e
   used_as x PlacedForm.CarriedIf scope (If at c a b) = constants scope c ++ used_in x scope a ++ used_in x scope b
   used_as x PlacedForm.RowsLoop scope (For at name e a) = constants scope e ++ used_in x (with_variable scope name Role.Row at) a
+  used_as x PlacedForm.CarriedLoop scope (For at name e a) = name_of e ++ used_in x (with_variable scope name Role.Row at) a
   used_as x form scope stmt = kept_constants x scope stmt
 
   pub used_in : Facts → Scope → Stmts → List (List ℕ)
@@ -48,3 +51,9 @@ used x scope stmt = used_as x (placed_form x scope stmt) scope stmt
 abbrev pub first_uses : List (List ℕ) → List (List ℕ) → List (List ℕ)
 first_uses before [] = []
 first_uses before (name ∷ names) = cond (is_new name before) (name ∷ first_uses (name ∷ before) names) (first_uses before names)
+
+-- the numbers of the inputs that are lists, in order, from n on
+abbrev pub list_numbers : Scope → ℕ → List (List ℕ) → List ℕ
+list_numbers scope n [] = []
+list_numbers scope n (input ∷ inputs) =
+    cond (is_list_role (role_of scope input)) (n ∷ list_numbers scope (suc n) inputs) (list_numbers scope (suc n) inputs)

@@ -21,6 +21,7 @@ abbrev mutual
   step_after_as x PlacedForm.CarriedVal scope (Val at name e) n = suc n
   step_after_as x PlacedForm.CarriedIf scope (If at c a b) n = steps_after x scope b (steps_after x scope a (suc n))
   step_after_as x PlacedForm.RowsLoop scope (For at name e a) n = steps_after x (with_variable scope name Role.Row at) a (suc n)
+  step_after_as x PlacedForm.CarriedLoop scope (For at name e a) n = steps_after x (with_variable scope name Role.Row at) a (suc n)
   step_after_as x form scope stmt n = kept_after x scope stmt n
 
   pub steps_after : Facts → Scope → Stmts → ℕ → ℕ
@@ -37,6 +38,7 @@ abbrev mutual
   var_after_as x PlacedForm.CarriedVal scope (Val at name e) m = suc m
   var_after_as x PlacedForm.CarriedIf scope (If at c a b) m = vars_after x scope b (vars_after x scope a m)
   var_after_as x PlacedForm.RowsLoop scope (For at name e a) m = vars_after x (with_variable scope name Role.Row at) a (suc m)
+  var_after_as x PlacedForm.CarriedLoop scope (For at name e a) m = vars_after x (with_variable scope name Role.Row at) a (suc m)
   var_after_as x form scope stmt m = m
 
   pub vars_after : Facts → Scope → Stmts → ℕ → ℕ

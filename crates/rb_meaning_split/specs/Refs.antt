@@ -28,6 +28,16 @@ ref_expr (Some (Input number)) = script.Input number
 ref_expr (Some (Var number)) = script.Var number
 ref_expr None = script.Root
 
+-- the number of an input
+abbrev pub input_number : Option Ref → ℕ
+input_number (Some (Input number)) = number
+input_number _ = 0
+
+-- the number of the input that a list is, by its name
+abbrev pub list_number : Refs → Expr → ℕ
+list_number refs (Name at name) = input_number (lookup refs name)
+list_number refs _ = 0
+
 module _ (p : Program) where
   abbrev mutual
     -- A portable expression in the script: names go by what the script calls them, calls have their kinds, and operators

@@ -19,10 +19,10 @@ use Rattle.rb_meaning_code.specs.State.{Local, bound, closed, spent}
 use Rattle.rb_meaning_code.specs.Dialogue as ask
 use Rattle.rb_meaning_code.specs.Dialogue.{Question, Outcome, Gave, Faulted, Handler, handle}
 use Rattle.rb_meaning_code.specs.Calls.{unit_due}
-use Rattle.rb_meaning_code.specs.ScriptRun.{items_in}
 use Rattle.rb_meaning_code.specs.Expressions.{evaluates}
 use Rattle.rb_meaning_code.specs.Statements.{performs}
 use Rattle.rb_meaning_code.specs.Bodies.{bodies_of}
+use Rattle.rb_meaning.specs.ConstantLists.{items_of}
 use Rattle.rb_meaning.specs.State as state
 use Rattle.rb_meaning.specs.State.{Event}
 
@@ -147,11 +147,6 @@ list_turns step at turn [] ns rest l events go = go l (record { events = events;
 list_turns step at turn (v ∷ vs) NoNodes rest l events go = after_unit at l events (λ l1. record { outcome = Faulted (missed (fault_at step rest)) l1; events = events })
 list_turns step at turn (v ∷ vs) (MoreNodes n ns) rest l events go =
     after_unit at l events (λ l1. behind (length l1.names) rest (turn v n l1 events) (λ l2 s2. list_turns step at turn vs ns rest l2 s2.events go))
-
--- the items of a list that has a name
-abbrev pub items_of : Option Value → Result (List Value) Fault
-items_of None = Err kind
-items_of (Some v) = items_in (out-Value v)
 
 -- goes on with items, or the fault in their place
 abbrev pub on_items : ℕ → Result (List Value) Fault → Local → List Event → (List Value → Replayed) → Replayed

@@ -12,7 +12,7 @@ use Rattle.rb_meaning_flow.specs.Portable.{holds_call}
 use Rattle.rb_meaning_flow.specs.Forms.{placed_form}
 use Rattle.rb_meaning_flow.specs.Sites.{scope_after}
 use Rattle.rb_meaning.specs.RemoteExprs.{remote_of}
-use Rattle.rb_meaning_split.specs.Refs.{Refs, with_var, sexpr}
+use Rattle.rb_meaning_split.specs.Refs.{Refs, with_var, list_number, sexpr}
 use Rattle.rb_meaning_split.specs.Numbers.{step_after, steps_after, var_after, vars_after}
 
 module _ (p : Program) where
@@ -35,8 +35,8 @@ module _ (p : Program) where
 
   abbrev mutual
     -- The steps of a statement at a script place, by its form: a carried val is a Let, a call alone is a Do, a carried `if` is
-    -- an If, and a loop over rows is an Each, which keeps primitive rows. Of every other statement the remote expressions are
-    -- kept, in order of evaluation.
+    -- an If, a loop over rows is an Each, which keeps primitive rows, and a carried loop is an Over. Of every other statement the
+    -- remote expressions are kept, in order of evaluation.
     pub steps_as : PlacedForm → Refs → Scope → (n m : ℕ) → Stmt → Steps → Steps
     steps_as PlacedForm.CarriedVal refs scope n m (Val at name e) rest = MoreSteps (script.Let n at m (keeps_val e) (sexpr p refs e)) rest
     steps_as PlacedForm.CallAlone refs scope n m (Run at e) rest = MoreSteps (script.Do n at (sexpr p refs e)) rest
@@ -45,6 +45,9 @@ module _ (p : Program) where
         (block_steps refs scope (steps_after (facts_of p) scope a (suc n)) (vars_after (facts_of p) scope a m) b)) rest
     steps_as PlacedForm.RowsLoop refs scope n m (For at name e a) rest =
         MoreSteps (script.Each n at m ((facts_of p).items (expr_at e)) (sexpr p refs e)
+        (block_steps (with_var refs name m) (with_variable scope name Role.Row at) (suc n) (suc m) a)) rest
+    steps_as PlacedForm.CarriedLoop refs scope n m (For at name e a) rest =
+        MoreSteps (script.Over n at m (list_number refs e)
         (block_steps (with_var refs name m) (with_variable scope name Role.Row at) (suc n) (suc m) a)) rest
     steps_as form refs scope n m stmt rest = keeps refs n (remote_of (facts_of p) scope stmt) rest
 

@@ -22,6 +22,7 @@ use Rattle.rb_meaning.specs.State.{Outside}
 use Rattle.rb_meaning.specs.Unsplit as unsplit
 use Rattle.rb_meaning.specs.Unsplit.{answers_in_batch, faults, in_batch, performs_batch, server_after, settles, table_after, with_answer, with_side}
 use Rattle.rb_meaning_flow.specs.Outermost.{Outermost}
+use Rattle.rb_meaning_flow.specs.Programs.{is_carried_at}
 use Rattle.rb_meaning_flow.specs.Scopes.{opened}
 use Rattle.rb_base.specs.Devices.{Device, failed}
 use Rattle.rb_base.specs.Sinks.{with_bytes, WrotePrefix}
@@ -46,7 +47,7 @@ use Rattle.rb_plain.specs.declared.outer_world.OuterWorld.{OuterWorld}
 use Rattle.rb_plain.specs.declared.remote_world.RemoteWorld.{RemoteWorld}
 use Rattle.rb_plain.proofs.Answering.{batch_as, within}
 use Rattle.rb_plain.proofs.BatchFound.{found_so, rest_so, to_around}
-use Rattle.rb_plain.proofs.Events.{exchanges_batch, exchanges_line, shown_batch}
+use Rattle.rb_plain.proofs.Events.{exchanges_batch, exchanges_line, shown_batch, turned_same}
 use Rattle.rb_plain.proofs.Told.{told}
 
 -- code in a batch begins no batch
@@ -59,7 +60,7 @@ question_same p service s (ask.Line at bytes) = exchanges_line s.events bytes
 question_same p service s (ask.Taken step) = refl
 question_same p service s (ask.Invoke at target method args) = answered_same s (remote_answer p service s.server (ask.Invoke at target method args))
 question_same p service s (ask.Turn at) = answered_same s (remote_answer p service s.server (ask.Turn at))
-question_same p service s (ask.ListTurn at) = refl
+question_same p service s (ask.ListTurn at) = ap exchanges (turned_same (is_carried_at p at) at s)
 
 handled_same : {A : Type 0} (p : Program) (service : Service) (d : Dialogue A) (s : Outside) → exchanges (handle (in_batch p service) d s).1.events ≡ exchanges s.events
 handled_same p service (Done a) s = refl

@@ -1,6 +1,6 @@
 -- Events only come.
 use Rattle.std.proofs.Common.{◌≡◌, refl, sym, ap, ◌∙◌, ℕ, List, [], ◌∷◌, ◌++◌, length, append_assoc, append-nil}
-use Rattle.std.specs.Prelude.{◌+◌, Option, None, Some, Result}
+use Rattle.std.specs.Prelude.{◌+◌, Bool, true, false, Option, None, Some, Result}
 use Rattle.rb_trees.specs.declared.values.Value.{Value}
 use Rattle.rb_trees.specs.declared.outcomes.Raised.{Raised}
 use Rattle.rb_trees.specs.declared.services.Object.{Object}
@@ -14,12 +14,14 @@ use Rattle.rb_meaning_code.specs.State.{Local, bound}
 use Rattle.rb_meaning_code.specs.Statements.{performs_all}
 use Rattle.rb_trees.specs.declared.values.Value.TheVariants as value
 use Rattle.rb_meaning_flow.specs.Outermost.{Outermost}
-use Rattle.rb_meaning.specs.Meaning.{Around, at_batch, behind_batch, in_main, performs_found, shown_by}
-use Rattle.rb_meaning.specs.RemoteAnswers.{remote_answer}
+use Rattle.rb_meaning_flow.specs.Programs.{is_carried_at}
+use Rattle.rb_meaning.specs.ConstantLists.{takes_too_many}
+use Rattle.rb_meaning.specs.Meaning.{Around, at_batch, begins_or_faults, behind_batch, in_main, performs_found, shown_by}
+use Rattle.rb_meaning.specs.RemoteAnswers.{answer_of, remote_answer, unit_of}
 use Rattle.rb_meaning.specs.Shown.{exchanges, line, shown_events}
 use Rattle.rb_meaning.specs.State as state
 use Rattle.rb_meaning.specs.State.{Event, Outside}
-use Rattle.rb_meaning.specs.Unsplit.{answers_in_batch, batch_at, begun, in_batch, performs_batch, settles, whole_table, with_answer}
+use Rattle.rb_meaning.specs.Unsplit.{answers_in_batch, batch_at, begun, in_batch, list_turn, performs_batch, settles, whole_table, with_answer}
 
 -- later events are those before and more
 abbrev pub More : Outside → Outside → Type 0
@@ -46,6 +48,10 @@ handled_more out h adds (AskBatch at l go) s =
 answered_same : (s : Outside) (r : Result Value Raised × Server) → (with_answer s r).1.events ≡ s.events
 answered_same s (a, server) = refl
 
+pub turned_same : (carried : Bool) (at : ℕ) (s : Outside) → (list_turn carried at s).1.events ≡ s.events
+turned_same true at s = answered_same s (answer_of (unit_of at s.server))
+turned_same false at s = refl
+
 abbrev itself : Outside → Outside
 itself s = s
 
@@ -58,7 +64,7 @@ batch_adds p service = record { questions = by_question; batches = λ s at l. no
     by_question s (ask.Invoke at target method args) =
         let r = remote_answer p service s.server (ask.Invoke at target method args) in no_more s (with_answer s r).1 (answered_same s r)
     by_question s (ask.Turn at) = let r = remote_answer p service s.server (ask.Turn at) in no_more s (with_answer s r).1 (answered_same s r)
-    by_question s (ask.ListTurn at) = no_more s s refl
+    by_question s (ask.ListTurn at) = no_more s (list_turn (is_carried_at p at) at s).1 (turned_same (is_carried_at p at) at s)
 
 pub batch_more : {A : Type 0} (p : Program) (service : Service) (d : Dialogue A) (s : Outside) → More s (handle (in_batch p service) d s).1
 batch_more p service d s = handled_more itself (in_batch p service) (batch_adds p service) d s
@@ -82,6 +88,12 @@ outside_in a = a.outside
 behind_same : (a : Around) (r : Outcome (Unit {0}) × Outside) → (behind_batch a r).1.outside.events ≡ r.1.events
 behind_same a (o, s) = refl
 
+found_more : (p : Program) (service : Service) (b : Outermost) (a : Around) (l : Local) (many : Bool) → More a.outside (begins_or_faults many p service b l a).1.outside
+found_more p service b a l true = no_more a.outside a.outside refl
+found_more p service b a l false =
+    let r = performs_batch p service b l (at_batch a) in
+    more_far (at_batch a) r.1 (behind_batch a r).1.outside (performed_more p service b l (at_batch a)) (no_more r.1 (behind_batch a r).1.outside (behind_same a r))
+
 outer_adds : (p : Program) (service : Service) → Adds outside_in (in_main p service)
 outer_adds p service = record { questions = λ a q. by_question a.outside q; batches = λ a at l. by_batch (batch_at p at) a at l }
   where
@@ -94,9 +106,7 @@ outer_adds p service = record { questions = λ a q. by_question a.outside q; bat
 
     by_batch : (b : Option Outermost) (a : Around) (at : ℕ) (l : Local) → More a.outside (performs_found p service b at l a).1.outside
     by_batch None a at l = no_more a.outside a.outside refl
-    by_batch (Some b) a at l =
-        let r = performs_batch p service b l (at_batch a) in
-        more_far (at_batch a) r.1 (behind_batch a r).1.outside (performed_more p service b l (at_batch a)) (no_more r.1 (behind_batch a r).1.outside (behind_same a r))
+    by_batch (Some b) a at l = found_more p service b a l (takes_too_many p b l.names)
 
 pub outer_more : {A : Type 0} (p : Program) (service : Service) (d : Dialogue A) (a : Around) → More a.outside (handle (in_main p service) d a).1.outside
 outer_more p service d a = handled_more outside_in (in_main p service) (outer_adds p service) d a

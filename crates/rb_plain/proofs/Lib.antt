@@ -8,6 +8,7 @@ pub mod Evaluated
 pub mod Events
 pub mod Found
 pub mod Fronts
+pub mod Listed
 pub mod Looked
 pub mod MainLed
 pub mod Placed

@@ -15,7 +15,7 @@ use Rattle.rb_meaning_flow.specs.declared.scopes.Role.{Role}
 use Rattle.rb_meaning_flow.specs.Facts.{Facts, facts_of, over_rows}
 use Rattle.rb_meaning_flow.specs.Forms.{placed_form}
 use Rattle.rb_meaning_flow.specs.Marks.{is_portable_call}
-use Rattle.rb_meaning_flow.specs.Portable.{branches_hold, portable}
+use Rattle.rb_meaning_flow.specs.Portable.{branches_hold, may_carry, portable}
 use Rattle.rb_meaning_flow.specs.Scopes.{Scope, with_variable}
 use Rattle.rb_meaning_flow.specs.Sites.{scope_after}
 use Rattle.rb_meaning.specs.RemotePart.{Rest}
@@ -31,6 +31,12 @@ plain_or false f isnt = refl
 
 unlike : {r placed : PlacedForm} (b : Bool) (f : PlacedForm) → r ≡ placed → placed ≡ cond b f PlacedForm.Plain → (r ≡ f → ⊥) → cond b f PlacedForm.Plain ≡ PlacedForm.Plain
 unlike b f er e isnt = plain_or b f (λ h. isnt (er ∙ e ∙ h))
+
+-- one that hasn't either of the two forms that it could have
+unlike_both : {r placed : PlacedForm} (b c : Bool) (f g : PlacedForm) → r ≡ placed → placed ≡ cond b f (cond c g PlacedForm.Plain) → (r ≡ f → ⊥) → (r ≡ g → ⊥)
+    → cond b f (cond c g PlacedForm.Plain) ≡ PlacedForm.Plain
+unlike_both true c f g er e isnt nor = absurd (isnt (er ∙ e))
+unlike_both false c f g er e isnt nor = unlike c g er e nor
 
 -- the role of a val, by the form of its statement
 carried_role : (b : Bool) → cond b PlacedForm.CarriedVal PlacedForm.Plain ≡ PlacedForm.CarriedVal → Role.Carried ≡ cond b Role.Carried Role.Plain
@@ -81,9 +87,9 @@ module _ (w : RemoteWorld) (scope : Scope) where
         let h = unlike (branches_hold here (mirror_stmts a) (mirror_stmts b)) PlacedForm.CarriedIf er (ap (placed_form here scope) (if_form s a b is)) isnt in
         subst Left (sym (if_form s a b is)) (plain (code.If s.at (mirror_expr c) (mirror_stmts a) (mirror_stmts b)) h refl)
 
-    pub for_left : {r : PlacedForm} {n : List ℕ} {e : expr.Expr} (a : List stmt.Stmt) → r ≡ placed_form here scope (mirror_stmt s) → s.form ≡ form.For n e a → (r ≡ PlacedForm.RowsLoop → ⊥) → Left (mirror_stmt s)
-    for_left {n = n} {e = e} a er is isnt =
-        let h = unlike (over_rows here (mirror_expr e)) PlacedForm.RowsLoop er (ap (placed_form here scope) (for_form s a is)) isnt in
+    pub for_left : {r : PlacedForm} {n : List ℕ} {e : expr.Expr} (a : List stmt.Stmt) → r ≡ placed_form here scope (mirror_stmt s) → s.form ≡ form.For n e a → (r ≡ PlacedForm.RowsLoop → ⊥) → (r ≡ PlacedForm.CarriedLoop → ⊥) → Left (mirror_stmt s)
+    for_left {n = n} {e = e} a er is isnt nor =
+        let h = unlike_both (over_rows here (mirror_expr e)) (may_carry here scope (mirror_expr e) (mirror_stmts a)) PlacedForm.RowsLoop PlacedForm.CarriedLoop er (ap (placed_form here scope) (for_form s a is)) isnt nor in
         subst Left (sym (for_form s a is)) (plain (code.For s.at n (mirror_expr e) (mirror_stmts a)) h refl)
 
     -- the statements that are always performed so

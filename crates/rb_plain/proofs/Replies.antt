@@ -92,7 +92,7 @@ ruled {w = w} at (Ok a) d g is = by_result is (record { means = ap (λ x. replie
 ruled {w = w} at (Err (failure.Fault f)) d g is = by_result is (record { means = ap (λ x. replies at x w.server) g; stage_so = refl })
 ruled at (Err failure.Memory) d g is = by_result is (record { means = tt; stage_so = tt })
 
-two_in_row : {B C D : Type 0} (m : Reply B) (l : B → Server → Reply C) (j : C → Server → Reply D) → and_then m (λ b s1. and_then (l b s1) j) ≡ and_then (and_then m l) j
+pub two_in_row : {B C D : Type 0} (m : Reply B) (l : B → Server → Reply C) (j : C → Server → Reply D) → and_then m (λ b s1. and_then (l b s1) j) ≡ and_then (and_then m l) j
 two_in_row (Got b s) l j = refl
 two_in_row (Stopped at f s) l j = refl
 

@@ -21,6 +21,7 @@ use Rattle.rb_meaning_flow.specs.Forms.{placed_form}
 use Rattle.rb_meaning_flow.specs.declared.scopes.Role.{Role}
 use Rattle.rb_meaning_flow.specs.Scopes.{Scope, with_variable}
 use Rattle.rb_meaning_flow.specs.Sites.{own, scope_after}
+use Rattle.rb_meaning.specs.ConstantLists.{items_named}
 use Rattle.rb_meaning.specs.RemoteExprs.{remote_in, remote_of}
 use Rattle.rb_meaning.specs.RemotePart as part
 use Rattle.rb_meaning.specs.RemoteAnswers.{unit_of}
@@ -32,14 +33,14 @@ use Rattle.rb_engine.specs.declared.misses.Miss.TheVariants as miss
 use Rattle.rb_plain.specs.Parts.{part_meant, performed_meant}
 use Rattle.rb_plain.specs.Remote.{Ended, SameStage, as_unit, value_meant}
 use Rattle.rb_plain.specs.Staged.{Staged, program_of, service_of}
-use Rattle.rb_plain.specs.Walks.{Does, Kept, Meaning, Walked, block_from, block_meant, branch_meant, carried_meant, form_meant, rows_meant, scope_behind, skim_meant, stmt_meant, stmts_meant, turn_from, turn_meant, turns_from, turns_meant}
+use Rattle.rb_plain.specs.Walks.{Does, Kept, Meaning, Walked, block_from, block_meant, branch_meant, carried_meant, form_meant, items_meant, rows_meant, scope_behind, skim_meant, stmt_meant, stmts_meant, turn_from, turn_meant, turns_from, turns_meant}
 use Rattle.rb_plain.specs.declared.remote_world.RemoteWorld.{RemoteWorld}
 use Rattle.rb_plain.specs.declared.walk.Binding.{Binding}
 use Rattle.rb_plain.specs.declared.walk.Branch.{Branch}
 use Rattle.rb_plain.specs.declared.walk.Loop.{Loop}
 use Rattle.rb_plain.proofs.Dropped.{dropped_one}
 use Rattle.rb_plain.proofs.Fronts.{kept_added, kept_after, kept_far, kept_same}
-use Rattle.rb_plain.proofs.Replies.{as_reply, from_later, given, got, in_row, missed, same_by, unstarved_err, unstarved_ok, went}
+use Rattle.rb_plain.proofs.Replies.{as_reply, from_later, given, got, in_row, missed, same_by, two_in_row, unstarved_err, unstarved_ok, went}
 
 pub by_result : {m : Meaning} {r r1 : Result (Unit {0}) Miss} {old new : Names} {w w1 : RemoteWorld} → r ≡ r1 → Walked m old r1 w new w1 → Walked m old r w new w1
 by_result {m = m} {old = old} {new = new} {w = w} {w1 = w1} e h = subst (λ x. Walked m old x w new w1) (sym e) h
@@ -169,6 +170,12 @@ pub rows_so : {r : Result (Unit {0}) Miss} {names new : Names} {w w1 : RemoteWor
     → Walked (rows_meant w scope l e names) names r w new w1
 rows_so {names = names} {w = w} scope l e f h =
     as_meant (λ go. in_row (value_meant w.stage e names w.server) (λ v s1. replies l.at (rows_in (out-Value v)) s1) (λ rows s2. turns_from w.stage scope l names rows s2) (λ u s3. go names s3)) (to_end h f)
+
+pub items_so : {r : Result (Unit {0}) Miss} {names new : Names} {w w1 : RemoteWorld} (scope : Scope) (l : Loop) (e : expr.Expr) → OnOk r (new ≡ names)
+    → Ended (and_then (replies l.at (items_named names (mirror_expr e)) w.server) (λ items s1. turns_from w.stage scope l names items s1)) r w w1
+    → Walked (items_meant w scope l e names) names r w new w1
+items_so {names = names} {w = w} scope l e f h =
+    as_meant (λ go. two_in_row (replies l.at (items_named names (mirror_expr e)) w.server) (λ items s1. turns_from w.stage scope l names items s1) (λ u s2. go names s2)) (to_end h f)
 
 pub turns_so : {r : Result (Unit {0}) Miss} {w1 w2 : RemoteWorld} (w : RemoteWorld) (scope : Scope) (l : Loop) (names : Names) (rows : List Value) → SameStage w w1
     → Ended (turns_meant w1 scope l names rows) r w1 w2 → Ended (turns_from w.stage scope l names rows w1.server) r w1 w2

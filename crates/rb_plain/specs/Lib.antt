@@ -2,6 +2,7 @@
 pub mod BatchRuns
 pub mod Batches
 pub mod Entered
+pub mod Lists
 pub mod MainRuns
 pub mod Parts
 pub mod Remote

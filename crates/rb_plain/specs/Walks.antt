@@ -3,7 +3,7 @@ use Rattle.std.specs.Prelude.{◌≡◌, List, [], length, take, cond, OnOk, Res
 use Rattle.rb_trees.specs.declared.values.Value.{Value, out-Value}
 use Rattle.rb_trees.specs.declared.code.Expr as expr
 use Rattle.rb_trees.specs.declared.code.Stmt as stmt
-use Rattle.rb_trees.specs.mirror.Code.{Stmt, Val, Var, mirror_stmt, mirror_stmts}
+use Rattle.rb_trees.specs.mirror.Code.{Stmt, Val, Var, mirror_expr, mirror_stmt, mirror_stmts}
 use Rattle.rb_meaning_code.specs.State.{Names}
 use Rattle.rb_meaning_code.specs.Remote.{Server, Stopped, and_then, replies, rows_in}
 use Rattle.rb_meaning_code.specs.Statements.{truth_of}
@@ -12,6 +12,7 @@ use Rattle.rb_meaning_flow.specs.declared.scopes.Role.{Role}
 use Rattle.rb_meaning_flow.specs.Facts.{facts_of}
 use Rattle.rb_meaning_flow.specs.Scopes.{Scope, with_variable}
 use Rattle.rb_meaning_flow.specs.Sites.{scope_after}
+use Rattle.rb_meaning.specs.ConstantLists.{items_named}
 use Rattle.rb_meaning.specs.RemotePart as part
 use Rattle.rb_meaning.specs.RemotePart.{Rest, ended, skims, turns, walk, walk_as, walk_block, with_name}
 use Rattle.rb_engine.specs.declared.misses.Miss.{Miss}
@@ -95,6 +96,12 @@ rows_meant w scope l e names go =
     and_then (value_meant w.stage e names w.server) (λ v s1.
     and_then (replies l.at (rows_in (out-Value v)) s1) (λ rows s2.
     and_then (turns_from w.stage scope l names rows s2) (λ u s3. go names s3)))
+
+-- a carried loop
+abbrev pub items_meant : RemoteWorld → Scope → Loop → expr.Expr → Names → Meaning
+items_meant w scope l e names go =
+    and_then (replies l.at (items_named names (mirror_expr e)) w.server) (λ items s1.
+    and_then (turns_from w.stage scope l names items s1) (λ u s2. go names s2))
 
 -- the variables in scope after a statement
 abbrev pub scope_behind : RemoteWorld → Scope → stmt.Stmt → Scope

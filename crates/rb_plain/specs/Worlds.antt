@@ -11,7 +11,8 @@ use Rattle.rb_meaning.specs.Unsplit.{in_batch, performs_batch}
 use Rattle.rb_meaning_flow.specs.Outermost.{Outermost}
 use Rattle.rb_flow.specs.Begun.{begun, begun_of}
 use Rattle.rb_flow.specs.declared.outermost.OpenBatch.{OpenBatch}
-use Rattle.rb_meaning.specs.Meaning.{Around, at_batch, behind_batch, in_main}
+use Rattle.rb_meaning.specs.ConstantLists.{takes_too_many}
+use Rattle.rb_meaning.specs.Meaning.{Around, at_batch, begins_or_faults, behind_batch, in_main}
 use Rattle.rb_base.specs.Devices.{Device, device, failed}
 use Rattle.rb_base.specs.Sinks.{with_bytes, WrotePrefix}
 use Rattle.rb_base.specs.declared.sinks.Failed.{Failed}
@@ -102,7 +103,7 @@ abbrev pub outer_performs : {W : Type 0} → sinks.Ghosts W → OuterWorld W →
 outer_performs {W = W} g w at l ended w' = (first : OuterWorld W) (start : Device (List ℕ)) (a : Around) → SeesAround g first start w a
     → Told (around_view g first start) ended w' ((outer first).batch a at l)
 
--- a batch of the program where it is found
+-- a batch of the program that begins where it is found
 abbrev pub performs_around : {W : Type 0} → OuterWorld W → Outermost → Local → Around → Outcome (Unit {0}) × Around
 performs_around first o l a =
     behind_batch a (performs_batch (program_of first.inner.remote.stage) (service_of first.inner.remote.stage) o l (at_batch a))
@@ -111,3 +112,13 @@ performs_around first o l a =
 abbrev pub PerformsBatch : {W : Type 0} → sinks.Ghosts W → List ℕ → OpenBatch → OuterWorld W → Local → Performed Failed → OuterWorld W → Type 0
 PerformsBatch {W = W} g root b w l ended w' = (first : OuterWorld W) (start : Device (List ℕ)) (a : Around) (o : Outermost) → SeesAround g first start w a → begun_of b ≡ begun o → root ≡ o.root
     → Told (around_view g first start) ended w' (performs_around first o l a)
+
+-- the same, unless it would take too many items along
+abbrev pub finds_around : {W : Type 0} → OuterWorld W → Outermost → Local → Around → Outcome (Unit {0}) × Around
+finds_around first o l a =
+    let p = program_of first.inner.remote.stage in begins_or_faults (takes_too_many p o l.names) p (service_of first.inner.remote.stage) o l a
+
+-- A batch of the program that was found was performed so, of which the code has this and this root.
+abbrev pub FindsBatch : {W : Type 0} → sinks.Ghosts W → List ℕ × ℕ → OpenBatch → OuterWorld W → Local → Performed Failed → OuterWorld W → Type 0
+FindsBatch {W = W} g root b w l ended w' = (first : OuterWorld W) (start : Device (List ℕ)) (a : Around) (o : Outermost) → SeesAround g first start w a → begun_of b ≡ begun o → root ≡ (o.root, o.at)
+    → Told (around_view g first start) ended w' (finds_around first o l a)

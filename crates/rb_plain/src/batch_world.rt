@@ -10,8 +10,8 @@ use rb_engine::{Frame, Halt, RunResult, State, World};
 use rb_trees::{Seq, Value};
 
 /// The surroundings of the code in a batch: its lines go to the output, its remote calls are performed where they stand,
-/// and a turn over rows takes a unit of remote fuel. All else but a turn over a list faults Kind. A run is cut off where
-/// a write fails.
+/// and a turn over rows or of a carried loop takes a unit of remote fuel. All else but a turn of another loop faults Kind.
+/// A run is cut off where a write fails.
 #[derive(Drop)]
 pub struct BatchWorld<'a, 'o, W> {
     pub remote: RemoteWorld<'a>,
@@ -71,7 +71,10 @@ impl<'a, 'o, W: Sink> World for BatchWorld<'a, 'o, W> {
         Ok(self.remote.take_unit(at))
     }
 
-    fn list_turn(&mut self, _at: u32) -> RunResult<(), Failed> {
+    fn list_turn(&mut self, at: u32) -> RunResult<(), Failed> {
+        if self.remote.stage.is_carried_at(at) {
+            return Ok(self.remote.take_unit(at));
+        }
         Ok(Ok(()))
     }
 }

@@ -8,6 +8,7 @@ mod batch_run;
 mod batch_world;
 mod batches;
 mod lines;
+mod lists;
 mod main_run;
 mod outer_world;
 mod plain_run;

@@ -5,11 +5,12 @@ ghost use Rattle.rb_engine.specs.Answers.{Answered, performed};
 ghost use Rattle.rb_engine.specs.Locals.{local};
 ghost use Rattle.rb_plain.specs.BatchRuns.{SettlesStep};
 ghost use Rattle.rb_plain.specs.Entered.{Comes, Enters};
-ghost use Rattle.rb_plain.specs.Worlds.{PerformsBatch};
+ghost use Rattle.rb_plain.specs.Worlds.{FindsBatch, PerformsBatch};
 
 use crate::batch_run::{Start, begin, settle};
 use crate::batch_world::BatchWorld;
 use crate::batches::{Batches, root_of};
+use crate::lists::takes_too_many;
 use crate::remote_world::RemoteWorld;
 use crate::stage::Stage;
 use rb_base::{Failed, Sink};
@@ -134,6 +135,31 @@ fn perform<W: Sink>(
     settled(alloc, &mut world.inner.remote, batch, start, ended)
 }
 
+// Performs a batch, unless it would take too many items along: `begins_or_faults`. Its root has its position.
+fn perform_found<W: Sink>(
+    alloc: Global,
+    world: &mut OuterWorld<'_, '_, '_, '_, W>,
+    root: (&Word, u32),
+    batch: &OpenBatch<'_>,
+    state: &mut State,
+    frame: &mut Frame,
+) -> RunResult<(), Failed>
+    ensures fuel { state.new.fuel ≤ state.old.fuel }
+    ensures depth { state.new.depth ≡ state.old.depth }
+    ensures performs { let before = local frame.old state.old in
+        let ended = performed (local frame.new state.new) result in
+        Answered ended (λ o. FindsBatch W.Sink (root.entry.0.now, root.entry.1) batch.now world.old before o world.new) }
+{
+    let facts = world.inner.remote.stage.facts();
+    let Ok(too_many) = takes_too_many(alloc, facts, batch, frame) else {
+        return Err(Halt::Memory);
+    };
+    if too_many {
+        return Ok(Err(world.inner.remote.too_large(root.1)));
+    }
+    perform(alloc, world, root.0, batch, state, frame)
+}
+
 impl<'p, 'b, 'a, 'o, W: Sink> World for OuterWorld<'p, 'b, 'a, 'o, W> {
     ghost use Rattle.rb_plain.specs.Worlds.{outer_answers, outer_performs};
 
@@ -155,7 +181,7 @@ impl<'p, 'b, 'a, 'o, W: Sink> World for OuterWorld<'p, 'b, 'a, 'o, W> {
         match root_of(batch) {
             Some(root) => {
                 let alloc = self.inner.remote.alloc;
-                perform(alloc, self, root.0, batch, state, frame)
+                perform_found(alloc, self, root, batch, state, frame)
             }
             None => Ok(Err(self.inner.remote.refuse(at))),
         }

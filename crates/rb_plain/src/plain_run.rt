@@ -96,7 +96,7 @@ pub fn unsplit<W: Sink>(
     let program = typed.program();
     let own = Code::make(alloc, &program.classes)?;
     let facts = Facts::new(alloc, typed)?;
-    let stage = Stage::new(facts, admitted.marks(), &own, code, root);
+    let stage = Stage::new(facts, &*admitted, &own, code, root);
     let terms = Terms {
         fuel,
         others: others.as_slice(),

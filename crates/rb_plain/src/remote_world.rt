@@ -67,6 +67,13 @@ impl<'a> RemoteWorld<'a> {
         raise(self.alloc, fault_codes::KIND, at, false)
     }
 
+    /// The fault at a position that a batch would take too many items along.
+    pub fn too_large(&self, at: u32) -> Raised
+        ensures { result ≡ raised faults.input_too_large at }
+    {
+        raise(self.alloc, fault_codes::INPUT_TOO_LARGE, at, false)
+    }
+
     // The fault that no fuel is left, of a remote operation at a position.
     fn no_fuel(&self, at: u32) -> Raised
         ensures { result ≡ raised_remotely faults.fuel_used at }

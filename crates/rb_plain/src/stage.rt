@@ -1,23 +1,23 @@
 // What a run stands on.
 
 ghost use Rattle.std.specs.Prelude.{◌≡◌};
-ghost use Rattle.rb_trees.specs.mirror.Declarations.{mirror_program};
-ghost use Rattle.rb_meaning_flow.specs.Programs.{program_marks};
+ghost use Rattle.rb_meaning_flow.specs.Programs as programs;
 ghost use Rattle.rb_meaning.specs.Unsplit as meant;
 ghost use Rattle.rb_plain.specs.Staged.{program_of};
 
 use rb_code::Code;
-use rb_marks::{Facts, Marks};
+use rb_flow::Admitted;
+use rb_marks::Facts;
 use rb_trees::Mark;
 use rb_types::Typed;
 use std::marker::Model;
 
-/// The program with the code of its classes and its marks, and the service: the code of its classes, and the number of its
+/// The admitted program with the code of its classes, and the service: the code of its classes, and the number of its
 /// root. Contracts see the program and the service.
 #[derive(Drop)]
 pub struct Stage<'a> {
     facts: Facts<'a>,
-    marks: &'a Marks,
+    admitted: &'a Admitted<'a>,
     code: &'a Code,
     service: &'a Code,
     root: u32,
@@ -25,8 +25,6 @@ pub struct Stage<'a> {
 
 impl<'a> Model for Stage<'a> {
     ghost use Rattle.std.specs.Prelude.{◌≡◌};
-    ghost use Rattle.rb_trees.specs.mirror.Declarations.{mirror_program};
-    ghost use Rattle.rb_meaning_flow.specs.Programs.{program_marks};
     ghost use Rattle.rb_plain.specs.Staged.{Staged, staged_code};
 
     ghost Value = { Staged };
@@ -35,25 +33,25 @@ impl<'a> Model for Stage<'a> {
 
     ghost view = { λ s. record { program = s.facts; service = record { classes = s.service.now; root = s.root } } };
 
-    ghost invariant = { λ s. (s.code.now ≡ s.facts.classes) × (s.marks.now.0 ≡ program_marks (mirror_program s.facts)) };
+    ghost invariant = { λ s. (s.code.now ≡ s.facts.classes) × (s.admitted.now.0 ≡ s.facts) };
 }
 
 impl<'a> Stage<'a> {
-    /// The stage of a program and a service. The code is that of the program's classes, and the marks are the program's.
+    /// The stage of an admitted program and a service. The facts are the program's, and the code is that of its classes.
     pub fn new(
         facts: Facts<'a>,
-        marks: &'a Marks,
+        admitted: &'a Admitted<'a>,
         code: &'a Code,
         service: &'a Code,
         root: u32,
     ) -> Stage<'a>
+        requires facts { admitted.now.0 ≡ facts }
         requires code { code.now ≡ facts.classes }
-        requires marks { marks.now.0 ≡ program_marks (mirror_program facts) }
         ensures { result ≡ record { program = facts.entry; service = record { classes = service.now; root = root } } }
     {
         Stage {
             facts,
-            marks,
+            admitted,
             code,
             service,
             root,
@@ -99,10 +97,17 @@ impl<'a> Stage<'a> {
     pub fn stands_remote(&self, at: u32) -> bool
         ensures { result ≡ meant.stands_remote (program_of self.now) at }
     {
-        match self.marks.mark_at(at) {
+        match self.admitted.marks().mark_at(at) {
             Some(Mark::Remote) => true,
             Some(Mark::Constant) | Some(Mark::Local) => false,
             None => false,
         }
+    }
+
+    /// Whether a carried loop stands at a position: `is_carried_at`.
+    pub fn is_carried_at(&self, at: u32) -> bool
+        ensures { result ≡ programs.is_carried_at (program_of self.now) at }
+    {
+        self.admitted.is_carried_at(at)
     }
 }

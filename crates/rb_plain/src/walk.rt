@@ -9,8 +9,9 @@ ghost use Rattle.rb_meaning_code.specs.Remote as remote;
 ghost use Rattle.rb_meaning.specs.RemoteAnswers as answers;
 ghost use Rattle.rb_engine.specs.Ends.{fault_of};
 ghost use Rattle.rb_plain.specs.Remote.{Ended, as_unit};
-ghost use Rattle.rb_plain.specs.Walks.{Kept, Walked, block_meant, branch_meant, carried_meant, carried_scope, plain_scope, rows_meant, scope_behind, skim_meant, stmt_meant, stmts_meant, turn_meant, turns_meant};
+ghost use Rattle.rb_plain.specs.Walks.{Kept, Walked, block_meant, branch_meant, carried_meant, carried_scope, items_meant, plain_scope, rows_meant, scope_behind, skim_meant, stmt_meant, stmts_meant, turn_meant, turns_meant};
 
+use crate::lists::items_named;
 use crate::remote_parts::{perform_both, perform_in};
 use crate::remote_world::{RemoteWorld, value_of};
 use rb_engine::{Failure, Frame, Miss, PlainFault, at_place, truth_of};
@@ -37,7 +38,7 @@ pub struct Branch<'a> {
     pub no: &'a Seq<Stmt>,
 }
 
-/// A loop over rows, without its rows: its position, the name of its rows, and its block.
+/// A loop without its list: its position, the name of its items, and its block.
 #[derive(Clone, Copy)]
 pub struct Loop<'a> {
     pub at: u32,
@@ -218,6 +219,14 @@ fn perform_stmt(
             };
             perform_rows(alloc, world, scope, frame, &turns, list)
         }
+        (StmtForm::For(name, list, block), PlacedForm::CarriedLoop) => {
+            let turns = Loop {
+                at,
+                name,
+                block: block.as_slice(),
+            };
+            perform_items(alloc, world, scope, frame, &turns, list)
+        }
         _ => perform_plain(alloc, world, scope, frame, stmt),
     }
 }
@@ -262,7 +271,26 @@ fn perform_rows(
     perform_turns(alloc, world, scope, frame, turns, rows.get().as_slice())
 }
 
-// The turns over rows.
+// A carried loop, over the items of a list of the batch's start.
+#[cycle(walking)]
+#[inline(never)]
+fn perform_items(
+    alloc: Global,
+    world: &mut RemoteWorld<'_>,
+    scope: &mut Scope,
+    frame: &mut Frame,
+    turns: &Loop<'_>,
+    list: &Expr,
+) -> Result<(), Miss>
+    ensures walked { let meant = items_meant world.old scope.old turns.now list.now frame.old in
+        Walked meant frame.old result world.old frame.new world.new }
+    ensures scope { OnOk result (scope.new ≡ scope.old) }
+{
+    let items = at_place(turns.at, items_named(alloc, frame, list))?;
+    perform_turns(alloc, world, scope, frame, turns, items.get().as_slice())
+}
+
+// The turns over rows or items.
 #[cycle(walking)]
 #[inline(never)]
 fn perform_turns(

@@ -9,6 +9,7 @@ mod hubs;
 mod near_runs;
 mod others;
 mod pairs;
+mod payloads;
 mod replies;
 mod servers;
 mod texts;

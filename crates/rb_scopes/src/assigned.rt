@@ -37,6 +37,13 @@ impl Assigned {
                     Role::Constant
                 }
             }
+            Role::ConstantList => {
+                if self.names.has(&v.name) {
+                    Role::Plain
+                } else {
+                    Role::ConstantList
+                }
+            }
             Role::Root => Role::Root,
             Role::Row => Role::Row,
             Role::Carried => Role::Carried,

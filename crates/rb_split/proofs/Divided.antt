@@ -16,6 +16,7 @@ use Rattle.rb_meaning_flow.specs.Scopes.{Scope, opened}
 use Rattle.rb_scopes.specs.Seen.{newest}
 use Rattle.rb_scopes.proofs.Opened.{newest_opened}
 use Rattle.rb_meaning_split.specs.Division.{Division, checked_code, divided, divided_all, divided_before, division, first_refs, inputs_of, most_inputs}
+use Rattle.rb_meaning_split.specs.Inputs.{list_numbers}
 use Rattle.rb_meaning_split.specs.Refs.{Refs}
 use Rattle.rb_flow.specs.Begun.{begun, begun_of}
 use Rattle.rb_flow.specs.declared.outermost.OpenBatch.{OpenBatch}
@@ -59,12 +60,12 @@ abbrev division_by : ℕ → List (List ℕ) → ℕ → List ℕ → Drafted �
 division_by at inputs n lists d = record { at = at; inputs = inputs; script = record { inputs = n; lists = lists; body = d.steps }; remainder = d.parts }
 
 pub division_so : (p : Program) (at n : ℕ) (root lists : List ℕ) (scope : Scope) (block : Stmts) (inputs slice : List (List ℕ)) (refs : Refs) (d : Drafted)
-    → lists ≡ [] → d ≡ block_drafted p refs scope (fresh 0 0) block → refs ≡ first_refs root slice → slice ≡ inputs → n ≡ length inputs
+    → lists ≡ list_numbers scope 0 slice → d ≡ block_drafted p refs scope (fresh 0 0) block → refs ≡ first_refs root slice → slice ≡ inputs → n ≡ length inputs
     → division_by at inputs n lists d ≡ division_with p at root scope block inputs
 division_so p at n root lists scope block inputs slice refs d el ed er es en =
-    ap (λ x. division_by at inputs n x d) el
-    ∙ ap (division_by at inputs n []) (ed ∙ block_so p refs scope (fresh 0 0) block ∙ ap (λ x. block_put p x scope (fresh 0 0) block) (er ∙ ap (first_refs root) es))
-    ∙ ap (λ x. division_by at inputs x [] (block_put p (first_refs root inputs) scope (fresh 0 0) block)) en
+    ap (λ x. division_by at inputs n x d) (el ∙ ap (list_numbers scope 0) es)
+    ∙ ap (division_by at inputs n (list_numbers scope 0 inputs)) (ed ∙ block_so p refs scope (fresh 0 0) block ∙ ap (λ x. block_put p x scope (fresh 0 0) block) (er ∙ ap (first_refs root) es))
+    ∙ ap (λ x. division_by at inputs x (list_numbers scope 0 inputs) (block_put p (first_refs root inputs) scope (fresh 0 0) block)) en
 
 -- the batch at a place
 pub begun_at : (bs : List OpenBatch) (os : List Outermost) (i : ℕ) (b : OpenBatch) → map begun_of bs ≡ map begun os → i < length bs → b ≡ get_or bs i b

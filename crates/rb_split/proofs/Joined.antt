@@ -9,7 +9,7 @@ use Rattle.rb_trees.specs.mirror.Remainders.{Parts, NoParts, MoreParts}
 use Rattle.rb_meaning_flow.specs.declared.forms.PlacedForm.{PlacedForm}
 use Rattle.rb_meaning_flow.specs.Facts.{facts_of, over_rows}
 use Rattle.rb_meaning_flow.specs.Marks.{is_portable_call}
-use Rattle.rb_meaning_flow.specs.Portable.{portable, branches_hold}
+use Rattle.rb_meaning_flow.specs.Portable.{portable, branches_hold, may_carry}
 use Rattle.rb_meaning_flow.specs.Scopes.{Scope}
 use Rattle.rb_meaning.specs.RemoteExprs.{remote_of}
 use Rattle.rb_meaning_split.specs.Cuts.{counted}
@@ -38,28 +38,31 @@ keeps_apart : (p : Program) (refs : Refs) (n : ℕ) (es : List Expr) (rest : Ste
 keeps_apart p refs n [] rest = refl
 keeps_apart p refs n (e ∷ es) rest = ap (MoreSteps (script.Keep n (expr_at e) (sexpr p refs e))) (keeps_apart p refs (suc n) es rest)
 
--- of a statement that has a form or is left to the client, what follows its steps
-either : (form : PlacedForm) (b : Bool) (p : Program) (refs : Refs) (scope : Scope) (n m : ℕ) (s : Stmt) (rest : Steps)
-    → steps_as p form refs scope n m s rest ≡ joined (steps_as p form refs scope n m s NoSteps) rest
-    → steps_as p (cond b form PlacedForm.Plain) refs scope n m s rest ≡ joined (steps_as p (cond b form PlacedForm.Plain) refs scope n m s NoSteps) rest
-either form true p refs scope n m s rest h = h
-either form false p refs scope n m s rest h = keeps_apart p refs n (remote_of (facts_of p) scope s) rest
+-- whatever follows the steps of a statement of this form stands behind them
+abbrev Apart : Program → Refs → Scope → (n m : ℕ) → Stmt → PlacedForm → Type 0
+Apart p refs scope n m s form = (rest : Steps) → steps_as p form refs scope n m s rest ≡ joined (steps_as p form refs scope n m s NoSteps) rest
+
+either : (form other : PlacedForm) (b : Bool) (p : Program) (refs : Refs) (scope : Scope) (n m : ℕ) (s : Stmt)
+    → Apart p refs scope n m s form → Apart p refs scope n m s other → Apart p refs scope n m s (cond b form other)
+either form other true p refs scope n m s h k = h
+either form other false p refs scope n m s h k = k
 
 -- what follows the steps of a statement
 pub steps_apart : (p : Program) (refs : Refs) (scope : Scope) (n m : ℕ) (s : Stmt) (rest : Steps) → steps p refs scope n m s rest ≡ joined (steps p refs scope n m s NoSteps) rest
 steps_apart p refs scope n m (Val at name e) rest =
-    either PlacedForm.CarriedVal (portable (facts_of p) scope e) p refs scope n m (Val at name e) rest refl
+    either PlacedForm.CarriedVal PlacedForm.Plain (portable (facts_of p) scope e) p refs scope n m (Val at name e) (λ _. refl) (keeps_apart p refs n (remote_of (facts_of p) scope (Val at name e))) rest
 steps_apart p refs scope n m (Var at name e) rest = keeps_apart p refs n (remote_of (facts_of p) scope (Var at name e)) rest
 steps_apart p refs scope n m (Assign at a b) rest = keeps_apart p refs n (remote_of (facts_of p) scope (Assign at a b)) rest
 steps_apart p refs scope n m (Run at e) rest =
-    either PlacedForm.CallAlone (is_portable_call (facts_of p) scope e) p refs scope n m (Run at e) rest refl
+    either PlacedForm.CallAlone PlacedForm.Plain (is_portable_call (facts_of p) scope e) p refs scope n m (Run at e) (λ _. refl) (keeps_apart p refs n (remote_of (facts_of p) scope (Run at e))) rest
 steps_apart p refs scope n m (Print at e) rest = keeps_apart p refs n (remote_of (facts_of p) scope (Print at e)) rest
 steps_apart p refs scope n m (Throw at e) rest = keeps_apart p refs n (remote_of (facts_of p) scope (Throw at e)) rest
 steps_apart p refs scope n m (If at c a b) rest =
-    either PlacedForm.CarriedIf (branches_hold (facts_of p) a b) p refs scope n m (If at c a b) rest refl
+    either PlacedForm.CarriedIf PlacedForm.Plain (branches_hold (facts_of p) a b) p refs scope n m (If at c a b) (λ _. refl) (keeps_apart p refs n (remote_of (facts_of p) scope (If at c a b))) rest
 steps_apart p refs scope n m (While at c a) rest = keeps_apart p refs n (remote_of (facts_of p) scope (While at c a)) rest
 steps_apart p refs scope n m (For at name e a) rest =
-    either PlacedForm.RowsLoop (over_rows (facts_of p) e) p refs scope n m (For at name e a) rest refl
+    either PlacedForm.RowsLoop (cond (may_carry (facts_of p) scope e a) PlacedForm.CarriedLoop PlacedForm.Plain) (over_rows (facts_of p) e) p refs scope n m (For at name e a) (λ _. refl)
+    (either PlacedForm.CarriedLoop PlacedForm.Plain (may_carry (facts_of p) scope e a) p refs scope n m (For at name e a) (λ _. refl) (keeps_apart p refs n (remote_of (facts_of p) scope (For at name e a)))) rest
 steps_apart p refs scope n m (Try at a name b) rest = keeps_apart p refs n (remote_of (facts_of p) scope (Try at a name b)) rest
 steps_apart p refs scope n m (Batch at interface root a) rest = keeps_apart p refs n (remote_of (facts_of p) scope (Batch at interface root a)) rest
 

@@ -26,6 +26,7 @@ IsBare PlacedForm.CarriedVal = ⊥
 IsBare PlacedForm.CallAlone = Unit {0}
 IsBare PlacedForm.CarriedIf = ⊥
 IsBare PlacedForm.RowsLoop = ⊥
+IsBare PlacedForm.CarriedLoop = ⊥
 IsBare PlacedForm.Plain = Unit {0}
 
 pub bare_plain : {f : PlacedForm} → f ≡ PlacedForm.Plain → IsBare f
@@ -47,6 +48,12 @@ plain_or false f isnt = refl
 unlike : {r placed : PlacedForm} (b : Bool) (f : PlacedForm) → r ≡ placed → placed ≡ cond b f PlacedForm.Plain → (r ≡ f → ⊥) → placed ≡ PlacedForm.Plain
 unlike b f er e isnt = e ∙ plain_or b f (λ h. isnt (er ∙ e ∙ h))
 
+-- a loop that has neither form of a loop whose turns are the script's
+unlike_both : {r placed : PlacedForm} (b c : Bool) → r ≡ placed → placed ≡ cond b PlacedForm.RowsLoop (cond c PlacedForm.CarriedLoop PlacedForm.Plain)
+    → (r ≡ PlacedForm.RowsLoop → ⊥) → (r ≡ PlacedForm.CarriedLoop → ⊥) → placed ≡ PlacedForm.Plain
+unlike_both true c er e rows carried = absurd (rows (er ∙ e))
+unlike_both false c er e rows carried = unlike c PlacedForm.CarriedLoop er e carried
+
 -- the role of a val, by the form of its statement
 carried_role : (b : Bool) → cond b PlacedForm.CarriedVal PlacedForm.Plain ≡ PlacedForm.CarriedVal → Role.Carried ≡ cond b Role.Carried Role.Plain
 carried_role true h = refl
@@ -63,6 +70,7 @@ module _ (x : Facts) (scope : Scope) where
   bare_used PlacedForm.CallAlone s h = refl
   bare_used PlacedForm.CarriedIf s h = absurd h
   bare_used PlacedForm.RowsLoop s h = absurd h
+  bare_used PlacedForm.CarriedLoop s h = absurd h
   bare_used PlacedForm.Plain s h = refl
 
   pub bare_scope : (s : Stmt) → IsBare (placed_form x scope s) → plain_scope scope s ≡ scope_after x [] scope s
@@ -101,8 +109,9 @@ module _ (x : Facts) (scope : Scope) where
     pub if_left : {r : PlacedForm} {c : expr.Expr} (a b : List stmt.Stmt) → r ≡ here → s.form ≡ form.If c a b → (r ≡ PlacedForm.CarriedIf → ⊥) → here ≡ PlacedForm.Plain
     if_left a b er is isnt = unlike _ PlacedForm.CarriedIf er (ap (placed_form x scope) (if_form s a b is)) isnt
 
-    pub for_left : {r : PlacedForm} {n : List ℕ} {e : expr.Expr} (a : List stmt.Stmt) → r ≡ here → s.form ≡ form.For n e a → (r ≡ PlacedForm.RowsLoop → ⊥) → here ≡ PlacedForm.Plain
-    for_left a er is isnt = unlike _ PlacedForm.RowsLoop er (ap (placed_form x scope) (for_form s a is)) isnt
+    pub for_left : {r : PlacedForm} {n : List ℕ} {e : expr.Expr} (a : List stmt.Stmt) → r ≡ here → s.form ≡ form.For n e a
+        → (r ≡ PlacedForm.RowsLoop → ⊥) → (r ≡ PlacedForm.CarriedLoop → ⊥) → here ≡ PlacedForm.Plain
+    for_left a er is rows carried = unlike_both _ _ er (ap (placed_form x scope) (for_form s a is)) rows carried
 
     -- the others, of which an expression alone may hold a call
     others : (P : PlacedForm → Type 0) → P PlacedForm.Plain → ((e : expr.Expr) → s.form ≡ form.Run e → P here)

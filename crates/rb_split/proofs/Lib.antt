@@ -6,6 +6,7 @@ pub mod Fronts
 pub mod Given
 pub mod Joined
 pub mod Left
+pub mod Lists
 pub mod Noted
 pub mod Placed
 pub mod Remotes

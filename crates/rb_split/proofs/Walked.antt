@@ -22,7 +22,7 @@ use Rattle.rb_meaning_split.specs.Refs.{Refs, sexpr, with_var}
 use Rattle.rb_meaning_split.specs.Numbers.{kept_after, step_after, steps_after, var_after, vars_after}
 use Rattle.rb_meaning_split.specs.Steps.{block_steps, keeps, refs_after, steps}
 use Rattle.rb_meaning_split.specs.Parts.{block_parts, part, plain}
-use Rattle.rb_split.specs.Drafts.{Drafted, block_drafted, branch_drafted, closed_branch, closed_turns, do_drafted, first_drafted, fresh, joined, joined_parts, plain_drafted, second_drafted, stmt_drafted, stmt_drafted_as, turn_drafted, turns_drafted, with_kept, with_part, with_step}
+use Rattle.rb_split.specs.Drafts.{Drafted, block_drafted, branch_drafted, closed_branch, closed_over, closed_turns, do_drafted, first_drafted, fresh, joined, joined_parts, plain_drafted, second_drafted, stmt_drafted, stmt_drafted_as, turn_drafted, with_kept, with_part, with_step}
 use Rattle.rb_split.specs.Views.{refs_of}
 use Rattle.rb_split.specs.declared.refs.Known.{Known}
 use Rattle.rb_split.proofs.Fronts.{take_front, take_whole, take_kept, kept_after as scope_kept}
@@ -57,7 +57,7 @@ run_do p refs scope d at e h =
 -- of a block, by its steps and its parts
 abbrev pub block_put : Program → Refs → Scope → Drafted → Stmts → Drafted
 block_put p refs scope d ss =
-    draft_of (joined d.steps (block_steps p refs scope d.step d.var ss)) (joined_parts d.parts (block_parts p scope d.step ss))
+    draft_of (joined d.steps (block_steps p refs scope d.step d.var ss)) (joined_parts d.parts (block_parts p refs scope d.step d.var ss))
     (steps_after (facts_of p) scope ss d.step) (vars_after (facts_of p) scope ss d.var)
 
 pub block_so : (p : Program) (refs : Refs) (scope : Scope) (d : Drafted) (ss : Stmts) → block_drafted p refs scope d ss ≡ block_put p refs scope d ss
@@ -65,13 +65,13 @@ block_so p refs scope d NoStmts =
     ap (λ x. draft_of x d.parts d.step d.var) (sym (joined_whole d.steps)) ∙ ap (λ x. draft_of (joined d.steps NoSteps) x d.step d.var) (sym (parts_whole d.parts))
 block_so p refs scope d (MoreStmts s ss) =
     let here : Steps = steps p refs scope d.step d.var s NoSteps in
-    let q : Parts = MoreParts (part p scope d.step s) NoParts in
+    let q : Parts = MoreParts (part p refs scope d.step d.var s) NoParts in
     let refs' : Refs = refs_after p refs d.var scope s in
     let scope' : Scope = scope_after (facts_of p) [] scope s in
     let n : ℕ = step_after (facts_of p) scope s d.step in
     let m : ℕ = var_after (facts_of p) scope s d.var in
     let more : Steps = block_steps p refs' scope' n m ss in
-    let others : Parts = block_parts p scope' n ss in
+    let others : Parts = block_parts p refs' scope' n m ss in
     let n' : ℕ = steps_after (facts_of p) scope' ss n in
     let m' : ℕ = vars_after (facts_of p) scope' ss m in
     block_so p refs' scope' (stmt_drafted p refs scope d s) ss
@@ -85,10 +85,30 @@ if_branch p refs scope d at c a b =
     ap (λ x. closed_branch p refs d at c one x) (sym (block_so p refs scope (fresh one.step one.var) b))
     ∙ ap (λ x. closed_branch p refs d at c x (second_drafted p refs scope x b)) (sym (block_so p refs scope (fresh (suc d.step) d.var) a))
 
-pub for_turns : (p : Program) (refs : Refs) (scope : Scope) (d : Drafted) (at : ℕ) (name : List ℕ) (e : Expr) (a : Stmts)
-    → stmt_drafted_as p PlacedForm.RowsLoop refs scope d (For at name e a) ≡ turns_drafted p refs scope d at name e a
-for_turns p refs scope d at name e a =
-    ap (closed_turns p refs d at name e) (sym (block_so p (with_var refs name d.var) (with_variable scope name Role.Row at) (fresh (suc d.step) (suc d.var)) a))
+-- the block of a loop, by its steps and its parts
+turn_so : (p : Program) (refs : Refs) (scope : Scope) (d : Drafted) (at : ℕ) (name : List ℕ) (a : Stmts)
+    → block_put p (with_var refs name d.var) (with_variable scope name Role.Row at) (fresh (suc d.step) (suc d.var)) a ≡ turn_drafted p refs scope d at name a
+turn_so p refs scope d at name a = sym (block_so p (with_var refs name d.var) (with_variable scope name Role.Row at) (fresh (suc d.step) (suc d.var)) a)
+
+-- the same by the parts of the loop that the code has
+pub turn_of : (p : Program) (refs : Refs) (scope : Scope) (d body : Drafted) {at at' : ℕ} {name name' : List ℕ} {a a' : List stmt_tree.Stmt}
+    → at ≡ at' → name ≡ name' → a ≡ a' → body ≡ turn_drafted p refs scope d at name (mirror_stmts a) → body ≡ turn_drafted p refs scope d at' name' (mirror_stmts a')
+turn_of p refs scope d body {at' = at'} {name = name} {name' = name'} {a = a} ea en es h =
+    h ∙ ap (λ x. turn_drafted p refs scope d x name (mirror_stmts a)) ea ∙ ap (λ x. turn_drafted p refs scope d at' x (mirror_stmts a)) en
+    ∙ ap (λ x. turn_drafted p refs scope d at' name' (mirror_stmts x)) es
+
+-- a loop whose block is drafted: one over rows, and a carried one
+pub for_turns : (p : Program) (ks ks1 : List Known) (scope : Scope) (d body : Drafted) (at : ℕ) (name : List ℕ) (e : Expr) (a : Stmts)
+    → ks1 ≡ ks → body ≡ turn_drafted p (refs_of ks) scope d at name a
+    → stmt_drafted_as p PlacedForm.RowsLoop (refs_of ks) scope d (For at name e a) ≡ closed_turns p (refs_of ks1) d at name e body
+for_turns p ks ks1 scope d body at name e a ek eb =
+    ap (closed_turns p (refs_of ks) d at name e) (turn_so p (refs_of ks) scope d at name a ∙ sym eb) ∙ ap (λ x. closed_turns p (refs_of x) d at name e body) (sym ek)
+
+pub for_over : (p : Program) (ks ks1 : List Known) (scope : Scope) (d body : Drafted) (at : ℕ) (name : List ℕ) (e : Expr) (a : Stmts)
+    → ks1 ≡ ks → body ≡ turn_drafted p (refs_of ks) scope d at name a
+    → stmt_drafted_as p PlacedForm.CarriedLoop (refs_of ks) scope d (For at name e a) ≡ closed_over p (refs_of ks1) d at name e body
+for_over p ks ks1 scope d body at name e a ek eb =
+    ap (closed_over p (refs_of ks) d at name e) (turn_so p (refs_of ks) scope d at name a ∙ sym eb) ∙ ap (λ x. closed_over p (refs_of x) d at name e body) (sym ek)
 
 pub ruleset stmt_rules = (stmts, map-append, take_front, take_whole, common_steps)
 
@@ -128,12 +148,3 @@ branch_so p ks ks1 ks2 scope scope1 d d1 d2 one two at c a b xs ys n ea eb en ek
     ∙ ap (λ x. block_drafted p (refs_of ks) scope (fresh one.step one.var) (mirror_stmts x)) eb in
     ap (λ x. closed_branch p (refs_of x) d at c one two) (ek2 ∙ ek) ∙ ap (λ x. closed_branch p (refs_of ks) d at c one x) second
     ∙ ap (λ x. closed_branch p (refs_of ks) d at c x (second_drafted p (refs_of ks) scope x (mirror_stmts b))) first
-
--- a loop over rows whose block is drafted
-pub turns_so : (p : Program) (ks ks1 : List Known) (scope : Scope) (d d1 body : Drafted) (at : ℕ) (name : List ℕ) (e : Expr) (a xs : List stmt_tree.Stmt) (n : ℕ)
-    → xs ≡ a → n ≡ suc d.step → ks1 ≡ ks → d1 ≡ fresh n d.var → body ≡ turn_drafted p (refs_of ks) scope d1 at name (mirror_stmts xs)
-    → closed_turns p (refs_of ks1) d at name e body ≡ turns_drafted p (refs_of ks) scope d at name e (mirror_stmts a)
-turns_so p ks ks1 scope d d1 body at name e a xs n ea en ek f1 eb =
-    ap (λ x. closed_turns p (refs_of x) d at name e body) ek
-    ∙ ap (closed_turns p (refs_of ks) d at name e) (eb ∙ ap (λ x. turn_drafted p (refs_of ks) scope x at name (mirror_stmts xs)) (f1 ∙ ap (λ x. fresh x d.var) en)
-    ∙ ap (λ x. turn_drafted p (refs_of ks) scope (fresh (suc d.step) d.var) at name (mirror_stmts x)) ea)

@@ -8,7 +8,7 @@ use Rattle.rb_trees.specs.mirror.Code.{Stmts, mirror_stmts}
 use Rattle.rb_trees.specs.mirror.Declarations.{Program, mirror_program}
 use Rattle.rb_meaning_flow.specs.Facts.{facts_of}
 use Rattle.rb_meaning_flow.specs.Scopes.{Scope}
-use Rattle.rb_meaning_split.specs.Inputs.{first_uses, used_in}
+use Rattle.rb_meaning_split.specs.Inputs.{first_uses, list_numbers, used_in}
 use Rattle.rb_meaning_split.specs.Steps.{block_steps}
 use Rattle.rb_meaning_split.specs.Parts.{block_parts}
 use Rattle.rb_meaning_split.specs.Division.{Division, checked_code, first_refs, most_inputs}
@@ -24,8 +24,12 @@ module _ (p : Program) where
   division_with at root scope block inputs = record {
     at = at;
     inputs = inputs;
-    script = record { inputs = length inputs; lists = []; body = block_steps p (first_refs root inputs) scope 0 0 block };
-    remainder = block_parts p scope 0 block;
+    script = record {
+      inputs = length inputs;
+      lists = list_numbers scope 0 inputs;
+      body = block_steps p (first_refs root inputs) scope 0 0 block;
+    };
+    remainder = block_parts p (first_refs root inputs) scope 0 0 block;
   }
 
   -- the same where there aren't too many inputs, and the script isn't too large

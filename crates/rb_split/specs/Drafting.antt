@@ -4,12 +4,15 @@ use Rattle.std.specs.Borrow.{Bor}
 use Rattle.rb_trees.specs.declared.code.Expr as expr
 use Rattle.rb_trees.specs.declared.code.Stmt as stmt
 use Rattle.rb_trees.specs.declared.declarations.Program as program
+use Rattle.rb_trees.specs.declared.remainders.Part as part
 use Rattle.rb_trees.specs.declared.scripts.Step as step
 use Rattle.rb_trees.specs.mirror.Code.{mirror_expr, mirror_stmt, mirror_stmts}
 use Rattle.rb_trees.specs.mirror.Declarations.{mirror_program}
+use Rattle.rb_trees.specs.mirror.Remainders.{Part, mirror_parts}
 use Rattle.rb_trees.specs.mirror.Scripts.{Step, mirror_steps}
 use Rattle.rb_meaning_flow.specs.Scopes.{Scope}
 use Rattle.rb_meaning_split.specs.Refs.{Refs}
+use Rattle.rb_meaning_split.specs.Parts.{over}
 use Rattle.rb_meaning_split.specs.Steps.{refs_after}
 use Rattle.rb_split.specs.declared.drafts.Draft.{Draft}
 use Rattle.rb_split.specs.declared.loops.Loop.{Loop}
@@ -20,7 +23,7 @@ use Rattle.rb_split.specs.Drafts.{Drafted, drafted}
 use Rattle.rb_split.specs.Views.{program_of, refs_of, trees, variables}
 
 module _ (t : Terms) where
-  -- the step of a carried val, of a remote expression alone, of a carried `if`, and of a loop over rows
+  -- the step of a carried val, of a remote expression alone, of a carried `if`, of a loop over rows, and of a carried loop
   abbrev pub let_of : (id var at : ℕ) → expr.Expr → Step
   let_of id var at e = words.let_of (program_of t) (variables t) id var at (mirror_expr e)
 
@@ -32,6 +35,13 @@ module _ (t : Terms) where
 
   abbrev pub each_of : (id var at : ℕ) → expr.Expr → List step.Step → Step
   each_of id var at e body = words.each_of (program_of t) (variables t) id var at (mirror_expr e) (mirror_steps body)
+
+  abbrev pub over_of : (id var at : ℕ) → expr.Expr → List step.Step → Step
+  over_of id var at e body = words.over_of (program_of t) (variables t) id var at (mirror_expr e) (mirror_steps body)
+
+  -- the part of a carried loop
+  abbrev pub over_part : (id at : ℕ) → List ℕ → expr.Expr → List part.Part → Part
+  over_part id at name e body = over (program_of t) (variables t) id at name (mirror_expr e) (mirror_parts body)
 
   -- the draft with a step that keeps the value of an expression, and with one for each of some
   abbrev pub with_one_kept : Draft → expr.Expr → Drafted
@@ -50,12 +60,15 @@ module _ (t : Terms) where
   abbrev pub with_do : Draft → ℕ → expr.Expr → Drafted
   with_do d at e = words.do_drafted (program_of t) (variables t) (drafted d) at (mirror_expr e)
 
-  -- the draft with a carried `if`, or a loop over rows, whose blocks are drafted already
+  -- the draft with a carried `if`, a loop over rows, or a carried loop, whose blocks are drafted already
   abbrev pub with_branch : Draft → ℕ → expr.Expr → (one two : Draft) → Drafted
   with_branch d at c one two = words.closed_branch (program_of t) (variables t) (drafted d) at (mirror_expr c) (drafted one) (drafted two)
 
   abbrev pub with_turns : Draft → ℕ → List ℕ → expr.Expr → Draft → Drafted
   with_turns d at name e body = words.closed_turns (program_of t) (variables t) (drafted d) at name (mirror_expr e) (drafted body)
+
+  abbrev pub with_over : Draft → ℕ → List ℕ → expr.Expr → Draft → Drafted
+  with_over d at name e body = words.closed_over (program_of t) (variables t) (drafted d) at name (mirror_expr e) (drafted body)
 
 module _ (p : program.Program) (refs : List Known) where
   -- the draft with a statement at a script place, and with those of a block
@@ -65,7 +78,7 @@ module _ (p : program.Program) (refs : List Known) where
   abbrev pub with_stmts : Scope → Draft → List stmt.Stmt → Drafted
   with_stmts scope d ss = words.block_drafted (mirror_program p) (refs_of refs) scope (drafted d) (mirror_stmts ss)
 
-  -- the draft with the statements of a loop over rows, whose row is its next variable
+  -- the block of a loop that stands behind a draft, whose variable is the next one
   abbrev pub with_turn : Scope → Draft → Loop → Drafted
   with_turn scope d l = words.turn_drafted (mirror_program p) (refs_of refs) scope (drafted d) l.at l.name.now (mirror_stmts l.block.now)
 

@@ -13,10 +13,10 @@ use Rattle.rb_meaning_flow.specs.Forms.{placed_form}
 use Rattle.rb_meaning_flow.specs.Scopes.{Scope, with_variable}
 use Rattle.rb_meaning_flow.specs.Sites.{scope_after}
 use Rattle.rb_meaning.specs.RemoteExprs.{remote_of}
-use Rattle.rb_meaning_split.specs.Refs.{Refs, sexpr, with_var}
+use Rattle.rb_meaning_split.specs.Refs.{Refs, list_number, sexpr, with_var}
 use Rattle.rb_meaning_split.specs.Numbers.{step_after_as, var_after_as}
 use Rattle.rb_meaning_split.specs.Steps.{keeps_val, refs_after, steps_as}
-use Rattle.rb_meaning_split.specs.Parts.{carried, part_as, plain, row_kind}
+use Rattle.rb_meaning_split.specs.Parts.{carried, over, part_as, plain, row_kind}
 use Rattle.rb_split.specs.declared.drafts.Draft.{Draft}
 
 -- some steps, and then others
@@ -49,10 +49,6 @@ with_step d s q n m = record { steps = joined d.steps (MoreSteps s NoSteps); par
 -- one more step alone
 abbrev pub with_kept : Drafted → Step → ℕ → ℕ → Drafted
 with_kept d s n m = record { steps = joined d.steps (MoreSteps s NoSteps); parts = d.parts; step = n; var = m }
-
--- one more variable alone
-abbrev pub with_row : Drafted → Drafted
-with_row d = record { steps = d.steps; parts = d.parts; step = d.step; var = suc d.var }
 
 -- one more part alone
 abbrev pub with_part : Drafted → Part → Drafted
@@ -89,7 +85,7 @@ module _ (p : Program) where
   abbrev pub stmt_drafted_as : PlacedForm → Refs → Scope → Drafted → Stmt → Drafted
   stmt_drafted_as form refs scope d s = record {
     steps = joined d.steps (steps_as p form refs scope d.step d.var s NoSteps);
-    parts = joined_parts d.parts (MoreParts (part_as p form scope d.step s) NoParts);
+    parts = joined_parts d.parts (MoreParts (part_as p form refs scope d.step d.var s) NoParts);
     step = step_after_as (facts_of p) form scope s d.step;
     var = var_after_as (facts_of p) form scope s d.var;
   }
@@ -120,6 +116,14 @@ module _ (p : Program) where
       with_step d (each_of refs d.step d.var at e body.steps)
       (remainder.Turns d.step name (row_kind p e) body.parts) body.step body.var
 
+  -- a carried loop whose block was drafted
+  abbrev pub over_of : Refs → (n m : ℕ) → ℕ → Expr → Steps → Step
+  over_of refs n m at e a = script.Over n at m (list_number refs e) a
+
+  abbrev pub closed_over : Refs → Drafted → ℕ → List ℕ → Expr → Drafted → Drafted
+  closed_over refs d at name e body =
+      with_step d (over_of refs d.step d.var at e body.steps) (over p refs d.step at name e body.parts) body.step body.var
+
   -- the block of a carried `if`'s first branch, and of its second one
   abbrev pub first_drafted : Refs → Scope → Drafted → Stmts → Drafted
   first_drafted refs scope d a = block_drafted refs scope (fresh (suc d.step) d.var) a
@@ -131,11 +135,7 @@ module _ (p : Program) where
   branch_drafted refs scope d at c a b =
       closed_branch refs d at c (first_drafted refs scope d a) (second_drafted refs scope (first_drafted refs scope d a) b)
 
-  -- the block of a loop over rows, whose row is the draft's next variable
+  -- the block of a loop, whose variable is the next one
   abbrev pub turn_drafted : Refs → Scope → Drafted → ℕ → List ℕ → Stmts → Drafted
   turn_drafted refs scope d at name a =
-      block_drafted (with_var refs name d.var) (with_variable scope name Role.Row at) (with_row d) a
-
-  abbrev pub turns_drafted : Refs → Scope → Drafted → ℕ → List ℕ → Expr → Stmts → Drafted
-  turns_drafted refs scope d at name e a =
-      closed_turns refs d at name e (turn_drafted refs scope (fresh (suc d.step) d.var) at name a)
+      block_drafted (with_var refs name d.var) (with_variable scope name Role.Row at) (fresh (suc d.step) (suc d.var)) a

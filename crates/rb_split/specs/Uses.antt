@@ -27,6 +27,6 @@ constant_variable scope name = cond (is_constant_role (role_of scope name)) (nam
 abbrev pub used_by : program.Program → Scope → List stmt.Stmt → List (List ℕ)
 used_by p scope ss = used_in (facts p) scope (mirror_stmts ss)
 
--- the inputs that the block of a loop over rows uses, with its row
+-- the inputs that the block of a loop uses, with the variable of the loop
 abbrev pub used_in_turn : program.Program → Scope → Loop → List (List ℕ)
 used_in_turn p scope l = used_by p (with_variable scope l.name.now Role.Row l.at) l.block.now

@@ -10,7 +10,7 @@ ghost use Rattle.rb_split.specs.Seen.{DividesBegun, refusal_of, seen};
 ghost use Rattle.rb_split.specs.Views.{refs_of};
 
 use crate::drafts::Draft;
-use crate::inputs::inputs_of;
+use crate::inputs::{inputs_of, list_numbers};
 use crate::refs::{Referent, Refs};
 use crate::stops::SplitStop;
 use crate::walk::draft_block;
@@ -87,7 +87,9 @@ fn write(
     ensures divided { IfOk result (λ s. seen s ≡ division_at x.now place.now scope.old inputs) }
     ensures number { IfOk result (λ s. s.batch ≡ place.now.number) }
 {
-    let mut refs = first_refs(alloc, place.root, inputs.as_slice())?;
+    let names = inputs.as_slice();
+    let lists = list_numbers(alloc, scope, names)?;
+    let mut refs = first_refs(alloc, place.root, names)?;
     let draft = Draft::new(alloc, 0, 0);
     let Draft { steps, parts, .. } = draft_block(alloc, x, scope, &mut refs, draft, place.block)?;
     Ok(Split {
@@ -96,7 +98,7 @@ fn write(
         inputs,
         script: Script {
             inputs: count,
-            lists: Seq::new(alloc),
+            lists,
             body: steps,
         },
         remainder: parts,

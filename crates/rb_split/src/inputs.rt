@@ -2,15 +2,16 @@
 
 #![tactic(auto, using(crate::proofs::Noted::use_rules))]
 
-ghost use Rattle.std.specs.Prelude.{◌≡◌, [], take, length, IfOk, OnOk};
+ghost use Rattle.std.specs.Prelude.{◌≡◌, ◌≤◌, [], take, length, IfOk, OnOk};
 ghost use Rattle.std.specs.List.{flat_map};
 ghost use Rattle.rb_trees.specs.mirror.Code.{mirror_expr, mirror_exprs, mirror_stmt};
-ghost use Rattle.rb_meaning_flow.specs.Scopes.{is_constant_role};
+ghost use Rattle.rb_meaning_flow.specs.Scopes.{is_constant_role, is_list_role};
+ghost use Rattle.rb_meaning.specs.ConstantLists.{name_of};
 ghost use Rattle.rb_meaning_split.specs.Inputs as meant;
 ghost use Rattle.rb_split.specs.Uses.{constant_variable, noted, used_by, used_in_turn};
 ghost use Rattle.rb_split.specs.Views.{facts, scope_behind, trees};
 
-use crate::loops::Loop;
+use crate::loops::{Loop, list_name};
 use crate::remote::remote_of;
 use crate::scopes::bind_plain;
 use crate::uses::Uses;
@@ -27,7 +28,17 @@ fn is_constant(role: Role) -> bool
 {
     match role {
         Role::Constant => true,
-        Role::Root | Role::Row | Role::Carried | Role::Plain => false,
+        Role::ConstantList | Role::Root | Role::Row | Role::Carried | Role::Plain => false,
+    }
+}
+
+// Whether a variable of a role is a constant list.
+fn is_list(role: Role) -> bool
+    ensures { result ≡ is_list_role role }
+{
+    match role {
+        Role::ConstantList => true,
+        Role::Constant | Role::Root | Role::Row | Role::Carried | Role::Plain => false,
     }
 }
 
@@ -88,6 +99,16 @@ fn note_found(alloc: Global, scope: &Scope, uses: &mut Uses, found: &[&Expr]) ->
     Ok(())
 }
 
+// Notes the list of a carried loop, which stands by its name.
+fn note_list(alloc: Global, uses: &mut Uses, list: &Expr) -> Result<(), Memory>
+    ensures { OnOk result (uses.new ≡ noted uses.old (name_of (mirror_expr list.now))) }
+{
+    match list_name(list) {
+        Some(name) => uses.note(alloc, name),
+        None => Ok(()),
+    }
+}
+
 // Notes those in the remote expressions of a statement.
 fn note_kept(
     alloc: Global,
@@ -126,12 +147,11 @@ fn note_stmt(
         }
         (StmtForm::For(name, e, a), PlacedForm::RowsLoop) => {
             note_constants(alloc, scope, uses, e)?;
-            let turns = Loop {
-                at: s.at,
-                name,
-                block: a.as_slice(),
-            };
-            note_turn(alloc, x, scope, uses, &turns)
+            note_turn(alloc, x, scope, uses, &Loop::of(s.at, name, a))
+        }
+        (StmtForm::For(name, e, a), PlacedForm::CarriedLoop) => {
+            note_list(alloc, uses, e)?;
+            note_turn(alloc, x, scope, uses, &Loop::of(s.at, name, a))
         }
         _ => {
             note_kept(alloc, x, scope, uses, s)?;
@@ -158,7 +178,7 @@ fn note_block(
     Ok(())
 }
 
-// The block of a loop over rows, with its row.
+// The block of a loop, with its variable.
 #[cycle(used)]
 fn note_turn(
     alloc: Global,
@@ -207,4 +227,18 @@ pub fn inputs_of(
     let mut uses = Uses::new(alloc);
     note_block(alloc, x, scope, &mut uses, block)?;
     Ok(uses.into_names())
+}
+
+/// The numbers of the inputs that are lists, in order.
+pub fn list_numbers(alloc: Global, scope: &Scope, inputs: &[Word]) -> Result<Seq<u8>, Memory>
+    requires { length inputs.now ≤ 255 }
+    ensures { IfOk result (λ numbers. numbers ≡ meant.list_numbers scope.now 0 inputs.now) }
+{
+    let mut numbers = Seq::new(alloc);
+    'inputs: for i in 0..inputs.len() {
+        if is_list(scope.role_of(&inputs[i])) {
+            numbers.push(i as u8)?;
+        }
+    }
+    Ok(numbers)
 }

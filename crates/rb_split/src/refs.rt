@@ -3,10 +3,13 @@
 ghost use Rattle.std.specs.Prelude.{◌≡◌, [], ◌∷◌, ◌++◌, take, length, OnOk};
 ghost use Rattle.std.specs.Option.{option_map};
 ghost use Rattle.rb_trees.specs.Named.{lookup};
+ghost use Rattle.rb_trees.specs.mirror.Code.{mirror_expr};
+ghost use Rattle.rb_meaning_split.specs.Refs.{input_number, list_number};
 ghost use Rattle.rb_split.specs.Views.{ref_of, refs_of};
 
+use crate::loops::list_name;
 use rb_names::Names;
-use rb_trees::{Memory, Seq, Word, copy_word};
+use rb_trees::{Expr, Memory, Seq, Word, copy_word};
 use std::alloc::Global;
 use std::marker::Model;
 
@@ -70,6 +73,27 @@ impl Refs {
                 None => None,
             },
             None => None,
+        }
+    }
+
+    /// The number of the input that a name is.
+    pub fn input_number(&self, name: &Word) -> u8
+        ensures { result ≡ input_number (lookup (refs_of self.now) name.now) }
+    {
+        match self.find(name) {
+            Some(Referent::Input(number)) => number,
+            Some(Referent::Root) | Some(Referent::Var(_)) | None => 0,
+        }
+    }
+
+    /// The number of the input that a list is, by its name.
+    #[tactic(auto, using(crate::proofs::Lists::number_named))]
+    pub fn list_number(&self, list: &Expr) -> u8
+        ensures { result ≡ list_number (refs_of self.now) (mirror_expr list.now) }
+    {
+        match list_name(list) {
+            Some(name) => self.input_number(name),
+            None => 0,
         }
     }
 

@@ -10,13 +10,14 @@ ghost use Rattle.rb_trees.specs.mirror.Scripts.{mirror_step};
 ghost use Rattle.rb_meaning_split.specs.Parts as meant;
 ghost use Rattle.rb_meaning_split.specs.Steps.{keeps_val};
 ghost use Rattle.rb_split.specs.Drafts.{drafted};
-ghost use Rattle.rb_split.specs.Drafting.{let_of, do_of, if_of, each_of, with_plain, with_carried, with_do, with_branch, with_turns, with_stmt, with_stmts, with_turn, refs_behind};
+ghost use Rattle.rb_split.specs.Drafting.{let_of, do_of, if_of, each_of, over_of, over_part, with_plain, with_carried, with_do};
+ghost use Rattle.rb_split.specs.Drafting.{with_branch, with_turns, with_over, with_stmt, with_stmts, with_turn, refs_behind};
 ghost use Rattle.rb_split.specs.Views.{refs_of, scope_behind};
 
 use crate::drafts::Draft;
 use crate::exprs::script_expr;
 use crate::keeps::keep_all;
-use crate::loops::Loop;
+use crate::loops::{Loop, list_name};
 use crate::numbers::next;
 use crate::plain::cut_stmt;
 use crate::refs::{Referent, Refs};
@@ -227,6 +228,69 @@ fn close_turns(
     })
 }
 
+// The step of a carried loop, with its block.
+fn over_step(
+    terms: &Terms<'_, '_>,
+    id: u32,
+    var: u32,
+    at: u32,
+    list: &Expr,
+    body: Seq<Step>,
+) -> Step
+    ensures { mirror_step result ≡ over_of terms.now id var at list.now body }
+{
+    let input = terms.refs.list_number(list);
+    Step {
+        id,
+        at,
+        form: StepForm::Over { var, input, body },
+    }
+}
+
+// The part of a carried loop, with its block. Its list stands by its name.
+#[tactic(auto, using(crate::proofs::Lists::part_named, crate::proofs::Steps::step_rules))]
+fn over_part(
+    terms: &Terms<'_, '_>,
+    step: u32,
+    at: u32,
+    name: &Word,
+    list: &Expr,
+    body: Seq<Part>,
+) -> Result<Part, Memory>
+    ensures { IfOk result (λ q. mirror_part q ≡ over_part terms.now step at name.now list.now body) }
+{
+    let Some(list) = list_name(list) else {
+        return Ok(Part::Pass(step));
+    };
+    Ok(Part::Over {
+        step,
+        at,
+        name: copy_word(terms.alloc, name)?,
+        list: copy_word(terms.alloc, list)?,
+        input: terms.refs.input_number(list),
+        body,
+    })
+}
+
+// A carried loop whose block is drafted already.
+fn close_over(
+    terms: &Terms<'_, '_>,
+    draft: &mut Draft,
+    at: u32,
+    name: &Word,
+    list: &Expr,
+    body: Draft,
+) -> Result<(), Memory>
+    ensures { OnOk result (drafted draft.new ≡ with_over terms.now draft.old at name.now list.now body) }
+{
+    let (id, var) = (draft.step, draft.var);
+    let (after, later) = (body.step, body.var);
+    let step = over_step(terms, id, var, at, list, body.steps);
+    draft.add_step(step, after, later)?;
+    let part = over_part(terms, id, at, name, list, body.parts)?;
+    draft.add_part(part)
+}
+
 // A statement at a script place, and what it declares.
 #[cycle(walking)]
 #[tactic(auto, using(crate::proofs::Walked::stmt_rules))]
@@ -261,14 +325,14 @@ fn draft_stmt(
             close_branch(&Terms::of(alloc, x, refs), draft, s.at, c, yes, no)
         }
         (StmtForm::For(name, e, a), PlacedForm::RowsLoop) => {
-            let turns = Loop {
-                at: s.at,
-                name,
-                block: a.as_slice(),
-            };
-            let body = Draft::new(alloc, next(draft.step)?, draft.var);
-            let body = draft_turn(alloc, x, scope, refs, body, &turns)?;
+            let turns = Loop::of(s.at, name, a);
+            let body = draft_turn(alloc, x, scope, refs, draft, &turns)?;
             close_turns(&Terms::of(alloc, x, refs), draft, s.at, name, e, body)
+        }
+        (StmtForm::For(name, e, a), PlacedForm::CarriedLoop) => {
+            let turns = Loop::of(s.at, name, a);
+            let body = draft_turn(alloc, x, scope, refs, draft, &turns)?;
+            close_over(&Terms::of(alloc, x, refs), draft, s.at, name, e, body)
         }
         _ => {
             draft_plain(&Terms::of(alloc, x, refs), scope, draft, s)?;
@@ -301,7 +365,7 @@ pub fn draft_block(
     Ok(draft)
 }
 
-// The block of a loop over rows, with its row, which is the next variable.
+// The block of a loop that stands behind a draft, with the loop's variable, which is the next one.
 #[cycle(walking)]
 #[tactic(auto, using(crate::proofs::Walked::block_rules))]
 fn draft_turn(
@@ -309,24 +373,22 @@ fn draft_turn(
     x: &Facts<'_>,
     scope: &mut Scope,
     refs: &mut Refs,
-    draft: Draft,
+    draft: &Draft,
     turns: &Loop<'_>,
 ) -> Result<Draft, Memory>
-    ensures drafted { IfOk result (λ d. drafted d ≡ with_turn x.now refs.old scope.old draft turns.now) }
+    ensures drafted { IfOk result (λ d. drafted d ≡ with_turn x.now refs.old scope.old draft.now turns.now) }
     ensures scope { OnOk result (scope.new ≡ scope.old) }
     ensures refs { OnOk result (refs.new ≡ refs.old) }
 {
     let variables = scope.len();
     let names = refs.len();
-    let var = draft.var;
-    let mut draft = draft;
-    draft.var = next(var)?;
-    refs.bind(alloc, turns.name, Referent::Var(var))?;
+    let mut body = Draft::new(alloc, next(draft.step)?, next(draft.var)?);
+    refs.bind(alloc, turns.name, Referent::Var(draft.var))?;
     scope.bind(alloc, turns.name, Role::Row, turns.at)?;
-    draft_all(alloc, x, scope, refs, &mut draft, turns.block)?;
+    draft_all(alloc, x, scope, refs, &mut body, turns.block)?;
     scope.truncate(variables);
     refs.truncate(names);
-    Ok(draft)
+    Ok(body)
 }
 
 // The statements of a block, in order.

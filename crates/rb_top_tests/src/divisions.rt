@@ -19,7 +19,7 @@ fn viewed(alloc: Global, interfaces: &str, program: &str) -> Result<String, Fail
 }
 
 /// Fails unless `split p` answers on each program, behind interfaces, what stands beside it.
-fn views_are(alloc: Global, interfaces: &str, rows: &[(&str, &str)]) -> Result<(), Fail> {
+pub fn views_are(alloc: Global, interfaces: &str, rows: &[(&str, &str)]) -> Result<(), Fail> {
     for (program, wanted) in rows {
         let answered = viewed(alloc, interfaces, program)?;
         expect(alloc, program, answered.as_str(), wanted)?;

@@ -10,6 +10,8 @@ mod batch_faults;
 #[cfg(test)]
 mod batches;
 #[cfg(test)]
+mod carried_loops;
+#[cfg(test)]
 mod checks;
 #[cfg(test)]
 mod directories;

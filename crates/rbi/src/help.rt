@@ -81,6 +81,7 @@ fn trouble_around<'a>(words: &'a [String], status: &'a Status) -> Option<Trouble
         Status::FileFault(name) if is_help_option(name.as_slice()) => Some(Trouble::Words(words)),
         Status::FileFault(name) => Some(Trouble::FileFault(name.as_slice())),
         Status::FileTooLong(name) => Some(Trouble::FileTooLong(name.as_slice())),
+        Status::EventRefused(line) => { Some(Trouble::NoEvent(word(words, 1).as_bytes(), *line)) }
         Status::LinkFault(done) => Some(Trouble::LinkFault(server(words), *done)),
         Status::BadReply { done, reason, .. } => {
             Some(Trouble::BadReply(server(words), *done, flaw(reason)))

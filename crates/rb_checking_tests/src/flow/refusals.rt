@@ -14,7 +14,7 @@ static BEFORE: &str =
 
 /// Texts, each with the number of its refusal, 0 for none, and under it the positions that the refusal
 /// tells, a, b, c and so on.
-static ROWS: [(&str, u8, &str); 16] = [
+static ROWS: [(&str, u8, &str); 18] = [
     (
         "main { val a = 1; batch (D r) { r.file(a).grow(2); } }",
         0,
@@ -92,8 +92,18 @@ static ROWS: [(&str, u8, &str); 16] = [
     ),
     (
         "main { val l = List<Int>(1); batch (D r) { for (i in l) { r.file(i).grow(1); } } }",
+        0,
+        "",
+    ),
+    (
+        "main { var l = List<Int>(1); batch (D r) { l = l + l; for (i in l) { r.file(i).grow(1); } } }",
         3,
-        "                                                     a      b                     ",
+        "                                                                a      b                     ",
+    ),
+    (
+        "main { batch (D r) { for (i in List<Int>(1)) { r.file(i).grow(1); } } }",
+        3,
+        "                               a                 b                     ",
     ),
 ];
 

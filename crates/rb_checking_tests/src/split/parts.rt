@@ -1,7 +1,8 @@
 // Remainders as texts.
 //
-// A part is its form and its step, as `bind 3 x:1` with a name and a kind. A statement is `plain`, with its expressions as far as
-// something is taken in them, where `t` and a number is what the step of that number kept, and then each step with its kind.
+// A part is its form and its step, as `bind 3 x:1` with a name and a kind, and `over 3 x by:0` with the name of a list and its
+// number among the inputs. A statement is `plain`, with its expressions as far as something is taken in them, where `t` and a
+// number is what the step of that number kept, and then each step with its kind.
 
 use crate::split::steps::add_number;
 use rb_trees::{Expr, ExprForm, Memory, Part, Seq, Stmt, StmtForm, Word};
@@ -60,7 +61,7 @@ fn add_takes(alloc: Global, takes: &[(u32, u8)], into: &mut Word) -> Result<(), 
     Ok(())
 }
 
-// A name with a kind.
+// A name with a kind or a number.
 fn add_name(alloc: Global, name: &Word, kind: u8, into: &mut Word) -> Result<(), Memory> {
     into.push(b' ')?;
     into.extend_from_slice(name.as_slice())?;
@@ -125,12 +126,15 @@ fn add_part(alloc: Global, part: &Part, into: &mut Word) -> Result<(), Memory> {
         Part::Over {
             step,
             name,
+            list,
             input,
             body,
             ..
         } => {
             add_number(alloc, "over ", *step, into)?;
-            add_name(alloc, name, *input, into)?;
+            into.push(b' ')?;
+            into.extend_from_slice(name.as_slice())?;
+            add_name(alloc, list, *input, into)?;
             add_parts(alloc, body, into)
         }
     }

@@ -18,6 +18,7 @@ returns c = record {
   notes = c.lawful_programs_are_noted.ensures;
   marks = c.each_expression_has_its_mark.ensures.there;
   elsewhere = c.each_expression_has_its_mark.ensures.elsewhere;
+  loops = c.carried_loops_stand_at_their_positions.ensures;
   parted = c.remote_expressions_stand_as_they_should.ensures;
   placed = c.local_code_is_not_marked_remote.ensures;
   local = c.local_code_does_the_same.ensures;

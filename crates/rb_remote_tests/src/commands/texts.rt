@@ -39,10 +39,9 @@ pub const CALL: &str = "interface D { fun n(): Int; } main { batch (D r) { print
 pub const NUMBER: &str = "class D { fun n(): Int { return 7; } } object 0: D { } root 0;";
 
 /// The payloads of that program's request and of the reply.
-pub const CALL_REQUEST: &[u8] =
-    b"\x01\x00\x00\x00\x00\x01\x11\x00\x00\x00\x00\x00\x00\x00\x3b\x26\x00\x00\x00\x3b\x01\x00\x00\x00\x01n\x23\x00\x00\x00\x00";
+pub const CALL_REQUEST: &[u8] = b"\x02\x01\x01n\x00\x01\x11\x00\x3b\x26\x3b\x01\x00\x23\x00";
 
-pub const CALL_REPLY: &[u8] = b"\x01\x00\x00\x00\x01\x31\x01\x00\x00\x00\x00\x00\x00\x00\x07\x00";
+pub const CALL_REPLY: &[u8] = b"\x02\x00\x00\x00\x01\x31\x01\x0e\x00";
 
 /// The frame of a request that does nothing, and that of its reply.
 pub const NOTHING: &[u8] = b"RB\x01\x00\x00\x00\x00\x00\x00\x00\x06\x01\x00\x00\x00\x00\x00";

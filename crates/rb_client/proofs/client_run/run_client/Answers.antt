@@ -17,7 +17,8 @@ make-requires g c = typed_differ (mirror_program c.program-program.result.now) (
 pub new-plan-requires-clause-divided : goal.new-plan-requires-clause-divided
 new-plan-requires-clause-divided g c = record {
   divided = c.requires.divided;
-  sent = all_sent (mirror_program c.args.typed.now) c.program-program.ensures.lawful c.requires.places c.divided_scripts_can_be_sent.ensures c.args.splits.now c.requires.divided;
+  sent = all_sent (mirror_program c.args.typed.now) c.program-program.ensures.lawful (typed_checked (mirror_program c.args.typed.now) c.program-program.ensures.typed) c.requires.none c.requires.places
+      c.divided_scripts_can_be_sent.ensures c.args.splits.now c.requires.divided;
 }
 
 pub returns : goal.returns

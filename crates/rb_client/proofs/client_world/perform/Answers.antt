@@ -1,24 +1,10 @@
-use Rattle.std.proofs.Common.{rules, refl}
+use Rattle.std.proofs.Common.{sym, ap, ◌∙◌}
 use Rattle.rb_engine.specs.Locals.{local}
-use Rattle.rb_wire_forest.specs.Opened.{root_of}
-use Rattle.rb_client.proofs.Performing.{performs_so, read_so, refused_so, stops_so, unanswered}
+use Rattle.rb_client.specs.Inputs.{exceed}
+use Rattle.rb_client.proofs.Performing.{faults_so}
 use Rattle.rb_client.proofs.client_world.perform.Goals as goal
 
-pub returns-in-Err-clause-performs : goal.returns-in-Err-clause-performs
-returns-in-Err-clause-performs g c =
-    stops_so g.L.Link g.W.Sink c.args.split.now c.args.at c.args.world.now c.fetch.new.world (local c.args.frame.now c.args.state.now) c.in-Err.stop c.halt_of.result c.halt_of.ensures
-    (unanswered g.L.Link c.args.split.now c.args.frame.now c.args.world.now c.fetch.new.world c.in-Err.stop c.in-Err.ensures)
-
-pub returns-in-Err-read_reply-clause-performs : goal.returns-in-Err-read_reply-clause-performs
-returns-in-Err-read_reply-clause-performs g c =
-    stops_so g.L.Link g.W.Sink c.args.split.now c.args.at c.args.world.now c.fetch.new.world (local c.args.frame.now c.args.state.now) c.in-Err-read_reply.stop c.halt_of-in-Err-read_reply.result c.halt_of-in-Err-read_reply.ensures
-    (refused_so g.L.Link c.args.split.now c.args.frame.now c.args.world.now c.fetch.new.world c.in-Ok.reply c.in-Err-read_reply.stop c.in-Ok.ensures c.in-Err-read_reply.ensures)
-
-pub returns-clause-performs : goal.returns-clause-performs
-returns-clause-performs g c =
-    let w1 = record c.fetch.new.world { exchanges = c.in-Some.next } in
-    performs_so g.L.Link g.W.Sink c.args.split.now c.args.at c.code-code.result.now c.args.world.now w1 _ c.perform_remainder.new.out (root_of c.in-Ok-read_reply.forest) (local c.args.frame.now c.args.state.now)
-    (local c.perform_remainder.new.frame c.perform_remainder.new.state) c.code-code.ensures
-    (read_so g.L.Link c.args.split.now c.args.frame.now c.args.world.now c.fetch.new.world w1 c.in-Ok.reply c.in-Ok-read_reply.forest c.args.world.now.exchanges c.in-Some.next c.in-Ok.ensures refl c.in-Ok-read_reply.ensures refl refl refl refl (search rules))
-    (record { same_plan = refl; same_link = refl; same_output = refl; now = refl; exchanges_so = refl })
-    c.perform_remainder.result c.step_of.result c.step_of.ensures c.perform_remainder.ensures
+pub returns-in-Ok-None-clause-performs : goal.returns-in-Ok-None-clause-performs
+returns-in-Ok-None-clause-performs g c =
+    faults_so g.L.Link g.W.Sink c.args.split.now c.args.world.now (local c.args.frame.now c.args.state.now) c.too_large.result
+    (ap (λ xs. exceed xs c.args.frame.now) (sym c.as_slice.ensures) ∙ (rw c.in-Ok-None.field-0-is at c.in-Ok-None.ensures)) c.too_large.ensures

@@ -1,9 +1,8 @@
 -- Each part is performed as it means.
 use Rattle.std.proofs.Common.{rules, arith, refl, ap, ◌∙◌, ◌+◌, [], ◌∷◌, ◌++◌, take, drop}
 use Rattle.std.proofs.lemmas.List.{drop_all}
-use Rattle.rb_trees.specs.mirror.Code.{mirror_expr, mirror_stmt}
-use Rattle.rb_trees.specs.mirror.Remainders.{Plain, Pass, Bind, Both, Branch, Turns, Over, mirror_part, mirror_parts}
-use Rattle.rb_trees.proofs.mirror.Parts.{form_Plain, form_Pass, form_Bind, form_Both, form_Branch, form_Turns, form_Over}
+use Rattle.rb_trees.specs.mirror.Remainders.{Branch, Turns, Over, mirror_part, mirror_parts}
+use Rattle.rb_trees.proofs.mirror.Parts.{form_Branch, form_Turns, form_Over}
 use Rattle.rb_engine.specs.Locals.{local}
 use Rattle.rb_client.specs.Lists.{item_meant}
 use Rattle.rb_client.specs.Walks.{all_meant, turn_meant}
@@ -11,6 +10,7 @@ use Rattle.rb_client.proofs.Dropped.{dropped_one}
 use Rattle.rb_client.proofs.Enclosed.{branch_missed, branch_so, enclosed_so, loop_so, row_kept, row_missed, row_none, rows_cut, rows_so, turned_missed, turned_so, turns_begin, turns_cut, turns_end, turns_next}
 use Rattle.rb_client.proofs.Listed.{item_so, items_begin, items_cut, items_end, items_next, items_stop, list_cut, list_missed, list_on, list_refused, list_so, over_so, spent_due, spent_less}
 use Rattle.rb_client.proofs.Parted.{all_cut, all_end, all_more, of_form, on_ends}
+use Rattle.rb_client.proofs.FormsApart.{piece_so}
 use Rattle.rb_client.proofs.Weight.{part_in, part_of, part_weight, parts_of}
 use Rattle.rb_client.proofs.replay.+parts.Goals as goal
 
@@ -51,20 +51,8 @@ pub perform_part-perform_rows-requires : goal.perform_part-perform_rows-requires
 perform_part-perform_rows-requires g t c κs within =
     (let w = ap part_weight (ap mirror_part c.in-Turns.is ∙ form_Turns c.in-Turns.step c.in-Turns.name c.in-Turns.kind c.in-Turns.body) in let e = ap parts_of c.as_slice.ensures in let t = ap (λ x. parts_of x.body.now) c.new-turns.ensures in omega arith, within)
 
-pub perform_part-returns-in-Plain : goal.perform_part-returns-in-Plain
-perform_part-returns-in-Plain g t c =
-    of_form c.args.code.now c.args.part.now (Plain (mirror_stmt c.in-Plain.stmt) c.in-Plain.field-1) (ap mirror_part c.in-Plain.is ∙ form_Plain c.in-Plain.stmt c.in-Plain.field-1) c.perform_plain.ensures
-
-pub perform_part-returns-in-Pass : goal.perform_part-returns-in-Pass
-perform_part-returns-in-Pass g t c = of_form c.args.code.now c.args.part.now (Pass c.in-Pass.step) (ap mirror_part c.in-Pass.is ∙ form_Pass c.in-Pass.step) c.perform_pass.ensures
-
-pub perform_part-returns-in-Bind : goal.perform_part-returns-in-Bind
-perform_part-returns-in-Bind g t c = of_form c.args.code.now c.args.part.now (Bind c.in-Bind.step c.in-Bind.name _) (ap mirror_part c.in-Bind.is ∙ form_Bind c.in-Bind.step c.in-Bind.name _) c.perform_bind.ensures
-
-pub perform_part-returns-in-Both : goal.perform_part-returns-in-Both
-perform_part-returns-in-Both g t c =
-    of_form c.args.code.now c.args.part.now (Both c.in-Both.step _ c.in-Both.name (mirror_expr c.in-Both.value)) (ap mirror_part c.in-Both.is ∙ form_Both c.in-Both.step _ c.in-Both.name c.in-Both.value)
-    (rw c.new-twin.ensures at c.perform_both.ensures)
+pub perform_part-perform_piece-requires : goal.perform_part-perform_piece-requires
+perform_part-perform_piece-requires g t c = piece_so c.args.part.now c.in_default.not-Branch c.in_default.not-Turns c.in_default.not-Over
 
 pub perform_part-returns-in-Branch : goal.perform_part-returns-in-Branch
 perform_part-returns-in-Branch g t c =

@@ -6,8 +6,8 @@ use Rattle.rb_marks.proofs.index.mark.Goals as goal
 
 pub returns-clause-marks : goal.returns-clause-marks
 returns-clause-marks c = notes_same c.in_ok-marks.marks.entries _ (λ q. c.in_ok-marks.ensures q
-    ∙ ap (λ ns. first_at ns q None) (c.in_ok-mark_program.ensures ∙ marks_given _ _ _ c.in_ok-facts.ensures c.program-program.ensures.same))
+    ∙ ap (λ ns. first_at ns q None) (c.in_ok-notes.ensures.marks ∙ marks_given _ _ _ c.in_ok-facts.ensures c.program.ensures.same))
 
 pub returns-clause-places : goal.returns-clause-places
 returns-clause-places c = notes_same c.in_ok-places.places.entries _ (λ q. c.in_ok-places.ensures q
-    ∙ ap (λ ns. first_at ns q None) (c.in_ok-place_program.ensures ∙ places_given _ _ _ c.in_ok-facts.ensures c.program-program.ensures.same))
+    ∙ ap (λ ns. first_at ns q None) (c.in_ok-notes.ensures.places ∙ places_given _ _ _ c.in_ok-facts.ensures c.program.ensures.same))

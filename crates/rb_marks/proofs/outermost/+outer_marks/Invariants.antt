@@ -7,7 +7,9 @@ use Rattle.rb_marks.proofs.outermost.+outer_marks.Given as goal
 
 abbrev pub invariant-mark_outer_stmts-loop-s : goal.invariant-mark_outer_stmts-loop-s
 invariant-mark_outer_stmts-loop-s l = record {
-  notes : passes.outer_block_marked (facts_of (mirror_program l.facts)) l.scope l.notes.items (mirror_stmts (drop l.s-index l.ss))
-      ≡ passes.outer_block_marked (facts_of (mirror_program l.facts)) l.fn.scope l.fn.notes.items (mirror_stmts l.ss);
+  marks : passes.outer_block_marked (facts_of (mirror_program l.facts)) l.scope l.notes.marks.items (mirror_stmts (drop l.s-index l.ss))
+      ≡ passes.outer_block_marked (facts_of (mirror_program l.facts)) l.fn.scope l.fn.notes.marks.items (mirror_stmts l.ss);
+  places : passes.outer_block_placed (facts_of (mirror_program l.facts)) l.scope l.notes.places.items (mirror_stmts (drop l.s-index l.ss))
+      ≡ passes.outer_block_placed (facts_of (mirror_program l.facts)) l.fn.scope l.fn.notes.places.items (mirror_stmts l.ss);
   kept : take (length l.fn.scope) l.scope ≡ l.fn.scope;
 }

@@ -5,5 +5,9 @@ use Rattle.rb_marks.specs.Passes as passes
 use Rattle.rb_marks.proofs.outermost.mark_methods.Given as goal
 
 abbrev pub invariant-loop-m : goal.invariant-loop-m
-invariant-loop-m l = passes.methods_marked (facts_of (mirror_program l.facts)) l.notes.items (map mirror_method (drop l.m-index l.methods))
-    ≡ passes.methods_marked (facts_of (mirror_program l.facts)) l.fn.notes.items (map mirror_method l.methods)
+invariant-loop-m l = record {
+  marks : passes.methods_marked (facts_of (mirror_program l.facts)) l.notes.marks.items (map mirror_method (drop l.m-index l.methods))
+      ≡ passes.methods_marked (facts_of (mirror_program l.facts)) l.fn.notes.marks.items (map mirror_method l.methods);
+  places : passes.methods_placed (facts_of (mirror_program l.facts)) l.notes.places.items (map mirror_method (drop l.m-index l.methods))
+      ≡ passes.methods_placed (facts_of (mirror_program l.facts)) l.fn.notes.places.items (map mirror_method l.methods);
+}

@@ -76,13 +76,28 @@ pub perform_stmt-returns-in-For-RowsLoop-clause-scope : goal.perform_stmt-return
 perform_stmt-returns-in-For-RowsLoop-clause-scope t c =
     scope_of c.args.world.now c.args.scope.now c.args.stmt.now _ _ _ (for_form c.args.stmt.now c.in-For-RowsLoop.block c.in-For-RowsLoop.is-0) c.perform_rows.ensures.scope
 
+pub perform_stmt-perform_items-requires : goal.perform_stmt-perform_items-requires
+perform_stmt-perform_items-requires t c =
+    let w = ap stmt_weight (for_form c.args.stmt.now c.in-For-CarriedLoop.block c.in-For-CarriedLoop.is-0) in
+    let e = ap stmts_of c.as_slice-in-For-CarriedLoop.ensures in
+    omega arith
+
+pub perform_stmt-returns-in-For-CarriedLoop-clause-walked : goal.perform_stmt-returns-in-For-CarriedLoop-clause-walked
+perform_stmt-returns-in-For-CarriedLoop-clause-walked t c =
+    of_form c.args.world.now c.args.scope.now c.args.stmt.now c.args.frame.now _ (sym (rw c.facts.ensures at c.placed_form.ensures) ∙ c.in-For-CarriedLoop.is-1)
+    (for_form c.args.stmt.now c.in-For-CarriedLoop.block c.in-For-CarriedLoop.is-0) (rw c.as_slice-in-For-CarriedLoop.ensures at c.perform_items.ensures.walked)
+
+pub perform_stmt-returns-in-For-CarriedLoop-clause-scope : goal.perform_stmt-returns-in-For-CarriedLoop-clause-scope
+perform_stmt-returns-in-For-CarriedLoop-clause-scope t c =
+    scope_of c.args.world.now c.args.scope.now c.args.stmt.now _ _ _ (for_form c.args.stmt.now c.in-For-CarriedLoop.block c.in-For-CarriedLoop.is-0) c.perform_items.ensures.scope
+
 pub perform_stmt-returns-in_default-clause-walked : goal.perform_stmt-returns-in_default-clause-walked
 perform_stmt-returns-in_default-clause-walked t c =
     let left : Left c.args.world.now c.args.scope.now (mirror_stmt c.args.stmt.now) =
     elim c.in_default.branch [
       | perform_stmt-in_default-via-in-Val+in_default w ↦ val_left c.args.world.now c.args.scope.now c.args.stmt.now (rw c.facts.ensures at c.placed_form.ensures) w.in_default.is-0 w.in_default.not-CarriedVal-1
       | perform_stmt-in_default-via-in-If+in_default w ↦ if_left c.args.world.now c.args.scope.now c.args.stmt.now _ _ (rw c.facts.ensures at c.placed_form.ensures) w.in_default.is-0 w.in_default.not-CarriedIf-1
-      | perform_stmt-in_default-via-in-For+in_default w ↦ for_left c.args.world.now c.args.scope.now c.args.stmt.now _ (rw c.facts.ensures at c.placed_form.ensures) w.in_default.is-0 w.in_default.not-RowsLoop-1
+      | perform_stmt-in_default-via-in-For+in_default w ↦ for_left c.args.world.now c.args.scope.now c.args.stmt.now _ (rw c.facts.ensures at c.placed_form.ensures) w.in_default.is-0 w.in_default.not-RowsLoop-1 w.in_default.not-CarriedLoop-1
       | perform_stmt-in_default-via-in_default w ↦ others_left c.args.world.now c.args.scope.now c.args.stmt.now w.in_default.not-Val-0 w.in_default.not-If-0 w.in_default.not-For-0
     ] in
     as_meant (left.0 c.args.frame.now) c.perform_plain.ensures.walked
@@ -93,7 +108,7 @@ perform_stmt-returns-in_default-clause-scope t c =
     elim c.in_default.branch [
       | perform_stmt-in_default-via-in-Val+in_default w ↦ val_left c.args.world.now c.args.scope.now c.args.stmt.now (rw c.facts.ensures at c.placed_form.ensures) w.in_default.is-0 w.in_default.not-CarriedVal-1
       | perform_stmt-in_default-via-in-If+in_default w ↦ if_left c.args.world.now c.args.scope.now c.args.stmt.now _ _ (rw c.facts.ensures at c.placed_form.ensures) w.in_default.is-0 w.in_default.not-CarriedIf-1
-      | perform_stmt-in_default-via-in-For+in_default w ↦ for_left c.args.world.now c.args.scope.now c.args.stmt.now _ (rw c.facts.ensures at c.placed_form.ensures) w.in_default.is-0 w.in_default.not-RowsLoop-1
+      | perform_stmt-in_default-via-in-For+in_default w ↦ for_left c.args.world.now c.args.scope.now c.args.stmt.now _ (rw c.facts.ensures at c.placed_form.ensures) w.in_default.is-0 w.in_default.not-RowsLoop-1 w.in_default.not-CarriedLoop-1
       | perform_stmt-in_default-via-in_default w ↦ others_left c.args.world.now c.args.scope.now c.args.stmt.now w.in_default.not-Val-0 w.in_default.not-If-0 w.in_default.not-For-0
     ] in
     on_ok c.perform_plain.result c.perform_plain.new.scope left.1 c.perform_plain.ensures.scope

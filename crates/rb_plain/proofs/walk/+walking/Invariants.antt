@@ -18,6 +18,9 @@ decreases-perform_branch l = max (stmts_of l.branch.now.yes.now) (stmts_of l.bra
 abbrev pub decreases-perform_rows : goal.decreases-perform_rows
 decreases-perform_rows l = stmts_of l.turns.now.block.now + 4
 
+abbrev pub decreases-perform_items : goal.decreases-perform_items
+decreases-perform_items l = stmts_of l.turns.now.block.now + 4
+
 abbrev pub decreases-perform_turns : goal.decreases-perform_turns
 decreases-perform_turns l = stmts_of l.turns.now.block.now + 3
 

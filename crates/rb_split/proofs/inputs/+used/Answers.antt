@@ -21,7 +21,7 @@ note_stmt-returns-in_ok-note_kept-in_default-clause-uses t c =
     elim c.in_default.branch [
       | note_stmt-in_default-via-in-Val+in_default w ↦ bare_plain (val_left (facts c.args.x.now) c.args.scope.now c.args.s.now c.placed_form.ensures w.in_default.is-0 w.in_default.not-CarriedVal-1)
       | note_stmt-in_default-via-in-If+in_default w ↦ bare_plain (if_left (facts c.args.x.now) c.args.scope.now c.args.s.now _ _ c.placed_form.ensures w.in_default.is-0 w.in_default.not-CarriedIf-1)
-      | note_stmt-in_default-via-in-For+in_default w ↦ bare_plain (for_left (facts c.args.x.now) c.args.scope.now c.args.s.now _ c.placed_form.ensures w.in_default.is-0 w.in_default.not-RowsLoop-1)
+      | note_stmt-in_default-via-in-For+in_default w ↦ bare_plain (for_left (facts c.args.x.now) c.args.scope.now c.args.s.now _ c.placed_form.ensures w.in_default.is-0 w.in_default.not-RowsLoop-1 w.in_default.not-CarriedLoop-1)
       | note_stmt-in_default-via-in_default w ↦ others_bare (facts c.args.x.now) c.args.scope.now c.args.s.now w.in_default.not-Val-0 w.in_default.not-If-0 w.in_default.not-For-0
     ] in
     on_any c.bind_plain.result (c.in_ok-note_kept-in_default.ensures ∙ ap (noted c.args.uses.now) (sym (bare_used (facts c.args.x.now) c.args.scope.now (placed_form (facts c.args.x.now) c.args.scope.now (mirror_stmt c.args.s.now)) (mirror_stmt c.args.s.now) bare)))
@@ -32,7 +32,7 @@ note_stmt-returns-in_ok-note_kept-in_default-clause-scope t c =
     elim c.in_default.branch [
       | note_stmt-in_default-via-in-Val+in_default w ↦ bare_plain (val_left (facts c.args.x.now) c.args.scope.now c.args.s.now c.placed_form.ensures w.in_default.is-0 w.in_default.not-CarriedVal-1)
       | note_stmt-in_default-via-in-If+in_default w ↦ bare_plain (if_left (facts c.args.x.now) c.args.scope.now c.args.s.now _ _ c.placed_form.ensures w.in_default.is-0 w.in_default.not-CarriedIf-1)
-      | note_stmt-in_default-via-in-For+in_default w ↦ bare_plain (for_left (facts c.args.x.now) c.args.scope.now c.args.s.now _ c.placed_form.ensures w.in_default.is-0 w.in_default.not-RowsLoop-1)
+      | note_stmt-in_default-via-in-For+in_default w ↦ bare_plain (for_left (facts c.args.x.now) c.args.scope.now c.args.s.now _ c.placed_form.ensures w.in_default.is-0 w.in_default.not-RowsLoop-1 w.in_default.not-CarriedLoop-1)
       | note_stmt-in_default-via-in_default w ↦ others_bare (facts c.args.x.now) c.args.scope.now c.args.s.now w.in_default.not-Val-0 w.in_default.not-If-0 w.in_default.not-For-0
     ] in
     on_ok c.bind_plain.result c.bind_plain.new.scope (bare_scope (facts c.args.x.now) c.args.scope.now (mirror_stmt c.args.s.now) bare) c.bind_plain.ensures

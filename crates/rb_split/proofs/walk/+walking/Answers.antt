@@ -9,7 +9,7 @@ use Rattle.rb_split.specs.Views.{facts, refs_of}
 use Rattle.rb_split.proofs.Forms.{for_form, if_form, run_form, val_form}
 use Rattle.rb_split.proofs.Fronts.{opened_kept}
 use Rattle.rb_split.proofs.Left.{bare_plain, bare_scope, call_holds, for_left, if_left, others_left, run_left, val_left, val_scope}
-use Rattle.rb_split.proofs.Walked.{branch_so, for_turns, formed, if_branch, left_so, on_any, on_ok, run_do, turns_so}
+use Rattle.rb_split.proofs.Walked.{branch_so, for_over, for_turns, formed, if_branch, left_so, on_any, on_ok, run_do, turn_of}
 use Rattle.rb_split.proofs.Weight.{stmt_in, stmt_of, stmt_weight, stmts_of}
 use Rattle.rb_split.proofs.walk.+walking.Goals.{draft_stmt-in_default-via-in-Val+in_default, draft_stmt-in_default-via-in-Run+in_default, draft_stmt-in_default-via-in-If+in_default, draft_stmt-in_default-via-in-For+in_default, draft_stmt-in_default-via-in_default}
 use Rattle.rb_split.proofs.walk.+walking.Goals as goal
@@ -45,12 +45,22 @@ draft_stmt-returns-in_ok-no-in-If-CarriedIf-clause-drafted t c =
 pub draft_stmt-returns-in_ok-body-in-For-RowsLoop-clause-drafted : goal.draft_stmt-returns-in_ok-body-in-For-RowsLoop-clause-drafted
 draft_stmt-returns-in_ok-body-in-For-RowsLoop-clause-drafted t c =
     on_ok c.close_turns.result (drafted c.close_turns.new.draft)
-    (turns_so (mirror_program c.args.x.now) c.args.refs.now c.draft_turn.new.refs c.args.scope.now (drafted c.args.draft.now) (drafted c.new-body.result) (drafted c.in_ok-body-in-For-RowsLoop.body) c.args.s.now.at c.in-For-RowsLoop.name (mirror_expr c.in-For-RowsLoop.e)
-    c.in-For-RowsLoop.a c.as_slice-in-For-RowsLoop.result.now c.in_ok-next-in-For-RowsLoop.field-0
-    c.as_slice-in-For-RowsLoop.ensures c.in_ok-next-in-For-RowsLoop.ensures c.in_ok-body-in-For-RowsLoop.ensures.refs c.new-body.ensures c.in_ok-body-in-For-RowsLoop.ensures.drafted
-    ∙ sym (formed (mirror_program c.args.x.now) (refs_of c.args.refs.now) c.args.scope.now (drafted c.args.draft.now) (mirror_stmt c.args.s.now) _ (sym c.placed_form.ensures ∙ c.in-For-RowsLoop.is-1) (for_form c.args.s.now c.in-For-RowsLoop.a c.in-For-RowsLoop.is-0)
-    (for_turns (mirror_program c.args.x.now) (refs_of c.args.refs.now) c.args.scope.now (drafted c.args.draft.now) c.args.s.now.at c.in-For-RowsLoop.name (mirror_expr c.in-For-RowsLoop.e) (mirror_stmts c.in-For-RowsLoop.a))))
+    (sym (formed (mirror_program c.args.x.now) (refs_of c.args.refs.now) c.args.scope.now (drafted c.args.draft.now) (mirror_stmt c.args.s.now) _ (sym c.placed_form.ensures ∙ c.in-For-RowsLoop.is-1) (for_form c.args.s.now c.in-For-RowsLoop.a c.in-For-RowsLoop.is-0)
+    (for_turns (mirror_program c.args.x.now) c.args.refs.now c.draft_turn.new.refs c.args.scope.now (drafted c.args.draft.now) (drafted c.in_ok-body-in-For-RowsLoop.body) c.args.s.now.at c.in-For-RowsLoop.name (mirror_expr c.in-For-RowsLoop.e) (mirror_stmts c.in-For-RowsLoop.a)
+    c.in_ok-body-in-For-RowsLoop.ensures.refs
+    (turn_of (mirror_program c.args.x.now) (refs_of c.args.refs.now) c.args.scope.now (drafted c.args.draft.now) (drafted c.in_ok-body-in-For-RowsLoop.body)
+    c.of-turns.ensures.at c.of-turns.ensures.name c.of-turns.ensures.block c.in_ok-body-in-For-RowsLoop.ensures.drafted))))
     (rw (c.of-in-For-RowsLoop.ensures.facts, c.of-in-For-RowsLoop.ensures.refs) at c.close_turns.ensures)
+
+pub draft_stmt-returns-in_ok-body-in-For-CarriedLoop-clause-drafted : goal.draft_stmt-returns-in_ok-body-in-For-CarriedLoop-clause-drafted
+draft_stmt-returns-in_ok-body-in-For-CarriedLoop-clause-drafted t c =
+    on_ok c.close_over.result (drafted c.close_over.new.draft)
+    (sym (formed (mirror_program c.args.x.now) (refs_of c.args.refs.now) c.args.scope.now (drafted c.args.draft.now) (mirror_stmt c.args.s.now) _ (sym c.placed_form.ensures ∙ c.in-For-CarriedLoop.is-1) (for_form c.args.s.now c.in-For-CarriedLoop.a c.in-For-CarriedLoop.is-0)
+    (for_over (mirror_program c.args.x.now) c.args.refs.now c.draft_turn-in-For-CarriedLoop.new.refs c.args.scope.now (drafted c.args.draft.now) (drafted c.in_ok-body-in-For-CarriedLoop.body) c.args.s.now.at c.in-For-CarriedLoop.name (mirror_expr c.in-For-CarriedLoop.e) (mirror_stmts c.in-For-CarriedLoop.a)
+    c.in_ok-body-in-For-CarriedLoop.ensures.refs
+    (turn_of (mirror_program c.args.x.now) (refs_of c.args.refs.now) c.args.scope.now (drafted c.args.draft.now) (drafted c.in_ok-body-in-For-CarriedLoop.body)
+    c.of-turns-in-For-CarriedLoop.ensures.at c.of-turns-in-For-CarriedLoop.ensures.name c.of-turns-in-For-CarriedLoop.ensures.block c.in_ok-body-in-For-CarriedLoop.ensures.drafted))))
+    (rw (c.of-in-For-CarriedLoop.ensures.facts, c.of-in-For-CarriedLoop.ensures.refs) at c.close_over.ensures)
 
 pub draft_turn-returns-clause-scope : goal.draft_turn-returns-clause-scope
 draft_turn-returns-clause-scope t c =
@@ -69,7 +79,7 @@ draft_stmt-returns-in_ok-draft_plain-in_default-clause-drafted t c =
       | draft_stmt-in_default-via-in-Val+in_default w ↦ val_left (facts c.args.x.now) c.args.scope.now c.args.s.now c.placed_form.ensures w.in_default.is-0 w.in_default.not-CarriedVal-1
       | draft_stmt-in_default-via-in-Run+in_default w ↦ run_left (facts c.args.x.now) c.args.scope.now c.args.s.now c.placed_form.ensures w.in_default.is-0 w.in_default.not-CallAlone-1
       | draft_stmt-in_default-via-in-If+in_default w ↦ if_left (facts c.args.x.now) c.args.scope.now c.args.s.now _ _ c.placed_form.ensures w.in_default.is-0 w.in_default.not-CarriedIf-1
-      | draft_stmt-in_default-via-in-For+in_default w ↦ for_left (facts c.args.x.now) c.args.scope.now c.args.s.now _ c.placed_form.ensures w.in_default.is-0 w.in_default.not-RowsLoop-1
+      | draft_stmt-in_default-via-in-For+in_default w ↦ for_left (facts c.args.x.now) c.args.scope.now c.args.s.now _ c.placed_form.ensures w.in_default.is-0 w.in_default.not-RowsLoop-1 w.in_default.not-CarriedLoop-1
       | draft_stmt-in_default-via-in_default w ↦ others_left (facts c.args.x.now) c.args.scope.now c.args.s.now w.in_default.not-Val-0 w.in_default.not-Run-0 w.in_default.not-If-0 w.in_default.not-For-0
     ] in
     on_any c.bind_plain.result ((rw (c.of-in_default.ensures.facts, c.of-in_default.ensures.refs) at c.in_ok-draft_plain-in_default.ensures) ∙ sym (left_so (mirror_program c.args.x.now) (refs_of c.args.refs.now) c.args.scope.now (drafted c.args.draft.now) (mirror_stmt c.args.s.now) plain))
@@ -81,7 +91,7 @@ draft_stmt-returns-in_ok-draft_plain-in_default-clause-scope t c =
       | draft_stmt-in_default-via-in-Val+in_default w ↦ val_left (facts c.args.x.now) c.args.scope.now c.args.s.now c.placed_form.ensures w.in_default.is-0 w.in_default.not-CarriedVal-1
       | draft_stmt-in_default-via-in-Run+in_default w ↦ run_left (facts c.args.x.now) c.args.scope.now c.args.s.now c.placed_form.ensures w.in_default.is-0 w.in_default.not-CallAlone-1
       | draft_stmt-in_default-via-in-If+in_default w ↦ if_left (facts c.args.x.now) c.args.scope.now c.args.s.now _ _ c.placed_form.ensures w.in_default.is-0 w.in_default.not-CarriedIf-1
-      | draft_stmt-in_default-via-in-For+in_default w ↦ for_left (facts c.args.x.now) c.args.scope.now c.args.s.now _ c.placed_form.ensures w.in_default.is-0 w.in_default.not-RowsLoop-1
+      | draft_stmt-in_default-via-in-For+in_default w ↦ for_left (facts c.args.x.now) c.args.scope.now c.args.s.now _ c.placed_form.ensures w.in_default.is-0 w.in_default.not-RowsLoop-1 w.in_default.not-CarriedLoop-1
       | draft_stmt-in_default-via-in_default w ↦ others_left (facts c.args.x.now) c.args.scope.now c.args.s.now w.in_default.not-Val-0 w.in_default.not-Run-0 w.in_default.not-If-0 w.in_default.not-For-0
     ] in
     on_ok c.bind_plain.result c.bind_plain.new.scope (bare_scope (facts c.args.x.now) c.args.scope.now (mirror_stmt c.args.s.now) (bare_plain plain)) c.bind_plain.ensures
@@ -93,17 +103,13 @@ draft_stmt-returns-in_ok-draft_plain-in_default-clause-refs t c =
       | draft_stmt-in_default-via-in-Val+in_default w ↦ val_left (facts c.args.x.now) c.args.scope.now c.args.s.now c.placed_form.ensures w.in_default.is-0 w.in_default.not-CarriedVal-1
       | draft_stmt-in_default-via-in-Run+in_default w ↦ run_left (facts c.args.x.now) c.args.scope.now c.args.s.now c.placed_form.ensures w.in_default.is-0 w.in_default.not-CallAlone-1
       | draft_stmt-in_default-via-in-If+in_default w ↦ if_left (facts c.args.x.now) c.args.scope.now c.args.s.now _ _ c.placed_form.ensures w.in_default.is-0 w.in_default.not-CarriedIf-1
-      | draft_stmt-in_default-via-in-For+in_default w ↦ for_left (facts c.args.x.now) c.args.scope.now c.args.s.now _ c.placed_form.ensures w.in_default.is-0 w.in_default.not-RowsLoop-1
+      | draft_stmt-in_default-via-in-For+in_default w ↦ for_left (facts c.args.x.now) c.args.scope.now c.args.s.now _ c.placed_form.ensures w.in_default.is-0 w.in_default.not-RowsLoop-1 w.in_default.not-CarriedLoop-1
       | draft_stmt-in_default-via-in_default w ↦ others_left (facts c.args.x.now) c.args.scope.now c.args.s.now w.in_default.not-Val-0 w.in_default.not-Run-0 w.in_default.not-If-0 w.in_default.not-For-0
     ] in
     on_any c.bind_plain.result (sym (ap (λ f. refs_after_as (mirror_program c.args.x.now) f (refs_of c.args.refs.now) c.args.draft.now.var (mirror_stmt c.args.s.now)) plain))
 
 pub draft_all-draft_stmt-requires : goal.draft_all-draft_stmt-requires
 draft_all-draft_stmt-requires t c = let w = stmt_in c.args.ss.now c.stmts.s-index c.s-item.result (omega arith) in let e = ap stmt_of c.s-item.is in omega arith
-
-pub draft_stmt-draft_turn-requires : goal.draft_stmt-draft_turn-requires
-draft_stmt-draft_turn-requires t c =
-    let w = ap stmt_weight (for_form c.args.s.now c.in-For-RowsLoop.a c.in-For-RowsLoop.is-0) in let e = ap stmts_of c.as_slice-in-For-RowsLoop.ensures in omega arith
 
 pub draft_stmt-draft_block-requires : goal.draft_stmt-draft_block-requires
 draft_stmt-draft_block-requires t c =

@@ -4,4 +4,4 @@ use Rattle.rb_flow.specs.Program.{IsAdmittedWith}
 use Rattle.rb_flow.proofs.admission.Admitted.marks.Goals as goal
 
 pub returns-clause-own : goal.returns-clause-own
-returns-clause-own c = (subst (λ v. IsAdmittedWith (mirror_program v.0) v.1) c.self.view_is c.self.invariant).own
+returns-clause-own c = (subst (λ v. IsAdmittedWith (mirror_program v.0) v.1) c.self.view_is c.self.invariant.0).own

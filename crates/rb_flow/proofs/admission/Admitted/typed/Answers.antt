@@ -4,4 +4,4 @@ use Rattle.rb_flow.specs.Program.{IsAdmittedWith}
 use Rattle.rb_flow.proofs.admission.Admitted.typed.Goals as goal
 
 pub returns-clause-admitted : goal.returns-clause-admitted
-returns-clause-admitted c = (subst (λ v. IsAdmittedWith (mirror_program v.0) v.1) c.self.view_is c.self.invariant).none
+returns-clause-admitted c = (subst (λ v. IsAdmittedWith (mirror_program v.0) v.1) c.self.view_is c.self.invariant.0).none

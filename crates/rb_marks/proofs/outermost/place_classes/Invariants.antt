@@ -1,9 +1,0 @@
-use Rattle.std.proofs.Common.{◌≡◌, drop, map}
-use Rattle.rb_trees.specs.mirror.Declarations.{mirror_class, mirror_program}
-use Rattle.rb_meaning_flow.specs.Facts.{facts_of}
-use Rattle.rb_marks.specs.Passes as passes
-use Rattle.rb_marks.proofs.outermost.place_classes.Given as goal
-
-abbrev pub invariant-loop-class : goal.invariant-loop-class
-invariant-loop-class l = passes.classes_placed (facts_of (mirror_program l.facts)) l.notes.items (map mirror_class (drop l.class-index l.classes))
-    ≡ passes.classes_placed (facts_of (mirror_program l.facts)) l.fn.notes.items (map mirror_class l.classes)
