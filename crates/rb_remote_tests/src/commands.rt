@@ -6,6 +6,7 @@ mod events;
 mod failures;
 mod hostile;
 mod hubs;
+mod jsons;
 mod near_runs;
 mod others;
 mod pairs;
