@@ -7,3 +7,6 @@ pub mod Blocks
 pub mod Whole
 pub mod Arrays
 pub mod Written
+pub mod Formed
+pub mod Shallow
+pub mod Replied

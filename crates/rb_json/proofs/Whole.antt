@@ -1,5 +1,5 @@
 -- Whole requests.
-use Rattle.std.proofs.Common.{◌≡◌, ◌+◌, ◌<◌, ◌≤◌, ℕ, zero, suc, List, [], ◌∷◌, ◌++◌, length, refl, ap, sym, ◌∙◌, arith, Bool, true, false, cond, Option, None, Some, Result, Ok, Err, append_assoc, get_or, drop, drop-cons, String, subst, max, codes, Ordering, Less, Equal, Greater}
+use Rattle.std.proofs.Common.{◌≡◌, ◌+◌, ◌<◌, ◌≤◌, ◌^◌, ℕ, zero, suc, List, [], ◌∷◌, ◌++◌, length, refl, ap, sym, ◌∙◌, arith, Bool, true, false, cond, Option, None, Some, Result, Ok, Err, append_assoc, get_or, drop, drop-cons, String, subst, max, codes, Ordering, Less, Equal, Greater}
 use Rattle.std.proofs.lemmas.Grind.{common_steps}
 use Rattle.std.proofs.lemmas.Bool.Decides.{nat_tests}
 use Rattle.std.specs.Str.{is_utf8, IsUtf8}
@@ -18,8 +18,13 @@ use Rattle.serde_json.specs.View.{members_view}
 use Rattle.serde_json.specs.declared.value.Value.{Value}
 use Rattle.rb_json.specs.declared.stops.JsonRefusal.{JsonRefusal}
 use Rattle.rb_json.specs.declared.stops.JsonRefusal.TheVariants.{NotJson}
-use Rattle.rb_json.specs.Counts.{members_number}
-use Rattle.rb_json.specs.Requests.{is_pair, both_of, members, json_of}
+use Rattle.rb_json.specs.Counts.{count, members_number}
+use Rattle.rb_json.specs.Requests.{is_pair, both_of, members, sent_of, json_of}
+use Rattle.rb_trees.specs.mirror.Scripts.{Steps}
+use Rattle.rb_json.specs.Values.{inputs_at}
+use Rattle.rb_json.specs.Steps.{steps_at}
+use Rattle.rb_json.specs.Formed.{IsSendable}
+use Rattle.rb_json.proofs.Formed.{request_good}
 
 -- ---- readings
 
@@ -56,6 +61,41 @@ no_pair (number n) h = refl
 no_pair (string t) h = refl
 no_pair (array ds) h = refl
 no_pair (object ms) h = absurd cc
+
+-- what stands at a key is less deep
+get_less : (k : List ℕ) (ms : Members) (e : Data) → get_member k ms ≡ Some e → depth e ≤ members_depth ms
+get_less k no_members e h = absurd cc
+get_less k (member l d ms) e h = go (slice_cmp nat_cmp k l) (λ i. get_less k ms e i) h
+  where
+    go : (o : Ordering) → (get_member k ms ≡ Some e → depth e ≤ members_depth ms) → match_ordering o (get_member k ms) (Some d) (get_member k ms) ≡ Some e
+        → depth e ≤ max (depth d) (members_depth ms)
+    go Less more h = let rest = more h in omega (arith, rest)
+    go Equal more h = let same : d ≡ e = cc in subst (λ x. depth x ≤ max (depth d) (members_depth ms)) same (omega arith)
+    go Greater more h = let rest = more h in omega (arith, rest)
+
+get_within : (k : List ℕ) (d e : Data) → get k d ≡ Some e → depth e ≤ depth d
+get_within k (object ms) e h = let less = get_less k ms e h in omega (arith, less)
+get_within k null e h = absurd cc
+get_within k (boolean b) e h = absurd cc
+get_within k (number n) e h = absurd cc
+get_within k (string s) e h = absurd cc
+get_within k (array ds) e h = absurd cc
+
+-- so is each of the members of a request
+pub steps_within : (d a b : Data) → members d ≡ Some (a, b) → depth b ≤ depth d
+steps_within d a b h = go (is_pair d) (get (codes "inputs") d) (get (codes "steps") d) refl h
+  where
+    go : (p : Bool) (o q : Option Data) → get (codes "steps") d ≡ q → cond p (both_of o q) None ≡ Some (a, b) → depth b ≤ depth d
+    go false o q is h = absurd cc
+    go true None q is h = absurd cc
+    go true (Some x) None is h = absurd cc
+    go true (Some x) (Some y) is h = let same : ◌≡◌ {A = Data × Data} (x, y) (a, b) = cc in get_within (codes "steps") d b (is ∙ ap (λ z. Some z.1) same)
+
+-- What was read of a request can be sent.
+pub whole_good : (p q : ℕ) (d a b : Data) (values : List Primitive) (steps : Steps) → members d ≡ Some (a, b) → inputs_at p a ≡ Ok values → steps_at q b ≡ Ok steps
+    → count b < 2 ^ 32 → depth d ≤ 127 → IsSendable (sent_of values steps)
+whole_good p q d a b values steps is one two few deep =
+    let less = steps_within d a b is in request_good p q a b values steps one two few (omega (arith, less, deep))
 
 -- ---- numbers of lists
 

@@ -9,3 +9,4 @@ pub mod Replies
 pub mod Formed
 pub mod Stops
 pub mod Mirrors
+pub mod Answering

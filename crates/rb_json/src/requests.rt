@@ -4,7 +4,10 @@ ghost use Rattle.std.specs.Prelude.{◌≡◌, ◌≤◌, None, MatchOption, Som
 ghost use Rattle.rb_trees.specs.Outcome.{Gives};
 ghost use Rattle.rb_trees.specs.mirror.Scripts.{mirror_steps};
 ghost use Rattle.rb_meaning_bytes.specs.formats.Items.{list_numbers};
+ghost use Rattle.serde_json.specs.Data.{depth};
+ghost use Rattle.serde_json.specs.Read.{max_depth};
 ghost use Rattle.serde_json.specs.View.{view};
+ghost use Rattle.rb_json.specs.Formed.{IsSendable};
 ghost use Rattle.rb_json.specs.Mirrors.{sent};
 ghost use Rattle.rb_json.specs.Requests.{json_of, members, request_at, request_in, sent_of};
 ghost use Rattle.rb_json.specs.Stops.{refusal, wrong};
@@ -17,7 +20,8 @@ use std::alloc::Global;
 
 /// The reading of bytes as JSON of at most 127 levels, or that they have none.
 fn read_json(alloc: Global, bytes: &[u8]) -> Result<Json, JsonStop>
-    ensures { Gives view refusal result (json_of bytes.now) }
+    ensures reads { Gives view refusal result (json_of bytes.now) }
+    ensures nests { IfOk result (λ v. depth (view v) ≤ max_depth) }
 {
     match Json::from_slice(alloc, bytes) {
         Ok(value) => Ok(value),
@@ -69,8 +73,10 @@ fn list_numbers(alloc: Global, values: &[Value]) -> Result<Seq<u8>, Memory>
 impl Reader {
     /// A request: the values of the inputs, and the steps.
     fn request(&mut self, value: &Json) -> Result<(Seq<Value>, Seq<Step>), ReadStop>
+        requires { depth (view value.now) ≤ max_depth }
         ensures reads { Gives (λ r. sent_of r.0 (mirror_steps r.1)) wrong result (request_at self.old.place (view value.now)) }
         ensures few { IfOk result (λ r. length r.0 ≤ 255) }
+        ensures formed { IfOk result (λ r. IsSendable (sent_of r.0 (mirror_steps r.1))) }
     {
         let place = self.place;
         let Some((inputs, steps)) = members(value) else {
@@ -79,6 +85,8 @@ impl Reader {
         self.skip(1)?;
         let inputs = self.inputs(inputs)?;
         let steps = self.steps(steps)?;
+        // The number of the next value has 32 bits, so there are no more values than such numbers.
+        prove!(self.place <= u32::MAX);
         Ok((inputs, steps))
     }
 }
@@ -102,7 +110,9 @@ fn script_of(alloc: Global, values: &[Value], body: Seq<Step>) -> Result<Script,
 /// that `request_of` in `specs/Requests` says; the first value that breaks it is told.
 #[tactic(auto, unfolding(crate::specs::Requests::request_of, crate::specs::Requests::request_in))]
 pub fn read_request(alloc: Global, bytes: &[u8]) -> Result<(Script, Seq<Value>), JsonStop>
-    ensures { Gives (λ r. sent r.0 r.1) refusal result (request_in bytes.now) }
+    ensures reads { Gives (λ r. sent r.0 r.1) refusal result (request_in bytes.now) }
+    // What was read can be sent in version 2: it is formed, and nests no deeper than scripts may.
+    ensures formed { IfOk result (λ r. IsSendable (sent r.0 r.1)) }
 {
     let json = read_json(alloc, bytes)?;
     let mut reader = Reader { alloc, place: 0 };
