@@ -10,7 +10,7 @@ use std::rt::Files;
 use std::{fs, io, str};
 
 /// The commands, whose words single spaces part. What has a `.` in it names a file.
-const COMMANDS: [&str; 24] = [
+const COMMANDS: [&str; 25] = [
     "both large.rbi files.rbs",
     "unsplit large.rbi files.rbs",
     "split large.rbi",
@@ -35,6 +35,7 @@ const COMMANDS: [&str; 24] = [
     "check variable.rbi",
     "both variable_mended.rbi files.rbs",
     "hub hub.events files.rbs",
+    "json files.rbs request.json",
 ];
 
 fn main(rt: HostRuntime) -> io::Result<()> {

@@ -34,6 +34,8 @@ const COUNT: &[u8] = b"  COUNT    how many clients are served: a number from 1 t
 const EVENTS: &[u8] =
     b"  EVENTS   the file of the events, one a line: `open`, `piece K HEX` or `close K`\n";
 
+const REQUEST: &[u8] = b"  REQUEST  the file of a request in JSON\n";
+
 const FILES: &[u8] = b"  N        how many files the service has: a number from 1 to 10000\n";
 
 // Statuses.
@@ -45,6 +47,8 @@ const RAN: &[u8] = b"  0   the program ran to its end\n";
 const SERVED: &[u8] = b"  0   all clients were served, or all that came\n";
 
 const PLAYED: &[u8] = b"  0   all events were played\n";
+
+const ANSWERED: &[u8] = b"  0   the request was answered: its script was performed, or refused\n";
 
 const FAULTED: &[u8] = b"  1   the program ended by a fault\n";
 
@@ -74,9 +78,11 @@ const LONG_FILE: &[u8] = b"  13  a file has more than 1048576 bytes\n";
 
 const NO_EVENT: &[u8] = b"  14  a line of the events isn't of their form\n";
 
+const NO_REQUEST: &[u8] = b"  17  the request isn't JSON, or isn't of the form of requests\n";
+
 /// The pages of all commands.
-pub static COMMANDS: [CommandPage; 10] = [
-    CHECK, SPLIT, UNSPLIT, BOTH, RUN, PAIR, SERVE, CHILD, HUB, TRIAL,
+pub static COMMANDS: [CommandPage; 11] = [
+    CHECK, SPLIT, UNSPLIT, BOTH, RUN, PAIR, SERVE, CHILD, HUB, JSON, TRIAL,
 ];
 
 const CHECK: CommandPage = CommandPage {
@@ -242,6 +248,19 @@ A piece is written as two digits for each byte, with lower-case letters.\n",
         PLAYED, NO_FILE, NO_SERVICE, NO_OUTPUT, NO_MEMORY, LONG_FILE, NO_EVENT,
     ],
     example: b"hub examples/hub.events examples/files.rbs",
+};
+
+const JSON: CommandPage = CommandPage {
+    name: "json",
+    form: b"json SERVICE REQUEST",
+    counts: (2, 2),
+    does: b"It answers a request that is written in JSON, as a server answers one in bytes.
+It prints the reply, in JSON too, and then the table of the service's objects.\n",
+    words: &[SERVICE, REQUEST],
+    statuses: &[
+        ANSWERED, NO_FILE, NO_SERVICE, NO_OUTPUT, NO_MEMORY, LONG_FILE, NO_REQUEST,
+    ],
+    example: b"json examples/files.rbs examples/request.json",
 };
 
 const TRIAL: CommandPage = CommandPage {

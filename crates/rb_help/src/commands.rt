@@ -7,7 +7,7 @@ use rb_trees::{Memory, Seq, Word};
 use std::alloc::Global;
 
 /// The lines that tell the forms of the commands, one for each command, and what their words are.
-pub static USAGE: [&[u8]; 15] = [
+pub static USAGE: [&[u8]; 16] = [
     b"The commands, where P is the file of a program and S that of a service:\n",
     b"  check P                tell whether the program P is accepted\n",
     b"  split P                show how each batch of P is divided\n",
@@ -18,6 +18,7 @@ pub static USAGE: [&[u8]; 15] = [
     b"  serve ADDRESS S COUNT  serve S at ADDRESS to COUNT clients, one after the other\n",
     b"  child S                serve S to one client over standard input and output\n",
     b"  hub E S                play the events of many clients, which stand in the file E, on S\n",
+    b"  json S R               answer the request in JSON in the file R on S\n",
     b"  trial N                run a program of its own on a service of its own with N files\n",
     b"FUEL is how many calls and turns of loops the program may make, 1000000 where it is left out.\n",
     b"ADDRESS is a host and a port, such as 127.0.0.1:4000. COUNT is 1 to 1000000, and N is 1 to 10000.\n",

@@ -17,6 +17,7 @@ mod commands;
 mod event_texts;
 mod explaining;
 mod flow_help;
+mod json_texts;
 mod labels;
 mod lines;
 mod link_help;

@@ -1,6 +1,7 @@
 // What is said of what stands around a program: words, files, links, output and memory.
 
 use crate::event_texts::NO_EVENT;
+use crate::json_texts::{NOT_JSON, WRONG_FORM};
 use crate::link_help::{say_bad_reply, say_dial_fault, say_link_fault};
 use crate::outside_texts as texts;
 use crate::trouble::Trouble;
@@ -16,6 +17,8 @@ pub fn say_outside(alloc: Global, page: &mut Page, trouble: &Trouble<'_>) -> Res
         Trouble::FileFault(name) => page.say_name(&texts::FILE_FAULT, name),
         Trouble::FileTooLong(name) => page.say_name(&texts::FILE_TOO_LONG, name),
         Trouble::NoEvent(name, line) => page.say_number(&NO_EVENT, name, *line),
+        Trouble::NotJson(name) => page.say_name(&NOT_JSON, name),
+        Trouble::WrongForm(name, place) => page.say_number(&WRONG_FORM, name, u64::from(*place)),
         Trouble::LinkFault(server, done) => say_link_fault(page, server, *done),
         Trouble::BadReply(server, done, flaw) => say_bad_reply(alloc, page, server, *done, flaw),
         Trouble::DialFault(server) => say_dial_fault(page, server),

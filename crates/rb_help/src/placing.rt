@@ -110,6 +110,8 @@ pub fn positions(alloc: Global, trouble: &Trouble<'_>) -> Result<Seq<u32>, Memor
         | Trouble::FileFault(_)
         | Trouble::FileTooLong(_)
         | Trouble::NoEvent(_, _)
+        | Trouble::NotJson(_)
+        | Trouble::WrongForm(_, _)
         | Trouble::LinkFault(_, _)
         | Trouble::BadReply(_, _, _)
         | Trouble::DialFault(_)

@@ -48,6 +48,10 @@ pub enum Trouble<'a> {
     Untyped(&'a TypeError),
     /// In the file of events of this name, the line of this number, from 1, is no event.
     NoEvent(&'a [u8], u64),
+    /// The file of this name isn't JSON.
+    NotJson(&'a [u8]),
+    /// In the file of this name, the value of this number, from 0, is the first that breaks the form of requests in JSON.
+    WrongForm(&'a [u8], u32),
     /// A batch of the program isn't admitted or divided.
     Refused(&'a Refusal),
     /// The service's text is refused.

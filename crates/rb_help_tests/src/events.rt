@@ -1,4 +1,4 @@
-// Files of events.
+// Files of events, and requests in JSON.
 
 use crate::said::says;
 use rb_help::Trouble;
@@ -14,6 +14,27 @@ fn a_line_that_is_no_event_is_named(rt: HostRuntime) -> Result<(), Fail> {
         "Line 12 of `hub.events` is no event.
 Each line is `open`, `piece K HEX` or `close K`, and ends with a line feed, the last one too. \
 K is a number from 0 to 4294967295, and HEX has two digits for each byte, with lower-case letters.
+",
+    )
+}
+
+#[test]
+fn a_request_in_json_that_is_refused_is_named(rt: HostRuntime) -> Result<(), Fail> {
+    says(
+        rt.alloc(),
+        "",
+        &Trouble::NotJson(b"request.json"),
+        "`request.json` isn't JSON, or has more than 127 arrays and objects within each other.
+Let a library for JSON write it. It is UTF-8, and each number is within the range of a double.
+",
+    )?;
+    says(
+        rt.alloc(),
+        "",
+        &Trouble::WrongForm(b"request.json", 3),
+        "Value 3 of `request.json` is the first that isn't as requests have it.
+Values are counted from 0: an array or object before what is in it, and its members in the order of their keys. \
+docs/json.md has the form of requests.
 ",
     )
 }

@@ -59,6 +59,7 @@ const USAGE: &str = "The commands, where P is the file of a program and S that o
   serve ADDRESS S COUNT  serve S at ADDRESS to COUNT clients, one after the other
   child S                serve S to one client over standard input and output
   hub E S                play the events of many clients, which stand in the file E, on S
+  json S R               answer the request in JSON in the file R on S
   trial N                run a program of its own on a service of its own with N files
 FUEL is how many calls and turns of loops the program may make, 1000000 where it is left out.
 ADDRESS is a host and a port, such as 127.0.0.1:4000. COUNT is 1 to 1000000, and N is 1 to 10000.

@@ -38,7 +38,7 @@ pub only_starved : (Is : ends.Said) (result : Status) (before after : Scene) →
 only_starved Is result before after none (ends.said status text is e) = absurd (none status text after.files is)
 only_starved Is result before after none (ends.starved_first count r f) = (r, ap (λ s. s.out) f)
 
-ends_starved : (status : Status) (text : List ℕ) (result : Status) (before after : Device (List ℕ)) → (result ≡ Memory) × (after ≡ before) → Ends status text result before after
+pub ends_starved : (status : Status) (text : List ℕ) (result : Status) (before after : Device (List ℕ)) → (result ≡ Memory) × (after ≡ before) → Ends status text result before after
 ends_starved status text result before after s =
     subst (λ r. Ends status text r before after) (sym s.0) (subst (Ends status text Memory before) (sym s.1) (starved_at_once status text before))
 

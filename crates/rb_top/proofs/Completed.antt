@@ -7,6 +7,7 @@ use Rattle.rb_top.specs.Scene.{Outside}
 use Rattle.rb_top.specs.Words.{Wanted}
 use Rattle.rb_top.specs.declared.status.Status.{Status}
 use Rattle.rb_hub_lines.specs.Lines.{HaveOneReading}
+use Rattle.rb_top.proofs.AnsweredTold.{answers_told}
 use Rattle.rb_top.proofs.PlayedTold.{plays_told}
 use Rattle.rb_top.proofs.Complete.{calls_told, checks_told, pairs_told, runs_told, splits_told, trials_told}
 use Rattle.rb_top.proofs.ServedTold.{serves_told}
@@ -22,4 +23,5 @@ completed g source service lines wanted result before after said = record {
   pairs = pairs_told g source service wanted result before after said;
   serves = serves_told g service wanted result before after said;
   plays = plays_told g service lines wanted result before after said;
+  answers = answers_told g service wanted result before after said;
 }

@@ -1,3 +1,5 @@
+pub mod AnsweredOn
+pub mod AnsweredTold
 pub mod Complete
 pub mod Completed
 pub mod Differ

@@ -5,7 +5,7 @@ use Rattle.std.proofs.lemmas.List.{append-nil, drop_all, length-append}
 use Rattle.rb_trees.specs.declared.services.Object.{Object}
 use Rattle.rb_trees.specs.mirror.Services.{Service, mirror_service}
 use Rattle.rb_meaning.specs.Shown.{line, shown_table}
-use Rattle.rb_meaning_frames.specs.Histories.{Event, Track, after, after_all}
+use Rattle.rb_meaning_frames.specs.Histories.{Event, RepliesGoOn, Track, after, after_all}
 use Rattle.rb_base.specs.Devices.{Device, failed}
 use Rattle.rb_base.specs.Directories.{read_once}
 use Rattle.rb_base.specs.Sinks.{with_bytes, WrotePrefix}
@@ -14,8 +14,9 @@ use Rattle.rb_base.proofs.Pieces.{both_whole, bytes_none}
 use Rattle.rb_exec.specs.Hosted.{Hosted}
 use Rattle.rb_session.specs.declared.answerers.Answers as answerers
 use Rattle.rb_hub.specs.Hubs.{HubSeen, new_hub}
-use Rattle.rb_hub.specs.Serial.{ComesOut, refusal_at}
+use Rattle.rb_hub.specs.Serial.{ComeOut, ComesOut, IsSerial, no_event, refusal_at}
 use Rattle.rb_hub.specs.Standing.{GoesOn, PlaysOne, Stands}
+use Rattle.rb_hub.proofs.Serially.{comes_more, history_replies}
 use Rattle.rb_hub.specs.declared.events.HubRefusal.{HubRefusal}
 use Rattle.rb_hub.specs.declared.events.Out.{Out}
 use Rattle.rb_hub_lines.specs.Lines.{BreaksAtLine}
@@ -23,7 +24,7 @@ use Rattle.rb_hub_lines.specs.Shown.{out_lines, shown_out}
 use Rattle.rb_top.specs.Commands.{EndsUnread}
 use Rattle.rb_top.specs.Ends.{Ends, Tells, fault_line, too_long_line}
 use Rattle.rb_top.specs.HubRuns as runs
-use Rattle.rb_top.specs.HubRuns.{Played, PlayedSome, PlaysEach, PlaysFrom, PlaysHub, PlaysNext, PlaysOn, PlaysText, Shows, served_there, step_lines}
+use Rattle.rb_top.specs.HubRuns.{Played, PlayedSome, PlaysEach, PlaysFrom, PlaysHub, PlaysNext, PlaysOn, PlaysText, Shows, outs_in, served_there, step_lines}
 use Rattle.rb_top.specs.Loads.{Unread}
 use Rattle.rb_top.specs.Printing.{Prints, stopped, stopped_status}
 use Rattle.rb_top.specs.Runs.{Served}
@@ -87,6 +88,18 @@ module _ {X : Type 0} (a : answerers.Ghosts Hosted X) (services : (h : Hosted) �
       (subst (λ x. Prints (step_lines number x p.given) r out out') went.1
       (subst (λ x. Prints (step_lines number refusal x) r out out') (p.gains ∙ ap (λ o. o ++ p.given) none) said))
 
+-- ---- one serial history
+
+come_out : (service : Service) (table left : List Object) (events : List Event) (text : List ℕ) (shows : Shows service table events text left) → ComeOut service table [] events (outs_in shows) left
+come_out service table _ _ _ runs.no_event = no_event table []
+come_out service table _ _ _ (runs.one_more events event text between left given shows comes) =
+    comes_more service table between left [] events event (outs_in shows) given (come_out service table between events text shows) comes
+
+pub is_serial : RepliesGoOn → (service : Service) (table left : List Object) (events : List Event) (text : List ℕ) (shows : Shows service table events text left) → IsSerial service table left events (outs_in shows)
+is_serial law service table left events text shows =
+    let all = come_out service table left events text shows in
+    record { replies = history_replies service table left [] events (outs_in shows) law all; all = all }
+
 -- ---- many events
 
 -- The first of all events were played and shown, and these are left.
@@ -137,24 +150,27 @@ one_more served all left rest event number hub now before out out' s l plays =
       service = on.service ∙ s.service;
     }
 
-pub stops_here : (served : Served) (all left rest : List Event) (event : Event) (number : ℕ) (stop : PrintStop) (hub now : HubSeen Hosted) (before out out' : Device (List ℕ)) → SoFar served all left number hub before out → left ≡ event ∷ rest → PlaysFrom (number + 1) event hub now (Err stop) out out'
+pub stops_here : RepliesGoOn → (served : Served) (all left rest : List Event) (event : Event) (number : ℕ) (stop : PrintStop) (hub now : HubSeen Hosted) (before out out' : Device (List ℕ)) → SoFar served all left number hub before out → left ≡ event ∷ rest → PlaysFrom (number + 1) event hub now (Err stop) out out'
     → PlayedSome served all stop before out'
-stops_here served all left rest event number stop hub now before out out' s l plays = by_case stop (plays (after_all [] s.front) s.stands)
+stops_here law served all left rest event number stop hub now before out out' s l plays = by_case stop (plays (after_all [] s.front) s.stands)
   where
     next_is : number + 1 ≡ suc (length s.front)
     next_is = omega (arith, s.count)
 
     by_case : (stop : PrintStop) → PlaysNext (after_all [] s.front) (number + 1) event hub now (Err stop) out out' → PlayedSome served all stop before out'
-    by_case stop (inl on) = record {
-      front = s.front ++ event ∷ [];
-      rest = rest;
-      parts = parts_on all s.front left rest event s.parts l;
-      text = s.text ++ step_lines (suc (length s.front)) (refusal_at (after_all [] s.front) event) on.given;
-      left = now.answers.table;
-      shows = runs.one_more s.front event s.text hub.answers.table now.answers.table on.given s.shows (subst (λ x. ComesOut x hub.answers.table now.answers.table (after_all [] s.front) event on.given) s.service on.outs);
-      written = stops_next stop before out out' s.text (step_lines (suc (length s.front)) (refusal_at (after_all [] s.front) event) on.given) s.written
-          (subst (λ n. WrotePrefix (stopped stop out) out' (step_lines n (refusal_at (after_all [] s.front) event) on.given)) next_is on.says);
-    }
+    by_case stop (inl on) =
+        let shows = runs.one_more s.front event s.text hub.answers.table now.answers.table on.given s.shows (subst (λ x. ComesOut x hub.answers.table now.answers.table (after_all [] s.front) event on.given) s.service on.outs) in
+        record {
+          front = s.front ++ event ∷ [];
+          rest = rest;
+          parts = parts_on all s.front left rest event s.parts l;
+          text = s.text ++ step_lines (suc (length s.front)) (refusal_at (after_all [] s.front) event) on.given;
+          left = now.answers.table;
+          shows = shows;
+          serial = is_serial law served.0 served.1 now.answers.table (s.front ++ event ∷ []) (s.text ++ step_lines (suc (length s.front)) (refusal_at (after_all [] s.front) event) on.given) shows;
+          written = stops_next stop before out out' s.text (step_lines (suc (length s.front)) (refusal_at (after_all [] s.front) event) on.given) s.written
+              (subst (λ n. WrotePrefix (stopped stop out) out' (step_lines n (refusal_at (after_all [] s.front) event) on.given)) next_is on.says);
+        }
     by_case stop (inr w) = record {
       front = s.front;
       rest = left;
@@ -162,19 +178,20 @@ stops_here served all left rest event number stop hub now before out out' s l pl
       text = s.text;
       left = hub.answers.table;
       shows = s.shows;
+      serial = is_serial law served.0 served.1 hub.answers.table s.front s.text s.shows;
       written = subst (λ x. WrotePrefix (stopped x before) out' s.text) (sym w.0) (wrote_all before out' s.text (w.1 ∙ s.written));
     }
 
-pub all_played : (served : Served) (all left : List Event) (number : ℕ) (hub : HubSeen Hosted) (before out : Device (List ℕ)) → SoFar served all left number hub before out → left ≡ [] → Played served all hub.answers.table before out
-all_played served all left number hub before out s l = record {
-  text = s.text;
-  shows = subst (λ x. Shows served.0 served.1 x s.text hub.answers.table) (sym (s.parts ∙ ap (λ x. s.front ++ x) l ∙ append-nil s.front)) s.shows;
-  written = s.written;
-}
+pub all_played : RepliesGoOn → (served : Served) (all left : List Event) (number : ℕ) (hub : HubSeen Hosted) (before out : Device (List ℕ)) → SoFar served all left number hub before out → left ≡ [] → Played served all hub.answers.table before out
+all_played law served all left number hub before out s l =
+    let shows = subst (λ x. Shows served.0 served.1 x s.text hub.answers.table) (sym (s.parts ∙ ap (λ x. s.front ++ x) l ∙ append-nil s.front)) s.shows in
+    record { text = s.text; shows = shows; serial = is_serial law served.0 served.1 hub.answers.table all s.text shows; written = s.written }
 
 -- without memory for a host nothing is played
-pub none_played : (served : Served) (events : List Event) (out : Device (List ℕ)) → PlaysHub served events Memory out out
-none_played served events out = runs.cut_off print.Memory (record { front = []; rest = events; parts = refl; text = []; left = served.1; shows = runs.no_event; written = wrote_none out [] }) refl
+pub none_played : RepliesGoOn → (served : Served) (events : List Event) (out : Device (List ℕ)) → PlaysHub served events Memory out out
+none_played law served events out =
+    runs.cut_off print.Memory
+    (record { front = []; rest = events; parts = refl; text = []; left = served.1; shows = runs.no_event; serial = is_serial law served.0 served.1 served.1 [] [] runs.no_event; written = wrote_none out [] }) refl
 
 -- the hub that plays is over the host that was made
 pub hub_ended : (served made : Served) (events : List Event) (left : List Object) (table : List Object) (result : Status) (before said after : Device (List ℕ)) → made ≡ served → Played made events left before said → table ≡ left

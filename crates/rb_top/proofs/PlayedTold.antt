@@ -13,7 +13,7 @@ use Rattle.rb_top.specs.HubRuns as runs
 use Rattle.rb_top.specs.HubRuns.{PlaysAs, PlaysHub, PlaysText}
 use Rattle.rb_top.specs.Runs.{Served}
 use Rattle.rb_top.specs.Scene.{Scene, Outside, once_read}
-use Rattle.rb_top.specs.Unusable.{NoService, NoText, text_fault, text_too_long}
+use Rattle.rb_top.specs.Unusable.{NoService, NoText}
 use Rattle.rb_top.specs.Words.{Playing, Wanted, Play}
 use Rattle.rb_top.specs.declared.printing.PrintStop.{PrintStop}
 use Rattle.rb_top.specs.declared.printing.PrintStop.TheVariants as print
@@ -22,12 +22,7 @@ use Rattle.rb_top.specs.declared.status.Status.TheVariants.{Done}
 use Rattle.rb_top.specs.Printing.{stopped_status}
 use Rattle.rb_top.proofs.Complete.{only_starved}
 use Rattle.rb_top.proofs.ServedTold.{ends_done}
-use Rattle.rb_top.proofs.Usable.{OneService, found_once, never_fails, never_too_long, service_is_usable}
-
--- Where a text is told, no cause holds that there is none.
-text_is_usable : (files : Device Directory) (p : Playing) (text other : List ℕ) (events : List Event) (served : Served) → ToldEvents files.told p text other events served → (status : Status) (shown : List ℕ) (left : Device Directory) → NoText files p.events status shown left → ⊥
-text_is_usable files p text other events served t status shown left (text_fault f) = never_fails files.told p.events text t.finds f
-text_is_usable files p text other events served t status shown left (text_too_long l) = never_too_long files.told p.events text t.finds t.short l
+use Rattle.rb_top.proofs.Usable.{OneService, found_once, service_is_usable, text_is_usable}
 
 -- an output that stopped, or want of memory
 stop_done : (stop : PrintStop) (result : Status) → result ≡ stopped_status stop → IsDone result
@@ -45,7 +40,7 @@ text_done lines p text found other events served server result told before after
 
 playing_done : OneService → HaveOneReading → (p : Playing) (text other : List ℕ) (events : List Event) (served : Served) (result : Status) (before after : Scene) → ToldEvents before.files.told p text other events served → PlaysAs p result before after → IsDone result
 playing_done one lines p text other events served result before after t (runs.no_events tells) =
-    inr (inr (only_starved (NoText before.files p.events) result before after (text_is_usable before.files p text other events served t) tells).0)
+    inr (inr (only_starved (NoText before.files p.events) result before after (text_is_usable before.files p.events text t.finds t.short) tells).0)
 playing_done one lines p text other events served result before after t (runs.no_service found holds tells) =
     inr (inr (only_starved (NoService (read_once before.files) p.service) result (once_read before) after (service_is_usable one (read_once before.files) p.service other served t.service) tells).0)
 playing_done one lines p text other events served result before after t (runs.played found also server holds finds is went files) =

@@ -18,7 +18,7 @@ use Rattle.rb_top.specs.Completeness.{IsTold, ToldAccepted, ToldService}
 use Rattle.rb_top.specs.Loads.{FindsTooLong, HoldsProgram}
 use Rattle.rb_top.specs.Runs.{Served}
 use Rattle.rb_top.specs.Texts.{WithinLength, TooLong, IsService}
-use Rattle.rb_top.specs.Unusable.{NoProgram, NoService, program_fault, program_too_long, not_read, untyped, not_admitted, not_divided, service_fault, service_too_long, service_refused}
+use Rattle.rb_top.specs.Unusable.{NoProgram, NoService, NoText, text_fault, text_too_long, program_fault, program_too_long, not_read, untyped, not_admitted, not_divided, service_fault, service_too_long, service_refused}
 use Rattle.rb_top.specs.declared.status.Status.{Status}
 
 abbrev found_or_none : Option (List ℕ) → List ℕ
@@ -43,6 +43,11 @@ too_long_none text l f = omega arith
 -- a text within the limit that is told is no longer one
 pub never_too_long : (told : Option Directory) (name text : List ℕ) → IsTold told name text → WithinLength text → FindsTooLong told name → ⊥
 never_too_long told name text r w l = too_long_none text (subst TooLong (found_once told name text l.0 r l.1) l.2) w
+
+-- Where a text is told, no cause holds that there is none.
+pub text_is_usable : (files : Device Directory) (name text : List ℕ) → IsTold files.told name text → WithinLength text → (status : Status) (shown : List ℕ) (left : Device Directory) → NoText files name status shown left → ⊥
+text_is_usable files name text t w status shown left (text_fault f) = never_fails files.told name text t f
+text_is_usable files name text t w status shown left (text_too_long l) = never_too_long files.told name text t w l
 
 -- no source has two outcomes
 abbrev pub OneSource : Type 0

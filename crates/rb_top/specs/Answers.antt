@@ -12,6 +12,7 @@ use Rattle.rb_session.specs.declared.targets.Target.TheVariants as targets
 use Rattle.rb_top.specs.DialRuns.{Dials, RunsInMemory}
 use Rattle.rb_top.specs.Ends.{Ends}
 use Rattle.rb_top.specs.HubRuns.{PlaysAs}
+use Rattle.rb_top.specs.JsonRuns.{AnswersAs}
 use Rattle.rb_top.specs.LinkRuns.{run_end_with_count, run_end_with_table}
 use Rattle.rb_top.specs.Loads.{HoldsProgram}
 use Rattle.rb_top.specs.Runs.{Served, run_status, run_text}
@@ -20,7 +21,7 @@ use Rattle.rb_top.specs.Servers.{ServesAs, ServesUnheard}
 use Rattle.rb_top.specs.Texts.{IsService}
 use Rattle.rb_top.specs.Trials.{asked_in_trial, trial_files}
 use Rattle.rb_top.specs.Unusable.{TellsNoProgram, TellsNoService}
-use Rattle.rb_top.specs.Words.{Asked, Check, Split, Run, Call, Wanted, OfProgram, Serve, Child, Trial, Play, child_of, program_name}
+use Rattle.rb_top.specs.Words.{Asked, Check, Split, Run, Call, Wanted, OfProgram, Serve, Child, Trial, Play, Answer, child_of, program_name}
 use Rattle.rb_top.specs.declared.status.Status.{Status}
 use Rattle.rb_top.specs.declared.status.Status.TheVariants.{Done, Words, Memory}
 use Rattle.rb_top.specs.declared.words.Way.{Way}
@@ -77,6 +78,7 @@ Does g (Trial n) result before after =
     Tries g n result before.dial after.dial before.scene.out after.scene.out
     × (after ≡ record before { scene = record before.scene { out = after.scene.out }; dial = after.dial })
 Does g (Play p) result before after = PlaysAs p result before.scene after.scene × (after ≡ record before { scene = after.scene })
+Does g (Answer a) result before after = AnswersAs a result before.scene after.scene × (after ≡ record before { scene = after.scene })
 
 -- What the words ask for was answered so; words that aren't understood are said to be such, and nothing else is done.
 abbrev pub Says : {L : Type 0} → links.Ghosts L → Option Wanted → Status → Outside L → Outside L → Type 0

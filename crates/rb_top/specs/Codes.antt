@@ -1,7 +1,7 @@
 -- The exit status of each answer.
 use Rattle.std.specs.Prelude.{ℕ}
 use Rattle.rb_top.specs.declared.status.Status.{Status}
-use Rattle.rb_top.specs.declared.status.Status.TheVariants.{Done, Faulted, Words, FileFault, SourceRefused, BatchRefused, ServiceRefused, LinkFault, BadReply, WriteFault, Memory, DialFault, ListenFault, FileTooLong, EventRefused}
+use Rattle.rb_top.specs.declared.status.Status.TheVariants.{Done, Faulted, Words, FileFault, SourceRefused, BatchRefused, ServiceRefused, LinkFault, BadReply, WriteFault, Memory, DialFault, ListenFault, FileTooLong, EventRefused, JsonRefused}
 
 abbrev pub code_of : Status → ℕ
 code_of Done = 0
@@ -19,3 +19,4 @@ code_of DialFault = 11
 code_of ListenFault = 12
 code_of (FileTooLong name) = 13
 code_of (EventRefused number) = 14
+code_of (JsonRefused refusal) = 17

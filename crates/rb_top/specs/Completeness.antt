@@ -19,18 +19,21 @@ use Rattle.rb_base.specs.declared.links.Link as links
 use Rattle.rb_base.specs.declared.listens.Coming.{Coming}
 use Rattle.rb_client.specs.Servers.{fails_after}
 use Rattle.rb_hub_lines.specs.Lines.{HoldsEvents}
+use Rattle.rb_json.specs.Requests.{request_in}
+use Rattle.rb_meaning_bytes.specs.formats.Messages.{Sent}
 use Rattle.rb_meaning_frames.specs.Histories.{Event}
 use Rattle.rb_session.specs.Dials.{Dialling, next_link}
 use Rattle.rb_session.specs.declared.targets.Target.{Target}
 use Rattle.rb_session.specs.declared.targets.Target.TheVariants as targets
 use Rattle.rb_top.specs.Answers.{EndsRun}
 use Rattle.rb_top.specs.Ends.{Ends}
+use Rattle.rb_top.specs.JsonRuns.{shown_json}
 use Rattle.rb_top.specs.LinkRuns.{served_by}
 use Rattle.rb_top.specs.Runs.{Served, counted_text, ended_status, run_status, shown_lines}
 use Rattle.rb_top.specs.Scene as scenes
 use Rattle.rb_top.specs.Texts.{IsProgram, IsService, WithinLength}
 use Rattle.rb_top.specs.Trials.{trial_program, trial_service}
-use Rattle.rb_top.specs.Words.{Check, Split, Run, Call, Playing, Serving, Wanted, OfProgram, Serve, Child, Trial, Play, child_of, default_fuel}
+use Rattle.rb_top.specs.Words.{Check, Split, Run, Call, Asking, Playing, Serving, Wanted, OfProgram, Serve, Child, Trial, Play, Answer, child_of, default_fuel}
 use Rattle.rb_top.specs.declared.status.Status.{Status}
 use Rattle.rb_top.specs.declared.status.Status.TheVariants.{Done, WriteFault, Memory}
 use Rattle.rb_top.specs.declared.words.Way.{Way}
@@ -179,6 +182,19 @@ abbrev pub PlaysTold : Option Wanted → Status → scenes.Scene → Type 0
 PlaysTold wanted result before = (p : Playing) (text other : List ℕ) (events : List Event) (served : Served) → wanted ≡ Some (Play p)
     → ToldEvents before.files.told p text other events served → IsDone result
 
+-- The files tell a service with its table, and then a request in JSON, under these names, read one after the other.
+pub record ToldRequest (told : Option Directory) (a : Asking) (other text : List ℕ) (served : Served) (sent : Sent) : Type 0 where
+  pub service : ToldService told a.service other served
+  pub finds : IsTold (told_after told) a.request text
+  pub short : WithinLength text
+  pub reads : request_in text ≡ Ok sent
+
+-- Where `json S R` is asked, and the files tell a service and a request under these names, the reply and the table are printed and the
+-- answer is Done, unless the output fails or memory is wanting.
+abbrev pub AnswersTold : Option Wanted → Status → scenes.Scene → scenes.Scene → Type 0
+AnswersTold wanted result before after = (a : Asking) (other text : List ℕ) (served : Served) (sent : Sent) → wanted ≡ Some (Answer a)
+    → ToldRequest before.files.told a other text served sent → Ends Done (shown_json served sent) result before.out after.out
+
 -- Where the outside tells all that a command needs, and no call of it fails but for a write, the command is carried out to its end.
 pub record Completes {L : Type 0} (g : links.Ghosts L) (wanted : Option Wanted) (result : Status) (before after : scenes.Outside L) : Type 0 where
   -- An accepted program is checked, and its division is shown.
@@ -194,3 +210,5 @@ pub record Completes {L : Type 0} (g : links.Ghosts L) (wanted : Option Wanted) 
   pub serves : ServesTold wanted result before
   -- Events are played to the last.
   pub plays : PlaysTold wanted result before.scene
+  -- A request in JSON is answered.
+  pub answers : AnswersTold wanted result before.scene after.scene

@@ -10,7 +10,7 @@ use Rattle.rb_base.specs.Directories.{Finds, read_once}
 use Rattle.rb_base.specs.Sinks.{with_bytes, WrotePrefix}
 use Rattle.rb_exec.specs.Hosted.{Hosted}
 use Rattle.rb_hub.specs.Hubs.{HubSeen}
-use Rattle.rb_hub.specs.Serial.{ComesOut, refusal_at}
+use Rattle.rb_hub.specs.Serial.{ComesOut, IsSerial, refusal_at}
 use Rattle.rb_hub.specs.Standing.{Stands}
 use Rattle.rb_hub.specs.declared.events.HubRefusal.{HubRefusal}
 use Rattle.rb_hub.specs.declared.events.Out.{Out}
@@ -42,10 +42,16 @@ pub data Shows (service : Service) (table : List Object) : List Event → List �
       → ComesOut service between left (after_all [] events) event given
       → Shows service table (events ++ event ∷ []) (text ++ step_lines (suc (length events)) (refusal_at (after_all [] events) event) given) left
 
--- The events were played, and what they show was printed.
+-- all that came out of the events that are shown
+abbrev pub outs_in : {service : Service} {table left : List Object} {events : List Event} {text : List ℕ} → Shows service table events text left → List Out
+outs_in no_event = []
+outs_in (one_more events event text between left given shows comes) = outs_in shows ++ given
+
+-- The events were played, and what they show was printed: one serial history of all requests.
 pub record Played (served : Served) (events : List Event) (left : List Object) (before after : Device (List ℕ)) : Type 0 where
   pub text : List ℕ
   pub shows : Shows served.0 served.1 events text left
+  pub serial : IsSerial served.0 served.1 left events (outs_in shows)
   pub written : after ≡ with_bytes before text
 
 -- The first of the events were played, and a front of what they show was printed; then the output stopped so.
@@ -56,6 +62,7 @@ pub record PlayedSome (served : Served) (events : List Event) (stop : PrintStop)
   pub text : List ℕ
   pub left : List Object
   pub shows : Shows served.0 served.1 front text left
+  pub serial : IsSerial served.0 served.1 left front (outs_in shows)
   pub written : WrotePrefix (stopped stop before) after text
 
 -- Events were played by a new hub over a service with its table. In the end the table is printed that they leave; or the output failed,

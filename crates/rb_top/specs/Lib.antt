@@ -8,6 +8,7 @@ pub mod Completeness
 pub mod DialRuns
 pub mod Ends
 pub mod HubRuns
+pub mod JsonRuns
 pub mod LinkRuns
 pub mod Loads
 pub mod Manners

@@ -1,4 +1,4 @@
--- What the words of a command ask for: something of a program, of a server, or of a hub.
+-- What the words of a command ask for: something of a program, of a server, of a hub, or of a request in JSON.
 use Rattle.std.specs.Prelude.{ℕ, List, [], ◌∷◌, Bool, ◌&&◌, Option, None, Some, option_and_then, option_map, cond, codes, length, map, nat_lt, nat_le}
 use Rattle.std.specs.List.{list_all}
 use Rattle.std.specs.Str.{bytes_eq}
@@ -6,6 +6,7 @@ use Rattle.std.specs.String.{string_bytes}
 use Rattle.std.specs.declared.string.String.{String}
 use Rattle.rb_trees.specs.Spelling.{is_digit}
 use Rattle.rb_meaning_bytes.specs.tokens.Values.{number_value}
+use Rattle.rb_top.specs.declared.words.Asking as asking
 use Rattle.rb_top.specs.declared.words.Call as call
 use Rattle.rb_top.specs.declared.words.Command.{Command}
 use Rattle.rb_top.specs.declared.words.Command.TheVariants as commands
@@ -40,14 +41,20 @@ pub record Playing : Type 0 where
   pub events : List ℕ
   pub service : List ℕ
 
--- what words ask for: something of a program, a server, a server over one session that prints nothing, a trial of so many files, or a
--- hub that plays events
+-- what is asked by a request in JSON: the file of the service, and the file of the request
+pub record Asking : Type 0 where
+  pub service : List ℕ
+  pub request : List ℕ
+
+-- what words ask for: something of a program, a server, a server over one session that prints nothing, a trial of so many files, a hub
+-- that plays events, or the answer to a request in JSON
 pub data Wanted : Type 0 where
   OfProgram : (a : Asked) → Wanted
   Serve : (v : Serving) → Wanted
   Child : (s : List ℕ) → Wanted
   Trial : (n : ℕ) → Wanted
   Play : (p : Playing) → Wanted
+  Answer : (a : Asking) → Wanted
 
 -- the fuel of a run, where the words name none, and the most that words may name
 unfoldable pub default_fuel : ℕ
@@ -117,10 +124,15 @@ run_of command a b fuel = cond (bytes_eq command (codes "run")) (Some (Call a b 
 abbrev pub play_of : List ℕ → List ℕ → Playing
 play_of e s = record { events = e; service = s }
 
+-- `json S R`
+abbrev pub ask_of : List ℕ → List ℕ → Asking
+ask_of s r = record { service = s; request = r }
+
 -- what is asked for by three words, if they are understood
-unfoldable pub run_or_play_of : List ℕ → List ℕ → List ℕ → Option Wanted
-run_or_play_of command a b =
-    cond (bytes_eq command (codes "hub")) (Some (Play (play_of a b))) (option_map OfProgram (run_of command a b default_fuel))
+unfoldable pub run_on_files_of : List ℕ → List ℕ → List ℕ → Option Wanted
+run_on_files_of command a b =
+    cond (bytes_eq command (codes "hub")) (Some (Play (play_of a b)))
+    (cond (bytes_eq command (codes "json")) (Some (Answer (ask_of a b))) (option_map OfProgram (run_of command a b default_fuel)))
 
 -- what is asked for by three words and a number, if they are understood
 unfoldable pub run_or_serve_of : List ℕ → List ℕ → List ℕ → List ℕ → Option Wanted
@@ -131,7 +143,7 @@ run_or_serve_of command a b number =
 -- what words ask for, if they are understood
 abbrev pub wanted : List (List ℕ) → Option Wanted
 wanted (command ∷ f ∷ []) = view_of command f
-wanted (command ∷ a ∷ b ∷ []) = run_or_play_of command a b
+wanted (command ∷ a ∷ b ∷ []) = run_on_files_of command a b
 wanted (command ∷ a ∷ b ∷ number ∷ []) = run_or_serve_of command a b number
 wanted _ = None
 
@@ -163,9 +175,14 @@ serving_by v = record { address = v.address.now; service = v.service.now; count 
 abbrev pub playing_by : playing.Playing → Playing
 playing_by p = record { events = p.events.now; service = p.service.now }
 
+-- what is asked by a request in JSON
+abbrev pub asking_by : asking.Asking → Asking
+asking_by a = record { service = a.service.now; request = a.request.now }
+
 abbrev pub wanted_by : Command → Wanted
 wanted_by (commands.Program task) = OfProgram (asked_by task)
 wanted_by (commands.Serve v) = Serve (serving_by v)
 wanted_by (commands.Child s) = Child s.now
 wanted_by (commands.Trial n) = Trial n
 wanted_by (commands.Hub p) = Play (playing_by p)
+wanted_by (commands.Json a) = Answer (asking_by a)

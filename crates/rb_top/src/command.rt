@@ -25,6 +25,7 @@ use crate::both_run::run_both;
 use crate::dial_run::run_dialled;
 use crate::divisions::divisions_text;
 use crate::hub_run::run_hub;
+use crate::json_run::run_json;
 use crate::loaded::{loaded_program, loaded_service};
 use crate::refusing::refuse_batch;
 use crate::saying::{run_answer, say};
@@ -270,6 +271,7 @@ fn carry_out<F: Files, W: Sink, D: Dial, N: Listen>(
         Command::Child(service) => run_child(alloc, service, files, listen),
         Command::Trial(count) => run_trial(alloc, *count, dial, out),
         Command::Hub(playing) => run_hub(alloc, playing, files, out),
+        Command::Json(asking) => run_json(alloc, asking, files, out),
     }
 }
 

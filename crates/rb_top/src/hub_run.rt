@@ -28,6 +28,7 @@ use rb_exec::Host;
 use rb_heap::Heap;
 use rb_hub::{Event, Hub, HubRefusal, Out, play_one};
 use rb_hub_lines::{EventsStop, out_line, read_events, refusal_line};
+use rb_meaning_frames::histories_go_on;
 use rb_trees::{Seq, Service};
 use std::alloc::{AllocError, Global};
 use std::collections::VecDeque;
@@ -111,6 +112,7 @@ fn play_events<W: Sink>(
     ensures { let played = map as_event events.items in
         Across W.Sink out.old out.new (PlaysEach (served_there hub.old.answers) played hub.new result) }
 {
+    histories_go_on();
     let mut left = events;
     let mut number = 0u64;
     'events: while let Some(event) = left.pop_front() {
@@ -132,6 +134,7 @@ fn play_on<W: Sink>(
     ensures { let played = map as_event events.items in
         Across W.Sink out.old out.new (PlaysHub (served_on service table) played result) }
 {
+    histories_go_on();
     let Ok(host) = Host::make(alloc, service, table) else {
         return Status::Memory;
     };

@@ -9,6 +9,7 @@ mod command;
 mod dial_run;
 mod divisions;
 mod hub_run;
+mod json_run;
 mod loaded;
 mod loading;
 mod numbers;

@@ -35,7 +35,7 @@ pub fn run_answer(answered: Result<Status, PrintStop>) -> Status
 }
 
 /// The status after a text was printed, or wasn't.
-fn ended(status: Status, printed: Result<(), PrintStop>) -> Status
+pub fn ended(status: Status, printed: Result<(), PrintStop>) -> Status
     ensures { result ≡ status_after status printed }
 {
     match printed {

@@ -5,6 +5,7 @@ ghost use Rattle.rb_top.specs.Codes.{code_of};
 ghost use Rattle.rb_top.specs.Runs.{ended_status};
 
 use rb_client::BadReason;
+use rb_json::JsonRefusal;
 use rb_trees::{Ending, Fault, ReadError, Refusal, Seq, StoreError, TypeError, Word};
 use thiserror::Error;
 
@@ -55,6 +56,8 @@ pub enum Status {
     FileTooLong(Word),
     /// The line of the events with this number, from 1, is the first that is no event's.
     EventRefused(u64),
+    /// The request in JSON is refused.
+    JsonRefused(JsonRefusal),
 }
 
 impl Status {
@@ -78,6 +81,7 @@ impl Status {
             Status::ListenFault => 12,
             Status::FileTooLong(_) => 13,
             Status::EventRefused(_) => 14,
+            Status::JsonRefused(_) => 17,
         }
     }
 }

@@ -3,7 +3,7 @@
 ghost use Rattle.std.specs.Prelude.{◌≡◌};
 ghost use Rattle.std.specs.Option.{option_map};
 ghost use Rattle.rb_top.specs.Trials.{asked_in_trial};
-ghost use Rattle.rb_top.specs.Words.{texts, wanted, wanted_by, asked_by, asked_job, program_name, view_of, run_of, run_or_play_of, run_or_serve_of, way_of, child_of, serving_by};
+ghost use Rattle.rb_top.specs.Words.{texts, wanted, wanted_by, asked_by, asked_job, program_name, view_of, run_of, run_on_files_of, run_or_serve_of, way_of, child_of, serving_by};
 
 use crate::numbers::{count_of, fuel_of, trial_count_of};
 
@@ -70,6 +70,13 @@ pub struct Playing<'w> {
     pub service: &'w str,
 }
 
+/// What is asked of a server by a request in JSON: the names of the files of its service and of the request.
+#[derive(Drop)]
+pub struct Asking<'w> {
+    pub service: &'w str,
+    pub request: &'w str,
+}
+
 /// A command that was understood.
 #[derive(Drop)]
 pub enum Command<'w> {
@@ -82,6 +89,8 @@ pub enum Command<'w> {
     Trial(u64),
     /// `hub E S`: plays the events in the file E by a hub over the service in the file S.
     Hub(Playing<'w>),
+    /// `json S R`: answers the request in JSON in the file R on the service in the file S.
+    Json(Asking<'w>),
 }
 
 impl Job<'_> {
@@ -204,14 +213,20 @@ fn numbered_command<'w>(
 }
 
 /// The command of three words.
-#[tactic(auto, unfolding(crate::specs::Words::default_fuel, crate::specs::Words::run_or_play_of))]
+#[tactic(auto, unfolding(crate::specs::Words::default_fuel, crate::specs::Words::run_on_files_of))]
 fn plain_command<'w>(command: &str, first: &'w str, second: &'w str) -> Option<Command<'w>>
-    ensures { option_map wanted_by result ≡ run_or_play_of command.now first.now second.now }
+    ensures { option_map wanted_by result ≡ run_on_files_of command.now first.now second.now }
 {
     if command == "hub" {
         return Some(Command::Hub(Playing {
             events: first,
             service: second,
+        }));
+    }
+    if command == "json" {
+        return Some(Command::Json(Asking {
+            service: first,
+            request: second,
         }));
     }
     let task = run_task(command, first, second, DEFAULT_FUEL)?;

@@ -3,6 +3,7 @@
 use crate::kept_files::KeptFiles;
 use rb_client::BadReason;
 use rb_help::{ReplyFlaw, Server, Trouble, coloured, explain, is_help_option};
+use rb_json::JsonRefusal;
 use rb_top::{SourceError, Status};
 use rb_trees::{Memory, Word};
 use rb_wire_forest::Misfit;
@@ -17,6 +18,11 @@ fn word(words: &[String], number: usize) -> &str {
     }
 }
 
+/// The name that the word of a number is, or nothing where there is none.
+fn name_in(words: &[String], number: usize) -> &[u8] {
+    word(words, number).as_bytes()
+}
+
 /// The name of the program's file.
 fn program_of(words: &[String]) -> &str {
     match word(words, 0) {
@@ -28,7 +34,7 @@ fn program_of(words: &[String]) -> &str {
 /// The name of the service's file.
 fn service_of(words: &[String]) -> &str {
     match word(words, 0) {
-        "child" => word(words, 1),
+        "child" | "json" => word(words, 1),
         _ => word(words, 2),
     }
 }
@@ -74,6 +80,14 @@ fn trouble_of_service(status: &Status) -> Option<Trouble<'_>> {
     }
 }
 
+/// What is wrong with a request in JSON in the file of a name.
+fn trouble_of_request<'a>(name: &'a [u8], refusal: &JsonRefusal) -> Trouble<'a> {
+    match refusal {
+        JsonRefusal::NotJson => Trouble::NotJson(name),
+        JsonRefusal::WrongForm(place) => Trouble::WrongForm(name, *place),
+    }
+}
+
 /// What went wrong around the texts, if something did.
 fn trouble_around<'a>(words: &'a [String], status: &'a Status) -> Option<Trouble<'a>> {
     match status {
@@ -81,7 +95,8 @@ fn trouble_around<'a>(words: &'a [String], status: &'a Status) -> Option<Trouble
         Status::FileFault(name) if is_help_option(name.as_slice()) => Some(Trouble::Words(words)),
         Status::FileFault(name) => Some(Trouble::FileFault(name.as_slice())),
         Status::FileTooLong(name) => Some(Trouble::FileTooLong(name.as_slice())),
-        Status::EventRefused(line) => { Some(Trouble::NoEvent(word(words, 1).as_bytes(), *line)) }
+        Status::EventRefused(line) => Some(Trouble::NoEvent(name_in(words, 1), *line)),
+        Status::JsonRefused(refusal) => Some(trouble_of_request(name_in(words, 2), refusal)),
         Status::LinkFault(done) => Some(Trouble::LinkFault(server(words), *done)),
         Status::BadReply { done, reason, .. } => {
             Some(Trouble::BadReply(server(words), *done, flaw(reason)))

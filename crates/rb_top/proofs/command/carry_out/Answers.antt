@@ -15,3 +15,6 @@ returns-in-Trial g c = rw c.in-Trial.is (c.run_trial.ensures, refl)
 
 pub returns-in-Hub : goal.returns-in-Hub
 returns-in-Hub g c = rw c.in-Hub.is (c.run_hub.ensures, refl)
+
+pub returns-in-Json : goal.returns-in-Json
+returns-in-Json g c = rw c.in-Json.is (c.run_json.ensures, refl)

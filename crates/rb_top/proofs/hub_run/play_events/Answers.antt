@@ -17,9 +17,9 @@ pub returns-in_err-play_next : goal.returns-in_err-play_next
 returns-in_err-play_next g c =
     let p = err_from_is_err_and c.from_residual.result c.from_residual.ensures.1 in
     rw (p.1, p.2)
-    (stops_here (served_there c.args.hub.now.answers) (map as_event c.args.events.items) _ _ (as_event c.in-Some.event) c.events.number c.in_err-play_next.field-0.0 c.events.hub c.play_next.new.hub _ _ _ c.events.invariant (ap (map as_event) c.in-Some.ensures.items) c.in_err-play_next.ensures)
+    (stops_here c.histories_go_on.ensures.replies (served_there c.args.hub.now.answers) (map as_event c.args.events.items) _ _ (as_event c.in-Some.event) c.events.number c.in_err-play_next.field-0.0 c.events.hub c.play_next.new.hub _ _ _ c.events.invariant (ap (map as_event) c.in-Some.ensures.items) c.in_err-play_next.ensures)
 
 pub returns : goal.returns
 returns g c =
     let none : c.events.left.items ≡ [] = search rules in
-    all_played (served_there c.args.hub.now.answers) (map as_event c.args.events.items) (map as_event c.events.left.items) c.events.number c.events.hub _ _ c.events.invariant (ap (map as_event) none)
+    all_played c.histories_go_on.ensures.replies (served_there c.args.hub.now.answers) (map as_event c.args.events.items) (map as_event c.events.left.items) c.events.number c.events.hub _ _ c.events.invariant (ap (map as_event) none)

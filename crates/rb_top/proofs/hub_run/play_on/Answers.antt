@@ -16,7 +16,7 @@ pub make-hub-requires : goal.make-hub-requires
 make-hub-requires g c = subst IsTypedHost (sym c.in-Ok.ensures) c.requires
 
 pub returns-in_default : goal.returns-in_default
-returns-in_default g c = none_played (served_on c.args.service c.args.table) (map as_event c.args.events.items) _
+returns-in_default g c = none_played c.histories_go_on.ensures.replies (served_on c.args.service c.args.table) (map as_event c.args.events.items) _
 
 pub returns-in-Ok-play_events : goal.returns-in-Ok-play_events
 returns-in-Ok-play_events g c =
