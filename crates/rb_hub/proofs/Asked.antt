@@ -1,7 +1,6 @@
 -- A request that is asked through a session of a hub, which others use too.
-use Rattle.std.proofs.Common.{◌≡◌, ◌<◌, ◌≤◌, ◌+◌, zero, suc, arith, refl, ap, sym, ◌∙◌, subst, ℕ, Bool, true, false, All, List, [], ◌∷◌, ◌++◌, length, drop, get_or, append_assoc, append-nil, length-append, inl, inr, Option, Some, None, Result, Ok, Err}
+use Rattle.std.proofs.Common.{◌≡◌, ◌<◌, ◌≤◌, zero, suc, arith, refl, ap, sym, ◌∙◌, subst, ℕ, true, false, All, List, [], ◌∷◌, ◌++◌, length, drop, get_or, append_assoc, append-nil, length-append, inl, inr, Option, Some, Result, Ok, Err}
 use Rattle.std.specs.Prelude.{if◌then◌else◌, map, option_map, ◌==◌, IfOk}
-use Rattle.std.specs.Int.{w64, to_be_bytes}
 use Rattle.std.proofs.Math.Seq.{drop-append_seam}
 use Rattle.std.proofs.lemmas.Bool.{cases_Bool, eq-eqb}
 use Rattle.std.proofs.lemmas.List.Elements.{All-nil, All-cons, All-append}
@@ -11,7 +10,7 @@ use Rattle.rb_meaning.specs.Answers.{Answers}
 use Rattle.rb_meaning.specs.Replies.{header_length}
 use Rattle.rb_meaning_frames.specs.Frames.{header_bytes, frame_bytes, request_kind}
 use Rattle.rb_meaning_frames.specs.Streams.{IsRequest, request_frames, most_requests}
-use Rattle.rb_meaning_frames.specs.Reading.{Division, divided, standing, requests_of, rest_of, StreamsAreRead, FrontsAreRead}
+use Rattle.rb_meaning_frames.specs.Reading.{Division, divided, standing, requests_of, StreamsAreRead, FrontsAreRead}
 use Rattle.rb_meaning_frames.specs.Histories.{Track, track_of, changed, new_track, may_open, is_waiting, goes_on, heard, Piece, after, after_all, Asked, asked_by, new_requests, brought_to, brought, Replied, RepliesInOrder, none_asked, one_asked, RepliesGoOn}
 use Rattle.rb_session.specs.declared.answerers.Answers as answerers
 use Rattle.rb_hub.specs.Serial.{as_event, reply_out, last_out, replies_in}
@@ -23,7 +22,6 @@ use Rattle.rb_hub.specs.declared.events.Event as events
 use Rattle.rb_hub.specs.declared.events.Event.TheVariants as come
 use Rattle.rb_hub.specs.declared.events.HubRefusal.{HubRefusal}
 use Rattle.rb_hub.specs.declared.events.Out.{Out}
-use Rattle.rb_hub.specs.declared.events.Out.TheVariants.{Reply}
 use Rattle.rb_hub.proofs.Serially.{history_replies}
 
 -- ---- what others did

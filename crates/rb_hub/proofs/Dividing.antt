@@ -7,7 +7,7 @@ use Rattle.rb_meaning_bytes.specs.formats.Fields.{IsBytes}
 use Rattle.rb_meaning_frames.specs.Frames.{frame_bytes, request_kind}
 use Rattle.rb_meaning_frames.specs.Laws.{EachIsDividedOnce}
 use Rattle.rb_meaning_frames.specs.Streams.{IsRequest, request_frames, BreaksRequest, most_requests, Rest, Empty, Cut, Broken, IsRest, Waits, BeginsWhole}
-use Rattle.rb_meaning_frames.specs.Reading.{Standing, Whole, Waiting, Breaking, standing, Division, divided, requests_of, rest_of, IsLast, StreamsAreRead, FrontsAreRead}
+use Rattle.rb_meaning_frames.specs.Reading.{Standing, Whole, Waiting, Breaking, standing, Division, divided, IsLast, StreamsAreRead, FrontsAreRead}
 
 -- What follows so many requests is such as it stands.
 abbrev pub RestBy : Standing → ℕ → List ℕ → Type 0

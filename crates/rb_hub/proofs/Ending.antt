@@ -127,6 +127,7 @@ does_part a before after number piece seats mid last end old between new r same 
           parts = sym (append-nil (asked_by number s.payloads));
           between = after;
           gives = s.gives;
+          left = refl;
         };
       }),
     )

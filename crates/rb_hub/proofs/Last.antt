@@ -1,5 +1,5 @@
 -- The session that was opened last.
-use Rattle.std.proofs.Common.{◌≡◌, ◌<◌, ◌≤◌, ◌+◌, ◌*◌, zero, suc, arith, refl, ap, sym, ◌∙◌, subst, ℕ, Bool, true, false, All, List, [], ◌∷◌, ◌++◌, length, length-append, mul-le-mul_right, inl, inr, Option, Some, None}
+use Rattle.std.proofs.Common.{◌≡◌, ◌<◌, ◌≤◌, ◌+◌, ◌*◌, suc, arith, refl, ap, sym, ◌∙◌, subst, ℕ, Bool, true, false, All, List, [], ◌∷◌, ◌++◌, length, length-append, mul-le-mul_right, inl, inr, Option, Some, None, Result, Ok, Err}
 use Rattle.std.specs.Prelude.{if◌then◌else◌, map}
 use Rattle.rb_trees.specs.declared.services.Object.{Object}
 use Rattle.rb_trees.specs.mirror.Services.{Service}
@@ -13,7 +13,7 @@ use Rattle.rb_session.specs.Taking.{longest_frame}
 use Rattle.rb_session.specs.Sessions.{SessionSeen, came}
 use Rattle.rb_hub.specs.Seats.{session_of}
 use Rattle.rb_hub.specs.Serial.{end_at, ended, ended_by_close, unknown_in, last_out, reply_out}
-use Rattle.rb_hub.specs.Hubs.{HubSeen, Does, refusal_of}
+use Rattle.rb_hub.specs.Hubs.{HubSeen, Does, Steps, refusal_of}
 use Rattle.rb_hub.specs.Standing.{Follows, IsSeated, AreSeated, Stands, EachGoesOn}
 use Rattle.rb_hub.specs.Delivering.{end_in}
 use Rattle.rb_hub.specs.Passing.{track, StandsWith, IsLast, Opens, Shuts}
@@ -21,6 +21,8 @@ use Rattle.rb_hub.specs.declared.seats.Seat.{Seat}
 use Rattle.rb_hub.specs.declared.events.End.{End}
 use Rattle.rb_hub.specs.declared.events.Out.{Out}
 use Rattle.rb_hub.specs.declared.events.Out.TheVariants.{Ended}
+use Rattle.rb_hub.specs.declared.events.HubStop.{HubStop}
+use Rattle.rb_hub.specs.declared.events.HubStop.TheVariants.{Refused, Memory, Answers}
 use Rattle.rb_hub.proofs.Seated.{seen, IsShut, unseen}
 use Rattle.rb_hub.proofs.Whole.{follows_read}
 use Rattle.rb_hub.proofs.Hearing.{waits_short}
@@ -118,6 +120,13 @@ opened_last a past before now given law none going d s =
       stands = subst (λ ps. Stands ps now) (ap (λ b. if b then past ++ new_track ∷ [] else past) may) g.stands;
       same = d.1;
     }
+
+-- no request is answered by it
+pub opening_answers : {A X : Type 0} (a : answerers.Ghosts A X) (before now : HubSeen A) (old new : List Out) (answer : Result Unit (HubStop X)) → Steps a Open before now old new answer → now.answers ≡ before.answers
+opening_answers a before now old new (Ok u) s = s.1.2.1
+opening_answers {A} a before now old new (Err (Refused refusal)) s = ap (λ (h : HubSeen A). h.answers) s.0
+opening_answers a before now old new (Err Memory) s = s.1.2.1
+opening_answers a before now old new (Err (Answers stop)) s = absurd s.1.2
 
 -- ---- it is closed
 

@@ -1,4 +1,5 @@
 pub mod Places
+pub mod Led
 pub mod Replied
 pub mod Hearing
 pub mod Ending

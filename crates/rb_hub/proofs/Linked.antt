@@ -1,12 +1,11 @@
 -- Links through a session of a hub.
-use Rattle.std.proofs.Common.{◌≡◌, ◌<◌, ◌≤◌, ◌+◌, zero, suc, arith, refl, ap, sym, ◌∙◌, subst, ℕ, Bool, true, false, All, List, [], ◌∷◌, ◌++◌, length, drop, length-append, Option, Some, None, Result, Ok, Err}
+use Rattle.std.proofs.Common.{◌≡◌, ◌<◌, ◌≤◌, ◌+◌, zero, suc, arith, refl, ap, sym, ◌∙◌, subst, ℕ, Bool, true, false, List, [], ◌∷◌, ◌++◌, length, drop, length-append, Some, None, Result, Ok, Err}
 use Rattle.std.specs.Prelude.{map, slice_get, nat_le, if◌then◌else◌, IfOk}
 use Rattle.std.proofs.lemmas.List.{length-map, map-append}
 use Rattle.std.proofs.lemmas.List.Elements.{All-nil}
 use Rattle.std.proofs.lemmas.Bool.{leb-true}
 use Rattle.rb_trees.specs.declared.services.Object.{Object}
 use Rattle.rb_trees.specs.mirror.Services.{mirror_service}
-use Rattle.rb_meaning.specs.Answers.{Answers}
 use Rattle.rb_meaning.specs.Links.{Pair, IsTyped}
 use Rattle.rb_meaning_frames.specs.Streams.{IsRequest, most_requests}
 use Rattle.rb_meaning_frames.specs.Reading.{StreamsAreRead, FrontsAreRead}
@@ -23,7 +22,7 @@ use Rattle.rb_hub.specs.Serial.{as_event}
 use Rattle.rb_hub.specs.Hubs.{HubSeen, Does, refusal_of}
 use Rattle.rb_hub.specs.Standing.{Stands, StandsSomewhere, EachGoesOn}
 use Rattle.rb_hub.specs.Passing.{track}
-use Rattle.rb_hub.specs.HubLinks.{HubLinkSeen, next_events, not_naming, own_piece, opened_in, LedOn, HasStream, Owns, Replies, after_exchange, LedBy, ExchangesIn, is_spent, requests_in}
+use Rattle.rb_hub.specs.HubLinks.{HubLinkSeen, next_events, not_naming, own_piece, opened_in, LedOn, HasStream, Owns, Replies, ExchangesIn, is_spent, requests_in}
 use Rattle.rb_hub.specs.declared.events.Event as events
 use Rattle.rb_hub.specs.declared.events.Out.{Out}
 use Rattle.rb_hub.proofs.Last.{track_last, opened_last}

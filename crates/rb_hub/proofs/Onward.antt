@@ -4,12 +4,13 @@ use Rattle.std.specs.Prelude.{if◌then◌else◌, nat_le, nat_lt, map}
 use Rattle.std.proofs.lemmas.Bool.{cases_Bool, leb-false, leb-true, lt-ltb, le-ltb, and_from, and_left, and_right}
 use Rattle.rb_meaning_frames.specs.Reading.{StreamsAreRead, FrontsAreRead, standing, rest_of}
 use Rattle.rb_meaning_frames.specs.Histories.{Event, Open, Piece, Close, Track, new_track, goes_on, heard, closed, track_of, changed, open_count, may_open, most_open, most_sessions, Asked, asked_by, new_requests, brought_to, brought, RepliesInOrder, none_asked}
+use Rattle.rb_session.specs.Answering.{InTurn}
 use Rattle.rb_session.specs.declared.answerers.Answers as answerers
 use Rattle.rb_session.specs.declared.sessions.SessionStop.{SessionStop}
 use Rattle.rb_session.specs.Sessions.{SessionSeen, new_session}
 use Rattle.rb_hub.specs.Serial.{unknown_in, refusal_at, reply_out, end_by, end_at, ended, ended_by_piece, ended_by_close, last_out, ComesOut}
 use Rattle.rb_hub.specs.Seats.{session_of}
-use Rattle.rb_hub.specs.Hubs.{HubSeen, GivesSome, StopsAt, Hears, Does, DoesPart, HaltsBy, refusal_of, refusal_by, unknown, end_of, said, seats_after}
+use Rattle.rb_hub.specs.Hubs.{HubSeen, payloads_of, LeavesAt, GivesSome, DoesNone, StopsAt, Hears, Does, DoesPart, HaltsBy, refusal_of, refusal_by, unknown, end_of, said, seats_after}
 use Rattle.rb_hub.specs.Standing.{Follows, AreSeated, Stands, GoesOn, EachGoesOn}
 use Rattle.rb_hub.specs.declared.seats.Seat.{Seat}
 use Rattle.rb_hub.specs.declared.events.End.{End}
@@ -143,6 +144,11 @@ comes_alone {A} a past event before now given none same is = record {
   is = is;
 }
 
+-- none leads to where it was
+led_alone : {A X : Type 0} (a : answerers.Ghosts A X) (past : List Track) (event : Event) (before now : A) → brought past event ≡ [] → now ≡ before
+    → InTurn a.does before (payloads_of (brought past event)) now
+led_alone a past event before now none same = subst (λ asked. InTurn a.does before (payloads_of asked) now) (sym none) same
+
 opened_on : {A X : Type 0} (a : answerers.Ghosts A X) (past : List Track) (before now : HubSeen A) (given : List Out) → Stands past before → refusal_by before Open ≡ None → now.over ≡ false
     → Does a Open before now given → GoesOn a past Open before now given
 opened_on a past before now given s none going d =
@@ -158,6 +164,7 @@ opened_on a past before now given s none going d =
       };
       outs = comes_alone a past Open before.answers now.answers given refl d.1
           (d.0.is ∙ ap (λ n. Opened n ∷ []) opened ∙ sym (ap (λ b. if b then Opened (length past) ∷ [] else []) may));
+      led = led_alone a past Open before.answers now.answers refl d.1;
       service = ap a.service d.1;
     }
 
@@ -216,6 +223,7 @@ heard_on a number piece past before now given law fronts s going d =
         is = does.is ∙ ap (λ outs. outs ++ said number does.now (end_of does.answer)) does.gives.is
             ∙ ap (λ outs. map reply_out does.gives.replies ++ outs) (sym h.piece_is.ends ∙ sym (ended_open number past piece h.t h.at h.is_open));
       };
+      led = subst (λ asked. InTurn a.does before.answers (payloads_of asked) now.answers) (sym h.brings) does.gives.led;
       service = does.gives.service;
     }
 
@@ -232,6 +240,7 @@ closed_on a number past before now given law s going d =
       };
       outs = comes_alone a past (Close number) before.answers now.answers given refl d.1
           (d.0.is ∙ sym (close_is law number t.stream d.0.session found.follows) ∙ sym (close_open number past t found.at found.is_open));
+      led = led_alone a past (Close number) before.answers now.answers refl d.1;
       service = ap a.service d.1;
     }
 
@@ -254,14 +263,16 @@ refused a past Open hub refusal s some =
     record {
       stands = subst (λ ps. Stands ps hub) (sym (ap (λ b. if b then past ++ new_track ∷ [] else past) may)) s;
       outs = comes_alone a past Open hub.answers hub.answers [] refl refl (sym (ap (λ b. if b then Opened (length past) ∷ [] else []) may));
+      led = led_alone a past Open hub.answers hub.answers refl refl;
       service = refl;
     }
 refused a past (Piece number piece) hub refusal s some =
     let shut = unseen 0 number number past hub.seats (omega arith) s.seated (known_not (session_of number hub.seats) refusal some) in
+    let none : brought past (Piece number piece) ≡ [] = ap (asked_by number) (brings_shut (track_of number past) piece shut) in
     record {
       stands = subst (λ ps. Stands ps hub) (sym (unchanged number past (heard piece) shut (heard_shut piece))) s;
-      outs = comes_alone a past (Piece number piece) hub.answers hub.answers [] (ap (asked_by number) (brings_shut (track_of number past) piece shut)) refl
-          (sym (ended_shut number piece (track_of number past) shut));
+      outs = comes_alone a past (Piece number piece) hub.answers hub.answers [] none refl (sym (ended_shut number piece (track_of number past) shut));
+      led = led_alone a past (Piece number piece) hub.answers hub.answers none refl;
       service = refl;
     }
 refused a past (Close number) hub refusal s some =
@@ -269,22 +280,27 @@ refused a past (Close number) hub refusal s some =
     record {
       stands = subst (λ ps. Stands ps hub) (sym (unchanged number past closed shut closed_shut)) s;
       outs = comes_alone a past (Close number) hub.answers hub.answers [] refl refl (sym (close_shut number (track_of number past) shut));
+      led = led_alone a past (Close number) hub.answers hub.answers refl refl;
       service = refl;
     }
 
 -- ---- an event that wasn't done whole
 
-some_none : {A X : Type 0} (a : answerers.Ghosts A X) (answers : A) (asked : List Asked) (given : List Out) → given ≡ [] → GivesSome a answers asked given
-some_none a answers asked given none = subst (GivesSome a answers asked) (sym none)
-    (record { front = []; rest = asked; parts = refl; between = answers; gives = gives_none a answers })
+left_none : {A X : Type 0} (a : answerers.Ghosts A X) (between after : A) (asked : List Asked) → after ≡ between → LeavesAt a between asked after
+left_none a between after [] same = same
+left_none a between after (next ∷ rest) same = inl same
 
-wanted : {A X : Type 0} (a : answerers.Ghosts A X) → StreamsAreRead → FrontsAreRead → (past : List Track) (event : Event) (before : HubSeen A) (given : List Out) → Stands past before
-    → DoesPart a event before given → GivesSome a before.answers (brought past event) given
-wanted a law fronts past Open before given s none = some_none a before.answers [] given none
-wanted a law fronts past (Close number) before given s none = some_none a before.answers [] given none
-wanted a law fronts past (Piece number piece) before given s (inl none) = some_none a before.answers (brought past (Piece number piece)) given none
-wanted a law fronts past (Piece number piece) before given s (inr part) =
-    subst (λ asked. GivesSome a before.answers asked given) (sym (is_heard number piece past before part.payloads part.answer part.now law fronts s part.hears).brings) part.says
+some_none : {A X : Type 0} (a : answerers.Ghosts A X) (before after : A) (asked : List Asked) (given : List Out) → DoesNone before after given → GivesSome a before after asked given
+some_none a before after asked given none = subst (GivesSome a before after asked) (sym none.0)
+    (record { front = []; rest = asked; parts = refl; between = before; gives = gives_none a before; left = left_none a before after asked none.1 })
+
+wanted : {A X : Type 0} (a : answerers.Ghosts A X) → StreamsAreRead → FrontsAreRead → (past : List Track) (event : Event) (before now : HubSeen A) (given : List Out) → Stands past before
+    → DoesPart a event before now given → GivesSome a before.answers now.answers (brought past event) given
+wanted a law fronts past Open before now given s none = some_none a before.answers now.answers [] given none
+wanted a law fronts past (Close number) before now given s none = some_none a before.answers now.answers [] given none
+wanted a law fronts past (Piece number piece) before now given s (inl none) = some_none a before.answers now.answers (brought past (Piece number piece)) given none
+wanted a law fronts past (Piece number piece) before now given s (inr part) =
+    subst (λ asked. GivesSome a before.answers now.answers asked given) (sym (is_heard number piece past before part.payloads part.answer part.now law fronts s part.hears).brings) part.says
 
 stopped : {A X : Type 0} (a : answerers.Ghosts A X) → StreamsAreRead → FrontsAreRead → (past : List Track) (event : Event) (before now : HubSeen A) (given : List Out) (stop : X) → Stands past before
     → HaltsBy a event before now given stop → StopsAt a before.answers now.answers (brought past event) given stop

@@ -1,17 +1,19 @@
 -- Requests are answered one after the other, and their replies come out.
-use Rattle.std.proofs.Common.{◌≡◌, ◌<◌, ◌≤◌, ◌+◌, zero, suc, arith, refl, ap, sym, ◌∙◌, subst, ℕ, List, [], ◌∷◌, ◌++◌, length, get_or, take, drop, append_assoc, append-nil, add-one}
+use Rattle.std.proofs.Common.{◌≡◌, ◌<◌, ◌≤◌, ◌+◌, zero, suc, arith, refl, ap, sym, ◌∙◌, subst, ℕ, List, [], ◌∷◌, ◌++◌, length, get_or, take, drop, append_assoc, append-nil, add-one, ◌⊎◌, inr}
 use Rattle.std.specs.Prelude.{map, Result, Err}
 use Rattle.std.proofs.Math.Seq.{take-suc}
 use Rattle.std.proofs.lemmas.List.{take_all}
 use Rattle.rb_meaning_frames.specs.Frames.{frame_bytes}
 use Rattle.rb_meaning_frames.specs.Histories.{Asked, asked_by, Replied, RepliesInOrder, none_asked, one_asked, RepliesGoOn}
+use Rattle.rb_session.specs.Answering.{InTurn}
 use Rattle.rb_session.specs.declared.answerers.Answers as answerers
 use Rattle.rb_hub.specs.Serial.{reply_out}
-use Rattle.rb_hub.specs.Hubs.{GivesReplies, GivesSome, FramesReply, RepliesOne, RepliesAll}
+use Rattle.rb_hub.specs.Hubs.{payloads_of, GivesReplies, GivesSome, FramesReply, RepliesOne, RepliesAll}
 use Rattle.rb_hub.specs.declared.events.HubStop.{HubStop}
 use Rattle.rb_hub.specs.declared.events.HubStop.TheVariants.{Refused, Memory, Answers}
 use Rattle.rb_hub.specs.declared.events.Out.{Out}
 use Rattle.rb_hub.specs.declared.events.Out.TheVariants.{Reply}
+use Rattle.rb_hub.proofs.Led.{led_one, led_append, payloads_append}
 
 replies-append : (xs ys : List Replied) → map reply_out (xs ++ ys) ≡ map reply_out xs ++ map reply_out ys
 replies-append [] ys = refl
@@ -23,7 +25,7 @@ asked-append number (p ∷ ps) qs = ap (λ x. record { session = number; payload
 
 -- none was answered
 pub gives_none : {A X : Type 0} (a : answerers.Ghosts A X) (answers : A) → GivesReplies a answers answers [] []
-gives_none a answers = record { replies = []; answered = none_asked (a.table answers); service = refl; is = refl }
+gives_none a answers = record { replies = []; answered = none_asked (a.table answers); led = refl; service = refl; is = refl }
 
 -- one was answered
 gives_one : {A X : Type 0} (a : answerers.Ghosts A X) (before after : A) (number : ℕ) (payload frame : List ℕ) → FramesReply a before after payload frame → a.service after ≡ a.service before
@@ -31,6 +33,7 @@ gives_one : {A X : Type 0} (a : answerers.Ghosts A X) (before after : A) (number
 gives_one a before after number payload frame f service = record {
   replies = record { session = number; frame = frame_bytes f.kind f.reply } ∷ [];
   answered = one_asked (a.table before) (a.table after) (a.table after) record { session = number; payload = payload } f.reply f.kind [] [] f.answers (none_asked (a.table after));
+  led = led_one a.does before after payload f.does;
   service = service;
   is = ap (λ x. Reply number x ∷ []) f.is;
 }
@@ -42,6 +45,8 @@ gives_more a before between after asked more given others law g h = record {
   replies = g.replies ++ h.replies;
   answered = law (a.service before) (a.table before) (a.table between) (a.table after) asked more g.replies h.replies g.answered
       (subst (λ s. RepliesInOrder s (a.table between) more h.replies (a.table after)) g.service h.answered);
+  led = subst (λ ps. InTurn a.does before ps after) (sym (payloads_append asked more))
+      (led_append a.does before between after (payloads_of asked) (payloads_of more) g.led h.led);
   service = h.service ∙ g.service;
   is = ap (λ x. x ++ others) g.is ∙ ap (λ x. map reply_out g.replies ++ x) h.is ∙ sym (replies-append g.replies h.replies);
 }
@@ -81,11 +86,6 @@ parts_at number (suc count) (p ∷ ps) d within =
     ap (λ x. record { session = number; payload = p } ∷ x) (parts_at number count ps d (omega arith))
     ∙ ap (λ n. asked_by number (take (suc count) (p ∷ ps)) ++ record { session = number; payload = get_or ps count d } ∷ asked_by number (drop n (p ∷ ps))) (sym next)
 
-parts_of : (number count : ℕ) (payloads : List (List ℕ)) → asked_by number payloads ≡ asked_by number (take count payloads) ++ asked_by number (drop count payloads)
-parts_of number zero payloads = refl
-parts_of number (suc count) [] = refl
-parts_of number (suc count) (p ∷ ps) = ap (λ x. record { session = number; payload = p } ∷ x) (parts_of number count ps)
-
 pub one_more : {A X : Type 0} (a : answerers.Ghosts A X) (before between after : A) (number count : ℕ) (payloads : List (List ℕ)) (payload d frame : List ℕ) (old mid new : List Out) → RepliesGoOn
     → count < length payloads → payload ≡ get_or payloads count d → SoFar a before between number count payloads old mid → FramesReply a between after payload frame
     → a.service after ≡ a.service between → new ≡ mid ++ Reply number frame ∷ [] → SoFar a before after number (count + 1) payloads old new
@@ -103,20 +103,24 @@ one_more a before between after number count payloads payload d frame old mid ne
 abbrev pub Left : {A X : Type 0} → answerers.Ghosts A X → List Asked → A → A → List Out → List Out → Result Unit (HubStop X) → Type 0
 Left a asked before after old new answer = (given : List Out) × (new ≡ old ++ given) × RepliesAll a asked before after given answer
 
-some_given : {A X : Type 0} (a : answerers.Ghosts A X) (before between : A) (number count : ℕ) (payloads : List (List ℕ)) (old new : List Out)
-    → (so : SoFar a before between number count payloads old new) → GivesSome a before (asked_by number payloads) so.given
-some_given a before between number count payloads old new so = record {
+-- memory was wanting behind these: the next one wasn't answered, or its reply is lost
+some_given : {A X : Type 0} (a : answerers.Ghosts A X) (before between after : A) (number count : ℕ) (payloads : List (List ℕ)) (payload d : List ℕ) (old new : List Out)
+    → count < length payloads → payload ≡ get_or payloads count d → (so : SoFar a before between number count payloads old new) → (after ≡ between) ⊎ a.does between payload after
+    → GivesSome a before after (asked_by number payloads) so.given
+some_given a before between after number count payloads payload d old new within is so left = record {
   front = asked_by number (take count payloads);
-  rest = asked_by number (drop count payloads);
-  parts = parts_of number count payloads;
+  rest = record { session = number; payload = get_or payloads count d } ∷ asked_by number (drop (count + 1) payloads);
+  parts = parts_at number count payloads d within;
   between = between;
   gives = so.gives;
+  left = subst (λ p. (after ≡ between) ⊎ a.does between p after) is left;
 }
 
 pub left_by : {A X : Type 0} (a : answerers.Ghosts A X) (before between after : A) (number count : ℕ) (payloads : List (List ℕ)) (payload d : List ℕ) (old new : List Out) (stop : HubStop X)
     → count < length payloads → payload ≡ get_or payloads count d → SoFar a before between number count payloads old new
     → RepliesOne a payload between after (Err stop) → Left a (asked_by number payloads) before after old new (Err stop)
-left_by a before between after number count payloads payload d old new Memory within is so said = (so.given, so.gains, some_given a before between number count payloads old new so)
+left_by a before between after number count payloads payload d old new Memory within is so said =
+    (so.given, so.gains, some_given a before between after number count payloads payload d old new within is so said)
 left_by a before between after number count payloads payload d old new (Answers stop) within is so said = (
   so.given,
   so.gains,
@@ -132,10 +136,12 @@ left_by a before between after number count payloads payload d old new (Answers 
 )
 left_by a before between after number count payloads payload d old new (Refused refusal) within is so said = absurd said
 
--- memory was wanting for what comes out
-pub left_memory : {A X : Type 0} (a : answerers.Ghosts A X) (before between after : A) (number count : ℕ) (payloads : List (List ℕ)) (old mid new : List Out)
-    → SoFar a before between number count payloads old mid → new ≡ mid → Left {X = X} a (asked_by number payloads) before after old new (Err Memory)
-left_memory a before between after number count payloads old mid new so same = (so.given, same ∙ so.gains, some_given a before between number count payloads old mid so)
+-- memory was wanting for what comes out of one that was answered
+pub left_memory : {A X : Type 0} (a : answerers.Ghosts A X) (before between after : A) (number count : ℕ) (payloads : List (List ℕ)) (payload d frame : List ℕ) (old mid new : List Out)
+    → count < length payloads → payload ≡ get_or payloads count d → SoFar a before between number count payloads old mid → FramesReply a between after payload frame → new ≡ mid
+    → Left {X = X} a (asked_by number payloads) before after old new (Err Memory)
+left_memory a before between after number count payloads payload d frame old mid new within is so said same =
+    (so.given, same ∙ so.gains, some_given a before between after number count payloads payload d old mid within is so (inr said.does))
 
 -- all were answered
 pub answered_all : {A X : Type 0} (a : answerers.Ghosts A X) (before after : A) (number count : ℕ) (payloads : List (List ℕ)) (old new : List Out)

@@ -1,20 +1,20 @@
 -- A new session that is being served, piece by piece.
-use Rattle.std.proofs.Common.{◌≡◌, ◌+◌, zero, suc, arith, refl, ap, sym, ◌∙◌, subst, ℕ, Bool, true, false, All, List, [], ◌∷◌, ◌++◌, length, drop, append_assoc, append-nil, length-append, inl, inr, Option, Some, None}
-use Rattle.std.specs.Prelude.{map, if◌then◌else◌}
+use Rattle.std.proofs.Common.{◌≡◌, ◌+◌, arith, refl, ap, sym, ◌∙◌, subst, ℕ, Bool, true, false, All, List, [], ◌∷◌, ◌++◌, length, append_assoc, append-nil, length-append, inl, inr, Option, Some, None}
+use Rattle.std.specs.Prelude.{if◌then◌else◌}
 use Rattle.std.proofs.lemmas.List.{map-append}
 use Rattle.std.proofs.lemmas.List.Elements.{All-nil, All-cons, All-append}
-use Rattle.rb_base.specs.Devices.{Device, failed}
-use Rattle.rb_base.specs.Sinks.{with_bytes, WrotePrefix}
+use Rattle.rb_base.specs.Devices.{Device}
+use Rattle.rb_base.specs.Sinks.{with_bytes}
 use Rattle.rb_base.specs.Sources.{told_before, before_giving}
 use Rattle.rb_meaning_bytes.specs.formats.Fields.{IsBytes}
 use Rattle.rb_meaning_frames.specs.Streams.{IsRequest}
 use Rattle.rb_meaning_frames.specs.Reading.{Division, requests_of, rest_of, standing, StreamsAreRead, FrontsAreRead, RequestsStay}
-use Rattle.rb_meaning_frames.specs.Histories.{Event, Piece, Close, Track, is_waiting, goes_on, after, after_all, asked_by, new_requests, brought_to, brought, history_from, Replied, RepliesInOrder, none_asked, EventsLeadOn, HistoriesGoOn, RepliesGoOn}
+use Rattle.rb_meaning_frames.specs.Histories.{Piece, Close, Track, is_waiting, goes_on, after, after_all, asked_by, new_requests, brought_to, brought, history_from, Replied, RepliesInOrder, none_asked, EventsLeadOn, HistoriesGoOn, RepliesGoOn}
 use Rattle.rb_session.specs.declared.answerers.Answers as answerers
 use Rattle.rb_session.specs.Serving.{Ends}
 use Rattle.rb_hub.specs.Hubs.{HubSeen}
 use Rattle.rb_hub.specs.Delivering.{frames_of}
-use Rattle.rb_hub.specs.Serving.{hub_ends, joined, IsRead, pieces_of, closing}
+use Rattle.rb_hub.specs.Serving.{joined, IsRead, pieces_of, closing}
 use Rattle.rb_hub.specs.Passing.{track, StandsWith, Passes, Leads}
 use Rattle.rb_hub.specs.declared.passing.Passed.{Passed}
 use Rattle.rb_hub.proofs.Last.{track_last, after_piece, after_close}
@@ -53,8 +53,8 @@ asked_on number stream piece stay =
 -- ---- so far
 
 -- The source gave these pieces, which are this stream. The hub stands where they lead, the replies to the requests of the stream
--- leave the table, and of the sink this is to be said.
-pub record SoFar {A : Type 0} (past : List Track) (now : HubSeen A) (first last : Ends) (stream : List ℕ) (is_open : Bool) (requests : ℕ) (Wrote : List ℕ → Type 0) : Type 0 where
+-- leave the table, and of the sink this is to be said, and that of the requests.
+pub record SoFar {A : Type 0} (past : List Track) (now : HubSeen A) (first last : Ends) (stream : List ℕ) (is_open : Bool) (requests : ℕ) (Wrote : List ℕ → Type 0) (Led : List (List ℕ) → Type 0) : Type 0 where
   pub pieces : List (List ℕ)
   pub joined_is : joined pieces ≡ stream
   pub reads : All IsRead pieces
@@ -68,6 +68,7 @@ pub record SoFar {A : Type 0} (past : List Track) (now : HubSeen A) (first last 
   pub answered : RepliesInOrder first.service first.table (asked_by (length past) (requests_of stream)) replies last.table
   pub service : last.service ≡ first.service
   pub wrote : Wrote (frames_of replies)
+  pub led : Led (requests_of stream)
   pub count : requests ≡ length (requests_of stream)
 
 -- the replies were written
@@ -75,7 +76,7 @@ abbrev pub AllWritten : Ends → Ends → List ℕ → Type 0
 AllWritten first last frames = last.sink ≡ with_bytes first.sink frames
 
 -- nothing came yet
-nothing : StreamsAreRead → requests_of [] ≡ []
+pub nothing : StreamsAreRead → requests_of [] ≡ []
 nothing law = ap (λ (d : Division). d.payloads) (law [] [] [] (All-nil IsRequest) refl (omega arith) (inr (inl (inl refl))))
 
 nothing_left : StreamsAreRead → rest_of [] ≡ []
@@ -84,9 +85,9 @@ nothing_left law = ap (λ (d : Division). d.rest) (law [] [] [] (All-nil IsReque
 no_bytes : IsBytes []
 no_bytes i = omega arith
 
-pub none_so_far : {A : Type 0} (past : List Track) (now : HubSeen A) (first : Ends) → StreamsAreRead → FrontsAreRead → StandsWith past (track [] true) now
-    → SoFar past now first first [] true 0 (AllWritten first first)
-none_so_far past now first law fronts stands = record {
+pub none_so_far : {A : Type 0} (past : List Track) (now : HubSeen A) (first : Ends) (Led : List (List ℕ) → Type 0) → StreamsAreRead → FrontsAreRead → StandsWith past (track [] true) now → Led []
+    → SoFar past now first first [] true 0 (AllWritten first first) Led
+none_so_far past now first Led law fronts stands led = record {
   pieces = [];
   joined_is = refl;
   reads = All-nil IsRead;
@@ -100,6 +101,7 @@ none_so_far past now first law fronts stands = record {
   answered = subst (λ ps. RepliesInOrder first.service first.table (asked_by (length past) ps) [] first.table) (sym (nothing law)) (none_asked first.table);
   service = refl;
   wrote = sym (bytes_none first.sink);
+  led = subst Led (sym (nothing law)) led;
   count = ap length (sym (nothing law));
 }
 
@@ -140,11 +142,12 @@ frames-append : (xs ys : List Replied) → frames_of (xs ++ ys) ≡ frames_of xs
 frames-append [] ys = refl
 frames-append (x ∷ xs) ys = ap (λ z. x.frame ++ z) (frames-append xs ys) ∙ sym (append_assoc x.frame (frames_of xs) (frames_of ys))
 
-pub one_piece : {A X : Type 0} (a : answerers.Ghosts A X) (past : List Track) (between now : HubSeen A) (first mid last : Ends) (stream : List ℕ) (requests : ℕ) (piece : List ℕ) (passed : Passed) (frames : List ℕ) (Wrote : List ℕ → Type 0)
-    → Laws → (s : SoFar past between first mid stream true requests (AllWritten first mid)) → mid.service ≡ a.service between.answers → mid.table ≡ a.table between.answers → last.service ≡ mid.service → last.table ≡ a.table now.answers
+pub one_piece : {A X : Type 0} (a : answerers.Ghosts A X) (past : List Track) (between now : HubSeen A) (first mid last : Ends) (stream : List ℕ) (requests : ℕ) (piece : List ℕ) (passed : Passed) (frames : List ℕ) (Wrote : List ℕ → Type 0) (Led Led' : List (List ℕ) → Type 0)
+    → Laws → (s : SoFar past between first mid stream true requests (AllWritten first mid) Led) → mid.service ≡ a.service between.answers → mid.table ≡ a.table between.answers → last.service ≡ mid.service → last.table ≡ a.table now.answers
     → IsRead piece → IsBytes (stream ++ piece) → mid.source ≡ before_giving piece last.source → Passes a past stream piece between now passed frames
-    → ((front : List ℕ) → AllWritten first mid front → Wrote (front ++ frames)) → SoFar past now first last (stream ++ piece) (goes_on (stream ++ piece)) (requests + passed.replies) Wrote
-one_piece a past between now first mid last stream requests piece passed frames Wrote laws s service table same left read bytes gave p writes =
+    → ((front : List ℕ) → AllWritten first mid front → Wrote (front ++ frames)) → ((payloads : List (List ℕ)) → Led payloads → Led' (payloads ++ new_requests stream piece))
+    → SoFar past now first last (stream ++ piece) (goes_on (stream ++ piece)) (requests + passed.replies) Wrote Led'
+one_piece a past between now first mid last stream requests piece passed frames Wrote Led Led' laws s service table same left read bytes gave p writes leads =
     let number = length past in
     let brought_by = asked_by number (new_requests stream piece) in
     let all : frames_of (s.replies ++ p.replies) ≡ frames_of s.replies ++ frames = frames-append s.replies p.replies ∙ ap (λ x. frames_of s.replies ++ x) (sym p.frames_are) in
@@ -167,6 +170,7 @@ one_piece a past between now first mid last stream requests piece passed frames 
           (laws.replies first.service first.table mid.table last.table (asked_by number (requests_of stream)) brought_by s.replies p.replies s.answered answered);
       service = same ∙ s.service;
       wrote = subst Wrote (sym all) (writes (frames_of s.replies) s.wrote);
+      led = subst Led' (sym (laws.stay stream piece)) (leads (requests_of stream) s.led);
       count =
           let count = s.count in
           let more = p.count in
@@ -186,8 +190,8 @@ closing_asks past number stream true goes = ap (λ b. history_from past (if b th
 closing_asks past number stream false goes = ap (λ b. history_from past (if b then Close number ∷ [] else [])) goes
 
 -- the session isn't open any more
-pub led_on : {A : Type 0} (past : List Track) (mid now : HubSeen A) (first last : Ends) (stream : List ℕ) (is_open : Bool) (requests : ℕ) (Wrote : List ℕ → Type 0) → Laws
-    → (s : SoFar past mid first last stream is_open requests Wrote) → StandsWith past (track stream false) now → Leads past now first last
+pub led_on : {A : Type 0} {Led : List (List ℕ) → Type 0} (past : List Track) (mid now : HubSeen A) (first last : Ends) (stream : List ℕ) (is_open : Bool) (requests : ℕ) (Wrote : List ℕ → Type 0) → Laws
+    → (s : SoFar past mid first last stream is_open requests Wrote Led) → StandsWith past (track stream false) now → Leads past now first last
 led_on past mid now first last stream is_open requests Wrote laws s shut =
     let start = past ++ track [] true ∷ [] in
     let number = length past in

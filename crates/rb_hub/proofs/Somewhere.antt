@@ -1,10 +1,10 @@
 -- A hub that goes on stands somewhere.
-use Rattle.std.proofs.Common.{◌≡◌, refl, ap, sym, ◌∙◌, subst, ℕ, Bool, true, false, All, List, Option, Some, None, Result, Ok, Err}
+use Rattle.std.proofs.Common.{◌≡◌, refl, ap, sym, ◌∙◌, ℕ, Bool, true, false, All, List, Option, Some, None, Result, Ok, Err}
 use Rattle.std.specs.Prelude.{if◌then◌else◌, OnOk, is_err}
-use Rattle.rb_meaning_frames.specs.Histories.{Event, Close, Track, after}
+use Rattle.rb_meaning_frames.specs.Histories.{Event, Close, after}
 use Rattle.rb_session.specs.declared.answerers.Answers as answerers
 use Rattle.rb_hub.specs.Hubs.{HubSeen, MayGoOn, IsOpen, DoesClose, DoesBy, refusal_of, refusal_by, hub_of}
-use Rattle.rb_hub.specs.Standing.{StandsSomewhere, GoesOnSomewhere, EachGoesOn}
+use Rattle.rb_hub.specs.Standing.{GoesOnSomewhere, EachGoesOn}
 use Rattle.rb_hub.specs.declared.seats.Seat.{Seat}
 use Rattle.rb_hub.specs.declared.events.Out.{Out}
 use Rattle.rb_hub.specs.declared.events.HubRefusal.{HubRefusal}

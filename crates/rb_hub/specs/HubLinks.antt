@@ -1,10 +1,9 @@
 -- Links to a host through a session of a hub, which others use too.
-use Rattle.std.specs.Prelude.{◌≡◌, ◌==◌, ℕ, ◌+◌, ◌<◌, ◌≤◌, All, List, [], ◌∷◌, ◌++◌, length, drop, map, get_or, Bool, true, false, if◌then◌else◌, nat_le, Option, None, Some, Result, Ok, Err}
+use Rattle.std.specs.Prelude.{◌≡◌, ◌==◌, ℕ, ◌+◌, All, List, [], ◌∷◌, ◌++◌, length, drop, map, Bool, true, false, if◌then◌else◌, nat_le, Some, Result, Ok, Err}
 use Rattle.rb_trees.specs.declared.services.Object.{Object}
 use Rattle.rb_trees.specs.mirror.Services.{Service, mirror_service}
 use Rattle.rb_meaning.specs.Answers.{Answers}
 use Rattle.rb_meaning.specs.Links.{Pair, Behind, Told, IsTyped}
-use Rattle.rb_meaning.specs.Replies.{header_length}
 use Rattle.rb_meaning_frames.specs.Frames.{frame_bytes, request_kind}
 use Rattle.rb_meaning_frames.specs.Streams.{IsRequest, request_frames, most_requests}
 use Rattle.rb_meaning_frames.specs.Histories.{Track, track_of, Event, Piece, after, after_all, history_from, Replied, RepliesInOrder}

@@ -3,6 +3,7 @@ use Rattle.std.specs.Prelude.{◌≡◌, ◌⊎◌, ℕ, ◌+◌, ◌<◌, Bool,
 use Rattle.rb_meaning.specs.Answers as meaning
 use Rattle.rb_meaning_frames.specs.Frames.{frame_bytes}
 use Rattle.rb_meaning_frames.specs.Histories.{Event, Open, Piece, Close, most_open, most_sessions, Asked, asked_by, Replied, RepliesInOrder}
+use Rattle.rb_session.specs.Answering.{InTurn}
 use Rattle.rb_session.specs.Taking.{longest_frame}
 use Rattle.rb_session.specs.Sessions.{SessionSeen, new_session, came, stop_of, CutsPiece, Leaves}
 use Rattle.rb_session.specs.declared.answerers.Answers as answerers
@@ -72,20 +73,31 @@ pub record MayGoOn {A X : Type 0} (a : answerers.Ghosts A X) (answers : A) (seat
 
 -- ---- requests are answered
 
+-- what was asked, without by whom
+abbrev pub payloads_of : List Asked → List (List ℕ)
+payloads_of asked = map (λ (x : Asked). x.payload) asked
+
 -- These requests were answered in order, and the replies came out.
 pub record GivesReplies {A X : Type 0} (a : answerers.Ghosts A X) (before after : A) (asked : List Asked) (given : List Out) : Type 0 where
   pub replies : List Replied
   pub answered : RepliesInOrder (a.service before) (a.table before) asked replies (a.table after)
+  pub led : InTurn a.does before (payloads_of asked) after
   pub service : a.service after ≡ a.service before
   pub is : given ≡ map reply_out replies
 
--- The first of these requests were answered so; whoever answers stood between then.
-pub record GivesSome {A X : Type 0} (a : answerers.Ghosts A X) (before : A) (asked : List Asked) (given : List Out) : Type 0 where
+-- No more was done; or the next of these requests was answered, and its reply is lost.
+abbrev pub LeavesAt : {A X : Type 0} → answerers.Ghosts A X → A → List Asked → A → Type 0
+LeavesAt a between [] after = after ≡ between
+LeavesAt a between (next ∷ rest) after = (after ≡ between) ⊎ a.does between next.payload after
+
+-- The first of these requests were answered so, and memory was wanting then; whoever answers stood between at that time.
+pub record GivesSome {A X : Type 0} (a : answerers.Ghosts A X) (before after : A) (asked : List Asked) (given : List Out) : Type 0 where
   pub front : List Asked
   pub rest : List Asked
   pub parts : asked ≡ front ++ rest
   pub between : A
   pub gives : GivesReplies a before between front given
+  pub left : LeavesAt a between rest after
 
 -- The first of these requests were answered so, and the next stopped whoever answers, as may be.
 pub record StopsAt {A X : Type 0} (a : answerers.Ghosts A X) (before after : A) (asked : List Asked) (given : List Out) (stop : X) : Type 0 where
@@ -174,11 +186,16 @@ Does a (Piece number piece) before after given =
 Does a (Close number) before after given =
     DoesClose number before.seats after.seats given × (after.answers ≡ before.answers) × (after.opened ≡ before.opened)
 
+-- Nothing came out, and no request was answered.
+abbrev pub DoesNone : {A : Type 0} → A → A → List Out → Type 0
+DoesNone before after given = (given ≡ []) × (after ≡ before)
+
 -- Memory was wanting: nothing came out, or the first of the replies.
-abbrev pub DoesPart : {A X : Type 0} → answerers.Ghosts A X → Event → HubSeen A → List Out → Type 0
-DoesPart a Open before given = given ≡ []
-DoesPart a (Piece number piece) before given = (given ≡ []) ⊎ HearsThat number piece before.seats (λ asked. GivesSome a before.answers asked given)
-DoesPart a (Close number) before given = given ≡ []
+abbrev pub DoesPart : {A X : Type 0} → answerers.Ghosts A X → Event → HubSeen A → HubSeen A → List Out → Type 0
+DoesPart a Open before after given = DoesNone before.answers after.answers given
+DoesPart a (Piece number piece) before after given =
+    DoesNone before.answers after.answers given ⊎ HearsThat number piece before.seats (λ asked. GivesSome a before.answers after.answers asked given)
+DoesPart a (Close number) before after given = DoesNone before.answers after.answers given
 
 -- Only a piece's request stops whoever answers.
 abbrev pub HaltsBy : {A X : Type 0} → answerers.Ghosts A X → Event → HubSeen A → HubSeen A → List Out → X → Type 0
@@ -190,7 +207,7 @@ HaltsBy a (Close number) before after given stop = ⊥
 -- What an event did that wasn't refused, by its answer.
 abbrev pub DoesBy : {A X : Type 0} → answerers.Ghosts A X → Event → HubSeen A → HubSeen A → List Out → Result Unit (HubStop X) → Type 0
 DoesBy a event before after given (Ok u) = Does a event before after given
-DoesBy a event before after given (Err Memory) = DoesPart a event before given
+DoesBy a event before after given (Err Memory) = DoesPart a event before after given
 DoesBy a event before after given (Err (Answers stop)) = HaltsBy a event before after given stop
 DoesBy a event before after given (Err (Refused refusal)) = ⊥
 
@@ -215,19 +232,20 @@ pub record FramesReply {A X : Type 0} (a : answerers.Ghosts A X) (before after :
   pub kind : ℕ
   pub reply : List ℕ
   pub answers : meaning.Answers (a.service before) (a.table before) payload kind reply (a.table after)
+  pub does : a.does before payload after
   pub is : frame ≡ frame_bytes kind reply
 
 -- a request was answered so, or not
 abbrev pub RepliesOne : {A X : Type 0} → answerers.Ghosts A X → List ℕ → A → A → Result (List ℕ) (HubStop X) → Type 0
 RepliesOne a payload before after (Ok frame) = FramesReply a before after payload frame
-RepliesOne a payload before after (Err Memory) = Unit {0}
+RepliesOne a payload before after (Err Memory) = (after ≡ before) ⊎ a.does before payload after
 RepliesOne a payload before after (Err (Answers stop)) = a.stops before payload stop after
 RepliesOne a payload before after (Err (Refused refusal)) = ⊥
 
 -- requests were answered so, or not all
 abbrev pub RepliesAll : {A X : Type 0} → answerers.Ghosts A X → List Asked → A → A → List Out → Result Unit (HubStop X) → Type 0
 RepliesAll a asked before after given (Ok u) = GivesReplies a before after asked given
-RepliesAll a asked before after given (Err Memory) = GivesSome a before asked given
+RepliesAll a asked before after given (Err Memory) = GivesSome a before after asked given
 RepliesAll a asked before after given (Err (Answers stop)) = StopsAt a before after asked given stop
 RepliesAll a asked before after given (Err (Refused refusal)) = ⊥
 
@@ -238,7 +256,8 @@ hub_of answers opened seats = record { answers = answers; opened = opened; seats
 -- A session took a piece: what came out, and what was done, by the answer.
 abbrev pub HearsBy : {A X : Type 0} → answerers.Ghosts A X → ℕ → List ℕ → A → A → List Seat → List Seat → List Out → Result Unit (HubStop X) → Type 0
 HearsBy a number piece before after seats seats' given (Ok u) = DoesPiece a number piece before after seats seats' given
-HearsBy a number piece before after seats seats' given (Err Memory) = (given ≡ []) ⊎ HearsThat number piece seats (λ asked. GivesSome a before asked given)
+HearsBy a number piece before after seats seats' given (Err Memory) =
+    DoesNone before after given ⊎ HearsThat number piece seats (λ asked. GivesSome a before after asked given)
 HearsBy a number piece before after seats seats' given (Err (Answers stop)) = HearsThat number piece seats (λ asked. StopsAt a before after asked given stop)
 HearsBy a number piece before after seats seats' given (Err (Refused refusal)) = ⊥
 

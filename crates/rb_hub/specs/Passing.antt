@@ -6,16 +6,17 @@ use Rattle.rb_base.specs.Sources.{told_before}
 use Rattle.rb_meaning_frames.specs.Streams.{most_requests}
 use Rattle.rb_meaning_frames.specs.Reading.{standing, requests_of, rest_of}
 use Rattle.rb_meaning_frames.specs.Histories.{Track, goes_on, after_all, asked_by, new_requests, history_from, Replied, RepliesInOrder}
+use Rattle.rb_session.specs.Answering.{InTurn, SomeInTurn}
 use Rattle.rb_session.specs.declared.answerers.Answers as answerers
 use Rattle.rb_session.specs.declared.serving.Served.{Served}
 use Rattle.rb_session.specs.declared.serving.ServeCause.{ServeCause}
 use Rattle.rb_session.specs.declared.serving.ServeCause.TheVariants as causes
 use Rattle.rb_session.specs.Serving.{Ends}
-use Rattle.rb_hub.specs.Serial.{replies_in, end_by, end_at}
+use Rattle.rb_hub.specs.Serial.{replies_in, end_by}
 use Rattle.rb_hub.specs.Hubs.{HubSeen, StopsAt}
 use Rattle.rb_hub.specs.Standing.{Stands}
 use Rattle.rb_hub.specs.Delivering.{end_in, bytes_in, frames_of}
-use Rattle.rb_hub.specs.Serving.{ServesUnlessStopped, IfStopped, IfDone, is_done, StopsServing, joined, IsRead, pieces_of, closing}
+use Rattle.rb_hub.specs.Serving.{ServesUnlessStopped, IfStopped, IfDone, is_done, StopsServing, AnswersStream, joined, IsRead, pieces_of, closing}
 use Rattle.rb_hub.specs.declared.events.End.{End}
 use Rattle.rb_hub.specs.declared.events.End.TheVariants as ends
 use Rattle.rb_hub.specs.declared.events.Out.{Out}
@@ -60,6 +61,7 @@ pub record Passes {A X : Type 0} (a : answerers.Ghosts A X) (past : List Track) 
   pub stands : StandsWith past (track (stream ++ piece) (goes_on (stream ++ piece))) now
   pub replies : List Replied
   pub answered : RepliesInOrder (a.service before.answers) (a.table before.answers) (asked_by (length past) (new_requests stream piece)) replies (a.table now.answers)
+  pub led : InTurn a.does before.answers (new_requests stream piece) now.answers
   pub frames_are : frames ≡ frames_of replies
   pub count : passed.replies ≡ length (new_requests stream piece)
   pub end_is : passed.end ≡ end_by (standing (rest_of (stream ++ piece))) (stream ++ piece)
@@ -70,7 +72,8 @@ PassesOn a past stream piece before now old new (Ok passed) =
     (frames : List ℕ) × Passes a past stream piece before now passed frames × (new ≡ with_bytes old frames)
 PassesOn a past stream piece before now old new (Err (WriteFault passed)) =
     (frames : List ℕ) × Passes a past stream piece before now passed frames × WrotePrefix (failed old) new frames × (1 ≤ passed.replies)
-PassesOn a past stream piece before now old new (Err Memory) = (new ≡ old) × (now.over ≡ true)
+PassesOn a past stream piece before now old new (Err Memory) =
+    (new ≡ old) × (now.over ≡ true) × SomeInTurn a.does before.answers (new_requests stream piece) now.answers
 PassesOn a past stream piece before now old new (Err (Answers stop)) =
     (new ≡ old) × (now.over ≡ true) × (given : List Out) × StopsAt a before.answers now.answers (asked_by (length past) (new_requests stream piece)) given stop
 
@@ -138,8 +141,9 @@ pub record Leads {A : Type 0} (past : List Track) (now : HubSeen A) (first last 
   pub answered : RepliesInOrder first.service first.table (asked_by (length past) (requests_of stream)) replies last.table
 
 -- A new session was served to its end, or to a stop.
-pub record ServesNew {A X : Type 0} (a : answerers.Ghosts A X) (past : List Track) (now : HubSeen A) (first last : Ends) (answer : Result Served (HubServeStop X)) : Type 0 where
+pub record ServesNew {A X : Type 0} (a : answerers.Ghosts A X) (past : List Track) (before now : HubSeen A) (first last : Ends) (answer : Result Served (HubServeStop X)) : Type 0 where
   pub serves : ServesUnlessStopped first last answer
   pub stops : IfStopped answer (StopsServing a now.answers first last)
+  pub answers : AnswersStream a.does a.stops before.answers now.answers first last answer
   pub leads : IfDone answer (Leads past now first last)
   pub over : is_done answer ≡ false → now.over ≡ true

@@ -1,12 +1,13 @@
 -- A session of a hub over a source and a sink.
-use Rattle.std.specs.Prelude.{◌≡◌, ℕ, ◌+◌, ◌<◌, ◌≤◌, Bool, true, false, if◌then◌else◌, All, List, [], ◌∷◌, ◌++◌, length, Option, Result, Ok, Err}
+use Rattle.std.specs.Prelude.{◌≡◌, ℕ, ◌+◌, ◌<◌, ◌≤◌, Bool, true, false, if◌then◌else◌, All, List, [], ◌∷◌, ◌++◌, length, take, Option, Result, Ok, Err}
 use Rattle.rb_trees.specs.declared.services.Object.{Object}
 use Rattle.rb_base.specs.Devices.{Device}
-use Rattle.rb_base.specs.Sinks.{with_bytes}
+use Rattle.rb_base.specs.Sinks.{told_more, with_bytes}
 use Rattle.rb_base.specs.Sources.{told_before, before_giving}
 use Rattle.rb_meaning_frames.specs.Reading.{requests_of}
 use Rattle.rb_meaning_frames.specs.Served.{RepliesTo}
 use Rattle.rb_meaning_frames.specs.Histories.{Event, Open, Piece, Close, Track, goes_on, after_all, new_requests, history_from, Replied, RepliesInOrder}
+use Rattle.rb_session.specs.Answering.{InTurn}
 use Rattle.rb_session.specs.declared.answerers.Answers as answerers
 use Rattle.rb_session.specs.declared.serving.Served.{Served}
 use Rattle.rb_session.specs.declared.serving.ServeCause.{ServeCause}
@@ -52,6 +53,42 @@ WhereDone false Holds = Unit {0}
 
 abbrev pub IfDone : {X : Type 0} → Result Served (HubServeStop X) → Type 0 → Type 0
 IfDone answer Holds = WhereDone (is_done answer) Holds
+
+-- ---- whom the requests led to
+
+-- The number of requests is the one that was answered, unless memory was wanting, or a request stopped whoever answers.
+abbrev pub CountsRequests : {X : Type 0} → Result Served (HubServeStop X) → ℕ → Type 0
+CountsRequests (Ok served) count = served.requests ≡ count
+CountsRequests (Err (Serve stop)) count = WhereDone (is_no_want stop.cause) (stop.requests ≡ count)
+CountsRequests (Err (Answers stop)) count = Unit {0}
+
+-- Whoever answers is as the requests left it; or the next one was met by a stop, as may be.
+abbrev pub StopsNext : {A X : Type 0} → (A → List ℕ → X → A → Type 0) → Result Served (HubServeStop X) → A → List (List ℕ) → A → Type 0
+StopsNext MayStop (Err (Answers stop)) between [] after = ⊥
+StopsNext MayStop (Err (Answers stop)) between (next ∷ rest) after = MayStop between next stop after
+StopsNext MayStop answer between rest after = after ≡ between
+
+-- So many of these bytes were written, and no others.
+abbrev pub WroteFront : Device (List ℕ) → Device (List ℕ) → List ℕ → Type 0
+WroteFront first last replies = (count : ℕ) × (last.told ≡ told_more first.told (take count replies))
+
+-- The source gave this stream. The first of its requests were answered in turn, and of the replies to the first of these the
+-- bytes were written, or a front of them.
+pub record AnswersStream {A X : Type 0} (Answered : A → List ℕ → A → Type 0) (MayStop : A → List ℕ → X → A → Type 0) (before after : A) (first last : Ends) (answer : Result Served (HubServeStop X)) : Type 0 where
+  pub stream : List ℕ
+  pub gave : first.source.told ≡ told_before stream last.source.told
+  pub replied : List (List ℕ)
+  pub unreplied : List (List ℕ)
+  pub rest : List (List ℕ)
+  pub parts : requests_of stream ≡ (replied ++ unreplied) ++ rest
+  pub between : A
+  pub led : InTurn Answered before (replied ++ unreplied) between
+  pub stops : StopsNext MayStop answer between rest after
+  pub counts : CountsRequests answer (length (replied ++ unreplied))
+  pub replies : List ℕ
+  pub table : List Object
+  pub answered : RepliesTo first.service first.table replied replies table
+  pub wrote : WroteFront first.sink last.sink replies
 
 -- ---- what is left of the hub
 

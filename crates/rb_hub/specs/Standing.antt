@@ -2,10 +2,11 @@
 use Rattle.std.specs.Prelude.{◌≡◌, ◌⊎◌, ℕ, suc, ◌≤◌, true, false, All, List, [], ◌∷◌, ◌++◌, length, Option, None, Some, Result, Ok, Err}
 use Rattle.rb_meaning_frames.specs.Streams.{IsRequest, request_frames, Waits, most_requests}
 use Rattle.rb_meaning_frames.specs.Histories.{Event, Track, after, after_all, brought}
+use Rattle.rb_session.specs.Answering.{InTurn}
 use Rattle.rb_session.specs.Sessions.{SessionSeen, came}
 use Rattle.rb_session.specs.declared.answerers.Answers as answerers
 use Rattle.rb_hub.specs.Serial.{refusal_at, ComesOut, ComeOut, IsSerial}
-use Rattle.rb_hub.specs.Hubs.{HubSeen, MayGoOn, GivesSome, StopsAt, Does, DoesPart, HaltsBy, refusal_of}
+use Rattle.rb_hub.specs.Hubs.{HubSeen, MayGoOn, payloads_of, GivesSome, StopsAt, Does, DoesPart, HaltsBy, refusal_of}
 use Rattle.rb_hub.specs.declared.events.Out.{Out}
 use Rattle.rb_hub.specs.declared.events.HubRefusal.{HubRefusal}
 use Rattle.rb_hub.specs.declared.events.HubStop.{HubStop}
@@ -58,6 +59,7 @@ pub record GoesOnSomewhere {A X : Type 0} (a : answerers.Ghosts A X) (hub : HubS
 pub record GoesOn {A X : Type 0} (a : answerers.Ghosts A X) (past : List Track) (event : Event) (before now : HubSeen A) (given : List Out) : Type 0 where
   pub stands : Stands (after past event) now
   pub outs : ComesOut (a.service before.answers) (a.table before.answers) (a.table now.answers) past event given
+  pub led : InTurn a.does before.answers (payloads_of (brought past event)) now.answers
   pub service : a.service now.answers ≡ a.service before.answers
 
 -- A hub refuses an event as the sessions say. It goes on by one that isn't refused; and where one is, by doing nothing. Where memory
@@ -69,14 +71,14 @@ pub record EachGoesOn {A X : Type 0} (a : answerers.Ghosts A X) : Type 0 where
       → refusal_of before event ≡ None → now.over ≡ false → Does a event before now given → GoesOn a past event before now given
   pub refused : (past : List Track) (event : Event) (hub : HubSeen A) (refusal : HubRefusal) → Stands past hub
       → refusal_of hub event ≡ Some refusal → GoesOn a past event hub hub []
-  pub wanted : (past : List Track) (event : Event) (before : HubSeen A) (given : List Out) → Stands past before
-      → DoesPart a event before given → GivesSome a before.answers (brought past event) given
+  pub wanted : (past : List Track) (event : Event) (before now : HubSeen A) (given : List Out) → Stands past before
+      → DoesPart a event before now given → GivesSome a before.answers now.answers (brought past event) given
   pub stopped : (past : List Track) (event : Event) (before now : HubSeen A) (given : List Out) (stop : X) → Stands past before
       → HaltsBy a event before now given stop → StopsAt a before.answers now.answers (brought past event) given stop
 
 -- What came of an event that wasn't done, or not whole.
 abbrev pub StopsBy : {A X : Type 0} → answerers.Ghosts A X → List Track → Event → HubSeen A → HubSeen A → List Out → HubStop X → Type 0
-StopsBy a past event before now given Memory = GivesSome a before.answers (brought past event) given
+StopsBy a past event before now given Memory = GivesSome a before.answers now.answers (brought past event) given
 StopsBy a past event before now given (Answers stop) = StopsAt a before.answers now.answers (brought past event) given stop
 StopsBy a past event before now given (Refused refusal) = ⊥
 

@@ -66,7 +66,8 @@ pub fn pass_on<A: Answers, K: Sink>(
     };
     match play_one(alloc, hub, Event::Piece(number, piece), &mut outs) {
         Ok(_) => deliver(outs.as_slice(), sink),
+        Err(HubStop::Memory) => Err(PassStop::Memory),
         Err(HubStop::Answers(stop)) => Err(PassStop::Answers(stop)),
-        Err(_) => Err(PassStop::Memory),
+        Err(HubStop::Refused(_)) => unreachable!(),
     }
 }

@@ -8,7 +8,7 @@ ghost use Rattle.rb_meaning_frames.specs.Reading.{rest_of};
 ghost use Rattle.rb_hub.specs.Serial.{end_at};
 ghost use Rattle.rb_hub.specs.Hubs.{refusal_of};
 ghost use Rattle.rb_hub.specs.Standing.{Stands};
-ghost use Rattle.rb_hub.specs.Serving.{hub_ends, most_read, ServesUnlessStopped, IfStopped, IfDone, StopsServing, LeavesHub, HasHistory};
+ghost use Rattle.rb_hub.specs.Serving.{hub_ends, most_read, ServesUnlessStopped, IfStopped, IfDone, StopsServing, AnswersStream, LeavesHub, HasHistory};
 ghost use Rattle.rb_hub.specs.Passing.{track, StandsWith, IsLast, IsNew, Opens, Shuts, stopped_at, answer_of, answer_by, MayLeave, LeavesLast, ServesNew};
 
 use crate::events::{End, Event};
@@ -53,6 +53,10 @@ pub fn serve_hub<A: Answers, S: Source, K: Sink>(
     ensures stops { let before = hub_ends A.Answers hub.old (device S.told S.faults source.old) (device K.told K.faults sink.old) in
         let after = hub_ends A.Answers hub.new (device S.told S.faults source.new) (device K.told K.faults sink.new) in
         IfStopped result (StopsServing A.Answers hub.new.answers before after) }
+    // The requests of the source were answered in turn, and no reply was written but to those.
+    ensures answers { let before = hub_ends A.Answers hub.old (device S.told S.faults source.old) (device K.told K.faults sink.old) in
+        let after = hub_ends A.Answers hub.new (device S.told S.faults source.new) (device K.told K.faults sink.new) in
+        AnswersStream A.does A.stops hub.old.answers hub.new.answers before after result }
     ensures leaves { LeavesHub hub.old hub.new result }
     // By whole streams the hub goes on by the events of the session.
     ensures history { (past : List Track) → Stands past hub.old
@@ -119,6 +123,7 @@ fn open_session<A: Answers>(alloc: Global, hub: &mut Hub<A>) -> Result<u32, Memo
     ensures number { IfOk result (λ number. number ≡ hub.old.opened) }
     ensures opens { OnOk result ((past : List Track) → Stands past hub.old → Opens past hub.old hub.new) }
     ensures over { OnErr result (hub.new.over ≡ true) }
+    ensures same { hub.new.answers ≡ hub.old.answers }
     ensures service { A.service hub.new.answers ≡ A.service hub.old.answers }
 {
     each_step_goes_on::<A>();
@@ -181,7 +186,7 @@ fn serve_pieces<A: Answers, S: Source, K: Sink>(
     ensures serves { let before = hub_ends A.Answers hub.old (device S.told S.faults source.old) (device K.told K.faults sink.old) in
         let after = hub_ends A.Answers hub.new (device S.told S.faults source.new) (device K.told K.faults sink.new) in
         (past : List Track) → number ≡ length past → StandsWith past (track [] true) hub.old
-        → ServesNew A.Answers past hub.new before after result }
+        → ServesNew A.Answers past hub.old hub.new before after result }
     ensures service { A.service hub.new.answers ≡ A.service hub.old.answers }
 {
     each_stream_is_divided_once();

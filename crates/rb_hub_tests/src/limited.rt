@@ -49,6 +49,8 @@ impl Answers for Limited {
 
     ghost ready = { λ it. IsTypedHost it.host };
 
+    ghost does = { λ before payload after. Unit {0} };
+
     ghost stops = { λ before payload stop after. Unit {0} };
 
     fn answer_one(

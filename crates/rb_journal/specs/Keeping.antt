@@ -4,6 +4,7 @@ use Rattle.rb_disk.specs.Images.{DiskRecord}
 use Rattle.rb_meaning_bytes.specs.formats.Messages.{Refused}
 use Rattle.rb_meaning_bytes.specs.formats.ScriptPayloads.{Means}
 use Rattle.rb_exec.specs.Hosted.{Hosted}
+use Rattle.rb_session.specs.Answering.{InTurn}
 use Rattle.rb_journal.specs.declared.stops.JournalStop.{JournalStop}
 use Rattle.rb_journal.specs.declared.stops.JournalStop.TheVariants.{DiskFault, Closed, Full, NotAJournal, BadRecord, Memory}
 use Rattle.rb_journal.specs.Form.{IsAccepted, StandsFor}
@@ -67,9 +68,7 @@ pub data AcceptedAmong : List (List ℕ) → List (List ℕ) → Type 0 where
 
 -- The requests were answered one after the other, each from what the one before it left.
 abbrev pub AnswersAll : {D : Type 0} → (D → Option DiskRecord) → (D → ℕ) → SeenKept D → List (List ℕ) → SeenKept D → Type 0
-AnswersAll told faults before [] after = after ≡ before
-AnswersAll {D} told faults before (request ∷ requests) after =
-    (between : SeenKept D) × AnswersKept told faults before request between × AnswersAll told faults between requests after
+AnswersAll told faults = InTurn (AnswersKept told faults)
 
 -- So many requests were answered one after the other, and the next one was met by a stop.
 pub record StopsAfter {D : Type 0} (told : D → Option DiskRecord) (faults : D → ℕ) (before : SeenKept D) (requests : List (List ℕ)) (answered : ℕ) (stop : JournalStop) (after : SeenKept D) : Type 0 where

@@ -106,13 +106,15 @@ impl<D: Disk> Answers for Kept<D> {
 
     ghost use Rattle.rb_trees.specs.mirror.Services.{mirror_service};
     ghost use Rattle.rb_session.specs.Answering.{IsTypedHost};
-    ghost use Rattle.rb_journal.specs.Keeping.{StopsKept};
+    ghost use Rattle.rb_journal.specs.Keeping.{AnswersKept, StopsKept};
 
     ghost service = { λ kept. mirror_service kept.host.service };
 
     ghost table = { λ kept. kept.host.table };
 
     ghost ready = { λ kept. IsTypedHost kept.host };
+
+    ghost does = { AnswersKept D.told D.faults };
 
     ghost stops = { StopsKept D.told D.faults };
 

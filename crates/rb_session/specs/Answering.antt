@@ -1,5 +1,5 @@
 -- What an answer appends, and what it makes of the host.
-use Rattle.std.specs.Prelude.{◌≡◌, ℕ, List, ◌++◌, Err}
+use Rattle.std.specs.Prelude.{◌≡◌, ℕ, List, [], ◌∷◌, ◌++◌, Err}
 use Rattle.rb_trees.specs.declared.services.Object.{Object}
 use Rattle.rb_trees.specs.mirror.Services.{Service, mirror_service}
 use Rattle.rb_meaning_bytes.specs.formats.Messages.{Sent, Refused}
@@ -14,6 +14,18 @@ use Rattle.rb_wire_forest.specs.Buffers.{Appends}
 -- The host's service is lawful and typed, and its table fits it.
 abbrev pub IsTypedHost : Hosted → Type 0
 IsTypedHost h = IsTyped (mirror_service h.service) h.table
+
+-- Payloads were answered in turn, each by whoever the one before it left.
+abbrev pub InTurn : {A : Type 0} → (A → List ℕ → A → Type 0) → A → List (List ℕ) → A → Type 0
+InTurn Answered before [] after = after ≡ before
+InTurn {A} Answered before (payload ∷ payloads) after = (between : A) × Answered before payload between × InTurn Answered between payloads after
+
+-- The first of the payloads were answered in turn, and no more.
+pub record SomeInTurn {A : Type 0} (Answered : A → List ℕ → A → Type 0) (before : A) (payloads : List (List ℕ)) (after : A) : Type 0 where
+  pub front : List (List ℕ)
+  pub rest : List (List ℕ)
+  pub parts : payloads ≡ front ++ rest
+  pub led : InTurn Answered before front after
 
 -- The server that a host is answers the payload so, and has the table of the host after.
 abbrev pub AnswersOn : Hosted → List ℕ → ℕ → List ℕ → Hosted → Type 0

@@ -27,6 +27,9 @@ pub trait Answers {
     /// It may be asked.
     ghost ready: { Self → Type 0 };
 
+    /// What an answered payload makes of whoever answers, beside the table.
+    ghost does: { Self → List ℕ → Self → Type 0 };
+
     /// A payload may be met by this stop, which leaves whoever answers so.
     ghost stops: { Self → List ℕ → Self.Stop → Self → Type 0 };
 
@@ -41,14 +44,15 @@ pub trait Answers {
         requires ready { ready self.old }
         ensures replies { let appends = AppendsReply (service self.old) (table self.old) (table self.new) in
             IfOk result (appends payload.now reply.old.items reply.new.items) }
+        ensures does { OnOk result (does self.old payload.now self.new) }
         ensures ready { OnOk result (ready self.new) }
         ensures service { service self.new ≡ service self.old }
         ensures stop { IfErr result (λ stop. stops self.old payload.now stop self.new) }
         ensures unchanged { OnErr result (reply.new.items ≡ reply.old.items) };
 }
 
-/// A host answers on its service and its table. It stops for want of memory, which has no cause; a payload that is refused
-/// leaves it as it was then too.
+/// A host answers on its service and its table, beside which there is nothing to change. It stops for want of memory, which has no
+/// cause; a payload that is refused leaves it as it was then too.
 impl Answers for Host {
     type Stop = Memory;
 
@@ -60,6 +64,8 @@ impl Answers for Host {
     ghost table = { λ host. host.table };
 
     ghost ready = { IsTypedHost };
+
+    ghost does = { λ before payload after. Unit {0} };
 
     ghost stops = { λ before payload stop after. StaysWhereRefused payload before after };
 

@@ -27,7 +27,8 @@ pub returns-in_err-push-clause-replies : goal.returns-in_err-push-clause-replies
 returns-in_err-push-clause-replies g c =
     let p = err_from_is_err_and c.from_residual-in_err-push.result c.from_residual-in_err-push.ensures.1 in
     rw (p.1, p.2)
-    (left_memory g.A.Answers c.args.answers.now c.loop-payload.answers c.reply_frame.new.answers _ _ _ _ _ c.push.new.self c.loop-payload.invariant.so_far c.in_err-push.ensures.err)
+    (left_memory g.A.Answers c.args.answers.now c.loop-payload.answers c.reply_frame.new.answers _ _ _ _ _ _ _ _ c.push.new.self c.loop-payload-test.true (c.as_slice.ensures ∙ c.payload-item.is)
+    c.loop-payload.invariant.so_far c.in_ok-frame.ensures.replies c.in_err-push.ensures.err)
 
 pub returns-clause-replies : goal.returns-clause-replies
 returns-clause-replies g c = answered_all g.A.Answers c.args.answers.now c.loop-payload.answers _ _ _ _ _ c.loop-payload-test.false c.loop-payload.invariant.so_far

@@ -1,24 +1,22 @@
 -- What was served so far, and how it ends.
-use Rattle.std.proofs.Common.{refl, ap, ◌∙◌, Ok, arith, []}
+use Rattle.std.proofs.Common.{refl, ap, ◌∙◌, Ok, arith}
 use Rattle.rb_base.specs.Devices.{device}
-use Rattle.rb_hub.specs.Serving.{hub_ends}
-use Rattle.rb_hub.proofs.SoFar.{none_so_far}
-use Rattle.rb_hub.proofs.Pieces.{AllLaws, is_last, source_ended, read_fault, was_read, still_going, has_ended, few_passed, smaller, may_leave, has_stopped, no_end}
+use Rattle.rb_hub.proofs.Pieces.{AllLaws, not_begun, is_last, source_ended, read_fault, was_read, still_going, has_ended, few_passed, smaller, may_leave, has_stopped, no_end}
 use Rattle.rb_hub.proofs.serving.serve_pieces.Goals as goal
 
 pub pieces-init : goal.pieces-init
 pieces-init g c = record {
-  served = λ past is s. ([], none_so_far past c.args.hub.now _ c.streams_are_read.ensures.streams c.streams_are_read.ensures.fronts s);
+  served = not_begun g.A.Answers c.args.number c.args.hub.now _ c.streams_are_read.ensures.streams c.streams_are_read.ensures.fronts;
   room = c.requires.room;
   few = c.requires.few;
   service = refl;
 }
 
 pub close_last-requires : goal.close_last-requires
-close_last-requires g c = is_last c.args.number c.args.hub.now c.pieces.hub _ _ c.pieces.requests c.requires.new c.pieces.invariant.served
+close_last-requires g c = is_last {X = g.row.A-Stop.Denot} g.A.Answers c.args.number c.args.hub.now c.pieces.hub _ _ c.pieces.requests c.requires.new c.pieces.invariant.served
 
 pub close_last-end-requires : goal.close_last-end-requires
-close_last-end-requires g c = is_last c.args.number c.args.hub.now c.pieces.hub _ _ c.pieces.requests c.requires.new c.pieces.invariant.served
+close_last-end-requires g c = is_last {X = g.row.A-Stop.Denot} g.A.Answers c.args.number c.args.hub.now c.pieces.hub _ _ c.pieces.requests c.requires.new c.pieces.invariant.served
 
 pub returns-in-Err-clause-serves : goal.returns-in-Err-clause-serves
 returns-in-Err-clause-serves g c =

@@ -10,7 +10,7 @@ invariant-pieces g l =
     let first = hub_ends g.A.Answers l.initial.hub (device g.S.Source.told g.S.Source.faults l.initial.source) (device g.K.Sink.told g.K.Sink.faults l.initial.sink) in
     let last = hub_ends g.A.Answers l.hub (device g.S.Source.told g.S.Source.faults l.source) (device g.K.Sink.told g.K.Sink.faults l.sink) in
     record {
-      served : Going l.number l.initial.hub l.hub first last l.requests;
+      served : Going g.A.Answers l.number l.initial.hub l.hub first last l.requests;
       room : 0 < length l.buffer;
       few : length l.buffer ≤ most_read;
       service : g.A.Answers.service l.hub.answers ≡ g.A.Answers.service l.initial.hub.answers;

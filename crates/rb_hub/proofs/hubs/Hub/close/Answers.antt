@@ -1,5 +1,5 @@
 -- A session that is closed leads on from where the hub stood.
-use Rattle.std.proofs.Common.{refl, sym, ◌∙◌, ap}
+use Rattle.std.proofs.Common.{◌∙◌, ap}
 use Rattle.rb_meaning_frames.specs.Histories.{Close}
 use Rattle.rb_hub.specs.Hubs.{HubSeen, refusal_of}
 use Rattle.rb_hub.proofs.Somewhere.{closed}
