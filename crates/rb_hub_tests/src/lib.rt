@@ -10,6 +10,8 @@ mod limited;
 #[cfg(test)]
 mod links;
 #[cfg(test)]
+mod orders;
+#[cfg(test)]
 mod rows;
 #[cfg(test)]
 mod serving;

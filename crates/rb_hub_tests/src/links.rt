@@ -43,17 +43,34 @@ fn expect_reply(link: &mut HubLink) -> Result<(), Fail> {
     }
 }
 
-#[test]
-fn a_link_skips_what_others_do_with_its_own_session(rt: HostRuntime) -> Result<(), Fail> {
-    let alloc = rt.alloc();
+/// Why there is no link.
+fn fail_of(stop: &HubLinkStop) -> Fail {
+    match stop {
+        HubLinkStop::Refused(..) => Fail::new("no session is opened"),
+        HubLinkStop::Memory => Memory.into(),
+    }
+}
+
+/// A link through a new hub, with what others do.
+fn link_of(alloc: Global, others: Seq<Seq<Event>>) -> Result<HubLink, Fail> {
     let hub = Hub::make(alloc, number_host(alloc)?);
-    let mut link = match HubLink::make(alloc, hub, others_of(alloc)?) {
-        Ok(link) => link,
-        Err(HubLinkStop::Refused(..)) => return Err(Fail::new("no session is opened")),
-        Err(HubLinkStop::Memory) => return Err(Memory.into()),
-    };
-    expect_reply(&mut link)?;
-    expect_reply(&mut link)?;
+    match HubLink::make(alloc, hub, others) {
+        Ok(link) => Ok(link),
+        Err(stop) => Err(fail_of(&stop)),
+    }
+}
+
+/// Fails where two exchanges over a link don't find its own session as it was, and that of others.
+fn expect_exchanges(link: &mut HubLink) -> Result<(), Fail> {
+    expect_reply(link)?;
+    expect_reply(link)?;
     expect(link.pairs().len() == 2, "another number of exchanges")?;
     expect(link.hub().opened() == 2, "another number of sessions")
+}
+
+#[test]
+fn a_link_skips_what_others_do_with_its_own_session(rt: HostRuntime) -> Result<(), Fail> {
+    let others = others_of(rt.alloc())?;
+    let mut link = link_of(rt.alloc(), others)?;
+    expect_exchanges(&mut link)
 }

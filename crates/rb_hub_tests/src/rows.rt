@@ -7,7 +7,7 @@ use crate::streams::{
 };
 use rb_exec::Host;
 use rb_hub::{End, Event, Hub, HubRefusal, HubStop, Out, play};
-use rb_trees::{Memory, Seq};
+use rb_trees::{Memory, Seq, Word};
 use std::alloc::Global;
 use std::collections::VecDeque;
 use std::test::Fail;
@@ -145,18 +145,27 @@ fn refused_of(
     Ok(refused)
 }
 
+/// Fails where a hub does something else by the events of a row.
+fn expect_done(alloc: Global, hub: &mut Hub<Host>, row: &Row) -> Result<(), Fail> {
+    let mut outs = Seq::new(alloc);
+    let refused = refused_of(alloc, hub, row.events, &mut outs)?;
+    expect_outs(outs.as_slice(), row.outs)?;
+    expect(
+        refused.as_slice() == row.refused,
+        "other events are refused",
+    )
+}
+
+/// Fails where a new hub does something else by the events of a row.
+fn expect_row(alloc: Global, row: &Row) -> Result<(), Fail> {
+    let mut hub = Hub::make(alloc, number_host(alloc)?);
+    expect_done(alloc, &mut hub, row)
+}
+
 #[test]
 fn hubs_do_what_the_rows_say(rt: HostRuntime) -> Result<(), Fail> {
-    let alloc = rt.alloc();
     for row in ROWS {
-        let mut outs = Seq::new(alloc);
-        let mut hub = Hub::make(alloc, number_host(alloc)?);
-        let refused = refused_of(alloc, &mut hub, row.events, &mut outs)?;
-        expect_outs(outs.as_slice(), row.outs)?;
-        expect(
-            refused.as_slice() == row.refused,
-            "other events are refused",
-        )?;
+        expect_row(rt.alloc(), row)?;
     }
     Ok(())
 }
@@ -170,30 +179,46 @@ fn events_of(alloc: Global, comes: &[Come]) -> Result<VecDeque<Event>, Memory> {
     Ok(events)
 }
 
-/// Plays events on a new hub, and gives its host back.
-fn played(alloc: Global, comes: &[Come], outs: &mut Seq<Out>) -> Result<Host, Fail> {
-    let mut hub = Hub::make(alloc, number_host(alloc)?);
-    match play(alloc, &mut hub, events_of(alloc, comes)?, outs) {
-        Ok(()) => Ok(hub.into_answers()),
-        Err(_) => Err(Memory.into()),
+/// Plays events at once.
+fn play_all(
+    alloc: Global,
+    hub: &mut Hub<Host>,
+    events: VecDeque<Event>,
+    outs: &mut Seq<Out>,
+) -> Result<(), Memory> {
+    match play(alloc, hub, events, outs) {
+        Ok(()) => Ok(()),
+        Err(_) => Err(Memory),
     }
+}
+
+/// Plays events on a new hub, and gives the lines of its host's table.
+fn lines_after(alloc: Global, events: VecDeque<Event>, outs: &mut Seq<Out>) -> Result<Word, Fail> {
+    let mut hub = Hub::make(alloc, number_host(alloc)?);
+    play_all(alloc, &mut hub, events, outs)?;
+    let host = hub.into_answers();
+    lines_of(alloc, &host)
+}
+
+/// Fails where something else comes out of the events of a row, or another table is left.
+fn expect_played(alloc: Global, row: &Row) -> Result<(), Fail> {
+    let mut outs = Seq::new(alloc);
+    let events = events_of(alloc, row.events)?;
+    let lines = lines_after(alloc, events, &mut outs)?;
+    expect_outs(outs.as_slice(), row.outs)?;
+    expect(lines.as_slice() == NUMBER_TABLE, "another table")
 }
 
 #[test]
 fn rows_are_played_at_once(rt: HostRuntime) -> Result<(), Fail> {
-    let alloc = rt.alloc();
     for row in ROWS {
-        let mut outs = Seq::new(alloc);
-        let host = played(alloc, row.events, &mut outs)?;
-        expect_outs(outs.as_slice(), row.outs)?;
-        let lines = lines_of(alloc, &host)?;
-        expect(lines.as_slice() == NUMBER_TABLE, "another table")?;
+        expect_played(rt.alloc(), row)?;
     }
     Ok(())
 }
 
 /// Opens sessions, and fails where one isn't opened under the next number.
-fn open_all(alloc: Global, hub: &mut Hub<Host>, count: u32) -> Result<(), Fail> {
+pub fn open_all(alloc: Global, hub: &mut Hub<Host>, count: u32) -> Result<(), Fail> {
     for number in 0..count {
         let mut outs = Seq::new(alloc);
         let refusal = refusal_of(alloc, hub, Event::Open, &mut outs)?;
