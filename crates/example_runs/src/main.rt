@@ -2,6 +2,7 @@
 #![tactic(auto)]
 
 use rb_base::{MemoryFiles, MemorySink, SteadyListen};
+use rb_disk::NullStores;
 use rb_session::NullDial;
 use rb_top::top;
 use rb_trees::{Memory, Seq};
@@ -85,6 +86,7 @@ fn answered(alloc: Global, command: &str, files: &mut MemoryFiles) -> Result<Str
         &mut out,
         &mut dial,
         &mut listen,
+        &mut NullStores,
     );
     let code = status.code();
     let text = str::from_utf8(out.written()).unwrap_or("not UTF-8");

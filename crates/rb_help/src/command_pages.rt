@@ -31,6 +31,9 @@ const FUEL: &[u8] =
 
 const COUNT: &[u8] = b"  COUNT    how many clients are served: a number from 1 to 1000000\n";
 
+const JOURNAL: &[u8] =
+    b"  JOURNAL  the file of the journal: it is made where it isn't there, and one process at a time uses it\n";
+
 const EVENTS: &[u8] =
     b"  EVENTS   the file of the events, one a line: `open`, `piece K HEX` or `close K`\n";
 
@@ -78,11 +81,16 @@ const LONG_FILE: &[u8] = b"  13  a file has more than 1048576 bytes\n";
 
 const NO_EVENT: &[u8] = b"  14  a line of the events isn't of their form\n";
 
+const NO_DISK: &[u8] = b"  15  the journal's file can't be had, or a call of it failed\n";
+
+const NO_JOURNAL: &[u8] =
+    b"  16  the journal is full, or the file is none, or a record of it is bad\n";
+
 const NO_REQUEST: &[u8] = b"  17  the request isn't JSON, or isn't of the form of requests\n";
 
 /// The pages of all commands.
-pub static COMMANDS: [CommandPage; 11] = [
-    CHECK, SPLIT, UNSPLIT, BOTH, RUN, PAIR, SERVE, CHILD, HUB, JSON, TRIAL,
+pub static COMMANDS: [CommandPage; 12] = [
+    CHECK, SPLIT, UNSPLIT, BOTH, RUN, PAIR, SERVE, KEEP, CHILD, HUB, JSON, TRIAL,
 ];
 
 const CHECK: CommandPage = CommandPage {
@@ -224,6 +232,27 @@ A session ends where the client is silent for 60 seconds. RBI_TIMEOUT has anothe
         LONG_FILE,
     ],
     example: b"serve 127.0.0.1:4000 examples/files.rbs 1000",
+};
+
+const KEEP: CommandPage = CommandPage {
+    name: "keep",
+    form: b"keep ADDRESS SERVICE COUNT JOURNAL",
+    counts: (4, 4),
+    does: b"It serves as `serve` does, and keeps each accepted request in a journal before it performs it.
+The requests that the journal holds are performed first. So what a client was answered is there after a crash.\n",
+    words: &[ADDRESS, SERVICE, COUNT, JOURNAL],
+    statuses: &[
+        SERVED,
+        NO_FILE,
+        NO_SERVICE,
+        NO_OUTPUT,
+        NO_MEMORY,
+        NO_LISTENER,
+        LONG_FILE,
+        NO_DISK,
+        NO_JOURNAL,
+    ],
+    example: b"keep 127.0.0.1:4000 examples/files.rbs 1000 files.journal",
 };
 
 const CHILD: CommandPage = CommandPage {

@@ -7,7 +7,7 @@ use rb_trees::{Memory, Seq, Word};
 use std::alloc::Global;
 
 /// The lines that tell the forms of the commands, one for each command, and what their words are.
-pub static USAGE: [&[u8]; 16] = [
+pub static USAGE: [&[u8]; 17] = [
     b"The commands, where P is the file of a program and S that of a service:\n",
     b"  check P                tell whether the program P is accepted\n",
     b"  split P                show how each batch of P is divided\n",
@@ -16,6 +16,7 @@ pub static USAGE: [&[u8]; 16] = [
     b"  run ADDRESS P [FUEL]   run P on the server that listens at ADDRESS\n",
     b"  pair P S [FUEL]        run P, and S beside it in a child process\n",
     b"  serve ADDRESS S COUNT  serve S at ADDRESS to COUNT clients, one after the other\n",
+    b"  keep ADDRESS S COUNT J the same, and keep each request in the journal J before it is performed\n",
     b"  child S                serve S to one client over standard input and output\n",
     b"  hub E S                play the events of many clients, which stand in the file E, on S\n",
     b"  json S R               answer the request in JSON in the file R on S\n",

@@ -112,6 +112,8 @@ pub fn positions(alloc: Global, trouble: &Trouble<'_>) -> Result<Seq<u32>, Memor
         | Trouble::NoEvent(_, _)
         | Trouble::NotJson(_)
         | Trouble::WrongForm(_, _)
+        | Trouble::DiskFault(_)
+        | Trouble::Journal(_, _)
         | Trouble::LinkFault(_, _)
         | Trouble::BadReply(_, _, _)
         | Trouble::DialFault(_)

@@ -30,6 +30,17 @@ pub enum ReplyFlaw {
     Garbled,
 }
 
+/// What is wrong with a journal.
+#[derive(Clone, Copy)]
+pub enum JournalFlaw {
+    /// It is full.
+    Full,
+    /// The file is none.
+    None,
+    /// One of its records is bad.
+    BadRecord,
+}
+
 /// What went wrong in a command, borrowed from what its status holds. Positions are byte offsets of the text that the
 /// trouble speaks of: of the service for `Unserved`, and of the program for all others.
 #[derive(Drop)]
@@ -52,6 +63,10 @@ pub enum Trouble<'a> {
     NotJson(&'a [u8]),
     /// In the file of this name, the value of this number, from 0, is the first that breaks the form of requests in JSON.
     WrongForm(&'a [u8], u32),
+    /// The journal of this name can't be had, or a call of its file failed.
+    DiskFault(&'a [u8]),
+    /// The journal of this name is refused.
+    Journal(&'a [u8], JournalFlaw),
     /// A batch of the program isn't admitted or divided.
     Refused(&'a Refusal),
     /// The service's text is refused.

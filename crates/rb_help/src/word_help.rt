@@ -109,6 +109,9 @@ fn say_other_words(page: &mut Page, command: &CommandPage, words: &[String]) -> 
         [_, _, number] if command.counts == (3, 3) => {
             page.sentence(texts::NO_COUNT, number.as_bytes(), b"")?;
         }
+        [_, _, number, _] if command.counts == (4, 4) => {
+            page.sentence(texts::NO_COUNT, number.as_bytes(), b"")?;
+        }
         [_, _, number] if command.counts == (2, 3) => {
             page.sentence(texts::NO_FUEL, number.as_bytes(), b"")?;
         }

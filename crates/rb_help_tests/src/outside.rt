@@ -57,6 +57,7 @@ const USAGE: &str = "The commands, where P is the file of a program and S that o
   run ADDRESS P [FUEL]   run P on the server that listens at ADDRESS
   pair P S [FUEL]        run P, and S beside it in a child process
   serve ADDRESS S COUNT  serve S at ADDRESS to COUNT clients, one after the other
+  keep ADDRESS S COUNT J the same, and keep each request in the journal J before it is performed
   child S                serve S to one client over standard input and output
   hub E S                play the events of many clients, which stand in the file E, on S
   json S R               answer the request in JSON in the file R on S

@@ -1,8 +1,9 @@
 -- What is answered to a request in JSON where the service and the request are told.
-use Rattle.std.proofs.Common.{◌≡◌, ◌∙◌, List, Option, Some, Ok, Err, ℕ, refl, subst, sym}
+use Rattle.std.proofs.Common.{◌≡◌, ◌∙◌, List, Option, Ok, ℕ, subst, sym}
 use Rattle.rb_base.specs.Devices.{Device}
 use Rattle.rb_base.specs.Directories.{read_once}
 use Rattle.rb_base.specs.declared.links.Link as links
+use Rattle.rb_disk.specs.declared.disk.Disk as disks
 use Rattle.rb_json.specs.Requests.{request_in}
 use Rattle.rb_meaning_bytes.specs.formats.Messages.{Sent}
 use Rattle.rb_top.specs.Answers.{Says}
@@ -41,7 +42,7 @@ answering_done one a other text served sent result before after t (runs.answered
     of_form text served sent result before.out after.out t.reads
     (subst (λ x. AnswersJson x served result before.out after.out) here (subst (λ x. AnswersJson held x result before.out after.out) same went))
 
-module _ {L : Type 0} (g : links.Ghosts L) where
-  pub answers_told : OneService → (wanted : Option Wanted) (result : Status) (before after : Outside L) → Says g wanted result before after → AnswersTold wanted result before.scene after.scene
+module _ {L D : Type 0} (g : links.Ghosts L) (d : disks.Ghosts D) where
+  pub answers_told : OneService → (wanted : Option Wanted) (result : Status) (before after : Outside L) → Says g d wanted result before after → AnswersTold wanted result before.scene after.scene
   answers_told one wanted result before after said = λ a other text served sent w t.
-      answering_done one a other text served sent result before.scene after.scene t (subst (λ x. Says g x result before after) w said).0
+      answering_done one a other text served sent result before.scene after.scene t (subst (λ x. Says g d x result before after) w said).0

@@ -8,6 +8,7 @@ use Rattle.rb_shown.specs.Views.{shown_divisions}
 use Rattle.rb_base.specs.Devices.{Device}
 use Rattle.rb_base.specs.Directories.{Directory}
 use Rattle.rb_base.specs.declared.links.Link as links
+use Rattle.rb_disk.specs.declared.disk.Disk as disks
 use Rattle.rb_session.specs.Dials.{DialSeen, TakesNext, next_link}
 use Rattle.rb_session.specs.declared.dials.DialStop.TheVariants as dials
 use Rattle.rb_session.specs.declared.targets.Target.{Target}
@@ -53,7 +54,7 @@ abbrev service_of : Asked → List ℕ
 service_of (Run way p s fuel) = s
 service_of a = []
 
-module _ {L : Type 0} (g : links.Ghosts L) where
+module _ {L D : Type 0} (g : links.Ghosts L) (d : disks.Ghosts D) where
   -- What is said of a program that is told: memory was wanting before anything was said, or what was asked of it went on.
   of_told : OneSource → (a : Asked) (text : List ℕ) (program : Program) (result : Status) (dial dial' : DialSeen L) (before after : Scene) → ToldAccepted before.files.told (program_name a) text program → SaysOfProgram g a result dial dial' before after
       → ((result ≡ Memory) × (after.out ≡ before.out)) ⊎ Goes g text program result dial dial' (once_read before) after a
@@ -64,17 +65,17 @@ module _ {L : Type 0} (g : links.Ghosts L) where
       inr (subst (λ x. Goes g x program result dial dial' (once_read before) after a) is.0 (subst (λ q. Goes g found q result dial dial' (once_read before) after a) is.1 on))
 
   -- what is said of what was understood is said of the words
-  pub said_as : (understood wanted : Option Wanted) (result : Status) (before after : Outside L) → understood ≡ wanted → Says g understood result before after → Says g wanted result before after
-  said_as understood wanted result before after e h = subst (λ w. Says g w result before after) e h
+  pub said_as : (understood wanted : Option Wanted) (result : Status) (before after : Outside L) → understood ≡ wanted → Says g d understood result before after → Says g d wanted result before after
+  said_as understood wanted result before after e h = subst (λ w. Says g d w result before after) e h
 
   -- the words weren't understood
   pub said_nothing : (wanted : Option Wanted) (result : Status) (before : Outside L) (out : Device (List ℕ)) → None ≡ wanted → Ends Words (line (codes "words not understood")) result before.scene.out out
-      → Says g wanted result before (record before { scene = record before.scene { out = out } })
-  said_nothing wanted result before out n e = subst (λ w. Says g w result before (record before { scene = record before.scene { out = out } })) n (e, refl)
+      → Says g d wanted result before (record before { scene = record before.scene { out = out } })
+  said_nothing wanted result before out n e = subst (λ w. Says g d w result before (record before { scene = record before.scene { out = out } })) n (e, refl)
 
   -- what is said of a program where it is wanted
-  of_wanted : (a : Asked) (wanted : Option Wanted) (result : Status) (before after : Outside L) → wanted ≡ Some (OfProgram a) → Says g wanted result before after → SaysOfProgram g a result before.dial after.dial before.scene after.scene
-  of_wanted a wanted result before after w said = (subst (λ x. Says g x result before after) w said).0
+  of_wanted : (a : Asked) (wanted : Option Wanted) (result : Status) (before after : Outside L) → wanted ≡ Some (OfProgram a) → Says g d wanted result before after → SaysOfProgram g a result before.dial after.dial before.scene after.scene
+  of_wanted a wanted result before after w said = (subst (λ x. Says g d x result before after) w said).0
 
   -- `check P`
   went_checked : (text : List ℕ) (program : Program) (p : List ℕ) (a : Asked) (result : Status) (dial dial' : DialSeen L) (before after : Scene) → a ≡ Check p → Goes g text program result dial dial' before after a → Ends Done (line (codes "accepted")) result before.out after.out
@@ -84,7 +85,7 @@ module _ {L : Type 0} (g : links.Ghosts L) where
   went_checked text program p a result dial dial' before after w (answers.no_service way name s fuel t same) = absurd (cc w)
   went_checked text program p a result dial dial' before after w (answers.ran way name s other fuel served f i r e) = absurd (cc w)
 
-  pub checks_told : OneSource → (wanted : Option Wanted) (result : Status) (before after : Outside L) → Says g wanted result before after → ChecksTold wanted result before.scene after.scene
+  pub checks_told : OneSource → (wanted : Option Wanted) (result : Status) (before after : Outside L) → Says g d wanted result before after → ChecksTold wanted result before.scene after.scene
   checks_told one wanted result before after said = λ p text program w t.
       by_case p text program (of_told one (Check p) text program result before.dial after.dial before.scene after.scene t (of_wanted (Check p) wanted result before after w said))
     where
@@ -102,7 +103,7 @@ module _ {L : Type 0} (g : links.Ghosts L) where
   went_viewed text program ds p a result dial dial' before after v w (answers.no_service way name s fuel t same) = absurd (cc w)
   went_viewed text program ds p a result dial dial' before after v w (answers.ran way name s other fuel served f i r e) = absurd (cc w)
 
-  pub splits_told : OneSource → (wanted : Option Wanted) (result : Status) (before after : Outside L) → Says g wanted result before after → SplitsTold wanted result before.scene after.scene
+  pub splits_told : OneSource → (wanted : Option Wanted) (result : Status) (before after : Outside L) → Says g d wanted result before after → SplitsTold wanted result before.scene after.scene
   splits_told one wanted result before after said = λ p text program ds w t v.
       by_case p text program ds v (of_told one (Split p) text program result before.dial after.dial before.scene after.scene t (of_wanted (Split p) wanted result before after w said))
     where
@@ -146,7 +147,7 @@ module _ {L : Type 0} (g : links.Ghosts L) where
   run_near ways.Trial s text p fuel served result dial dial' before after n r = absurd n
 
   -- what was asked of a program and a service that are told: memory was wanting, or it was run
-  run_told : OneSource → OneService → (wanted : Option Wanted) (result : Status) (before after : Outside L) → Says g wanted result before after → (way : Way) (p s text other : List ℕ) (fuel : ℕ) (program : Program) (served : Served) → wanted ≡ Some (OfProgram (Run way p s fuel))
+  run_told : OneSource → OneService → (wanted : Option Wanted) (result : Status) (before after : Outside L) → Says g d wanted result before after → (way : Way) (p s text other : List ℕ) (fuel : ℕ) (program : Program) (served : Served) → wanted ≡ Some (OfProgram (Run way p s fuel))
       → ToldRun before.scene.files.told p s text other program served → (result ≡ Memory) ⊎ RunsBy g way s text program fuel served result before.dial after.dial before.scene.out after.scene.out
   run_told one services wanted result before after said way p s text other fuel program served w t =
       first (of_told one (Run way p s fuel) text program result before.dial after.dial before.scene after.scene t.accepted (of_wanted (Run way p s fuel) wanted result before after w said))
@@ -161,7 +162,7 @@ module _ {L : Type 0} (g : links.Ghosts L) where
       first (inl x) = inl x.0
       first (inr on) = then (went_run services text program way p s other fuel served (Run way p s fuel) result before.dial after.dial (once_read before.scene) after.scene refl t.service on)
 
-  pub runs_told : OneSource → OneService → (wanted : Option Wanted) (result : Status) (before after : Outside L) → Says g wanted result before after → RunsTold wanted result before.scene after.scene
+  pub runs_told : OneSource → OneService → (wanted : Option Wanted) (result : Status) (before after : Outside L) → Says g d wanted result before after → RunsTold wanted result before.scene after.scene
   runs_told one services wanted result before after said = λ way p s text other fuel program served w near t.
       by_case way s text fuel program served near (run_told one services wanted result before after said way p s text other fuel program served w t)
     where
@@ -194,7 +195,7 @@ module _ {L : Type 0} (g : links.Ghosts L) where
   went_called text program address p fuel a result dial dial' before after w (answers.no_service way name s fuel' t same) = absurd (cc w)
   went_called text program address p fuel a result dial dial' before after w (answers.ran way name s other fuel' served f i r e) = absurd (cc w)
 
-  pub calls_told : OneSource → (wanted : Option Wanted) (result : Status) (before after : Outside L) → Says g wanted result before after → CallsTold g wanted result before after
+  pub calls_told : OneSource → (wanted : Option Wanted) (result : Status) (before after : Outside L) → Says g d wanted result before after → CallsTold g wanted result before after
   calls_told one wanted result before after said = λ address p text fuel program b w t h.
       by_case address p text fuel program b h (of_told one (Call address p fuel) text program result before.dial after.dial before.scene after.scene t (of_wanted (Call address p fuel) wanted result before after w said))
     where
@@ -206,7 +207,7 @@ module _ {L : Type 0} (g : links.Ghosts L) where
           (went_called text program address p fuel (Call address p fuel) result before.dial after.dial (once_read before.scene) after.scene refl on)
 
   -- `pair P S FUEL`
-  pub pairs_told : OneSource → OneService → (wanted : Option Wanted) (result : Status) (before after : Outside L) → Says g wanted result before after → PairsTold g wanted result before after
+  pub pairs_told : OneSource → OneService → (wanted : Option Wanted) (result : Status) (before after : Outside L) → Says g d wanted result before after → PairsTold g wanted result before after
   pairs_told one services wanted result before after said = λ p s text other fuel program served b w t h.
       by_case s text fuel program b h (run_told one services wanted result before after said ways.Pair p s text other fuel program served w t)
     where
@@ -239,10 +240,10 @@ module _ {L : Type 0} (g : links.Ghosts L) where
       first (inr on) = then (went_run services text program ways.Trial (codes "p") (codes "s") other default_fuel served asked_in_trial result dial dial' (once_read before) after refl t.service on)
 
   -- what a trial answered
-  was_tried : (n : ℕ) (wanted : Option Wanted) (result : Status) (before after : Outside L) → wanted ≡ Some (Trial n) → Says g wanted result before after → Tries g n result before.dial after.dial before.scene.out after.scene.out
-  was_tried n wanted result before after w said = (subst (λ x. Says g x result before after) w said).0
+  was_tried : (n : ℕ) (wanted : Option Wanted) (result : Status) (before after : Outside L) → wanted ≡ Some (Trial n) → Says g d wanted result before after → Tries g n result before.dial after.dial before.scene.out after.scene.out
+  was_tried n wanted result before after w said = (subst (λ x. Says g d x result before after) w said).0
 
-  pub trials_told : OneSource → OneService → (wanted : Option Wanted) (result : Status) (before after : Outside L) → Says g wanted result before after → TrialsTold wanted result before.scene after.scene
+  pub trials_told : OneSource → OneService → (wanted : Option Wanted) (result : Status) (before after : Outside L) → Says g d wanted result before after → TrialsTold wanted result before.scene after.scene
   trials_told one services wanted result before after said = λ n program served w p s. by_case n program served p s (was_tried n wanted result before after w said)
     where
       by_case : (n : ℕ) (program : Program) (served : Served) → IsProgram trial_program program → IsService (trial_service n) served → Tries g n result before.dial after.dial before.scene.out after.scene.out

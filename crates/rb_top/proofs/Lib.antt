@@ -5,6 +5,11 @@ pub mod Completed
 pub mod Differ
 pub mod Ended
 pub mod Going
+pub mod KeptRequests
+pub mod KeptSessions
+pub mod KeptBegun
+pub mod KeptEnds
+pub mod KeptTold
 pub mod LinkRuns
 pub mod Lines
 pub mod PlayedOn

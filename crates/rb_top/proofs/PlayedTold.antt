@@ -1,24 +1,22 @@
 -- What a hub answers where its events and its service are told.
-use Rattle.std.proofs.Common.{◌≡◌, ◌⊎◌, List, Option, Some, Ok, Err, ℕ, refl, subst, inl, inr}
+use Rattle.std.proofs.Common.{◌≡◌, List, Option, ℕ, subst, inl, inr}
 use Rattle.rb_meaning_frames.specs.Histories.{Event}
 use Rattle.rb_base.specs.Devices.{Device}
 use Rattle.rb_base.specs.Directories.{Directory, read_once}
 use Rattle.rb_base.specs.declared.links.Link as links
+use Rattle.rb_disk.specs.declared.disk.Disk as disks
 use Rattle.rb_hub_lines.specs.Lines.{BreaksAtLine, HaveOneReading}
 use Rattle.rb_top.specs.Answers.{Says}
 use Rattle.rb_top.specs.Completeness.{IsDone, PlaysTold, ToldEvents}
-use Rattle.rb_top.specs.Ends as ends
-use Rattle.rb_top.specs.Ends.{Ends}
 use Rattle.rb_top.specs.HubRuns as runs
 use Rattle.rb_top.specs.HubRuns.{PlaysAs, PlaysHub, PlaysText}
 use Rattle.rb_top.specs.Runs.{Served}
 use Rattle.rb_top.specs.Scene.{Scene, Outside, once_read}
 use Rattle.rb_top.specs.Unusable.{NoService, NoText}
-use Rattle.rb_top.specs.Words.{Playing, Wanted, Play}
+use Rattle.rb_top.specs.Words.{Playing, Wanted}
 use Rattle.rb_top.specs.declared.printing.PrintStop.{PrintStop}
 use Rattle.rb_top.specs.declared.printing.PrintStop.TheVariants as print
 use Rattle.rb_top.specs.declared.status.Status.{Status}
-use Rattle.rb_top.specs.declared.status.Status.TheVariants.{Done}
 use Rattle.rb_top.specs.Printing.{stopped_status}
 use Rattle.rb_top.proofs.Complete.{only_starved}
 use Rattle.rb_top.proofs.ServedTold.{ends_done}
@@ -46,7 +44,7 @@ playing_done one lines p text other events served result before after t (runs.no
 playing_done one lines p text other events served result before after t (runs.played found also server holds finds is went files) =
     text_done lines p text found other events served server result before.files.told before.out after.out t (found_once before.files.told p.events text found t.finds holds.0) went
 
-module _ {L : Type 0} (g : links.Ghosts L) where
-  pub plays_told : OneService → HaveOneReading → (wanted : Option Wanted) (result : Status) (before after : Outside L) → Says g wanted result before after → PlaysTold wanted result before.scene
+module _ {L D : Type 0} (g : links.Ghosts L) (d : disks.Ghosts D) where
+  pub plays_told : OneService → HaveOneReading → (wanted : Option Wanted) (result : Status) (before after : Outside L) → Says g d wanted result before after → PlaysTold wanted result before.scene
   plays_told one lines wanted result before after said = λ p text other events served w t.
-      playing_done one lines p text other events served result before.scene after.scene t (subst (λ x. Says g x result before after) w said).0
+      playing_done one lines p text other events served result before.scene after.scene t (subst (λ x. Says g d x result before after) w said).0

@@ -6,6 +6,7 @@ use Rattle.rb_base.specs.Counts.{risen}
 use Rattle.rb_base.specs.Devices.{Device}
 use Rattle.rb_base.specs.Listening.{Back, GivesWhereTold, Listening, after_start, call_fails, started, with_back}
 use Rattle.rb_base.specs.declared.links.Link as links
+use Rattle.rb_disk.specs.declared.disk.Disk as disks
 use Rattle.rb_base.specs.declared.listens.ListenStop.TheVariants as stops
 use Rattle.rb_exec.specs.Hosted.{Hosted}
 use Rattle.rb_top.specs.Answers.{Says}
@@ -30,12 +31,12 @@ use Rattle.rb_top.proofs.Usable.{OneService, service_is_usable}
 
 -- What the listener tells after its start and so many sessions: the calls that it counts and lists are those of this run, and as many
 -- sessions came as are told.
-record Goes (first : Listening) (come served : ℕ) (told : Option Listening) : Type 0 where
-  it : Listening
-  tells : told ≡ Some it
-  calls_so : it.calls ≡ (after_calls (suc served) first).calls
-  failing_so : it.failing ≡ (after_calls (suc served) first).failing
-  come_so : served + length it.coming ≡ come
+pub record Goes (first : Listening) (come served : ℕ) (told : Option Listening) : Type 0 where
+  pub it : Listening
+  pub tells : told ≡ Some it
+  pub calls_so : it.calls ≡ (after_calls (suc served) first).calls
+  pub failing_so : it.failing ≡ (after_calls (suc served) first).failing
+  pub come_so : served + length it.coming ≡ come
 
 pub ends_done : (text : List ℕ) (result : Status) (before after : Device (List ℕ)) → Ends Done text result before after → IsDone result
 ends_done text result before after (ends.whole r w) = inl r
@@ -91,7 +92,7 @@ never_refused address count n told w last after few s f = by_told after.told (su
         absurd (cc (sym g.0 ∙ same_call s.it (after_calls (suc n) w.listening) s.calls_so s.failing_so ∙ fine))
 
 -- where a server stops, what it says is one of these
-abbrev StopsDone : {X : Type 0} → SessionsStop X → Type 0
+abbrev pub StopsDone : {X : Type 0} → SessionsStop X → Type 0
 StopsDone (Said status) = IsDone status
 StopsDone (Answers stop) = Unit {0}
 
@@ -102,11 +103,11 @@ last_done shown said after stop (sessions.starved e o) = inr (inr refl)
 last_done shown said after stop (sessions.stopped x e o) = tt
 
 -- the answer is not another one
-abbrev AnswersDone : {X : Type 0} → Result (Unit {0}) (SessionsStop X) → Type 0
+abbrev pub AnswersDone : {X : Type 0} → Result (Unit {0}) (SessionsStop X) → Type 0
 AnswersDone (Ok u) = Unit {0}
 AnswersDone (Err stop) = StopsDone stop
 
-sessions_done : {A R X : Type 0} (m : Manner A R X) (address : List ℕ) (told : Option Listening) (server left : A) (count : ℕ) (w : ListensWhole address count told) (listen last : Listener) (before after : Device (List ℕ)) (answer : Result (Unit {0}) (SessionsStop X)) → Goes w.listening (length w.sessions) 0 listen.told
+pub sessions_done : {A R X : Type 0} (m : Manner A R X) (address : List ℕ) (told : Option Listening) (server left : A) (count : ℕ) (w : ListensWhole address count told) (listen last : Listener) (before after : Device (List ℕ)) (answer : Result (Unit {0}) (SessionsStop X)) → Goes w.listening (length w.sessions) 0 listen.told
     → ServesSessions m server left count listen last before after answer → AnswersDone answer
 sessions_done m address told server left count w listen last before after answer s (sessions.all some) = tt
 sessions_done m address told server left count w listen last before after answer s (sessions.fewer n mid few some gives) = tt
@@ -126,7 +127,7 @@ first_fine address count told w =
     let fine = w.none_fails 0 (omega arith) in
     ap (λ b. cond b None (w.listening.addresses address)) fine ∙ w.is_there
 
-begun_goes : (address : List ℕ) (count : ℕ) (listen begun : Listener) (w : ListensWhole address count listen.told) → Starts address true listen begun → Goes w.listening (length w.sessions) 0 begun.told
+pub begun_goes : (address : List ℕ) (count : ℕ) (listen begun : Listener) (w : ListensWhole address count listen.told) → Starts address true listen begun → Goes w.listening (length w.sessions) 0 begun.told
 begun_goes address count listen begun w s = record {
   it = after_start address w.listening;
   tells = ap (λ l. l.told) s.after_is ∙ ap (option_map (after_start address)) w.tells;
@@ -137,7 +138,7 @@ begun_goes address count listen begun w s = record {
       omega (arith, e);
 }
 
-never_unstarted : (address : List ℕ) (count : ℕ) (listen after : Listener) → ListensWhole address count listen.told → Starts address false listen after → ⊥
+pub never_unstarted : (address : List ℕ) (count : ℕ) (listen after : Listener) → ListensWhole address count listen.told → Starts address false listen after → ⊥
 never_unstarted address count listen after w s =
     let told = subst (λ t. IfSome t (λ l. false ≡ is_some (started l address))) w.tells s.as_told in
     absurd (cc (told ∙ ap is_some (first_fine address count listen.told w)))
@@ -153,18 +154,18 @@ serving_done one v text served result listen last before after t w (servers.no_s
     inr (inr (only_starved (NoService before.files v.service) result before after (service_is_usable one before.files v.service text served t) tells).0)
 serving_done one v text served result listen last before after t w (servers.listens found s table f is l files) = listens_done _ v.address v.count result listen last before.out after.out w l
 
-module _ {L : Type 0} (g : links.Ghosts L) where
+module _ {L D : Type 0} (g : links.Ghosts L) (d : disks.Ghosts D) where
   by_serve : OneService → (v : Serving) (text : List ℕ) (served : Served) (wanted : Option Wanted) (result : Status) (before after : Outside L) → wanted ≡ Some (Serve v) → ToldService before.scene.files.told v.service text served → ListensWhole v.address v.count before.listen.told
-      → Says g wanted result before after → IsDone result
+      → Says g d wanted result before after → IsDone result
   by_serve one v text served wanted result before after w t l said =
-      serving_done one v text served result before.listen after.listen before.scene after.scene t l (subst (λ x. Says g x result before after) w said).0
+      serving_done one v text served result before.listen after.listen before.scene after.scene t l (subst (λ x. Says g d x result before after) w said).0
 
   by_child : OneService → (s text : List ℕ) (served : Served) (wanted : Option Wanted) (result : Status) (before after : Outside L) → wanted ≡ Some (Child s) → ToldService before.scene.files.told s text served → ListensWhole (child_of s).address (child_of s).count before.listen.told
-      → Says g wanted result before after → IsDone result
+      → Says g d wanted result before after → IsDone result
   by_child one s text served wanted result before after w t l said =
-      serving_done one (child_of s) text served result before.listen after.listen (unheard before.scene) (unheard after.scene) t l (subst (λ x. Says g x result before after) w said).0.serves
+      serving_done one (child_of s) text served result before.listen after.listen (unheard before.scene) (unheard after.scene) t l (subst (λ x. Says g d x result before after) w said).0.serves
 
-  pub serves_told : OneService → (wanted : Option Wanted) (result : Status) (before after : Outside L) → Says g wanted result before after → ServesTold wanted result before
+  pub serves_told : OneService → (wanted : Option Wanted) (result : Status) (before after : Outside L) → Says g d wanted result before after → ServesTold wanted result before
   serves_told one wanted result before after said = λ v text served w t l. by_case v text served t l w
     where
       by_case : (v : Serving) (text : List ℕ) (served : Served) → ToldService before.scene.files.told v.service text served → ListensWhole v.address v.count before.listen.told

@@ -4,7 +4,6 @@ use Rattle.std.specs.Prelude.{IfSome, cond, if◌then◌else◌, is_some, nat_le
 use Rattle.std.specs.Result.{is_ok}
 use Rattle.std.proofs.lemmas.Bool.{lt-leb}
 use Rattle.rb_trees.specs.declared.services.Object.{Object}
-use Rattle.rb_trees.specs.declared.want.Memory as wants
 use Rattle.rb_trees.specs.mirror.Services.{mirror_service}
 use Rattle.rb_meaning.specs.Shown.{line, shown_table}
 use Rattle.rb_base.specs.Counts.{risen}

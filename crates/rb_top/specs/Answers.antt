@@ -7,12 +7,14 @@ use Rattle.rb_shown.specs.Views.{shown_divisions}
 use Rattle.rb_base.specs.Devices.{Device}
 use Rattle.rb_base.specs.Directories.{Directory, read_once, Finds}
 use Rattle.rb_base.specs.declared.links.Link as links
+use Rattle.rb_disk.specs.declared.disk.Disk as disks
 use Rattle.rb_session.specs.Dials.{DialSeen}
 use Rattle.rb_session.specs.declared.targets.Target.TheVariants as targets
 use Rattle.rb_top.specs.DialRuns.{Dials, RunsInMemory}
 use Rattle.rb_top.specs.Ends.{Ends}
 use Rattle.rb_top.specs.HubRuns.{PlaysAs}
 use Rattle.rb_top.specs.JsonRuns.{AnswersAs}
+use Rattle.rb_top.specs.KeepRuns.{KeepsAs}
 use Rattle.rb_top.specs.LinkRuns.{run_end_with_count, run_end_with_table}
 use Rattle.rb_top.specs.Loads.{HoldsProgram}
 use Rattle.rb_top.specs.Runs.{Served, run_status, run_text}
@@ -21,7 +23,7 @@ use Rattle.rb_top.specs.Servers.{ServesAs, ServesUnheard}
 use Rattle.rb_top.specs.Texts.{IsService}
 use Rattle.rb_top.specs.Trials.{asked_in_trial, trial_files}
 use Rattle.rb_top.specs.Unusable.{TellsNoProgram, TellsNoService}
-use Rattle.rb_top.specs.Words.{Asked, Check, Split, Run, Call, Wanted, OfProgram, Serve, Child, Trial, Play, Answer, child_of, program_name}
+use Rattle.rb_top.specs.Words.{Asked, Check, Split, Run, Call, Wanted, OfProgram, Serve, Keep, Child, Trial, Play, Answer, child_of, program_name}
 use Rattle.rb_top.specs.declared.status.Status.{Status}
 use Rattle.rb_top.specs.declared.status.Status.TheVariants.{Done, Words, Memory}
 use Rattle.rb_top.specs.declared.words.Way.{Way}
@@ -67,22 +69,25 @@ pub data Tries {L : Type 0} (g : links.Ghosts L) (n : ℕ) (result : Status) (di
   starved_for_texts : result ≡ Memory → dial' ≡ dial → after ≡ before → Tries g n result dial dial' before after
 
 -- What is asked for was answered so. All else of the outside is left as it was.
-abbrev pub Does : {L : Type 0} → links.Ghosts L → Wanted → Status → Outside L → Outside L → Type 0
-Does g (OfProgram a) result before after =
+abbrev pub Does : {L D : Type 0} → links.Ghosts L → disks.Ghosts D → Wanted → Status → Outside L → Outside L → Type 0
+Does g d (OfProgram a) result before after =
     SaysOfProgram g a result before.dial after.dial before.scene after.scene × (after ≡ record before { scene = after.scene; dial = after.dial })
-Does g (Serve v) result before after =
+Does g d (Serve v) result before after =
     ServesAs v result before.listen after.listen before.scene after.scene × (after ≡ record before { scene = after.scene; listen = after.listen })
-Does g (Child s) result before after =
+Does g d (Keep k) result before after =
+    KeepsAs d k result before.listen after.listen before.stores after.stores before.scene after.scene
+    × (after ≡ record before { scene = after.scene; listen = after.listen; stores = after.stores })
+Does g d (Child s) result before after =
     ServesUnheard (child_of s) result before.listen after.listen before.scene after.scene × (after ≡ record before { scene = after.scene; listen = after.listen })
-Does g (Trial n) result before after =
+Does g d (Trial n) result before after =
     Tries g n result before.dial after.dial before.scene.out after.scene.out
     × (after ≡ record before { scene = record before.scene { out = after.scene.out }; dial = after.dial })
-Does g (Play p) result before after = PlaysAs p result before.scene after.scene × (after ≡ record before { scene = after.scene })
-Does g (Answer a) result before after = AnswersAs a result before.scene after.scene × (after ≡ record before { scene = after.scene })
+Does g d (Play p) result before after = PlaysAs p result before.scene after.scene × (after ≡ record before { scene = after.scene })
+Does g d (Answer a) result before after = AnswersAs a result before.scene after.scene × (after ≡ record before { scene = after.scene })
 
 -- What the words ask for was answered so; words that aren't understood are said to be such, and nothing else is done.
-abbrev pub Says : {L : Type 0} → links.Ghosts L → Option Wanted → Status → Outside L → Outside L → Type 0
-Says g None result before after =
+abbrev pub Says : {L D : Type 0} → links.Ghosts L → disks.Ghosts D → Option Wanted → Status → Outside L → Outside L → Type 0
+Says g d None result before after =
     Ends Words (line (codes "words not understood")) result before.scene.out after.scene.out
     × (after ≡ record before { scene = record before.scene { out = after.scene.out } })
-Says g (Some wanted) result before after = Does g wanted result before after
+Says g d (Some wanted) result before after = Does g d wanted result before after

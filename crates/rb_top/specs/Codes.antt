@@ -1,7 +1,7 @@
 -- The exit status of each answer.
 use Rattle.std.specs.Prelude.{ℕ}
 use Rattle.rb_top.specs.declared.status.Status.{Status}
-use Rattle.rb_top.specs.declared.status.Status.TheVariants.{Done, Faulted, Words, FileFault, SourceRefused, BatchRefused, ServiceRefused, LinkFault, BadReply, WriteFault, Memory, DialFault, ListenFault, FileTooLong, EventRefused, JsonRefused}
+use Rattle.rb_top.specs.declared.status.Status.TheVariants.{Done, Faulted, Words, FileFault, SourceRefused, BatchRefused, ServiceRefused, LinkFault, BadReply, WriteFault, Memory, DialFault, ListenFault, FileTooLong, EventRefused, DiskFault, JournalRefused, JsonRefused}
 
 abbrev pub code_of : Status → ℕ
 code_of Done = 0
@@ -19,4 +19,6 @@ code_of DialFault = 11
 code_of ListenFault = 12
 code_of (FileTooLong name) = 13
 code_of (EventRefused number) = 14
+code_of (DiskFault name) = 15
+code_of (JournalRefused number) = 16
 code_of (JsonRefused refusal) = 17

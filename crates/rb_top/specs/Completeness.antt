@@ -1,5 +1,5 @@
 -- What is answered where the outside tells all that a command needs, and no call of it fails but for a write.
-use Rattle.std.specs.Prelude.{◌≡◌, ◌<◌, ◌⊎◌, ℕ, zero, suc, min, List, length, map, false, Option, None, Some, Ok, codes}
+use Rattle.std.specs.Prelude.{◌≡◌, ◌≢◌, ◌<◌, ◌⊎◌, ℕ, zero, suc, min, List, length, map, false, Option, None, Some, Ok, codes}
 use Rattle.rb_trees.specs.declared.services.Object.{Object}
 use Rattle.rb_trees.specs.declared.values.Value.{Value}
 use Rattle.rb_trees.specs.mirror.Declarations.{Program}
@@ -12,12 +12,15 @@ use Rattle.rb_meaning_code.specs.State.{Local}
 use Rattle.rb_meaning_split.specs.Division.{Division, divisions}
 use Rattle.rb_law_client.specs.Reached.{ProgramComesTo}
 use Rattle.rb_shown.specs.Views.{shown_divisions}
+use Rattle.rb_base.specs.Counts.{risen}
 use Rattle.rb_base.specs.Devices.{Device}
 use Rattle.rb_base.specs.Directories.{Directory, next_read, told_after}
 use Rattle.rb_base.specs.Listening.{Listening, call_fails, called}
 use Rattle.rb_base.specs.declared.links.Link as links
 use Rattle.rb_base.specs.declared.listens.Coming.{Coming}
 use Rattle.rb_client.specs.Servers.{fails_after}
+use Rattle.rb_disk.specs.Images.{DiskRecord, shown}
+use Rattle.rb_disk.specs.Storing.{StoreSeen, Storing, next_disk}
 use Rattle.rb_hub_lines.specs.Lines.{HoldsEvents}
 use Rattle.rb_json.specs.Requests.{request_in}
 use Rattle.rb_meaning_bytes.specs.formats.Messages.{Sent}
@@ -28,14 +31,15 @@ use Rattle.rb_session.specs.declared.targets.Target.TheVariants as targets
 use Rattle.rb_top.specs.Answers.{EndsRun}
 use Rattle.rb_top.specs.Ends.{Ends}
 use Rattle.rb_top.specs.JsonRuns.{shown_json}
+use Rattle.rb_top.specs.KeepRuns.{IsJournalOf}
 use Rattle.rb_top.specs.LinkRuns.{served_by}
 use Rattle.rb_top.specs.Runs.{Served, counted_text, ended_status, run_status, shown_lines}
 use Rattle.rb_top.specs.Scene as scenes
 use Rattle.rb_top.specs.Texts.{IsProgram, IsService, WithinLength}
 use Rattle.rb_top.specs.Trials.{trial_program, trial_service}
-use Rattle.rb_top.specs.Words.{Check, Split, Run, Call, Asking, Playing, Serving, Wanted, OfProgram, Serve, Child, Trial, Play, Answer, child_of, default_fuel}
+use Rattle.rb_top.specs.Words.{Check, Split, Run, Call, Asking, Keeping, Playing, Serving, Wanted, OfProgram, Serve, Keep, Child, Trial, Play, Answer, child_of, default_fuel}
 use Rattle.rb_top.specs.declared.status.Status.{Status}
-use Rattle.rb_top.specs.declared.status.Status.TheVariants.{Done, WriteFault, Memory}
+use Rattle.rb_top.specs.declared.status.Status.TheVariants.{Done, JournalRefused, WriteFault, Memory}
 use Rattle.rb_top.specs.declared.words.Way.{Way}
 use Rattle.rb_top.specs.declared.words.Way.TheVariants as ways
 
@@ -169,6 +173,28 @@ abbrev pub ServesTold : {L : Type 0} → Option Wanted → Status → scenes.Out
 ServesTold wanted result before = (v : Serving) (text : List ℕ) (served : Served) → (wanted ≡ Some (Serve v)) ⊎ ((wanted ≡ Some (Child v.service)) × (v ≡ child_of v.service))
     → ToldService before.scene.files.told v.service text served → ListensWhole v.address v.count before.listen.told → IsDone result
 
+-- The stores tell a disk under the name, whose bytes stand for a journal's payloads, or are none.
+pub record ToldJournal (name : List ℕ) (told : Option Storing) : Type 0 where
+  pub storing : Storing
+  pub tells : told ≡ Some storing
+  pub disk : Device DiskRecord
+  pub is_next : next_disk storing name ≡ Some disk
+  pub reads : DiskRecord
+  pub records : disk.told ≡ Some reads
+  pub payloads : List (List ℕ)
+  pub are : IsJournalOf (shown reads) payloads
+
+-- No disk came back broken: the count of those stands where it stood, and not at its end.
+abbrev pub IsUnbroken : StoreSeen → StoreSeen → Type 0
+IsUnbroken before after = (after.broken ≡ before.broken) × (risen before.broken ≢ before.broken)
+
+-- Where `keep ADDRESS S COUNT J` is asked, the files tell its service, the listener its sessions and the stores its journal, and no disk
+-- came back broken: the answer is Done, unless the journal is full, the output fails or memory is wanting.
+abbrev pub KeepsTold : {L : Type 0} → Option Wanted → Status → scenes.Outside L → scenes.Outside L → Type 0
+KeepsTold wanted result before after = (k : Keeping) (text : List ℕ) (served : Served) → wanted ≡ Some (Keep k)
+    → ToldService before.scene.files.told k.serving.service text served → ListensWhole k.serving.address k.serving.count before.listen.told
+    → ToldJournal k.journal before.stores.told → IsUnbroken before.stores after.stores → IsDone result ⊎ (result ≡ JournalRefused 3)
+
 -- The files tell the lines of events, and then a service with its table, under these names, read one after the other.
 pub record ToldEvents (told : Option Directory) (p : Playing) (text other : List ℕ) (events : List Event) (served : Served) : Type 0 where
   pub finds : IsTold told p.events text
@@ -208,6 +234,8 @@ pub record Completes {L : Type 0} (g : links.Ghosts L) (wanted : Option Wanted) 
   pub pairs : PairsTold g wanted result before after
   -- A server serves to its end.
   pub serves : ServesTold wanted result before
+  -- So does one that keeps its requests.
+  pub keeps : KeepsTold wanted result before after
   -- Events are played to the last.
   pub plays : PlaysTold wanted result before.scene
   -- A request in JSON is answered.

@@ -9,6 +9,8 @@ pub mod DialRuns
 pub mod Ends
 pub mod HubRuns
 pub mod JsonRuns
+pub mod KeepParts
+pub mod KeepRuns
 pub mod LinkRuns
 pub mod Loads
 pub mod Manners

@@ -8,7 +8,7 @@ use Rattle.rb_session.specs.declared.serving.Served.{Served}
 use Rattle.rb_session.specs.declared.serving.ServeCause.{ServeCause}
 use Rattle.rb_session.specs.declared.serving.ServeCause.TheVariants as causes
 use Rattle.rb_session.specs.declared.serving.ServeStop.{ServeStop}
-use Rattle.rb_hub.specs.Serving.{IfStopped, ServesUnlessStopped, StopsServing}
+use Rattle.rb_hub.specs.Serving.{AnswersStream, IfStopped, ServesUnlessStopped, StopsServing}
 use Rattle.rb_hub.specs.declared.serving.HubServeStop.{HubServeStop}
 use Rattle.rb_hub.specs.declared.serving.HubServeStop.TheVariants.{Serve, Answers}
 use Rattle.rb_top.specs.SessionLines.{shown_session}
@@ -59,6 +59,7 @@ shown_hub_answer number (Err (Answers stop)) = Stopped stop
 pub record ServesAnswers {A X : Type 0} (a : answerers.Ghosts A X) (before after : A) (first last : Back) (answer : Result Served (HubServeStop X)) : Type 0 where
   pub serves : ServesUnlessStopped (answers_at a before first) (answers_at a after last) answer
   pub stops : IfStopped answer (StopsServing a after (answers_at a before first) (answers_at a after last))
+  pub answers : AnswersStream a.does a.stops before after (answers_at a before first) (answers_at a after last) answer
 
 abbrev pub hub_manner : {A X : Type 0} → answerers.Ghosts A X → Manner A (Result Served (HubServeStop X)) X
 hub_manner a = record {

@@ -8,7 +8,7 @@ use Rattle.rb_base.specs.Sinks.{with_bytes}
 use Rattle.rb_exec.specs.Hosted.{Hosted}
 use Rattle.rb_top.specs.Ends.{Ends}
 use Rattle.rb_top.specs.Sessions.{FailsToGive, GivesNone, InLine, Listener, Manner, ServesLast, ServesSession, ServesSessions, Shown, StarvesToGive, listen_line}
-use Rattle.rb_top.specs.Servers.{Listens, ServesAs, ServesHost, nothing_kept}
+use Rattle.rb_top.specs.Servers.{Listens, ServesAs, nothing_kept}
 use Rattle.rb_top.specs.Words.{Serving, child_of}
 use Rattle.rb_top.specs.declared.sessions.SessionsStop.{SessionsStop}
 use Rattle.rb_top.specs.declared.sessions.SessionsStop.TheVariants.{Said}

@@ -11,6 +11,7 @@ use Rattle.rb_top.specs.declared.words.Call as call
 use Rattle.rb_top.specs.declared.words.Command.{Command}
 use Rattle.rb_top.specs.declared.words.Command.TheVariants as commands
 use Rattle.rb_top.specs.declared.words.Job.{Job}
+use Rattle.rb_top.specs.declared.words.Keeping as keeping
 use Rattle.rb_top.specs.declared.words.Playing as playing
 use Rattle.rb_top.specs.declared.words.Serving as serving
 use Rattle.rb_top.specs.declared.words.Task.{Task}
@@ -36,6 +37,11 @@ pub record Serving : Type 0 where
   pub service : List ℕ
   pub count : ℕ
 
+-- what is asked of a server that keeps its requests: the same, and the name of the journal's disk
+pub record Keeping : Type 0 where
+  pub serving : Serving
+  pub journal : List ℕ
+
 -- what is asked of a hub: the file of its events, and the file of its service
 pub record Playing : Type 0 where
   pub events : List ℕ
@@ -46,11 +52,12 @@ pub record Asking : Type 0 where
   pub service : List ℕ
   pub request : List ℕ
 
--- what words ask for: something of a program, a server, a server over one session that prints nothing, a trial of so many files, a hub
--- that plays events, or the answer to a request in JSON
+-- what words ask for: something of a program, a server, one that keeps its requests, a server over one session that prints nothing,
+-- a trial of so many files, a hub that plays events, or the answer to a request in JSON
 pub data Wanted : Type 0 where
   OfProgram : (a : Asked) → Wanted
   Serve : (v : Serving) → Wanted
+  Keep : (k : Keeping) → Wanted
   Child : (s : List ℕ) → Wanted
   Trial : (n : ℕ) → Wanted
   Play : (p : Playing) → Wanted
@@ -140,11 +147,17 @@ run_or_serve_of command a b number =
     cond (bytes_eq command (codes "serve")) (option_map (λ count. Serve (serve_of a b count)) (count_of number))
     (option_map OfProgram (option_and_then (run_of command a b) (fuel_of number)))
 
+-- `keep ADDRESS S COUNT J`
+unfoldable pub keep_of : List ℕ → List ℕ → List ℕ → List ℕ → List ℕ → Option Wanted
+keep_of command address s number j =
+    cond (bytes_eq command (codes "keep")) (option_map (λ count. Keep (record { serving = serve_of address s count; journal = j })) (count_of number)) None
+
 -- what words ask for, if they are understood
 abbrev pub wanted : List (List ℕ) → Option Wanted
 wanted (command ∷ f ∷ []) = view_of command f
 wanted (command ∷ a ∷ b ∷ []) = run_on_files_of command a b
 wanted (command ∷ a ∷ b ∷ number ∷ []) = run_or_serve_of command a b number
+wanted (command ∷ a ∷ b ∷ number ∷ j ∷ []) = keep_of command a b number j
 wanted _ = None
 
 -- the name of the file of the program
@@ -171,6 +184,10 @@ asked_by (tasks.Call c) = asked_call c
 abbrev pub serving_by : serving.Serving → Serving
 serving_by v = record { address = v.address.now; service = v.service.now; count = v.count }
 
+-- what is asked of a server that keeps its requests
+abbrev pub keeping_by : keeping.Keeping → Keeping
+keeping_by k = record { serving = serving_by k.serving; journal = k.journal.now }
+
 -- what is asked of a hub
 abbrev pub playing_by : playing.Playing → Playing
 playing_by p = record { events = p.events.now; service = p.service.now }
@@ -182,6 +199,7 @@ asking_by a = record { service = a.service.now; request = a.request.now }
 abbrev pub wanted_by : Command → Wanted
 wanted_by (commands.Program task) = OfProgram (asked_by task)
 wanted_by (commands.Serve v) = Serve (serving_by v)
+wanted_by (commands.Keep k) = Keep (keeping_by k)
 wanted_by (commands.Child s) = Child s.now
 wanted_by (commands.Trial n) = Trial n
 wanted_by (commands.Hub p) = Play (playing_by p)

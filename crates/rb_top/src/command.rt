@@ -26,6 +26,7 @@ use crate::dial_run::run_dialled;
 use crate::divisions::divisions_text;
 use crate::hub_run::run_hub;
 use crate::json_run::run_json;
+use crate::keep_run::run_keep;
 use crate::loaded::{loaded_program, loaded_service};
 use crate::refusing::refuse_batch;
 use crate::saying::{run_answer, say};
@@ -36,9 +37,11 @@ use crate::trial::trial_files;
 use crate::unsplit_run::run_unsplit;
 use crate::words::{Call, Command, Job, Task, Way, command_of};
 use rb_base::{Files, Listen, Sink};
+use rb_disk::Stores;
 use rb_flow::{AdmitStop, Admitted};
 use rb_heap::Heap;
 use rb_hub_lines::event_lines_have_one_reading;
+use rb_journal::one_reading;
 use rb_parse::sources_have_one_outcome;
 use rb_session::{Dial, Target};
 use rb_split::{SplitStop, split_all};
@@ -254,20 +257,23 @@ fn run_trial<W: Sink, D: Dial>(alloc: Global, count: u64, dial: &mut D, out: &mu
 }
 
 /// Carries out a command.
-fn carry_out<F: Files, W: Sink, D: Dial, N: Listen>(
+fn carry_out<F: Files, W: Sink, D: Dial, N: Listen, T: Stores>(
     alloc: Global,
     command: &Command<'_>,
     files: &mut F,
     out: &mut W,
     dial: &mut D,
     listen: &mut N,
+    stores: &mut T,
 ) -> Status
-    ensures { let asked = Some (wanted_by command.now) in let it = outside F.Files W.Sink D.Dial N.Listen in
-        Says D.L.Link asked result (it files.old out.old dial.old listen.old) (it files.new out.new dial.new listen.new) }
+    ensures { let asked = Some (wanted_by command.now) in let it = outside F.Files W.Sink D.Dial N.Listen T.Stores in
+        Says D.L.Link T.D.Disk asked result (it files.old out.old dial.old listen.old stores.old)
+        (it files.new out.new dial.new listen.new stores.new) }
 {
     match command {
         Command::Program(task) => carry_out_task(alloc, task, files, dial, out),
         Command::Serve(serving) => run_server(alloc, serving, files, out, listen),
+        Command::Keep(keeping) => run_keep(alloc, keeping, files, out, listen, stores),
         Command::Child(service) => run_child(alloc, service, files, listen),
         Command::Trial(count) => run_trial(alloc, *count, dial, out),
         Command::Hub(playing) => run_hub(alloc, playing, files, out),
@@ -277,30 +283,34 @@ fn carry_out<F: Files, W: Sink, D: Dial, N: Listen>(
 
 /// Runs the command that the words are.
 ///
-/// Each answer has its cause in the words, the files, the links that are dialled and the sessions that come, as far as they tell:
-/// `Says` states them, the order in which they count, and what is left of the outside. The files' count of faults rises exactly where
-/// a file can't be read, and the output's exactly where the answer is `WriteFault`. Each link and each session that was had is given
-/// back.
-pub fn top<F: Files, W: Sink, D: Dial, N: Listen>(
+/// Each answer has its cause in the words, the files, the links that are dialled, the sessions that come and the disks, as far as they
+/// tell: `Says` states them, the order in which they count, and what is left of the outside. The files' count of faults rises exactly
+/// where a file can't be read, and the output's exactly where the answer is `WriteFault`. Each link, each session and each disk that
+/// was had is given back. Only `keep` touches the disks.
+pub fn top<F: Files, W: Sink, D: Dial, N: Listen, T: Stores>(
     alloc: Global,
     words: &[String],
     files: &mut F,
     out: &mut W,
     dial: &mut D,
     listen: &mut N,
+    stores: &mut T,
 ) -> Status
     // What is answered and printed is what the words and the outside mean.
-    ensures answer { let asked = wanted (texts words.now) in let it = outside F.Files W.Sink D.Dial N.Listen in
-        Says D.L.Link asked result (it files.old out.old dial.old listen.old) (it files.new out.new dial.new listen.new) }
+    ensures answer { let asked = wanted (texts words.now) in let it = outside F.Files W.Sink D.Dial N.Listen T.Stores in
+        Says D.L.Link T.D.Disk asked result (it files.old out.old dial.old listen.old stores.old)
+        (it files.new out.new dial.new listen.new stores.new) }
     // Where the outside tells all that a command needs, it is carried out to its end, unless the output fails or memory runs out.
-    ensures complete { let asked = wanted (texts words.now) in let it = outside F.Files W.Sink D.Dial N.Listen in
-        Completes D.L.Link asked result (it files.old out.old dial.old listen.old) (it files.new out.new dial.new listen.new) }
+    ensures complete { let asked = wanted (texts words.now) in let it = outside F.Files W.Sink D.Dial N.Listen T.Stores in
+        Completes D.L.Link asked result (it files.old out.old dial.old listen.old stores.old)
+        (it files.new out.new dial.new listen.new stores.new) }
 {
     sources_have_one_outcome();
     sources_have_one_outcome_as_services();
     event_lines_have_one_reading();
+    one_reading();
     match command_of(words) {
-        Some(command) => carry_out(alloc, &command, files, out, dial, listen),
+        Some(command) => carry_out(alloc, &command, files, out, dial, listen, stores),
         None => say(Status::Words, b"words not understood\n", out),
     }
 }

@@ -10,6 +10,7 @@ mod dial_run;
 mod divisions;
 mod hub_run;
 mod json_run;
+mod keep_run;
 mod loaded;
 mod loading;
 mod numbers;

@@ -52,7 +52,7 @@ pub fn say<W: Sink>(status: Status, text: &[u8], out: &mut W) -> Status
     ended(status, printed)
 }
 
-/// The line of what is told of a file.
+/// The line of what is told of a file or a disk.
 fn line_of(alloc: Global, what: &[u8], name: &str) -> Result<Vec<u8>, AllocError>
     ensures { IfOk result (λ text. text.items ≡ line (what.now ++ name.now)) }
 {
@@ -62,8 +62,14 @@ fn line_of(alloc: Global, what: &[u8], name: &str) -> Result<Vec<u8>, AllocError
     Ok(text)
 }
 
-/// Says what is told of a file.
-fn say_of<W: Sink>(alloc: Global, status: Status, what: &[u8], name: &str, out: &mut W) -> Status
+/// Says what is told of a file or a disk.
+pub fn say_of<W: Sink>(
+    alloc: Global,
+    status: Status,
+    what: &[u8],
+    name: &str,
+    out: &mut W,
+) -> Status
     ensures { Ends status (line (what.now ++ name.now)) result (output W.Sink out.old) (output W.Sink out.new) }
 {
     match line_of(alloc, what, name) {

@@ -56,6 +56,10 @@ pub enum Status {
     FileTooLong(Word),
     /// The line of the events with this number, from 1, is the first that is no event's.
     EventRefused(u64),
+    /// The disk of this name can't be had, or a call of it failed.
+    DiskFault(Word),
+    /// The journal is refused: 3 is full, 4 is none, and 5 has a bad record.
+    JournalRefused(u8),
     /// The request in JSON is refused.
     JsonRefused(JsonRefusal),
 }
@@ -81,6 +85,8 @@ impl Status {
             Status::ListenFault => 12,
             Status::FileTooLong(_) => 13,
             Status::EventRefused(_) => 14,
+            Status::DiskFault(_) => 15,
+            Status::JournalRefused(_) => 16,
             Status::JsonRefused(_) => 17,
         }
     }

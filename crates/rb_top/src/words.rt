@@ -3,7 +3,7 @@
 ghost use Rattle.std.specs.Prelude.{◌≡◌};
 ghost use Rattle.std.specs.Option.{option_map};
 ghost use Rattle.rb_top.specs.Trials.{asked_in_trial};
-ghost use Rattle.rb_top.specs.Words.{texts, wanted, wanted_by, asked_by, asked_job, program_name, view_of, run_of, run_on_files_of, run_or_serve_of, way_of, child_of, serving_by};
+ghost use Rattle.rb_top.specs.Words.{texts, wanted, wanted_by, asked_by, asked_job, program_name, view_of, run_of, run_on_files_of, run_or_serve_of, keep_of, way_of, child_of, serving_by};
 
 use crate::numbers::{count_of, fuel_of, trial_count_of};
 
@@ -63,6 +63,13 @@ pub struct Serving<'w> {
     pub count: u32,
 }
 
+/// What is asked of a server that keeps its requests: the same, and the name of the journal's disk.
+#[derive(Drop)]
+pub struct Keeping<'w> {
+    pub serving: Serving<'w>,
+    pub journal: &'w str,
+}
+
 /// What is asked of a hub: the names of the files of its events and of its service.
 #[derive(Drop)]
 pub struct Playing<'w> {
@@ -83,6 +90,8 @@ pub enum Command<'w> {
     Program(Task<'w>),
     /// `serve ADDRESS S COUNT`: serves the service in the file S over the sessions that come at an address.
     Serve(Serving<'w>),
+    /// `keep ADDRESS S COUNT J`: serves the same, and keeps the accepted requests in the journal J.
+    Keep(Keeping<'w>),
     /// `child S`: serves the service in the file S over one session at `-`, and prints nothing.
     Child(&'w str),
     /// `trial N`: runs the program of a trial on its service of N files.
@@ -233,6 +242,31 @@ fn plain_command<'w>(command: &str, first: &'w str, second: &'w str) -> Option<C
     Some(Command::Program(task))
 }
 
+/// The command of five words.
+#[tactic(auto, unfolding(crate::specs::Words::keep_of))]
+fn keep_command<'w>(
+    command: &str,
+    address: &'w str,
+    service: &'w str,
+    number: &str,
+    journal: &'w str,
+) -> Option<Command<'w>>
+    ensures { option_map wanted_by result ≡ keep_of command.now address.now service.now number.now journal.now }
+{
+    if command != "keep" {
+        return None;
+    }
+    let count = count_of(number)?;
+    Some(Command::Keep(Keeping {
+        serving: Serving {
+            address,
+            service,
+            count,
+        },
+        journal,
+    }))
+}
+
 /// The command that the words are, or None where they are none.
 pub fn command_of(words: &[String]) -> Option<Command<'_>>
     ensures { option_map wanted_by result ≡ wanted (texts words.now) }
@@ -247,6 +281,13 @@ pub fn command_of(words: &[String]) -> Option<Command<'_>>
             first.as_str(),
             second.as_str(),
             number.as_str(),
+        ),
+        [command, address, service, number, journal] => keep_command(
+            command.as_str(),
+            address.as_str(),
+            service.as_str(),
+            number.as_str(),
+            journal.as_str(),
         ),
         _ => None,
     }

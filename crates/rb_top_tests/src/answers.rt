@@ -1,5 +1,6 @@
 // What the commands answer on texts, and rows of such answers.
 use rb_base::{MemoryFiles, MemorySink, SteadyListen};
+use rb_disk::NullStores;
 use rb_session::NullDial;
 use rb_top::top;
 use rb_trees::{Memory, Seq};
@@ -67,7 +68,16 @@ pub fn code_of(
 ) -> u8 {
     let mut dial = NullDial::make(alloc);
     let mut listen = SteadyListen::make(alloc, Seq::new(alloc));
-    top(alloc, words, files, out, &mut dial, &mut listen).code()
+    let status = top(
+        alloc,
+        words,
+        files,
+        out,
+        &mut dial,
+        &mut listen,
+        &mut NullStores,
+    );
+    status.code()
 }
 
 /// An exit status before what was printed.

@@ -2,6 +2,7 @@
 use crate::answers::{answer, expect, files_of, shown, words_of};
 use bytes::BytesMut;
 use rb_base::{Files, FilesStop, MemoryFiles, MemorySink, SteadyListen};
+use rb_disk::NullStores;
 use rb_session::{AnyLink, FailingLink, MemoryDial};
 use rb_top::{top, trial_program, trial_service};
 use rb_trees::Seq;
@@ -138,7 +139,16 @@ fn try_three(
     let words = words_of(alloc, "trial 3")?;
     let mut out = MemorySink::make(alloc, Seq::new(alloc), usize::MAX);
     let mut listen = SteadyListen::make(alloc, Seq::new(alloc));
-    let code = top(alloc, words.as_slice(), files, &mut out, dial, &mut listen).code();
+    let status = top(
+        alloc,
+        words.as_slice(),
+        files,
+        &mut out,
+        dial,
+        &mut listen,
+        &mut NullStores,
+    );
+    let code = status.code();
     if code == 0 {
         return Ok(());
     }

@@ -2,7 +2,7 @@
 
 use crate::kept_files::KeptFiles;
 use rb_client::BadReason;
-use rb_help::{ReplyFlaw, Server, Trouble, coloured, explain, is_help_option};
+use rb_help::{JournalFlaw, ReplyFlaw, Server, Trouble, coloured, explain, is_help_option};
 use rb_json::JsonRefusal;
 use rb_top::{SourceError, Status};
 use rb_trees::{Memory, Word};
@@ -88,6 +88,15 @@ fn trouble_of_request<'a>(name: &'a [u8], refusal: &JsonRefusal) -> Trouble<'a> 
     }
 }
 
+/// What is wrong with a journal that is refused by a number.
+fn journal_flaw(number: u8) -> JournalFlaw {
+    match number {
+        3 => JournalFlaw::Full,
+        4 => JournalFlaw::None,
+        _ => JournalFlaw::BadRecord,
+    }
+}
+
 /// What went wrong around the texts, if something did.
 fn trouble_around<'a>(words: &'a [String], status: &'a Status) -> Option<Trouble<'a>> {
     match status {
@@ -97,6 +106,10 @@ fn trouble_around<'a>(words: &'a [String], status: &'a Status) -> Option<Trouble
         Status::FileTooLong(name) => Some(Trouble::FileTooLong(name.as_slice())),
         Status::EventRefused(line) => Some(Trouble::NoEvent(name_in(words, 1), *line)),
         Status::JsonRefused(refusal) => Some(trouble_of_request(name_in(words, 2), refusal)),
+        Status::DiskFault(name) => Some(Trouble::DiskFault(name.as_slice())),
+        Status::JournalRefused(number) => {
+            Some(Trouble::Journal(name_in(words, 4), journal_flaw(*number)))
+        }
         Status::LinkFault(done) => Some(Trouble::LinkFault(server(words), *done)),
         Status::BadReply { done, reason, .. } => {
             Some(Trouble::BadReply(server(words), *done, flaw(reason)))
@@ -111,10 +124,9 @@ fn trouble_around<'a>(words: &'a [String], status: &'a Status) -> Option<Trouble
 
 /// What a server of these words listens at.
 fn listened(words: &[String]) -> &str {
-    if word(words, 0) == "serve" {
-        word(words, 1)
-    } else {
-        "-"
+    match word(words, 0) {
+        "serve" | "keep" => word(words, 1),
+        _ => "-",
     }
 }
 

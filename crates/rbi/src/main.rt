@@ -6,10 +6,11 @@ mod kept_files;
 mod timeouts;
 
 use kept_files::KeptFiles;
-use rb_devices::{RealDial, RealFiles, RealListen, StandardOutput};
+use rb_devices::{FileStores, RealDial, RealFiles, RealListen, StandardOutput};
 use rb_top::{Status, top};
 use rb_trees::Memory;
 use std::env::VarError;
+use std::fs::File;
 use std::io::{IsTerminal, Stdin, Stdout};
 use std::net::{Net, TcpListener, TcpStream};
 use std::process::{ExitCode, Processes, SystemProcess};
@@ -35,7 +36,7 @@ fn is_plain<R: Env + AllocGlobal>(rt: &R) -> bool {
 
 /// Carries out what the words say, and tells what went wrong. The session at `-` is over the standard streams.
 fn run<
-    R: Files
+    R: Files<File = File>
         + Env
         + Clock
         + Net<Listener = TcpListener, Stream = TcpStream>
@@ -60,6 +61,7 @@ fn run<
                 &mut StandardOutput::make(rt),
                 &mut RealDial::make(rt, program.as_str(), timeout),
                 &mut RealListen::make(rt, standard.0, standard.1, timeout),
+                &mut FileStores::make(rt),
             );
             help::tell(rt, words.as_slice(), &status, &files, in_colours);
             status

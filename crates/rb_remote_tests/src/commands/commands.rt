@@ -2,6 +2,7 @@
 
 use crate::commands::texts::{CALL, CALL_REPLY, CALL_REQUEST, FILES, NUMBER};
 use rb_base::{Link, Listen, MemoryFiles, MemorySink, SteadyListen};
+use rb_disk::NullStores;
 use rb_heap::Heap;
 use rb_session::{AnyLink, Dial, FailingLink, MemoryDial, NullDial};
 use rb_top::top;
@@ -10,7 +11,7 @@ use std::alloc::Global;
 use std::test::Fail;
 
 /// The words of a text, which single spaces part.
-fn words_of(alloc: Global, text: &str) -> Result<Vec<String>, Fail> {
+pub fn words_of(alloc: Global, text: &str) -> Result<Vec<String>, Fail> {
     let mut words = Vec::new(alloc);
     for word in text.split(' ') {
         words.push(String::from_str(alloc, word)?)?;
@@ -54,7 +55,16 @@ pub fn answer_with<D: Dial, N: Listen>(
     listen: &mut N,
 ) -> Result<String, Fail> {
     let words = words_of(alloc, words)?;
-    let code = top(alloc, words.as_slice(), &mut files, &mut out, dial, listen).code();
+    let status = top(
+        alloc,
+        words.as_slice(),
+        &mut files,
+        &mut out,
+        dial,
+        listen,
+        &mut NullStores,
+    );
+    let code = status.code();
     let text = str::from_utf8(out.written())?;
     Ok(format!(in alloc; "{code} {text}")?)
 }

@@ -54,7 +54,7 @@ fn served(
 }
 
 /// What was written in each session that came back to a listener.
-fn written_to(alloc: Global, listen: &MemoryListen) -> Result<Seq<Seq<u8>>, Fail> {
+pub fn written_to(alloc: Global, listen: &MemoryListen) -> Result<Seq<Seq<u8>>, Fail> {
     let mut all = Seq::new(alloc);
     for (_source, sink) in listen.returned() {
         all.push(Seq::from_slice(alloc, sink.written())?)?;
@@ -63,7 +63,7 @@ fn written_to(alloc: Global, listen: &MemoryListen) -> Result<Seq<Seq<u8>>, Fail
 }
 
 /// A listener with sessions of these bytes under an address, whose calls of these numbers fail.
-fn listen_at(
+pub fn listen_at(
     alloc: Global,
     address: &[u8],
     sessions: &[&[u8]],
@@ -99,7 +99,7 @@ fn expect_served(
 }
 
 /// Whether these bytes were written, in as many sessions.
-fn same_replies(written: &[Seq<u8>], replies: &[&[u8]]) -> bool {
+pub fn same_replies(written: &[Seq<u8>], replies: &[&[u8]]) -> bool {
     written.len() == replies.len()
         && written
             .iter()

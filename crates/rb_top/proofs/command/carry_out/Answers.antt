@@ -7,6 +7,9 @@ returns-in-Program g c = rw c.in-Program.is (c.carry_out_task.ensures, refl)
 pub returns-in-Serve : goal.returns-in-Serve
 returns-in-Serve g c = rw c.in-Serve.is (c.run_server.ensures, refl)
 
+pub returns-in-Keep : goal.returns-in-Keep
+returns-in-Keep g c = rw c.in-Keep.is (c.run_keep.ensures, refl)
+
 pub returns-in-Child : goal.returns-in-Child
 returns-in-Child g c = rw c.in-Child.is (record { serves = c.run_child.ensures; unchanged = refl }, refl)
 

@@ -1,6 +1,5 @@
 use Rattle.std.proofs.Common.{refl}
 use Rattle.rb_top.specs.Answers.{starved_for_texts}
-use Rattle.rb_top.specs.Words.{asked_by}
 use Rattle.rb_top.proofs.Trials.{tried_over}
 use Rattle.rb_top.proofs.command.run_trial.Goals as goal
 

@@ -1,7 +1,7 @@
-use Rattle.std.proofs.Common.{◌++◌, ◌∙◌, subst, sym}
+use Rattle.std.proofs.Common.{◌++◌, ◌∙◌, subst}
 use Rattle.std.proofs.lemmas.Result.{err_from_is_err_and}
 use Rattle.rb_base.specs.Sinks.{WrotePrefix}
-use Rattle.rb_meaning.specs.Shown.{line, shown_table}
+use Rattle.rb_meaning.specs.Shown.{shown_table}
 use Rattle.rb_top.specs.Printing.{Prints, stopped}
 use Rattle.rb_top.specs.Scene.{output}
 use Rattle.rb_top.proofs.Printed.{prints_next, stops_first}
