@@ -1,10 +1,14 @@
-"""Prints the names of the files of files.rbs, by the command `json`: python3 examples/json_client.py."""
+"""Prints the names of the files of files.rbs, by the command `json`: python3 examples/json_client.py.
+
+RBI in the environment names the program, in place of the launcher."""
 import json
+import os
 import pathlib
 import subprocess
 import tempfile
 
 EXAMPLES = pathlib.Path(__file__).resolve().parent
+RBI = os.environ.get("RBI", EXAMPLES.parent / "rbi")
 TEXT, OBJECTS = 3, 8  # kinds of what calls give
 
 
@@ -17,7 +21,7 @@ def run(service, *steps, inputs=()):
     with tempfile.NamedTemporaryFile("w", suffix=".json") as request:
         json.dump({"inputs": list(inputs), "steps": list(steps)}, request)
         request.flush()
-        words = [EXAMPLES.parent / "rbi", "json", service, request.name]
+        words = [RBI, "json", service, request.name]
         done = subprocess.run(words, stdout=subprocess.PIPE, text=True)
     line = done.stdout.partition("\n")[0]
     if done.returncode != 0 or "refusal" in json.loads(line):
