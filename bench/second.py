@@ -1,10 +1,9 @@
 """Payloads of version 2: the shapes of bench_wire that it makes of version 1, pools that are hostile, and the same requests and
 replies in both versions and as JSON."""
 
-import json
 from itertools import count, repeat
 
-from spelling import forest_bytes, pool, script_bytes, short, signed
+from spelling import compact, forest_bytes, has_lists, pool, script_bytes, short, signed
 
 LONGEST_TEXT = 4096
 
@@ -148,12 +147,8 @@ def messages(files):
     yield f"a size and a branch for each of {files:,} files", forest_bytes, node(["rows", branches])
 
 
-def has_lists(tree):
-    return any(isinstance(value, list) for value in tree.get("inputs", []))
-
-
 def sizes(files=10_000):
     """For each message its name, its bytes in version 1, if it has any, in version 2, and as JSON without spaces."""
     for name, spell, tree in messages(files):
         first = None if has_lists(tree) else len(spell(1, tree))
-        yield name, first, len(spell(2, tree)), len(json.dumps(tree, separators=(",", ":")).encode())
+        yield name, first, len(spell(2, tree)), len(compact(tree))

@@ -7,6 +7,8 @@ A script is {"inputs": [..], "steps": [..]}. A step is ["do", id, at, E], ["keep
 ["value", value], ["branch", taken, node] or ["rows", nodes].
 """
 
+import json
+
 STEPS = {"do": 0x10, "keep": 0x11, "let": 0x12, "if": 0x13, "each": 0x14, "over": 0x15}
 
 
@@ -130,3 +132,13 @@ def script_bytes(version, tree):
 
 def forest_bytes(version, tree):
     return bytes([version]) + Spelling(version).node(tree)
+
+
+def compact(tree):
+    """The tree as JSON without spaces."""
+    return json.dumps(tree, separators=(",", ":"), ensure_ascii=False).encode()
+
+
+def has_lists(tree):
+    """Whether an input is a list, which version 1 hasn't."""
+    return any(isinstance(value, list) for value in tree.get("inputs", []))

@@ -1,5 +1,6 @@
 // What payloads come to.
 
+use rb_json::{JsonStop, read_request};
 use rb_wire_forest::{ForestStop, decode_forest, scan_forest};
 use rb_wire_script::{ScriptStop, decode_script};
 use std::alloc::Global;
@@ -51,5 +52,13 @@ pub fn forest_of(alloc: Global, payload: &[u8]) -> Outcome {
         Ok(_) => Outcome::Valid,
         Err(ForestStop::Refused { number, at }) => Outcome::Refused(number, at),
         Err(ForestStop::Memory) => Outcome::Memory,
+    }
+}
+
+/// Whether bytes are a request in JSON, whose script is then made and let go.
+pub fn request_of(alloc: Global, bytes: &[u8]) -> Result<(), JsonStop> {
+    match read_request(alloc, bytes) {
+        Ok(_) => Ok(()),
+        Err(stop) => Err(stop),
     }
 }

@@ -1,7 +1,8 @@
 //! Makes a payload of a shape, of at most so many bytes, and does to it what the first argument says: `make` prints how many
 //! bytes it has, `write` writes it, and `decode` prints what it comes to as a script; `all` does so to each shape. `load`
 //! prints how many bytes the text of a file has, and `json` reads it as JSON. `size` prints how many bytes a file has, `script`
-//! what they come to as a script, `scan` what they come to as a forest, and `tree` what they come to as one whose tree is made.
+//! what they come to as a script, `scan` what they come to as a forest, `tree` what they come to as one whose tree is made, and
+//! `request` whether they are a request in JSON.
 #![tactic(auto)]
 
 mod decoded;
@@ -10,7 +11,7 @@ mod payloads;
 mod shapes;
 
 use bytes::BytesMut;
-use decoded::{Outcome, forest_of, outcome_of, scanned};
+use decoded::{Outcome, forest_of, outcome_of, request_of, scanned};
 use payloads::payload_of;
 use serde_json::Value;
 use shapes::{SHAPES, Shape, shape_named};
@@ -37,7 +38,7 @@ fn main(rt: HostRuntime) -> io::Result<()> {
 /// Says what the program's words are.
 fn usage<R: Eprint>(rt: &R) -> io::Result<()> {
     eprintln!(rt;
-        "usage: bench_wire make|write|decode SHAPE BYTES | all BYTES | load|json|size|script|scan|tree FILE"
+        "usage: bench_wire make|write|decode SHAPE BYTES | all BYTES | load|json|size|script|scan|tree|request FILE"
     )
 }
 
@@ -63,6 +64,7 @@ fn one_word<R: Files + AllocGlobal + Print + Eprint>(
         ("script", _) => script(rt, word),
         ("scan", _) => scan(rt, word),
         ("tree", _) => tree(rt, word),
+        ("request", _) => request(rt, word),
         _ => usage(rt),
     }
 }
@@ -171,6 +173,16 @@ fn tree<R: Files + AllocGlobal + Print>(rt: &R, path: &str) -> io::Result<()> {
         &forest_of(rt.alloc(), payload.as_slice()),
         payload.len(),
     )
+}
+
+/// Prints whether the bytes of a file are a request in JSON.
+fn request<R: Files + AllocGlobal + Print>(rt: &R, path: &str) -> io::Result<()> {
+    let bytes = fs::read(rt, path)?;
+    let count = bytes.len();
+    match request_of(rt.alloc(), bytes.as_slice()) {
+        Ok(()) => println!(rt; "read, {count} bytes"),
+        Err(stop) => println!(rt; "{stop}, {count} bytes"),
+    }
 }
 
 /// Prints what so many bytes come to.
