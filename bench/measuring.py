@@ -19,7 +19,17 @@ def run(command, out):
 
 def best(command, out, count):
     """The least seconds and the least KiB of so many runs; None where one fails."""
-    runs = [run(command, out) for _ in range(count)]
+    return best_of([run(command, out) for _ in range(count)])
+
+
+def best_in_turns(commands, out, count):
+    """The same of several commands, of which each is run once in each of so many rounds."""
+    rounds = [[run(command, out) for command in commands] for _ in range(count)]
+    return [best_of(runs) for runs in zip(*rounds)]
+
+
+def best_of(runs):
+    """The least seconds and the least KiB; None where a run has failed."""
     if None in runs:
         return None
     return min(seconds for seconds, _ in runs), min(memory for _, memory in runs)
