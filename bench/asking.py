@@ -60,7 +60,7 @@ def literals(values):
 
 
 def texts(spell):
-    """Steps with texts as long as they may be, of three bytes to a group, spelled so."""
+    """Steps with texts about as long as they may be, each spelled so."""
     text = b'"' + spell("aé" * (LONGEST_TEXT // 3)).encode() + b'"'
     return (b'["do",%d,0,["lit",%s]]' % (number, text) for number in count())
 
