@@ -1,8 +1,10 @@
-//! Tests of the devices of the system, over loopback alone.
+//! Tests of the devices of the system, over loopback and over files alone.
 #![tactic(auto)]
 
 #[cfg(test)]
 mod dials;
+#[cfg(test)]
+mod disks;
 #[cfg(test)]
 mod frames;
 #[cfg(test)]

@@ -1,62 +1,65 @@
-// A stop at each call of the disk in a journal of two appends.
+// A stop at each call of the disk in a journal of two appends, and what a crash then leaves.
 
-use crate::hosts::{counter, line_of};
-use crate::payloads::{UP, expect_bytes, expect_payload};
+use crate::images::{Torn, expect_images};
+use crate::payloads::{UP, expect_payload};
 use crate::rows::disk_of;
 use rb_disk::MemoryDisk;
 use rb_journal::{Journal, JournalStop};
 use std::alloc::Global;
 use std::test::*;
 
-/// Fails where two appends to a journal don't stop as a row wants: the failing call of the disk, with the number of the append
-/// that it stops, from 1, and 0 where none stops.
-fn append_twice(alloc: Global, journal: &mut Journal<MemoryDisk>, stop: u64) -> Result<(), Fail> {
+/// The call of the disk that fails, the answers to two appends, how many requests were kept before the one that stops, and
+/// what of it a crash may tear.
+type Row = (u64, [u8; 2], u8, Torn);
+
+/// Each call of two appends, and then none.
+const ROWS: [Row; 9] = [
+    // The record, its sync, the gate, its sync.
+    (3, [1, 2], 0, Torn::Record),
+    (4, [1, 2], 0, Torn::Record),
+    (5, [1, 2], 0, Torn::Gate),
+    (6, [1, 2], 0, Torn::Gate),
+    (7, [0, 1], 1, Torn::Record),
+    (8, [0, 1], 1, Torn::Record),
+    (9, [0, 1], 1, Torn::Gate),
+    (10, [0, 1], 1, Torn::Gate),
+    (11, [0, 0], 2, Torn::Record),
+];
+
+/// The answer to an append: 0 where it is kept, 1 where the disk failed, 2 where the journal is closed.
+fn append(alloc: Global, journal: &mut Journal<MemoryDisk>) -> Result<u8, Fail> {
     expect_payload(alloc, UP)?;
-    for number in 1..=2 {
-        let is_wanted = match journal.append(UP) {
-            Ok(()) => stop == 0 || number < stop,
-            Err(JournalStop::DiskFault) => number == stop,
-            Err(JournalStop::Closed) => 0 < stop && stop < number,
-            Err(_) => false,
-        };
-        if !is_wanted {
-            return Err(Fail::new(format_args!("append {number} goes otherwise")));
-        }
+    match journal.append(UP) {
+        Ok(()) => Ok(0),
+        Err(JournalStop::DiskFault) => Ok(1),
+        Err(JournalStop::Closed) => Ok(2),
+        Err(stop) => Err(Fail::new(format_args!("{stop}"))),
     }
-    Ok(())
 }
 
-/// Fails where a disk of which a call fails keeps another number of appends than is wanted.
-fn expect_kept(alloc: Global, call: u64, stop: u64, want: &str) -> Result<(), Fail> {
-    let journal = Journal::create(alloc, disk_of(alloc, b"", &[call])?);
-    let Ok(mut journal) = journal else {
+/// The answers to two appends on a disk of which this call fails, and that disk.
+fn append_twice(alloc: Global, call: u64) -> Result<([u8; 2], MemoryDisk), Fail> {
+    let Ok(mut journal) = Journal::create(alloc, disk_of(alloc, b"", &[call])?) else {
         return Err(Fail::new("the first two calls don't fail"));
     };
-    append_twice(alloc, &mut journal, stop)?;
-    let disk = disk_of(alloc, journal.into_disk().bytes(), &[])?;
-    let mut host = counter(alloc)?;
-    match Journal::open(alloc, disk, &mut host) {
-        Ok(_) => expect_bytes(line_of(alloc, &host)?.as_slice(), want.as_bytes()),
-        Err(stopped) => Err(Fail::new(format_args!("{}", stopped.stop))),
+    let first = append(alloc, &mut journal)?;
+    let second = append(alloc, &mut journal)?;
+    Ok(([first, second], journal.into_disk()))
+}
+
+/// Fails where two appends go otherwise than a row wants, or a crash leaves another journal.
+fn expect_row(alloc: Global, (call, answers, before, torn): Row) -> Result<(), Fail> {
+    let (found, disk) = append_twice(alloc, call)?;
+    if found != answers {
+        return Err(Fail::new(format_args!("{found:?} at call {call}")));
     }
+    expect_images(alloc, disk.bytes(), before, torn)
 }
 
 #[test]
-fn a_stop_at_each_call_keeps_what_was_answered(rt: HostRuntime) -> Result<(), Fail> {
-    let rows = [
-        // The record, its sync, the gate, its sync.
-        (3, 1, "object 0: Counter { count = 0; }\n"),
-        (4, 1, "object 0: Counter { count = 0; }\n"),
-        (5, 1, "object 0: Counter { count = 0; }\n"),
-        (6, 1, "object 0: Counter { count = 1; }\n"),
-        (7, 2, "object 0: Counter { count = 1; }\n"),
-        (8, 2, "object 0: Counter { count = 1; }\n"),
-        (9, 2, "object 0: Counter { count = 1; }\n"),
-        (10, 2, "object 0: Counter { count = 2; }\n"),
-        (11, 0, "object 0: Counter { count = 2; }\n"),
-    ];
-    for (call, stop, want) in rows {
-        expect_kept(rt.alloc(), call, stop, want)?;
+fn a_crash_at_each_call_leaves_what_was_answered(rt: HostRuntime) -> Result<(), Fail> {
+    for row in ROWS {
+        expect_row(rt.alloc(), row)?;
     }
     Ok(())
 }
