@@ -8,9 +8,9 @@ reply. Then the server is killed by SIGKILL: while it opens the journal, between
 several that were sent at once. No request is sent twice.
 
 After each round the bytes of the journal are read here by their form (docs/journal.md). Of the requests of each round, the
-journal has a front, in order, each whole and once, and every one that was answered is among them. A reply tells how many
-requests were performed by then, so it has to tell its own place in the journal. At the end the server starts once more and is
-left to end by itself. Its table has to be that of the requests of the journal, in their order.
+journal has a front, in order, each whole and once, and every one that was answered is among them. One that is refused isn't
+kept. A reply tells how many requests were performed by then, so it has to tell its own place in the journal. At the end the
+server starts once more and is left to end by itself. Its table has to be that of the requests of the journal, in their order.
 
 SIGKILL ends a process and leaves what it has written to the system. So this shows the order of what is written and answered; it
 takes no power from a machine.
@@ -33,6 +33,9 @@ HERE = "127.0.0.1"
 HEAD = b"RBJ\x01"
 HEADER = 11
 PATIENCE = 30
+# A script that ends too early, and the frame that refuses it: 1 at 2.
+REFUSED = b"\x01\x00"
+REFUSAL = b"RB\x03" + (6).to_bytes(8, "big") + b"\x01\x01\x00\x00\x00\x02"
 SERVICE = """\
 class Log {
   count: Int;
@@ -160,6 +163,13 @@ class Trial:
             stream += part
         self.seconds = (time.monotonic() - begin) / count
 
+    def ask_in_vain(self, peer):
+        """Sends a request that is refused, and so isn't to be kept."""
+        peer.sendall(framed(REFUSED))
+        reply = peer.recv(len(REFUSAL), socket.MSG_WAITALL)
+        if reply != REFUSAL:
+            raise Wrong(f"a refusal is {reply.hex()}")
+
     def rest(self, peer, first):
         """Writes down what still comes from a server that is killed."""
         stream = b""
@@ -179,6 +189,7 @@ class Trial:
             with self.reached(server) as peer:
                 for _ in range(self.random.randrange(1, 4)):
                     self.ask(peer)
+                self.ask_in_vain(peer)
         with self.reached(server) as peer:
             for _ in range(self.random.randrange(10)):
                 self.ask(peer)
