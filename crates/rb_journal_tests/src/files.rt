@@ -1,6 +1,6 @@
 // Requests that are kept in a file of the system.
 
-ghost use Rattle.std.specs.Prelude.{OnOk};
+ghost use Rattle.std.specs.Prelude.{IfOk, OnOk};
 ghost use Rattle.rb_session.specs.Answering.{IsTypedHost};
 
 use crate::hosts::{counter, line_of};
@@ -36,17 +36,34 @@ fn journal_on(
     }
 }
 
-/// The line of a host that has performed what a disk keeps, and one request more; and that disk.
-fn answer_one_more(alloc: Global, disk: RealDisk) -> Result<(Word, RealDisk), Fail> {
-    let mut host = counter(alloc)?;
-    let Ok(journal) = journal_on(alloc, disk, &mut host) else {
-        return Err(Fail::new("the file is no journal"));
-    };
-    let mut kept = Kept::make(journal, host);
+/// A host that has performed what a disk keeps, with the journal there.
+fn kept_on(alloc: Global, disk: RealDisk, host: Host) -> Result<Kept<RealDisk>, Fail>
+    requires { IsTypedHost host }
+    ensures { IfOk result (λ kept. IsTypedHost kept.host) }
+{
+    let mut host = host;
+    match journal_on(alloc, disk, &mut host) {
+        Ok(journal) => Ok(Kept::make(journal, host)),
+        Err(_) => Err(Fail::new("the file is no journal")),
+    }
+}
+
+/// The line of a host after one request more.
+fn line_of_one_more(alloc: Global, kept: &mut Kept<RealDisk>) -> Result<Word, Fail>
+    requires { IsTypedHost kept.old.host }
+{
     let mut reply = BytesMut::new(alloc);
     kept.answer_one(alloc, UP, &mut reply)?;
-    let (journal, host) = kept.into_parts();
-    Ok((line_of(alloc, &host)?, journal.into_disk()))
+    line_of(alloc, kept.host())
+}
+
+/// The line of a host that has performed what a disk keeps, and one request more; and that disk.
+fn answer_one_more(alloc: Global, disk: RealDisk) -> Result<(Word, RealDisk), Fail> {
+    let host = counter(alloc)?;
+    let mut kept = kept_on(alloc, disk, host)?;
+    let line = line_of_one_more(alloc, &mut kept)?;
+    let (journal, _) = kept.into_parts();
+    Ok((line, journal.into_disk()))
 }
 
 /// Fails where a file, after one request more, doesn't keep as many as are wanted.

@@ -1,9 +1,12 @@
 // What a crash may leave of a disk in the midst of an append, and how many requests it stands for.
 
+ghost use Rattle.rb_session.specs.Answering.{IsTypedHost};
+
 use crate::hosts::{counter, line_of};
 use crate::payloads::expect_bytes;
 use crate::rows::disk_of;
 use rb_disk::MemoryDisk;
+use rb_exec::Host;
 use rb_journal::Journal;
 use rb_trees::Word;
 use std::alloc::Global;
@@ -22,13 +25,21 @@ pub enum Torn {
     Gate,
 }
 
+/// Fails where a disk isn't opened; the host then has performed what it keeps.
+fn expect_opened(alloc: Global, disk: MemoryDisk, host: &mut Host) -> Result<(), Fail>
+    requires { IsTypedHost host.old }
+{
+    match Journal::open(alloc, disk, host) {
+        Ok(_) => Ok(()),
+        Err(stopped) => Err(Fail::new(format_args!("{}", stopped.stop))),
+    }
+}
+
 /// The line of a host that has performed what a disk keeps.
 fn line_after(alloc: Global, disk: MemoryDisk) -> Result<Word, Fail> {
     let mut host = counter(alloc)?;
-    match Journal::open(alloc, disk, &mut host) {
-        Ok(_) => line_of(alloc, &host),
-        Err(stopped) => Err(Fail::new(format_args!("{}", stopped.stop))),
-    }
+    expect_opened(alloc, disk, &mut host)?;
+    line_of(alloc, &host)
 }
 
 /// Fails where bytes don't stand for so many requests.

@@ -18,6 +18,20 @@ use std::test::*;
 /// stops, and what of it a crash may tear.
 type Row = (u64, usize, u8, Torn);
 
+/// Each call of the first and the third request but one, and then none.
+const ROWS: [Row; 8] = [
+    // The record of the first request, its sync and the gate.
+    (3, 0, 0, Torn::Record),
+    (4, 0, 0, Torn::Record),
+    (5, 0, 0, Torn::Gate),
+    // The record of the third request, its sync, the gate and its sync. The refused one makes no call.
+    (7, 12, 1, Torn::Record),
+    (8, 12, 1, Torn::Record),
+    (9, 12, 1, Torn::Gate),
+    (10, 12, 1, Torn::Gate),
+    (11, 18, 2, Torn::Record),
+];
+
 /// A request that is refused.
 const REFUSED: &[u8] = b"\x01\x00";
 
@@ -56,12 +70,18 @@ fn send_three(
     )
 }
 
+/// The journal of which this call of the disk fails.
+fn journal_of(alloc: Global, call: u64) -> Result<Journal<MemoryDisk>, Fail> {
+    match Journal::create(alloc, disk_of(alloc, b"", &[call])?) {
+        Ok(journal) => Ok(journal),
+        Err(_) => Err(Fail::new("the first two calls don't fail")),
+    }
+}
+
 /// The disk of which this call fails, after the three requests.
 fn disk_after(alloc: Global, call: u64, replies: &mut BytesMut) -> Result<MemoryDisk, Fail> {
-    let Ok(journal) = Journal::create(alloc, disk_of(alloc, b"", &[call])?) else {
-        return Err(Fail::new("the first two calls don't fail"));
-    };
-    let mut kept = Kept::make(journal, counter(alloc)?);
+    let host = counter(alloc)?;
+    let mut kept = Kept::make(journal_of(alloc, call)?, host);
     send_three(alloc, &mut kept, replies)?;
     let (journal, _) = kept.into_parts();
     Ok(journal.into_disk())
@@ -77,6 +97,14 @@ fn expect_row(alloc: Global, (call, size, before, torn): Row) -> Result<(), Fail
     expect_images(alloc, disk.bytes(), before, torn)
 }
 
+/// Fails where other replies are made than some row wants.
+fn expect_rows(alloc: Global, rows: &[Row]) -> Result<(), Fail> {
+    for row in rows {
+        expect_row(alloc, *row)?;
+    }
+    Ok(())
+}
+
 #[test]
 fn a_second_sync_that_fails_leaves_no_reply_and_at_most_one_request(
     rt: HostRuntime,
@@ -86,20 +114,5 @@ fn a_second_sync_that_fails_leaves_no_reply_and_at_most_one_request(
 
 #[test]
 fn each_request_that_is_answered_is_kept(rt: HostRuntime) -> Result<(), Fail> {
-    let rows = [
-        // The record of the first request, its sync and the gate.
-        (3, 0, 0, Torn::Record),
-        (4, 0, 0, Torn::Record),
-        (5, 0, 0, Torn::Gate),
-        // The record of the third request, its sync, the gate and its sync. The refused one makes no call.
-        (7, 12, 1, Torn::Record),
-        (8, 12, 1, Torn::Record),
-        (9, 12, 1, Torn::Gate),
-        (10, 12, 1, Torn::Gate),
-        (11, 18, 2, Torn::Record),
-    ];
-    for row in rows {
-        expect_row(rt.alloc(), row)?;
-    }
-    Ok(())
+    expect_rows(rt.alloc(), &ROWS)
 }

@@ -7,13 +7,24 @@ use rb_trees::Seq;
 use std::alloc::Global;
 use std::test::*;
 
+/// Adds a disk of these bytes to a store, of which these calls fail.
+fn add(
+    alloc: Global,
+    stores: &mut MemoryStores,
+    name: &str,
+    bytes: &[u8],
+    failing: &[u64],
+) -> Result<(), Fail> {
+    let disk = disk_of(alloc, bytes, failing)?;
+    stores.add(name, disk)?;
+    Ok(())
+}
+
 /// Two disks, of which the second call of the first fails, and a store of them, of which the second call fails.
 fn two_disks(alloc: Global) -> Result<MemoryStores, Fail> {
-    let first = disk_of(alloc, b"old", &[2])?;
-    let second = disk_of(alloc, b"other", &[])?;
     let mut stores = MemoryStores::make(alloc, Seq::from_slice(alloc, &[2])?);
-    stores.add("j", first)?;
-    stores.add("k", second)?;
+    add(alloc, &mut stores, "j", b"old", &[2])?;
+    add(alloc, &mut stores, "k", b"other", &[])?;
     Ok(stores)
 }
 

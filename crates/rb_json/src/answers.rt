@@ -27,9 +27,9 @@ use bytes::BytesMut;
 use rb_exec::Host;
 use rb_meaning_bytes::{forests_have_a_version, script_payloads_mean_one_thing};
 use rb_session::answer;
-use rb_trees::{Memory, Node, Script, ScriptRefusal, Seq, Value, Version, valid};
+use rb_trees::{Memory, Node, Script, ScriptRefusal, Seq, Value, Version};
 use rb_wire_forest::{ForestStop, decode_forest};
-use rb_wire_script::encode_script;
+use rb_wire_script::{RuleStop, check_script, encode_script};
 use serde_json::Value as Json;
 use std::alloc::Global;
 
@@ -120,12 +120,13 @@ fn replied(
     ensures typed { OnOk result (IsTypedHost host.new) }
     ensures service { host.new.service ≡ host.old.service }
 {
-    match valid(script) {
+    match check_script(alloc, script) {
         Ok(()) => performed(alloc, host, script, values),
-        Err(refused) => {
+        Err(RuleStop::Refused(refused)) => {
             let (number, step) = number_and_step(refused);
             refusal_value(alloc, number, step)
         }
+        Err(RuleStop::Memory) => Err(Memory),
     }
 }
 

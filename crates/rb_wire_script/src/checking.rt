@@ -12,12 +12,15 @@ use crate::numbers::Numbers;
 use rb_trees::limits::{MOST_BLOCKS, MOST_EXPRS};
 use rb_trees::{Invocation, Memory, Operands, SExpr, Script, ScriptRefusal, Step, StepForm};
 use std::alloc::Global;
+use thiserror::Error;
 
 /// Why a script isn't taken.
-#[derive(Drop)]
-pub(crate) enum RuleStop {
+#[derive(Debug, Drop, Error)]
+pub enum RuleStop {
     /// Its first refusal.
+    #[error("the script is refused: {0}")]
     Refused(ScriptRefusal),
+    #[error("out of memory")]
     Memory,
 }
 
@@ -296,8 +299,9 @@ fn check_form(
     }
 }
 
-/// What `valid` answers, in time that grows as the script does.
-pub(crate) fn check(alloc: Global, script: &Script) -> Result<(), RuleStop>
+/// Whether the script is valid, else its first refusal in reading order: what `valid` answers, in time that grows as the script
+/// does, and with memory for the numbers of its steps and variables.
+pub fn check_script(alloc: Global, script: &Script) -> Result<(), RuleStop>
     ensures { Gives (λ x. x) rule_of result (verdict (mirror_script script.now)) }
 {
     let mut seen = Numbers::new(alloc);

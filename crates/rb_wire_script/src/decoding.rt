@@ -9,7 +9,7 @@ ghost use Rattle.rb_meaning_bytes.specs.formats.ScriptPayloads.{Means, Suits, nu
 ghost use Rattle.rb_meaning_bytes.specs.formats.FormedScripts.{FormedScript, AreInputs};
 ghost use Rattle.rb_wire_script.specs.Stops.{refusal_of, seen};
 
-use crate::checking::{RuleStop, check};
+use crate::checking::{RuleStop, check_script};
 use crate::message::whole;
 use rb_trees::{Script, ScriptRefusal, Seq, Value, Version};
 use rb_wire_fields::stop::Stop;
@@ -62,7 +62,7 @@ fn step_of(refusal: ScriptRefusal) -> u32
 fn judge(alloc: Global, version: Version, script: &Script) -> Result<(), ScriptStop>
     ensures { Gives (λ x. x) refusal_of result (refused_as (refused version) (verdict (mirror_script script.now))) }
 {
-    match check(alloc, script) {
+    match check_script(alloc, script) {
         Ok(()) => Ok(()),
         Err(RuleStop::Refused(refusal)) => Err(ScriptStop::Refused {
             version,

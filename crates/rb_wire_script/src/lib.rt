@@ -24,5 +24,6 @@ mod texts;
 mod values;
 mod writing;
 
+pub use checking::{RuleStop, check_script};
 pub use decoding::{ScriptStop, decode_script};
 pub use encoding::encode_script;
