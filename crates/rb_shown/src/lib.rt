@@ -17,4 +17,4 @@ pub use endings::ending_line;
 pub use exchanges::exchanges_line;
 pub use literals::add_literal;
 pub use objects::object_line;
-pub use views::split_view;
+pub use views::{add_parts, add_steps, split_view};

@@ -12,11 +12,11 @@ mod parts;
 mod steps;
 
 use crate::places::add_place_in;
-use parts::add_parts;
+pub use parts::add_parts;
 use rb_places::Places;
 use rb_trees::{Memory, Seq, Split, Word};
 use std::alloc::Global;
-use steps::add_steps;
+pub use steps::add_steps;
 
 // Adds the line of the batch, by its place.
 #[tactic(auto, using(crate::proofs::Pieces::pieces))]

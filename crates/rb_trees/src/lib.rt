@@ -46,7 +46,7 @@ pub use forests::{Entry, Node, NodeFault};
 pub use kinds::{CallKind, Item};
 pub use marks::{Mark, Place};
 pub use outcomes::{Ending, Raised, Run};
-pub use printing::{print_expr, print_program, print_stmt, two_more};
+pub use printing::{print_classes, print_expr, print_program, print_stmt, two_more};
 pub use reading::{LexError, ReadError};
 pub use refusals::Refusal;
 pub use remainders::{Part, Split};

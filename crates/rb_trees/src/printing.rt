@@ -51,8 +51,9 @@ fn print_interfaces(interfaces: &[Interface], into: &mut Word) -> Result<(), Mem
     Ok(())
 }
 
+/// Adds the text of classes, as `print_program` prints them.
 #[tactic(auto, using(crate::proofs::printed::Pieces::texts))]
-fn print_classes(alloc: Global, classes: &[Class], into: &mut Word) -> Result<(), Memory>
+pub fn print_classes(alloc: Global, classes: &[Class], into: &mut Word) -> Result<(), Memory>
     ensures { Adds (classes_pieces (map mirror_class classes.now)) into.old result into.new }
 {
     for class in classes {
