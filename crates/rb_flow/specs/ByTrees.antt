@@ -5,7 +5,6 @@ use Rattle.rb_trees.specs.declared.code.Stmt as stmt
 use Rattle.rb_trees.specs.declared.declarations.Class as class
 use Rattle.rb_trees.specs.declared.declarations.Method as method
 use Rattle.rb_trees.specs.declared.declarations.Program as program
-use Rattle.rb_trees.specs.declared.flows.Writer.{Writer}
 use Rattle.rb_trees.specs.mirror.Code.{mirror_expr, mirror_stmt, mirror_stmts}
 use Rattle.rb_trees.specs.mirror.Declarations.{mirror_class, mirror_method}
 use Rattle.rb_meaning_flow.specs.declared.scopes.Role.{Role}
@@ -60,9 +59,6 @@ module _ (p : program.Program) where
   abbrev pub block_read : Scope → Reading → List stmt.Stmt → Reading
   block_read scope reading ss = readings.block_read (facts p) scope reading (mirror_stmts ss)
 
-  -- what is read for an assignment, and who writes by it
+  -- what is read for an assignment
   abbrev pub assignment_read : Scope → Reading → (a b : expr.Expr) → Reading
   assignment_read scope around a b = readings.joined (words.assign_read (facts p) scope (mirror_expr a) (mirror_expr b)) around
-
-  abbrev pub assignment_writer : Scope → Reading → ℕ → (a b : expr.Expr) → List Writer
-  assignment_writer scope around at a b = words.assignment_writer (facts p) scope around at (mirror_expr a) (mirror_expr b)

@@ -12,11 +12,19 @@ use crate::portable::{has_far_turns, is_constant_list, is_portable};
 use crate::reading::{read_block, read_opened};
 use crate::standing::{Inside, Reading, Standing};
 use crate::writers::read_around;
-use rb_marks::{Facts, branches_hold};
+use rb_marks::{Declared, Facts, branches_hold};
 use rb_meaning_flow::Role;
 use rb_scopes::Scope;
-use rb_trees::{Expr, Memory, Seq, Stmt, Word};
+use rb_trees::{Expr, Memory, Seq, Stmt};
 use std::alloc::Global;
+
+/// An `if`: its condition, and its blocks.
+#[derive(Clone, Copy)]
+pub struct Branch<'a> {
+    pub condition: &'a Expr,
+    pub yes: &'a Seq<Stmt>,
+    pub no: &'a Seq<Stmt>,
+}
 
 /// How what stands around a statement bears on an expression of it.
 pub fn whole_inside(standing: &Standing, may: bool) -> Inside
@@ -63,15 +71,14 @@ pub fn branch_standing(
     x: &Facts<'_>,
     scope: &Scope,
     standing: &Standing,
-    c: &Expr,
-    a: &[Stmt],
-    b: &[Stmt],
+    branch: &Branch<'_>,
 ) -> Result<Standing, Memory>
-    ensures { IfOk result (λ s. s ≡ trees.branch_standing x.now scope.now standing.now c.now a.now b.now) }
+    ensures { IfOk result (λ s. s ≡ trees.branch_standing x.now scope.now standing.now branch.now.condition.now branch.now.yes.now branch.now.no.now) }
 {
+    let c = branch.condition;
     let around = read_around(alloc, x, scope, &standing.around, c)?;
     Ok(Standing {
-        script: standing.script && branches_hold(x, a, b),
+        script: standing.script && branches_hold(x, branch.yes.as_slice(), branch.no.as_slice()),
         condition: condition_unless(is_portable(x, scope, c), standing.condition, c),
         tried: standing.tried,
         around,
@@ -118,23 +125,22 @@ pub fn turn_standing(
     })
 }
 
-/// What stands around the blocks of a `try`. The scope stays.
+/// What stands around the blocks of a `try`, whose second has this variable. The scope stays.
 pub fn try_standing(
     alloc: Global,
     x: &Facts<'_>,
     scope: &mut Scope,
     standing: &Standing,
-    at: u32,
     a: &Seq<Stmt>,
-    name: &Word,
+    own: &Declared<'_>,
     b: &Seq<Stmt>,
 ) -> Result<Standing, Memory>
-    ensures standing { IfOk result (λ s. s ≡ trees.try_standing x.now scope.old standing.now at a.now name.now b.now) }
+    ensures standing { IfOk result (λ s. s ≡ trees.try_standing x.now scope.old standing.now own.now.at a.now own.now.name.now b.now) }
     ensures scope { OnOk result (scope.new ≡ scope.old) }
 {
     let mut around = Reading::new(alloc);
     read_block(alloc, x, scope, &mut around, a.as_slice())?;
-    read_opened(alloc, x, scope, &mut around, name, at, b.as_slice())?;
+    read_opened(alloc, x, scope, &mut around, own.name, own.at, b.as_slice())?;
     around.add(&standing.around)?;
     Ok(Standing {
         script: false,

@@ -7,12 +7,13 @@ ghost use Rattle.rb_trees.specs.mirror.Code.{mirror_stmt, mirror_stmts};
 ghost use Rattle.rb_trees.specs.mirror.Declarations.{mirror_param, mirror_program};
 ghost use Rattle.rb_meaning_flow.specs.Scopes as scopes;
 ghost use Rattle.rb_meaning_flow.specs.Outermost as outermost;
+ghost use Rattle.rb_marks.specs.Views.{with_declared};
 ghost use Rattle.rb_flow.specs.Begun as begun;
 ghost use Rattle.rb_flow.specs.Begun.{begun_of};
 ghost use Rattle.rb_flow.specs.ByTrees.{stmt_begun, block_begun, methods_begun, classes_begun};
 ghost use Rattle.rb_flow.specs.Views.{facts};
 
-use rb_marks::{Batch, Facts, has_primitive_items, is_primitive};
+use rb_marks::{Batch, Declared, Facts, has_primitive_items, is_primitive};
 use rb_meaning_flow::Role;
 use rb_scopes::{OuterScope, Scope};
 use rb_trees::{Class, Memory, Method, Param, Program, Seq, Stmt, StmtForm, Word};
@@ -94,10 +95,11 @@ fn collect_stmt<'p>(
     ensures batches { OnOk result (map begun_of batches.new ≡ stmt_begun x.now scope.old batches.old s.now) }
     ensures scope { OnOk result (scope.new ≡ outermost.outer_after (facts x.now) scope.old (mirror_stmt s.now)) }
 {
+    let at = s.at;
     match &s.form {
         StmtForm::Val(name, e) | StmtForm::Var(name, e) => {
             let role = outer_role(x.is_primitive(e), x.has_primitive_items(e));
-            scope.bind(alloc, name, role, s.at)
+            scope.bind(alloc, name, role, at)
         }
         StmtForm::Assign(_, _) | StmtForm::Run(_) => Ok(()),
         StmtForm::Print(_) | StmtForm::Throw(_) => Ok(()),
@@ -108,15 +110,17 @@ fn collect_stmt<'p>(
         StmtForm::While(_, a) => collect_block(alloc, x, scope, batches, a.as_slice()),
         StmtForm::For(name, e, a) => {
             let role = outer_role(x.has_primitive_items(e), x.has_list_items(e));
-            collect_opened(alloc, x, scope, batches, name, role, s.at, a.as_slice())
+            let own = Declared { name, role, at };
+            collect_opened(alloc, x, scope, batches, &own, a.as_slice())
         }
         StmtForm::Try(a, name, b) => {
             collect_block(alloc, x, scope, batches, a.as_slice())?;
             let role = outer_role(true, false);
-            collect_opened(alloc, x, scope, batches, name, role, s.at, b.as_slice())
+            let own = Declared { name, role, at };
+            collect_opened(alloc, x, scope, batches, &own, b.as_slice())
         }
         StmtForm::Batch(_, root, a) => {
-            push_batch(alloc, x, scope, batches, s.at, root, a.as_slice())
+            push_batch(alloc, x, scope, batches, at, root, a.as_slice())
         }
     }
 }
@@ -144,16 +148,14 @@ fn collect_opened<'p>(
     x: &Facts,
     scope: &mut OuterScope,
     batches: &mut Seq<OpenBatch<'p>>,
-    name: &Word,
-    role: Role,
-    node: u32,
+    own: &Declared<'_>,
     ss: &'p [Stmt],
 ) -> Result<(), Memory>
-    ensures batches { OnOk result (map begun_of batches.new ≡ block_begun x.now (scopes.with_variable scope.old name.now role node) batches.old ss.now) }
+    ensures batches { OnOk result (map begun_of batches.new ≡ block_begun x.now (with_declared scope.old own.now) batches.old ss.now) }
     ensures scope { OnOk result (scope.new ≡ scope.old) }
 {
     let mut inner = scope.begin_block(alloc)?;
-    inner.bind(alloc, name, role, node)?;
+    inner.bind(alloc, own.name, own.role, own.at)?;
     collect_stmts(alloc, x, &mut inner, batches, ss)
 }
 

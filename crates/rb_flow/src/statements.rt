@@ -4,15 +4,14 @@
 
 ghost use Rattle.std.specs.Prelude.{◌≡◌, true, take, length, IfOk, OnOk};
 ghost use Rattle.rb_trees.specs.mirror.Code.{mirror_expr, mirror_stmt};
-ghost use Rattle.rb_meaning_flow.specs.declared.scopes.Role.{Role};
-ghost use Rattle.rb_meaning_flow.specs.Scopes.{with_variable};
-ghost use Rattle.rb_flow.specs.ByTrees.{whole_walked, block_walked, branch_standing, turn_standing, val_role};
+ghost use Rattle.rb_marks.specs.Views.{with_declared};
+ghost use Rattle.rb_flow.specs.ByTrees.{whole_walked, block_walked, branch_standing, turn_standing};
 ghost use Rattle.rb_flow.specs.Views.{facts};
 ghost use Rattle.rb_flow.specs.Walked as words;
 
 use crate::findings::Findings;
 use crate::frames::{
-    batch_standing, branch_standing, try_standing, turn_standing, val_role, while_inside,
+    Branch, batch_standing, branch_standing, try_standing, turn_standing, val_role, while_inside,
     while_standing, whole_inside,
 };
 use crate::portable::has_call;
@@ -20,10 +19,10 @@ use crate::scope::bind;
 use crate::seen::see_stmt;
 use crate::standing::Standing;
 use crate::walk::walk_expr;
-use rb_marks::Facts;
+use rb_marks::{Declared, Facts, bind_declared};
 use rb_meaning_flow::Role;
 use rb_scopes::Scope;
-use rb_trees::{Expr, Memory, Seq, Stmt, StmtForm, Word};
+use rb_trees::{Expr, Memory, Seq, Stmt, StmtForm};
 use std::alloc::Global;
 
 // What the variable of a loop is, whose block is a script place or isn't.
@@ -53,43 +52,6 @@ fn walk_whole(
     walk_expr(alloc, x, scope, &standing.around, &inside, found, e)
 }
 
-// What a `val` binds, and the variable.
-fn walk_val(
-    alloc: Global,
-    x: &Facts<'_>,
-    standing: &Standing,
-    scope: &mut Scope,
-    found: &mut Findings,
-    name: &Word,
-    at: u32,
-    e: &Expr,
-) -> Result<(), Memory>
-    ensures found { OnOk result (found.new ≡ words.own_walked (facts x.now) standing.now scope.old standing.now.script found.old (mirror_expr e.now)) }
-    ensures scope { OnOk result (scope.new ≡ with_variable scope.old name.now (val_role x.now standing.now scope.old e.now) at) }
-{
-    walk_whole(alloc, x, standing, scope, found, standing.script, e)?;
-    let role = val_role(x, standing, scope, e);
-    bind(alloc, scope, name, role, at)
-}
-
-// The same of a `var`.
-fn walk_var(
-    alloc: Global,
-    x: &Facts<'_>,
-    standing: &Standing,
-    scope: &mut Scope,
-    found: &mut Findings,
-    name: &Word,
-    at: u32,
-    e: &Expr,
-) -> Result<(), Memory>
-    ensures found { OnOk result (found.new ≡ words.own_walked (facts x.now) standing.now scope.old true found.old (mirror_expr e.now)) }
-    ensures scope { OnOk result (scope.new ≡ with_variable scope.old name.now Role.Plain at) }
-{
-    walk_whole(alloc, x, standing, scope, found, true, e)?;
-    bind(alloc, scope, name, Role::Plain, at)
-}
-
 // Both sides of an assignment.
 fn walk_sides(
     alloc: Global,
@@ -113,14 +75,13 @@ fn enter_if(
     standing: &Standing,
     scope: &Scope,
     found: &mut Findings,
-    c: &Expr,
-    a: &Seq<Stmt>,
-    b: &Seq<Stmt>,
+    branch: &Branch<'_>,
 ) -> Result<Standing, Memory>
-    ensures found { OnOk result (found.new ≡ words.condition_walked (facts x.now) standing.now scope.now found.old (mirror_expr c.now)) }
-    ensures within { IfOk result (λ s. s ≡ branch_standing x.now scope.now standing.now c.now a.now b.now) }
+    ensures found { OnOk result (found.new ≡ words.condition_walked (facts x.now) standing.now scope.now found.old (mirror_expr branch.now.condition.now)) }
+    ensures within { IfOk result (λ s. s ≡ branch_standing x.now scope.now standing.now branch.now.condition.now branch.now.yes.now branch.now.no.now) }
 {
-    let within = branch_standing(alloc, x, scope, standing, c, a.as_slice(), b.as_slice())?;
+    let c = branch.condition;
+    let within = branch_standing(alloc, x, scope, standing, branch)?;
     let inside = whole_inside(standing, false);
     walk_expr(alloc, x, scope, &within.around, &inside, found, c)?;
     Ok(within)
@@ -193,18 +154,27 @@ fn walk_within(
     ensures found { OnOk result (found.new ≡ words.within_walked (facts x.now) standing.now scope.old found.old (mirror_stmt s.now)) }
     ensures scope { OnOk result (scope.new ≡ words.scope_then (facts x.now) standing.now scope.old (mirror_stmt s.now)) }
 {
+    let at = s.at;
     match &s.form {
-        StmtForm::Val(name, e) => walk_val(alloc, x, standing, scope, found, name, s.at, e),
-        StmtForm::Var(name, e) => walk_var(alloc, x, standing, scope, found, name, s.at, e),
+        StmtForm::Val(name, e) => {
+            walk_whole(alloc, x, standing, scope, found, standing.script, e)?;
+            let role = val_role(x, standing, scope, e);
+            bind(alloc, scope, name, role, at)
+        }
+        StmtForm::Var(name, e) => {
+            walk_whole(alloc, x, standing, scope, found, true, e)?;
+            bind(alloc, scope, name, Role::Plain, at)
+        }
         StmtForm::Assign(a, b) => walk_sides(alloc, x, standing, scope, found, a, b),
         StmtForm::Run(e) => walk_whole(alloc, x, standing, scope, found, has_call(e), e),
         StmtForm::Print(e) | StmtForm::Throw(e) => {
             walk_whole(alloc, x, standing, scope, found, false, e)
         }
-        StmtForm::If(c, a, b) => {
-            let within = enter_if(alloc, x, standing, scope, found, c, a, b)?;
-            walk_block(alloc, x, &within, scope, found, a.as_slice())?;
-            walk_block(alloc, x, &within, scope, found, b.as_slice())
+        StmtForm::If(condition, yes, no) => {
+            let branch = Branch { condition, yes, no };
+            let within = enter_if(alloc, x, standing, scope, found, &branch)?;
+            walk_block(alloc, x, &within, scope, found, yes.as_slice())?;
+            walk_block(alloc, x, &within, scope, found, no.as_slice())
         }
         StmtForm::While(c, a) => {
             let within = enter_while(alloc, x, standing, scope, found, c)?;
@@ -213,16 +183,19 @@ fn walk_within(
         StmtForm::For(name, e, a) => {
             let within = enter_for(alloc, x, standing, scope, found, e, a)?;
             let role = turn_role(x.over_rows(e), within.script);
-            walk_opened(alloc, x, &within, scope, found, name, role, s.at, a)
+            let own = Declared { name, role, at };
+            walk_opened(alloc, x, &within, scope, found, &own, a)
         }
         StmtForm::Try(a, name, b) => {
-            let within = try_standing(alloc, x, scope, standing, s.at, a, name, b)?;
+            let own = Declared::plain(name, at);
+            let within = try_standing(alloc, x, scope, standing, a, &own, b)?;
             walk_block(alloc, x, &within, scope, found, a.as_slice())?;
-            walk_opened(alloc, x, &within, scope, found, name, Role::Plain, s.at, b)
+            walk_opened(alloc, x, &within, scope, found, &own, b)
         }
-        StmtForm::Batch(_, root, a) => {
+        StmtForm::Batch(_, name, a) => {
+            let own = Declared::plain(name, at);
             let within = batch_standing(alloc, standing)?;
-            walk_opened(alloc, x, &within, scope, found, root, Role::Plain, s.at, a)
+            walk_opened(alloc, x, &within, scope, found, &own, a)
         }
     }
 }
@@ -254,16 +227,14 @@ fn walk_opened(
     standing: &Standing,
     scope: &mut Scope,
     found: &mut Findings,
-    name: &Word,
-    role: Role,
-    node: u32,
+    own: &Declared<'_>,
     ss: &Seq<Stmt>,
 ) -> Result<(), Memory>
-    ensures found { OnOk result (found.new ≡ block_walked x.now standing.now (with_variable scope.old name.now role node) found.old ss.now) }
+    ensures found { OnOk result (found.new ≡ block_walked x.now standing.now (with_declared scope.old own.now) found.old ss.now) }
     ensures scope { OnOk result (scope.new ≡ scope.old) }
 {
     let count = scope.len();
-    bind(alloc, scope, name, role, node)?;
+    bind_declared(alloc, scope, own)?;
     walk_stmts(alloc, x, standing, scope, found, ss.as_slice())?;
     scope.truncate(count);
     Ok(())

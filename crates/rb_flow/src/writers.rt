@@ -5,7 +5,7 @@
 ghost use Rattle.std.specs.Prelude.{◌≡◌, ◌++◌, IfOk, OnOk};
 ghost use Rattle.rb_trees.specs.mirror.Code.{mirror_expr, mirror_stmt, mirror_stmts};
 ghost use Rattle.rb_meaning_flow.specs.Flow as flow;
-ghost use Rattle.rb_flow.specs.ByTrees.{assignment_read, assignment_writer};
+ghost use Rattle.rb_flow.specs.ByTrees.{assignment_read};
 ghost use Rattle.rb_flow.specs.Views.{facts, node_list};
 ghost use Rattle.rb_flow.specs.Readings as readings;
 ghost use Rattle.rb_flow.specs.Walked as words;
@@ -164,22 +164,6 @@ fn push_variable(
     writers.push(writer_of(at, at, reading))
 }
 
-fn push_assignment(
-    alloc: Global,
-    x: &Facts<'_>,
-    scope: &Scope,
-    around: &Reading,
-    writers: &mut Seq<Writer>,
-    at: u32,
-    a: &Expr,
-    b: &Expr,
-) -> Result<(), Memory>
-    ensures { OnOk result (writers.new ≡ writers.old ++ assignment_writer x.now scope.now around.now at a.now b.now) }
-{
-    let reading = read_assignment(alloc, x, scope, around, a, b)?;
-    push_some(writers, at, assigned_node(scope, a), reading)
-}
-
 fn push_try(
     alloc: Global,
     x: &Facts<'_>,
@@ -215,7 +199,10 @@ pub fn push_stmt_writer(
         StmtForm::Val(_, e) | StmtForm::Var(_, e) | StmtForm::For(_, e, _) => {
             push_variable(alloc, x, scope, around, writers, s.at, e)
         }
-        StmtForm::Assign(a, b) => push_assignment(alloc, x, scope, around, writers, s.at, a, b),
+        StmtForm::Assign(a, b) => {
+            let reading = read_assignment(alloc, x, scope, around, a, b)?;
+            push_some(writers, s.at, assigned_node(scope, a), reading)
+        }
         StmtForm::Try(a, _, _) => push_try(alloc, x, scope, around, writers, s.at, a.as_slice()),
         StmtForm::Run(_) | StmtForm::Print(_) | StmtForm::Throw(_) => Ok(()),
         StmtForm::If(_, _, _) | StmtForm::While(_, _) | StmtForm::Batch(_, _, _) => Ok(()),

@@ -11,7 +11,8 @@ use Rattle.rb_meaning_flow.specs.declared.scopes.Role.{Role}
 use Rattle.rb_meaning_flow.specs.Scopes.{Scope, with_variable, assigned_in}
 use Rattle.rb_meaning_flow.specs.Outermost.{outer_after}
 use Rattle.rb_marks.specs.declared.batch.Batch.{Batch}
-use Rattle.rb_marks.specs.Views.{told, facts_in, seen}
+use Rattle.rb_marks.specs.declared.declared.Declared.{Declared}
+use Rattle.rb_marks.specs.Views.{told, facts_in, seen, with_declared}
 use Rattle.rb_marks.specs.Passes as passes
 use Rattle.rb_marks.specs.Passes.{Marked, Placed}
 
@@ -34,8 +35,8 @@ stmt_marks x script scope notes s = passes.stmt_marked (facts_in x) x.assigned s
 abbrev pub stmts_marks : Batch → Bool → Scope → Marked → List Stmt → Marked
 stmts_marks x script scope notes ss = passes.block_marked (facts_in x) x.assigned script scope notes (mirror_stmts ss)
 
-abbrev pub opened_marks : Batch → Bool → Scope → List ℕ → Role → ℕ → Marked → List Stmt → Marked
-opened_marks x script scope name role node notes ss = stmts_marks x script (with_variable scope name role node) notes ss
+abbrev pub opened_marks : Batch → Bool → Scope → Declared → Marked → List Stmt → Marked
+opened_marks x script scope own notes ss = stmts_marks x script (with_declared scope own) notes ss
 
 -- the scope behind a statement
 abbrev pub scope_behind : Batch → Bool → Scope → Stmt → Scope
@@ -48,8 +49,8 @@ stmt_places x script scope notes s = passes.stmt_placed (facts_in x) x.assigned 
 abbrev pub stmts_places : Batch → Bool → Scope → Placed → List Stmt → Placed
 stmts_places x script scope notes ss = passes.block_placed (facts_in x) x.assigned script scope notes (mirror_stmts ss)
 
-abbrev pub opened_places : Batch → Bool → Scope → List ℕ → Role → ℕ → Placed → List Stmt → Placed
-opened_places x script scope name role node notes ss = stmts_places x script (with_variable scope name role node) notes ss
+abbrev pub opened_places : Batch → Bool → Scope → Declared → Placed → List Stmt → Placed
+opened_places x script scope own notes ss = stmts_places x script (with_declared scope own) notes ss
 
 -- outside batches: an outermost batch, a statement, statements in order, and a block with a variable of its own
 abbrev pub batch_marks : Program → Scope → List ℕ → ℕ → Marked → List Stmt → Marked
@@ -62,8 +63,8 @@ outer_marks p scope notes s = passes.outer_marked (told p) scope notes (mirror_s
 abbrev pub outer_stmts_marks : Program → Scope → Marked → List Stmt → Marked
 outer_stmts_marks p scope notes ss = passes.outer_block_marked (told p) scope notes (mirror_stmts ss)
 
-abbrev pub outer_opened_marks : Program → Scope → List ℕ → Role → ℕ → Marked → List Stmt → Marked
-outer_opened_marks p scope name role node notes ss = outer_stmts_marks p (with_variable scope name role node) notes ss
+abbrev pub outer_opened_marks : Program → Scope → Declared → Marked → List Stmt → Marked
+outer_opened_marks p scope own notes ss = outer_stmts_marks p (with_declared scope own) notes ss
 
 abbrev pub outer_scope_behind : Program → Scope → Stmt → Scope
 outer_scope_behind p scope s = outer_after (told p) scope (mirror_stmt s)
@@ -85,8 +86,8 @@ outer_places p scope notes s = passes.outer_placed (told p) scope notes (mirror_
 abbrev pub outer_stmts_places : Program → Scope → Placed → List Stmt → Placed
 outer_stmts_places p scope notes ss = passes.outer_block_placed (told p) scope notes (mirror_stmts ss)
 
-abbrev pub outer_opened_places : Program → Scope → List ℕ → Role → ℕ → Placed → List Stmt → Placed
-outer_opened_places p scope name role node notes ss = outer_stmts_places p (with_variable scope name role node) notes ss
+abbrev pub outer_opened_places : Program → Scope → Declared → Placed → List Stmt → Placed
+outer_opened_places p scope own notes ss = outer_stmts_places p (with_declared scope own) notes ss
 
 abbrev pub methods_places : Program → Placed → List Method → Placed
 methods_places p notes ms = passes.methods_placed (told p) notes (map mirror_method ms)

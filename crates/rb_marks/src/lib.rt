@@ -5,6 +5,7 @@
 #![tactic(auto)]
 
 mod batch;
+mod declared;
 mod facts;
 mod index;
 mod laws;
@@ -14,6 +15,7 @@ mod places;
 mod portable;
 
 pub use batch::Batch;
+pub use declared::{Declared, bind_declared};
 pub use facts::{Facts, has_primitive_items, is_primitive};
 pub use index::{Marks, mark};
 pub use laws::{

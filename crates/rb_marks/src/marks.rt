@@ -8,12 +8,13 @@ ghost use Rattle.rb_marks.specs.Views.{told, facts_in, seen};
 ghost use Rattle.rb_marks.specs.Walks as walks;
 
 use crate::batch::Batch;
+use crate::declared::{Declared, bind_declared};
 use crate::facts::Facts;
 use crate::places::note_place;
 use crate::portable::{block_holds, has_far_turns, holds_call, is_constant, is_portable};
 use rb_meaning_flow::Role;
 use rb_scopes::Scope;
-use rb_trees::{Expr, ExprForm, Mark, Memory, Place, Stmt, StmtForm, Word};
+use rb_trees::{Expr, ExprForm, Mark, Memory, Place, Stmt, StmtForm};
 
 /// What is noted on the way, with its positions: the marks of expressions, and the places of statements.
 #[derive(Drop)]
@@ -170,15 +171,16 @@ fn mark_stmt(
     ensures scope { OnOk result (scope.new ≡ walks.scope_behind x.now script scope.old s.now) }
 {
     note_place(x.facts, script, &mut notes.places, s)?;
+    let at = s.at;
     match &s.form {
         StmtForm::Val(name, e) => {
             mark_expr(x, scope, false, &mut notes.marks, e)?;
             let role = carried_role(x, script, scope, e);
-            scope.bind(x.alloc, name, role, s.at)
+            scope.bind(x.alloc, name, role, at)
         }
         StmtForm::Var(name, e) => {
             mark_expr(x, scope, false, &mut notes.marks, e)?;
-            scope.bind(x.alloc, name, Role::Plain, s.at)
+            scope.bind(x.alloc, name, Role::Plain, at)
         }
         StmtForm::Assign(a, b) => {
             mark_expr(x, scope, false, &mut notes.marks, a)?;
@@ -202,16 +204,17 @@ fn mark_stmt(
             mark_expr(x, scope, rows, &mut notes.marks, e)?;
             let turn = turn_script(x, script, scope, e, a.as_slice());
             let role = turn_role(rows, turn);
-            mark_opened(x, turn, scope, notes, name, role, s.at, a.as_slice())
+            let own = Declared { name, role, at };
+            mark_opened(x, turn, scope, notes, &own, a.as_slice())
         }
         StmtForm::Try(a, name, b) => {
             mark_block(x, false, scope, notes, a.as_slice())?;
-            let role = Role::Plain;
-            mark_opened(x, false, scope, notes, name, role, s.at, b.as_slice())
+            let own = Declared::plain(name, at);
+            mark_opened(x, false, scope, notes, &own, b.as_slice())
         }
-        StmtForm::Batch(_, root, a) => {
-            let role = Role::Plain;
-            mark_opened(x, false, scope, notes, root, role, s.at, a.as_slice())
+        StmtForm::Batch(_, name, a) => {
+            let own = Declared::plain(name, at);
+            mark_opened(x, false, scope, notes, &own, a.as_slice())
         }
     }
 }
@@ -244,17 +247,15 @@ fn mark_opened(
     script: bool,
     scope: &mut Scope,
     notes: &mut Notes,
-    name: &Word,
-    role: Role,
-    node: u32,
+    own: &Declared<'_>,
     ss: &[Stmt],
 ) -> Result<(), Memory>
-    ensures marks { OnOk result (notes.new.marks.items ≡ walks.opened_marks x.now script scope.old name.now role node notes.old.marks.items ss.now) }
-    ensures places { OnOk result (notes.new.places.items ≡ walks.opened_places x.now script scope.old name.now role node notes.old.places.items ss.now) }
+    ensures marks { OnOk result (notes.new.marks.items ≡ walks.opened_marks x.now script scope.old own.now notes.old.marks.items ss.now) }
+    ensures places { OnOk result (notes.new.places.items ≡ walks.opened_places x.now script scope.old own.now notes.old.places.items ss.now) }
     ensures scope { OnOk result (scope.new ≡ scope.old) }
 {
     let count = scope.len();
-    scope.bind(x.alloc, name, role, node)?;
+    bind_declared(x.alloc, scope, own)?;
     mark_stmts(x, script, scope, notes, ss)?;
     scope.truncate(count);
     Ok(())

@@ -9,6 +9,7 @@ ghost use Rattle.rb_marks.specs.Views.{told};
 ghost use Rattle.rb_marks.specs.Walks as walks;
 
 use crate::batch::Batch;
+use crate::declared::{Declared, bind_declared};
 use crate::facts::{Facts, has_primitive_items, is_primitive};
 use crate::marks::{Notes, mark_stmts};
 use rb_meaning_flow::Role;
@@ -76,10 +77,11 @@ fn mark_outer(
     ensures places { OnOk result (notes.new.places.items ≡ walks.outer_places facts.now scope.old notes.old.places.items s.now) }
     ensures scope { OnOk result (scope.new ≡ walks.outer_scope_behind facts.now scope.old s.now) }
 {
+    let at = s.at;
     match &s.form {
         StmtForm::Val(name, e) | StmtForm::Var(name, e) => {
             let role = outer_role(facts.is_primitive(e), facts.has_primitive_items(e));
-            scope.bind(alloc, name, role, s.at)
+            scope.bind(alloc, name, role, at)
         }
         StmtForm::Assign(_, _) | StmtForm::Run(_) => Ok(()),
         StmtForm::Print(_) | StmtForm::Throw(_) => Ok(()),
@@ -90,15 +92,17 @@ fn mark_outer(
         StmtForm::While(_, a) => mark_outer_block(alloc, facts, scope, notes, a.as_slice()),
         StmtForm::For(name, e, a) => {
             let role = outer_role(facts.has_primitive_items(e), facts.has_list_items(e));
-            mark_outer_opened(alloc, facts, scope, notes, name, role, s.at, a.as_slice())
+            let own = Declared { name, role, at };
+            mark_outer_opened(alloc, facts, scope, notes, &own, a.as_slice())
         }
         StmtForm::Try(a, name, b) => {
             mark_outer_block(alloc, facts, scope, notes, a.as_slice())?;
             let role = outer_role(true, false);
-            mark_outer_opened(alloc, facts, scope, notes, name, role, s.at, b.as_slice())
+            let own = Declared { name, role, at };
+            mark_outer_opened(alloc, facts, scope, notes, &own, b.as_slice())
         }
         StmtForm::Batch(_, root, a) => {
-            mark_batch(alloc, facts, scope, notes, root, s.at, a.as_slice())
+            mark_batch(alloc, facts, scope, notes, root, at, a.as_slice())
         }
     }
 }
@@ -129,17 +133,15 @@ fn mark_outer_opened(
     facts: &Facts,
     scope: &mut Scope,
     notes: &mut Notes,
-    name: &Word,
-    role: Role,
-    node: u32,
+    own: &Declared<'_>,
     ss: &[Stmt],
 ) -> Result<(), Memory>
-    ensures marks { OnOk result (notes.new.marks.items ≡ walks.outer_opened_marks facts.now scope.old name.now role node notes.old.marks.items ss.now) }
-    ensures places { OnOk result (notes.new.places.items ≡ walks.outer_opened_places facts.now scope.old name.now role node notes.old.places.items ss.now) }
+    ensures marks { OnOk result (notes.new.marks.items ≡ walks.outer_opened_marks facts.now scope.old own.now notes.old.marks.items ss.now) }
+    ensures places { OnOk result (notes.new.places.items ≡ walks.outer_opened_places facts.now scope.old own.now notes.old.places.items ss.now) }
     ensures scope { OnOk result (scope.new ≡ scope.old) }
 {
     let count = scope.len();
-    scope.bind(alloc, name, role, node)?;
+    bind_declared(alloc, scope, own)?;
     mark_outer_stmts(alloc, facts, scope, notes, ss)?;
     scope.truncate(count);
     Ok(())
