@@ -19,10 +19,6 @@ going_by false o none = refl
 pub going : {A : Type 0} (hub : HubSeen A) (event : Event) → refusal_of hub event ≡ None → hub.over ≡ false
 going hub event none = going_by hub.over (refusal_by hub event) none
 
-pub not_refused : (o : Option HubRefusal) → ((refusal : HubRefusal) → o ≡ Some refusal → ⊥) → o ≡ None
-not_refused None h = refl
-not_refused (Some refusal) h = absurd (h refusal refl)
-
 -- the hub as its fields have it
 fields_so : {A : Type 0} (hub : HubSeen A) (event : Event) → refusal_of hub event ≡ None → refusal_of (hub_of hub.answers hub.opened hub.seats) event ≡ None
 fields_so hub event none =

@@ -38,6 +38,11 @@ abbrev pub unknown : Option SessionSeen → Option HubRefusal
 unknown None = Some UnknownSession
 unknown (Some session) = None
 
+-- the refusal of an event whose place was looked for
+abbrev pub refusal_in : Result ℕ HubRefusal → Option HubRefusal
+refusal_in (Ok place) = None
+refusal_in (Err refusal) = Some refusal
+
 abbrev pub refusal_by : {A : Type 0} → HubSeen A → Event → Option HubRefusal
 refusal_by hub Open = if nat_le most_sessions hub.opened then Some Numbers else (if nat_le most_open (length hub.seats) then Some Crowded else None)
 refusal_by hub (Piece number piece) = unknown (session_of number hub.seats)

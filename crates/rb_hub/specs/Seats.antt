@@ -1,5 +1,6 @@
 -- The open sessions of a hub.
 use Rattle.std.specs.Prelude.{◌≡◌, ◌==◌, ◌<◌, ◌+◌, ℕ, if◌then◌else◌, List, [], ◌∷◌, ◌++◌, Option, None, Some, Result, length, take, drop, slice_set, slice_index_or}
+use Rattle.rb_meaning_frames.specs.Histories.{Event, Open, Piece, Close}
 use Rattle.rb_session.specs.declared.sessions.SessionStop.{SessionStop}
 use Rattle.rb_session.specs.Sessions.{SessionSeen, Gathers, IsBounded}
 use Rattle.rb_hub.specs.declared.seats.Seat.{Seat}
@@ -30,6 +31,12 @@ pub record IsPlace (number : ℕ) (seats : List Seat) (place : ℕ) : Type 0 whe
 abbrev pub StandsAt : ℕ → List Seat → Option ℕ → Type 0
 StandsAt number seats (Some place) = IsPlace number seats place
 StandsAt number seats None = session_of number seats ≡ None
+
+-- The session that an event names, where it names one, stands at this place.
+abbrev pub SitsAt : Event → List Seat → ℕ → Type 0
+SitsAt Open seats place = Unit {0}
+SitsAt (Piece number piece) seats place = IsPlace number seats place
+SitsAt (Close number) seats place = IsPlace number seats place
 
 -- The session at this place took a piece.
 pub record GathersAt (seats after : List Seat) (place : ℕ) (piece : List ℕ) (old new : List (List ℕ)) (answer : Result Unit SessionStop) : Type 0 where

@@ -1,11 +1,11 @@
 // A hub: many sessions at once.
 
-ghost use Rattle.std.specs.Prelude.{◌≡◌, ◌<◌, ◌∷◌, [], None, true, false};
+ghost use Rattle.std.specs.Prelude.{◌≡◌, ◌<◌, ◌∷◌, [], None, true, false, IfOk};
 
 use crate::events::{End, Event, HubRefusal, HubStop, Out};
 use crate::performing::{perform, shut_session};
 use crate::runs::each_step_goes_on;
-use crate::seats::{Seat, place_of, unknown};
+use crate::seats::{Seat, place_of, seat_of};
 use rb_session::Answers;
 use rb_trees::Seq;
 use std::alloc::Global;
@@ -53,7 +53,8 @@ impl<A: Answers> Hub<A> {
     ghost use Rattle.rb_meaning_frames.specs.Histories.{Close};
     ghost use Rattle.rb_hub.specs.declared.events.Out.{Out};
     ghost use Rattle.rb_hub.specs.Serial.{as_event};
-    ghost use Rattle.rb_hub.specs.Hubs.{new_hub, refusal_of, refused_by, Does, Steps};
+    ghost use Rattle.rb_hub.specs.Hubs.{new_hub, refusal_of, refusal_in, refused_by, Does, Steps};
+    ghost use Rattle.rb_hub.specs.Seats.{SitsAt};
     ghost use Rattle.rb_hub.specs.Standing.{StandsSomewhere};
 
     /// No session was opened yet. Takes no memory.
@@ -110,18 +111,19 @@ impl<A: Answers> Hub<A> {
         let _ = &self.over;
     }
 
-    /// Why an event is refused, if it is.
-    fn refusal(&self, event: &Event) -> Option<HubRefusal>
-        ensures { result ≡ refusal_of self.now (as_event event.now) }
+    /// The place of the session that an event names, or why the event is refused. An event that names none has any place.
+    fn place_for(&self, event: &Event) -> Result<usize, HubRefusal>
+        ensures refused { refusal_in result ≡ refusal_of self.now (as_event event.now) }
+        ensures place { IfOk result (λ place. SitsAt (as_event event.now) self.now.seats place) }
     {
         if self.over {
-            return Some(HubRefusal::Over);
+            return Err(HubRefusal::Over);
         }
         match event {
-            Event::Open if self.opened >= MOST_SESSIONS => Some(HubRefusal::Numbers),
-            Event::Open if self.seats.len() >= MOST_OPEN => Some(HubRefusal::Crowded),
-            Event::Open => None,
-            Event::Piece(number, _) | Event::Close(number) => unknown(
+            Event::Open if self.opened >= MOST_SESSIONS => Err(HubRefusal::Numbers),
+            Event::Open if self.seats.len() >= MOST_OPEN => Err(HubRefusal::Crowded),
+            Event::Open => Ok(0),
+            Event::Piece(number, _) | Event::Close(number) => seat_of(
                 self.seats.as_slice(),
                 *number,
             ),
@@ -142,15 +144,17 @@ impl<A: Answers> Hub<A> {
         ensures steps { Steps A.Answers (as_event event) self.old self.new outs.old outs.new result }
         ensures service { A.service self.new.answers ≡ A.service self.old.answers }
     {
-        if let Some(refusal) = self.refusal(&event) {
-            return Err(HubStop::Refused(refusal));
-        }
+        let place = match self.place_for(&event) {
+            Ok(place) => place,
+            Err(refusal) => return Err(HubStop::Refused(refusal)),
+        };
         let answer = perform(
             alloc,
             &mut self.answers,
             &mut self.opened,
             &mut self.seats,
             event,
+            place,
             outs,
         );
         each_step_goes_on::<A>();

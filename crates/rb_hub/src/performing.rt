@@ -7,7 +7,7 @@ ghost use Rattle.rb_session.specs.Sessions.{new_session};
 ghost use Rattle.rb_hub.specs.declared.events.Out.{Out};
 ghost use Rattle.rb_hub.specs.declared.seats.Seat.{Seat};
 ghost use Rattle.rb_hub.specs.Serial.{as_event};
-ghost use Rattle.rb_hub.specs.Seats.{session_of, IsPlace};
+ghost use Rattle.rb_hub.specs.Seats.{session_of, IsPlace, SitsAt};
 ghost use Rattle.rb_hub.specs.Hubs.{IsOpen, MayGoOn, DoesOpen, DoesClose, AnswersPiece, HearsBy, EndsBy, Performs, close_of, said, kept_by, hub_of, refusal_by};
 
 use crate::events::{End, Event, HubStop, Out};
@@ -79,6 +79,20 @@ fn end_session(
     Ok(())
 }
 
+/// Closes the session at a place, and says after how many requests and how it ends. It takes no memory.
+fn shut_seat(seats: &mut Vec<Seat>, number: u32, place: usize) -> (u64, End)
+    requires place { IsPlace number seats.old.items place }
+    requires seats { All IsOpen seats.old.items }
+    ensures closes { let given = Out.Ended number result.0 result.1 ∷ [] in
+        DoesClose number seats.old.items seats.new.items given }
+    ensures kept { All IsOpen seats.new.items }
+{
+    let session = &seats[place].session;
+    let ended = (session.requests(), close_of(session));
+    seats.remove(place);
+    ended
+}
+
 /// Closes a session, and says after how many requests and how it ends. It takes no memory.
 pub fn shut_session(seats: &mut Vec<Seat>, number: u32) -> (u64, End)
     requires found { IsSome (session_of number seats.old.items) }
@@ -90,22 +104,24 @@ pub fn shut_session(seats: &mut Vec<Seat>, number: u32) -> (u64, End)
     let Some(place) = place_of(seats.as_slice(), number) else {
         unreachable!()
     };
-    let session = &seats[place].session;
-    let ended = (session.requests(), close_of(session));
-    seats.remove(place);
-    ended
+    shut_seat(seats, number, place)
 }
 
-/// Closes a session.
-fn close_session(seats: &mut Vec<Seat>, number: u32, outs: &mut Seq<Out>) -> Result<(), Memory>
-    requires found { IsSome (session_of number seats.old.items) }
+/// Closes the session at a place.
+fn close_session(
+    seats: &mut Vec<Seat>,
+    number: u32,
+    place: usize,
+    outs: &mut Seq<Out>,
+) -> Result<(), Memory>
+    requires place { IsPlace number seats.old.items place }
     requires seats { All IsOpen seats.old.items }
     ensures closes { OnOk result ((given : List Out) × (outs.new ≡ outs.old ++ given)
         × DoesClose number seats.old.items seats.new.items given) }
     ensures err { OnErr result (outs.new ≡ outs.old) }
     ensures kept { OnOk result (All IsOpen seats.new.items) }
 {
-    let (requests, end) = shut_session(seats, number);
+    let (requests, end) = shut_seat(seats, number, place);
     outs.push(Out::Ended(number, requests, end))?;
     Ok(())
 }
@@ -166,40 +182,40 @@ fn finish(
     }
 }
 
-/// Gives a session a piece, answers the requests that became whole, and ends it where it stopped.
+/// Gives the session at a place a piece, answers the requests that became whole, and ends it where it stopped.
 fn hear<A: Answers>(
     alloc: Global,
     answers: &mut A,
     seats: &mut Vec<Seat>,
     number: u32,
+    place: usize,
     piece: &[u8],
     outs: &mut Seq<Out>,
 ) -> Result<(), HubStop<A::Stop>>
-    requires found { IsSome (session_of number seats.old.items) }
+    requires place { IsPlace number seats.old.items place }
     requires may { MayGoOn A.Answers answers.old seats.old.items }
     ensures hears { (given : List Out) × (outs.new ≡ outs.old ++ given)
         × HearsBy A.Answers number piece.now answers.old answers.new seats.old.items seats.new.items given result }
     ensures kept { OnOk result (MayGoOn A.Answers answers.new seats.new.items) }
     ensures service { A.service answers.new ≡ A.service answers.old }
 {
-    let Some(place) = place_of(seats.as_slice(), number) else {
-        unreachable!()
-    };
     let end = answer_piece(alloc, answers, seats, number, place, piece, outs)?;
     finish(seats, place, number, end, outs)?;
     Ok(())
 }
 
-/// Does what an event asks for that isn't refused.
+/// Does what an event asks for that isn't refused. The session that it names, if it names one, stands at the place.
 pub fn perform<A: Answers>(
     alloc: Global,
     answers: &mut A,
     opened: &mut u64,
     seats: &mut Vec<Seat>,
     event: Event,
+    place: usize,
     outs: &mut Seq<Out>,
 ) -> Result<(), HubStop<A::Stop>>
     requires may { refusal_by (hub_of answers.old opened.old seats.old.items) (as_event event) ≡ None }
+    requires place { SitsAt (as_event event) seats.old.items place }
     requires keeps { MayGoOn A.Answers answers.old seats.old.items }
     ensures performs { Performs A.Answers (as_event event) (hub_of answers.old opened.old seats.old.items)
         (hub_of answers.new opened.new seats.new.items) outs.old outs.new result }
@@ -208,7 +224,9 @@ pub fn perform<A: Answers>(
 {
     match event {
         Event::Open => Ok(open_next(alloc, opened, seats, outs)?),
-        Event::Piece(number, piece) => hear(alloc, answers, seats, number, piece.as_slice(), outs),
-        Event::Close(number) => Ok(close_session(seats, number, outs)?),
+        Event::Piece(number, piece) => {
+            hear(alloc, answers, seats, number, place, piece.as_slice(), outs)
+        }
+        Event::Close(number) => Ok(close_session(seats, number, place, outs)?),
     }
 }

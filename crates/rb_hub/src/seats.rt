@@ -1,8 +1,8 @@
 // The open sessions of a hub, in order of their numbers.
 
-ghost use Rattle.std.specs.Prelude.{◌≡◌, ◌<◌, length};
-ghost use Rattle.rb_hub.specs.Seats.{StandsAt, GathersAt, session_of};
-ghost use Rattle.rb_hub.specs.Hubs.{unknown};
+ghost use Rattle.std.specs.Prelude.{◌≡◌, ◌<◌, length, IfOk};
+ghost use Rattle.rb_hub.specs.Seats.{StandsAt, IsPlace, GathersAt, session_of};
+ghost use Rattle.rb_hub.specs.Hubs.{unknown, refusal_in};
 
 use crate::events::HubRefusal;
 use rb_session::{Session, SessionStop};
@@ -42,12 +42,13 @@ pub fn gather_at(
     seats[place].session.take(alloc, piece, whole)
 }
 
-/// Why an event of a session is refused, if it is.
-pub fn unknown(seats: &[Seat], number: u32) -> Option<HubRefusal>
-    ensures { result ≡ unknown (session_of number seats.now) }
+/// The place of the session that an event names, or why the event is refused.
+pub fn seat_of(seats: &[Seat], number: u32) -> Result<usize, HubRefusal>
+    ensures refused { refusal_in result ≡ unknown (session_of number seats.now) }
+    ensures place { IfOk result (λ place. IsPlace number seats.now place) }
 {
     match place_of(seats, number) {
-        Some(_) => None,
-        None => Some(HubRefusal::UnknownSession),
+        Some(place) => Ok(place),
+        None => Err(HubRefusal::UnknownSession),
     }
 }
