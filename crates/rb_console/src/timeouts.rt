@@ -33,7 +33,7 @@ pub fn timeout_for<R: Env + Eprint + AllocGlobal>(
 /// Whether a command of these words connects, or is connected to.
 fn has_connections(words: &[String]) -> bool {
     match words.first() {
-        Some(command) => matches!(command.as_str(), "run" | "serve"),
+        Some(command) => matches!(command.as_str(), "run" | "serve" | "keep"),
         None => false,
     }
 }
