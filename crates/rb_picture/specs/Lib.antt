@@ -1,0 +1,2 @@
+-- What a text is in a picture.
+pub mod Escapes
