@@ -24,7 +24,7 @@ PROGRAMS = sorted(EXAMPLES.glob("*.rbi"))
 SERVICES = sorted(EXAMPLES.glob("*.rbs"))
 # The pairs of a program and a service that it runs on.
 RUNS = [("large", "files"), ("rename", "files"), ("cart", "shop"), ("report", "folders"), ("prices", "prices")]
-# Messages of docs/wire.md and docs/links.md, each with what the last line says of it and the exit status.
+# Messages of docs/wire.md, frames of docs/links.md and journals of docs/journal.md, each with what the last line says of it and the exit status.
 MESSAGES = [
     ("01 00 00000000", "whole", 0),
     ("01 00 00000000 00", "refused 6 Trailing at 6", 1),
@@ -36,6 +36,11 @@ MESSAGES = [
     ("52 42 01 0000000000000006 01 00 00000000", "whole", 0),
     ("52 42 02 0000000000000006 01 00000000 00", "whole", 0),
     ("52 42 03 0000000000000006 01 01 00000002", "whole", 0),
+    ("52 42 01 0000000000000006 01 00 00000000 52", "cut frame at 17", 1),
+    ("52 42 05", "bad frame at 2", 1),
+    ("52 42 4a 01 01 00000006 01 00 00000000 00", "whole", 0),
+    ("52 42 4a 02 00", "no journal", 1),
+    ("52 42 4a 01 01 00", "bad record at 5", 1),
 ]
 # The script of docs/wire.md that calls `size` of the root.
 SIZE = (
