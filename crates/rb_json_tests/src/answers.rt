@@ -3,6 +3,7 @@
 ghost use Rattle.std.specs.Prelude.{IfOk};
 ghost use Rattle.rb_session.specs.Answering.{IsTypedHost};
 
+use crate::requests::expect_refusal;
 use rb_code::classes_differ;
 use rb_exec::Host;
 use rb_json::{JsonRefusal, JsonStop, json_answer};
@@ -26,16 +27,17 @@ object 1: File { name = \"a\"; size = 10; }
 object 2: File { name = \"bb\"; size = 200; }
 root 0;";
 
-/// The lines of its table, with the size of the first file.
-fn files_table(size: &str, alloc: Global) -> Result<Seq<u8>, Fail> {
-    let mut lines = Seq::from_slice(
-        alloc,
-        b"object 0: Dir { list = [#1, #2]; }\nobject 1: File { name = \"a\"; size = ",
-    )?;
-    lines.extend_from_slice(size.as_bytes())?;
-    lines.extend_from_slice(b"; }\nobject 2: File { name = \"bb\"; size = 200; }\n")?;
-    Ok(lines)
-}
+/// The lines of its table.
+const FILES_TABLE: &[u8] = b"object 0: Dir { list = [#1, #2]; }
+object 1: File { name = \"a\"; size = 10; }
+object 2: File { name = \"bb\"; size = 200; }
+";
+
+/// The same, where the first file has grown by 6.
+const GROWN_TABLE: &[u8] = b"object 0: Dir { list = [#1, #2]; }
+object 1: File { name = \"a\"; size = 16; }
+object 2: File { name = \"bb\"; size = 200; }
+";
 
 /// The host of a service's text.
 fn host_of(alloc: Global, source: &[u8]) -> Result<Host, Fail>
@@ -48,28 +50,56 @@ fn host_of(alloc: Global, source: &[u8]) -> Result<Host, Fail>
     Err(Fail::new("two classes or methods have one name"))
 }
 
-/// Fails where a request has another reply than this, or the table has other lines then.
+/// Fails where other bytes are found than are wanted.
+fn expect_bytes(found: &[u8], want: &[u8]) -> Result<(), Fail> {
+    if found == want {
+        Ok(())
+    } else {
+        Err(Fail::new(format_args!("{found:?} in place of {want:?}")))
+    }
+}
+
+/// Fails where the table has other lines.
+fn expect_table(alloc: Global, host: &Host, table: &[u8]) -> Result<(), Fail> {
+    expect_bytes(print_table(alloc, host.table())?.as_slice(), table)
+}
+
+/// Fails where a host gives a request another reply than this, or has a table with other lines then.
+fn expect_reply_by(
+    alloc: Global,
+    host: &mut Host,
+    request: &[u8],
+    want: &[u8],
+    table: &[u8],
+) -> Result<(), Fail>
+    requires { IsTypedHost host.old }
+{
+    if request.len() > 1_048_576 {
+        return Err(Fail::new("the request is too long"));
+    }
+    let mut reply = Seq::new(alloc);
+    json_answer(alloc, host, request, &mut reply)?;
+    expect_bytes(reply.as_slice(), want)?;
+    expect_table(alloc, host, table)
+}
+
+/// The same of the host of a text.
 fn expect_reply(
     alloc: Global,
     source: &[u8],
     (request, want): (&[u8], &[u8]),
     table: &[u8],
 ) -> Result<(), Fail> {
-    if request.len() > 1_048_576 {
-        return Err(Fail::new("the request is too long"));
-    }
     let mut host = host_of(alloc, source)?;
-    let mut reply = Seq::new(alloc);
-    json_answer(alloc, &mut host, request, &mut reply)?;
-    if reply.as_slice() != want {
-        return Err(Fail::new(format_args!("{:?} in place of {want:?}", reply.as_slice())));
+    expect_reply_by(alloc, &mut host, request, want, table)
+}
+
+/// Fails at the first request that has another reply than the one beside it, from a host whose method gives a number.
+fn expect_replies(alloc: Global, rows: &[(&[u8], &[u8])]) -> Result<(), Fail> {
+    for row in rows {
+        expect_reply(alloc, NUMBER, *row, NUMBER_TABLE)?;
     }
-    let lines = print_table(alloc, host.table())?;
-    if lines.as_slice() == table {
-        Ok(())
-    } else {
-        Err(Fail::new(format_args!("the table {:?}", lines.as_slice())))
-    }
+    Ok(())
 }
 
 #[test]
@@ -84,10 +114,7 @@ fn a_node_has_its_entries(rt: HostRuntime) -> Result<(), Fail> {
             b"{\"entries\":[[\"branch\",true,{\"entries\":[[\"value\",\"a\"]],\"fault\":null}]],\"fault\":null}",
         ),
     ];
-    for row in rows {
-        expect_reply(rt.alloc(), NUMBER, *row, NUMBER_TABLE)?;
-    }
-    Ok(())
+    expect_replies(rt.alloc(), rows)
 }
 
 #[test]
@@ -114,24 +141,29 @@ fn a_script_that_is_not_valid_is_refused(rt: HostRuntime) -> Result<(), Fail> {
             b"{\"refusal\":[15,2]}",
         ),
     ];
-    for row in rows {
-        expect_reply(rt.alloc(), NUMBER, *row, NUMBER_TABLE)?;
+    expect_replies(rt.alloc(), rows)
+}
+
+/// Why a host refuses a request, or None where it answers it.
+fn refusal_by(alloc: Global, host: &mut Host, request: &[u8]) -> Result<Option<JsonRefusal>, Fail>
+    requires { IsTypedHost host.old }
+{
+    if request.len() > 1_048_576 {
+        return Err(Fail::new("the request is too long"));
     }
-    Ok(())
+    let mut reply = Seq::new(alloc);
+    match json_answer(alloc, host, request, &mut reply) {
+        Ok(()) => Ok(None),
+        Err(JsonStop::Refused(refusal)) => Ok(Some(refusal)),
+        Err(JsonStop::Memory) => Err(Fail::new("out of memory")),
+    }
 }
 
 /// Fails where a request is answered otherwise than by this refusal.
 fn expect_refused(alloc: Global, request: &[u8], want: JsonRefusal) -> Result<(), Fail> {
-    if request.len() > 1_048_576 {
-        return Err(Fail::new("the request is too long"));
-    }
     let mut host = host_of(alloc, NUMBER)?;
-    let mut reply = Seq::new(alloc);
-    match json_answer(alloc, &mut host, request, &mut reply) {
-        Err(JsonStop::Refused(refusal)) if refusal == want => Ok(()),
-        Err(stop) => Err(Fail::new(format_args!("{stop:?} in place of {want:?}"))),
-        Ok(()) => Err(Fail::new(format_args!("a reply in place of {want:?}"))),
-    }
+    let found = refusal_by(alloc, &mut host, request)?;
+    expect_refusal(found, Some(want))
 }
 
 #[test]
@@ -146,8 +178,7 @@ fn a_fault_stands_in_the_node(rt: HostRuntime) -> Result<(), Fail> {
     let request =
         b"{\"inputs\":[],\"steps\":[[\"do\",0,9,[\"call\",9,4,\"file\",[\"root\"],[[\"lit\",7]]]]]}";
     let want = b"{\"entries\":[],\"fault\":[0,9,2,\"\"]}";
-    let table = files_table("10", rt.alloc())?;
-    expect_reply(rt.alloc(), FILES, (request, want), table.as_slice())
+    expect_reply(rt.alloc(), FILES, (request, want), FILES_TABLE)
 }
 
 #[test]
@@ -156,6 +187,5 @@ fn a_list_input_is_walked(rt: HostRuntime) -> Result<(), Fail> {
         b"{\"inputs\":[[1,2,3]],\"steps\":[[\"over\",0,5,0,0,[[\"do\",1,6,[\"call\",7,0,\"grow\",[\"call\",8,4,\"file\",[\"root\"],[[\"lit\",0]]],[[\"var\",0]]]]]]]}";
     let want =
         b"{\"entries\":[[\"rows\",[{\"entries\":[],\"fault\":null},{\"entries\":[],\"fault\":null},{\"entries\":[],\"fault\":null}]]],\"fault\":null}";
-    let table = files_table("16", rt.alloc())?;
-    expect_reply(rt.alloc(), FILES, (request, want), table.as_slice())
+    expect_reply(rt.alloc(), FILES, (request, want), GROWN_TABLE)
 }

@@ -1,22 +1,30 @@
 // Texts, and what they mean as requests.
 
 use rb_json::{JsonRefusal, JsonStop, read_request, write_request};
-use rb_trees::{Memory, Seq};
+use rb_trees::Memory;
 use std::alloc::Global;
 use std::test::Fail;
 
-/// Why a text is no request, or None where it is one.
-pub fn refusal_of(alloc: Global, text: &[u8]) -> Result<Option<JsonRefusal>, Memory> {
+/// What is told of a text: why it is no request, or whether the request that it is, written again, is that text.
+#[derive(Clone, Copy)]
+enum Judged {
+    Refused(JsonRefusal),
+    Read(bool),
+}
+
+fn told(alloc: Global, text: &[u8]) -> Result<Judged, Memory> {
     match read_request(alloc, text) {
-        Ok((_script, _values)) => Ok(None),
-        Err(JsonStop::Refused(refusal)) => Ok(Some(refusal)),
+        Ok((script, values)) => match write_request(alloc, &script, values.as_slice()) {
+            Ok(again) => Ok(Judged::Read(again.as_slice() == text)),
+            Err(memory) => Err(memory),
+        },
+        Err(JsonStop::Refused(refusal)) => Ok(Judged::Refused(refusal)),
         Err(JsonStop::Memory) => Err(Memory),
     }
 }
 
-/// Fails where a text is refused otherwise than so.
-pub fn expect_refusal(alloc: Global, text: &[u8], want: Option<JsonRefusal>) -> Result<(), Fail> {
-    let found = refusal_of(alloc, text)?;
+/// Fails where it is refused otherwise than so.
+pub fn expect_refusal(found: Option<JsonRefusal>, want: Option<JsonRefusal>) -> Result<(), Fail> {
     if found == want {
         Ok(())
     } else {
@@ -24,13 +32,21 @@ pub fn expect_refusal(alloc: Global, text: &[u8], want: Option<JsonRefusal>) -> 
     }
 }
 
-/// A request is read and written again, or None where the text is no request.
-fn written_again(alloc: Global, text: &[u8]) -> Result<Option<Seq<u8>>, Memory> {
-    match read_request(alloc, text) {
-        Ok((script, values)) => Ok(Some(write_request(alloc, &script, values.as_slice())?)),
-        Err(JsonStop::Refused(_)) => Ok(None),
-        Err(JsonStop::Memory) => Err(Memory),
+/// Fails where a text is refused otherwise than so.
+pub fn expect_told(alloc: Global, text: &[u8], want: Option<JsonRefusal>) -> Result<(), Fail> {
+    let found = match told(alloc, text)? {
+        Judged::Refused(refusal) => Some(refusal),
+        Judged::Read(_) => None,
+    };
+    expect_refusal(found, want)
+}
+
+/// Fails at the first text that isn't refused so.
+fn expect_all_refused(alloc: Global, texts: &[&[u8]], want: JsonRefusal) -> Result<(), Fail> {
+    for text in texts {
+        expect_told(alloc, text, Some(want))?;
     }
+    Ok(())
 }
 
 #[test]
@@ -45,8 +61,13 @@ fn texts_that_are_no_json(rt: HostRuntime) -> Result<(), Fail> {
         b"{\"inputs\":[\"\xff\"],\"steps\":[]}",
         b"{\"inputs\":[\"\\ud800\"],\"steps\":[]}",
     ];
-    for row in rows {
-        expect_refusal(rt.alloc(), row, Some(JsonRefusal::NotJson))?;
+    expect_all_refused(rt.alloc(), rows, JsonRefusal::NotJson)
+}
+
+/// Fails at the first text of which another value than this one breaks the form first.
+fn expect_wrong_forms(alloc: Global, rows: &[(&[u8], u32)]) -> Result<(), Fail> {
+    for (text, place) in rows {
+        expect_told(alloc, text, Some(JsonRefusal::WrongForm(*place)))?;
     }
     Ok(())
 }
@@ -144,8 +165,21 @@ fn the_first_value_that_breaks_the_form_is_told(rt: HostRuntime) -> Result<(), F
         // a key that stands twice has its last value
         (b"{\"inputs\":0,\"steps\":[7],\"inputs\":[]}", 3),
     ];
-    for (text, place) in rows {
-        expect_refusal(rt.alloc(), text, Some(JsonRefusal::WrongForm(*place)))?;
+    expect_wrong_forms(rt.alloc(), rows)
+}
+
+/// Fails where a text is no request, or is written otherwise.
+fn expect_written(alloc: Global, text: &[u8]) -> Result<(), Fail> {
+    match told(alloc, text)? {
+        Judged::Read(true) => Ok(()),
+        _ => Err(Fail::new(format_args!("{text:?} is refused or written otherwise"))),
+    }
+}
+
+/// Fails at the first text that is no request, or is written otherwise.
+fn expect_all_written(alloc: Global, texts: &[&[u8]]) -> Result<(), Fail> {
+    for text in texts {
+        expect_written(alloc, text)?;
     }
     Ok(())
 }
@@ -162,15 +196,5 @@ fn requests_are_written_as_they_were_read(rt: HostRuntime) -> Result<(), Fail> {
         b"{\"inputs\":[],\"steps\":[[\"each\",0,0,1,true,[\"call\",0,8,\"all\",[\"root\"],[[\"lit\",\"\"]]],[]]]}",
         b"{\"inputs\":[[1]],\"steps\":[[\"over\",0,0,1,0,[[\"keep\",1,0,[\"var\",1]]]]]}",
     ];
-    for row in rows {
-        match written_again(rt.alloc(), row)? {
-            Some(text) => {
-                if text.as_slice() != *row {
-                    return Err(Fail::new(format_args!("{row:?} is written otherwise")));
-                }
-            }
-            None => return Err(Fail::new(format_args!("{row:?} is refused"))),
-        }
-    }
-    Ok(())
+    expect_all_written(rt.alloc(), rows)
 }
