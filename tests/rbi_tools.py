@@ -40,7 +40,7 @@ MESSAGES = [
     ("52 42 05", "bad frame at 2", 1),
     ("52 42 4a 01 01 00000006 01 00 00000000 00", "whole", 0),
     ("52 42 4a 02 00", "no journal", 1),
-    ("52 42 4a 01 01 00", "bad record at 5", 1),
+    ("52 42 4a 01 01 00", "bad record at 4", 1),
 ]
 # The script of docs/wire.md that calls `size` of the root.
 SIZE = (
