@@ -7,6 +7,7 @@ pub mod Events
 pub mod Fronts
 pub mod Missed
 pub mod Parted
+pub mod Found
 pub mod FormsApart
 pub mod Replaying
 pub mod Told

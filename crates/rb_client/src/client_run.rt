@@ -9,6 +9,7 @@ ghost use Rattle.rb_client.specs.Runs.{FailsAsListed, IsAcceptedWith, RunsOver};
 ghost use Rattle.rb_client.specs.Scenes.{Between};
 
 use crate::client_world::ClientWorld;
+use crate::divisions::Divisions;
 use crate::laws::reached_batches_perform_remote_parts;
 use crate::plan::Plan;
 use crate::stops::RunStop;
@@ -164,6 +165,7 @@ pub fn run_client<L: Link, W: Sink>(
     answers_fit_on_the_way();
     let program = typed.program();
     let code = Code::make(alloc, &program.classes)?;
-    let plan = Plan::new(typed, splits, &code);
+    let divisions = Divisions::of(alloc, splits)?;
+    let plan = Plan::new(typed, divisions, &code);
     run_plan(alloc, &plan, fuel, link, out)
 }

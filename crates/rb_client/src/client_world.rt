@@ -1,7 +1,6 @@
 // The surroundings of code that stands in no batch.
 
 ghost use Rattle.std.specs.Prelude.{◌≡◌, ◌≤◌, length, false, Some};
-ghost use Rattle.std.specs.Option.{option_copied};
 ghost use Rattle.rb_meaning_split.specs.Division.{mirror_split};
 ghost use Rattle.rb_engine.specs.Answers.{Answered, performed};
 ghost use Rattle.rb_engine.specs.Locals.{local};
@@ -9,7 +8,6 @@ ghost use Rattle.rb_client.specs.Clients.{Fetches, PerformsSplit};
 ghost use Rattle.rb_client.specs.Ends.{halted, stepped};
 ghost use Rattle.rb_client.specs.Exchanges.{CanBeSent};
 ghost use Rattle.rb_client.specs.Inputs.{Measures, exceed};
-ghost use Rattle.rb_client.specs.Splits.{split_at};
 
 use crate::early::Early;
 use crate::faults::{refuse, too_large};
@@ -61,18 +59,6 @@ impl<'a, 'l, 'o, L: Link, W: Sink> ClientWorld<'a, 'l, 'o, L, W> {
             exchanges: 0,
         }
     }
-}
-
-// The division of the batch at a position.
-fn find(splits: &[Split], at: u32) -> Option<&Split>
-    ensures { option_copied result ≡ split_at splits.now at }
-{
-    'splits: for split in splits {
-        if split.at == at {
-            return Some(split);
-        }
-    }
-    None
 }
 
 // Exchanges the script of a batch for a reply.
@@ -203,8 +189,7 @@ impl<'a, 'l, 'o, L: Link, W: Sink> World for ClientWorld<'a, 'l, 'o, L, W> {
 
     fn batch(&mut self, at: u32, state: &mut State, frame: &mut Frame) -> RunResult<(), RunStop> {
         let alloc = self.alloc;
-        let splits = self.plan.splits();
-        match find(splits.as_slice(), at) {
+        match self.plan.find(at) {
             Some(split) => perform(alloc, self, split, state, frame),
             None => Ok(Err(refuse(alloc, at))),
         }

@@ -17,7 +17,7 @@ const MOST_ITEMS: usize = 1_000;
 fn value_of(frame: &Frame, name: &Word) -> Result<Value, Memory>
     ensures { IfOk result (λ value. value ≡ value_or_unit (lookup frame.now name.now)) }
 {
-    match frame.find(name.as_slice()) {
+    match frame.find(name) {
         Some(value) => copy_value(value),
         None => Ok(Value::Unit),
     }
@@ -49,7 +49,7 @@ fn items_in(value: &Value) -> usize
 fn items_of(frame: &Frame, name: &Word) -> usize
     ensures { result ≡ items.items_of (value_or_unit (lookup frame.now name.now)) }
 {
-    match frame.find(name.as_slice()) {
+    match frame.find(name) {
         Some(value) => items_in(value),
         None => 0,
     }

@@ -6,6 +6,7 @@
 
 mod client_run;
 mod client_world;
+mod divisions;
 mod early;
 mod faults;
 mod inputs;

@@ -63,7 +63,7 @@ pub fn items_of(
 ) -> Result<Shared<Seq<Value>>, Early>
     ensures { GivesItems at (meant.items_of (lookup frame.now list.now)) result }
 {
-    match frame.find(list.as_slice()) {
+    match frame.find(list) {
         Some(value) => items_in(alloc, value, at),
         None => Err(Early::Raised(refuse(alloc, at))),
     }

@@ -1,10 +1,13 @@
 // What a client runs.
 
 ghost use Rattle.std.specs.Prelude.{◌≡◌};
+ghost use Rattle.std.specs.Option.{option_copied};
 ghost use Rattle.rb_client.specs.Exchanges.{AreDivisions};
+ghost use Rattle.rb_client.specs.Splits.{split_at};
 
+use crate::divisions::Divisions;
 use rb_code::Code;
-use rb_trees::{Seq, Split};
+use rb_trees::Split;
 use rb_types::Typed;
 use std::marker::Model;
 
@@ -13,7 +16,7 @@ use std::marker::Model;
 #[derive(Drop)]
 pub struct Plan<'a> {
     typed: &'a Typed,
-    splits: &'a Seq<Split>,
+    splits: Divisions<'a>,
     code: &'a Code,
 }
 
@@ -26,17 +29,17 @@ impl<'a> Model for Plan<'a> {
 
     ghost coded = { planned_code };
 
-    ghost view = { λ p. record { program = p.typed.now; splits = p.splits.now } };
+    ghost view = { λ p. record { program = p.typed.now; splits = p.splits } };
 
-    ghost invariant = { λ p. (p.code.now ≡ p.typed.now.classes) × AreDivisions p.typed.now p.splits.now };
+    ghost invariant = { λ p. (p.code.now ≡ p.typed.now.classes) × AreDivisions p.typed.now p.splits };
 }
 
 impl<'a> Plan<'a> {
     /// The plan of a program with its divisions. The code is that of the program's classes.
-    pub fn new(typed: &'a Typed, splits: &'a Seq<Split>, code: &'a Code) -> Plan<'a>
+    pub fn new(typed: &'a Typed, splits: Divisions<'a>, code: &'a Code) -> Plan<'a>
         requires code { code.now ≡ typed.now.classes }
-        requires divided { AreDivisions typed.now splits.now }
-        ensures { result ≡ record { program = typed.now; splits = splits.now } }
+        requires divided { AreDivisions typed.now splits }
+        ensures { result ≡ record { program = typed.now; splits = splits } }
     {
         Plan {
             typed,
@@ -52,12 +55,12 @@ impl<'a> Plan<'a> {
         self.typed
     }
 
-    /// The divisions.
-    pub fn splits(&self) -> &'a Seq<Split>
-        ensures now { result.now ≡ self.now.splits }
+    /// The division of the batch at a position: `split_at`.
+    pub fn find(&self, at: u32) -> Option<&'a Split>
+        ensures found { option_copied result ≡ split_at self.now.splits at }
         ensures divided { AreDivisions self.now.program self.now.splits }
     {
-        self.splits
+        self.splits.find(at)
     }
 
     /// The code of the program's classes.

@@ -4,6 +4,7 @@ pub mod Blocks
 pub mod BothNumbers
 pub mod Exprs
 pub mod Forms
+pub mod Indexed
 pub mod Items
 pub mod Kept
 pub mod Known

@@ -10,7 +10,7 @@ use crate::conditions::is_remote;
 use crate::ends::{End, lift};
 use crate::frame::Frame;
 use crate::machine::Machine;
-use crate::names::{add, copied, named_value};
+use crate::names::{add, copied, named_value, this_value};
 use crate::objects::{construct, read_field};
 use crate::operand::{Operand, lent};
 use crate::operators::on_one;
@@ -30,8 +30,8 @@ impl<'a, W: World> Machine<'a, W> {
         let at = expr.at;
         match &expr.form {
             ExprForm::Lit(value) => copied(value),
-            ExprForm::Name(name) => named_value(self.alloc, frame, at, name.as_slice()),
-            ExprForm::This => named_value(self.alloc, frame, at, b"this"),
+            ExprForm::Name(name) => named_value(self.alloc, frame, at, name),
+            ExprForm::This => this_value(self.alloc, frame, at),
             ExprForm::Unary(op, a) => self.unary_value(frame, at, *op, a.get()),
             ExprForm::Binary(op, a, b) => { self.binary_value(frame, at, *op, a.get(), b.get()) }
             ExprForm::Field(a, name) => { self.field_value(frame, at, a.get(), name) }

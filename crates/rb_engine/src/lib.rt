@@ -17,6 +17,7 @@ mod expressions;
 mod faults;
 mod frame;
 mod kinds;
+mod later;
 mod machine;
 mod misses;
 mod name;

@@ -98,14 +98,11 @@ impl Name {
         })
     }
 
-    /// A copy of the name: the same bytes.
-    pub fn copy(&self, alloc: Global) -> Result<Name, Memory>
-        ensures { IfOk result (λ copy. copy ≡ self.now) }
+    /// The bytes of the name.
+    pub fn as_slice(&self) -> &[u8]
+        ensures { result.now ≡ self.now }
     {
-        Ok(Name {
-            key: self.key,
-            bytes: SmallVec::from_slice(alloc, self.bytes.as_slice())?,
-        })
+        self.bytes.as_slice()
     }
 
     /// Whether this is the name that is sought.

@@ -5,6 +5,7 @@ ghost use Rattle.std.specs.Prelude.{◌≡◌, [], ◌∷◌, ◌++◌, OnErr};
 ghost use Rattle.rb_trees.specs.Outcome.{Gives};
 ghost use Rattle.rb_trees.specs.declared.values.Value.{out-Value};
 ghost use Rattle.rb_meaning_code.specs.Expressions as rules;
+ghost use Rattle.rb_meaning_code.specs.State.{this_name};
 ghost use Rattle.rb_meaning_code.specs.Statements as statements;
 ghost use Rattle.rb_engine.specs.Ends.{fault_of, GivesAt, UnlessMemory};
 
@@ -37,7 +38,7 @@ pub fn add<X>(values: &mut Seq<Value>, value: Value) -> Result<(), End<X>>
 }
 
 // The value of a name in scope: `value_of`.
-fn found_value(alloc: Global, frame: &Frame, name: &[u8]) -> Result<Value, Failure>
+fn found_value(alloc: Global, frame: &Frame, name: &Word) -> Result<Value, Failure>
     ensures { Gives (λ v. v) fault_of result (rules.value_of frame.now name.now) }
 {
     match frame.find(name) {
@@ -48,10 +49,28 @@ fn found_value(alloc: Global, frame: &Frame, name: &[u8]) -> Result<Value, Failu
 
 /// The value of a name in scope, at a position: `value_of`.
 #[inline(never)]
-pub fn named_value<X>(alloc: Global, frame: &Frame, at: u32, name: &[u8]) -> Result<Value, End<X>>
+pub fn named_value<X>(alloc: Global, frame: &Frame, at: u32, name: &Word) -> Result<Value, End<X>>
     ensures { GivesAt (λ v. v) at result (rules.value_of frame.now name.now) }
 {
     lift(at, found_value(alloc, frame, name))
+}
+
+// The value of `this`: `value_of`.
+fn found_this(alloc: Global, frame: &Frame) -> Result<Value, Failure>
+    ensures { Gives (λ v. v) fault_of result (rules.value_of frame.now this_name) }
+{
+    match frame.this() {
+        Some(value) => Ok(copy_value(value)?),
+        None => Err(kind(alloc)),
+    }
+}
+
+/// The value of `this`, at a position: `value_of`.
+#[inline(never)]
+pub fn this_value<X>(alloc: Global, frame: &Frame, at: u32) -> Result<Value, End<X>>
+    ensures { GivesAt (λ v. v) at result (rules.value_of frame.now this_name) }
+{
+    lift(at, found_this(alloc, frame))
 }
 
 /// Binds a name to a value.
@@ -83,7 +102,7 @@ pub fn bind_copy<X>(
 
 /// Gives a name another value: `assigned`. After an error the names are as they were.
 #[inline]
-pub fn set_name(alloc: Global, frame: &mut Frame, name: &[u8], value: Value) -> Result<(), Failure>
+pub fn set_name(alloc: Global, frame: &mut Frame, name: &Word, value: Value) -> Result<(), Failure>
     ensures gives { Gives (λ u. frame.new) fault_of result (statements.assigned frame.old name.now value) }
     ensures kept { OnErr result (frame.new ≡ frame.old) }
 {

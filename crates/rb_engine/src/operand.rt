@@ -75,8 +75,8 @@ pub fn lent<'a>(frame: &'a Frame, expr: &'a Expr) -> Option<&'a Value>
 {
     match &expr.form {
         ExprForm::Lit(value) => Some(value),
-        ExprForm::Name(name) => frame.find(name.as_slice()),
-        ExprForm::This => frame.find(b"this"),
+        ExprForm::Name(name) => frame.find(name),
+        ExprForm::This => frame.this(),
         ExprForm::Unary(_, _) => None,
         ExprForm::Binary(_, _, _) => None,
         ExprForm::Field(_, _) => None,

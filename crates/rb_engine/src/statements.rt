@@ -141,7 +141,7 @@ impl<'a, W: World> Machine<'a, W> {
         match target_of(left) {
             LeftSide::Name(name) => {
                 let value = self.value_of(frame, right)?;
-                lift(left.at, set_name(self.alloc, frame, name.as_slice(), value))
+                lift(left.at, set_name(self.alloc, frame, name, value))
             }
             LeftSide::Field(object, name) => {
                 let target = self.operand_of(frame, object)?;

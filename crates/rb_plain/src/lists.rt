@@ -76,7 +76,7 @@ pub fn items_named(alloc: Global, frame: &Frame, list: &Expr) -> Result<Shared<S
     ensures { Gives (λ items. items) fault_of result (lists.items_named frame.now (mirror_expr list.now)) }
 {
     match name_of(list) {
-        Some(name) => items_of(alloc, frame.find(name.as_slice())),
+        Some(name) => items_of(alloc, frame.find(name)),
         None => Err(Failure::Fault(PlainFault::of(alloc, fault_codes::KIND))),
     }
 }
@@ -232,7 +232,7 @@ fn count_list(
     if counted.names.has(name) {
         return Ok(());
     }
-    let count = count_of(frame.find(name.as_slice()));
+    let count = count_of(frame.find(name));
     counted.items = counted.items.checked_add(count).ok_or(Memory)?;
     let name = copy_word(alloc, name)?;
     counted.names.push(alloc, name)
