@@ -73,7 +73,9 @@ pub fn branch_standing(
     standing: &Standing,
     branch: &Branch<'_>,
 ) -> Result<Standing, Memory>
-    ensures { IfOk result (λ s. s ≡ trees.branch_standing x.now scope.now standing.now branch.now.condition.now branch.now.yes.now branch.now.no.now) }
+    ensures { let branch = branch.now in
+        let within = trees.branch_standing x.now scope.now standing.now branch.condition.now branch.yes.now branch.no.now in
+        IfOk result (λ s. s ≡ within) }
 {
     let c = branch.condition;
     let around = read_around(alloc, x, scope, &standing.around, c)?;

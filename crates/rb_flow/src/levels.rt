@@ -78,7 +78,8 @@ fn reach_all(
 ) -> Result<(), Memory>
     requires positive { 1 ≤ level }
     requires serves { Serves (bucket readers.old) writers.now levels.old.items }
-    ensures reached { OnOk result (Reaches level (after_all writers.now frontier.now) levels.old.items next.old.items levels.new.items next.new.items) }
+    ensures reached { let all = after_all writers.now frontier.now in
+        OnOk result (Reaches level all levels.old.items next.old.items levels.new.items next.new.items) }
     ensures serves { OnOk result (Serves (bucket readers.new) writers.now levels.new.items) }
 {
     for place in frontier {

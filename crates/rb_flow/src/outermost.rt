@@ -76,7 +76,8 @@ fn push_batch<'p>(
     root: &Word,
     block: &'p [Stmt],
 ) -> Result<(), Memory>
-    ensures batches { OnOk result (map begun_of batches.new ≡ begun.with_batch (map begun_of batches.old) scope.old at root.now (mirror_stmts block.now)) }
+    ensures batches { let before = map begun_of batches.old in
+        OnOk result (map begun_of batches.new ≡ begun.with_batch before scope.old at root.now (mirror_stmts block.now)) }
     ensures same { OnOk result (scope.new ≡ scope.old) }
 {
     let scope = open(alloc, x, scope, at, root, block)?;

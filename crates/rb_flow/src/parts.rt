@@ -62,7 +62,8 @@ fn keep_unless(
     known: bool,
     e: &Expr,
 ) -> Result<(), Memory>
-    ensures { OnOk result (part.new ≡ cond known part.old (words.lesser_part part.old (words.part_of (facts x.now) scope.now (mirror_expr e.now)))) }
+    ensures { let own = words.part_of (facts x.now) scope.now (mirror_expr e.now) in
+        OnOk result (part.new ≡ cond known part.old (words.lesser_part part.old own)) }
 {
     if known {
         return Ok(());

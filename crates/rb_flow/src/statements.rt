@@ -62,7 +62,8 @@ fn walk_sides(
     a: &Expr,
     b: &Expr,
 ) -> Result<(), Memory>
-    ensures { OnOk result (found.new ≡ words.sides_walked (facts x.now) standing.now scope.now found.old (mirror_expr a.now) (mirror_expr b.now)) }
+    ensures { let walked = words.sides_walked (facts x.now) standing.now scope.now in
+        OnOk result (found.new ≡ walked found.old (mirror_expr a.now) (mirror_expr b.now)) }
 {
     walk_whole(alloc, x, standing, scope, found, false, a)?;
     walk_whole(alloc, x, standing, scope, found, false, b)
@@ -77,8 +78,11 @@ fn enter_if(
     found: &mut Findings,
     branch: &Branch<'_>,
 ) -> Result<Standing, Memory>
-    ensures found { OnOk result (found.new ≡ words.condition_walked (facts x.now) standing.now scope.now found.old (mirror_expr branch.now.condition.now)) }
-    ensures within { IfOk result (λ s. s ≡ branch_standing x.now scope.now standing.now branch.now.condition.now branch.now.yes.now branch.now.no.now) }
+    ensures found { let condition = mirror_expr branch.now.condition.now in
+        OnOk result (found.new ≡ words.condition_walked (facts x.now) standing.now scope.now found.old condition) }
+    ensures within { let branch = branch.now in
+        let within = branch_standing x.now scope.now standing.now branch.condition.now branch.yes.now branch.no.now in
+        IfOk result (λ s. s ≡ within) }
 {
     let c = branch.condition;
     let within = branch_standing(alloc, x, scope, standing, branch)?;

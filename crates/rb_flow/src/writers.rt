@@ -173,7 +173,8 @@ fn push_try(
     at: u32,
     tried: &[Stmt],
 ) -> Result<(), Memory>
-    ensures writers { OnOk result (writers.new ≡ writers.old ++ words.try_writer (facts x.now) scope.old around.now at (mirror_stmts tried.now)) }
+    ensures writers { let own = words.try_writer (facts x.now) scope.old around.now at (mirror_stmts tried.now) in
+        OnOk result (writers.new ≡ writers.old ++ own) }
     ensures scope { OnOk result (scope.new ≡ scope.old) }
 {
     let mut reading = Reading::new(alloc);

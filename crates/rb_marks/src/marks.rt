@@ -250,8 +250,10 @@ fn mark_opened(
     own: &Declared<'_>,
     ss: &[Stmt],
 ) -> Result<(), Memory>
-    ensures marks { OnOk result (notes.new.marks.items ≡ walks.opened_marks x.now script scope.old own.now notes.old.marks.items ss.now) }
-    ensures places { OnOk result (notes.new.places.items ≡ walks.opened_places x.now script scope.old own.now notes.old.places.items ss.now) }
+    ensures marks { let opened = walks.opened_marks x.now script scope.old own.now in
+        OnOk result (notes.new.marks.items ≡ opened notes.old.marks.items ss.now) }
+    ensures places { let opened = walks.opened_places x.now script scope.old own.now in
+        OnOk result (notes.new.places.items ≡ opened notes.old.places.items ss.now) }
     ensures scope { OnOk result (scope.new ≡ scope.old) }
 {
     let count = scope.len();

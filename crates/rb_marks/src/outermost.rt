@@ -52,8 +52,10 @@ fn mark_batch(
     at: u32,
     block: &[Stmt],
 ) -> Result<(), Memory>
-    ensures marks { OnOk result (notes.new.marks.items ≡ walks.batch_marks facts.now scope.old root.now at notes.old.marks.items block.now) }
-    ensures places { OnOk result (notes.new.places.items ≡ walks.batch_places facts.now scope.old root.now at notes.old.places.items block.now) }
+    ensures marks { let begun = walks.batch_marks facts.now scope.old root.now at in
+        OnOk result (notes.new.marks.items ≡ begun notes.old.marks.items block.now) }
+    ensures places { let begun = walks.batch_places facts.now scope.old root.now at in
+        OnOk result (notes.new.places.items ≡ begun notes.old.places.items block.now) }
     ensures scope { OnOk result (scope.new ≡ scope.old) }
 {
     let count = scope.len();
@@ -136,8 +138,10 @@ fn mark_outer_opened(
     own: &Declared<'_>,
     ss: &[Stmt],
 ) -> Result<(), Memory>
-    ensures marks { OnOk result (notes.new.marks.items ≡ walks.outer_opened_marks facts.now scope.old own.now notes.old.marks.items ss.now) }
-    ensures places { OnOk result (notes.new.places.items ≡ walks.outer_opened_places facts.now scope.old own.now notes.old.places.items ss.now) }
+    ensures marks { let opened = walks.outer_opened_marks facts.now scope.old own.now in
+        OnOk result (notes.new.marks.items ≡ opened notes.old.marks.items ss.now) }
+    ensures places { let opened = walks.outer_opened_places facts.now scope.old own.now in
+        OnOk result (notes.new.places.items ≡ opened notes.old.places.items ss.now) }
     ensures scope { OnOk result (scope.new ≡ scope.old) }
 {
     let count = scope.len();

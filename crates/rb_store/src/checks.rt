@@ -39,7 +39,8 @@ fn check_literals(
     params: &[Param],
     fields: &[(Word, Literal)],
 ) -> Result<(), StoreError>
-    ensures gives { Passes result (stores.check_literals (objects_of text.now) place (map mirror_param params.now) (written_fields fields.now)) }
+    ensures gives { let params = map mirror_param params.now in
+        Passes result (stores.check_literals (objects_of text.now) place params (written_fields fields.now)) }
     ensures apart { IfErr result HoldsNoMemory }
 {
     let mut rest = fields;

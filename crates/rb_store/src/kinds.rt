@@ -88,7 +88,8 @@ fn are_items(text: &IndexedText, item: &TypeForm, literal: &Literal) -> bool
 
 #[cycle(literal_kinds)]
 fn all_of_kind(text: &IndexedText, kind: &TypeForm, literals: &[Literal]) -> bool
-    ensures { result ≡ stores.all_literals (stores.is_of_kind (objects_of text.now) (kind_of_form kind.now)) (mirror_literals literals.now) }
+    ensures { let fits = stores.is_of_kind (objects_of text.now) (kind_of_form kind.now) in
+        result ≡ stores.all_literals fits (mirror_literals literals.now) }
 {
     for literal in literals {
         if !is_of_kind(text, kind, literal) {

@@ -11,7 +11,8 @@ use std::alloc::Global;
 // The line of an object, which stands before those of the objects behind it.
 fn line_of(alloc: Global, table: &Heap, number: u32) -> Result<Word, Memory>
     requires { number < length table.now }
-    ensures { IfOk result (λ text. text ++ shown_table (number + 1) (drop (number + 1) table.now) ≡ shown_table number (drop number table.now)) }
+    ensures { let rest = shown_table (number + 1) (drop (number + 1) table.now) in
+        IfOk result (λ text. text ++ rest ≡ shown_table number (drop number table.now)) }
 {
     match table.get(number) {
         Some(object) => {
