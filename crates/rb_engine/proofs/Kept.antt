@@ -1,5 +1,5 @@
 -- What stays of a machine.
-use Rattle.std.proofs.Common.{◌≡◌, refl, ap, ◌∙◌, map, ◌*◌, ◌-◌}
+use Rattle.std.proofs.Common.{◌≡◌, refl, ap, ◌∙◌, map}
 use Rattle.rb_trees.specs.mirror.Declarations.{mirror_class}
 use Rattle.rb_engine.specs.Machines.{Keeps}
 use Rattle.rb_engine.specs.declared.machine.Machine.{Machine}

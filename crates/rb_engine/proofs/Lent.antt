@@ -1,6 +1,6 @@
 -- What is lent is what evaluation gives, at once and with nothing else changed.
 use Rattle.std.proofs.Common.{◌≡◌, ap, List}
-use Rattle.std.specs.Prelude.{Some, Result, Ok}
+use Rattle.std.specs.Prelude.{Some, Ok}
 use Rattle.rb_trees.specs.Outcome.{known}
 use Rattle.rb_trees.specs.declared.values.Value.{Value}
 use Rattle.rb_trees.specs.declared.code.Expr as expr

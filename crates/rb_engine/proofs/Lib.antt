@@ -16,6 +16,7 @@ pub mod Parts
 pub mod Placed
 pub mod Runs
 pub mod Served
+pub mod Slotted
 pub mod Steps
 pub mod Values
 pub mod Weight

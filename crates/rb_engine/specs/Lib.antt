@@ -18,5 +18,6 @@ pub mod Remote
 pub mod Servers
 pub mod Service
 pub mod Shown
+pub mod Slots
 pub mod Targets
 pub mod Worlds

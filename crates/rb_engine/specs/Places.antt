@@ -1,5 +1,5 @@
 -- Places of names, and the index of those after the first few of a frame.
-use Rattle.std.specs.Prelude.{◌≡◌, ℕ, suc, ◌-◌, ◌≤◌, List, [], ◌∷◌, ◌++◌, map, take, drop, cond, Option, Some, None, nat_le}
+use Rattle.std.specs.Prelude.{◌≡◌, ℕ, suc, ◌-◌, List, [], ◌∷◌, ◌++◌, map, take, drop, cond, Option, Some, None, nat_le}
 use Rattle.std.specs.Option.{option_map}
 use Rattle.std.specs.Prelude.{Box}
 use Rattle.std.specs.Str.{bytes_eq}

@@ -6,12 +6,13 @@ ghost use Rattle.rb_engine.specs.Ends.{flattened};
 ghost use Rattle.rb_engine.specs.Methods.{IsMethod};
 ghost use Rattle.rb_engine.specs.Machines.{EvaluatesAnywhere, Keeps, Performs};
 
+use crate::args::Args;
 use crate::ends::{End, lift, step_of};
 use crate::frame::Frame;
 use crate::machine::Machine;
 use crate::objects::{called_method, enter};
 use crate::units::{check_depth, check_unit};
-use crate::world::{RunResult, World};
+use crate::world::{Halt, RunResult, World};
 use rb_trees::{Body, Method, Seq, Value};
 
 impl<'a, W: World> Machine<'a, W> {
@@ -23,7 +24,7 @@ impl<'a, W: World> Machine<'a, W> {
         at: u32,
         receiver: &Value,
         name: &[u8],
-        args: Seq<Value>,
+        args: Args,
     ) -> Result<Value, End<W::Stop>>
         ensures runs { let meant = call_run self.old.code.now at receiver.now name.now args in
             EvaluatesAnywhere W.World meant self.old result self.new }
@@ -51,7 +52,7 @@ impl<'a, W: World> Machine<'a, W> {
         at: u32,
         receiver: &Value,
         method: &Method,
-        args: Seq<Value>,
+        args: Args,
     ) -> Result<Value, End<W::Stop>>
         requires { IsMethod self.old.code.now method.now }
         ensures runs { let meant = found_run self.old.code.now at method.now receiver.now args in
@@ -101,6 +102,9 @@ impl<'a, W: World> Machine<'a, W> {
         ensures same { Keeps self.old self.new }
     {
         let receiver = Value::Ref(object);
+        let Ok(args) = Args::of(self.alloc, args) else {
+            return Err(Halt::Memory);
+        };
         step_of(self.call_method(at, &receiver, name, args))
     }
 
@@ -118,6 +122,9 @@ impl<'a, W: World> Machine<'a, W> {
         ensures same { Keeps self.old self.new }
     {
         let receiver = Value::Ref(object);
+        let Ok(args) = Args::of(self.alloc, args) else {
+            return Err(Halt::Memory);
+        };
         step_of(self.run_call(at, &receiver, method, args))
     }
 }

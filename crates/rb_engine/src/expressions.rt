@@ -6,6 +6,7 @@
 ghost use Rattle.rb_engine.specs.Code.{value_run, unary_run, binary_run, field_run, item_run, new_run, list_run, called_run, values_run};
 ghost use Rattle.rb_engine.specs.Machines.{Evaluates, Keeps};
 
+use crate::args::{Args, add_arg, room_for};
 use crate::conditions::is_remote;
 use crate::ends::{End, lift};
 use crate::frame::Frame;
@@ -222,11 +223,28 @@ impl<'a, W: World> Machine<'a, W> {
         ensures same { Keeps self.old self.new }
     {
         let target = self.operand_of(frame, receiver)?;
-        let values = self.values_of(frame, args.as_slice())?;
         if is_remote(target.get()) {
+            let values = self.values_of(frame, args.as_slice())?;
             return self.invoke(at, target.get(), name.as_slice(), values);
         }
+        let values = self.args_of(frame, args.as_slice())?;
         self.call_method(at, target.get(), name.as_slice(), values)
+    }
+
+    // The values of arguments from left to right, where a frame will have them.
+    #[cycle(running)]
+    #[inline(never)]
+    fn args_of(&mut self, frame: &Frame, exprs: &[Expr]) -> Result<Args, End<W::Stop>>
+        ensures runs { let meant = values_run self.old.code.now exprs.now in
+            Evaluates W.World meant frame.now self.old result self.new }
+        ensures same { Keeps self.old self.new }
+    {
+        let mut values = room_for(self.alloc, exprs.len())?;
+        'exprs: for expr in exprs {
+            let value = self.value_of(frame, expr)?;
+            add_arg(self.alloc, &mut values, value)?;
+        }
+        Ok(values)
     }
 
     // The values of expressions from left to right.

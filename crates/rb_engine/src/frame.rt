@@ -68,6 +68,13 @@ impl Frame {
         })
     }
 
+    /// The frame of these names with their values.
+    pub fn of(names: Seq<(Name, Value)>) -> Frame
+        ensures { result ≡ names }
+    {
+        Frame { names, later: None }
+    }
+
     /// A copy of the frame: the same names with the same values. Its error is want of memory.
     pub fn copy(&self, alloc: Global) -> Result<Frame, Memory>
         ensures { IfOk result (λ copy. copy ≡ self.now) }

@@ -1,15 +1,14 @@
 // The names after the first few of a frame, found by an index.
 
-ghost use Rattle.std.specs.Prelude.{◌≡◌, OnOk, OnErr};
+ghost use Rattle.std.specs.Prelude.{◌≡◌, Some, OnOk, OnErr};
 ghost use Rattle.rb_engine.specs.Places.{IsIndexed, cut, first_place, unboxed, with_name};
-ghost use Rattle.std.specs.Prelude.{Some};
 
 use crate::name::{Name, Sought};
 use rb_names::Names;
 use rb_trees::{Memory, Value, Word};
 use std::alloc::Global;
 
-/// The names of a frame after its first so many.
+/// The names of a frame after its first so many: `IsIndexed`.
 #[derive(Drop)]
 pub struct Later {
     pub first: usize,

@@ -1,6 +1,6 @@
 // Names that are kept inline, and the keys by which most of them differ.
 
-ghost use Rattle.std.specs.Prelude.{◌≡◌, IfOk};
+ghost use Rattle.std.specs.Prelude.{◌≡◌, [], IfOk};
 ghost use Rattle.std.specs.Str.{bytes_eq};
 ghost use Rattle.rb_engine.specs.Keys.{key_of, key_with};
 
@@ -96,6 +96,17 @@ impl Name {
             key: key_of(bytes),
             bytes: SmallVec::from_slice(alloc, bytes)?,
         })
+    }
+
+    /// The name without bytes, which takes no memory.
+    #[inline(always)]
+    pub fn blank(alloc: Global) -> Name
+        ensures { result ≡ [] }
+    {
+        Name {
+            key: 0,
+            bytes: SmallVec::new(alloc),
+        }
     }
 
     /// The bytes of the name.

@@ -13,6 +13,7 @@ ghost use Rattle.rb_meaning_code.specs.Objects.{matched, with_field_of};
 ghost use Rattle.rb_engine.specs.Code.{method_called, own_method_called, object_made};
 ghost use Rattle.rb_engine.specs.Ends.{fault_of, UnlessMemory};
 
+use crate::args::Args;
 use crate::ends::{End, Failure};
 use crate::faults::{heap_full, kind};
 use crate::frame::Frame;
@@ -195,55 +196,17 @@ fn own_method<'a>(
     }
 }
 
-// Binds parameters to values, in order, as long as both last.
-#[tactic(auto, using(crate::proofs::Matched::binds))]
-fn bind_values(
-    alloc: Global,
-    frame: &mut Frame,
-    params: &[Param],
-    values: Seq<Value>,
-) -> Result<(), Memory>
-    ensures { OnOk result (frame.new ≡ frame.old ++ matched (map mirror_param params.now) values) }
-{
-    let mut values = values.into_vec().into_iter();
-    for param in params {
-        match values.next() {
-            Some(value) => frame.bind(alloc, param.name.as_slice(), value)?,
-            None => return Ok(()),
-        }
-    }
-    Ok(())
-}
-
-// The names that a method's body may bind before its frame takes more memory.
-const ROOM_FOR_BODY: usize = 4;
-
-// The frame that a method begins with: `names_within`.
-fn frame_within(
-    alloc: Global,
-    receiver: &Value,
-    params: &[Param],
-    args: Seq<Value>,
-) -> Result<Frame, Memory>
-    ensures { IfOk result (λ frame. frame ≡ names_within receiver.now (map mirror_param params.now) args) }
-{
-    let mut frame = Frame::with_room(alloc, args.len().saturating_add(1 + ROOM_FOR_BODY))?;
-    frame.bind(alloc, b"this", copy_value(receiver)?)?;
-    bind_values(alloc, &mut frame, params, args)?;
-    Ok(frame)
-}
-
-/// The frame that a method begins with: `names_within`. The arguments are moved into it.
+/// The frame that a method begins with: `names_within`. The arguments stand in it already.
 #[inline(never)]
 pub fn enter<X>(
     alloc: Global,
     receiver: &Value,
     params: &[Param],
-    args: Seq<Value>,
+    args: Args,
 ) -> Result<Frame, End<X>>
     ensures { UnlessMemory result (λ frame. frame ≡ names_within receiver.now (map mirror_param params.now) args) }
 {
-    match frame_within(alloc, receiver, params, args) {
+    match args.into_frame(alloc, receiver, params) {
         Ok(frame) => Ok(frame),
         Err(_) => Err(End::NoMemory),
     }

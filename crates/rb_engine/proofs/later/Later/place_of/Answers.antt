@@ -1,6 +1,6 @@
-use Rattle.std.proofs.Common.{rules, ◌≡◌, OnOk, OnErr, Some, None, ℕ, ◌+◌, ◌-◌, ◌<◌, ◌≤◌, length, take, Bool, true, false, nat_lt, List, Fits, w64, sym, arith}
+use Rattle.std.proofs.Common.{rules, ◌≡◌, Some, None, ◌+◌, ◌<◌, ◌≤◌, length, take, sym}
 use Rattle.rb_names.specs.Guesses.{first_place as place_named}
-use Rattle.rb_engine.specs.Places.{IsIndexed, first_place}
+use Rattle.rb_engine.specs.Places.{first_place}
 use Rattle.rb_engine.proofs.Indexed.{place_after, place_within}
 use Rattle.rb_engine.proofs.later.Later.place_of.Goals as goal
 

@@ -14,10 +14,10 @@ use Rattle.rb_engine.proofs.Forms.{lit_form, name_form, this_form, unary_form, b
 use Rattle.rb_engine.proofs.Lent.{lent_run}
 use Rattle.rb_engine.proofs.Loops.{leads_to_itself, values_begin, leads_far, one_value, no_value, no_more_values, with_value, one_effect, no_effect, no_more_effects, plain_block, bound_block, one_turn, no_turn, half_turn, no_more_turns}
 use Rattle.rb_engine.proofs.Parts.{expr_run, truth_by_form, statement_run, remote_called, own_called, turns_by_form, name_written, field_written, nothing_assigned, fuel_left, depth_left}
-use Rattle.rb_engine.proofs.Runs.{gave, cut, at_run, by_result, ended, stands, no_memory, sequel_of_stop, fixed, unfixed}
+use Rattle.rb_engine.proofs.Runs.{gave, cut, at_run, by_result, ended, no_memory, sequel_of_stop, fixed, unfixed}
 use Rattle.rb_engine.proofs.Steps.{ok_means, helped, unhelped, unhelped_at, helped_end, ended_by, changed, given, bound_after, closes_after, want}
 use Rattle.rb_engine.proofs.Kept.{kept_itself, kept_on, room_kept}
-use Rattle.rb_engine.proofs.Weight.{room, expr_weight, stmt_weight, body_weight, weight_of, weights_of, effect_of, effects_of, expr_in, stmt_in, object_light, method_called_of, found_light, room_falls, result_weight}
+use Rattle.rb_engine.proofs.Weight.{expr_weight, stmt_weight, body_weight, weight_of, weights_of, effect_of, effects_of, expr_in, stmt_in, object_light, method_called_of, found_light, room_falls, result_weight}
 use Rattle.rb_engine.proofs.machine.Machine.+running.Goals as goal
 
 pub value_of-binary_value-requires : goal.value_of-binary_value-requires
@@ -36,10 +36,10 @@ pub value_of-returns-in-Lit-clause-runs : goal.value_of-returns-in-Lit-clause-ru
 value_of-returns-in-Lit-clause-runs g t c = expr_run _ c.args.expr.now (lit_form c.args.expr.now c.in-Lit.is) (given _ _ (λ gas. refl) c.copied.ensures refl refl (omega arith) refl)
 
 pub value_of-returns-in-Name-clause-runs : goal.value_of-returns-in-Name-clause-runs
-value_of-returns-in-Name-clause-runs g t c = expr_run _ c.args.expr.now (name_form c.args.expr.now c.in-Name.is) (rw (← c.as_slice.ensures) (helped_end _ _ _ c.named_value.ensures.gives c.named_value.ensures.lifts))
+value_of-returns-in-Name-clause-runs g t c = expr_run _ c.args.expr.now (name_form c.args.expr.now c.in-Name.is) (helped_end _ _ _ c.named_value.ensures.gives c.named_value.ensures.lifts)
 
 pub value_of-returns-in-This-clause-runs : goal.value_of-returns-in-This-clause-runs
-value_of-returns-in-This-clause-runs g t c = expr_run _ c.args.expr.now (this_form c.args.expr.now c.in-This.is) (helped_end _ _ _ c.named_value-in-This.ensures.gives c.named_value-in-This.ensures.lifts)
+value_of-returns-in-This-clause-runs g t c = expr_run _ c.args.expr.now (this_form c.args.expr.now c.in-This.is) (helped_end _ _ _ c.this_value.ensures.gives c.this_value.ensures.lifts)
 
 pub value_of-returns-in-Taken-clause-runs : goal.value_of-returns-in-Taken-clause-runs
 value_of-returns-in-Taken-clause-runs g t c = expr_run _ c.args.expr.now (taken_form c.args.expr.now c.in-Taken.is) (c.taken.ensures.runs c.args.frame.now)
@@ -146,20 +146,17 @@ list_value-returns-clause-runs g t c = rw (← c.as_slice.ensures) (gave _ c.val
 pub called_value-returns-in_err-target-clause-runs : goal.called_value-returns-in_err-target-clause-runs
 called_value-returns-in_err-target-clause-runs g t c = cut _ c.operand_of.ensures.runs c.in_err-target.was (search rules)
 
-pub called_value-values_of-requires : goal.called_value-values_of-requires
-called_value-values_of-requires g t c κs within = (let d = room_kept c.operand_of.ensures.same c.operand_of.ensures.runs.depth in let e = ap weights_of c.as_slice.ensures in omega arith, within)
-
 pub called_value-returns-in_err-values-clause-runs : goal.called_value-returns-in_err-values-clause-runs
 called_value-returns-in_err-values-clause-runs g t c = rw (← c.as_slice.ensures) (gave _ c.operand_of.ensures.runs c.in_ok-target.was (cut _ (rw c.operand_of.ensures.same.code at c.values_of.ensures.runs) c.in_err-values.was (search rules)))
 
 pub called_value-returns-then-is_remote-clause-runs : goal.called_value-returns-then-is_remote-clause-runs
 called_value-returns-then-is_remote-clause-runs g t c = rw (← c.as_slice.ensures) (gave _ c.operand_of.ensures.runs c.in_ok-target.was (gave _ (rw c.operand_of.ensures.same.code at c.values_of.ensures.runs) c.in_ok-values.was (at_run (λ gas. remote_called (bodies c.args.self.now.code.now gas) c.args.at c.in_ok-target.target (out-Value c.in_ok-target.target) c.args.name.now c.in_ok-values.values (local c.args.frame.now c.values_of.new.self.state.now) (rw c.get.ensures at (sym c.is_remote.ensures ∙ c.if-is_remote.true))) (rw (← c.as_slice-then-is_remote.ensures, ← c.get-then-is_remote.ensures) (c.invoke.ensures.runs c.args.frame.now)))))
 
-pub called_value-call_method-requires : goal.called_value-call_method-requires
-called_value-call_method-requires g t c κs within = (let d = (room_kept c.values_of.ensures.same c.values_of.ensures.runs.depth ∙ room_kept c.operand_of.ensures.same c.operand_of.ensures.runs.depth) in omega arith, within)
+pub called_value-returns-in_err-values-2-clause-runs : goal.called_value-returns-in_err-values-2-clause-runs
+called_value-returns-in_err-values-2-clause-runs g t c = rw (← c.as_slice-2.ensures) (gave _ c.operand_of.ensures.runs c.in_ok-target.was (cut _ (rw c.operand_of.ensures.same.code at c.args_of.ensures.runs) c.in_err-values-2.was (search rules)))
 
 pub called_value-returns-clause-runs : goal.called_value-returns-clause-runs
-called_value-returns-clause-runs g t c = rw (← c.as_slice.ensures) (gave _ c.operand_of.ensures.runs c.in_ok-target.was (gave _ (rw c.operand_of.ensures.same.code at c.values_of.ensures.runs) c.in_ok-values.was (at_run (λ gas. own_called (bodies c.args.self.now.code.now gas) c.args.at c.in_ok-target.target (out-Value c.in_ok-target.target) c.args.name.now c.in_ok-values.values (local c.args.frame.now c.values_of.new.self.state.now) (rw c.get.ensures at (sym c.is_remote.ensures ∙ c.if-is_remote.false))) (rw (← c.as_slice-2.ensures, ← c.get-2.ensures) (rw (c.values_of.ensures.same.code, c.operand_of.ensures.same.code) at (c.call_method.ensures.runs c.args.frame.now))))))
+called_value-returns-clause-runs g t c = rw (← c.as_slice-2.ensures) (gave _ c.operand_of.ensures.runs c.in_ok-target.was (gave _ (rw c.operand_of.ensures.same.code at c.args_of.ensures.runs) c.in_ok-values-2.was (at_run (λ gas. own_called (bodies c.args.self.now.code.now gas) c.args.at c.in_ok-target.target (out-Value c.in_ok-target.target) c.args.name.now c.in_ok-values-2.values (local c.args.frame.now c.args_of.new.self.state.now) (rw c.get.ensures at (sym c.is_remote.ensures ∙ c.if-is_remote.false))) (rw (← c.as_slice-3.ensures, ← c.get-2.ensures) (rw (c.args_of.ensures.same.code, c.operand_of.ensures.same.code) at (c.call_method.ensures.runs c.args.frame.now))))))
 
 pub values_of-exprs-init : goal.values_of-exprs-init
 values_of-exprs-init g t c = record { same = kept_itself; depth = refl; leads = rw c.new-values.ensures values_begin }
@@ -178,6 +175,24 @@ values_of-exprs-preserved g t c = record { same = kept_on c.exprs.invariant.same
 
 pub values_of-returns-clause-runs : goal.values_of-returns-clause-runs
 values_of-returns-clause-runs g t c = by_result (ap Ok (sym (append-nil c.exprs.values))) (c.exprs.invariant.leads.by (Ok []) _ (no_more_values c.args.self.now.code.now c.args.exprs.now c.exprs.expr-index (omega arith)))
+
+pub args_of-exprs-init : goal.args_of-exprs-init
+args_of-exprs-init g t c = record { same = kept_itself; depth = refl; leads = rw c.in_ok-values.ensures values_begin }
+
+pub args_of-value_of-requires : goal.args_of-value_of-requires
+args_of-value_of-requires g t c κs within = (let w = expr_in c.args.exprs.now c.exprs.expr-index c.expr-item.result (omega arith) in let e = ap weight_of c.expr-item.is in let d = room_kept c.exprs.invariant.same c.exprs.invariant.depth in omega arith, within)
+
+pub args_of-returns-in_err-value-clause-runs : goal.args_of-returns-in_err-value-clause-runs
+args_of-returns-in_err-value-clause-runs g t c = by_result (search rules) (c.exprs.invariant.leads.by (Err c.in_err-value.field-0.0) _ (no_value c.args.self.now.code.now c.args.exprs.now c.exprs.expr-index c.expr-item.result (omega arith) c.expr-item.is (rw c.exprs.invariant.same.code at c.value_of.ensures.runs) c.in_err-value.was))
+
+pub args_of-returns-in_err-add_arg-clause-runs : goal.args_of-returns-in_err-add_arg-clause-runs
+args_of-returns-in_err-add_arg-clause-runs g t c = by_result (want (search rules) c.in_err-add_arg.ensures) (c.exprs.invariant.leads.by (Err NoMemory) _ (no_memory _ c.value_of.ensures.runs.fuel c.value_of.ensures.runs.depth))
+
+pub args_of-exprs-preserved : goal.args_of-exprs-preserved
+args_of-exprs-preserved g t c = record { same = kept_on c.exprs.invariant.same c.value_of.ensures.same; depth = c.value_of.ensures.runs.depth ∙ c.exprs.invariant.depth; leads = with_value c.exprs.values (c.in_ok-value.value ∷ []) _ (leads_far c.exprs.invariant.leads (one_value c.args.self.now.code.now c.args.exprs.now c.exprs.expr-index c.expr-item.result (omega arith) c.expr-item.is (rw c.exprs.invariant.same.code at c.value_of.ensures.runs) c.in_ok-value.was)) c.in_ok-add_arg.ensures }
+
+pub args_of-returns-clause-runs : goal.args_of-returns-clause-runs
+args_of-returns-clause-runs g t c = by_result (ap Ok (sym (append-nil c.exprs.values))) (c.exprs.invariant.leads.by (Ok []) _ (no_more_values c.args.self.now.code.now c.args.exprs.now c.exprs.expr-index (omega arith)))
 
 pub call_method-returns-in_err-method-clause-runs : goal.call_method-returns-in_err-method-clause-runs
 call_method-returns-in_err-method-clause-runs g t c = λ names. unhelped (λ m. mirror_method m.now) c.args.at c.called_method.result _ _ (rw c.len.ensures at c.called_method.ensures) c.lift.ensures c.in_err-method.was (search rules)
@@ -330,7 +345,7 @@ pub assign-returns-in_err-value-in-Name-clause-runs : goal.assign-returns-in_err
 assign-returns-in_err-value-in-Name-clause-runs g t c = at_run (λ gas. name_written (bodies c.args.self.now.code.now gas) c.args.at c.args.left.now _ _ _ c.in-Name.ensures) (cut _ c.value_of.ensures.runs c.in_err-value-in-Name.was (search rules))
 
 pub assign-returns-in_ok-value-in-Name-clause-runs : goal.assign-returns-in_ok-value-in-Name-clause-runs
-assign-returns-in_ok-value-in-Name-clause-runs g t c = at_run (λ gas. name_written (bodies c.args.self.now.code.now gas) c.args.at c.args.left.now _ _ _ c.in-Name.ensures) (gave _ c.value_of.ensures.runs c.in_ok-value-in-Name.was (rw (← c.as_slice.ensures) (changed (λ u. c.set_name.new.frame) _ _ _ (λ names. local names c.value_of.new.self.state.now) c.args.frame.now c.set_name.new.frame _ refl refl refl (λ a. refl) c.set_name.ensures.gives c.set_name.ensures.kept c.lift.ensures)))
+assign-returns-in_ok-value-in-Name-clause-runs g t c = at_run (λ gas. name_written (bodies c.args.self.now.code.now gas) c.args.at c.args.left.now _ _ _ c.in-Name.ensures) (gave _ c.value_of.ensures.runs c.in_ok-value-in-Name.was (changed (λ u. c.set_name.new.frame) _ _ _ (λ names. local names c.value_of.new.self.state.now) c.args.frame.now c.set_name.new.frame _ refl refl refl (λ a. refl) c.set_name.ensures.gives c.set_name.ensures.kept c.lift.ensures))
 
 pub assign-operand_of-requires : goal.assign-operand_of-requires
 assign-operand_of-requires g t c κs within = (let w = object_light (mirror_expr c.args.left.now) (mirror_expr c.in-Field.object.now) c.in-Field.name.now c.in-Field.ensures in omega arith, within)
@@ -345,7 +360,7 @@ pub assign-returns-in_err-value-in-Field-clause-runs : goal.assign-returns-in_er
 assign-returns-in_err-value-in-Field-clause-runs g t c = at_run (λ gas. field_written (bodies c.args.self.now.code.now gas) c.args.at c.args.left.now _ _ _ _ c.in-Field.ensures) (gave _ c.operand_of.ensures.runs c.in_ok-target-in-Field.was (cut _ (rw c.operand_of.ensures.same.code at c.value_of-in-Field.ensures.runs) c.in_err-value-in-Field.was (search rules)))
 
 pub assign-returns-in_ok-value-in-Field-clause-runs : goal.assign-returns-in_ok-value-in-Field-clause-runs
-assign-returns-in_ok-value-in-Field-clause-runs g t c = at_run (λ gas. field_written (bodies c.args.self.now.code.now gas) c.args.at c.args.left.now _ _ _ _ c.in-Field.ensures) (gave _ c.operand_of.ensures.runs c.in_ok-target-in-Field.was (gave _ (rw c.operand_of.ensures.same.code at c.value_of-in-Field.ensures.runs) c.in_ok-value-in-Field.was (rw (← c.as_slice-in-Field.ensures) (changed (λ u. c.write_field.new.heap) _ _ _ (λ heap. record (local c.args.frame.now c.value_of-in-Field.new.self.state.now) { heap = heap }) c.value_of-in-Field.new.self.state.now.heap c.write_field.new.heap _ refl refl refl (λ a. refl) (rw c.get.ensures at c.write_field.ensures.gives) c.write_field.ensures.kept c.lift-in-Field.ensures))))
+assign-returns-in_ok-value-in-Field-clause-runs g t c = at_run (λ gas. field_written (bodies c.args.self.now.code.now gas) c.args.at c.args.left.now _ _ _ _ c.in-Field.ensures) (gave _ c.operand_of.ensures.runs c.in_ok-target-in-Field.was (gave _ (rw c.operand_of.ensures.same.code at c.value_of-in-Field.ensures.runs) c.in_ok-value-in-Field.was (rw (← c.as_slice.ensures) (changed (λ u. c.write_field.new.heap) _ _ _ (λ heap. record (local c.args.frame.now c.value_of-in-Field.new.self.state.now) { heap = heap }) c.value_of-in-Field.new.self.state.now.heap c.write_field.new.heap _ refl refl refl (λ a. refl) (rw c.get.ensures at c.write_field.ensures.gives) c.write_field.ensures.kept c.lift-in-Field.ensures))))
 
 pub assign-returns-in-Other-clause-runs : goal.assign-returns-in-Other-clause-runs
 assign-returns-in-Other-clause-runs g t c = at_run (λ gas. nothing_assigned (bodies c.args.self.now.code.now gas) c.args.at (mirror_expr c.args.left.now) _ _ c.in-Other.ensures) (ended_by _ (rw c.kind.ensures at c.lift-in-Other.ensures))

@@ -63,6 +63,9 @@ decreases-called_value g l = room (map mirror_class l.self.now.code.now) l.self.
 abbrev pub decreases-values_of : goal.decreases-values_of
 decreases-values_of g l = room (map mirror_class l.self.now.code.now) l.self.now.state.now.depth + exprs_weight (mirror_exprs l.exprs.now) + 1
 
+abbrev pub decreases-args_of : goal.decreases-args_of
+decreases-args_of g l = room (map mirror_class l.self.now.code.now) l.self.now.state.now.depth + exprs_weight (mirror_exprs l.exprs.now) + 1
+
 abbrev pub decreases-call_method : goal.decreases-call_method
 decreases-call_method g l = room (map mirror_class l.self.now.code.now) l.self.now.state.now.depth + 2
 
@@ -101,6 +104,13 @@ decreases-run_while-turns g l = l.self.state.now.fuel
 
 abbrev pub invariant-values_of-exprs : goal.invariant-values_of-exprs
 invariant-values_of-exprs g l = record {
+  same : Keeps l.fn.self l.self;
+  depth : l.self.state.now.depth ≡ l.fn.self.state.now.depth;
+  leads : LeadsOn (asks g.W.World) (λ gas. values_run l.fn.self.code.now l.exprs gas (local l.frame l.fn.self.state.now)) (scene l.frame l.fn.self.state.now l.fn.self.world.now) (λ gas. values_run l.fn.self.code.now (drop l.expr-index l.exprs) gas (local l.frame l.self.state.now)) (scene l.frame l.self.state.now l.self.world.now) (after l.values);
+}
+
+abbrev pub invariant-args_of-exprs : goal.invariant-args_of-exprs
+invariant-args_of-exprs g l = record {
   same : Keeps l.fn.self l.self;
   depth : l.self.state.now.depth ≡ l.fn.self.state.now.depth;
   leads : LeadsOn (asks g.W.World) (λ gas. values_run l.fn.self.code.now l.exprs gas (local l.frame l.fn.self.state.now)) (scene l.frame l.fn.self.state.now l.fn.self.world.now) (λ gas. values_run l.fn.self.code.now (drop l.expr-index l.exprs) gas (local l.frame l.self.state.now)) (scene l.frame l.self.state.now l.self.world.now) (after l.values);
