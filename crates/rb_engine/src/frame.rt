@@ -47,6 +47,15 @@ fn with_room(alloc: Global, count: usize) -> Result<Seq<(Name, Value)>, Memory>
     Ok(Seq::from_vec(names))
 }
 
+// A copy of a name with its value.
+fn copy_name(alloc: Global, name: &(Name, Value)) -> Result<(Name, Value), Memory>
+    ensures { IfOk result (λ copy. copy ≡ name.now) }
+{
+    let copy = name.0.copy(alloc)?;
+    let value = copy_value(&name.1)?;
+    Ok((copy, value))
+}
+
 impl Frame {
     /// The frame without names, which takes no memory.
     pub fn make(alloc: Global) -> Frame
@@ -75,15 +84,16 @@ impl Frame {
         Frame { names, later: None }
     }
 
-    /// A copy of the frame: the same names with the same values. Its error is want of memory.
+    /// A copy of the frame: the same names with the same values. It has no index, so that it costs little where few of them are
+    /// looked up. Its error is want of memory.
     pub fn copy(&self, alloc: Global) -> Result<Frame, Memory>
         ensures { IfOk result (λ copy. copy ≡ self.now) }
     {
-        let mut copy = Frame::with_room(alloc, self.names.len())?;
+        let mut names = with_room(alloc, self.names.len())?;
         for name in self.names.as_slice() {
-            copy.bind(alloc, name.0.as_slice(), copy_value(&name.1)?)?;
+            names.push(copy_name(alloc, name)?)?;
         }
-        Ok(copy)
+        Ok(Frame::of(names))
     }
 
     /// The number of names.

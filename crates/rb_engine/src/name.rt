@@ -109,11 +109,14 @@ impl Name {
         }
     }
 
-    /// The bytes of the name.
-    pub fn as_slice(&self) -> &[u8]
-        ensures { result.now ≡ self.now }
+    /// A copy of the name: the same bytes.
+    pub fn copy(&self, alloc: Global) -> Result<Name, Memory>
+        ensures { IfOk result (λ copy. copy ≡ self.now) }
     {
-        self.bytes.as_slice()
+        Ok(Name {
+            key: self.key,
+            bytes: SmallVec::from_slice(alloc, self.bytes.as_slice())?,
+        })
     }
 
     /// Whether this is the name that is sought.

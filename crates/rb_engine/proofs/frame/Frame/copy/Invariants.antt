@@ -2,4 +2,4 @@ use Rattle.std.proofs.Common.{◌≡◌, take}
 use Rattle.rb_engine.proofs.frame.Frame.copy.Given as goal
 
 abbrev pub invariant-loop-name : goal.invariant-loop-name
-invariant-loop-name l = l.copy ≡ take l.name-index l.self
+invariant-loop-name l = l.names ≡ take l.name-index l.self
