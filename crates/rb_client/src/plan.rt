@@ -39,7 +39,7 @@ impl<'a> Plan<'a> {
     pub fn new(typed: &'a Typed, splits: Divisions<'a>, code: &'a Code) -> Plan<'a>
         requires code { code.now ≡ typed.now.classes }
         requires divided { AreDivisions typed.now splits }
-        ensures { result ≡ record { program = typed.now; splits = splits } }
+        ensures { result ≡ record { program = typed.now; splits = splits.entry } }
     {
         Plan {
             typed,

@@ -3,6 +3,7 @@ use Rattle.rb_trees.specs.mirror.Declarations.{mirror_program}
 use Rattle.rb_meaning_types.specs.Programs.{is_typed}
 use Rattle.rb_meaning_split.specs.Division.{mirror_split}
 use Rattle.rb_code.proofs.Differ.{typed_differ}
+use Rattle.rb_client.specs.Exchanges.{AreDivisions}
 use Rattle.rb_client.specs.MainRuns.{Leaves}
 use Rattle.rb_client.specs.Scenes.{scene}
 use Rattle.rb_client.proofs.Typed.{typed_checked}
@@ -15,11 +16,13 @@ pub make-requires : goal.make-requires
 make-requires g c = typed_differ (mirror_program c.program-program.result.now) (subst (λ q. is_typed (mirror_program q) ≡ true) (sym c.program-program.ensures.same) c.program-program.ensures.typed)
 
 pub new-plan-requires-clause-divided : goal.new-plan-requires-clause-divided
-new-plan-requires-clause-divided g c = record {
-  divided = c.requires.divided;
-  sent = all_sent (mirror_program c.args.typed.now) c.program-program.ensures.lawful (typed_checked (mirror_program c.args.typed.now) c.program-program.ensures.typed) c.requires.none c.requires.places
-      c.divided_scripts_can_be_sent.ensures c.args.splits.now c.requires.divided;
-}
+new-plan-requires-clause-divided g c =
+    let divided : AreDivisions c.args.typed.now c.args.splits.now = record {
+      divided = c.requires.divided;
+      sent = all_sent (mirror_program c.args.typed.now) c.program-program.ensures.lawful (typed_checked (mirror_program c.args.typed.now) c.program-program.ensures.typed) c.requires.none c.requires.places
+          c.divided_scripts_can_be_sent.ensures c.args.splits.now c.requires.divided;
+    } in
+    subst (λ ss. AreDivisions c.args.typed.now ss) (sym c.in_ok-divisions.ensures) divided
 
 pub returns : goal.returns
 returns g c =
