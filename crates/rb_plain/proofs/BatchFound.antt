@@ -17,6 +17,7 @@ use Rattle.rb_engine.specs.Answers.{Answered, performed}
 use Rattle.rb_engine.specs.declared.world.Halt.{Halt}
 use Rattle.rb_engine.specs.declared.world.Halt.TheVariants as halt
 use Rattle.rb_plain.specs.Batches.{AreBatchesOf}
+use Rattle.rb_flow.specs.declared.outermost.OpenBatch.{OpenBatch}
 use Rattle.rb_plain.specs.BatchRuns.{Begins}
 use Rattle.rb_plain.specs.Entered.{Comes, Enters}
 use Rattle.rb_plain.specs.Staged.{program_of}
@@ -25,9 +26,9 @@ use Rattle.rb_plain.specs.declared.batch_run.Start.{Start}
 use Rattle.rb_plain.specs.declared.outer_world.OuterWorld.{OuterWorld}
 
 -- a batch that was come to, counted and begun
-pub entered_so : {W : Type 0} (root : List ℕ) (r : Result Start Memory) (w m w' : OuterWorld W) (names names' : Names) → Comes w m → Begins root r m.inner.remote names w'.inner.remote names'
-    → w'.others ≡ m.others → w'.inner.out ≡ m.inner.out → w'.batches ≡ m.batches → w'.exchanges ≡ m.exchanges + 1 → Enters root r w names w' names'
-entered_so root (Ok start) w m w' names names' come begins others out batches count = record {
+pub entered_so : {W : Type 0} (root : List ℕ) (b : OpenBatch) (r : Result Start Memory) (w m w' : OuterWorld W) (names names' : Names) → Comes w m → Begins root b r m.inner.remote names w'.inner.remote names'
+    → w'.others ≡ m.others → w'.inner.out ≡ m.inner.out → w'.batches ≡ m.batches → w'.exchanges ≡ m.exchanges + 1 → Enters root b r w names w' names'
+entered_so root b (Ok start) w m w' names names' come begins others out batches count = record {
   there = m;
   come_so = come;
   begun_so = begins;
@@ -36,7 +37,7 @@ entered_so root (Ok start) w m w' names names' come begins others out batches co
   batches_so = batches;
   exchanges_so = count;
 }
-entered_so root (Err want) w m w' names names' come begins others out batches count = tt
+entered_so root b (Err want) w m w' names names' come begins others out batches count = tt
 
 -- where the batch was come to, the World is seen as what is around the batch
 pub found_so : {W : Type 0} (g : sinks.Ghosts W) (first : OuterWorld W) (start : Device (List ℕ)) (a : Around) (w w' : OuterWorld W) → SeesAround g first start w a → Comes w w' → SeesOuter g first start w' (at_batch a)

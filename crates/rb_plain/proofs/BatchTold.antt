@@ -36,7 +36,7 @@ use Rattle.rb_engine.specs.declared.world.Halt.{Halt}
 use Rattle.rb_engine.specs.declared.world.Halt.TheVariants as halt
 use Rattle.rb_flow.specs.Begun.{begun, begun_of}
 use Rattle.rb_flow.specs.declared.outermost.OpenBatch.{OpenBatch}
-use Rattle.rb_plain.specs.BatchRuns.{Begun, Settles, SettlesStep, sided, whole_table}
+use Rattle.rb_plain.specs.BatchRuns.{Begun, Settles, SettlesStep, sided, whole_from, whole_table}
 use Rattle.rb_plain.specs.Batches.{AreBatchesOf}
 use Rattle.rb_plain.specs.Staged.{Staged, program_of, service_of}
 use Rattle.rb_plain.specs.Entered.{Entered}
@@ -68,13 +68,13 @@ handled_same p service (Ask q go) s = handled_same p service (go (answers_in_bat
 handled_same p service (AskBatch at l go) s = handled_same p service (go ((in_batch p service).batch s at l).0) s
 
 -- a batch that was begun is seen so
-pub seen_begun : {W : Type 0} (g : sinks.Ghosts W) (first : BatchWorld W) (start : Device (List ℕ)) (s : Outside) (w w1 : BatchWorld W) (root : List ℕ) (copies : Start) (names names' : Names)
-    → SeesBatch g first start w s → w1.out ≡ w.out → Begun root copies w.remote names w1.remote names' → SeesBatch g first start w1 (unsplit.begun s)
-seen_begun g first start s w w1 root copies names names' sees same b = record {
-  stage_so = b.stage_so ∙ sees.stage_so;
+pub seen_begun : {W : Type 0} (g : sinks.Ghosts W) (first : BatchWorld W) (start : Device (List ℕ)) (s : Outside) (w w1 : BatchWorld W) (root : List ℕ) (b : OpenBatch) (copies : Start) (names names' : Names)
+    → SeesBatch g first start w s → w1.out ≡ w.out → Begun root b copies w.remote names w1.remote names' → SeesBatch g first start w1 (unsplit.begun s)
+seen_begun g first start s w w1 root b copies names names' sees same h = record {
+  stage_so = h.stage_so ∙ sees.stage_so;
   same_output = ap (λ o. o.ghost_name) same ∙ sees.same_output;
   written = ap (λ o. output g o.now) same ∙ sees.written ∙ ap (with_bytes start) (sym (shown_batch s.events));
-  server_so = b.server_so ∙ ap (λ x. record { table = x.table; fuel = batch_fuel }) sees.server_so;
+  server_so = h.server_so ∙ ap (λ x. record { table = x.table; fuel = batch_fuel }) sees.server_so;
 }
 
 -- how the body's outcome settles
@@ -93,7 +93,7 @@ settled_events p n whole (Faulted r l, s) = refl
 pub record BeganWith {W : Type 0} (g : sinks.Ghosts W) (first : OuterWorld W) (start : Device (List ℕ)) (s : Outside) (o : Outermost) (b : OpenBatch) (copies : Start) (w w1 : OuterWorld W) (l l1 : Local) : Type 0 where
   pub sees : SeesOuter g first start w s
   pub batch_so : begun_of b ≡ begun o
-  pub begun_so : Begun o.root copies w.inner.remote l.names w1.inner.remote l1.names
+  pub begun_so : Begun o.root b copies w.inner.remote l.names w1.inner.remote l1.names
   pub local_so : l1 ≡ record l { names = l1.names }
   pub out_so : w1.inner.out ≡ w.inner.out
   pub batches_so : w1.batches ≡ w.batches
@@ -129,17 +129,19 @@ module _ {W : Type 0} (g : sinks.Ghosts W) (first : OuterWorld W) (start : Devic
       ∙ ap (λ x. performs_all (bodies_of (program_of st).classes l.fuel) l.fuel o.block x) local_so
 
   sees_begun : SeesBatch g first.inner start w1.inner (unsplit.begun s)
-  sees_begun = seen_begun g first.inner start s w.inner w1.inner o.root copies l.names l1.names began.sees.inner_so began.out_so began.begun_so
+  sees_begun = seen_begun g first.inner start s w.inner w1.inner o.root b copies l.names l1.names began.sees.inner_so began.out_so began.begun_so
 
-  -- the whole remote part from the copies is that of the batch's start
+  -- the whole remote part that the start tells is that of the batch's start
   whole_so : (later : RemoteWorld) → later.stage ≡ st → whole_table later.stage b copies ≡ whole
   whole_so later e =
-      ap (λ x. whole_table x b copies) e
-      ∙ ap (λ x. (server_after (remote_only (program_of st) (service_of st) x.scope x.block copies.names (record { table = copies.table; fuel = batch_fuel }))).table) began.batch_so
-      ∙ ap (λ ns. (server_after (remote_only (program_of st) (service_of st) (opened o.outer o.at o.root o.block) o.block ns (record { table = copies.table; fuel = batch_fuel }))).table)
-      (began.begun_so.names_so ∙ names_so)
+      ap (λ x. whole_table x b copies) (e ∙ sym began.sees.inner_so.stage_so)
+      ∙ began.begun_so.whole_so
+      ∙ ap (λ x. whole_from x b l1.names w.inner.remote.server.table) began.sees.inner_so.stage_so
+      ∙ ap (λ x. (server_after (remote_only (program_of st) (service_of st) x.scope x.block l1.names (record { table = w.inner.remote.server.table; fuel = batch_fuel }))).table) began.batch_so
+      ∙ ap (λ ns. (server_after (remote_only (program_of st) (service_of st) (opened o.outer o.at o.root o.block) o.block ns (record { table = w.inner.remote.server.table; fuel = batch_fuel }))).table)
+      names_so
       ∙ ap (λ t. (server_after (remote_only (program_of st) (service_of st) (opened o.outer o.at o.root o.block) o.block bound_local.names (record { table = t; fuel = batch_fuel }))).table)
-      (began.begun_so.table_so ∙ ap (λ x. x.table) began.sees.inner_so.server_so)
+      (ap (λ x. x.table) began.sees.inner_so.server_so)
 
   exchanges_at_end : (w3 : OuterWorld W) → w3.exchanges ≡ w1.exchanges → w3.exchanges ≡ exchanges handled.1.events
   exchanges_at_end w3 e = e ∙ began.exchanges_so ∙ ap (λ n. n + 1) began.sees.exchanges_so ∙ sym (exchanges_batch s.events)
@@ -230,7 +232,7 @@ performs_so g root b w w3 l l2 (Err (halt.World x)) h = λ first start a o sees 
 
 -- a batch of the program that the code entered, performed and settled
 pub perform_so : {W : Type 0} (g : sinks.Ghosts W) (root : List ℕ) (b : OpenBatch) (copies : Start) (w w1 w2 w3 : OuterWorld W) (l l1 l2 l3 : Local) (r q : Result (Result (Unit {0}) Raised) (Halt Failed)) (classes : List class.Class)
-    → Entered root copies w l.names w1 l1.names → l1 ≡ record l { names = l1.names }
+    → Entered root b copies w l.names w1 l1.names → l1 ≡ record l { names = l1.names }
     → classes ≡ w.inner.remote.stage.program.classes → w3.inner.out ≡ w2.inner.out → w3.batches ≡ w1.batches → w3.exchanges ≡ w1.exchanges → w3.others ≡ w1.others → (w3.inner.remote ≡ w2.inner.remote → w3.inner ≡ w2.inner)
     → SettlesStep b copies r q w2.inner.remote w3.inner.remote → Led (within g) (stmts_run classes b.block.now l.fuel l1) w1.inner l2 (flattened r) w2.inner → l3 ≡ closed (length l.names) l2
     → Answered (performed l3 q) (λ e. PerformsBatch g root b w l e w3)
@@ -243,7 +245,7 @@ perform_so g root b copies w w1 w2 w3 l l1 l2 l3 r q classes entered start_so ow
     (record {
       sees = found_so g first start a w entered.there sees entered.come_so;
       batch_so = batch;
-      begun_so = subst (λ x. Begun x copies entered.there.inner.remote l.names w1.inner.remote l1.names) is entered.begun_so;
+      begun_so = subst (λ x. Begun x b copies entered.there.inner.remote l.names w1.inner.remote l1.names) is entered.begun_so;
       local_so = start_so;
       out_so = entered.out_so;
       batches_so = entered.batches_so;

@@ -1,5 +1,6 @@
 -- Lists that only grow at their end.
 use Rattle.std.proofs.Common.{◌≡◌, List, [], ◌∷◌, ◌++◌, take, length, refl, ap, ◌∙◌, arith}
+use Rattle.std.proofs.lemmas.Grind.{common_steps}
 use Rattle.std.proofs.lemmas.List.{take_all}
 use Rattle.rb_trees.specs.mirror.Code.{Stmt, Val, Var, Assign, Run, Print, Throw, If, While, For, Try, Batch}
 use Rattle.rb_meaning_flow.specs.Facts.{Facts}
@@ -32,6 +33,12 @@ kept_added xs ys more e = ap (take (length xs)) e ∙ kept_front xs more
 
 pub kept_opened : {A : Type 0} (xs ys zs more : List A) → ys ≡ xs ++ more → Kept ys zs → Kept xs zs
 kept_opened xs ys zs more e h = kept_far xs ys zs (kept_added xs ys more e) h
+
+-- the same where it didn't change
+pub kept_equal : {A : Type 0} (xs ys : List A) → ys ≡ xs → Kept xs ys
+kept_equal xs ys e = ap (take (length xs)) e ∙ kept_same xs
+
+pub ruleset kept_rules = (kept_same, kept_equal, kept_added, common_steps)
 
 -- a statement only adds to the scope
 pub kept_after : (x : Facts) (scope : Scope) (s : Stmt) → Kept scope (scope_after x [] scope s)

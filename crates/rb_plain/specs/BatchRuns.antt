@@ -18,28 +18,45 @@ use Rattle.rb_flow.specs.declared.outermost.OpenBatch.{OpenBatch}
 use Rattle.rb_plain.specs.Remote.{SameStage}
 use Rattle.rb_plain.specs.Staged.{Staged, program_of, service_of}
 use Rattle.rb_plain.specs.declared.batch_run.Start.{Start}
+use Rattle.rb_plain.specs.declared.batch_run.Start.TheVariants as begin
 use Rattle.rb_plain.specs.declared.remote_world.RemoteWorld.{RemoteWorld}
 
--- A batch was begun: its root is bound, the start has the names and the table, and the remote fuel is fresh.
-pub record Begun (root : List ℕ) (start : Start) (before : RemoteWorld) (names : Names) (after : RemoteWorld) (names' : Names) : Type 0 where
+-- the table that the whole remote part of a batch leaves from these names and this table
+abbrev pub whole_from : Staged → OpenBatch → Names → List Object → List Object
+whole_from st b names table =
+    (server_after (remote_only (program_of st) (service_of st) b.scope (mirror_stmts b.block.now) names (record { table = table; fuel = batch_fuel }))).table
+
+-- the same from a batch's start
+abbrev pub whole_table : Staged → OpenBatch → Start → List Object
+whole_table st b (begin.Copied names table) = whole_from st b names table
+whole_table st b (begin.Performed table) = table
+
+-- A start was had where a batch begins: it tells the table of the whole remote part from here, and the names and the table stay.
+pub record Prepared (b : OpenBatch) (start : Start) (before : RemoteWorld) (names : Names) (after : RemoteWorld) (names' : Names) : Type 0 where
+  pub whole_so : whole_table before.stage b start ≡ whole_from before.stage b names before.server.table
+  pub names_so : names' ≡ names
+  pub table_so : after.server.table ≡ before.server.table
+  pub stage_so : SameStage before after
+
+-- the same, unless memory ran out
+abbrev pub Prepares : OpenBatch → Result Start Memory → RemoteWorld → Names → RemoteWorld → Names → Type 0
+Prepares b (Ok start) before names after names' = Prepared b start before names after names'
+Prepares b (Err want) before names after names' = Unit {0}
+
+-- A batch was begun: its root is bound, its start tells the table of its whole remote part, and the remote fuel is fresh.
+pub record Begun (root : List ℕ) (b : OpenBatch) (start : Start) (before : RemoteWorld) (names : Names) (after : RemoteWorld) (names' : Names) : Type 0 where
   pub bound_so : names' ≡ names ++ (root, value.Remote before.stage.service.root) ∷ []
-  pub names_so : start.names ≡ names'
-  pub table_so : start.table ≡ before.server.table
+  pub whole_so : whole_table before.stage b start ≡ whole_from before.stage b names' before.server.table
   pub server_so : after.server ≡ record { table = before.server.table; fuel = batch_fuel }
   pub stage_so : SameStage before after
 
 -- the same, unless memory ran out
-abbrev pub Begins : List ℕ → Result Start Memory → RemoteWorld → Names → RemoteWorld → Names → Type 0
-Begins root (Ok start) before names after names' = Begun root start before names after names'
-Begins root (Err want) before names after names' = Unit {0}
+abbrev pub Begins : List ℕ → OpenBatch → Result Start Memory → RemoteWorld → Names → RemoteWorld → Names → Type 0
+Begins root b (Ok start) before names after names' = Begun root b start before names after names'
+Begins root b (Err want) before names after names' = Unit {0}
 
 abbrev pub sided : Staged → Raised → Raised
 sided st r = with_side (program_of st) r
-
--- the table that the whole remote part of a batch leaves from its start
-abbrev pub whole_table : Staged → OpenBatch → Start → List Object
-whole_table st b start =
-    (server_after (remote_only (program_of st) (service_of st) b.scope (mirror_stmts b.block.now) start.names (record { table = start.table; fuel = batch_fuel }))).table
 
 -- A walk is over unless memory ran out.
 abbrev pub IsOver : Result (Unit {0}) Miss → Type 0

@@ -5,6 +5,7 @@ use Rattle.rb_trees.specs.declared.services.Object.{Object}
 use Rattle.rb_meaning_code.specs.State.{Names}
 use Rattle.rb_meaning.specs.Changes.{all_changed}
 use Rattle.rb_meaning.specs.Others.{found_table}
+use Rattle.rb_flow.specs.declared.outermost.OpenBatch.{OpenBatch}
 use Rattle.rb_plain.specs.BatchRuns.{Begun, SetsTable}
 use Rattle.rb_plain.specs.declared.batch_run.Start.{Start}
 use Rattle.rb_plain.specs.declared.outer_world.OuterWorld.{OuterWorld}
@@ -22,16 +23,16 @@ pub record Comes {W : Type 0} (before after : OuterWorld W) : Type 0 where
   pub exchanges_so : after.exchanges ≡ before.exchanges
 
 -- A batch was entered: it was come to, counted, and begun.
-pub record Entered {W : Type 0} (root : List ℕ) (start : Start) (before : OuterWorld W) (names : Names) (after : OuterWorld W) (names' : Names) : Type 0 where
+pub record Entered {W : Type 0} (root : List ℕ) (b : OpenBatch) (start : Start) (before : OuterWorld W) (names : Names) (after : OuterWorld W) (names' : Names) : Type 0 where
   pub there : OuterWorld W
   pub come_so : Comes before there
-  pub begun_so : Begun root start there.inner.remote names after.inner.remote names'
+  pub begun_so : Begun root b start there.inner.remote names after.inner.remote names'
   pub others_so : after.others ≡ there.others
   pub out_so : after.inner.out ≡ there.inner.out
   pub batches_so : after.batches ≡ there.batches
   pub exchanges_so : after.exchanges ≡ there.exchanges + 1
 
 -- the same, unless memory ran out
-abbrev pub Enters : {W : Type 0} → List ℕ → Result Start Memory → OuterWorld W → Names → OuterWorld W → Names → Type 0
-Enters root (Ok start) before names after names' = Entered root start before names after names'
-Enters root (Err want) before names after names' = Unit {0}
+abbrev pub Enters : {W : Type 0} → List ℕ → OpenBatch → Result Start Memory → OuterWorld W → Names → OuterWorld W → Names → Type 0
+Enters root b (Ok start) before names after names' = Entered root b start before names after names'
+Enters root b (Err want) before names after names' = Unit {0}

@@ -98,16 +98,17 @@ fn enter<W: Sink>(
     alloc: Global,
     world: &mut OuterWorld<'_, '_, '_, '_, W>,
     root: &Word,
+    batch: &OpenBatch<'_>,
     frame: &mut Frame,
 ) -> Result<Start, Memory>
-    ensures { Enters root.now result world.old frame.old world.new frame.new }
+    ensures { Enters root.now batch.now result world.old frame.old world.new frame.new }
 {
     world.come()?;
     let Some(exchanges) = world.exchanges.checked_add(1) else {
         return Err(Memory);
     };
     world.exchanges = exchanges;
-    begin(alloc, &mut world.inner.remote, root, frame)
+    begin(alloc, &mut world.inner.remote, root, batch, frame)
 }
 
 // Performs a batch: `performs_batch`, on the table that it finds.
@@ -127,7 +128,7 @@ fn perform<W: Sink>(
 {
     let code = world.inner.remote.stage.code();
     let count = frame.len();
-    let Ok(start) = enter(alloc, world, root, frame) else {
+    let Ok(start) = enter(alloc, world, root, batch, frame) else {
         return Err(Halt::Memory);
     };
     let ended = exec_slice(alloc, code, state, frame, &mut world.inner, batch.block);

@@ -1,4 +1,5 @@
 // Performs what is remote in the statements of a batch, and skips all else.
+#![tactic(auto, using(crate::proofs::Fronts::kept_rules))]
 
 ghost use Rattle.std.specs.Prelude.{◌≡◌, cond, OnOk};
 ghost use Rattle.rb_trees.specs.Outcome.{Gives};
@@ -97,6 +98,7 @@ fn perform_carried(
     ensures walked { let meant = carried_meant world.old val.now frame.old in
         Walked meant frame.old result world.old frame.new world.new }
     ensures scope { OnOk result (scope.new ≡ carried_scope scope.old val.now) }
+    ensures kept { Kept frame.old frame.new }
 {
     let value = value_of(alloc, world, frame, val.expr)?;
     frame.bind(alloc, val.name.as_slice(), value)?;
@@ -154,6 +156,7 @@ fn perform_all(
     ensures walked { let meant = stmts_meant world.old scope.old stmts.now frame.old in
         Walked meant frame.old result world.old frame.new world.new }
     ensures scope { OnOk result (Kept scope.old scope.new) }
+    ensures kept { Kept frame.old frame.new }
 {
     'stmts: for stmt in stmts {
         perform_stmt(alloc, world, scope, frame, stmt)?;
@@ -174,6 +177,7 @@ pub fn perform_block(
     ensures ended { Ended (block_meant world.old scope.old stmts.now frame.old) result world.old world.new }
     ensures names { OnOk result (frame.new ≡ frame.old) }
     ensures scope { OnOk result (scope.new ≡ scope.old) }
+    ensures kept { Kept frame.old frame.new }
 {
     let variables = scope.len();
     let names = frame.len();
@@ -196,6 +200,7 @@ fn perform_stmt(
     ensures walked { let meant = stmt_meant world.old scope.old stmt.now frame.old in
         Walked meant frame.old result world.old frame.new world.new }
     ensures scope { OnOk result (scope.new ≡ scope_behind world.old scope.old stmt.now) }
+    ensures kept { Kept frame.old frame.new }
 {
     let at = stmt.at;
     match (&stmt.form, placed_form(world.stage.facts(), scope, stmt)) {
@@ -244,6 +249,7 @@ fn perform_branch(
     ensures walked { let meant = branch_meant world.old scope.old branch.now frame.old in
         Walked meant frame.old result world.old frame.new world.new }
     ensures scope { OnOk result (scope.new ≡ scope.old) }
+    ensures kept { Kept frame.old frame.new }
 {
     let value = value_of(alloc, world, frame, branch.condition)?;
     let holds = at_place(branch.at, truth_of(alloc, value))?;
@@ -265,6 +271,7 @@ fn perform_rows(
     ensures walked { let meant = rows_meant world.old scope.old turns.now list.now frame.old in
         Walked meant frame.old result world.old frame.new world.new }
     ensures scope { OnOk result (scope.new ≡ scope.old) }
+    ensures kept { Kept frame.old frame.new }
 {
     let value = value_of(alloc, world, frame, list)?;
     let rows = at_place(turns.at, rows_in(alloc, &value))?;
@@ -285,6 +292,7 @@ fn perform_items(
     ensures walked { let meant = items_meant world.old scope.old turns.now list.now frame.old in
         Walked meant frame.old result world.old frame.new world.new }
     ensures scope { OnOk result (scope.new ≡ scope.old) }
+    ensures kept { Kept frame.old frame.new }
 {
     let items = at_place(turns.at, items_named(alloc, frame, list))?;
     perform_turns(alloc, world, scope, frame, turns, items.get().as_slice())
@@ -304,6 +312,7 @@ fn perform_turns(
     ensures ended { Ended (turns_meant world.old scope.old turns.now frame.old rows.now) result world.old world.new }
     ensures names { OnOk result (frame.new ≡ frame.old) }
     ensures scope { OnOk result (scope.new ≡ scope.old) }
+    ensures kept { Kept frame.old frame.new }
 {
     'rows: for row in rows {
         take_unit(alloc, world, turns.at)?;
@@ -326,6 +335,7 @@ fn perform_turn(
     ensures ended { Ended (turn_meant world.old scope.old turns.now frame.old row.now) result world.old world.new }
     ensures names { OnOk result (frame.new ≡ frame.old) }
     ensures scope { OnOk result (scope.new ≡ scope.old) }
+    ensures kept { Kept frame.old frame.new }
 {
     let variables = scope.len();
     let names = frame.len();

@@ -2,7 +2,7 @@
 use Rattle.std.proofs.Common.{rules, arith, sym, ap, ◌∙◌, take}
 use Rattle.rb_trees.specs.mirror.Code.{mirror_stmt}
 use Rattle.rb_engine.proofs.Forms.{val_form, if_form, for_form}
-use Rattle.rb_plain.proofs.Fronts.{kept_opened}
+use Rattle.rb_plain.proofs.Fronts.{kept_equal, kept_opened}
 use Rattle.rb_plain.proofs.Replies.{ruled, same_by, went}
 use Rattle.rb_plain.proofs.Placed.{Left, for_left, if_left, on_ok, others_left, val_left, val_scope}
 use Rattle.rb_plain.proofs.Stepped.{as_meant, block_cut, block_done, branch_so, chosen_so, named, of_form, scope_of, stmts_cut, stmts_end, stmts_more, turn_cut, turn_done, turns_cut, turns_more}
@@ -127,6 +127,16 @@ pub perform_turn-returns-clause-names : goal.perform_turn-returns-clause-names
 perform_turn-returns-clause-names t c =
     c.truncate-2.ensures ∙ ap (λ n. take n c.perform_all.new.frame) c.len-names.ensures
     ∙ kept_opened c.args.frame.now c.bind.new.self c.perform_all.new.frame _ c.in_ok-bind.ensures.bound c.in_ok-perform_all.ensures.walked.names_so
+
+pub perform_turn-returns-in_err-perform_all-clause-kept : goal.perform_turn-returns-in_err-perform_all-clause-kept
+perform_turn-returns-in_err-perform_all-clause-kept t c =
+    kept_opened c.args.frame.now c.bind.new.self c.perform_all.new.frame _ c.in_ok-bind.ensures.bound c.perform_all.ensures.kept
+
+pub perform_turn-returns-clause-kept : goal.perform_turn-returns-clause-kept
+perform_turn-returns-clause-kept t c =
+    kept_equal c.args.frame.now c.truncate-2.new.self
+    (c.truncate-2.ensures ∙ ap (λ n. take n c.perform_all.new.frame) c.len-names.ensures
+    ∙ kept_opened c.args.frame.now c.bind.new.self c.perform_all.new.frame _ c.in_ok-bind.ensures.bound c.in_ok-perform_all.ensures.walked.names_so)
 
 pub perform_turn-returns-clause-scope : goal.perform_turn-returns-clause-scope
 perform_turn-returns-clause-scope t c =
