@@ -1,4 +1,5 @@
 // Tests of admission.
 
+pub mod answers;
 mod many;
 mod refusals;

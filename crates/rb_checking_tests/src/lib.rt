@@ -6,6 +6,10 @@ mod flow;
 #[cfg(test)]
 mod marks;
 #[cfg(test)]
+mod questions;
+#[cfg(test)]
 mod split;
+#[cfg(test)]
+mod told;
 #[cfg(test)]
 mod types;

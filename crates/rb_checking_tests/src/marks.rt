@@ -1,3 +1,4 @@
 // Tests of marks and places.
 
+pub mod letters;
 mod pictures;

@@ -1,4 +1,5 @@
 // Tests of the checker.
 
+pub mod found;
 mod services;
 mod typed;

@@ -1,10 +1,6 @@
 // Marks and places, drawn under the text.
 
-use rb_marks::{Marks, mark};
-use rb_parse::parse_program;
-use rb_trees::{Mark, Place};
-use rb_types::check;
-use std::alloc::Global;
+use crate::questions::{Question, expect_each};
 use std::test::Fail;
 
 /// The interfaces of each text.
@@ -36,48 +32,7 @@ static PICTURES: [(&str, &str); 5] = [
     ),
 ];
 
-/// The letter of a position, or a space.
-fn letter(marks: &Marks, at: u32) -> u8 {
-    match (marks.mark_at(at), marks.place_at(at)) {
-        (Some(Mark::Remote), None) => b'R',
-        (Some(Mark::Constant), None) => b'C',
-        (Some(Mark::Local), None) => b'L',
-        (None, Some(Place::Script)) => b's',
-        (None, Some(Place::LocalOnly)) => b'o',
-        (None, Some(Place::Elsewhere)) => b'e',
-        (None, None) => b' ',
-        (Some(_), Some(_)) => b'?',
-    }
-}
-
-/// The letters under the text behind the interfaces.
-fn drawn(alloc: Global, text: &str) -> Result<Vec<u8>, Fail> {
-    let mut whole = Vec::from_slice(alloc, INTERFACES.as_bytes())?;
-    whole.extend_from_slice(text.as_bytes())?;
-    let Ok(program) = parse_program(alloc, whole.as_slice()) else {
-        return Err(Fail::from("the text isn't read"));
-    };
-    let Ok(typed) = check(alloc, program) else {
-        return Err(Fail::from("the program isn't typed"));
-    };
-    let Ok(marks) = mark(alloc, &typed) else {
-        return Err(Fail::from("memory ran out"));
-    };
-    let mut letters = Vec::new(alloc);
-    for at in INTERFACES.len()..whole.len() {
-        let Ok(at) = u32::try_from(at) else {
-            return Err(Fail::from("the text is too long"));
-        };
-        letters.push(letter(&marks, at))?;
-    }
-    Ok(letters)
-}
-
 #[test]
 fn each_part_is_where_it_is_drawn(rt: HostRuntime) -> Result<(), Fail> {
-    for (text, picture) in PICTURES {
-        let letters = drawn(rt.alloc(), text)?;
-        assert!(rt; letters.as_slice() == picture.as_bytes(), "{text}");
-    }
-    Ok(())
+    expect_each(rt.alloc(), Question::Marks, INTERFACES, &PICTURES)
 }

@@ -1,86 +1,11 @@
 // Divisions of programs, each with its inputs, its steps and its parts.
 
-use crate::split::parts::add_parts;
-use crate::split::steps::{add_number, add_steps};
-use rb_flow::admit;
-use rb_marks::mark;
-use rb_parse::parse_program;
-use rb_split::{SplitStop, split_all};
-use rb_trees::{Memory, Refusal, Seq, Split, Word};
-use rb_types::{Typed, check};
-use std::alloc::Global;
+use crate::questions::{Question, expect_each};
 use std::test::Fail;
 
 /// The interfaces before each text.
 const BEFORE: &str =
     "interface F { fun name(): Text; fun size(): Int; fun grow(by: Int); } interface D { fun file(i: Int): F; fun files(): Rows<F>; fun sizes(): Rows<Int>; } ";
-
-// The names of the inputs, where `[]` stands behind that of a list.
-fn add_inputs(division: &Split, into: &mut Word) -> Result<(), Memory> {
-    let mut number = 0u8;
-    for name in division.inputs.as_slice() {
-        into.push(b' ')?;
-        into.extend_from_slice(name.as_slice())?;
-        if division.script.lists.as_slice().contains(&number) {
-            into.extend_from_slice(b"[]")?;
-        }
-        number = number.wrapping_add(1);
-    }
-    Ok(())
-}
-
-fn add_division(alloc: Global, division: &Split, into: &mut Word) -> Result<(), Memory> {
-    add_number(alloc, "", division.batch, into)?;
-    add_inputs(division, into)?;
-    into.push(b' ')?;
-    add_steps(alloc, &division.script.body, into)?;
-    into.push(b' ')?;
-    add_parts(alloc, &division.remainder, into)
-}
-
-fn divisions_of(alloc: Global, divisions: &[Split]) -> Result<Word, Memory> {
-    let mut text = Seq::new(alloc);
-    for division in divisions {
-        add_division(alloc, division, &mut text)?;
-        text.push(b'\n')?;
-    }
-    Ok(text)
-}
-
-fn refusal_of(alloc: Global, refusal: &Refusal) -> Result<Word, Memory> {
-    let mut text = Seq::new(alloc);
-    match refusal {
-        Refusal::TooManyInputs(_, count) => add_number(alloc, "inputs ", *count, &mut text)?,
-        _ => text.push(b'?')?,
-    }
-    Ok(text)
-}
-
-fn divided(alloc: Global, typed: &Typed) -> Result<Word, Fail> {
-    let Ok(marks) = mark(alloc, typed) else {
-        return Err(Fail::from("memory ran out"));
-    };
-    let Ok(admitted) = admit(alloc, typed, marks) else {
-        return Err(Fail::from("the program isn't admitted"));
-    };
-    match split_all(alloc, &admitted) {
-        Ok(divisions) => Ok(divisions_of(alloc, divisions.as_slice())?),
-        Err(SplitStop::Refused(refusal)) => Ok(refusal_of(alloc, &refusal)?),
-        Err(SplitStop::Memory) => Err(Fail::from("memory ran out")),
-    }
-}
-
-/// What is answered for a text.
-pub fn answer(alloc: Global, text: &[u8]) -> Result<Word, Fail> {
-    let Ok(program) = parse_program(alloc, text) else {
-        return Err(Fail::from("the text isn't read"));
-    };
-    let typed = match check(alloc, program) {
-        Ok(typed) => typed,
-        Err(error) => return Err(Fail::from(error)),
-    };
-    divided(alloc, &typed)
-}
 
 /// Programs, and what each is divided into.
 static ROWS: [(&str, &str); 16] = [
@@ -152,13 +77,5 @@ static ROWS: [(&str, &str); 16] = [
 
 #[test]
 fn programs_are_divided(rt: HostRuntime) -> Result<(), Fail> {
-    let alloc = rt.alloc();
-    for (program, wanted) in ROWS {
-        let mut text = Vec::from_slice(alloc, BEFORE.as_bytes())?;
-        text.extend_from_slice(program.as_bytes())?;
-        let found = answer(alloc, text.as_slice())?;
-        let shown = std::str::from_utf8(found.as_slice()).unwrap_or("?");
-        assert_eq!(rt; shown, wanted, "{program}");
-    }
-    Ok(())
+    expect_each(rt.alloc(), Question::Divisions, BEFORE, &ROWS)
 }

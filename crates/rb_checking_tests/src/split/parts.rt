@@ -4,7 +4,7 @@
 // number among the inputs. A statement is `plain`, with its expressions as far as something is taken in them, where `t` and a
 // number is what the step of that number kept, and then each step with its kind.
 
-use crate::split::steps::add_number;
+use crate::told::add_number;
 use rb_trees::{Expr, ExprForm, Memory, Part, Seq, Stmt, StmtForm, Word};
 use std::alloc::Global;
 
@@ -93,50 +93,71 @@ fn add_both(
     add_expr(alloc, value, into)
 }
 
-#[cycle(parts)]
-fn add_part(alloc: Global, part: &Part, into: &mut Word) -> Result<(), Memory> {
+// The name and the kind of what a form's step gives.
+fn add_named(
+    alloc: Global,
+    form: &str,
+    step: u32,
+    name: &Word,
+    kind: u8,
+    into: &mut Word,
+) -> Result<(), Memory> {
+    add_number(alloc, form, step, into)?;
+    add_name(alloc, name, kind, into)
+}
+
+fn add_over(
+    alloc: Global,
+    step: u32,
+    name: &Word,
+    list: &Word,
+    input: u8,
+    into: &mut Word,
+) -> Result<(), Memory> {
+    add_number(alloc, "over ", step, into)?;
+    into.push(b' ')?;
+    into.extend_from_slice(name.as_slice())?;
+    add_name(alloc, list, input, into)
+}
+
+// A part but for its blocks.
+fn add_head(alloc: Global, part: &Part, into: &mut Word) -> Result<(), Memory> {
     match part {
         Part::Plain(stmt, takes) => add_plain(alloc, stmt, takes, into),
         Part::Pass(step) => add_number(alloc, "pass ", *step, into),
-        Part::Bind { step, name, kind } => {
-            add_number(alloc, "bind ", *step, into)?;
-            add_name(alloc, name, *kind, into)
-        }
+        Part::Bind { step, name, kind } => add_named(alloc, "bind ", *step, name, *kind, into),
         Part::Both {
             step,
             name,
             value,
             ..
         } => add_both(alloc, *step, name, value, into),
-        Part::Branch { step, yes, no } => {
-            add_number(alloc, "branch ", *step, into)?;
-            add_parts(alloc, yes, into)?;
-            add_parts(alloc, no, into)
-        }
+        Part::Branch { step, .. } => add_number(alloc, "branch ", *step, into),
         Part::Turns {
             step,
             name,
             kind,
-            body,
-        } => {
-            add_number(alloc, "turns ", *step, into)?;
-            add_name(alloc, name, *kind, into)?;
-            add_parts(alloc, body, into)
-        }
+            ..
+        } => { add_named(alloc, "turns ", *step, name, *kind, into) }
         Part::Over {
             step,
             name,
             list,
             input,
-            body,
             ..
-        } => {
-            add_number(alloc, "over ", *step, into)?;
-            into.push(b' ')?;
-            into.extend_from_slice(name.as_slice())?;
-            add_name(alloc, list, *input, into)?;
-            add_parts(alloc, body, into)
+        } => { add_over(alloc, *step, name, list, *input, into) }
+    }
+}
+
+#[cycle(parts)]
+fn add_blocks(alloc: Global, part: &Part, into: &mut Word) -> Result<(), Memory> {
+    match part {
+        Part::Branch { yes, no, .. } => {
+            add_parts(alloc, yes, into)?;
+            add_parts(alloc, no, into)
         }
+        Part::Turns { body, .. } | Part::Over { body, .. } => add_parts(alloc, body, into),
+        _ => Ok(()),
     }
 }
 
@@ -145,7 +166,8 @@ fn add_part(alloc: Global, part: &Part, into: &mut Word) -> Result<(), Memory> {
 pub fn add_parts(alloc: Global, parts: &Seq<Part>, into: &mut Word) -> Result<(), Memory> {
     into.push(b'{')?;
     for part in parts.as_slice() {
-        add_part(alloc, part, into)?;
+        add_head(alloc, part, into)?;
+        add_blocks(alloc, part, into)?;
         into.push(b';')?;
     }
     into.push(b'}')

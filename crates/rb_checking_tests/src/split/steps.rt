@@ -3,14 +3,9 @@
 // A step is its number, its form and its expression, as `3 let v0! r.file(i0,L)`, where `!` says that its value is kept. An input
 // is `i0`, a variable `v0`, the root `r`, and a literal `L`. Before a call's name stands its kind.
 
+use crate::told::add_number;
 use rb_trees::{Invocation, Memory, Operands, SExpr, Seq, Step, StepForm, Word};
 use std::alloc::Global;
-
-/// Adds a number behind a letter.
-pub fn add_number(alloc: Global, letter: &str, number: u32, into: &mut Word) -> Result<(), Memory> {
-    let text = format!(in alloc; "{letter}{number}")?;
-    into.extend_from_slice(text.as_bytes())
-}
 
 #[cycle(shown)]
 fn add_expr(alloc: Global, e: &SExpr, into: &mut Word) -> Result<(), Memory> {
@@ -53,49 +48,57 @@ fn add_exprs(alloc: Global, es: &Seq<SExpr>, into: &mut Word) -> Result<(), Memo
     into.push(b')')
 }
 
-fn add_keep(keep: bool, into: &mut Word) -> Result<(), Memory> {
-    let word: &[u8] = if keep { b"! " } else { b" " };
-    into.extend_from_slice(word)
+/// Adds an expression behind the name of its step's form.
+fn add_valued(alloc: Global, form: &[u8], e: &SExpr, into: &mut Word) -> Result<(), Memory> {
+    into.extend_from_slice(form)?;
+    add_expr(alloc, e, into)
 }
 
-#[cycle(steps)]
-fn add_form(alloc: Global, form: &StepForm, into: &mut Word) -> Result<(), Memory> {
+/// Adds a variable behind the name of its step's form, with `!` if its value is kept, and the expression.
+fn add_bound(
+    alloc: Global,
+    form: &str,
+    var: u32,
+    keep: bool,
+    e: &SExpr,
+    into: &mut Word,
+) -> Result<(), Memory> {
+    add_number(alloc, form, var, into)?;
+    let behind: &[u8] = if keep { b"! " } else { b" " };
+    add_valued(alloc, behind, e, into)
+}
+
+/// Adds a step's form but for its blocks.
+fn add_head(alloc: Global, form: &StepForm, into: &mut Word) -> Result<(), Memory> {
     match form {
-        StepForm::Do(e) => {
-            into.extend_from_slice(b" do ")?;
-            add_expr(alloc, e, into)
-        }
-        StepForm::Keep(e) => {
-            into.extend_from_slice(b" keep ")?;
-            add_expr(alloc, e, into)
-        }
+        StepForm::Do(e) => add_valued(alloc, b" do ", e, into),
+        StepForm::Keep(e) => add_valued(alloc, b" keep ", e, into),
         StepForm::Let { var, keep, value } => {
-            add_number(alloc, " let v", *var, into)?;
-            add_keep(*keep, into)?;
-            add_expr(alloc, value, into)
+            add_bound(alloc, " let v", *var, *keep, value, into)
         }
-        StepForm::If(condition, yes, no) => {
-            into.extend_from_slice(b" if ")?;
-            add_expr(alloc, condition, into)?;
-            add_steps(alloc, yes, into)?;
-            add_steps(alloc, no, into)
-        }
+        StepForm::If(condition, _, _) => add_valued(alloc, b" if ", condition, into),
         StepForm::Each {
             var,
             keep,
             rows,
-            body,
-        } => {
-            add_number(alloc, " each v", *var, into)?;
-            add_keep(*keep, into)?;
-            add_expr(alloc, rows, into)?;
-            add_steps(alloc, body, into)
-        }
-        StepForm::Over { var, input, body } => {
+            ..
+        } => add_bound(alloc, " each v", *var, *keep, rows, into),
+        StepForm::Over { var, input, .. } => {
             add_number(alloc, " over v", *var, into)?;
-            add_number(alloc, " in", u32::from(*input), into)?;
-            add_steps(alloc, body, into)
+            add_number(alloc, " in", u32::from(*input), into)
         }
+    }
+}
+
+#[cycle(steps)]
+fn add_blocks(alloc: Global, form: &StepForm, into: &mut Word) -> Result<(), Memory> {
+    match form {
+        StepForm::If(_, yes, no) => {
+            add_steps(alloc, yes, into)?;
+            add_steps(alloc, no, into)
+        }
+        StepForm::Each { body, .. } | StepForm::Over { body, .. } => add_steps(alloc, body, into),
+        _ => Ok(()),
     }
 }
 
@@ -105,7 +108,8 @@ pub fn add_steps(alloc: Global, steps: &Seq<Step>, into: &mut Word) -> Result<()
     into.push(b'{')?;
     for step in steps.as_slice() {
         add_number(alloc, "", step.id, into)?;
-        add_form(alloc, &step.form, into)?;
+        add_head(alloc, &step.form, into)?;
+        add_blocks(alloc, &step.form, into)?;
         into.push(b';')?;
     }
     into.push(b'}')
