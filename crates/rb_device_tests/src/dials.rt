@@ -1,6 +1,6 @@
 // What is dialled over loopback.
 
-use crate::frames::{RECEIVED, REPLY, SENT, all_of};
+use crate::frames::{RECEIVED, RECEIVED_PART, REPLY, SENT, expect, expect_all};
 use crate::hosts::CALL;
 use rb_base::{Link, LinkStop, Reply};
 use rb_devices::{RealDial, RealLink};
@@ -12,20 +12,94 @@ use std::net::{TcpListener, TcpStream};
 use std::test::Fail;
 use std::time::Duration;
 
-/// A link to a peer on this machine, which has already sent these bytes.
-///
-/// So one thread does for both: what is sent waits at the other side.
-fn met(
-    rt: &HostRuntime,
-    dial: &mut RealDial<HostRuntime>,
-    bytes: &[u8],
-) -> Result<(RealLink, TcpStream), Fail> {
+/// A peer on this machine that is dialled, and what an exchange of the call with it comes to.
+struct Peer {
+    /// The timeout of the dial, in milliseconds.
+    timeout: Option<u64>,
+    /// What the peer has already sent. So one thread does for both: what is sent to it waits at its side.
+    sent: &'static [u8],
+    /// Whether it has closed the connection behind that. Else it gets the frame of the call, and no more.
+    has_closed: bool,
+    answer: Answer,
+}
+
+/// What an exchange comes to.
+enum Answer {
+    /// A reply of this payload.
+    Reply(&'static [u8]),
+    /// The end of the reply behind so many bytes.
+    Cut(u64),
+    /// A fault.
+    Failed,
+}
+
+const PEERS: &[Peer] = &[
+    Peer {
+        timeout: None,
+        sent: RECEIVED,
+        has_closed: false,
+        answer: Answer::Reply(REPLY),
+    },
+    // It closes early.
+    Peer {
+        timeout: None,
+        sent: RECEIVED_PART,
+        has_closed: true,
+        answer: Answer::Cut(5),
+    },
+    // It sends nothing more.
+    Peer {
+        timeout: Some(50),
+        sent: RECEIVED_PART,
+        has_closed: false,
+        answer: Answer::Failed,
+    },
+];
+
+/// Whether an exchange came to this.
+fn is_answered(found: &Result<Reply, LinkStop>, want: &Answer) -> bool {
+    match (found, want) {
+        (Ok(reply), Answer::Reply(payload)) => reply.payload.as_slice() == *payload,
+        (Err(LinkStop::Cut { got, bytes: _ }), Answer::Cut(count)) => *got == *count,
+        (Err(LinkStop::Failed), Answer::Failed) => true,
+        _ => false,
+    }
+}
+
+/// Takes the connection of a link as a peer does, and fails where the exchange comes to something else. Answers the
+/// peer's side, unless that has closed.
+fn exchanged(
+    link: &mut RealLink,
+    listener: &TcpListener,
+    peer: &Peer,
+) -> Result<Option<TcpStream>, Fail> {
+    let (mut stream, _) = listener.accept()?;
+    stream.write_all(peer.sent)?;
+    let side = if peer.has_closed {
+        drop(stream);
+        None
+    } else {
+        Some(stream)
+    };
+    if is_answered(&link.exchange(CALL), &peer.answer) {
+        Ok(side)
+    } else {
+        Err(Fail::new("another answer"))
+    }
+}
+
+/// Dials a peer, and fails where the exchange comes to something else.
+fn expect_peer(rt: &HostRuntime, peer: &Peer) -> Result<(), Fail> {
     let listener = TcpListener::bind(rt, "127.0.0.1:0")?;
     let target = target_of(rt.alloc(), &listener)?;
-    let link = dial.dial(&target)?;
-    let (mut peer, _) = listener.accept()?;
-    peer.write_all(bytes)?;
-    Ok((link, peer))
+    let mut dial = RealDial::make(rt, "/", peer.timeout.map(Duration::from_millis));
+    let mut link = dial.dial(&target)?;
+    let side = exchanged(&mut link, &listener, peer);
+    dial.back(link);
+    match side? {
+        Some(mut side) => expect_all(rt.alloc(), &mut side, SENT),
+        None => Ok(()),
+    }
 }
 
 /// The address of a listener.
@@ -36,58 +110,39 @@ fn target_of(alloc: Global, listener: &TcpListener) -> Result<Target, Fail> {
 }
 
 #[test]
-fn an_exchange_goes_over_loopback(rt: HostRuntime) -> Result<(), Fail> {
-    let mut dial = RealDial::make(&rt, "/", None);
-    let (mut link, mut peer) = met(&rt, &mut dial, RECEIVED)?;
-    let reply = link.exchange(CALL)?;
-    assert_eq!(rt; reply.payload.as_slice(), REPLY);
-    dial.back(link);
-    assert_eq!(rt; all_of(rt.alloc(), &mut peer)?.as_slice(), SENT);
+fn exchanges_go_over_loopback(rt: HostRuntime) -> Result<(), Fail> {
+    for peer in PEERS {
+        expect_peer(&rt, peer)?;
+    }
     Ok(())
 }
 
-/// Whether an exchange was cut after so many bytes.
-fn is_cut_after(answer: &Result<Reply, LinkStop>, count: u64) -> bool {
-    matches!(answer, Err(LinkStop::Cut { got, bytes: _ }) if *got == count)
-}
+/// What can't be reached: addresses, and children of no program.
+const UNREACHED: &[(bool, &[u8])] = &[
+    // Nobody listens, no address, no port, and no text.
+    (false, b"127.0.0.1:1"),
+    (false, b""),
+    (false, b"127.0.0.1"),
+    (false, b"\xff"),
+    (true, b"s"),
+];
 
-#[test]
-fn a_peer_that_closes_early_cuts_the_reply(rt: HostRuntime) -> Result<(), Fail> {
-    let mut dial = RealDial::make(&rt, "/", None);
-    let (mut link, peer) = met(&rt, &mut dial, &RECEIVED[..5])?;
-    drop(peer);
-    let answer = link.exchange(CALL);
-    assert!(rt; is_cut_after(&answer, 5));
-    dial.back(link);
-    Ok(())
-}
-
-#[test]
-fn a_peer_that_sends_nothing_fails_the_exchange(rt: HostRuntime) -> Result<(), Fail> {
-    let mut dial = RealDial::make(&rt, "/", Some(Duration::from_millis(50)));
-    let (mut link, peer) = met(&rt, &mut dial, &RECEIVED[..5])?;
-    let answer = link.exchange(CALL);
-    assert!(rt; matches!(answer, Err(LinkStop::Failed)));
-    dial.back(link);
-    drop(peer);
-    Ok(())
-}
-
-/// Whether a dial failed.
-fn has_failed<L: Drop>(answer: Result<L, DialStop>) -> bool {
-    matches!(&answer, Err(DialStop::Failed))
+/// Whether a dial of a child or of an address fails.
+fn has_failed(dial: &mut RealDial<HostRuntime>, is_child: bool, word: Seq<u8>) -> bool {
+    let target = if is_child {
+        Target::Child(word)
+    } else {
+        Target::Address(word)
+    };
+    matches!(&dial.dial(&target), Err(DialStop::Failed))
 }
 
 #[test]
 fn what_cannot_be_reached_is_a_fault(rt: HostRuntime) -> Result<(), Fail> {
-    let alloc = rt.alloc();
     let mut dial = RealDial::make(&rt, "/no such program", None);
-    // Nobody listens, no address, no port, and no text.
-    for word in [b"127.0.0.1:1".as_slice(), b"", b"127.0.0.1", b"\xff"] {
-        let target = Target::Address(Seq::from_slice(alloc, word)?);
-        assert!(rt; has_failed(dial.dial(&target)), "{word:?}");
+    for (is_child, word) in UNREACHED {
+        let target = Seq::from_slice(rt.alloc(), word)?;
+        expect(has_failed(&mut dial, *is_child, target), "it is reached")?;
     }
-    let target = Target::Child(Seq::from_slice(alloc, b"s")?);
-    assert!(rt; has_failed(dial.dial(&target)));
     Ok(())
 }

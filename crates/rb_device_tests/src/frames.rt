@@ -13,12 +13,24 @@ pub const SENT: &[u8] =
 pub const RECEIVED: &[u8] =
     b"RB\x02\x00\x00\x00\x00\x00\x00\x00\x10\x01\x00\x00\x00\x01\x31\x01\x00\x00\x00\x00\x00\x00\x00\x07\x00";
 
+/// The first five bytes of that frame.
+pub const RECEIVED_PART: &[u8] = b"RB\x02\x00\x00";
+
 /// The payload of that reply.
 pub const REPLY: &[u8] = b"\x01\x00\x00\x00\x01\x31\x01\x00\x00\x00\x00\x00\x00\x00\x07\x00";
 
-/// All bytes that a peer gets.
-pub fn all_of(alloc: Global, peer: &mut TcpStream) -> Result<Vec<u8>, Fail> {
+/// Fails where something is found that isn't wanted, and says what was.
+pub fn expect(is_wanted: bool, found: &str) -> Result<(), Fail> {
+    if is_wanted {
+        Ok(())
+    } else {
+        Err(Fail::new(found))
+    }
+}
+
+/// Reads all bytes that a peer gets, and fails where they are others than are wanted.
+pub fn expect_all(alloc: Global, peer: &mut TcpStream, want: &[u8]) -> Result<(), Fail> {
     let mut bytes = Vec::new(alloc);
     peer.read_to_end(&mut bytes)?;
-    Ok(bytes)
+    expect(bytes.as_slice() == want, "a peer gets other bytes")
 }

@@ -1,9 +1,12 @@
 // Sessions over loopback.
 
-use crate::frames::{RECEIVED, SENT, all_of};
+ghost use Rattle.rb_session.specs.Answering.{IsTypedHost};
+
+use crate::frames::{RECEIVED, SENT, expect, expect_all};
 use crate::hosts::number_host;
 use rb_base::{Listen, write_whole};
 use rb_devices::RealListen;
+use rb_exec::Host;
 use rb_session::{ServeCause, ServeStop, Served, serve};
 use std::alloc::Global;
 use std::io::Write;
@@ -18,95 +21,116 @@ fn free_address(rt: &HostRuntime) -> Result<String, Fail> {
     Ok(format!(in rt.alloc(); "{address}")?)
 }
 
-/// A client that has sent a request, and sends no more.
-fn asked(rt: &HostRuntime, address: &str) -> Result<TcpStream, Fail> {
-    let mut client = TcpStream::connect(rt, address)?;
-    client.write_all(SENT)?;
-    client.shutdown(Shutdown::Write)?;
-    Ok(client)
+/// What a client does behind the request that it sends.
+#[derive(Clone, Copy)]
+enum Client {
+    /// It ends its stream, so its session ends whole.
+    Ends,
+    /// It stays silent, so a read of its session fails.
+    Waits,
 }
 
-/// Serves the next session, and answers how many requests it had.
-fn serve_next(alloc: Global, listen: &mut RealListen<HostRuntime>) -> Result<u64, Fail> {
-    let mut host = number_host(alloc)?;
-    let Some((mut source, mut sink)) = listen.next()? else {
-        return Err(Fail::new("no session"));
-    };
-    let served = serve(alloc, &mut host, &mut source, &mut sink);
-    listen.back(source, sink);
-    Ok(served?.requests)
+/// A client that has sent a request.
+fn client_of(rt: &HostRuntime, address: &str, client: Client) -> Result<TcpStream, Fail> {
+    let mut stream = TcpStream::connect(rt, address)?;
+    stream.write_all(SENT)?;
+    if let Client::Ends = client {
+        stream.shutdown(Shutdown::Write)?;
+    }
+    Ok(stream)
+}
+
+/// Whether a session ended as that of a client does, behind one request.
+fn has_ended(answer: &Result<Served, ServeStop>, client: Client) -> bool {
+    match (answer, client) {
+        (Ok(served), Client::Ends) => served.requests == 1,
+        (Err(stop), Client::Waits) => {
+            stop.requests == 1 && matches!(stop.cause, ServeCause::ReadFault)
+        }
+        _ => false,
+    }
+}
+
+/// Serves the next session on a host, and says whether there is one that ends as that of a client does.
+fn is_served(
+    alloc: Global,
+    host: &mut Host,
+    listen: &mut RealListen<HostRuntime>,
+    client: Client,
+) -> bool
+    requires { IsTypedHost host.old }
+{
+    match listen.next() {
+        Ok(Some((mut source, mut sink))) => {
+            let answer = serve(alloc, host, &mut source, &mut sink);
+            listen.back(source, sink);
+            has_ended(&answer, client)
+        }
+        _ => false,
+    }
+}
+
+/// Fails where a client that ends its stream doesn't get its reply, or where the next sessions don't end as those of
+/// these clients do.
+fn expect_served(
+    rt: &HostRuntime,
+    address: &str,
+    listen: &mut RealListen<HostRuntime>,
+    clients: &[Client],
+) -> Result<(), Fail> {
+    let mut stream = client_of(rt, address, Client::Ends)?;
+    for client in clients {
+        let mut host = number_host(rt.alloc())?;
+        if !is_served(rt.alloc(), &mut host, listen, *client) {
+            return Err(Fail::new("another end of a session, or none"));
+        }
+    }
+    expect_all(rt.alloc(), &mut stream, RECEIVED)
 }
 
 #[test]
 fn a_session_over_loopback_is_served(rt: HostRuntime) -> Result<(), Fail> {
     let address = free_address(&rt)?;
     let mut listen = RealListen::make(&rt, rt.stdin(), rt.stdout(), None);
-    listen.start(address.as_str())?;
-    let mut client = asked(&rt, address.as_str())?;
-    assert_eq!(rt; serve_next(rt.alloc(), &mut listen)?, 1);
-    assert_eq!(rt; all_of(rt.alloc(), &mut client)?.as_slice(), RECEIVED);
-    Ok(())
-}
-
-/// Whether a session ended by a read that failed, behind so many requests.
-fn is_read_fault(answer: &Result<Served, ServeStop>, count: u64) -> bool {
-    matches!(answer, Err(ServeStop { requests, cause: ServeCause::ReadFault }) if *requests == count)
-}
-
-/// Serves the next session, and answers whether it ended by a read that failed, behind one request.
-fn next_read_fails(alloc: Global, listen: &mut RealListen<HostRuntime>) -> Result<bool, Fail> {
-    let mut host = number_host(alloc)?;
-    let Some((mut source, mut sink)) = listen.next()? else {
-        return Err(Fail::new("no session"));
-    };
-    let answer = serve(alloc, &mut host, &mut source, &mut sink);
-    listen.back(source, sink);
-    Ok(is_read_fault(&answer, 1))
-}
-
-/// A client that has sent a request, and may send more.
-fn waiting(rt: &HostRuntime, address: &str) -> Result<TcpStream, Fail> {
-    let mut client = TcpStream::connect(rt, address)?;
-    client.write_all(SENT)?;
-    Ok(client)
+    listen.start(&address)?;
+    expect_served(&rt, &address, &mut listen, &[Client::Ends])
 }
 
 #[test]
 fn a_silent_client_ends_its_session_alone(rt: HostRuntime) -> Result<(), Fail> {
-    let moment = Some(Duration::from_millis(50));
     let address = free_address(&rt)?;
-    let mut listen = RealListen::make(&rt, rt.stdin(), rt.stdout(), moment);
-    listen.start(address.as_str())?;
-    let silent = waiting(&rt, address.as_str())?;
-    let mut client = asked(&rt, address.as_str())?;
-    assert!(rt; next_read_fails(rt.alloc(), &mut listen)?);
-    assert_eq!(rt; serve_next(rt.alloc(), &mut listen)?, 1);
-    assert_eq!(rt; all_of(rt.alloc(), &mut client)?.as_slice(), RECEIVED);
-    drop(silent);
-    Ok(())
+    let timeout = Some(Duration::from_millis(50));
+    let mut listen = RealListen::make(&rt, rt.stdin(), rt.stdout(), timeout);
+    listen.start(&address)?;
+    let _silent = client_of(&rt, &address, Client::Waits)?;
+    expect_served(&rt, &address, &mut listen, &[Client::Waits, Client::Ends])
 }
 
-/// Whether a write fails to the next session that is larger than what the system keeps of a connection.
-fn next_write_fails(alloc: Global, listen: &mut RealListen<HostRuntime>) -> Result<bool, Fail> {
-    let bytes = vec![in alloc; 0; 33_554_432]?;
-    let Some((source, mut sink)) = listen.next()? else {
-        return Err(Fail::new("no session"));
-    };
-    let fails = write_whole(&mut sink, bytes.as_slice()).is_err() && sink.faults() == 1;
-    listen.back(source, sink);
-    Ok(fails)
+/// Whether there is a next session, to which a write of these bytes fails.
+fn next_write_fails(listen: &mut RealListen<HostRuntime>, bytes: &[u8]) -> bool {
+    match listen.next() {
+        Ok(Some((source, mut sink))) => {
+            let has_failed = write_whole(&mut sink, bytes).is_err() && sink.faults() == 1;
+            listen.back(source, sink);
+            has_failed
+        }
+        _ => false,
+    }
 }
 
 #[test]
 fn a_client_that_takes_nothing_fails_a_write(rt: HostRuntime) -> Result<(), Fail> {
-    let moment = Some(Duration::from_millis(50));
+    // More than what the system keeps of a connection.
+    let bytes = vec![in rt.alloc(); 0; 33_554_432]?;
     let address = free_address(&rt)?;
-    let mut listen = RealListen::make(&rt, rt.stdin(), rt.stdout(), moment);
-    listen.start(address.as_str())?;
-    let client = TcpStream::connect(&rt, address.as_str())?;
-    assert!(rt; next_write_fails(rt.alloc(), &mut listen)?);
-    drop(client);
-    Ok(())
+    let timeout = Some(Duration::from_millis(50));
+    let mut listen = RealListen::make(&rt, rt.stdin(), rt.stdout(), timeout);
+    listen.start(&address)?;
+    let _client = TcpStream::connect(&rt, address.as_str())?;
+    expect(
+        next_write_fails(&mut listen, bytes.as_slice()),
+        "no session, or a write that doesn't fail",
+    )
 }
 
 /// Hands the next session out and takes it back at once; whether there is one.
@@ -125,26 +149,22 @@ fn an_address_is_bound_once_and_again_when_its_listener_ended(rt: HostRuntime) -
     let address = free_address(&rt)?;
     let mut first = RealListen::make(&rt, rt.stdin(), rt.stdout(), None);
     let mut second = RealListen::make(&rt, rt.stdin(), rt.stdout(), None);
-    first.start(address.as_str())?;
-    assert!(rt; second.start(address.as_str()).is_err());
+    first.start(&address)?;
+    expect(second.start(&address).is_err(), "an address is bound twice")?;
     // The server closes this connection first, so that the system still keeps it for a while.
     let client = TcpStream::connect(&rt, address.as_str())?;
-    assert!(rt; passes_one(&mut first)?);
+    expect(passes_one(&mut first)?, "no session")?;
     drop(client);
     drop(first);
-    second.start(address.as_str())?;
+    second.start(&address)?;
     Ok(())
 }
 
 #[test]
 fn standard_input_and_output_are_one_session(rt: HostRuntime) -> Result<(), Fail> {
     let mut listen = RealListen::make(&rt, rt.stdin(), rt.stdout(), None);
-    assert!(rt; listen.next()?.is_none());
+    expect(listen.next()?.is_none(), "a session before the start")?;
     listen.start("-")?;
-    let Some((source, sink)) = listen.next()? else {
-        return Err(Fail::new("no session"));
-    };
-    listen.back(source, sink);
-    assert!(rt; listen.next()?.is_none());
-    Ok(())
+    expect(passes_one(&mut listen)?, "no session")?;
+    expect(listen.next()?.is_none(), "a second session")
 }
