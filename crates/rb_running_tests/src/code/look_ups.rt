@@ -1,7 +1,7 @@
 // Look-ups by name in code that was read.
 
 use crate::code::classes::{code_in, code_of};
-use crate::told::expect;
+use crate::told::{add_number, expect};
 use rb_code::Code;
 use rb_parse::parse_program;
 use rb_trees::{Class, Memory, Method, Program, ReadError, Seq, Word};
@@ -42,17 +42,17 @@ fn at(code: &Code, class: &[u8], method: &[u8]) -> Option<u32> {
 
 /// Adds a position behind a space.
 fn add_position(alloc: Global, at: Option<u32>, into: &mut Word) -> Result<(), Memory> {
-    let Some(at) = at else {
-        return into.extend_from_slice(b" -");
-    };
-    let text = format!(in alloc; " {at}")?;
-    into.extend_from_slice(text.as_bytes())
+    match at {
+        Some(at) => add_number(alloc, " ", i64::from(at), into),
+        None => into.extend_from_slice(b" -"),
+    }
 }
 
 /// Adds the number of classes, and the positions of the names.
-fn add_found(alloc: Global, code: &Code, told: &mut Word) -> Result<(), Memory> {
-    let count = format!(in alloc; "{} classes", code.classes().len())?;
-    told.extend_from_slice(count.as_bytes())?;
+fn add_found(alloc: Global, code: &Code, told: &mut Word) -> Result<(), ReadError> {
+    let count = u32::try_from(code.classes().len()).unwrap_or(0);
+    add_number(alloc, "", i64::from(count), told)?;
+    told.extend_from_slice(b" classes")?;
     for (class, method) in &NAMES {
         add_position(alloc, at(code, class.as_bytes(), method.as_bytes()), told)?;
     }
@@ -60,29 +60,30 @@ fn add_found(alloc: Global, code: &Code, told: &mut Word) -> Result<(), Memory> 
 }
 
 /// The same of the code of a text.
-fn found_in(alloc: Global, text: &str) -> Result<Word, ReadError> {
-    let mut told = Seq::new(alloc);
+fn add_found_in(alloc: Global, text: &str, told: &mut Word) -> Result<(), ReadError> {
     let code = code_in(alloc, text)?;
-    add_found(alloc, &code, &mut told)?;
-    Ok(told)
+    add_found(alloc, &code, told)
 }
 
 #[test]
 fn classes_and_methods_are_found_by_name(rt: HostRuntime) -> Result<(), Fail> {
-    expect(TEXT, found_in(rt.alloc(), TEXT)?.as_slice(), FOUND)
+    let mut told = Seq::new(rt.alloc());
+    add_found_in(rt.alloc(), TEXT, &mut told)?;
+    expect(TEXT, told.as_slice(), FOUND)
 }
 
-/// A program of 300 classes, from C0 on, with the methods f, g and h.
-fn many_classes(alloc: Global) -> Result<Word, Memory> {
-    let mut text = Seq::new(alloc);
-    for number in 0..300u32 {
-        let class = format!(in alloc;
-            "class C{number} {{ fun f() {{ }} fun g() {{ }} fun h() {{ }} }} "
-        )?;
-        text.extend_from_slice(class.as_bytes())?;
+/// Adds a class of a number, with the methods f, g and h.
+fn add_class(alloc: Global, number: i64, into: &mut Word) -> Result<(), Memory> {
+    add_number(alloc, "class C", number, into)?;
+    into.extend_from_slice(b" { fun f() { } fun g() { } fun h() { } } ")
+}
+
+/// Adds a program of 300 classes, from C0 on.
+fn add_classes(alloc: Global, into: &mut Word) -> Result<(), Memory> {
+    for number in 0..300i64 {
+        add_class(alloc, number, into)?;
     }
-    text.extend_from_slice(b"main { }")?;
-    Ok(text)
+    into.extend_from_slice(b"main { }")
 }
 
 fn are_found(code: &Code, class: &[u8], methods: &[Method]) -> bool {
@@ -113,12 +114,16 @@ fn count_found(code: &Code, classes: &[Class]) -> usize {
     classes.len()
 }
 
-/// How many classes the code of a program has and how many are found; and whether a class or a method of C300 is.
+/// How many classes code has and how many are found; and whether a class or a method of C300 is.
+fn counts(code: &Code, classes: &[Class]) -> (usize, usize, bool) {
+    let beyond = at(code, b"C300", b"").is_some() || at(code, b"C300", b"f").is_some();
+    (code.classes().len(), count_found(code, classes), beyond)
+}
+
+/// The same of the code of a program.
 fn look_ups(alloc: Global, program: &Program) -> Result<(usize, usize, bool), ReadError> {
     let code = code_of(alloc, program)?;
-    let beyond = at(&code, b"C300", b"").is_some() || at(&code, b"C300", b"f").is_some();
-    let count = count_found(&code, program.classes.as_slice());
-    Ok((code.classes().len(), count, beyond))
+    Ok(counts(&code, program.classes.as_slice()))
 }
 
 /// The same of the program that a text is.
@@ -127,9 +132,15 @@ fn look_ups_in(alloc: Global, text: &[u8]) -> Result<(usize, usize, bool), ReadE
     look_ups(alloc, &program)
 }
 
+/// The same of a program of many classes.
+fn many_look_ups(alloc: Global) -> Result<(usize, usize, bool), ReadError> {
+    let mut text = Seq::new(alloc);
+    add_classes(alloc, &mut text)?;
+    look_ups_in(alloc, text.as_slice())
+}
+
 #[test]
 fn each_of_many_classes_and_methods_is_found(rt: HostRuntime) -> Result<(), Fail> {
-    let text = many_classes(rt.alloc())?;
-    assert!(rt; look_ups_in(rt.alloc(), text.as_slice())? == (300, 300, false));
+    assert!(rt; many_look_ups(rt.alloc())? == (300, 300, false));
     Ok(())
 }

@@ -43,17 +43,17 @@ fn run_text(alloc: Global, text: &str, fuel: u64, record: &mut Record) -> Result
     run(alloc, &program, fuel, record)
 }
 
-/// What the program of a text asks.
-fn asked(alloc: Global, text: &str, fuel: u64) -> Result<Record, ReadError> {
+/// Fails where a program asks other lines than stand beside it.
+fn expect_row(alloc: Global, (shown, text, fuel, wanted): &Row) -> Result<(), Fail> {
     let mut record = Record::make(alloc);
-    run_text(alloc, text, fuel, &mut record)?;
-    Ok(record)
+    run_text(alloc, text, *fuel, &mut record)?;
+    expect(shown, record.lines(), wanted)
 }
 
-/// Fails where a program asks other lines than stand beside it.
+/// Fails where one of these programs asks other lines than stand beside it.
 pub fn expect_asked(alloc: Global, rows: &[Row]) -> Result<(), Fail> {
-    for (shown, text, fuel, wanted) in rows {
-        expect(shown, asked(alloc, text, *fuel)?.lines(), wanted)?;
+    for row in rows {
+        expect_row(alloc, row)?;
     }
     Ok(())
 }

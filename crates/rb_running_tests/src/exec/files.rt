@@ -2,7 +2,7 @@
 
 use crate::exec::shown::add_forest;
 use crate::exec::words::add_payload;
-use crate::told::expect;
+use crate::told::{add_number, expect};
 use rb_code::classes_differ;
 use rb_exec::{Host, run_into};
 use rb_heap::Heap;
@@ -10,6 +10,7 @@ use rb_store::read_service;
 use rb_trees::{Memory, Script, Seq, Service, StoreError, Value, Version, Word};
 use rb_wire_script::{ScriptStop, decode_script};
 use std::alloc::Global;
+use std::slice;
 use std::test::Fail;
 
 /// A script, and what it gives.
@@ -83,12 +84,26 @@ fn add_sizes(alloc: Global, table: &Heap, into: &mut Word) -> Result<(), Memory>
     if small == 10 && large == 200 {
         return Ok(());
     }
-    let sizes = format!(in alloc; "; {small}, {large}")?;
-    into.extend_from_slice(sizes.as_bytes())
+    add_number(alloc, "; ", small, into)?;
+    add_number(alloc, ", ", large, into)
+}
+
+/// Adds the forest that a script gives with these inputs, by its bytes in a version.
+pub fn add_run(
+    alloc: Global,
+    host: &mut Host,
+    script: &Script,
+    inputs: &[Value],
+    version: Version,
+    into: &mut Word,
+) -> Result<(), Memory> {
+    let mut forest = Seq::new(alloc);
+    run_into(alloc, host, script, inputs, version, &mut forest)?;
+    add_forest(alloc, forest.as_slice(), into)
 }
 
 /// Adds the forest that a script gives. The last of its inputs is an object that isn't there.
-fn add_run(
+fn add_decoded(
     alloc: Global,
     host: &mut Host,
     script: &Script,
@@ -97,16 +112,7 @@ fn add_run(
 ) -> Result<(), Memory> {
     inputs.truncate(3);
     inputs.push(Value::Remote(7))?;
-    let mut forest = Seq::new(alloc);
-    run_into(
-        alloc,
-        host,
-        script,
-        inputs.as_slice(),
-        Version::One,
-        &mut forest,
-    )?;
-    add_forest(alloc, forest.as_slice(), into)
+    add_run(alloc, host, script, inputs.as_slice(), Version::One, into)
 }
 
 /// Adds what the script of a payload gives.
@@ -120,20 +126,18 @@ fn add_script(
         return into.extend_from_slice(b"too long");
     }
     match decode_script(alloc, payload) {
-        Ok((_version, script, mut inputs)) => add_run(alloc, host, &script, &mut inputs, into),
+        Ok((_version, script, mut inputs)) => add_decoded(alloc, host, &script, &mut inputs, into),
         Err(ScriptStop::Refused { .. }) => into.extend_from_slice(b"no script"),
         Err(ScriptStop::Memory) => Err(Memory),
     }
 }
 
-/// What a script gives on a host, and the sizes of the files then, where one of them has changed.
-fn given(alloc: Global, host: &mut Host, text: &str) -> Result<Word, Memory> {
+/// Adds what a script gives on a host, and the sizes of the files then, where one of them has changed.
+fn add_given(alloc: Global, host: &mut Host, text: &str, into: &mut Word) -> Result<(), Memory> {
     let mut payload = Seq::new(alloc);
     add_payload(text, &mut payload)?;
-    let mut told = Seq::new(alloc);
-    add_script(alloc, host, payload.as_slice(), &mut told)?;
-    add_sizes(alloc, host.table(), &mut told)?;
-    Ok(told)
+    add_script(alloc, host, payload.as_slice(), into)?;
+    add_sizes(alloc, host.table(), into)
 }
 
 /// Fails where a script gives something else on a host.
@@ -143,7 +147,8 @@ pub fn expect_given(
     script: &str,
     wanted: &str,
 ) -> Result<(), Fail> {
-    let told = given(alloc, host, script)?;
+    let mut told = Seq::new(alloc);
+    add_given(alloc, host, script, &mut told)?;
     expect(script, told.as_slice(), wanted)
 }
 
@@ -161,16 +166,10 @@ pub fn expect_in_turn(alloc: Global, rows: &[Row]) -> Result<(), Fail> {
     expect_rows(alloc, &mut host, rows)
 }
 
-/// Fails where a script gives something else on a host of its own.
-fn expect_alone(alloc: Global, script: &str, wanted: &str) -> Result<(), Fail> {
-    let mut host = host(alloc)?;
-    expect_given(alloc, &mut host, script, wanted)
-}
-
 /// Fails where a script gives something else than stands beside it. Each is run on a host of its own.
 pub fn expect_each(alloc: Global, rows: &[Row]) -> Result<(), Fail> {
-    for (script, wanted) in rows {
-        expect_alone(alloc, script, wanted)?;
+    for row in rows {
+        expect_in_turn(alloc, slice::from_ref(row))?;
     }
     Ok(())
 }

@@ -1,15 +1,76 @@
 // Steps over lists, in scripts that are built here.
 
-use crate::exec::files::host;
-use crate::exec::shown::add_forest;
+use crate::exec::files::{add_run, host};
 use crate::told::expect;
-use rb_exec::run_into;
 use rb_trees::{
-    BinOp, Boxed, Invocation, Memory, Operands, SExpr, Script, Seq, Shared, Step, StepForm, Value,
-    Version,
+    BinOp, Boxed, Invocation, Memory, Operands, SExpr, Script, Seq, Shared, Step, StepForm,
+    StoreError, Value, Version, Word,
 };
 use std::alloc::Global;
 use std::test::Fail;
+
+/// What a step over a list keeps for each item.
+#[derive(Clone, Copy)]
+enum Kept {
+    /// The item.
+    Item,
+    /// The quotient of 6 and the item.
+    Quotient,
+    /// The product of a row and the item, for each row of the service's numbers.
+    Product,
+    /// 1.
+    One,
+}
+
+/// The inputs of a script.
+#[derive(Clone, Copy)]
+enum Inputs {
+    List(&'static [i64]),
+    Int(i64),
+    None,
+}
+
+/// What is shown, what the step keeps, the inputs, and what the script gives.
+type Case = (&'static str, Kept, Inputs, &'static str);
+
+static CASES: [Case; 6] = [
+    (
+        "each item has a turn",
+        Kept::Item,
+        Inputs::List(&[4, 5, 6]),
+        "[(4 )(5 )(6 )] 7 ",
+    ),
+    (
+        "a list without items has no turn",
+        Kept::Item,
+        Inputs::List(&[]),
+        "[] 7 ",
+    ),
+    (
+        "a turn that faults is the last",
+        Kept::Quotient,
+        Inputs::List(&[3, 0, 2]),
+        "[(2 )(!1@1#3)] ",
+    ),
+    (
+        "each row has all items",
+        Kept::Product,
+        Inputs::List(&[10, 20]),
+        "[([(10 )(20 )] )([(20 )(40 )] )([(30 )(60 )] )] 7 ",
+    ),
+    (
+        "what is no list has no turns",
+        Kept::One,
+        Inputs::Int(1),
+        "!12@102#2",
+    ),
+    (
+        "what isn't there has no turns",
+        Kept::One,
+        Inputs::None,
+        "!12@102#2",
+    ),
+];
 
 /// The variable of a list's item.
 const ITEM: u32 = 1;
@@ -72,13 +133,17 @@ fn over(alloc: Global, value: SExpr) -> Result<Step, Memory> {
     Ok(step(2, form))
 }
 
-/// A script of the step and one that keeps 7. Its one input is a list.
+/// Adds the step and one that keeps 7.
+fn add_steps(alloc: Global, first: Step, into: &mut Seq<Step>) -> Result<(), Memory> {
+    into.push(first)?;
+    into.push(step(4, StepForm::Keep(number(alloc, 7)?)))
+}
+
+/// A script of these steps. Its one input is a list.
 fn script_of(alloc: Global, first: Step) -> Result<Script, Memory> {
-    let last = StepForm::Keep(number(alloc, 7)?);
-    let mut body = block(alloc, first)?;
-    body.push(step(4, last))?;
-    let mut lists = Seq::new(alloc);
-    lists.push(0)?;
+    let mut body = Seq::new(alloc);
+    add_steps(alloc, first, &mut body)?;
+    let lists = Seq::from_slice(alloc, &[0])?;
     Ok(Script {
         inputs: 1,
         lists,
@@ -86,79 +151,110 @@ fn script_of(alloc: Global, first: Step) -> Result<Script, Memory> {
     })
 }
 
-/// A list of Ints.
-fn list(alloc: Global, numbers: &[i64]) -> Result<Value, Memory> {
-    let mut items = Seq::new(alloc);
-    for number in numbers {
-        items.push(Value::Int(*number))?;
+/// The value that step 3 keeps.
+fn value_of(alloc: Global, kept: Kept) -> Result<SExpr, Memory> {
+    match kept {
+        Kept::Item => Ok(SExpr::Var(ITEM)),
+        Kept::Quotient => with_item(alloc, BinOp::Div, number(alloc, 6)?),
+        Kept::Product => with_item(alloc, BinOp::Mul, SExpr::Var(ROW)),
+        Kept::One => number(alloc, 1),
     }
-    Ok(Value::List(Shared::new(alloc, items)?))
 }
 
-/// Fails where a script gives something else with these inputs than is wanted, by the bytes of its forest in a version.
-fn expect_forest(
+/// Step 1: for each of the service's numbers, the step.
+fn each(alloc: Global, inner: Step) -> Result<Step, Memory> {
+    let form = StepForm::Each {
+        var: ROW,
+        keep: false,
+        body: block(alloc, inner)?,
+        rows: numbers(alloc)?,
+    };
+    Ok(step(1, form))
+}
+
+/// The first step of a script.
+fn first(alloc: Global, what: Kept) -> Result<Step, Memory> {
+    let over = over(alloc, value_of(alloc, what)?)?;
+    match what {
+        Kept::Product => each(alloc, over),
+        _ => Ok(over),
+    }
+}
+
+/// Adds Ints to a list.
+fn add_ints(numbers: &[i64], into: &mut Seq<Value>) -> Result<(), Memory> {
+    for number in numbers {
+        into.push(Value::Int(*number))?;
+    }
+    Ok(())
+}
+
+/// Adds the inputs of a script.
+fn add_inputs(alloc: Global, inputs: Inputs, into: &mut Seq<Value>) -> Result<(), Memory> {
+    match inputs {
+        Inputs::List(numbers) => {
+            let mut items = Seq::new(alloc);
+            add_ints(numbers, &mut items)?;
+            into.push(Value::List(Shared::new(alloc, items)?))
+        }
+        Inputs::Int(number) => into.push(Value::Int(number)),
+        Inputs::None => Ok(()),
+    }
+}
+
+/// Adds what a script gives on a host of its own, by the bytes of its forest in a version.
+fn add_forest_of(
     alloc: Global,
     script: &Script,
     inputs: &[Value],
     version: Version,
-    wanted: &str,
-) -> Result<(), Fail> {
+    into: &mut Word,
+) -> Result<(), StoreError> {
     let mut host = host(alloc)?;
-    let mut forest = Seq::new(alloc);
-    run_into(alloc, &mut host, script, inputs, version, &mut forest)?;
+    Ok(add_run(alloc, &mut host, script, inputs, version, into)?)
+}
+
+/// Fails where a script gives something else with these inputs than is wanted, in a version.
+fn expect_forest(
+    alloc: Global,
+    (shown, _, _, wanted): &Case,
+    script: &Script,
+    inputs: &[Value],
+    version: Version,
+) -> Result<(), Fail> {
     let mut told = Seq::new(alloc);
-    add_forest(alloc, forest.as_slice(), &mut told)?;
-    expect("a step over a list", told.as_slice(), wanted)
+    add_forest_of(alloc, script, inputs, version, &mut told)?;
+    expect(shown, told.as_slice(), wanted)
 }
 
-/// Fails where the script of a step gives something else with these inputs than is wanted, in either version.
-fn expect_given(alloc: Global, first: Step, inputs: &[Value], wanted: &str) -> Result<(), Fail> {
-    let script = script_of(alloc, first)?;
-    expect_forest(alloc, &script, inputs, Version::One, wanted)?;
-    expect_forest(alloc, &script, inputs, Version::Two, wanted)
+/// Fails where a script gives something else with these inputs than is wanted, in either version.
+fn expect_forests(
+    alloc: Global,
+    case: &Case,
+    script: &Script,
+    inputs: &[Value],
+) -> Result<(), Fail> {
+    expect_forest(alloc, case, script, inputs, Version::One)?;
+    expect_forest(alloc, case, script, inputs, Version::Two)
 }
 
-#[test]
-fn each_item_has_a_turn(rt: HostRuntime) -> Result<(), Fail> {
-    let alloc = rt.alloc();
-    let three = [list(alloc, &[4, 5, 6])?];
-    expect_given(
-        alloc,
-        over(alloc, SExpr::Var(ITEM))?,
-        &three,
-        "[(4 )(5 )(6 )] 7 ",
-    )?;
-    let none = [list(alloc, &[])?];
-    expect_given(alloc, over(alloc, SExpr::Var(ITEM))?, &none, "[] 7 ")
+/// Fails where the script of a case gives something else than is wanted.
+fn expect_case(alloc: Global, case: &Case) -> Result<(), Fail> {
+    let mut inputs = Seq::new(alloc);
+    add_inputs(alloc, case.2, &mut inputs)?;
+    let script = script_of(alloc, first(alloc, case.1)?)?;
+    expect_forests(alloc, case, &script, inputs.as_slice())
 }
 
-#[test]
-fn a_turn_that_faults_is_the_last(rt: HostRuntime) -> Result<(), Fail> {
-    let alloc = rt.alloc();
-    let divisors = [list(alloc, &[3, 0, 2])?];
-    let quotient = with_item(alloc, BinOp::Div, number(alloc, 6)?)?;
-    expect_given(alloc, over(alloc, quotient)?, &divisors, "[(2 )(!1@1#3)] ")
-}
-
-#[test]
-fn each_row_has_all_items(rt: HostRuntime) -> Result<(), Fail> {
-    let alloc = rt.alloc();
-    let factors = [list(alloc, &[10, 20])?];
-    let product = with_item(alloc, BinOp::Mul, SExpr::Var(ROW))?;
-    let form = StepForm::Each {
-        var: ROW,
-        keep: false,
-        rows: numbers(alloc)?,
-        body: block(alloc, over(alloc, product)?)?,
-    };
-    let wanted = "[([(10 )(20 )] )([(20 )(40 )] )([(30 )(60 )] )] 7 ";
-    expect_given(alloc, step(1, form), &factors, wanted)
+/// Fails where one of these scripts gives something else than is wanted.
+fn expect_cases(alloc: Global, cases: &[Case]) -> Result<(), Fail> {
+    for case in cases {
+        expect_case(alloc, case)?;
+    }
+    Ok(())
 }
 
 #[test]
-fn what_is_no_list_has_no_turns(rt: HostRuntime) -> Result<(), Fail> {
-    let alloc = rt.alloc();
-    let single = [Value::Int(1)];
-    expect_given(alloc, over(alloc, number(alloc, 1)?)?, &single, "!12@102#2")?;
-    expect_given(alloc, over(alloc, number(alloc, 1)?)?, &[], "!12@102#2")
+fn a_step_over_a_list_has_a_turn_for_each_item(rt: HostRuntime) -> Result<(), Fail> {
+    expect_cases(rt.alloc(), &CASES)
 }

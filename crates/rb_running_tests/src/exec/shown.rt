@@ -3,16 +3,14 @@
 // Entries have a space behind. A branch is `yes(..)` or `no(..)`, rows are `[(..)(..)]`, and a fault is `Big!8@3#2`: its text,
 // its code, its position and its step.
 
+use crate::told::add_number;
 use rb_trees::{Entry, Memory, Node, NodeFault, Value, Word};
 use rb_wire_forest::{ForestStop, decode_forest};
 use std::alloc::Global;
 
 fn add_value(alloc: Global, value: &Value, into: &mut Word) -> Result<(), Memory> {
     match value {
-        Value::Int(number) => {
-            let text = format!(in alloc; "{number}")?;
-            into.extend_from_slice(text.as_bytes())
-        }
+        Value::Int(number) => add_number(alloc, "", *number, into),
         Value::Bool(true) => into.push(b't'),
         Value::Bool(false) => into.push(b'f'),
         Value::Text(text) => into.extend_from_slice(text.get().as_slice()),
@@ -21,10 +19,10 @@ fn add_value(alloc: Global, value: &Value, into: &mut Word) -> Result<(), Memory
 }
 
 fn add_fault(alloc: Global, fault: &NodeFault, into: &mut Word) -> Result<(), Memory> {
-    let (code, at, step) = (fault.fault.code, fault.at, fault.step);
     into.extend_from_slice(fault.fault.text.as_slice())?;
-    let text = format!(in alloc; "!{code}@{at}#{step}")?;
-    into.extend_from_slice(text.as_bytes())
+    add_number(alloc, "!", i64::from(fault.fault.code), into)?;
+    add_number(alloc, "@", i64::from(fault.at), into)?;
+    add_number(alloc, "#", i64::from(fault.step), into)
 }
 
 /// Adds the text of a node.

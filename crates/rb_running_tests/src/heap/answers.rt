@@ -1,5 +1,6 @@
 // What a heap answers.
 
+use crate::told::add_number;
 use rb_heap::{AddStop, Heap, SetStop};
 use rb_store::print_table;
 use rb_trees::{Memory, Object, Seq, Value, Word};
@@ -10,15 +11,10 @@ fn number_of(digit: u8) -> u32 {
     u32::from(digit % 16)
 }
 
-fn add_number(alloc: Global, number: i64, into: &mut Word) -> Result<(), Memory> {
-    let text = format!(in alloc; "{number}")?;
-    into.extend_from_slice(text.as_bytes())
-}
-
 /// Adds a value, or a line where there is none.
 fn add_value(alloc: Global, value: Option<&Value>, into: &mut Word) -> Result<(), Memory> {
     match value {
-        Some(Value::Int(number)) => add_number(alloc, *number, into),
+        Some(Value::Int(number)) => add_number(alloc, "", *number, into),
         Some(_) => into.push(b'?'),
         None => into.push(b'-'),
     }
@@ -66,7 +62,7 @@ pub fn add_object(
 /// Tells of an object's number, or of the object that is handed back by a full heap, by its class.
 fn tell_added(alloc: Global, added: Result<u32, AddStop>, into: &mut Word) -> Result<(), Memory> {
     match added {
-        Ok(number) => add_number(alloc, i64::from(number), into),
+        Ok(number) => add_number(alloc, "", i64::from(number), into),
         Err(AddStop::Full(object)) => into.extend_from_slice(object.class.as_slice()),
         Err(AddStop::Memory) => Err(Memory),
     }
@@ -119,7 +115,7 @@ fn add_answer(
         }
         [b':', object] => add_class(heap.class_of(number_of(*object)), into),
         [b'?', object] => add_class(class_seen(heap, number_of(*object)), into),
-        [b'#'] => add_number(alloc, i64::from(heap.len()), into),
+        [b'#'] => add_number(alloc, "", i64::from(heap.len()), into),
         _ => add_table(alloc, heap, into),
     }
 }

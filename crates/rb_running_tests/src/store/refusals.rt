@@ -1,7 +1,6 @@
 // Texts that are no services: each refusal, and which of two comes first.
 
-use crate::store::texts::{library, told};
-use crate::told::expect;
+use crate::store::texts::{CLASSES, expect_each};
 use std::test::Fail;
 
 /// Whole texts that aren't read, or whose classes aren't typed. What is wrong with the objects counts for nothing there.
@@ -129,20 +128,10 @@ static OBJECTS: [(&str, &str); 21] = [
 
 #[test]
 fn what_is_wrong_with_a_text_or_its_classes_comes_first(rt: HostRuntime) -> Result<(), Fail> {
-    for (source, wanted) in &TEXTS {
-        expect(
-            source,
-            told(rt.alloc(), source.as_bytes())?.as_slice(),
-            wanted,
-        )?;
-    }
-    Ok(())
+    expect_each(rt.alloc(), "", &TEXTS)
 }
 
 #[test]
 fn the_first_refusal_of_the_objects_is_told(rt: HostRuntime) -> Result<(), Fail> {
-    for (objects, wanted) in &OBJECTS {
-        expect(objects, library(rt.alloc(), objects)?.as_slice(), wanted)?;
-    }
-    Ok(())
+    expect_each(rt.alloc(), CLASSES, &OBJECTS)
 }

@@ -1,7 +1,6 @@
 // Texts that are services, and their tables as they are printed.
 
-use crate::store::texts::{behind_classes, library};
-use crate::told::expect;
+use crate::store::texts::{CLASSES, behind, expect_each};
 use rb_store::read_service;
 use rb_trees::StoreError;
 use std::alloc::Global;
@@ -56,22 +55,19 @@ object 1: Shelf { books = [#0, #0]; best = #0; }\n",
 
 #[test]
 fn each_object_stands_in_the_table_as_it_is_written(rt: HostRuntime) -> Result<(), Fail> {
-    for (objects, wanted) in &TABLES {
-        expect(objects, library(rt.alloc(), objects)?.as_slice(), wanted)?;
-    }
-    Ok(())
+    expect_each(rt.alloc(), CLASSES, &TABLES)
 }
 
-/// How many classes and objects a text has, and its root.
-fn counted(alloc: Global, source: &[u8]) -> Result<(usize, u32, u32), StoreError> {
-    let (service, table) = read_service(alloc, source)?;
+/// How many classes and objects a text behind the classes of the library has, and its root.
+fn counted(alloc: Global, objects: &str) -> Result<(usize, u32, u32), StoreError> {
+    let source = behind(alloc, CLASSES, objects)?;
+    let (service, table) = read_service(alloc, source.as_slice())?;
     Ok((service.classes.len(), table.len(), service.root))
 }
 
 #[test]
 fn a_service_has_the_classes_and_the_root_of_its_text(rt: HostRuntime) -> Result<(), Fail> {
     let objects = "object 0: Plan { rows = []; } object 1: Plan { rows = []; } root 1;";
-    let source = behind_classes(rt.alloc(), objects)?;
-    assert!(rt; counted(rt.alloc(), source.as_slice())? == (3, 2, 1));
+    assert!(rt; counted(rt.alloc(), objects)? == (3, 2, 1));
     Ok(())
 }

@@ -1,11 +1,13 @@
 // How texts are read in the tests.
 
+use crate::told::expect;
 use rb_store::{print_table, read_service};
 use rb_trees::{Memory, Seq, StoreError, Word};
 use std::alloc::Global;
+use std::test::Fail;
 
 /// The classes of a library: its books, a shelf of them, and a plan of numbers.
-static CLASSES: &str =
+pub static CLASSES: &str =
     "class Book { title: Text; pages: Int; lent: Bool; fun title(): Text { return this.title; } } \
 class Shelf { books: List<Book>; best: Book; } \
 class Plan { rows: List<List<Int>>; } ";
@@ -24,15 +26,27 @@ pub fn told(alloc: Global, source: &[u8]) -> Result<Word, Memory> {
     }
 }
 
-/// A text of objects and a root behind the classes of the library.
-pub fn behind_classes(alloc: Global, objects: &str) -> Result<Word, Memory> {
-    let mut source = Seq::from_slice(alloc, CLASSES.as_bytes())?;
+/// A text of objects and a root behind classes.
+pub fn behind(alloc: Global, classes: &str, objects: &str) -> Result<Word, Memory> {
+    let mut source = Seq::from_slice(alloc, classes.as_bytes())?;
     source.extend_from_slice(objects.as_bytes())?;
     Ok(source)
 }
 
-/// The same of objects and a root behind the classes of the library.
-pub fn library(alloc: Global, objects: &str) -> Result<Word, Memory> {
-    let source = behind_classes(alloc, objects)?;
+/// What is told of objects and a root behind classes.
+fn told_behind(alloc: Global, classes: &str, objects: &str) -> Result<Word, Memory> {
+    let source = behind(alloc, classes, objects)?;
     told(alloc, source.as_slice())
+}
+
+/// Fails where something else is told of objects and a root behind these classes than stands beside them.
+pub fn expect_each(alloc: Global, classes: &str, rows: &[(&str, &str)]) -> Result<(), Fail> {
+    for (objects, wanted) in rows {
+        expect(
+            objects,
+            told_behind(alloc, classes, objects)?.as_slice(),
+            wanted,
+        )?;
+    }
+    Ok(())
 }
