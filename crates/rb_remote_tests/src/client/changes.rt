@@ -1,7 +1,11 @@
 // Lists of changes, written as rows or made by chance.
 
 ghost use Rattle.std.specs.Prelude.{◌<◌};
+ghost use Rattle.rb_session.specs.Answering.{IsTypedHost};
 
+use rb_changes::are_bounded;
+use rb_exec::Host;
+use rb_session::MeddledLink;
 use rb_trees::{Change, Seq, Shared, Value};
 use std::alloc::Global;
 use std::test::Fail;
@@ -53,6 +57,20 @@ pub fn lists_of(alloc: Global, rows: &[&[Row<'_>]]) -> Result<Seq<Seq<Change>>, 
         lists.push(list_of(alloc, list)?)?;
     }
     Ok(lists)
+}
+
+/// A link to a host, at which others make these changes.
+pub fn meddled_link(
+    alloc: Global,
+    host: Host,
+    others: Seq<Seq<Change>>,
+) -> Result<MeddledLink, Fail>
+    requires { IsTypedHost host }
+{
+    if are_bounded(others.as_slice()) {
+        return Ok(MeddledLink::make(alloc, host, others));
+    }
+    Err(Fail::new("a value is too long"))
 }
 
 /// Numbers by chance, from a seed.

@@ -1,13 +1,13 @@
 // Runs over a link at whose server others change the table between two batches, beside the unsplit run with the same changes.
 
-use crate::client::changes::{Given, Row, lists_by_chance, lists_of};
+use crate::client::answers::same_answer;
+use crate::client::changes::{Given, Row, lists_by_chance, lists_of, meddled_link};
 use crate::client::hosts::{files, files_host};
-use crate::client::runs::{ran, ran_unsplit, same_answer};
-use rb_changes::are_bounded;
+use crate::client::runs::{Unsplit, ran, ran_over};
 use rb_heap::Heap;
 use rb_session::MeddledLink;
 use rb_store::print_table;
-use rb_trees::{Change, Seq};
+use rb_trees::{Change, Seq, Service};
 use std::alloc::Global;
 use std::test::Fail;
 
@@ -18,21 +18,39 @@ fn with_table(alloc: Global, answer: &str, table: &Heap) -> Result<String, Fail>
     Ok(format!(in alloc; "{answer}{lines}")?)
 }
 
-/// What `main` answers over a link at whose server others make these changes, and the table then.
-fn meddled(alloc: Global, main: &str, others: Seq<Seq<Change>>) -> Result<String, Fail> {
-    if !are_bounded(others.as_slice()) {
-        return Err(Fail::new("a value is too long"));
-    }
-    let mut link = MeddledLink::make(alloc, files_host(alloc)?, others);
-    let answer = ran(alloc, main, 1000, &[], &mut link)?;
+/// What `main` answers over a link at whose server others change the table, and the table then.
+fn over_link(alloc: Global, main: &str, link: &mut MeddledLink) -> Result<String, Fail> {
+    let answer = ran_over(alloc, main, link)?;
     with_table(alloc, answer.as_str(), link.host().table())
 }
 
-/// What the unsplit run of `main` answers where others make these changes, and the table then.
+/// What `main` answers over a link at whose server others make these changes, and the table then.
+fn meddled(alloc: Global, main: &str, others: Seq<Seq<Change>>) -> Result<String, Fail> {
+    let mut link = meddled_link(alloc, files_host(alloc)?, others)?;
+    over_link(alloc, main, &mut link)
+}
+
+/// What the unsplit run of `main` answers on a service where others make these changes, and the table then.
+fn on_service(
+    alloc: Global,
+    main: &str,
+    service: &Service,
+    table: &mut Heap,
+    others: &Seq<Seq<Change>>,
+) -> Result<String, Fail> {
+    let mut way = Unsplit {
+        service,
+        table: &mut *table,
+        others,
+    };
+    let answer = ran(alloc, main, &mut way)?;
+    with_table(alloc, answer.as_str(), table)
+}
+
+/// The same on the service of two files.
 fn unsplit(alloc: Global, main: &str, others: &Seq<Seq<Change>>) -> Result<String, Fail> {
     let (service, mut table) = files(alloc)?;
-    let answer = ran_unsplit(alloc, main, &service, &mut table, others)?;
-    with_table(alloc, answer.as_str(), &table)
+    on_service(alloc, main, &service, &mut table, others)
 }
 
 /// Fails where the two answer otherwise. The lists are made twice, since the link takes its own.
@@ -46,13 +64,6 @@ fn expect_alike(
     let whole = unsplit(alloc, main, second)?;
     same_answer(&main, apart.as_str(), whole.as_str())?;
     Ok(apart)
-}
-
-/// Fails where `main` answers otherwise where others make these changes, by either way.
-fn expect_meddled(alloc: Global, main: &str, lists: &[&[Row<'_>]], want: &str) -> Result<(), Fail> {
-    let others = lists_of(alloc, lists)?;
-    let answer = expect_alike(alloc, main, others, &lists_of(alloc, lists)?)?;
-    same_answer(&main, answer.as_str(), want)
 }
 
 /// A batch that prints a size, twice.
@@ -71,70 +82,99 @@ const MENDED: &str =
 const FAULTS: &str =
     "main { try { batch (Dir r) { r.file(0).grow(1); var z = 0; print(1 / z); } } catch (e) { print(e); } batch (Dir r) { r.file(0).grow(1); print(r.file(0).size()); } }";
 
-/// What a run answers, and behind it the table of two files of which the first has this name and size.
-fn with_files(alloc: Global, answer: &str, name: &str, size: u64) -> Result<String, Fail> {
+/// A program, the changes that others make before each batch, what it answers, and the table then, of two files of which the first
+/// has this name and size.
+struct Case {
+    main: &'static str,
+    lists: &'static [&'static [Row<'static>]],
+    answer: &'static str,
+    name: &'static str,
+    size: u64,
+}
+
+const CASES: &[Case] = &[
+    // Each batch begins on the table that it finds.
+    Case {
+        main: TWICE,
+        lists: &[&[], &[(1, "size", Given::Int(50))]],
+        answer: "ok 2 done\n10\n50\n",
+        name: "a",
+        size: 50,
+    },
+    // What others do first is found twice.
+    Case {
+        main: TWICE,
+        lists: &[&[(1, "size", Given::Int(-1)), (1, "size", Given::Int(7))]],
+        answer: "ok 2 done\n7\n7\n",
+        name: "a",
+        size: 7,
+    },
+    // A change that doesn't suit is skipped.
+    Case {
+        main: TWICE,
+        lists: &[
+            &[(9, "size", Given::Int(1))],
+            &[
+                (1, "date", Given::Int(1)),
+                (0, "list", Given::Int(1)),
+                (1, "name", Given::Bool(true)),
+                (1, "size", Given::Text("x")),
+            ],
+        ],
+        answer: "ok 2 done\n10\n10\n",
+        name: "a",
+        size: 10,
+    },
+    // An update over two batches may be lost, and one in one batch is not.
+    Case {
+        main: LOST,
+        lists: &[&[], &[(1, "name", Given::Text("b"))]],
+        answer: "ok 2 done\n",
+        name: "a!",
+        size: 10,
+    },
+    Case {
+        main: MENDED,
+        lists: &[&[], &[(1, "name", Given::Text("b"))]],
+        answer: "ok 2 done\n1\n",
+        name: "b!",
+        size: 10,
+    },
+    // A local fault leaves the remote part of what was found.
+    Case {
+        main: FAULTS,
+        lists: &[
+            &[(1, "size", Given::Int(3))],
+            &[(1, "size", Given::Int(30))],
+        ],
+        answer: "ok 2 done\nDivZero\n31\n",
+        name: "a",
+        size: 31,
+    },
+];
+
+/// What a case answers, and behind it its table.
+fn wanted(alloc: Global, case: &Case) -> Result<String, Fail> {
+    let (answer, name, size) = (case.answer, case.name, case.size);
     Ok(format!(in alloc;
         "{answer}object 0: Dir {{ list = [#1, #2]; }}\nobject 1: File {{ name = \"{name}\"; size = {size}; }}\nobject 2: File {{ name = \"bb\"; size = 200; }}\n"
     )?)
 }
 
+/// What a case answers, alike by either way.
+fn answered(alloc: Global, case: &Case) -> Result<String, Fail> {
+    let others = lists_of(alloc, case.lists)?;
+    expect_alike(alloc, case.main, others, &lists_of(alloc, case.lists)?)
+}
+
 #[test]
 fn each_batch_begins_on_the_table_that_it_finds(rt: HostRuntime) -> Result<(), Fail> {
     let alloc = rt.alloc();
-    let want = with_files(alloc, "ok 2 done\n10\n50\n", "a", 50)?;
-    let lists: &[&[Row<'_>]] = &[&[], &[(1, "size", Given::Int(50))]];
-    expect_meddled(alloc, TWICE, lists, want.as_str())
-}
-
-#[test]
-fn what_others_do_first_is_found_twice(rt: HostRuntime) -> Result<(), Fail> {
-    let alloc = rt.alloc();
-    let want = with_files(alloc, "ok 2 done\n7\n7\n", "a", 7)?;
-    let lists: &[&[Row<'_>]] = &[&[(1, "size", Given::Int(-1)), (1, "size", Given::Int(7))]];
-    expect_meddled(alloc, TWICE, lists, want.as_str())
-}
-
-#[test]
-fn a_change_that_does_not_suit_is_skipped(rt: HostRuntime) -> Result<(), Fail> {
-    let alloc = rt.alloc();
-    let want = with_files(alloc, "ok 2 done\n10\n10\n", "a", 10)?;
-    let lists: &[&[Row<'_>]] = &[
-        &[(9, "size", Given::Int(1))],
-        &[
-            (1, "date", Given::Int(1)),
-            (0, "list", Given::Int(1)),
-            (1, "name", Given::Bool(true)),
-            (1, "size", Given::Text("x")),
-        ],
-    ];
-    expect_meddled(alloc, TWICE, lists, want.as_str())
-}
-
-#[test]
-fn an_update_over_two_batches_may_be_lost(rt: HostRuntime) -> Result<(), Fail> {
-    let alloc = rt.alloc();
-    let want = with_files(alloc, "ok 2 done\n", "a!", 10)?;
-    let lists: &[&[Row<'_>]] = &[&[], &[(1, "name", Given::Text("b"))]];
-    expect_meddled(alloc, LOST, lists, want.as_str())
-}
-
-#[test]
-fn an_update_in_one_batch_is_not_lost(rt: HostRuntime) -> Result<(), Fail> {
-    let alloc = rt.alloc();
-    let want = with_files(alloc, "ok 2 done\n1\n", "b!", 10)?;
-    let lists: &[&[Row<'_>]] = &[&[], &[(1, "name", Given::Text("b"))]];
-    expect_meddled(alloc, MENDED, lists, want.as_str())
-}
-
-#[test]
-fn a_local_fault_leaves_the_remote_part_of_what_was_found(rt: HostRuntime) -> Result<(), Fail> {
-    let alloc = rt.alloc();
-    let want = with_files(alloc, "ok 2 done\nDivZero\n31\n", "a", 31)?;
-    let lists: &[&[Row<'_>]] = &[
-        &[(1, "size", Given::Int(3))],
-        &[(1, "size", Given::Int(30))],
-    ];
-    expect_meddled(alloc, FAULTS, lists, want.as_str())
+    for case in CASES {
+        let answer = answered(alloc, case)?;
+        same_answer(&case.main, answer.as_str(), wanted(alloc, case)?.as_str())?;
+    }
+    Ok(())
 }
 
 /// Batches that read, grow, rename and fault by what they find.

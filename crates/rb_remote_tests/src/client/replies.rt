@@ -1,6 +1,7 @@
 // What a run of two texts answers to each reply.
 
-use crate::client::runs::{Row, expect_forests, expect_replies, replied_forest, same_answer};
+use crate::client::answers::same_answer;
+use crate::client::runs::{Row, expect_forests, expect_replies, replied_forest};
 use std::alloc::Global;
 use std::test::Fail;
 
