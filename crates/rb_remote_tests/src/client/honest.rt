@@ -1,11 +1,10 @@
 // Runs over links to a server, and to outputs of which a write fails.
 
 use crate::client::answers::same_answer;
-use crate::client::hosts::files_host;
+use crate::client::hosts::{FILES, failing_link, host_of};
 use crate::client::runs::{Over, ran};
 use rb_base::Link;
-use rb_session::{FailingLink, MemoryLink};
-use rb_trees::Seq;
+use rb_session::MemoryLink;
 use std::alloc::Global;
 use std::test::Fail;
 
@@ -21,33 +20,20 @@ struct Row<'a> {
 }
 
 /// What a row's text answers over a link.
-fn over<L: Link>(alloc: Global, row: &Row<'_>, link: &mut L) -> Result<String, Fail> {
+fn over<L: Link + Drop>(alloc: Global, row: &Row<'_>, mut link: L) -> Result<String, Fail> {
     let mut way = Over {
-        link,
+        link: &mut link,
         fuel: row.fuel,
         failing: row.writes,
     };
     ran(alloc, row.main, &mut way)
 }
 
-/// What it answers over a link of which these exchanges fail.
-fn over_faults(alloc: Global, row: &Row<'_>, exchanges: &[u64]) -> Result<String, Fail> {
-    let failing = Seq::from_slice(alloc, exchanges)?;
-    let mut link = FailingLink::make(alloc, files_host(alloc)?, failing)?;
-    over(alloc, row, &mut link)
-}
-
-/// What it answers over a link that never fails.
-fn over_link(alloc: Global, row: &Row<'_>) -> Result<String, Fail> {
-    let mut link = MemoryLink::make(alloc, files_host(alloc)?)?;
-    over(alloc, row, &mut link)
-}
-
 /// What a row's text answers.
 fn answered(alloc: Global, row: &Row<'_>) -> Result<String, Fail> {
     match row.exchanges {
-        Some(exchanges) => over_faults(alloc, row, exchanges),
-        None => over_link(alloc, row),
+        Some(exchanges) => over(alloc, row, failing_link(alloc, FILES, exchanges)?),
+        None => over(alloc, row, MemoryLink::make(alloc, host_of(alloc, FILES)?)?),
     }
 }
 
@@ -71,7 +57,14 @@ const TWO: Row<'static> = Row {
     want: "",
 };
 
-const FAULTS: &[Row<'static>] = &[
+/// A batch with a loop of its own, which needs two units.
+const LOOP: &str =
+    "main { print(1); batch (Dir r) { var i = 0; while (i < 2) { print(i); i = i + 1; } print(r.file(0).size()); } print(3); }";
+
+const COUNTED: Row<'static> = Row { main: LOOP, ..TWO };
+
+const ROWS: &[Row<'static>] = &[
+    // An exchange that is listed fails behind the lines before it.
     Row {
         exchanges: Some(&[]),
         want: "ok 2 done\na\nbb\n5\n10\n",
@@ -92,16 +85,7 @@ const FAULTS: &[Row<'static>] = &[
         want: "ok 2 done\na\nbb\n5\n10\n",
         ..TWO
     },
-];
-
-#[test]
-fn an_exchange_that_is_listed_fails_behind_the_lines_before_it(
-    rt: HostRuntime,
-) -> Result<(), Fail> {
-    expect_rows(rt.alloc(), FAULTS)
-}
-
-const WRITE_FAULTS: &[Row<'static>] = &[
+    // A write that fails ends the run.
     Row {
         writes: &[1],
         want: "write fault\n",
@@ -127,20 +111,7 @@ const WRITE_FAULTS: &[Row<'static>] = &[
         want: "ok 2 done\na\nbb\n5\n10\n",
         ..TWO
     },
-];
-
-#[test]
-fn a_write_that_fails_ends_the_run(rt: HostRuntime) -> Result<(), Fail> {
-    expect_rows(rt.alloc(), WRITE_FAULTS)
-}
-
-/// A batch with a loop of its own, which needs two units.
-const LOOP: &str =
-    "main { print(1); batch (Dir r) { var i = 0; while (i < 2) { print(i); i = i + 1; } print(r.file(0).size()); } print(3); }";
-
-const COUNTED: Row<'static> = Row { main: LOOP, ..TWO };
-
-const FUEL: &[Row<'static>] = &[
+    // A loop of the client takes fuel.
     Row {
         fuel: 0,
         want: "ok 1 fault 7 at 3:45\n1\n",
@@ -164,6 +135,6 @@ const FUEL: &[Row<'static>] = &[
 ];
 
 #[test]
-fn a_loop_of_the_client_takes_fuel(rt: HostRuntime) -> Result<(), Fail> {
-    expect_rows(rt.alloc(), FUEL)
+fn runs_end_where_their_links_outputs_and_fuel_do(rt: HostRuntime) -> Result<(), Fail> {
+    expect_rows(rt.alloc(), ROWS)
 }

@@ -1,6 +1,6 @@
 // Hosts that are read from texts.
 
-ghost use Rattle.std.specs.Prelude.{IfOk, OnOk, map};
+ghost use Rattle.std.specs.Prelude.{◌≡◌, IfOk, OnOk, map};
 ghost use Rattle.rb_trees.specs.mirror.Declarations.{mirror_class};
 ghost use Rattle.rb_trees.specs.mirror.Services.{mirror_service};
 ghost use Rattle.rb_code.specs.Differ.{ClassesDiffer};
@@ -10,13 +10,14 @@ ghost use Rattle.rb_session.specs.Answering.{IsTypedHost};
 use rb_code::{Code, classes_differ};
 use rb_exec::Host;
 use rb_heap::Heap;
+use rb_session::FailingLink;
 use rb_store::read_service;
-use rb_trees::Service;
+use rb_trees::{Seq, Service};
 use std::alloc::Global;
 use std::test::Fail;
 
 /// A directory of two files.
-const FILES: &str =
+pub const FILES: &str =
     "class File { name: Text; size: Int; fun name(): Text { return this.name; } fun size(): Int { return this.size; } fun grow(by: Int) { this.size = this.size + by; } fun check(max: Int) { if (this.size > max) { throw \"Big\"; } } fun rename(to: Text) { this.name = to; } }
 class Dir { list: List<File>; fun files(): List<File> { return this.list; } fun file(i: Int): File { return this.list[i]; } fun burn(n: Int) { var i = 0; while (i < n) { i = i + 1; } } fun sizes(): List<Int> { return List<Int>(10, 200); } }
 object 0: Dir { list = [#1, #2]; }
@@ -56,9 +57,10 @@ pub fn host_of(alloc: Global, text: &str) -> Result<Host, Fail>
     Ok(Host::make(alloc, service, table)?)
 }
 
-/// The host of that directory.
-pub fn files_host(alloc: Global) -> Result<Host, Fail>
-    ensures { IfOk result IsTypedHost }
+/// A link to a server of a service's text, of which the exchanges of these numbers fail.
+pub fn failing_link(alloc: Global, text: &str, exchanges: &[u64]) -> Result<FailingLink, Fail>
+    ensures { IfOk result (λ link. link.faults ≡ 0) }
 {
-    host_of(alloc, FILES)
+    let failing = Seq::from_slice(alloc, exchanges)?;
+    Ok(FailingLink::make(alloc, host_of(alloc, text)?, failing)?)
 }

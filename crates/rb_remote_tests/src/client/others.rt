@@ -2,7 +2,7 @@
 
 use crate::client::answers::same_answer;
 use crate::client::changes::{Given, Row, lists_by_chance, lists_of, meddled_link};
-use crate::client::hosts::{files, files_host};
+use crate::client::hosts::{FILES, files};
 use crate::client::runs::{Unsplit, ran, ran_over};
 use rb_heap::Heap;
 use rb_session::MeddledLink;
@@ -26,7 +26,7 @@ fn over_link(alloc: Global, main: &str, link: &mut MeddledLink) -> Result<String
 
 /// What `main` answers over a link at whose server others make these changes, and the table then.
 fn meddled(alloc: Global, main: &str, others: Seq<Seq<Change>>) -> Result<String, Fail> {
-    let mut link = meddled_link(alloc, files_host(alloc)?, others)?;
+    let mut link = meddled_link(alloc, FILES, others)?;
     over_link(alloc, main, &mut link)
 }
 
@@ -53,17 +53,12 @@ fn unsplit(alloc: Global, main: &str, others: &Seq<Seq<Change>>) -> Result<Strin
     on_service(alloc, main, &service, &mut table, others)
 }
 
-/// Fails where the two answer otherwise. The lists are made twice, since the link takes its own.
-fn expect_alike(
-    alloc: Global,
-    main: &str,
-    first: Seq<Seq<Change>>,
-    second: &Seq<Seq<Change>>,
-) -> Result<String, Fail> {
-    let apart = meddled(alloc, main, first)?;
-    let whole = unsplit(alloc, main, second)?;
+/// What the two answer where others make these changes. Fails where one answers otherwise than the other.
+fn alike(alloc: Global, main: &str, others: Seq<Seq<Change>>) -> Result<String, Fail> {
+    let whole = unsplit(alloc, main, &others)?;
+    let apart = meddled(alloc, main, others)?;
     same_answer(&main, apart.as_str(), whole.as_str())?;
-    Ok(apart)
+    Ok(whole)
 }
 
 /// A batch that prints a size, twice.
@@ -82,37 +77,26 @@ const MENDED: &str =
 const FAULTS: &str =
     "main { try { batch (Dir r) { r.file(0).grow(1); var z = 0; print(1 / z); } } catch (e) { print(e); } batch (Dir r) { r.file(0).grow(1); print(r.file(0).size()); } }";
 
-/// A program, the changes that others make before each batch, what it answers, and the table then, of two files of which the first
-/// has this name and size.
-struct Case {
-    main: &'static str,
-    lists: &'static [&'static [Row<'static>]],
-    answer: &'static str,
-    name: &'static str,
-    size: u64,
-}
+/// A program, the changes that others make before each batch, and what it answers, with the table then.
+type Case<'a> = (&'a str, &'a [&'a [Row<'a>]], &'a str);
 
-const CASES: &[Case] = &[
+const CASES: &[Case<'static>] = &[
     // Each batch begins on the table that it finds.
-    Case {
-        main: TWICE,
-        lists: &[&[], &[(1, "size", Given::Int(50))]],
-        answer: "ok 2 done\n10\n50\n",
-        name: "a",
-        size: 50,
-    },
+    (
+        TWICE,
+        &[&[], &[(1, "size", Given::Int(50))]],
+        "ok 2 done\n10\n50\nobject 0: Dir { list = [#1, #2]; }\nobject 1: File { name = \"a\"; size = 50; }\nobject 2: File { name = \"bb\"; size = 200; }\n",
+    ),
     // What others do first is found twice.
-    Case {
-        main: TWICE,
-        lists: &[&[(1, "size", Given::Int(-1)), (1, "size", Given::Int(7))]],
-        answer: "ok 2 done\n7\n7\n",
-        name: "a",
-        size: 7,
-    },
+    (
+        TWICE,
+        &[&[(1, "size", Given::Int(-1)), (1, "size", Given::Int(7))]],
+        "ok 2 done\n7\n7\nobject 0: Dir { list = [#1, #2]; }\nobject 1: File { name = \"a\"; size = 7; }\nobject 2: File { name = \"bb\"; size = 200; }\n",
+    ),
     // A change that doesn't suit is skipped.
-    Case {
-        main: TWICE,
-        lists: &[
+    (
+        TWICE,
+        &[
             &[(9, "size", Given::Int(1))],
             &[
                 (1, "date", Given::Int(1)),
@@ -121,58 +105,36 @@ const CASES: &[Case] = &[
                 (1, "size", Given::Text("x")),
             ],
         ],
-        answer: "ok 2 done\n10\n10\n",
-        name: "a",
-        size: 10,
-    },
+        "ok 2 done\n10\n10\nobject 0: Dir { list = [#1, #2]; }\nobject 1: File { name = \"a\"; size = 10; }\nobject 2: File { name = \"bb\"; size = 200; }\n",
+    ),
     // An update over two batches may be lost, and one in one batch is not.
-    Case {
-        main: LOST,
-        lists: &[&[], &[(1, "name", Given::Text("b"))]],
-        answer: "ok 2 done\n",
-        name: "a!",
-        size: 10,
-    },
-    Case {
-        main: MENDED,
-        lists: &[&[], &[(1, "name", Given::Text("b"))]],
-        answer: "ok 2 done\n1\n",
-        name: "b!",
-        size: 10,
-    },
+    (
+        LOST,
+        &[&[], &[(1, "name", Given::Text("b"))]],
+        "ok 2 done\nobject 0: Dir { list = [#1, #2]; }\nobject 1: File { name = \"a!\"; size = 10; }\nobject 2: File { name = \"bb\"; size = 200; }\n",
+    ),
+    (
+        MENDED,
+        &[&[], &[(1, "name", Given::Text("b"))]],
+        "ok 2 done\n1\nobject 0: Dir { list = [#1, #2]; }\nobject 1: File { name = \"b!\"; size = 10; }\nobject 2: File { name = \"bb\"; size = 200; }\n",
+    ),
     // A local fault leaves the remote part of what was found.
-    Case {
-        main: FAULTS,
-        lists: &[
+    (
+        FAULTS,
+        &[
             &[(1, "size", Given::Int(3))],
             &[(1, "size", Given::Int(30))],
         ],
-        answer: "ok 2 done\nDivZero\n31\n",
-        name: "a",
-        size: 31,
-    },
+        "ok 2 done\nDivZero\n31\nobject 0: Dir { list = [#1, #2]; }\nobject 1: File { name = \"a\"; size = 31; }\nobject 2: File { name = \"bb\"; size = 200; }\n",
+    ),
 ];
-
-/// What a case answers, and behind it its table.
-fn wanted(alloc: Global, case: &Case) -> Result<String, Fail> {
-    let (answer, name, size) = (case.answer, case.name, case.size);
-    Ok(format!(in alloc;
-        "{answer}object 0: Dir {{ list = [#1, #2]; }}\nobject 1: File {{ name = \"{name}\"; size = {size}; }}\nobject 2: File {{ name = \"bb\"; size = 200; }}\n"
-    )?)
-}
-
-/// What a case answers, alike by either way.
-fn answered(alloc: Global, case: &Case) -> Result<String, Fail> {
-    let others = lists_of(alloc, case.lists)?;
-    expect_alike(alloc, case.main, others, &lists_of(alloc, case.lists)?)
-}
 
 #[test]
 fn each_batch_begins_on_the_table_that_it_finds(rt: HostRuntime) -> Result<(), Fail> {
     let alloc = rt.alloc();
-    for case in CASES {
-        let answer = answered(alloc, case)?;
-        same_answer(&case.main, answer.as_str(), wanted(alloc, case)?.as_str())?;
+    for (main, lists, want) in CASES {
+        let answer = alike(alloc, main, lists_of(alloc, lists)?)?;
+        same_answer(main, answer.as_str(), want)?;
     }
     Ok(())
 }
@@ -184,8 +146,7 @@ const BUSY: &str =
 /// Fails at the first of so many seeds whose changes the two answer otherwise.
 fn expect_alike_by_chance(alloc: Global, count: u64) -> Result<(), Fail> {
     for seed in 0..count {
-        let others = lists_by_chance(alloc, seed, 5)?;
-        let _answer = expect_alike(alloc, BUSY, others, &lists_by_chance(alloc, seed, 5)?)?;
+        let _answer = alike(alloc, BUSY, lists_by_chance(alloc, seed, 5)?)?;
     }
     Ok(())
 }

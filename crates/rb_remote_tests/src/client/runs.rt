@@ -1,9 +1,11 @@
 // Runs of programs over links and unsplit, each with its answer as a text.
 
-ghost use Rattle.std.specs.Prelude.{◌≡◌, IfOk};
+ghost use Rattle.std.specs.Prelude.{◌≡◌, [], IfOk};
 ghost use Rattle.rb_trees.specs.mirror.Declarations.{mirror_program};
 ghost use Rattle.rb_law_division.specs.Sendable.{HasPlaces};
 ghost use Rattle.rb_flow.specs.Program.{HasNoRefusal};
+ghost use Rattle.rb_base.specs.Sinks.{new_sink};
+ghost use Rattle.rb_base.specs.Sources.{new_source};
 ghost use Rattle.rb_client.specs.Runs.{IsAcceptedWith};
 
 use crate::client::answers::{answer_text, run_text as ended_text, same_answer};
@@ -36,45 +38,27 @@ pub trait Way {
         requires places { HasPlaces (mirror_program admitted.now.0) };
 }
 
-/// The typed program of a text.
-fn typed_of(alloc: Global, text: &str) -> Result<Typed, Fail>
-    ensures { IfOk result (λ typed. HasPlaces (mirror_program typed)) }
-{
-    read_programs_have_places();
-    match parse_program(alloc, text.as_bytes()) {
-        Ok(program) => match check(alloc, program) {
-            Ok(typed) => Ok(typed),
-            Err(_) => Err(Fail::new("the program isn't typed")),
-        },
-        Err(_) => Err(Fail::new("the text isn't read")),
-    }
-}
-
-/// The admission of a typed program.
-fn admitted_of(alloc: Global, typed: &Typed) -> Result<Admitted<'_>, Fail>
-    requires { HasPlaces (mirror_program typed.now) }
-    ensures none { IfOk result (λ it. HasNoRefusal (mirror_program it.0)) }
-    ensures places { IfOk result (λ it. HasPlaces (mirror_program it.0)) }
-{
-    let marks = mark(alloc, typed)?;
-    match admit(alloc, typed, marks) {
-        Ok(admitted) => Ok(admitted),
-        Err(_) => Err(Fail::new("the program isn't admitted")),
-    }
-}
-
 /// Admits a typed program, and runs it some way.
 fn run_typed<Y: Way>(alloc: Global, text: &str, typed: &Typed, way: &mut Y) -> Result<String, Fail>
     requires { HasPlaces (mirror_program typed.now) }
 {
-    let admitted = admitted_of(alloc, typed)?;
-    way.run(alloc, text, &admitted)
+    let marks = mark(alloc, typed)?;
+    match admit(alloc, typed, marks) {
+        Ok(admitted) => way.run(alloc, text, &admitted),
+        Err(_) => Err(Fail::new("the program isn't admitted")),
+    }
 }
 
 /// Runs the program of a text some way.
 fn run_text<Y: Way>(alloc: Global, text: &str, way: &mut Y) -> Result<String, Fail> {
-    let typed = typed_of(alloc, text)?;
-    run_typed(alloc, text, &typed, way)
+    read_programs_have_places();
+    match parse_program(alloc, text.as_bytes()) {
+        Ok(program) => match check(alloc, program) {
+            Ok(typed) => run_typed(alloc, text, &typed, way),
+            Err(_) => Err(Fail::new("the program isn't typed")),
+        },
+        Err(_) => Err(Fail::new("the text isn't read")),
+    }
 }
 
 /// What `main`, behind the interfaces, answers some way.
@@ -170,10 +154,10 @@ pub fn ran_over<L: Link>(alloc: Global, main: &str, link: &mut L) -> Result<Stri
 }
 
 /// A link that replies these bytes.
-pub fn frame_link(
-    alloc: Global,
-    bytes: &[u8],
-) -> Result<FrameLink<MemorySource, MemorySink>, Fail> {
+pub fn frame_link(alloc: Global, bytes: &[u8]) -> Result<FrameLink<MemorySource, MemorySink>, Fail>
+    ensures { let max = usize.MAX in IfOk result (λ link. link ≡
+        record { source = new_source bytes.now [] max; sink = new_sink [] max; pairs = [] }) }
+{
     let source = MemorySource::make(Seq::from_slice(alloc, bytes)?, Seq::new(alloc), usize::MAX);
     let sink = MemorySink::make(alloc, Seq::new(alloc), usize::MAX);
     Ok(FrameLink::make(alloc, source, sink))
@@ -185,12 +169,35 @@ fn replied(alloc: Global, main: &str, bytes: &[u8]) -> Result<String, Fail> {
     ran_over(alloc, main, &mut link)
 }
 
+/// The frame of a kind and a payload.
+pub fn framed(alloc: Global, kind: u8, payload: &[u8]) -> Result<Seq<u8>, Fail> {
+    let mut frame = Seq::from_slice(alloc, b"RB")?;
+    frame.push(kind)?;
+    frame.extend_from_slice(&(payload.len() as u64).to_be_bytes())?;
+    frame.extend_from_slice(payload)?;
+    Ok(frame)
+}
+
+/// A part so many times, behind other bytes and before others.
+pub fn nested(
+    alloc: Global,
+    front: &[u8],
+    part: &[u8],
+    count: usize,
+    end: &[u8],
+) -> Result<Seq<u8>, Fail> {
+    let mut bytes = Seq::from_slice(alloc, front)?;
+    for _ in 0..count {
+        bytes.extend_from_slice(part)?;
+    }
+    bytes.extend_from_slice(end)?;
+    Ok(bytes)
+}
+
 /// What `main` answers over a link that replies a forest, or what else has these bytes.
 pub fn replied_forest(alloc: Global, main: &str, payload: &[u8]) -> Result<String, Fail> {
-    let mut bytes = Vec::from_slice(alloc, b"RB\x02")?;
-    bytes.extend_from_slice(&(payload.len() as u64).to_be_bytes())?;
-    bytes.extend_from_slice(payload)?;
-    replied(alloc, main, bytes.as_slice())
+    let frame = framed(alloc, 2, payload)?;
+    replied(alloc, main, frame.as_slice())
 }
 
 /// What a link replies, and what is answered to it.

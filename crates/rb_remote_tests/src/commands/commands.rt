@@ -3,8 +3,8 @@
 ghost use Rattle.std.specs.Prelude.{◌≡◌};
 
 use crate::client::answers::same_answer;
-use crate::commands::desks::{Desk, Text, add_files, desk_of};
-use crate::commands::texts::FILES;
+use crate::commands::desks::{Asked, Desk, desk_of};
+use crate::commands::texts::{FILES, NUMBER, ROOTLESS, SERVICE};
 use rb_base::{Link, Listen, SteadyListen};
 use rb_disk::{NullStores, Stores};
 use rb_session::{Dial, MemoryDial, NullDial, Target};
@@ -40,22 +40,27 @@ fn shown_text(alloc: Global, code: u8, written: &[u8]) -> Result<String, Fail> {
     Ok(format!(in alloc; "{code} {text}")?)
 }
 
-/// The exit status of the command of a desk, before what it prints, over a Dial, a listener and stores.
+/// The exit status of a command, before what it prints, over a Dial, a listener and stores.
 pub fn answer_on<D: Dial, N: Listen, T: Stores>(
     alloc: Global,
-    desk: &mut Desk,
+    asked: &Asked<'_>,
     dial: &mut D,
     listen: &mut N,
     stores: &mut T,
 ) -> Result<String, Fail> {
-    let code = status_on(alloc, desk, dial, listen, stores);
+    let mut desk = desk_of(alloc, asked)?;
+    let code = status_on(alloc, &mut desk, dial, listen, stores);
     shown_text(alloc, code, desk.out.written())
 }
 
-/// What the command of a desk answers and prints over a Dial, where no session comes.
-pub fn answer_over<D: Dial>(alloc: Global, desk: &mut Desk, dial: &mut D) -> Result<String, Fail> {
+/// What a command answers and prints over a Dial, where no session comes.
+pub fn answer_over<D: Dial>(
+    alloc: Global,
+    asked: &Asked<'_>,
+    dial: &mut D,
+) -> Result<String, Fail> {
     let mut listen = SteadyListen::make(alloc, Seq::new(alloc));
-    answer_on(alloc, desk, dial, &mut listen, &mut NullStores)
+    answer_on(alloc, asked, dial, &mut listen, &mut NullStores)
 }
 
 /// Fails where something else is shown than a beginning and the rest.
@@ -71,45 +76,44 @@ pub fn same_parts(words: &str, shown: &str, said: &str, rest: &str) -> Result<()
 /// A command on a text: its words, the text, and what is shown then, a beginning and the rest.
 pub type Row<'a> = (&'a str, &'a str, &'a str, &'a str);
 
-/// Fails where a row shows something else. Its text is in the file of this name, beside others, and nothing is dialled.
-pub fn expect_row(
-    alloc: Global,
-    name: &str,
-    others: &[Text<'_>],
-    row: &Row<'_>,
-) -> Result<(), Fail> {
-    let (words, text, said, rest) = *row;
-    let mut desk = desk_of(alloc, words, others)?;
-    add_files(alloc, &mut desk.files, &[(name, "", text)])?;
+/// What a command shows where nothing is dialled and its text is in the file of this name, beside a service of two files, one of
+/// one object, and one without a root.
+fn shown_alone(alloc: Global, name: &str, words: &str, text: &str) -> Result<String, Fail> {
+    let asked = Asked {
+        words,
+        texts: &[
+            (name, "", text),
+            ("s", "", SERVICE),
+            ("d", "", NUMBER),
+            ("n", "", ROOTLESS),
+        ],
+        reads: &[],
+        writes: &[],
+    };
     let mut dial = NullDial::make(alloc);
-    let shown = answer_over(alloc, &mut desk, &mut dial)?;
-    same_parts(text, shown.as_str(), said, rest)
+    answer_over(alloc, &asked, &mut dial)
 }
 
-/// Fails at the first row that shows something else.
-pub fn expect_rows(
-    alloc: Global,
-    name: &str,
-    others: &[Text<'_>],
-    rows: &[Row<'_>],
-) -> Result<(), Fail> {
-    for row in rows {
-        expect_row(alloc, name, others, row)?;
+/// Fails at the first row that shows something else, where its text is in the file of this name.
+pub fn expect_rows(alloc: Global, name: &str, rows: &[Row<'_>]) -> Result<(), Fail> {
+    for (words, text, said, rest) in rows {
+        let shown = shown_alone(alloc, name, words, text)?;
+        same_parts(text, shown.as_str(), said, rest)?;
     }
     Ok(())
 }
 
-/// What `run a p` shows of a program on files, over a Dial with this link.
-fn run_over<L: Link + Drop>(alloc: Global, main: &str, link: L) -> Result<String, Fail>
+/// A Dial with a link under the address `a`.
+fn dial_to<L: Link + Drop>(alloc: Global, link: L) -> Result<MemoryDial<L>, Fail>
     requires { L.faults link ≡ 0 }
 {
+    let address = Target::Address(Seq::from_slice(alloc, b"a")?);
     let mut dial = MemoryDial::make(alloc, Seq::new(alloc));
-    dial.add(Target::Address(Seq::from_slice(alloc, b"a")?), link)?;
-    let mut desk = desk_of(alloc, "run a p", &[("p", FILES, main)])?;
-    answer_over(alloc, &mut desk, &mut dial)
+    dial.add(address, link)?;
+    Ok(dial)
 }
 
-/// Fails where that is something else than is wanted, for a row.
+/// Fails where `run a p` shows something else of a program on files than is wanted for a row, over a Dial with this link.
 pub fn expect_run<L: Link + Drop, R: Debug>(
     alloc: Global,
     main: &str,
@@ -119,6 +123,13 @@ pub fn expect_run<L: Link + Drop, R: Debug>(
 ) -> Result<(), Fail>
     requires { L.faults link ≡ 0 }
 {
-    let shown = run_over(alloc, main, link)?;
+    let asked = Asked {
+        words: "run a p",
+        texts: &[("p", FILES, main)],
+        reads: &[],
+        writes: &[],
+    };
+    let mut dial = dial_to(alloc, link)?;
+    let shown = answer_over(alloc, &asked, &mut dial)?;
     same_answer(row, shown.as_str(), want)
 }

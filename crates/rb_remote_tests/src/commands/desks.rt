@@ -5,6 +5,18 @@ use rb_trees::Seq;
 use std::alloc::Global;
 use std::test::Fail;
 
+/// The name of a file, and the two parts of its text.
+pub type Text<'a> = (&'a str, &'a str, &'a str);
+
+/// What a command is asked: its words, the files that it may read, and the numbers of the reads and of the writes that fail.
+#[derive(Clone, Copy)]
+pub struct Asked<'a> {
+    pub words: &'a str,
+    pub texts: &'a [Text<'a>],
+    pub reads: &'a [u64],
+    pub writes: &'a [u64],
+}
+
 /// The words of a command, the files that it may read, and its output.
 #[derive(Drop)]
 pub struct Desk {
@@ -12,9 +24,6 @@ pub struct Desk {
     pub files: MemoryFiles,
     pub out: MemorySink,
 }
-
-/// The name of a file, and the two parts of its text.
-pub type Text<'a> = (&'a str, &'a str, &'a str);
 
 /// The words of a text, which single spaces part.
 fn words_of(alloc: Global, text: &str) -> Result<Vec<String>, Fail> {
@@ -26,7 +35,7 @@ fn words_of(alloc: Global, text: &str) -> Result<Vec<String>, Fail> {
 }
 
 /// Adds files of these texts.
-pub fn add_files(alloc: Global, files: &mut MemoryFiles, texts: &[Text<'_>]) -> Result<(), Fail> {
+fn add_files(alloc: Global, files: &mut MemoryFiles, texts: &[Text<'_>]) -> Result<(), Fail> {
     for (name, front, rest) in texts {
         let text = format!(in alloc; "{front}{rest}")?;
         files.add(name, text.as_str().as_bytes())?;
@@ -34,25 +43,14 @@ pub fn add_files(alloc: Global, files: &mut MemoryFiles, texts: &[Text<'_>]) -> 
     Ok(())
 }
 
-/// A desk with these words and files, of which the reads and the writes of these numbers fail.
-pub fn failing_desk(
-    alloc: Global,
-    words: &str,
-    texts: &[Text<'_>],
-    reads: &[u64],
-    writes: &[u64],
-) -> Result<Desk, Fail> {
-    let mut files = MemoryFiles::make(alloc, Seq::from_slice(alloc, reads)?);
-    add_files(alloc, &mut files, texts)?;
-    let writes = Seq::from_slice(alloc, writes)?;
+/// A desk for what is asked.
+pub fn desk_of(alloc: Global, asked: &Asked<'_>) -> Result<Desk, Fail> {
+    let writes = Seq::from_slice(alloc, asked.writes)?;
+    let mut files = MemoryFiles::make(alloc, Seq::from_slice(alloc, asked.reads)?);
+    add_files(alloc, &mut files, asked.texts)?;
     Ok(Desk {
-        words: words_of(alloc, words)?,
+        words: words_of(alloc, asked.words)?,
         files,
         out: MemorySink::make(alloc, writes, usize::MAX),
     })
-}
-
-/// A desk with these words and files, of which no call fails.
-pub fn desk_of(alloc: Global, words: &str, texts: &[Text<'_>]) -> Result<Desk, Fail> {
-    failing_desk(alloc, words, texts, &[], &[])
 }

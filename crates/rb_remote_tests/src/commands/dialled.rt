@@ -1,11 +1,9 @@
 // Commands over a Dial in memory, whose links lead to servers in the same process.
 
-ghost use Rattle.std.specs.Prelude.{◌≡◌, IfOk};
-
 use crate::client::answers::same_answer;
-use crate::client::hosts::host_of;
+use crate::client::hosts::failing_link;
 use crate::commands::commands::answer_over;
-use crate::commands::desks::{Text, failing_desk};
+use crate::commands::desks::{Asked, Text};
 use rb_base::Link;
 use rb_heap::Heap;
 use rb_session::{AnyLink, Exchange, FailingLink, MemoryDial, Target};
@@ -46,15 +44,7 @@ pub struct Row<'a> {
     pub back: Back<'a>,
 }
 
-/// The link that waits.
-fn link_of(alloc: Global, waiting: &Waiting<'_>) -> Result<FailingLink, Fail>
-    ensures { IfOk result (λ link. link.faults ≡ 0) }
-{
-    let failing = Seq::from_slice(alloc, waiting.exchanges)?;
-    Ok(FailingLink::make(alloc, host_of(alloc, waiting.service)?, failing)?)
-}
-
-/// What it waits under.
+/// What a link waits under.
 fn target_of(alloc: Global, waiting: &Waiting<'_>) -> Result<Target, Fail> {
     if waiting.is_child {
         return Ok(Target::Child(Seq::from_slice(alloc, b"s")?));
@@ -70,7 +60,8 @@ fn add_links(
 ) -> Result<(), Fail> {
     for waiting in all {
         let target = target_of(alloc, waiting)?;
-        dial.add(target, link_of(alloc, waiting)?)?;
+        let link = failing_link(alloc, waiting.service, waiting.exchanges)?;
+        dial.add(target, link)?;
     }
     Ok(())
 }
@@ -109,20 +100,20 @@ fn is_back(dial: &MemoryDial<FailingLink>, back: Back<'_>) -> bool {
     }
 }
 
-/// What the command of a row shows over a Dial.
-fn shown(alloc: Global, row: &Row<'_>, dial: &mut MemoryDial<FailingLink>) -> Result<String, Fail> {
-    let mut desk = failing_desk(alloc, row.words, row.texts, &[], row.writes)?;
-    answer_over(alloc, &mut desk, dial)
-}
-
 /// Fails at the first run of a row that shows something else, or where something else comes back.
 fn expect_runs(
     alloc: Global,
     row: &Row<'_>,
     dial: &mut MemoryDial<FailingLink>,
 ) -> Result<(), Fail> {
+    let asked = Asked {
+        words: row.words,
+        texts: row.texts,
+        reads: &[],
+        writes: row.writes,
+    };
     for want in row.wants {
-        same_answer(&row.words, shown(alloc, row, dial)?.as_str(), want)?;
+        same_answer(&row.words, answer_over(alloc, &asked, dial)?.as_str(), want)?;
     }
     if is_back(dial, row.back) {
         return Ok(());

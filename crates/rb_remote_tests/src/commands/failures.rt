@@ -2,7 +2,7 @@
 
 use crate::client::answers::same_answer;
 use crate::commands::commands::answer_on;
-use crate::commands::desks::{Text, failing_desk};
+use crate::commands::desks::{Asked, Text};
 use crate::commands::dialled::{Waiting, came_back, dial_of};
 use crate::commands::events::{
     CALLS, COMMANDS, CUT_PARTS, Call, Command, Event, MAIN, REPLIES, SIZES, WHOLE, WHOLE_PARTS,
@@ -11,6 +11,7 @@ use crate::commands::sessions::{Session, listen_of};
 use crate::commands::texts::{FILES, SERVICE};
 use rb_base::MemoryListen;
 use rb_disk::NullStores;
+use rb_heap::Heap;
 use rb_session::{FailingLink, MemoryDial};
 use rb_store::print_table;
 use rb_trees::Seq;
@@ -218,7 +219,7 @@ fn wanted(
 }
 
 /// The call of a run that fails: its kind and its number.
-#[derive(Clone, Copy, Debug)]
+#[derive(Clone, Copy)]
 struct Failure {
     call: Call,
     number: u64,
@@ -283,19 +284,6 @@ fn listen_for(alloc: Global, failure: &Failure) -> Result<MemoryListen, Fail> {
     )
 }
 
-/// What a command shows over a Dial and a listener where a call of it fails.
-fn shown_over(
-    alloc: Global,
-    words: &str,
-    failure: &Failure,
-    dial: &mut MemoryDial<FailingLink>,
-    listen: &mut MemoryListen,
-) -> Result<String, Fail> {
-    let (reads, writes) = (failure.of(Call::Read), failure.of(Call::Write));
-    let mut desk = failing_desk(alloc, words, TEXTS, reads, writes)?;
-    answer_on(alloc, &mut desk, dial, listen, &mut NullStores)
-}
-
 /// Whether these bytes were written in the sessions that came back, one after the other.
 fn are_written(listen: &MemoryListen, replies: &[u8]) -> bool {
     let mut rest = replies;
@@ -308,36 +296,14 @@ fn are_written(listen: &MemoryListen, replies: &[u8]) -> bool {
     rest.is_empty()
 }
 
-/// Fails where something else came back to a Dial and to a listener than a run leaves.
-fn same_outside(
-    words: &str,
-    front: &Front,
-    dial: &MemoryDial<FailingLink>,
-    listen: &MemoryListen,
-) -> Result<(), Fail> {
-    let exchanges = came_back(dial).map(|(pairs, _table)| pairs.len());
-    if exchanges != front.exchanges {
-        return Err(Fail::new(format_args!(
-            "{exchanges:?} exchanges in place of {:?}, by {words}",
-            front.exchanges
-        )));
-    }
-    if are_written(listen, front.replies.as_slice()) {
-        return Ok(());
-    }
-    Err(Fail::new(format_args!("other replies came back, by {words}")))
-}
-
-/// Fails where the table of the link that came back isn't as it is after so many exchanges of a command.
+/// Fails where the table of a link isn't as it is after so many exchanges of a command.
 fn same_table(
     alloc: Global,
     command: &Command<'_>,
-    dial: &MemoryDial<FailingLink>,
+    exchanges: usize,
+    table: Option<&Heap>,
 ) -> Result<(), Fail> {
-    let Some((pairs, table)) = came_back(dial) else {
-        return Ok(());
-    };
-    let (Some(table), Some(wanted)) = (table, command.tables.get(pairs.len())) else {
+    let (Some(table), Some(wanted)) = (table, command.tables.get(exchanges)) else {
         return Err(Fail::new(format_args!("there is no table, by {}", command.words)));
     };
     let shown = print_table(alloc, table)?;
@@ -345,6 +311,25 @@ fn same_table(
         return Ok(());
     }
     Err(Fail::new(format_args!("{shown:?} in place of {wanted:?}, by {}", command.words)))
+}
+
+/// Fails where another link came back to a Dial than one that had so many exchanges of a command, or its table isn't as it is then.
+fn same_link(
+    alloc: Global,
+    command: &Command<'_>,
+    wanted: Option<usize>,
+    dial: &MemoryDial<FailingLink>,
+) -> Result<(), Fail> {
+    match (came_back(dial), wanted) {
+        (None, None) => Ok(()),
+        (Some((pairs, table)), Some(exchanges)) if pairs.len() == exchanges => {
+            same_table(alloc, command, exchanges, table)
+        }
+        _ => Err(Fail::new(format_args!(
+            "there weren't {wanted:?} exchanges, by {}",
+            command.words
+        ))),
+    }
 }
 
 /// How many calls of a kind these events are.
@@ -372,23 +357,32 @@ fn calls_made(command: &Command<'_>, call: Call) -> u64 {
 fn expect_over(
     alloc: Global,
     command: &Command<'_>,
-    failure: &Failure,
+    failure: Failure,
     dial: &mut MemoryDial<FailingLink>,
     listen: &mut MemoryListen,
 ) -> Result<(), Fail> {
+    let asked = Asked {
+        words: command.words,
+        texts: TEXTS,
+        reads: failure.of(Call::Read),
+        writes: failure.of(Call::Write),
+    };
+    let shown = answer_on(alloc, &asked, dial, listen, &mut NullStores)?;
     let mut front = Front::make(alloc, failure.number);
     let wanted = wanted(alloc, command, failure.call, &mut front)?;
-    let shown = shown_over(alloc, command.words, failure, dial, listen)?;
-    same_answer(&(command.words, failure), shown.as_str(), wanted.as_str())?;
-    same_outside(command.words, &front, dial, listen)
+    let row = (command.words, failure.call, failure.number);
+    same_answer(&row, shown.as_str(), wanted.as_str())?;
+    if !are_written(listen, front.replies.as_slice()) {
+        return Err(Fail::new(format_args!("other replies came back, by {row:?}")));
+    }
+    same_link(alloc, command, front.exchanges, dial)
 }
 
 /// Fails where a command comes to something else than is wanted where a call of it fails.
-fn expect_failure(alloc: Global, command: &Command<'_>, failure: &Failure) -> Result<(), Fail> {
-    let mut dial = dial_for(alloc, failure)?;
-    let mut listen = listen_for(alloc, failure)?;
-    expect_over(alloc, command, failure, &mut dial, &mut listen)?;
-    same_table(alloc, command, &dial)
+fn expect_failure(alloc: Global, command: &Command<'_>, failure: Failure) -> Result<(), Fail> {
+    let mut dial = dial_for(alloc, &failure)?;
+    let mut listen = listen_for(alloc, &failure)?;
+    expect_over(alloc, command, failure, &mut dial, &mut listen)
 }
 
 /// Fails at the first call of a kind that, where it fails, has a command come to something else than is wanted. One call more is
@@ -396,15 +390,7 @@ fn expect_failure(alloc: Global, command: &Command<'_>, failure: &Failure) -> Re
 fn expect_calls(alloc: Global, command: &Command<'_>, call: Call) -> Result<(), Fail> {
     let count = calls_made(command, call).saturating_add(1);
     for number in 1..=count {
-        expect_failure(alloc, command, &Failure { call, number })?;
-    }
-    Ok(())
-}
-
-/// Fails at the first call of a command that, where it fails, has it come to something else than is wanted.
-fn expect_command(alloc: Global, command: &Command<'_>) -> Result<(), Fail> {
-    for call in CALLS {
-        expect_calls(alloc, command, *call)?;
+        expect_failure(alloc, command, Failure { call, number })?;
     }
     Ok(())
 }
@@ -412,7 +398,9 @@ fn expect_command(alloc: Global, command: &Command<'_>) -> Result<(), Fail> {
 #[test]
 fn each_call_that_fails_stops_a_command_at_its_place(rt: HostRuntime) -> Result<(), Fail> {
     for command in COMMANDS {
-        expect_command(rt.alloc(), command)?;
+        for call in CALLS {
+            expect_calls(rt.alloc(), command, *call)?;
+        }
     }
     Ok(())
 }

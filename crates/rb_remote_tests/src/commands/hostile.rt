@@ -1,5 +1,6 @@
 // Hostile peers: what a client says of replies, and what a server says and replies to requests.
 
+use crate::client::runs::{framed, nested};
 use crate::commands::replies::expect_reply;
 use crate::commands::servers::{Row, SERVE, expect_served};
 use crate::commands::sessions::{STEADY, Session};
@@ -124,32 +125,13 @@ const CASES: &[Case<'static>] = &[
     },
 ];
 
-/// The frame of a payload.
-fn framed(alloc: Global, kind: u8, payload: &[u8]) -> Result<Seq<u8>, Fail> {
-    let mut frame = Seq::from_slice(alloc, b"RB")?;
-    frame.push(kind)?;
-    frame.extend_from_slice(&(payload.len() as u64).to_be_bytes())?;
-    frame.extend_from_slice(payload)?;
-    Ok(frame)
-}
-
-/// A part 64 times, behind other bytes and before others.
-fn nested(alloc: Global, front: &[u8], part: &[u8], end: &[u8]) -> Result<Seq<u8>, Fail> {
-    let mut bytes = Seq::from_slice(alloc, front)?;
-    for _ in 0..64 {
-        bytes.extend_from_slice(part)?;
-    }
-    bytes.extend_from_slice(end)?;
-    Ok(bytes)
-}
-
 /// The bytes that are sent.
 fn bytes_of(alloc: Global, sent: Sent<'_>) -> Result<Seq<u8>, Fail> {
     match sent {
         Sent::Bytes(bytes) => Ok(Seq::from_slice(alloc, bytes)?),
         Sent::Frame(kind, payload) => framed(alloc, kind, payload),
         Sent::Nested(kind, front, part, end) => {
-            let payload = nested(alloc, front, part, end)?;
+            let payload = nested(alloc, front, part, 64, end)?;
             framed(alloc, kind, payload.as_slice())
         }
     }

@@ -56,30 +56,20 @@ const ROWS: &[(&[&[Come]], &str)] = &[
     ),
 ];
 
-/// The events that a table has.
-fn events_of(alloc: Global, comes: &[Come]) -> Result<Seq<Event>, Memory> {
-    let mut events = Seq::new(alloc);
-    for come in comes {
-        events.push(match come {
-            Come::Open => Event::Open,
-            Come::Piece(number, bytes) => Event::Piece(*number, Seq::from_slice(alloc, bytes)?),
-        })?;
-    }
-    Ok(events)
-}
-
 /// The lists of events of these tables.
 fn others_of(alloc: Global, tables: &[&[Come]]) -> Result<Seq<Seq<Event>>, Memory> {
     let mut others = Seq::new(alloc);
     for comes in tables {
-        others.push(events_of(alloc, comes)?)?;
+        let mut events = Seq::new(alloc);
+        for come in *comes {
+            events.push(match come {
+                Come::Open => Event::Open,
+                Come::Piece(number, bytes) => Event::Piece(*number, Seq::from_slice(alloc, bytes)?),
+            })?;
+        }
+        others.push(events)?;
     }
     Ok(others)
-}
-
-/// A new hub of the service of files.
-fn hub_of(alloc: Global) -> Result<Hub<Host>, Fail> {
-    Ok(Hub::make(alloc, host_of(alloc, SERVICE)?))
 }
 
 /// A link through a hub, where others do this before each exchange.
@@ -93,7 +83,8 @@ fn link_through(alloc: Global, hub: Hub<Host>, others: Seq<Seq<Event>>) -> Resul
 /// A link to the service of files through a new hub, where others do this before each exchange.
 fn link_of(alloc: Global, tables: &[&[Come]]) -> Result<HubLink, Fail> {
     let others = others_of(alloc, tables)?;
-    link_through(alloc, hub_of(alloc)?, others)
+    let host = host_of(alloc, SERVICE)?;
+    link_through(alloc, Hub::make(alloc, host), others)
 }
 
 #[test]

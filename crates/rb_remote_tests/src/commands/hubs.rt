@@ -1,13 +1,28 @@
 // `hub E S`: the events of many sessions.
 
-use crate::commands::commands::{Row, expect_row, expect_rows};
-use crate::commands::desks::Text;
-use crate::commands::texts::{ROOTLESS, SERVICE, TABLE};
-use std::alloc::Global;
+use crate::commands::commands::{Row, expect_rows};
+use crate::commands::texts::TABLE;
 use std::test::Fail;
 
-/// The service of two files, and one without a root.
-const SERVICES: &[Text<'static>] = &[("s", "", SERVICE), ("n", "", ROOTLESS)];
+/// Events that open 65 sessions.
+const CROWD: &str = "\
+    open\nopen\nopen\nopen\nopen\nopen\nopen\nopen\nopen\nopen\nopen\nopen\nopen\n\
+    open\nopen\nopen\nopen\nopen\nopen\nopen\nopen\nopen\nopen\nopen\nopen\nopen\n\
+    open\nopen\nopen\nopen\nopen\nopen\nopen\nopen\nopen\nopen\nopen\nopen\nopen\n\
+    open\nopen\nopen\nopen\nopen\nopen\nopen\nopen\nopen\nopen\nopen\nopen\nopen\n\
+    open\nopen\nopen\nopen\nopen\nopen\nopen\nopen\nopen\nopen\nopen\nopen\nopen\n";
+
+/// What they show: no more than 64 are open at once.
+const CROWDED: &str = "\
+    0 opened 0\nopened 1\nopened 2\nopened 3\nopened 4\nopened 5\nopened 6\nopened 7\n\
+    opened 8\nopened 9\nopened 10\nopened 11\nopened 12\nopened 13\nopened 14\nopened 15\n\
+    opened 16\nopened 17\nopened 18\nopened 19\nopened 20\nopened 21\nopened 22\nopened 23\n\
+    opened 24\nopened 25\nopened 26\nopened 27\nopened 28\nopened 29\nopened 30\nopened 31\n\
+    opened 32\nopened 33\nopened 34\nopened 35\nopened 36\nopened 37\nopened 38\nopened 39\n\
+    opened 40\nopened 41\nopened 42\nopened 43\nopened 44\nopened 45\nopened 46\nopened 47\n\
+    opened 48\nopened 49\nopened 50\nopened 51\nopened 52\nopened 53\nopened 54\nopened 55\n\
+    opened 56\nopened 57\nopened 58\nopened 59\nopened 60\nopened 61\nopened 62\nopened 63\n\
+    event 65 crowded\n";
 
 /// Words, the text of the events `e`, and what is shown. No events change the table of the two files.
 const ROWS: &[Row<'static>] = &[
@@ -47,6 +62,8 @@ const ROWS: &[Row<'static>] = &[
         "0 event 1 unknown session\n",
         TABLE,
     ),
+    // No more than 64 sessions are open at once.
+    ("hub e s", CROWD, CROWDED, TABLE),
     // The first line that is no events is told.
     ("hub e s", "open\npiece 0 5\n", "14 events bad line 2\n", ""),
     ("hub e s", "open", "14 events bad line 1\n", ""),
@@ -78,30 +95,5 @@ const ROWS: &[Row<'static>] = &[
 
 #[test]
 fn events_show_what_comes_out_of_a_hub(rt: HostRuntime) -> Result<(), Fail> {
-    expect_rows(rt.alloc(), "e", SERVICES, ROWS)
-}
-
-/// Adds the events that open so many sessions and one more, and the lines that they show.
-fn add_crowd(events: &mut String, lines: &mut String, count: u32) -> Result<(), Fail> {
-    for number in 0..count {
-        events.push_str("open\n")?;
-        writeln!(lines, "opened {number}")?;
-    }
-    events.push_str("open\n")?;
-    writeln!(lines, "event {} crowded", count.saturating_add(1))?;
-    Ok(())
-}
-
-/// Fails where more than 64 sessions are open at once.
-fn expect_crowd(alloc: Global) -> Result<(), Fail> {
-    let mut events = String::new(alloc);
-    let mut lines = String::from_str(alloc, "0 ")?;
-    add_crowd(&mut events, &mut lines, 64)?;
-    let row = ("hub e s", events.as_str(), lines.as_str(), TABLE);
-    expect_row(alloc, "e", SERVICES, &row)
-}
-
-#[test]
-fn no_more_than_64_sessions_are_open_at_once(rt: HostRuntime) -> Result<(), Fail> {
-    expect_crowd(rt.alloc())
+    expect_rows(rt.alloc(), "e", ROWS)
 }

@@ -1,12 +1,8 @@
 // `json S R`: requests in JSON.
 
 use crate::commands::commands::{Row, expect_rows};
-use crate::commands::desks::Text;
-use crate::commands::texts::{NUMBER, ROOTLESS, SERVICE, TABLE};
+use crate::commands::texts::TABLE;
 use std::test::Fail;
-
-/// The service of two files, one of one object, and one without a root.
-const SERVICES: &[Text<'static>] = &[("s", "", SERVICE), ("d", "", NUMBER), ("n", "", ROOTLESS)];
 
 /// Words, the text of the request `r`, and what is shown.
 const ROWS: &[Row<'static>] = &[
@@ -74,5 +70,5 @@ const ROWS: &[Row<'static>] = &[
 
 #[test]
 fn a_request_in_json_is_answered(rt: HostRuntime) -> Result<(), Fail> {
-    expect_rows(rt.alloc(), "r", SERVICES, ROWS)
+    expect_rows(rt.alloc(), "r", ROWS)
 }

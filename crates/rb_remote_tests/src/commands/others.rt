@@ -1,7 +1,6 @@
 // `run ADDRESS P` over a link at whose server others change the table.
 
 use crate::client::changes::{Given, Row, lists_of, meddled_link};
-use crate::client::hosts::host_of;
 use crate::commands::commands::expect_run;
 use crate::commands::texts::{SERVICE, TWICE};
 use rb_session::MeddledLink;
@@ -24,8 +23,7 @@ const ROWS: &[(&[&[Row<'static>]], &str)] = &[
 
 /// A link to a server of the files, at which others make these changes.
 fn link_of(alloc: Global, lists: &[&[Row<'_>]]) -> Result<MeddledLink, Fail> {
-    let host = host_of(alloc, SERVICE)?;
-    meddled_link(alloc, host, lists_of(alloc, lists)?)
+    meddled_link(alloc, SERVICE, lists_of(alloc, lists)?)
 }
 
 #[test]

@@ -1,7 +1,7 @@
 // `serve ADDRESS S COUNT` and `child S`, over sessions in memory.
 
 use crate::commands::commands::{answer_on, same_parts};
-use crate::commands::desks::failing_desk;
+use crate::commands::desks::Asked;
 use crate::commands::sessions::{STEADY, Session, listen_of, same_replies};
 use crate::commands::texts::{NOTHING, NOTHING_REPLIES, NOTHING_REPLY, NUMBER, SERVICE, TABLE};
 use rb_base::MemoryListen;
@@ -33,27 +33,22 @@ fn shown<T: Stores>(
     listen: &mut MemoryListen,
     stores: &mut T,
 ) -> Result<String, Fail> {
-    let mut desk = failing_desk(alloc, row.words, &[("s", "", row.service)], &[], row.writes)?;
+    let asked = Asked {
+        words: row.words,
+        texts: &[("s", "", row.service)],
+        reads: &[],
+        writes: row.writes,
+    };
     let mut dial = NullDial::make(alloc);
-    answer_on(alloc, &mut desk, &mut dial, listen, stores)
-}
-
-/// Fails where a row doesn't hold over a listener with its sessions, and stores.
-fn expect_over<T: Stores>(
-    alloc: Global,
-    row: &Row<'_>,
-    listen: &mut MemoryListen,
-    stores: &mut T,
-) -> Result<(), Fail> {
-    let shown = shown(alloc, row, listen, stores)?;
-    same_parts(row.words, shown.as_str(), row.said, row.rest)?;
-    same_replies(row.words, listen, row.replies)
+    answer_on(alloc, &asked, &mut dial, listen, stores)
 }
 
 /// Fails where a row doesn't hold over stores.
 pub fn expect_served<T: Stores>(alloc: Global, row: &Row<'_>, stores: &mut T) -> Result<(), Fail> {
     let mut listen = listen_of(alloc, &[row.address], row.sessions, row.calls, row.most)?;
-    expect_over(alloc, row, &mut listen, stores)
+    let shown = shown(alloc, row, &mut listen, stores)?;
+    same_parts(row.words, shown.as_str(), row.said, row.rest)?;
+    same_replies(row.words, &listen, row.replies)
 }
 
 /// Fails at the first row that doesn't hold without stores.
@@ -211,11 +206,6 @@ const SERVERS: &[Row<'static>] = &[
     },
 ];
 
-#[test]
-fn sessions_are_served_one_after_the_other(rt: HostRuntime) -> Result<(), Fail> {
-    expect_rows(rt.alloc(), SERVERS)
-}
-
 const FAILING: &[Row<'static>] = &[
     // A listener that fails is a fault.
     Row {
@@ -261,11 +251,6 @@ const FAILING: &[Row<'static>] = &[
     },
 ];
 
-#[test]
-fn a_listener_or_a_write_that_fails_is_a_fault(rt: HostRuntime) -> Result<(), Fail> {
-    expect_rows(rt.alloc(), FAILING)
-}
-
 const CHILDREN: &[Row<'static>] = &[
     // A child prints nothing.
     Row {
@@ -306,6 +291,9 @@ const CHILDREN: &[Row<'static>] = &[
 ];
 
 #[test]
-fn a_child_prints_nothing(rt: HostRuntime) -> Result<(), Fail> {
-    expect_rows(rt.alloc(), CHILDREN)
+fn sessions_are_served_one_after_the_other(rt: HostRuntime) -> Result<(), Fail> {
+    let alloc = rt.alloc();
+    expect_rows(alloc, SERVERS)?;
+    expect_rows(alloc, FAILING)?;
+    expect_rows(alloc, CHILDREN)
 }

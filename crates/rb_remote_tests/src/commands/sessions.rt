@@ -56,26 +56,24 @@ pub fn listen_of(
     failing: &[u64],
     most: usize,
 ) -> Result<MemoryListen, Fail> {
+    if most == 0 {
+        return Err(Fail::new("no byte is moved"));
+    }
+    let failing = Seq::from_slice(alloc, failing)?;
     let mut all = Seq::new(alloc);
     for address in addresses {
         let name = Seq::from_slice(alloc, address.as_bytes())?;
         all.push((name, comings(alloc, sessions)?))?;
-    }
-    let failing = Seq::from_slice(alloc, failing)?;
-    if most == 0 {
-        return Err(Fail::new("no byte is moved"));
     }
     Ok(MemoryListen::make(alloc, all, failing, most))
 }
 
 /// Fails where other bytes were written in the sessions that came back to a listener, or in another number of them.
 pub fn same_replies(words: &str, listen: &MemoryListen, replies: &[&[u8]]) -> Result<(), Fail> {
-    let returned = listen.returned();
-    let is_same = returned.len() == replies.len()
-        && returned
-            .iter()
-            .zip(replies)
-            .all(|((_source, sink), reply)| sink.written() == *reply);
+    let mut is_same = listen.returned().len() == replies.len();
+    for ((_source, sink), reply) in listen.returned().iter().zip(replies) {
+        is_same = is_same && sink.written() == *reply;
+    }
     if is_same {
         return Ok(());
     }

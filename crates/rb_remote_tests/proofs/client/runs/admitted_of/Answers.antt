@@ -1,7 +1,0 @@
-use Rattle.std.proofs.Common.{sym, subst}
-use Rattle.rb_trees.specs.mirror.Declarations.{mirror_program}
-use Rattle.rb_flow.specs.Program.{HasNoRefusal}
-use Rattle.rb_remote_tests.proofs.client.runs.admitted_of.Goals as goal
-
-pub returns-in-Ok-clause-none : goal.returns-in-Ok-clause-none
-returns-in-Ok-clause-none g c = subst (λ q. HasNoRefusal (mirror_program q)) (sym c.in-Ok.ensures.typed) c.in-Ok.ensures.admission
