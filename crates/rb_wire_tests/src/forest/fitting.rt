@@ -1,6 +1,6 @@
 // Nodes that fit a remainder, and nodes that don't.
 
-use crate::forest::digits::add_bytes;
+use crate::digits::add_bytes;
 use bytes::BytesMut;
 use rb_trees::{Expr, ExprForm, Memory, Part, Seq, Stmt, StmtForm, Version};
 use rb_wire_forest::{Misfit, decode_forest, encode_forest, fits, scan_forest};
@@ -127,7 +127,7 @@ fn payload_of(alloc: Global, letters: &str) -> Result<Vec<u8>, AllocError> {
     let mut payload = Vec::new(alloc);
     payload.push(1)?;
     for letter in letters.as_bytes() {
-        add_bytes(&mut payload, spelling(*letter))?;
+        add_bytes(&mut payload, spelling(*letter), 0)?;
     }
     Ok(payload)
 }
@@ -215,50 +215,53 @@ fn told(fit: Result<(), Misfit>) -> i64 {
     }
 }
 
+/// What doesn't fit of a forest in its bytes.
+fn scanned(parts: &Seq<Part>, lengths: &[u32], payload: &[u8]) -> i64 {
+    match scan_forest(payload) {
+        Ok(forest) => told(forest.fits(parts, lengths)),
+        Err(_) => DISPUTED,
+    }
+}
+
 /// What doesn't fit of a forest. It is the same as a tree, in its bytes, and in its bytes of version 2.
 fn misfit(alloc: Global, parts: &Seq<Part>, lengths: &[u32], payload: &[u8]) -> Result<i64, Fail> {
     let root = decode_forest(alloc, payload)?;
     let mut other = BytesMut::new(alloc);
     encode_forest(&root, Version::Two, &mut other)?;
     let fit = told(fits(&root, parts, lengths));
-    let first = told(scan_forest(payload)?.fits(parts, lengths));
-    let second = told(scan_forest(other.as_slice())?.fits(parts, lengths));
-    Ok(if first == fit && second == fit {
-        fit
-    } else {
-        DISPUTED
-    })
+    let same = scanned(parts, lengths, payload) == fit
+        && scanned(parts, lengths, other.as_slice()) == fit;
+    Ok(if same { fit } else { DISPUTED })
 }
 
-/// The first of these forests of which something else doesn't fit than what stands beside it; no letters where there is none.
-fn first_wrong(
+/// Fails unless of each forest that doesn't fit which stands beside it.
+fn misfits_are(
     alloc: Global,
     parts: &Seq<Part>,
     lengths: &[u32],
-    rows: &[(&'static str, i64)],
-) -> Result<&'static str, Fail> {
+    rows: &[(&str, i64)],
+) -> Result<(), Fail> {
     for (letters, unfit) in rows {
         let payload = payload_of(alloc, letters)?;
-        if misfit(alloc, parts, lengths, payload.as_slice())? != *unfit {
-            return Ok(letters);
+        let found = misfit(alloc, parts, lengths, payload.as_slice())?;
+        if found != *unfit {
+            return Err(Fail::new(format_args!("{found} in place of {unfit}, of {letters}")));
         }
     }
-    Ok("")
+    Ok(())
 }
 
 #[test]
 fn the_first_misfit_is_answered(rt: HostRuntime) -> Result<(), Fail> {
     let mut parts = Seq::new(rt.alloc());
     add_remainder(rt.alloc(), &mut parts)?;
-    assert_eq!(rt; first_wrong(rt.alloc(), &parts, &[], &ROWS)?, "");
-    Ok(())
+    misfits_are(rt.alloc(), &parts, &[], &ROWS)
 }
 
 #[test]
 fn a_list_has_a_turn_for_each_item(rt: HostRuntime) -> Result<(), Fail> {
     let mut parts = Seq::new(rt.alloc());
     add_list(rt.alloc(), &mut parts)?;
-    assert_eq!(rt; first_wrong(rt.alloc(), &parts, &[7, 2], &LISTS)?, "");
-    assert_eq!(rt; first_wrong(rt.alloc(), &parts, &[7], &UNTOLD)?, "");
-    Ok(())
+    misfits_are(rt.alloc(), &parts, &[7, 2], &LISTS)?;
+    misfits_are(rt.alloc(), &parts, &[7], &UNTOLD)
 }

@@ -1,6 +1,6 @@
 // Parts of remainders, added to a block for tests.
 
-use crate::shown::scripts::word;
+use crate::shown::expected::word;
 use rb_trees::{BinOp, Boxed, Expr, ExprForm, Memory, Part, Seq, Stmt, StmtForm};
 use std::alloc::Global;
 

@@ -1,15 +1,11 @@
 // Steps of scripts, added to a block for tests.
 
+use crate::shown::expected::word;
+use crate::shown::literals::{Short, value};
 use rb_trees::{
-    BinOp, Boxed, Invocation, Memory, Operands, SExpr, Seq, Shared, Step, StepForm, UnOp, Value,
-    Word,
+    BinOp, Boxed, Invocation, Memory, Operands, SExpr, Seq, Shared, Step, StepForm, UnOp,
 };
 use std::alloc::Global;
-
-/// A word of this text.
-pub fn word(alloc: Global, text: &str) -> Result<Word, Memory> {
-    Seq::from_slice(alloc, text.as_bytes())
-}
 
 /// Adds a step of this form, whose number follows.
 fn add(form: StepForm, into: &mut Seq<Step>) -> Result<(), Memory> {
@@ -18,22 +14,24 @@ fn add(form: StepForm, into: &mut Seq<Step>) -> Result<(), Memory> {
 }
 
 /// Adds a step that performs an expression.
-pub fn add_do(expr: SExpr, into: &mut Seq<Step>) -> Result<(), Memory> {
+fn add_do(expr: SExpr, into: &mut Seq<Step>) -> Result<(), Memory> {
     add(StepForm::Do(expr), into)
 }
 
-/// Adds a step that performs a literal.
-fn add_literal(alloc: Global, value: Value, into: &mut Seq<Step>) -> Result<(), Memory> {
-    add_do(SExpr::Lit(Boxed::new(alloc, value)?), into)
-}
+/// A text, numbers and a truth value.
+static LITERALS: [Short; 4] = [
+    Short::Text("a \"b\"\n"),
+    Short::Int(-7),
+    Short::Int(-9_223_372_036_854_775_808),
+    Short::Bool(true),
+];
 
 /// Adds a step for each literal and each name.
 pub fn add_literals(alloc: Global, into: &mut Seq<Step>) -> Result<(), Memory> {
-    let text = Shared::new(alloc, word(alloc, "a \"b\"\n")?)?;
-    add_literal(alloc, Value::Text(text), into)?;
-    add_literal(alloc, Value::Int(-7), into)?;
-    add_literal(alloc, Value::Int(i64::MIN), into)?;
-    add_literal(alloc, Value::Bool(true), into)?;
+    for short in &LITERALS {
+        let literal = Boxed::new(alloc, value(alloc, *short)?)?;
+        add_do(SExpr::Lit(literal), into)?;
+    }
     add_do(SExpr::Input(12), into)?;
     add_do(SExpr::Var(3), into)?;
     add_do(SExpr::Root, into)
@@ -75,7 +73,7 @@ pub fn add_binary(alloc: Global, into: &mut Seq<Step>) -> Result<(), Memory> {
 }
 
 /// A call on the root with these arguments.
-pub fn call(alloc: Global, method: &str, args: Seq<SExpr>) -> Result<SExpr, Memory> {
+fn call(alloc: Global, method: &str, args: Seq<SExpr>) -> Result<SExpr, Memory> {
     let call = Invocation {
         method: Shared::new(alloc, word(alloc, method)?)?,
         target: SExpr::Root,

@@ -1,62 +1,41 @@
 // Views of divisions.
 
+use crate::shown::expected::{add_words, expect};
 use crate::shown::remainders::{
     add_bind, add_both, add_branch, add_list, add_local_loop, add_turns,
 };
 use crate::shown::scripts::{
-    add_binary, add_calls, add_each, add_if, add_kept, add_literals, add_over, add_unary, word,
+    add_binary, add_calls, add_each, add_if, add_kept, add_literals, add_over, add_unary,
 };
 use rb_places::Places;
 use rb_shown::split_view;
-use rb_trees::{Memory, Part, Script, Seq, Split, Step, Word};
+use rb_trees::{Memory, Part, Script, Seq, Split, Step};
 use std::alloc::Global;
 use std::test::Fail;
 
 /// A program's text, whose line 2 begins at offset 7.
 const SOURCE: &[u8] = b"main {\n  batch (D r) { }\n}\n";
 
-/// The division of the batch in that text, with these steps and parts.
-fn split(alloc: Global, inputs: Seq<Word>, body: Seq<Step>, remainder: Seq<Part>) -> Split {
-    let lists = Seq::new(alloc);
-    Split {
-        batch: 0,
-        at: 9,
-        inputs,
-        script: Script {
-            inputs: 0,
-            lists,
-            body,
-        },
-        remainder,
-    }
+/// What a division has.
+#[derive(Clone, Copy)]
+enum Content {
+    /// Literals, names and calls.
+    Calls,
+    /// Operators.
+    Operators,
+    /// Steps that stand in blocks.
+    Blocks,
+    /// Parts.
+    Parts,
+    /// Inputs, which stand on their line.
+    Inputs,
 }
 
-/// Whether a division has this view.
-fn views(alloc: Global, split: &Split, view: &str) -> Result<bool, Memory> {
-    let places = Places::of(alloc, SOURCE)?;
-    let shown = split_view(alloc, &places, split)?;
-    Ok(shown.as_slice() == view.as_bytes())
-}
-
-/// Whether steps are shown so.
-fn steps(alloc: Global, body: Seq<Step>, view: &str) -> Result<bool, Memory> {
-    let split = split(alloc, Seq::new(alloc), body, Seq::new(alloc));
-    views(alloc, &split, view)
-}
-
-/// Whether parts are shown so.
-fn parts(alloc: Global, remainder: Seq<Part>, view: &str) -> Result<bool, Memory> {
-    let split = split(alloc, Seq::new(alloc), Seq::new(alloc), remainder);
-    views(alloc, &split, view)
-}
-
-#[test]
-fn literals_names_and_calls_are_shown(rt: HostRuntime) -> Result<(), Fail> {
-    let alloc = rt.alloc();
-    let mut body = Seq::new(alloc);
-    add_literals(alloc, &mut body)?;
-    add_calls(alloc, &mut body)?;
-    let view = "batch 2:3\ninputs\nscript
+/// Divisions by what they have, and their views.
+static VIEWS: [(Content, &str); 5] = [
+    (
+        Content::Calls,
+        "batch 2:3\ninputs\nscript
   0 do \"a \\\"b\\\"\\n\"
   1 do -7
   2 do -9223372036854775808
@@ -65,18 +44,11 @@ fn literals_names_and_calls_are_shown(rt: HostRuntime) -> Result<(), Fail> {
   5 do v3
   6 do root
   7 do root.put(root.n(), v2)
-remainder\n";
-    assert!(rt; steps(alloc, body, view)?);
-    Ok(())
-}
-
-#[test]
-fn operators_have_names(rt: HostRuntime) -> Result<(), Fail> {
-    let alloc = rt.alloc();
-    let mut body = Seq::new(alloc);
-    add_unary(alloc, &mut body)?;
-    add_binary(alloc, &mut body)?;
-    let view = "batch 2:3\ninputs\nscript
+remainder\n",
+    ),
+    (
+        Content::Operators,
+        "batch 2:3\ninputs\nscript
   0 do not(v1)
   1 do neg(v1)
   2 do len(v1)
@@ -94,21 +66,11 @@ fn operators_have_names(rt: HostRuntime) -> Result<(), Fail> {
   14 do ge(v1, in2)
   15 do and(v1, in2)
   16 do or(v1, in2)
-remainder\n";
-    assert!(rt; steps(alloc, body, view)?);
-    Ok(())
-}
-
-#[test]
-fn steps_stand_behind_the_spaces_of_their_blocks(rt: HostRuntime) -> Result<(), Fail> {
-    let alloc = rt.alloc();
-    let mut body = Seq::new(alloc);
-    add_kept(&mut body)?;
-    add_if(alloc, 1, &mut body)?;
-    add_each(alloc, false, &mut body)?;
-    add_each(alloc, true, &mut body)?;
-    add_over(alloc, &mut body)?;
-    let view = "batch 2:3\ninputs\nscript
+remainder\n",
+    ),
+    (
+        Content::Blocks,
+        "batch 2:3\ninputs\nscript
   0 keep root
   1 let v4 = v0
   2 let v4 keep = v0
@@ -135,22 +97,11 @@ fn steps_stand_behind_the_spaces_of_their_blocks(rt: HostRuntime) -> Result<(), 
   6 over v6 in in2
     0 if in0
       0 do root
-remainder\n";
-    assert!(rt; steps(alloc, body, view)?);
-    Ok(())
-}
-
-#[test]
-fn parts_are_shown_as_statements(rt: HostRuntime) -> Result<(), Fail> {
-    let alloc = rt.alloc();
-    let mut remainder = Seq::new(alloc);
-    add_local_loop(alloc, &mut remainder)?;
-    add_bind(alloc, &mut remainder)?;
-    add_both(alloc, &mut remainder)?;
-    add_branch(alloc, 1, &mut remainder)?;
-    add_turns(alloc, &mut remainder)?;
-    add_list(alloc, &mut remainder)?;
-    let view = "batch 2:3\ninputs\nscript\nremainder
+remainder\n",
+    ),
+    (
+        Content::Parts,
+        "batch 2:3\ninputs\nscript\nremainder
   while (<1>) {
     throw <2>;
   }
@@ -179,19 +130,84 @@ fn parts_are_shown_as_statements(rt: HostRuntime) -> Result<(), Fail> {
     while (<1>) {
       throw <2>;
     }
-  }\n";
-    assert!(rt; parts(alloc, remainder, view)?);
+  }\n",
+    ),
+    (
+        Content::Inputs,
+        "batch 2:3\ninputs a long\nscript\nremainder\n",
+    ),
+];
+
+/// The division of the batch in that text, with nothing in it.
+fn empty(alloc: Global) -> Split {
+    let lists = Seq::new(alloc);
+    Split {
+        batch: 0,
+        at: 9,
+        inputs: Seq::new(alloc),
+        script: Script {
+            inputs: 0,
+            lists,
+            body: Seq::new(alloc),
+        },
+        remainder: Seq::new(alloc),
+    }
+}
+
+/// Adds steps that stand in blocks.
+fn add_blocks(alloc: Global, into: &mut Seq<Step>) -> Result<(), Memory> {
+    add_kept(into)?;
+    add_if(alloc, 1, into)?;
+    add_each(alloc, false, into)?;
+    add_each(alloc, true, into)?;
+    add_over(alloc, into)
+}
+
+/// Adds a part of each form.
+fn add_parts(alloc: Global, into: &mut Seq<Part>) -> Result<(), Memory> {
+    add_local_loop(alloc, into)?;
+    add_bind(alloc, into)?;
+    add_both(alloc, into)?;
+    add_branch(alloc, 1, into)?;
+    add_turns(alloc, into)?;
+    add_list(alloc, into)
+}
+
+/// Adds what a division has.
+fn add_content(alloc: Global, content: Content, into: &mut Split) -> Result<(), Memory> {
+    match content {
+        Content::Calls => {
+            add_literals(alloc, &mut into.script.body)?;
+            add_calls(alloc, &mut into.script.body)
+        }
+        Content::Operators => {
+            add_unary(alloc, &mut into.script.body)?;
+            add_binary(alloc, &mut into.script.body)
+        }
+        Content::Blocks => add_blocks(alloc, &mut into.script.body),
+        Content::Parts => add_parts(alloc, &mut into.remainder),
+        Content::Inputs => add_words(alloc, &["a", "long"], &mut into.inputs),
+    }
+}
+
+/// Fails unless a division has this view.
+fn view_is(alloc: Global, split: &Split, view: &str) -> Result<(), Fail> {
+    let places = Places::of(alloc, SOURCE)?;
+    let shown = split_view(alloc, &places, split)?;
+    expect(&shown, view)
+}
+
+/// Fails unless each division has the view beside it.
+fn views_are(alloc: Global, rows: &[(Content, &str)]) -> Result<(), Fail> {
+    for (content, view) in rows {
+        let mut split = empty(alloc);
+        add_content(alloc, *content, &mut split)?;
+        view_is(alloc, &split, view)?;
+    }
     Ok(())
 }
 
 #[test]
-fn inputs_stand_on_their_line(rt: HostRuntime) -> Result<(), Fail> {
-    let alloc = rt.alloc();
-    let mut inputs = Seq::new(alloc);
-    inputs.push(word(alloc, "a")?)?;
-    inputs.push(word(alloc, "long")?)?;
-    let split = split(alloc, inputs, Seq::new(alloc), Seq::new(alloc));
-    let view = "batch 2:3\ninputs a long\nscript\nremainder\n";
-    assert!(rt; views(alloc, &split, view)?);
-    Ok(())
+fn divisions_have_their_views(rt: HostRuntime) -> Result<(), Fail> {
+    views_are(rt.alloc(), &VIEWS)
 }
