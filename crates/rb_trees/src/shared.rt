@@ -1,6 +1,8 @@
-// Values with several owners, which are read and never changed.
+// Values with several owners, which are changed only where there is one.
 
-ghost use Rattle.std.specs.Prelude.{◌≡◌, IfOk};
+ghost use Rattle.std.specs.Prelude.{◌≡◌, IfOk, IfSome};
+ghost use Rattle.std.specs.Borrow.{LendsIf, sem};
+ghost use Rattle.rb_trees.specs.contracts.shared.Shared.{the_row};
 
 use crate::want::Memory;
 use std::alloc::Global;
@@ -15,6 +17,8 @@ pub struct Shared<T> {
 }
 
 impl<T> Model for Shared<T> {
+    ghost use Rattle.std.specs.Prelude.{◌≡◌};
+
     ghost Value = { T };
 
     ghost coded = { T.code };
@@ -28,6 +32,14 @@ impl<T> Shared<T> {
         ensures { result.now ≡ self.now }
     {
         self.inner.as_ref()
+    }
+
+    /// The value, to be changed where it stands, or None where it has other owners.
+    pub fn get_mut(&mut self) -> Option<&mut T>
+        ensures* writes_back { sem 𝓛 (LendsIf (the_row T.row) T.row self.entry result (λ value. value) self.old) }
+        ensures value { IfSome result (λ value. value.now ≡ self.old) }
+    {
+        Rc::get_mut(&mut self.inner)
     }
 }
 
