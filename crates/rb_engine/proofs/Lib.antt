@@ -1,3 +1,4 @@
+pub mod Additions
 pub mod Answered
 pub mod Arguments
 pub mod Blocks

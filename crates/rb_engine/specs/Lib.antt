@@ -19,5 +19,6 @@ pub mod Servers
 pub mod Service
 pub mod Shown
 pub mod Slots
+pub mod Sums
 pub mod Targets
 pub mod Worlds

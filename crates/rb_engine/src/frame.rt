@@ -3,12 +3,18 @@
 ghost use Rattle.std.specs.Prelude.{◌≡◌, [], ◌∷◌, ◌++◌, length, take, IfOk, OnOk, OnErr};
 ghost use Rattle.std.specs.Option.{option_copied};
 ghost use Rattle.rb_trees.specs.Named.{lookup};
+ghost use Rattle.rb_trees.specs.Outcome.{Gives};
 ghost use Rattle.rb_meaning_code.specs.State.{this_name};
+ghost use Rattle.rb_engine.specs.Ends.{fault_of};
 ghost use Rattle.rb_engine.specs.NameWrites.{Replaces};
 ghost use Rattle.rb_engine.specs.Places.{first_place};
+ghost use Rattle.rb_engine.specs.Sums.{sum_at};
 
+use crate::ends::Failure;
+use crate::faults::kind;
 use crate::later::{Later, note, place_among};
 use crate::name::Name;
+use crate::sums::add_value;
 use rb_trees::{Memory, Seq, Value, Word, copy_value};
 use std::alloc::Global;
 use std::marker::Model;
@@ -103,8 +109,9 @@ impl Frame {
         self.names.len()
     }
 
-    // The first place of a name.
-    fn place_of(&self, name: &Word) -> Option<usize>
+    /// The first place of a name.
+    #[inline]
+    pub fn place_of(&self, name: &Word) -> Option<usize>
         ensures { result ≡ first_place self.now name.now }
     {
         match &self.later {
@@ -176,6 +183,18 @@ impl Frame {
                 None => Err(value),
             },
             None => Err(value),
+        }
+    }
+
+    /// Adds to the value at a place: `sum_at`. After an error nothing changed.
+    #[tactic(auto, using(crate::proofs::Additions::sum_made, crate::proofs::Indexed::renamed))]
+    pub fn add_at(&mut self, alloc: Global, place: usize, value: &Value) -> Result<(), Failure>
+        ensures gives { Gives (λ u. self.new) fault_of result (sum_at self.old place value.now) }
+        ensures kept { OnErr result (self.new ≡ self.old) }
+    {
+        match self.names.get_mut(place) {
+            Some(named) => add_value(alloc, &mut named.1, value),
+            None => Err(kind(alloc)),
         }
     }
 

@@ -34,6 +34,7 @@ mod server;
 mod service;
 mod state;
 mod statements;
+mod sums;
 mod taken;
 mod targets;
 mod units;

@@ -1,7 +1,7 @@
 // What operators on two operands give.
 #![tactic(auto, using(crate::proofs::Values::values))]
 
-ghost use Rattle.std.specs.Prelude.{◌≡◌, ◌+◌, ◌≤◌, ◌++◌, true, length, IfOk, OnOk};
+ghost use Rattle.std.specs.Prelude.{◌≡◌, ◌+◌, ◌≤◌, ◌++◌, true, length, take, IfOk, OnOk, OnErr};
 ghost use Rattle.rb_trees.specs.Outcome.{Gives};
 ghost use Rattle.rb_trees.specs.Limits.{longest_text};
 ghost use Rattle.rb_trees.specs.declared.values.Value.{out-Value};
@@ -19,8 +19,8 @@ use rb_trees::limits::{LONGEST_LIST, LONGEST_TEXT};
 use rb_trees::{BinOp, Memory, Seq, Shared, Value, Word, copy_value};
 use std::alloc::Global;
 
-// Bytes and then others, in memory that is asked for once.
-fn one_after_the_other(alloc: Global, a: &[u8], b: &[u8]) -> Result<Word, Memory>
+/// Bytes and then others, in memory that is asked for once.
+pub fn one_after_the_other(alloc: Global, a: &[u8], b: &[u8]) -> Result<Word, Memory>
     requires { length a.now + length b.now ≤ longest_text }
     ensures { IfOk result (λ text. text ≡ a.now ++ b.now) }
 {
@@ -41,14 +41,40 @@ fn joined_text(alloc: Global, a: &Word, b: &Word) -> Result<Value, Failure>
     Ok(text_value(alloc, text)?)
 }
 
-// Adds copies of values at the end.
-fn append_values(list: &mut Seq<Value>, values: &[Value]) -> Result<(), Memory>
-    ensures { OnOk result (list.new ≡ list.old ++ values.now) }
+// Adds copies of values at the end, or the first of them where memory runs out.
+fn push_values(list: &mut Seq<Value>, values: &[Value]) -> Result<(), Memory>
+    ensures ok { OnOk result (list.new ≡ list.old ++ values.now) }
+    ensures err { OnErr result (take (length list.old) list.new ≡ list.old) }
 {
     for value in values {
         list.push(copy_value(value)?)?;
     }
     Ok(())
+}
+
+/// Adds copies of values at the end. After an error nothing changed.
+pub fn append_values(list: &mut Seq<Value>, values: &[Value]) -> Result<(), Memory>
+    ensures ok { OnOk result (list.new ≡ list.old ++ values.now) }
+    ensures err { OnErr result (list.new ≡ list.old) }
+{
+    let count = list.len();
+    match push_values(list, values) {
+        Ok(()) => Ok(()),
+        Err(error) => {
+            list.truncate(count);
+            Err(error)
+        }
+    }
+}
+
+/// Copies of values and then of others.
+pub fn all_values(alloc: Global, a: &[Value], b: &[Value]) -> Result<Seq<Value>, Memory>
+    ensures { IfOk result (λ list. list ≡ a.now ++ b.now) }
+{
+    let mut list = Seq::new(alloc);
+    push_values(&mut list, a)?;
+    push_values(&mut list, b)?;
+    Ok(list)
 }
 
 // A list and then another, within the limit.
@@ -58,9 +84,7 @@ fn joined_list(alloc: Global, a: &Seq<Value>, b: &Seq<Value>) -> Result<Value, F
     if a.len() > LONGEST_LIST || b.len() > LONGEST_LIST - a.len() {
         return Err(list_too_long(alloc));
     }
-    let mut list = Seq::new(alloc);
-    append_values(&mut list, a.as_slice())?;
-    append_values(&mut list, b.as_slice())?;
+    let list = all_values(alloc, a.as_slice(), b.as_slice())?;
     Ok(Value::List(Shared::new(alloc, list)?))
 }
 

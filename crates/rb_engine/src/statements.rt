@@ -10,6 +10,7 @@ use crate::frame::Frame;
 use crate::machine::Machine;
 use crate::names::{bind, set_name};
 use crate::objects::write_field;
+use crate::sums::sum_onto;
 use crate::targets::{LeftSide, target_of};
 use crate::world::World;
 use rb_trees::{Expr, Seq, Stmt, StmtForm, Word};
@@ -139,10 +140,16 @@ impl<'a, W: World> Machine<'a, W> {
         ensures same { Keeps self.old self.new }
     {
         match target_of(left) {
-            LeftSide::Name(name) => {
-                let value = self.value_of(frame, right)?;
-                lift(left.at, set_name(self.alloc, frame, name, value))
-            }
+            LeftSide::Name(name) => match sum_onto(frame, name, right) {
+                Some((place, end)) => {
+                    let value = self.value_of(frame, end)?;
+                    lift(right.at, frame.add_at(self.alloc, place, &value))
+                }
+                None => {
+                    let value = self.value_of(frame, right)?;
+                    lift(left.at, set_name(self.alloc, frame, name, value))
+                }
+            },
             LeftSide::Field(object, name) => {
                 let target = self.operand_of(frame, object)?;
                 let value = self.value_of(frame, right)?;

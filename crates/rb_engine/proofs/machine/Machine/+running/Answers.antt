@@ -9,6 +9,7 @@ use Rattle.rb_meaning_code.specs.State.{spent}
 use Rattle.rb_meaning_code.specs.Statements.{either, truth_of, block, while_turns}
 use Rattle.rb_engine.specs.Code.{bodies, value_run, stmts_run}
 use Rattle.rb_engine.specs.Locals.{local}
+use Rattle.rb_engine.proofs.Additions.{sum_cut, sum_gave}
 use Rattle.rb_engine.proofs.Blocks.{by_its_truth, call_returns, try_fine, try_passed, try_handled, while_false, while_true, while_fails, unit_taken, unit_wasted, unit_missing, turn_more}
 use Rattle.rb_engine.proofs.Forms.{lit_form, name_form, this_form, unary_form, binary_form, field_form, call_form, index_form, new_form, items_form, taken_form, val_form, var_form, assign_form, run_form, print_form, throw_form, if_form, while_form, for_form, try_form, batch_form}
 use Rattle.rb_engine.proofs.Lent.{lent_run}
@@ -341,11 +342,17 @@ run_throw-returns-in_err-value-clause-runs g t c = cut _ c.operand_of.ensures.ru
 pub run_throw-returns-clause-runs : goal.run_throw-returns-clause-runs
 run_throw-returns-clause-runs g t c = gave _ c.operand_of.ensures.runs c.in_ok-value.was (ended_by _ (rw c.get.ensures at c.throw.ensures))
 
-pub assign-returns-in_err-value-in-Name-clause-runs : goal.assign-returns-in_err-value-in-Name-clause-runs
-assign-returns-in_err-value-in-Name-clause-runs g t c = at_run (λ gas. name_written (bodies c.args.self.now.code.now gas) c.args.at c.args.left.now _ _ _ c.in-Name.ensures) (cut _ c.value_of.ensures.runs c.in_err-value-in-Name.was (search rules))
+pub assign-returns-in_err-value-in-Some-clause-runs : goal.assign-returns-in_err-value-in-Some-clause-runs
+assign-returns-in_err-value-in-Some-clause-runs g t c = sum_cut c.args.self.now.code.now c.args.at c.in-Some.place c.args.left.now c.args.right.now c.in-Some.end.now c.in-Name.name.now c.in-Name.ensures c.in-Some.ensures c.value_of.ensures.runs c.in_err-value-in-Some.was (search rules)
 
-pub assign-returns-in_ok-value-in-Name-clause-runs : goal.assign-returns-in_ok-value-in-Name-clause-runs
-assign-returns-in_ok-value-in-Name-clause-runs g t c = at_run (λ gas. name_written (bodies c.args.self.now.code.now gas) c.args.at c.args.left.now _ _ _ c.in-Name.ensures) (gave _ c.value_of.ensures.runs c.in_ok-value-in-Name.was (changed (λ u. c.set_name.new.frame) _ _ _ (λ names. local names c.value_of.new.self.state.now) c.args.frame.now c.set_name.new.frame _ refl refl refl (λ a. refl) c.set_name.ensures.gives c.set_name.ensures.kept c.lift.ensures))
+pub assign-returns-in_ok-value-in-Some-clause-runs : goal.assign-returns-in_ok-value-in-Some-clause-runs
+assign-returns-in_ok-value-in-Some-clause-runs g t c = sum_gave c.args.self.now.code.now c.args.at c.in-Some.place c.args.left.now c.args.right.now c.in-Some.end.now c.in-Name.name.now c.add_at.new.self c.add_at.result c.in-Name.ensures c.in-Some.ensures c.value_of.ensures.runs c.in_ok-value-in-Some.was refl c.add_at.ensures.gives c.add_at.ensures.kept c.lift.ensures
+
+pub assign-returns-in_err-value-in-None-clause-runs : goal.assign-returns-in_err-value-in-None-clause-runs
+assign-returns-in_err-value-in-None-clause-runs g t c = at_run (λ gas. name_written (bodies c.args.self.now.code.now gas) c.args.at c.args.left.now _ _ _ c.in-Name.ensures) (cut _ c.value_of-in-None.ensures.runs c.in_err-value-in-None.was (search rules))
+
+pub assign-returns-in_ok-value-in-None-clause-runs : goal.assign-returns-in_ok-value-in-None-clause-runs
+assign-returns-in_ok-value-in-None-clause-runs g t c = at_run (λ gas. name_written (bodies c.args.self.now.code.now gas) c.args.at c.args.left.now _ _ _ c.in-Name.ensures) (gave _ c.value_of-in-None.ensures.runs c.in_ok-value-in-None.was (changed (λ u. c.set_name.new.frame) _ _ _ (λ names. local names c.value_of-in-None.new.self.state.now) c.args.frame.now c.set_name.new.frame _ refl refl refl (λ a. refl) c.set_name.ensures.gives c.set_name.ensures.kept c.lift-in-None.ensures))
 
 pub assign-operand_of-requires : goal.assign-operand_of-requires
 assign-operand_of-requires g t c κs within = (let w = object_light (mirror_expr c.args.left.now) (mirror_expr c.in-Field.object.now) c.in-Field.name.now c.in-Field.ensures in omega arith, within)

@@ -1,5 +1,5 @@
 use Rattle.std.proofs.Common.{◌≡◌, ◌++◌, take}
-use Rattle.rb_engine.proofs.pairs.append_values.Given as goal
+use Rattle.rb_engine.proofs.pairs.push_values.Given as goal
 
 abbrev pub invariant-loop-value : goal.invariant-loop-value
 invariant-loop-value l = l.list ≡ l.fn.list ++ take l.value-index l.values
