@@ -111,7 +111,7 @@ impl Frame {
 
     /// The first place of a name.
     #[inline]
-    pub fn place_of(&self, name: &Word) -> Option<usize>
+    pub(crate) fn place_of(&self, name: &Word) -> Option<usize>
         ensures { result ≡ first_place self.now name.now }
     {
         match &self.later {
@@ -188,7 +188,12 @@ impl Frame {
 
     /// Adds to the value at a place: `sum_at`. After an error nothing changed.
     #[tactic(auto, using(crate::proofs::Additions::sum_made, crate::proofs::Indexed::renamed))]
-    pub fn add_at(&mut self, alloc: Global, place: usize, value: &Value) -> Result<(), Failure>
+    pub(crate) fn add_at(
+        &mut self,
+        alloc: Global,
+        place: usize,
+        value: &Value,
+    ) -> Result<(), Failure>
         ensures gives { Gives (λ u. self.new) fault_of result (sum_at self.old place value.now) }
         ensures kept { OnErr result (self.new ≡ self.old) }
     {
