@@ -1,7 +1,7 @@
 // The batch around a piece, its statements, and what is bound and assigned in it.
 
 use rb_pieces::Pieces;
-use rb_pieces::around::{first_of_statement, is_name, open_brace};
+use rb_pieces::around::{first_of_statement, is_among, is_name, open_brace};
 use rb_pieces::declarations::{Declared, declared_at, declared_before};
 
 /// A batch: its word, the brace behind its head, and the brace at its end.
@@ -52,7 +52,7 @@ pub fn statement_start(pieces: &Pieces<'_>, index: usize) -> usize {
     let mut place = index;
     for _ in 0..pieces.len() {
         let first = first_of_statement(pieces, place);
-        if !matches!(pieces.text(first), b"else" | b"catch") {
+        if !is_among(pieces.text(first), b"else catch") {
             return first;
         }
         match open_brace(pieces, first.saturating_sub(1)) {
@@ -83,7 +83,7 @@ pub fn is_in_loop(pieces: &Pieces<'_>, batch: &BatchSpan, statement: usize) -> b
             Some(open) if open > batch.open => place = statement_start(pieces, open),
             _ => return false,
         }
-        if matches!(pieces.text(place), b"for" | b"while") {
+        if is_among(pieces.text(place), b"for while") {
             return true;
         }
     }
@@ -94,7 +94,7 @@ pub fn is_in_loop(pieces: &Pieces<'_>, batch: &BatchSpan, statement: usize) -> b
 fn is_assigned(pieces: &Pieces<'_>, index: usize) -> bool {
     pieces.is_later(index, 1, b"=")
         && !pieces.is_later(index, 2, b"=")
-        && !matches!(pieces.earlier(index, 1), b"." | b"val" | b"var")
+        && !is_among(pieces.earlier(index, 1), b". val var")
 }
 
 /// The first piece from one on and before another at which a variable is assigned.

@@ -6,7 +6,7 @@ use crate::batch_parts::{
 };
 use crate::flow_help::{is_assigned_later, say_end_before, say_move};
 use crate::refusal_texts;
-use rb_pieces::around::is_name;
+use rb_pieces::around::{is_among, is_name};
 use rb_pieces::spans::{Span, closing};
 use rb_pieces::{Page, Pieces};
 use rb_trees::Memory;
@@ -25,7 +25,7 @@ fn list_of(pieces: &Pieces<'_>, word: usize) -> Span {
 fn has_other_items(pieces: &Pieces<'_>, list: Span) -> bool {
     match known_type(pieces, list) {
         Written::From(piece) if pieces.is_later(piece, 0, b"List") => {
-            !matches!(pieces.later(piece, 2), b"Int" | b"Bool" | b"Text")
+            !is_among(pieces.later(piece, 2), b"Int Bool Text")
         }
         _ => false,
     }

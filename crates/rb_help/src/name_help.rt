@@ -1,7 +1,7 @@
 // What is said of names that aren't known.
 
 use crate::{name_texts, texts};
-use rb_pieces::around::is_in_class;
+use rb_pieces::around::{is_among, is_in_class};
 use rb_pieces::declarations::{Declared, declared_at, declared_before, head_before};
 use rb_pieces::{Help, Page, Pieces};
 use rb_slips::other_word;
@@ -75,7 +75,7 @@ fn declared_in_body(pieces: &Pieces<'_>, index: usize, name: &[u8]) -> Option<us
 /// The piece that declares a variable behind another piece, before the next method or declaration.
 fn declared_later(pieces: &Pieces<'_>, index: usize, name: &[u8]) -> Option<usize> {
     for place in index..pieces.len() {
-        if matches!(pieces.text(place), b"fun" | b"class" | b"main" | b"object") {
+        if is_among(pieces.text(place), b"fun class main object") {
             return None;
         }
         if pieces.is_later(place, 0, name) && declared_at(pieces, place) == Declared::Variable {

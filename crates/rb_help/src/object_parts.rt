@@ -1,7 +1,7 @@
 // The objects of a service: their fields and values, and the types that their classes say.
 
 use rb_pieces::Pieces;
-use rb_pieces::around::is_number;
+use rb_pieces::around::{is_among, is_number};
 use rb_pieces::declarations::{Declared, declared_once};
 use rb_trees::Memory;
 use std::alloc::Global;
@@ -163,7 +163,7 @@ fn is_of_word(pieces: &Pieces<'_>, objects: &Objects<'_, '_>, index: usize, word
     let text = pieces.text(index);
     match word {
         b"Int" => is_number(text) || matches!(text, b"-"),
-        b"Bool" => matches!(text, b"true" | b"false"),
+        b"Bool" => is_among(text, b"true false"),
         b"Text" => text.first() == Some(&b'"'),
         class => match objects.class_written(pieces.later(index, 1)) {
             Some(written) => matches!(text, b"#") && written == class,

@@ -7,6 +7,7 @@ use crate::batch_parts::{
 use crate::flow_help::{say_declare, say_flow, say_not_constant};
 use crate::list_help::say_list;
 use crate::refusal_texts;
+use rb_pieces::around::is_among;
 use rb_pieces::declarations::{Declared, declared_once};
 use rb_pieces::spans::{operand_first, operand_last, span_at};
 use rb_pieces::{Page, Pieces};
@@ -118,7 +119,7 @@ fn say_local_condition(
     let Some(around) = batch else {
         return page.sentence(refusal_texts::DECIDE_BEHIND, b"", b"");
     };
-    if matches!(word, b"if" | b"while") && is_head {
+    if is_among(word, b"if while") && is_head {
         say_head(page, pieces, &around, statement)
     } else {
         say_behind_and(page, pieces, word, call)
@@ -135,7 +136,7 @@ fn plain_method<'a>(pieces: &Pieces<'a>, interface: &[u8]) -> Option<&'a [u8]> {
         let is_method = pieces.is_earlier(place, 1, b"fun")
             && pieces.is_later(place, 1, b"(")
             && pieces.is_later(place, 2, b")");
-        if is_method && matches!(pieces.later(place, 4), b"Int" | b"Bool" | b"Text") {
+        if is_method && is_among(pieces.later(place, 4), b"Int Bool Text") {
             return Some(pieces.text(place));
         }
     }

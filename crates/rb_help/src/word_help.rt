@@ -4,6 +4,7 @@ use crate::command_pages::{COMMANDS, CommandPage};
 use crate::commands::{VERSION, usage};
 use crate::outside_texts as texts;
 use rb_pieces::Page;
+use rb_pieces::around::is_among;
 use rb_trees::Memory;
 use std::alloc::Global;
 use strsim::damerau_levenshtein;
@@ -18,7 +19,7 @@ fn is_help(word: &str) -> bool {
 
 /// Whether a word behind a command asks for help on it: `--help` or `-h`.
 pub fn is_help_option(word: &[u8]) -> bool {
-    matches!(word, b"--help" | b"-h")
+    is_among(word, b"--help -h")
 }
 
 /// Whether one of the words behind a command asks for help on it.

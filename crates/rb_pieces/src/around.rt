@@ -17,22 +17,29 @@ pub enum Home {
     Block,
 }
 
+/// Whether a word is one of a list, in which a space stands between each two.
+pub fn is_among(word: &[u8], words: &[u8]) -> bool {
+    for other in words.split(|byte| *byte == b' ') {
+        if other == word {
+            return true;
+        }
+    }
+    false
+}
+
+/// The words of the language, but for those of types.
+const KEYWORDS: &[u8] =
+    b"interface class fun remote main val var if else for in while try catch throw return \
+    batch print len str new this true false object root";
+
 /// Whether a piece is a word of the language.
 pub fn is_keyword(text: &[u8]) -> bool {
-    match text {
-        b"interface" | b"class" | b"fun" | b"remote" | b"main" | b"val" | b"var" | b"if" => true,
-        b"else" | b"for" | b"in" | b"while" | b"try" | b"catch" | b"throw" | b"return" => true,
-        b"batch" | b"print" | b"len" | b"str" | b"new" | b"this" | b"true" | b"false" => true,
-        _ => is_type_word(text) || matches!(text, b"object" | b"root"),
-    }
+    is_among(text, KEYWORDS) || is_type_word(text)
 }
 
 /// Whether a piece is a word of the language for a type.
 pub fn is_type_word(text: &[u8]) -> bool {
-    matches!(
-        text,
-        b"List" | b"Rows" | b"Int" | b"Bool" | b"Text" | b"Unit"
-    )
+    is_among(text, b"List Rows Int Bool Text Unit")
 }
 
 /// Whether a piece is a name.
@@ -76,7 +83,7 @@ pub fn first_of_line(pieces: &Pieces<'_>, index: usize) -> usize {
 pub fn first_of_statement(pieces: &Pieces<'_>, index: usize) -> usize {
     for back in 0..index {
         let place = index - back;
-        if matches!(pieces.text(place - 1), b";" | b"{" | b"}") {
+        if is_among(pieces.text(place - 1), b"; { }") {
             return place;
         }
     }
@@ -85,13 +92,19 @@ pub fn first_of_statement(pieces: &Pieces<'_>, index: usize) -> usize {
 
 /// What a brace belongs to, by the first word of the head before it.
 fn head_of_brace(pieces: &Pieces<'_>, brace: usize) -> Home {
-    match pieces.text(first_of_statement(pieces, brace)) {
-        b"interface" => Home::Interface,
-        b"class" => Home::Class,
-        b"object" => Home::Object,
-        b"fun" | b"remote" | b"main" => Home::Body,
-        _ => Home::Block,
+    let word = pieces.text(first_of_statement(pieces, brace));
+    let rows: [(&[u8], Home); 4] = [
+        (b"interface", Home::Interface),
+        (b"class", Home::Class),
+        (b"object", Home::Object),
+        (b"fun remote main", Home::Body),
+    ];
+    for (words, home) in &rows {
+        if is_among(word, words) {
+            return *home;
+        }
     }
+    Home::Block
 }
 
 /// What the innermost braces around a piece belong to.
@@ -106,10 +119,9 @@ pub fn home_of(pieces: &Pieces<'_>, index: usize) -> Home {
 pub fn is_in_class(pieces: &Pieces<'_>, index: usize) -> bool {
     let mut found = false;
     for place in 0..index {
-        match pieces.text(place) {
-            b"class" => found = true,
-            b"interface" | b"main" | b"object" => found = false,
-            _ => {}
+        let word = pieces.text(place);
+        if is_among(word, b"class interface main object") {
+            found = is_among(word, b"class");
         }
     }
     found

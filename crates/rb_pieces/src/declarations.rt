@@ -1,5 +1,6 @@
 // Where names of a text are declared.
 
+use crate::around::is_among;
 use crate::pieces::Pieces;
 
 /// What a name is declared as.
@@ -127,7 +128,7 @@ pub fn arguments_behind(pieces: &Pieces<'_>, index: usize) -> u64 {
 pub fn head_before(pieces: &Pieces<'_>, index: usize) -> usize {
     let mut head = index;
     for place in 0..index {
-        if matches!(pieces.text(place), b"fun" | b"main") {
+        if is_among(pieces.text(place), b"fun main") {
             head = place;
         }
     }

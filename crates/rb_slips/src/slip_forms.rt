@@ -3,15 +3,14 @@
 use crate::slip_texts;
 use crate::slips::{Slip, both, named};
 use rb_pieces::Pieces;
-use rb_pieces::around::{Home, first_of_statement, home_of, is_keyword, is_name, is_type_word};
+use rb_pieces::around::{
+    Home, first_of_statement, home_of, is_among, is_keyword, is_name, is_type_word,
+};
 use rb_pieces::spans::{opening, slot_around};
 
 /// Whether a piece is a sign between operands.
 fn is_between(text: &[u8]) -> bool {
-    matches!(
-        text,
-        b"&" | b"|" | b"=" | b"!" | b"<" | b">" | b"+" | b"-" | b"*" | b"/" | b"%"
-    )
+    is_among(text, b"& | = ! < > + - * / %")
 }
 
 /// A word whose parenthesis or braces are missing before a piece.
@@ -48,7 +47,7 @@ fn behind_head<'a>(pieces: &Pieces<'a>, index: usize) -> Option<Slip<'a>> {
 
 /// Whether a word of the language may have been meant as a name, since it begins no declaration.
 fn is_word_as_name(text: &[u8]) -> bool {
-    is_keyword(text) && !is_type_word(text) && !matches!(text, b"val" | b"var")
+    is_keyword(text) && !is_type_word(text) && !is_among(text, b"val var")
 }
 
 /// A slip in the head of a `for`.
@@ -80,7 +79,7 @@ fn in_head<'a>(pieces: &Pieces<'a>, index: usize) -> Option<Slip<'a>> {
 fn behind_variable<'a>(pieces: &Pieces<'a>, index: usize) -> Option<Slip<'a>> {
     let word = pieces.earlier(index, 2);
     let name = pieces.earlier(index, 1);
-    if !matches!(word, b"val" | b"var") || home_of(pieces, index) == Home::Class {
+    if !is_among(word, b"val var") || home_of(pieces, index) == Home::Class {
         return None;
     }
     match pieces.text(index) {
@@ -113,11 +112,11 @@ fn by_type<'a>(pieces: &Pieces<'a>, index: usize) -> Option<Slip<'a>> {
     let first = first_of_statement(pieces, index);
     let text = pieces.text(index);
     let begins_by_type = first == index && is_type_word(text);
-    let is_behind_word = matches!(pieces.earlier(index, 1), b"val" | b"var") && is_type_word(text);
+    let is_behind_word = is_among(pieces.earlier(index, 1), b"val var") && is_type_word(text);
     let is_behind_type = is_name(text)
         && (pieces.is_earlier(index, 1, b">") || is_name(pieces.earlier(index, 1)))
-        && matches!(pieces.later(index, 1), b"=" | b";");
-    if begins_by_type && matches!(pieces.later(index, 1), b"(" | b".") {
+        && is_among(pieces.later(index, 1), b"= ;");
+    if begins_by_type && is_among(pieces.later(index, 1), b"( .") {
         return None;
     }
     if begins_by_type || is_behind_word || is_behind_type {

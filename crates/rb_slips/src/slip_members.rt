@@ -2,9 +2,9 @@
 
 use crate::slip_texts;
 use crate::slips::{Slip, both, named};
-use rb_pieces::Pieces;
-use rb_pieces::around::{Home, first_of_statement, home_of, is_name, is_type_word};
+use rb_pieces::around::{Home, first_of_statement, home_of, is_among, is_name, is_type_word};
 use rb_pieces::spans::slot_around;
+use rb_pieces::{Help, Pieces};
 
 /// Whether a declaration with this word begins before a piece.
 fn is_behind(pieces: &Pieces<'_>, index: usize, word: &[u8]) -> bool {
@@ -18,19 +18,7 @@ fn is_behind(pieces: &Pieces<'_>, index: usize, word: &[u8]) -> bool {
 
 /// Whether a piece is the first of a statement that is none of its other forms.
 fn begins_statement(text: &[u8]) -> bool {
-    matches!(
-        text,
-        b"val"
-            | b"var"
-            | b"if"
-            | b"for"
-            | b"while"
-            | b"try"
-            | b"throw"
-            | b"return"
-            | b"batch"
-            | b"print"
-    )
+    is_among(text, b"val var if for while try throw return batch print")
 }
 
 /// A slip in the head of a class or an interface.
@@ -41,24 +29,21 @@ fn in_class_head<'a>(pieces: &Pieces<'a>, index: usize) -> Option<Slip<'a>> {
     }
 }
 
-/// A declaration at the wrong place of a text.
+/// A declaration at the wrong place of a text: with one of these words, behind the first declaration with that word.
 fn misplaced<'a>(pieces: &Pieces<'a>, index: usize) -> Option<Slip<'a>> {
-    match pieces.text(index) {
-        b"class" | b"interface" | b"main" if is_behind(pieces, index, b"main") => named(
-            &slip_texts::MAIN_LAST,
-            b"",
-        ),
-        b"class" | b"object" if is_behind(pieces, index, b"root") => named(
-            &slip_texts::ROOT_LAST,
-            b"",
-        ),
-        b"class" if is_behind(pieces, index, b"object") => named(&slip_texts::CLASSES_FIRST, b""),
-        b"interface" if is_behind(pieces, index, b"class") => named(
-            &slip_texts::INTERFACES_FIRST,
-            b"",
-        ),
-        _ => None,
+    let text = pieces.text(index);
+    let rows: [(&[u8], &[u8], &'static Help); 4] = [
+        (b"class interface main", b"main", &slip_texts::MAIN_LAST),
+        (b"class object", b"root", &slip_texts::ROOT_LAST),
+        (b"class", b"object", &slip_texts::CLASSES_FIRST),
+        (b"interface", b"class", &slip_texts::INTERFACES_FIRST),
+    ];
+    for (words, word, help) in &rows {
+        if is_among(text, words) && is_behind(pieces, index, word) {
+            return named(help, b"");
+        }
     }
+    None
 }
 
 /// A slip outside of all braces.
@@ -104,7 +89,7 @@ fn in_method_head<'a>(pieces: &Pieces<'a>, index: usize) -> Option<Slip<'a>> {
 /// Whether the last method before a piece, since the last brace or semicolon, has just its head.
 fn is_behind_head(pieces: &Pieces<'_>, index: usize) -> bool {
     let first = first_of_statement(pieces, index);
-    matches!(pieces.text(first), b"fun" | b"remote")
+    is_among(pieces.text(first), b"fun remote")
 }
 
 /// Whether a member begins with a piece, and not by the name of a field.

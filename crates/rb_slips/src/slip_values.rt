@@ -4,28 +4,15 @@ use crate::slip_texts;
 use crate::slips::{Slip, both, named};
 use crate::tries::TextKind;
 use rb_pieces::Pieces;
-use rb_pieces::around::{Home, first_of_statement, home_of, is_in_class, is_name, is_number};
+use rb_pieces::around::{
+    Home, first_of_statement, home_of, is_among, is_in_class, is_name, is_number,
+};
 use rb_pieces::declarations::{Declared, declared_before};
 use rb_pieces::spans::{operand_first, slot_around};
 
 /// Whether an expression is wanted behind a piece.
 fn wants_expression(text: &[u8]) -> bool {
-    matches!(
-        text,
-        b"=" | b"("
-            | b","
-            | b"["
-            | b"+"
-            | b"-"
-            | b"*"
-            | b"/"
-            | b"%"
-            | b"<"
-            | b">"
-            | b"!"
-            | b"&"
-            | b"|"
-    ) || matches!(text, b"return" | b"throw" | b"in")
+    is_among(text, b"= ( , [ + - * / % < > ! & |") || is_among(text, b"return throw in")
 }
 
 /// A list that is written as in another language.
@@ -91,8 +78,7 @@ fn comparison<'a>(pieces: &Pieces<'a>, index: usize) -> &'a [u8] {
 
 /// Whether a piece is a `=` by itself.
 fn assigns(pieces: &Pieces<'_>, index: usize) -> bool {
-    let is_second = pieces.is_joined(index)
-        && matches!(pieces.earlier(index, 1), b"=" | b"!" | b"<" | b">");
+    let is_second = pieces.is_joined(index) && is_among(pieces.earlier(index, 1), b"= ! < >");
     pieces.is_later(index, 0, b"=") && !is_second && !compares(pieces, index)
 }
 
@@ -126,7 +112,7 @@ fn equality_slip<'a>(pieces: &Pieces<'a>, index: usize) -> Option<Slip<'a>> {
 /// A word of the language that is written as a method.
 fn method_slip<'a>(pieces: &Pieces<'a>, index: usize) -> Option<Slip<'a>> {
     let word = pieces.text(index);
-    if !matches!(word, b"len" | b"str" | b"print") || !pieces.is_earlier(index, 1, b".") {
+    if !is_among(word, b"len str print") || !pieces.is_earlier(index, 1, b".") {
         return None;
     }
     let last = index.saturating_sub(2);
@@ -189,8 +175,8 @@ fn object_slip<'a>(pieces: &Pieces<'a>, kind: TextKind, index: usize) -> Option<
     if home_of(pieces, index) != Home::Object {
         return None;
     }
-    let is_sum = matches!(text, b"+" | b"-" | b"*" | b"/" | b"%" | b"(" | b".");
-    if is_sum || matches!(before, b"=" | b"[" | b",") && !matches!(text, b";" | b"]" | b"}") {
+    let is_sum = is_among(text, b"+ - * / % ( .");
+    if is_sum || is_among(before, b"= [ ,") && !is_among(text, b"; ] }") {
         return both(&slip_texts::VALUE_FORM, b"", b"#");
     }
     None

@@ -2,67 +2,85 @@
 
 use crate::slip_texts;
 use crate::slips::{Slip, named};
-use rb_pieces::around::is_name;
+use rb_pieces::around::{is_among, is_name};
 use rb_pieces::declarations::{Declared, declared_at};
 use rb_pieces::{Help, Pieces};
 
+/// Words, with a space between each two, and what is said of each.
+type Said = (&'static [u8], &'static Help);
+
+/// What is said of a word by the first row that has it.
+fn said_of(word: &[u8], rows: &[Said]) -> Option<&'static Help> {
+    for row in rows {
+        if is_among(word, row.0) {
+            return Some(row.1);
+        }
+    }
+    None
+}
+
 /// What is said of a word with which other languages declare something or begin a statement.
 fn of_statement(word: &[u8]) -> Option<&'static Help> {
-    match word {
-        b"let" | b"const" | b"auto" | b"mut" => Some(&slip_texts::DECLARE),
-        b"println" | b"printf" | b"echo" | b"puts" | b"console" => Some(&slip_texts::PRINTER),
-        b"elif" | b"elseif" | b"elsif" => Some(&slip_texts::ELSE_IF),
-        b"switch" | b"match" | b"case" | b"when" => Some(&slip_texts::CHOICE),
-        b"do" | b"until" | b"foreach" | b"loop" | b"repeat" => Some(&slip_texts::LOOP),
-        b"finally" => Some(&slip_texts::FINALLY),
-        b"then" | b"begin" | b"end" => Some(&slip_texts::BRACE_WORD),
-        b"break" | b"continue" => Some(&slip_texts::NO_JUMP),
-        b"await" | b"async" => Some(&slip_texts::TAKE_WORD),
-        _ => None,
-    }
+    said_of(
+        word,
+        &[
+            (b"let const auto mut", &slip_texts::DECLARE),
+            (b"println printf echo puts console", &slip_texts::PRINTER),
+            (b"elif elseif elsif", &slip_texts::ELSE_IF),
+            (b"switch match case when", &slip_texts::CHOICE),
+            (b"do until foreach loop repeat", &slip_texts::LOOP),
+            (b"finally", &slip_texts::FINALLY),
+            (b"then begin end", &slip_texts::BRACE_WORD),
+            (b"break continue", &slip_texts::NO_JUMP),
+            (b"await async", &slip_texts::TAKE_WORD),
+        ],
+    )
 }
 
 /// What is said of a word with which other languages name a value, declare something or begin a statement.
 pub fn other_word(word: &[u8]) -> Option<&'static Help> {
-    match word {
-        b"null" | b"nil" | b"None" | b"undefined" | b"NULL" => Some(&slip_texts::NO_NULL),
-        b"self" | b"Self" | b"super" => Some(&slip_texts::THIS_WORD),
-        b"True" | b"False" | b"TRUE" | b"FALSE" => Some(&slip_texts::TRUTH),
-        b"System" => Some(&slip_texts::PRINTER),
-        _ => of_statement(word),
-    }
+    let said = said_of(
+        word,
+        &[
+            (b"null nil None undefined NULL", &slip_texts::NO_NULL),
+            (b"self Self super", &slip_texts::THIS_WORD),
+            (b"True False TRUE FALSE", &slip_texts::TRUTH),
+            (b"System", &slip_texts::PRINTER),
+        ],
+    );
+    said.or_else(|| of_statement(word))
 }
 
 /// What is said of a word that joins expressions in other languages.
 fn of_expression(word: &[u8]) -> Option<&'static Help> {
-    match word {
-        b"and" => Some(&slip_texts::AND_WORD),
-        b"or" => Some(&slip_texts::OR_WORD),
-        b"not" => Some(&slip_texts::NOT_WORD),
-        _ => None,
-    }
+    said_of(
+        word,
+        &[
+            (b"and", &slip_texts::AND_WORD),
+            (b"or", &slip_texts::OR_WORD),
+            (b"not", &slip_texts::NOT_WORD),
+        ],
+    )
 }
 
 /// What is said of a word with which other languages declare what stands at the top or in a class.
 fn of_declaration(word: &[u8]) -> Option<&'static Help> {
-    match word {
-        b"def" | b"function" | b"func" | b"fn" | b"void" | b"sub" => Some(&slip_texts::FUNCTION),
-        b"public"
-        | b"private"
-        | b"protected"
-        | b"static"
-        | b"final"
-        | b"abstract"
-        | b"override"
-        | b"pub"
-        | b"export" => Some(&slip_texts::TAKE_WORD),
-        b"import" | b"package" | b"use" | b"using" | b"include" | b"from" => {
-            Some(&slip_texts::IMPORT)
-        }
-        b"extends" | b"implements" => Some(&slip_texts::INHERIT),
-        b"struct" | b"enum" | b"record" | b"trait" | b"type" => Some(&slip_texts::TYPE_WORD),
-        _ => None,
-    }
+    said_of(
+        word,
+        &[
+            (b"def function func fn void sub", &slip_texts::FUNCTION),
+            (
+                b"public private protected static final abstract override pub export",
+                &slip_texts::TAKE_WORD,
+            ),
+            (
+                b"import package use using include from",
+                &slip_texts::IMPORT,
+            ),
+            (b"extends implements", &slip_texts::INHERIT),
+            (b"struct enum record trait type", &slip_texts::TYPE_WORD),
+        ],
+    )
 }
 
 /// What is said of a word of other languages.
@@ -98,8 +116,5 @@ pub fn word_slip<'a>(pieces: &Pieces<'a>, index: usize) -> Option<Slip<'a>> {
 
 /// Whether a piece shows that the name before it was meant as a word of the language.
 fn is_begun(text: &[u8]) -> bool {
-    matches!(
-        text,
-        b"(" | b"{" | b"[" | b"class" | b"fun" | b"interface" | b"if" | b"val" | b"var"
-    )
+    is_among(text, b"( { [ class fun interface if val var")
 }

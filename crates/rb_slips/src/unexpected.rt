@@ -5,7 +5,7 @@ use crate::repairs::{Change, repair};
 use crate::slips::slip_at;
 use crate::tries::{Reach, TextKind, Tries};
 use crate::{read_texts, slip_texts};
-use rb_pieces::around::{first_of_line, first_of_statement, open_brace};
+use rb_pieces::around::{first_of_line, first_of_statement, is_among, open_brace};
 use rb_pieces::{Help, Page, Pieces};
 use rb_trees::{Memory, TokenKind};
 
@@ -120,7 +120,7 @@ fn parts_there(tries: &Tries<'_>, told: &mut Vec<Told>) -> Result<(), Memory> {
 
 /// Whether a sign begins or goes on with a part that may stand at a place.
 fn is_of_part(text: &[u8]) -> bool {
-    matches!(text, b"(" | b"<" | b">" | b"=")
+    is_among(text, b"( < > =")
 }
 
 /// The words and signs that may stand at a place by themselves.

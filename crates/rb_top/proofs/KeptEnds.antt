@@ -29,7 +29,7 @@ module _ {D : Type 0} (d : disks.Ghosts D) where
   came_back_so E name disk left stores between stores' opened back = back ∙ ap (after_back (device d.told d.faults left)) (opened ∙ opened_so E name disk stores)
 
   pub kept_back : (k : Keeping) (kept last : SeenKept D) (answer : Result (Unit {0}) (SessionsStop JournalStop)) (result : Status) (listen after_it : Listener) (stores stores' : StoreSeen) (before said after : Device (List ℕ))
-      → ServesKeptTo d.told d.faults kept last k.serving.count answer listen after_it before said → stores' ≡ after_back (device d.told d.faults last.journal.disk) stores → EndsServing k.journal last answer result said after
+      → ServesKeptTo d.told d.faults kept last k.serving.count answer listen after_it before said → stores' ≡ after_back (device d.told d.faults last.journal.disk) stores → EndsServing k.journal last.host.table answer result said after
       → KeepsToBack d k kept result listen after_it stores stores' before after
   kept_back k kept last answer result listen after_it stores stores' before said after s back ends = record {
     disk = last.journal.disk;
@@ -40,7 +40,7 @@ module _ {D : Type 0} (d : disks.Ghosts D) where
       answer = answer;
       sessions = s.sessions;
       stops = s.stops;
-      ends = subst (λ x. EndsServing k.journal x answer result said after) (sym s.is) ends;
+      ends = subst (λ x. EndsServing k.journal x.host.table answer result said after) (sym s.is) ends;
       disk_is = ap (λ (x : SeenKept D). x.journal.disk) (sym s.is);
       faults_are = s.faults_are;
       keeps = s.keeps;

@@ -80,7 +80,7 @@ module _ {D : Type 0} (d : disks.Ghosts D) where
 
   -- serving ended
   serving_ended : (name : List ℕ) (kept : SeenKept D) (answer : Result (Unit {0}) (SessionsStop JournalStop)) (left : D) (stores stores' : StoreSeen) (result : Status) (said after : Device (List ℕ)) → IsUnbroken stores stores' → stores' ≡ came_back d name left stores
-      → IsServingStop answer → d.faults left ≡ faults_in answer → ((status : Status) → answer ≡ Err (Said status) → IsDone status) → EndsServing name kept answer result said after → IsDoneOrFull result
+      → IsServingStop answer → d.faults left ≡ faults_in answer → ((status : Status) → answer ≡ Err (Said status) → IsDone status) → EndsServing name kept.host.table answer result said after → IsDoneOrFull result
   serving_ended name kept (Ok tt) left stores stores' result said after u back fine faults statuses e = inl (ends_done _ result said after e)
   serving_ended name kept (Err (Said status)) left stores stores' result said after u back fine faults statuses e = inl (subst IsDone (sym e.0) (statuses status refl))
   serving_ended name kept (Err (Answers stops.DiskFault)) left stores stores' result said after u back fine faults statuses e = absurd (never_broken stores stores' name left u back faults)

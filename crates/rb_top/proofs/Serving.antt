@@ -26,7 +26,7 @@ use Rattle.rb_hub.specs.declared.serving.HubServeStop.{HubServeStop}
 use Rattle.rb_hub.specs.declared.serving.HubServeStop.TheVariants.{Serve, Answers}
 use Rattle.rb_top.specs.Ends as ends
 use Rattle.rb_top.specs.Manners.{ServesAnswers, host_manner, hub_manner, is_starved, is_want, line_unless, shown_answer, shown_hub_answer}
-use Rattle.rb_top.specs.ServerParts.{HasSessionOut, ListensAs, SaysLine, SaysSession, ServesNext, none_comes, not_given, served, served_last, starved_to_give}
+use Rattle.rb_top.specs.ServerParts.{EndsHost, HasSessionOut, ListensAs, SaysLine, SaysSession, ServesNext, none_comes, not_given, served, served_last, starved_to_give}
 use Rattle.rb_top.specs.Scene.{Scene}
 use Rattle.rb_top.specs.Servers.{ServesAs, ServesHost, begins, to_end, to_stop}
 use Rattle.rb_top.specs.SessionLines.{shown_session}
@@ -237,6 +237,18 @@ module _ {X : Type 0} (a : answerers.Ghosts Hosted X) (services : (h : Hosted) �
   host_halts host made left count stop listen last before after m s =
       subst (λ h. ServesHost h count Memory listen last before after) m
       (to_stop left (halt_seen (hub_manner a) host_manner host_answer host_seen made left count stop listen last before after (stopped_so stop) s))
+
+  -- whichever way it ended
+  pub host_ends : (host made left : Hosted) (count : ℕ) (answer : Result (Unit {0}) (SessionsStop X)) (result : Status) (listen last : Listener) (before said after : Device (List ℕ)) → made ≡ host
+      → ServesSessions (hub_manner a) made left count listen last before said answer → (table : List Object) → table ≡ left.table → EndsHost answer table result said after
+      → ServesHost host count result listen last before after
+  host_ends host made left count (Ok done) result listen last before said after m s table t shown = host_to_end host made left count result listen last before said after m s table t shown
+  host_ends host made left count (Err (stops.Said status)) result listen last before said after m s table t (is, same) =
+      subst (λ o. ServesHost host count result listen last before o) (sym same)
+      (subst (λ r. ServesHost host count r listen last before said) (sym is) (host_to_stop host made left count status listen last before said m s))
+  host_ends host made left count (Err (stops.Answers stop)) result listen last before said after m s table t (is, same) =
+      subst (λ o. ServesHost host count result listen last before o) (sym same)
+      (subst (λ r. ServesHost host count r listen last before said) (sym is) (host_halts host made left count stop listen last before said m s))
 
 -- ---- the hub
 

@@ -1,7 +1,8 @@
 -- A request in JSON, in a file, is answered on the service in another, and the reply and the table are shown.
-use Rattle.std.specs.Prelude.{◌≡◌, ℕ, List, ◌++◌, Ok, Err, codes}
+use Rattle.std.specs.Prelude.{◌≡◌, ℕ, List, ◌++◌, Result, Ok, Err, codes}
 use Rattle.std.specs.Fmt.{decimal}
 use Rattle.serde_json.specs.Written.{compact_text}
+use Rattle.rb_trees.specs.declared.services.Object.{Object}
 use Rattle.rb_meaning.specs.Shown.{line, shown_table}
 use Rattle.rb_meaning_bytes.specs.formats.Messages.{Sent}
 use Rattle.rb_base.specs.Devices.{Device}
@@ -10,6 +11,9 @@ use Rattle.rb_json.specs.Answering.{Reply, json_reply}
 use Rattle.rb_json.specs.Requests.{request_in}
 use Rattle.rb_json.specs.declared.stops.JsonRefusal.{JsonRefusal}
 use Rattle.rb_json.specs.declared.stops.JsonRefusal.TheVariants.{NotJson, WrongForm}
+use Rattle.rb_json.specs.declared.stops.JsonStop.{JsonStop}
+use Rattle.rb_json.specs.declared.stops.JsonStop.TheVariants.{Refused}
+use Rattle.rb_json.specs.declared.stops.JsonStop.TheVariants as starved
 use Rattle.rb_top.specs.Ends.{Ends, Tells}
 use Rattle.rb_top.specs.Loads.{HoldsText}
 use Rattle.rb_top.specs.Runs.{Served}
@@ -32,6 +36,12 @@ shown_reply reply = line (compact_text reply.json) ++ shown_table 0 reply.table
 -- what is shown of a request on a service with a table
 abbrev pub shown_json : Served → Sent → List ℕ
 shown_json served sent = shown_reply (json_reply served.0 served.1 sent)
+
+-- An answer came so, with these bytes as its reply and this table after it, and what was to be said was said.
+abbrev pub EndsAnswer : Result (Unit {0}) JsonStop → List ℕ → List Object → Status → Device (List ℕ) → Device (List ℕ) → Type 0
+EndsAnswer (Ok done) reply table result before after = Ends Done (line reply ++ shown_table 0 table) result before after
+EndsAnswer (Err (Refused refusal)) reply table result before after = Ends (JsonRefused refusal) (shown_json_refusal refusal) result before after
+EndsAnswer (Err starved.Memory) reply table result before after = (result ≡ Memory) × (after ≡ before)
 
 -- A request was answered on a service with its table, and that was shown; or it is refused, and that was said. Or memory was wanting.
 pub data AnswersJson (request : List ℕ) (served : Served) (result : Status) (before after : Device (List ℕ)) : Type 0 where

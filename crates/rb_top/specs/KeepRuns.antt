@@ -109,11 +109,11 @@ IsServingStop (Err (Answers stops.NotAJournal)) = ⊥
 IsServingStop (Err (Answers (stops.BadRecord number))) = ⊥
 IsServingStop answer = Unit {0}
 
--- Serving ended so, and what was to be said was said.
-abbrev pub EndsServing : {D : Type 0} → List ℕ → SeenKept D → Result (Unit {0}) (SessionsStop JournalStop) → Status → Device (List ℕ) → Device (List ℕ) → Type 0
-EndsServing name left (Ok done) result said after = prints.Ends Done (shown_table 0 left.host.table) result said after
-EndsServing name left (Err (Said status)) result said after = (result ≡ status) × (after ≡ said)
-EndsServing name left (Err (Answers stop)) result said after = SaysStop name stop result said after
+-- Serving ended so, of which this table is left, and what was to be said was said.
+abbrev pub EndsServing : List ℕ → List Object → Result (Unit {0}) (SessionsStop JournalStop) → Status → Device (List ℕ) → Device (List ℕ) → Type 0
+EndsServing name table (Ok done) result said after = prints.Ends Done (shown_table 0 table) result said after
+EndsServing name table (Err (Said status)) result said after = (result ≡ status) × (after ≡ said)
+EndsServing name table (Err (Answers stop)) result said after = SaysStop name stop result said after
 
 -- how many of the requests count as answered for: all of sessions that have lines, else those that a reply may have been written to
 abbrev pub answered_for : {D : Type 0} → Result (Unit {0}) (SessionsStop JournalStop) → Counting D → ℕ
@@ -133,7 +133,7 @@ pub record KeepsSessions {D : Type 0} (told : D → Option DiskRecord) (faults :
   pub answer : Result (Unit {0}) (SessionsStop JournalStop)
   pub sessions : ServesSessions (kept_manner told faults) (uncounted kept) left count listen after_it before said answer
   pub stops : IsServingStop answer
-  pub ends : EndsServing name left.kept answer result said after
+  pub ends : EndsServing name left.kept.host.table answer result said after
   pub disk_is : disk ≡ left.kept.journal.disk
   pub faults_are : faults disk ≡ faults_in answer
   pub keeps : (payloads : List (List ℕ)) → Keeps told kept.journal payloads → EachImageHolds told disk payloads left.requests (answered_for answer left)

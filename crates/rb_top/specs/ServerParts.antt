@@ -1,6 +1,7 @@
 -- What the parts of a server do.
 use Rattle.std.specs.Prelude.{◌≡◌, ℕ, List, Bool, true, false, Option, Result, Ok, Err, IfSome, ◌<◌}
-use Rattle.rb_meaning.specs.Shown.{line}
+use Rattle.rb_trees.specs.declared.services.Object.{Object}
+use Rattle.rb_meaning.specs.Shown.{line, shown_table}
 use Rattle.rb_base.specs.Devices.{Device}
 use Rattle.rb_base.specs.Directories.{Directory}
 use Rattle.rb_base.specs.Listening.{Listening}
@@ -11,9 +12,9 @@ use Rattle.rb_top.specs.Sessions.{FailsToGive, GivesNone, InLine, Listener, Mann
 use Rattle.rb_top.specs.Servers.{Listens, ServesAs, nothing_kept}
 use Rattle.rb_top.specs.Words.{Serving, child_of}
 use Rattle.rb_top.specs.declared.sessions.SessionsStop.{SessionsStop}
-use Rattle.rb_top.specs.declared.sessions.SessionsStop.TheVariants.{Said}
+use Rattle.rb_top.specs.declared.sessions.SessionsStop.TheVariants.{Said, Answers}
 use Rattle.rb_top.specs.declared.status.Status.{Status}
-use Rattle.rb_top.specs.declared.status.Status.TheVariants.{ListenFault, Memory}
+use Rattle.rb_top.specs.declared.status.Status.TheVariants.{Done, ListenFault, Memory}
 
 -- A session is out, as far as the listener tells.
 abbrev pub HasSessionOut : Option Listening → Type 0
@@ -47,6 +48,12 @@ ServesNextAs m number server left listen after_it result before after = ServesNe
 
 abbrev pub ServesSessionsAs : {A R X : Type 0} → Manner A R X → A → A → ℕ → Listener → Listener → Result (Unit {0}) (SessionsStop X) → Device (List ℕ) → Device (List ℕ) → Type 0
 ServesSessionsAs m server left count listen after_it result before after = ServesSessions m server left count listen after_it before after result
+
+-- Serving by a host ended so, of which this table is left, and what was to be said was said.
+abbrev pub EndsHost : {X : Type 0} → Result (Unit {0}) (SessionsStop X) → List Object → Status → Device (List ℕ) → Device (List ℕ) → Type 0
+EndsHost (Ok done) table result said after = Ends Done (shown_table 0 table) result said after
+EndsHost (Err (Said status)) table result said after = (result ≡ status) × (after ≡ said)
+EndsHost (Err (Answers stop)) table result said after = (result ≡ Memory) × (after ≡ said)
 
 -- The server of a service listens as is asked of it.
 abbrev pub ListensAs : Hosted → Serving → Status → Listener → Listener → Device (List ℕ) → Device (List ℕ) → Type 0

@@ -8,7 +8,7 @@ ghost use Rattle.rb_meaning.specs.Shown.{line, shown_table};
 ghost use Rattle.rb_session.specs.Answering.{IsTypedHost};
 ghost use Rattle.rb_top.specs.Ends.{Ends};
 ghost use Rattle.rb_top.specs.HubRuns.{served_there};
-ghost use Rattle.rb_top.specs.JsonRuns.{AnswersAs, AnswersJson, shown_json_refusal};
+ghost use Rattle.rb_top.specs.JsonRuns.{AnswersAs, AnswersJson, EndsAnswer, shown_json_refusal};
 ghost use Rattle.rb_top.specs.Printing.{Prints};
 ghost use Rattle.rb_top.specs.Runs.{served_on};
 ghost use Rattle.rb_top.specs.Scene.{output, Across, Between};
@@ -66,6 +66,23 @@ fn print_reply<W: Sink>(
     print_objects(alloc, table, out)
 }
 
+/// Prints the reply and the table of a request that was answered, or says why it is refused.
+fn say_answer<W: Sink>(
+    alloc: Global,
+    answer: Result<(), JsonStop>,
+    reply: Seq<u8>,
+    table: &Heap,
+    out: &mut W,
+) -> Status
+    ensures { Across W.Sink out.old out.new (EndsAnswer answer reply table.now result) }
+{
+    match answer {
+        Ok(()) => ended(Status::Done, print_reply(alloc, reply, table, out)),
+        Err(JsonStop::Refused(refusal)) => say_refusal(alloc, refusal, out),
+        Err(JsonStop::Memory) => Status::Memory,
+    }
+}
+
 /// Answers a request in JSON on a host, and prints the reply and the table; or says why the request is refused.
 fn answer_request<W: Sink>(alloc: Global, host: Host, request: &[u8], out: &mut W) -> Status
     requires size { WithinLength request.now }
@@ -74,14 +91,8 @@ fn answer_request<W: Sink>(alloc: Global, host: Host, request: &[u8], out: &mut 
 {
     let mut answering = host;
     let mut reply = Seq::new(alloc);
-    match json_answer(alloc, &mut answering, request, &mut reply) {
-        Ok(()) => ended(
-            Status::Done,
-            print_reply(alloc, reply, answering.table(), out),
-        ),
-        Err(JsonStop::Refused(refusal)) => say_refusal(alloc, refusal, out),
-        Err(JsonStop::Memory) => Status::Memory,
-    }
+    let answer = json_answer(alloc, &mut answering, request, &mut reply);
+    say_answer(alloc, answer, reply, answering.table(), out)
 }
 
 /// Answers a request in JSON on a service and its table.

@@ -21,6 +21,7 @@ use crate::words::Keeping;
 use rb_base::{Failed, Files, Listen, Sink};
 use rb_disk::{Disk, Stores};
 use rb_exec::Host;
+use rb_heap::Heap;
 use rb_hub::Hub;
 use rb_journal::{Journal, JournalStop, Kept, Stopped, answered_requests_are_kept};
 use rb_trees::Seq;
@@ -92,6 +93,25 @@ fn serve_kept<D: Disk, W: Sink, N: Listen>(
     (hub.into_answers(), answer)
 }
 
+/// Prints the table that is left where serving ended well, or says why a journal on the disk of a name stopped, and answers how
+/// serving ended.
+fn say_end<W: Sink>(
+    alloc: Global,
+    name: &str,
+    answer: Result<(), SessionsStop<JournalStop>>,
+    table: &Heap,
+    out: &mut W,
+) -> Status
+    requires { IsServingStop answer }
+    ensures { Across W.Sink out.old out.new (EndsServing name.now table.now answer result) }
+{
+    match answer {
+        Ok(()) => say_table(alloc, table, out),
+        Err(SessionsStop::Said(status)) => status,
+        Err(SessionsStop::Answers(stop)) => say_stop(alloc, name, stop, out),
+    }
+}
+
 /// Gives the disk of whoever kept requests back, and says how serving ended.
 fn end_serving<W: Sink, T: Stores>(
     alloc: Global,
@@ -103,17 +123,13 @@ fn end_serving<W: Sink, T: Stores>(
 ) -> Status
     requires out { HasOneOut (T.told stores.old) }
     requires stops { IsServingStop answer }
-    ensures says { Across W.Sink out.old out.new (EndsServing name.now kept answer result) }
+    ensures says { Across W.Sink out.old out.new (EndsServing name.now kept.host.table answer result) }
     ensures back { let it = seen T.told T.faults T.broken in let left = device T.D.told T.D.faults kept.journal.disk in
         it stores.new ≡ after_back left (it stores.old) }
 {
     let (journal, host) = kept.into_parts();
     stores.back(journal.into_disk());
-    match answer {
-        Ok(()) => say_table(alloc, host.table(), out),
-        Err(SessionsStop::Said(status)) => status,
-        Err(SessionsStop::Answers(stop)) => say_stop(alloc, name, stop, out),
-    }
+    say_end(alloc, name, answer, host.table(), out)
 }
 
 /// Serves so many sessions at most by whoever keeps requests, gives the disk back, and says how serving ended.

@@ -7,7 +7,7 @@ ghost use Rattle.rb_base.specs.Devices.{device};
 ghost use Rattle.rb_session.specs.Answering.{IsTypedHost};
 ghost use Rattle.rb_top.specs.Ends.{Ends};
 ghost use Rattle.rb_top.specs.Scene.{directory, output, Across, Between};
-ghost use Rattle.rb_top.specs.ServerParts.{ChildServes, ListensAs};
+ghost use Rattle.rb_top.specs.ServerParts.{ChildServes, EndsHost, ListensAs};
 ghost use Rattle.rb_top.specs.Servers.{ServesAs, ServesHost, host_on};
 ghost use Rattle.rb_top.specs.Words.{serving_by};
 ghost use Rattle.rb_top.specs.declared.status.Status.TheVariants.{Done};
@@ -35,6 +35,22 @@ pub fn say_table<W: Sink>(alloc: Global, table: &Heap, out: &mut W) -> Status
     }
 }
 
+/// Prints the table that is left where serving ended well, and answers how it ended.
+fn say_end<W: Sink>(
+    alloc: Global,
+    answer: Result<(), SessionsStop<Memory>>,
+    table: &Heap,
+    out: &mut W,
+) -> Status
+    ensures { Across W.Sink out.old out.new (EndsHost answer table.now result) }
+{
+    match answer {
+        Ok(()) => say_table(alloc, table, out),
+        Err(SessionsStop::Said(status)) => status,
+        Err(SessionsStop::Answers(Memory)) => Status::Memory,
+    }
+}
+
 /// Serves so many sessions at most by a hub over a host, says how each was served, and then prints the table.
 fn serve_host<W: Sink, N: Listen>(
     alloc: Global,
@@ -48,11 +64,8 @@ fn serve_host<W: Sink, N: Listen>(
         Across W.Sink out.old out.new (ServesHost host count result (listener listen.old) (listener listen.new)) }
 {
     let mut hub = Hub::make(alloc, host);
-    match serve_sessions(alloc, &mut hub, count, out, listen) {
-        Ok(()) => say_table(alloc, hub.answers().table(), out),
-        Err(SessionsStop::Said(status)) => status,
-        Err(SessionsStop::Answers(Memory)) => Status::Memory,
-    }
+    let answer = serve_sessions(alloc, &mut hub, count, out, listen);
+    say_end(alloc, answer, hub.answers().table(), out)
 }
 
 /// Listens at an address with the server of a service and its table, and serves so many sessions at most.

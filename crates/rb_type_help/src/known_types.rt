@@ -3,6 +3,7 @@
 
 use crate::members::{Part, agreed_type};
 use rb_pieces::Pieces;
+use rb_pieces::around::is_among;
 use rb_pieces::declarations::{Declared, declared_before};
 use rb_pieces::spans::{Span, closing, head_of, is_group, is_prefix, opening, root_sign};
 
@@ -164,7 +165,7 @@ fn items_of(pieces: &Pieces<'_>, written: Written, count: usize) -> Written {
     let mut now = written;
     for _ in 0..count {
         now = match now {
-            Written::From(piece) if matches!(pieces.text(piece), b"List" | b"Rows") => {
+            Written::From(piece) if is_among(pieces.text(piece), b"List Rows") => {
                 Written::From(piece.saturating_add(2))
             }
             _ => Written::Nowhere,

@@ -2,6 +2,7 @@
 
 use crate::type_words::is_same_type;
 use rb_pieces::Pieces;
+use rb_pieces::around::is_among;
 use rb_pieces::declarations::{Declared, declared_once};
 use rb_pieces::spans::closing;
 
@@ -21,7 +22,7 @@ fn is_declared(pieces: &Pieces<'_>, index: usize, part: Part) -> bool {
     match part {
         Part::Parameter(_) | Part::Result => pieces.is_earlier(index, 1, b"fun"),
         Part::Field => {
-            pieces.is_later(index, 1, b":") && matches!(pieces.earlier(index, 1), b"{" | b";")
+            pieces.is_later(index, 1, b":") && is_among(pieces.earlier(index, 1), b"{ ;")
         }
     }
 }

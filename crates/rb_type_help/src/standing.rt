@@ -1,6 +1,7 @@
 // Where an expression stands: what takes its value.
 
 use rb_pieces::Pieces;
+use rb_pieces::around::is_among;
 use rb_pieces::spans::{
     Sign, Span, is_group, is_prefix, list_before, sign_at, sign_before, slot_around, span_at,
 };
@@ -62,7 +63,7 @@ fn behind_comma(pieces: &Pieces<'_>, first: usize) -> Standing {
 
 /// What takes the value of an expression beside which no operator stands, by the piece before it.
 fn behind_piece(pieces: &Pieces<'_>, span: &Span) -> Standing {
-    if !matches!(pieces.later(span.last, 1), b")" | b"]" | b"," | b";") {
+    if !is_among(pieces.later(span.last, 1), b") ] , ;") {
         return Standing::Nowhere;
     }
     let before = span.first.saturating_sub(1);

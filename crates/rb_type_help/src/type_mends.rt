@@ -2,6 +2,7 @@
 
 use crate::type_texts;
 use crate::wanted::Wanted;
+use rb_pieces::around::is_among;
 use rb_trees::TypeForm;
 
 /// What a value of the type that was found may be made into.
@@ -133,7 +134,7 @@ fn mend_of(what: Wanted, aim: Aim, found: &TypeForm) -> &'static [u8] {
 
 /// Whether `str` takes values of a type.
 fn is_spelled(written: &[u8]) -> bool {
-    matches!(written, b"Int" | b"Bool")
+    is_among(written, b"Int Bool")
 }
 
 /// Whether a type is Text.

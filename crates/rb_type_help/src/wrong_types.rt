@@ -4,6 +4,7 @@ use crate::type_mends::mend;
 use crate::type_texts;
 use crate::type_words::{type_word, written_word};
 use crate::wanted::{Want, Wanted, wanted_at};
+use rb_pieces::around::is_among;
 use rb_pieces::declarations::{Declared, declared_before};
 use rb_pieces::spans::span_at;
 use rb_pieces::{Page, Pieces};
@@ -25,7 +26,7 @@ fn found_text(pieces: &Pieces<'_>, index: usize) -> &'static [u8] {
 
 /// Whether an expression begins with a word of the language that isn't its name.
 fn is_keyword(text: &[u8]) -> bool {
-    matches!(text, b"new" | b"List")
+    is_among(text, b"new List")
 }
 
 /// What is said of what is wanted.
@@ -109,7 +110,7 @@ fn say_wanted(
 
 /// Whether a member is named as other languages name what `len` gives.
 fn is_length(name: &[u8]) -> bool {
-    matches!(name, b"length" | b"size" | b"count")
+    is_among(name, b"length size count")
 }
 
 /// Whether a method has this name.
