@@ -8,31 +8,43 @@ use rb_slips::other_word;
 use rb_trees::Memory;
 use rb_type_help::{Part, member_once};
 
+/// Types of other languages, with a space between each two, and the language's type for each.
+const TYPES: [(&[u8], &[u8]); 3] = [
+    (b"String string text char Char", b"Text"),
+    (b"int Integer integer long Long number", b"Int"),
+    (b"bool boolean Boolean", b"Bool"),
+];
+
 /// The language's type for one of other languages.
 fn type_for(word: &[u8]) -> Option<&'static [u8]> {
-    match word {
-        b"String" | b"string" | b"text" | b"char" | b"Char" => Some(b"Text"),
-        b"int" | b"Integer" | b"integer" | b"long" | b"Long" | b"number" => Some(b"Int"),
-        b"bool" | b"boolean" | b"Boolean" => Some(b"Bool"),
-        _ => None,
+    for (words, own) in &TYPES {
+        if is_among(word, words) {
+            return Some(own);
+        }
     }
+    None
 }
 
 /// What is said of a type that isn't declared.
-fn say_no_type(page: &mut Page, name: &[u8], is_service: bool) -> Result<(), Memory> {
-    if let Some(word) = type_for(name) {
-        return page.say(&name_texts::OTHER_TYPE, name, word);
+fn no_type(name: &[u8], is_service: bool) -> &'static Help {
+    if is_among(name, b"float double Float Double") {
+        &name_texts::NO_FRACTIONS
+    } else if is_among(name, b"Array Vec list ArrayList array") {
+        &name_texts::OTHER_LIST
+    } else if is_among(name, b"void Void unit") {
+        &name_texts::NO_RESULT_TYPE
+    } else if is_service {
+        &name_texts::NO_CLASS_HERE
+    } else {
+        &texts::NO_TYPE
     }
-    match name {
-        b"float" | b"double" | b"Float" | b"Double" => {
-            page.say_name(&name_texts::NO_FRACTIONS, name)
-        }
-        b"Array" | b"Vec" | b"list" | b"ArrayList" | b"array" => {
-            page.say_name(&name_texts::OTHER_LIST, name)
-        }
-        b"void" | b"Void" | b"unit" => page.say_name(&name_texts::NO_RESULT_TYPE, name),
-        _ if is_service => page.say_name(&name_texts::NO_CLASS_HERE, name),
-        _ => page.say_name(&texts::NO_TYPE, name),
+}
+
+/// Says so, with the type that is meant where it is known.
+fn say_no_type(page: &mut Page, name: &[u8], is_service: bool) -> Result<(), Memory> {
+    match type_for(name) {
+        Some(word) => page.say(&name_texts::OTHER_TYPE, name, word),
+        None => page.say_name(no_type(name, is_service), name),
     }
 }
 
@@ -133,13 +145,20 @@ pub fn say_unknown(
     is_service: bool,
 ) -> Result<(), Memory> {
     let index = pieces.index_of(at);
-    match (pieces.text(index), pieces.earlier(index, 1)) {
-        (b"new", _) => say_no_class(page, pieces, pieces.later(index, 1)),
-        (b"batch", _) if is_service => page.say_plain(&texts::NO_BATCH),
-        (b"batch", _) => say_no_interface(page, pieces, pieces.later(index, 2)),
-        (b"this", _) => page.say_plain(&texts::NO_THIS),
-        (_, b".") => say_no_member(page, pieces, index),
-        (name, b":" | b"<") => say_no_type(page, name, is_service),
-        _ => say_no_variable(page, pieces, index),
+    let text = pieces.text(index);
+    if is_among(text, b"new") {
+        say_no_class(page, pieces, pieces.later(index, 1))
+    } else if is_among(text, b"batch") && is_service {
+        page.say_plain(&texts::NO_BATCH)
+    } else if is_among(text, b"batch") {
+        say_no_interface(page, pieces, pieces.later(index, 2))
+    } else if is_among(text, b"this") {
+        page.say_plain(&texts::NO_THIS)
+    } else if pieces.is_earlier(index, 1, b".") {
+        say_no_member(page, pieces, index)
+    } else if is_among(pieces.earlier(index, 1), b": <") {
+        say_no_type(page, text, is_service)
+    } else {
+        say_no_variable(page, pieces, index)
     }
 }
