@@ -20,97 +20,85 @@ use rb_trees::{
 use std::alloc::Global;
 
 // What the step of a number kept. The number becomes the next one.
-fn taken(number: &mut u32, at: u32) -> Result<Expr, Memory>
+fn taken(alloc: Global, number: &mut u32, at: u32) -> Result<Boxed<Expr>, Memory>
     ensures taken { IfOk result (λ e. mirror_expr e ≡ code.Taken at number.old) }
     ensures number { OnOk result (number.new ≡ suc number.old) }
 {
     let step = *number;
     *number = next(step)?;
-    Ok(Expr {
-        at,
-        form: ExprForm::Taken(step),
-    })
+    let form = ExprForm::Taken(step);
+    Boxed::new(alloc, Expr { at, form })
 }
 
 // The forms whose parts are made already.
-fn unary_of(alloc: Global, at: u32, op: UnOp, a: Expr) -> Result<Expr, Memory>
+fn unary_of(alloc: Global, at: u32, op: UnOp, a: Boxed<Expr>) -> Result<Boxed<Expr>, Memory>
     ensures { IfOk result (λ e. mirror_expr e ≡ code.Unary at op (mirror_expr a)) }
 {
-    let a = Boxed::new(alloc, a)?;
-    Ok(Expr {
-        at,
-        form: ExprForm::Unary(op, a),
-    })
+    let form = ExprForm::Unary(op, a);
+    Boxed::new(alloc, Expr { at, form })
 }
 
-fn binary_of(alloc: Global, at: u32, op: BinOp, a: Expr, b: Expr) -> Result<Expr, Memory>
+fn binary_of(
+    alloc: Global,
+    at: u32,
+    op: BinOp,
+    a: Boxed<Expr>,
+    b: Boxed<Expr>,
+) -> Result<Boxed<Expr>, Memory>
     ensures { IfOk result (λ e. mirror_expr e ≡ code.Binary at op (mirror_expr a) (mirror_expr b)) }
 {
-    let a = Boxed::new(alloc, a)?;
-    let b = Boxed::new(alloc, b)?;
-    Ok(Expr {
-        at,
-        form: ExprForm::Binary(op, a, b),
-    })
+    let form = ExprForm::Binary(op, a, b);
+    Boxed::new(alloc, Expr { at, form })
 }
 
-fn index_of(alloc: Global, at: u32, a: Expr, b: Expr) -> Result<Expr, Memory>
+fn index_of(alloc: Global, at: u32, a: Boxed<Expr>, b: Boxed<Expr>) -> Result<Boxed<Expr>, Memory>
     ensures { IfOk result (λ e. mirror_expr e ≡ code.Index at (mirror_expr a) (mirror_expr b)) }
 {
-    let a = Boxed::new(alloc, a)?;
-    let b = Boxed::new(alloc, b)?;
-    Ok(Expr {
-        at,
-        form: ExprForm::Index(a, b),
-    })
+    let form = ExprForm::Index(a, b);
+    Boxed::new(alloc, Expr { at, form })
 }
 
-fn field_of(alloc: Global, at: u32, a: Expr, name: &Word) -> Result<Expr, Memory>
+fn field_of(alloc: Global, at: u32, a: Boxed<Expr>, name: &Word) -> Result<Boxed<Expr>, Memory>
     ensures { IfOk result (λ e. mirror_expr e ≡ code.Field at (mirror_expr a) name.now) }
 {
-    let a = Boxed::new(alloc, a)?;
     let name = copy_word(alloc, name)?;
-    Ok(Expr {
-        at,
-        form: ExprForm::Field(a, name),
-    })
+    let form = ExprForm::Field(a, name);
+    Boxed::new(alloc, Expr { at, form })
 }
 
 fn call_of(
     alloc: Global,
     at: u32,
-    receiver: Expr,
+    receiver: Boxed<Expr>,
     method: &Word,
     args: Seq<Expr>,
-) -> Result<Expr, Memory>
+) -> Result<Boxed<Expr>, Memory>
     ensures { IfOk result (λ e. mirror_expr e ≡ code.Call at (mirror_expr receiver) method.now (mirror_exprs args)) }
 {
-    let receiver = Boxed::new(alloc, receiver)?;
     let method = copy_word(alloc, method)?;
-    Ok(Expr {
-        at,
-        form: ExprForm::Call(receiver, method, args),
-    })
+    let form = ExprForm::Call(receiver, method, args);
+    Boxed::new(alloc, Expr { at, form })
 }
 
-fn new_of(alloc: Global, at: u32, class: &Word, args: Seq<Expr>) -> Result<Expr, Memory>
+fn new_of(alloc: Global, at: u32, class: &Word, args: Seq<Expr>) -> Result<Boxed<Expr>, Memory>
     ensures { IfOk result (λ e. mirror_expr e ≡ code.New at class.now (mirror_exprs args)) }
 {
     let class = copy_word(alloc, class)?;
-    Ok(Expr {
-        at,
-        form: ExprForm::New(class, args),
-    })
+    let form = ExprForm::New(class, args);
+    Boxed::new(alloc, Expr { at, form })
 }
 
-fn items_of(alloc: Global, at: u32, item: &TypeTree, items: Seq<Expr>) -> Result<Expr, Memory>
+fn items_of(
+    alloc: Global,
+    at: u32,
+    item: &TypeTree,
+    items: Seq<Expr>,
+) -> Result<Boxed<Expr>, Memory>
     ensures { IfOk result (λ e. mirror_expr e ≡ code.Items at (mirror_type item.now) (mirror_exprs items)) }
 {
     let item = copy_type(alloc, item)?;
-    Ok(Expr {
-        at,
-        form: ExprForm::Items(item, items),
-    })
+    let form = ExprForm::Items(item, items);
+    Boxed::new(alloc, Expr { at, form })
 }
 
 /// An expression without its remote ones: `cut`. They are numbered from `number` on, which becomes the number after them.
@@ -121,12 +109,12 @@ pub fn cut(
     scope: &Scope,
     number: &mut u32,
     e: &Expr,
-) -> Result<Expr, Memory>
+) -> Result<Boxed<Expr>, Memory>
     ensures cut { IfOk result (λ c. mirror_expr c ≡ cut_so (facts x.now) scope.now number.old e.now) }
     ensures number { OnOk result (number.new ≡ number_after (facts x.now) scope.now number.old (mirror_expr e.now)) }
 {
     if is_portable_call(x, scope, e) {
-        return taken(number, e.at);
+        return taken(alloc, number, e.at);
     }
     cut_parts(alloc, x, scope, number, e)
 }
@@ -139,13 +127,13 @@ fn cut_parts(
     scope: &Scope,
     number: &mut u32,
     e: &Expr,
-) -> Result<Expr, Memory>
+) -> Result<Boxed<Expr>, Memory>
     ensures cut { IfOk result (λ c. mirror_expr c ≡ parts_cut (facts x.now) scope.now number.old (mirror_expr e.now)) }
     ensures number { OnOk result (number.new ≡ below_number (facts x.now) scope.now number.old (mirror_expr e.now)) }
 {
     match &e.form {
         ExprForm::Lit(_) | ExprForm::Name(_) | ExprForm::This | ExprForm::Taken(_) => {
-            copy_expr(alloc, e)
+            Boxed::new(alloc, copy_expr(alloc, e)?)
         }
         ExprForm::Unary(op, a) => {
             unary_of(alloc, e.at, *op, cut(alloc, x, scope, number, a.get())?)
@@ -193,7 +181,7 @@ fn cut_all(
 {
     let mut cuts = Seq::new(alloc);
     'exprs: for e in es {
-        cuts.push(cut(alloc, x, scope, number, e)?)?;
+        cuts.push(cut(alloc, x, scope, number, e)?.into_inner())?;
     }
     Ok(cuts)
 }

@@ -11,95 +11,107 @@ ghost use Rattle.rb_split.specs.Views.{facts};
 use crate::cuts::cut;
 use rb_marks::Facts;
 use rb_scopes::Scope;
-use rb_trees::{Expr, Memory, Seq, Stmt, StmtForm, Word, copy_stmt, copy_stmts, copy_word};
+use rb_trees::{Boxed, Expr, Memory, Seq, Stmt, StmtForm, Word, copy_stmt, copy_stmts, copy_word};
 use std::alloc::Global;
 
 // The forms whose expressions are cut already.
-fn val_of(alloc: Global, at: u32, name: &Word, e: Expr) -> Result<Stmt, Memory>
+fn val_of(alloc: Global, at: u32, name: &Word, e: Boxed<Expr>) -> Result<Stmt, Memory>
     ensures { IfOk result (λ s. mirror_stmt s ≡ code.Val at name.now (mirror_expr e)) }
 {
     let name = copy_word(alloc, name)?;
     Ok(Stmt {
         at,
-        form: StmtForm::Val(name, e),
+        form: StmtForm::Val(name, e.into_inner()),
     })
 }
 
-fn var_of(alloc: Global, at: u32, name: &Word, e: Expr) -> Result<Stmt, Memory>
+fn var_of(alloc: Global, at: u32, name: &Word, e: Boxed<Expr>) -> Result<Stmt, Memory>
     ensures { IfOk result (λ s. mirror_stmt s ≡ code.Var at name.now (mirror_expr e)) }
 {
     let name = copy_word(alloc, name)?;
     Ok(Stmt {
         at,
-        form: StmtForm::Var(name, e),
+        form: StmtForm::Var(name, e.into_inner()),
     })
 }
 
-fn assign_of(at: u32, a: Expr, b: Expr) -> Stmt
+fn assign_of(at: u32, a: Boxed<Expr>, b: Boxed<Expr>) -> Stmt
     ensures { mirror_stmt result ≡ code.Assign at (mirror_expr a) (mirror_expr b) }
 {
     Stmt {
         at,
-        form: StmtForm::Assign(a, b),
+        form: StmtForm::Assign(a.into_inner(), b.into_inner()),
     }
 }
 
-fn run_of(at: u32, e: Expr) -> Stmt
+fn run_of(at: u32, e: Boxed<Expr>) -> Stmt
     ensures { mirror_stmt result ≡ code.Run at (mirror_expr e) }
 {
     Stmt {
         at,
-        form: StmtForm::Run(e),
+        form: StmtForm::Run(e.into_inner()),
     }
 }
 
-fn print_of(at: u32, e: Expr) -> Stmt
+fn print_of(at: u32, e: Boxed<Expr>) -> Stmt
     ensures { mirror_stmt result ≡ code.Print at (mirror_expr e) }
 {
     Stmt {
         at,
-        form: StmtForm::Print(e),
+        form: StmtForm::Print(e.into_inner()),
     }
 }
 
-fn throw_of(at: u32, e: Expr) -> Stmt
+fn throw_of(at: u32, e: Boxed<Expr>) -> Stmt
     ensures { mirror_stmt result ≡ code.Throw at (mirror_expr e) }
 {
     Stmt {
         at,
-        form: StmtForm::Throw(e),
+        form: StmtForm::Throw(e.into_inner()),
     }
 }
 
-fn if_of(alloc: Global, at: u32, c: Expr, yes: &Seq<Stmt>, no: &Seq<Stmt>) -> Result<Stmt, Memory>
+fn if_of(
+    alloc: Global,
+    at: u32,
+    c: Boxed<Expr>,
+    yes: &Seq<Stmt>,
+    no: &Seq<Stmt>,
+) -> Result<Stmt, Memory>
     ensures { IfOk result (λ s. mirror_stmt s ≡ code.If at (mirror_expr c) (mirror_stmts yes.now) (mirror_stmts no.now)) }
 {
     let yes = copy_stmts(alloc, yes.as_slice())?;
     let no = copy_stmts(alloc, no.as_slice())?;
     Ok(Stmt {
         at,
-        form: StmtForm::If(c, yes, no),
+        form: StmtForm::If(c.into_inner(), yes, no),
     })
 }
 
-fn while_of(alloc: Global, at: u32, c: Expr, block: &Seq<Stmt>) -> Result<Stmt, Memory>
+fn while_of(alloc: Global, at: u32, c: Boxed<Expr>, block: &Seq<Stmt>) -> Result<Stmt, Memory>
     ensures { IfOk result (λ s. mirror_stmt s ≡ code.While at (mirror_expr c) (mirror_stmts block.now)) }
 {
     let block = copy_stmts(alloc, block.as_slice())?;
     Ok(Stmt {
         at,
-        form: StmtForm::While(c, block),
+        form: StmtForm::While(c.into_inner(), block),
     })
 }
 
-fn for_of(alloc: Global, at: u32, name: &Word, e: Expr, block: &Seq<Stmt>) -> Result<Stmt, Memory>
+fn for_of(
+    alloc: Global,
+    at: u32,
+    name: &Word,
+    e: Boxed<Expr>,
+    block: &Seq<Stmt>,
+) -> Result<Stmt, Memory>
     ensures { IfOk result (λ s. mirror_stmt s ≡ code.For at name.now (mirror_expr e) (mirror_stmts block.now)) }
 {
     let name = copy_word(alloc, name)?;
     let block = copy_stmts(alloc, block.as_slice())?;
     Ok(Stmt {
         at,
-        form: StmtForm::For(name, e, block),
+        form: StmtForm::For(name, e.into_inner(), block),
     })
 }
 
@@ -110,7 +122,7 @@ fn cut_one(
     scope: &Scope,
     number: u32,
     e: &Expr,
-) -> Result<Expr, Memory>
+) -> Result<Boxed<Expr>, Memory>
     ensures { IfOk result (λ c. mirror_expr c ≡ meant.cut (facts x.now) scope.now number (mirror_expr e.now)) }
 {
     let mut number = number;
