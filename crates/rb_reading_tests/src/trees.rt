@@ -1,5 +1,4 @@
-// Tests of lists, boxes and copies, of printing what no text gives, and of which scripts are valid.
+// Tests of trees.
 
 mod lists;
-mod printing;
 mod validity;

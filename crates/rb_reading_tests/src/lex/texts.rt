@@ -1,6 +1,8 @@
 // Texts with their tokens or their first faults, and the values of tokens.
 
+use crate::expected::expect;
 use rb_lex::{lex, number_value, text_value};
+use rb_trees::Token;
 use std::alloc::Global;
 use std::fmt::Write;
 use std::test::Fail;
@@ -85,116 +87,94 @@ static REFUSED: [(&str, &str); 26] = [
     ("a\u{7f}", "BadByte(1)"),
 ];
 
-/// The outcome of a source in short.
-fn shown(alloc: Global, source: &[u8]) -> Result<String, Fail> {
-    match lex(alloc, source) {
-        Ok(tokens) => {
-            let mut text = String::new(alloc);
-            for token in tokens.as_slice() {
-                if !text.is_empty() {
-                    text.push(' ')?;
-                }
-                let kind = token.kind;
-                let start = token.start;
-                let end = token.end;
-                write!(text, "{kind:?} {start}-{end}")?;
-            }
-            Ok(text)
+/// How a text begins, the byte with which it goes on and how many times, how it ends, and its tokens or its first fault.
+type Long = (&'static [u8], u8, usize, &'static [u8], &'static str);
+
+static LONG: [Long; 8] = [
+    // Bytes that are no UTF-8 come before other faults.
+    (b"main \xff", b' ', 0, b"", "NotUtf8(5)"),
+    (b"$ \"\xc3", b' ', 0, b"", "NotUtf8(3)"),
+    (b"// \xed\xa0\x80", b' ', 0, b"", "NotUtf8(3)"),
+    // A text has at most 1,048,576 bytes.
+    (b"", b' ', 1_048_576, b"", ""),
+    (b"", 0xff, 1_048_577, b"", "TooLong(1048576)"),
+    // The value of a literal has at most 4,096 bytes.
+    (b"\"", b'a', 4_094, b"\\n\\\"\"", "TextLit 0-4100"),
+    (b"\"", b'a', 4_095, b"\\n\\\"\" $", "TooLong(0)"),
+    (b"\"", b'a', 5_000, b"\\x\"", "BadByte(5001)"),
+];
+
+/// Adds the kinds and the spans of tokens.
+fn add_tokens(tokens: &[Token], text: &mut String) -> Result<(), Fail> {
+    for token in tokens {
+        if !text.is_empty() {
+            text.push(' ')?;
         }
-        Err(error) => {
-            let text = format!(in alloc; "{error:?}")?;
-            Ok(text)
-        }
+        let kind = token.kind;
+        let start = token.start;
+        let end = token.end;
+        write!(text, "{kind:?} {start}-{end}")?;
     }
+    Ok(())
+}
+
+/// Adds the outcome of a source in short.
+fn add_outcome(alloc: Global, source: &[u8], text: &mut String) -> Result<(), Fail> {
+    match lex(alloc, source) {
+        Ok(tokens) => add_tokens(tokens.as_slice(), text),
+        Err(error) => Ok(write!(text, "{error:?}")?),
+    }
+}
+
+/// Fails unless a source of this name has this outcome.
+fn outcome_is(alloc: Global, name: &str, source: &[u8], wanted: &str) -> Result<(), Fail> {
+    let mut text = String::new(alloc);
+    add_outcome(alloc, source, &mut text)?;
+    expect(name, text.as_bytes(), wanted.as_bytes())
+}
+
+/// Fails unless each source has the outcome beside it.
+fn outcomes_are(alloc: Global, rows: &[(&str, &str)]) -> Result<(), Fail> {
+    for (source, wanted) in rows {
+        outcome_is(alloc, source, source.as_bytes(), wanted)?;
+    }
+    Ok(())
+}
+
+/// Fails unless each long source has the outcome beside it.
+fn long_outcomes_are(alloc: Global, rows: &[Long]) -> Result<(), Fail> {
+    for (start, byte, count, end, wanted) in rows {
+        let mut source = Vec::from_slice(alloc, start)?;
+        source.resize(start.len().saturating_add(*count), *byte)?;
+        source.extend_from_slice(end)?;
+        outcome_is(alloc, wanted, source.as_slice(), wanted)?;
+    }
+    Ok(())
 }
 
 #[test]
 fn texts_have_their_tokens(rt: HostRuntime) -> Result<(), Fail> {
-    for (source, wanted) in READ.iter() {
-        assert_eq!(rt;
-            shown(rt.alloc(), source.as_bytes())?.as_str(),
-            *wanted,
-            "{source}"
-        );
-    }
-    Ok(())
+    outcomes_are(rt.alloc(), &READ)
 }
 
 #[test]
 fn refusals_stand_at_the_first_fault(rt: HostRuntime) -> Result<(), Fail> {
-    for (source, wanted) in REFUSED.iter() {
-        assert_eq!(rt;
-            shown(rt.alloc(), source.as_bytes())?.as_str(),
-            *wanted,
-            "{source}"
-        );
-    }
-    Ok(())
+    outcomes_are(rt.alloc(), &REFUSED)
 }
 
 #[test]
-fn bytes_that_are_not_utf8_come_before_other_faults(rt: HostRuntime) -> Result<(), Fail> {
-    assert_eq!(rt; shown(rt.alloc(), b"main \xff")?.as_str(), "NotUtf8(5)");
-    assert_eq!(rt; shown(rt.alloc(), b"$ \"\xc3")?.as_str(), "NotUtf8(3)");
-    assert_eq!(rt;
-        shown(rt.alloc(), b"// \xed\xa0\x80")?.as_str(),
-        "NotUtf8(3)"
-    );
-    Ok(())
-}
-
-#[test]
-fn a_text_has_at_most_1048576_bytes(rt: HostRuntime) -> Result<(), Fail> {
-    let longest = vec![in rt.alloc(); b' '; 1_048_576]?;
-    assert_eq!(rt; shown(rt.alloc(), longest.as_slice())?.as_str(), "");
-    let longer = vec![in rt.alloc(); 0xff; 1_048_577]?;
-    assert_eq!(rt;
-        shown(rt.alloc(), longer.as_slice())?.as_str(),
-        "TooLong(1048576)"
-    );
-    Ok(())
-}
-
-/// A quote, so many letters, and the end of a literal.
-fn literal_of(alloc: Global, count: usize, end: &[u8]) -> Result<Vec<u8>, Fail> {
-    let mut source = vec![in alloc; b'a'; count]?;
-    source.insert(0, b'"')?;
-    source.extend_from_slice(end)?;
-    Ok(source)
-}
-
-#[test]
-fn a_literal_has_a_value_of_at_most_4096_bytes(rt: HostRuntime) -> Result<(), Fail> {
-    let longest = literal_of(rt.alloc(), 4_094, b"\\n\\\"\"")?;
-    assert_eq!(rt;
-        shown(rt.alloc(), longest.as_slice())?.as_str(),
-        "TextLit 0-4100"
-    );
-    let longer = literal_of(rt.alloc(), 4_095, b"\\n\\\"\" $")?;
-    assert_eq!(rt;
-        shown(rt.alloc(), longer.as_slice())?.as_str(),
-        "TooLong(0)"
-    );
-    let bad = literal_of(rt.alloc(), 5_000, b"\\x\"")?;
-    assert_eq!(rt;
-        shown(rt.alloc(), bad.as_slice())?.as_str(),
-        "BadByte(5001)"
-    );
-    Ok(())
+fn limits_are_kept_and_texts_are_utf8(rt: HostRuntime) -> Result<(), Fail> {
+    long_outcomes_are(rt.alloc(), &LONG)
 }
 
 #[test]
 fn tokens_have_their_values(rt: HostRuntime) -> Result<(), Fail> {
-    assert_eq!(rt; number_value(b"007"), 7);
-    assert_eq!(rt;
-        number_value(b"9223372036854775807"),
-        9_223_372_036_854_775_807
-    );
-    assert_eq!(rt;
-        number_value(b"9223372036854775808"),
-        -9_223_372_036_854_775_807 - 1
-    );
+    if number_value(b"007") != 7
+        || number_value(b"9223372036854775807") != 9_223_372_036_854_775_807
+        || number_value(b"9223372036854775808") != -9_223_372_036_854_775_807 - 1
+    {
+        return Err(Fail::new("a number has another value"));
+    }
     let text = text_value(rt.alloc(), b"\"a\\n\\\"\\\\\xc3\xa9\"")?;
-    assert_eq!(rt; text.as_slice(), b"a\n\"\\\xc3\xa9".as_slice());
-    Ok(())
+    expect("a literal", text.as_slice(), b"a\n\"\\\xc3\xa9")
 }

@@ -1,6 +1,7 @@
 // Texts that are read, and how they are printed.
 
-use crate::parse::texts::{printed, printed_is};
+use crate::expected::expect;
+use crate::parse::texts::printed;
 use std::alloc::Global;
 use std::test::Fail;
 
@@ -18,24 +19,43 @@ const READ: &[&str] = &[
     "main { val m = -9223372036854775808; print(m / -1); print(m % -1); print(m - 1); }",
 ];
 
-/// Expressions and how they are printed: operators bind by their levels and group to the left, and parentheses stand
-/// where they are needed alone.
-const EXPRESSIONS: &[(&str, &str)] = &[
-    ("(1 - 2) - 3", "1 - 2 - 3"),
-    ("1 - (2 - 3)", "1 - (2 - 3)"),
-    ("1 + (2 * 3)", "1 + 2 * 3"),
-    ("(1 + 2) * 3", "(1 + 2) * 3"),
-    ("(a || b) || c", "a || b || c"),
-    ("a || (b && c)", "a || b && c"),
-    ("(a || b) && c", "(a || b) && c"),
-    ("a && (b == c)", "a && b == c"),
-    ("(a == b) == c", "(a == b) == c"),
-    ("a == (b < c)", "a == b < c"),
-    ("(a < b) < (c + d)", "(a < b) < c + d"),
-    ("-(a.b)", "-a.b"),
-    ("(-a).b", "(-a).b"),
-    ("((- -1))", "--1"),
-];
+/// Expressions: operators bind by their levels and group to the left, and parentheses stand where they are needed alone.
+static EXPRESSIONS: &str = "main {
+  print((1 - 2) - 3);
+  print(1 - (2 - 3));
+  print(1 + (2 * 3));
+  print((1 + 2) * 3);
+  print((a || b) || c);
+  print(a || (b && c));
+  print((a || b) && c);
+  print(a && (b == c));
+  print((a == b) == c);
+  print(a == (b < c));
+  print((a < b) < (c + d));
+  print(-(a.b));
+  print((-a).b);
+  print(((- -1)));
+}
+";
+
+/// The same, as they are printed.
+static PLAIN: &str = "main {
+  print(1 - 2 - 3);
+  print(1 - (2 - 3));
+  print(1 + 2 * 3);
+  print((1 + 2) * 3);
+  print(a || b || c);
+  print(a || b && c);
+  print((a || b) && c);
+  print(a && b == c);
+  print((a == b) == c);
+  print(a == b < c);
+  print((a < b) < c + d);
+  print(-a.b);
+  print((-a).b);
+  print(--1);
+}
+";
 
 /// A text with each form of declaration and statement, as it is printed.
 static WHOLE: &str = "interface D {
@@ -79,11 +99,21 @@ main: Text {
 }
 ";
 
+/// Fails unless each text is printed as what stands beside it.
+fn prints_are(alloc: Global, rows: &[(&str, &str)]) -> Result<(), Fail> {
+    for (source, wanted) in rows {
+        let text = printed(alloc, source.as_bytes())?;
+        expect(source, text.as_slice(), wanted.as_bytes())?;
+    }
+    Ok(())
+}
+
 /// Fails unless each text is printed as it is printed once more.
 fn prints_stay(alloc: Global, sources: &[&str]) -> Result<(), Fail> {
     for source in sources {
         let once = printed(alloc, source.as_bytes())?;
-        printed_is(alloc, str::from_utf8(once.as_slice())?, once.as_slice())?;
+        let again = printed(alloc, once.as_slice())?;
+        expect(source, again.as_slice(), once.as_slice())?;
     }
     Ok(())
 }
@@ -93,22 +123,7 @@ fn what_is_printed_is_read_and_printed_alike(rt: HostRuntime) -> Result<(), Fail
     prints_stay(rt.alloc(), READ)
 }
 
-/// Fails unless each expression is printed as the one beside it.
-fn expressions_are(alloc: Global, rows: &[(&str, &str)]) -> Result<(), Fail> {
-    for (expr, wanted) in rows {
-        let source = format!(in alloc; "main {{ print({expr}); }}")?;
-        let wanted = format!(in alloc; "main {{\n  print({wanted});\n}}\n")?;
-        printed_is(alloc, source.as_str(), wanted.as_bytes())?;
-    }
-    Ok(())
-}
-
 #[test]
 fn operators_bind_by_their_levels_and_group_to_the_left(rt: HostRuntime) -> Result<(), Fail> {
-    expressions_are(rt.alloc(), EXPRESSIONS)
-}
-
-#[test]
-fn a_text_as_it_is_printed_is_printed_alike(rt: HostRuntime) -> Result<(), Fail> {
-    printed_is(rt.alloc(), WHOLE, WHOLE.as_bytes())
+    prints_are(rt.alloc(), &[(EXPRESSIONS, PLAIN), (WHOLE, WHOLE)])
 }

@@ -1,7 +1,6 @@
 // Texts that aren't read: each with the first violation, and its place.
 
-use crate::parse::texts::refusal_is;
-use std::alloc::Global;
+use crate::parse::texts::{Form, refusals_are};
 use std::test::Fail;
 
 const REFUSED: &[(&str, &str)] = &[
@@ -56,15 +55,7 @@ const REFUSED: &[(&str, &str)] = &[
     ),
 ];
 
-/// Fails unless each text isn't read for the reason beside it.
-fn refusals_are(alloc: Global, rows: &[(&str, &str)]) -> Result<(), Fail> {
-    for (source, wanted) in rows {
-        refusal_is(alloc, source, wanted)?;
-    }
-    Ok(())
-}
-
 #[test]
 fn what_the_grammar_lacks_is_refused(rt: HostRuntime) -> Result<(), Fail> {
-    refusals_are(rt.alloc(), REFUSED)
+    refusals_are(rt.alloc(), Form::Program, REFUSED)
 }
